@@ -1,0 +1,15 @@
+pub mod Ways
+pub mod Flat
+pub mod Forms
+pub mod Scripted
+pub mod Climb
+pub mod Steps
+pub mod Primaries
+pub mod Lists
+pub mod Scripts
+pub mod Lengths
+pub mod Layouts
+pub mod Unplaced
+pub mod ReadWords
+pub mod Printed
+pub mod HeightBytes

@@ -1,0 +1,57 @@
+ghost use Rattle.std.specs.Prelude.{◌≡◌, IfOk, false};
+
+use super::{obey, open_and_run};
+use lint::command_line::Line;
+use lint::run::{Command, Refused};
+use std::alloc::{AllocError, Global};
+use std::test::Fail;
+use tokens::{Fault, MemorySink, Plan};
+
+fn writer(alloc: Global) -> Result<MemorySink, AllocError>
+    ensures { IfOk result (λ sink. sink.failed ≡ false) }
+{
+    let plan = Plan {
+        per_call: 64,
+        fails_at: None,
+    };
+    MemorySink::new(alloc, 64, plan)
+}
+
+#[test]
+fn files_that_cannot_be_read(rt: HostRuntime) -> Result<(), Fail> {
+    for file in ["no such file", "no such folder/a.js", ".", ""] {
+        let mut output = writer(rt.alloc())?;
+        let line = Line {
+            command: Command::Fix,
+            file,
+        };
+        let got = open_and_run(&rt, line, &mut output);
+        assert_eq!(rt;
+            got,
+            Err(Refused::at_no_place(Fault::ReadFailed)),
+            "{file:?}"
+        );
+        assert!(rt; output.bytes().is_empty(), "{file:?}");
+    }
+    Ok(())
+}
+
+#[test]
+fn refusals_go_to_the_errors(rt: HostRuntime) -> Result<(), Fail> {
+    let mut output = writer(rt.alloc())?;
+    let mut errors = writer(rt.alloc())?;
+    let status = obey(
+        &rt,
+        &["jslint", "fix", "no such file"],
+        &mut output,
+        &mut errors,
+    );
+    assert_eq!(rt; status, 2);
+    assert!(rt; output.bytes().is_empty());
+    assert_eq!(rt; errors.bytes(), b"jslint: read failed\n".as_slice());
+    let mut output = writer(rt.alloc())?;
+    let mut errors = writer(rt.alloc())?;
+    assert_eq!(rt; obey(&rt, &["jslint", "fix"], &mut output, &mut errors), 2);
+    assert!(rt; output.bytes().is_empty());
+    Ok(())
+}

@@ -1,0 +1,11 @@
+pub mod Turns
+pub mod Places
+pub mod Parsing
+pub mod Reading
+pub mod Shapes
+pub mod Written
+pub mod Fixed
+pub mod Pieces
+pub mod Running
+pub mod Decimal
+pub mod Wording

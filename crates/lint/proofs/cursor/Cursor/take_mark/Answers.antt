@@ -1,0 +1,13 @@
+use Rattle.std.proofs.Common.{refl, sym, ap, ◌∙◌, rules}
+use Rattle.tokens.specs.Lexeme.{Lexeme}
+use Rattle.lint.proofs.Places.{same_ahead}
+use Rattle.lint.proofs.cursor.Cursor.take_mark.Goals as goal
+
+pub returns-then-not-is_mark-clause-none : goal.returns-then-not-is_mark-clause-none
+returns-then-not-is_mark-clause-none c = (
+  λ t h class text.
+      (let same = same_ahead c.in_ok-token.ensures.some h in
+      let yes = c.is_mark.ensures.1 (sym (ap (λ (x : Lexeme). x.class) same) ∙ class, sym (ap (λ (x : Lexeme). x.text) same) ∙ text) in
+      search rules),
+  refl,
+)

@@ -1,0 +1,28 @@
+-- Where reading stands in a text.
+use Rattle.std.specs.Prelude.{◌≢◌, ℕ, ◌≤◌, ◌<◌, List, Result, Ok, Err}
+use Rattle.tokens.specs.Lexeme.{Lexeme}
+use Rattle.tokens.specs.Scanned.{lexeme_of}
+use Rattle.tokens.specs.Source.{IsPlace}
+use Rattle.tokens.specs.Reading.{IsTokenAt}
+use Rattle.tokens.specs.declared.token.Class.TheVariants.{End}
+use Rattle.tokens.specs.declared.token.Token.{Token}
+use Rattle.tokens.specs.declared.scanner.ScanFault.{ScanFault}
+
+-- the text, and the token before
+pub record Point : Type 0 where
+  pub text : List ℕ
+  pub last : Lexeme
+
+-- a token that is read at a place of a text
+pub record IsAhead (text : List ℕ) (at : ℕ) (t : Lexeme) : Type 0 where
+  pub read : IsTokenAt text at t
+  pub begins : at ≤ t.start
+  pub ordered : t.start ≤ t.stop
+  pub goes_on : t.class ≢ End → t.start < t.stop
+  pub start_place : IsPlace text t.start
+  pub stop_place : IsPlace text t.stop
+
+-- what stands ahead: a token, or none
+abbrev pub Ahead : List ℕ → ℕ → Result Token ScanFault → Type 0
+Ahead text at (Ok t) = IsAhead text at (lexeme_of t)
+Ahead text at (Err f) = ((t : Lexeme) → IsTokenAt text at t → ⊥) × IsPlace text f.at

@@ -1,0 +1,10 @@
+pub mod Cursor
+pub mod Starts
+pub mod Reads
+pub mod Scripts
+pub mod PartText
+pub mod Fix
+pub mod Streams
+pub mod Run
+pub mod Refusal
+pub mod CommandLine

@@ -1,0 +1,97 @@
+-- A run of a command: what was read, what was written, and what the answer says of both.
+use Rattle.std.specs.Prelude.{◌≡◌, ◌≤◌, ℕ, List, Bool, true, false, length, Option, IfSome, Result, Ok, Err, String, string_bytes}
+use Rattle.std.specs.Str.{IsUtf8}
+use Rattle.std.specs.declared.alloc.Global.{Global}
+use Rattle.std.specs.Io.KnownBytes.{Appends, Keeps}
+use Rattle.tokens.specs.Source.{IsPlace, IsRefusal, max_bytes}
+use Rattle.tokens.specs.Lines.{line_column}
+use Rattle.tokens.specs.declared.fault.Fault.{Fault}
+use Rattle.tokens.specs.declared.fault.Fault.TheVariants.{Syntax, TooDeep, Early, OutOfMemory, ReadFailed, WriteFailed}
+use Rattle.lint.specs.declared.run.Command.{Command}
+use Rattle.lint.specs.declared.run.Command.TheVariants.{Fix}
+use Rattle.lint.specs.declared.run.Refused.{Refused}
+use Rattle.lint.specs.Scripts.{NothingDerives, NothingWithinLimits}
+use Rattle.lint.specs.Fix.{IsFixed}
+use Rattle.lint.specs.Streams.{AppendsBeginning}
+
+-- ---- a text and its answer
+
+-- the bytes are source text: UTF-8, and not too long
+abbrev pub IsSource : List ℕ → Type 0
+IsSource text = IsUtf8 text × (length text ≤ max_bytes)
+
+-- what the command is to write for a text
+abbrev pub IsAnswer : Command → List ℕ → List ℕ → Type 0
+IsAnswer Fix text answer = IsSource text × IsFixed text answer
+
+-- why a text is refused: it is source text but no script, or no script within the limits; else it is no source text
+abbrev pub RefusesText : List ℕ → Fault → Type 0
+RefusesText text (Syntax at) = IsSource text × NothingDerives text × IsPlace text at
+RefusesText text TooDeep = IsSource text × NothingWithinLimits text
+RefusesText text other = IsRefusal text other
+
+-- the line and the column of the place that a fault speaks of, both 0 where it speaks of none
+abbrev pub place_of : List ℕ → Fault → ℕ × ℕ
+place_of text (Syntax at) = line_column text at
+place_of text (Early number at) = line_column text at
+place_of text other = (0, 0)
+
+-- where a fault speaks of a place, it is one of the text
+abbrev pub HasPlace : List ℕ → Fault → Type 0
+HasPlace text (Syntax at) = IsPlace text at
+HasPlace text (Early number at) = IsPlace text at
+HasPlace text other = Unit {0}
+
+-- ---- the devices
+
+-- What is seen of the two devices: the bytes that the reader has to give, the bytes that the writer took before and after, where
+-- they tell them, and which of the two has failed.
+pub record Seen : Type 0 where
+  pub given : Option (List ℕ)
+  pub before : Option (List ℕ)
+  pub after : Option (List ℕ)
+  pub reader_failed : Bool
+  pub writer_failed : Bool
+
+abbrev pub NoneFailed : Seen → Type 0
+NoneFailed seen = (seen.reader_failed ≡ false) × (seen.writer_failed ≡ false)
+
+abbrev pub NothingWritten : Seen → Type 0
+NothingWritten seen = Keeps seen.before seen.after
+
+-- the text is all that the reader has to give, where it tells its bytes
+abbrev pub IsGiven : Option (List ℕ) → List ℕ → Type 0
+IsGiven given text = IfSome given (λ bytes. text ≡ bytes)
+
+-- ---- the run
+
+-- the whole answer was written
+abbrev pub WritesAnswer : Command → Seen → Type 0
+WritesAnswer command seen = (text : List ℕ) × (answer : List ℕ) × IsGiven seen.given text × IsAnswer command text answer × Appends seen.before seen.after answer
+
+-- a beginning of the answer was written
+abbrev pub BeginsAnswer : Command → Seen → Type 0
+BeginsAnswer command seen = (text : List ℕ) × (answer : List ℕ) × IsGiven seen.given text × IsAnswer command text answer × AppendsBeginning seen.before seen.after answer
+
+-- a refusal by its fault and its place
+abbrev pub Refuses : Command → Seen → Fault → ℕ × ℕ → Type 0
+Refuses command seen ReadFailed place = (seen.reader_failed ≡ true) × (seen.writer_failed ≡ false) × NothingWritten seen × (place ≡ (0, 0))
+Refuses command seen WriteFailed place = (seen.reader_failed ≡ false) × (seen.writer_failed ≡ true) × BeginsAnswer command seen × (place ≡ (0, 0))
+Refuses command seen OutOfMemory place = NoneFailed seen × NothingWritten seen × (place ≡ (0, 0))
+Refuses command seen fault place = NoneFailed seen × NothingWritten seen
+    × ((text : List ℕ) × IsGiven seen.given text × RefusesText text fault × (place ≡ place_of text fault))
+
+-- a run: status 0 and the whole answer, or a refusal
+abbrev pub Runs : Command → Seen → Result ℕ Refused → Type 0
+Runs command seen (Ok status) = (status ≡ 0) × NoneFailed seen × WritesAnswer command seen
+Runs command seen (Err refused) = Refuses command seen refused.fault (refused.line, refused.column)
+
+-- ---- the middle step: from the bytes that were read to the answer
+
+abbrev pub RefusesBytes : List ℕ → Fault → ℕ × ℕ → Type 0
+RefusesBytes bytes OutOfMemory place = place ≡ (0, 0)
+RefusesBytes bytes fault place = RefusesText bytes fault × (place ≡ place_of bytes fault)
+
+abbrev pub Answers : Command → List ℕ → Result (String Global) Refused → Type 0
+Answers command bytes (Ok answer) = IsAnswer command bytes (string_bytes answer)
+Answers command bytes (Err refused) = RefusesBytes bytes refused.fault (refused.line, refused.column)

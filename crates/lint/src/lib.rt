@@ -1,0 +1,22 @@
+#![tactic(auto)]
+
+//! Whole calls over a script: the fixed text, a run of a command over a reader and a writer, the command line, and refusals.
+
+pub mod command_line;
+mod cursor;
+mod fixer;
+mod parser;
+mod planner;
+mod printer;
+pub mod refusal;
+pub mod run;
+mod script;
+mod short_text;
+pub mod streams;
+
+pub use fixer::fix;
+
+#[cfg(test)]
+mod fixer_tests;
+#[cfg(test)]
+mod tests;

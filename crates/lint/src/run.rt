@@ -1,0 +1,111 @@
+//! A run of a command: read all, answer, write all.
+
+ghost use Rattle.std.specs.Prelude.{IfErr, ◌≡◌, ◌≢◌, false};
+ghost use Rattle.lint.specs.Run.{Answers, HasPlace, Runs, place_of};
+
+use crate::fixer::fix;
+use crate::streams::{read_up_to, write_text};
+use std::alloc::Global;
+use tokens::{DeviceFault, Fault, Feed, MAX_BYTES, Sink, Source};
+
+/// What the program is asked to do with a file.
+#[derive(Clone, Copy, Debug, PartialEq, Eq)]
+pub enum Command {
+    /// Write the fixed text of the script.
+    Fix,
+}
+
+/// A refusal, and the place that it speaks of: its line and its column from 1, both 0 where there is none.
+#[derive(Clone, Copy, Debug, PartialEq, Eq)]
+pub struct Refused {
+    pub fault: Fault,
+    pub line: u32,
+    pub column: u32,
+}
+
+impl Refused {
+    /// A refusal that speaks of no place.
+    pub fn at_no_place(fault: Fault) -> Refused
+        ensures { result ≡ record { fault = fault; line = 0; column = 0 } }
+    {
+        Refused {
+            fault,
+            line: 0,
+            column: 0,
+        }
+    }
+
+    /// A refusal of a text, with the line and the column of its place.
+    pub fn of_text(source: &Source, fault: Fault) -> Refused
+        requires { HasPlace source.now fault }
+        ensures fault { result.fault ≡ fault }
+        ensures place { (result.line, result.column) ≡ place_of source.now fault }
+    {
+        match fault {
+            Fault::Syntax(at) | Fault::Early(_, at) => {
+                let (line, column) = source.line_column(at);
+                Refused {
+                    fault,
+                    line,
+                    column,
+                }
+            }
+            _ => Refused::at_no_place(fault),
+        }
+    }
+}
+
+/// What the command answers for the bytes of a file.
+fn answer(alloc: Global, command: Command, bytes: &[u8]) -> Result<String, Refused>
+    ensures { Answers command bytes.now result }
+{
+    let source = match Source::new(bytes) {
+        Ok(source) => source,
+        Err(fault) => return Err(Refused::at_no_place(fault)),
+    };
+    let answered = match command {
+        Command::Fix => fix(alloc, &source),
+    };
+    match answered {
+        Ok(text) => Ok(text),
+        Err(fault) => Err(Refused::of_text(&source, fault)),
+    }
+}
+
+/// Reads the file to its end, or to one byte past the longest text, then answers, and only then writes: status 0.
+///
+/// # Errors
+///
+/// `ReadFailed` and `WriteFailed` where that device fails; `TooLong` and `NotUtf8` where the file holds no source
+/// text; `Syntax`, with its line and column, and `TooDeep` where it is no script; `OutOfMemory`. Nothing is written
+/// but where the writer fails: then a beginning of the answer.
+pub fn run<R: Feed, W: Sink>(
+    alloc: Global,
+    command: Command,
+    file: &mut R,
+    writer: &mut W,
+) -> Result<u8, Refused>
+    requires reads { R.failed file.old ≡ false }
+    requires writes { W.failed writer.old ≡ false }
+    ensures told { IfErr result (λ refused. refused.fault ≢ Fault.Usage) }
+    ensures answer { Runs command (record {
+      given = R.left file.old;
+      before = W.taken writer.old;
+      after = W.taken writer.new;
+      reader_failed = R.failed file.new;
+      writer_failed = W.failed writer.new;
+    }) result }
+{
+    let bytes = match read_up_to(alloc, file, MAX_BYTES) {
+        Ok(bytes) => bytes,
+        Err(fault) => return Err(Refused::at_no_place(fault)),
+    };
+    let text = match answer(alloc, command, &bytes) {
+        Ok(text) => text,
+        Err(refused) => return Err(refused),
+    };
+    match write_text(text.as_bytes(), writer) {
+        Ok(()) => Ok(0),
+        Err(DeviceFault) => Err(Refused::at_no_place(Fault::WriteFailed)),
+    }
+}

@@ -1,0 +1,6 @@
+pub mod Bounds
+pub mod Determined
+pub mod Lines
+pub mod Parts
+pub mod Places
+pub mod Words

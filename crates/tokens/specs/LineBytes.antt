@@ -1,0 +1,19 @@
+-- Lines and columns by bytes, which `Lines` of `proofs` shows to be those by characters.
+use Rattle.std.specs.Prelude.{ℕ, zero, suc, ◌+◌, Bool, ◌==◌, ◌&&◌, ◌||◌, not, nat_le, nat_lt, List, [], ◌∷◌, slice_index, if◌then◌else◌}
+
+-- a byte that begins no character
+abbrev pub continues : ℕ → Bool
+continues b = nat_le 128 b && nat_lt b 192
+
+-- whether the character that begins with the first byte ends a line, by that byte and the two behind it
+abbrev pub ends_line_at : ℕ → ℕ → ℕ → Bool
+ends_line_at b b1 b2 = (b == 10) || (b == 13 && not (b1 == 10)) || (b == 226 && b1 == 128 && (b2 == 168 || b2 == 169))
+
+abbrev pub behind_byte : ℕ × ℕ → ℕ → ℕ → ℕ → ℕ × ℕ
+behind_byte p b b1 b2 = if continues b then p else (if ends_line_at b b1 b2 then (p.0 + 1, 1) else (p.0, p.1 + 1))
+
+-- line and column behind the first n bytes
+abbrev pub behind_bytes : ℕ × ℕ → ℕ → List ℕ → ℕ × ℕ
+behind_bytes p zero bs = p
+behind_bytes p (suc n) [] = p
+behind_bytes p (suc n) (b ∷ bs) = behind_bytes (behind_byte p b (slice_index bs 0) (slice_index bs 1)) n bs

@@ -1,0 +1,86 @@
+//! Devices made of std's readers and writers.
+
+ghost use Rattle.std.specs.Prelude.{◌≡◌, false};
+
+use crate::sink::{DeviceFault, Feed, Sink};
+use std::io::{Read, Write};
+
+/// A reader or a writer of std as a device: the first error of `read` or `write` is its failure, and so is a
+/// `write` that takes none of the bytes that it is handed.
+#[derive(Drop)]
+pub struct Device<T> {
+    inner: T,
+    has_failed: bool,
+}
+
+impl<T> Device<T> {
+    fn new(inner: T) -> Device<T>
+        ensures same { result.inner ≡ inner }
+        ensures ready { result.has_failed ≡ false }
+    {
+        Device {
+            inner,
+            has_failed: false,
+        }
+    }
+}
+
+impl<T: Write> Device<T> {
+    /// The writer as a device that has not failed.
+    pub fn of_writer(inner: T) -> Device<T>
+        ensures same { ⟦<Device<T> as Sink>⟧.taken result ≡ T.contents inner }
+        ensures ready { ⟦<Device<T> as Sink>⟧.failed result ≡ false }
+    {
+        Device::new(inner)
+    }
+}
+
+impl<T: Read> Device<T> {
+    /// The reader as a device that has not failed.
+    pub fn of_reader(inner: T) -> Device<T>
+        ensures same { ⟦<Device<T> as Feed>⟧.left result ≡ T.remaining inner }
+        ensures ready { ⟦<Device<T> as Feed>⟧.failed result ≡ false }
+    {
+        Device::new(inner)
+    }
+}
+
+impl<T: Write> Sink for Device<T> {
+    ghost taken = { λ d. T.contents d.inner };
+
+    ghost failed = { λ d. d.has_failed };
+
+    fn put(&mut self, piece: &[u8]) -> Result<usize, DeviceFault> {
+        match self.inner.write(piece) {
+            Ok(count) if count > 0 || piece.is_empty() => Ok(count),
+            _ => {
+                self.has_failed = true;
+                Err(DeviceFault)
+            }
+        }
+    }
+
+    fn has_failed(&self) -> bool {
+        self.has_failed
+    }
+}
+
+impl<T: Read> Feed for Device<T> {
+    ghost left = { λ d. T.remaining d.inner };
+
+    ghost failed = { λ d. d.has_failed };
+
+    fn get(&mut self, room: &mut [u8]) -> Result<usize, DeviceFault> {
+        match self.inner.read(room) {
+            Ok(count) => Ok(count),
+            Err(_) => {
+                self.has_failed = true;
+                Err(DeviceFault)
+            }
+        }
+    }
+
+    fn has_failed(&self) -> bool {
+        self.has_failed
+    }
+}

@@ -1,0 +1,6 @@
+pub mod Shapes
+pub mod FlagsEqual
+pub mod PartLemmas
+pub mod PartWalk
+pub mod SameParts
+mod Examples

@@ -1,0 +1,24 @@
+use Rattle.std.proofs.Common.{◌≡◌, ◌+◌, ◌∙◌, ap, arith, max, None, ℕ, rules}
+use Rattle.tree.specs.Tree.{height, parts_height, parts_of, part_at}
+use Rattle.tree.specs.Node.{node_tree}
+use Rattle.tree.proofs.PartWalk.{parts_drop, parts_height-some, parts_height-gap}
+use Rattle.tree.proofs.walk.+node_height.Goals as goal
+use Rattle.tree.proofs.walk.+node_height.Goals.{in-Some, in_default}
+
+-- one turn of the loop: a part as high as h, and the rest
+turn : (tallest h rest all above new : ℕ) → max tallest all ≡ above → all ≡ max h rest → new ≡ max tallest h → max new rest ≡ above
+turn tallest h rest all above new e f g = omega arith
+
+pub loop-index-preserved : goal.loop-index-preserved
+loop-index-preserved t c =
+    let ps = parts_of (node_tree c.args.node) in
+    let index = c.loop-index.index in
+    elim c.match-part.branch [
+      | in-Some w ↦
+          let u = node_tree w.in-Some.part in
+          turn c.loop-index.tallest (height u) (parts_height (parts_drop (index + 1) ps)) (parts_height (parts_drop index ps)) (parts_height ps) c.match-part.tallest
+          c.loop-index.invariant (parts_height-some ps index u w.in-Some.ensures) (w.tallest-is ∙ w.max-tallest.ensures ∙ ap (max c.loop-index.tallest) w.node_height.ensures)
+      | in_default w ↦
+          let missing : None ≡ part_at ps index = search rules in
+          omega (arith, parts_height-gap ps index missing (omega arith), c.loop-index.invariant, w.tallest-is)
+    ]

@@ -1,0 +1,5 @@
+pub mod Tree
+pub mod TreeCode
+pub mod View
+pub mod Node
+pub mod Same
