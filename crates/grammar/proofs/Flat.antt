@@ -1,60 +1,18 @@
 -- Small facts about tests, flags, ranks and nodes.
 use Rattle.std.proofs.Common.{◌≡◌, ℕ, suc, ◌≤◌, Bool, true, false, cond, List, [], ◌∷◌, refl, sym, ap, ◌∙◌, arith}
-use Rattle.std.specs.Prelude.{IsTrue, ◌&&◌, ◌||◌, not}
+use Rattle.std.specs.Prelude.{IsTrue, ◌&&◌}
 use Rattle.std.proofs.lemmas.Grind.{common_steps}
 use Rattle.tree.specs.declared.kind.Kind.{Kind}
 use Rattle.tree.specs.declared.kind.Flags.{Flags}
-use Rattle.tree.specs.declared.kind.Form.{Form}
-use Rattle.tree.specs.declared.kind.Form.TheVariants.{Init, Get, Set, Method, Shorthand, Constructor}
-use Rattle.tree.specs.Tree.{node, Parts, plain}
+use Rattle.tree.specs.Tree.{node, Parts}
 use Rattle.grammar.specs.declared.rank.Rank.{Rank}
 use Rattle.grammar.specs.declared.rank.Rank.TheVariants.{Expression, Assignment, Additive, Multiplicative, Exponentiation, Primary}
 use Rattle.grammar.specs.Ranks.{tightness, takes}
 use Rattle.grammar.specs.Words.{binds, no_operator, operator_of, among}
-use Rattle.grammar.specs.Table.{is_plain, is_init, is_empty}
 
 pub both_true : (a b : Bool) → (a && b) ≡ true → (a ≡ true) × (b ≡ true)
 both_true true b e = (refl, e)
 both_true false b e = cc
-
-none_true : (a b : Bool) → not (a || b) ≡ true → (a ≡ false) × (not b ≡ true)
-none_true true b e = cc
-none_true false b e = (refl, e)
-
-not_true : (a : Bool) → not a ≡ true → a ≡ false
-not_true true e = cc
-not_true false e = refl
-
-init_of : (x : Form) → is_init x ≡ true → x ≡ Init
-init_of Init e = refl
-init_of Get e = cc
-init_of Set e = cc
-init_of Method e = cc
-init_of Shorthand e = cc
-init_of Constructor e = cc
-
-unfoldable flags : Bool → Bool → Bool → Bool → Bool → Bool → Form → Flags
-flags a b c d e f x = record { computed = a; optional = b; is_static = c; prefix = d; directive = e; expression = f; form = x }
-
-flags_same : (a b c d e f : Bool) (x : Form) → a ≡ false → b ≡ false → c ≡ false → d ≡ false → e ≡ false → f ≡ false → x ≡ Init →
-    flags a b c d e f x ≡ flags false false false false false false Init
-flags_same a b c d e f x p q r s t u v = cc
-
--- a node with no flag set has the plain flags
-pub plain_of : (g : Flags) → is_plain g ≡ true → g ≡ plain
-unfolding flags
-plain_of g h =
-    let u = both_true (not (g.computed || (g.optional || (g.is_static || (g.prefix || (g.directive || g.expression)))))) (is_init g.form) h in
-    let a = none_true g.computed _ u.0 in
-    let b = none_true g.optional _ a.1 in
-    let c = none_true g.is_static _ b.1 in
-    let d = none_true g.prefix _ c.1 in
-    let e = none_true g.directive _ d.1 in
-    flags_same g.computed g.optional g.is_static g.prefix g.directive g.expression g.form a.0 b.0 c.0 d.0 e.0 (not_true g.expression e.1) (init_of g.form u.1)
-
-pub empty_of : (w : List ℕ) → is_empty w ≡ true → w ≡ []
-empty_of [] e = refl
-empty_of (c ∷ cs) e = cc
 
 pub node_same : {k : Kind} {w v : List ℕ} {g h : Flags} {a b c d : ℕ} {ps : Parts} → w ≡ v → g ≡ h → a ≡ c → b ≡ d → node k w g a b ps ≡ node k v h c d ps
 node_same {k} {w} {v} {g} {h} {a} {b} {c} {d} {ps} p q r s = cc

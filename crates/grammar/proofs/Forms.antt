@@ -4,21 +4,23 @@ use Rattle.std.specs.Prelude.{IsTrue, codes, ◌||◌}
 use Rattle.tokens.specs.declared.token.Class.TheVariants.{Name, Punctuator, Number, End}
 use Rattle.tokens.specs.Lexeme.{Lexeme}
 use Rattle.tree.specs.declared.kind.Kind.{Kind}
-use Rattle.tree.specs.declared.kind.Kind.TheVariants.{Program, ExpressionStatement, SequenceExpression, BinaryExpression, Identifier, Literal}
+use Rattle.tree.specs.declared.kind.Kind.TheVariants.{SequenceExpression, BinaryExpression, Identifier, Literal}
 use Rattle.tree.specs.declared.kind.Flags.{Flags}
 use Rattle.tree.specs.declared.kind.Pair.{Pair}
 use Rattle.tree.specs.Tree.{Tree, node, Parts, none, part, gap, plain, parts_of, start_of, stop_of}
+use Rattle.tree.specs.Uses.{has_text, used_flags, within as flags_within, is_empty, is_lean}
+use Rattle.tree.proofs.Lean.{plain_of, empty_of}
 use Rattle.grammar.specs.declared.rank.Rank.{Rank}
 use Rattle.grammar.specs.declared.rank.Rank.TheVariants.{Expression, Assignment, Primary}
 use Rattle.grammar.specs.Ranks.{tightness, takes}
 use Rattle.grammar.specs.Words.{Operator, binds, no_operator, operator_of, is_reserved}
 use Rattle.grammar.specs.Pieces.{expr, Piece, tok, sub, Spelling, at, sp}
-use Rattle.grammar.specs.Table.{ways, spellings, fits, is_lean, is_plain, is_empty, sequence, sequence_ways, binary_ways, expressions, items, lines, scripts}
+use Rattle.grammar.specs.Table.{spellings, sequence, sequence_ways, binary_ways, expressions}
 use Rattle.grammar.specs.Derivation.{Among, first, pair_of, Reads, token, laid, Placed, placed, Spells, direct, grouped, Runs, done, step, within}
 use Rattle.grammar.specs.Promises.{IsReading}
 use Rattle.grammar.specs.Nodes.{name_node, number_node, both, several, statement_node}
 use Rattle.grammar.proofs.Ways.{one, way_of, has_way}
-use Rattle.grammar.proofs.Flat.{both_true, plain_of, empty_of, node_same, takes_is, is_takes, below_primary}
+use Rattle.grammar.proofs.Flat.{both_true, node_same, takes_is, is_takes, below_primary}
 
 module _ (S : Type 0) (Next : S → Lexeme → S → Type 0) (behind : S → Lexeme) where
   -- where a node stands, by a first token at its place
@@ -107,8 +109,8 @@ module _ (S : Type 0) (Next : S → Lexeme → S → Type 0) (behind : S → Lex
   form_of n reading (grouped a d b) = as_group a d b
   form_of {o} {y} {s} {e} {P} (node k w g a b ps) reading (direct qs h p r) =
       let u = way_of h in
-      let l = both_true _ (is_plain g) u.lean in
-      of_kind k w ps (at_of p) (plain_of g l.1) l.0 u.spelling u.listed u.fit (subst (λ x. Runs S Next behind o x ps s e P) u.is r)
+      let l = both_true (has_text k || is_empty w) _ u.lean in
+      of_kind k w ps (at_of p) l.1 l.0 u.spelling u.listed u.fit (subst (λ x. Runs S Next behind o x ps s e P) u.is r)
     where
       fit_is : (x : Spelling) (z : Rank) (xs : List Piece) → x ≡ at z xs → IsTrue (takes y x.rank) → tightness y ≤ tightness z
       fit_is x z xs q h = takes_is y z (subst (λ (v : Spelling). IsTrue (takes y v.rank)) q h)
@@ -134,14 +136,13 @@ module _ (S : Type 0) (Next : S → Lexeme → S → Type 0) (behind : S → Lex
       of_sequence w (part n (gap ps)) p f v x m t r = elim m [ ]
       of_sequence w (part n (part k ps)) p f v x m t r = sequence_form p f v (fit_is x Expression _ (one m) t) (runs_is x _ _ (one m) r)
 
-      of_kind : (k : Kind) (w : List ℕ) (ps : Parts) → At s e a b → g ≡ plain → (Rattle.grammar.specs.Table.has_text k || is_empty w) ≡ true → (x : Spelling) → Among x (expressions k w ps) →
+      of_kind : (k : Kind) (w : List ℕ) (ps : Parts) → At s e a b → flags_within g (used_flags k g) ≡ true → (has_text k || is_empty w) ≡ true → (x : Spelling) → Among x (expressions k w ps) →
           IsTrue (takes y x.rank) → Runs S Next behind o x.pieces ps s e P → Form o y (node k w g a b ps) s e P
-      of_kind Program w ps p f v x m t r = elim m [ ]
-      of_kind ExpressionStatement w ps p f v x m t r = elim m [ ]
-      of_kind SequenceExpression w ps p f v x m t r = of_sequence w ps p f (empty_of w v) x m t r
-      of_kind BinaryExpression w ps p f v x m t r = of_binary w ps p f (operator_of w) refl x m t r
-      of_kind Identifier w ps p f v x m t r = of_name w ps p f (is_reserved w) refl x m r
-      of_kind Literal w ps p f v x m t r = number_form reading p f (runs_is x _ _ (one m) r)
+      of_kind SequenceExpression w ps p f v x m t r = of_sequence w ps p (plain_of g f) (empty_of w v) x m t r
+      of_kind BinaryExpression w ps p f v x m t r = of_binary w ps p (plain_of g f) (operator_of w) refl x m t r
+      of_kind Identifier w ps p f v x m t r = of_name w ps p (plain_of g f) (is_reserved w) refl x m r
+      of_kind Literal w ps p f v x m t r = number_form reading p (plain_of g f) (runs_is x _ _ (one m) r)
+      of_kind _ w ps p f v x m t r = elim m [ ]
 
   -- and back: what the productions give is spelled
   direct_of : {o : ℕ} {y : Rank} {s e : S} {P : List Pair} (n : Tree) (x : Spelling) → is_lean n ≡ true → spellings (expr y) n ≡ x ∷ [] → tightness y ≤ tightness x.rank →

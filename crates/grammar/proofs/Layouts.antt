@@ -6,12 +6,13 @@ use Rattle.std.proofs.lemmas.Grind.{common_steps}
 use Rattle.tokens.specs.declared.token.Class.TheVariants.{Name, Punctuator, Number}
 use Rattle.tree.specs.declared.kind.Kind.TheVariants.{Identifier, Literal}
 use Rattle.tree.specs.Tree.{Tree, node, Parts, none, part, gap, plain, parts_of}
+use Rattle.tree.specs.Uses.{is_lean}
 use Rattle.grammar.specs.declared.rank.Rank.{Rank}
 use Rattle.grammar.specs.declared.rank.Rank.TheVariants.{Expression, Assignment, Primary}
 use Rattle.grammar.specs.Ranks.{tightness}
 use Rattle.grammar.specs.Words.{binds, operator_of, is_reserved}
 use Rattle.grammar.specs.Pieces.{Role, expr, item, script, Piece, tok, sub, lay, feed, Spelling, at, sign, sp}
-use Rattle.grammar.specs.Table.{ways, sequence, lines, is_lean, spellings, fits}
+use Rattle.grammar.specs.Table.{ways, sequence, lines, spellings, fits}
 use Rattle.grammar.specs.Layout.{layout, parts_layout, wrapped_count, parts_wrapped, is_wrapped, inside, operator_rank, first_way, fixed_text}
 use Rattle.grammar.proofs.Ways.{has_way}
 use Rattle.grammar.proofs.Flat.{is_takes, below_primary}

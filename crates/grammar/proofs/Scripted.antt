@@ -1,19 +1,21 @@
 -- The view of a whole script: its items, one after the other.
-use Rattle.std.proofs.Common.{◌≡◌, ℕ, true, List, [], ◌∷◌, ◌++◌, refl, sym, ap, ap₂, subst, append-nil}
+use Rattle.std.proofs.Common.{◌≡◌, ℕ, Bool, true, false, cond, List, [], ◌∷◌, ◌++◌, refl, sym, ap, ap₂, subst, append-nil}
 use Rattle.std.specs.Prelude.{codes, ◌||◌}
 use Rattle.tokens.specs.declared.token.Class.TheVariants.{Punctuator}
 use Rattle.tokens.specs.Lexeme.{Lexeme}
 use Rattle.tree.specs.declared.kind.Kind.{Kind}
-use Rattle.tree.specs.declared.kind.Kind.TheVariants.{Program, ExpressionStatement, SequenceExpression, BinaryExpression, Identifier, Literal}
+use Rattle.tree.specs.declared.kind.Kind.TheVariants.{Program, ExpressionStatement}
 use Rattle.tree.specs.declared.kind.Flags.{Flags}
 use Rattle.tree.specs.declared.kind.Pair.{Pair}
 use Rattle.tree.specs.Tree.{Tree, node, Parts, none, part, gap, plain, start_of, stop_of}
+use Rattle.tree.specs.Uses.{has_text, used_flags, within as flags_within, is_empty}
+use Rattle.tree.proofs.Lean.{plain_of, no_directive, empty_of}
 use Rattle.grammar.specs.declared.rank.Rank.TheVariants.{Expression, Primary}
 use Rattle.grammar.specs.Pieces.{expr, item, script, sub, Spelling, at, sign}
-use Rattle.grammar.specs.Table.{is_plain, is_empty, has_text, items, lines, scripts}
+use Rattle.grammar.specs.Table.{items, lines, scripts}
 use Rattle.grammar.specs.Derivation.{Among, first, Reads, token, laid, Placed, placed, Spells, direct, Runs, done, step, within}
 use Rattle.grammar.proofs.Ways.{one, way_of, has_way}
-use Rattle.grammar.proofs.Flat.{both_true, plain_of, empty_of, node_same}
+use Rattle.grammar.proofs.Flat.{both_true, node_same}
 use Rattle.grammar.specs.Nodes.{statement_node, program_node}
 use Rattle.grammar.proofs.Forms.{At, Items, over, statement}
 
@@ -36,18 +38,20 @@ module _ (S : Type 0) (Next : S → Lexeme → S → Type 0) (behind : S → Lex
   pub item_of : {o : ℕ} {s e : S} {P : List Pair} (n : Tree) → Spells S Next behind o item n s e P → ItemForm o n s e P
   item_of {o} {s} {e} {P} (node k w g a b ps) (direct qs h p r) =
       let u = way_of h in
-      let l = both_true _ (is_plain g) u.lean in
-      of_kind k w (at_item p) (plain_of g l.1) l.0 u.spelling u.listed (subst (λ x. Runs S Next behind o x ps s e P) u.is r)
+      let l = both_true (has_text k || is_empty w) _ u.lean in
+      of_kind k w (at_item p) l.1 l.0 u.spelling u.listed (subst (λ x. Runs S Next behind o x ps s e P) u.is r)
     where
-      of_kind : (k : Kind) (w : List ℕ) → At S Next behind s e a b → g ≡ plain → (has_text k || is_empty w) ≡ true → (x : Spelling) → Among x (items k) →
+      of_statement : (w : List ℕ) → At S Next behind s e a b → flags_within g (used_flags ExpressionStatement g) ≡ true → w ≡ [] → (c : Bool) → g.directive ≡ c →
+          (x : Spelling) → Among x (cond c [] (at Primary (sub (expr Expression) ∷ sign ";" ∷ []) ∷ [])) →
+          Runs S Next behind o x.pieces ps s e P → ItemForm o (node ExpressionStatement w g a b ps) s e P
+      of_statement w p f v true q x m r = elim m [ ]
+      of_statement w p f v false q x m r =
+          statement_form p (no_directive g f q) v (subst (λ (y : Spelling). Runs S Next behind o y.pieces ps s e P) (one m) r)
+
+      of_kind : (k : Kind) (w : List ℕ) → At S Next behind s e a b → flags_within g (used_flags k g) ≡ true → (has_text k || is_empty w) ≡ true → (x : Spelling) → Among x (items k g) →
           Runs S Next behind o x.pieces ps s e P → ItemForm o (node k w g a b ps) s e P
-      of_kind ExpressionStatement w p f v x m r =
-          statement_form p f (empty_of w v) (subst (λ (y : Spelling). Runs S Next behind o y.pieces ps s e P) (one m) r)
-      of_kind Program w p f v x m r = elim m [ ]
-      of_kind SequenceExpression w p f v x m r = elim m [ ]
-      of_kind BinaryExpression w p f v x m r = elim m [ ]
-      of_kind Identifier w p f v x m r = elim m [ ]
-      of_kind Literal w p f v x m r = elim m [ ]
+      of_kind ExpressionStatement w p f v x m r = of_statement w p f (empty_of w v) g.directive refl x m r
+      of_kind _ w p f v x m r = elim m [ ]
 
   pub statement_spelled : {o : ℕ} {s m e : S} {a b : ℕ} {t : Lexeme} {n : Tree} {P : List Pair} → At S Next behind s e a b →
       Spells S Next behind o (expr Expression) n s m P → Reads S Next behind Punctuator (codes ";") m t e → Spells S Next behind o item (statement_node a b n) s e P
@@ -86,21 +90,17 @@ module _ (S : Type 0) (Next : S → Lexeme → S → Type 0) (behind : S → Lex
   pub script_of : {o : ℕ} {s e : S} {P : List Pair} (n : Tree) → Spells S Next behind o script n s e P → ScriptForm o n s e P
   script_of {o} {s} {e} {P} (node k w g a b ps) (direct qs h p r) =
       let u = way_of h in
-      let l = both_true _ (is_plain g) u.lean in
-      of_kind k w (stop_of_script p) (plain_of g l.1) l.0 u.spelling u.listed (subst (λ x. Runs S Next behind o x ps s e P) u.is r)
+      let l = both_true (has_text k || is_empty w) _ u.lean in
+      of_kind k w (stop_of_script p) l.1 l.0 u.spelling u.listed (subst (λ x. Runs S Next behind o x ps s e P) u.is r)
     where
-      of_kind : (k : Kind) (w : List ℕ) → (a ≡ 0) × (b ≡ (behind e).stop) → g ≡ plain → (has_text k || is_empty w) ≡ true → (x : Spelling) → Among x (scripts k ps) →
+      of_kind : (k : Kind) (w : List ℕ) → (a ≡ 0) × (b ≡ (behind e).stop) → flags_within g (used_flags k g) ≡ true → (has_text k || is_empty w) ≡ true → (x : Spelling) → Among x (scripts k ps) →
           Runs S Next behind o x.pieces ps s e P → ScriptForm o (node k w g a b ps) s e P
       of_kind Program w p f v x m r = record {
         parts = ps;
-        is = node_same (empty_of w v) f p.0 p.1;
+        is = node_same (empty_of w v) (plain_of g f) p.0 p.1;
         items = items_of_runs ps (subst (λ (y : Spelling). Runs S Next behind o y.pieces ps s e P) (one m) r);
       }
-      of_kind ExpressionStatement w p f v x m r = elim m [ ]
-      of_kind SequenceExpression w p f v x m r = elim m [ ]
-      of_kind BinaryExpression w p f v x m r = elim m [ ]
-      of_kind Identifier w p f v x m r = elim m [ ]
-      of_kind Literal w p f v x m r = elim m [ ]
+      of_kind _ w p f v x m r = elim m [ ]
 
   pub script_spelled : {o : ℕ} {ps : Parts} {s e : S} {P : List Pair} → Items S Next behind o s e ps P → Spells S Next behind o script (program_node (behind e).stop ps) s e P
   script_spelled {o} {ps} {s} {e} f =

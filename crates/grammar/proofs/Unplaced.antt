@@ -2,11 +2,12 @@
 use Rattle.std.proofs.Common.{◌≡◌, ℕ, suc, ◌+◌, max, cond, List, [], ◌∷◌, ◌++◌, refl, sym, ap, ap₂, ◌∙◌}
 use Rattle.std.specs.Prelude.{codes, map, filter}
 use Rattle.tree.specs.declared.kind.Kind.{Kind}
-use Rattle.tree.specs.declared.kind.Kind.TheVariants.{Program, ExpressionStatement, SequenceExpression, BinaryExpression, Identifier, Literal}
+use Rattle.tree.specs.declared.kind.Kind.TheVariants.{Program, SequenceExpression}
 use Rattle.tree.specs.Tree.{Tree, node, Parts, none, part, gap, height, parts_height, bare, bare_parts, SameTree}
+use Rattle.tree.specs.Uses.{is_lean}
 use Rattle.grammar.specs.declared.rank.Rank.TheVariants.{Expression, Assignment, Primary}
 use Rattle.grammar.specs.Pieces.{Role, expr, item, script, Piece, sub, lay, feed, Spelling, at, sign, sp}
-use Rattle.grammar.specs.Table.{ways, sequence, sequence_ways, lines, scripts, expressions, spellings, fits, is_lean}
+use Rattle.grammar.specs.Table.{ways, sequence, sequence_ways, lines, scripts, expressions, spellings, fits}
 use Rattle.grammar.specs.Layout.{layout, parts_layout, wrapped_count, parts_wrapped, is_wrapped, inside, first_way, next_role, behind_part, lead_text}
 
 sequence_bare : (ps : Parts) → sequence (bare_parts ps) ≡ sequence ps
@@ -27,20 +28,12 @@ lines_bare (part n ps) = ap (λ x. sub item ∷ lay feed ∷ x) (lines_bare ps)
 lines_bare (gap ps) = refl
 
 expressions_bare : (k : Kind) (w : List ℕ) (ps : Parts) → expressions k w (bare_parts ps) ≡ expressions k w ps
-expressions_bare Identifier w ps = refl
-expressions_bare Literal w ps = refl
-expressions_bare BinaryExpression w ps = refl
 expressions_bare SequenceExpression w ps = sequence_ways_bare ps
-expressions_bare ExpressionStatement w ps = refl
-expressions_bare Program w ps = refl
+expressions_bare _ w ps = refl
 
 scripts_bare : (k : Kind) (ps : Parts) → scripts k (bare_parts ps) ≡ scripts k ps
 scripts_bare Program ps = ap (λ x. at Primary x ∷ []) (lines_bare ps)
-scripts_bare ExpressionStatement ps = refl
-scripts_bare SequenceExpression ps = refl
-scripts_bare BinaryExpression ps = refl
-scripts_bare Identifier ps = refl
-scripts_bare Literal ps = refl
+scripts_bare _ ps = refl
 
 spellings_bare : (a : Role) (n : Tree) → spellings a (bare n) ≡ spellings a n
 spellings_bare (expr y) (node k w g s e ps) = expressions_bare k w ps

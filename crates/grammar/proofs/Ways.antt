@@ -2,9 +2,10 @@
 use Rattle.std.proofs.Common.{◌≡◌, Bool, true, false, cond, List, [], ◌∷◌, refl}
 use Rattle.std.specs.Prelude.{IsTrue, map, filter}
 use Rattle.tree.specs.Tree.{Tree}
+use Rattle.tree.specs.Uses.{is_lean}
 use Rattle.grammar.specs.Pieces.{Role, Piece, Spelling}
 use Rattle.grammar.specs.Derivation.{Among, first, later}
-use Rattle.grammar.specs.Table.{ways, spellings, fits, is_lean}
+use Rattle.grammar.specs.Table.{ways, spellings, fits}
 
 pub one : {X : Type 0} {x y : X} → Among x (y ∷ []) → x ≡ y
 one first = refl

@@ -1,13 +1,12 @@
 -- The table of the grammar: of each node at each position, the ways to spell it directly, without parentheses round it
 -- (ECMA-262 12.2 to 12.16, 13.5, 15.1, as far as they are read yet).
-use Rattle.std.specs.Prelude.{ℕ, Bool, true, false, not, cond, ◌&&◌, ◌||◌, List, [], ◌∷◌, filter, map}
+use Rattle.std.specs.Prelude.{ℕ, Bool, true, cond, List, [], ◌∷◌, filter, map}
 use Rattle.tokens.specs.declared.token.Class.TheVariants as class
 use Rattle.tree.specs.declared.kind.Kind.{Kind}
 use Rattle.tree.specs.declared.kind.Kind.TheVariants.{Program, ExpressionStatement, SequenceExpression, BinaryExpression, Identifier, Literal}
 use Rattle.tree.specs.declared.kind.Flags.{Flags}
-use Rattle.tree.specs.declared.kind.Form.{Form}
-use Rattle.tree.specs.declared.kind.Form.TheVariants.{Init}
 use Rattle.tree.specs.Tree.{Tree, node, Parts, none, part, gap}
+use Rattle.tree.specs.Uses.{is_lean}
 use Rattle.grammar.specs.declared.rank.Rank.TheVariants.{Expression, Assignment, Primary}
 use Rattle.grammar.specs.Ranks.{takes}
 use Rattle.grammar.specs.Words.{Operator, binds, no_operator, operator_of, is_reserved}
@@ -37,12 +36,12 @@ expressions Identifier w ps = cond (is_reserved w) [] (at Primary (tok class.Nam
 expressions Literal w ps = at Primary (tok class.Number w ∷ []) ∷ []
 expressions BinaryExpression w ps = binary_ways w (operator_of w)
 expressions SequenceExpression w ps = sequence_ways ps
-expressions ExpressionStatement w ps = []
-expressions Program w ps = []
+expressions _ w ps = []
 
-abbrev pub items : Kind → List Spelling
-items ExpressionStatement = at Primary (sub (expr Expression) ∷ sign ";" ∷ []) ∷ []
-items _ = []
+-- directives aren't read yet
+abbrev pub items : Kind → Flags → List Spelling
+items ExpressionStatement g = cond g.directive [] (at Primary (sub (expr Expression) ∷ sign ";" ∷ []) ∷ [])
+items _ g = []
 
 -- each item on a line of its own, then the end of the text
 abbrev pub lines : Parts → List Piece
@@ -56,36 +55,13 @@ scripts _ ps = []
 
 abbrev pub spellings : Role → Tree → List Spelling
 spellings (expr y) (node k w g s e ps) = expressions k w ps
-spellings item (node k w g s e ps) = items k
+spellings item (node k w g s e ps) = items k g
 spellings script (node k w g s e ps) = scripts k ps
 
 -- the symbol at which the node then stands may stand here
 abbrev pub fits : Role → Spelling → Bool
 fits (expr y) x = takes y x.rank
 fits _ x = true
-
--- the kinds whose text says something
-abbrev pub has_text : Kind → Bool
-has_text Identifier = true
-has_text Literal = true
-has_text BinaryExpression = true
-has_text _ = false
-
-abbrev pub is_empty : List ℕ → Bool
-is_empty [] = true
-is_empty (c ∷ cs) = false
-
-abbrev pub is_init : Form → Bool
-is_init Init = true
-is_init _ = false
-
--- no flag is set: none of these kinds has one
-abbrev pub is_plain : Flags → Bool
-is_plain g = not (g.computed || (g.optional || (g.is_static || (g.prefix || (g.directive || g.expression))))) && is_init g.form
-
--- what text and flags a kind doesn't use is empty
-abbrev pub is_lean : Tree → Bool
-is_lean (node k w g s e ps) = (has_text k || is_empty w) && is_plain g
 
 -- the ways to spell the node directly at the position; they don't depend on places
 unfoldable pub ways : Role → Tree → List (List Piece)

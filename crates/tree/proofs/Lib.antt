@@ -4,3 +4,5 @@ pub mod PartLemmas
 pub mod PartWalk
 pub mod SameParts
 mod Examples
+pub mod KindsEqual
+pub mod Lean

@@ -3,3 +3,4 @@ pub mod TreeCode
 pub mod View
 pub mod Node
 pub mod Same
+pub mod Uses

@@ -1,5 +1,5 @@
 -- The tree: ESTree nodes by kind, text and flags, with places beside them, and their parts in source order. The text is
--- the name, the raw text or the operator.
+-- the name, the raw text, the operator or the word of a declaration; of a part of a template it is the raw value.
 use Rattle.std.specs.Prelude.{◌≡◌, ℕ, zero, suc, ◌+◌, max, List, [], ◌∷◌, Option, Some, None, false}
 use Rattle.tree.specs.declared.kind.Kind.{Kind}
 use Rattle.tree.specs.declared.kind.Flags.{Flags}

@@ -42,7 +42,7 @@ impl<'t, 's> Node<'t, 's> {
         }
     }
 
-    /// The name, the raw text or the operator; empty where the kind has none.
+    /// The name, the raw text, the operator or the word of a declaration; empty where the kind has none.
     pub fn text(self) -> &'t str
         ensures { result.now ≡ text_of (node_tree self.entry) }
     {

@@ -5,7 +5,7 @@ ghost use Rattle.tree.specs.Tree.{height, SameTree};
 ghost use Rattle.tree.specs.Same.{SameLabel, SamePart};
 ghost use Rattle.tree.specs.Node.{node_tree};
 
-use crate::kind::Flags;
+use crate::kind::{Flags, Kind};
 use crate::node::Node;
 use crate::program::Program;
 
@@ -68,10 +68,17 @@ fn same_part(first: Option<Node>, second: Option<Node>) -> bool
 fn same_label(first: Node, second: Node) -> bool
     ensures { IsTrue result ↔ SameLabel (node_tree first.entry) (node_tree second.entry) }
 {
-    first.kind() == second.kind()
+    same_kind(first.kind(), second.kind())
         && first.text() == second.text()
         && same_flags(first.flags(), second.flags())
         && first.part_count() == second.part_count()
+}
+
+#[tactic(auto, using(crate::proofs::KindsEqual::kinds_equal))]
+fn same_kind(first: Kind, second: Kind) -> bool
+    ensures { IsTrue result ↔ first ≡ second }
+{
+    first == second
 }
 
 #[tactic(auto, using(crate::proofs::FlagsEqual::flags_equal))]
