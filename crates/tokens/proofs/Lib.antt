@@ -4,3 +4,7 @@ pub mod Lines
 pub mod Parts
 pub mod Places
 pub mod Words
+mod LexicalExamples
+mod TokenExamples
+mod Beginnings
+pub mod Longest

@@ -9,3 +9,13 @@ pub mod Words
 mod Examples
 pub mod Io
 pub mod Memory
+pub mod Alphabet
+pub mod Comments
+pub mod Numbers
+pub mod Escapes
+pub mod Strings
+pub mod Templates
+pub mod RegularExpressions
+pub mod Lexical
+pub mod Goals
+pub mod Tokens
