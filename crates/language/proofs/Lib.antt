@@ -1,0 +1,15 @@
+pub mod Looser
+pub mod LowerBound
+pub mod Frame
+pub mod Ranks
+pub mod Domination
+pub mod TidyTable
+pub mod OneWay
+pub mod Least
+pub mod Viewed
+pub mod Spine
+pub mod Growth
+pub mod Climbing
+pub mod Heads
+pub mod Searched
+pub mod Found

@@ -1,0 +1,295 @@
+-- The table is tidy: a node has one way at a position, but for an arrow with one plain parameter and a `new` without arguments.
+use Rattle.std.proofs.Common.{◌≡◌, ℕ, Bool, true, false, cond, List, [], ◌∷◌, refl, arith}
+use Rattle.std.specs.Prelude.{Option, Some, None, IsTrue, ◌&&◌, not, nat_le, nat_eq}
+use Rattle.std.proofs.lemmas.Bool.{and_parts, and_from}
+use Rattle.std.proofs.lemmas.Bool.Decides.{nat_tests}
+use Rattle.tree.specs.declared.kind.Kind.{Kind}
+use Rattle.tree.specs.declared.kind.Kind.TheVariants.{Program, Identifier, Literal, ThisExpression, Super, ArrayExpression, ObjectExpression, Property, SpreadElement, FunctionExpression, ArrowFunctionExpression, ClassExpression, ClassBody, MethodDefinition, TemplateLiteral, TemplateElement, TaggedTemplateExpression, MemberExpression, CallExpression, NewExpression, MetaProperty, ImportExpression, ChainExpression, UpdateExpression, UnaryExpression, BinaryExpression, LogicalExpression, ConditionalExpression, AssignmentExpression, SequenceExpression, ArrayPattern, ObjectPattern, AssignmentPattern, RestElement, ExpressionStatement, BlockStatement, EmptyStatement, DebuggerStatement, ReturnStatement, ThrowStatement, BreakStatement, ContinueStatement, LabeledStatement, IfStatement, SwitchStatement, SwitchCase, TryStatement, CatchClause, WhileStatement, DoWhileStatement, ForStatement, ForInStatement, ForOfStatement, VariableDeclaration, VariableDeclarator, FunctionDeclaration, ClassDeclaration}
+use Rattle.language.specs.declared.Rank.{Rank}
+use Rattle.language.specs.declared.Rank.TheVariants.{Assignment, New, Member, Coalesce, LogicalOr, LogicalAnd, BitwiseOr, BitwiseXor, BitwiseAnd, Equality, Relational, Shift, Additive, Multiplicative, Exponentiation}
+use Rattle.language.specs.declared.Start.{Start}
+use Rattle.language.specs.declared.Start.TheVariants.{Any, NoBrace, Statement}
+use Rattle.tree.specs.declared.kind.Flags.{Flags}
+use Rattle.tree.specs.declared.kind.Form.{Form}
+use Rattle.tree.specs.declared.kind.Form.TheVariants.{Get, Set}
+use Rattle.tree.specs.Tree.{Tree, node, Parts, none, part, gap}
+use Rattle.language.specs.FirstPart.{others}
+use Rattle.language.specs.Words.{tightness, Operator, binds, powers, assigns, steps, no_operator, operator_of}
+use Rattle.language.specs.Pieces.{Role, expr, spine, name, word, key, echo, base, quoted, quasi, chunk, spread, property, pattern, pattern_property, element, rest, method, body, statement, item, opening, block, head, declarator, switch_case, handler, class_body, member, script, Piece, sub, put, open_parameters, term, sp, Slot, Spelling, at, only, is_none, parameters, close_parameters}
+use Rattle.language.specs.Expressions.{expressions, binary_ways, logical_ways, arguments, arrow_end, spines, methods}
+use Rattle.language.specs.Statements.{statements, items, openings}
+use Rattle.language.specs.Grammar.{spellings, starts}
+use Rattle.language.specs.Laws.{two_ways_at, has_two_ways}
+use Rattle.language.proofs.Ranks.{looser_new, looser_refl}
+use Rattle.language.proofs.Looser.{Looser, same, looser, looser_spine, looser_pattern, end, next}
+use Rattle.language.proofs.Domination.{Tidy, none_at_all, one_way, two_ways, Covers, fits, fits-looser, roles-looser, slot-looser}
+
+pub Tidy-cond : {t : Bool} (b : Bool) (xs ys : List Spelling) → Tidy t xs → Tidy t ys → Tidy t (cond b xs ys)
+Tidy-cond true xs ys h k = h
+Tidy-cond false xs ys h k = k
+
+pub Tidy-only : {t : Bool} (qs : List Piece) → Tidy t (only qs)
+Tidy-only qs = one_way (λ e. omega arith)
+
+abbrev pub new_with : List Piece
+new_with = term "new" ∷ sp ∷ put (expr Member true Any) ∷ arguments none
+
+abbrev pub new_without : List Piece
+new_without = term "new" ∷ sp ∷ put (expr New true Any) ∷ []
+
+pub new-starts : (f : Start) → IsTrue (starts f new_with)
+new-starts Any = refl
+new-starts NoBrace = refl
+new-starts Statement = refl
+
+pub new-fits : {a c : Role} → Looser a c → IsTrue (fits a (at New new_without)) → IsTrue (fits c (at Member new_with))
+new-fits {a = expr y i f} same h = let (p, q) = and_parts _ _ h in let (p1, p2) = and_parts _ _ p in
+    and_from _ _ (and_from _ _ (looser_new (tightness y) (tightness y) (looser_refl (tightness y)) p1) (and_from _ _ refl (new-starts f))) refl
+new-fits {a = pattern b f} same h = and_from _ _ (new-starts f) refl
+new-fits {a = _} same h = refl
+new-fits (looser {y = y} {z = z} {g = g} u v w) h = let (p, q) = and_parts _ _ h in let (p1, p2) = and_parts _ _ p in
+    and_from _ _ (and_from _ _ (looser_new (tightness y) (tightness z) u p1) (and_from _ _ refl (new-starts g))) refl
+new-fits (looser_spine w) h = refl
+new-fits (looser_pattern {g = g} w) h = and_from _ _ (new-starts g) refl
+
+pub new-covers : Covers (at Member new_with) (at New new_without)
+new-covers a c l h = (new-fits l h, next (looser refl refl refl) end)
+
+pub Tidy-new : (ps : Parts) → Tidy (is_none ps) (at Member (term "new" ∷ sp ∷ put (expr Member true Any) ∷ arguments ps) ∷ cond (is_none ps) (at New new_without ∷ []) [])
+Tidy-new none = two_ways (λ e. omega arith) new-covers
+Tidy-new (part n ps) = one_way (λ e. omega arith)
+Tidy-new (gap ps) = one_way (λ e. omega arith)
+
+abbrev pub bare_arrow : Flags → List Piece
+bare_arrow g = put name ∷ arrow_end g
+
+abbrev pub closed_arrow : Flags → Piece → List Piece
+closed_arrow g q = open_parameters ∷ put name ∷ q ∷ close_parameters ∷ arrow_end g
+
+pub arrow-same : (c : Role) (g : Flags) → IsTrue (fits c (at Assignment (closed_arrow g (Rattle.language.specs.Pieces.may [])))) → IsTrue (fits c (at Assignment (bare_arrow g)))
+arrow-same (expr y i Any) g h = h
+arrow-same (expr y i NoBrace) g h = h
+arrow-same (expr y i Statement) g h = h
+arrow-same (pattern b Any) g h = h
+arrow-same (pattern b NoBrace) g h = h
+arrow-same (pattern b Statement) g h = h
+arrow-same _ g h = h
+
+abbrev pub comma : Piece
+comma = Rattle.language.specs.Pieces.may (Rattle.std.specs.Prelude.codes ",")
+
+pub arrow-fits : (c : Role) (g : Flags) → IsTrue (fits c (at Assignment (closed_arrow g comma))) → IsTrue (fits c (at Assignment (bare_arrow g)))
+arrow-fits (expr y i Any) g h = h
+arrow-fits (expr y i NoBrace) g h = h
+arrow-fits (expr y i Statement) g h = h
+arrow-fits (pattern b Any) g h = h
+arrow-fits (pattern b NoBrace) g h = h
+arrow-fits (pattern b Statement) g h = h
+arrow-fits _ g h = h
+
+pub arrow-covers : (g : Flags) → Covers (at Assignment (bare_arrow g)) (at Assignment (closed_arrow g comma))
+arrow-covers g a c l h = (arrow-fits c g (fits-looser (at Assignment (closed_arrow g comma)) (λ e. omega arith) l h), next (slot-looser (Slot.fixed name) l) (roles-looser (arrow_end g) l))
+
+pub Tidy-arrow : (g : Flags) (ps : Parts) → Tidy (two_ways_at ArrowFunctionExpression ps) (Rattle.language.specs.Expressions.arrows g ps)
+Tidy-arrow g none = one_way (λ e. omega arith)
+Tidy-arrow g (gap ps) = one_way (λ e. omega arith)
+Tidy-arrow g (part n none) = one_way (λ e. omega arith)
+Tidy-arrow g (part n (gap ps)) = one_way (λ e. omega arith)
+Tidy-arrow g (part n (part b (part m ps))) = one_way (λ e. omega arith)
+Tidy-arrow g (part n (part b (gap ps))) = one_way (λ e. omega arith)
+Tidy-arrow g (part (node Identifier w h s e qs) (part b none)) = two_ways (λ x. omega arith) (arrow-covers g)
+Tidy-arrow g (part (node _ w h s e qs) (part b none)) = one_way (λ x. omega arith)
+
+-- the operators' symbols, none of which is `New`
+pub data Fine : Operator → Type 0 where
+  fine_binds : {b : Bool} {z q : Rank} → (tightness z ≡ 19 → ⊥) → Fine (binds b z q)
+  fine_powers : Fine powers
+  fine_assigns : Fine assigns
+  fine_steps : Fine steps
+  fine_none : Fine no_operator
+
+pub Fine-cond : (b : Bool) (x y : Operator) → Fine x → Fine y → Fine (cond b x y)
+Fine-cond true x y h k = h
+Fine-cond false x y h k = k
+
+pub fine_at : (b : Bool) (z l : Rank) → IsTrue (not (nat_eq (tightness z) 19)) → Fine (binds b z l)
+fine_at b z l h = fine_binds (λ e. grind (arith, nat_tests))
+
+pub Fine-operator : (w : List ℕ) → Fine (operator_of w)
+Fine-operator w =
+    Fine-cond _ _ _ (fine_at false BitwiseOr BitwiseXor refl) (
+    Fine-cond _ _ _ (fine_at false BitwiseXor BitwiseAnd refl) (
+    Fine-cond _ _ _ (fine_at false BitwiseAnd Equality refl) (
+    Fine-cond _ _ _ (fine_at false Equality Relational refl) (
+    Fine-cond _ _ _ (fine_at false Relational Shift refl) (
+    Fine-cond _ _ _ (fine_at false Shift Additive refl) (
+    Fine-cond _ _ _ (fine_at false Additive Multiplicative refl) (
+    Fine-cond _ _ _ (fine_at false Multiplicative Exponentiation refl) (
+    Fine-cond _ _ _ (fine_at true Coalesce BitwiseOr refl) (
+    Fine-cond _ _ _ (fine_at true LogicalOr LogicalAnd refl) (
+    Fine-cond _ _ _ (fine_at true LogicalAnd BitwiseOr refl) (
+    Fine-cond _ _ _ fine_powers (Fine-cond _ _ _ fine_steps (Fine-cond _ _ _ fine_assigns fine_none)))))))))))))
+
+pub Tidy-binary : {t : Bool} (w : List ℕ) (o : Operator) → Fine o → Tidy t (binary_ways w o)
+Tidy-binary w (binds true z q) h = none_at_all
+Tidy-binary w (binds false z q) (fine_binds h) = one_way h
+Tidy-binary w powers h = one_way (λ e. omega arith)
+Tidy-binary w _ h = none_at_all
+
+pub Tidy-logical : {t : Bool} (w : List ℕ) (o : Operator) → Fine o → Tidy t (logical_ways w o)
+Tidy-logical w (binds false z q) h = none_at_all
+Tidy-logical w (binds true z q) (fine_binds h) = one_way h
+Tidy-logical w _ h = none_at_all
+
+pub Tidy-expressions : (k : Kind) (w : List ℕ) (g : Flags) (ps : Parts) → Tidy (two_ways_at k ps) (expressions k w g ps)
+unfolding expressions
+Tidy-expressions Identifier w g ps = Tidy-cond _ _ _ none_at_all (one_way (λ e. omega arith))
+Tidy-expressions Literal w g ps = Tidy-cond _ _ _ none_at_all (one_way (λ e. omega arith))
+Tidy-expressions ThisExpression w g ps = one_way (λ e. omega arith)
+Tidy-expressions ArrayExpression w g ps = one_way (λ e. omega arith)
+Tidy-expressions ObjectExpression w g ps = one_way (λ e. omega arith)
+Tidy-expressions FunctionExpression w g ps = one_way (λ e. omega arith)
+Tidy-expressions ClassExpression w g ps = one_way (λ e. omega arith)
+Tidy-expressions TemplateLiteral w g ps = one_way (λ e. omega arith)
+Tidy-expressions ArrowFunctionExpression w g ps = Tidy-arrow g ps
+Tidy-expressions TaggedTemplateExpression w g ps = one_way (λ e. omega arith)
+Tidy-expressions MemberExpression w g ps = Tidy-cond _ _ _ none_at_all (Tidy-cond _ _ _ (one_way (λ e. omega arith)) (one_way (λ e. omega arith)))
+Tidy-expressions CallExpression w g ps = Tidy-cond _ _ _ none_at_all (one_way (λ e. omega arith))
+Tidy-expressions NewExpression w g ps = Tidy-new (others ps)
+Tidy-expressions MetaProperty w g ps = Tidy-cond _ _ _ (one_way (λ e. omega arith)) none_at_all
+Tidy-expressions ImportExpression w g ps = one_way (λ e. omega arith)
+Tidy-expressions ChainExpression w g ps = one_way (λ e. omega arith)
+Tidy-expressions UpdateExpression w g ps = Tidy-cond _ _ _ none_at_all (Tidy-cond _ _ _ (one_way (λ e. omega arith)) (one_way (λ e. omega arith)))
+Tidy-expressions UnaryExpression w g ps = Tidy-cond _ _ _ none_at_all (Tidy-cond _ _ _ (one_way (λ e. omega arith)) (one_way (λ e. omega arith)))
+Tidy-expressions BinaryExpression w g ps = Tidy-binary w (operator_of w) (Fine-operator w)
+Tidy-expressions LogicalExpression w g ps = Tidy-logical w (operator_of w) (Fine-operator w)
+Tidy-expressions ConditionalExpression w g ps = one_way (λ e. omega arith)
+Tidy-expressions AssignmentExpression w g ps = Tidy-cond _ _ _ none_at_all (one_way (λ e. omega arith))
+Tidy-expressions SequenceExpression w g ps = Tidy-cond _ _ _ none_at_all (one_way (λ e. omega arith))
+Tidy-expressions _ w g ps = none_at_all
+
+abbrev pub Tidy-if : {t : Bool} (b : Bool) (qs : List Piece) → Tidy t (cond b (only qs) [])
+Tidy-if b qs = Tidy-cond b (only qs) [] (Tidy-only qs) none_at_all
+
+abbrev pub Tidy-unless : {t : Bool} (b : Bool) (qs : List Piece) → Tidy t (cond b [] (only qs))
+Tidy-unless b qs = Tidy-cond b [] (only qs) none_at_all (Tidy-only qs)
+
+pub Tidy-statements : {t : Bool} (r : Bool) (k : Kind) (w : List ℕ) (g : Flags) (ps : Parts) → Tidy t (statements r k w g ps)
+unfolding statements
+Tidy-statements r BlockStatement w g ps = Tidy-only _
+Tidy-statements r VariableDeclaration w g ps = Tidy-if _ _
+Tidy-statements r EmptyStatement w g ps = Tidy-only _
+Tidy-statements r ExpressionStatement w g ps = Tidy-unless _ _
+Tidy-statements r IfStatement w g none = none_at_all
+Tidy-statements r IfStatement w g (gap ps) = none_at_all
+Tidy-statements r IfStatement w g (part t none) = none_at_all
+Tidy-statements r IfStatement w g (part t (gap ps)) = none_at_all
+Tidy-statements r IfStatement w g (part t (part c none)) = none_at_all
+Tidy-statements r IfStatement w g (part t (part c (gap none))) = Tidy-only _
+Tidy-statements r IfStatement w g (part t (part c (gap (part n ps)))) = none_at_all
+Tidy-statements r IfStatement w g (part t (part c (gap (gap ps)))) = none_at_all
+Tidy-statements r IfStatement w g (part t (part c (part a none))) = Tidy-unless _ _
+Tidy-statements r IfStatement w g (part t (part c (part a (part n ps)))) = none_at_all
+Tidy-statements r IfStatement w g (part t (part c (part a (gap ps)))) = none_at_all
+Tidy-statements r DoWhileStatement w g ps = Tidy-only _
+Tidy-statements r WhileStatement w g ps = Tidy-only _
+Tidy-statements r ForStatement w g ps = Tidy-only _
+Tidy-statements r ForInStatement w g ps = Tidy-only _
+Tidy-statements r ForOfStatement w g ps = Tidy-only _
+Tidy-statements r ContinueStatement w g ps = Tidy-only _
+Tidy-statements r BreakStatement w g ps = Tidy-only _
+Tidy-statements r ReturnStatement w g ps = Tidy-if _ _
+Tidy-statements r ThrowStatement w g ps = Tidy-only _
+Tidy-statements r LabeledStatement w g ps = Tidy-only _
+Tidy-statements r SwitchStatement w g ps = Tidy-if _ _
+Tidy-statements r TryStatement w g (part b (part h (gap none))) = Tidy-only _
+Tidy-statements r TryStatement w g (part b (part h (part f none))) = Tidy-only _
+Tidy-statements r TryStatement w g (part b (gap (part f none))) = Tidy-only _
+Tidy-statements r TryStatement w g _ = none_at_all
+Tidy-statements r DebuggerStatement w g ps = Tidy-only _
+Tidy-statements r _ w g ps = none_at_all
+
+pub Tidy-items : {t : Bool} (r : Bool) (k : Kind) (w : List ℕ) (g : Flags) (ps : Parts) → Tidy t (items r k w g ps)
+unfolding items
+Tidy-items r FunctionDeclaration w g (part n ps) = Tidy-only _
+Tidy-items r FunctionDeclaration w g _ = none_at_all
+Tidy-items r ClassDeclaration w g (part n ps) = Tidy-only _
+Tidy-items r ClassDeclaration w g _ = none_at_all
+Tidy-items r VariableDeclaration w g ps = Tidy-if _ _
+Tidy-items r k w g ps = Tidy-statements r k w g ps
+
+pub Tidy-openings : {t : Bool} (r : Bool) (k : Kind) (w : List ℕ) (g : Flags) (ps : Parts) → Tidy t (openings r k w g ps)
+unfolding openings
+Tidy-openings r ExpressionStatement w g ps = Tidy-cond _ _ _ (Tidy-if _ _) (Tidy-only _)
+Tidy-openings r k w g ps = Tidy-items r k w g ps
+
+pub Tidy-methods : {t : Bool} (x : Form) (ps : Parts) → Tidy t (methods x ps)
+Tidy-methods Get (gap (part b none)) = Tidy-only _
+Tidy-methods Get _ = none_at_all
+Tidy-methods Set (gap (part n (part b none))) = Tidy-unless _ _
+Tidy-methods Set _ = none_at_all
+Tidy-methods _ (gap ps) = Tidy-only _
+Tidy-methods _ _ = none_at_all
+
+pub tidy_table : (a : Role) (n : Tree) → Tidy (has_two_ways n) (spellings a n)
+unfolding spellings
+tidy_table (expr y i f) (node k w g s e ps) = Tidy-expressions k w g ps
+tidy_table (spine f) (node MemberExpression w g s e ps) = Tidy-only _
+tidy_table (spine f) (node CallExpression w g s e ps) = Tidy-only _
+tidy_table (spine f) (node _ w g s e ps) = none_at_all
+tidy_table name (node Identifier w g s e ps) = Tidy-unless _ _
+tidy_table name (node _ w g s e ps) = none_at_all
+tidy_table word (node Identifier w g s e ps) = Tidy-only _
+tidy_table word (node _ w g s e ps) = none_at_all
+tidy_table key (node Identifier w g s e ps) = Tidy-only _
+tidy_table key (node Literal w g s e ps) = Tidy-unless _ _
+tidy_table key (node _ w g s e ps) = none_at_all
+tidy_table echo (node Identifier w g s e ps) = Tidy-only _
+tidy_table echo (node _ w g s e ps) = none_at_all
+tidy_table base (node Super w g s e ps) = Tidy-only _
+tidy_table base (node _ w g s e ps) = none_at_all
+tidy_table quoted (node Literal w g s e ps) = Tidy-if _ _
+tidy_table quoted (node _ w g s e ps) = none_at_all
+tidy_table quasi (node TemplateLiteral w g s e ps) = Tidy-only _
+tidy_table quasi (node _ w g s e ps) = none_at_all
+tidy_table (chunk x y) (node TemplateElement w g s e ps) = Tidy-only _
+tidy_table (chunk x y) (node _ w g s e ps) = none_at_all
+tidy_table spread (node SpreadElement w g s e ps) = Tidy-only _
+tidy_table spread (node _ w g s e ps) = none_at_all
+tidy_table property (node Property w g s e ps) = Tidy-only _
+tidy_table property (node _ w g s e ps) = none_at_all
+tidy_table (pattern b f) (node ArrayPattern w g s e ps) = Tidy-only _
+tidy_table (pattern b f) (node ObjectPattern w g s e ps) = Tidy-only _
+tidy_table (pattern b f) (node _ w g s e ps) = none_at_all
+tidy_table (pattern_property b) (node Property w g s e ps) = Tidy-only _
+tidy_table (pattern_property b) (node _ w g s e ps) = none_at_all
+tidy_table (element b) (node AssignmentPattern w g s e ps) = Tidy-only _
+tidy_table (element b) (node _ w g s e ps) = none_at_all
+tidy_table (rest b o) (node RestElement w g s e ps) = Tidy-unless _ _
+tidy_table (rest b o) (node _ w g s e ps) = none_at_all
+tidy_table (method x) (node FunctionExpression w g s e ps) = Tidy-methods x ps
+tidy_table (method x) (node _ w g s e ps) = none_at_all
+tidy_table body (node BlockStatement w g s e ps) = Tidy-only _
+tidy_table body (node _ w g s e ps) = none_at_all
+tidy_table (statement r) (node k w g s e ps) = Tidy-statements r k w g ps
+tidy_table (item r) (node k w g s e ps) = Tidy-items r k w g ps
+tidy_table (opening r) (node k w g s e ps) = Tidy-openings r k w g ps
+tidy_table (block r) (node BlockStatement w g s e ps) = Tidy-only _
+tidy_table (block r) (node _ w g s e ps) = none_at_all
+tidy_table (head b) (node VariableDeclaration w g s e ps) = Tidy-if _ _
+tidy_table (head b) (node _ w g s e ps) = none_at_all
+tidy_table (declarator i b) (node VariableDeclarator w g s e (part n (part x none))) = Tidy-if _ _
+tidy_table (declarator i b) (node VariableDeclarator w g s e (part n (gap none))) = Tidy-unless _ _
+tidy_table (declarator i b) (node _ w g s e ps) = none_at_all
+tidy_table (switch_case r) (node SwitchCase w g s e (part t ps)) = Tidy-only _
+tidy_table (switch_case r) (node SwitchCase w g s e (gap ps)) = Tidy-only _
+tidy_table (switch_case r) (node _ w g s e ps) = none_at_all
+tidy_table (handler r) (node CatchClause w g s e (part p ps)) = Tidy-only _
+tidy_table (handler r) (node CatchClause w g s e (gap ps)) = Tidy-only _
+tidy_table (handler r) (node _ w g s e ps) = none_at_all
+tidy_table class_body (node ClassBody w g s e ps) = Tidy-only _
+tidy_table class_body (node _ w g s e ps) = none_at_all
+tidy_table member (node MethodDefinition w g s e ps) = Tidy-if _ _
+tidy_table member (node _ w g s e ps) = none_at_all
+tidy_table script (node Program w g s e ps) = Tidy-only _
+tidy_table script (node _ w g s e ps) = none_at_all

@@ -1,0 +1,6 @@
+use Rattle.language.proofs.Searched.{spelled_sound}
+use Rattle.language.proofs.Found.{spells_found}
+use Rattle.language.proofs.laws.finds_derivations.Goals as goal
+
+pub returns : goal.returns
+returns c = λ n a ts us P. (λ h. spelled_sound n a ts (us, P) h, λ d. spells_found d.1)

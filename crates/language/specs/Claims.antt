@@ -1,0 +1,126 @@
+-- What is derived, the fewest pairs, and cost tables.
+use Rattle.std.specs.Prelude.{map, ◌≡◌, ℕ, zero, suc, ◌+◌, ◌≤◌, Bool, true, false, not, cond, ◌&&◌, ◌||◌, List, [], ◌∷◌, ◌++◌, length, nat_eq, slice_get, Option, Some, None, All, unwrap_or, ◌⊎◌}
+use Rattle.tree.specs.declared.kind.Kind.{Kind}
+use Rattle.language.specs.declared.Rank.TheVariants.{Expression, Member}
+use Rattle.language.specs.declared.Start.{Start}
+use Rattle.language.specs.declared.Start.TheVariants.{Any, NoBrace, Statement}
+use Rattle.tree.specs.declared.kind.Pair.{Pair}
+use Rattle.tree.specs.Tree.{Tree, node, Parts, none, part, gap, kind_of, parts_of, height, SameTree}
+use Rattle.language.specs.Pieces.{Role, expr, script, PieceOf}
+use Rattle.language.specs.Token.{Token, as_read}
+use Rattle.language.specs.Grammar.{ways}
+use Rattle.language.specs.Derivation.{Spells, Runs, Among}
+use Rattle.language.specs.Positions.{rows, first_roles}
+use Rattle.language.specs.Cursor.{beginning, Next, behind}
+use Rattle.language.specs.Cost.{add_cost, lesser, cell_position, if_any}
+use Rattle.tokens.specs.Tokens.{LexicalToken, IsReading}
+
+-- some reading of the text spells the tree as a Script, with at most o parentheses open at one point
+abbrev pub DerivesOpen : ℕ → List ℕ → Tree → List Pair → Type 0
+DerivesOpen o text n P = (tokens : List LexicalToken) × (last : Token) × IsReading 0 text tokens × Spells (List Token) Next behind o script n (beginning ∷ map as_read tokens) (last ∷ []) P
+
+abbrev pub Derives : List ℕ → Tree → List Pair → Type 0
+Derives text n P = (o : ℕ) × DerivesOpen o text n P
+
+abbrev pub WithinLimits : List ℕ → Tree → List Pair → Type 0
+WithinLimits text n P = (height n ≤ 500) × DerivesOpen 1000 text n P
+
+-- some text derives the tree with this number of pairs, and none derives it with fewer
+pub record Fewest (n : Tree) (count : ℕ) : Type 0 where
+  pub attained : (text : List ℕ) × (m : Tree) × (P : List Pair) × SameTree m n × Derives text m P × (length P ≡ count)
+  pub least : (text : List ℕ) (m : Tree) (P : List Pair) → SameTree m n → Derives text m P → count ≤ length P
+
+-- a table of costs: of each row the type and eight cells
+pub record Table : Type 0 where
+  pub rows : List (Kind × List (Option ℕ))
+  pub total : ℕ
+
+abbrev pub start_number : Start → ℕ
+start_number Any = 0
+start_number NoBrace = 1
+start_number Statement = 2
+
+-- the number, from 0, of the cell that counts at a position; no position has start Statement without In
+abbrev pub cell_number : Role → ℕ
+cell_number (expr Member i f) = 5 + start_number f
+cell_number (expr y true f) = start_number f
+cell_number (expr y false Any) = 3
+cell_number (expr y false _) = 4
+cell_number _ = 0
+
+abbrev pub cell_at : Option (Kind × List (Option ℕ)) → ℕ → Option ℕ
+cell_at None c = None
+cell_at (Some x) c = unwrap_or (slice_get x.1 c) None
+
+-- of the row with this number, from 1, a cell
+abbrev pub table_cell : Table → ℕ → ℕ → Option ℕ
+table_cell t zero c = None
+table_cell t (suc r) c = cell_at (slice_get t.rows r) c
+
+unfoldable mutual
+  -- the least number of pairs of a node at a position, by the table
+  pub bound_at : Table → Tree → Role → ℕ → Option ℕ
+  bound_at t (node k w g s e ps) (expr y i f) r =
+      lesser
+      (if_any (ways (expr y true Any) (node k w g s e ps)) (table_cell t r (cell_number (cell_position (expr y i f)))))
+      (add_cost (Some 1) (table_cell t r 0))
+  bound_at t (node k w g s e ps) a r = if_any (ways a (node k w g s e ps)) (parts_bound t ps (first_roles (ways a (node k w g s e ps))) r)
+
+  pub parts_bound : Table → Parts → List Role → ℕ → Option ℕ
+  parts_bound t none xs r = Some 0
+  parts_bound t (gap ps) xs r = parts_bound t ps xs r
+  parts_bound t (part n ps) [] r = None
+  parts_bound t (part n ps) (a ∷ xs) r = add_cost (bound_at t n a r) (parts_bound t ps xs (r + rows n a))
+
+-- the bound of a cell of the row r, that of the node n
+unfoldable pub cell_bound : Table → Tree → Role → ℕ → Option ℕ
+cell_bound t n a r = if_any (ways a n) (parts_bound t (parts_of n) (first_roles (ways a n)) (suc r))
+
+unfoldable pub total_bound : Table → Tree → Option ℕ
+total_bound t n = bound_at t n script 1
+
+unfoldable mutual
+  -- the nodes that have rows, in source order
+  pub row_nodes : Tree → Role → List Tree
+  row_nodes (node k w g s e ps) (expr y i f) = node k w g s e ps ∷ parts_row_nodes ps (first_roles (ways (expr Expression true Any) (node k w g s e ps)))
+  row_nodes (node k w g s e ps) a = parts_row_nodes ps (first_roles (ways a (node k w g s e ps)))
+
+  pub parts_row_nodes : Parts → List Role → List Tree
+  parts_row_nodes none xs = []
+  parts_row_nodes (gap ps) xs = parts_row_nodes ps xs
+  parts_row_nodes (part n ps) [] = []
+  parts_row_nodes (part n ps) (a ∷ xs) = row_nodes n a ++ parts_row_nodes ps xs
+
+-- the positions of the eight cells
+abbrev pub contexts : List Role
+contexts =
+    expr Expression true Any ∷ expr Expression true NoBrace ∷ expr Expression true Statement ∷
+    expr Expression false Any ∷ expr Expression false NoBrace ∷
+    expr Member true Any ∷ expr Member true NoBrace ∷ expr Member true Statement ∷ []
+
+-- the first is no greater than the second
+abbrev pub NoGreater : Option ℕ → Option ℕ → Type 0
+NoGreater x None = Unit {0}
+NoGreater None (Some n) = ⊥
+NoGreater (Some m) (Some n) = m ≤ n
+
+pub record Sound (t : Table) (n : Tree) : Type 0 where
+  pub shape : Rattle.std.specs.Prelude.map (λ x. x.0) t.rows ≡ Rattle.std.specs.Prelude.map kind_of (row_nodes n script)
+  pub below : (r : ℕ) (m : Tree) → slice_get (row_nodes n script) r ≡ Some m → (c : ℕ) (a : Role) → slice_get contexts c ≡ Some a → NoGreater (table_cell t (suc r) c) (cell_bound t m a (suc r))
+  pub total : NoGreater (Some t.total) (total_bound t n)
+
+-- the tokens between the cursors spell the node directly at the position
+abbrev pub SpellsDirectly : Role → Tree → List Token → List Token → List Pair → Type 0
+SpellsDirectly a n ts us P = (m : Tree) × (o : ℕ) × (qs : List (PieceOf Role)) × SameTree m n × Among qs (ways a m) × Runs (List Token) Next behind o qs (parts_of m) ts us P
+
+-- the cell is the least number of pairs over all direct spellings, none where there is none
+abbrev pub IsLeast : Role → Tree → Option ℕ → Type 0
+IsLeast a n None = (ts us : List Token) (P : List Pair) → SpellsDirectly a n ts us P → ⊥
+IsLeast a n (Some c) =
+    ((ts us : List Token) (P : List Pair) → SpellsDirectly a n ts us P → c ≤ length P) ×
+    ((ts : List Token) × (us : List Token) × (P : List Pair) × SpellsDirectly a n ts us P × (length P ≡ c))
+
+pub record Exact (t : Table) (n : Tree) : Type 0 where
+  pub shape : Rattle.std.specs.Prelude.map (λ x. x.0) t.rows ≡ Rattle.std.specs.Prelude.map kind_of (row_nodes n script)
+  pub cells : (r : ℕ) (m : Tree) → slice_get (row_nodes n script) r ≡ Some m → (c : ℕ) (a : Role) → slice_get contexts c ≡ Some a → IsLeast a m (table_cell t (suc r) c)
+  pub total : Fewest n t.total

@@ -1,0 +1,78 @@
+-- Derivations. S is where a token may be read; Next s t e says that behind s the token t is read, and that reading goes on
+-- at e; behind s is the token before s.
+use Rattle.std.specs.Prelude.{◌≡◌, ℕ, suc, ◌+◌, ◌-◌, true, false, cond, List, [], ◌∷◌, ◌++◌, Bool, IsTrue, codes}
+use Rattle.tokens.specs.Lexical.{LexicalClass}
+use Rattle.tokens.specs.Lexical.{Name, Punctuator}
+use Rattle.language.specs.declared.Rank.{Rank}
+use Rattle.language.specs.declared.Rank.TheVariants.{Expression}
+use Rattle.language.specs.declared.Start.{Start}
+use Rattle.language.specs.declared.Start.TheVariants.{Any}
+use Rattle.tree.specs.declared.kind.Pair.{Pair}
+use Rattle.tree.specs.Tree.{Tree, Parts, none, part, gap, start_of, stop_of, parts_of}
+use Rattle.language.specs.Pieces.{Role, expr, chunk, echo, script, Ending, PieceOf, tok, may, many, ahead, unbroken, ending, open_parameters, close_parameters, sub, absent, lay, Hint}
+use Rattle.language.specs.Token.{Token}
+use Rattle.language.specs.Edges.{may_miss}
+use Rattle.language.specs.Grammar.{ways}
+
+pub data Among {X : Type 0} (x : X) : List X → Type 0 where
+  first : {xs : List X} → Among x (x ∷ xs)
+  later : {y : X} {xs : List X} → Among x xs → Among x (y ∷ xs)
+
+-- the start and the stop of a node at a position, from its first token and its last; a shorthand key has the token that follows
+abbrev pub place : Role → Token → Token → ℕ × ℕ
+place echo t l = (t.start, t.stop)
+place (chunk b c) t l = (t.start + 1, l.stop - cond c 1 2)
+place script t l = (0, l.stop)
+place _ t l = (t.start, l.stop)
+
+-- the pair of an opening and a closing parenthesis
+abbrev pub pair_of : Token → Token → Pair
+pair_of left right = record { left = left.start; right = right.start }
+
+module _ (S : Type 0) (Next : S → Token → S → Type 0) (behind : S → Token) where
+  -- a token of this class and text is read
+  pub record Reads (c : LexicalClass) (w : List ℕ) (s : S) (t : Token) (e : S) : Type 0 where
+    pub next : Next s t e
+    pub class : t.class ≡ c
+    pub text : t.text ≡ w
+
+  -- a piece that is no node
+  pub data Step : PieceOf Role → S → S → Type 0 where
+    token : {c : LexicalClass} {w : List ℕ} {t : Token} {s e : S} → Reads c w s t e → Step (tok c w) s e
+    with_mark : {w : List ℕ} {t : Token} {s e : S} → Reads Punctuator w s t e → Step (may w) s e
+    without_mark : {w : List ℕ} {s : S} → Step (may w) s s
+    one_more : {w : List ℕ} {t : Token} {s m e : S} → Reads Punctuator w s t m → Step (many w) m e → Step (many w) s e
+    no_more : {w : List ℕ} {s : S} → Step (many w) s s
+    seen : {w : List ℕ} {t : Token} {s e : S} → Reads Name w s t e → Step (ahead w) s s
+    same_line : {t : Token} {s e : S} → Next s t e → t.after_break ≡ false → Step unbroken s s
+    explicit : {x : Ending} {t : Token} {s e : S} → Reads Punctuator (codes ";") s t e → Step (ending x) s e
+    implicit : {x : Ending} {t : Token} {s e : S} → Next s t e → IsTrue (may_miss x (behind s) t) → Step (ending x) s s
+    laid : {h : Hint} {s : S} → Step (lay h) s s
+
+  -- the node has the span that its first and its last token give it
+  pub data Placed : Role → Tree → S → S → Type 0 where
+    placed : {a : Role} {n : Tree} {t : Token} {s m e : S} → Next s t m → place a t (behind e) ≡ (start_of n, stop_of n) → Placed a n s e
+
+  mutual
+    -- From s to e the tokens spell the node at the position, with at most o parentheses open at one point that group or hold
+    -- an arrow's parameters; the list has the grouping pairs, in order of their opening parentheses.
+    pub data Spells : ℕ → Role → Tree → S → S → List Pair → Type 0 where
+      direct : {o : ℕ} {a : Role} {n : Tree} {s e : S} {P : List Pair} →
+          (qs : List (PieceOf Role)) → Among qs (ways a n) → Placed a n s e → Runs o qs (parts_of n) s e P → Spells o a n s e P
+      grouped : {o : ℕ} {y : Rank} {i : Bool} {f : Start} {n : Tree} {left right : Token} {s m l e : S} {P : List Pair} →
+          Reads Punctuator (codes "(") s left m → Spells o (expr Expression true Any) n m l P → Reads Punctuator (codes ")") l right e →
+          Spells (suc o) (expr y i f) n s e (pair_of left right ∷ P)
+
+    -- the same of the pieces of a spelling and the parts of the node
+    pub data Runs : ℕ → List (PieceOf Role) → Parts → S → S → List Pair → Type 0 where
+      done : {o : ℕ} {s : S} → Runs o [] none s s []
+      step : {o : ℕ} {q : PieceOf Role} {qs : List (PieceOf Role)} {ps : Parts} {s m e : S} {P : List Pair} →
+          Step q s m → Runs o qs ps m e P → Runs o (q ∷ qs) ps s e P
+      opened : {o : ℕ} {qs : List (PieceOf Role)} {ps : Parts} {t : Token} {s m e : S} {P : List Pair} →
+          Reads Punctuator (codes "(") s t m → Runs o qs ps m e P → Runs (suc o) (open_parameters ∷ qs) ps s e P
+      closed : {o : ℕ} {qs : List (PieceOf Role)} {ps : Parts} {t : Token} {s m e : S} {P : List Pair} →
+          Reads Punctuator (codes ")") s t m → Runs (suc o) qs ps m e P → Runs o (close_parameters ∷ qs) ps s e P
+      within : {o : ℕ} {a : Role} {qs : List (PieceOf Role)} {n : Tree} {ps : Parts} {s m e : S} {P Q : List Pair} →
+          Spells o a n s m P → Runs o qs ps m e Q → Runs o (sub a ∷ qs) (part n ps) s e (P ++ Q)
+      missing : {o : ℕ} {qs : List (PieceOf Role)} {ps : Parts} {s e : S} {P : List Pair} →
+          Runs o qs ps s e P → Runs o (absent ∷ qs) (gap ps) s e P

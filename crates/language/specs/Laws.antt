@@ -1,0 +1,43 @@
+-- What is proved of the definitions.
+use Rattle.std.specs.Prelude.{◌≡◌, ◌↔◌, ℕ, Bool, false, List, length}
+use Rattle.tree.specs.declared.kind.Kind.{Kind}
+use Rattle.tree.specs.declared.kind.Kind.TheVariants.{ArrowFunctionExpression, NewExpression}
+use Rattle.tree.specs.declared.kind.Pair.{Pair}
+use Rattle.tree.specs.Tree.{Tree, node, Parts, none, part, kind_of, SameTree}
+use Rattle.language.specs.FirstPart.{others}
+use Rattle.language.specs.Words.{is_identifier}
+use Rattle.language.specs.Pieces.{Role, script, PieceOf, is_none}
+use Rattle.language.specs.Grammar.{ways}
+use Rattle.language.specs.Token.{Token}
+use Rattle.language.specs.Cursor.{Next, behind}
+use Rattle.language.specs.Derivation.{Among, Spells}
+use Rattle.language.specs.Search.{spelled}
+use Rattle.language.specs.Cost.{AtMost, least}
+use Rattle.language.specs.Claims.{Derives}
+
+-- Two ways to spell a node: an arrow with one plain parameter, with its parentheses or without; a `new` without arguments,
+-- with its parentheses or without.
+abbrev pub two_ways_at : Kind → Parts → Bool
+two_ways_at ArrowFunctionExpression (part n (part b none)) = is_identifier (kind_of n)
+two_ways_at NewExpression ps = is_none (others ps)
+two_ways_at _ ps = false
+
+abbrev pub has_two_ways : Tree → Bool
+has_two_ways (node k w g s e ps) = two_ways_at k ps
+
+-- any other node has at most one way at a position
+abbrev pub AtMostOneWay : Type 0
+AtMostOneWay = (a : Role) (n : Tree) (qs rs : List (PieceOf Role)) → has_two_ways n ≡ false → Among qs (ways a n) → Among rs (ways a n) → qs ≡ rs
+
+-- the search finds what the tokens spell, all of it and nothing else
+abbrev pub FindsDerivations : Type 0
+FindsDerivations = (n : Tree) (a : Role) (ts us : List Token) (P : List Pair) → Among (us, P) (spelled n a ts) ↔ ((o : ℕ) × Spells (List Token) Next behind o a n ts us P)
+
+-- however tokens spell the same tree at a position, there are at least as many pairs as its cost there
+abbrev pub NoFewerPairsOfTokens : Type 0
+NoFewerPairsOfTokens =
+    (n m : Tree) (a : Role) (o : ℕ) (ts us : List Token) (P : List Pair) → SameTree m n → Spells (List Token) Next behind o a m ts us P → AtMost (least n a) (length P)
+
+-- so every derivation of every text with the same tree has at least the computed cost of pairs
+abbrev pub NoFewerPairs : Type 0
+NoFewerPairs = (n m : Tree) (text : List ℕ) (P : List Pair) → SameTree m n → Derives text m P → AtMost (least n script) (length P)

@@ -1,0 +1,231 @@
+-- What a spelling is made of, and the positions.
+use Rattle.std.specs.Prelude.{ℕ, Bool, true, false, not, cond, List, [], ◌∷◌, ◌++◌, codes}
+use Prim.Native.String.{String}
+use Rattle.language.specs.declared.Rank.{Rank}
+use Rattle.language.specs.declared.Rank.TheVariants.{Primary, Assignment, LeftHandSide, Call, Member}
+use Rattle.language.specs.declared.Start.{Start}
+use Rattle.language.specs.declared.Start.TheVariants.{Any}
+use Rattle.language.specs.declared.Edge.{Edge}
+use Rattle.tree.specs.declared.kind.Form.{Form}
+use Rattle.tokens.specs.Lexical.{LexicalClass}
+use Rattle.tokens.specs.Lexical.{Name, Punctuator}
+use Rattle.tree.specs.declared.kind.Kind.{Kind}
+use Rattle.tree.specs.declared.kind.Kind.TheVariants.{AssignmentPattern}
+use Rattle.tree.specs.Tree.{Tree, Parts, none, part, gap, kind_of}
+use Rattle.language.specs.Words.{is_target, is_pattern, is_identifier, is_rest, is_spread, takes}
+
+-- where a node stands
+pub data Role : Type 0 where
+  -- an expression: symbol, In, start. It may be grouped, and has a row
+  expr : Rank → Bool → Start → Role
+  -- a part of a chain above its base
+  spine : Start → Role
+  -- a name that binds or labels, or a shorthand value
+  name : Role
+  -- an identifier's characters, reserved or not
+  word : Role
+  -- a property's key without brackets
+  key : Role
+  -- a shorthand property's key, which has no token of its own
+  echo : Role
+  -- `super`; a directive's string; the template behind a tag
+  base : Role
+  quoted : Role
+  quasi : Role
+  -- a part of a template: whether it is the first, and the last
+  chunk : Bool → Bool → Role
+  spread : Role
+  property : Role
+  -- a pattern; the flag says that it binds names
+  pattern : Bool → Start → Role
+  pattern_property : Bool → Role
+  element : Bool → Role
+  rest : Bool → Bool → Role
+  -- the function of a method, from its `(`
+  method : Form → Role
+  body : Role
+  -- statements; the flag allows `return`
+  statement : Bool → Role
+  item : Bool → Role
+  opening : Bool → Role
+  block : Bool → Role
+  -- a declaration in the head of a `for`, with initialisers or with none
+  head : Bool → Role
+  -- a declarator: its In, and whether it may have an initialiser
+  declarator : Bool → Bool → Role
+  switch_case : Bool → Role
+  handler : Bool → Role
+  class_body : Role
+  member : Role
+  script : Role
+
+-- layout alone
+pub data Hint : Type 0 where
+  space line feed deeper shallower : Hint
+  -- a space where what follows begins with this character
+  apart : ℕ → Hint
+  -- a space behind a node that isn't wrapped
+  loose : Hint
+
+-- the end of a statement: of a `do`, or behind this right edge
+pub data Ending : Type 0 where
+  of_do : Ending
+  behind : Edge → Ending
+
+-- where a part stands, as the tables write it: left open is what the node's own position decides
+pub data Slot : Type 0 where
+  fixed : Role → Slot
+  -- at this symbol with the node's own In and start; with In and its own start; with its own In and this start
+  left : Rank → Slot
+  lead : Rank → Slot
+  tail : Rank → Start → Slot
+  -- the object of a member and the tag of a template, with In and the node's own start: behind `new` at Member, else at Call
+  callee : Slot
+  -- with its own start
+  lead_spine lead_pattern : Slot
+
+-- a piece of a spelling; R says how positions are written
+pub data PieceOf (R : Type 0) : Type 0 where
+  -- a token of this class and text
+  tok : LexicalClass → List ℕ → PieceOf R
+  -- such a punctuator, or nothing
+  may : List ℕ → PieceOf R
+  -- such punctuators in any number
+  many : List ℕ → PieceOf R
+  -- the next token is a name of this text, and stays
+  ahead : List ℕ → PieceOf R
+  -- no line break before the next token
+  unbroken : PieceOf R
+  -- `;`, or none
+  ending : Ending → PieceOf R
+  -- the parentheses round an arrow's parameters
+  open_parameters close_parameters : PieceOf R
+  -- the next part, at this position
+  sub : R → PieceOf R
+  -- the next part is a gap
+  absent : PieceOf R
+  -- nothing spells this
+  never : PieceOf R
+  lay : Hint → PieceOf R
+
+abbrev pub Piece : Type 0
+Piece = PieceOf Slot
+
+-- a part at a position that the node's own doesn't change
+abbrev pub put : Role → Piece
+put a = sub (fixed a)
+
+-- the symbols at which no call may stand
+abbrev pub is_tight : Rank → Bool
+is_tight y = not (takes y Call)
+
+-- the position that a node's own symbol, In and start leave
+abbrev pub settle : Rank → Bool → Start → Slot → Role
+settle z i f (fixed a) = a
+settle z i f (left y) = expr y i f
+settle z i f (lead y) = expr y true f
+settle z i f (tail y x) = expr y i x
+settle z i f callee = expr (cond (is_tight z) Member Call) true f
+settle z i f lead_spine = spine f
+settle z i f lead_pattern = pattern false f
+
+abbrev pub settle_piece : Rank → Bool → Start → Piece → PieceOf Role
+settle_piece z i f (tok c w) = tok c w
+settle_piece z i f (may w) = may w
+settle_piece z i f (many w) = many w
+settle_piece z i f (ahead w) = ahead w
+settle_piece z i f unbroken = unbroken
+settle_piece z i f (ending e) = ending e
+settle_piece z i f open_parameters = open_parameters
+settle_piece z i f close_parameters = close_parameters
+settle_piece z i f (sub x) = sub (settle z i f x)
+settle_piece z i f absent = absent
+settle_piece z i f never = never
+settle_piece z i f (lay h) = lay h
+
+-- a way to spell a node: the symbol at which it then stands, whether it needs In, and its pieces
+pub record Spelling : Type 0 where
+  pub rank : Rank
+  pub needs_in : Bool
+  pub pieces : List Piece
+
+abbrev pub at : Rank → List Piece → Spelling
+at z ps = record { rank = z; needs_in = false; pieces = ps }
+
+abbrev pub at_in : Bool → Rank → List Piece → Spelling
+at_in b z ps = record { rank = z; needs_in = b; pieces = ps }
+
+-- the one way to spell a node that is no expression
+abbrev pub only : List Piece → List Spelling
+only ps = at Primary ps ∷ []
+
+abbrev pub sign : String → Piece
+sign s = tok Punctuator (codes s)
+
+abbrev pub term : String → Piece
+term s = tok Name (codes s)
+
+-- one space
+abbrev pub sp : Piece
+sp = lay space
+
+abbrev pub nothing : List Piece
+nothing = never ∷ []
+
+-- a simple target
+abbrev pub target : Kind → Piece
+target k = cond (is_target k) (put (expr LeftHandSide true Any)) never
+
+-- the same as the first part of a node
+abbrev pub lead_target : Kind → Piece
+lead_target k = cond (is_target k) (sub (lead LeftHandSide)) never
+
+-- a name or a binding pattern; or a simple target or an assignment pattern
+abbrev pub bound : Bool → Kind → Piece
+bound true k = cond (is_pattern k) (put (pattern true Any)) (cond (is_identifier k) (put name) never)
+bound false k = cond (is_pattern k) (put (pattern false Any)) (target k)
+
+abbrev pub lead_bound : Kind → Piece
+lead_bound k = cond (is_pattern k) (sub lead_pattern) (lead_target k)
+
+abbrev pub is_none : Parts → Bool
+is_none none = true
+is_none (part n ps) = false
+is_none (gap ps) = false
+
+-- behind an element of a list: a comma may trail, but not behind a rest, which is the last
+abbrev pub separator : Kind → Bool → List Piece
+separator k true = cond (is_rest k) [] (may (codes ",") ∷ [])
+separator k false = cond (is_rest k) nothing (sign "," ∷ sp ∷ [])
+
+-- parts with commas between them, and perhaps one behind the last
+abbrev pub listed : (Tree → Piece) → Parts → List Piece
+listed f none = []
+listed f (part n ps) = (f n ∷ separator (kind_of n) (is_none ps)) ++ listed f ps
+listed f (gap ps) = nothing
+
+-- the same, where a gap is a hole, with a comma of its own
+abbrev pub elements : (Tree → Piece) → Parts → List Piece
+elements f none = []
+elements f (part n ps) = (f n ∷ separator (kind_of n) (is_none ps)) ++ elements f ps
+elements f (gap ps) = (absent ∷ sign "," ∷ cond (is_none ps) [] (sp ∷ [])) ++ elements f ps
+
+abbrev pub argument : Tree → Piece
+argument n = cond (is_spread (kind_of n)) (put spread) (put (expr Assignment true Any))
+
+-- a target, name or pattern, with or without a default
+abbrev pub with_default : Bool → Kind → Piece
+with_default b AssignmentPattern = put (element b)
+with_default b k = bound b k
+
+-- the element of an array pattern, and a parameter
+abbrev pub pattern_element : Bool → Tree → Piece
+pattern_element b n = cond (is_rest (kind_of n)) (put (rest b false)) (with_default b (kind_of n))
+
+-- parameters, then what closes them and the body, which is the last part
+abbrev pub parameters : List Piece → Parts → List Piece
+parameters after none = nothing
+parameters after (part n none) = after
+parameters after (part n (part m ps)) = (pattern_element true n ∷ separator (kind_of n) (is_none ps)) ++ parameters after (part m ps)
+parameters after (part n (gap ps)) = nothing
+parameters after (gap ps) = nothing

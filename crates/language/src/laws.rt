@@ -1,0 +1,23 @@
+//! What is proved of the definitions: each contract is a theorem, and the body does nothing.
+
+ghost use Rattle.language.specs.Laws.{AtMostOneWay, FindsDerivations, NoFewerPairs, NoFewerPairsOfTokens};
+
+/// A node has at most one way at a position, but for an arrow with one plain parameter and a `new` without arguments.
+pub fn at_most_one_way()
+    ensures { AtMostOneWay }
+{}
+
+/// The search finds what the tokens spell, all of it and nothing else: so its examples say what is derived, and what is not.
+pub fn finds_derivations()
+    ensures { FindsDerivations }
+{}
+
+/// However tokens spell the same tree at a position, there are at least as many pairs as its cost there.
+pub fn no_fewer_pairs_of_tokens()
+    ensures { NoFewerPairsOfTokens }
+{}
+
+/// Every derivation of every text with the same tree has at least the computed cost of pairs.
+pub fn no_fewer_pairs()
+    ensures { NoFewerPairs }
+{}
