@@ -1,0 +1,11 @@
+pub mod Words
+pub mod Placeless
+pub mod FirstError
+pub mod Trees
+pub mod StrictRows
+pub mod ScopeRows
+pub mod FunctionRows
+pub mod LabelRows
+pub mod SuperRows
+pub mod ClassRows
+pub mod LiteralRows

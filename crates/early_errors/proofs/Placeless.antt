@@ -1,0 +1,490 @@
+-- Which early errors a tree has doesn't depend on its places.
+use Rattle.std.proofs.Common.{◌≡◌, ℕ, zero, suc, Bool, true, false, cond, List, [], ◌∷◌, ◌++◌, refl, sym, ap, ◌∙◌, length}
+use Rattle.std.specs.Prelude.{◌&&◌, ◌||◌, not, map, filter, codes}
+use Rattle.std.specs.Str.{bytes_eq}
+use Rattle.tree.specs.declared.kind.Kind.{Kind}
+use Rattle.tree.specs.declared.kind.Kind.TheVariants.{Program, Literal, Property, FunctionExpression, ArrowFunctionExpression, ClassExpression, ClassBody, MethodDefinition, TemplateLiteral, TaggedTemplateExpression, MemberExpression, CallExpression, MetaProperty, UpdateExpression, UnaryExpression, AssignmentExpression, BlockStatement, BreakStatement, ContinueStatement, LabeledStatement, SwitchStatement, CatchClause, ForStatement, ForInStatement, ForOfStatement, VariableDeclaration, FunctionDeclaration, ClassDeclaration}
+use Rattle.tree.specs.declared.kind.Flags.{Flags}
+use Rattle.tree.specs.Tree.{Tree, node, Parts, none, part, gap, bare, bare_parts, SameTree, parts_of}
+use Rattle.language.specs.FirstPart.{lead, others}
+use Rattle.language.specs.Words.{is, among, is_identifier, is_super}
+use Rattle.early_errors.specs.declared.EarlyError.{EarlyError}
+use Rattle.early_errors.specs.declared.EarlyError.TheVariants.{EvalOrArguments, DeleteOfIdentifier, DuplicateLexicalName, LexicalNameIsVar, ConstWithoutInitializer, DuplicateParameter, ParameterIsLexicalName, UseStrictBehindPattern, MisplacedJump, UndefinedLabel, DuplicateLabel, CatchParameterConflict, ForNameIsVar, SuperPropertyOutsideMethod, SuperCallOutsideConstructor, NewTargetOutsideFunction, DuplicateConstructor, SpecialConstructor, StaticPrototype, UncookedTemplate, RegExpFlags}
+use Rattle.early_errors.specs.Keys.{key_value}
+use Rattle.early_errors.specs.Names.{places, when, each_part, twice, shared, first_names, declared_names, parts_vars, lexical_names, function_names, parameter_names, parameters_on, body_items}
+use Rattle.early_errors.specs.Around.{Around, Label, outside, within, is_loop, is_label, labels_loop, last_loop, own_label, has_heritage, around_first, around_others, is_constructor, is_accessor}
+use Rattle.early_errors.specs.Scopes.{scope_lexical, scope_vars, declaration_names, duplicate_lexical_name, lexical_name_is_var, without_initializer, const_without_initializer, catch_parameter_conflict, head_lexical, for_name_is_var}
+use Rattle.early_errors.specs.Functions.{is_simple, use_strict, duplicate_parameter, parameter_is_lexical_name, use_strict_behind_pattern}
+use Rattle.early_errors.specs.Strict.{names_given, eval_or_arguments, delete_of_identifier}
+use Rattle.early_errors.specs.Labels.{is_bare, labels_statement, labels_a_loop, misplaced_jump, undefined_label, duplicate_label}
+use Rattle.early_errors.specs.Classes.{super_places, key_places, has_key, constructor_places, behind_first, super_property_outside_method, super_call_outside_constructor, new_target_outside_function, duplicate_constructor, special_constructor, static_prototype}
+use Rattle.early_errors.specs.Literals.{is_uncooked, some_uncooked, good_flags, uncooked_template, reg_exp_flags}
+use Rattle.early_errors.specs.Early.{Error, number, each, each_of, own_places, own_errors, errors_within, parts_errors, errors}
+use Rattle.early_errors.proofs.Words.{words, Alike, alike-append, alike-twice, alike-shared, alike-filter, alike-cond, alike-places, alike-each, others-bare, first_names-bare, declared-bare, vars-bare, lexical-bare, function_names-bare, parameters-bare, parameters_on-bare, body_items-bare}
+
+-- as many
+abbrev pub Even : List ℕ → List ℕ → Type 0
+Even xs ys = length xs ≡ length ys
+
+one : (b : Bool) (x y : ℕ) → Even (when b (x ∷ [])) (when b (y ∷ []))
+one true x y = refl
+one false x y = refl
+
+once : (b c : Bool) (x y : ℕ) → b ≡ c → Even (when b (x ∷ [])) (when c (y ∷ []))
+once b c x y e = ap (λ d. length (when d (x ∷ []))) e ∙ one c x y
+
+even-when : (b : Bool) (xs ys : List ℕ) → Even xs ys → Even (when b xs) (when b ys)
+even-when true xs ys e = e
+even-when false xs ys e = refl
+
+even-both : (b c : Bool) (xs ys : List ℕ) → b ≡ c → Even xs ys → Even (when b xs) (when c ys)
+even-both b c xs ys e f = ap (λ d. length (when d xs)) e ∙ even-when c xs ys f
+
+abbrev plus : ℕ → ℕ → ℕ
+plus zero m = m
+plus (suc n) m = suc (plus n m)
+
+sum : (xs ys : List ℕ) → length (xs ++ ys) ≡ plus (length xs) (length ys)
+sum [] ys = refl
+sum (x ∷ xs) ys = ap suc (sum xs ys)
+
+even-append : (xs xs' ys ys' : List ℕ) → Even xs xs' → Even ys ys' → Even (xs ++ ys) (xs' ++ ys')
+even-append xs xs' ys ys' e f = sum xs ys ∙ (λ i. plus (e i) (f i)) ∙ sym (sum xs' ys')
+
+even-each : (f : Tree → List ℕ) → ((n : Tree) → Even (f (bare n)) (f n)) → (ps : Parts) → Even (each_part f (bare_parts ps)) (each_part f ps)
+even-each f h none = refl
+even-each f h (part n ps) = even-append (f (bare n)) (f n) (each_part f (bare_parts ps)) (each_part f ps) (h n) (even-each f h ps)
+even-each f h (gap ps) = even-each f h ps
+
+behind : (ps : Parts) → others (others (bare_parts ps)) ≡ bare_parts (others (others ps))
+behind ps = ap others (others-bare ps) ∙ others-bare (others ps)
+
+lead-bare : (ps : Parts) → lead (bare_parts ps) ≡ lead ps
+lead-bare none = refl
+lead-bare (part (node k w g s e qs) ps) = refl
+lead-bare (gap ps) = refl
+
+-- strict words
+other-parameters : (ps : Parts) → Alike (parameter_names (others (bare_parts ps))) (parameter_names (others ps))
+other-parameters ps = ap (λ q. words (parameter_names q)) (others-bare ps) ∙ parameters-bare (others ps)
+
+function-given : (ps : Parts) → Alike (first_names (bare_parts ps) ++ parameter_names (others (bare_parts ps))) (first_names ps ++ parameter_names (others ps))
+function-given ps = alike-append (first_names (bare_parts ps)) (first_names ps) (parameter_names (others (bare_parts ps))) (parameter_names (others ps)) (first_names-bare ps) (other-parameters ps)
+
+given-bare : (k : Kind) (ps : Parts) → Alike (names_given k (bare_parts ps)) (names_given k ps)
+given-bare VariableDeclaration ps = declared-bare ps
+given-bare FunctionDeclaration ps = function-given ps
+given-bare FunctionExpression ps = function-given ps
+given-bare ArrowFunctionExpression ps = parameters-bare ps
+given-bare ClassDeclaration ps = first_names-bare ps
+given-bare ClassExpression ps = first_names-bare ps
+given-bare CatchClause ps = first_names-bare ps
+given-bare AssignmentExpression ps = first_names-bare ps
+given-bare UpdateExpression ps = first_names-bare ps
+given-bare ForInStatement ps = first_names-bare ps
+given-bare ForOfStatement ps = first_names-bare ps
+given-bare _ ps = refl
+
+eval-bare : (n : Tree) → Even (eval_or_arguments (bare n)) (eval_or_arguments n)
+unfolding eval_or_arguments
+eval-bare (node k w g s e ps) =
+    alike-places (filter (λ x. among x.0 ("eval" ∷ "arguments" ∷ [])) (names_given k (bare_parts ps))) (filter (λ x. among x.0 ("eval" ∷ "arguments" ∷ [])) (names_given k ps))
+    (alike-filter (λ v. among v ("eval" ∷ "arguments" ∷ [])) (names_given k (bare_parts ps)) (names_given k ps) (given-bare k ps))
+
+delete-bare : (n : Tree) → Even (delete_of_identifier (bare n)) (delete_of_identifier n)
+unfolding delete_of_identifier
+delete-bare (node UnaryExpression w g s e ps) =
+    once (is w "delete" && is_identifier (lead (bare_parts ps))) (is w "delete" && is_identifier (lead ps)) 0 s (ap (λ k. is w "delete" && is_identifier k) (lead-bare ps))
+delete-bare (node _ w g s e ps) = refl
+
+-- scopes
+case_lexical-bare : (n : Tree) → Alike (each_part (lexical_names true) (others (parts_of (bare n)))) (each_part (lexical_names true) (others (parts_of n)))
+case_lexical-bare (node k w g s e ps) = ap (λ q. words (each_part (lexical_names true) q)) (others-bare ps) ∙ alike-each (lexical_names true) (lexical-bare true) (others ps)
+
+case_vars-bare : (n : Tree) → Alike (parts_vars (others (parts_of (bare n)))) (parts_vars (others (parts_of n)))
+case_vars-bare (node k w g s e ps) = ap (λ q. words (parts_vars q)) (others-bare ps) ∙ vars-bare (others ps)
+
+scope_lexical-bare : (z : Around) (k : Kind) (ps : Parts) → Alike (scope_lexical z k (bare_parts ps)) (scope_lexical z k ps)
+scope_lexical-bare z Program ps = alike-each (lexical_names false) (lexical-bare false) ps
+scope_lexical-bare z BlockStatement ps = alike-each (lexical_names (not z.is_body)) (lexical-bare (not z.is_body)) ps
+scope_lexical-bare z SwitchStatement ps =
+    ap (λ q. words (each_part (λ c. each_part (lexical_names true) (others (parts_of c))) q)) (others-bare ps) ∙
+    alike-each (λ c. each_part (lexical_names true) (others (parts_of c))) case_lexical-bare (others ps)
+scope_lexical-bare z _ ps = refl
+
+functions-bare : (ps : Parts) → Alike (each_part function_names (bare_parts ps)) (each_part function_names ps)
+functions-bare ps = alike-each function_names function_names-bare ps
+
+scope_vars-bare : (z : Around) (k : Kind) (ps : Parts) → Alike (scope_vars z k (bare_parts ps)) (scope_vars z k ps)
+scope_vars-bare z Program ps =
+    alike-append (each_part function_names (bare_parts ps)) (each_part function_names ps) (parts_vars (bare_parts ps)) (parts_vars ps) (functions-bare ps) (vars-bare ps)
+scope_vars-bare z BlockStatement ps =
+    alike-append (cond z.is_body (each_part function_names (bare_parts ps)) []) (cond z.is_body (each_part function_names ps) []) (parts_vars (bare_parts ps)) (parts_vars ps)
+    (alike-cond z.is_body (each_part function_names (bare_parts ps)) (each_part function_names ps) [] [] (functions-bare ps) refl) (vars-bare ps)
+scope_vars-bare z SwitchStatement ps =
+    ap (λ q. words (each_part (λ c. parts_vars (others (parts_of c))) q)) (others-bare ps) ∙ alike-each (λ c. parts_vars (others (parts_of c))) case_vars-bare (others ps)
+scope_vars-bare z _ ps = refl
+
+declaration-bare : (k : Kind) (w : List ℕ) (ps : Parts) → Alike (declaration_names k w (bare_parts ps)) (declaration_names k w ps)
+declaration-bare VariableDeclaration w ps = alike-cond (is w "var") [] [] (declared_names (bare_parts ps)) (declared_names ps) refl (declared-bare ps)
+declaration-bare _ w ps = refl
+
+duplicate_lexical-bare : (z : Around) (n : Tree) → Even (duplicate_lexical_name z (bare n)) (duplicate_lexical_name z n)
+unfolding duplicate_lexical_name
+duplicate_lexical-bare z (node k w g s e ps) =
+    let a' = scope_lexical z k (bare_parts ps) in
+    let a = scope_lexical z k ps in
+    let b' = declaration_names k w (bare_parts ps) in
+    let b = declaration_names k w ps in
+    alike-places (twice a' ++ twice b') (twice a ++ twice b)
+    (alike-append (twice a') (twice a) (twice b') (twice b) (alike-twice a' a (scope_lexical-bare z k ps)) (alike-twice b' b (declaration-bare k w ps)))
+
+lexical_is_var-bare : (z : Around) (n : Tree) → Even (lexical_name_is_var z (bare n)) (lexical_name_is_var z n)
+unfolding lexical_name_is_var
+lexical_is_var-bare z (node k w g s e ps) =
+    let a' = scope_lexical z k (bare_parts ps) in
+    let a = scope_lexical z k ps in
+    let b' = scope_vars z k (bare_parts ps) in
+    let b = scope_vars z k ps in
+    alike-places (shared a' b') (shared a b) (alike-shared a' a b' b (scope_lexical-bare z k ps) (scope_vars-bare z k ps))
+
+without-bare : (n : Tree) → Even (without_initializer (bare n)) (without_initializer n)
+without-bare (node k w g s e none) = refl
+without-bare (node k w g s e (part n none)) = refl
+without-bare (node k w g s e (part n (part m ps))) = refl
+without-bare (node k w g s e (part n (gap ps))) = refl
+without-bare (node k w g s e (gap none)) = refl
+without-bare (node k w g s e (gap (part m ps))) = refl
+without-bare (node k w g s e (gap (gap ps))) = refl
+
+const-bare : (z : Around) (n : Tree) → Even (const_without_initializer z (bare n)) (const_without_initializer z n)
+unfolding const_without_initializer
+const-bare z (node VariableDeclaration w g s e ps) =
+    even-when (is w "const" && not z.in_head) (each_part without_initializer (bare_parts ps)) (each_part without_initializer ps) (even-each without_initializer without-bare ps)
+const-bare z (node _ w g s e ps) = refl
+
+block-bare : (ps : Parts) → Alike (each_part (lexical_names true) (body_items (bare_parts ps)) ++ parts_vars (body_items (bare_parts ps))) (each_part (lexical_names true) (body_items ps) ++ parts_vars (body_items ps))
+block-bare ps =
+    ap (λ q. words (each_part (lexical_names true) q ++ parts_vars q)) (body_items-bare ps) ∙
+    alike-append (each_part (lexical_names true) (bare_parts (body_items ps))) (each_part (lexical_names true) (body_items ps)) (parts_vars (bare_parts (body_items ps))) (parts_vars (body_items ps))
+    (alike-each (lexical_names true) (lexical-bare true) (body_items ps)) (vars-bare (body_items ps))
+
+catch-bare : (n : Tree) → Even (catch_parameter_conflict (bare n)) (catch_parameter_conflict n)
+unfolding catch_parameter_conflict
+catch-bare (node CatchClause w g s e ps) =
+    let a' = first_names (bare_parts ps) in
+    let a = first_names ps in
+    let b' = each_part (lexical_names true) (body_items (bare_parts ps)) ++ parts_vars (body_items (bare_parts ps)) in
+    let b = each_part (lexical_names true) (body_items ps) ++ parts_vars (body_items ps) in
+    alike-places (twice a' ++ shared a' b') (twice a ++ shared a b)
+    (alike-append (twice a') (twice a) (shared a' b') (shared a b) (alike-twice a' a (first_names-bare ps)) (alike-shared a' a b' b (first_names-bare ps) (block-bare ps)))
+catch-bare (node _ w g s e ps) = refl
+
+head-bare : (ps : Parts) → Alike (head_lexical (bare_parts ps)) (head_lexical ps)
+head-bare none = refl
+head-bare (part n ps) = lexical-bare false n
+head-bare (gap ps) = refl
+
+in_of-bare : (ps : Parts) → Even (places (shared (head_lexical (bare_parts ps)) (parts_vars (others (others (bare_parts ps)))))) (places (shared (head_lexical ps) (parts_vars (others (others ps)))))
+in_of-bare ps =
+    let a' = head_lexical (bare_parts ps) in
+    let a = head_lexical ps in
+    let b' = parts_vars (others (others (bare_parts ps))) in
+    let b = parts_vars (others (others ps)) in
+    alike-places (shared a' b') (shared a b) (alike-shared a' a b' b (head-bare ps) (ap (λ q. words (parts_vars q)) (behind ps) ∙ vars-bare (others (others ps))))
+
+for-bare : (n : Tree) → Even (for_name_is_var (bare n)) (for_name_is_var n)
+unfolding for_name_is_var
+for-bare (node ForStatement w g s e ps) =
+    let a' = head_lexical (bare_parts ps) in
+    let a = head_lexical ps in
+    let b' = parts_vars (others (others (others (bare_parts ps)))) in
+    let b = parts_vars (others (others (others ps))) in
+    alike-places (shared a' b') (shared a b)
+    (alike-shared a' a b' b (head-bare ps) (ap (λ q. words (parts_vars q)) (ap others (behind ps) ∙ others-bare (others (others ps))) ∙ vars-bare (others (others (others ps)))))
+for-bare (node ForInStatement w g s e ps) = in_of-bare ps
+for-bare (node ForOfStatement w g s e ps) = in_of-bare ps
+for-bare (node _ w g s e ps) = refl
+
+-- parameters
+given_parameters : (k : Kind) (ps : Parts) → Alike (parameter_names (parameters_on k (bare_parts ps))) (parameter_names (parameters_on k ps))
+given_parameters k ps = ap (λ q. words (parameter_names q)) (parameters_on-bare k ps) ∙ parameters-bare (parameters_on k ps)
+
+body_lexical : (k : Kind) (ps : Parts) → Alike (each_part (lexical_names false) (body_items (parameters_on k (bare_parts ps)))) (each_part (lexical_names false) (body_items (parameters_on k ps)))
+body_lexical k ps =
+    ap (λ q. words (each_part (lexical_names false) (body_items q))) (parameters_on-bare k ps) ∙ ap (λ q. words (each_part (lexical_names false) q)) (body_items-bare (parameters_on k ps)) ∙
+    alike-each (lexical_names false) (lexical-bare false) (body_items (parameters_on k ps))
+
+parameter-bare : (n : Tree) → Even (duplicate_parameter (bare n)) (duplicate_parameter n)
+unfolding duplicate_parameter
+parameter-bare (node k w g s e ps) =
+    let a' = parameter_names (parameters_on k (bare_parts ps)) in
+    let a = parameter_names (parameters_on k ps) in
+    alike-places (twice a') (twice a) (alike-twice a' a (given_parameters k ps))
+
+parameter_lexical-bare : (n : Tree) → Even (parameter_is_lexical_name (bare n)) (parameter_is_lexical_name n)
+unfolding parameter_is_lexical_name
+parameter_lexical-bare (node k w g s e ps) =
+    let a' = each_part (lexical_names false) (body_items (parameters_on k (bare_parts ps))) in
+    let a = each_part (lexical_names false) (body_items (parameters_on k ps)) in
+    let b' = parameter_names (parameters_on k (bare_parts ps)) in
+    let b = parameter_names (parameters_on k ps) in
+    alike-places (shared a' b') (shared a b) (alike-shared a' a b' b (body_lexical k ps) (given_parameters k ps))
+
+simple-bare : (ps : Parts) → is_simple (bare_parts ps) ≡ is_simple ps
+simple-bare none = refl
+simple-bare (part n none) = refl
+simple-bare (part (node k w g s e qs) (part m ps)) = ap (λ b. is_identifier k && b) (simple-bare (part m ps))
+simple-bare (part (node k w g s e qs) (gap ps)) = ap (λ b. is_identifier k && b) (simple-bare (gap ps))
+simple-bare (gap ps) = simple-bare ps
+
+use_strict-bare : (n : Tree) → Even (use_strict (bare n)) (use_strict n)
+use_strict-bare (node k w g s e none) = one (g.directive && false) 0 s
+use_strict-bare (node k w g s e (part (node k2 w2 g2 s2 e2 ps2) ps)) = one (g.directive && among w2 ("'use strict'" ∷ "\"use strict\"" ∷ [])) 0 s
+use_strict-bare (node k w g s e (gap ps)) = one (g.directive && false) 0 s
+
+strict-bare : (n : Tree) → Even (use_strict_behind_pattern (bare n)) (use_strict_behind_pattern n)
+unfolding use_strict_behind_pattern
+strict-bare (node k w g s e ps) =
+    let q' = parameters_on k (bare_parts ps) in
+    let q = parameters_on k ps in
+    even-both (not (is_simple q')) (not (is_simple q)) (each_part use_strict (body_items q')) (each_part use_strict (body_items q))
+    (ap (λ r. not (is_simple r)) (parameters_on-bare k ps) ∙ ap not (simple-bare q))
+    (ap (λ r. length (each_part use_strict (body_items r))) (parameters_on-bare k ps) ∙ ap (λ r. length (each_part use_strict r)) (body_items-bare q) ∙ even-each use_strict use_strict-bare (body_items q))
+
+-- jumps and labels
+bare-bare : (ps : Parts) → is_bare (bare_parts ps) ≡ is_bare ps
+bare-bare none = refl
+bare-bare (part n ps) = refl
+bare-bare (gap ps) = refl
+
+jump-bare : (z : Around) (n : Tree) → Even (misplaced_jump z (bare n)) (misplaced_jump z n)
+unfolding misplaced_jump
+jump-bare z (node BreakStatement w g s e ps) =
+    once (is_bare (bare_parts ps) && not (z.in_loop || z.in_switch)) (is_bare ps && not (z.in_loop || z.in_switch)) 0 s (ap (λ b. b && not (z.in_loop || z.in_switch)) (bare-bare ps))
+jump-bare z (node ContinueStatement w g s e ps) = once (is_bare (bare_parts ps) && not z.in_loop) (is_bare ps && not z.in_loop) 0 s (ap (λ b. b && not z.in_loop) (bare-bare ps))
+jump-bare z (node _ w g s e ps) = refl
+
+label-filter : (p : List ℕ → Bool) (ps : Parts) → Even (places (filter (λ x. p x.0) (first_names (bare_parts ps)))) (places (filter (λ x. p x.0) (first_names ps)))
+label-filter p ps =
+    alike-places (filter (λ x. p x.0) (first_names (bare_parts ps))) (filter (λ x. p x.0) (first_names ps)) (alike-filter p (first_names (bare_parts ps)) (first_names ps) (first_names-bare ps))
+
+undefined-bare : (z : Around) (n : Tree) → Even (undefined_label z (bare n)) (undefined_label z n)
+unfolding undefined_label
+undefined-bare z (node BreakStatement w g s e ps) = label-filter (λ v. not (labels_statement z.labels v)) ps
+undefined-bare z (node ContinueStatement w g s e ps) = label-filter (λ v. not (labels_a_loop z.labels v)) ps
+undefined-bare z (node _ w g s e ps) = refl
+
+label-bare : (z : Around) (n : Tree) → Even (duplicate_label z (bare n)) (duplicate_label z n)
+unfolding duplicate_label
+label-bare z (node LabeledStatement w g s e ps) = label-filter (labels_statement z.labels) ps
+label-bare z (node _ w g s e ps) = refl
+
+-- classes
+super-bare : (ps : Parts) → Even (super_places (bare_parts ps)) (super_places ps)
+super-bare none = refl
+super-bare (part (node k w g s e qs) ps) = one (is_super k) 0 s
+super-bare (gap ps) = refl
+
+super_property-bare : (z : Around) (n : Tree) → Even (super_property_outside_method z (bare n)) (super_property_outside_method z n)
+unfolding super_property_outside_method
+super_property-bare z (node MemberExpression w g s e ps) = even-when (not z.super_property) (super_places (bare_parts ps)) (super_places ps) (super-bare ps)
+super_property-bare z (node _ w g s e ps) = refl
+
+super_call-bare : (z : Around) (n : Tree) → Even (super_call_outside_constructor z (bare n)) (super_call_outside_constructor z n)
+unfolding super_call_outside_constructor
+super_call-bare z (node CallExpression w g s e ps) = even-when (not z.super_call) (super_places (bare_parts ps)) (super_places ps) (super-bare ps)
+super_call-bare z (node _ w g s e ps) = refl
+
+target-bare : (z : Around) (n : Tree) → Even (new_target_outside_function z (bare n)) (new_target_outside_function z n)
+unfolding new_target_outside_function
+target-bare z (node MetaProperty w g s e ps) = one (not z.new_target) 0 s
+target-bare z (node _ w g s e ps) = refl
+
+key-bare : (ps : Parts) → Even (key_places (bare_parts ps)) (key_places ps)
+key-bare none = refl
+key-bare (part n ps) = refl
+key-bare (gap ps) = refl
+
+constructor-bare : (n : Tree) → Even (constructor_places (bare n)) (constructor_places n)
+constructor-bare (node k w g s e ps) = even-when (is_constructor g.form) (key_places (bare_parts ps)) (key_places ps) (key-bare ps)
+
+abbrev less : ℕ → ℕ
+less zero = zero
+less (suc n) = n
+
+behind_first-length : (xs : List ℕ) → length (behind_first xs) ≡ less (length xs)
+behind_first-length [] = refl
+behind_first-length (x ∷ xs) = refl
+
+constructors-bare : (n : Tree) → Even (duplicate_constructor (bare n)) (duplicate_constructor n)
+unfolding duplicate_constructor
+constructors-bare (node ClassBody w g s e ps) =
+    behind_first-length (each_part constructor_places (bare_parts ps)) ∙ ap less (even-each constructor_places constructor-bare ps) ∙ sym (behind_first-length (each_part constructor_places ps))
+constructors-bare (node _ w g s e ps) = refl
+
+has_key-bare : (v : List ℕ) (ps : Parts) → has_key (bare_parts ps) (λ n. bytes_eq (key_value n) v) ≡ has_key ps (λ n. bytes_eq (key_value n) v)
+has_key-bare v none = refl
+has_key-bare v (part (node k w g s e qs) ps) = refl
+has_key-bare v (gap ps) = refl
+
+special-bare : (n : Tree) → Even (special_constructor (bare n)) (special_constructor n)
+unfolding special_constructor
+special-bare (node MethodDefinition w g s e ps) =
+    let p : Tree → Bool = λ n. is (key_value n) "constructor" in
+    even-both ((is_accessor g.form && not g.is_static) && (not g.computed && has_key (bare_parts ps) p)) ((is_accessor g.form && not g.is_static) && (not g.computed && has_key ps p))
+    (key_places (bare_parts ps)) (key_places ps)
+    (ap (λ b. (is_accessor g.form && not g.is_static) && (not g.computed && b)) (has_key-bare (codes "constructor") ps)) (key-bare ps)
+special-bare (node _ w g s e ps) = refl
+
+prototype-bare : (n : Tree) → Even (static_prototype (bare n)) (static_prototype n)
+unfolding static_prototype
+prototype-bare (node MethodDefinition w g s e ps) =
+    let p : Tree → Bool = λ n. is (key_value n) "prototype" in
+    even-both (g.is_static && (not g.computed && has_key (bare_parts ps) p)) (g.is_static && (not g.computed && has_key ps p)) (key_places (bare_parts ps)) (key_places ps)
+    (ap (λ b. g.is_static && (not g.computed && b)) (has_key-bare (codes "prototype") ps)) (key-bare ps)
+prototype-bare (node _ w g s e ps) = refl
+
+-- literals
+uncooked-bare : (ps : Parts) → some_uncooked (bare_parts ps) ≡ some_uncooked ps
+uncooked-bare none = refl
+uncooked-bare (part (node k w g s e qs) ps) = ap (λ b. is_uncooked k w || b) (uncooked-bare ps)
+uncooked-bare (gap ps) = uncooked-bare ps
+
+template-bare : (z : Around) (n : Tree) → Even (uncooked_template z (bare n)) (uncooked_template z n)
+unfolding uncooked_template
+template-bare z (node TemplateLiteral w g s e ps) =
+    once (not z.tagged && some_uncooked (bare_parts ps)) (not z.tagged && some_uncooked ps) 0 s (ap (λ b. not z.tagged && b) (uncooked-bare ps))
+template-bare z (node _ w g s e ps) = refl
+
+flags-bare : (n : Tree) → Even (reg_exp_flags (bare n)) (reg_exp_flags n)
+unfolding reg_exp_flags
+flags-bare (node Literal w g s e ps) = one (not (good_flags w)) 0 s
+flags-bare (node _ w g s e ps) = refl
+
+-- what holds round the parts
+mutual
+  unfolding labels_loop last_loop
+
+  loop-bare : (n : Tree) → labels_loop (bare n) ≡ labels_loop n
+  loop-bare (node k w g s e ps) = ap (λ b. is_loop k || (is_label k && b)) (last_loop-bare ps)
+
+  last_loop-bare : (ps : Parts) → last_loop (bare_parts ps) ≡ last_loop ps
+  last_loop-bare none = refl
+  last_loop-bare (part n none) = loop-bare n
+  last_loop-bare (part n (part m ps)) = last_loop-bare (part m ps)
+  last_loop-bare (part n (gap ps)) = last_loop-bare ps
+  last_loop-bare (gap ps) = last_loop-bare ps
+
+own_label-bare : (ps : Parts) (ls : List Label) → own_label (bare_parts ps) ls ≡ own_label ps ls
+own_label-bare none ls = refl
+own_label-bare (part (node k w g s e qs) ps) ls = ap (λ b. (w, b) ∷ ls) (last_loop-bare ps)
+own_label-bare (gap ps) ls = refl
+
+heritage-bare : (ps : Parts) → has_heritage (bare_parts ps) ≡ has_heritage ps
+heritage-bare none = refl
+heritage-bare (part n ps) = refl
+heritage-bare (gap ps) = refl
+
+derived-bare : (ps : Parts) → has_heritage (others (bare_parts ps)) ≡ has_heritage (others ps)
+derived-bare ps = ap has_heritage (others-bare ps) ∙ heritage-bare (others ps)
+
+others_around : (z : Around) (k : Kind) (g : Flags) (ps : Parts) → around_others z k g (bare_parts ps) ≡ around_others z k g ps
+others_around z ClassExpression g ps = ap (λ b. record (within z) { derived = b }) (derived-bare ps)
+others_around z ClassDeclaration g ps = ap (λ b. record (within z) { derived = b }) (derived-bare ps)
+others_around z LabeledStatement g ps = ap (λ l. record (within z) { labels = l }) (own_label-bare ps z.labels)
+others_around z _ g ps = refl
+
+first_around : (z : Around) (k : Kind) (g : Flags) (ps : Parts) → around_first z k g (bare_parts ps) ≡ around_first z k g ps
+first_around z MethodDefinition g ps = refl
+first_around z Property g ps = refl
+first_around z TaggedTemplateExpression g ps = refl
+first_around z ForInStatement g ps = refl
+first_around z ForOfStatement g ps = refl
+first_around z k g ps = others_around z k g ps
+
+-- the numbers of a list of errors
+abbrev pub numbers : List Error → List ℕ
+numbers xs = map (λ x. x.0) xs
+
+abbrev times : ℕ → ℕ → List ℕ
+times v zero = []
+times v (suc n) = v ∷ times v n
+
+abbrev tally : List (EarlyError × ℕ) → List ℕ
+tally [] = []
+tally (x ∷ xs) = times (number x.0) x.1 ++ tally xs
+
+abbrev counts : List (EarlyError × List ℕ) → List (EarlyError × ℕ)
+counts xs = map (λ x. (x.0, length x.1)) xs
+
+each-times : (c : EarlyError) (xs : List ℕ) → numbers (each c xs) ≡ times (number c) (length xs)
+each-times c [] = refl
+each-times c (x ∷ xs) = ap (λ l. number c ∷ l) (each-times c xs)
+
+numbers-append : (xs ys : List Error) → numbers (xs ++ ys) ≡ numbers xs ++ numbers ys
+numbers-append [] ys = refl
+numbers-append (x ∷ xs) ys = ap (λ l. x.0 ∷ l) (numbers-append xs ys)
+
+tallied : (xs : List (EarlyError × List ℕ)) → numbers (each_of xs) ≡ tally (counts xs)
+tallied [] = refl
+tallied (x ∷ xs) = numbers-append (each x.0 x.1) (each_of xs) ∙ (λ i. each-times x.0 x.1 i ++ tallied xs i)
+
+counted : (z : Around) (n : Tree) → counts (own_places z (bare n)) ≡ counts (own_places z n)
+counted z n = λ i.
+    (EvalOrArguments, eval-bare n i) ∷
+    (DeleteOfIdentifier, delete-bare n i) ∷
+    (DuplicateLexicalName, duplicate_lexical-bare z n i) ∷
+    (LexicalNameIsVar, lexical_is_var-bare z n i) ∷
+    (ConstWithoutInitializer, const-bare z n i) ∷
+    (DuplicateParameter, parameter-bare n i) ∷
+    (ParameterIsLexicalName, parameter_lexical-bare n i) ∷
+    (UseStrictBehindPattern, strict-bare n i) ∷
+    (MisplacedJump, jump-bare z n i) ∷
+    (UndefinedLabel, undefined-bare z n i) ∷
+    (DuplicateLabel, label-bare z n i) ∷
+    (CatchParameterConflict, catch-bare n i) ∷
+    (ForNameIsVar, for-bare n i) ∷
+    (SuperPropertyOutsideMethod, super_property-bare z n i) ∷
+    (SuperCallOutsideConstructor, super_call-bare z n i) ∷
+    (NewTargetOutsideFunction, target-bare z n i) ∷
+    (DuplicateConstructor, constructors-bare n i) ∷
+    (SpecialConstructor, special-bare n i) ∷
+    (StaticPrototype, prototype-bare n i) ∷
+    (UncookedTemplate, template-bare z n i) ∷
+    (RegExpFlags, flags-bare n i) ∷
+    []
+
+own-bare : (z : Around) (n : Tree) → numbers (own_errors z (bare n)) ≡ numbers (own_errors z n)
+unfolding own_errors
+own-bare z n = tallied (own_places z (bare n)) ∙ ap tally (counted z n) ∙ sym (tallied (own_places z n))
+
+both_numbers : (xs xs' ys ys' : List Error) → numbers xs ≡ numbers xs' → numbers ys ≡ numbers ys' → numbers (xs ++ ys) ≡ numbers (xs' ++ ys')
+both_numbers xs xs' ys ys' e f = numbers-append xs ys ∙ (λ i. e i ++ f i) ∙ sym (numbers-append xs' ys')
+
+mutual
+  unfolding errors_within parts_errors
+
+  pub within-bare : (z : Around) (n : Tree) → numbers (errors_within z (bare n)) ≡ numbers (errors_within z n)
+  within-bare z (node k w g s e ps) =
+      both_numbers (own_errors z (bare (node k w g s e ps))) (own_errors z (node k w g s e ps))
+      (parts_errors (around_first z k g (bare_parts ps)) (around_others z k g (bare_parts ps)) (bare_parts ps)) (parts_errors (around_first z k g ps) (around_others z k g ps) ps)
+      (own-bare z (node k w g s e ps))
+      ((λ i. numbers (parts_errors (first_around z k g ps i) (others_around z k g ps i) (bare_parts ps))) ∙ parts-bare (around_first z k g ps) (around_others z k g ps) ps)
+
+  pub parts-bare : (y z : Around) (ps : Parts) → numbers (parts_errors y z (bare_parts ps)) ≡ numbers (parts_errors y z ps)
+  parts-bare y z none = refl
+  parts-bare y z (part n ps) = both_numbers (errors_within y (bare n)) (errors_within y n) (parts_errors z z (bare_parts ps)) (parts_errors z z ps) (within-bare y n) (parts-bare z z ps)
+  parts-bare y z (gap ps) = parts-bare z z ps
+
+-- the same tree has the same early errors, but for their places
+pub same_errors : (a b : Tree) → SameTree a b → numbers (errors a) ≡ numbers (errors b)
+same_errors a b h = sym (within-bare outside a) ∙ ap (λ n. numbers (errors n)) h ∙ within-bare outside b
+
+empty : (xs : List Error) → numbers xs ≡ [] → xs ≡ []
+empty [] e = refl
+empty (x ∷ xs) e = cc
+
+-- where a tree has no early error, the same tree with other places has none
+pub none_either : (a b : Tree) → SameTree a b → errors a ≡ [] → errors b ≡ []
+none_either a b h e = empty (errors b) (sym (same_errors a b h) ∙ ap numbers e)

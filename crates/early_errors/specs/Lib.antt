@@ -1,0 +1,11 @@
+pub mod Keys
+pub mod Names
+pub mod Around
+pub mod Scopes
+pub mod Functions
+pub mod Strict
+pub mod Labels
+pub mod Classes
+pub mod Cooked
+pub mod Literals
+pub mod Early

@@ -1,0 +1,84 @@
+//! The early errors of ECMA-262, 11th edition, that a strict script can have.
+#![tactic(auto)]
+
+/// An early error, in the order of the numbers 1 to 21 that reports name it by.
+#[derive(Copy, Clone)]
+pub enum EarlyError {
+    /// 1: `eval` or `arguments` is bound or assigned.
+    EvalOrArguments,
+    /// 2: `delete` of an identifier.
+    DeleteOfIdentifier,
+    /// 3: a lexical name is declared twice in one scope.
+    DuplicateLexicalName,
+    /// 4: a lexical name is also a `var` name of its scope.
+    LexicalNameIsVar,
+    /// 5: a `const` has no initializer.
+    ConstWithoutInitializer,
+    /// 6: a parameter name stands twice.
+    DuplicateParameter,
+    /// 7: a parameter name is also a lexical name of the body.
+    ParameterIsLexicalName,
+    /// 8: a directive `use strict` below parameters that aren't plain names.
+    UseStrictBehindPattern,
+    /// 9: a `break` or `continue` without label and with nothing to leave or go on with.
+    MisplacedJump,
+    /// 10: a `break` or `continue` to a label that isn't there.
+    UndefinedLabel,
+    /// 11: a label inside a statement with the same label.
+    DuplicateLabel,
+    /// 12: a catch parameter's name stands twice, or is declared in the block too.
+    CatchParameterConflict,
+    /// 13: a lexical name of a `for` head is also a `var` name of the loop's body.
+    ForNameIsVar,
+    /// 14: a `super` property outside methods.
+    SuperPropertyOutsideMethod,
+    /// 15: a `super` call outside the constructor of a class with `extends`.
+    SuperCallOutsideConstructor,
+    /// 16: `new.target` outside functions.
+    NewTargetOutsideFunction,
+    /// 17: a second constructor of one class.
+    DuplicateConstructor,
+    /// 18: a getter or setter named `constructor`.
+    SpecialConstructor,
+    /// 19: a static member named `prototype`.
+    StaticPrototype,
+    /// 20: an untagged template with a part that has no cooked value.
+    UncookedTemplate,
+    /// 21: flags of a regular expression that aren't known, or stand twice.
+    RegExpFlags,
+}
+
+ghost use Rattle.std.specs.Prelude.{◌≡◌};
+ghost use Rattle.early_errors.specs.Early.{number};
+
+/// The number that a report names the early error by: 1 to 21.
+pub fn number_of(error: EarlyError) -> u8
+    ensures { result ≡ number error }
+{
+    match error {
+        EarlyError::EvalOrArguments => 1,
+        EarlyError::DeleteOfIdentifier => 2,
+        EarlyError::DuplicateLexicalName => 3,
+        EarlyError::LexicalNameIsVar => 4,
+        EarlyError::ConstWithoutInitializer => 5,
+        EarlyError::DuplicateParameter => 6,
+        EarlyError::ParameterIsLexicalName => 7,
+        EarlyError::UseStrictBehindPattern => 8,
+        EarlyError::MisplacedJump => 9,
+        EarlyError::UndefinedLabel => 10,
+        EarlyError::DuplicateLabel => 11,
+        EarlyError::CatchParameterConflict => 12,
+        EarlyError::ForNameIsVar => 13,
+        EarlyError::SuperPropertyOutsideMethod => 14,
+        EarlyError::SuperCallOutsideConstructor => 15,
+        EarlyError::NewTargetOutsideFunction => 16,
+        EarlyError::DuplicateConstructor => 17,
+        EarlyError::SpecialConstructor => 18,
+        EarlyError::StaticPrototype => 19,
+        EarlyError::UncookedTemplate => 20,
+        EarlyError::RegExpFlags => 21,
+    }
+}
+
+#[cfg(test)]
+mod tests;
