@@ -1,9 +1,9 @@
 -- What is proved of the definitions.
-use Rattle.std.specs.Prelude.{◌≡◌, ◌↔◌, ℕ, Bool, false, List, length}
+use Rattle.std.specs.Prelude.{◌≡◌, ◌↔◌, ℕ, Bool, false, List, ◌++◌, length}
 use Rattle.tree.specs.declared.kind.Kind.{Kind}
 use Rattle.tree.specs.declared.kind.Kind.TheVariants.{ArrowFunctionExpression, NewExpression}
 use Rattle.tree.specs.declared.kind.Pair.{Pair}
-use Rattle.tree.specs.Tree.{Tree, node, Parts, none, part, kind_of, SameTree}
+use Rattle.tree.specs.Tree.{Tree, node, Parts, none, part, kind_of, bare, SameTree}
 use Rattle.language.specs.FirstPart.{others}
 use Rattle.language.specs.Words.{is_identifier}
 use Rattle.language.specs.Pieces.{Role, script, PieceOf, is_none}
@@ -41,3 +41,13 @@ NoFewerPairsOfTokens =
 -- so every derivation of every text with the same tree has at least the computed cost of pairs
 abbrev pub NoFewerPairs : Type 0
 NoFewerPairs = (n m : Tree) (text : List ℕ) (P : List Pair) → SameTree m n → Derives text m P → AtMost (least n script) (length P)
+
+-- a derivation stays one when tokens are added behind those that it looks at
+abbrev pub StaysWithMoreTokens : Type 0
+StaysWithMoreTokens =
+    (n : Tree) (a : Role) (o : ℕ) (ts us vs : List Token) (P : List Pair) →
+    Spells (List Token) Next behind o a n ts us P → Spells (List Token) Next behind o a n (ts ++ vs) (us ++ vs) P
+
+-- places change no way
+abbrev pub PlacesChangeNoWay : Type 0
+PlacesChangeNoWay = (a : Role) (n : Tree) → ways a (bare n) ≡ ways a n

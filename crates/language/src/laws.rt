@@ -1,6 +1,6 @@
 //! What is proved of the definitions: each contract is a theorem, and the body does nothing.
 
-ghost use Rattle.language.specs.Laws.{AtMostOneWay, FindsDerivations, NoFewerPairs, NoFewerPairsOfTokens};
+ghost use Rattle.language.specs.Laws.{AtMostOneWay, FindsDerivations, NoFewerPairs, NoFewerPairsOfTokens, PlacesChangeNoWay, StaysWithMoreTokens};
 
 /// A node has at most one way at a position, but for an arrow with one plain parameter and a `new` without arguments.
 pub fn at_most_one_way()
@@ -20,4 +20,14 @@ pub fn no_fewer_pairs_of_tokens()
 /// Every derivation of every text with the same tree has at least the computed cost of pairs.
 pub fn no_fewer_pairs()
     ensures { NoFewerPairs }
+{}
+
+/// A derivation stays one when tokens are added behind those that it looks at.
+pub fn stays_with_more_tokens()
+    ensures { StaysWithMoreTokens }
+{}
+
+/// Places change no way to spell a node.
+pub fn places_change_no_way()
+    ensures { PlacesChangeNoWay }
 {}
