@@ -58,6 +58,16 @@ pub quoted_setter_constructor : errors (n Program 0 35 (one (n ClassDeclaration 
 unfolding computing
 quoted_setter_constructor = refl
 
+-- `class A { get '\x63onstructor'() {} }`
+pub escaped_getter_constructor : errors (n Program 0 37 (one (n ClassDeclaration 0 37 (part (id "A" 6) (gap (one (n ClassBody 8 37 (one (formed Get (n MethodDefinition 10 35 (two (t Literal "'\\x63onstructor'" 14 30 none) (n FunctionExpression 30 35 (gap (one (n BlockStatement 33 35 none))))))))))))))) ≡ (18, 14) ∷ []
+unfolding computing
+escaped_getter_constructor = refl
+
+-- `class A { static 'proto\x74ype'() {} }`
+pub escaped_prototype : errors (n Program 0 38 (one (n ClassDeclaration 0 38 (part (id "A" 6) (gap (one (n ClassBody 8 38 (one (formed Method (static_one (n MethodDefinition 10 36 (two (t Literal "'proto\\x74ype'" 17 31 none) (n FunctionExpression 31 36 (gap (one (n BlockStatement 34 36 none)))))))))))))))) ≡ (19, 17) ∷ []
+unfolding computing
+escaped_prototype = refl
+
 -- `class A { static get constructor() {} }`
 pub static_getter_constructor : errors (n Program 0 39 (one (n ClassDeclaration 0 39 (part (id "A" 6) (gap (one (n ClassBody 8 39 (one (formed Get (static_one (n MethodDefinition 10 37 (two (id "constructor" 21) (n FunctionExpression 32 37 (gap (one (n BlockStatement 35 37 none)))))))))))))))) ≡ []
 unfolding computing
