@@ -1,0 +1,24 @@
+'use strict';
+// The layout of the definitions against print.js: the fixed text, and the text with any wrapped set.
+
+const path = require('path');
+const antt = require('./antt.js');
+const { REFERENCE } = require('./model.js');
+const { layout } = require(path.join(REFERENCE, 'print.js'));
+
+function compareLayout(m, program, root, pl, random) {
+  const out = [];
+  const differ = (what, got, want) => {
+    if (got !== want) out.push({ what, detail: `definitions ${JSON.stringify(got)}, reference ${JSON.stringify(want)}` });
+  };
+  differ('fixed text', antt.text(m.fixed_text(root)), layout(program, pl.wrapped));
+  if (random !== undefined && pl.rows.length <= 300) {
+    const wrapped = new Set(pl.wrapped); const numbers = new Set(pl.wrappedRows);
+    pl.rows.forEach((r, i) => { if (random.chance(15)) { wrapped.add(r.node); numbers.add(i + 1); } });
+    let got;
+    try { got = antt.text(m.layout((r) => numbers.has(r), root, m.script, 1, 0)); } catch (error) { got = String(error.message); }
+    differ('layout of more pairs', got, layout(program, wrapped));
+  }
+  return out;
+}
+module.exports = { compareLayout };

@@ -1,0 +1,128 @@
+'use strict';
+// What the runners look up in the definitions, and the trees between them and the reference.
+
+const path = require('path');
+const antt = require('./antt.js');
+const REFERENCE = path.join(__dirname, '../reference');
+const CRATES = ['tokens', 'tree', 'language', 'early_errors'].map((c) => path.join(__dirname, '../../crates', c));
+
+// Names of the definitions: ours -> [name, the last part of its module, its crate].
+// Change these when the definitions move or are renamed.
+const NAMES = {
+  // trees and positions
+  node: ['node', 'Tree', 'tree'], none: ['none', 'Tree', 'tree'], part: ['part', 'Tree', 'tree'], gap: ['gap', 'Tree', 'tree'], height: ['height', 'Tree', 'tree'],
+  is_lean: ['is_lean', 'Uses', 'tree'],
+  expr: ['expr', 'Pieces', 'language'], script: ['script', 'Pieces', 'language'],
+  // the relation
+  ways: ['ways', 'Grammar', 'language'], place: ['place', 'Derivation', 'language'], rows: ['rows', 'Positions', 'language'],
+  is_token: ['is_token', 'Token', 'language'], is_mark: ['is_mark', 'Token', 'language'], as_read: ['as_read', 'Token', 'language'],
+  may_miss: ['may_miss', 'Edges', 'language'], is_semicolon: ['is_semicolon', 'Edges', 'language'],
+  beginning: ['beginning', 'Cursor', 'language'],
+  // a search that the definitions have themselves
+  spelled: ['spelled', 'Search', 'language'],
+  // costs and layout
+  least: ['least', 'Cost', 'language'], cells: ['cells', 'Cost', 'language'], fixed_text: ['fixed_text', 'Layout', 'language'], layout: ['layout', 'Layout', 'language'],
+  wrapped_rows: ['wrapped_rows', 'Layout', 'language'], row_nodes: ['row_nodes', 'Claims', 'language'], cell_bound: ['cell_bound', 'Claims', 'language'],
+  total_bound: ['total_bound', 'Claims', 'language'], contexts: ['contexts', 'Claims', 'language'],
+  // early errors
+  errors: ['errors', 'Early', 'early_errors'], least_error: ['least_error', 'Early', 'early_errors'],
+  // tokens as texts, and their values
+  token_at: ['is_token', 'Lexical', 'tokens'], allows: ['allows', 'Goals', 'tokens'], begins_comment: ['begins_comment', 'Comments', 'tokens'], is_comment: ['is_comment', 'Comments', 'tokens'],
+  is_white_space: ['is_white_space', 'Alphabet', 'tokens'], is_line_terminator: ['is_line_terminator', 'Lines', 'tokens'], size: ['size', 'Tokens', 'tokens'], line_column: ['line_column', 'Lines', 'tokens'],
+  string_units: ['string_units', 'Strings', 'tokens'], raw_value: ['raw_value', 'Templates', 'tokens'], cooked_value: ['cooked_value', 'Templates', 'tokens'],
+  literal_units: ['literal_units', 'Strings', 'language'], cooks: ['cooks', 'Cooked', 'early_errors'],
+};
+// The constructors of the classes and goals of tokens, by the words of the model; enumerations of the Rust source.
+const CLASS = { name: 'Name', punctuator: 'Punctuator', number: 'Number', string: 'Text', template: 'Template', regexp: 'RegExp', end: 'End' };
+const GOALS = ['Div', 'RegExp', 'TemplateTail'];
+const FORM = { init: 'Init', get: 'Get', set: 'Set', method: 'Method', shorthand: 'Shorthand', constructor: 'Constructor' };
+const FLAGS = ['computed', 'optional', 'is_static', 'prefix', 'directive', 'expression'];
+
+class Model {
+  constructor(folders) {
+    this.spec = antt.load(folders);
+    for (const [key, where] of Object.entries(NAMES)) this[key] = this.spec.fn(...where);
+    const unwrap = (v) => (typeof v === 'function' ? v() : v);
+    this.none = unwrap(this.none); this.script = unwrap(this.script); this.contexts = unwrap(this.contexts); this.beginning = unwrap(this.beginning);
+    this.classes = Object.fromEntries(Object.entries(CLASS).map(([k, v]) => [k, this.spec.find(v, 'Lexical', 'tokens').con.constant]));
+    this.goals = Object.fromEntries(GOALS.map((v) => [v, this.spec.find(v, 'Goals', 'tokens').con.constant]));
+    this.forms = Object.fromEntries(Object.entries(FORM).map(([k, v]) => [k, this.spec.variant('Form', v)]));
+    const wide = [this.spec.variant('Rank', 'Expression'), true, this.spec.variant('Start', 'Any')];
+    this.exprAny = this.expr(...wide);
+  }
+  kind(name) { return this.spec.variant('Kind', name); }
+
+  // A plain tree {kind, text, flags, start, stop, parts} (a gap is null) as a tree of the definitions.
+  // The plain node keeps it as `.spec`, and it keeps the plain node as `.plain`.
+  tree(n) {
+    const flags = { ...n.flags, form: this.forms[n.flags.form] };
+    let parts = this.none;
+    for (let i = n.parts.length - 1; i >= 0; i--) parts = n.parts[i] === null ? this.gap(parts) : this.part(this.tree(n.parts[i]), parts);
+    const v = this.node(this.kind(n.kind), antt.bytes(n.text), flags, n.start, n.stop, parts);
+    v.plain = n; n.spec = v;
+    return v;
+  }
+  token(t) { return { class: this.classes[t.cls], text: antt.bytes(t.text), start: t.start, stop: t.stop, after_break: t.afterBreak }; }
+}
+
+// ---------------------------------------------------------------- ESTree to plain trees
+
+const noFlags = () => ({ computed: false, optional: false, is_static: false, prefix: false, directive: false, expression: false, form: 'init' });
+// A node of the reference (or of the outside judge) as a plain tree; `n.from` is the ESTree node.
+function plainTree(e) {
+  const make = (parts, word = '', flags = {}) =>
+    ({ kind: e.type, text: word, flags: { ...noFlags(), ...flags }, start: e.start ?? 0, stop: e.end ?? 0, parts: parts.map((p) => (p === null || p === undefined ? null : plainTree(p))), from: e });
+  switch (e.type) {
+    case 'Program': case 'BlockStatement': case 'ClassBody': return make(e.body);
+    case 'Identifier': return make([], e.name);
+    case 'Literal': return make([], e.raw);
+    case 'ThisExpression': case 'Super': case 'EmptyStatement': case 'DebuggerStatement': return make([]);
+    case 'ArrayExpression': case 'ArrayPattern': return make(e.elements);
+    case 'ObjectExpression': case 'ObjectPattern': return make(e.properties);
+    case 'Property': return make([e.key, e.value], '', { computed: e.computed, form: e.shorthand ? 'shorthand' : e.method ? 'method' : e.kind });
+    case 'SpreadElement': case 'RestElement': case 'ReturnStatement': case 'ThrowStatement': return make([e.argument]);
+    case 'FunctionExpression': case 'FunctionDeclaration': return make([e.id, ...e.params, e.body]);
+    case 'ArrowFunctionExpression': return make([...e.params, e.body], '', { expression: e.expression });
+    case 'ClassExpression': case 'ClassDeclaration': return make([e.id, e.superClass, e.body]);
+    case 'MethodDefinition': return make([e.key, e.value], '', { computed: e.computed, is_static: e.static, form: e.kind });
+    case 'TemplateLiteral': return make(e.quasis.flatMap((q, i) => (i < e.expressions.length ? [q, e.expressions[i]] : [q])));
+    case 'TemplateElement': return make([], e.value.raw);
+    case 'TaggedTemplateExpression': return make([e.tag, e.quasi]);
+    case 'MemberExpression': return make([e.object, e.property], '', { computed: e.computed, optional: e.optional });
+    case 'CallExpression': return make([e.callee, ...e.arguments], '', { optional: e.optional });
+    case 'NewExpression': return make([e.callee, ...e.arguments]);
+    case 'MetaProperty': return make([e.meta, e.property]);
+    case 'ImportExpression': return make([e.source]);
+    case 'ChainExpression': return make([e.expression]);
+    case 'UpdateExpression': return make([e.argument], e.operator, { prefix: e.prefix });
+    case 'UnaryExpression': return make([e.argument], e.operator);
+    case 'BinaryExpression': case 'LogicalExpression': case 'AssignmentExpression': return make([e.left, e.right], e.operator);
+    case 'ConditionalExpression': case 'IfStatement': return make([e.test, e.consequent, e.alternate]);
+    case 'SequenceExpression': return make(e.expressions);
+    case 'AssignmentPattern': return make([e.left, e.right]);
+    case 'ExpressionStatement': return make([e.expression], '', { directive: typeof e.directive === 'string' });
+    case 'BreakStatement': case 'ContinueStatement': return make([e.label]);
+    case 'LabeledStatement': return make([e.label, e.body]);
+    case 'SwitchStatement': return make([e.discriminant, ...e.cases]);
+    case 'SwitchCase': return make([e.test, ...e.consequent]);
+    case 'TryStatement': return make([e.block, e.handler, e.finalizer]);
+    case 'CatchClause': return make([e.param, e.body]);
+    case 'WhileStatement': return make([e.test, e.body]);
+    case 'DoWhileStatement': return make([e.body, e.test]);
+    case 'ForStatement': return make([e.init, e.test, e.update, e.body]);
+    case 'ForInStatement': case 'ForOfStatement': return make([e.left, e.right, e.body]);
+    case 'VariableDeclaration': return make(e.declarations, e.kind);
+    case 'VariableDeclarator': return make([e.id, e.init]);
+    default: throw new Error('no plain form: ' + e.type);
+  }
+}
+const copyTree = (n) => (n === null ? null : { kind: n.kind, text: n.text, flags: { ...n.flags }, start: n.start, stop: n.stop, parts: n.parts.map(copyTree) });
+// "The same tree": places left out.
+function bareText(n) {
+  if (n === null) return '~';
+  const flags = FLAGS.filter((f) => n.flags[f]).join(',') + (n.flags.form === 'init' ? '' : ':' + n.flags.form);
+  return `(${n.kind} ${JSON.stringify(n.text)} ${flags}${n.parts.map((p) => ' ' + bareText(p)).join('')})`;
+}
+function nodesOf(n, list = []) { list.push(n); for (const p of n.parts) if (p !== null) nodesOf(p, list); return list; }
+
+module.exports = { Model, NAMES, REFERENCE, CRATES, FLAGS, FORM, plainTree, copyTree, bareText, nodesOf, noFlags };

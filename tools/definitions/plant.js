@@ -1,0 +1,180 @@
+#!/usr/bin/env node
+'use strict';
+// Does the tester see faults? Plants one fault at a time into a copy of the definitions and runs
+// run.js on it:  node plant.js [--specs FOLDER] [--n N] [--only NAME|NAME..]
+// FOLDER: a folder of crates. A fault whose text isn't found any more is named. Exit status 1 where one isn't seen.
+
+const fs = require('fs');
+const os = require('os');
+const path = require('path');
+const { spawn } = require('child_process');
+const { CRATES } = require('./model.js');
+
+const argv = process.argv.slice(2);
+const value = (name, d) => { const i = argv.indexOf(name); return i < 0 ? d : argv[i + 1]; };
+const folder = path.resolve(value('--specs', path.join(__dirname, '../../crates')));
+const crates = CRATES.map((c) => path.basename(c));
+const n = value('--n', '12');
+
+const FAULTS = [
+  ['left side of ?? takes ||', 'not (nat_eq y 4 && (nat_eq z 5 || nat_eq z 6))', 'true'],
+  ['new without arguments takes a call', '&& not (nat_eq y 19 && nat_eq z 20)', ''],
+  ['** takes a unary left', 'sub (lead Update) ∷ infix_pieces w', 'sub (lead Unary) ∷ infix_pieces w'],
+  ['** is left associative', 'put (expr Exponentiation true Any) ∷ []) ∷ []', 'put (expr Update true Any) ∷ []) ∷ []'],
+  ['right operand at the node\'s symbol', 'sub (tail q Any) ∷ [])', 'sub (tail z Any) ∷ [])'],
+  ['in without In', 'at_in (is w "in")', 'at_in false'],
+  ['consequent of ?: without In kept', 'sp ∷ sign "?" ∷ sp ∷ assignment ∷', 'sp ∷ sign "?" ∷ sp ∷ sub (tail Assignment Any) ∷'],
+  ['alternate of ?: with In', 'sign ":" ∷ sp ∷ sub (tail Assignment Any)', 'sign ":" ∷ sp ∷ assignment'],
+  ['test of ?: at Conditional', 'sub (left ShortCircuit)', 'sub (left Conditional)'],
+  ['arrow body may begin with {', 'sub (tail Assignment NoBrace)', 'sub (tail Assignment Any)'],
+  ['break before =>', 'arrow_end g = unbroken ∷ sp', 'arrow_end g = sp'],
+  ['break before postfix', 'target (lead_kind ps) ∷ unbroken ∷', 'target (lead_kind ps) ∷'],
+  ['grouped pattern', 'fits_position (pattern b f) x = starts f x.pieces', 'fits_position (pattern b f) x = true'],
+  ['comma behind a rest', 'separator k true = cond (is_rest k) [] (may (codes ",") ∷ [])', 'separator k true = may (codes ",") ∷ []'],
+  ['a rest that is not last', 'separator k false = cond (is_rest k) nothing', 'separator k false = cond (is_rest k) (sign "," ∷ sp ∷ [])'],
+  ['object rest takes a pattern', 'cond (of_object && is_a_pattern (lead ps)) []', 'cond false []'],
+  ['statement begins with function', '("function" ∷ "class" ∷ [])', '("class" ∷ [])'],
+  ['statement begins with {', 'starts f (tok Punctuator w ∷ qs) = not (is w "{")', 'starts f (tok Punctuator w ∷ qs) = true'],
+  ['dangling else', 'cond (ends_in_if c) [] (only (front', 'cond false [] (only (front'],
+  ['for-of right at Expression', 'term "of" ∷ sp ∷ put (expr Assignment true Any)', 'term "of" ∷ sp ∷ whole'],
+  ['for init with In', 'put (expr Expression false Any)) ∷ []))', 'put (expr Expression true Any)) ∷ []))'],
+  ['for head declarator with In', 'declaration w (declarator false b)', 'declaration w (declarator true b)'],
+  ['for-in with initialiser', 'put (head false)) (bound', 'put (head true)) (bound'],
+  ['two defaults', 'nat_le (defaults (others ps)) 1', 'nat_le (defaults (others ps)) 2'],
+  ['return outside', 'cond r (only (term "return"', 'cond true (only (term "return"'],
+  ['break before return\'s expression', 'given ps (sp ∷ unbroken ∷ p ∷ [])', 'given ps (sp ∷ p ∷ [])'],
+  ['directive may be grouped', 'only (put quoted ∷ end_of Other', 'only (put (expr Expression true Any) ∷ end_of Other'],
+  ['string statement in a prologue is not grouped', '(put (expr Grouped true Any))', '(put (expr Expression true Statement))'],
+  ['prologue goes on behind a statement', '(b && is_directive n)', 'b'],
+  ['arrow goes on with (', 'goes_on Arrow t = false', 'goes_on Arrow t = is_sign t && is t.text "("'],
+  ['postfix goes on with (', 'among t.text ("+" ∷ "-" ∷ [])) ||', 'among t.text ("+" ∷ "-" ∷ "(" ∷ [])) ||'],
+  ['postfix does not go on with /', ') || begins t 47\n', ')\n'],
+  ['expression does not go on with a template', '(begins t 47 || begins t 96)', 'begins t 47'],
+  ['grouped arrow counts as arrow', 'cond (is last.text ")") Other Arrow', 'Arrow'],
+  ['grouped postfix counts as postfix', 'cond (is last.text ")") Other Postfix', 'Postfix'],
+  ['do needs a break', 'there of_do = true', 'there of_do = t.after_break'],
+  ['no ; before }', '(is_sign t && is t.text "}")', 'false'],
+  ['edge of a conditional', 'goes_right ConditionalExpression = true\n', ''],
+  ['edge of a declarator', 'goes_right VariableDeclarator = true\n', ''],
+  ['chain base at Member', 'cond optional (sub (lead Call)) never', 'cond optional (sub (lead Member)) never'],
+  ['template behind a chain', 'is_spine CallExpression = true', 'is_spine CallExpression = true\nis_spine TaggedTemplateExpression = true', 'spines _ g ps = []', 'spines TaggedTemplateExpression g ps = only (below false ps ∷ put quasi ∷ [])\nspines _ g ps = []'],
+  ['super at Call', 'at Member (put base ∷ selector g)', 'at Call (put base ∷ selector g)'],
+  ['import at Member', 'at Call (term "import"', 'at Member (term "import"'],
+  ['extends at Member', 'put (expr LeftHandSide true Any) ∷ sp ∷ [])', 'put (expr Member true Any) ∷ sp ∷ [])'],
+  ['reserved word as a name', '"package" ∷ "private"', '"private"'],
+  ['shorthand of a reserved word', 'names Identifier w = cond (is_reserved w) []', 'names Identifier w = cond false []'],
+  ['object key a BigInt is no key', 'is_open_number Number w = not (ends_in_n w)', 'is_open_number Number w = true'],
+  ['last hole without comma', 'absent ∷ sign "," ∷ cond (is_none ps)', 'absent ∷ cond (is_none ps) (may (codes ",")) (sign ",") ∷ cond (is_none ps)'],
+  ['places of a template part', 'l.stop - cond c 1 2', 'l.stop - 1'],
+  ['cost of the grouped', 'add_cost (Some 1) (if_any', 'add_cost (Some 2) (if_any'],
+  ['tie wraps', 'exceeds (Some m) (Some n) = nat_lt n m', 'exceeds (Some m) (Some n) = nat_le n m'],
+  ['cell at Call counts as at Member', 'nat_le 21 (tightness y)', 'nat_le 20 (tightness y)'],
+  ['space in a template', 'lead_text d b (lay space ∷ qs) next = 32 ∷', 'lead_text d b (lay space ∷ qs) next = 32 ∷ 32 ∷'],
+  ['no space between - and -', 'cond (is w "-") (lay (apart 45) ∷ []) []', '[]'],
+  ['E5 in for heads', '&& not z.in_head', ''],
+  ['E16 in arrows at the top', 'when (not z.new_target)', 'when false'],
+  // early errors
+  ['E1 of for-of', 'names_given ForOfStatement ps = first_names ps\n', ''],
+  ['E1 of an arrow\'s parameters', 'names_given ArrowFunctionExpression ps = parameter_names ps\n', ''],
+  ['E2 of anything', 'is w "delete" && is_identifier (lead ps)', 'is w "delete"'],
+  ['E3 counts functions at the top', 'scope_lexical z Program ps = each_part (lexical_names false) ps', 'scope_lexical z Program ps = each_part (lexical_names true) ps'],
+  ['E3 not in a declaration', ' ++ twice (declaration_names k w ps)', ''],
+  ['E4 functions of a body are no var names', 'cond z.is_body (each_part function_names ps) [] ++ parts_vars ps', 'parts_vars ps'],
+  ['E6 counts the function\'s name', 'parameters_on FunctionExpression ps = others ps', 'parameters_on FunctionExpression ps = ps'],
+  ['E7 counts functions', 'each_part (lexical_names false) (body_items (parameters_on k ps))', 'each_part (lexical_names true) (body_items (parameters_on k ps))'],
+  ['E8 one quote alone', '("\'use strict\'" ∷ "\\"use strict\\"" ∷ [])', '("\'use strict\'" ∷ [])'],
+  ['E9 break in a switch', 'not (z.in_loop || z.in_switch)', 'not z.in_loop'],
+  ['E10 continue to a block', '(bytes_eq l.0 w && l.1)', 'bytes_eq l.0 w'],
+  ['E10 a label of a label of a loop', '(is_label k && last_loop ps)', 'false'],
+  ['E11 labels cross functions', 'in_switch = false; labels = []; is_body = true }', 'in_switch = false; is_body = true }'],
+  ['E12 not var names', ' ++ parts_vars (body_items ps)))', '))'],
+  ['E13 not of for-of', 'for_name_is_var (node ForOfStatement w g s e ps) = places (shared (head_lexical ps) (parts_vars (others (others ps))))', 'for_name_is_var (node ForOfStatement w g s e ps) = []'],
+  ['E14 in arrows', 'labels = []; is_body = true }', 'labels = []; is_body = true; super_property = false }'],
+  ['E14 in a method\'s key', 'around_first z MethodDefinition g ps = within z\n', ''],
+  ['E15 any method', 'in_method (z.derived && is_constructor g.form)', 'in_method z.derived'],
+  ['E17 the third alone', 'behind_first (each_part constructor_places ps)', 'behind_first (behind_first (each_part constructor_places ps))'],
+  ['E18 static too', '(is_accessor g.form && not g.is_static)', 'is_accessor g.form'],
+  ['E19 computed too', '(g.is_static && (not g.computed && has_key ps (λ n. is (key_value n) "prototype")))', '(g.is_static && has_key ps (λ n. is (key_value n) "prototype"))'],
+  ['E20 tagged too', 'when (not z.tagged && some_uncooked ps)', 'when (some_uncooked ps)'],
+  ['E21 twice', '(not (holds w c) && are_flags w)', 'are_flags w'],
+  ['E21 an unknown flag', 'holds (codes "gimsuy") c', 'holds (codes "gimsuyd") c'],
+  ['the least error is the last', 'nat_lt x.1 y.1 || ', 'nat_lt y.1 x.1 || '],
+  ['a string\'s value ends at an escape', 'key_units w = literal_units w', 'key_units w = codes ""', 'use Rattle.std.specs.Prelude.{ℕ, cond, List}', 'use Rattle.std.specs.Prelude.{ℕ, cond, List, codes}'],
+  // tokens
+  ['string goes on behind its quote', 'if c == quote then is_empty cs\n    else', 'if c == quote && is_empty cs then true\n    else'],
+  ['string over a carriage return', 'not (c == line_feed || c == carriage_return) &&', 'not (c == line_feed) &&'],
+  ['string not over U+2028', 'not (c == line_feed || c == carriage_return) &&', 'not (c == line_feed || c == carriage_return || c == 0x2028) &&'],
+  ['template ends at any $', 'one_of "$" c && begins_with (one_of "{") cs then', 'one_of "$" c then'],
+  ['template: a backslash takes nothing', 'closes_template (one_of "\\\\" c) cs', 'closes_template false cs'],
+  ['regular expression ends in brackets', 'else if one_of "]" c then body else brackets', 'else if one_of "]" c then body else if one_of "/" c then flags else brackets'],
+  ['flags are the known ones alone', 'next_expression flags c = if is_identifier_part c then', 'next_expression flags c = if one_of "gimsuy" c then'],
+  ['regular expression over U+2028 behind a backslash', 'next_expression body_backslash c = if is_line_terminator c then', 'next_expression body_backslash c = if c == 10 || c == 13 then', 'Prelude.{ℕ, Bool, true, false, ◌&&◌, List, [], ◌∷◌, if◌then◌else◌}\nuse Rattle.tokens.specs.Lines', 'Prelude.{ℕ, Bool, true, false, ◌&&◌, ◌||◌, ◌==◌, List, [], ◌∷◌, if◌then◌else◌}\nuse Rattle.tokens.specs.Lines'],
+  ['?. before a digit', '("?." ∷ "." ∷ [])', '("." ∷ [])'],
+  ['. before a digit', '("?." ∷ "." ∷ [])', '("?." ∷ [])'],
+  ['punctuator >>>= missing', '∷ ">>>=" ∷', '∷'],
+  ['not the longest', '&& none_longer class text rest && ends_well', '&& ends_well'],
+  ['number before a name', 'not (begins_with is_identifier_start rest || begins_with is_decimal_digit rest)', 'not (begins_with is_decimal_digit rest)'],
+  ['number 01', 'next_numeral nought c = behind_nought c', 'next_numeral nought c = if is_decimal_digit c then integer else behind_nought c'],
+  ['number 1e', 'is_complete exponent_mark = false', 'is_complete exponent_mark = true'],
+  ['number 1.n', 'else if one_of "eE" c then exponent_mark else no_numeral', 'else if one_of "eE" c then exponent_mark else if one_of "n" c then suffix else no_numeral'],
+  ['white space U+205F missing', '0x205F ∷ ', ''],
+  ['white space U+200B too much', 'nat_le c 0x200A', 'nat_le c 0x200B'],
+  ['line terminator U+2029 missing', ' || (c == 0x2029)', ''],
+  ['CR LF are two lines', 'is_line_terminator c && not (c == 13 && d == 10)', 'is_line_terminator c'],
+  ['comment to the last */', 'closes_comment (c ∷ d ∷ e ∷ cs) = not (one_of "*" c && one_of "/" d) && closes_comment', 'closes_comment (c ∷ d ∷ e ∷ cs) = closes_comment'],
+  ['comment over a line', 'begins_with (one_of "/") cs && not (list_any is_line_terminator cs) &&', 'begins_with (one_of "/") cs &&'],
+  ['comment without end begins no token', 'one_of "/" c && begins_with (one_of "/*") cs', 'one_of "/" c && begins_with (one_of "/") cs'],
+  ['name may not go on with $', 'is_identifier_part c = one_of "$" c || ', 'is_identifier_part c = '],
+  ['name begins with a digit', 'is_name (c ∷ cs) = is_identifier_start c &&', 'is_name (c ∷ cs) = is_identifier_part c &&'],
+  ['} is a template\'s for any goal', 'beq (is_template_part class) (reads_template_parts goal)', 'true'],
+  ['/ is an expression\'s for any goal', 'beq (is_regexp class) (reads_regexps goal)', 'true'],
+  ['escape \\0 before a digit', '(if begins_with is_decimal_digit cs then None else Some (record { more = 1; units = 0 ∷ [] }))', '(Some (record { more = 1; units = 0 ∷ [] }))'],
+  ['escape over the last code point', ' && nat_le (hex_value 0 digits) 0x10FFFF', ''],
+  ['escape of a line end has a value', 'is_line_terminator c then Some (record { more = 1; units = [] })', 'is_line_terminator c then Some (record { more = 1; units = 10 ∷ [] })'],
+  ['escape \\v', 'one_of "v" c then 0xB', 'one_of "v" c then 0xC'],
+  ['raw value keeps CR LF', 'if returned && (c == line_feed) then [] else ', ''],
+  ['code points of three bytes', 'points_from 2 (c - 0xE0) cs', 'points_from 2 (c - 0xE1) cs'],
+  ['template token keeps CR LF', 'table_text Template w = raw_value w\n', ''],
+];
+
+function plant(fault) {
+  const dir = fs.mkdtempSync(path.join(os.tmpdir(), 'plant-'));
+  for (const c of crates) for (const part of ['specs', 'src']) fs.cpSync(path.join(folder, c, part), path.join(dir, c, part), { recursive: true });
+  const hit = [];
+  const walk = (d) => {
+    for (const e of fs.readdirSync(d, { withFileTypes: true })) {
+      const p = path.join(d, e.name);
+      if (e.isDirectory()) { walk(p); continue; }
+      if (!p.endsWith('.antt') || /Rows|Examples|Nest/.test(e.name)) continue;
+      let s = fs.readFileSync(p, 'utf8');
+      if (fault !== null && s.includes(fault[1])) { hit.push(path.relative(dir, p).split(path.sep)[0]); for (let k = 1; k < fault.length; k += 2) s = s.split(fault[k]).join(fault[k + 1]); }
+      fs.chmodSync(p, 0o644);
+      fs.writeFileSync(p, s);
+    }
+  };
+  walk(dir);
+  return { dir, hit };
+}
+function one(fault) {
+  return new Promise((resolve) => {
+    const { dir, hit } = plant(fault);
+    if (fault !== null && hit.length === 0) { fs.rmSync(dir, { recursive: true }); process.exitCode = 1; resolve(`not applicable   ${fault[0]}`); return; }
+    const parts = fault === null ? 'odd,programs,generated,early,tokens' : hit.includes('tokens') || fault[0].startsWith('code points') ? 'tokens,odd' : hit.includes('early_errors') ? 'odd,early' : 'odd,programs,generated';
+    const p = spawn(process.execPath, [path.join(__dirname, 'run.js'), '--specs', dir, '--n', n, '--jobs', '1', '--only', parts, '--fast', '--first']);
+    let out = '';
+    p.stdout.on('data', (d) => { out += d; }); p.stderr.on('data', (d) => { out += d; });
+    p.on('close', () => {
+      fs.rmSync(dir, { recursive: true });
+      const kinds = [...out.matchAll(/^\* ([^\n]*)/gm)].map((m) => m[1]).filter((k) => !k.startsWith('example'));
+      const broken = !/kinds of disagreement/.test(out);
+      if (broken || (kinds.length > 0) === (fault === null)) process.exitCode = 1;
+      resolve(broken ? `BROKEN           ${fault?.[0]}: ${out.slice(0, 300)}` : `${kinds.length > 0 ? 'seen  ' : 'NOT SEEN'}  ${fault === null ? '(nothing planted)' : fault[0]}${kinds.length > 0 ? '   ' + kinds.slice().sort((a, b) => a.length - b.length)[0].slice(0, 150) : ''}`);
+    });
+  });
+}
+(async () => {
+  const only = value('--only', null);            // faults whose name has this text
+  const queue = [null, ...FAULTS.filter((f) => only === null || only.split('|').some((w) => f[0].includes(w)))].reverse();
+  const next = async () => { while (queue.length > 0) console.log(await one(queue.shift())); };
+  await Promise.all([next(), next(), next(), next()]);
+})();
