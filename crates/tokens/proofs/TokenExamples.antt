@@ -28,7 +28,7 @@ reads goal class word rest = not (begins_comment (codes word ++ codes rest)) && 
 abbrev refuses : String → Bool
 refuses s = not (has_separator (codes s)) && none_fronts Div (codes s) && none_fronts Goal.RegExp (codes s) && none_fronts TemplateTail (codes s)
 
--- a?.5:1 and a?.b, at ?
+-- `a?.5:1` and `a?.b`, behind the name
 conditional : IsTokenAt Div 1 (codes "?.5:1") (record { class = Punctuator; text = codes "?"; start = 1; stop = 2; after_break = false }) (codes ".5:1")
 unfolding encode_utf8
 conditional = found Div 1 Punctuator [] (codes "?") (codes ".5:1") nothing refl refl refl
