@@ -20,7 +20,7 @@ use Rattle.language.specs.Words.{Operator, powers, assigns, steps, no_operator, 
 use Rattle.language.specs.Pieces.{Role, expr, spine, PieceOf, Piece, tok, lay, sub, space, is_tight, Spelling, settle_piece, lead, lead_pattern, lead_spine, never, sign}
 use Rattle.language.specs.Token.{Token}
 use Rattle.tree.specs.Uses.{implies}
-use Rattle.language.specs.Grammar.{spellings}
+use Rattle.language.specs.Grammar.{spellings, ways}
 use Rattle.language.specs.Expressions.{first_chained, spines, joined, arguments}
 use Rattle.language.specs.Derivation.{Among, Spells, Runs, done, step, within, token, laid, Placed}
 use Rattle.language.specs.View.{Made, template, tagged, member, call, chain, postfix, power, binary, logical, conditional, assign, several}
@@ -195,14 +195,14 @@ module _ (S : Type 0) (Next : S → Token → S → Type 0) (behind : S → Toke
   pub record RightSide (o : ℕ) (a : Role) (ps : Parts) (s e : S) (R : List Pair) : Type 0 where
     pub operand : Tree
     pub parts : ps ≡ part operand none
-    pub spelled : Spells S Next behind o a operand s e R
+    pub spelled : Spells ways S Next behind o a operand s e R
 
   right_side : IsDetermined S Next behind → {o : ℕ} {c : LexicalClass} {v : List ℕ} {a : Role} {ps : Parts} {s m e : S} {R : List Pair} {t : Token} →
-      Runs S Next behind o (lay space ∷ tok c v ∷ lay space ∷ sub a ∷ []) ps s e R → Next s t m → RightSide o a ps m e R
+      Runs ways S Next behind o (lay space ∷ tok c v ∷ lay space ∷ sub a ∷ []) ps s e R → Next s t m → RightSide o a ps m e R
   right_side det (step laid (step (token h) (step laid (within p done)))) nx' = alone (det.same _ _ _ _ _ h.next nx').1 p
     where
-      alone : {o : ℕ} {a : Role} {n : Tree} {m x e : S} {P : List Pair} → m ≡ x → Spells S Next behind o a n m e P → RightSide o a (part n none) x e (P ++ [])
-      alone {o} {a} {n} {m} {x} {e} {P} h p = record { operand = n; parts = refl; spelled = subst (λ y. Spells S Next behind o a n y e (P ++ [])) h (subst (λ y. Spells S Next behind o a n m e y) (sym (append-nil P)) p) }
+      alone : {o : ℕ} {a : Role} {n : Tree} {m x e : S} {P : List Pair} → m ≡ x → Spells ways S Next behind o a n m e P → RightSide o a (part n none) x e (P ++ [])
+      alone {o} {a} {n} {m} {x} {e} {P} h p = record { operand = n; parts = refl; spelled = subst (λ y. Spells ways S Next behind o a n y e (P ++ [])) h (subst (λ y. Spells ways S Next behind o a n m e y) (sym (append-nil P)) p) }
   right_side det (step laid (step (token h) (step laid (step p d)))) nx' = elim p [ ]
 
   -- the operator's node, and how it goes on
@@ -218,7 +218,7 @@ module _ (S : Type 0) (Next : S → Token → S → Type 0) (behind : S → Toke
     pub right : List Pair
     pub role : b ≡ expr z i f
     pub stands : IsTrue (takes y z)
-    pub spelled : Spells S Next behind o (expr q i Any) operand mid to right
+    pub spelled : Spells ways S Next behind o (expr q i Any) operand mid to right
     pub placed : Placed S Next behind (expr y i f) (node (cond l LogicalExpression BinaryExpression) v flags start stop (part m (part operand none))) s0 to
     pub grows : Grows S Next behind o s0 a n e P (expr y i f) (node (cond l LogicalExpression BinaryExpression) v flags start stop (part m (part operand none))) to (Q ++ right)
 
@@ -262,7 +262,7 @@ module _ (S : Type 0) (Next : S → Token → S → Type 0) (behind : S → Toke
       from_question e op = let u : no_operator ≡ _ = sym (ap operator_of e) ∙ op in cc
 
       no_operator_in : (k : Kind) {y' : Rank} {i' : Bool} {f' : Start} (g : Flags) (qs : Parts) {ps : Parts} {x : Spelling} {o : ℕ} {s e m : S} {P : List Pair} {l : Bool} {z q : Rank} →
-          Among x (spines k g qs) → sub (expr y' i' f') ∷ rest ≡ settled (spine f2) x → Runs S Next behind o rest ps s e P → Next s t m → operator_of t.text ≡ binds l z q → ⊥
+          Among x (spines k g qs) → sub (expr y' i' f') ∷ rest ≡ settled (spine f2) x → Runs ways S Next behind o rest ps s e P → Next s t m → operator_of t.text ≡ binds l z q → ⊥
       no_operator_in MemberExpression g qs listed eq d nx op =
           let u = chain_base f2 (first_chained qs) g.optional (eq ∙ ap (settled (spine f2)) (one listed)) in
           from_question (token_same S Next behind det rest (ap first_of u.rest_is ∙ question_first f2 g.optional _ _ u.optional) d nx) op
@@ -291,9 +291,9 @@ module _ (S : Type 0) (Next : S → Token → S → Type 0) (behind : S → Toke
 
   -- the only thing that the position spells here, as far as it goes
   pub record Found (o : ℕ) (y : Rank) (i : Bool) (f : Start) (s e : S) (n : Tree) (P : List Pair) : Type 0 where
-    pub spelled : Spells S Next behind o (expr y i f) n s e P
+    pub spelled : Spells ways S Next behind o (expr y i f) n s e P
     pub stops : Stops y i e
-    pub only : (o' : ℕ) (e' : S) (n' : Tree) (P' : List Pair) → Spells S Next behind o' (expr y i f) n' s e' P' → Stops y i e' → (e' ≡ e) × (n' ≡ n) × (P' ≡ P)
+    pub only : (o' : ℕ) (e' : S) (n' : Tree) (P' : List Pair) → Spells ways S Next behind o' (expr y i f) n' s e' P' → Stops y i e' → (e' ≡ e) × (n' ≡ n) × (P' ≡ P)
 
   -- what an operator behind the operand so far makes of a goal, where its right side was found
   pub goes : IsDetermined S Next behind → {o o' : ℕ} {s0 e x to : S} {y : Rank} {i : Bool} {f : Start} {n u : Tree} {P : List Pair} {y1 : Rank} {i1 : Bool} {f1 : Start} {m : Tree} {mid : S} {Q : List Pair} {U : List Pair}
@@ -304,5 +304,5 @@ module _ (S : Type 0) (Next : S → Token → S → Type 0) (behind : S → Toke
       let w = operated det nx op tk im st gs in
       let lo : loose z ≡ true = binds_loosely t.text op in
       let same : w.i ≡ i = steady (stands_loose w.y z w.stands lo) w.grows in
-      let h : (w.to ≡ _) × (w.operand ≡ _) × (w.right ≡ _) = found.only o w.to w.operand w.right (subst (λ j. Spells S Next behind o (expr q j Any) w.operand x w.to w.right) same w.spelled) (stops_after det z q tk lo less w.stands st w.grows) in
+      let h : (w.to ≡ _) × (w.operand ≡ _) × (w.right ≡ _) = found.only o w.to w.operand w.right (subst (λ j. Spells ways S Next behind o (expr q j Any) w.operand x w.to w.right) same w.spelled) (stops_after det z q tk lo less w.stands st w.grows) in
       (w, h.0, h.1, h.2)

@@ -14,6 +14,7 @@ use Rattle.language.specs.Pieces.{Role, expr, PieceOf, open_parameters, close_pa
 use Rattle.language.specs.Token.{Token, same_class, is_token, is_mark}
 use Rattle.language.specs.Edges.{may_miss, is_sign_class, is_semicolon}
 use Rattle.language.specs.Cursor.{Next, next, behind}
+use Rattle.language.specs.Grammar.{ways}
 use Rattle.language.specs.Derivation.{Among, first, later, Reads, Step, token, with_mark, without_mark, one_more, no_more, seen, same_line, explicit, implicit, laid, Placed, placed, place, pair_of, Spells, direct, grouped, Runs, done, step, opened, closed, within, missing}
 use Rattle.language.specs.Search.{Result, each, over, if_next, over_many, steps_of, lead_steps, tail_pieces, in_place, close, groups, directly, everywhere, at_end, at_gap, at_part, spelled, parts_spelled}
 use Rattle.language.proofs.Viewed.{from_map}
@@ -117,11 +118,11 @@ step_some (implicit n k) h = h
 step_some laid h = h
 
 mutual
-  spells_some : {o : ℕ} {a : Role} {n : Tree} {s e : List Token} {P : List Pair} → Spells (List Token) Next behind o a n s e P → some_behind s ≡ true → some_behind e ≡ true
+  spells_some : {o : ℕ} {a : Role} {n : Tree} {s e : List Token} {P : List Pair} → Spells ways (List Token) Next behind o a n s e P → some_behind s ≡ true → some_behind e ≡ true
   spells_some (direct qs h p d) k = runs_some d k
   spells_some (grouped p d q) k = next_some q.next
 
-  runs_some : {o : ℕ} {qs : List (PieceOf Role)} {ps : Parts} {s e : List Token} {P : List Pair} → Runs (List Token) Next behind o qs ps s e P → some_behind s ≡ true → some_behind e ≡ true
+  runs_some : {o : ℕ} {qs : List (PieceOf Role)} {ps : Parts} {s e : List Token} {P : List Pair} → Runs ways (List Token) Next behind o qs ps s e P → some_behind s ≡ true → some_behind e ≡ true
   runs_some done h = h
   runs_some (step p d) h = runs_some d (step_some p h)
   runs_some (opened r d) h = runs_some d (next_some r.next)
@@ -190,7 +191,7 @@ in_groups inner {left = left} next h k l = in_cond (is_mark (codes "(") left) _ 
 mutual
   unfolding spelled parts_spelled
 
-  pub spells_found : {o : ℕ} {a : Role} {n : Tree} {ts us : List Token} {P : List Pair} → Spells (List Token) Next behind o a n ts us P → Among (us, P) (spelled n a ts)
+  pub spells_found : {o : ℕ} {a : Role} {n : Tree} {ts us : List Token} {P : List Pair} → Spells ways (List Token) Next behind o a n ts us P → Among (us, P) (spelled n a ts)
   spells_found {a = a} {n = node k w g b c ps} {ts = ts} {us = us} (direct qs h p d) =
       in_everywhere (λ qs us. parts_spelled ps qs us) (node k w g b c ps) a ts (in_filter (λ x. in_place a (node k w g b c ps) ts x.0) (in_each (λ qs. parts_spelled ps qs ts) h (runs_found d))
       (in_place_found a (node k w g b c ps) us (runs_some d (placed_some p)) p))
@@ -198,7 +199,7 @@ mutual
       in_right (directly (λ qs us. parts_spelled ps qs us) (node k w g b c ps) (expr y i f) ts)
       (in_groups (directly (λ qs us. parts_spelled ps qs us) (node k w g b c ps) (expr Expression true Any)) p.next (token_true p) (spells_found d) (in_close left q.next (token_true q)))
 
-  pub runs_found : {o : ℕ} {qs : List (PieceOf Role)} {ps : Parts} {ts us : List Token} {P : List Pair} → Runs (List Token) Next behind o qs ps ts us P → Among (us, P) (parts_spelled ps qs ts)
+  pub runs_found : {o : ℕ} {qs : List (PieceOf Role)} {ps : Parts} {ts us : List Token} {P : List Pair} → Runs ways (List Token) Next behind o qs ps ts us P → Among (us, P) (parts_spelled ps qs ts)
   runs_found done = first
   runs_found {ps = ps} {ts = ts} (step {q = q} {qs = qs} p d) = parts_pass ps q qs ts (step_found p) (runs_found d)
   runs_found {ps = ps} {ts = ts} (opened {qs = qs} r d) = parts_pass ps open_parameters qs ts (in_over (is_mark (codes "(")) r.next (token_true r)) (runs_found d)

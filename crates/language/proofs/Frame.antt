@@ -17,68 +17,68 @@ module _ (S : Type 0) (Next : S → Token → S → Type 0) (behind : S → Toke
     pub before : (s : S) (t : Token) (e : S) → Next s t e → behindT (to s) ≡ behind s
     pub after : (s : S) (t : Token) (e : S) → Next s t e → behindT (to e) ≡ behind e
 
-  module _ (c : Carries) where
-    abbrev Kept : S → Type 0
-    Kept s = behindT (to s) ≡ behind s
+module _ (Ways : Role → Tree → List (List (PieceOf Role))) (S : Type 0) (Next : S → Token → S → Type 0) (behind : S → Token) (T : Type 0) (NextT : T → Token → T → Type 0) (behindT : T → Token) (to : S → T) (c : Carries S Next behind T NextT behindT to) where
+  abbrev Kept : S → Type 0
+  Kept s = behindT (to s) ≡ behind s
 
-    Reads-to : {k : LexicalClass} {w : List ℕ} {s e : S} {t : Token} → Reads S Next behind k w s t e → Reads T NextT behindT k w (to s) t (to e)
-    Reads-to r = record { next = c.next _ _ _ r.next; class = r.class; text = r.text }
+  Reads-to : {k : LexicalClass} {w : List ℕ} {s e : S} {t : Token} → Reads S Next behind k w s t e → Reads T NextT behindT k w (to s) t (to e)
+  Reads-to r = record { next = c.next _ _ _ r.next; class = r.class; text = r.text }
 
-    Step-kept : {q : PieceOf Role} {s e : S} → Step S Next behind q s e → Kept s → Kept e
-    Step-kept (token r) h = c.after _ _ _ r.next
-    Step-kept (with_mark r) h = c.after _ _ _ r.next
-    Step-kept without_mark h = h
-    Step-kept (one_more r d) h = Step-kept d (c.after _ _ _ r.next)
-    Step-kept no_more h = h
-    Step-kept (seen r) h = h
-    Step-kept (same_line n k) h = h
-    Step-kept (explicit r) h = c.after _ _ _ r.next
-    Step-kept (implicit n k) h = h
-    Step-kept laid h = h
+  Step-kept : {q : PieceOf Role} {s e : S} → Step S Next behind q s e → Kept s → Kept e
+  Step-kept (token r) h = c.after _ _ _ r.next
+  Step-kept (with_mark r) h = c.after _ _ _ r.next
+  Step-kept without_mark h = h
+  Step-kept (one_more r d) h = Step-kept d (c.after _ _ _ r.next)
+  Step-kept no_more h = h
+  Step-kept (seen r) h = h
+  Step-kept (same_line n k) h = h
+  Step-kept (explicit r) h = c.after _ _ _ r.next
+  Step-kept (implicit n k) h = h
+  Step-kept laid h = h
 
-    mutual
-      Spells-kept : {o : ℕ} {a : Role} {n : Tree} {s e : S} {P : List Pair} → Spells S Next behind o a n s e P → Kept s → Kept e
-      Spells-kept (direct qs h p d) k = Runs-kept d k
-      Spells-kept (grouped p d q) k = c.after _ _ _ q.next
+  mutual
+    Spells-kept : {o : ℕ} {a : Role} {n : Tree} {s e : S} {P : List Pair} → Spells Ways S Next behind o a n s e P → Kept s → Kept e
+    Spells-kept (direct qs h p d) k = Runs-kept d k
+    Spells-kept (grouped p d q) k = c.after _ _ _ q.next
 
-      Runs-kept : {o : ℕ} {qs : List (PieceOf Role)} {ps : Parts} {s e : S} {P : List Pair} → Runs S Next behind o qs ps s e P → Kept s → Kept e
-      Runs-kept done h = h
-      Runs-kept (step p d) h = Runs-kept d (Step-kept p h)
-      Runs-kept (opened r d) h = Runs-kept d (c.after _ _ _ r.next)
-      Runs-kept (closed r d) h = Runs-kept d (c.after _ _ _ r.next)
-      Runs-kept (within p d) h = Runs-kept d (Spells-kept p h)
-      Runs-kept (missing d) h = Runs-kept d h
+    Runs-kept : {o : ℕ} {qs : List (PieceOf Role)} {ps : Parts} {s e : S} {P : List Pair} → Runs Ways S Next behind o qs ps s e P → Kept s → Kept e
+    Runs-kept done h = h
+    Runs-kept (step p d) h = Runs-kept d (Step-kept p h)
+    Runs-kept (opened r d) h = Runs-kept d (c.after _ _ _ r.next)
+    Runs-kept (closed r d) h = Runs-kept d (c.after _ _ _ r.next)
+    Runs-kept (within p d) h = Runs-kept d (Spells-kept p h)
+    Runs-kept (missing d) h = Runs-kept d h
 
-    pub Step-to : {q : PieceOf Role} {s e : S} → Step S Next behind q s e → Step T NextT behindT q (to s) (to e)
-    Step-to (token r) = token (Reads-to r)
-    Step-to (with_mark r) = with_mark (Reads-to r)
-    Step-to without_mark = without_mark
-    Step-to (one_more r d) = one_more (Reads-to r) (Step-to d)
-    Step-to no_more = no_more
-    Step-to (seen r) = seen (Reads-to r)
-    Step-to (same_line n h) = same_line (c.next _ _ _ n) h
-    Step-to (explicit r) = explicit (Reads-to r)
-    Step-to (implicit {x = x} {t = t} n h) = implicit (c.next _ _ _ n) (subst (λ b. IsTrue (may_miss x b t)) (sym (c.before _ _ _ n)) h)
-    Step-to laid = laid
+  pub Step-to : {q : PieceOf Role} {s e : S} → Step S Next behind q s e → Step T NextT behindT q (to s) (to e)
+  Step-to (token r) = token (Reads-to r)
+  Step-to (with_mark r) = with_mark (Reads-to r)
+  Step-to without_mark = without_mark
+  Step-to (one_more r d) = one_more (Reads-to r) (Step-to d)
+  Step-to no_more = no_more
+  Step-to (seen r) = seen (Reads-to r)
+  Step-to (same_line n h) = same_line (c.next _ _ _ n) h
+  Step-to (explicit r) = explicit (Reads-to r)
+  Step-to (implicit {x = x} {t = t} n h) = implicit (c.next _ _ _ n) (subst (λ b. IsTrue (may_miss x b t)) (sym (c.before _ _ _ n)) h)
+  Step-to laid = laid
 
-    Placed-to : {a : Role} {n : Tree} {s e : S} → Kept e → Placed S Next behind a n s e → Placed T NextT behindT a n (to s) (to e)
-    Placed-to {a = a} {n = n} k (placed {t = t} x h) = placed (c.next _ _ _ x) (subst (λ b. place a t b ≡ (start_of n, stop_of n)) (sym k) h)
+  Placed-to : {a : Role} {n : Tree} {s e : S} → Kept e → Placed S Next behind a n s e → Placed T NextT behindT a n (to s) (to e)
+  Placed-to {a = a} {n = n} k (placed {t = t} x h) = placed (c.next _ _ _ x) (subst (λ b. place a t b ≡ (start_of n, stop_of n)) (sym k) h)
 
-    before_placed : {a : Role} {n : Tree} {s e : S} → Placed S Next behind a n s e → Kept s
-    before_placed (placed x h) = c.before _ _ _ x
+  before_placed : {a : Role} {n : Tree} {s e : S} → Placed S Next behind a n s e → Kept s
+  before_placed (placed x h) = c.before _ _ _ x
 
-    mutual
-      pub Spells-to : {o : ℕ} {a : Role} {n : Tree} {s e : S} {P : List Pair} → Spells S Next behind o a n s e P → Spells T NextT behindT o a n (to s) (to e) P
-      Spells-to (direct qs h p d) = direct qs h (Placed-to (Runs-kept d (before_placed p)) p) (Runs-to d)
-      Spells-to (grouped p d q) = grouped (Reads-to p) (Spells-to d) (Reads-to q)
+  mutual
+    pub Spells-to : {o : ℕ} {a : Role} {n : Tree} {s e : S} {P : List Pair} → Spells Ways S Next behind o a n s e P → Spells Ways T NextT behindT o a n (to s) (to e) P
+    Spells-to (direct qs h p d) = direct qs h (Placed-to (Runs-kept d (before_placed p)) p) (Runs-to d)
+    Spells-to (grouped p d q) = grouped (Reads-to p) (Spells-to d) (Reads-to q)
 
-      pub Runs-to : {o : ℕ} {qs : List (PieceOf Role)} {ps : Parts} {s e : S} {P : List Pair} → Runs S Next behind o qs ps s e P → Runs T NextT behindT o qs ps (to s) (to e) P
-      Runs-to done = done
-      Runs-to (step p d) = step (Step-to p) (Runs-to d)
-      Runs-to (opened r d) = opened (Reads-to r) (Runs-to d)
-      Runs-to (closed r d) = closed (Reads-to r) (Runs-to d)
-      Runs-to (within p d) = within (Spells-to p) (Runs-to d)
-      Runs-to (missing d) = missing (Runs-to d)
+    pub Runs-to : {o : ℕ} {qs : List (PieceOf Role)} {ps : Parts} {s e : S} {P : List Pair} → Runs Ways S Next behind o qs ps s e P → Runs Ways T NextT behindT o qs ps (to s) (to e) P
+    Runs-to done = done
+    Runs-to (step p d) = step (Step-to p) (Runs-to d)
+    Runs-to (opened r d) = opened (Reads-to r) (Runs-to d)
+    Runs-to (closed r d) = closed (Reads-to r) (Runs-to d)
+    Runs-to (within p d) = within (Spells-to p) (Runs-to d)
+    Runs-to (missing d) = missing (Runs-to d)
 
 -- more tokens at the end
 pub more : (zs : List Token) → Carries (List Token) Cursor.Next Cursor.behind (List Token) Cursor.Next Cursor.behind (λ ts. ts ++ zs)
@@ -97,6 +97,6 @@ more zs = record {
     after_more : {s e : List Token} {t : Token} → Cursor.Next s t e → Cursor.behind (e ++ zs) ≡ Cursor.behind e
     after_more Cursor.next = refl
 
-pub Spells-more : {o : ℕ} {a : Role} {n : Tree} {ts us : List Token} {P : List Pair} (zs : List Token) →
-    Spells (List Token) Cursor.Next Cursor.behind o a n ts us P → Spells (List Token) Cursor.Next Cursor.behind o a n (ts ++ zs) (us ++ zs) P
-Spells-more zs d = Spells-to (List Token) Cursor.Next Cursor.behind (List Token) Cursor.Next Cursor.behind (λ ts. ts ++ zs) (more zs) d
+pub Spells-more : {Ways : Role → Tree → List (List (PieceOf Role))} {o : ℕ} {a : Role} {n : Tree} {ts us : List Token} {P : List Pair} (zs : List Token) →
+    Spells Ways (List Token) Cursor.Next Cursor.behind o a n ts us P → Spells Ways (List Token) Cursor.Next Cursor.behind o a n (ts ++ zs) (us ++ zs) P
+Spells-more {Ways} zs d = Spells-to Ways (List Token) Cursor.Next Cursor.behind (List Token) Cursor.Next Cursor.behind (λ ts. ts ++ zs) (more zs) d

@@ -18,7 +18,7 @@ use Rattle.language.specs.Words.{is, takes, is_word_operator, Operator, binds, n
 use Rattle.language.specs.Pieces.{Role, expr, spine, quasi, chunk, PieceOf, Piece, tok, lay, sub, unbroken, space, sign, put, word, settle_piece, Spelling, at, is_none, lead_spine, never}
 use Rattle.language.specs.Token.{Token}
 use Rattle.tree.specs.Uses.{implies}
-use Rattle.language.specs.Grammar.{spellings}
+use Rattle.language.specs.Grammar.{spellings, ways}
 use Rattle.language.specs.Expressions.{chunks, after_number, selector, in_brackets, joined, sequence, first_chained}
 use Rattle.language.specs.Derivation.{Among, Reads, Spells, direct, grouped, Runs, done, step, opened, closed, within, missing, Step, token, laid, Placed}
 use Rattle.language.specs.View.{Made, template, tagged, member, call, chain, postfix, power, binary, logical, conditional, assign, several}
@@ -85,20 +85,20 @@ module _ (S : Type 0) (Next : S → Token → S → Type 0) (behind : S → Toke
     pub last : (s : S) (t : Token) (e : S) → Next s t e → behind e ≡ t
 
   pub first_token : {o : ℕ} {ps : Parts} {s e : S} {P : List Pair} {c : LexicalClass} {w : List ℕ} (qs : List (PieceOf Role)) → first_of qs ≡ by c w →
-      Runs S Next behind o qs ps s e P → (t : Token) × (m : S) × Next s t m × (t.class ≡ c) × (t.text ≡ w)
+      Runs ways S Next behind o qs ps s e P → (t : Token) × (m : S) × Next s t m × (t.class ≡ c) × (t.text ≡ w)
   first_token (tok c' w' ∷ qs) h (step (token {t = t} k) d) = let p : c' ≡ _ = cc in let q : w' ≡ _ = cc in (t, _, k.next, k.class ∙ p, k.text ∙ q)
   first_token (lay x ∷ qs) h (step laid d) = first_token qs h d
   first_token (unbroken ∷ qs) h (step (Rattle.language.specs.Derivation.same_line nx k) d) = first_token qs h d
   first_token _ h d = cc
 
-  pub retell : {o : ℕ} {qs rs : List (PieceOf Role)} {ps : Parts} {s e : S} {P : List Pair} → qs ≡ rs → Runs S Next behind o qs ps s e P → Runs S Next behind o rs ps s e P
-  retell {o} {ps = ps} {s = s} {e = e} {P = P} h d = subst (λ x. Runs S Next behind o x ps s e P) h d
+  pub retell : {o : ℕ} {qs rs : List (PieceOf Role)} {ps : Parts} {s e : S} {P : List Pair} → qs ≡ rs → Runs ways S Next behind o qs ps s e P → Runs ways S Next behind o rs ps s e P
+  retell {o} {ps = ps} {s = s} {e = e} {P = P} h d = subst (λ x. Runs ways S Next behind o x ps s e P) h d
 
   -- behind a tag stands a template, which begins with its delimiter
   abbrev Delimited : Token → Type 0
   Delimited t = (u : List ℕ) × (t.text ≡ 96 ∷ u)
 
-  pub chunk_first : {o : ℕ} {y : Bool} {n : Tree} {s e m : S} {P : List Pair} {t : Token} → IsDetermined → Spells S Next behind o (chunk true y) n s e P → Next s t m → Delimited t
+  pub chunk_first : {o : ℕ} {y : Bool} {n : Tree} {s e m : S} {P : List Pair} {t : Token} → IsDetermined → Spells ways S Next behind o (chunk true y) n s e P → Next s t m → Delimited t
   unfolding spellings
   chunk_first {y = y} {n = node TemplateElement w g a b ps} {t = t} det (direct qs h pl d) nx =
       let v = way_of h in
@@ -106,12 +106,12 @@ module _ (S : Type 0) (Next : S → Token → S → Type 0) (behind : S → Toke
       (_, ap (λ (x : Token). x.text) (det.same _ t u.0 _ u.1 nx u.2).0 ∙ u.4)
   chunk_first {n = node _ w g a b ps} det (direct qs h pl d) nx = elim ((way_of h).listed) [ ]
 
-  pub quasi_first : {o : ℕ} {n : Tree} {s e m : S} {P : List Pair} {t : Token} → IsDetermined → Spells S Next behind o quasi n s e P → Next s t m → Delimited t
+  pub quasi_first : {o : ℕ} {n : Tree} {s e m : S} {P : List Pair} {t : Token} → IsDetermined → Spells ways S Next behind o quasi n s e P → Next s t m → Delimited t
   unfolding spellings
   quasi_first {n = node TemplateLiteral w g a b ps} det (direct qs h pl d) nx = let v = way_of h in
       of_chunks ps (bare_parts ps) (retell (v.is ∙ ap (settled quasi) (one v.listed)) d) nx
     where
-      of_chunks : {o : ℕ} {s e m : S} {P : List Pair} {t : Token} (ps qs : Parts) → Runs S Next behind o (settled quasi (at Primary (chunks true qs))) ps s e P → Next s t m → Delimited t
+      of_chunks : {o : ℕ} {s e m : S} {P : List Pair} {t : Token} (ps qs : Parts) → Runs ways S Next behind o (settled quasi (at Primary (chunks true qs))) ps s e P → Next s t m → Delimited t
       of_chunks ps none (step p d) nx = elim p [ ]
       of_chunks ps (gap qs) (step p d) nx = elim p [ ]
       of_chunks ps (part q none) (step p d) nx = elim p [ ]
@@ -149,15 +149,15 @@ module _ (S : Type 0) (Next : S → Token → S → Type 0) (behind : S → Toke
 
   -- the token that is read is that with which the pieces begin
   pub token_same : IsDetermined → {o : ℕ} {ps : Parts} {s e m : S} {P : List Pair} {c : LexicalClass} {w : List ℕ} {t : Token} (qs : List (PieceOf Role)) → first_of qs ≡ by c w →
-      Runs S Next behind o qs ps s e P → Next s t m → t.text ≡ w
+      Runs ways S Next behind o qs ps s e P → Next s t m → t.text ≡ w
   token_same det {t = t} qs h d nx = let u = first_token qs h d in ap (λ (x : Token). x.text) (det.same _ t u.0 _ u.1 nx u.2).0 ∙ u.4
 
-  quasi_runs : IsDetermined → {o : ℕ} {ps : Parts} {s e m : S} {P : List Pair} {t : Token} → Runs S Next behind o (sub quasi ∷ []) ps s e P → Next s t m → Delimited t
+  quasi_runs : IsDetermined → {o : ℕ} {ps : Parts} {s e m : S} {P : List Pair} {t : Token} → Runs ways S Next behind o (sub quasi ∷ []) ps s e P → Next s t m → Delimited t
   quasi_runs det (within p d) nx = quasi_first det p nx
   quasi_runs det (step p d) nx = elim p [ ]
 
   comma_runs : IsDetermined → {o : ℕ} {ps : Parts} {s e m : S} {P : List Pair} {t : Token} (y : Rank) (i : Bool) (f : Start) (qs : Parts) → is_none qs ≡ false →
-      Runs S Next behind o (goes_to y i f (sequence qs)) ps s e P → Next s t m → t.text ≡ codes ","
+      Runs ways S Next behind o (goes_to y i f (sequence qs)) ps s e P → Next s t m → t.text ≡ codes ","
   comma_runs det y i f none h d nx = cc
   comma_runs det y i f (gap qs) h (step p d) nx = elim p [ ]
   comma_runs det y i f (part n qs) h d nx = token_same det (goes_to y i f (sequence (part n qs))) refl d nx
@@ -171,7 +171,7 @@ module _ (S : Type 0) (Next : S → Token → S → Type 0) (behind : S → Toke
 
   pub joins : IsDetermined → {y y' : Rank} {i i' : Bool} {f f' : Start} {k : Kind} {w v : List ℕ} {g : Flags} {ps ps' : Parts} {x : Spelling} {rest : List (PieceOf Role)}
       {o : ℕ} {s m e : S} {P : List Pair} {t : Token} {l : Bool} {z q : Rank} →
-      Made k w g ps x → IsTrue (fits (expr y i f) x) → sub (expr y' i' f') ∷ rest ≡ settled (expr y i f) x → Runs S Next behind o rest ps' s e P →
+      Made k w g ps x → IsTrue (fits (expr y i f) x) → sub (expr y' i' f') ∷ rest ≡ settled (expr y i f) x → Runs ways S Next behind o rest ps' s e P →
       Next s t m → t.text ≡ v → operator_of v ≡ binds l z q → Joins y i f (expr y' i' f') rest k w v l z q
   joins det {y} {y'} {i} {i'} {f} {f'} {rest = rest} (template {ps = ps}) fit eq d nx text op = let u : is_led (sub (expr y' i' f') ∷ rest) ≡ false = ap is_led eq ∙ chunks_unled y i f true ps in cc
   joins det {rest = rest} tagged fit eq d nx text op =

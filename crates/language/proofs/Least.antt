@@ -42,7 +42,7 @@ pub same_least : (n m : Tree) (a : Role) → SameTree m n → least m a ≡ leas
 same_least n m a h = sym (least-bare m a) ∙ ap (λ x. least x a) h ∙ least-bare n a
 
 -- however tokens spell the same tree
-pub spelled_at_least : {o : ℕ} {ts us : List Token} (n m : Tree) (a : Role) (P : List Pair) → SameTree m n → Spells (List Token) Next behind o a m ts us P → AtMost (least n a) (length P)
+pub spelled_at_least : {o : ℕ} {ts us : List Token} (n m : Tree) (a : Role) (P : List Pair) → SameTree m n → Spells ways (List Token) Next behind o a m ts us P → AtMost (least n a) (length P)
 spelled_at_least n m a P h d = subst (λ c. AtMost c (length P)) (same_least n m a h) (at_least (List Token) Next behind d)
 
 -- every derivation of every text with the same tree

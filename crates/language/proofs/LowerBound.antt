@@ -7,6 +7,7 @@ use Rattle.tree.specs.Tree.{Tree, Parts}
 use Rattle.language.specs.Pieces.{Role, expr, PieceOf}
 use Rattle.language.specs.Token.{Token}
 use Rattle.language.specs.Positions.{roles}
+use Rattle.language.specs.Grammar.{ways}
 use Rattle.language.specs.Derivation.{Spells, direct, grouped, Runs, done, step, opened, closed, within, missing, Step, token, with_mark, without_mark, one_more, no_more, seen, same_line, explicit, implicit, laid}
 use Rattle.language.specs.Cost.{AtMost, at_most, least, parts_least}
 use Rattle.language.proofs.Looser.{AtMost-add, least-direct, least-grouped, Looser, same, looser, AllLooser, next}
@@ -30,14 +31,14 @@ module _ (S : Type 0) (Next : S → Token → S → Type 0) (behind : S → Toke
     unfolding parts_least
 
     pub lower_bound : {o : ℕ} {a : Role} {n : Tree} {s e : S} {P : List Pair} →
-        Spells S Next behind o a n s e P → (b : Role) → Looser a b → AtMost (least n b) (length P)
+        Spells ways S Next behind o a n s e P → (b : Role) → Looser a b → AtMost (least n b) (length P)
     lower_bound {a = a} {n = n} {P = P} (direct qs c e d) b l =
         least-direct n b (length P) (dominated tidy_table n a b qs l c (length P) (λ xs h. parts_lower_bound d xs h))
     lower_bound {n = n} (grouped {y = y} {i = i} {f = f} p d q) b same = least-grouped n y i f _ (lower_bound d (expr Expression true Any) same)
     lower_bound {n = n} (grouped p d q) b (looser {z = z} {j = j} {g = g} u v w) = least-grouped n z j g _ (lower_bound d (expr Expression true Any) same)
 
     pub parts_lower_bound : {o : ℕ} {qs : List (PieceOf Role)} {ps : Parts} {s e : S} {P : List Pair} →
-        Runs S Next behind o qs ps s e P → (xs : List Role) → AllLooser (roles qs) xs → AtMost (parts_least ps xs) (length P)
+        Runs ways S Next behind o qs ps s e P → (xs : List Role) → AllLooser (roles qs) xs → AtMost (parts_least ps xs) (length P)
     parts_lower_bound done xs h = at_most (omega arith)
     parts_lower_bound (step {qs = qs} p d) xs h = parts_lower_bound d xs (subst (λ as_roles. AllLooser as_roles xs) (Step-roles qs p) h)
     parts_lower_bound (opened p d) xs h = parts_lower_bound d xs h
@@ -46,5 +47,5 @@ module _ (S : Type 0) (Next : S → Token → S → Type 0) (behind : S → Toke
     parts_lower_bound (missing d) xs h = parts_lower_bound d xs h
 
   -- no derivation of a node at a position has fewer pairs than its cost there
-  pub at_least : {o : ℕ} {a : Role} {n : Tree} {s e : S} {P : List Pair} → Spells S Next behind o a n s e P → AtMost (least n a) (length P)
+  pub at_least : {o : ℕ} {a : Role} {n : Tree} {s e : S} {P : List Pair} → Spells ways S Next behind o a n s e P → AtMost (least n a) (length P)
   at_least {a = a} d = lower_bound d a same

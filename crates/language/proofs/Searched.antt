@@ -25,11 +25,11 @@ use Rattle.language.proofs.Heads.{same_class_is}
 module _ (S : Type 0) (N : S → Token → S → Type 0) (B : S → Token) where
   mutual
     -- one more parenthesis may be open
-    spells_more : {o : ℕ} {a : Role} {n : Tree} {s e : S} {P : List Pair} → Spells S N B o a n s e P → Spells S N B (suc o) a n s e P
+    spells_more : {o : ℕ} {a : Role} {n : Tree} {s e : S} {P : List Pair} → Spells ways S N B o a n s e P → Spells ways S N B (suc o) a n s e P
     spells_more (direct qs h p d) = direct qs h p (runs_more d)
     spells_more (grouped p d q) = grouped p (spells_more d) q
 
-    runs_more : {o : ℕ} {qs : List (PieceOf Role)} {ps : Parts} {s e : S} {P : List Pair} → Runs S N B o qs ps s e P → Runs S N B (suc o) qs ps s e P
+    runs_more : {o : ℕ} {qs : List (PieceOf Role)} {ps : Parts} {s e : S} {P : List Pair} → Runs ways S N B o qs ps s e P → Runs ways S N B (suc o) qs ps s e P
     runs_more done = done
     runs_more (step p d) = step p (runs_more d)
     runs_more (opened p d) = opened p (runs_more d)
@@ -37,25 +37,25 @@ module _ (S : Type 0) (N : S → Token → S → Type 0) (B : S → Token) where
     runs_more (within p d) = within (spells_more p) (runs_more d)
     runs_more (missing d) = missing (runs_more d)
 
-  spells_wider : (k : ℕ) {o : ℕ} {a : Role} {n : Tree} {s e : S} {P : List Pair} → Spells S N B o a n s e P → Spells S N B (o + k) a n s e P
-  spells_wider zero {o} {a} {n} {s} {e} {P} d = subst (λ m. Spells S N B m a n s e P) (omega arith) d
-  spells_wider (suc k) {o} {a} {n} {s} {e} {P} d = subst (λ m. Spells S N B m a n s e P) (omega arith) (spells_more (spells_wider k d))
+  spells_wider : (k : ℕ) {o : ℕ} {a : Role} {n : Tree} {s e : S} {P : List Pair} → Spells ways S N B o a n s e P → Spells ways S N B (o + k) a n s e P
+  spells_wider zero {o} {a} {n} {s} {e} {P} d = subst (λ m. Spells ways S N B m a n s e P) (omega arith) d
+  spells_wider (suc k) {o} {a} {n} {s} {e} {P} d = subst (λ m. Spells ways S N B m a n s e P) (omega arith) (spells_more (spells_wider k d))
 
-  runs_wider : (k : ℕ) {o : ℕ} {qs : List (PieceOf Role)} {ps : Parts} {s e : S} {P : List Pair} → Runs S N B o qs ps s e P → Runs S N B (k + o) qs ps s e P
-  runs_wider zero {o} {qs} {ps} {s} {e} {P} d = subst (λ m. Runs S N B m qs ps s e P) (omega arith) d
-  runs_wider (suc k) {o} {qs} {ps} {s} {e} {P} d = subst (λ m. Runs S N B m qs ps s e P) (omega arith) (runs_more (runs_wider k d))
+  runs_wider : (k : ℕ) {o : ℕ} {qs : List (PieceOf Role)} {ps : Parts} {s e : S} {P : List Pair} → Runs ways S N B o qs ps s e P → Runs ways S N B (k + o) qs ps s e P
+  runs_wider zero {o} {qs} {ps} {s} {e} {P} d = subst (λ m. Runs ways S N B m qs ps s e P) (omega arith) d
+  runs_wider (suc k) {o} {qs} {ps} {s} {e} {P} d = subst (λ m. Runs ways S N B m qs ps s e P) (omega arith) (runs_more (runs_wider k d))
 
   -- a part and what follows it
   pub within_both : {o k : ℕ} {a : Role} {qs : List (PieceOf Role)} {n : Tree} {ps : Parts} {s m e : S} {P Q : List Pair} →
-      Spells S N B o a n s m P → Runs S N B k qs ps m e Q → Runs S N B (o + k) (sub a ∷ qs) (part n ps) s e (P ++ Q)
+      Spells ways S N B o a n s m P → Runs ways S N B k qs ps m e Q → Runs ways S N B (o + k) (sub a ∷ qs) (part n ps) s e (P ++ Q)
   within_both {o} {k} p d = within (spells_wider k p) (runs_wider o d)
 
 -- some number of open parentheses
 abbrev pub SpellsTo : Tree → Role → List Token → Result → Type 0
-SpellsTo n a ts x = (o : ℕ) × Spells (List Token) Next behind o a n ts x.0 x.1
+SpellsTo n a ts x = (o : ℕ) × Spells ways (List Token) Next behind o a n ts x.0 x.1
 
 abbrev pub RunsTo : List (PieceOf Role) → Parts → List Token → Result → Type 0
-RunsTo qs ps ts x = (o : ℕ) × Runs (List Token) Next behind o qs ps ts x.0 x.1
+RunsTo qs ps ts x = (o : ℕ) × Runs ways (List Token) Next behind o qs ps ts x.0 x.1
 
 further : {X : Type 0} {x z : X} {xs ys : List X} → Among x xs ⊎ Among x ys → Among x (z ∷ xs) ⊎ Among x ys
 further (inl k) = inl (later k)
@@ -240,13 +240,13 @@ module _ (inner : List (PieceOf Role) → List Token → List Result) (n : Tree)
 
   -- a node in one group
   shut : {y : Rank} {i : Bool} {f : Start} {o : ℕ} {b left c right : Token} {ts us : List Token} {P : List Pair} {x : Result} (t : Bool) → is_mark (codes "(") left ≡ true → is_mark (codes ")") right ≡ t →
-      Spells (List Token) Next behind o (expr Expression true Any) n (left ∷ ts) (c ∷ right ∷ us) P → Among x (cond t ((right ∷ us, pair_of left right ∷ P) ∷ []) []) → SpellsTo n (expr y i f) (b ∷ left ∷ ts) x
+      Spells ways (List Token) Next behind o (expr Expression true Any) n (left ∷ ts) (c ∷ right ∷ us) P → Among x (cond t ((right ∷ us, pair_of left right ∷ P) ∷ []) []) → SpellsTo n (expr y i f) (b ∷ left ∷ ts) x
   shut {o = o} true e k p first = (suc o, grouped (reads Punctuator (codes "(") e) p (reads Punctuator (codes ")") k))
   shut true e k p (later m) = elim m [ ]
   shut false e k p m = elim m [ ]
 
   group : {y : Rank} {i : Bool} {f : Start} {o : ℕ} {b left : Token} {ts : List Token} {x : Result} (us : List Token) (P : List Pair) → is_mark (codes "(") left ≡ true →
-      Spells (List Token) Next behind o (expr Expression true Any) n (left ∷ ts) us P → Among x (close left us P) → SpellsTo n (expr y i f) (b ∷ left ∷ ts) x
+      Spells ways (List Token) Next behind o (expr Expression true Any) n (left ∷ ts) us P → Among x (close left us P) → SpellsTo n (expr y i f) (b ∷ left ∷ ts) x
   group [] P e p h = elim h [ ]
   group (c ∷ []) P e p h = elim h [ ]
   group (c ∷ right ∷ us) P e p h = shut (is_mark (codes ")") right) e refl p h

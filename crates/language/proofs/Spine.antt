@@ -23,24 +23,24 @@ module _ (S : Type 0) (Next : S → Token → S → Type 0) (behind : S → Toke
   -- what a spine begins with: a group, or a way that begins with no such part
   pub data Core : ℕ → Role → Tree → S → S → List Pair → Type 0 where
     group : {o : ℕ} {y : Rank} {i : Bool} {f : Start} {n : Tree} {left right : Token} {s m l e : S} {P : List Pair} →
-        Reads S Next behind Punctuator (codes "(") s left m → Spells S Next behind o (expr Expression true Any) n m l P →
+        Reads S Next behind Punctuator (codes "(") s left m → Spells ways S Next behind o (expr Expression true Any) n m l P →
         Reads S Next behind Punctuator (codes ")") l right e → Core (suc o) (expr y i f) n s e (pair_of left right ∷ P)
     plain : {o : ℕ} {a : Role} {n : Tree} {s e : S} {P : List Pair} {ps : Parts} →
         (qs : List (PieceOf Role)) → Among qs (ways a n) → is_led qs ≡ false → Placed S Next behind a n s e →
-        parts_of n ≡ ps → Runs S Next behind o qs ps s e P → Core o a n s e P
+        parts_of n ≡ ps → Runs ways S Next behind o qs ps s e P → Core o a n s e P
 
   -- from the node m at b, which ends at a place, by ways that are led by what stands so far, the whole n at a is made
   pub data Grows (o : ℕ) (s0 : S) (a : Role) (n : Tree) (e : S) (P : List Pair) : Role → Tree → S → List Pair → Type 0 where
     whole : Grows o s0 a n e P a n e P
     grow : {b c : Role} {m l : Tree} {ps : Parts} {rest : List (PieceOf Role)} {mid to : S} {Q R : List Pair} →
         Among (sub b ∷ rest) (ways c l) → is_led (sub b ∷ rest) ≡ true → Placed S Next behind c l s0 to → parts_of l ≡ part m ps →
-        Runs S Next behind o rest ps mid to R → Grows o s0 a n e P c l to (Q ++ R) →
+        Runs ways S Next behind o rest ps mid to R → Grows o s0 a n e P c l to (Q ++ R) →
         Grows o s0 a n e P b m mid Q
 
   pub outer : {o : ℕ} {s0 : S} {a : Role} {n : Tree} {e : S} {P : List Pair} {b : Role} {m : Tree} {mid : S} {Q : List Pair}
       {c : Role} {l : Tree} {ps : Parts} {rest : List (PieceOf Role)} {to : S} {R : List Pair} →
       Among (sub a ∷ rest) (ways c l) → is_led (sub a ∷ rest) ≡ true → Placed S Next behind c l s0 to → parts_of l ≡ part n ps →
-      Runs S Next behind o rest ps e to R →
+      Runs ways S Next behind o rest ps e to R →
       Grows o s0 a n e P b m mid Q → Grows o s0 c l to (P ++ R) b m mid Q
   outer h led pl is d (grow h' led' pl' is' d' g) = grow h' led' pl' is' d' (outer h led pl is d g)
   outer h led pl is d whole = grow h led pl is d whole
@@ -57,12 +57,12 @@ module _ (S : Type 0) (Next : S → Token → S → Type 0) (behind : S → Toke
   as_plain c = record { role = _; first = _; mid = _; pairs = _; core = c; grows = whole }
 
   mutual
-    pub spine_of : {o : ℕ} {a : Role} {n : Tree} {s e : S} {P : List Pair} → Spells S Next behind o a n s e P → Spine o a n s e P
+    pub spine_of : {o : ℕ} {a : Role} {n : Tree} {s e : S} {P : List Pair} → Spells ways S Next behind o a n s e P → Spine o a n s e P
     spine_of (grouped p d q) = as_plain (group p d q)
     spine_of (direct qs h pl d) = spine_way qs h pl refl d
 
     spine_way : {o : ℕ} {a : Role} {n : Tree} {s e : S} {P : List Pair} {ps : Parts} (qs : List (PieceOf Role)) →
-        Among qs (ways a n) → Placed S Next behind a n s e → parts_of n ≡ ps → Runs S Next behind o qs ps s e P → Spine o a n s e P
+        Among qs (ways a n) → Placed S Next behind a n s e → parts_of n ≡ ps → Runs ways S Next behind o qs ps s e P → Spine o a n s e P
     spine_way (sub (expr y i f) ∷ qs) h pl is (within p d) = let u = spine_of p in
         record { role = u.role; first = u.first; mid = u.mid; pairs = u.pairs; core = u.core; grows = outer h refl pl is d u.grows }
     spine_way (sub (spine f) ∷ qs) h pl is (within p d) = let u = spine_of p in

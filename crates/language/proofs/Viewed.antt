@@ -134,5 +134,3 @@ made ConditionalExpression h = as_made conditional h
 made AssignmentExpression h = unless _ h (λ e. as_made (assign (does_assign_of _ e)))
 made SequenceExpression h = unless _ h (λ e. as_made (several e))
 made _ h = elim h [ ]
-
--- t

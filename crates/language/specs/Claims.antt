@@ -17,7 +17,7 @@ use Rattle.tokens.specs.Tokens.{LexicalToken, IsReading}
 
 -- some reading of the text spells the tree as a Script, with at most o parentheses open at one point
 abbrev pub DerivesOpen : ℕ → List ℕ → Tree → List Pair → Type 0
-DerivesOpen o text n P = (tokens : List LexicalToken) × (last : Token) × IsReading 0 text tokens × Spells (List Token) Next behind o script n (beginning ∷ map as_read tokens) (last ∷ []) P
+DerivesOpen o text n P = (tokens : List LexicalToken) × (last : Token) × IsReading 0 text tokens × Spells ways (List Token) Next behind o script n (beginning ∷ map as_read tokens) (last ∷ []) P
 
 abbrev pub Derives : List ℕ → Tree → List Pair → Type 0
 Derives text n P = (o : ℕ) × DerivesOpen o text n P
@@ -111,7 +111,7 @@ pub record Sound (t : Table) (n : Tree) : Type 0 where
 
 -- the tokens between the cursors spell the node directly at the position
 abbrev pub SpellsDirectly : Role → Tree → List Token → List Token → List Pair → Type 0
-SpellsDirectly a n ts us P = (m : Tree) × (o : ℕ) × (qs : List (PieceOf Role)) × SameTree m n × Among qs (ways a m) × Runs (List Token) Next behind o qs (parts_of m) ts us P
+SpellsDirectly a n ts us P = (m : Tree) × (o : ℕ) × (qs : List (PieceOf Role)) × SameTree m n × Among qs (ways a m) × Runs ways (List Token) Next behind o qs (parts_of m) ts us P
 
 -- the cell is the least number of pairs over all direct spellings, none where there is none
 abbrev pub IsLeast : Role → Tree → Option ℕ → Type 0

@@ -12,7 +12,6 @@ use Rattle.tree.specs.Tree.{Tree, Parts, none, part, gap, start_of, stop_of, par
 use Rattle.language.specs.Pieces.{Role, expr, chunk, echo, script, Ending, PieceOf, tok, may, many, ahead, unbroken, ending, open_parameters, close_parameters, sub, absent, lay, Hint}
 use Rattle.language.specs.Token.{Token}
 use Rattle.language.specs.Edges.{may_miss}
-use Rattle.language.specs.Grammar.{ways}
 
 pub data Among {X : Type 0} (x : X) : List X → Type 0 where
   first : {xs : List X} → Among x (x ∷ xs)
@@ -53,25 +52,27 @@ module _ (S : Type 0) (Next : S → Token → S → Type 0) (behind : S → Toke
   pub data Placed : Role → Tree → S → S → Type 0 where
     placed : {a : Role} {n : Tree} {t : Token} {s m e : S} → Next s t m → place a t (behind e) ≡ (start_of n, stop_of n) → Placed a n s e
 
+-- Ways are the ways to spell a node directly at a position: those of the whole language (`ways`), or fewer.
+module _ (Ways : Role → Tree → List (List (PieceOf Role))) (S : Type 0) (Next : S → Token → S → Type 0) (behind : S → Token) where
   mutual
     -- From s to e the tokens spell the node at the position, with at most o parentheses open at one point that group or hold
     -- an arrow's parameters; the list has the grouping pairs, in order of their opening parentheses.
     pub data Spells : ℕ → Role → Tree → S → S → List Pair → Type 0 where
       direct : {o : ℕ} {a : Role} {n : Tree} {s e : S} {P : List Pair} →
-          (qs : List (PieceOf Role)) → Among qs (ways a n) → Placed a n s e → Runs o qs (parts_of n) s e P → Spells o a n s e P
+          (qs : List (PieceOf Role)) → Among qs (Ways a n) → Placed S Next behind a n s e → Runs o qs (parts_of n) s e P → Spells o a n s e P
       grouped : {o : ℕ} {y : Rank} {i : Bool} {f : Start} {n : Tree} {left right : Token} {s m l e : S} {P : List Pair} →
-          Reads Punctuator (codes "(") s left m → Spells o (expr Expression true Any) n m l P → Reads Punctuator (codes ")") l right e →
+          Reads S Next behind Punctuator (codes "(") s left m → Spells o (expr Expression true Any) n m l P → Reads S Next behind Punctuator (codes ")") l right e →
           Spells (suc o) (expr y i f) n s e (pair_of left right ∷ P)
 
     -- the same of the pieces of a spelling and the parts of the node
     pub data Runs : ℕ → List (PieceOf Role) → Parts → S → S → List Pair → Type 0 where
       done : {o : ℕ} {s : S} → Runs o [] none s s []
       step : {o : ℕ} {q : PieceOf Role} {qs : List (PieceOf Role)} {ps : Parts} {s m e : S} {P : List Pair} →
-          Step q s m → Runs o qs ps m e P → Runs o (q ∷ qs) ps s e P
+          Step S Next behind q s m → Runs o qs ps m e P → Runs o (q ∷ qs) ps s e P
       opened : {o : ℕ} {qs : List (PieceOf Role)} {ps : Parts} {t : Token} {s m e : S} {P : List Pair} →
-          Reads Punctuator (codes "(") s t m → Runs o qs ps m e P → Runs (suc o) (open_parameters ∷ qs) ps s e P
+          Reads S Next behind Punctuator (codes "(") s t m → Runs o qs ps m e P → Runs (suc o) (open_parameters ∷ qs) ps s e P
       closed : {o : ℕ} {qs : List (PieceOf Role)} {ps : Parts} {t : Token} {s m e : S} {P : List Pair} →
-          Reads Punctuator (codes ")") s t m → Runs (suc o) qs ps m e P → Runs o (close_parameters ∷ qs) ps s e P
+          Reads S Next behind Punctuator (codes ")") s t m → Runs (suc o) qs ps m e P → Runs o (close_parameters ∷ qs) ps s e P
       within : {o : ℕ} {a : Role} {qs : List (PieceOf Role)} {n : Tree} {ps : Parts} {s m e : S} {P Q : List Pair} →
           Spells o a n s m P → Runs o qs ps m e Q → Runs o (sub a ∷ qs) (part n ps) s e (P ++ Q)
       missing : {o : ℕ} {qs : List (PieceOf Role)} {ps : Parts} {s e : S} {P : List Pair} →

@@ -229,5 +229,3 @@ expressions AssignmentExpression w g ps =
     at Assignment (cond (is w "=") (lead_bound (lead_kind ps)) (lead_target (lead_kind ps)) ∷ infix_pieces w ++ sub (tail Assignment Any) ∷ []) ∷ [])
 expressions SequenceExpression w g ps = cond (is_none (others ps)) [] (at Expression (sub (left Assignment) ∷ sequence (others ps)) ∷ [])
 expressions _ w g ps = []
-
--- t

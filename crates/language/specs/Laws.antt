@@ -31,12 +31,12 @@ AtMostOneWay = (a : Role) (n : Tree) (qs rs : List (PieceOf Role)) → has_two_w
 
 -- the search finds what the tokens spell, all of it and nothing else
 abbrev pub FindsDerivations : Type 0
-FindsDerivations = (n : Tree) (a : Role) (ts us : List Token) (P : List Pair) → Among (us, P) (spelled n a ts) ↔ ((o : ℕ) × Spells (List Token) Next behind o a n ts us P)
+FindsDerivations = (n : Tree) (a : Role) (ts us : List Token) (P : List Pair) → Among (us, P) (spelled n a ts) ↔ ((o : ℕ) × Spells ways (List Token) Next behind o a n ts us P)
 
 -- however tokens spell the same tree at a position, there are at least as many pairs as its cost there
 abbrev pub NoFewerPairsOfTokens : Type 0
 NoFewerPairsOfTokens =
-    (n m : Tree) (a : Role) (o : ℕ) (ts us : List Token) (P : List Pair) → SameTree m n → Spells (List Token) Next behind o a m ts us P → AtMost (least n a) (length P)
+    (n m : Tree) (a : Role) (o : ℕ) (ts us : List Token) (P : List Pair) → SameTree m n → Spells ways (List Token) Next behind o a m ts us P → AtMost (least n a) (length P)
 
 -- so every derivation of every text with the same tree has at least the computed cost of pairs
 abbrev pub NoFewerPairs : Type 0
@@ -46,7 +46,7 @@ NoFewerPairs = (n m : Tree) (text : List ℕ) (P : List Pair) → SameTree m n �
 abbrev pub StaysWithMoreTokens : Type 0
 StaysWithMoreTokens =
     (n : Tree) (a : Role) (o : ℕ) (ts us vs : List Token) (P : List Pair) →
-    Spells (List Token) Next behind o a n ts us P → Spells (List Token) Next behind o a n (ts ++ vs) (us ++ vs) P
+    Spells ways (List Token) Next behind o a n ts us P → Spells ways (List Token) Next behind o a n (ts ++ vs) (us ++ vs) P
 
 -- places change no way
 abbrev pub PlacesChangeNoWay : Type 0
