@@ -9,3 +9,5 @@ pub mod Classes
 pub mod Cooked
 pub mod Literals
 pub mod Early
+pub mod Accepted
+pub mod Laws

@@ -1,6 +1,8 @@
 //! The early errors of ECMA-262, 11th edition, that a strict script can have.
 #![tactic(auto)]
 
+pub mod laws;
+
 /// An early error, in the order of the numbers 1 to 21 that reports name it by.
 #[derive(Copy, Clone)]
 pub enum EarlyError {
