@@ -9,14 +9,14 @@ use Rattle.tokens.specs.Lexical.{Punctuator}
 use Rattle.tree.specs.declared.kind.Kind.{Kind}
 use Rattle.tree.specs.declared.kind.Kind.TheVariants.{BinaryExpression, LogicalExpression, MemberExpression, CallExpression}
 use Rattle.language.specs.declared.Rank.{Rank}
-use Rattle.language.specs.declared.Rank.TheVariants.{Expression, Conditional, LeftHandSide, Call, Member, BitwiseOr, BitwiseXor, BitwiseAnd, Equality, Relational, Shift, Additive, Multiplicative, Exponentiation, Coalesce, LogicalOr, LogicalAnd}
+use Rattle.language.specs.declared.Rank.TheVariants.{Expression, Conditional, LeftHandSide, Call, Member}
 use Rattle.language.specs.declared.Start.{Start}
 use Rattle.language.specs.declared.Start.TheVariants.{Any}
 use Rattle.tree.specs.declared.kind.Flags.{Flags}
 use Rattle.tree.specs.declared.kind.Pair.{Pair}
 use Rattle.tree.specs.Tree.{Tree, node, Parts, none, part, bare_parts}
 use Rattle.language.specs.FirstPart.{lead as lead_kind, others}
-use Rattle.language.specs.Words.{Operator, powers, assigns, steps, no_operator, is_target, is_pattern, is, takes, takes_number, tightness, binds, operator_of}
+use Rattle.language.specs.Words.{chains, is_target, is_pattern, is, takes, takes_number, tightness, binds, operator_of}
 use Rattle.language.specs.Pieces.{Role, expr, spine, PieceOf, Piece, tok, lay, sub, space, is_tight, Spelling, settle_piece, lead, lead_pattern, lead_spine, never, sign}
 use Rattle.language.specs.Token.{Token}
 use Rattle.tree.specs.Uses.{implies}
@@ -26,6 +26,7 @@ use Rattle.language.specs.Derivation.{Among, Spells, Runs, done, step, within, t
 use Rattle.language.specs.View.{Made, template, tagged, member, call, chain, postfix, power, binary, logical, conditional, assign, several}
 use Rattle.language.proofs.Domination.{settled, fits}
 use Rattle.language.proofs.Viewed.{way_of, made, one}
+use Rattle.language.proofs.Operators.{binding, Rises}
 use Rattle.language.proofs.Spine.{is_led, Grows, whole, grow}
 use Rattle.language.proofs.Growth.{IsDetermined, joins, retell, token_same, first_of, goes_to, by, chunks_unled, no_chain}
 
@@ -63,41 +64,11 @@ callee_tight : (b : Bool) → loose (cond b Member Call) ≡ false
 callee_tight true = refl
 callee_tight false = refl
 
-data Loosely : Operator → Type 0 where
-  binds_so : {b : Bool} {z q : Rank} → loose z ≡ true → Loosely (binds b z q)
-  powers_so : Loosely powers
-  assigns_so : Loosely assigns
-  steps_so : Loosely steps
-  none_so : Loosely no_operator
-
-either_loosely : (b : Bool) (x y : Operator) → Loosely x → Loosely y → Loosely (cond b x y)
-either_loosely true x y h k = h
-either_loosely false x y h k = k
-
-so : (b : Bool) (z q : Rank) → loose z ≡ true → Loosely (binds b z q)
-so b z q h = binds_so h
-
-operators_loosely : (w : List ℕ) → Loosely (operator_of w)
-operators_loosely w =
-    either_loosely _ _ _ (so false BitwiseOr BitwiseXor refl) (
-    either_loosely _ _ _ (so false BitwiseXor BitwiseAnd refl) (
-    either_loosely _ _ _ (so false BitwiseAnd Equality refl) (
-    either_loosely _ _ _ (so false Equality Relational refl) (
-    either_loosely _ _ _ (so false Relational Shift refl) (
-    either_loosely _ _ _ (so false Shift Additive refl) (
-    either_loosely _ _ _ (so false Additive Multiplicative refl) (
-    either_loosely _ _ _ (so false Multiplicative Exponentiation refl) (
-    either_loosely _ _ _ (so true Coalesce BitwiseOr refl) (
-    either_loosely _ _ _ (so true LogicalOr LogicalAnd refl) (
-    either_loosely _ _ _ (so true LogicalAnd BitwiseOr refl) (
-    either_loosely _ _ _ powers_so (either_loosely _ _ _ steps_so (either_loosely _ _ _ assigns_so (none_so))))))))))))))
-
-of_binds : {o : Operator} {l : Bool} {z q : Rank} → Loosely o → o ≡ binds l z q → loose z ≡ true
-of_binds (binds_so {z = z'} h) e = let u : z' ≡ _ = cc in ap loose (sym u) ∙ h
-of_binds _ e = cc
-
 binds_loosely : (w : List ℕ) {l : Bool} {z q : Rank} → operator_of w ≡ binds l z q → loose z ≡ true
-binds_loosely w h = of_binds (operators_loosely w) h
+binds_loosely w {z = z} {q = q} h = let u = binding w h in low (tightness z) (tightness q) u.rises.0 u.most
+  where
+    low : (a b : ℕ) → a < b → b ≤ 15 → nat_le a 15 ≡ true
+    low a b h k = grind (arith, nat_tests)
 
 target_tight : (y : Rank) (i : Bool) (f : Start) {y' : Rank} {i' : Bool} {f' : Start} {qs rest : List (PieceOf Role)} {A : Type 0} (b : Bool) → sub (expr y' i' f') ∷ rest ≡ settle_piece y i f (cond b (sub (lead LeftHandSide)) never) ∷ qs → IsTrue (loose y') → A
 target_tight y i f true eq h = tight_by (head_is eq) h refl
@@ -153,10 +124,6 @@ spine_tight : {y' : Rank} {i' : Bool} (f : Start) {f' : Start} (k : Kind) (g : F
 spine_tight f MemberExpression g ps t eq h = tight_by (chain_base f (first_chained ps) g.optional (eq ∙ ap (settled (spine f)) (one t))).role h refl
 spine_tight f CallExpression g ps t eq h = tight_by (chain_base f (first_chained ps) g.optional (eq ∙ ap (settled (spine f)) (one t))).role h refl
 spine_tight f _ g ps t eq h = elim t [ ]
-
--- the right side of an operator is tighter, and behind `??` it is tighter than `&&`
-abbrev pub Rises : ℕ → ℕ → Type 0
-Rises z q = (z < q) × (z ≡ 4 → 7 ≤ q)
 
 between_numbers : (y z q x : ℕ) → IsTrue (takes_number y z) → Rises z q → z ≤ 15 → IsTrue (takes_number q x) → IsTrue (takes_number y x)
 between_numbers y z q x h (k, c) l j = grind (arith, nat_tests)
@@ -259,7 +226,7 @@ module _ (S : Type 0) (Next : S → Token → S → Type 0) (behind : S → Toke
       let v = way_of h in absurd (no_operator_in kk g (bare_parts ps) v.listed v.is d nx op)
     where
       from_question : {l : Bool} {z q : Rank} → t.text ≡ codes "?." → operator_of t.text ≡ binds l z q → ⊥
-      from_question e op = let u : no_operator ≡ _ = sym (ap operator_of e) ∙ op in cc
+      from_question e op = let u : chains ≡ _ = sym (ap operator_of e) ∙ op in cc
 
       no_operator_in : (k : Kind) {y' : Rank} {i' : Bool} {f' : Start} (g : Flags) (qs : Parts) {ps : Parts} {x : Spelling} {o : ℕ} {s e m : S} {P : List Pair} {l : Bool} {z q : Rank} →
           Among x (spines k g qs) → sub (expr y' i' f') ∷ rest ≡ settled (spine f2) x → Runs ways S Next behind o rest ps s e P → Next s t m → operator_of t.text ≡ binds l z q → ⊥

@@ -14,7 +14,7 @@ use Rattle.tree.specs.declared.kind.Flags.{Flags}
 use Rattle.tree.specs.declared.kind.Pair.{Pair}
 use Rattle.tree.specs.Tree.{Tree, node, Parts, none, part, gap, bare_parts}
 use Rattle.language.specs.FirstPart.{others}
-use Rattle.language.specs.Words.{is, takes, is_word_operator, Operator, binds, no_operator, operator_of}
+use Rattle.language.specs.Words.{is, takes, is_word_operator, Operator, binds, indexes, selects, operator_of}
 use Rattle.language.specs.Pieces.{Role, expr, spine, quasi, chunk, PieceOf, Piece, tok, lay, sub, unbroken, space, sign, put, word, settle_piece, Spelling, at, is_none, lead_spine, never}
 use Rattle.language.specs.Token.{Token}
 use Rattle.tree.specs.Uses.{implies}
@@ -178,11 +178,15 @@ module _ (S : Type 0) (Next : S → Token → S → Type 0) (behind : S → Toke
       let u = quasi_runs det (retell (tail_is eq) d) nx in differs (sym text ∙ u.1) op refl (λ e. cc)
   joins det {y} {i = i} {f = f} {rest = rest} (member {g = g} {ps = ps} h h') fit eq d nx text op =
       let u : rest ≡ goes_to y i f (after_number ps g ++ selector g) = cc in
-      differs (sym text ∙ token_same det rest (ap first_of u ∙ member_first y i f ps g) d nx) op (bracket_or_dot g.computed) (λ e. cc)
+      differs (sym text ∙ token_same det rest (ap first_of u ∙ member_first y i f ps g) d nx) op (bracket_or_dot g.computed) (not_bound g.computed)
     where
-      bracket_or_dot : (b : Bool) → operator_of (cond b (codes "[") (codes ".")) ≡ no_operator
+      bracket_or_dot : (b : Bool) → operator_of (cond b (codes "[") (codes ".")) ≡ cond b indexes selects
       bracket_or_dot true = refl
       bracket_or_dot false = refl
+
+      not_bound : {A : Type 0} {l : Bool} {z q : Rank} (b : Bool) → binds l z q ≡ cond b indexes selects → A
+      not_bound true e = cc
+      not_bound false e = cc
   joins det {rest = rest} (call h h') fit eq d nx text op =
       let u : first_of rest ≡ by Punctuator (codes "(") = ap first_of (tail_is eq) in differs (sym text ∙ token_same det rest u d nx) op refl (λ e. cc)
   joins det {w = w} {rest = rest} (postfix h h') fit eq d nx text op =

@@ -15,7 +15,7 @@ use Rattle.language.specs.declared.Start.{Start}
 use Rattle.tree.specs.declared.kind.Flags.{Flags}
 use Rattle.tree.specs.Tree.{Parts, none, part, gap}
 use Rattle.language.specs.FirstPart.{lead as lead_kind}
-use Rattle.language.specs.Words.{is, is_prefix, is_target, is_pattern, operator_of, steps, no_operator, literal_class}
+use Rattle.language.specs.Words.{is, is_prefix, is_target, is_pattern, operator_of, steps, indexes, literal_class}
 use Rattle.language.specs.Pieces.{elements, argument, Spelling, at, sign, settle_piece, PieceOf, Role, sub, lead, lead_pattern, lead_spine, never}
 use Rattle.language.specs.Expressions.{chunks, first_chained}
 use Rattle.language.specs.View.{Made, literal, array, template, chain, prefix, postfix, unary_sign, assign}
@@ -68,7 +68,7 @@ pub array_only : {k : Kind} {w : List ℕ} {g : Flags} {ps : Parts} {x : Spellin
 array_only y i f array e = (refl, refl)
 array_only y i f (template {ps = ps}) e = no_another Punctuator (codes "[") (chunks_first y i f true ps) e
 array_only y i f (literal {w = w} h) e = let u : LexicalClass.Name ≡ Punctuator = sym (ap literal_class (text_is {c = Punctuator} {d = literal_class w} {v = w} {w = codes "["} e).1) ∙ (text_is {c = Punctuator} {d = literal_class w} {v = w} {w = codes "["} e).0 in cc
-array_only y i f (prefix {w = w} h h') e = let u : no_operator ≡ steps = sym (ap operator_of (text_is {c = Punctuator} {d = Punctuator} {v = w} {w = codes "["} e).1) ∙ h in cc
+array_only y i f (prefix {w = w} h h') e = let u : indexes ≡ steps = sym (ap operator_of (text_is {c = Punctuator} {d = Punctuator} {v = w} {w = codes "["} e).1) ∙ h in cc
 array_only y i f (unary_sign {w = w} h h') e = absurd (false≢true (sym (ap is_prefix (text_is {c = Punctuator} {d = Punctuator} {v = w} {w = codes "["} e).1) ∙ h))
 array_only y i f (chain {ps = ps}) e = no_another Punctuator (codes "[") (unled_chain y i f (first_chained ps)) e
 array_only y i f (postfix {ps = ps} h h') e = no_another Punctuator (codes "[") (unled_target y i f (is_target (lead_kind ps)) _) e

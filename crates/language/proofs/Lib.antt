@@ -2,6 +2,7 @@ pub mod Looser
 pub mod LowerBound
 pub mod Frame
 pub mod Ranks
+pub mod Operators
 pub mod Domination
 pub mod TidyTable
 pub mod OneWay

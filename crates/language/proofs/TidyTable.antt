@@ -2,11 +2,10 @@
 use Rattle.std.proofs.Common.{◌≡◌, ℕ, Bool, true, false, cond, List, [], ◌∷◌, refl, arith}
 use Rattle.std.specs.Prelude.{Option, Some, None, IsTrue, ◌&&◌, not, nat_le, nat_eq}
 use Rattle.std.proofs.lemmas.Bool.{and_parts, and_from}
-use Rattle.std.proofs.lemmas.Bool.Decides.{nat_tests}
 use Rattle.tree.specs.declared.kind.Kind.{Kind}
 use Rattle.tree.specs.declared.kind.Kind.TheVariants.{Program, Identifier, Literal, ThisExpression, Super, ArrayExpression, ObjectExpression, Property, SpreadElement, FunctionExpression, ArrowFunctionExpression, ClassExpression, ClassBody, MethodDefinition, TemplateLiteral, TemplateElement, TaggedTemplateExpression, MemberExpression, CallExpression, NewExpression, MetaProperty, ImportExpression, ChainExpression, UpdateExpression, UnaryExpression, BinaryExpression, LogicalExpression, ConditionalExpression, AssignmentExpression, SequenceExpression, ArrayPattern, ObjectPattern, AssignmentPattern, RestElement, ExpressionStatement, BlockStatement, EmptyStatement, DebuggerStatement, ReturnStatement, ThrowStatement, BreakStatement, ContinueStatement, LabeledStatement, IfStatement, SwitchStatement, SwitchCase, TryStatement, CatchClause, WhileStatement, DoWhileStatement, ForStatement, ForInStatement, ForOfStatement, VariableDeclaration, VariableDeclarator, FunctionDeclaration, ClassDeclaration}
 use Rattle.language.specs.declared.Rank.{Rank}
-use Rattle.language.specs.declared.Rank.TheVariants.{Assignment, New, Member, Coalesce, LogicalOr, LogicalAnd, BitwiseOr, BitwiseXor, BitwiseAnd, Equality, Relational, Shift, Additive, Multiplicative, Exponentiation}
+use Rattle.language.specs.declared.Rank.TheVariants.{Assignment, New, Member}
 use Rattle.language.specs.declared.Start.{Start}
 use Rattle.language.specs.declared.Start.TheVariants.{Any, NoBrace, Statement}
 use Rattle.tree.specs.declared.kind.Flags.{Flags}
@@ -14,12 +13,13 @@ use Rattle.tree.specs.declared.kind.Form.{Form}
 use Rattle.tree.specs.declared.kind.Form.TheVariants.{Get, Set}
 use Rattle.tree.specs.Tree.{Tree, node, Parts, none, part, gap}
 use Rattle.language.specs.FirstPart.{others}
-use Rattle.language.specs.Words.{tightness, Operator, binds, powers, assigns, steps, no_operator, operator_of}
+use Rattle.language.specs.Words.{tightness, Operator, binds, powers, operator_of}
 use Rattle.language.specs.Pieces.{Role, expr, spine, name, word, key, echo, base, quoted, quasi, chunk, spread, property, pattern, pattern_property, element, rest, method, body, statement, item, opening, block, head, declarator, switch_case, handler, class_body, member, script, Piece, sub, put, open_parameters, term, sp, Slot, Spelling, at, only, is_none, parameters, close_parameters}
 use Rattle.language.specs.Expressions.{expressions, binary_ways, logical_ways, arguments, arrow_end, spines, methods}
 use Rattle.language.specs.Statements.{statements, items, openings}
 use Rattle.language.specs.Grammar.{spellings, starts}
 use Rattle.language.specs.Laws.{two_ways_at, has_two_ways}
+use Rattle.language.proofs.Operators.{binding}
 use Rattle.language.proofs.Ranks.{looser_new, looser_refl}
 use Rattle.language.proofs.Looser.{Looser, same, looser, looser_spine, looser_pattern, end, next}
 use Rattle.language.proofs.Domination.{Tidy, none_at_all, one_way, two_ways, Covers, fits, fits-looser, roles-looser, slot-looser}
@@ -100,45 +100,19 @@ Tidy-arrow g (part n (part b (gap ps))) = one_way (λ e. omega arith)
 Tidy-arrow g (part (node Identifier w h s e qs) (part b none)) = two_ways (λ x. omega arith) (arrow-covers g)
 Tidy-arrow g (part (node _ w h s e qs) (part b none)) = one_way (λ x. omega arith)
 
--- the operators' symbols, none of which is `New`
-pub data Fine : Operator → Type 0 where
-  fine_binds : {b : Bool} {z q : Rank} → (tightness z ≡ 19 → ⊥) → Fine (binds b z q)
-  fine_powers : Fine powers
-  fine_assigns : Fine assigns
-  fine_steps : Fine steps
-  fine_none : Fine no_operator
+-- the symbol of an operator isn't `New`
+binds_old : (w : List ℕ) {l : Bool} {z q : Rank} → operator_of w ≡ binds l z q → tightness z ≡ 19 → ⊥
+binds_old w e h = let u = binding w e in let v = u.rises.0 in let x = u.most in omega arith
 
-pub Fine-cond : (b : Bool) (x y : Operator) → Fine x → Fine y → Fine (cond b x y)
-Fine-cond true x y h k = h
-Fine-cond false x y h k = k
-
-pub fine_at : (b : Bool) (z l : Rank) → IsTrue (not (nat_eq (tightness z) 19)) → Fine (binds b z l)
-fine_at b z l h = fine_binds (λ e. grind (arith, nat_tests))
-
-pub Fine-operator : (w : List ℕ) → Fine (operator_of w)
-Fine-operator w =
-    Fine-cond _ _ _ (fine_at false BitwiseOr BitwiseXor refl) (
-    Fine-cond _ _ _ (fine_at false BitwiseXor BitwiseAnd refl) (
-    Fine-cond _ _ _ (fine_at false BitwiseAnd Equality refl) (
-    Fine-cond _ _ _ (fine_at false Equality Relational refl) (
-    Fine-cond _ _ _ (fine_at false Relational Shift refl) (
-    Fine-cond _ _ _ (fine_at false Shift Additive refl) (
-    Fine-cond _ _ _ (fine_at false Additive Multiplicative refl) (
-    Fine-cond _ _ _ (fine_at false Multiplicative Exponentiation refl) (
-    Fine-cond _ _ _ (fine_at true Coalesce BitwiseOr refl) (
-    Fine-cond _ _ _ (fine_at true LogicalOr LogicalAnd refl) (
-    Fine-cond _ _ _ (fine_at true LogicalAnd BitwiseOr refl) (
-    Fine-cond _ _ _ fine_powers (Fine-cond _ _ _ fine_steps (Fine-cond _ _ _ fine_assigns fine_none)))))))))))))
-
-pub Tidy-binary : {t : Bool} (w : List ℕ) (o : Operator) → Fine o → Tidy t (binary_ways w o)
+pub Tidy-binary : {t : Bool} (w : List ℕ) (o : Operator) → operator_of w ≡ o → Tidy t (binary_ways w o)
 Tidy-binary w (binds true z q) h = none_at_all
-Tidy-binary w (binds false z q) (fine_binds h) = one_way h
+Tidy-binary w (binds false z q) h = one_way (binds_old w h)
 Tidy-binary w powers h = one_way (λ e. omega arith)
 Tidy-binary w _ h = none_at_all
 
-pub Tidy-logical : {t : Bool} (w : List ℕ) (o : Operator) → Fine o → Tidy t (logical_ways w o)
+pub Tidy-logical : {t : Bool} (w : List ℕ) (o : Operator) → operator_of w ≡ o → Tidy t (logical_ways w o)
 Tidy-logical w (binds false z q) h = none_at_all
-Tidy-logical w (binds true z q) (fine_binds h) = one_way h
+Tidy-logical w (binds true z q) h = one_way (binds_old w h)
 Tidy-logical w _ h = none_at_all
 
 pub Tidy-expressions : (k : Kind) (w : List ℕ) (g : Flags) (ps : Parts) → Tidy (two_ways_at k ps) (expressions k w g ps)
@@ -161,8 +135,8 @@ Tidy-expressions ImportExpression w g ps = one_way (λ e. omega arith)
 Tidy-expressions ChainExpression w g ps = one_way (λ e. omega arith)
 Tidy-expressions UpdateExpression w g ps = Tidy-cond _ _ _ none_at_all (Tidy-cond _ _ _ (one_way (λ e. omega arith)) (one_way (λ e. omega arith)))
 Tidy-expressions UnaryExpression w g ps = Tidy-cond _ _ _ none_at_all (Tidy-cond _ _ _ (one_way (λ e. omega arith)) (one_way (λ e. omega arith)))
-Tidy-expressions BinaryExpression w g ps = Tidy-binary w (operator_of w) (Fine-operator w)
-Tidy-expressions LogicalExpression w g ps = Tidy-logical w (operator_of w) (Fine-operator w)
+Tidy-expressions BinaryExpression w g ps = Tidy-binary w (operator_of w) refl
+Tidy-expressions LogicalExpression w g ps = Tidy-logical w (operator_of w) refl
 Tidy-expressions ConditionalExpression w g ps = one_way (λ e. omega arith)
 Tidy-expressions AssignmentExpression w g ps = Tidy-cond _ _ _ none_at_all (one_way (λ e. omega arith))
 Tidy-expressions SequenceExpression w g ps = Tidy-cond _ _ _ none_at_all (one_way (λ e. omega arith))
