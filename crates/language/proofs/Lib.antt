@@ -10,6 +10,7 @@ pub mod Least
 pub mod Viewed
 pub mod Spine
 pub mod Growth
+pub mod Led
 pub mod Climbing
 pub mod Heads
 pub mod Searched
