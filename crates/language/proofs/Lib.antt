@@ -2,6 +2,7 @@ pub mod Looser
 pub mod LowerBound
 pub mod Frame
 pub mod Ranks
+pub mod Operators
 pub mod Domination
 pub mod TidyTable
 pub mod OneWay
@@ -9,6 +10,7 @@ pub mod Least
 pub mod Viewed
 pub mod Spine
 pub mod Growth
+pub mod Led
 pub mod Climbing
 pub mod Heads
 pub mod Searched
