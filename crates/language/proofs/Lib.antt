@@ -13,3 +13,15 @@ pub mod Climbing
 pub mod Heads
 pub mod Searched
 pub mod Found
+pub mod Trees
+pub mod Sources
+pub mod Examples
+pub mod Rows
+pub mod Nest
+pub mod StringExamples
+pub mod ExpressionExamples
+pub mod PatternExamples
+pub mod StatementExamples
+pub mod FunctionExamples
+pub mod ClassExamples
+pub mod LayoutExamples

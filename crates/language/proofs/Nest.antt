@@ -6,7 +6,7 @@ use Rattle.language.specs.declared.Start.TheVariants.{Any}
 use Rattle.tree.specs.Tree.{Tree, node, plain}
 use Rattle.language.specs.Pieces.{expr}
 use Rattle.language.specs.Cost.{least}
-use Rattle.language.specs.Examples.{id, two, printing}
+use Rattle.language.proofs.Examples.{id, two, printing}
 
 abbrev pub nest : ℕ → Tree
 nest ℕ.zero = id "a" 0

@@ -13,7 +13,7 @@ use Rattle.language.specs.Pieces.{script}
 use Rattle.language.specs.Token.{Token}
 use Rattle.language.specs.Search.{spelled, Result}
 use Rattle.language.specs.Layout.{fixed_text}
-use Rattle.language.specs.Examples.{printing}
+use Rattle.language.proofs.Examples.{printing}
 
 abbrev pub token : Bool → LexicalClass → String → Token
 token b c w = record { class = c; text = codes w; start = 0; stop = 0; after_break = b }
