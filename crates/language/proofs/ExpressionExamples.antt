@@ -18,6 +18,18 @@ pub new_of_new : found (tokens "new new a()();") (program 14 (one (st 0 14 (n Ne
 unfolding computing
 new_of_new = refl
 
+pub new_of_new_without_arguments : found (tokens "new new a") (program 9 (one (st 0 9 (n NewExpression 0 9 (one (n NewExpression 4 9 (one (id "a" 8)))))))) ≡ once []
+unfolding computing
+new_of_new_without_arguments = refl
+
+pub new_with_arguments_of_new : found (tokens "new new a()") (program 11 (one (st 0 11 (n NewExpression 0 11 (one (n NewExpression 4 11 (one (id "a" 8)))))))) ≡ once []
+unfolding computing
+new_with_arguments_of_new = refl
+
+pub new_of_grouped_new : found (tokens "new (new a)") (program 11 (one (st 0 11 (n NewExpression 0 11 (one (n NewExpression 5 10 (one (id "a" 9)))))))) ≡ once (pair 4 10 ∷ [])
+unfolding computing
+new_of_grouped_new = refl
+
 pub spread_and_comma : found (tokens "[...a,];") (program 8 (one (st 0 8 (n ArrayExpression 0 7 (one (n SpreadElement 1 5 (one (id "a" 4)))))))) ≡ once []
 unfolding computing
 spread_and_comma = refl

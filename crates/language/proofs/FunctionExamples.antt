@@ -22,6 +22,14 @@ pub member_as_body : found (tokens "x => ({}).a") (program 11 (one (st 0 11 (sho
 unfolding computing
 member_as_body = refl
 
+pub member_as_body_behind_a_comma : found (tokens "(x,) => ({}).a") (program 14 (one (st 0 14 (short (n ArrowFunctionExpression 0 14 (two (id "x" 1) (n MemberExpression 8 14 (two (n ObjectExpression 9 11 none) (id "a" 13))))))))) ≡ once (pair 8 11 ∷ [])
+unfolding computing
+member_as_body_behind_a_comma = refl
+
+pub group_as_body : found (tokens "(x) => ({}.a)") (program 13 (one (st 0 13 (short (n ArrowFunctionExpression 0 13 (two (id "x" 1) (n MemberExpression 8 12 (two (n ObjectExpression 8 10 none) (id "a" 11))))))))) ≡ once (pair 7 12 ∷ [])
+unfolding computing
+group_as_body = refl
+
 pub object_as_body : found (tokens "x => ({})") (program 9 (one (st 0 9 (short (n ArrowFunctionExpression 0 9 (two (id "x" 0) (n ObjectExpression 6 8 none))))))) ≡ once (pair 5 8 ∷ [])
 unfolding computing
 object_as_body = refl

@@ -1,6 +1,6 @@
 -- Examples: texts with a fixed text. Of each: the tree and its pairs, the layout, and that the layout spells the tree with so many pairs.
 use Rattle.std.specs.Prelude.{◌≡◌, refl, [], ◌∷◌, codes}
-use Rattle.tree.specs.declared.kind.Kind.TheVariants.{ArrayExpression, ArrayPattern, ArrowFunctionExpression, AssignmentExpression, BinaryExpression, BlockStatement, CallExpression, ChainExpression, ClassBody, ClassDeclaration, ConditionalExpression, DoWhileStatement, EmptyStatement, ForStatement, FunctionExpression, IfStatement, LogicalExpression, MemberExpression, MethodDefinition, NewExpression, ObjectExpression, ObjectPattern, Property, SequenceExpression, SwitchCase, SwitchStatement, UnaryExpression, UpdateExpression, VariableDeclaration, VariableDeclarator}
+use Rattle.tree.specs.declared.kind.Kind.TheVariants.{ArrayExpression, ArrayPattern, ArrowFunctionExpression, AssignmentExpression, BinaryExpression, BlockStatement, CallExpression, ChainExpression, ClassBody, ClassDeclaration, ConditionalExpression, DoWhileStatement, EmptyStatement, ForStatement, FunctionExpression, IfStatement, LogicalExpression, MemberExpression, MethodDefinition, NewExpression, ObjectExpression, ObjectPattern, Property, SequenceExpression, SwitchCase, SwitchStatement, TemplateElement, TemplateLiteral, UnaryExpression, UpdateExpression, VariableDeclaration, VariableDeclarator}
 use Rattle.tree.specs.declared.kind.Form.TheVariants.{Get, Method, Shorthand}
 use Rattle.tree.specs.Tree.{Tree, gap, none, part}
 use Rattle.language.specs.Layout.{fixed_text}
@@ -622,6 +622,54 @@ body_of_do_text = refl
 pub body_of_do_again : again (tokens "do a; while (b);\nnew c();\n") body_of_do ≡ 0 ∷ []
 unfolding computing
 body_of_do_again = refl
+
+-- no space before `?.`
+abbrev pub number_before_chain : Tree
+number_before_chain = program 4 (one (st 0 4 (n ChainExpression 0 4 (one (optional (n MemberExpression 0 4 (two (lit "1" 0) (id "a" 3))))))))
+
+pub number_before_chain_pairs : found (tokens "1?.a") number_before_chain ≡ once []
+unfolding computing
+number_before_chain_pairs = refl
+
+pub number_before_chain_text : fixed_text number_before_chain ≡ codes "1?.a;\n"
+unfolding computing
+number_before_chain_text = refl
+
+pub number_before_chain_again : again (tokens "1?.a;\n") number_before_chain ≡ 0 ∷ []
+unfolding computing
+number_before_chain_again = refl
+
+-- a space before `.` alone
+abbrev pub member_before_chain : Tree
+member_before_chain = program 9 (one (st 0 9 (n ChainExpression 0 9 (one (n MemberExpression 0 9 (two (optional (n MemberExpression 0 7 (two (n MemberExpression 0 4 (two (lit "1" 0) (id "a" 3))) (id "b" 6)))) (id "c" 8)))))))
+
+pub member_before_chain_pairs : found (tokens "1 .a?.b.c") member_before_chain ≡ once []
+unfolding computing
+member_before_chain_pairs = refl
+
+pub member_before_chain_text : fixed_text member_before_chain ≡ codes "1 .a?.b.c;\n"
+unfolding computing
+member_before_chain_text = refl
+
+pub member_before_chain_again : again (tokens "1 .a?.b.c;\n") member_before_chain ≡ 0 ∷ []
+unfolding computing
+member_before_chain_again = refl
+
+-- a part of a template never stands at 0, so its layout is read with its places below
+abbrev pub template : Tree
+template = program 10 (one (st 0 10 (n TemplateLiteral 0 10 (three (t TemplateElement "x" 1 2 none) (id "a" 5) (t TemplateElement "y" 8 9 none)))))
+
+pub template_pairs : found (tokens "`x${(a)}y`") template ≡ once (pair 4 6 ∷ [])
+unfolding computing
+template_pairs = refl
+
+pub template_text : fixed_text template ≡ codes "`x${a}y`;\n"
+unfolding computing
+template_text = refl
+
+pub template_again : found (tokens "`x${a}y`;\n") (program 10 (one (st 0 9 (n TemplateLiteral 0 8 (three (t TemplateElement "x" 1 2 none) (id "a" 4) (t TemplateElement "y" 6 7 none)))))) ≡ once []
+unfolding computing
+template_again = refl
 
 abbrev pub member_of_object : Tree
 member_of_object = program 17 (one (n ForStatement 0 17 (part (t AssignmentExpression "=" 5 13 (two (id "x" 5) (n MemberExpression 9 13 (two (n ObjectExpression 9 11 none) (id "a" 12))))) (gap (gap (one (n EmptyStatement 16 17 none)))))))

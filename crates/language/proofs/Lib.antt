@@ -15,8 +15,6 @@ pub mod Searched
 pub mod Found
 pub mod Trees
 pub mod Sources
-pub mod Examples
-pub mod Rows
 pub mod Nest
 pub mod StringExamples
 pub mod ExpressionExamples
@@ -25,3 +23,7 @@ pub mod StatementExamples
 pub mod FunctionExamples
 pub mod ClassExamples
 pub mod LayoutExamples
+pub mod Tables
+pub mod TableExamples
+pub mod Judged
+pub mod SoundTables

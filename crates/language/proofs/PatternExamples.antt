@@ -100,6 +100,11 @@ pub grouped_pattern : found (tokens "({a}) = b") (program 9 (one (st 0 9 (t Assi
 unfolding computing
 grouped_pattern = refl
 
+-- a pattern at the start of a statement
+pub pattern_without_a_group : found (tokens "{a} = b;") (program 8 (one (st 0 8 (t AssignmentExpression "=" 0 7 (two (n ObjectPattern 0 3 (one (formed Shorthand (n Property 1 2 (two (id "a" 1) (id "a" 1)))))) (id "b" 6)))))) ≡ []
+unfolding computing
+pattern_without_a_group = refl
+
 -- a pattern before another operator than `=`
 pub pattern_with_operator : found (tokens "[a] += b;") (program 9 (one (st 0 9 (t AssignmentExpression "+=" 0 8 (two (n ArrayPattern 0 3 (one (id "a" 1))) (id "b" 7)))))) ≡ []
 unfolding computing

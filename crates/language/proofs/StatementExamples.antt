@@ -13,9 +13,9 @@ pub name : found (tokens "a;") (program 2 (one (st 0 2 (id "a" 0)))) ≡ once []
 unfolding computing
 name = refl
 
-pub update_behind_a_break : found (tokens "a\n++\nb") (program 6 (two (st 0 1 (id "a" 0)) (st 2 6 (before (t UpdateExpression "++" 2 6 (one (id "b" 5))))))) ≡ once []
+pub update_of_the_next_line : found (tokens "a\n++\nb") (program 6 (two (st 0 1 (id "a" 0)) (st 2 6 (before (t UpdateExpression "++" 2 6 (one (id "b" 5))))))) ≡ once []
 unfolding computing
-update_behind_a_break = refl
+update_of_the_next_line = refl
 
 pub sum_behind_a_break : found (tokens "a++\n+b") (program 6 (one (st 0 6 (t BinaryExpression "+" 0 6 (two (t UpdateExpression "++" 0 3 (one (id "a" 0))) (id "b" 5)))))) ≡ once []
 unfolding computing
@@ -275,6 +275,26 @@ update_before_a_break = refl
 pub call_as_statements : found (tokens "a\n(b)") (program 5 (two (st 0 1 (id "a" 0)) (st 2 5 (id "b" 3)))) ≡ []
 unfolding computing
 call_as_statements = refl
+
+-- two statements where an arrow in a group is called
+pub grouped_arrow_goes_on : found (tokens "a = (() => {})\n(b)") (program 18 (two (st 0 14 (t AssignmentExpression "=" 0 14 (two (id "a" 0) (n ArrowFunctionExpression 5 13 (one (n BlockStatement 11 13 none)))))) (st 15 18 (id "b" 16)))) ≡ []
+unfolding computing
+grouped_arrow_goes_on = refl
+
+-- two statements where an update in a group is called
+pub grouped_update_goes_on : found (tokens "(a++)\n(b)") (program 9 (two (st 0 5 (t UpdateExpression "++" 1 4 (one (id "a" 1)))) (st 6 9 (id "b" 7)))) ≡ []
+unfolding computing
+grouped_update_goes_on = refl
+
+-- no line break behind an arrow
+pub group_behind_arrow_on_its_line : found (tokens "a = () => {}(b)") (program 15 (two (st 0 12 (t AssignmentExpression "=" 0 12 (two (id "a" 0) (n ArrowFunctionExpression 4 12 (one (n BlockStatement 10 12 none)))))) (st 12 15 (id "b" 13)))) ≡ []
+unfolding computing
+group_behind_arrow_on_its_line = refl
+
+-- `++` behind a line break, and then nothing
+pub update_behind_a_break : found (tokens "a\n++;b") (program 6 (two (st 0 5 (t UpdateExpression "++" 0 4 (one (id "a" 0)))) (st 5 6 (id "b" 5)))) ≡ []
+unfolding computing
+update_behind_a_break = refl
 
 -- no right side
 pub sum_without_side : found (tokens "a + ;") (program 5 (one (st 0 5 (t BinaryExpression "+" 0 3 (one (id "a" 0)))))) ≡ []
