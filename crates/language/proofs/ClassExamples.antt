@@ -122,9 +122,9 @@ unfolding computing
 generator_method = refl
 
 -- `super` alone
-pub call_of_super_alone : found (tokens "super") (program 5 (one (st 0 5 (n Super 0 5 none)))) ≡ []
+pub super_alone : found (tokens "super") (program 5 (one (st 0 5 (n Super 0 5 none)))) ≡ []
 unfolding computing
-call_of_super_alone = refl
+super_alone = refl
 
 -- `static` before a block
 pub static_block : found (tokens "class A { static {} }") (program 21 (one (n ClassDeclaration 0 21 (part (id "A" 6) (gap (one (n ClassBody 8 21 (one (formed Method (n MethodDefinition 10 19 (two (id "static" 10) (n FunctionExpression 17 19 (gap (one (n BlockStatement 17 19 none))))))))))))))) ≡ []

@@ -164,6 +164,11 @@ pub import_behind_new : found (tokens "new import(a);") (program 14 (one (st 0 1
 unfolding computing
 import_behind_new = refl
 
+-- nor a member of one
+pub member_of_import_behind_new : found (tokens "new import(a).b()") (program 17 (one (st 0 17 (n NewExpression 0 17 (one (n MemberExpression 4 15 (two (n ImportExpression 4 13 (one (id "a" 11))) (id "b" 14)))))))) ≡ []
+unfolding computing
+member_of_import_behind_new = refl
+
 -- no template behind a chain
 pub template_in_chain : found (tokens "a?.b`c`;") (program 8 (one (st 0 8 (n ChainExpression 0 7 (one (n TaggedTemplateExpression 0 7 (two (optional (n MemberExpression 0 4 (two (id "a" 0) (id "b" 3)))) (n TemplateLiteral 4 7 (one (t TemplateElement "c" 5 6 none)))))))))) ≡ []
 unfolding computing
@@ -175,7 +180,7 @@ unfolding computing
 comma_in_group = refl
 
 -- and it holds one
-pub empty_group : found (tokens "();") (program 3 (one (st 0 3 (n ArrayExpression 0 2 none)))) ≡ []
+pub empty_group : found (tokens "();") (program 3 (one (st 0 3 (n SequenceExpression 0 2 none)))) ≡ []
 unfolding computing
 empty_group = refl
 

@@ -18,7 +18,7 @@ pub one_parameter : found (tokens "a => b;") (program 7 (one (st 0 7 (short (n A
 unfolding computing
 one_parameter = refl
 
-pub member_as_body : found (tokens "x => ({}).a") (program 11 (one (st 0 11 (short (n ArrowFunctionExpression 0 11 (two (id "x" 0) (n MemberExpression 5 11 (two (n ObjectExpression 6 8 none) (id "a" 10))))))))) ≡ once (pair 5 8 ∷ [])
+pub member_as_body : found (tokens "x => ({}).a;") (program 12 (one (st 0 12 (short (n ArrowFunctionExpression 0 11 (two (id "x" 0) (n MemberExpression 5 11 (two (n ObjectExpression 6 8 none) (id "a" 10))))))))) ≡ once (pair 5 8 ∷ [])
 unfolding computing
 member_as_body = refl
 

@@ -1,6 +1,6 @@
 -- Examples: texts with a fixed text. Of each: the tree and its pairs, the layout, and that the layout spells the tree with so many pairs.
 use Rattle.std.specs.Prelude.{◌≡◌, refl, [], ◌∷◌, codes}
-use Rattle.tree.specs.declared.kind.Kind.TheVariants.{ArrayExpression, ArrayPattern, ArrowFunctionExpression, AssignmentExpression, BinaryExpression, BlockStatement, CallExpression, ChainExpression, ClassBody, ClassDeclaration, ConditionalExpression, DoWhileStatement, EmptyStatement, ForStatement, FunctionExpression, IfStatement, LogicalExpression, MemberExpression, MethodDefinition, NewExpression, ObjectExpression, ObjectPattern, Property, SequenceExpression, SwitchCase, SwitchStatement, TemplateElement, TemplateLiteral, UnaryExpression, UpdateExpression, VariableDeclaration, VariableDeclarator}
+use Rattle.tree.specs.declared.kind.Kind.TheVariants.{ArrayExpression, ArrayPattern, ArrowFunctionExpression, AssignmentExpression, BinaryExpression, BlockStatement, CallExpression, ChainExpression, ClassBody, ClassDeclaration, ConditionalExpression, DoWhileStatement, EmptyStatement, ForOfStatement, ForStatement, FunctionExpression, IfStatement, LogicalExpression, MemberExpression, MethodDefinition, NewExpression, ObjectExpression, ObjectPattern, Property, SequenceExpression, SwitchCase, SwitchStatement, TemplateElement, TemplateLiteral, UnaryExpression, UpdateExpression, VariableDeclaration, VariableDeclarator}
 use Rattle.tree.specs.declared.kind.Form.TheVariants.{Get, Method, Shorthand}
 use Rattle.tree.specs.Tree.{Tree, gap, none, part}
 use Rattle.language.specs.Layout.{fixed_text}
@@ -622,6 +622,52 @@ body_of_do_text = refl
 pub body_of_do_again : again (tokens "do a; while (b);\nnew c();\n") body_of_do ≡ 0 ∷ []
 unfolding computing
 body_of_do_again = refl
+
+abbrev pub async_in_head : Tree
+async_in_head = program 19 (one (n ForOfStatement 0 19 (three (id "async" 6) (id "a" 16) (n EmptyStatement 18 19 none))))
+
+pub async_in_head_pairs : found (tokens "for ((async) of a);") async_in_head ≡ once (pair 5 11 ∷ [])
+unfolding computing
+async_in_head_pairs = refl
+
+pub async_in_head_text : fixed_text async_in_head ≡ codes "for (async of a) ;\n"
+unfolding computing
+async_in_head_text = refl
+
+pub async_in_head_again : again (tokens "for (async of a) ;\n") async_in_head ≡ 0 ∷ []
+unfolding computing
+async_in_head_again = refl
+
+-- what stands in the head of a case is one level below the line of the case
+abbrev pub function_as_case : Tree
+function_as_case = program 38 (one (n SwitchStatement 0 38 (two (id "a" 8) (n SwitchCase 13 36 (one (n FunctionExpression 18 35 (gap (one (n BlockStatement 30 35 (one (st 32 33 (id "b" 32))))))))))))
+
+pub function_as_case_pairs : found (tokens "switch (a) { case function () { b }: }") function_as_case ≡ once []
+unfolding computing
+function_as_case_pairs = refl
+
+pub function_as_case_text : fixed_text function_as_case ≡ codes "switch (a) {\n  case function () {\n    b;\n  }:\n}\n"
+unfolding computing
+function_as_case_text = refl
+
+pub function_as_case_again : again (tokens "switch (a) {\n  case function () {\n    b;\n  }:\n}\n") function_as_case ≡ 0 ∷ []
+unfolding computing
+function_as_case_again = refl
+
+abbrev pub function_as_heritage : Tree
+function_as_heritage = program 36 (one (n ClassDeclaration 0 36 (three (id "A" 6) (n FunctionExpression 16 33 (gap (one (n BlockStatement 28 33 (one (st 30 31 (id "b" 30))))))) (n ClassBody 34 36 none))))
+
+pub function_as_heritage_pairs : found (tokens "class A extends function () { b } {}") function_as_heritage ≡ once []
+unfolding computing
+function_as_heritage_pairs = refl
+
+pub function_as_heritage_text : fixed_text function_as_heritage ≡ codes "class A extends function () {\n  b;\n} {}\n"
+unfolding computing
+function_as_heritage_text = refl
+
+pub function_as_heritage_again : again (tokens "class A extends function () {\n  b;\n} {}\n") function_as_heritage ≡ 0 ∷ []
+unfolding computing
+function_as_heritage_again = refl
 
 -- no space before `?.`
 abbrev pub number_before_chain : Tree

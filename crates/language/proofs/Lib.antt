@@ -27,3 +27,4 @@ pub mod Tables
 pub mod TableExamples
 pub mod Judged
 pub mod SoundTables
+pub mod SameTrees

@@ -1,6 +1,6 @@
 -- Examples: statements that tokens spell, with these pairs and in this one way; and trees that they do not spell.
 use Rattle.std.specs.Prelude.{◌≡◌, refl, [], ◌∷◌}
-use Rattle.tree.specs.declared.kind.Kind.TheVariants.{ArrowFunctionExpression, AssignmentExpression, BinaryExpression, BlockStatement, BreakStatement, CallExpression, CatchClause, ClassBody, ClassDeclaration, ContinueStatement, DebuggerStatement, DoWhileStatement, EmptyStatement, ExpressionStatement, ForInStatement, ForOfStatement, ForStatement, FunctionDeclaration, IfStatement, LabeledStatement, LogicalExpression, MemberExpression, Program, ReturnStatement, SequenceExpression, SwitchCase, SwitchStatement, ThrowStatement, TryStatement, UpdateExpression, VariableDeclaration, VariableDeclarator, WhileStatement}
+use Rattle.tree.specs.declared.kind.Kind.TheVariants.{ArrowFunctionExpression, AssignmentExpression, BinaryExpression, BlockStatement, BreakStatement, CallExpression, CatchClause, ClassBody, ClassDeclaration, ConditionalExpression, ContinueStatement, DebuggerStatement, DoWhileStatement, EmptyStatement, ExpressionStatement, ForInStatement, ForOfStatement, ForStatement, FunctionDeclaration, IfStatement, LabeledStatement, LogicalExpression, MemberExpression, Program, ReturnStatement, SequenceExpression, SwitchCase, SwitchStatement, ThrowStatement, TryStatement, UpdateExpression, VariableDeclaration, VariableDeclarator, WhileStatement}
 use Rattle.tree.specs.Tree.{gap, none, part}
 use Rattle.language.proofs.Sources.{tokens, tokens_with_regexps}
 use Rattle.language.proofs.Trees.{before, computing, directive, found, id, lit, n, once, one, pair, program, st, t, three, two}
@@ -40,6 +40,10 @@ expression_behind_variable = refl
 pub expression_behind_arrow : found (tokens_with_regexps "a = () => {}\n/=x/") (program 17 (two (st 0 12 (t AssignmentExpression "=" 0 12 (two (id "a" 0) (n ArrowFunctionExpression 4 12 (one (n BlockStatement 10 12 none)))))) (st 13 17 (lit "/=x/" 13)))) ≡ once []
 unfolding computing
 expression_behind_arrow = refl
+
+pub expression_behind_conditional : found (tokens_with_regexps "a ? b : () => {}\n/=x/") (program 21 (two (st 0 16 (n ConditionalExpression 0 16 (three (id "a" 0) (id "b" 4) (n ArrowFunctionExpression 8 16 (one (n BlockStatement 14 16 none)))))) (st 17 21 (lit "/=x/" 17)))) ≡ once []
+unfolding computing
+expression_behind_conditional = refl
 
 pub no_end_behind_do : found (tokens "do a; while (b) c") (program 17 (two (n DoWhileStatement 0 15 (two (st 3 5 (id "a" 3)) (id "b" 13))) (st 16 17 (id "c" 16)))) ≡ once []
 unfolding computing
@@ -295,6 +299,16 @@ group_behind_arrow_on_its_line = refl
 pub update_behind_a_break : found (tokens "a\n++;b") (program 6 (two (st 0 5 (t UpdateExpression "++" 0 4 (one (id "a" 0)))) (st 5 6 (id "b" 5)))) ≡ []
 unfolding computing
 update_behind_a_break = refl
+
+-- two statements behind `++b`, which a `(` goes on
+pub call_behind_update : found (tokens "++b\n('x')") (program 9 (two (st 0 3 (before (t UpdateExpression "++" 0 3 (one (id "b" 2))))) (st 4 9 (lit "'x'" 5)))) ≡ []
+unfolding computing
+call_behind_update = refl
+
+-- nothing in the parentheses behind `catch`
+pub catch_with_nothing : found (tokens "try {} catch () {}") (program 18 (one (n TryStatement 0 18 (part (n BlockStatement 4 6 none) (part (n CatchClause 7 18 (gap (one (n BlockStatement 16 18 none)))) (gap none)))))) ≡ []
+unfolding computing
+catch_with_nothing = refl
 
 -- no right side
 pub sum_without_side : found (tokens "a + ;") (program 5 (one (st 0 5 (t BinaryExpression "+" 0 3 (one (id "a" 0)))))) ≡ []
