@@ -15,6 +15,8 @@ const path = require('path');
 class AnttError extends Error {}
 
 // Modules that aren't loaded: they speak of the program's own values (its trees, devices, code of trees).
+// Of proofs/, only examples and the words that they are written with.
+const EXAMPLES = /\/(language|early_errors)\/proofs\/(Trees|Sources|Nest|Tables|\w*Examples|\w*Rows)\.antt$/;
 const LEFT_OUT = /^Rattle\.(tree\.specs\.(TreeCode|View|Node)|tokens\.specs\.(Io|Memory|Source|Scanned|Reading|Words|Lexeme|Characters|LineBytes))$/;
 
 // ---------------------------------------------------------------- values
@@ -388,8 +390,8 @@ class Spec {
     const walk = (dir) => {
       for (const e of fs.readdirSync(dir, { withFileTypes: true })) {
         const p = path.join(dir, e.name);
-        if (e.isDirectory()) { if (!['proofs', 'out', 'target', '.git', 'node_modules', 'declared'].includes(e.name)) walk(p); }
-        else if (e.name.endsWith('.antt') && p.split(path.sep).includes('specs')) found.push(p);
+        if (e.isDirectory()) { if (!['out', 'target', '.git', 'node_modules', 'declared'].includes(e.name)) walk(p); }
+        else if (e.name.endsWith('.antt') && (p.split(path.sep).includes('specs') || EXAMPLES.test(p))) found.push(p);
       }
     };
     walk(path.resolve(folder));
@@ -397,9 +399,9 @@ class Spec {
     const roots = new Set();
     for (const file of found) {
       const bits = file.split(path.sep);
-      const at = bits.lastIndexOf('specs');
+      const at = Math.max(bits.lastIndexOf('specs'), bits.lastIndexOf('proofs'));
       roots.add(bits.slice(0, at).join(path.sep));
-      const name = ['Rattle', bits[at - 1], 'specs', ...bits.slice(at + 1)].join('.').replace(/\.antt$/, '');
+      const name = ['Rattle', ...bits.slice(at - 1)].join('.').replace(/\.antt$/, '');
       if (!LEFT_OUT.test(name) && !this.modules.has(name)) this.modules.set(name, new Module(name, file));
     }
     for (const root of roots) this.addDeclared(root);

@@ -17,6 +17,3 @@ pub mod Search
 pub mod Layout
 pub mod Claims
 pub mod Laws
-pub mod Examples
-pub mod Rows
-pub mod Nest
