@@ -27,14 +27,8 @@ use Rattle.language.specs.View.{Made, template, tagged, member, call, postfix, p
 use Rattle.language.proofs.Domination.{settled, fits}
 use Rattle.language.proofs.Viewed.{way_of, made, one, cases}
 use Rattle.language.proofs.Operators.{binding, Rises}
-use Rattle.language.proofs.Spine.{is_led, Grows, whole, grow}
+use Rattle.language.proofs.Spine.{is_led, Grows, whole, grow, grows_on_spine}
 use Rattle.language.proofs.Growth.{IsDetermined, joins, retell, token_same, first_of, goes_to, by, chunks_unled}
-
--- a role on a spine
-abbrev pub on_spine : Role → Bool
-on_spine (expr y i f) = true
-on_spine (spine f) = true
-on_spine _ = false
 
 abbrev pub loose : Rank → Bool
 loose y = nat_le (tightness y) 15
@@ -134,16 +128,6 @@ loose_number : (z : ℕ) → nat_le z 15 ≡ true → z ≤ 15
 loose_number z h = grind (arith, nat_tests)
 
 module _ (S : Type 0) (Next : S → Token → S → Type 0) (behind : S → Token) where
-  led_on_spine : (b : Role) (rest : List (PieceOf Role)) → is_led (sub b ∷ rest) ≡ true → on_spine b ≡ true
-  led_on_spine (expr y i f) rest h = refl
-  led_on_spine (spine f) rest h = refl
-  led_on_spine _ rest h = absurd (false≢true h)
-
-  pub grows_on_spine : {o : ℕ} {s0 e : S} {a : Role} {n : Tree} {P : List Pair} {b : Role} {m : Tree} {mid : S} {Q : List Pair} →
-      on_spine a ≡ true → Grows S Next behind o s0 a n e P b m mid Q → on_spine b ≡ true
-  grows_on_spine h whole = h
-  grows_on_spine {b = b} h (grow g led pl eq d gs) = led_on_spine b _ led
-
   -- no operator of the symbol y or a tighter one is read here
   abbrev pub Stops : Rank → Bool → S → Type 0
   Stops y i e = (t : Token) (m : S) (l : Bool) (z q : Rank) → Next e t m → operator_of t.text ≡ binds l z q → IsTrue (takes y z) → IsTrue (implies (is t.text "in") i) → ⊥
@@ -227,7 +211,7 @@ module _ (S : Type 0) (Next : S → Token → S → Type 0) (behind : S → Toke
           let u = chain_base f2 (call_link g qs) g.optional qs listed eq in
           from_question (token_same S Next behind det rest (ap first_of u.rest_is ∙ question_call f2 g.optional (others qs) u.optional) d nx) op
       no_operator_in _ g qs listed eq d nx op = elim listed [ ]
-  operated det nx op tk im st (grow {c = _} h led pl eq d gs) = absurd (false≢true (grows_on_spine refl gs))
+  operated det nx op tk im st (grow {c = _} h led pl eq d gs) = absurd (false≢true (grows_on_spine S Next behind refl gs))
 
   -- outward from a loose position of a spine In stays
   pub steady : {o : ℕ} {s0 e : S} {y : Rank} {i : Bool} {f : Start} {n : Tree} {P : List Pair} {y1 : Rank} {i1 : Bool} {f1 : Start} {m : Tree} {mid : S} {Q : List Pair} →
@@ -237,7 +221,7 @@ module _ (S : Type 0) (Next : S → Token → S → Type 0) (behind : S → Toke
   steady h (grow {c = expr y2 i2 f2} {l = node kk w g s1 e1 ps} t led pl eq d gs) =
       let v = way_of t in let u = steady_head f2 (made kk v.listed) v.fit v.is h in u.in_same ∙ steady u.is_loose gs
   steady h (grow {c = spine f2} {l = node kk w g s1 e1 ps} t led pl eq d gs) = let v = way_of t in spine_tight f2 kk g (bare_parts ps) v.listed v.is h
-  steady h (grow {c = _} t led pl eq d gs) = absurd (false≢true (grows_on_spine refl gs))
+  steady h (grow {c = _} t led pl eq d gs) = absurd (false≢true (grows_on_spine S Next behind refl gs))
 
   -- behind the right side of an operator, no operator that it would take
   pub stops_after : IsDetermined S Next behind → {o : ℕ} {s0 e : S} {y : Rank} {i : Bool} {f : Start} {n : Tree} {P : List Pair} {y1 : Rank} {i1 : Bool} {f1 : Start} {m : Tree} {mid : S} {Q : List Pair} (z q : Rank) →

@@ -21,7 +21,7 @@ use Rattle.language.specs.View.{Made, template, short_arrow, super_member, super
 use Rattle.language.proofs.Domination.{settled, fits}
 use Rattle.language.proofs.Viewed.{one, cases}
 use Rattle.language.proofs.Spine.{is_led}
-use Rattle.language.proofs.Growth.{chunks_unled, goes_to, AllLaid, no_piece, one_laid, number_laid}
+use Rattle.language.proofs.Begins.{chunks_unled, goes_to, AllLaid, no_piece, one_laid, number_laid}
 
 -- an operator, with a space on either side
 abbrev pub between : List ℕ → Role → List (PieceOf Role)

@@ -9,8 +9,10 @@ pub mod OneWay
 pub mod Least
 pub mod Viewed
 pub mod Spine
+pub mod Begins
 pub mod Growth
 pub mod Led
+pub mod Onward
 pub mod Climbing
 pub mod Heads
 pub mod Searched

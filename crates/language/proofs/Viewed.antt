@@ -53,15 +53,16 @@ pub record Way (a : Role) (n : Tree) (qs : List (PieceOf Role)) : Type 0 where
   pub listed : Among spelling (spellings a (bare n))
   pub fit : IsTrue (fits a spelling)
   pub is : qs ≡ settled a spelling
+  pub lean : is_lean (bare n) ≡ true
 
 pub way_of : {a : Role} {n : Tree} {qs : List (PieceOf Role)} → Among qs (ways a n) → Way a n qs
 unfolding ways ways_bare
-way_of {a} {n} {qs} h = go (is_lean (bare n)) h
+way_of {a} {n} {qs} h = go (is_lean (bare n)) refl h
   where
-    go : (b : Bool) → Among qs (cond b (map (settled a) (filter (fits a) (spellings a (bare n)))) []) → Way a n qs
-    go false h = elim h [ ]
-    go true h = let u = from_map (settled a) _ h in let v = from_filter (fits a) _ u.1 in
-        record { spelling = u.0; listed = v.1; fit = v.0; is = u.2 }
+    go : (b : Bool) → is_lean (bare n) ≡ b → Among qs (cond b (map (settled a) (filter (fits a) (spellings a (bare n)))) []) → Way a n qs
+    go false e h = elim h [ ]
+    go true e h = let u = from_map (settled a) _ h in let v = from_filter (fits a) _ u.1 in
+        record { spelling = u.0; listed = v.1; fit = v.0; is = u.2; lean = e }
 
 module _ {w : List ℕ} {g : Flags} {ps : Parts} {x : Spelling} where
   as_made : {k : Kind} {y : Spelling} → Made k w g ps y → Among x (y ∷ []) → Made k w g ps x
