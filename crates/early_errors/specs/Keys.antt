@@ -4,7 +4,7 @@ use Rattle.tree.specs.Tree.{Tree, kind_of, text_of}
 use Rattle.language.specs.Statements.{is_string_literal}
 use Rattle.language.specs.Strings.{literal_units}
 
--- the code units of a string literal's value (11.8.4.1)
+-- the code units of a string literal's value (SV in 11.8.4)
 abbrev pub key_units : List ℕ → List ℕ
 key_units w = literal_units w
 

@@ -1,4 +1,4 @@
--- The value of a string literal's text, which is in UTF-8: its UTF-16 code units (ECMA-262 11.8.4.1).
+-- The value of a string literal's text, which is in UTF-8: its UTF-16 code units (SV in ECMA-262 11.8.4).
 use Rattle.std.specs.Prelude.{ℕ, zero, suc, ◌+◌, ◌-◌, ◌*◌, cond, List, [], ◌∷◌, nat_lt}
 use Rattle.tokens.specs.Strings.{string_units}
 
