@@ -4,7 +4,7 @@ use Rattle.std.specs.Prelude.{◌||◌, ◌&&◌, nat_eq, nat_le, filter, codes}
 use Rattle.std.proofs.lemmas.Slice.Eq.{bytes_eq-Decides}
 use Rattle.std.proofs.lemmas.Bool.Decides.{nat_tests}
 use Prim.Native.String.{String}
-use Rattle.grammar.specs.Words.{is, among, is_reserved}
+use Rattle.language.specs.Words.{is, among, is_reserved}
 use Rattle.grammar.proofs.Flat.{both_true}
 
 -- the words of this length

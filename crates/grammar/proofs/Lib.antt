@@ -1,5 +1,5 @@
-pub mod Ways
 pub mod Flat
+pub mod Ways
 pub mod Forms
 pub mod Scripted
 pub mod Climb
@@ -7,6 +7,7 @@ pub mod Steps
 pub mod Primaries
 pub mod Lists
 pub mod Scripts
+pub mod Whole
 pub mod Lengths
 pub mod Layouts
 pub mod Unplaced

@@ -1,13 +1,13 @@
 -- What is read at a script: statements up to the end of the text.
-use Rattle.std.proofs.Common.{◌≡◌, ℕ, ◌+◌, ◌≤◌, List, [], ◌++◌, refl, sym, ap, ◌∙◌, subst, arith, append_assoc, append-nil}
+use Rattle.std.proofs.Common.{◌≡◌, ℕ, ◌+◌, ◌≤◌, List, [], ◌++◌, refl, sym, ap, ◌∙◌, subst, arith, append_assoc, append-nil, true}
 use Rattle.std.specs.Prelude.{codes}
-use Rattle.tokens.specs.declared.token.Class.TheVariants.{Punctuator, End}
-use Rattle.tokens.specs.Lexeme.{Lexeme}
+use Rattle.tokens.specs.Lexical.{Punctuator, End}
+use Rattle.language.specs.Token.{Token}
 use Rattle.tree.specs.declared.kind.Pair.{Pair}
 use Rattle.tree.specs.Tree.{Tree, Parts, none, part, height, parts_height, push, join}
-use Rattle.grammar.specs.declared.rank.Rank.TheVariants.{Expression, Assignment}
-use Rattle.grammar.specs.Pieces.{expr, script}
-use Rattle.grammar.specs.Derivation.{Reads, Spells}
+use Rattle.language.specs.declared.Rank.TheVariants.{Expression, Assignment}
+use Rattle.language.specs.Pieces.{expr, script}
+use Rattle.language.specs.Derivation.{Reads, Spells}
 use Rattle.grammar.specs.Promises.{IsReading, Stops, Found, Absent, AbsentWithin, FoundScript}
 use Rattle.grammar.specs.Nodes.{statement_node, program_node}
 use Rattle.grammar.proofs.Forms.{Items, over, statement}
@@ -15,28 +15,30 @@ use Rattle.grammar.proofs.Scripted.{script_of, script_spelled}
 use Rattle.grammar.proofs.Climb.{semicolon_binding, spine}
 use Rattle.grammar.proofs.Primaries.{same_token, stops_none, First, is_group, is_name, is_number, first_of}
 use Rattle.grammar.proofs.Lists.{Either, single, many, either, join_push, join_none, height_join}
+use Rattle.grammar.specs.Sums.{sum_ways}
+use Rattle.language.specs.declared.Start.TheVariants.{Any}
 
-module _ (S : Type 0) (Next : S → Lexeme → S → Type 0) (behind : S → Lexeme) where
+module _ (S : Type 0) (Next : S → Token → S → Type 0) (behind : S → Token) where
   -- no expression begins at the end
-  first_not_end : IsReading S Next behind → {o : ℕ} {s e f : S} {t : Lexeme} {n : Tree} {P : List Pair} → Reads S Next behind End [] s t f → First S Next behind o s e n P → ⊥
+  first_not_end : IsReading S Next behind → {o : ℕ} {s e f : S} {t : Token} {n : Tree} {P : List Pair} → Reads S Next behind End [] s t f → First S Next behind o s e n P → ⊥
   first_not_end reading r (is_name n c v) = let h = same_token S Next behind reading r.next n in let q = sym c ∙ h.class ∙ r.class in cc
-  first_not_end reading r (is_number n c) = let h = same_token S Next behind reading r.next n in let q = sym c ∙ h.class ∙ r.class in cc
+  first_not_end reading r (is_number n c i) = let h = same_token S Next behind reading r.next n in let q = sym c ∙ h.class ∙ r.class in cc
   first_not_end reading r (is_group c d b) = let h = same_token S Next behind reading r.next c.next in let q = sym c.class ∙ h.class ∙ r.class in cc
 
-  part_not_end : IsReading S Next behind → {o : ℕ} {s e f : S} {t : Lexeme} {n : Tree} {P : List Pair} → Reads S Next behind End [] s t f →
-      Spells S Next behind o (expr Assignment) n s e P → ⊥
+  part_not_end : IsReading S Next behind → {o : ℕ} {s e f : S} {t : Token} {n : Tree} {P : List Pair} → Reads S Next behind End [] s t f →
+      Spells sum_ways S Next behind o (expr Assignment true Any) n s e P → ⊥
   part_not_end reading {n = n} r d = let u = spine S Next behind n reading r.next (let h : 1 ≤ 1 = omega arith in h) d in
       first_not_end reading r (first_of S Next behind reading u.primary)
 
-  pub not_end : IsReading S Next behind → {o : ℕ} {s e f : S} {t : Lexeme} {n : Tree} {P : List Pair} → Reads S Next behind End [] s t f →
-      Spells S Next behind o (expr Expression) n s e P → ⊥
+  pub not_end : IsReading S Next behind → {o : ℕ} {s e f : S} {t : Token} {n : Tree} {P : List Pair} → Reads S Next behind End [] s t f →
+      Spells sum_ways S Next behind o (expr Expression true Any) n s e P → ⊥
   not_end reading {o} {s} r d = of_either (either S Next behind reading d)
     where
       of_either : {e : S} {n : Tree} {P : List Pair} → Either S Next behind o s e n P → ⊥
       of_either (single d) = part_not_end reading r d
       of_either (many p d c ps) = part_not_end reading r d
 
-  semicolon_stops : IsReading S Next behind → {s e : S} {t : Lexeme} → Reads S Next behind Punctuator (codes ";") s t e → Stops S Next behind Expression s
+  semicolon_stops : IsReading S Next behind → {s e : S} {t : Token} → Reads S Next behind Punctuator (codes ";") s t e → Stops S Next behind Expression s
   semicolon_stops reading {t = t} c = stops_none S Next behind reading Expression c.next (semicolon_binding t c.class c.text)
 
   pub record RestScript (o : ℕ) (s : S) (ts : Parts) (P : List Pair) (goal : S) (whole : Tree) (all : List Pair) : Type 0 where
@@ -49,7 +51,7 @@ module _ (S : Type 0) (Next : S → Lexeme → S → Type 0) (behind : S → Lex
   -- before each statement: the statements ts so far
   pub record Scripting (o : ℕ) (s0 s : S) (ts : Parts) (P : List Pair) : Type 0 where
     pub spelled : (e : S) (rest : Parts) (Q : List Pair) → Items S Next behind o s e rest Q → Items S Next behind o s0 e (join ts rest) (P ++ Q)
-    pub extends : (o' : ℕ) (e' : S) (n' : Tree) (P' : List Pair) → Spells S Next behind o' script n' s0 e' P' → RestScript o' s ts P e' n' P'
+    pub extends : (o' : ℕ) (e' : S) (n' : Tree) (P' : List Pair) → Spells sum_ways S Next behind o' script n' s0 e' P' → RestScript o' s ts P e' n' P'
 
   pub script_start : (o : ℕ) (s : S) → Scripting o s s none []
   script_start o s = record {
@@ -57,7 +59,7 @@ module _ (S : Type 0) (Next : S → Lexeme → S → Type 0) (behind : S → Lex
     extends = λ o' e' n' P' d. let u = script_of S Next behind n' d in record { rest = u.parts; pairs = P'; items = u.items; whole_is = u.is; all_is = refl };
   }
 
-  pub script_more : IsReading S Next behind → {o : ℕ} {s0 s m k g : S} {f t : Lexeme} {ts : Parts} {n : Tree} {P Q : List Pair} → Next s f g →
+  pub script_more : IsReading S Next behind → {o : ℕ} {s0 s m k g : S} {f t : Token} {ts : Parts} {n : Tree} {P Q : List Pair} → Next s f g →
       Scripting o s0 s ts P → Found S Next behind o Expression s m n Q → Reads S Next behind Punctuator (codes ";") m t k →
       Scripting o s0 k (push ts (statement_node f.start (behind k).stop n)) (P ++ Q)
   script_more reading {o} {s0} {s} {m} {k} {g} {f} {t} {ts} {n} {P} {Q} nx l d c = record {
@@ -75,7 +77,7 @@ module _ (S : Type 0) (Next : S → Lexeme → S → Type 0) (behind : S → Lex
       of_items {o'} {e'} (statement {m = m'} {l = k'} {a = a} {b = b} {t = t'} {n = u} {ps = us} {P = P1} {Q = R} p h c' rest) x y =
           let same = d.only o' m' u P1 h (semicolon_stops reading c') in
           let i = same_token S Next behind reading c.next (subst (λ v. Next v t' k') same.0 c'.next) in
-          let starts : a ≡ f.start = p.starts ∙ ap (λ (v : Lexeme). v.start) (same_token S Next behind reading nx p.next).token in
+          let starts : a ≡ f.start = p.starts ∙ ap (λ (v : Token). v.start) (same_token S Next behind reading nx p.next).token in
           let stops : b ≡ (behind k).stop = p.stops ∙ ap (λ v. (behind v).stop) i.place in
           record {
             rest = us;
@@ -88,11 +90,11 @@ module _ (S : Type 0) (Next : S → Lexeme → S → Type 0) (behind : S → Lex
             all_is = y ∙ ap (λ v. P ++ (v ++ R)) same.2 ∙ sym (append_assoc P Q R);
           }
 
-  pub script_end : IsReading S Next behind → {o : ℕ} {s0 s e : S} {t : Lexeme} {ts : Parts} {P : List Pair} →
+  pub script_end : IsReading S Next behind → {o : ℕ} {s0 s e : S} {t : Token} {ts : Parts} {P : List Pair} →
       Scripting o s0 s ts P → Reads S Next behind End [] s t e → FoundScript S Next behind o s0 e (program_node (behind e).stop ts) P
   script_end reading {o} {s0} {s} {e} {t} {ts} {P} l r = record {
-    spelled = subst (λ x. Spells S Next behind o script (program_node (behind e).stop x) s0 e P) (join_none ts)
-        (subst (λ x. Spells S Next behind o script (program_node (behind e).stop (join ts none)) s0 e x) (append-nil P)
+    spelled = subst (λ x. Spells sum_ways S Next behind o script (program_node (behind e).stop x) s0 e P) (join_none ts)
+        (subst (λ x. Spells sum_ways S Next behind o script (program_node (behind e).stop (join ts none)) s0 e x) (append-nil P)
         (script_spelled S Next behind (l.spelled e none [] (over r))));
     only = λ o' e' n' P' d. let u = l.extends o' e' n' P' d in of_items u.items u.whole_is u.all_is;
   }
@@ -105,8 +107,8 @@ module _ (S : Type 0) (Next : S → Lexeme → S → Type 0) (behind : S → Lex
 
   -- where no statement is read and the text isn't over, there is no script
   pub script_absent : IsReading S Next behind → {o : ℕ} {s0 s : S} {ts : Parts} {P : List Pair} → Scripting o s0 s ts P →
-      ((t : Lexeme) (e : S) → Reads S Next behind End [] s t e → ⊥) → Absent S Next behind Expression s →
-      (o' : ℕ) (e' : S) (n' : Tree) (P' : List Pair) → Spells S Next behind o' script n' s0 e' P' → ⊥
+      ((t : Token) (e : S) → Reads S Next behind End [] s t e → ⊥) → Absent S Next behind Expression s →
+      (o' : ℕ) (e' : S) (n' : Tree) (P' : List Pair) → Spells sum_ways S Next behind o' script n' s0 e' P' → ⊥
   script_absent reading {s = s} l more_here f o' e' n' P' d = of_items (l.extends o' e' n' P' d).items
     where
       of_items : {us : Parts} {R : List Pair} → Items S Next behind o' s e' us R → ⊥
@@ -114,8 +116,8 @@ module _ (S : Type 0) (Next : S → Lexeme → S → Type 0) (behind : S → Lex
       of_items (statement p d c rest) = f.nothing _ _ _ _ d (semicolon_stops reading c)
 
   pub script_unended : IsReading S Next behind → {o : ℕ} {s0 s m : S} {ts : Parts} {n : Tree} {P Q : List Pair} → Scripting o s0 s ts P →
-      Found S Next behind o Expression s m n Q → ((t : Lexeme) (e : S) → Reads S Next behind Punctuator (codes ";") m t e → ⊥) →
-      (o' : ℕ) (e' : S) (n' : Tree) (P' : List Pair) → Spells S Next behind o' script n' s0 e' P' → ⊥
+      Found S Next behind o Expression s m n Q → ((t : Token) (e : S) → Reads S Next behind Punctuator (codes ";") m t e → ⊥) →
+      (o' : ℕ) (e' : S) (n' : Tree) (P' : List Pair) → Spells sum_ways S Next behind o' script n' s0 e' P' → ⊥
   script_unended reading {s = s} l f lacks o' e' n' P' d = of_items (l.extends o' e' n' P' d).items
     where
       of_items : {us : Parts} {R : List Pair} → Items S Next behind o' s e' us R → ⊥
@@ -124,8 +126,8 @@ module _ (S : Type 0) (Next : S → Lexeme → S → Type 0) (behind : S → Lex
           lacks t k (subst (λ x. Reads S Next behind Punctuator (codes ";") x t k) same.0 c)
 
   pub script_deep : IsReading S Next behind → {o h : ℕ} {s0 s : S} {ts : Parts} {P : List Pair} → Scripting o s0 s ts P →
-      ((t : Lexeme) (e : S) → Reads S Next behind End [] s t e → ⊥) → AbsentWithin S Next behind o h Expression s →
-      (e' : S) (n' : Tree) (P' : List Pair) → Spells S Next behind o script n' s0 e' P' → height n' ≤ h + 2 → ⊥
+      ((t : Token) (e : S) → Reads S Next behind End [] s t e → ⊥) → AbsentWithin S Next behind o h Expression s →
+      (e' : S) (n' : Tree) (P' : List Pair) → Spells sum_ways S Next behind o script n' s0 e' P' → height n' ≤ h + 2 → ⊥
   script_deep reading {o} {h} {s = s} {ts = ts} l more_here f e' n' P' d le =
       let r = l.extends o e' n' P' d in let low = height_join ts r.rest in let q = ap height r.whole_is in of_items (omega arith) r.items
     where

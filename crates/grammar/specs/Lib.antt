@@ -1,10 +1,7 @@
-pub mod Ranks
-pub mod Words
-pub mod Pieces
-pub mod Table
-pub mod Derivation
+pub mod Sums
 pub mod Promises
 pub mod Layout
 pub mod Limits
 pub mod Bindings
 pub mod Nodes
+pub mod Laws

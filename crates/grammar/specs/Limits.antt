@@ -1,24 +1,51 @@
 -- What a text derives, and what it derives within the limits.
-use Rattle.std.specs.Prelude.{ℕ, ◌≤◌, List, []}
-use Rattle.tokens.specs.declared.token.Class.TheVariants.{End}
+use Rattle.std.specs.Prelude.{◌≡◌, ℕ, ◌≤◌, false, List, []}
+use Rattle.tokens.specs.declared.token.Class.{Class}
+use Rattle.tokens.specs.declared.token.Class.TheVariants as class
 use Rattle.tokens.specs.Lexeme.{Lexeme}
-use Rattle.tokens.specs.Reading.{Next}
+use Rattle.tokens.specs.Reading.{IsTokenAt}
+use Rattle.tokens.specs.Lexical.{LexicalClass}
+use Rattle.tokens.specs.Lexical.{Name, Punctuator, Number, End}
 use Rattle.tree.specs.declared.kind.Pair.{Pair}
 use Rattle.tree.specs.Tree.{Tree, height}
-use Rattle.grammar.specs.Pieces.{Role, script}
-use Rattle.grammar.specs.Derivation.{Spells}
+use Rattle.language.specs.Pieces.{Role, script}
+use Rattle.language.specs.Token.{Token}
+use Rattle.language.specs.Grammar.{ways}
+use Rattle.language.specs.Derivation.{Spells}
+use Rattle.grammar.specs.Sums.{sum_ways}
+
+-- the class of a scanned token, in the definitions
+abbrev pub class_of : Class → LexicalClass
+class_of class.Name = Name
+class_of class.Punctuator = Punctuator
+class_of class.Number = Number
+class_of class.End = End
+
+-- a scanned token, in the definitions. Line breaks in front of tokens aren't told yet: with an explicit `;` none counts
+abbrev pub as_token : Lexeme → Token
+as_token x = record { class = class_of x.class; text = x.text; start = x.start; stop = x.stop; after_break = false }
+
+-- this token is read at a place of a text
+pub record ReadsAt (text : List ℕ) (at : ℕ) (t : Token) : Type 0 where
+  pub scanned : Lexeme
+  pub read : IsTokenAt text at scanned
+  pub is : t ≡ as_token scanned
+
+-- Where a token may be read: behind the token before. Behind `s` the token `t` is read, and reading goes on behind it.
+pub data Next (text : List ℕ) : Token → Token → Token → Type 0 where
+  next : {s t : Token} → ReadsAt text s.stop t → Next text s t t
 
 -- a token as the place behind it
-abbrev pub itself : Lexeme → Lexeme
+abbrev pub itself : Token → Token
 itself t = t
 
 -- the place before the first token
-abbrev pub front : Lexeme
-front = record { class = End; text = []; start = 0; stop = 0 }
+abbrev pub front : Token
+front = record { class = End; text = []; start = 0; stop = 0; after_break = false }
 
 -- from one place of a text to another
-abbrev pub SpellsIn : List ℕ → ℕ → Role → Tree → Lexeme → Lexeme → List Pair → Type 0
-SpellsIn text = Spells Lexeme (Next text) itself
+abbrev pub SpellsIn : List ℕ → ℕ → Role → Tree → Token → Token → List Pair → Type 0
+SpellsIn text = Spells sum_ways Token (Next text) itself
 
 -- the greatest height of a tree, and the most grouping parentheses open at one point
 abbrev pub max_height : ℕ
@@ -30,12 +57,18 @@ max_open = 1000
 -- the text derives the script with these grouping pairs, of any nesting
 pub record Derives (text : List ℕ) (n : Tree) (P : List Pair) : Type 0 where
   pub groups : ℕ
-  pub end : Lexeme
+  pub end : Token
   pub spelled : SpellsIn text groups script n front end P
 
--- the same within the limits
+-- the text derives the script in the whole language
+pub record DerivesInLanguage (text : List ℕ) (n : Tree) (P : List Pair) : Type 0 where
+  pub groups : ℕ
+  pub end : Token
+  pub spelled : Spells ways Token (Next text) itself groups script n front end P
+
+-- the same as `Derives` within the limits
 pub record DerivesWithin (text : List ℕ) (n : Tree) (P : List Pair) : Type 0 where
-  pub end : Lexeme
+  pub end : Token
   pub spelled : SpellsIn text max_open script n front end P
   pub low : height n ≤ max_height
 
@@ -43,8 +76,8 @@ pub record DerivesWithin (text : List ℕ) (n : Tree) (P : List Pair) : Type 0 w
 pub record IsSpelled (a : Role) (n : Tree) : Type 0 where
   pub text : List ℕ
   pub groups : ℕ
-  pub from : Lexeme
-  pub to : Lexeme
+  pub from : Token
+  pub to : Token
   pub pairs : List Pair
   pub spelled : SpellsIn text groups a n from to pairs
 

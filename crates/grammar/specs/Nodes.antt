@@ -1,14 +1,14 @@
 -- The nodes of this grammar, by what they hold.
 use Rattle.std.specs.Prelude.{ℕ, List, []}
-use Rattle.tokens.specs.Lexeme.{Lexeme}
+use Rattle.language.specs.Token.{Token}
 use Rattle.tree.specs.declared.kind.Kind.TheVariants.{Program, ExpressionStatement, SequenceExpression, BinaryExpression, Identifier, Literal}
 use Rattle.tree.specs.Tree.{Tree, node, Parts, none, part, plain}
 
 -- a name or a number of one token
-abbrev pub name_node : Lexeme → Tree
+abbrev pub name_node : Token → Tree
 name_node t = node Identifier t.text plain t.start t.stop none
 
-abbrev pub number_node : Lexeme → Tree
+abbrev pub number_node : Token → Tree
 number_node t = node Literal t.text plain t.start t.stop none
 
 -- an operator, with its start and its stop, and its two sides

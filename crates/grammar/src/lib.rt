@@ -1,12 +1,11 @@
 #![tactic(auto)]
 
-//! The grammar: symbols, operators and reserved words, with the definitions that say what a text derives.
+//! The first path's part of the language: operators and reserved words, with the definitions that say what a text derives.
 
-mod rank;
+pub mod laws;
 mod words;
 
-pub use rank::Rank;
-pub use words::{Binding, binary_rank, is_reserved, rank_of};
+pub use words::{Binding, binary_rank, is_integer, is_reserved, rank_of};
 
 #[cfg(test)]
 mod tests;

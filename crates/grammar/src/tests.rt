@@ -1,6 +1,7 @@
 //! Operators, reserved words and ranks, from the tables of ECMA-262.
 
-use crate::{Binding, Rank, binary_rank, is_reserved, rank_of};
+use crate::{Binding, binary_rank, is_integer, is_reserved, rank_of};
+use language::Rank;
 use std::alloc::{AllocError, Global};
 use std::borrow::CowStr;
 use std::test::Fail;
@@ -98,5 +99,25 @@ fn words_are_reserved(rt: HostRuntime) {
         "undefined",
     ] {
         assert!(rt; !is_reserved(name), "{name}");
+    }
+}
+
+#[test]
+fn integers_are_decimal(rt: HostRuntime) {
+    for (text, integer) in [
+        ("0", true),
+        ("7", true),
+        ("10", true),
+        ("9007199254740993", true),
+        ("", false),
+        ("01", false),
+        ("1.5", false),
+        (".5", false),
+        ("1e3", false),
+        ("0x1F", false),
+        ("1n", false),
+        ("a", false),
+    ] {
+        assert_eq!(rt; is_integer(text), integer, "{text}");
     }
 }

@@ -2,11 +2,14 @@
 
 ghost use Rattle.std.specs.Prelude.{◌≡◌, [], ◌∷◌};
 ghost use Rattle.tree.specs.Node.{node_tree};
-ghost use Rattle.grammar.specs.Words.{operator_of, is_reserved, among};
+ghost use Rattle.language.specs.Words.{is_reserved, among};
+ghost use Rattle.grammar.specs.Sums.{sum_operator, is_integer};
+ghost use Rattle.tokens.specs.Alphabet.{is_decimal_digit};
+ghost use Rattle.std.specs.List.{list_all};
 ghost use Rattle.grammar.specs.Bindings.{bound_by};
 ghost use Rattle.grammar.specs.Layout.{rank_of};
 
-use crate::rank::Rank;
+use language::Rank;
 use tree::{Kind, Node};
 
 /// The symbols that a binary operator binds.
@@ -20,7 +23,7 @@ pub struct Binding {
 
 /// What a binary operator binds (ECMA-262 clauses 12.7 and 12.8); none where the text is no such operator.
 pub fn binary_rank(operator: &str) -> Option<Binding>
-    ensures { result ≡ bound_by (operator_of operator.now) }
+    ensures { result ≡ bound_by (sum_operator operator.now) }
 {
     let (own, right) = match operator {
         "+" | "-" => (Rank::Additive, Rank::Multiplicative),
@@ -42,6 +45,29 @@ pub fn rank_of(node: Node<'_, '_>) -> Rank
         },
         _ => Rank::Primary,
     }
+}
+
+/// Whether the text is a DecimalIntegerLiteral (ECMA-262 clause 11.8.3): one digit, or several of which the first isn't 0.
+pub fn is_integer(text: &str) -> bool
+    ensures { result ≡ is_integer text.now }
+{
+    match text.as_bytes() {
+        [] => false,
+        [digit] => digit.is_ascii_digit(),
+        [first, rest @ ..] => *first != b'0' && first.is_ascii_digit() && are_digits(rest),
+    }
+}
+
+// Whether all the bytes are decimal digits.
+fn are_digits(bytes: &[u8]) -> bool
+    ensures { result ≡ list_all is_decimal_digit bytes.now }
+{
+    for byte in bytes {
+        if !byte.is_ascii_digit() {
+            return false;
+        }
+    }
+    true
 }
 
 /// Whether strict code reserves the name (ECMA-262 clause 11.6.2), so that it is no identifier.

@@ -4,7 +4,7 @@
 pub mod laws;
 
 /// The symbols of the expression grammar, loosest first.
-#[derive(Copy, Clone)]
+#[derive(Clone, Copy, Debug, PartialEq, Eq)]
 pub enum Rank {
     Expression,
     Assignment,

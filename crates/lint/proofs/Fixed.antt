@@ -3,13 +3,20 @@ use Rattle.std.proofs.Common.{◌≡◌, ℕ, List, sym, ap, ◌∙◌, subst}
 use Rattle.tree.specs.Tree.{Tree}
 use Rattle.tree.specs.declared.kind.Pair.{Pair}
 use Rattle.grammar.specs.Layout.{fixed_text}
-use Rattle.grammar.specs.Limits.{Derives, DerivesWithin, IsScript, max_open}
+use Rattle.grammar.specs.Limits.{Next, itself, Derives, DerivesWithin, DerivesInLanguage, IsScript, max_open}
 use Rattle.grammar.proofs.Printed.{fixed_derives, fixed_same, derives_script}
+use Rattle.grammar.proofs.Whole.{script_whole}
+use Rattle.grammar.proofs.ReadWords.{reading_text}
+use Rattle.language.specs.Token.{Token}
 use Rattle.lint.specs.Scripts.{IsOnly}
 use Rattle.lint.specs.Fix.{IsFixed}
 
 pub within : (text : List ℕ) (n : Tree) (P : List Pair) → DerivesWithin text n P → Derives text n P
 within text n P d = record { groups = max_open; end = d.end; spelled = d.spelled }
+
+-- the text derives the tree in the whole language too
+in_language : (text : List ℕ) (n : Tree) (P : List Pair) → Derives text n P → DerivesInLanguage text n P
+in_language text n P d = record { groups = d.groups; end = d.end; spelled = script_whole Token (Next text) itself (reading_text text) d.spelled }
 
 pub is_script : (text : List ℕ) (n : Tree) (P : List Pair) → IsOnly text n P → IsScript n
 is_script text n P o = derives_script text n P (within text n P o.derived)
@@ -21,6 +28,7 @@ fixed_is text fixed n P o e =
       tree = n;
       pairs = P;
       read = o;
+      whole = in_language text n P (within text n P o.derived);
       laid_out = e;
       again = record { tree = u.0; pairs = u.1; derived = subst (λ x. DerivesWithin x u.0 u.1) (sym e) u.2; same = u.3; counted = u.4 };
     }

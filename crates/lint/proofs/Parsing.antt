@@ -1,24 +1,25 @@
 -- What the parser's functions know, step by step.
-use Rattle.std.proofs.Common.{◌≡◌, ◌≢◌, ℕ, suc, ◌+◌, ◌-◌, ◌<◌, ◌≤◌, max, List, [], ◌∷◌, ◌++◌, length, refl, sym, ap, ◌∙◌, subst, arith, append_assoc, append-nil, set, map}
+use Rattle.std.proofs.Common.{false, ◌≡◌, ◌≢◌, ℕ, suc, ◌+◌, ◌-◌, ◌<◌, ◌≤◌, max, List, [], ◌∷◌, ◌++◌, length, refl, sym, ap, ◌∙◌, subst, arith, append_assoc, append-nil, set, map}
 use Rattle.std.proofs.Math.Seq.{set-append_seam}
 use Rattle.std.specs.Prelude.{codes, Result, Ok, Err, IsErrAnd}
-use Rattle.tokens.specs.Lexeme.{Lexeme}
-use Rattle.tokens.specs.Reading.{IsTokenAt, Next}
-use Rattle.tokens.specs.Scanned.{lexeme_of}
+use Rattle.tokens.specs.Tokens.{LexicalToken}
+use Rattle.grammar.specs.Limits.{ReadsAt, Next}
+use Rattle.lint.specs.Cursor.{token_of}
 use Rattle.tokens.specs.declared.fault.Fault.{Fault}
 use Rattle.tokens.specs.declared.fault.Fault.TheVariants.{NotUtf8, TooLong, Syntax, TooDeep, Early, OutOfMemory, BadSettings, BadTable, WriteFailed, ReadFailed, Usage}
 use Rattle.tokens.specs.declared.token.Token.{Token}
-use Rattle.tokens.specs.declared.token.Class.TheVariants.{Punctuator, End}
+use Rattle.tokens.specs.Lexical.{Punctuator, End}
 use Rattle.tree.specs.Tree.{Tree, node, height, parts_height, push, parts_from}
 use Rattle.tree.specs.View.{expression_tree, operator_text}
 use Rattle.tree.specs.declared.kind.Pair.{Pair}
 use Rattle.tree.specs.declared.ast.Expression.{Expression}
 use Rattle.tree.proofs.Shapes.{parts_from_map-push, parts_height-push}
-use Rattle.grammar.specs.declared.rank.Rank.{Rank}
-use Rattle.grammar.specs.declared.rank.Rank.TheVariants.{Expression as Whole, Assignment, Primary}
-use Rattle.grammar.specs.Ranks.{tightness}
-use Rattle.grammar.specs.Words.{binds, operator_of}
-use Rattle.grammar.specs.Derivation.{Reads, pair_of}
+use Rattle.language.specs.declared.Rank.{Rank}
+use Rattle.language.specs.declared.Rank.TheVariants.{Expression as Whole, Assignment, Primary}
+use Rattle.language.specs.Words.{tightness}
+use Rattle.language.specs.Words.{binds}
+use Rattle.grammar.specs.Sums.{sum_operator}
+use Rattle.language.specs.Derivation.{Reads, pair_of}
 use Rattle.grammar.specs.Limits.{itself}
 use Rattle.grammar.specs.Promises.{Stops, Found, Absent, AbsentWithin}
 use Rattle.grammar.specs.Nodes.{both, several, name_node, number_node}
@@ -37,8 +38,8 @@ use Rattle.grammar.proofs.ReadWords.{reading_text as reading}
 use Rattle.lint.proofs.Places.{token_at, ahead, same_ahead, comma_of}
 
 -- a refusal, carried from one symbol and place to another
-pub refuse : {text : List ℕ} {o h p g : ℕ} {y z : Rank} {s e : Lexeme} (fault : Fault) → Refuses text o h y s fault →
-    (Absent Lexeme (Next text) itself y s → Absent Lexeme (Next text) itself z e) → (IsTooDeep text o h y s → IsTooDeep text p g z e) → Refuses text p g z e fault
+pub refuse : {text : List ℕ} {o h p g : ℕ} {y z : Rank} {s e : LexicalToken} (fault : Fault) → Refuses text o h y s fault →
+    (Absent LexicalToken (Next text) itself y s → Absent LexicalToken (Next text) itself z e) → (IsTooDeep text o h y s → IsTooDeep text p g z e) → Refuses text p g z e fault
 refuse (Syntax at) r f g = (f r.0, r.1)
 refuse TooDeep r f g = g r
 refuse OutOfMemory r f g = tt
@@ -52,19 +53,19 @@ refuse ReadFailed r f g = r
 refuse Usage r f g = r
 
 -- a refusal that is passed on
-pub passed_on : (text : List ℕ) (o h : ℕ) (y : Rank) (from to : Lexeme) (old new : List Pair) (answer : Result Part Fault) (fault : Fault) →
+pub passed_on : (text : List ℕ) (o h : ℕ) (y : Rank) (from to : LexicalToken) (old new : List Pair) (answer : Result Part Fault) (fault : Fault) →
     IsErrAnd answer (λ e. e ≡ fault) → Refuses text o h y from fault → Answers text o h y from to old new answer
 passed_on text o h y from to old new (Ok p) fault e f = absurd e
 passed_on text o h y from to old new (Err other) fault e f = subst (λ x. Refuses text o h y from x) (sym e) f
 
 -- the loop over operators
-pub climbs_start : (text : List ℕ) (o h : ℕ) (y : Rank) (from to : Lexeme) (old new : List Pair) (p : Part) → 1 ≤ tightness y →
+pub climbs_start : (text : List ℕ) (o h : ℕ) (y : Rank) (from to : LexicalToken) (old new : List Pair) (p : Part) → 1 ≤ tightness y → tightness y ≤ tightness Primary →
     ReadsPart text o h Primary from to old new p → Climbs text o h y from to old new p
-climbs_start text o h y from to old new p one f = record {
+climbs_start text o h y from to old new p one below f = record {
   symbol = Primary;
   pairs = f.pairs;
   first = f.first;
-  climbing = climb_start Lexeme (Next text) itself y (reading text) f.next one f.found;
+  climbing = climb_start LexicalToken (Next text) itself y (reading text) f.next one below f.found;
   pairs_are = f.pairs_are;
   low = f.low;
   height_is = f.height_is;
@@ -73,11 +74,11 @@ climbs_start text o h y from to old new p one f = record {
   within = f.within;
 }
 
-pub climbs_stop : (text : List ℕ) (o h : ℕ) (y : Rank) (from to : Lexeme) (old new : List Pair) (p : Part) → Climbs text o h y from to old new p →
-    Stops Lexeme (Next text) itself y to → ReadsPart text o h y from to old new p
+pub climbs_stop : (text : List ℕ) (o h : ℕ) (y : Rank) (from to : LexicalToken) (old new : List Pair) (p : Part) → Climbs text o h y from to old new p →
+    Stops LexicalToken (Next text) itself y to → ReadsPart text o h y from to old new p
 climbs_stop text o h y from to old new p c st = record {
   pairs = c.pairs;
-  found = climb_stop Lexeme (Next text) itself (reading text) c.climbing st;
+  found = climb_stop LexicalToken (Next text) itself (reading text) c.climbing st;
   pairs_are = c.pairs_are;
   low = c.low;
   height_is = c.height_is;
@@ -87,23 +88,23 @@ climbs_stop text o h y from to old new p c st = record {
   within = c.within;
 }
 
-sign_binds : (text : List ℕ) (y : Rank) (from : Lexeme) (token : Token) (sign : Sign) → IsSign text y from token sign → operator_of (lexeme_of token).text ≡ binds sign.own sign.right
+sign_binds : (text : List ℕ) (y : Rank) (from : LexicalToken) (token : Token) (sign : Sign) → IsSign text y from token sign → sum_operator (token_of token).text ≡ binds false sign.own sign.right
 sign_binds text y from token sign i = i.binds_is
 
 -- the loop's next state, which may still be too high
-module _ (text : List ℕ) (o h : ℕ) (y : Rank) (from s to : Lexeme) (old mid new : List Pair) (left right : Part) (token : Token) (sign : Sign)
-    (c : Climbs text o h y from s old mid left) (i : IsSign text y s token sign) (f : ReadsPart text o (h - 1) sign.right (lexeme_of token) to mid new right) where
+module _ (text : List ℕ) (o h : ℕ) (y : Rank) (from s to : LexicalToken) (old mid new : List Pair) (left right : Part) (token : Token) (sign : Sign)
+    (c : Climbs text o h y from s old mid left) (i : IsSign text y s token sign) (f : ReadsPart text o (h - 1) sign.right (token_of token) to mid new right) where
   whole : Tree
   whole = both (operator_text sign.operator) left.start to.stop (expression_tree left.expression) (expression_tree right.expression)
 
-  whole_is : whole ≡ both (lexeme_of token).text c.first.start to.stop (expression_tree left.expression) (expression_tree right.expression)
+  whole_is : whole ≡ both (token_of token).text c.first.start to.stop (expression_tree left.expression) (expression_tree right.expression)
   unfolding whole
   whole_is = ap (λ x. both x left.start to.stop (expression_tree left.expression) (expression_tree right.expression)) i.text_is
-      ∙ ap (λ x. both (lexeme_of token).text x to.stop (expression_tree left.expression) (expression_tree right.expression)) c.start_is
+      ∙ ap (λ x. both (token_of token).text x to.stop (expression_tree left.expression) (expression_tree right.expression)) c.start_is
 
-  stepped : Climbing Lexeme (Next text) itself o y sign.own from to c.first whole (c.pairs ++ f.pairs)
-  stepped = subst (λ x. Climbing Lexeme (Next text) itself o y sign.own from to c.first x (c.pairs ++ f.pairs)) (sym whole_is)
-      (climb_step Lexeme (Next text) itself (reading text) c.climbing (ahead s i.ahead) i.class i.binds_is i.tight f.found)
+  stepped : Climbing LexicalToken (Next text) itself o y sign.own from to c.first whole (c.pairs ++ f.pairs)
+  stepped = subst (λ x. Climbing LexicalToken (Next text) itself o y sign.own from to c.first x (c.pairs ++ f.pairs)) (sym whole_is)
+      (climb_step LexicalToken (Next text) itself (reading text) c.climbing (ahead s i.ahead) i.class i.binds_is i.tight f.found)
 
   pub climbs_on : (p : Part) →
       expression_tree p.expression ≡ both (operator_text sign.operator) left.start to.stop (expression_tree left.expression) (expression_tree right.expression) →
@@ -113,7 +114,7 @@ module _ (text : List ℕ) (o h : ℕ) (y : Rank) (from s to : Lexeme) (old mid 
     symbol = sign.own;
     pairs = c.pairs ++ f.pairs;
     first = c.first;
-    climbing = subst (λ x. Climbing Lexeme (Next text) itself o y sign.own from to c.first x (c.pairs ++ f.pairs)) (sym e) stepped;
+    climbing = subst (λ x. Climbing LexicalToken (Next text) itself o y sign.own from to c.first x (c.pairs ++ f.pairs)) (sym e) stepped;
     pairs_are = f.pairs_are ∙ ap (λ x. x ++ f.pairs) c.pairs_are ∙ append_assoc old c.pairs f.pairs;
     low = omega arith;
     height_is = k;
@@ -125,95 +126,95 @@ module _ (text : List ℕ) (o h : ℕ) (y : Rank) (from s to : Lexeme) (old mid 
   pub climbs_high : h < height (both (operator_text sign.operator) left.start to.stop (expression_tree left.expression) (expression_tree right.expression)) → IsTooDeep text o h y from
   unfolding whole
   climbs_high over = record {
-    absent = climb_high Lexeme (Next text) itself stepped over;
+    absent = climb_high LexicalToken (Next text) itself stepped over;
     long = let low = height_bytes text stepped.spelled in let high = f.within in omega arith;
   }
 
-pub climbs_refused : (text : List ℕ) (o h : ℕ) (y : Rank) (from s : Lexeme) (old mid : List Pair) (left : Part) (token : Token) (sign : Sign) →
-    from.stop ≤ s.stop → Climbs text o h y from s old mid left → IsSign text y s token sign → (fault : Fault) → Refuses text o (h - 1) sign.right (lexeme_of token) fault →
+pub climbs_refused : (text : List ℕ) (o h : ℕ) (y : Rank) (from s : LexicalToken) (old mid : List Pair) (left : Part) (token : Token) (sign : Sign) →
+    from.stop ≤ s.stop → Climbs text o h y from s old mid left → IsSign text y s token sign → (fault : Fault) → Refuses text o (h - 1) sign.right (token_of token) fault →
     Refuses text o h y from fault
 climbs_refused text o h y from s old mid left token sign forward c i fault r = refuse fault r
-    (climb_absent Lexeme (Next text) itself (reading text) c.climbing (ahead s i.ahead) i.class i.binds_is i.tight)
+    (climb_absent LexicalToken (Next text) itself (reading text) c.climbing (ahead s i.ahead) i.class i.binds_is i.tight)
     (λ d. record {
-      absent = climb_deep Lexeme (Next text) itself (reading text) c.climbing (ahead s i.ahead) i.class i.binds_is i.tight d.absent;
+      absent = climb_deep LexicalToken (Next text) itself (reading text) c.climbing (ahead s i.ahead) i.class i.binds_is i.tight d.absent;
       long = let a = i.ahead.begins in let b = i.ahead.goes_on (λ e. let k : Punctuator ≡ End = sym i.class ∙ e in cc) in let l = d.long in omega arith;
     })
 
 -- what is refused at a Primary is refused at each looser symbol above the comma's
-pub up_refused : (text : List ℕ) (o h : ℕ) (y : Rank) (from : Lexeme) → 1 ≤ tightness y → (fault : Fault) → Refuses text o h Primary from fault → Refuses text o h y from fault
+pub up_refused : (text : List ℕ) (o h : ℕ) (y : Rank) (from : LexicalToken) → 1 ≤ tightness y → (fault : Fault) → Refuses text o h Primary from fault → Refuses text o h y from fault
 up_refused text o h y from one fault r = refuse fault r absent_at (λ d. record { absent = deep_at d.absent; long = d.long })
   where
-    absent_at : Absent Lexeme (Next text) itself Primary from → Absent Lexeme (Next text) itself y from
+    absent_at : Absent LexicalToken (Next text) itself Primary from → Absent LexicalToken (Next text) itself y from
     absent_at f = record {
-      nothing = λ o' e' n' P' d st. let u = token_first Lexeme (Next text) itself (reading text) d in
-          (absent_up Lexeme (Next text) itself (reading text) y u.2 one f).nothing o' e' n' P' d st;
+      nothing = λ o' e' n' P' d st. let u = token_first LexicalToken (Next text) itself (reading text) d in
+          (absent_up LexicalToken (Next text) itself (reading text) y u.2 one f).nothing o' e' n' P' d st;
     }
 
-    deep_at : AbsentWithin Lexeme (Next text) itself o h Primary from → AbsentWithin Lexeme (Next text) itself o h y from
+    deep_at : AbsentWithin LexicalToken (Next text) itself o h Primary from → AbsentWithin LexicalToken (Next text) itself o h y from
     deep_at f = record {
-      nothing = λ e' n' P' d st le. let u = token_first Lexeme (Next text) itself (reading text) d in
-          (deep_up Lexeme (Next text) itself (reading text) y u.2 one f).nothing e' n' P' d st le;
+      nothing = λ e' n' P' d st le. let u = token_first LexicalToken (Next text) itself (reading text) d in
+          (deep_up LexicalToken (Next text) itself (reading text) y u.2 one f).nothing e' n' P' d st le;
     }
 
 -- groups
-opens : {text : List ℕ} {s : Lexeme} (left : Token) → IsAhead text s.stop (lexeme_of left) → StartsWith Start.Group (lexeme_of left) →
-    Reads Lexeme (Next text) itself Punctuator (codes "(") s (lexeme_of left) (lexeme_of left)
+opens : {text : List ℕ} {s : LexicalToken} (left : Token) → IsAhead text s.stop (token_of left) → StartsWith Start.Group (token_of left) →
+    Reads LexicalToken (Next text) itself Punctuator (codes "(") s (token_of left) (token_of left)
 opens {s = s} left a b = record { next = ahead s a; class = b.0; text = b.1 }
 
-pub group_limited : (text : List ℕ) (h : ℕ) (from : Lexeme) (left : Token) → IsAhead text from.stop (lexeme_of left) → StartsWith Start.Group (lexeme_of left) →
+pub group_limited : (text : List ℕ) (h : ℕ) (from : LexicalToken) (left : Token) → IsAhead text from.stop (token_of left) → StartsWith Start.Group (token_of left) →
     IsTooDeep text 0 h Primary from
-group_limited text h from left a b = record { absent = group_limit Lexeme (Next text) itself (reading text) (opens {s = from} left a b); long = let w = a.start_place.0 in let k = a.begins in omega arith }
+group_limited text h from left a b = record { absent = group_limit LexicalToken (Next text) itself (reading text) (opens {s = from} left a b); long = let w = a.start_place.0 in let k = a.begins in omega arith }
 
-pub group_refused : (text : List ℕ) (o h : ℕ) (from : Lexeme) (left : Token) → o ≢ 0 → IsAhead text from.stop (lexeme_of left) → StartsWith Start.Group (lexeme_of left) →
-    (fault : Fault) → Refuses text (o - 1) h Whole (lexeme_of left) fault → Refuses text o h Primary from fault
+pub group_refused : (text : List ℕ) (o h : ℕ) (from : LexicalToken) (left : Token) → o ≢ 0 → IsAhead text from.stop (token_of left) → StartsWith Start.Group (token_of left) →
+    (fault : Fault) → Refuses text (o - 1) h Whole (token_of left) fault → Refuses text o h Primary from fault
 group_refused text o h from left some a b fault r = refuse fault r
-    (group_absent Lexeme (Next text) itself (reading text) (opens {s = from} left a b))
+    (group_absent LexicalToken (Next text) itself (reading text) (opens {s = from} left a b))
     (λ d. record {
-      absent = subst (λ x. AbsentWithin Lexeme (Next text) itself x h Primary from) (let e : suc (o - 1) ≡ o = omega arith in e)
-          (group_deep Lexeme (Next text) itself (reading text) (opens {s = from} left a b) d.absent);
+      absent = subst (λ x. AbsentWithin LexicalToken (Next text) itself x h Primary from) (let e : suc (o - 1) ≡ o = omega arith in e)
+          (group_deep LexicalToken (Next text) itself (reading text) (opens {s = from} left a b) d.absent);
       long = let k = a.begins in let g = a.goes_on (λ e. let k : Punctuator ≡ End = sym b.0 ∙ e in cc) in let l = d.long in omega arith;
     })
 
-pub group_unclosed : (text : List ℕ) (o h : ℕ) (from m : Lexeme) (old new : List Pair) (left : Token) (p : Part) → IsAhead text from.stop (lexeme_of left) → StartsWith Start.Group (lexeme_of left) →
-    ReadsPart text (o - 1) h Whole (lexeme_of left) m old new p → ((t : Lexeme) → IsTokenAt text m.stop t → t.class ≡ Punctuator → t.text ≡ codes ")" → ⊥) →
-    Absent Lexeme (Next text) itself Primary from
-group_unclosed text o h from m old new left p a b f lacks = group_open Lexeme (Next text) itself (reading text) (opens {s = from} left a b) f.found
+pub group_unclosed : (text : List ℕ) (o h : ℕ) (from m : LexicalToken) (old new : List Pair) (left : Token) (p : Part) → IsAhead text from.stop (token_of left) → StartsWith Start.Group (token_of left) →
+    ReadsPart text (o - 1) h Whole (token_of left) m old new p → ((t : LexicalToken) → ReadsAt text m.stop t → t.class ≡ Punctuator → t.text ≡ codes ")" → ⊥) →
+    Absent LexicalToken (Next text) itself Primary from
+group_unclosed text o h from m old new left p a b f lacks = group_open LexicalToken (Next text) itself (reading text) (opens {s = from} left a b) f.found
     (λ t e r. lacks t (token_at r.next) r.class r.text)
 
-pub group_reads : (text : List ℕ) (o h : ℕ) (from m : Lexeme) (left right : Token) (first : Pair) (old mid : List Pair) (p : Part) (n : ℕ) → o ≢ 0 →
-    IsAhead text from.stop (lexeme_of left) → StartsWith Start.Group (lexeme_of left) → ReadsPart text (o - 1) h Whole (lexeme_of left) m (old ++ first ∷ []) mid p →
-    IsAhead text m.stop (lexeme_of right) → right.class ≡ Punctuator → right.text.now ≡ codes ")" → n ≡ length old →
-    ReadsPart text o h Primary from (lexeme_of right) old (set mid n (record { left = left.start; right = right.start })) (record { expression = p.expression; height = p.height; start = left.start })
+pub group_reads : (text : List ℕ) (o h : ℕ) (from m : LexicalToken) (left right : Token) (first : Pair) (old mid : List Pair) (p : Part) (n : ℕ) → o ≢ 0 →
+    IsAhead text from.stop (token_of left) → StartsWith Start.Group (token_of left) → ReadsPart text (o - 1) h Whole (token_of left) m (old ++ first ∷ []) mid p →
+    IsAhead text m.stop (token_of right) → (token_of right).class ≡ Punctuator → right.text.now ≡ codes ")" → n ≡ length old →
+    ReadsPart text o h Primary from (token_of right) old (set mid n (record { left = left.start; right = right.start })) (record { expression = p.expression; height = p.height; start = left.start })
 group_reads text o h from m left right first old mid p n some a b f a' class t e = record {
-  pairs = pair_of (lexeme_of left) (lexeme_of right) ∷ f.pairs;
-  found = subst (λ x. Found Lexeme (Next text) itself x Primary from (lexeme_of right) (expression_tree p.expression) (pair_of (lexeme_of left) (lexeme_of right) ∷ f.pairs)) (let e : suc (o - 1) ≡ o = omega arith in e)
-      (group_found Lexeme (Next text) itself (reading text) (opens {s = from} left a b) f.found (record { next = ahead m a'; class = class; text = t }));
-  pairs_are = ap (λ x. set mid x (pair_of (lexeme_of left) (lexeme_of right))) e
-      ∙ ap (λ x. set x (length old) (pair_of (lexeme_of left) (lexeme_of right))) (f.pairs_are ∙ append_assoc old (first ∷ []) f.pairs)
-      ∙ set-append_seam old first f.pairs (pair_of (lexeme_of left) (lexeme_of right));
+  pairs = pair_of (token_of left) (token_of right) ∷ f.pairs;
+  found = subst (λ x. Found LexicalToken (Next text) itself x Primary from (token_of right) (expression_tree p.expression) (pair_of (token_of left) (token_of right) ∷ f.pairs)) (let e : suc (o - 1) ≡ o = omega arith in e)
+      (group_found LexicalToken (Next text) itself (reading text) (opens {s = from} left a b) f.found (record { next = ahead m a'; class = class; text = t }));
+  pairs_are = ap (λ x. set mid x (pair_of (token_of left) (token_of right))) e
+      ∙ ap (λ x. set x (length old) (pair_of (token_of left) (token_of right))) (f.pairs_are ∙ append_assoc old (first ∷ []) f.pairs)
+      ∙ set-append_seam old first f.pairs (pair_of (token_of left) (token_of right));
   low = f.low;
   height_is = f.height_is;
-  first = lexeme_of left;
+  first = token_of left;
   next = ahead from a;
   start_is = refl;
   within = a'.stop_place.0;
 }
 
 -- lists
-pub expression_refused : (text : List ℕ) (o h : ℕ) (from : Lexeme) (fault : Fault) → Refuses text o h Assignment from fault → Refuses text o h Whole from fault
-expression_refused text o h from fault r = refuse fault r (expression_absent Lexeme (Next text) itself (reading text))
-    (λ d. record { absent = expression_deep Lexeme (Next text) itself (reading text) d.absent; long = d.long })
+pub expression_refused : (text : List ℕ) (o h : ℕ) (from : LexicalToken) (fault : Fault) → Refuses text o h Assignment from fault → Refuses text o h Whole from fault
+expression_refused text o h from fault r = refuse fault r (expression_absent LexicalToken (Next text) itself (reading text))
+    (λ d. record { absent = expression_deep LexicalToken (Next text) itself (reading text) d.absent; long = d.long })
 
 -- where no comma is read behind a part, nothing binds there
-pub no_comma : (text : List ℕ) (s : Lexeme) → Stops Lexeme (Next text) itself Assignment s →
-    ((t : Lexeme) → IsTokenAt text s.stop t → t.class ≡ Punctuator → t.text ≡ codes "," → ⊥) → Stops Lexeme (Next text) itself Whole s
+pub no_comma : (text : List ℕ) (s : LexicalToken) → Stops LexicalToken (Next text) itself Assignment s →
+    ((t : LexicalToken) → ReadsAt text s.stop t → t.class ≡ Punctuator → t.text ≡ codes "," → ⊥) → Stops LexicalToken (Next text) itself Whole s
 no_comma text s st lacks t e z n b = let low = st t e z n b in let c = comma_of t z b (omega arith) in absurd (lacks t (token_at n) c.0 c.1)
 
-pub single_reads : (text : List ℕ) (o h : ℕ) (from to : Lexeme) (old new : List Pair) (p : Part) → ReadsPart text o h Assignment from to old new p →
-    ((t : Lexeme) → IsTokenAt text to.stop t → t.class ≡ Punctuator → t.text ≡ codes "," → ⊥) → ReadsPart text o h Whole from to old new p
+pub single_reads : (text : List ℕ) (o h : ℕ) (from to : LexicalToken) (old new : List Pair) (p : Part) → ReadsPart text o h Assignment from to old new p →
+    ((t : LexicalToken) → ReadsAt text to.stop t → t.class ≡ Punctuator → t.text ≡ codes "," → ⊥) → ReadsPart text o h Whole from to old new p
 single_reads text o h from to old new p f lacks = record {
   pairs = f.pairs;
-  found = single_found Lexeme (Next text) itself (reading text) f.found (no_comma text to f.found.stops lacks);
+  found = single_found LexicalToken (Next text) itself (reading text) f.found (no_comma text to f.found.stops lacks);
   pairs_are = f.pairs_are;
   low = f.low;
   height_is = f.height_is;
@@ -223,48 +224,48 @@ single_reads text o h from to old new p f lacks = record {
   within = f.within;
 }
 
-comma_read : {text : List ℕ} {s : Lexeme} (t : Token) → IsAhead text s.stop (lexeme_of t) × (t.class ≡ Punctuator) × (t.text.now ≡ codes ",") →
-    Reads Lexeme (Next text) itself Punctuator (codes ",") s (lexeme_of t) (lexeme_of t)
+comma_read : {text : List ℕ} {s : LexicalToken} (t : Token) → IsAhead text s.stop (token_of t) × ((token_of t).class ≡ Punctuator) × (t.text.now ≡ codes ",") →
+    Reads LexicalToken (Next text) itself Punctuator (codes ",") s (token_of t) (token_of t)
 comma_read {s = s} t a = record { next = ahead s a.0; class = a.1; text = a.2 }
 
-pub lists_high : (text : List ℕ) (o h : ℕ) (from m : Lexeme) (old new : List Pair) (p : Part) (comma : Token) → ReadsPart text o h Assignment from m old new p →
-    IsAhead text m.stop (lexeme_of comma) × (comma.class ≡ Punctuator) × (comma.text.now ≡ codes ",") → h ≤ p.height → IsTooDeep text o h Whole from
+pub lists_high : (text : List ℕ) (o h : ℕ) (from m : LexicalToken) (old new : List Pair) (p : Part) (comma : Token) → ReadsPart text o h Assignment from m old new p →
+    IsAhead text m.stop (token_of comma) × ((token_of comma).class ≡ Punctuator) × (comma.text.now ≡ codes ",") → h ≤ p.height → IsTooDeep text o h Whole from
 lists_high text o h from m old new p comma f c over = record {
-  absent = list_high Lexeme (Next text) itself (reading text) f.next f.found (comma_read {s = m} comma c) (let e = f.height_is in omega arith);
+  absent = list_high LexicalToken (Next text) itself (reading text) f.next f.found (comma_read {s = m} comma c) (let e = f.height_is in omega arith);
   long = let low = height_bytes text f.found.spelled in let high = f.within in let e = f.height_is in omega arith;
 }
 
-pub lists_start : (text : List ℕ) (o h : ℕ) (from m : Lexeme) (old new : List Pair) (p : Part) (comma : Token) → ReadsPart text o h Assignment from m old new p →
-    IsAhead text m.stop (lexeme_of comma) × (comma.class ≡ Punctuator) × (comma.text.now ≡ codes ",") → p.height < h →
-    Lists text o h from (lexeme_of comma) old new (p.expression ∷ []) p.height p.start
+pub lists_start : (text : List ℕ) (o h : ℕ) (from m : LexicalToken) (old new : List Pair) (p : Part) (comma : Token) → ReadsPart text o h Assignment from m old new p →
+    IsAhead text m.stop (token_of comma) × ((token_of comma).class ≡ Punctuator) × (comma.text.now ≡ codes ",") → p.height < h →
+    Lists text o h from (token_of comma) old new (p.expression ∷ []) p.height p.start
 lists_start text o h from m old new p comma f c low = record {
   pairs = f.pairs;
   first = f.first;
   next = f.next;
   start_is = f.start_is;
-  listing = list_start Lexeme (Next text) itself (reading text) f.next f.found (comma_read {s = m} comma c);
+  listing = list_start LexicalToken (Next text) itself (reading text) f.next f.found (comma_read {s = m} comma c);
   pairs_are = f.pairs_are;
   low = omega arith;
   height_is = let e = f.height_is in omega arith;
 }
 
-pub lists_refused : (text : List ℕ) (o h : ℕ) (from s : Lexeme) (old mid : List Pair) (expressions : List Expression) (so_far start : ℕ) → from.stop < s.stop →
+pub lists_refused : (text : List ℕ) (o h : ℕ) (from s : LexicalToken) (old mid : List Pair) (expressions : List Expression) (so_far start : ℕ) → from.stop < s.stop →
     Lists text o h from s old mid expressions so_far start → (fault : Fault) → Refuses text o (h - 1) Assignment s fault → Refuses text o h Whole from fault
 lists_refused text o h from s old mid expressions so_far start forward l fault r = refuse fault r
-    (list_absent Lexeme (Next text) itself (reading text) l.listing)
-    (λ d. record { absent = list_deep Lexeme (Next text) itself (reading text) l.listing d.absent; long = let l = d.long in omega arith })
+    (list_absent LexicalToken (Next text) itself (reading text) l.listing)
+    (λ d. record { absent = list_deep LexicalToken (Next text) itself (reading text) l.listing d.absent; long = let l = d.long in omega arith })
 
-pub lists_on : (text : List ℕ) (o h : ℕ) (from s m : Lexeme) (old mid new : List Pair) (expressions : List Expression) (so_far start : ℕ) (p : Part) (comma : Token) →
+pub lists_on : (text : List ℕ) (o h : ℕ) (from s m : LexicalToken) (old mid new : List Pair) (expressions : List Expression) (so_far start : ℕ) (p : Part) (comma : Token) →
     Lists text o h from s old mid expressions so_far start → ReadsPart text o (h - 1) Assignment s m mid new p →
-    IsAhead text m.stop (lexeme_of comma) × (comma.class ≡ Punctuator) × (comma.text.now ≡ codes ",") →
-    Lists text o h from (lexeme_of comma) old new (expressions ++ p.expression ∷ []) (max so_far p.height) start
+    IsAhead text m.stop (token_of comma) × ((token_of comma).class ≡ Punctuator) × (comma.text.now ≡ codes ",") →
+    Lists text o h from (token_of comma) old new (expressions ++ p.expression ∷ []) (max so_far p.height) start
 lists_on text o h from s m old mid new expressions so_far start p comma l f c = record {
   pairs = l.pairs ++ f.pairs;
   first = l.first;
   next = l.next;
   start_is = l.start_is;
-  listing = subst (λ x. Listing Lexeme (Next text) itself o from (lexeme_of comma) l.first x (l.pairs ++ f.pairs)) (sym (parts_from_map-push expression_tree expressions p.expression))
-      (list_more Lexeme (Next text) itself (reading text) l.listing f.found (comma_read {s = m} comma c));
+  listing = subst (λ x. Listing LexicalToken (Next text) itself o from (token_of comma) l.first x (l.pairs ++ f.pairs)) (sym (parts_from_map-push expression_tree expressions p.expression))
+      (list_more LexicalToken (Next text) itself (reading text) l.listing f.found (comma_read {s = m} comma c));
   pairs_are = f.pairs_are ∙ ap (λ x. x ++ f.pairs) l.pairs_are ∙ append_assoc old l.pairs f.pairs;
   low = let a = l.low in let b = f.low in let d = f.height_is in omega arith;
   height_is = let a = l.height_is in let d = f.height_is in
@@ -272,9 +273,9 @@ lists_on text o h from s m old mid new expressions so_far start p comma l f c = 
       let g = parts_height-push (parts_from (map expression_tree expressions)) (expression_tree p.expression) in omega arith;
 }
 
-pub lists_end : (text : List ℕ) (o h : ℕ) (from s m : Lexeme) (old mid new : List Pair) (expressions : List Expression) (so_far start : ℕ) (p : Part) (q : Part) →
+pub lists_end : (text : List ℕ) (o h : ℕ) (from s m : LexicalToken) (old mid new : List Pair) (expressions : List Expression) (so_far start : ℕ) (p : Part) (q : Part) →
     Lists text o h from s old mid expressions so_far start → ReadsPart text o (h - 1) Assignment s m mid new p →
-    ((t : Lexeme) → IsTokenAt text m.stop t → t.class ≡ Punctuator → t.text ≡ codes "," → ⊥) →
+    ((t : LexicalToken) → ReadsAt text m.stop t → t.class ≡ Punctuator → t.text ≡ codes "," → ⊥) →
     expression_tree q.expression ≡ several start m.stop (parts_from (map expression_tree (expressions ++ p.expression ∷ []))) → q.height ≡ max so_far p.height + 1 → q.start ≡ start →
     ReadsPart text o h Whole from m old new q
 lists_end text o h from s m old mid new expressions so_far start p q l f lacks tree k b =
@@ -286,8 +287,8 @@ lists_end text o h from s m old mid new expressions so_far start p q l f lacks t
     let a = l.low in let c = f.low in let d = f.height_is in let e = l.height_is in
     record {
       pairs = l.pairs ++ f.pairs;
-      found = subst (λ x. Found Lexeme (Next text) itself o Whole from m x (l.pairs ++ f.pairs)) (sym t)
-          (list_end Lexeme (Next text) itself (reading text) l.listing f.found (no_comma text m f.found.stops lacks));
+      found = subst (λ x. Found LexicalToken (Next text) itself o Whole from m x (l.pairs ++ f.pairs)) (sym t)
+          (list_end LexicalToken (Next text) itself (reading text) l.listing f.found (no_comma text m f.found.stops lacks));
       pairs_are = f.pairs_are ∙ ap (λ x. x ++ f.pairs) l.pairs_are ∙ append_assoc old l.pairs f.pairs;
       low = omega arith;
       height_is = omega arith;
@@ -301,20 +302,20 @@ lists_end text o h from s m old mid new expressions so_far start p q l f lacks t
 above_zero : (n : Tree) → height n ≤ 0 → ⊥
 above_zero (node k w g a b ps) h = omega arith
 
-pub leaf_reads : (text : List ℕ) (o h : ℕ) (from : Lexeme) (old : List Pair) (token : Token) (n : Tree) (answer : Result Part Fault) → IsAhead text from.stop (lexeme_of token) →
-    height n ≡ 1 → Found Lexeme (Next text) itself o Primary from (lexeme_of token) n [] → AnswersLeaf n token.start h answer →
-    Answers text o h Primary from (lexeme_of token) old old answer
+pub leaf_reads : (text : List ℕ) (o h : ℕ) (from : LexicalToken) (old : List Pair) (token : Token) (n : Tree) (answer : Result Part Fault) → IsAhead text from.stop (token_of token) →
+    height n ≡ 1 → Found LexicalToken (Next text) itself o Primary from (token_of token) n [] → AnswersLeaf n token.start h answer →
+    Answers text o h Primary from (token_of token) old old answer
 leaf_reads text o h from old token n (Ok p) a one f l =
     let e = l.0 in
     let k = ap height e in
     let low = l.2 in
     record {
       pairs = [];
-      found = subst (λ x. Found Lexeme (Next text) itself o Primary from (lexeme_of token) x []) (sym e) f;
+      found = subst (λ x. Found LexicalToken (Next text) itself o Primary from (token_of token) x []) (sym e) f;
       pairs_are = sym (append-nil old);
       low = omega arith;
       height_is = l.1 ∙ sym one ∙ sym k;
-      first = lexeme_of token;
+      first = token_of token;
       next = ahead from a;
       start_is = l.3;
       within = a.stop_place.0;
@@ -325,30 +326,30 @@ leaf_reads text o h from old token n (Err fault) a one f l =
       long = let z = l.1 in let w = a.start_place.0 in let b = a.begins in omega arith;
     })
 
-pub name_reads : (text : List ℕ) (o h : ℕ) (from : Lexeme) (old : List Pair) (token : Token) (answer : Result Part Fault) → IsAhead text from.stop (lexeme_of token) →
-    StartsWith Start.Name (lexeme_of token) → AnswersLeaf (name_node (lexeme_of token)) token.start h answer → Answers text o h Primary from (lexeme_of token) old old answer
+pub name_reads : (text : List ℕ) (o h : ℕ) (from : LexicalToken) (old : List Pair) (token : Token) (answer : Result Part Fault) → IsAhead text from.stop (token_of token) →
+    StartsWith Start.Name (token_of token) → AnswersLeaf (name_node (token_of token)) token.start h answer → Answers text o h Primary from (token_of token) old old answer
 name_reads text o h from old token answer a b l =
-    leaf_reads text o h from old token _ answer a refl (name_found Lexeme (Next text) itself (reading text) o (ahead from a) b.0 b.1) l
+    leaf_reads text o h from old token _ answer a refl (name_found LexicalToken (Next text) itself (reading text) o (ahead from a) b.0 b.1) l
 
-pub number_reads : (text : List ℕ) (o h : ℕ) (from : Lexeme) (old : List Pair) (token : Token) (answer : Result Part Fault) → IsAhead text from.stop (lexeme_of token) →
-    StartsWith Start.Number (lexeme_of token) → AnswersLeaf (number_node (lexeme_of token)) token.start h answer → Answers text o h Primary from (lexeme_of token) old old answer
+pub number_reads : (text : List ℕ) (o h : ℕ) (from : LexicalToken) (old : List Pair) (token : Token) (answer : Result Part Fault) → IsAhead text from.stop (token_of token) →
+    StartsWith Start.Number (token_of token) → AnswersLeaf (number_node (token_of token)) token.start h answer → Answers text o h Primary from (token_of token) old old answer
 number_reads text o h from old token answer a b l =
-    leaf_reads text o h from old token _ answer a refl (number_found Lexeme (Next text) itself (reading text) o (ahead from a) b) l
+    leaf_reads text o h from old token _ answer a refl (number_found LexicalToken (Next text) itself (reading text) o (ahead from a) b.0 b.1) l
 
-pub nothing_ahead : (text : List ℕ) (s : Lexeme) → ((t : Lexeme) → IsTokenAt text s.stop t → ⊥) → Absent Lexeme (Next text) itself Primary s
-nothing_ahead text s lacks = primary_absent Lexeme (Next text) itself (reading text) (λ t e n b. lacks t (token_at n))
+pub nothing_ahead : (text : List ℕ) (s : LexicalToken) → ((t : LexicalToken) → ReadsAt text s.stop t → ⊥) → Absent LexicalToken (Next text) itself Primary s
+nothing_ahead text s lacks = primary_absent LexicalToken (Next text) itself (reading text) (λ t e n b. lacks t (token_at n))
 
-pub nothing_begins : (text : List ℕ) (s : Lexeme) (token : Token) → IsAhead text s.stop (lexeme_of token) → ((start : Start) → StartsWith start (lexeme_of token) → ⊥) →
-    Absent Lexeme (Next text) itself Primary s
-nothing_begins text s token a lacks = primary_absent Lexeme (Next text) itself (reading text) (λ t e n b. begins (subst (λ x. Begins Lexeme (Next text) itself x) (same_ahead a (token_at n)) b))
+pub nothing_begins : (text : List ℕ) (s : LexicalToken) (token : Token) → IsAhead text s.stop (token_of token) → ((start : Start) → StartsWith start (token_of token) → ⊥) →
+    Absent LexicalToken (Next text) itself Primary s
+nothing_begins text s token a lacks = primary_absent LexicalToken (Next text) itself (reading text) (λ t e n b. begins (subst (λ x. Begins LexicalToken (Next text) itself x) (same_ahead a (token_at n)) b))
   where
-    begins : Begins Lexeme (Next text) itself (lexeme_of token) → ⊥
+    begins : Begins LexicalToken (Next text) itself (token_of token) → ⊥
     begins (with_name c v) = lacks Start.Name (c, v)
-    begins (with_number c) = lacks Start.Number c
+    begins (with_number c i) = lacks Start.Number (c, i)
     begins (with_group c w) = lacks Start.Group (c, w)
 
 -- a refusal of `join`
-pub join_refused : (text : List ℕ) (o h : ℕ) (y : Rank) (from : Lexeme) (answer : Result Part Fault) (fault : Fault) → answer ≡ Err fault →
+pub join_refused : (text : List ℕ) (o h : ℕ) (y : Rank) (from : LexicalToken) (answer : Result Part Fault) (fault : Fault) → answer ≡ Err fault →
     (answer ≡ Err TooDeep → IsTooDeep text o h y from) → (fault ≢ TooDeep → fault ≡ OutOfMemory) → Refuses text o h y from fault
 join_refused text o h y from answer TooDeep e deep other = deep e
 join_refused text o h y from answer OutOfMemory e deep other = tt

@@ -1,21 +1,25 @@
 -- Where reading stands in a text.
 use Rattle.std.specs.Prelude.{◌≢◌, ℕ, ◌≤◌, ◌<◌, List, Result, Ok, Err}
-use Rattle.tokens.specs.Lexeme.{Lexeme}
+use Rattle.tokens.specs.Tokens.{LexicalToken}
 use Rattle.tokens.specs.Scanned.{lexeme_of}
 use Rattle.tokens.specs.Source.{IsPlace}
-use Rattle.tokens.specs.Reading.{IsTokenAt}
-use Rattle.tokens.specs.declared.token.Class.TheVariants.{End}
+use Rattle.grammar.specs.Limits.{as_token, ReadsAt}
+use Rattle.tokens.specs.Lexical.{End}
 use Rattle.tokens.specs.declared.token.Token.{Token}
 use Rattle.tokens.specs.declared.scanner.ScanFault.{ScanFault}
+
+-- the token that a scanned one stands for
+abbrev pub token_of : Token → LexicalToken
+token_of t = as_token (lexeme_of t)
 
 -- the text, and the token before
 pub record Point : Type 0 where
   pub text : List ℕ
-  pub last : Lexeme
+  pub last : LexicalToken
 
 -- a token that is read at a place of a text
-pub record IsAhead (text : List ℕ) (at : ℕ) (t : Lexeme) : Type 0 where
-  pub read : IsTokenAt text at t
+pub record IsAhead (text : List ℕ) (at : ℕ) (t : LexicalToken) : Type 0 where
+  pub read : ReadsAt text at t
   pub begins : at ≤ t.start
   pub ordered : t.start ≤ t.stop
   pub goes_on : t.class ≢ End → t.start < t.stop
@@ -24,5 +28,5 @@ pub record IsAhead (text : List ℕ) (at : ℕ) (t : Lexeme) : Type 0 where
 
 -- what stands ahead: a token, or none
 abbrev pub Ahead : List ℕ → ℕ → Result Token ScanFault → Type 0
-Ahead text at (Ok t) = IsAhead text at (lexeme_of t)
-Ahead text at (Err f) = ((t : Lexeme) → IsTokenAt text at t → ⊥) × IsPlace text f.at
+Ahead text at (Ok t) = IsAhead text at (token_of t)
+Ahead text at (Err f) = ((t : LexicalToken) → ReadsAt text at t → ⊥) × IsPlace text f.at

@@ -1,7 +1,7 @@
 -- The text of a part that may be missing.
 use Rattle.std.specs.Prelude.{ℕ, List, [], Option, Some, None}
 use Rattle.tree.specs.Tree.{Tree}
-use Rattle.grammar.specs.Pieces.{Role}
+use Rattle.language.specs.Pieces.{Role}
 use Rattle.grammar.specs.Layout.{layout}
 
 abbrev pub part_text : Option Tree → Role → List ℕ

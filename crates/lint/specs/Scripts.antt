@@ -1,10 +1,10 @@
 -- What reading a whole text answers.
 use Rattle.std.specs.Prelude.{◌≡◌, ℕ, ◌≤◌, map, length, List, Result, Ok, Err, Vec}
 use Rattle.std.specs.declared.alloc.Global.{Global}
-use Rattle.tokens.specs.Lexeme.{Lexeme}
-use Rattle.tokens.specs.Reading.{IsTokenAt}
+use Rattle.tokens.specs.Tokens.{LexicalToken}
+use Rattle.grammar.specs.Limits.{ReadsAt}
 use Rattle.tokens.specs.Source.{IsPlace}
-use Rattle.tokens.specs.declared.token.Class.TheVariants.{End}
+use Rattle.tokens.specs.Lexical.{End}
 use Rattle.tokens.specs.declared.fault.Fault.{Fault}
 use Rattle.tokens.specs.declared.fault.Fault.TheVariants.{Syntax, TooDeep, OutOfMemory}
 use Rattle.tree.specs.Tree.{Tree, parts_from}
@@ -16,9 +16,9 @@ use Rattle.grammar.specs.Nodes.{program_node}
 use Rattle.lint.specs.declared.script.Parsed.{Parsed}
 
 -- the end of the text is read
-pub record IsOver (text : List ℕ) (s : Lexeme) : Type 0 where
-  pub token : Lexeme
-  pub read : IsTokenAt text s.stop token
+pub record IsOver (text : List ℕ) (s : LexicalToken) : Type 0 where
+  pub token : LexicalToken
+  pub read : ReadsAt text s.stop token
   pub class : token.class ≡ End
 
 -- the text derives this script within the limits, with these pairs, and nothing else

@@ -1,10 +1,11 @@
 //! The next token of a text, scanned once.
 
 ghost use Rattle.std.specs.Prelude.{◌≡◌, ◌≢◌, ◌≤◌, ◌<◌, length, IsTrue, ◌↔◌, IfSome, IfNone};
-ghost use Rattle.tokens.specs.Lexeme.{Lexeme};
-ghost use Rattle.tokens.specs.Scanned.{lexeme_of};
+ghost use Rattle.tokens.specs.Tokens.{LexicalToken};
+ghost use Rattle.lint.specs.Cursor.{token_of};
+ghost use Rattle.tokens.specs.Lexical.{LexicalClass};
 ghost use Rattle.tokens.specs.Source.{IsPlace};
-ghost use Rattle.tokens.specs.Reading.{IsTokenAt, Next};
+ghost use Rattle.grammar.specs.Limits.{ReadsAt, Next};
 ghost use Rattle.grammar.specs.Limits.{front};
 ghost use Rattle.lint.specs.Cursor.{Ahead, IsAhead};
 
@@ -21,12 +22,12 @@ pub(crate) struct Cursor<'t, 's> {
 
 impl<'t, 's> Model for Cursor<'t, 's> {
     ghost use Rattle.tokens.specs.Source.{IsPlace};
-    ghost use Rattle.tokens.specs.Scanned.{lexeme_of};
+    ghost use Rattle.lint.specs.Cursor.{token_of};
     ghost use Rattle.lint.specs.Cursor.{Point, Ahead};
 
     ghost Value = { Point };
 
-    ghost view = { λ c. record { text = c.source.now; last = lexeme_of c.last } };
+    ghost view = { λ c. record { text = c.source.now; last = token_of c.last } };
 
     ghost invariant = { λ c. IsPlace c.source.now c.last.end × Ahead c.source.now c.last.end c.ahead };
 }
@@ -44,7 +45,7 @@ fn look<'s>(source: &Source<'s>, at: usize) -> Result<Token<'s>, ScanFault>
 
 // Whether a token is this punctuator.
 fn is_mark(token: &Token<'_>, mark: &str) -> bool
-    ensures { IsTrue result ↔ ((token.now.class ≡ Class.Punctuator) × (token.now.text.now ≡ mark.now)) }
+    ensures { IsTrue result ↔ (((token_of token.now).class ≡ LexicalClass.Punctuator) × (token.now.text.now ≡ mark.now)) }
 {
     token.class == Class::Punctuator && token.text == mark
 }
@@ -71,8 +72,8 @@ impl<'t, 's> Cursor<'t, 's> {
 
     /// The token that stands ahead, if one can be read there.
     pub(crate) fn peek(&self) -> Option<Token<'s>>
-        ensures some { IfSome result (λ t. IsAhead self.now.text self.now.last.stop (lexeme_of t)) }
-        ensures none { IfNone result ((t : Lexeme) → IsTokenAt self.now.text self.now.last.stop t → ⊥) }
+        ensures some { IfSome result (λ t. IsAhead self.now.text self.now.last.stop (token_of t)) }
+        ensures none { IfNone result ((t : LexicalToken) → ReadsAt self.now.text self.now.last.stop t → ⊥) }
     {
         match self.ahead {
             Ok(token) => Some(token),
@@ -99,9 +100,9 @@ impl<'t, 's> Cursor<'t, 's> {
 
     /// Goes past the token that stands ahead.
     pub(crate) fn advance(&mut self, token: Token<'s>)
-        requires { IsAhead self.old.text self.old.last.stop (lexeme_of token) }
+        requires { IsAhead self.old.text self.old.last.stop (token_of token) }
         ensures text { self.new.text ≡ self.old.text }
-        ensures last { self.new.last ≡ lexeme_of token.entry }
+        ensures last { self.new.last ≡ token_of token.entry }
     {
         self.last = token;
         self.ahead = look(self.source, token.end);
@@ -110,8 +111,8 @@ impl<'t, 's> Cursor<'t, 's> {
     /// Goes past the token that stands ahead where it is this punctuator.
     pub(crate) fn take_mark(&mut self, mark: &str) -> Option<Token<'s>>
         ensures text { self.new.text ≡ self.old.text }
-        ensures some { IfSome result (λ t. IsAhead self.old.text self.old.last.stop (lexeme_of t) × (t.class ≡ Class.Punctuator) × (t.text.now ≡ mark.now) × (self.new.last ≡ lexeme_of t)) }
-        ensures none { IfNone result (((t : Lexeme) → IsTokenAt self.old.text self.old.last.stop t → t.class ≡ Class.Punctuator → t.text ≡ mark.now → ⊥) × (self.new.last ≡ self.old.last)) }
+        ensures some { IfSome result (λ t. IsAhead self.old.text self.old.last.stop (token_of t) × ((token_of t).class ≡ LexicalClass.Punctuator) × (t.text.now ≡ mark.now) × (self.new.last ≡ token_of t)) }
+        ensures none { IfNone result (((t : LexicalToken) → ReadsAt self.old.text self.old.last.stop t → t.class ≡ LexicalClass.Punctuator → t.text ≡ mark.now → ⊥) × (self.new.last ≡ self.old.last)) }
     {
         let token = self.peek()?;
         if !is_mark(&token, mark) {

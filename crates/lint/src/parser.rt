@@ -1,13 +1,14 @@
 //! Expressions, one function for each symbol or loop of symbols (ECMA-262 12.2, 12.7, 12.8, 12.16).
 
 ghost use Rattle.std.specs.Prelude.{◌≡◌, ◌≢◌, ◌+◌, ◌-◌, ◌≤◌, ◌<◌, ℕ, length, codes, true, false, IfOk, IfErr, IfSome, IfNone};
-ghost use Rattle.tokens.specs.Lexeme.{Lexeme};
-ghost use Rattle.tokens.specs.Scanned.{lexeme_of};
-ghost use Rattle.tokens.specs.Reading.{IsTokenAt, Next};
+ghost use Rattle.tokens.specs.Tokens.{LexicalToken};
+ghost use Rattle.lint.specs.Cursor.{token_of};
+ghost use Rattle.grammar.specs.Limits.{ReadsAt, Next};
 ghost use Rattle.tree.specs.Tree.{height};
 ghost use Rattle.tree.specs.View.{expression_tree, operator_text};
-ghost use Rattle.grammar.specs.Words.{Operator, binds, no_operator, operator_of};
-ghost use Rattle.grammar.specs.Ranks.{tightness};
+ghost use Rattle.language.specs.Words.{Operator, binds, no_operator};
+ghost use Rattle.grammar.specs.Sums.{sum_operator};
+ghost use Rattle.language.specs.Words.{tightness};
 ghost use Rattle.grammar.specs.Limits.{itself};
 ghost use Rattle.grammar.specs.Promises.{Stops};
 ghost use Rattle.grammar.specs.Nodes.{both, name_node, number_node};
@@ -16,7 +17,8 @@ ghost use Rattle.lint.specs.Reads.{Reads, IsSign, AnswersLeaf};
 ghost use Rattle.lint.specs.Starts.{StartsWith};
 
 use crate::cursor::Cursor;
-use grammar::{Rank, is_reserved};
+use grammar::{is_integer, is_reserved};
+use language::{Rank, tightness_of};
 use std::alloc::Global;
 use std::borrow::CowStr;
 use tokens::{Class, Fault, Token};
@@ -56,8 +58,8 @@ pub(crate) struct Parser<'t, 's> {
 
 // The operator that a punctuator is.
 fn sign_of(text: &str) -> Option<Sign>
-    ensures some { IfSome result (λ sign. (operator_of text.now ≡ binds sign.own sign.right) × (operator_text sign.operator ≡ text.now)) }
-    ensures none { IfNone result (operator_of text.now ≡ no_operator) }
+    ensures some { IfSome result (λ sign. (sum_operator text.now ≡ binds false sign.own sign.right) × (operator_text sign.operator ≡ text.now)) }
+    ensures none { IfNone result (sum_operator text.now ≡ no_operator) }
 {
     match text {
         "+" => Some(Sign {
@@ -86,12 +88,12 @@ fn sign_of(text: &str) -> Option<Sign>
 
 // What a token begins.
 fn start_of(token: &Token<'_>) -> Option<Start>
-    ensures some { IfSome result (λ start. StartsWith start (lexeme_of token.now)) }
-    ensures none { IfNone result ((start : Start) → StartsWith start (lexeme_of token.now) → ⊥) }
+    ensures some { IfSome result (λ start. StartsWith start (token_of token.now)) }
+    ensures none { IfNone result ((start : Start) → StartsWith start (token_of token.now) → ⊥) }
 {
     match token.class {
         Class::Name if !is_reserved(token.text) => Some(Start::Name),
-        Class::Number => Some(Start::Number),
+        Class::Number if is_integer(token.text) => Some(Start::Number),
         Class::Punctuator if token.text == "(" => Some(Start::Group),
         _ => None,
     }
@@ -136,7 +138,7 @@ fn join<'s>(
 
 // The node of a name.
 fn identifier(token: Token<'_>, high: u32) -> Result<Part<'_>, Fault>
-    ensures { AnswersLeaf (name_node (lexeme_of token.entry)) token.entry.start high result }
+    ensures { AnswersLeaf (name_node (token_of token.entry)) token.entry.start high result }
 {
     if high == 0 {
         return Err(Fault::TooDeep);
@@ -155,7 +157,7 @@ fn identifier(token: Token<'_>, high: u32) -> Result<Part<'_>, Fault>
 
 // The node of a number.
 fn literal(token: Token<'_>, high: u32) -> Result<Part<'_>, Fault>
-    ensures { AnswersLeaf (number_node (lexeme_of token.entry)) token.entry.start high result }
+    ensures { AnswersLeaf (number_node (token_of token.entry)) token.entry.start high result }
 {
     if high == 0 {
         return Err(Fault::TooDeep);
@@ -177,7 +179,7 @@ impl<'t, 's> Parser<'t, 's> {
     fn sign(&self, rank: Rank) -> Option<(Token<'s>, Sign)>
         requires { 1 ≤ tightness rank }
         ensures some { IfSome result (λ found. IsSign self.now.cursor.text rank self.now.cursor.last found.0 found.1) }
-        ensures none { IfNone result (Stops Lexeme (Next self.now.cursor.text) itself rank self.now.cursor.last) }
+        ensures none { IfNone result (Stops LexicalToken (Next self.now.cursor.text) itself rank self.now.cursor.last) }
     {
         let Some(token) = self.cursor.peek() else {
             return None;
@@ -188,7 +190,7 @@ impl<'t, 's> Parser<'t, 's> {
         let Some(sign) = sign_of(token.text) else {
             return None;
         };
-        if sign.own.tightness() < rank.tightness() {
+        if tightness_of(sign.own) < tightness_of(rank) {
             return None;
         }
         Some((token, sign))
@@ -223,8 +225,8 @@ impl<'t, 's> Parser<'t, 's> {
     // What stands between parentheses, from the opening one on.
     #[cycle(symbols)]
     fn group(&mut self, left: Token<'s>, groups: u32, high: u32) -> Result<Part<'s>, Fault>
-        requires ahead { IsAhead self.old.cursor.text self.old.cursor.last.stop (lexeme_of left) }
-        requires opens { StartsWith Start.Group (lexeme_of left) }
+        requires ahead { IsAhead self.old.cursor.text self.old.cursor.last.stop (token_of left) }
+        requires opens { StartsWith Start.Group (token_of left) }
         ensures text { self.new.cursor.text ≡ self.old.cursor.text }
         ensures forward { self.old.cursor.last.stop ≤ self.new.cursor.last.stop }
         ensures reads { Reads self.old.cursor.text groups high Rank.Primary self.old.cursor.last self.new.cursor.last self.old.pairs.items self.new.pairs.items result }
@@ -256,7 +258,8 @@ impl<'t, 's> Parser<'t, 's> {
     // The symbols of the operators, by one loop with a rank.
     #[cycle(symbols)]
     fn operators(&mut self, rank: Rank, groups: u32, high: u32) -> Result<Part<'s>, Fault>
-        requires { 1 ≤ tightness rank }
+        requires above { 1 ≤ tightness rank }
+        requires below { tightness rank ≤ tightness Rank.Primary }
         ensures text { self.new.cursor.text ≡ self.old.cursor.text }
         ensures forward { self.old.cursor.last.stop ≤ self.new.cursor.last.stop }
         ensures reads { Reads self.old.cursor.text groups high rank self.old.cursor.last self.new.cursor.last self.old.pairs.items self.new.pairs.items result }

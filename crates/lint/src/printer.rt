@@ -1,16 +1,18 @@
 //! The fixed text of a script.
 
-ghost use Rattle.std.specs.Prelude.{◌≡◌, ◌++◌, IfOk, OnOk, IfSome};
+ghost use Rattle.std.specs.Prelude.{false, true, ◌≡◌, ◌++◌, IfOk, OnOk, IfSome};
 ghost use Rattle.std.specs.String.{string_bytes};
 ghost use Rattle.tree.specs.Tree.{kind_of, parts_of, part_at};
 ghost use Rattle.tree.specs.Node.{node_tree};
-ghost use Rattle.grammar.specs.Pieces.{expr, item};
+ghost use Rattle.language.specs.Pieces.{expr, item};
 ghost use Rattle.grammar.specs.Layout.{layout, fixed_text};
 ghost use Rattle.grammar.specs.Limits.{IsSpelled, IsScript};
 ghost use Rattle.lint.specs.PartText.{part_text};
+ghost use Rattle.language.specs.declared.Start.TheVariants.{Any};
 
 use crate::planner::is_wrapped;
-use grammar::{Rank, binary_rank};
+use grammar::binary_rank;
+use language::Rank;
 use std::alloc::{AllocError, Global};
 use tree::{Kind, Node, Program};
 
@@ -40,8 +42,8 @@ fn print_script(script: Node, out: &mut String) -> Result<(), AllocError>
 }
 
 fn print_statement(statement: Node, out: &mut String) -> Result<(), AllocError>
-    requires { IsSpelled item (node_tree statement) }
-    ensures { OnOk result (string_bytes out.new ≡ string_bytes out.old ++ layout (node_tree statement.entry) item) }
+    requires { IsSpelled (item false) (node_tree statement) }
+    ensures { OnOk result (string_bytes out.new ≡ string_bytes out.old ++ layout (node_tree statement.entry) (item false)) }
 {
     print_part(statement, 0, Rank::Expression, out)?;
     out.push_str(";")
@@ -49,8 +51,8 @@ fn print_statement(statement: Node, out: &mut String) -> Result<(), AllocError>
 
 #[cycle(print)]
 fn print_expression(node: Node, position: Rank, out: &mut String) -> Result<(), AllocError>
-    requires { IsSpelled (expr Rank.Expression) (node_tree node) }
-    ensures { OnOk result (string_bytes out.new ≡ string_bytes out.old ++ layout (node_tree node.entry) (expr position)) }
+    requires { IsSpelled (expr Rank.Expression true Any) (node_tree node) }
+    ensures { OnOk result (string_bytes out.new ≡ string_bytes out.old ++ layout (node_tree node.entry) (expr position true Any)) }
 {
     if !is_wrapped(node, position) {
         return print_inside(node, out);
@@ -63,8 +65,8 @@ fn print_expression(node: Node, position: Rank, out: &mut String) -> Result<(), 
 /// An expression without a pair round it.
 #[cycle(print)]
 fn print_inside(node: Node, out: &mut String) -> Result<(), AllocError>
-    requires { IsSpelled (expr Rank.Expression) (node_tree node) }
-    ensures { OnOk result (string_bytes out.new ≡ string_bytes out.old ++ layout (node_tree node.entry) (expr Rank.Expression)) }
+    requires { IsSpelled (expr Rank.Expression true Any) (node_tree node) }
+    ensures { OnOk result (string_bytes out.new ≡ string_bytes out.old ++ layout (node_tree node.entry) (expr Rank.Expression true Any)) }
 {
     match node.kind() {
         Kind::SequenceExpression => print_sequence(node, out),
@@ -75,9 +77,9 @@ fn print_inside(node: Node, out: &mut String) -> Result<(), AllocError>
 
 #[cycle(print)]
 fn print_sequence(node: Node, out: &mut String) -> Result<(), AllocError>
-    requires spelled { IsSpelled (expr Rank.Expression) (node_tree node) }
+    requires spelled { IsSpelled (expr Rank.Expression true Any) (node_tree node) }
     requires kind { kind_of (node_tree node) ≡ Kind.SequenceExpression }
-    ensures { OnOk result (string_bytes out.new ≡ string_bytes out.old ++ layout (node_tree node.entry) (expr Rank.Expression)) }
+    ensures { OnOk result (string_bytes out.new ≡ string_bytes out.old ++ layout (node_tree node.entry) (expr Rank.Expression true Any)) }
 {
     print_part(node, 0, Rank::Assignment, out)?;
     for index in 1..node.part_count() {
@@ -89,9 +91,9 @@ fn print_sequence(node: Node, out: &mut String) -> Result<(), AllocError>
 
 #[cycle(print)]
 fn print_binary(node: Node, out: &mut String) -> Result<(), AllocError>
-    requires spelled { IsSpelled (expr Rank.Expression) (node_tree node) }
+    requires spelled { IsSpelled (expr Rank.Expression true Any) (node_tree node) }
     requires kind { kind_of (node_tree node) ≡ Kind.BinaryExpression }
-    ensures { OnOk result (string_bytes out.new ≡ string_bytes out.old ++ layout (node_tree node.entry) (expr Rank.Expression)) }
+    ensures { OnOk result (string_bytes out.new ≡ string_bytes out.old ++ layout (node_tree node.entry) (expr Rank.Expression true Any)) }
 {
     let operator = node.text();
     let Some(binding) = binary_rank(operator) else {
@@ -107,8 +109,8 @@ fn print_binary(node: Node, out: &mut String) -> Result<(), AllocError>
 /// The part at a place, counted from 0; nothing where there is none.
 #[cycle(print)]
 fn print_part(node: Node, index: usize, position: Rank, out: &mut String) -> Result<(), AllocError>
-    requires { IfSome (part_at (parts_of (node_tree node)) index) (IsSpelled (expr Rank.Expression)) }
-    ensures { OnOk result (string_bytes out.new ≡ string_bytes out.old ++ part_text (part_at (parts_of (node_tree node.entry)) index) (expr position)) }
+    requires { IfSome (part_at (parts_of (node_tree node)) index) (IsSpelled (expr Rank.Expression true Any)) }
+    ensures { OnOk result (string_bytes out.new ≡ string_bytes out.old ++ part_text (part_at (parts_of (node_tree node.entry)) index) (expr position true Any)) }
 {
     match node.part(index) {
         Some(part) => print_expression(part, position, out),

@@ -2,8 +2,9 @@
 
 ghost use Rattle.std.specs.Prelude.{◌≡◌, ◌≢◌, ℕ, []};
 ghost use Rattle.std.specs.Bool.{OnTrue, OnFalse};
-ghost use Rattle.tokens.specs.Lexeme.{Lexeme};
-ghost use Rattle.tokens.specs.Reading.{IsTokenAt};
+ghost use Rattle.tokens.specs.Tokens.{LexicalToken};
+ghost use Rattle.tokens.specs.Lexical.{LexicalClass};
+ghost use Rattle.grammar.specs.Limits.{ReadsAt};
 ghost use Rattle.grammar.specs.Limits.{front};
 ghost use Rattle.lint.specs.Scripts.{IsOver, ReadsStatements, Parses};
 
@@ -30,7 +31,7 @@ impl<'t, 's> Parser<'t, 's> {
     // Whether the end of the text stands ahead.
     fn is_over(&self) -> bool
         ensures over { OnTrue result (IsOver self.now.cursor.text self.now.cursor.last) }
-        ensures goes_on { OnFalse result ((t : Lexeme) → IsTokenAt self.now.cursor.text self.now.cursor.last.stop t → t.class ≢ Class.End) }
+        ensures goes_on { OnFalse result ((t : LexicalToken) → ReadsAt self.now.cursor.text self.now.cursor.last.stop t → t.class ≢ LexicalClass.End) }
     {
         let Some(token) = self.cursor.peek() else {
             return false;

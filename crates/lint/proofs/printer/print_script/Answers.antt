@@ -1,10 +1,10 @@
-use Rattle.std.proofs.Common.{◌≡◌, ◌+◌, sym, ap, ◌∙◌, ◌++◌, None, rules, arith}
+use Rattle.std.proofs.Common.{false, ◌≡◌, ◌+◌, sym, ap, ◌∙◌, ◌++◌, None, rules, arith}
 use Rattle.std.specs.Prelude.{codes}
 use Rattle.std.specs.String.{string_bytes}
 use Rattle.tree.specs.Tree.{parts_of, part_at}
 use Rattle.tree.specs.Node.{node_tree}
 use Rattle.tree.proofs.PartWalk.{parts_drop}
-use Rattle.grammar.specs.Pieces.{item}
+use Rattle.language.specs.Pieces.{item}
 use Rattle.grammar.specs.Layout.{layout}
 use Rattle.grammar.proofs.Layouts.{lines_text}
 use Rattle.lint.proofs.Shapes.{script_text, lined, line_spelled, lines_text-at, lines_text-past, line_there}
@@ -29,7 +29,7 @@ loop-index-preserved c =
       | in-Some+in_ok-print_statement+in_ok-push_str w ↦
           let u = node_tree w.in-Some.statement in
           ap (λ x. string_bytes x ++ lines_text (parts_drop (i + 1) ps)) w.out-is ∙
-          more_written (string_bytes c.loop-index.out) (string_bytes w.print_statement.new.out) (string_bytes w.push_str.new.self) (layout u item) (codes "\n")
+          more_written (string_bytes c.loop-index.out) (string_bytes w.print_statement.new.out) (string_bytes w.push_str.new.self) (layout u (item false)) (codes "\n")
           (lines_text (parts_drop i ps)) (lines_text (parts_drop (i + 1) ps)) _ c.loop-index.invariant w.in_ok-print_statement.ensures w.in_ok-push_str.ensures.bytes
           (lines_text-at ps lines i u w.in-Some.ensures)
       | in_default w ↦

@@ -1,5 +1,5 @@
 use Rattle.std.proofs.Common.{◌+◌, [], ◌∷◌, ◌++◌, refl, sym, ap, ◌∙◌, subst, arith}
-use Rattle.tokens.specs.Lexeme.{Lexeme}
+use Rattle.tokens.specs.Tokens.{LexicalToken}
 use Rattle.lint.specs.Reads.{IsTooDeep}
 use Rattle.tree.specs.Tree.{parts_from}
 use Rattle.tree.specs.View.{expression_tree}
@@ -61,7 +61,7 @@ expression-returns-clause-reads t c =
     rw (c.in_default-take_mark.ensures.none.1)
     (lists_end _ _ _ _ _ _ _ _ _ _ _ _ _ _ c.parts.invariant.lists (rw c.parts.invariant.same at c.in_ok-part.ensures.reads) none
     (tree ∙ ap (λ x. several c.in_ok-first.first.start c.last_end.result (parts_from (map expression_tree x))) c.in_ok-push-2.ensures.items
-    ∙ ap (λ x. several c.in_ok-first.first.start x (parts_from (map expression_tree (c.parts.expressions.items ++ c.in_ok-part.part.expression ∷ [])))) (c.last_end.ensures ∙ ap (λ (x : Lexeme). x.stop) c.in_default-take_mark.ensures.none.1))
+    ∙ ap (λ x. several c.in_ok-first.first.start x (parts_from (map expression_tree (c.parts.expressions.items ++ c.in_ok-part.part.expression ∷ [])))) (c.last_end.ensures ∙ ap (λ (x : LexicalToken). x.stop) c.in_default-take_mark.ensures.none.1))
     (ap (λ x. x + 1) c.max-height.ensures) refl)
 
 pub group-returns-then-groups-eq0-clause-reads : goal.group-returns-then-groups-eq0-clause-reads
@@ -91,13 +91,13 @@ group-returns-clause-reads t c =
 
 pub operators-returns-in_err-left-clause-reads : goal.operators-returns-in_err-left-clause-reads
 operators-returns-in_err-left-clause-reads t c =
-    passed_on _ _ _ _ _ _ _ _ _ _ c.from_residual.ensures.1 (up_refused _ _ _ _ _ c.requires _ c.in_err-left.ensures.reads)
+    passed_on _ _ _ _ _ _ _ _ _ _ c.from_residual.ensures.1 (up_refused _ _ _ _ _ c.requires.above _ c.in_err-left.ensures.reads)
 
 pub operators-operators-init : goal.operators-operators-init
 operators-operators-init t c = record {
   same = c.in_ok-left.ensures.text;
   forward = c.in_ok-left.ensures.forward;
-  climbs = climbs_start _ _ _ _ _ _ _ _ _ c.requires c.in_ok-left.ensures.reads;
+  climbs = climbs_start _ _ _ _ _ _ _ _ _ c.requires.above c.requires.below c.in_ok-left.ensures.reads;
 }
 
 pub operators-returns-in_err-right-clause-reads : goal.operators-returns-in_err-right-clause-reads
