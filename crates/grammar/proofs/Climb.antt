@@ -58,10 +58,7 @@ binding_below t z e = of t.class e
     of_op : (x : Operator) → of_operator x ≡ Some z → sum_operator t.text ≡ x → tightness z < tightness Primary
     of_op (binds false y q) h k = of_same y q h k
     of_op (binds true y q) h k = absurd (only_signs t.text y q k)
-    of_op powers h k = cc
-    of_op assigns h k = cc
-    of_op steps h k = cc
-    of_op no_operator h k = cc
+    of_op _ h k = cc
 
     of_comma : (b : Bool) → cond b (Some Expression) (of_operator (sum_operator t.text)) ≡ Some z → tightness z < tightness Primary
     of_comma true h = let u : Expression ≡ z = cc in let v = ap tightness u in omega arith

@@ -14,3 +14,4 @@ pub mod Unplaced
 pub mod ReadWords
 pub mod Printed
 pub mod HeightBytes
+pub mod Unbound
