@@ -76,10 +76,7 @@ comma_of t z b low = of t.class refl b
     of_op : (x : Operator) → sum_operator t.text ≡ x → of_operator x ≡ Some z → ⊥
     of_op (binds false y q) e h = let i = operator_step t.text y q e in let k = i.low in let u : y ≡ z = cc in let v = ap tightness u in omega arith
     of_op (binds true y q) e h = only_signs t.text y q e
-    of_op powers e h = cc
-    of_op assigns e h = cc
-    of_op steps e h = cc
-    of_op no_operator e h = cc
+    of_op _ e h = cc
 
     of_comma : (d : Bool) → is t.text "," ≡ d → cond d (Some Expression) (of_operator (sum_operator t.text)) ≡ Some z → t.text ≡ codes ","
     of_comma true e h = is_comma t.text e

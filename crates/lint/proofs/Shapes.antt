@@ -118,10 +118,7 @@ binds_of w b h = of (sum_operator w) refl h
     of : (x : Operator) → sum_operator w ≡ x → Some b ≡ bound_by x → sum_operator w ≡ binds false b.own b.right
     of (binds false z q) e h = let k : record { own = z; right = q } ≡ b = cc in e ∙ ap (λ (v : Binding). binds false v.own v.right) k
     of (binds true z q) e h = absurd (only_signs w z q e)
-    of powers e h = cc
-    of assigns e h = cc
-    of steps e h = cc
-    of no_operator e h = cc
+    of _ e h = cc
 
 operation_of : (n : Tree) (z q : Rank) → Shape n → kind_of n ≡ BinaryExpression → sum_operator (text_of n) ≡ binds false z q →
     layout n (expr Expression true Any) ≡ part_text (part_at (parts_of n) 0) (expr z true Any) ++ (codes " " ++ (text_of n ++ (codes " " ++ part_text (part_at (parts_of n) 1) (expr q true Any))))
