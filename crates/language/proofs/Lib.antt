@@ -28,3 +28,4 @@ pub mod TableExamples
 pub mod Judged
 pub mod SoundTables
 pub mod SameTrees
+pub mod WordExamples
