@@ -13,6 +13,7 @@ pub mod Begins
 pub mod Growth
 pub mod Led
 pub mod Onward
+pub mod Headed
 pub mod Climbing
 pub mod Heads
 pub mod Searched
