@@ -9,34 +9,32 @@ use Rattle.tokens.specs.Lexical.{Punctuator}
 use Rattle.tree.specs.declared.kind.Kind.{Kind}
 use Rattle.tree.specs.declared.kind.Kind.TheVariants.{BinaryExpression, LogicalExpression, MemberExpression, CallExpression}
 use Rattle.language.specs.declared.Rank.{Rank}
-use Rattle.language.specs.declared.Rank.TheVariants.{Expression, Conditional, LeftHandSide, Call, Member, BitwiseOr, BitwiseXor, BitwiseAnd, Equality, Relational, Shift, Additive, Multiplicative, Exponentiation, Coalesce, LogicalOr, LogicalAnd}
+use Rattle.language.specs.declared.Rank.TheVariants.{Expression, Conditional, Call, Member}
 use Rattle.language.specs.declared.Start.{Start}
 use Rattle.language.specs.declared.Start.TheVariants.{Any}
 use Rattle.tree.specs.declared.kind.Flags.{Flags}
 use Rattle.tree.specs.declared.kind.Pair.{Pair}
 use Rattle.tree.specs.Tree.{Tree, node, Parts, none, part, bare_parts}
-use Rattle.language.specs.FirstPart.{lead as lead_kind, others}
-use Rattle.language.specs.Words.{Operator, powers, assigns, steps, no_operator, is_target, is_pattern, is, takes, takes_number, tightness, binds, operator_of}
-use Rattle.language.specs.Pieces.{Role, expr, spine, PieceOf, Piece, tok, lay, sub, space, is_tight, Spelling, settle_piece, lead, lead_pattern, lead_spine, never, sign}
+use Rattle.language.specs.FirstPart.{others}
+use Rattle.language.specs.Words.{chains, is, takes, takes_number, tightness, binds, operator_of}
+use Rattle.language.specs.Pieces.{Role, expr, spine, PieceOf, Piece, tok, lay, sub, space, is_tight, Spelling, sign}
 use Rattle.language.specs.Token.{Token}
 use Rattle.tree.specs.Uses.{implies}
 use Rattle.language.specs.Grammar.{spellings, ways}
-use Rattle.language.specs.Expressions.{first_chained, spines, joined, arguments}
+use Rattle.language.specs.Expressions.{first_chained, spines, linked, member_link, call_link, joined, arguments}
 use Rattle.language.specs.Derivation.{Among, Spells, Runs, done, step, within, token, laid, Placed}
-use Rattle.language.specs.View.{Made, template, tagged, member, call, chain, postfix, power, binary, logical, conditional, assign, several}
+use Rattle.language.specs.View.{Made, template, tagged, member, call, postfix, power, binary, logical, conditional, assign, several}
 use Rattle.language.proofs.Domination.{settled, fits}
-use Rattle.language.proofs.Viewed.{way_of, made, one}
-use Rattle.language.proofs.Spine.{is_led, Grows, whole, grow}
-use Rattle.language.proofs.Growth.{IsDetermined, joins, retell, token_same, first_of, goes_to, by, chunks_unled, no_chain}
-
--- a role on a spine
-abbrev pub on_spine : Role → Bool
-on_spine (expr y i f) = true
-on_spine (spine f) = true
-on_spine _ = false
+use Rattle.language.proofs.Viewed.{way_of, made, one, cases}
+use Rattle.language.proofs.Operators.{binding, Rises}
+use Rattle.language.proofs.Spine.{is_led, Grows, whole, grow, grows_on_spine}
+use Rattle.language.proofs.Growth.{IsDetermined, joins, retell, token_same, first_of, goes_to, by, chunks_unled}
 
 abbrev pub loose : Rank → Bool
 loose y = nat_le (tightness y) 15
+
+tail_is : {a b : Role} {qs rs : List (PieceOf Role)} → ◌≡◌ {A = List (PieceOf Role)} (sub a ∷ qs) (sub b ∷ rs) → qs ≡ rs
+tail_is e = cc
 
 head_is : {a b : Role} {qs rs : List (PieceOf Role)} → ◌≡◌ {A = List (PieceOf Role)} (sub a ∷ qs) (sub b ∷ rs) → a ≡ b
 head_is e = cc
@@ -63,51 +61,11 @@ callee_tight : (b : Bool) → loose (cond b Member Call) ≡ false
 callee_tight true = refl
 callee_tight false = refl
 
-data Loosely : Operator → Type 0 where
-  binds_so : {b : Bool} {z q : Rank} → loose z ≡ true → Loosely (binds b z q)
-  powers_so : Loosely powers
-  assigns_so : Loosely assigns
-  steps_so : Loosely steps
-  none_so : Loosely no_operator
-
-either_loosely : (b : Bool) (x y : Operator) → Loosely x → Loosely y → Loosely (cond b x y)
-either_loosely true x y h k = h
-either_loosely false x y h k = k
-
-so : (b : Bool) (z q : Rank) → loose z ≡ true → Loosely (binds b z q)
-so b z q h = binds_so h
-
-operators_loosely : (w : List ℕ) → Loosely (operator_of w)
-operators_loosely w =
-    either_loosely _ _ _ (so false BitwiseOr BitwiseXor refl) (
-    either_loosely _ _ _ (so false BitwiseXor BitwiseAnd refl) (
-    either_loosely _ _ _ (so false BitwiseAnd Equality refl) (
-    either_loosely _ _ _ (so false Equality Relational refl) (
-    either_loosely _ _ _ (so false Relational Shift refl) (
-    either_loosely _ _ _ (so false Shift Additive refl) (
-    either_loosely _ _ _ (so false Additive Multiplicative refl) (
-    either_loosely _ _ _ (so false Multiplicative Exponentiation refl) (
-    either_loosely _ _ _ (so true Coalesce BitwiseOr refl) (
-    either_loosely _ _ _ (so true LogicalOr LogicalAnd refl) (
-    either_loosely _ _ _ (so true LogicalAnd BitwiseOr refl) (
-    either_loosely _ _ _ powers_so (either_loosely _ _ _ steps_so (either_loosely _ _ _ assigns_so (none_so))))))))))))))
-
-of_binds : {o : Operator} {l : Bool} {z q : Rank} → Loosely o → o ≡ binds l z q → loose z ≡ true
-of_binds (binds_so {z = z'} h) e = let u : z' ≡ _ = cc in ap loose (sym u) ∙ h
-of_binds _ e = cc
-
 binds_loosely : (w : List ℕ) {l : Bool} {z q : Rank} → operator_of w ≡ binds l z q → loose z ≡ true
-binds_loosely w h = of_binds (operators_loosely w) h
-
-target_tight : (y : Rank) (i : Bool) (f : Start) {y' : Rank} {i' : Bool} {f' : Start} {qs rest : List (PieceOf Role)} {A : Type 0} (b : Bool) → sub (expr y' i' f') ∷ rest ≡ settle_piece y i f (cond b (sub (lead LeftHandSide)) never) ∷ qs → IsTrue (loose y') → A
-target_tight y i f true eq h = tight_by (head_is eq) h refl
-target_tight y i f false eq h = cc
-
-bound_tight : (y : Rank) (i : Bool) (f : Start) {y' : Rank} {i' : Bool} {f' : Start} {qs rest : List (PieceOf Role)} {A : Type 0} (a b c : Bool) →
-    sub (expr y' i' f') ∷ rest ≡ settle_piece y i f (cond a (cond b (sub lead_pattern) (cond c (sub (lead LeftHandSide)) never)) (cond c (sub (lead LeftHandSide)) never)) ∷ qs → IsTrue (loose y') → A
-bound_tight y i f true true c eq h = cc
-bound_tight y i f true false c eq h = target_tight y i f c eq h
-bound_tight y i f false b c eq h = target_tight y i f c eq h
+binds_loosely w {z = z} {q = q} h = let u = binding w h in low (tightness z) (tightness q) u.rises.0 u.most
+  where
+    low : (a b : ℕ) → a < b → b ≤ 15 → nat_le a 15 ≡ true
+    low a b h k = grind (arith, nat_tests)
 
 takes_of : (y : Rank) (i : Bool) (f : Start) (x : Spelling) → IsTrue (fits (expr y i f) x) → IsTrue (takes y x.rank)
 takes_of y i f x h = (and_parts _ _ (and_parts _ _ h).0).0
@@ -123,9 +81,8 @@ steady_head {y} {i = i} f {w = w} (logical {z = z} {q = q} a) fit eq h = steady_
 steady_head {y} {i = i} f {x = x} conditional fit eq h = steady_by Conditional (head_is eq) (and_parts _ _ (and_parts _ _ fit).0).0 refl
 steady_head {y} {i = i} f {x = x} (several a) fit eq h = steady_by Expression (head_is eq) (and_parts _ _ (and_parts _ _ fit).0).0 refl
 steady_head {y} {y'} {i} {i'} f {f'} {rest = rest} (template {ps = ps}) fit eq h = let u : is_led (sub (expr y' i' f') ∷ rest) ≡ false = ap is_led eq ∙ chunks_unled y i f true ps in absurd (false≢true (sym u))
-steady_head {y} {i = i} f (chain {ps = ps}) fit eq h = absurd (no_chain y i f (first_chained ps) eq)
-steady_head {y} {i = i} f (postfix {ps = ps} a b) fit eq h = target_tight y i f (is_target (lead_kind ps)) eq h
-steady_head {y} {i = i} f {w = w} (assign {ps = ps} a) fit eq h = bound_tight y i f (is w "=") (is_pattern (lead_kind ps)) (is_target (lead_kind ps)) eq h
+steady_head f (postfix a b c) fit eq h = tight_by (head_is eq) h refl
+steady_head f (assign a b) fit eq h = tight_by (head_is eq) h refl
 steady_head _ _ fit eq h = cc
 
 -- the base of a chain stands at Call, before `?.`
@@ -134,11 +91,9 @@ pub record ChainBase (y' : Rank) (i' : Bool) (f f' : Start) (rest qs : List (Pie
   pub optional : o ≡ true
   pub rest_is : rest ≡ qs
 
-chain_base : {y' : Rank} {i' : Bool} (f : Start) {f' : Start} {rest qs : List (PieceOf Role)} (b o : Bool) →
-    sub (expr y' i' f') ∷ rest ≡ settle_piece Expression true f (cond b (sub lead_spine) (cond o (sub (lead Call)) never)) ∷ qs → ChainBase y' i' f f' rest qs o
-chain_base f true o e = cc
-chain_base f false true e = record { role = head_is e; optional = refl; rest_is = cc }
-chain_base f false false e = cc
+chain_base : {y' : Rank} {i' : Bool} (f : Start) {f' : Start} {rest : List (PieceOf Role)} (qs : List Piece) (o : Bool) (ps : Parts) {x : Spelling} →
+    Among x (linked o ps qs) → sub (expr y' i' f') ∷ rest ≡ settled (spine f) x → ChainBase y' i' f f' rest (goes_to Expression true f qs) o
+chain_base f qs o ps h e = cases (first_chained ps) h (λ b k. let u = e ∙ ap (settled (spine f)) (one k) in cc) (λ b k. cases o k (λ c j. let u = e ∙ ap (settled (spine f)) (one j) in record { role = head_is u; optional = c; rest_is = tail_is u }) (λ c j. elim j [ ]))
 
 question_first : (f : Start) (b : Bool) (qs rs : List Piece) → b ≡ true → first_of (goes_to Expression true f (cond b (sign "?." ∷ qs) rs)) ≡ by Punctuator (codes "?.")
 question_first f true qs rs h = refl
@@ -150,13 +105,9 @@ question_call f false ps h = cc
 
 spine_tight : {y' : Rank} {i' : Bool} (f : Start) {f' : Start} (k : Kind) (g : Flags) (ps : Parts) {x : Spelling} {rest : List (PieceOf Role)} {A : Type 0} →
     Among x (spines k g ps) → sub (expr y' i' f') ∷ rest ≡ settled (spine f) x → IsTrue (loose y') → A
-spine_tight f MemberExpression g ps t eq h = tight_by (chain_base f (first_chained ps) g.optional (eq ∙ ap (settled (spine f)) (one t))).role h refl
-spine_tight f CallExpression g ps t eq h = tight_by (chain_base f (first_chained ps) g.optional (eq ∙ ap (settled (spine f)) (one t))).role h refl
+spine_tight f MemberExpression g ps t eq h = tight_by (chain_base f (member_link g) g.optional ps t eq).role h refl
+spine_tight f CallExpression g ps t eq h = tight_by (chain_base f (call_link g ps) g.optional ps t eq).role h refl
 spine_tight f _ g ps t eq h = elim t [ ]
-
--- the right side of an operator is tighter, and behind `??` it is tighter than `&&`
-abbrev pub Rises : ℕ → ℕ → Type 0
-Rises z q = (z < q) × (z ≡ 4 → 7 ≤ q)
 
 between_numbers : (y z q x : ℕ) → IsTrue (takes_number y z) → Rises z q → z ≤ 15 → IsTrue (takes_number q x) → IsTrue (takes_number y x)
 between_numbers y z q x h (k, c) l j = grind (arith, nat_tests)
@@ -177,16 +128,6 @@ loose_number : (z : ℕ) → nat_le z 15 ≡ true → z ≤ 15
 loose_number z h = grind (arith, nat_tests)
 
 module _ (S : Type 0) (Next : S → Token → S → Type 0) (behind : S → Token) where
-  led_on_spine : (b : Role) (rest : List (PieceOf Role)) → is_led (sub b ∷ rest) ≡ true → on_spine b ≡ true
-  led_on_spine (expr y i f) rest h = refl
-  led_on_spine (spine f) rest h = refl
-  led_on_spine _ rest h = absurd (false≢true h)
-
-  pub grows_on_spine : {o : ℕ} {s0 e : S} {a : Role} {n : Tree} {P : List Pair} {b : Role} {m : Tree} {mid : S} {Q : List Pair} →
-      on_spine a ≡ true → Grows S Next behind o s0 a n e P b m mid Q → on_spine b ≡ true
-  grows_on_spine h whole = h
-  grows_on_spine {b = b} h (grow g led pl eq d gs) = led_on_spine b _ led
-
   -- no operator of the symbol y or a tighter one is read here
   abbrev pub Stops : Rank → Bool → S → Type 0
   Stops y i e = (t : Token) (m : S) (l : Bool) (z q : Rank) → Next e t m → operator_of t.text ≡ binds l z q → IsTrue (takes y z) → IsTrue (implies (is t.text "in") i) → ⊥
@@ -259,18 +200,18 @@ module _ (S : Type 0) (Next : S → Token → S → Type 0) (behind : S → Toke
       let v = way_of h in absurd (no_operator_in kk g (bare_parts ps) v.listed v.is d nx op)
     where
       from_question : {l : Bool} {z q : Rank} → t.text ≡ codes "?." → operator_of t.text ≡ binds l z q → ⊥
-      from_question e op = let u : no_operator ≡ _ = sym (ap operator_of e) ∙ op in cc
+      from_question e op = let u : chains ≡ _ = sym (ap operator_of e) ∙ op in cc
 
       no_operator_in : (k : Kind) {y' : Rank} {i' : Bool} {f' : Start} (g : Flags) (qs : Parts) {ps : Parts} {x : Spelling} {o : ℕ} {s e m : S} {P : List Pair} {l : Bool} {z q : Rank} →
           Among x (spines k g qs) → sub (expr y' i' f') ∷ rest ≡ settled (spine f2) x → Runs ways S Next behind o rest ps s e P → Next s t m → operator_of t.text ≡ binds l z q → ⊥
       no_operator_in MemberExpression g qs listed eq d nx op =
-          let u = chain_base f2 (first_chained qs) g.optional (eq ∙ ap (settled (spine f2)) (one listed)) in
+          let u = chain_base f2 (member_link g) g.optional qs listed eq in
           from_question (token_same S Next behind det rest (ap first_of u.rest_is ∙ question_first f2 g.optional _ _ u.optional) d nx) op
       no_operator_in CallExpression g qs listed eq d nx op =
-          let u = chain_base f2 (first_chained qs) g.optional (eq ∙ ap (settled (spine f2)) (one listed)) in
+          let u = chain_base f2 (call_link g qs) g.optional qs listed eq in
           from_question (token_same S Next behind det rest (ap first_of u.rest_is ∙ question_call f2 g.optional (others qs) u.optional) d nx) op
       no_operator_in _ g qs listed eq d nx op = elim listed [ ]
-  operated det nx op tk im st (grow {c = _} h led pl eq d gs) = absurd (false≢true (grows_on_spine refl gs))
+  operated det nx op tk im st (grow {c = _} h led pl eq d gs) = absurd (false≢true (grows_on_spine S Next behind refl gs))
 
   -- outward from a loose position of a spine In stays
   pub steady : {o : ℕ} {s0 e : S} {y : Rank} {i : Bool} {f : Start} {n : Tree} {P : List Pair} {y1 : Rank} {i1 : Bool} {f1 : Start} {m : Tree} {mid : S} {Q : List Pair} →
@@ -280,7 +221,7 @@ module _ (S : Type 0) (Next : S → Token → S → Type 0) (behind : S → Toke
   steady h (grow {c = expr y2 i2 f2} {l = node kk w g s1 e1 ps} t led pl eq d gs) =
       let v = way_of t in let u = steady_head f2 (made kk v.listed) v.fit v.is h in u.in_same ∙ steady u.is_loose gs
   steady h (grow {c = spine f2} {l = node kk w g s1 e1 ps} t led pl eq d gs) = let v = way_of t in spine_tight f2 kk g (bare_parts ps) v.listed v.is h
-  steady h (grow {c = _} t led pl eq d gs) = absurd (false≢true (grows_on_spine refl gs))
+  steady h (grow {c = _} t led pl eq d gs) = absurd (false≢true (grows_on_spine S Next behind refl gs))
 
   -- behind the right side of an operator, no operator that it would take
   pub stops_after : IsDetermined S Next behind → {o : ℕ} {s0 e : S} {y : Rank} {i : Bool} {f : Start} {n : Tree} {P : List Pair} {y1 : Rank} {i1 : Bool} {f1 : Start} {m : Tree} {mid : S} {Q : List Pair} (z q : Rank) →

@@ -14,14 +14,14 @@ use Rattle.tree.specs.declared.kind.Flags.{Flags}
 use Rattle.tree.specs.declared.kind.Pair.{Pair}
 use Rattle.tree.specs.Tree.{Tree, node, Parts, none, part, gap, bare_parts}
 use Rattle.language.specs.FirstPart.{others}
-use Rattle.language.specs.Words.{is, takes, is_word_operator, Operator, binds, no_operator, operator_of}
+use Rattle.language.specs.Words.{is, takes, is_word_operator, Operator, binds, indexes, selects, operator_of}
 use Rattle.language.specs.Pieces.{Role, expr, spine, quasi, chunk, PieceOf, Piece, tok, lay, sub, unbroken, space, sign, put, word, settle_piece, Spelling, at, is_none, lead_spine, never}
 use Rattle.language.specs.Token.{Token}
 use Rattle.tree.specs.Uses.{implies}
 use Rattle.language.specs.Grammar.{spellings, ways}
-use Rattle.language.specs.Expressions.{chunks, after_number, selector, in_brackets, joined, sequence, first_chained}
+use Rattle.language.specs.Expressions.{chunks, after_number, selector, in_brackets, joined, sequence}
 use Rattle.language.specs.Derivation.{Among, Reads, Spells, direct, grouped, Runs, done, step, opened, closed, within, missing, Step, token, laid, Placed}
-use Rattle.language.specs.View.{Made, template, tagged, member, call, chain, postfix, power, binary, logical, conditional, assign, several}
+use Rattle.language.specs.View.{Made, template, tagged, member, call, postfix, power, binary, logical, conditional, assign, several}
 use Rattle.language.proofs.Domination.{settled, fits}
 use Rattle.language.proofs.Viewed.{way_of, one}
 use Rattle.language.proofs.Spine.{is_led}
@@ -73,10 +73,6 @@ chunks_unled y i f b (gap ps) = refl
 chunks_unled y i f b (part q none) = refl
 chunks_unled y i f b (part q (gap ps)) = refl
 chunks_unled y i f b (part q (part e ps)) = refl
-
-pub no_chain : (y : Rank) (i : Bool) (f : Start) {y' : Rank} {i' : Bool} {f' : Start} {rest : List (PieceOf Role)} (b : Bool) → sub (expr y' i' f') ∷ rest ≡ goes_to y i f (cond b (sub lead_spine) never ∷ []) → ⊥
-no_chain y i f true e = cc
-no_chain y i f false e = cc
 
 -- nothing of a class but a template's begins behind a tag
 module _ (S : Type 0) (Next : S → Token → S → Type 0) (behind : S → Token) where
@@ -178,14 +174,18 @@ module _ (S : Type 0) (Next : S → Token → S → Type 0) (behind : S → Toke
       let u = quasi_runs det (retell (tail_is eq) d) nx in differs (sym text ∙ u.1) op refl (λ e. cc)
   joins det {y} {i = i} {f = f} {rest = rest} (member {g = g} {ps = ps} h h') fit eq d nx text op =
       let u : rest ≡ goes_to y i f (after_number ps g ++ selector g) = cc in
-      differs (sym text ∙ token_same det rest (ap first_of u ∙ member_first y i f ps g) d nx) op (bracket_or_dot g.computed) (λ e. cc)
+      differs (sym text ∙ token_same det rest (ap first_of u ∙ member_first y i f ps g) d nx) op (bracket_or_dot g.computed) (not_bound g.computed)
     where
-      bracket_or_dot : (b : Bool) → operator_of (cond b (codes "[") (codes ".")) ≡ no_operator
+      bracket_or_dot : (b : Bool) → operator_of (cond b (codes "[") (codes ".")) ≡ cond b indexes selects
       bracket_or_dot true = refl
       bracket_or_dot false = refl
+
+      not_bound : {A : Type 0} {l : Bool} {z q : Rank} (b : Bool) → binds l z q ≡ cond b indexes selects → A
+      not_bound true e = cc
+      not_bound false e = cc
   joins det {rest = rest} (call h h') fit eq d nx text op =
       let u : first_of rest ≡ by Punctuator (codes "(") = ap first_of (tail_is eq) in differs (sym text ∙ token_same det rest u d nx) op refl (λ e. cc)
-  joins det {w = w} {rest = rest} (postfix h h') fit eq d nx text op =
+  joins det {w = w} {rest = rest} (postfix h h' h'') fit eq d nx text op =
       let u : first_of rest ≡ by Punctuator w = ap first_of (tail_is eq) in differs (sym text ∙ token_same det rest u d nx) op h (λ e. cc)
   joins det {w = w} {rest = rest} (power h) fit eq d nx text op =
       let u : first_of rest ≡ by (cond (is_word_operator w) Name Punctuator) w = ap first_of (tail_is eq) in differs (sym text ∙ token_same det rest u d nx) op h (λ e. cc)
@@ -195,9 +195,8 @@ module _ (S : Type 0) (Next : S → Token → S → Type 0) (behind : S → Toke
       let u : first_of rest ≡ by (cond (is_word_operator w) Name Punctuator) w = ap first_of (tail_is eq) in joined_by refl h fit eq (sym text ∙ token_same det rest u d nx) op
   joins det {rest = rest} conditional fit eq d nx text op =
       let u : first_of rest ≡ by Punctuator (codes "?") = ap first_of (tail_is eq) in differs (sym text ∙ token_same det rest u d nx) op refl (λ e. cc)
-  joins det {w = w} {rest = rest} (assign h) fit eq d nx text op =
+  joins det {w = w} {rest = rest} (assign h h') fit eq d nx text op =
       let u : first_of rest ≡ by (cond (is_word_operator w) Name Punctuator) w = ap first_of (tail_is eq) in differs (sym text ∙ token_same det rest u d nx) op h (λ e. cc)
   joins det {y} {i = i} {f = f} {rest = rest} (several {ps = ps} h) fit eq d nx text op =
       differs (sym text ∙ comma_runs det y i f (others ps) h (retell (tail_is eq) d) nx) op refl (λ e. cc)
-  joins det {y} {i = i} {f = f} (chain {ps = ps}) fit eq d nx text op = absurd (no_chain y i f (first_chained ps) eq)
   joins det _ fit eq d nx text op = cc

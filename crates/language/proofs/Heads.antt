@@ -1,6 +1,6 @@
 -- What begins with a token.
 use Rattle.std.proofs.Common.{◌≡◌, ℕ, Bool, true, false, List, [], ◌∷◌, ◌++◌, refl, sym, ap, ◌∙◌}
-use Rattle.std.specs.Prelude.{IsTrue, codes, cond, ◌&&◌}
+use Rattle.std.specs.Prelude.{IsTrue, codes, ◌&&◌}
 use Rattle.std.specs.Str.{bytes_eq}
 use Rattle.std.proofs.lemmas.Bool.{and_parts, false≢true}
 use Rattle.std.proofs.lemmas.Slice.Eq.{bytes_eq-Decides}
@@ -10,15 +10,14 @@ use Rattle.tokens.specs.Lexical.{Name, Punctuator, Number, Text, Template, RegEx
 use Rattle.tree.specs.declared.kind.Kind.{Kind}
 use Rattle.tree.specs.declared.kind.Kind.TheVariants.{ArrayExpression}
 use Rattle.language.specs.declared.Rank.{Rank}
-use Rattle.language.specs.declared.Rank.TheVariants.{Primary, LeftHandSide}
+use Rattle.language.specs.declared.Rank.TheVariants.{Primary}
 use Rattle.language.specs.declared.Start.{Start}
 use Rattle.tree.specs.declared.kind.Flags.{Flags}
 use Rattle.tree.specs.Tree.{Parts, none, part, gap}
-use Rattle.language.specs.FirstPart.{lead as lead_kind}
-use Rattle.language.specs.Words.{is, is_prefix, is_target, is_pattern, operator_of, steps, no_operator, literal_class}
-use Rattle.language.specs.Pieces.{elements, argument, Spelling, at, sign, settle_piece, PieceOf, Role, sub, lead, lead_pattern, lead_spine, never}
-use Rattle.language.specs.Expressions.{chunks, first_chained}
-use Rattle.language.specs.View.{Made, literal, array, template, chain, prefix, postfix, unary_sign, assign}
+use Rattle.language.specs.Words.{is_prefix, operator_of, steps, indexes, literal_class}
+use Rattle.language.specs.Pieces.{elements, argument, Spelling, at, sign}
+use Rattle.language.specs.Expressions.{chunks}
+use Rattle.language.specs.View.{Made, literal, array, template, prefix, unary_sign}
 use Rattle.language.proofs.Growth.{First, by, another, first_of, goes_to}
 
 pub same_class_is : (c d : LexicalClass) → IsTrue (same_class c d) → d ≡ c
@@ -46,20 +45,6 @@ first_is c w another = false
 text_is : {c d : LexicalClass} {v w : List ℕ} → first_is c w (by d v) ≡ true → (d ≡ c) × (v ≡ w)
 text_is e = let u = and_parts _ _ e in (same_class_is _ _ u.0, (bytes_eq-Decides _ _).0 u.1)
 
--- no token begins what a part begins
-unled_target : (y : Rank) (i : Bool) (f : Start) (b : Bool) (qs : List (PieceOf Role)) → first_of (settle_piece y i f (cond b (sub (lead LeftHandSide)) never) ∷ qs) ≡ another
-unled_target y i f true qs = refl
-unled_target y i f false qs = refl
-
-unled_bound : (y : Rank) (i : Bool) (f : Start) (a b c : Bool) (qs : List (PieceOf Role)) → first_of (settle_piece y i f (cond a (cond b (sub lead_pattern) (cond c (sub (lead LeftHandSide)) never)) (cond c (sub (lead LeftHandSide)) never)) ∷ qs) ≡ another
-unled_bound y i f true true c qs = refl
-unled_bound y i f true false c qs = unled_target y i f c qs
-unled_bound y i f false b c qs = unled_target y i f c qs
-
-unled_chain : (y : Rank) (i : Bool) (f : Start) (b : Bool) → first_of (goes_to y i f (cond b (sub lead_spine) never ∷ [])) ≡ another
-unled_chain y i f true = refl
-unled_chain y i f false = refl
-
 no_another : (c : LexicalClass) (w : List ℕ) {u : First} {A : Type 0} → u ≡ another → first_is c w u ≡ true → A
 no_another c w h e = absurd (false≢true (sym (ap (first_is c w) h) ∙ e))
 
@@ -68,9 +53,6 @@ pub array_only : {k : Kind} {w : List ℕ} {g : Flags} {ps : Parts} {x : Spellin
 array_only y i f array e = (refl, refl)
 array_only y i f (template {ps = ps}) e = no_another Punctuator (codes "[") (chunks_first y i f true ps) e
 array_only y i f (literal {w = w} h) e = let u : LexicalClass.Name ≡ Punctuator = sym (ap literal_class (text_is {c = Punctuator} {d = literal_class w} {v = w} {w = codes "["} e).1) ∙ (text_is {c = Punctuator} {d = literal_class w} {v = w} {w = codes "["} e).0 in cc
-array_only y i f (prefix {w = w} h h') e = let u : no_operator ≡ steps = sym (ap operator_of (text_is {c = Punctuator} {d = Punctuator} {v = w} {w = codes "["} e).1) ∙ h in cc
+array_only y i f (prefix {w = w} h h'' h') e = let u : indexes ≡ steps = sym (ap operator_of (text_is {c = Punctuator} {d = Punctuator} {v = w} {w = codes "["} e).1) ∙ h in cc
 array_only y i f (unary_sign {w = w} h h') e = absurd (false≢true (sym (ap is_prefix (text_is {c = Punctuator} {d = Punctuator} {v = w} {w = codes "["} e).1) ∙ h))
-array_only y i f (chain {ps = ps}) e = no_another Punctuator (codes "[") (unled_chain y i f (first_chained ps)) e
-array_only y i f (postfix {ps = ps} h h') e = no_another Punctuator (codes "[") (unled_target y i f (is_target (lead_kind ps)) _) e
-array_only y i f (assign {w = w} {ps = ps} h) e = no_another Punctuator (codes "[") (unled_bound y i f (is w "=") (is_pattern (lead_kind ps)) (is_target (lead_kind ps)) _) e
 array_only _ _ _ _ e = cc

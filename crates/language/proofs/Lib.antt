@@ -2,13 +2,18 @@ pub mod Looser
 pub mod LowerBound
 pub mod Frame
 pub mod Ranks
+pub mod Operators
 pub mod Domination
 pub mod TidyTable
 pub mod OneWay
 pub mod Least
 pub mod Viewed
 pub mod Spine
+pub mod Begins
 pub mod Growth
+pub mod Led
+pub mod Onward
+pub mod Headed
 pub mod Climbing
 pub mod Heads
 pub mod Searched
@@ -29,3 +34,4 @@ pub mod Judged
 pub mod SoundTables
 pub mod SameTrees
 pub mod WordExamples
+pub mod FollowExamples

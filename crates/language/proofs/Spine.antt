@@ -1,6 +1,7 @@
 -- The left spine of a derivation, over the whole table.
 use Rattle.std.proofs.Common.{◌≡◌, ℕ, suc, Bool, true, false, List, ◌∷◌, ◌++◌, refl}
 use Rattle.std.specs.Prelude.{codes}
+use Rattle.std.proofs.lemmas.Bool.{false≢true}
 use Rattle.tokens.specs.Lexical.{Punctuator}
 use Rattle.language.specs.declared.Rank.{Rank}
 use Rattle.language.specs.declared.Rank.TheVariants.{Expression}
@@ -19,6 +20,17 @@ is_led (sub (expr y i f) ∷ qs) = true
 is_led (sub (spine f) ∷ qs) = true
 is_led _ = false
 
+-- a role on a spine
+abbrev pub on_spine : Role → Bool
+on_spine (expr y i f) = true
+on_spine (spine f) = true
+on_spine _ = false
+
+led_on_spine : (b : Role) (rest : List (PieceOf Role)) → is_led (sub b ∷ rest) ≡ true → on_spine b ≡ true
+led_on_spine (expr y i f) rest h = refl
+led_on_spine (spine f) rest h = refl
+led_on_spine _ rest h = absurd (false≢true h)
+
 module _ (S : Type 0) (Next : S → Token → S → Type 0) (behind : S → Token) where
   -- what a spine begins with: a group, or a way that begins with no such part
   pub data Core : ℕ → Role → Tree → S → S → List Pair → Type 0 where
@@ -36,6 +48,11 @@ module _ (S : Type 0) (Next : S → Token → S → Type 0) (behind : S → Toke
         Among (sub b ∷ rest) (ways c l) → is_led (sub b ∷ rest) ≡ true → Placed S Next behind c l s0 to → parts_of l ≡ part m ps →
         Runs ways S Next behind o rest ps mid to R → Grows o s0 a n e P c l to (Q ++ R) →
         Grows o s0 a n e P b m mid Q
+
+  pub grows_on_spine : {o : ℕ} {s0 e : S} {a : Role} {n : Tree} {P : List Pair} {b : Role} {m : Tree} {mid : S} {Q : List Pair} →
+      on_spine a ≡ true → Grows o s0 a n e P b m mid Q → on_spine b ≡ true
+  grows_on_spine h whole = h
+  grows_on_spine {b = b} h (grow g led pl eq d gs) = led_on_spine b _ led
 
   pub outer : {o : ℕ} {s0 : S} {a : Role} {n : Tree} {e : S} {P : List Pair} {b : Role} {m : Tree} {mid : S} {Q : List Pair}
       {c : Role} {l : Tree} {ps : Parts} {rest : List (PieceOf Role)} {to : S} {R : List Pair} →

@@ -1,25 +1,25 @@
 -- The table is tidy: a node has one way at a position, but for an arrow with one plain parameter and a `new` without arguments.
-use Rattle.std.proofs.Common.{◌≡◌, ℕ, Bool, true, false, cond, List, [], ◌∷◌, refl, arith}
+use Rattle.std.proofs.Common.{◌≡◌, ℕ, Bool, true, false, cond, List, [], ◌∷◌, ◌++◌, refl, arith}
 use Rattle.std.specs.Prelude.{Option, Some, None, IsTrue, ◌&&◌, not, nat_le, nat_eq}
 use Rattle.std.proofs.lemmas.Bool.{and_parts, and_from}
-use Rattle.std.proofs.lemmas.Bool.Decides.{nat_tests}
 use Rattle.tree.specs.declared.kind.Kind.{Kind}
 use Rattle.tree.specs.declared.kind.Kind.TheVariants.{Program, Identifier, Literal, ThisExpression, Super, ArrayExpression, ObjectExpression, Property, SpreadElement, FunctionExpression, ArrowFunctionExpression, ClassExpression, ClassBody, MethodDefinition, TemplateLiteral, TemplateElement, TaggedTemplateExpression, MemberExpression, CallExpression, NewExpression, MetaProperty, ImportExpression, ChainExpression, UpdateExpression, UnaryExpression, BinaryExpression, LogicalExpression, ConditionalExpression, AssignmentExpression, SequenceExpression, ArrayPattern, ObjectPattern, AssignmentPattern, RestElement, ExpressionStatement, BlockStatement, EmptyStatement, DebuggerStatement, ReturnStatement, ThrowStatement, BreakStatement, ContinueStatement, LabeledStatement, IfStatement, SwitchStatement, SwitchCase, TryStatement, CatchClause, WhileStatement, DoWhileStatement, ForStatement, ForInStatement, ForOfStatement, VariableDeclaration, VariableDeclarator, FunctionDeclaration, ClassDeclaration}
 use Rattle.language.specs.declared.Rank.{Rank}
-use Rattle.language.specs.declared.Rank.TheVariants.{Assignment, New, Member, Coalesce, LogicalOr, LogicalAnd, BitwiseOr, BitwiseXor, BitwiseAnd, Equality, Relational, Shift, Additive, Multiplicative, Exponentiation}
+use Rattle.language.specs.declared.Rank.TheVariants.{Assignment, New, Member}
 use Rattle.language.specs.declared.Start.{Start}
 use Rattle.language.specs.declared.Start.TheVariants.{Any, NoBrace, Statement}
 use Rattle.tree.specs.declared.kind.Flags.{Flags}
 use Rattle.tree.specs.declared.kind.Form.{Form}
-use Rattle.tree.specs.declared.kind.Form.TheVariants.{Get, Set}
+use Rattle.tree.specs.declared.kind.Form.TheVariants.{Init, Get, Set, Method, Shorthand, Constructor}
 use Rattle.tree.specs.Tree.{Tree, node, Parts, none, part, gap}
-use Rattle.language.specs.FirstPart.{others}
-use Rattle.language.specs.Words.{tightness, Operator, binds, powers, assigns, steps, no_operator, operator_of}
-use Rattle.language.specs.Pieces.{Role, expr, spine, name, word, key, echo, base, quoted, quasi, chunk, spread, property, pattern, pattern_property, element, rest, method, body, statement, item, opening, block, head, declarator, switch_case, handler, class_body, member, script, Piece, sub, put, open_parameters, term, sp, Slot, Spelling, at, only, is_none, parameters, close_parameters}
-use Rattle.language.specs.Expressions.{expressions, binary_ways, logical_ways, arguments, arrow_end, spines, methods}
-use Rattle.language.specs.Statements.{statements, items, openings}
+use Rattle.language.specs.FirstPart.{lead, others}
+use Rattle.language.specs.Words.{tightness, is, is_target, is_pattern, Operator, binds, powers, operator_of}
+use Rattle.language.specs.Pieces.{Role, expr, spine, name, word, key, echo, base, quoted, quasi, chunk, spread, property, pattern, pattern_property, element, rest, method, body, statement, item, opening, block, head, declarator, switch_case, handler, class_body, member, script, Piece, sub, put, open_parameters, term, sp, Slot, Spelling, at, only, only_at, is_none, parameters, close_parameters}
+use Rattle.language.specs.Expressions.{expressions, binary_ways, logical_ways, arguments, arrow_end, spines, methods, keyed, linked, member_link, call_link, first_chained, properties, shorthand_pattern, pattern_properties}
+use Rattle.language.specs.Statements.{statements, items, openings, members}
 use Rattle.language.specs.Grammar.{spellings, starts}
 use Rattle.language.specs.Laws.{two_ways_at, has_two_ways}
+use Rattle.language.proofs.Operators.{binding}
 use Rattle.language.proofs.Ranks.{looser_new, looser_refl}
 use Rattle.language.proofs.Looser.{Looser, same, looser, looser_spine, looser_pattern, end, next}
 use Rattle.language.proofs.Domination.{Tidy, none_at_all, one_way, two_ways, Covers, fits, fits-looser, roles-looser, slot-looser}
@@ -100,46 +100,25 @@ Tidy-arrow g (part n (part b (gap ps))) = one_way (λ e. omega arith)
 Tidy-arrow g (part (node Identifier w h s e qs) (part b none)) = two_ways (λ x. omega arith) (arrow-covers g)
 Tidy-arrow g (part (node _ w h s e qs) (part b none)) = one_way (λ x. omega arith)
 
--- the operators' symbols, none of which is `New`
-pub data Fine : Operator → Type 0 where
-  fine_binds : {b : Bool} {z q : Rank} → (tightness z ≡ 19 → ⊥) → Fine (binds b z q)
-  fine_powers : Fine powers
-  fine_assigns : Fine assigns
-  fine_steps : Fine steps
-  fine_none : Fine no_operator
+-- the symbol of an operator isn't `New`
+binds_old : (w : List ℕ) {l : Bool} {z q : Rank} → operator_of w ≡ binds l z q → tightness z ≡ 19 → ⊥
+binds_old w e h = let u = binding w e in let v = u.rises.0 in let x = u.most in omega arith
 
-pub Fine-cond : (b : Bool) (x y : Operator) → Fine x → Fine y → Fine (cond b x y)
-Fine-cond true x y h k = h
-Fine-cond false x y h k = k
-
-pub fine_at : (b : Bool) (z l : Rank) → IsTrue (not (nat_eq (tightness z) 19)) → Fine (binds b z l)
-fine_at b z l h = fine_binds (λ e. grind (arith, nat_tests))
-
-pub Fine-operator : (w : List ℕ) → Fine (operator_of w)
-Fine-operator w =
-    Fine-cond _ _ _ (fine_at false BitwiseOr BitwiseXor refl) (
-    Fine-cond _ _ _ (fine_at false BitwiseXor BitwiseAnd refl) (
-    Fine-cond _ _ _ (fine_at false BitwiseAnd Equality refl) (
-    Fine-cond _ _ _ (fine_at false Equality Relational refl) (
-    Fine-cond _ _ _ (fine_at false Relational Shift refl) (
-    Fine-cond _ _ _ (fine_at false Shift Additive refl) (
-    Fine-cond _ _ _ (fine_at false Additive Multiplicative refl) (
-    Fine-cond _ _ _ (fine_at false Multiplicative Exponentiation refl) (
-    Fine-cond _ _ _ (fine_at true Coalesce BitwiseOr refl) (
-    Fine-cond _ _ _ (fine_at true LogicalOr LogicalAnd refl) (
-    Fine-cond _ _ _ (fine_at true LogicalAnd BitwiseOr refl) (
-    Fine-cond _ _ _ fine_powers (Fine-cond _ _ _ fine_steps (Fine-cond _ _ _ fine_assigns fine_none)))))))))))))
-
-pub Tidy-binary : {t : Bool} (w : List ℕ) (o : Operator) → Fine o → Tidy t (binary_ways w o)
+pub Tidy-binary : {t : Bool} (w : List ℕ) (o : Operator) → operator_of w ≡ o → Tidy t (binary_ways w o)
 Tidy-binary w (binds true z q) h = none_at_all
-Tidy-binary w (binds false z q) (fine_binds h) = one_way h
+Tidy-binary w (binds false z q) h = one_way (binds_old w h)
 Tidy-binary w powers h = one_way (λ e. omega arith)
 Tidy-binary w _ h = none_at_all
 
-pub Tidy-logical : {t : Bool} (w : List ℕ) (o : Operator) → Fine o → Tidy t (logical_ways w o)
+pub Tidy-logical : {t : Bool} (w : List ℕ) (o : Operator) → operator_of w ≡ o → Tidy t (logical_ways w o)
 Tidy-logical w (binds false z q) h = none_at_all
-Tidy-logical w (binds true z q) (fine_binds h) = one_way h
+Tidy-logical w (binds true z q) h = one_way (binds_old w h)
 Tidy-logical w _ h = none_at_all
+
+pub Tidy-assignment : {t : Bool} (a b : Bool) (qs rs : List Piece) → Tidy t (cond a (at Assignment qs ∷ []) (cond b (at Assignment rs ∷ []) []))
+Tidy-assignment true b qs rs = one_way (λ e. omega arith)
+Tidy-assignment false true qs rs = one_way (λ e. omega arith)
+Tidy-assignment false false qs rs = none_at_all
 
 pub Tidy-expressions : (k : Kind) (w : List ℕ) (g : Flags) (ps : Parts) → Tidy (two_ways_at k ps) (expressions k w g ps)
 unfolding expressions
@@ -154,17 +133,17 @@ Tidy-expressions TemplateLiteral w g ps = one_way (λ e. omega arith)
 Tidy-expressions ArrowFunctionExpression w g ps = Tidy-arrow g ps
 Tidy-expressions TaggedTemplateExpression w g ps = one_way (λ e. omega arith)
 Tidy-expressions MemberExpression w g ps = Tidy-cond _ _ _ none_at_all (Tidy-cond _ _ _ (one_way (λ e. omega arith)) (one_way (λ e. omega arith)))
-Tidy-expressions CallExpression w g ps = Tidy-cond _ _ _ none_at_all (one_way (λ e. omega arith))
+Tidy-expressions CallExpression w g ps = Tidy-cond _ _ _ none_at_all (Tidy-cond _ _ _ (one_way (λ e. omega arith)) (one_way (λ e. omega arith)))
 Tidy-expressions NewExpression w g ps = Tidy-new (others ps)
 Tidy-expressions MetaProperty w g ps = Tidy-cond _ _ _ (one_way (λ e. omega arith)) none_at_all
 Tidy-expressions ImportExpression w g ps = one_way (λ e. omega arith)
-Tidy-expressions ChainExpression w g ps = one_way (λ e. omega arith)
+Tidy-expressions ChainExpression w g ps = Tidy-cond _ _ _ (one_way (λ e. omega arith)) none_at_all
 Tidy-expressions UpdateExpression w g ps = Tidy-cond _ _ _ none_at_all (Tidy-cond _ _ _ (one_way (λ e. omega arith)) (one_way (λ e. omega arith)))
 Tidy-expressions UnaryExpression w g ps = Tidy-cond _ _ _ none_at_all (Tidy-cond _ _ _ (one_way (λ e. omega arith)) (one_way (λ e. omega arith)))
-Tidy-expressions BinaryExpression w g ps = Tidy-binary w (operator_of w) (Fine-operator w)
-Tidy-expressions LogicalExpression w g ps = Tidy-logical w (operator_of w) (Fine-operator w)
+Tidy-expressions BinaryExpression w g ps = Tidy-binary w (operator_of w) refl
+Tidy-expressions LogicalExpression w g ps = Tidy-logical w (operator_of w) refl
 Tidy-expressions ConditionalExpression w g ps = one_way (λ e. omega arith)
-Tidy-expressions AssignmentExpression w g ps = Tidy-cond _ _ _ none_at_all (one_way (λ e. omega arith))
+Tidy-expressions AssignmentExpression w g ps = Tidy-cond _ _ _ none_at_all (Tidy-assignment (is_target (lead ps)) (is w "=" && is_pattern (lead ps)) _ _)
 Tidy-expressions SequenceExpression w g ps = Tidy-cond _ _ _ none_at_all (one_way (λ e. omega arith))
 Tidy-expressions _ w g ps = none_at_all
 
@@ -173,6 +152,16 @@ Tidy-if b qs = Tidy-cond b (only qs) [] (Tidy-only qs) none_at_all
 
 abbrev pub Tidy-unless : {t : Bool} (b : Bool) (qs : List Piece) → Tidy t (cond b [] (only qs))
 Tidy-unless b qs = Tidy-cond b [] (only qs) none_at_all (Tidy-only qs)
+
+pub Tidy-at : {t : Bool} (a : Option Role) (qs : List Piece) → Tidy t (only_at a qs)
+Tidy-at (Some a) qs = Tidy-only _
+Tidy-at None qs = none_at_all
+
+pub Tidy-keyed : {t : Bool} (before : List Piece) (c : Bool) (after : List Piece) → Tidy t (keyed before c after)
+Tidy-keyed before c after = Tidy-cond c _ _ (Tidy-only _) (Tidy-only _)
+
+pub Tidy-linked : {t : Bool} (b : Bool) (ps : Parts) (qs : List Piece) → Tidy t (linked b ps qs)
+Tidy-linked b ps qs = Tidy-cond (first_chained ps) _ _ (Tidy-only _) (Tidy-if b _)
 
 pub Tidy-statements : {t : Bool} (r : Bool) (k : Kind) (w : List ℕ) (g : Flags) (ps : Parts) → Tidy t (statements r k w g ps)
 unfolding statements
@@ -220,7 +209,7 @@ Tidy-items r k w g ps = Tidy-statements r k w g ps
 
 pub Tidy-openings : {t : Bool} (r : Bool) (k : Kind) (w : List ℕ) (g : Flags) (ps : Parts) → Tidy t (openings r k w g ps)
 unfolding openings
-Tidy-openings r ExpressionStatement w g ps = Tidy-cond _ _ _ (Tidy-if _ _) (Tidy-only _)
+Tidy-openings r ExpressionStatement w g ps = Tidy-cond _ _ _ (Tidy-if _ _) (Tidy-cond _ _ _ (Tidy-only _) (Tidy-only _))
 Tidy-openings r k w g ps = Tidy-items r k w g ps
 
 pub Tidy-methods : {t : Bool} (x : Form) (ps : Parts) → Tidy t (methods x ps)
@@ -231,11 +220,34 @@ Tidy-methods Set _ = none_at_all
 Tidy-methods _ (gap ps) = Tidy-only _
 Tidy-methods _ _ = none_at_all
 
+pub Tidy-properties : {t : Bool} (c : Bool) (x : Form) → Tidy t (properties c x)
+Tidy-properties c Init = Tidy-keyed [] c _
+Tidy-properties c Method = Tidy-keyed [] c _
+Tidy-properties c Get = Tidy-keyed (term "get" ∷ sp ∷ []) c (put (method Get) ∷ [])
+Tidy-properties c Set = Tidy-keyed (term "set" ∷ sp ∷ []) c (put (method Set) ∷ [])
+Tidy-properties c Shorthand = Tidy-unless _ _
+Tidy-properties c Constructor = none_at_all
+
+pub Tidy-shorthand : {t : Bool} (k : Kind) → Tidy t (shorthand_pattern k)
+Tidy-shorthand Identifier = Tidy-only _
+Tidy-shorthand AssignmentPattern = Tidy-only _
+Tidy-shorthand _ = none_at_all
+
+pub Tidy-pattern_properties : {t : Bool} (b c : Bool) (x : Form) (k : Kind) → Tidy t (pattern_properties b c x k)
+Tidy-pattern_properties b c Init k = Tidy-keyed [] c _
+Tidy-pattern_properties b c Shorthand k = Tidy-cond _ _ _ none_at_all (Tidy-shorthand k)
+Tidy-pattern_properties b c _ k = none_at_all
+
+pub Tidy-members : {t : Bool} (before : List Piece) (c : Bool) (x : Form) → Tidy t (members before c x)
+Tidy-members before c Get = Tidy-keyed (before ++ term "get" ∷ sp ∷ []) c (put (method Get) ∷ [])
+Tidy-members before c Set = Tidy-keyed (before ++ term "set" ∷ sp ∷ []) c (put (method Set) ∷ [])
+Tidy-members before c _ = Tidy-keyed before c _
+
 pub tidy_table : (a : Role) (n : Tree) → Tidy (has_two_ways n) (spellings a n)
 unfolding spellings
 tidy_table (expr y i f) (node k w g s e ps) = Tidy-expressions k w g ps
-tidy_table (spine f) (node MemberExpression w g s e ps) = Tidy-only _
-tidy_table (spine f) (node CallExpression w g s e ps) = Tidy-only _
+tidy_table (spine f) (node MemberExpression w g s e ps) = Tidy-linked g.optional ps (member_link g)
+tidy_table (spine f) (node CallExpression w g s e ps) = Tidy-linked g.optional ps (call_link g ps)
 tidy_table (spine f) (node _ w g s e ps) = none_at_all
 tidy_table name (node Identifier w g s e ps) = Tidy-unless _ _
 tidy_table name (node _ w g s e ps) = none_at_all
@@ -256,14 +268,14 @@ tidy_table (chunk x y) (node TemplateElement w g s e ps) = Tidy-only _
 tidy_table (chunk x y) (node _ w g s e ps) = none_at_all
 tidy_table spread (node SpreadElement w g s e ps) = Tidy-only _
 tidy_table spread (node _ w g s e ps) = none_at_all
-tidy_table property (node Property w g s e ps) = Tidy-only _
+tidy_table property (node Property w g s e ps) = Tidy-properties g.computed g.form
 tidy_table property (node _ w g s e ps) = none_at_all
 tidy_table (pattern b f) (node ArrayPattern w g s e ps) = Tidy-only _
 tidy_table (pattern b f) (node ObjectPattern w g s e ps) = Tidy-only _
 tidy_table (pattern b f) (node _ w g s e ps) = none_at_all
-tidy_table (pattern_property b) (node Property w g s e ps) = Tidy-only _
+tidy_table (pattern_property b) (node Property w g s e ps) = Tidy-pattern_properties b g.computed g.form (lead (others ps))
 tidy_table (pattern_property b) (node _ w g s e ps) = none_at_all
-tidy_table (element b) (node AssignmentPattern w g s e ps) = Tidy-only _
+tidy_table (element b) (node AssignmentPattern w g s e ps) = Tidy-at _ _
 tidy_table (element b) (node _ w g s e ps) = none_at_all
 tidy_table (rest b o) (node RestElement w g s e ps) = Tidy-unless _ _
 tidy_table (rest b o) (node _ w g s e ps) = none_at_all
@@ -278,8 +290,8 @@ tidy_table (block r) (node BlockStatement w g s e ps) = Tidy-only _
 tidy_table (block r) (node _ w g s e ps) = none_at_all
 tidy_table (head b) (node VariableDeclaration w g s e ps) = Tidy-if _ _
 tidy_table (head b) (node _ w g s e ps) = none_at_all
-tidy_table (declarator i b) (node VariableDeclarator w g s e (part n (part x none))) = Tidy-if _ _
-tidy_table (declarator i b) (node VariableDeclarator w g s e (part n (gap none))) = Tidy-unless _ _
+tidy_table (declarator i b) (node VariableDeclarator w g s e (part n (part x none))) = Tidy-cond _ _ _ (Tidy-at _ _) none_at_all
+tidy_table (declarator i b) (node VariableDeclarator w g s e (part n (gap none))) = Tidy-cond _ _ _ none_at_all (Tidy-at _ _)
 tidy_table (declarator i b) (node _ w g s e ps) = none_at_all
 tidy_table (switch_case r) (node SwitchCase w g s e (part t ps)) = Tidy-only _
 tidy_table (switch_case r) (node SwitchCase w g s e (gap ps)) = Tidy-only _
@@ -289,7 +301,9 @@ tidy_table (handler r) (node CatchClause w g s e (gap ps)) = Tidy-only _
 tidy_table (handler r) (node _ w g s e ps) = none_at_all
 tidy_table class_body (node ClassBody w g s e ps) = Tidy-only _
 tidy_table class_body (node _ w g s e ps) = none_at_all
-tidy_table member (node MethodDefinition w g s e ps) = Tidy-if _ _
+tidy_table member (node MethodDefinition w g s e ps) =
+    Tidy-cond _ (cond g.is_static (members (term "static" ∷ sp ∷ []) g.computed g.form) (members [] g.computed g.form)) []
+    (Tidy-cond g.is_static _ _ (Tidy-members (term "static" ∷ sp ∷ []) g.computed g.form) (Tidy-members [] g.computed g.form)) none_at_all
 tidy_table member (node _ w g s e ps) = none_at_all
 tidy_table script (node Program w g s e ps) = Tidy-only _
 tidy_table script (node _ w g s e ps) = none_at_all

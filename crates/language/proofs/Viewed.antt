@@ -1,20 +1,19 @@
 -- Every way of the table is one of the view's productions.
 use Rattle.std.proofs.Common.{◌≡◌, ℕ, Bool, true, false, cond, List, [], ◌∷◌, ◌++◌, refl}
 use Rattle.std.specs.Prelude.{IsTrue, not, map, filter}
+use Rattle.std.proofs.lemmas.Bool.{and_parts}
 use Rattle.tree.specs.declared.kind.Kind.{Kind}
 use Rattle.tree.specs.declared.kind.Kind.TheVariants.{Identifier, Literal, ThisExpression, ArrayExpression, ObjectExpression, FunctionExpression, ArrowFunctionExpression, ClassExpression, TemplateLiteral, TaggedTemplateExpression, MemberExpression, CallExpression, NewExpression, MetaProperty, ImportExpression, ChainExpression, UpdateExpression, UnaryExpression, BinaryExpression, LogicalExpression, ConditionalExpression, AssignmentExpression, SequenceExpression}
-use Rattle.language.specs.declared.Rank.TheVariants.{Call}
 use Rattle.tree.specs.declared.kind.Flags.{Flags}
 use Rattle.tree.specs.Tree.{Tree, Parts, none, part, gap, kind_of, bare}
-use Rattle.language.specs.FirstPart.{others, lead as lead_kind}
-use Rattle.language.specs.Words.{Operator, binds, powers, steps, assigns, operator_of, does_step, does_assign, is_identifier, is_super}
-use Rattle.language.specs.Pieces.{Role, Spelling, PieceOf, at, put, base, sub, lead}
+use Rattle.language.specs.Words.{Operator, binds, powers, steps, assigns, operator_of, does_step, does_assign, is_identifier}
+use Rattle.language.specs.Pieces.{Role, Spelling, PieceOf}
 use Rattle.language.specs.Expressions.{expressions, binary_ways, logical_ways, arguments, arrow_end}
 use Rattle.language.specs.Derivation.{Among, first, later}
 use Rattle.tree.specs.Uses.{is_lean}
 use Rattle.language.specs.Grammar.{ways, ways_bare, spellings}
 use Rattle.language.proofs.Domination.{settled, fits}
-use Rattle.language.specs.View.{Made, identifier, literal, this, array, object, function, class, template, short_arrow, arrow, tagged, super_member, member, super_call, call, new_with, new_without, new_target, import_call, chain, prefix, postfix, unary_word, unary_sign, power, binary, logical, conditional, assign, several}
+use Rattle.language.specs.View.{Made, identifier, literal, this, array, object, function, class, template, short_arrow, arrow, tagged, super_member, member, super_call, call, new_with, new_without, new_target, import_call, chain, prefix, postfix, unary_word, unary_sign, power, binary, logical, conditional, assign, assign_pattern, several}
 
 pub one : {X : Type 0} {x y : X} → Among x (y ∷ []) → x ≡ y
 one first = refl
@@ -54,15 +53,16 @@ pub record Way (a : Role) (n : Tree) (qs : List (PieceOf Role)) : Type 0 where
   pub listed : Among spelling (spellings a (bare n))
   pub fit : IsTrue (fits a spelling)
   pub is : qs ≡ settled a spelling
+  pub lean : is_lean (bare n) ≡ true
 
 pub way_of : {a : Role} {n : Tree} {qs : List (PieceOf Role)} → Among qs (ways a n) → Way a n qs
 unfolding ways ways_bare
-way_of {a} {n} {qs} h = go (is_lean (bare n)) h
+way_of {a} {n} {qs} h = go (is_lean (bare n)) refl h
   where
-    go : (b : Bool) → Among qs (cond b (map (settled a) (filter (fits a) (spellings a (bare n)))) []) → Way a n qs
-    go false h = elim h [ ]
-    go true h = let u = from_map (settled a) _ h in let v = from_filter (fits a) _ u.1 in
-        record { spelling = u.0; listed = v.1; fit = v.0; is = u.2 }
+    go : (b : Bool) → is_lean (bare n) ≡ b → Among qs (cond b (map (settled a) (filter (fits a) (spellings a (bare n)))) []) → Way a n qs
+    go false e h = elim h [ ]
+    go true e h = let u = from_map (settled a) _ h in let v = from_filter (fits a) _ u.1 in
+        record { spelling = u.0; listed = v.1; fit = v.0; is = u.2; lean = e }
 
 module _ {w : List ℕ} {g : Flags} {ps : Parts} {x : Spelling} where
   as_made : {k : Kind} {y : Spelling} → Made k w g ps y → Among x (y ∷ []) → Made k w g ps x
@@ -80,7 +80,7 @@ logical_made (binds false z q) e h = elim h [ ]
 logical_made (binds true z q) e h = as_made (logical e) h
 logical_made _ e h = elim h [ ]
 
-does_step_of : (o : Operator) → not (does_step o) ≡ false → o ≡ steps
+does_step_of : (o : Operator) → does_step o ≡ true → o ≡ steps
 does_step_of steps e = refl
 does_step_of _ e = cc
 
@@ -116,21 +116,18 @@ made TemplateLiteral h = as_made template h
 made ArrowFunctionExpression {ps = ps} h = arrow_made ps h
 made TaggedTemplateExpression h = as_made tagged h
 made MemberExpression h = unless _ h (λ e k. cases _ k (λ d. as_made (super_member e d)) (λ d. as_made (member e d)))
-made CallExpression {w = w} {g = g} {ps = ps} {x = x} h = unless _ h (λ e k. of_head e (is_super (lead_kind ps)) refl k)
-  where
-    of_head : g.optional ≡ false → (b : Bool) → is_super (lead_kind ps) ≡ b → Among x (at Call (cond b (put base) (sub (lead Call)) ∷ arguments (others ps)) ∷ []) → Made CallExpression w g ps x
-    of_head e true d k = as_made (super_call e d) k
-    of_head e false d k = as_made (call e d) k
+made CallExpression h = unless _ h (λ e k. cases _ k (λ d. as_made (super_call e d)) (λ d. as_made (call e d)))
 made NewExpression first = new_with
 made NewExpression (later h) = cases _ h (λ e. as_made (new_without e)) (λ e k. elim k [ ])
 made MetaProperty h = cases _ h (λ e. as_made (new_target e)) (λ e k. elim k [ ])
 made ImportExpression h = as_made import_call h
-made ChainExpression h = as_made chain h
-made UpdateExpression h = unless _ h (λ e k. cases _ k (λ d. as_made (prefix (does_step_of _ e) d)) (λ d. as_made (postfix (does_step_of _ e) d)))
+made ChainExpression h = cases _ h (λ e. as_made (chain e)) (λ e k. elim k [ ])
+made UpdateExpression h = unless _ h (λ e k. let u = and_parts _ _ (absent_is_false _ e) in
+    cases _ k (λ d. as_made (prefix (does_step_of _ u.0) u.1 d)) (λ d. as_made (postfix (does_step_of _ u.0) u.1 d)))
 made UnaryExpression h = unless _ h (λ e k. cases _ k (λ d. as_made (unary_word (absent_is_false _ e) d)) (λ d. as_made (unary_sign (absent_is_false _ e) d)))
 made BinaryExpression {w = w} h = binary_made (operator_of w) refl h
 made LogicalExpression {w = w} h = logical_made (operator_of w) refl h
 made ConditionalExpression h = as_made conditional h
-made AssignmentExpression h = unless _ h (λ e. as_made (assign (does_assign_of _ e)))
+made AssignmentExpression h = unless _ h (λ e k. cases _ k (λ d. as_made (assign (does_assign_of _ e) d)) (λ d j. cases _ j (λ c. let u = and_parts _ _ c in as_made (assign_pattern (does_assign_of _ e) u.0 u.1)) (λ c l. elim l [ ])))
 made SequenceExpression h = unless _ h (λ e. as_made (several e))
 made _ h = elim h [ ]

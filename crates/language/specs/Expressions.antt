@@ -14,8 +14,8 @@ use Rattle.tree.specs.declared.kind.Form.{Form}
 use Rattle.tree.specs.declared.kind.Form.TheVariants.{Init, Get, Set, Method, Shorthand, Constructor}
 use Rattle.tree.specs.Tree.{Tree, node, Parts, none, part, gap, kind_of, text_of}
 use Rattle.language.specs.FirstPart.{lead as lead_kind, others}
-use Rattle.language.specs.Words.{is, among, Operator, binds, powers, operator_of, is_assignment, is_word_operator, is_prefix, is_step, is_reserved, literal_class, is_name, is_open_number, is_identifier, is_rest, is_super}
-use Rattle.language.specs.Pieces.{expr, name, word, key, echo, base, chunk, spread, property, pattern_property, element, rest, method, body, class_body, apart, loose, Piece, left, lead, tail, callee, lead_spine, put, lead_target, lead_bound, at_in, tok, unbroken, open_parameters, close_parameters, sub, absent, never, lay, Spelling, at, only, sign, term, sp, nothing, target, is_none, listed, elements, argument, with_default, parameters, quasi}
+use Rattle.language.specs.Words.{is, among, Operator, binds, powers, operator_of, is_assignment, is_word_operator, is_prefix, is_step, is_reserved, literal_class, is_name, is_open_number, is_target, is_pattern, is_identifier, is_rest, is_super}
+use Rattle.language.specs.Pieces.{expr, name, word, key, echo, base, chunk, spread, property, pattern_property, element, rest, method, body, class_body, apart, loose, Piece, left, lead, tail, callee, lead_spine, lead_pattern, put, put_at, at_in, tok, unbroken, open_parameters, close_parameters, sub, absent, never, lay, Spelling, at, only, sign, term, sp, nothing, is_none, listed, elements, argument, with_default, parameters, quasi}
 
 abbrev pub assignment : Piece
 assignment = put (expr Assignment true Any)
@@ -61,13 +61,20 @@ abbrev mutual
   first_chained (part n ps) = chained n
   first_chained (gap ps) = false
 
--- what stands below a part of a chain: a further part, or the base
-abbrev pub below : Bool → Parts → Piece
-below optional ps = cond (first_chained ps) (sub lead_spine) (cond optional (sub (lead Call)) never)
+-- a part of a chain: what stands behind that which is below it
+abbrev pub member_link : Flags → List Piece
+member_link g = cond g.optional (sign "?." ∷ cond g.computed in_brackets (put word ∷ [])) (selector g)
+
+abbrev pub call_link : Flags → Parts → List Piece
+call_link g ps = cond g.optional (sign "?." ∷ []) [] ++ arguments (others ps)
+
+-- below it stands a further part, or the base
+abbrev pub linked : Bool → Parts → List Piece → List Spelling
+linked optional ps qs = cond (first_chained ps) (only (sub lead_spine ∷ qs)) (cond optional (only (sub (lead Call) ∷ qs)) [])
 
 abbrev pub spines : Kind → Flags → Parts → List Spelling
-spines MemberExpression g ps = only (below g.optional ps ∷ cond g.optional (sign "?." ∷ cond g.computed in_brackets (put word ∷ [])) (selector g))
-spines CallExpression g ps = only (below g.optional ps ∷ cond g.optional (sign "?." ∷ []) [] ++ arguments (others ps))
+spines MemberExpression g ps = linked g.optional ps (member_link g)
+spines CallExpression g ps = linked g.optional ps (call_link g ps)
 spines _ g ps = []
 
 -- the parts of a template, from the first or from a later one
@@ -78,20 +85,18 @@ chunks b (part q none) = put (chunk b true) ∷ []
 chunks b (part q (gap ps)) = nothing
 chunks b (part q (part e ps)) = put (chunk b false) ∷ put (expr Expression true Any) ∷ chunks false ps
 
-abbrev pub key_pieces : Flags → List Piece
-key_pieces g = cond g.computed (sign "[" ∷ assignment ∷ sign "]" ∷ []) (put key ∷ [])
+-- a key between these pieces
+abbrev pub keyed : List Piece → Bool → List Piece → List Spelling
+keyed before computed after = cond computed (only (before ++ sign "[" ∷ assignment ∷ sign "]" ∷ after)) (only (before ++ put key ∷ after))
 
 -- the property of an object that is no spread
-abbrev pub properties : Flags → Parts → List Piece
-properties g ps = of_form g.form
-  where
-    of_form : Form → List Piece
-    of_form Init = key_pieces g ++ sign ":" ∷ sp ∷ assignment ∷ []
-    of_form Method = key_pieces g ++ put (method Method) ∷ []
-    of_form Get = term "get" ∷ sp ∷ key_pieces g ++ put (method Get) ∷ []
-    of_form Set = term "set" ∷ sp ∷ key_pieces g ++ put (method Set) ∷ []
-    of_form Shorthand = cond g.computed nothing (put echo ∷ put name ∷ [])
-    of_form Constructor = nothing
+abbrev pub properties : Bool → Form → List Spelling
+properties computed Init = keyed [] computed (sign ":" ∷ sp ∷ assignment ∷ [])
+properties computed Method = keyed [] computed (put (method Method) ∷ [])
+properties computed Get = keyed (term "get" ∷ sp ∷ []) computed (put (method Get) ∷ [])
+properties computed Set = keyed (term "set" ∷ sp ∷ []) computed (put (method Set) ∷ [])
+properties computed Shorthand = cond computed [] (only (put echo ∷ put name ∷ []))
+properties computed Constructor = []
 
 abbrev pub object_part : Tree → Piece
 object_part n = is_spread_part (kind_of n)
@@ -101,19 +106,17 @@ object_part n = is_spread_part (kind_of n)
     is_spread_part Property = put property
     is_spread_part _ = never
 
--- of an object pattern's property: the key, and the value
-abbrev pub pattern_properties : Bool → Flags → Parts → List Piece
-pattern_properties b g ps = of_form g.form
-  where
-    value : Kind → List Piece
-    value Identifier = put name ∷ []
-    value AssignmentPattern = put (element true) ∷ []
-    value _ = nothing
+-- of an object pattern's property without key of its own, by its value
+abbrev pub shorthand_pattern : Kind → List Spelling
+shorthand_pattern Identifier = only (put echo ∷ put name ∷ [])
+shorthand_pattern AssignmentPattern = only (put echo ∷ put (element true) ∷ [])
+shorthand_pattern _ = []
 
-    of_form : Form → List Piece
-    of_form Init = key_pieces g ++ sign ":" ∷ sp ∷ with_default b (lead_kind (others ps)) ∷ []
-    of_form Shorthand = cond g.computed nothing (put echo ∷ value (lead_kind (others ps)))
-    of_form _ = nothing
+-- of an object pattern's property: the key, and the value, of this kind
+abbrev pub pattern_properties : Bool → Bool → Form → Kind → List Spelling
+pattern_properties b computed Init k = keyed [] computed (sign ":" ∷ sp ∷ put_at (with_default b k) ∷ [])
+pattern_properties b computed Shorthand k = cond computed [] (shorthand_pattern k)
+pattern_properties b computed _ k = []
 
 abbrev pub object_pattern_part : Bool → Tree → Piece
 object_pattern_part b n = of_kind (kind_of n)
@@ -143,7 +146,7 @@ class_pieces ps = (term "class" ∷ sp ∷ named_with_space ps) ++ heritage (oth
 abbrev pub methods : Form → Parts → List Spelling
 methods Get (gap (part b none)) = only (absent ∷ sign "(" ∷ sign ")" ∷ sp ∷ put body ∷ [])
 methods Get _ = []
-methods Set (gap (part n (part b none))) = cond (is_rest (kind_of n)) [] (only (absent ∷ sign "(" ∷ with_default true (kind_of n) ∷ sign ")" ∷ sp ∷ put body ∷ []))
+methods Set (gap (part n (part b none))) = cond (is_rest (kind_of n)) [] (only (absent ∷ sign "(" ∷ put_at (with_default true (kind_of n)) ∷ sign ")" ∷ sp ∷ put body ∷ []))
 methods Set _ = []
 methods _ (gap ps) = only (absent ∷ sign "(" ∷ parameters (sign ")" ∷ sp ∷ put body ∷ []) ps)
 methods _ _ = []
@@ -203,18 +206,19 @@ expressions MemberExpression w g ps =
     at Member (sub callee ∷ after_number ps g ++ selector g) ∷ []))
 expressions CallExpression w g ps =
     cond g.optional [] (
-    at Call (cond (is_super (lead_kind ps)) (put base) (sub (lead Call)) ∷ arguments (others ps)) ∷ [])
+    cond (is_super (lead_kind ps)) (at Call (put base ∷ arguments (others ps)) ∷ []) (
+    at Call (sub (lead Call) ∷ arguments (others ps)) ∷ []))
 expressions NewExpression w g ps =
     at Member (term "new" ∷ sp ∷ put (expr Member true Any) ∷ arguments (others ps)) ∷
     cond (is_none (others ps)) (at New (term "new" ∷ sp ∷ put (expr New true Any) ∷ []) ∷ []) []
 expressions MetaProperty w g ps = cond (lead_is ps "new" && lead_is (others ps) "target") (at Member (put word ∷ sign "." ∷ put word ∷ []) ∷ []) []
 expressions ImportExpression w g ps = at Call (term "import" ∷ sign "(" ∷ assignment ∷ sign ")" ∷ []) ∷ []
-expressions ChainExpression w g ps = at LeftHandSide (cond (first_chained ps) (sub lead_spine) never ∷ []) ∷ []
+expressions ChainExpression w g ps = cond (first_chained ps) (at LeftHandSide (sub lead_spine ∷ []) ∷ []) []
 expressions UpdateExpression w g ps =
-    cond (not (is_step w)) [] (
+    cond (not (is_step w && is_target (lead_kind ps))) [] (
     cond g.prefix
-    (at Update (tok LexicalClass.Punctuator w ∷ lay (apart (cond (is w "++") 43 45)) ∷ target (lead_kind ps) ∷ []) ∷ [])
-    (at Update (lead_target (lead_kind ps) ∷ unbroken ∷ tok LexicalClass.Punctuator w ∷ []) ∷ []))
+    (at Update (tok LexicalClass.Punctuator w ∷ lay (apart (cond (is w "++") 43 45)) ∷ put (expr LeftHandSide true Any) ∷ []) ∷ [])
+    (at Update (sub (lead LeftHandSide) ∷ unbroken ∷ tok LexicalClass.Punctuator w ∷ []) ∷ []))
 expressions UnaryExpression w g ps =
     cond (not (is_prefix w)) [] (
     cond (is_word_operator w)
@@ -226,6 +230,7 @@ expressions ConditionalExpression w g ps =
     at Conditional (sub (left ShortCircuit) ∷ sp ∷ sign "?" ∷ sp ∷ assignment ∷ sp ∷ sign ":" ∷ sp ∷ sub (tail Assignment Any) ∷ []) ∷ []
 expressions AssignmentExpression w g ps =
     cond (not (is_assignment w)) [] (
-    at Assignment (cond (is w "=") (lead_bound (lead_kind ps)) (lead_target (lead_kind ps)) ∷ infix_pieces w ++ sub (tail Assignment Any) ∷ []) ∷ [])
+    cond (is_target (lead_kind ps)) (at Assignment (sub (lead LeftHandSide) ∷ infix_pieces w ++ sub (tail Assignment Any) ∷ []) ∷ []) (
+    cond (is w "=" && is_pattern (lead_kind ps)) (at Assignment (sub lead_pattern ∷ infix_pieces w ++ sub (tail Assignment Any) ∷ []) ∷ []) []))
 expressions SequenceExpression w g ps = cond (is_none (others ps)) [] (at Expression (sub (left Assignment) ∷ sequence (others ps)) ∷ [])
 expressions _ w g ps = []

@@ -11,9 +11,9 @@ use Rattle.tokens.specs.Lexical.{LexicalClass}
 use Rattle.tokens.specs.Lexical.{Name, Punctuator, Text, Template, End}
 use Rattle.tree.specs.Tree.{Tree, node, Parts, bare}
 use Rattle.tree.specs.Uses.{implies, is_lean}
-use Rattle.language.specs.FirstPart.{lead}
+use Rattle.language.specs.FirstPart.{lead, others}
 use Rattle.language.specs.Words.{is, among, takes, is_reserved, literal_class, is_string, is_name}
-use Rattle.language.specs.Pieces.{Role, expr, spine, name, word, key, echo, base, quoted, quasi, chunk, spread, property, pattern, pattern_property, element, rest, method, body, statement, item, opening, block, head, declarator, switch_case, handler, class_body, member, script, Piece, tok, many, ahead, PieceOf, settle_piece, never, lay, feed, line, Spelling, only, sign, sp, bound, listed, elements, pattern_element}
+use Rattle.language.specs.Pieces.{Role, expr, spine, name, word, key, echo, base, quoted, quasi, chunk, spread, property, pattern, pattern_property, element, rest, method, body, statement, item, opening, block, head, declarator, switch_case, handler, class_body, member, script, Piece, tok, many, ahead, PieceOf, settle_piece, never, lay, feed, line, Spelling, only, only_at, put_at, sign, sp, bound, listed, elements, pattern_element}
 use Rattle.language.specs.Expressions.{expressions, spines, chunks, properties, pattern_properties, object_pattern_part, methods, assignment}
 use Rattle.language.specs.Statements.{statements, items, openings, braced, lines, prologue, heads, declarator_ways, cases, handlers, class_members, member_lines}
 
@@ -61,11 +61,11 @@ patterns b ObjectPattern ps = only ((sign "{" ∷ listed (object_pattern_part b)
 patterns b _ ps = []
 
 abbrev pub elements_with_default : Bool → Kind → Parts → List Spelling
-elements_with_default b AssignmentPattern ps = only (bound b (lead ps) ∷ sp ∷ sign "=" ∷ sp ∷ assignment ∷ [])
+elements_with_default b AssignmentPattern ps = only_at (bound b (lead ps)) (sp ∷ sign "=" ∷ sp ∷ assignment ∷ [])
 elements_with_default b _ ps = []
 
 abbrev pub rests : Bool → Bool → Kind → Parts → List Spelling
-rests b of_object RestElement ps = cond (of_object && is_a_pattern (lead ps)) [] (only (sign "..." ∷ bound b (lead ps) ∷ []))
+rests b of_object RestElement ps = cond (of_object && is_a_pattern (lead ps)) [] (only (sign "..." ∷ put_at (bound b (lead ps)) ∷ []))
   where
     is_a_pattern : Kind → Bool
     is_a_pattern ArrayPattern = true
@@ -86,10 +86,10 @@ spellings quasi (node k w g s e ps) = quasis k ps
 spellings (chunk first last) (node k w g s e ps) = template_parts first last k w
 spellings spread (node SpreadElement w g s e ps) = only (sign "..." ∷ assignment ∷ [])
 spellings spread (node _ w g s e ps) = []
-spellings property (node Property w g s e ps) = only (properties g ps)
+spellings property (node Property w g s e ps) = properties g.computed g.form
 spellings property (node _ w g s e ps) = []
 spellings (pattern b f) (node k w g s e ps) = patterns b k ps
-spellings (pattern_property b) (node Property w g s e ps) = only (pattern_properties b g ps)
+spellings (pattern_property b) (node Property w g s e ps) = pattern_properties b g.computed g.form (lead (others ps))
 spellings (pattern_property b) (node _ w g s e ps) = []
 spellings (element b) (node k w g s e ps) = elements_with_default b k ps
 spellings (rest b o) (node k w g s e ps) = rests b o k ps

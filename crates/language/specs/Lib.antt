@@ -12,6 +12,7 @@ pub mod Derivation
 pub mod Cursor
 pub mod View
 pub mod Follow
+pub mod Opening
 pub mod Cost
 pub mod Search
 pub mod Layout

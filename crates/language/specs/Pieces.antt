@@ -1,5 +1,5 @@
 -- What a spelling is made of, and the positions.
-use Rattle.std.specs.Prelude.{ℕ, Bool, true, false, not, cond, List, [], ◌∷◌, ◌++◌, codes}
+use Rattle.std.specs.Prelude.{ℕ, Bool, true, false, not, cond, List, [], ◌∷◌, ◌++◌, Option, Some, None, codes}
 use Prim.Native.String.{String}
 use Rattle.language.specs.declared.Rank.{Rank}
 use Rattle.language.specs.declared.Rank.TheVariants.{Primary, Assignment, LeftHandSide, Call, Member}
@@ -172,21 +172,20 @@ sp = lay space
 abbrev pub nothing : List Piece
 nothing = never ∷ []
 
--- a simple target
-abbrev pub target : Kind → Piece
-target k = cond (is_target k) (put (expr LeftHandSide true Any)) never
+-- the next part, at a position that may be none
+abbrev pub put_at : Option Role → Piece
+put_at (Some a) = put a
+put_at None = never
 
--- the same as the first part of a node
-abbrev pub lead_target : Kind → Piece
-lead_target k = cond (is_target k) (sub (lead LeftHandSide)) never
+-- the one way to spell a node, which begins with its first part
+abbrev pub only_at : Option Role → List Piece → List Spelling
+only_at (Some a) qs = only (put a ∷ qs)
+only_at None qs = []
 
--- a name or a binding pattern; or a simple target or an assignment pattern
-abbrev pub bound : Bool → Kind → Piece
-bound true k = cond (is_pattern k) (put (pattern true Any)) (cond (is_identifier k) (put name) never)
-bound false k = cond (is_pattern k) (put (pattern false Any)) (target k)
-
-abbrev pub lead_bound : Kind → Piece
-lead_bound k = cond (is_pattern k) (sub lead_pattern) (lead_target k)
+-- the position of what is bound, a name or a binding pattern; or of what is assigned, a simple target or an assignment pattern
+abbrev pub bound : Bool → Kind → Option Role
+bound true k = cond (is_pattern k) (Some (pattern true Any)) (cond (is_identifier k) (Some name) None)
+bound false k = cond (is_pattern k) (Some (pattern false Any)) (cond (is_target k) (Some (expr LeftHandSide true Any)) None)
 
 abbrev pub is_none : Parts → Bool
 is_none none = true
@@ -211,16 +210,16 @@ elements f (part n ps) = (f n ∷ separator (kind_of n) (is_none ps)) ++ element
 elements f (gap ps) = (absent ∷ sign "," ∷ cond (is_none ps) [] (sp ∷ [])) ++ elements f ps
 
 abbrev pub argument : Tree → Piece
-argument n = cond (is_spread (kind_of n)) (put spread) (put (expr Assignment true Any))
+argument n = put (cond (is_spread (kind_of n)) spread (expr Assignment true Any))
 
 -- a target, name or pattern, with or without a default
-abbrev pub with_default : Bool → Kind → Piece
-with_default b AssignmentPattern = put (element b)
+abbrev pub with_default : Bool → Kind → Option Role
+with_default b AssignmentPattern = Some (element b)
 with_default b k = bound b k
 
 -- the element of an array pattern, and a parameter
 abbrev pub pattern_element : Bool → Tree → Piece
-pattern_element b n = cond (is_rest (kind_of n)) (put (rest b false)) (with_default b (kind_of n))
+pattern_element b n = put_at (cond (is_rest (kind_of n)) (Some (rest b false)) (with_default b (kind_of n)))
 
 -- parameters, then what closes them and the body, which is the last part
 abbrev pub parameters : List Piece → Parts → List Piece

@@ -1,5 +1,5 @@
 -- Statements and declarations: the ways to spell each node (ECMA-262 13, 14.1, 14.6, 15.1).
-use Rattle.std.specs.Prelude.{ℕ, Bool, true, false, not, cond, ◌&&◌, ◌||◌, List, [], ◌∷◌, ◌++◌, ◌+◌, nat_le, codes}
+use Rattle.std.specs.Prelude.{ℕ, Bool, true, false, not, cond, ◌&&◌, ◌||◌, List, [], ◌∷◌, ◌++◌, ◌+◌, nat_le, Some, codes}
 use Rattle.tree.specs.declared.kind.Kind.{Kind}
 use Rattle.tree.specs.declared.kind.Kind.TheVariants.{Literal, MethodDefinition, ExpressionStatement, BlockStatement, EmptyStatement, DebuggerStatement, ReturnStatement, ThrowStatement, BreakStatement, ContinueStatement, LabeledStatement, IfStatement, SwitchStatement, SwitchCase, TryStatement, CatchClause, WhileStatement, DoWhileStatement, ForStatement, ForInStatement, ForOfStatement, VariableDeclaration, VariableDeclarator, FunctionDeclaration, ClassDeclaration}
 use Rattle.language.specs.declared.Rank.TheVariants.{Expression, Assignment, Grouped}
@@ -13,9 +13,9 @@ use Rattle.tree.specs.declared.kind.Form.TheVariants.{Get, Set, Method, Construc
 use Rattle.tree.specs.Tree.{Tree, Parts, none, part, gap, kind_of, text_of, flags_of, parts_of}
 use Rattle.language.specs.FirstPart.{lead, others}
 use Rattle.language.specs.Words.{is, among, literal_class, is_string, is_pattern, is_identifier}
-use Rattle.language.specs.Pieces.{Role, expr, name, quoted, method, statement, item, opening, block, head, declarator, switch_case, handler, member, bound, of_do, behind, line, deeper, shallower, Piece, tok, many, unbroken, ending, put, absent, lay, Spelling, only, sign, term, sp, nothing, is_none}
+use Rattle.language.specs.Pieces.{Role, expr, name, quoted, method, statement, item, opening, block, head, declarator, switch_case, handler, member, bound, put_at, only_at, of_do, behind, line, deeper, shallower, Piece, tok, many, unbroken, ending, put, absent, lay, Spelling, only, sign, term, sp, nothing, is_none}
 use Rattle.language.specs.Edges.{last_edge, ends_in_if}
-use Rattle.language.specs.Expressions.{given, function_pieces, class_pieces, key_pieces}
+use Rattle.language.specs.Expressions.{given, function_pieces, class_pieces, keyed}
 use Rattle.language.specs.Strings.{literal_units}
 
 abbrev pub whole : Piece
@@ -73,7 +73,7 @@ is_declaration _ = false
 
 -- the left side in the head of a for-in or for-of
 abbrev pub for_left : Parts → Piece
-for_left ps = cond (is_declaration (lead ps)) (put (head false)) (bound false (lead ps))
+for_left ps = put_at (cond (is_declaration (lead ps)) (Some (head false)) (bound false (lead ps)))
 
 -- a case without test
 abbrev pub defaults : Parts → ℕ
@@ -108,7 +108,7 @@ statements r IfStatement w g (part t ps) = choose ps
 statements r DoWhileStatement w g ps = only (term "do" ∷ sp ∷ put (statement r) ∷ sp ∷ term "while" ∷ sp ∷ sign "(" ∷ whole ∷ sign ")" ∷ ending of_do ∷ [])
 statements r WhileStatement w g ps = only (term "while" ∷ sp ∷ sign "(" ∷ whole ∷ sign ")" ∷ sp ∷ put (statement r) ∷ [])
 statements r ForStatement w g ps =
-    only ((term "for" ∷ sp ∷ sign "(" ∷ given ps (cond (is_declaration (lead ps)) (put (head true)) (put (expr Expression false Any)) ∷ []))
+    only ((term "for" ∷ sp ∷ sign "(" ∷ given ps (put (cond (is_declaration (lead ps)) (head true) (expr Expression false Any)) ∷ []))
     ++ sign ";" ∷ given (others ps) (sp ∷ whole ∷ [])
     ++ sign ";" ∷ given (others (others ps)) (sp ∷ whole ∷ [])
     ++ sign ")" ∷ sp ∷ put (statement r) ∷ [])
@@ -143,7 +143,9 @@ unfoldable pub openings : Bool → Kind → List ℕ → Flags → Parts → Lis
 openings r ExpressionStatement w g ps =
     cond g.directive
     (cond (first_is_string ps) (only (put quoted ∷ end_of Other ∷ [])) [])
-    (only (cond (first_is_string ps) (put (expr Grouped true Any)) (put (expr Expression true Statement)) ∷ end_of (last_edge ps) ∷ []))
+    (cond (first_is_string ps)
+    (only (put (expr Grouped true Any) ∷ end_of (last_edge ps) ∷ []))
+    (only (put (expr Expression true Statement) ∷ end_of (last_edge ps) ∷ [])))
 openings r k w g ps = items r k w g ps
 
 abbrev pub heads : Bool → Kind → List ℕ → Parts → List Spelling
@@ -153,9 +155,9 @@ heads b _ w ps = []
 
 abbrev pub declarator_ways : Bool → Bool → Kind → Parts → List Spelling
 declarator_ways i b VariableDeclarator (part n (part e none)) =
-    cond b (only (bound true (kind_of n) ∷ sp ∷ sign "=" ∷ sp ∷ put (expr Assignment i Any) ∷ [])) []
+    cond b (only_at (bound true (kind_of n)) (sp ∷ sign "=" ∷ sp ∷ put (expr Assignment i Any) ∷ [])) []
 declarator_ways i b VariableDeclarator (part n (gap none)) =
-    cond (b && is_pattern (kind_of n)) [] (only (bound true (kind_of n) ∷ absent ∷ []))
+    cond (b && is_pattern (kind_of n)) [] (only_at (bound true (kind_of n)) (absent ∷ []))
 declarator_ways i b _ _ = []
 
 abbrev pub cases : Bool → Kind → Parts → List Spelling
@@ -164,7 +166,7 @@ cases r SwitchCase (gap ps) = only (absent ∷ term "default" ∷ sign ":" ∷ l
 cases r _ _ = []
 
 abbrev pub handlers : Bool → Kind → Parts → List Spelling
-handlers r CatchClause (part p ps) = only (term "catch" ∷ sp ∷ sign "(" ∷ bound true (kind_of p) ∷ sign ")" ∷ sp ∷ put (block r) ∷ [])
+handlers r CatchClause (part p ps) = only (term "catch" ∷ sp ∷ sign "(" ∷ put_at (bound true (kind_of p)) ∷ sign ")" ∷ sp ∷ put (block r) ∷ [])
 handlers r CatchClause (gap ps) = only (absent ∷ term "catch" ∷ sp ∷ put (block r) ∷ [])
 handlers r _ _ = []
 
@@ -173,9 +175,15 @@ member_lines none = []
 member_lines (part n ps) = lay line ∷ put member ∷ many (codes ";") ∷ member_lines ps
 member_lines (gap ps) = nothing
 
+-- a member, behind these pieces
+abbrev pub members : List Piece → Bool → Form → List Spelling
+members before computed Get = keyed (before ++ term "get" ∷ sp ∷ []) computed (put (method Get) ∷ [])
+members before computed Set = keyed (before ++ term "set" ∷ sp ∷ []) computed (put (method Set) ∷ [])
+members before computed _ = keyed before computed (put (method Method) ∷ [])
+
 -- a key that isn't computed has the value `constructor`
 abbrev pub class_members : Kind → Flags → Parts → List Spelling
-class_members MethodDefinition g ps = cond (fits g.form) (only (cond g.is_static (term "static" ∷ sp ∷ []) [] ++ of_form g.form)) []
+class_members MethodDefinition g ps = cond (fits g.form) (cond g.is_static (members (term "static" ∷ sp ∷ []) g.computed g.form) (members [] g.computed g.form)) []
   where
     names_constructor : Parts → Bool
     names_constructor none = false
@@ -189,9 +197,4 @@ class_members MethodDefinition g ps = cond (fits g.form) (only (cond g.is_static
     fits Get = true
     fits Set = true
     fits _ = false
-
-    of_form : Form → List Piece
-    of_form Get = term "get" ∷ sp ∷ key_pieces g ++ put (method Get) ∷ []
-    of_form Set = term "set" ∷ sp ∷ key_pieces g ++ put (method Set) ∷ []
-    of_form _ = key_pieces g ++ put (method Method) ∷ []
 class_members _ g ps = []

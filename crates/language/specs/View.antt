@@ -10,8 +10,8 @@ use Rattle.tokens.specs.Lexical.{LexicalClass}
 use Rattle.tree.specs.declared.kind.Flags.{Flags}
 use Rattle.tree.specs.Tree.{Tree, Parts, none, part, kind_of}
 use Rattle.language.specs.FirstPart.{lead as lead_kind, others}
-use Rattle.language.specs.Words.{is, among, binds, powers, assigns, steps, operator_of, is_word_operator, is_prefix, is_reserved, literal_class, is_name, is_identifier, is_super}
-use Rattle.language.specs.Pieces.{expr, name, word, base, quasi, apart, left, lead, tail, callee, lead_spine, put, lead_target, lead_bound, tok, unbroken, open_parameters, close_parameters, sub, never, lay, Spelling, at, sign, term, sp, target, is_none, listed, elements, argument, parameters}
+use Rattle.language.specs.Words.{is, among, binds, powers, assigns, steps, operator_of, is_word_operator, is_prefix, is_reserved, literal_class, is_name, is_target, is_pattern, is_identifier, is_super}
+use Rattle.language.specs.Pieces.{expr, name, word, base, quasi, apart, left, lead, tail, callee, lead_spine, lead_pattern, put, tok, unbroken, open_parameters, close_parameters, sub, lay, Spelling, at, sign, term, sp, is_none, listed, elements, argument, parameters}
 use Rattle.language.specs.Expressions.{assignment, arguments, after_number, selector, first_chained, chunks, object_part, function_pieces, class_pieces, arrow_end, infix_pieces, joined, sequence, lead_is}
 
 pub data Made : Kind → List ℕ → Flags → Parts → Spelling → Type 0 where
@@ -34,14 +34,19 @@ pub data Made : Kind → List ℕ → Flags → Parts → Spelling → Type 0 wh
   new_without : {w : List ℕ} {g : Flags} {ps : Parts} → is_none (others ps) ≡ true → Made NewExpression w g ps (at New (term "new" ∷ sp ∷ put (expr New true Any) ∷ []))
   new_target : {w : List ℕ} {g : Flags} {ps : Parts} → (lead_is ps "new" && lead_is (others ps) "target") ≡ true → Made MetaProperty w g ps (at Member (put word ∷ sign "." ∷ put word ∷ []))
   import_call : {w : List ℕ} {g : Flags} {ps : Parts} → Made ImportExpression w g ps (at Call (term "import" ∷ sign "(" ∷ assignment ∷ sign ")" ∷ []))
-  chain : {w : List ℕ} {g : Flags} {ps : Parts} → Made ChainExpression w g ps (at LeftHandSide (cond (first_chained ps) (sub lead_spine) never ∷ []))
-  prefix : {w : List ℕ} {g : Flags} {ps : Parts} → operator_of w ≡ steps → g.prefix ≡ true → Made UpdateExpression w g ps (at Update (tok LexicalClass.Punctuator w ∷ lay (apart (cond (is w "++") 43 45)) ∷ target (lead_kind ps) ∷ []))
-  postfix : {w : List ℕ} {g : Flags} {ps : Parts} → operator_of w ≡ steps → g.prefix ≡ false → Made UpdateExpression w g ps (at Update (lead_target (lead_kind ps) ∷ unbroken ∷ tok LexicalClass.Punctuator w ∷ []))
+  chain : {w : List ℕ} {g : Flags} {ps : Parts} → first_chained ps ≡ true → Made ChainExpression w g ps (at LeftHandSide (sub lead_spine ∷ []))
+  prefix : {w : List ℕ} {g : Flags} {ps : Parts} → operator_of w ≡ steps → is_target (lead_kind ps) ≡ true → g.prefix ≡ true →
+      Made UpdateExpression w g ps (at Update (tok LexicalClass.Punctuator w ∷ lay (apart (cond (is w "++") 43 45)) ∷ put (expr LeftHandSide true Any) ∷ []))
+  postfix : {w : List ℕ} {g : Flags} {ps : Parts} → operator_of w ≡ steps → is_target (lead_kind ps) ≡ true → g.prefix ≡ false →
+      Made UpdateExpression w g ps (at Update (sub (lead LeftHandSide) ∷ unbroken ∷ tok LexicalClass.Punctuator w ∷ []))
   unary_word : {w : List ℕ} {g : Flags} {ps : Parts} → is_prefix w ≡ true → is_word_operator w ≡ true → Made UnaryExpression w g ps (at Unary (tok Name w ∷ sp ∷ put (expr Unary true Any) ∷ []))
   unary_sign : {w : List ℕ} {g : Flags} {ps : Parts} → is_prefix w ≡ true → is_word_operator w ≡ false → Made UnaryExpression w g ps (at Unary (tok LexicalClass.Punctuator w ∷ cond (is w "+") (lay (apart 43) ∷ []) (cond (is w "-") (lay (apart 45) ∷ []) []) ++ put (expr Unary true Any) ∷ []))
   power : {w : List ℕ} {g : Flags} {ps : Parts} → operator_of w ≡ powers → Made BinaryExpression w g ps (at Exponentiation (sub (lead Update) ∷ infix_pieces w ++ put (expr Exponentiation true Any) ∷ []))
   binary : {w : List ℕ} {g : Flags} {ps : Parts} {z q : Rank} → operator_of w ≡ binds false z q → Made BinaryExpression w g ps (joined w z q)
   logical : {w : List ℕ} {g : Flags} {ps : Parts} {z q : Rank} → operator_of w ≡ binds true z q → Made LogicalExpression w g ps (joined w z q)
   conditional : {w : List ℕ} {g : Flags} {ps : Parts} → Made ConditionalExpression w g ps (at Conditional (sub (left ShortCircuit) ∷ sp ∷ sign "?" ∷ sp ∷ assignment ∷ sp ∷ sign ":" ∷ sp ∷ sub (tail Assignment Any) ∷ []))
-  assign : {w : List ℕ} {g : Flags} {ps : Parts} → operator_of w ≡ assigns → Made AssignmentExpression w g ps (at Assignment (cond (is w "=") (lead_bound (lead_kind ps)) (lead_target (lead_kind ps)) ∷ infix_pieces w ++ sub (tail Assignment Any) ∷ []))
+  assign : {w : List ℕ} {g : Flags} {ps : Parts} → operator_of w ≡ assigns → is_target (lead_kind ps) ≡ true →
+      Made AssignmentExpression w g ps (at Assignment (sub (lead LeftHandSide) ∷ infix_pieces w ++ sub (tail Assignment Any) ∷ []))
+  assign_pattern : {w : List ℕ} {g : Flags} {ps : Parts} → operator_of w ≡ assigns → is w "=" ≡ true → is_pattern (lead_kind ps) ≡ true →
+      Made AssignmentExpression w g ps (at Assignment (sub lead_pattern ∷ infix_pieces w ++ sub (tail Assignment Any) ∷ []))
   several : {w : List ℕ} {g : Flags} {ps : Parts} → is_none (others ps) ≡ false → Made SequenceExpression w g ps (at Expression (sub (left Assignment) ∷ sequence (others ps)))

@@ -52,27 +52,44 @@ abbrev pub takes : Rank → Rank → Bool
 takes y z = takes_number (tightness y) (tightness z)
 
 -- What a token between two expressions, or behind one, makes: each text has one meaning. `binds` has a flag for a logical
--- operator, the symbol of the node and of its left side, and the symbol of its right side.
+-- operator, the symbol of the node and of its left side, and the symbol of its right side. Then `**`, an assignment, `++` and
+-- `--`, a comma, the `?` of a conditional, `.`, arguments, `[`, `?.`, `=>`, and a template behind a tag, which isn't told by its text.
 pub data Operator : Type 0 where
   binds : Bool → Rank → Rank → Operator
-  powers assigns steps no_operator : Operator
+  powers assigns steps sequences asks selects calls indexes chains arrows tags no_operator : Operator
+
+-- the texts of each operator
+abbrev pub operators : List (List String × Operator)
+operators =
+    ("|" ∷ [], binds false BitwiseOr BitwiseXor) ∷
+    ("^" ∷ [], binds false BitwiseXor BitwiseAnd) ∷
+    ("&" ∷ [], binds false BitwiseAnd Equality) ∷
+    ("==" ∷ "!=" ∷ "===" ∷ "!==" ∷ [], binds false Equality Relational) ∷
+    ("<" ∷ ">" ∷ "<=" ∷ ">=" ∷ "instanceof" ∷ "in" ∷ [], binds false Relational Shift) ∷
+    ("<<" ∷ ">>" ∷ ">>>" ∷ [], binds false Shift Additive) ∷
+    ("+" ∷ "-" ∷ [], binds false Additive Multiplicative) ∷
+    ("*" ∷ "/" ∷ "%" ∷ [], binds false Multiplicative Exponentiation) ∷
+    ("??" ∷ [], binds true Coalesce BitwiseOr) ∷
+    ("||" ∷ [], binds true LogicalOr LogicalAnd) ∷
+    ("&&" ∷ [], binds true LogicalAnd BitwiseOr) ∷
+    ("**" ∷ [], powers) ∷
+    ("++" ∷ "--" ∷ [], steps) ∷
+    ("=" ∷ "+=" ∷ "-=" ∷ "*=" ∷ "/=" ∷ "%=" ∷ "**=" ∷ "<<=" ∷ ">>=" ∷ ">>>=" ∷ "&=" ∷ "|=" ∷ "^=" ∷ [], assigns) ∷
+    ("," ∷ [], sequences) ∷
+    ("?" ∷ [], asks) ∷
+    ("." ∷ [], selects) ∷
+    ("(" ∷ [], calls) ∷
+    ("[" ∷ [], indexes) ∷
+    ("?." ∷ [], chains) ∷
+    ("=>" ∷ [], arrows) ∷
+    []
+
+abbrev pub operator_among : List ℕ → List (List String × Operator) → Operator
+operator_among w [] = no_operator
+operator_among w (row ∷ rows) = cond (among w row.0) row.1 (operator_among w rows)
 
 abbrev pub operator_of : List ℕ → Operator
-operator_of w =
-    cond (among w ("|" ∷ [])) (binds false BitwiseOr BitwiseXor) (
-    cond (among w ("^" ∷ [])) (binds false BitwiseXor BitwiseAnd) (
-    cond (among w ("&" ∷ [])) (binds false BitwiseAnd Equality) (
-    cond (among w ("==" ∷ "!=" ∷ "===" ∷ "!==" ∷ [])) (binds false Equality Relational) (
-    cond (among w ("<" ∷ ">" ∷ "<=" ∷ ">=" ∷ "instanceof" ∷ "in" ∷ [])) (binds false Relational Shift) (
-    cond (among w ("<<" ∷ ">>" ∷ ">>>" ∷ [])) (binds false Shift Additive) (
-    cond (among w ("+" ∷ "-" ∷ [])) (binds false Additive Multiplicative) (
-    cond (among w ("*" ∷ "/" ∷ "%" ∷ [])) (binds false Multiplicative Exponentiation) (
-    cond (among w ("??" ∷ [])) (binds true Coalesce BitwiseOr) (
-    cond (among w ("||" ∷ [])) (binds true LogicalOr LogicalAnd) (
-    cond (among w ("&&" ∷ [])) (binds true LogicalAnd BitwiseOr) (
-    cond (among w ("**" ∷ [])) powers (
-    cond (among w ("++" ∷ "--" ∷ [])) steps (
-    cond (among w ("=" ∷ "+=" ∷ "-=" ∷ "*=" ∷ "/=" ∷ "%=" ∷ "**=" ∷ "<<=" ∷ ">>=" ∷ ">>>=" ∷ "&=" ∷ "|=" ∷ "^=" ∷ [])) assigns no_operator)))))))))))))
+operator_of w = operator_among w operators
 
 abbrev pub does_assign : Operator → Bool
 does_assign assigns = true

@@ -1,0 +1,191 @@
+-- How a spine goes on, by the token that is read behind what stands so far.
+use Rattle.std.proofs.Common.{◌≡◌, ℕ, Bool, true, false, cond, List, [], ◌∷◌, ◌++◌, refl, sym, ap, ◌∙◌, subst}
+use Rattle.std.specs.Prelude.{IsTrue}
+use Rattle.std.proofs.lemmas.Bool.{false≢true}
+use Rattle.std.proofs.lemmas.List.{append-nil}
+use Rattle.tokens.specs.Lexical.{LexicalClass}
+use Rattle.tokens.specs.Lexical.{Punctuator}
+use Rattle.tokens.specs.Goals.{Div, allows}
+use Rattle.tree.specs.declared.kind.Kind.{Kind}
+use Rattle.tree.specs.declared.kind.Kind.TheVariants.{TemplateLiteral, TemplateElement, ChainExpression}
+use Rattle.language.specs.declared.Rank.{Rank}
+use Rattle.language.specs.declared.Rank.TheVariants.{Primary, Relational, Shift, LeftHandSide}
+use Rattle.language.specs.declared.Start.{Start}
+use Rattle.tree.specs.declared.kind.Flags.{Flags}
+use Rattle.tree.specs.declared.kind.Pair.{Pair}
+use Rattle.tree.specs.Tree.{Tree, node, Parts, none, part, gap, bare, bare_parts}
+use Rattle.language.specs.FirstPart.{others}
+use Rattle.language.specs.Words.{is_word_operator, takes, Operator, binds, steps, sequences, tags, no_operator, operator_of}
+use Rattle.language.specs.Pieces.{Role, expr, spine, quasi, chunk, PieceOf, sub, at, is_none}
+use Rattle.language.specs.Token.{Token}
+use Rattle.language.specs.Follow.{of_class, operation}
+use Rattle.language.specs.Grammar.{spellings, ways}
+use Rattle.language.specs.Expressions.{chunks, sequence}
+use Rattle.language.specs.Derivation.{Spells, direct, Runs, done, step, within, Placed}
+use Rattle.tree.specs.Uses.{is_lean}
+use Rattle.language.proofs.Domination.{settled}
+use Rattle.language.proofs.Viewed.{way_of, made, one}
+use Rattle.language.proofs.Spine.{on_spine, grows_on_spine, Grows, whole, grow}
+use Rattle.language.proofs.Begins.{by, first_of, goes_to, number_laid, laid_first, among_by, word_or_sign, div_allows, IsDetermined, ReadBy, retell, taken}
+use Rattle.language.proofs.Led.{Led, led_binary, led_power, led_assign, led_postfix, led_sequence, led_conditional, led_dot, led_index, led_call, led_tag, led_chain, led_of, Linked, link_dot, link_index, link_call, link_chained_name, link_chained_index, link_chained_call, linked_of, between, bracketed, dotted}
+
+-- what a word operator makes
+data OfWord (w : List ℕ) : Type 0 where
+  relates : operator_of w ≡ binds false Relational Shift → OfWord w
+  nothing_made : operator_of w ≡ no_operator → OfWord w
+
+of_word : (w : List ℕ) → is_word_operator w ≡ true → OfWord w
+of_word w h = among_by OfWord w ("delete" ∷ "void" ∷ "typeof" ∷ "in" ∷ "instanceof" ∷ []) h (nothing_made refl, (nothing_made refl, (nothing_made refl, (relates refl, (relates refl, tt)))))
+
+-- the text of `++` or `--` is no word
+pub steps_no_word : (w : List ℕ) → operator_of w ≡ steps → is_word_operator w ≡ false
+steps_no_word w h = go (is_word_operator w) refl
+  where
+    not_steps : OfWord w → ⊥
+    not_steps (relates e) = let u = sym h ∙ e in cc
+    not_steps (nothing_made e) = let u = sym h ∙ e in cc
+
+    go : (b : Bool) → is_word_operator w ≡ b → is_word_operator w ≡ false
+    go false e = e
+    go true e = absurd (not_steps (of_word w e))
+
+pub steps_sign : (w : List ℕ) → operator_of w ≡ steps → of_class Punctuator w ≡ steps
+steps_sign w h = ap (λ b. cond b no_operator (operator_of w)) (steps_no_word w h) ∙ h
+
+-- a token of this class and text makes the operator
+pub makes : (t : Token) {c : LexicalClass} {w : List ℕ} {x : Operator} → t.class ≡ c → t.text ≡ w → of_class c w ≡ x → operation t ≡ x
+makes t {c} c' w' e = ap (λ d. of_class d t.text) c' ∙ ap (of_class c) w' ∙ e
+
+module _ (S : Type 0) (Next : S → Token → S → Type 0) (behind : S → Token) (det : IsDetermined S Next behind) where
+  -- the pieces begin with a token that makes the operator
+  by_token : {o : ℕ} {ps : Parts} {s m e : S} {P : List Pair} {c : LexicalClass} {w : List ℕ} {t : Token} {x : Operator} (qs : List (PieceOf Role)) → first_of qs ≡ by c w → IsTrue (allows Div c w) → of_class c w ≡ x →
+      Runs ways S Next behind o qs ps s e P → ReadBy S Next behind Div s t m → operation t ≡ x
+  by_token {t = t} qs h al e d r = let u = taken S Next behind det Div qs h al d r in makes t u.class u.text e
+
+  -- a template begins with one that makes a tag of what stands before it
+  chunk_tags : {o : ℕ} {y : Bool} {n : Tree} {s e m : S} {P : List Pair} {t : Token} → Spells ways S Next behind o (chunk true y) n s e P → ReadBy S Next behind Div s t m → operation t ≡ tags
+  unfolding spellings
+  chunk_tags {y = y} {n = node TemplateElement w g a b ps} (direct qs h pl d) r =
+      let v = way_of h in
+      by_token qs (ap first_of v.is ∙ ap (λ x. first_of (settled (chunk true y) x)) (one v.listed)) refl refl d r
+  chunk_tags {n = node _ w g a b ps} (direct qs h pl d) r = elim ((way_of h).listed) [ ]
+
+  pub quasi_tags : {o : ℕ} {n : Tree} {s e m : S} {P : List Pair} {t : Token} → Spells ways S Next behind o quasi n s e P → ReadBy S Next behind Div s t m → operation t ≡ tags
+  unfolding spellings
+  quasi_tags {n = node TemplateLiteral w g a b ps} (direct qs h pl d) r = let v = way_of h in
+      of_chunks ps (bare_parts ps) (retell S Next behind (v.is ∙ ap (settled quasi) (one v.listed)) d) r
+    where
+      of_chunks : {o : ℕ} {s e m : S} {P : List Pair} {t : Token} (ps qs : Parts) → Runs ways S Next behind o (settled quasi (at Primary (chunks true qs))) ps s e P → ReadBy S Next behind Div s t m → operation t ≡ tags
+      of_chunks ps none (step p d) r = elim p [ ]
+      of_chunks ps (gap qs) (step p d) r = elim p [ ]
+      of_chunks ps (part q none) (step p d) r = elim p [ ]
+      of_chunks ps (part q none) (within p d) r = chunk_tags p r
+      of_chunks ps (part q (gap qs)) (step p d) r = elim p [ ]
+      of_chunks ps (part q (part x qs)) (step p d) r = elim p [ ]
+      of_chunks ps (part q (part x qs)) (within p d) r = chunk_tags p r
+  quasi_tags {n = node _ w g a b ps} (direct qs h pl d) r = elim ((way_of h).listed) [ ]
+
+  tag_runs : {o : ℕ} {ps : Parts} {s e m : S} {P : List Pair} {t : Token} → Runs ways S Next behind o (sub quasi ∷ []) ps s e P → ReadBy S Next behind Div s t m → operation t ≡ tags
+  tag_runs (within p d) r = quasi_tags p r
+  tag_runs (step p d) r = elim p [ ]
+
+  comma_runs : {o : ℕ} {ps : Parts} {s e m : S} {P : List Pair} {t : Token} (y : Rank) (i : Bool) (f : Start) (qs : Parts) → is_none qs ≡ false →
+      Runs ways S Next behind o (goes_to y i f (sequence qs)) ps s e P → ReadBy S Next behind Div s t m → operation t ≡ sequences
+  comma_runs y i f none h d r = cc
+  comma_runs y i f (gap qs) h (step p d) r = elim p [ ]
+  comma_runs y i f (part n qs) h d r = by_token (goes_to y i f (sequence (part n qs))) refl refl refl d r
+
+  -- the token that is read behind the head of a way makes its operator
+  pub led_token : {y : Rank} {i : Bool} {f : Start} {k : Kind} {w : List ℕ} {g : Flags} {ps ps' : Parts} {b : Role} {rest : List (PieceOf Role)} {x : Operator} {o : ℕ} {s m e : S} {P : List Pair} {t : Token} →
+      Led y i f k w g ps b rest x → (x ≡ no_operator → ⊥) → Runs ways S Next behind o rest ps' s e P → ReadBy S Next behind Div s t m → operation t ≡ x
+  led_token {w = w} (led_binary k op tk im b e) h d r = by_token (between w _) refl (div_allows (is_word_operator w) w) (word_or_sign w ∙ op) (retell S Next behind e d) r
+  led_token {w = w} (led_power k op tk b e) h d r = by_token (between w _) refl (div_allows (is_word_operator w) w) (word_or_sign w ∙ op) (retell S Next behind e d) r
+  led_token {w = w} (led_assign k op ta tk b e) h d r = by_token (between w _) refl (div_allows (is_word_operator w) w) (word_or_sign w ∙ op) (retell S Next behind e d) r
+  led_token {w = w} {rest = rest} (led_postfix k op ta p tk b e) h d r = by_token rest (ap first_of e) (div_allows false w) (steps_sign w op) d r
+  led_token {y} {i} {f} {ps = ps} (led_sequence k c tk b e) h d r = comma_runs y i f (others ps) c (retell S Next behind e d) r
+  led_token {rest = rest} (led_conditional k tk b e) h d r = by_token rest (ap first_of e) refl refl d r
+  led_token {y} {i} {f} {g = g} {ps = ps} {rest = rest} (led_dot k o c s tk b e) h d r = by_token rest (ap first_of e ∙ laid_first y i f dotted (number_laid ps g)) refl refl d r
+  led_token {y} {i} {f} {g = g} {ps = ps} {rest = rest} (led_index k o c s tk b e) h d r = by_token rest (ap first_of e ∙ laid_first y i f bracketed (number_laid ps g)) refl refl d r
+  led_token {rest = rest} (led_call k o s tk b e) h d r = by_token rest (ap first_of e) refl refl d r
+  led_token (led_tag k tk b e) h d r = tag_runs (retell S Next behind e d) r
+  led_token (led_chain k c tk b e) h d r = absurd (h refl)
+
+  pub linked_token : {f : Start} {k : Kind} {g : Flags} {ps ps' : Parts} {b : Role} {rest : List (PieceOf Role)} {x : Operator} {o : ℕ} {s m e : S} {P : List Pair} {t : Token} →
+      Linked f k g ps b rest x → Runs ways S Next behind o rest ps' s e P → ReadBy S Next behind Div s t m → operation t ≡ x
+  linked_token {rest = rest} (link_dot k o c fc b e) d r = by_token rest (ap first_of e) refl refl d r
+  linked_token {rest = rest} (link_index k o c fc b e) d r = by_token rest (ap first_of e) refl refl d r
+  linked_token {rest = rest} (link_call k o fc b e) d r = by_token rest (ap first_of e) refl refl d r
+  linked_token {rest = rest} (link_chained_name k o c b e) d r = by_token rest (ap first_of e) refl refl d r
+  linked_token {rest = rest} (link_chained_index k o c b e) d r = by_token rest (ap first_of e) refl refl d r
+  linked_token {rest = rest} (link_chained_call k o b e) d r = by_token rest (ap first_of e) refl refl d r
+
+  -- What stands so far, m at b up to mid, in what the whole n at a is: it is the whole; or a way goes on with the token that is read
+  -- behind it; or a chain ends there.
+  pub data Onward (o : ℕ) (s0 : S) (a : Role) (n : Tree) (e : S) (P : List Pair) (b : Role) (m : Tree) (mid : S) (Q : List Pair) (t : Token) : Type 0 where
+    ended : a ≡ b → n ≡ m → e ≡ mid → P ≡ Q → Onward o s0 a n e P b m mid Q t
+    by_led : {y : Rank} {i : Bool} {f : Start} {k : Kind} {w : List ℕ} {g : Flags} {st en : ℕ} {ps : Parts} {rest : List (PieceOf Role)} {to : S} {R : List Pair} {x : Operator} →
+        Led y i f k w g (bare_parts (part m ps)) b rest x → (x ≡ no_operator → ⊥) → operation t ≡ x → is_lean (bare (node k w g st en (part m ps))) ≡ true →
+        Runs ways S Next behind o rest ps mid to R → Placed S Next behind (expr y i f) (node k w g st en (part m ps)) s0 to →
+        Grows S Next behind o s0 a n e P (expr y i f) (node k w g st en (part m ps)) to (Q ++ R) → Onward o s0 a n e P b m mid Q t
+    by_link : {f : Start} {k : Kind} {w : List ℕ} {g : Flags} {st en : ℕ} {ps : Parts} {rest : List (PieceOf Role)} {to : S} {R : List Pair} {x : Operator} →
+        Linked f k g (bare_parts (part m ps)) b rest x → operation t ≡ x → is_lean (bare (node k w g st en (part m ps))) ≡ true →
+        Runs ways S Next behind o rest ps mid to R → Placed S Next behind (spine f) (node k w g st en (part m ps)) s0 to →
+        Grows S Next behind o s0 a n e P (spine f) (node k w g st en (part m ps)) to (Q ++ R) → Onward o s0 a n e P b m mid Q t
+    by_chain : {y : Rank} {i : Bool} {f : Start} {w : List ℕ} {g : Flags} {st en : ℕ} →
+        b ≡ spine f → IsTrue (takes y LeftHandSide) → is_lean (bare (node ChainExpression w g st en (part m none))) ≡ true →
+        Placed S Next behind (expr y i f) (node ChainExpression w g st en (part m none)) s0 mid →
+        Grows S Next behind o s0 a n e P (expr y i f) (node ChainExpression w g st en (part m none)) mid Q → Onward o s0 a n e P b m mid Q t
+
+  -- whether it is no operator
+  data Nothing (x : Operator) : Type 0 where
+    it_is : x ≡ no_operator → Nothing x
+    it_isnt : (x ≡ no_operator → ⊥) → Nothing x
+
+  nothing_or : (x : Operator) → Nothing x
+  nothing_or no_operator = it_is refl
+  nothing_or _ = it_isnt (λ e. cc)
+
+  -- only the end of a chain has no token
+  led_ends : {y : Rank} {i : Bool} {f : Start} {k : Kind} {w : List ℕ} {g : Flags} {ps : Parts} {b : Role} {rest : List (PieceOf Role)} {x : Operator} →
+      Led y i f k w g ps b rest x → x ≡ no_operator → (k ≡ ChainExpression) × IsTrue (takes y LeftHandSide) × (b ≡ spine f) × (rest ≡ [])
+  led_ends (led_chain k c tk b e) h = (k, tk, b, e)
+  led_ends _ h = cc
+
+  chain_done : {o : ℕ} {ps : Parts} {s e : S} {P : List Pair} → Runs ways S Next behind o [] ps s e P → (ps ≡ none) × (s ≡ e) × (P ≡ [])
+  chain_done done = (refl, refl, refl)
+
+  pub onward : {o : ℕ} {s0 e x : S} {a : Role} {n : Tree} {P : List Pair} {b : Role} {m : Tree} {mid : S} {Q : List Pair} {t : Token} →
+      on_spine a ≡ true → ReadBy S Next behind Div mid t x → Grows S Next behind o s0 a n e P b m mid Q → Onward o s0 a n e P b m mid Q t
+  unfolding spellings
+  onward sp r whole = ended refl refl refl refl
+  onward {o} {s0} {e} {x} {a} {n} {P} {b} {m} {mid} {Q} {t} sp r (grow {c = expr y i f} {l = node k w g st en ps} {ps = ps'} {rest = rest} {to = to} {R = R} h led pl eq d gs) =
+      let v = way_of h in
+      let u = led_of y i f (made k v.listed) v.fit v.is led in
+      go ps eq u.operator u.led (nothing_or u.operator) v.lean pl d gs
+    where
+      go : {k : Kind} {w : List ℕ} {g : Flags} {st en : ℕ} (ps : Parts) → ps ≡ part m ps' → (z : Operator) → Led y i f k w g (bare_parts ps) b rest z → Nothing z → is_lean (bare (node k w g st en ps)) ≡ true →
+          Placed S Next behind (expr y i f) (node k w g st en ps) s0 to → Runs ways S Next behind o rest ps' mid to R →
+          Grows S Next behind o s0 a n e P (expr y i f) (node k w g st en ps) to (Q ++ R) → Onward o s0 a n e P b m mid Q t
+      go {k} {w} {g} {st} {en} ps eq z l (it_isnt some) lean pl d gs =
+          let l' : Led y i f k w g (bare_parts (part m ps')) b rest z = subst (λ qs. Led y i f k w g (bare_parts qs) b rest z) eq l in
+          by_led l' some (led_token l' some d r) (subst (λ qs. is_lean (bare (node k w g st en qs)) ≡ true) eq lean) d
+          (subst (λ qs. Placed S Next behind (expr y i f) (node k w g st en qs) s0 to) eq pl)
+          (subst (λ qs. Grows S Next behind o s0 a n e P (expr y i f) (node k w g st en qs) to (Q ++ R)) eq gs)
+      go {k} {w} {g} {st} {en} ps eq z l (it_is h) lean pl d gs =
+          let u = led_ends l h in
+          let v = chain_done (retell S Next behind u.3 d) in
+          let same : node k w g st en ps ≡ node ChainExpression w g st en (part m none) = ap (λ c. node c w g st en ps) u.0 ∙ ap (node ChainExpression w g st en) (eq ∙ ap (part m) v.0) in
+          let pairs : Q ++ R ≡ Q = ap (λ ys. Q ++ ys) v.2 ∙ append-nil Q in
+          by_chain u.2 u.1 (subst (λ c. is_lean (bare c) ≡ true) same lean)
+          (subst (λ c. Placed S Next behind (expr y i f) c s0 mid) same (subst (λ z. Placed S Next behind (expr y i f) (node k w g st en ps) s0 z) (sym v.1) pl))
+          (subst (λ c. Grows S Next behind o s0 a n e P (expr y i f) c mid Q) same
+          (subst (λ z. Grows S Next behind o s0 a n e P (expr y i f) (node k w g st en ps) z Q) (sym v.1)
+          (subst (λ ys. Grows S Next behind o s0 a n e P (expr y i f) (node k w g st en ps) to ys) pairs gs)))
+  onward {o} {s0} {e} {x} {a} {n} {P} {b} {m} {mid} {Q} {t} sp r (grow {c = spine f} {l = node k w g st en ps} {ps = ps'} {rest = rest} {to = to} {R = R} h led pl eq d gs) =
+      let v = way_of h in
+      let u = linked_of f k v.listed v.is in
+      let l' : Linked f k g (bare_parts (part m ps')) b rest u.operator = subst (λ qs. Linked f k g (bare_parts qs) b rest u.operator) eq u.linked in
+      by_link l' (linked_token l' d r) (subst (λ qs. is_lean (bare (node k w g st en qs)) ≡ true) eq v.lean) d
+      (subst (λ qs. Placed S Next behind (spine f) (node k w g st en qs) s0 to) eq pl)
+      (subst (λ qs. Grows S Next behind o s0 a n e P (spine f) (node k w g st en qs) to (Q ++ R)) eq gs)
+  onward sp r (grow {c = _} h led pl eq d gs) = absurd (false≢true (grows_on_spine S Next behind sp gs))
