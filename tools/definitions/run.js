@@ -262,6 +262,11 @@ function work({ o, job }) {
     const e = model.spec.runExamples();
     count('examples of the definitions', e.count);
     for (const [name, what] of e.bad) report('example', name, what);
+    if (o.specs.join() === CRATES.join()) {
+      const { out, count: texts } = require('./sources.js').compareSources(model.spec);
+      count('texts of examples read as tokens', texts);
+      for (const p of out) report('example', p.text, `${p.what}: ${p.detail}`);
+    }
   }
   timed('tokens', () => {
     const { compareReading, compareTemplate, randomText, allTexts, TEMPLATES } = require('./reading.js');

@@ -85,3 +85,8 @@ strict_grouped = refl
 pub strict_with_escape : errors (n Program 0 37 (one (n FunctionDeclaration 0 37 (three (id "f" 9) (n AssignmentPattern 11 16 (two (id "a" 11) (t Literal "1" 15 16 none))) (n BlockStatement 18 37 (one (directive (n ExpressionStatement 20 35 (one (t Literal "'use\\x20strict'" 20 35 none)))))))))) ≡ []
 unfolding computing
 strict_with_escape = refl
+
+-- `(function a(a) {})`
+pub parameter_of_its_function : errors (n Program 0 18 (one (n ExpressionStatement 0 18 (one (n FunctionExpression 1 17 (three (id "a" 10) (id "a" 12) (n BlockStatement 15 17 none))))))) ≡ []
+unfolding computing
+parameter_of_its_function = refl

@@ -138,3 +138,8 @@ capital_flag = refl
 
 pub distant_repeat : good_flags (codes "/a/gimg") ≡ false
 distant_repeat = refl
+
+-- `/a/d`: a flag of a later edition
+pub later_flag : errors (n Program 0 4 (one (n ExpressionStatement 0 4 (one (t Literal "/a/d" 0 4 none))))) ≡ (21, 0) ∷ []
+unfolding computing
+later_flag = refl

@@ -235,3 +235,8 @@ head_and_inner_let = refl
 pub var_head_and_var : errors (n Program 0 26 (one (n ForOfStatement 0 26 (three (t VariableDeclaration "var" 5 10 (one (n VariableDeclarator 9 10 (part (id "a" 9) (gap none))))) (id "b" 14) (n BlockStatement 17 26 (one (t VariableDeclaration "var" 19 24 (one (n VariableDeclarator 23 24 (part (id "a" 23) (gap none))))))))))) ≡ []
 unfolding computing
 var_head_and_var = refl
+
+-- `function f() { let a; function a() {} }`
+pub let_and_function_of_body : errors (n Program 0 39 (one (n FunctionDeclaration 0 39 (two (id "f" 9) (n BlockStatement 13 39 (two (t VariableDeclaration "let" 15 21 (one (n VariableDeclarator 19 20 (part (id "a" 19) (gap none))))) (n FunctionDeclaration 22 37 (two (id "a" 31) (n BlockStatement 35 37 none))))))))) ≡ (4, 19) ∷ []
+unfolding computing
+let_and_function_of_body = refl

@@ -74,6 +74,18 @@ pub call_behind_a_break : found (tokens "a\n(b)") (program 5 (one (st 0 5 (n Cal
 unfolding computing
 call_behind_a_break = refl
 
+pub template_behind_a_break : found (tokens "a\n`b`") (program 5 (one (st 0 5 (n TaggedTemplateExpression 0 5 (two (id "a" 0) (n TemplateLiteral 2 5 (one (t TemplateElement "b" 3 4 none)))))))) ≡ once []
+unfolding computing
+template_behind_a_break = refl
+
+pub call_as_base_of_chain : found (tokens "f()?.a;") (program 7 (one (st 0 7 (n ChainExpression 0 6 (one (optional (n MemberExpression 0 6 (two (n CallExpression 0 3 (one (id "f" 0))) (id "a" 5))))))))) ≡ once []
+unfolding computing
+call_as_base_of_chain = refl
+
+pub reserved_word_as_key : found (tokens "({if: a.if});") (program 13 (one (st 0 13 (n ObjectExpression 1 11 (one (n Property 2 10 (two (id "if" 2) (n MemberExpression 6 10 (two (id "a" 6) (id "if" 8)))))))))) ≡ once (pair 0 11 ∷ [])
+unfolding computing
+reserved_word_as_key = refl
+
 pub division : found (tokens "a\n/b/g") (program 6 (one (st 0 6 (t BinaryExpression "/" 0 6 (two (t BinaryExpression "/" 0 4 (two (id "a" 0) (id "b" 3))) (id "g" 5)))))) ≡ once []
 unfolding computing
 division = refl
@@ -118,6 +130,18 @@ pub relations : found (tokens "a in b instanceof c < d;") (program 24 (one (st 0
 unfolding computing
 relations = refl
 
+pub assignments : found (tokens "a = b += c -= d *= e /= f %= g **= h <<= i >>= j >>>= k &= l |= m ^= n") (program 70 (one (st 0 70 (t AssignmentExpression "=" 0 70 (two (id "a" 0) (t AssignmentExpression "+=" 4 70 (two (id "b" 4) (t AssignmentExpression "-=" 9 70 (two (id "c" 9) (t AssignmentExpression "*=" 14 70 (two (id "d" 14) (t AssignmentExpression "/=" 19 70 (two (id "e" 19) (t AssignmentExpression "%=" 24 70 (two (id "f" 24) (t AssignmentExpression "**=" 29 70 (two (id "g" 29) (t AssignmentExpression "<<=" 35 70 (two (id "h" 35) (t AssignmentExpression ">>=" 41 70 (two (id "i" 41) (t AssignmentExpression ">>>=" 47 70 (two (id "j" 47) (t AssignmentExpression "&=" 54 70 (two (id "k" 54) (t AssignmentExpression "|=" 59 70 (two (id "l" 59) (t AssignmentExpression "^=" 64 70 (two (id "m" 64) (id "n" 69)))))))))))))))))))))))))))))) ≡ once []
+unfolding computing
+assignments = refl
+
+pub operators : found (tokens "a | b ^ c & d == e != f === g !== h <= i >= j > k >> l >>> m << n - o % p ** q") (program 78 (one (st 0 78 (t BinaryExpression "|" 0 78 (two (id "a" 0) (t BinaryExpression "^" 4 78 (two (id "b" 4) (t BinaryExpression "&" 8 78 (two (id "c" 8) (t BinaryExpression "!==" 12 78 (two (t BinaryExpression "===" 12 29 (two (t BinaryExpression "!=" 12 23 (two (t BinaryExpression "==" 12 18 (two (id "d" 12) (id "e" 17))) (id "f" 22))) (id "g" 28))) (t BinaryExpression ">" 34 78 (two (t BinaryExpression ">=" 34 45 (two (t BinaryExpression "<=" 34 40 (two (id "h" 34) (id "i" 39))) (id "j" 44))) (t BinaryExpression "<<" 48 78 (two (t BinaryExpression ">>>" 48 60 (two (t BinaryExpression ">>" 48 54 (two (id "k" 48) (id "l" 53))) (id "m" 59))) (t BinaryExpression "-" 64 78 (two (id "n" 64) (t BinaryExpression "%" 68 78 (two (id "o" 68) (t BinaryExpression "**" 72 78 (two (id "p" 72) (id "q" 77)))))))))))))))))))))) ≡ once []
+unfolding computing
+operators = refl
+
+pub prefixes : found (tokens "delete void typeof + - ~ ! ++a") (program 30 (one (st 0 30 (t UnaryExpression "delete" 0 30 (one (t UnaryExpression "void" 7 30 (one (t UnaryExpression "typeof" 12 30 (one (t UnaryExpression "+" 19 30 (one (t UnaryExpression "-" 21 30 (one (t UnaryExpression "~" 23 30 (one (t UnaryExpression "!" 25 30 (one (before (t UpdateExpression "++" 27 30 (one (id "a" 29))))))))))))))))))))) ≡ once []
+unfolding computing
+prefixes = refl
+
 pub await_is_a_name : found (tokens "await = async(yes)") (program 18 (one (st 0 18 (t AssignmentExpression "=" 0 18 (two (id "await" 0) (n CallExpression 8 18 (two (id "async" 8) (id "yes" 14)))))))) ≡ once []
 unfolding computing
 await_is_a_name = refl
@@ -129,12 +153,12 @@ pub chain_as_target : found (tokens "(a?.b) = 1;") (program 11 (one (st 0 11 (t 
 unfolding computing
 chain_as_target = refl
 
--- neither is a call
+-- a call is no target
 pub call_as_target : found (tokens "f() = 1;") (program 8 (one (st 0 8 (t AssignmentExpression "=" 0 7 (two (n CallExpression 0 3 (one (id "f" 0))) (lit "1" 6)))))) ≡ []
 unfolding computing
 call_as_target = refl
 
--- nor what `++` makes
+-- what `++` makes is no target
 pub update_of_update : found (tokens "++a++;") (program 6 (one (st 0 6 (before (t UpdateExpression "++" 0 5 (one (t UpdateExpression "++" 2 5 (one (id "a" 2))))))))) ≡ []
 unfolding computing
 update_of_update = refl
@@ -149,10 +173,25 @@ pub coalesce_with_and : found (tokens "a ?? b && c;") (program 12 (one (st 0 12 
 unfolding computing
 coalesce_with_and = refl
 
--- `??` and `||` too
+-- `??` and `||` go together in groups alone
 pub coalesce_with_or : found (tokens "a ?? b || c") (program 11 (one (st 0 11 (t LogicalExpression "||" 0 11 (two (t LogicalExpression "??" 0 6 (two (id "a" 0) (id "b" 5))) (id "c" 10)))))) ≡ []
 unfolding computing
 coalesce_with_or = refl
+
+-- `||` left of `??`
+pub or_in_coalesce : found (tokens "a || b ?? c") (program 11 (one (st 0 11 (t LogicalExpression "??" 0 11 (two (t LogicalExpression "||" 0 6 (two (id "a" 0) (id "b" 5))) (id "c" 10)))))) ≡ []
+unfolding computing
+or_in_coalesce = refl
+
+-- a conditional as the test of one
+pub conditional_as_test : found (tokens "a ? b : c ? d : e") (program 17 (one (st 0 17 (n ConditionalExpression 0 17 (three (n ConditionalExpression 0 9 (three (id "a" 0) (id "b" 4) (id "c" 8))) (id "d" 12) (id "e" 16)))))) ≡ []
+unfolding computing
+conditional_as_test = refl
+
+-- a reserved word as the value of a shorthand property
+pub shorthand_of_a_reserved_word : found (tokens "({if});") (program 7 (one (st 0 7 (n ObjectExpression 1 5 (one (formed Shorthand (n Property 2 4 (two (id "if" 2) (id "if" 2))))))))) ≡ []
+unfolding computing
+shorthand_of_a_reserved_word = refl
 
 -- no chain behind `new`
 pub chain_behind_new : found (tokens "new a?.b();") (program 11 (one (st 0 11 (n NewExpression 0 10 (one (n ChainExpression 4 10 (one (n CallExpression 4 10 (one (optional (n MemberExpression 4 8 (two (id "a" 4) (id "b" 7))))))))))))) ≡ []
@@ -164,7 +203,7 @@ pub import_behind_new : found (tokens "new import(a);") (program 14 (one (st 0 1
 unfolding computing
 import_behind_new = refl
 
--- nor a member of one
+-- no member of an import behind `new`
 pub member_of_import_behind_new : found (tokens "new import(a).b()") (program 17 (one (st 0 17 (n NewExpression 0 17 (one (n MemberExpression 4 15 (two (n ImportExpression 4 13 (one (id "a" 11))) (id "b" 14)))))))) ≡ []
 unfolding computing
 member_of_import_behind_new = refl
@@ -174,32 +213,32 @@ pub template_in_chain : found (tokens "a?.b`c`;") (program 8 (one (st 0 8 (n Cha
 unfolding computing
 template_in_chain = refl
 
--- a group holds one expression
+-- a comma behind the expression in a group
 pub comma_in_group : found (tokens "(a,);") (program 5 (one (st 0 5 (id "a" 1)))) ≡ []
 unfolding computing
 comma_in_group = refl
 
--- and it holds one
+-- a group with nothing in it
 pub empty_group : found (tokens "();") (program 3 (one (st 0 3 (n SequenceExpression 0 2 none)))) ≡ []
 unfolding computing
 empty_group = refl
 
--- and no rest
+-- a rest in a group
 pub rest_in_group : found (tokens "(a, ...b);") (program 10 (one (st 0 10 (n SequenceExpression 0 9 (two (id "a" 1) (n SpreadElement 4 8 (one (id "b" 7)))))))) ≡ []
 unfolding computing
 rest_in_group = refl
 
--- a group is closed
+-- a group that is not closed
 pub open_group : found (tokens "a = (b") (program 6 (one (st 0 6 (t AssignmentExpression "=" 0 6 (two (id "a" 0) (id "b" 5)))))) ≡ []
 unfolding computing
 open_group = refl
 
--- a property is never grouped
+-- a group round a property
 pub grouped_property : found (tokens "a.(b);") (program 6 (one (st 0 6 (n MemberExpression 0 5 (two (id "a" 0) (id "b" 3)))))) ≡ []
 unfolding computing
 grouped_property = refl
 
--- nor is a spread
+-- a group round a spread
 pub grouped_spread : found (tokens "f((...a));") (program 10 (one (st 0 10 (n CallExpression 0 9 (two (id "f" 0) (n SpreadElement 3 7 (one (id "a" 6)))))))) ≡ []
 unfolding computing
 grouped_spread = refl

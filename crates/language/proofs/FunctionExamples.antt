@@ -1,6 +1,6 @@
 -- Examples: functions that tokens spell, with these pairs and in this one way; and trees that they do not spell.
 use Rattle.std.specs.Prelude.{◌≡◌, refl, [], ◌∷◌}
-use Rattle.tree.specs.declared.kind.Kind.TheVariants.{ArrayPattern, ArrowFunctionExpression, AssignmentExpression, AssignmentPattern, BinaryExpression, BlockStatement, CallExpression, ConditionalExpression, ExpressionStatement, FunctionDeclaration, FunctionExpression, MemberExpression, MetaProperty, ObjectExpression, ObjectPattern, Property, RestElement, ReturnStatement, SequenceExpression, Super}
+use Rattle.tree.specs.declared.kind.Kind.TheVariants.{ArrayPattern, ArrowFunctionExpression, AssignmentExpression, AssignmentPattern, BinaryExpression, BlockStatement, CallExpression, ConditionalExpression, ExpressionStatement, FunctionDeclaration, FunctionExpression, MemberExpression, MetaProperty, NewExpression, ObjectExpression, ObjectPattern, Property, RestElement, ReturnStatement, SequenceExpression, Super}
 use Rattle.tree.specs.declared.kind.Form.TheVariants.{Get, Method, Set, Shorthand}
 use Rattle.tree.specs.Tree.{gap, none, part}
 use Rattle.language.proofs.Sources.{tokens}
@@ -94,6 +94,10 @@ pub super_member : found (tokens "({ m() { super.a } })") (program 21 (one (st 0
 unfolding computing
 super_member = refl
 
+pub super_behind_new : found (tokens "({ m() { new super.a() } })") (program 27 (one (st 0 27 (n ObjectExpression 1 26 (one (formed Method (n Property 3 24 (two (id "m" 3) (n FunctionExpression 4 24 (gap (one (n BlockStatement 7 24 (one (st 9 22 (n NewExpression 9 22 (one (n MemberExpression 13 20 (two (n Super 13 18 none) (id "a" 19))))))))))))))))))) ≡ once (pair 0 26 ∷ [])
+unfolding computing
+super_behind_new = refl
+
 pub return_and_a_break : found (tokens "() => { return\na }") (program 18 (one (st 0 18 (n ArrowFunctionExpression 0 18 (one (n BlockStatement 6 18 (two (n ReturnStatement 8 14 (gap none)) (st 15 16 (id "a" 15))))))))) ≡ once []
 unfolding computing
 return_and_a_break = refl
@@ -124,12 +128,12 @@ pub setter_with_a_rest : found (tokens "({set a(...b) {}});") (program 19 (one (
 unfolding computing
 setter_with_a_rest = refl
 
--- a comma behind it
+-- a comma behind the parameter of a setter
 pub setter_with_a_comma : found (tokens "({set a(b,) {}});") (program 17 (one (st 0 17 (n ObjectExpression 1 15 (one (formed Set (n Property 2 14 (two (id "a" 6) (n FunctionExpression 7 14 (gap (two (id "b" 8) (n BlockStatement 12 14 none)))))))))))) ≡ []
 unfolding computing
 setter_with_a_comma = refl
 
--- a second one
+-- a second parameter of a setter
 pub setter_with_two : found (tokens "({set a(b, c) {}});") (program 19 (one (st 0 19 (n ObjectExpression 1 17 (one (formed Set (n Property 2 16 (two (id "a" 6) (n FunctionExpression 7 16 (gap (three (id "b" 8) (id "c" 11) (n BlockStatement 14 16 none)))))))))))) ≡ []
 unfolding computing
 setter_with_two = refl
@@ -164,7 +168,7 @@ pub brace_as_body : found (tokens "x => {}") (program 7 (one (st 0 7 (short (n A
 unfolding computing
 brace_as_body = refl
 
--- and a member of one
+-- a member of an object as the body, without its group
 pub member_of_object_as_body : found (tokens "x => {}.a") (program 9 (one (st 0 9 (short (n ArrowFunctionExpression 0 9 (two (id "x" 0) (n MemberExpression 5 9 (two (n ObjectExpression 5 7 none) (id "a" 8))))))))) ≡ []
 unfolding computing
 member_of_object_as_body = refl

@@ -13,6 +13,7 @@ pub mod Begins
 pub mod Growth
 pub mod Led
 pub mod Onward
+pub mod Headed
 pub mod Climbing
 pub mod Heads
 pub mod Searched
@@ -32,3 +33,5 @@ pub mod TableExamples
 pub mod Judged
 pub mod SoundTables
 pub mod SameTrees
+pub mod WordExamples
+pub mod FollowExamples

@@ -1,11 +1,11 @@
 -- What is known of every operator.
-use Rattle.std.proofs.Common.{◌≡◌, ℕ, ◌≤◌, ◌<◌, Bool, true, false, List, [], ◌∷◌, cond, refl, sym, ap, ◌∙◌, arith}
+use Rattle.std.proofs.Common.{◌≡◌, ℕ, ◌≤◌, ◌<◌, Bool, true, false, List, [], ◌∷◌, ◌++◌, cond, refl, sym, ap, ◌∙◌, arith}
 use Rattle.std.specs.Prelude.{◌&&◌, ◌||◌, not, nat_le, nat_lt, nat_eq}
 use Prim.Native.String.{String}
-use Rattle.std.proofs.lemmas.Bool.{and_parts}
+use Rattle.std.proofs.lemmas.Bool.{and_parts, false≢true}
 use Rattle.std.proofs.lemmas.Bool.Decides.{nat_tests}
 use Rattle.language.specs.declared.Rank.{Rank}
-use Rattle.language.specs.Words.{tightness, among, Operator, binds, no_operator, operators, operator_among, operator_of}
+use Rattle.language.specs.Words.{tightness, is, among, does_step, steps, Operator, binds, no_operator, operators, operator_among, operator_of}
 
 -- The right side of an operator is tighter, and behind `??` it is tighter than `&&`; both stand between `??` and `**`.
 abbrev pub climbs : Operator → Bool
@@ -56,3 +56,41 @@ binding_of l z q h = record { least = low (tightness z) (tightness q) h; most = 
 -- the symbols of an operator that joins two sides
 pub binding : (w : List ℕ) {l : Bool} {z q : Rank} → operator_of w ≡ binds l z q → Binding z q
 binding w {l} {z} {q} e = binding_of l z q (sym (ap climbs e) ∙ operators_climb w)
+
+-- the texts of the operators that a test takes
+abbrev pub texts_of : (Operator → Bool) → List (List String × Operator) → List String
+texts_of test [] = []
+texts_of test (row ∷ rows) = cond (test row.1) row.0 [] ++ texts_of test rows
+
+among_left : (w : List ℕ) (ss ts : List String) → among w ss ≡ true → among w (ss ++ ts) ≡ true
+among_left w [] ts h = cc
+among_left w (s ∷ ss) ts h = go (is w s) h (λ j. among_left w ss ts j)
+  where
+    go : (b : Bool) → (b || among w ss) ≡ true → (among w ss ≡ true → among w (ss ++ ts) ≡ true) → (b || among w (ss ++ ts)) ≡ true
+    go true h f = refl
+    go false h f = f h
+
+among_right : (w : List ℕ) (ss ts : List String) → among w ts ≡ true → among w (ss ++ ts) ≡ true
+among_right w [] ts h = h
+among_right w (s ∷ ss) ts h = go (is w s) (among_right w ss ts h)
+  where
+    go : (b : Bool) → among w (ss ++ ts) ≡ true → (b || among w (ss ++ ts)) ≡ true
+    go true h = refl
+    go false h = h
+
+-- where a test takes the operator of a text, the text is one of those
+pub text_among : (test : Operator → Bool) (w : List ℕ) (rows : List (List String × Operator)) → test no_operator ≡ false → test (operator_among w rows) ≡ true → among w (texts_of test rows) ≡ true
+text_among test w [] n h = absurd (false≢true (sym n ∙ h))
+text_among test w (row ∷ rows) n h = go (among w row.0) refl h (λ j. text_among test w rows n j)
+  where
+    of_row : (c : Bool) → test row.1 ≡ c → c ≡ true → among w row.0 ≡ true → among w (cond c row.0 [] ++ texts_of test rows) ≡ true
+    of_row true e t a = among_left w row.0 (texts_of test rows) a
+    of_row false e t a = cc
+
+    go : (b : Bool) → among w row.0 ≡ b → test (cond b row.1 (operator_among w rows)) ≡ true → (test (operator_among w rows) ≡ true → among w (texts_of test rows) ≡ true) → among w (cond (test row.1) row.0 [] ++ texts_of test rows) ≡ true
+    go true e t f = of_row (test row.1) refl t e
+    go false e t f = among_right w (cond (test row.1) row.0 []) (texts_of test rows) (f t)
+
+-- the texts of `++` and `--`
+pub step_texts : (w : List ℕ) → operator_of w ≡ steps → among w ("++" ∷ "--" ∷ []) ≡ true
+step_texts w h = text_among does_step w operators refl (ap does_step h)

@@ -110,7 +110,7 @@ pub pattern_with_operator : found (tokens "[a] += b;") (program 9 (one (st 0 9 (
 unfolding computing
 pattern_with_operator = refl
 
--- nor is an array a target there
+-- an array before another operator than `=`
 pub array_with_operator : found (tokens "[a] += b;") (program 9 (one (st 0 9 (t AssignmentExpression "+=" 0 8 (two (n ArrayExpression 0 3 (one (id "a" 1))) (id "b" 7)))))) ≡ []
 unfolding computing
 array_with_operator = refl
@@ -125,7 +125,7 @@ pub element_behind_rest : found (tokens "[...a, b = 1] = c") (program 17 (one (s
 unfolding computing
 element_behind_rest = refl
 
--- the same where it binds
+-- a comma behind a rest that binds
 pub comma_behind_bound_rest : found (tokens "let [...a,] = b") (program 15 (one (t VariableDeclaration "let" 0 15 (one (n VariableDeclarator 4 15 (two (n ArrayPattern 4 11 (one (n RestElement 5 9 (one (id "a" 8))))) (id "b" 14))))))) ≡ []
 unfolding computing
 comma_behind_bound_rest = refl
@@ -140,7 +140,7 @@ pub pattern_as_object_rest : found (tokens "({...{a}} = b)") (program 14 (one (s
 unfolding computing
 pattern_as_object_rest = refl
 
--- the same where it binds
+-- a pattern as the rest of an object that binds
 pub pattern_as_bound_rest : found (tokens "let {...[a]} = b") (program 16 (one (t VariableDeclaration "let" 0 16 (one (n VariableDeclarator 4 16 (two (n ObjectPattern 4 12 (one (n RestElement 5 11 (one (n ArrayPattern 8 11 (one (id "a" 9))))))) (id "b" 15))))))) ≡ []
 unfolding computing
 pattern_as_bound_rest = refl
@@ -164,6 +164,11 @@ chain_in_pattern = refl
 pub call_in_pattern : found (tokens "[f()] = c") (program 9 (one (st 0 9 (t AssignmentExpression "=" 0 9 (two (n ArrayPattern 0 5 (one (n CallExpression 1 4 (one (id "f" 1))))) (id "c" 8)))))) ≡ []
 unfolding computing
 call_in_pattern = refl
+
+-- a reserved word where a name is bound
+pub reserved_word_bound : found (tokens "var if;") (program 7 (one (t VariableDeclaration "var" 0 7 (one (n VariableDeclarator 4 6 (part (id "if" 4) (gap none))))))) ≡ []
+unfolding computing
+reserved_word_bound = refl
 
 -- a pattern without a value
 pub pattern_without_value : found (tokens "let [a];") (program 8 (one (t VariableDeclaration "let" 0 8 (one (n VariableDeclarator 4 7 (part (n ArrayPattern 4 7 (one (id "a" 5))) (gap none))))))) ≡ []

@@ -1,6 +1,6 @@
 -- Examples: statements that tokens spell, with these pairs and in this one way; and trees that they do not spell.
 use Rattle.std.specs.Prelude.{◌≡◌, refl, [], ◌∷◌}
-use Rattle.tree.specs.declared.kind.Kind.TheVariants.{ArrowFunctionExpression, AssignmentExpression, BinaryExpression, BlockStatement, BreakStatement, CallExpression, CatchClause, ClassBody, ClassDeclaration, ConditionalExpression, ContinueStatement, DebuggerStatement, DoWhileStatement, EmptyStatement, ExpressionStatement, ForInStatement, ForOfStatement, ForStatement, FunctionDeclaration, IfStatement, LabeledStatement, LogicalExpression, MemberExpression, Program, ReturnStatement, SequenceExpression, SwitchCase, SwitchStatement, ThrowStatement, TryStatement, UpdateExpression, VariableDeclaration, VariableDeclarator, WhileStatement}
+use Rattle.tree.specs.declared.kind.Kind.TheVariants.{ArrowFunctionExpression, AssignmentExpression, BinaryExpression, BlockStatement, BreakStatement, CallExpression, CatchClause, ClassBody, ClassDeclaration, ConditionalExpression, ContinueStatement, DebuggerStatement, DoWhileStatement, EmptyStatement, ExpressionStatement, ForInStatement, ForOfStatement, ForStatement, FunctionDeclaration, IfStatement, LabeledStatement, LogicalExpression, MemberExpression, Program, ReturnStatement, SequenceExpression, SwitchCase, SwitchStatement, TemplateElement, TemplateLiteral, ThrowStatement, TryStatement, UpdateExpression, VariableDeclaration, VariableDeclarator, WhileStatement}
 use Rattle.tree.specs.Tree.{gap, none, part}
 use Rattle.language.proofs.Sources.{tokens, tokens_with_regexps}
 use Rattle.language.proofs.Trees.{before, computing, directive, found, id, lit, n, once, one, pair, program, st, t, three, two}
@@ -68,6 +68,10 @@ loop_in_sequence = refl
 pub grouped_in : found (tokens "for ((a in b);;);") (program 17 (one (n ForStatement 0 17 (part (t BinaryExpression "in" 6 12 (two (id "a" 6) (id "b" 11))) (gap (gap (one (n EmptyStatement 16 17 none)))))))) ≡ once (pair 5 12 ∷ [])
 unfolding computing
 grouped_in = refl
+
+pub in_of_the_middle : found (tokens "for (a ? b in c : d;;);") (program 23 (one (n ForStatement 0 23 (part (n ConditionalExpression 5 19 (three (id "a" 5) (t BinaryExpression "in" 9 15 (two (id "b" 9) (id "c" 14))) (id "d" 18))) (gap (gap (one (n EmptyStatement 22 23 none)))))))) ≡ once []
+unfolding computing
+in_of_the_middle = refl
 
 pub in_of_both_sides : found (tokens "for (x = (a in b) && (c in d);;);") (program 33 (one (n ForStatement 0 33 (part (t AssignmentExpression "=" 5 29 (two (id "x" 5) (t LogicalExpression "&&" 9 29 (two (t BinaryExpression "in" 10 16 (two (id "a" 10) (id "b" 15))) (t BinaryExpression "in" 22 28 (two (id "c" 22) (id "d" 27))))))) (gap (gap (one (n EmptyStatement 32 33 none)))))))) ≡ once (pair 9 16 ∷ pair 21 28 ∷ [])
 unfolding computing
@@ -158,7 +162,7 @@ pub beginning_of_seven : found (tokens "if (a) ") (program 7 (one (n IfStatement
 unfolding computing
 beginning_of_seven = refl
 
--- the statement a gap
+-- no statement behind the test
 pub beginning_of_six : found (tokens "if (a)") (program 6 (one (n IfStatement 0 6 (part (id "a" 4) (gap (gap none)))))) ≡ []
 unfolding computing
 beginning_of_six = refl
@@ -168,7 +172,7 @@ pub beginning_of_fourteen : found (tokens "if (a) b; else") (program 14 (one (n 
 unfolding computing
 beginning_of_fourteen = refl
 
--- the same, an empty one
+-- an empty statement that has no `;`
 pub beginning_of_fifteen : found (tokens "if (a) b; else ") (program 15 (one (n IfStatement 0 14 (three (id "a" 4) (st 7 9 (id "b" 7)) (n EmptyStatement 14 14 none))))) ≡ []
 unfolding computing
 beginning_of_fifteen = refl
@@ -180,17 +184,17 @@ pub member_of_regexp : found (tokens_with_regexps "a = b\n/c/.d") (program 11 (t
 unfolding computing
 member_of_regexp = refl
 
--- `/=` goes on, and then `x/` ends in nothing
+-- `/=` goes on with what stands on the line before
 pub division_assigned : found (tokens_with_regexps "a\n/=x/") (program 6 (two (st 0 1 (id "a" 0)) (st 2 6 (lit "/=x/" 2)))) ≡ []
 unfolding computing
 division_assigned = refl
 
--- behind `a++` too
+-- the same behind `a++`
 pub division_behind_update : found (tokens_with_regexps "a++\n/=x/") (program 8 (two (st 0 3 (t UpdateExpression "++" 0 3 (one (id "a" 0)))) (st 4 8 (lit "/=x/" 4)))) ≡ []
 unfolding computing
 division_behind_update = refl
 
--- behind a sum too
+-- the same behind a sum
 pub division_behind_sum : found (tokens_with_regexps "a + b\n/=x/") (program 10 (two (st 0 5 (t BinaryExpression "+" 0 5 (two (id "a" 0) (id "b" 4)))) (st 6 10 (lit "/=x/" 6)))) ≡ []
 unfolding computing
 division_behind_sum = refl
@@ -224,6 +228,26 @@ async_function = refl
 pub in_without_group : found (tokens "for (a in b;;);") (program 15 (one (n ForStatement 0 15 (part (t BinaryExpression "in" 5 11 (two (id "a" 5) (id "b" 10))) (gap (gap (one (n EmptyStatement 14 15 none)))))))) ≡ []
 unfolding computing
 in_without_group = refl
+
+-- `in` at the end of a conditional there
+pub in_of_the_end : found (tokens "for (a ? b : c in d;;);") (program 23 (one (n ForStatement 0 23 (part (n ConditionalExpression 5 19 (three (id "a" 5) (id "b" 9) (t BinaryExpression "in" 13 19 (two (id "c" 13) (id "d" 18))))) (gap (gap (one (n EmptyStatement 22 23 none)))))))) ≡ []
+unfolding computing
+in_of_the_end = refl
+
+-- `in` in the value of a declarator there
+pub in_of_a_declarator : found (tokens "for (var a = b in c;;);") (program 23 (one (n ForStatement 0 23 (part (t VariableDeclaration "var" 5 19 (one (n VariableDeclarator 9 19 (two (id "a" 9) (t BinaryExpression "in" 13 19 (two (id "b" 13) (id "c" 18))))))) (gap (gap (one (n EmptyStatement 22 23 none)))))))) ≡ []
+unfolding computing
+in_of_a_declarator = refl
+
+-- two statements where a template is tagged
+pub template_on_the_next_line : found (tokens "a\n`b`") (program 5 (two (st 0 1 (id "a" 0)) (st 2 5 (n TemplateLiteral 2 5 (one (t TemplateElement "b" 3 4 none)))))) ≡ []
+unfolding computing
+template_on_the_next_line = refl
+
+-- a directive in a group
+pub directive_in_a_group : found (tokens "(\"use strict\");") (program 15 (one (directive (n ExpressionStatement 0 15 (one (lit "\"use strict\"" 1)))))) ≡ []
+unfolding computing
+directive_in_a_group = refl
 
 -- a comma behind `of`
 pub of_with_a_comma : found (tokens "for (a of b, c);") (program 16 (one (n ForOfStatement 0 16 (three (id "a" 5) (n SequenceExpression 10 14 (two (id "b" 10) (id "c" 13))) (n EmptyStatement 15 16 none))))) ≡ []

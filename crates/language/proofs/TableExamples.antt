@@ -1,15 +1,15 @@
 -- Examples: cost tables, rows and cells. Of each text: its tree, the rows that the definitions give it, and tables for it that are sound or not, and at which row.
-use Rattle.std.specs.Prelude.{◌≡◌, refl, [], ◌∷◌, ◌++◌, true, Some, replicate}
+use Rattle.std.specs.Prelude.{◌≡◌, refl, [], ◌∷◌, ◌++◌, true, false, Some, replicate}
 use Rattle.tree.specs.declared.kind.Kind.TheVariants.{AssignmentExpression, BinaryExpression, EmptyStatement, ForStatement, Identifier, Literal, LogicalExpression, MemberExpression, NewExpression, ObjectExpression, ObjectPattern, Property, SequenceExpression, UnaryExpression}
 use Rattle.tree.specs.declared.kind.Form.TheVariants.{Shorthand}
 use Rattle.tree.specs.Tree.{Tree, gap, none, part}
-use Rattle.language.specs.declared.Rank.TheVariants.{Assignment, Expression, Member, ShortCircuit}
-use Rattle.language.specs.declared.Start.TheVariants.{NoBrace, Statement}
+use Rattle.language.specs.declared.Rank.TheVariants.{Additive, Assignment, Expression, Member, ShortCircuit, Unary}
+use Rattle.language.specs.declared.Start.TheVariants.{Any, NoBrace, Statement}
 use Rattle.language.specs.Pieces.{expr, script}
 use Rattle.language.specs.Grammar.{rank_of}
 use Rattle.language.specs.Positions.{rows}
 use Rattle.language.specs.Cost.{least}
-use Rattle.language.specs.Claims.{Table, cell_bound}
+use Rattle.language.specs.Claims.{Table, bound_at, cell_bound}
 use Rattle.language.proofs.Sources.{tokens}
 use Rattle.language.proofs.Trees.{computing, formed, found, id, n, once, one, pair, program, st, t, two}
 use Rattle.language.proofs.Tables.{all_left_out, all_raised, high_at, judged, judging, misshapen, none_at, own_rows, passes, row, table, total_high}
@@ -355,6 +355,15 @@ at_statement = refl
 pub at_arrow : cell_bound foreign (n MemberExpression 1 6 (two (n ObjectExpression 1 3 none) (id "a" 5))) (expr Expression true NoBrace) 1 ≡ Some 1
 unfolding judging
 at_arrow = refl
+
+-- the bounds of the member in both foreign tables: left of `+` without In its fourth cell counts, behind `-` its first
+pub left_of_sum : bound_at sequence_member_foreign (n MemberExpression 0 8 (two (n SequenceExpression 1 5 (two (id "x" 1) (id "y" 4))) (id "m" 7))) (expr Additive false Any) 2 ≡ Some 0
+unfolding judging
+left_of_sum = refl
+
+pub behind_minus : bound_at minus_member_foreign (n MemberExpression 1 9 (two (n SequenceExpression 2 6 (two (id "x" 2) (id "y" 5))) (id "m" 8))) (expr Unary true Any) 2 ≡ Some 1
+unfolding judging
+behind_minus = refl
 
 -- the symbols of `new a`, `a ?? b` and `a = b`
 pub new_rank : rank_of (n NewExpression 0 5 (one (id "a" 4))) ≡ Some Member

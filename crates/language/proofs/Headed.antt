@@ -1,0 +1,312 @@
+-- The view of the ways that begin with a token: what they are, and what their first token is.
+use Rattle.std.proofs.Common.{◌≡◌, ℕ, Bool, true, false, cond, List, [], ◌∷◌, ◌++◌, refl, sym, ap, ◌∙◌, subst}
+use Rattle.std.specs.Prelude.{IsTrue, codes, ◌&&◌, not}
+use Prim.Native.String.{String}
+use Rattle.std.proofs.lemmas.Bool.{and_parts, false≢true}
+use Rattle.std.proofs.lemmas.Slice.Eq.{bytes_eq-Decides}
+use Rattle.std.specs.Bool.{beq}
+use Rattle.std.specs.Prelude.{if◌then◌else◌}
+use Rattle.tokens.specs.Alphabet.{one_of, begins_with}
+use Rattle.tokens.specs.Lexical.{LexicalClass}
+use Rattle.tokens.specs.Lexical.{Name, Punctuator, Number, Text}
+use Rattle.tokens.specs.Goals.{Goal, allows}
+use Rattle.tree.specs.declared.kind.Kind.{Kind}
+use Rattle.tree.specs.declared.kind.Kind.TheVariants.{Identifier, Literal, ThisExpression, Super, ArrayExpression, ObjectExpression, FunctionExpression, ArrowFunctionExpression, ClassExpression, TemplateLiteral, TemplateElement, MemberExpression, CallExpression, NewExpression, MetaProperty, ImportExpression, UpdateExpression, UnaryExpression, AssignmentExpression, ArrayPattern, ObjectPattern}
+use Rattle.language.specs.declared.Rank.{Rank}
+use Rattle.language.specs.declared.Rank.TheVariants.{Assignment, Unary, Update, LeftHandSide, New, Call, Member, Primary}
+use Rattle.language.specs.declared.Start.{Start}
+use Rattle.language.specs.declared.Start.TheVariants.{Any, NoBrace, Statement}
+use Rattle.tree.specs.declared.kind.Flags.{Flags}
+use Rattle.tree.specs.declared.kind.Pair.{Pair}
+use Rattle.tree.specs.Tree.{Tree, node, Parts, none, part, gap, kind_of, text_of, bare_parts}
+use Rattle.language.specs.FirstPart.{lead as lead_kind, others}
+use Rattle.language.specs.Words.{is, among, takes, is_target, is_pattern, is_super, is_identifier, is_name, literal_class, is_reserved, is_prefix, is_word_operator, assigns, steps, operator_of}
+use Rattle.language.specs.Pieces.{Role, expr, name, word, base, pattern, chunk, PieceOf, Piece, tok, lay, sub, open_parameters, close_parameters, apart, space, sign, term, Spelling, at, is_none, elements, listed, argument, parameters, put}
+use Rattle.language.specs.Expressions.{arguments, selector, chunks, object_part, function_pieces, class_pieces, arrow_end, lead_is}
+use Rattle.language.specs.Token.{Token}
+use Rattle.language.specs.Opening.{Opening, with_name, with_literal, with_this, with_bracket, with_brace, with_function, with_class, with_template, with_parenthesis, with_super, with_new, with_import, with_step, with_word, with_sign, no_opening, opening_words, opening_among, opening_by, opening_of}
+use Rattle.language.specs.Grammar.{spellings, ways, starts}
+use Rattle.language.specs.Derivation.{Spells, direct, Runs, step, opened, within}
+use Rattle.language.specs.View.{Made, identifier, literal, this, array, object, function, class, template, short_arrow, arrow, tagged, super_member, member, super_call, call, new_with, new_without, new_target, import_call, chain, prefix, postfix, unary_word, unary_sign, power, binary, logical, conditional, assign, assign_pattern, several}
+use Rattle.language.proofs.Domination.{settled, fits}
+use Rattle.language.proofs.Viewed.{way_of, one, unless}
+use Rattle.language.proofs.Spine.{is_led}
+use Rattle.language.proofs.Begins.{by, is_free, first_of, goes_to, among_by, Each, IsDetermined, ReadBy, retell, taken, taken_free}
+use Rattle.language.proofs.Led.{between}
+use Rattle.language.proofs.Operators.{step_texts}
+
+-- the space between two signs that would join
+abbrev pub unary_space : List ℕ → List Piece
+unary_space w = cond (is w "+") (lay (apart 43) ∷ []) (cond (is w "-") (lay (apart 45) ∷ []) [])
+
+-- The ways of a node that begin with a token, at the position `expr y i f`; the last index is what the first token is.
+pub data Headed (y : Rank) (i : Bool) (f : Start) (k : Kind) (w : List ℕ) (g : Flags) (ps : Parts) (qs : List (PieceOf Role)) : Opening → Type 0 where
+  head_identifier : k ≡ Identifier → is_reserved w ≡ false → qs ≡ tok Name w ∷ [] → Headed y i f k w g ps qs with_name
+  head_literal : k ≡ Literal → (is_name (literal_class w) && not (among w ("true" ∷ "false" ∷ "null" ∷ []))) ≡ false → qs ≡ tok (literal_class w) w ∷ [] → Headed y i f k w g ps qs with_literal
+  head_this : k ≡ ThisExpression → qs ≡ tok Name (codes "this") ∷ [] → Headed y i f k w g ps qs with_this
+  head_array : k ≡ ArrayExpression → qs ≡ goes_to y i f ((sign "[" ∷ elements argument ps) ++ sign "]" ∷ []) → Headed y i f k w g ps qs with_bracket
+  head_object : k ≡ ObjectExpression → IsTrue (starts f (sign "{" ∷ [])) → qs ≡ goes_to y i f ((sign "{" ∷ listed object_part ps) ++ sign "}" ∷ []) → Headed y i f k w g ps qs with_brace
+  head_function : k ≡ FunctionExpression → IsTrue (starts f (term "function" ∷ [])) → qs ≡ goes_to y i f (function_pieces ps) → Headed y i f k w g ps qs with_function
+  head_class : k ≡ ClassExpression → IsTrue (starts f (term "class" ∷ [])) → qs ≡ goes_to y i f (class_pieces ps) → Headed y i f k w g ps qs with_class
+  head_template : k ≡ TemplateLiteral → qs ≡ goes_to y i f (chunks true ps) → Headed y i f k w g ps qs with_template
+  head_short_arrow : {n b : Tree} → k ≡ ArrowFunctionExpression → ps ≡ part n (part b none) → is_identifier (kind_of n) ≡ true → IsTrue (takes y Assignment) → qs ≡ sub name ∷ goes_to y i f (arrow_end g) →
+      Headed y i f k w g ps qs with_name
+  head_arrow : k ≡ ArrowFunctionExpression → IsTrue (takes y Assignment) → qs ≡ open_parameters ∷ goes_to y i f (parameters (close_parameters ∷ arrow_end g) ps) → Headed y i f k w g ps qs with_parenthesis
+  head_super_member : k ≡ MemberExpression → g.optional ≡ false → is_super (lead_kind ps) ≡ true → IsTrue (takes y Member) → qs ≡ sub base ∷ goes_to y i f (selector g) → Headed y i f k w g ps qs with_super
+  head_super_call : k ≡ CallExpression → g.optional ≡ false → is_super (lead_kind ps) ≡ true → IsTrue (takes y Call) → qs ≡ sub base ∷ goes_to y i f (arguments (others ps)) → Headed y i f k w g ps qs with_super
+  head_new_with : k ≡ NewExpression → IsTrue (takes y Member) → qs ≡ tok Name (codes "new") ∷ lay space ∷ sub (expr Member true Any) ∷ goes_to y i f (arguments (others ps)) → Headed y i f k w g ps qs with_new
+  head_new_without : k ≡ NewExpression → is_none (others ps) ≡ true → IsTrue (takes y New) → qs ≡ tok Name (codes "new") ∷ lay space ∷ sub (expr New true Any) ∷ [] → Headed y i f k w g ps qs with_new
+  head_new_target : k ≡ MetaProperty → (lead_is ps "new" && lead_is (others ps) "target") ≡ true → IsTrue (takes y Member) → qs ≡ sub word ∷ tok Punctuator (codes ".") ∷ sub word ∷ [] → Headed y i f k w g ps qs with_new
+  head_import : k ≡ ImportExpression → IsTrue (takes y Call) →
+      qs ≡ tok Name (codes "import") ∷ tok Punctuator (codes "(") ∷ sub (expr Assignment true Any) ∷ tok Punctuator (codes ")") ∷ [] → Headed y i f k w g ps qs with_import
+  head_step : k ≡ UpdateExpression → operator_of w ≡ steps → is_target (lead_kind ps) ≡ true → g.prefix ≡ true → IsTrue (takes y Update) →
+      qs ≡ tok Punctuator w ∷ lay (apart (cond (is w "++") 43 45)) ∷ sub (expr LeftHandSide true Any) ∷ [] → Headed y i f k w g ps qs with_step
+  head_word : k ≡ UnaryExpression → is_prefix w ≡ true → is_word_operator w ≡ true → IsTrue (takes y Unary) → qs ≡ tok Name w ∷ lay space ∷ sub (expr Unary true Any) ∷ [] → Headed y i f k w g ps qs with_word
+  head_sign : k ≡ UnaryExpression → is_prefix w ≡ true → is_word_operator w ≡ false → IsTrue (takes y Unary) → qs ≡ tok Punctuator w ∷ goes_to y i f (unary_space w ++ put (expr Unary true Any) ∷ []) →
+      Headed y i f k w g ps qs with_sign
+  head_array_pattern : k ≡ AssignmentExpression → operator_of w ≡ assigns → is w "=" ≡ true → lead_kind ps ≡ ArrayPattern → IsTrue (takes y Assignment) →
+      qs ≡ sub (pattern false f) ∷ between w (expr Assignment i Any) → Headed y i f k w g ps qs with_bracket
+  head_object_pattern : k ≡ AssignmentExpression → operator_of w ≡ assigns → is w "=" ≡ true → lead_kind ps ≡ ObjectPattern → IsTrue (takes y Assignment) →
+      qs ≡ sub (pattern false f) ∷ between w (expr Assignment i Any) → Headed y i f k w g ps qs with_brace
+
+-- a way that begins with a token, with what that is
+pub record HeadedWay (y : Rank) (i : Bool) (f : Start) (k : Kind) (w : List ℕ) (g : Flags) (ps : Parts) (qs : List (PieceOf Role)) : Type 0 where
+  pub opening : Opening
+  pub headed : Headed y i f k w g ps qs opening
+
+is_led_so : {A : Type 0} {qs rs : List (PieceOf Role)} → qs ≡ rs → is_led rs ≡ true → is_led qs ≡ false → A
+is_led_so e h k = absurd (false≢true (sym k ∙ ap is_led e ∙ h))
+
+abbrev behind_one : List Piece → List Piece
+behind_one [] = []
+behind_one (q ∷ qs) = qs
+
+-- the first piece alone decides whether a start is met
+starts_sign : (f : Start) (w : List ℕ) (qs : List Piece) → IsTrue (starts f (tok Punctuator w ∷ qs)) → IsTrue (starts f (tok Punctuator w ∷ []))
+starts_sign Any w qs h = h
+starts_sign NoBrace w qs h = h
+starts_sign Statement w qs h = h
+
+starts_term : (f : Start) (w : List ℕ) (qs : List Piece) → IsTrue (starts f (tok Name w ∷ qs)) → IsTrue (starts f (tok Name w ∷ []))
+starts_term Any w qs h = h
+starts_term NoBrace w qs h = h
+starts_term Statement w qs h = h
+
+starts_fit : (y : Rank) (i : Bool) (f : Start) (x : Spelling) → IsTrue (fits (expr y i f) x) → IsTrue (starts f x.pieces)
+starts_fit y i f x h = (and_parts _ _ (and_parts _ _ (and_parts _ _ h).0).1).1
+
+module _ (y : Rank) (i : Bool) (f : Start) where
+  of_pattern : {w : List ℕ} {g : Flags} {ps : Parts} {qs : List (PieceOf Role)} (k : Kind) → lead_kind ps ≡ k → is_pattern k ≡ true → operator_of w ≡ assigns → is w "=" ≡ true → IsTrue (takes y Assignment) →
+      qs ≡ sub (pattern false f) ∷ between w (expr Assignment i Any) → HeadedWay y i f AssignmentExpression w g ps qs
+  of_pattern ArrayPattern l h o e t q = record { opening = _; headed = head_array_pattern refl o e l t q }
+  of_pattern ObjectPattern l h o e t q = record { opening = _; headed = head_object_pattern refl o e l t q }
+  of_pattern _ l h o e t q = cc
+
+  -- each way that isn't led is one of these
+  pub headed_of : {k : Kind} {w : List ℕ} {g : Flags} {ps : Parts} {qs : List (PieceOf Role)} {x : Spelling} → Made k w g ps x → IsTrue (fits (expr y i f) x) → qs ≡ settled (expr y i f) x → is_led qs ≡ false → HeadedWay y i f k w g ps qs
+  headed_of (identifier h) fit eq un = record { opening = _; headed = head_identifier refl h eq }
+  headed_of (literal h) fit eq un = record { opening = _; headed = head_literal refl h eq }
+  headed_of this fit eq un = record { opening = _; headed = head_this refl eq }
+  headed_of array fit eq un = record { opening = _; headed = head_array refl eq }
+  headed_of (object {ps = ps}) fit eq un = let x : Spelling = at Primary ((sign "{" ∷ listed object_part ps) ++ sign "}" ∷ []) in
+      record { opening = _; headed = head_object refl (starts_sign f (codes "{") (behind_one x.pieces) (starts_fit y i f x fit)) eq }
+  headed_of (function {ps = ps}) fit eq un = let x : Spelling = at Primary (function_pieces ps) in
+      record { opening = _; headed = head_function refl (starts_term f (codes "function") (behind_one x.pieces) (starts_fit y i f x fit)) eq }
+  headed_of (class {ps = ps}) fit eq un = let x : Spelling = at Primary (class_pieces ps) in
+      record { opening = _; headed = head_class refl (starts_term f (codes "class") (behind_one x.pieces) (starts_fit y i f x fit)) eq }
+  headed_of template fit eq un = record { opening = _; headed = head_template refl eq }
+  headed_of (short_arrow h) fit eq un = record { opening = _; headed = head_short_arrow refl refl h (and_parts _ _ (and_parts _ _ fit).0).0 eq }
+  headed_of arrow fit eq un = record { opening = _; headed = head_arrow refl (and_parts _ _ (and_parts _ _ fit).0).0 eq }
+  headed_of (super_member o s) fit eq un = record { opening = _; headed = head_super_member refl o s (and_parts _ _ (and_parts _ _ fit).0).0 eq }
+  headed_of (super_call o s) fit eq un = record { opening = _; headed = head_super_call refl o s (and_parts _ _ (and_parts _ _ fit).0).0 eq }
+  headed_of new_with fit eq un = record { opening = _; headed = head_new_with refl (and_parts _ _ (and_parts _ _ fit).0).0 eq }
+  headed_of (new_without h) fit eq un = record { opening = _; headed = head_new_without refl h (and_parts _ _ (and_parts _ _ fit).0).0 eq }
+  headed_of (new_target h) fit eq un = record { opening = _; headed = head_new_target refl h (and_parts _ _ (and_parts _ _ fit).0).0 eq }
+  headed_of import_call fit eq un = record { opening = _; headed = head_import refl (and_parts _ _ (and_parts _ _ fit).0).0 eq }
+  headed_of (prefix h t p) fit eq un = record { opening = _; headed = head_step refl h t p (and_parts _ _ (and_parts _ _ fit).0).0 eq }
+  headed_of (unary_word h v) fit eq un = record { opening = _; headed = head_word refl h v (and_parts _ _ (and_parts _ _ fit).0).0 eq }
+  headed_of (unary_sign h v) fit eq un = record { opening = _; headed = head_sign refl h v (and_parts _ _ (and_parts _ _ fit).0).0 eq }
+  headed_of (assign_pattern {ps = ps} h e p) fit eq un = of_pattern (lead_kind ps) refl p h e (and_parts _ _ (and_parts _ _ fit).0).0 eq
+  headed_of tagged fit eq un = is_led_so eq refl un
+  headed_of (member o s) fit eq un = is_led_so eq refl un
+  headed_of (call o s) fit eq un = is_led_so eq refl un
+  headed_of (chain c) fit eq un = is_led_so eq refl un
+  headed_of (postfix h t p) fit eq un = is_led_so eq refl un
+  headed_of (power h) fit eq un = is_led_so eq refl un
+  headed_of (binary h) fit eq un = is_led_so eq refl un
+  headed_of (logical h) fit eq un = is_led_so eq refl un
+  headed_of conditional fit eq un = is_led_so eq refl un
+  headed_of (assign h t) fit eq un = is_led_so eq refl un
+  headed_of (several h) fit eq un = is_led_so eq refl un
+
+-- an opening is that of the token's class and text
+pub opens : (t : Token) {c : LexicalClass} {w : List ℕ} {x : Opening} → t.class ≡ c → t.text ≡ w → opening_by c w ≡ x → opening_of t ≡ x
+opens t {c} c' w' e = ap (λ d. opening_by d t.text) c' ∙ ap (opening_by c) w' ∙ e
+
+-- a text that is in no row
+abbrev pub InNone : List ℕ → List (List String × Opening) → Type 0
+InNone w [] = Unit {0}
+InNone w (row ∷ rows) = (among w row.0 ≡ false) × InNone w rows
+
+passes : (w : List ℕ) (rows : List (List String × Opening)) (other : Opening) → InNone w rows → opening_among w rows other ≡ other
+passes w [] other h = refl
+passes w (row ∷ rows) other h = ap (λ b. cond b row.1 (opening_among w rows other)) h.0 ∙ passes w rows other h.1
+
+-- no word of the list
+none_among : (w : List ℕ) (ss : List String) → is_reserved w ≡ false → Each (λ v. is_reserved v ≡ true) ss → among w ss ≡ false
+none_among w ss h all = go (among w ss) refl
+  where
+    go : (b : Bool) → among w ss ≡ b → among w ss ≡ false
+    go false e = e
+    go true e = absurd (false≢true (sym h ∙ among_by (λ v. is_reserved v ≡ true) w ss e all))
+
+pub identifier_opens : (w : List ℕ) → is_reserved w ≡ false → opening_by Name w ≡ with_name
+unfolding is_reserved
+identifier_opens w h =
+    passes w opening_words (cond (is_reserved w) no_opening with_name)
+    (none_among w ("true" ∷ "false" ∷ "null" ∷ []) h (refl, (refl, (refl, tt))),
+     (none_among w ("this" ∷ []) h (refl, tt),
+     (none_among w ("function" ∷ []) h (refl, tt),
+     (none_among w ("class" ∷ []) h (refl, tt),
+     (none_among w ("super" ∷ []) h (refl, tt),
+     (none_among w ("new" ∷ []) h (refl, tt),
+     (none_among w ("import" ∷ []) h (refl, tt),
+     (none_among w ("delete" ∷ "void" ∷ "typeof" ∷ []) h (refl, (refl, (refl, tt))), tt))))))))
+    ∙ ap (λ b. cond b no_opening with_name) h
+
+abbrev later_rows : List (List String × Opening) → List (List String × Opening)
+later_rows [] = []
+later_rows (row ∷ rows) = rows
+
+not_or : (b : Bool) → not b ≡ false → b ≡ true
+not_or true e = refl
+not_or false e = cc
+
+pub literal_opens : (w : List ℕ) → (is_name (literal_class w) && not (among w ("true" ∷ "false" ∷ "null" ∷ []))) ≡ false → opening_by (literal_class w) w ≡ with_literal
+literal_opens w h = go _ _ _ h
+  where
+    go : (a b c : Bool) → (is_name (cond a Text (cond b LexicalClass.RegExp (cond c Number Name))) && not (among w ("true" ∷ "false" ∷ "null" ∷ []))) ≡ false → opening_by (cond a Text (cond b LexicalClass.RegExp (cond c Number Name))) w ≡ with_literal
+    go true b c h = refl
+    go false true c h = refl
+    go false false true h = refl
+    go false false false h = ap (λ b. cond b with_literal (opening_among w (later_rows opening_words) (cond (is_reserved w) no_opening with_name))) (not_or _ h)
+
+pub prefix_word_opens : (w : List ℕ) → is_prefix w ≡ true → is_word_operator w ≡ true → opening_by Name w ≡ with_word
+prefix_word_opens w h k = among_by (λ v. is_word_operator v ≡ true → opening_by Name v ≡ with_word) w ("delete" ∷ "void" ∷ "typeof" ∷ "+" ∷ "-" ∷ "~" ∷ "!" ∷ []) h
+    ((λ e. refl), ((λ e. refl), ((λ e. refl), ((λ e. cc), ((λ e. cc), ((λ e. cc), ((λ e. cc), tt))))))) k
+
+pub prefix_sign_opens : (w : List ℕ) → is_prefix w ≡ true → is_word_operator w ≡ false → (opening_by Punctuator w ≡ with_sign) × IsTrue (allows Goal.RegExp Punctuator w)
+prefix_sign_opens w h k = among_by (λ v. is_word_operator v ≡ false → (opening_by Punctuator v ≡ with_sign) × IsTrue (allows Goal.RegExp Punctuator v)) w ("delete" ∷ "void" ∷ "typeof" ∷ "+" ∷ "-" ∷ "~" ∷ "!" ∷ []) h
+    ((λ e. cc), ((λ e. cc), ((λ e. cc), ((λ e. (refl, refl)), ((λ e. (refl, refl)), ((λ e. (refl, refl)), ((λ e. (refl, refl)), tt))))))) k
+
+step_opens : (w : List ℕ) → operator_of w ≡ steps → (opening_by Punctuator w ≡ with_step) × IsTrue (allows Goal.RegExp Punctuator w)
+step_opens w h = among_by (λ v. (opening_by Punctuator v ≡ with_step) × IsTrue (allows Goal.RegExp Punctuator v)) w ("++" ∷ "--" ∷ []) (step_texts w h) ((refl, refl), ((refl, refl), tt))
+
+either_class : (x y : Bool) → IsTrue (if x then beq true true else if y then beq false false else true)
+either_class true y = refl
+either_class false true = refl
+either_class false false = refl
+
+module _ (S : Type 0) (Next : S → Token → S → Type 0) (behind : S → Token) (det : IsDetermined S Next behind) where
+  -- the pieces begin with a name, a number or a string; or with a sign
+  by_free : {o : ℕ} {ps : Parts} {s m e : S} {P : List Pair} {c : LexicalClass} {w : List ℕ} {t : Token} {x : Opening} (qs : List (PieceOf Role)) → first_of qs ≡ by c w → is_free c ≡ true → opening_by c w ≡ x →
+      Runs ways S Next behind o qs ps s e P → ReadBy S Next behind Goal.RegExp s t m → opening_of t ≡ x
+  by_free {t = t} qs h al e d r = let u = taken_free S Next behind det Goal.RegExp qs h al d r in opens t u.class u.text e
+
+  by_sign : {o : ℕ} {ps : Parts} {s m e : S} {P : List Pair} {c : LexicalClass} {w : List ℕ} {t : Token} {x : Opening} (qs : List (PieceOf Role)) → first_of qs ≡ by c w → IsTrue (allows Goal.RegExp c w) → opening_by c w ≡ x →
+      Runs ways S Next behind o qs ps s e P → ReadBy S Next behind Goal.RegExp s t m → opening_of t ≡ x
+  by_sign {t = t} qs h al e d r = let u = taken S Next behind det Goal.RegExp qs h al d r in opens t u.class u.text e
+
+  by_literal : {o : ℕ} {ps : Parts} {s m e : S} {P : List Pair} {t : Token} (w : List ℕ) → (is_name (literal_class w) && not (among w ("true" ∷ "false" ∷ "null" ∷ []))) ≡ false →
+      Runs ways S Next behind o (tok (literal_class w) w ∷ []) ps s e P → ReadBy S Next behind Goal.RegExp s t m → opening_of t ≡ with_literal
+  by_literal {o} {ps} {s} {m} {e} {P} {t} w h d r = go _ _ _ (literal_opens w h) d
+    where
+      go : (a b c : Bool) → opening_by (cond a Text (cond b LexicalClass.RegExp (cond c Number Name))) w ≡ with_literal →
+          Runs ways S Next behind o (tok (cond a Text (cond b LexicalClass.RegExp (cond c Number Name))) w ∷ []) ps s e P → opening_of t ≡ with_literal
+      go true b c h d = by_free (tok Text w ∷ []) refl refl refl d r
+      go false true c h d = by_sign (tok LexicalClass.RegExp w ∷ []) refl (either_class (begins_with (one_of "/") w) (begins_with (one_of "}") w)) refl d r
+      go false false true h d = by_free (tok Number w ∷ []) refl refl refl d r
+      go false false false h d = by_free (tok Name w ∷ []) refl refl h d r
+
+  -- a part that stands at a position of one spelling
+  at_first : {A : Type 0} {o : ℕ} {a : Role} {qs : List (PieceOf Role)} {ps : Parts} {s e : S} {P : List Pair} →
+      ((n : Tree) (e' : S) (Q : List Pair) (qs' : Parts) → ps ≡ part n qs' → Spells ways S Next behind o a n s e' Q → A) → Runs ways S Next behind o (sub a ∷ qs) ps s e P → A
+  at_first f (within p d) = f _ _ _ _ refl p
+  at_first f (step p d) = elim p [ ]
+
+  name_opens : {o : ℕ} {n : Tree} {s m e : S} {P : List Pair} {t : Token} → Spells ways S Next behind o name n s e P → ReadBy S Next behind Goal.RegExp s t m → opening_of t ≡ with_name
+  unfolding spellings
+  name_opens {n = node Identifier w g a b ps} (direct qs h pl d) r = let v = way_of h in
+      unless (is_reserved w) v.listed (λ c k. by_free qs (ap first_of (v.is ∙ ap (settled name) (one k))) refl (identifier_opens w c) d r)
+  name_opens {n = node _ w g a b ps} (direct qs h pl d) r = elim ((way_of h).listed) [ ]
+
+  base_opens : {o : ℕ} {n : Tree} {s m e : S} {P : List Pair} {t : Token} → Spells ways S Next behind o base n s e P → ReadBy S Next behind Goal.RegExp s t m → opening_of t ≡ with_super
+  unfolding spellings
+  base_opens {n = node Super w g a b ps} (direct qs h pl d) r = let v = way_of h in by_free qs (ap first_of (v.is ∙ ap (settled base) (one v.listed))) refl refl d r
+  base_opens {n = node _ w g a b ps} (direct qs h pl d) r = elim ((way_of h).listed) [ ]
+
+  word_opens : {o : ℕ} {n : Tree} {s m e : S} {P : List Pair} {t : Token} {x : Opening} → opening_by Name (text_of n) ≡ x → Spells ways S Next behind o word n s e P → ReadBy S Next behind Goal.RegExp s t m → opening_of t ≡ x
+  unfolding spellings
+  word_opens {n = node Identifier w g a b ps} k (direct qs h pl d) r = let v = way_of h in by_free qs (ap first_of (v.is ∙ ap (settled word) (one v.listed))) refl k d r
+  word_opens {n = node _ w g a b ps} k (direct qs h pl d) r = elim ((way_of h).listed) [ ]
+
+  chunk_opens : {o : ℕ} {y : Bool} {n : Tree} {s e m : S} {P : List Pair} {t : Token} → Spells ways S Next behind o (chunk true y) n s e P → ReadBy S Next behind Goal.RegExp s t m → opening_of t ≡ with_template
+  unfolding spellings
+  chunk_opens {y = y} {n = node TemplateElement w g a b ps} (direct qs h pl d) r =
+      let v = way_of h in by_sign qs (ap first_of v.is ∙ ap (λ x. first_of (settled (chunk true y) x)) (one v.listed)) refl refl d r
+  chunk_opens {n = node _ w g a b ps} (direct qs h pl d) r = elim ((way_of h).listed) [ ]
+
+  chunks_open : {o : ℕ} {s e m : S} {P : List Pair} {t : Token} (y : Rank) (i : Bool) (f : Start) (ps qs : Parts) → Runs ways S Next behind o (goes_to y i f (chunks true qs)) ps s e P → ReadBy S Next behind Goal.RegExp s t m → opening_of t ≡ with_template
+  chunks_open y i f ps none (step p d) r = elim p [ ]
+  chunks_open y i f ps (gap qs) (step p d) r = elim p [ ]
+  chunks_open y i f ps (part q none) (step p d) r = elim p [ ]
+  chunks_open y i f ps (part q none) (within p d) r = chunk_opens p r
+  chunks_open y i f ps (part q (gap qs)) (step p d) r = elim p [ ]
+  chunks_open y i f ps (part q (part x qs)) (step p d) r = elim p [ ]
+  chunks_open y i f ps (part q (part x qs)) (within p d) r = chunk_opens p r
+
+  pattern_opens : {o : ℕ} {c : Bool} {f : Start} {n : Tree} {s m e : S} {P : List Pair} {t : Token} → Spells ways S Next behind o (pattern c f) n s e P → ReadBy S Next behind Goal.RegExp s t m →
+      (kind_of n ≡ ArrayPattern → opening_of t ≡ with_bracket) × (kind_of n ≡ ObjectPattern → opening_of t ≡ with_brace)
+  unfolding spellings
+  pattern_opens {c = c} {f = f} {n = node ArrayPattern w g a b ps} (direct qs h pl d) r = let v = way_of h in
+      ((λ k. by_sign qs (ap first_of v.is ∙ ap (λ x. first_of (settled (pattern c f) x)) (one v.listed)) refl refl d r), (λ k. cc))
+  pattern_opens {c = c} {f = f} {n = node ObjectPattern w g a b ps} (direct qs h pl d) r = let v = way_of h in
+      ((λ k. cc), (λ k. by_sign qs (ap first_of v.is ∙ ap (λ x. first_of (settled (pattern c f) x)) (one v.listed)) refl refl d r))
+  pattern_opens {n = node _ w g a b ps} (direct qs h pl d) r = elim ((way_of h).listed) [ ]
+
+  kind_bare : (n : Tree) (ps : Parts) {k : Kind} → lead_kind (bare_parts (part n ps)) ≡ k → kind_of n ≡ k
+  kind_bare (node k w g s e qs) ps h = h
+
+  text_bare : (n : Tree) (ps : Parts) → lead_is (bare_parts (part n ps)) "new" ≡ true → text_of n ≡ codes "new"
+  text_bare (node k w g s e qs) ps h = (bytes_eq-Decides w (codes "new")).0 h
+
+  opened_opens : {o : ℕ} {qs : List (PieceOf Role)} {ps : Parts} {s m e : S} {P : List Pair} {t : Token} → Runs ways S Next behind o (open_parameters ∷ qs) ps s e P → ReadBy S Next behind Goal.RegExp s t m → opening_of t ≡ with_parenthesis
+  opened_opens {t = t} (opened {t = u} k d) r =
+      let v = det.same Goal.RegExp _ t u _ _ r.next k.next r.allowed (subst (λ c. IsTrue (allows Goal.RegExp c u.text)) (sym k.class) (subst (λ z. IsTrue (allows Goal.RegExp Punctuator z)) (sym k.text) refl)) in
+      opens t (ap (λ (x : Token). x.class) v.0 ∙ k.class) (ap (λ (x : Token). x.text) v.0 ∙ k.text) refl
+  opened_opens (step p d) r = elim p [ ]
+
+  -- the first token of a way is what the view says
+  pub headed_token : {y : Rank} {i : Bool} {f : Start} {k : Kind} {w : List ℕ} {g : Flags} {ps : Parts} {qs : List (PieceOf Role)} {x : Opening} {o : ℕ} {s m e : S} {P : List Pair} {t : Token} →
+      Headed y i f k w g (bare_parts ps) qs x → Runs ways S Next behind o qs ps s e P → ReadBy S Next behind Goal.RegExp s t m → opening_of t ≡ x
+  headed_token {w = w} {qs = qs} (head_identifier k c q) d r = by_free qs (ap first_of q) refl (identifier_opens w c) d r
+  headed_token {w = w} (head_literal k c q) d r = by_literal w c (retell S Next behind q d) r
+  headed_token {qs = qs} (head_this k q) d r = by_free qs (ap first_of q) refl refl d r
+  headed_token {qs = qs} (head_array k q) d r = by_sign qs (ap first_of q) refl refl d r
+  headed_token {qs = qs} (head_object k b q) d r = by_sign qs (ap first_of q) refl refl d r
+  headed_token {qs = qs} (head_function k b q) d r = by_free qs (ap first_of q) refl refl d r
+  headed_token {qs = qs} (head_class k b q) d r = by_free qs (ap first_of q) refl refl d r
+  headed_token {y} {i} {f} {ps = ps} (head_template k q) d r = chunks_open y i f ps (bare_parts ps) (retell S Next behind q d) r
+  headed_token (head_short_arrow k p n tk q) d r = at_first (λ n e' Q qs' e u. name_opens u r) (retell S Next behind q d)
+  headed_token (head_arrow k tk q) d r = opened_opens (retell S Next behind q d) r
+  headed_token (head_super_member k o s tk q) d r = at_first (λ n e' Q qs' e u. base_opens u r) (retell S Next behind q d)
+  headed_token (head_super_call k o s tk q) d r = at_first (λ n e' Q qs' e u. base_opens u r) (retell S Next behind q d)
+  headed_token {qs = qs} (head_new_with k tk q) d r = by_free qs (ap first_of q) refl refl d r
+  headed_token {qs = qs} (head_new_without k n tk q) d r = by_free qs (ap first_of q) refl refl d r
+  headed_token {ps = ps} (head_new_target k c tk q) d r = at_first (λ n e' Q qs' e u. word_opens (ap (opening_by Name) (text_bare n qs' (ap (λ z. lead_is (bare_parts z) "new") (sym e) ∙ (and_parts _ _ c).0))) u r) (retell S Next behind q d)
+  headed_token {qs = qs} (head_import k tk q) d r = by_free qs (ap first_of q) refl refl d r
+  headed_token {w = w} {qs = qs} (head_step k o t p tk q) d r = let u = step_opens w o in by_sign qs (ap first_of q) u.1 u.0 d r
+  headed_token {w = w} {qs = qs} (head_word k h v tk q) d r = by_free qs (ap first_of q) refl (prefix_word_opens w h v) d r
+  headed_token {w = w} {qs = qs} (head_sign k h v tk q) d r = let u = prefix_sign_opens w h v in by_sign qs (ap first_of q) u.1 u.0 d r
+  headed_token (head_array_pattern k o e l tk q) d r = at_first (λ n e' Q qs' z u. (pattern_opens u r).0 (kind_bare n qs' (ap (λ v. lead_kind (bare_parts v)) (sym z) ∙ l))) (retell S Next behind q d)
+  headed_token (head_object_pattern k o e l tk q) d r = at_first (λ n e' Q qs' z u. (pattern_opens u r).1 (kind_bare n qs' (ap (λ v. lead_kind (bare_parts v)) (sym z) ∙ l))) (retell S Next behind q d)
