@@ -163,15 +163,28 @@ none_among w ss h all = go (among w ss) refl
 pub identifier_opens : (w : List ℕ) → is_reserved w ≡ false → opening_by Name w ≡ with_name
 unfolding is_reserved
 identifier_opens w h =
-    passes w opening_words (cond (is_reserved w) no_opening with_name)
-    (none_among w ("true" ∷ "false" ∷ "null" ∷ []) h (refl, (refl, (refl, tt))),
-     (none_among w ("this" ∷ []) h (refl, tt),
-     (none_among w ("function" ∷ []) h (refl, tt),
-     (none_among w ("class" ∷ []) h (refl, tt),
-     (none_among w ("super" ∷ []) h (refl, tt),
-     (none_among w ("new" ∷ []) h (refl, tt),
-     (none_among w ("import" ∷ []) h (refl, tt),
-     (none_among w ("delete" ∷ "void" ∷ "typeof" ∷ []) h (refl, (refl, (refl, tt))), tt))))))))
+    passes w opening_words (cond (is_reserved w) no_opening with_name) (
+      none_among w ("true" ∷ "false" ∷ "null" ∷ []) h (refl, (refl, (refl, tt))),
+      (
+        none_among w ("this" ∷ []) h (refl, tt),
+        (
+          none_among w ("function" ∷ []) h (refl, tt),
+          (
+            none_among w ("class" ∷ []) h (refl, tt),
+            (
+              none_among w ("super" ∷ []) h (refl, tt),
+              (
+                none_among w ("new" ∷ []) h (refl, tt),
+                (
+                  none_among w ("import" ∷ []) h (refl, tt),
+                  (none_among w ("delete" ∷ "void" ∷ "typeof" ∷ []) h (refl, (refl, (refl, tt))), tt),
+                ),
+              ),
+            ),
+          ),
+        ),
+      ),
+    )
     ∙ ap (λ b. cond b no_opening with_name) h
 
 abbrev later_rows : List (List String × Opening) → List (List String × Opening)
