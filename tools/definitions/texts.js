@@ -4,19 +4,8 @@
 const fs = require('fs');
 const path = require('path');
 const zlib = require('zlib');
+const { randomSource } = require('../reference/random.js');
 const { REFERENCE, FLAGS, FORM, copyTree, nodesOf, noFlags } = require('./model.js');
-
-function randomSource(seed) { // mulberry32
-  let s = seed >>> 0;
-  const next = () => {
-    s = (s + 0x6d2b79f5) >>> 0;
-    let t = Math.imul(s ^ (s >>> 15), s | 1);
-    t ^= t + Math.imul(t ^ (t >>> 7), t | 61);
-    return ((t ^ (t >>> 14)) >>> 0) / 4294967296;
-  };
-  const below = (n) => Math.floor(next() * n);
-  return { next, below, pick: (list) => list[below(list.length)], chance: (percent) => below(100) < percent };
-}
 
 // ---------------------------------------------------------------- corpora
 

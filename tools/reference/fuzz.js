@@ -16,6 +16,7 @@ const { parseOnly, parse } = require('./parse.js');
 const { derivations, keyOf, sample } = require('./brute.js');
 const vm = require('node:vm');
 const { PROGRAMS } = require('./fuzz-programs.js');
+const { randomSource } = require('./random.js');
 let acorn = null;
 try { acorn = require('acorn'); } catch { /* not on this machine */ }
 
@@ -201,17 +202,6 @@ class Run {
     console.log(`${title}: ${texts} texts, ${accepted} derive, ${outside} compared with acorn, ` +
       `${this.seen} disagreements (${this.found.size} after minimising)`);
   }
-}
-
-function randomSource(seed) { // mulberry32
-  let s = seed >>> 0;
-  const next = () => {
-    s = (s + 0x6d2b79f5) >>> 0;
-    let t = Math.imul(s ^ (s >>> 15), s | 1);
-    t ^= t + Math.imul(t ^ (t >>> 7), t | 61);
-    return ((t ^ (t >>> 14)) >>> 0) / 4294967296;
-  };
-  return { next, below: (n) => Math.floor(next() * n), pick: (list) => list[Math.floor(next() * list.length)] };
 }
 
 const spaced = (tokens) => tokens.map((t, i) => (i > 0 && t !== '\n' && tokens[i - 1] !== '\n' ? ' ' + t : t));
