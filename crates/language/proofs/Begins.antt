@@ -4,7 +4,7 @@ use Rattle.std.specs.Prelude.{IsTrue, map, codes, ◌||◌}
 use Prim.Native.String.{String}
 use Rattle.std.proofs.lemmas.Slice.Eq.{bytes_eq-Decides}
 use Rattle.tokens.specs.Lexical.{LexicalClass}
-use Rattle.tokens.specs.Lexical.{Name, Punctuator, Number, Text, End}
+use Rattle.tokens.specs.Lexical.{Name, Punctuator}
 use Rattle.std.specs.Bool.{beq}
 use Rattle.std.specs.Prelude.{if◌then◌else◌}
 use Rattle.tokens.specs.Alphabet.{one_of, begins_with}
@@ -18,6 +18,7 @@ use Rattle.language.specs.Words.{is, among, is_word_operator, no_operator, opera
 use Rattle.language.specs.Pieces.{Role, PieceOf, Piece, Hint, tok, lay, unbroken, settle_piece}
 use Rattle.language.specs.Token.{Token}
 use Rattle.language.specs.Follow.{of_class}
+use Rattle.language.specs.Promises.{is_free, IsDetermined, ReadBy}
 use Rattle.language.specs.Grammar.{ways}
 use Rattle.language.specs.Expressions.{chunks, after_number}
 use Rattle.language.specs.Derivation.{Runs, step, token, laid, same_line}
@@ -104,26 +105,7 @@ pub div_allows : (b : Bool) (w : List ℕ) → IsTrue (allows Div (cond b Name P
 div_allows true w = either_way (begins_with (one_of "/") w) (begins_with (one_of "}") w)
 div_allows false w = either_way (begins_with (one_of "/") w) (begins_with (one_of "}") w)
 
-abbrev pub is_free : LexicalClass → Bool
-is_free Name = true
-is_free Number = true
-is_free Text = true
-is_free End = true
-is_free _ = false
-
 module _ (S : Type 0) (Next : S → Token → S → Type 0) (behind : S → Token) where
-  -- By a goal at most one token is read at a place; behind it, it is the token before.
-  pub record IsDetermined : Type 0 where
-    pub same : (g : Goal) (s : S) (a b : Token) (e f : S) → Next s a e → Next s b f → IsTrue (allows g a.class a.text) → IsTrue (allows g b.class b.text) → (a ≡ b) × (e ≡ f)
-    pub last : (s : S) (t : Token) (e : S) → Next s t e → behind e ≡ t
-    -- names, numbers, strings and the end are read by every goal
-    pub free : (g : Goal) (s : S) (t : Token) (e : S) → Next s t e → is_free t.class ≡ true → IsTrue (allows g t.class t.text)
-
-  -- the token that a goal reads at a place
-  pub record ReadBy (g : Goal) (s : S) (t : Token) (e : S) : Type 0 where
-    pub next : Next s t e
-    pub allowed : IsTrue (allows g t.class t.text)
-
   pub retell : {o : ℕ} {qs rs : List (PieceOf Role)} {ps : Parts} {s e : S} {P : List Pair} → qs ≡ rs → Runs ways S Next behind o qs ps s e P → Runs ways S Next behind o rs ps s e P
   retell {o} {ps = ps} {s = s} {e = e} {P = P} h d = subst (λ x. Runs ways S Next behind o x ps s e P) h d
 
@@ -150,8 +132,8 @@ module _ (S : Type 0) (Next : S → Token → S → Type 0) (behind : S → Toke
     pub text : t.text ≡ w
     pub runs : Runs ways S Next behind o (behind_first qs) ps m e P
 
-  pub taken : IsDetermined → (g : Goal) → {o : ℕ} {ps : Parts} {s m e : S} {P : List Pair} {c : LexicalClass} {w : List ℕ} {t : Token} (qs : List (PieceOf Role)) → first_of qs ≡ by c w → IsTrue (allows g c w) →
-      Runs ways S Next behind o qs ps s e P → ReadBy g s t m → Taken o c w t m qs ps e P
+  pub taken : IsDetermined S Next behind → (g : Goal) → {o : ℕ} {ps : Parts} {s m e : S} {P : List Pair} {c : LexicalClass} {w : List ℕ} {t : Token} (qs : List (PieceOf Role)) → first_of qs ≡ by c w → IsTrue (allows g c w) →
+      Runs ways S Next behind o qs ps s e P → ReadBy S Next behind g s t m → Taken o c w t m qs ps e P
   taken det g {o} {ps} {s} {m} {e} {P} {c} {w} {t} qs h al d r =
       let u = begun qs h d in
       let al' : IsTrue (allows g u.token.class u.token.text) = subst (λ x. IsTrue (allows g x u.token.text)) (sym u.class) (subst (λ x. IsTrue (allows g c x)) (sym u.text) al) in
@@ -163,8 +145,8 @@ module _ (S : Type 0) (Next : S → Token → S → Type 0) (behind : S → Toke
       }
 
   -- the same where the token is a name, a number or a string
-  pub taken_free : IsDetermined → (g : Goal) → {o : ℕ} {ps : Parts} {s m e : S} {P : List Pair} {c : LexicalClass} {w : List ℕ} {t : Token} (qs : List (PieceOf Role)) → first_of qs ≡ by c w → is_free c ≡ true →
-      Runs ways S Next behind o qs ps s e P → ReadBy g s t m → Taken o c w t m qs ps e P
+  pub taken_free : IsDetermined S Next behind → (g : Goal) → {o : ℕ} {ps : Parts} {s m e : S} {P : List Pair} {c : LexicalClass} {w : List ℕ} {t : Token} (qs : List (PieceOf Role)) → first_of qs ≡ by c w → is_free c ≡ true →
+      Runs ways S Next behind o qs ps s e P → ReadBy S Next behind g s t m → Taken o c w t m qs ps e P
   taken_free det g {o} {ps} {s} {m} {e} {P} {c} {w} {t} qs h al d r =
       let u = begun qs h d in
       let v = det.same g s t u.token m u.mid r.next u.next r.allowed (det.free g s u.token u.mid u.next (ap is_free u.class ∙ al)) in

@@ -31,7 +31,8 @@ use Rattle.language.specs.View.{Made, identifier, literal, this, array, object, 
 use Rattle.language.proofs.Domination.{settled, fits}
 use Rattle.language.proofs.Viewed.{way_of, one, unless}
 use Rattle.language.proofs.Spine.{is_led}
-use Rattle.language.proofs.Begins.{by, is_free, first_of, goes_to, among_by, Each, IsDetermined, ReadBy, retell, taken, taken_free}
+use Rattle.language.proofs.Begins.{by, first_of, goes_to, among_by, Each, retell, begun}
+use Rattle.language.specs.Promises.{is_free, IsDetermined, ReadBy}
 use Rattle.language.proofs.Led.{between}
 use Rattle.language.proofs.Operators.{step_texts}
 
@@ -221,25 +222,35 @@ either_class false true = refl
 either_class false false = refl
 
 module _ (S : Type 0) (Next : S → Token → S → Type 0) (behind : S → Token) (det : IsDetermined S Next behind) where
+  -- the token with which something begins at a place, by the goal for operands
+  pub record Opens (x : Opening) (s : S) : Type 0 where
+    pub token : Token
+    pub mid : S
+    pub read : ReadBy S Next behind Goal.RegExp s token mid
+    pub opens : opening_of token ≡ x
+
   -- the pieces begin with a name, a number or a string; or with a sign
-  by_free : {o : ℕ} {ps : Parts} {s m e : S} {P : List Pair} {c : LexicalClass} {w : List ℕ} {t : Token} {x : Opening} (qs : List (PieceOf Role)) → first_of qs ≡ by c w → is_free c ≡ true → opening_by c w ≡ x →
-      Runs ways S Next behind o qs ps s e P → ReadBy S Next behind Goal.RegExp s t m → opening_of t ≡ x
-  by_free {t = t} qs h al e d r = let u = taken_free S Next behind det Goal.RegExp qs h al d r in opens t u.class u.text e
+  by_free : {o : ℕ} {ps : Parts} {s e : S} {P : List Pair} {c : LexicalClass} {w : List ℕ} {x : Opening} (qs : List (PieceOf Role)) → first_of qs ≡ by c w → is_free c ≡ true → opening_by c w ≡ x →
+      Runs ways S Next behind o qs ps s e P → Opens x s
+  by_free qs h al e d = let u = begun S Next behind qs h d in
+      record { token = u.token; mid = u.mid; read = record { next = u.next; allowed = det.free Goal.RegExp _ u.token u.mid u.next (ap is_free u.class ∙ al) }; opens = opens u.token u.class u.text e }
 
-  by_sign : {o : ℕ} {ps : Parts} {s m e : S} {P : List Pair} {c : LexicalClass} {w : List ℕ} {t : Token} {x : Opening} (qs : List (PieceOf Role)) → first_of qs ≡ by c w → IsTrue (allows Goal.RegExp c w) → opening_by c w ≡ x →
-      Runs ways S Next behind o qs ps s e P → ReadBy S Next behind Goal.RegExp s t m → opening_of t ≡ x
-  by_sign {t = t} qs h al e d r = let u = taken S Next behind det Goal.RegExp qs h al d r in opens t u.class u.text e
+  by_sign : {o : ℕ} {ps : Parts} {s e : S} {P : List Pair} {c : LexicalClass} {w : List ℕ} {x : Opening} (qs : List (PieceOf Role)) → first_of qs ≡ by c w → IsTrue (allows Goal.RegExp c w) → opening_by c w ≡ x →
+      Runs ways S Next behind o qs ps s e P → Opens x s
+  by_sign {c = c} qs h al e d = let u = begun S Next behind qs h d in
+      let al' : IsTrue (allows Goal.RegExp u.token.class u.token.text) = subst (λ x. IsTrue (allows Goal.RegExp x u.token.text)) (sym u.class) (subst (λ x. IsTrue (allows Goal.RegExp c x)) (sym u.text) al) in
+      record { token = u.token; mid = u.mid; read = record { next = u.next; allowed = al' }; opens = opens u.token u.class u.text e }
 
-  by_literal : {o : ℕ} {ps : Parts} {s m e : S} {P : List Pair} {t : Token} (w : List ℕ) → (is_name (literal_class w) && not (among w ("true" ∷ "false" ∷ "null" ∷ []))) ≡ false →
-      Runs ways S Next behind o (tok (literal_class w) w ∷ []) ps s e P → ReadBy S Next behind Goal.RegExp s t m → opening_of t ≡ with_literal
-  by_literal {o} {ps} {s} {m} {e} {P} {t} w h d r = go _ _ _ (literal_opens w h) d
+  by_literal : {o : ℕ} {ps : Parts} {s e : S} {P : List Pair} (w : List ℕ) → (is_name (literal_class w) && not (among w ("true" ∷ "false" ∷ "null" ∷ []))) ≡ false →
+      Runs ways S Next behind o (tok (literal_class w) w ∷ []) ps s e P → Opens with_literal s
+  by_literal {o} {ps} {s} {e} {P} w h d = go _ _ _ (literal_opens w h) d
     where
       go : (a b c : Bool) → opening_by (cond a Text (cond b LexicalClass.RegExp (cond c Number Name))) w ≡ with_literal →
-          Runs ways S Next behind o (tok (cond a Text (cond b LexicalClass.RegExp (cond c Number Name))) w ∷ []) ps s e P → opening_of t ≡ with_literal
-      go true b c h d = by_free (tok Text w ∷ []) refl refl refl d r
-      go false true c h d = by_sign (tok LexicalClass.RegExp w ∷ []) refl (either_class (begins_with (one_of "/") w) (begins_with (one_of "}") w)) refl d r
-      go false false true h d = by_free (tok Number w ∷ []) refl refl refl d r
-      go false false false h d = by_free (tok Name w ∷ []) refl refl h d r
+          Runs ways S Next behind o (tok (cond a Text (cond b LexicalClass.RegExp (cond c Number Name))) w ∷ []) ps s e P → Opens with_literal s
+      go true b c h d = by_free (tok Text w ∷ []) refl refl refl d
+      go false true c h d = by_sign (tok LexicalClass.RegExp w ∷ []) refl (either_class (begins_with (one_of "/") w) (begins_with (one_of "}") w)) refl d
+      go false false true h d = by_free (tok Number w ∷ []) refl refl refl d
+      go false false false h d = by_free (tok Name w ∷ []) refl refl h d
 
   -- a part that stands at a position of one spelling
   at_first : {A : Type 0} {o : ℕ} {a : Role} {qs : List (PieceOf Role)} {ps : Parts} {s e : S} {P : List Pair} →
@@ -247,45 +258,45 @@ module _ (S : Type 0) (Next : S → Token → S → Type 0) (behind : S → Toke
   at_first f (within p d) = f _ _ _ _ refl p
   at_first f (step p d) = elim p [ ]
 
-  name_opens : {o : ℕ} {n : Tree} {s m e : S} {P : List Pair} {t : Token} → Spells ways S Next behind o name n s e P → ReadBy S Next behind Goal.RegExp s t m → opening_of t ≡ with_name
+  name_opens : {o : ℕ} {n : Tree} {s e : S} {P : List Pair} → Spells ways S Next behind o name n s e P → Opens with_name s
   unfolding spellings
-  name_opens {n = node Identifier w g a b ps} (direct qs h pl d) r = let v = way_of h in
-      unless (is_reserved w) v.listed (λ c k. by_free qs (ap first_of (v.is ∙ ap (settled name) (one k))) refl (identifier_opens w c) d r)
-  name_opens {n = node _ w g a b ps} (direct qs h pl d) r = elim ((way_of h).listed) [ ]
+  name_opens {n = node Identifier w g a b ps} (direct qs h pl d) = let v = way_of h in
+      unless (is_reserved w) v.listed (λ c k. by_free qs (ap first_of (v.is ∙ ap (settled name) (one k))) refl (identifier_opens w c) d)
+  name_opens {n = node _ w g a b ps} (direct qs h pl d) = elim ((way_of h).listed) [ ]
 
-  base_opens : {o : ℕ} {n : Tree} {s m e : S} {P : List Pair} {t : Token} → Spells ways S Next behind o base n s e P → ReadBy S Next behind Goal.RegExp s t m → opening_of t ≡ with_super
+  base_opens : {o : ℕ} {n : Tree} {s e : S} {P : List Pair} → Spells ways S Next behind o base n s e P → Opens with_super s
   unfolding spellings
-  base_opens {n = node Super w g a b ps} (direct qs h pl d) r = let v = way_of h in by_free qs (ap first_of (v.is ∙ ap (settled base) (one v.listed))) refl refl d r
-  base_opens {n = node _ w g a b ps} (direct qs h pl d) r = elim ((way_of h).listed) [ ]
+  base_opens {n = node Super w g a b ps} (direct qs h pl d) = let v = way_of h in by_free qs (ap first_of (v.is ∙ ap (settled base) (one v.listed))) refl refl d
+  base_opens {n = node _ w g a b ps} (direct qs h pl d) = elim ((way_of h).listed) [ ]
 
-  word_opens : {o : ℕ} {n : Tree} {s m e : S} {P : List Pair} {t : Token} {x : Opening} → opening_by Name (text_of n) ≡ x → Spells ways S Next behind o word n s e P → ReadBy S Next behind Goal.RegExp s t m → opening_of t ≡ x
+  word_opens : {o : ℕ} {n : Tree} {s e : S} {P : List Pair} {x : Opening} → opening_by Name (text_of n) ≡ x → Spells ways S Next behind o word n s e P → Opens x s
   unfolding spellings
-  word_opens {n = node Identifier w g a b ps} k (direct qs h pl d) r = let v = way_of h in by_free qs (ap first_of (v.is ∙ ap (settled word) (one v.listed))) refl k d r
-  word_opens {n = node _ w g a b ps} k (direct qs h pl d) r = elim ((way_of h).listed) [ ]
+  word_opens {n = node Identifier w g a b ps} k (direct qs h pl d) = let v = way_of h in by_free qs (ap first_of (v.is ∙ ap (settled word) (one v.listed))) refl k d
+  word_opens {n = node _ w g a b ps} k (direct qs h pl d) = elim ((way_of h).listed) [ ]
 
-  chunk_opens : {o : ℕ} {y : Bool} {n : Tree} {s e m : S} {P : List Pair} {t : Token} → Spells ways S Next behind o (chunk true y) n s e P → ReadBy S Next behind Goal.RegExp s t m → opening_of t ≡ with_template
+  chunk_opens : {o : ℕ} {y : Bool} {n : Tree} {s e : S} {P : List Pair} → Spells ways S Next behind o (chunk true y) n s e P → Opens with_template s
   unfolding spellings
-  chunk_opens {y = y} {n = node TemplateElement w g a b ps} (direct qs h pl d) r =
-      let v = way_of h in by_sign qs (ap first_of v.is ∙ ap (λ x. first_of (settled (chunk true y) x)) (one v.listed)) refl refl d r
-  chunk_opens {n = node _ w g a b ps} (direct qs h pl d) r = elim ((way_of h).listed) [ ]
+  chunk_opens {y = y} {n = node TemplateElement w g a b ps} (direct qs h pl d) =
+      let v = way_of h in by_sign qs (ap first_of v.is ∙ ap (λ x. first_of (settled (chunk true y) x)) (one v.listed)) refl refl d
+  chunk_opens {n = node _ w g a b ps} (direct qs h pl d) = elim ((way_of h).listed) [ ]
 
-  chunks_open : {o : ℕ} {s e m : S} {P : List Pair} {t : Token} (y : Rank) (i : Bool) (f : Start) (ps qs : Parts) → Runs ways S Next behind o (goes_to y i f (chunks true qs)) ps s e P → ReadBy S Next behind Goal.RegExp s t m → opening_of t ≡ with_template
-  chunks_open y i f ps none (step p d) r = elim p [ ]
-  chunks_open y i f ps (gap qs) (step p d) r = elim p [ ]
-  chunks_open y i f ps (part q none) (step p d) r = elim p [ ]
-  chunks_open y i f ps (part q none) (within p d) r = chunk_opens p r
-  chunks_open y i f ps (part q (gap qs)) (step p d) r = elim p [ ]
-  chunks_open y i f ps (part q (part x qs)) (step p d) r = elim p [ ]
-  chunks_open y i f ps (part q (part x qs)) (within p d) r = chunk_opens p r
+  chunks_open : {o : ℕ} {s e : S} {P : List Pair} (y : Rank) (i : Bool) (f : Start) (ps qs : Parts) → Runs ways S Next behind o (goes_to y i f (chunks true qs)) ps s e P → Opens with_template s
+  chunks_open y i f ps none (step p d) = elim p [ ]
+  chunks_open y i f ps (gap qs) (step p d) = elim p [ ]
+  chunks_open y i f ps (part q none) (step p d) = elim p [ ]
+  chunks_open y i f ps (part q none) (within p d) = chunk_opens p
+  chunks_open y i f ps (part q (gap qs)) (step p d) = elim p [ ]
+  chunks_open y i f ps (part q (part x qs)) (step p d) = elim p [ ]
+  chunks_open y i f ps (part q (part x qs)) (within p d) = chunk_opens p
 
-  pattern_opens : {o : ℕ} {c : Bool} {f : Start} {n : Tree} {s m e : S} {P : List Pair} {t : Token} → Spells ways S Next behind o (pattern c f) n s e P → ReadBy S Next behind Goal.RegExp s t m →
-      (kind_of n ≡ ArrayPattern → opening_of t ≡ with_bracket) × (kind_of n ≡ ObjectPattern → opening_of t ≡ with_brace)
+  pattern_opens : {o : ℕ} {c : Bool} {f : Start} {n : Tree} {s e : S} {P : List Pair} → Spells ways S Next behind o (pattern c f) n s e P →
+      (kind_of n ≡ ArrayPattern → Opens with_bracket s) × (kind_of n ≡ ObjectPattern → Opens with_brace s)
   unfolding spellings
-  pattern_opens {c = c} {f = f} {n = node ArrayPattern w g a b ps} (direct qs h pl d) r = let v = way_of h in
-      ((λ k. by_sign qs (ap first_of v.is ∙ ap (λ x. first_of (settled (pattern c f) x)) (one v.listed)) refl refl d r), (λ k. cc))
-  pattern_opens {c = c} {f = f} {n = node ObjectPattern w g a b ps} (direct qs h pl d) r = let v = way_of h in
-      ((λ k. cc), (λ k. by_sign qs (ap first_of v.is ∙ ap (λ x. first_of (settled (pattern c f) x)) (one v.listed)) refl refl d r))
-  pattern_opens {n = node _ w g a b ps} (direct qs h pl d) r = elim ((way_of h).listed) [ ]
+  pattern_opens {c = c} {f = f} {n = node ArrayPattern w g a b ps} (direct qs h pl d) = let v = way_of h in
+      ((λ k. by_sign qs (ap first_of v.is ∙ ap (λ x. first_of (settled (pattern c f) x)) (one v.listed)) refl refl d), (λ k. cc))
+  pattern_opens {c = c} {f = f} {n = node ObjectPattern w g a b ps} (direct qs h pl d) = let v = way_of h in
+      ((λ k. cc), (λ k. by_sign qs (ap first_of v.is ∙ ap (λ x. first_of (settled (pattern c f) x)) (one v.listed)) refl refl d))
+  pattern_opens {n = node _ w g a b ps} (direct qs h pl d) = elim ((way_of h).listed) [ ]
 
   kind_bare : (n : Tree) (ps : Parts) {k : Kind} → lead_kind (bare_parts (part n ps)) ≡ k → kind_of n ≡ k
   kind_bare (node k w g s e qs) ps h = h
@@ -293,33 +304,37 @@ module _ (S : Type 0) (Next : S → Token → S → Type 0) (behind : S → Toke
   text_bare : (n : Tree) (ps : Parts) → lead_is (bare_parts (part n ps)) "new" ≡ true → text_of n ≡ codes "new"
   text_bare (node k w g s e qs) ps h = (bytes_eq-Decides w (codes "new")).0 h
 
-  opened_opens : {o : ℕ} {qs : List (PieceOf Role)} {ps : Parts} {s m e : S} {P : List Pair} {t : Token} → Runs ways S Next behind o (open_parameters ∷ qs) ps s e P → ReadBy S Next behind Goal.RegExp s t m → opening_of t ≡ with_parenthesis
-  opened_opens {t = t} (opened {t = u} k d) r =
-      let v = det.same Goal.RegExp _ t u _ _ r.next k.next r.allowed (subst (λ c. IsTrue (allows Goal.RegExp c u.text)) (sym k.class) (subst (λ z. IsTrue (allows Goal.RegExp Punctuator z)) (sym k.text) refl)) in
-      opens t (ap (λ (x : Token). x.class) v.0 ∙ k.class) (ap (λ (x : Token). x.text) v.0 ∙ k.text) refl
-  opened_opens (step p d) r = elim p [ ]
+  opened_opens : {o : ℕ} {qs : List (PieceOf Role)} {ps : Parts} {s e : S} {P : List Pair} → Runs ways S Next behind o (open_parameters ∷ qs) ps s e P → Opens with_parenthesis s
+  opened_opens (opened {t = u} {m = m} k d) =
+      let al : IsTrue (allows Goal.RegExp u.class u.text) = subst (λ c. IsTrue (allows Goal.RegExp c u.text)) (sym k.class) (subst (λ z. IsTrue (allows Goal.RegExp Punctuator z)) (sym k.text) refl) in
+      record { token = u; mid = m; read = record { next = k.next; allowed = al }; opens = opens u k.class k.text refl }
+  opened_opens (step p d) = elim p [ ]
 
   -- the first token of a way is what the view says
-  pub headed_token : {y : Rank} {i : Bool} {f : Start} {k : Kind} {w : List ℕ} {g : Flags} {ps : Parts} {qs : List (PieceOf Role)} {x : Opening} {o : ℕ} {s m e : S} {P : List Pair} {t : Token} →
-      Headed y i f k w g (bare_parts ps) qs x → Runs ways S Next behind o qs ps s e P → ReadBy S Next behind Goal.RegExp s t m → opening_of t ≡ x
-  headed_token {w = w} {qs = qs} (head_identifier k c q) d r = by_free qs (ap first_of q) refl (identifier_opens w c) d r
-  headed_token {w = w} (head_literal k c q) d r = by_literal w c (retell S Next behind q d) r
-  headed_token {qs = qs} (head_this k q) d r = by_free qs (ap first_of q) refl refl d r
-  headed_token {qs = qs} (head_array k q) d r = by_sign qs (ap first_of q) refl refl d r
-  headed_token {qs = qs} (head_object k b q) d r = by_sign qs (ap first_of q) refl refl d r
-  headed_token {qs = qs} (head_function k b q) d r = by_free qs (ap first_of q) refl refl d r
-  headed_token {qs = qs} (head_class k b q) d r = by_free qs (ap first_of q) refl refl d r
-  headed_token {y} {i} {f} {ps = ps} (head_template k q) d r = chunks_open y i f ps (bare_parts ps) (retell S Next behind q d) r
-  headed_token (head_short_arrow k p n tk q) d r = at_first (λ n e' Q qs' e u. name_opens u r) (retell S Next behind q d)
-  headed_token (head_arrow k tk q) d r = opened_opens (retell S Next behind q d) r
-  headed_token (head_super_member k o s tk q) d r = at_first (λ n e' Q qs' e u. base_opens u r) (retell S Next behind q d)
-  headed_token (head_super_call k o s tk q) d r = at_first (λ n e' Q qs' e u. base_opens u r) (retell S Next behind q d)
-  headed_token {qs = qs} (head_new_with k tk q) d r = by_free qs (ap first_of q) refl refl d r
-  headed_token {qs = qs} (head_new_without k n tk q) d r = by_free qs (ap first_of q) refl refl d r
-  headed_token {ps = ps} (head_new_target k c tk q) d r = at_first (λ n e' Q qs' e u. word_opens (ap (opening_by Name) (text_bare n qs' (ap (λ z. lead_is (bare_parts z) "new") (sym e) ∙ (and_parts _ _ c).0))) u r) (retell S Next behind q d)
-  headed_token {qs = qs} (head_import k tk q) d r = by_free qs (ap first_of q) refl refl d r
-  headed_token {w = w} {qs = qs} (head_step k o t p tk q) d r = let u = step_opens w o in by_sign qs (ap first_of q) u.1 u.0 d r
-  headed_token {w = w} {qs = qs} (head_word k h v tk q) d r = by_free qs (ap first_of q) refl (prefix_word_opens w h v) d r
-  headed_token {w = w} {qs = qs} (head_sign k h v tk q) d r = let u = prefix_sign_opens w h v in by_sign qs (ap first_of q) u.1 u.0 d r
-  headed_token (head_array_pattern k o e l tk q) d r = at_first (λ n e' Q qs' z u. (pattern_opens u r).0 (kind_bare n qs' (ap (λ v. lead_kind (bare_parts v)) (sym z) ∙ l))) (retell S Next behind q d)
-  headed_token (head_object_pattern k o e l tk q) d r = at_first (λ n e' Q qs' z u. (pattern_opens u r).1 (kind_bare n qs' (ap (λ v. lead_kind (bare_parts v)) (sym z) ∙ l))) (retell S Next behind q d)
+  pub headed_read : {y : Rank} {i : Bool} {f : Start} {k : Kind} {w : List ℕ} {g : Flags} {ps : Parts} {qs : List (PieceOf Role)} {x : Opening} {o : ℕ} {s e : S} {P : List Pair} →
+      Headed y i f k w g (bare_parts ps) qs x → Runs ways S Next behind o qs ps s e P → Opens x s
+  headed_read {w = w} {qs = qs} (head_identifier k c q) d = by_free qs (ap first_of q) refl (identifier_opens w c) d
+  headed_read {w = w} (head_literal k c q) d = by_literal w c (retell S Next behind q d)
+  headed_read {qs = qs} (head_this k q) d = by_free qs (ap first_of q) refl refl d
+  headed_read {qs = qs} (head_array k q) d = by_sign qs (ap first_of q) refl refl d
+  headed_read {qs = qs} (head_object k b q) d = by_sign qs (ap first_of q) refl refl d
+  headed_read {qs = qs} (head_function k b q) d = by_free qs (ap first_of q) refl refl d
+  headed_read {qs = qs} (head_class k b q) d = by_free qs (ap first_of q) refl refl d
+  headed_read {y} {i} {f} {ps = ps} (head_template k q) d = chunks_open y i f ps (bare_parts ps) (retell S Next behind q d)
+  headed_read (head_short_arrow k p n tk q) d = at_first (λ n e' Q qs' e u. name_opens u) (retell S Next behind q d)
+  headed_read (head_arrow k tk q) d = opened_opens (retell S Next behind q d)
+  headed_read (head_super_member k o s tk q) d = at_first (λ n e' Q qs' e u. base_opens u) (retell S Next behind q d)
+  headed_read (head_super_call k o s tk q) d = at_first (λ n e' Q qs' e u. base_opens u) (retell S Next behind q d)
+  headed_read {qs = qs} (head_new_with k tk q) d = by_free qs (ap first_of q) refl refl d
+  headed_read {qs = qs} (head_new_without k n tk q) d = by_free qs (ap first_of q) refl refl d
+  headed_read {ps = ps} (head_new_target k c tk q) d = at_first (λ n e' Q qs' e u. word_opens (ap (opening_by Name) (text_bare n qs' (ap (λ z. lead_is (bare_parts z) "new") (sym e) ∙ (and_parts _ _ c).0))) u) (retell S Next behind q d)
+  headed_read {qs = qs} (head_import k tk q) d = by_free qs (ap first_of q) refl refl d
+  headed_read {w = w} {qs = qs} (head_step k o t p tk q) d = let u = step_opens w o in by_sign qs (ap first_of q) u.1 u.0 d
+  headed_read {w = w} {qs = qs} (head_word k h v tk q) d = by_free qs (ap first_of q) refl (prefix_word_opens w h v) d
+  headed_read {w = w} {qs = qs} (head_sign k h v tk q) d = let u = prefix_sign_opens w h v in by_sign qs (ap first_of q) u.1 u.0 d
+  headed_read (head_array_pattern k o e l tk q) d = at_first (λ n e' Q qs' z u. (pattern_opens u).0 (kind_bare n qs' (ap (λ v. lead_kind (bare_parts v)) (sym z) ∙ l))) (retell S Next behind q d)
+  headed_read (head_object_pattern k o e l tk q) d = at_first (λ n e' Q qs' z u. (pattern_opens u).1 (kind_bare n qs' (ap (λ v. lead_kind (bare_parts v)) (sym z) ∙ l))) (retell S Next behind q d)
+
+  -- so the token that the goal for operands reads is that one
+  pub opens_with : {x : Opening} {s m : S} {t : Token} → Opens x s → ReadBy S Next behind Goal.RegExp s t m → opening_of t ≡ x
+  opens_with {s = s} {m = m} {t = t} u r = ap opening_of (det.same Goal.RegExp s t u.token m u.mid r.next u.read.next r.allowed u.read.allowed).0 ∙ u.opens

@@ -13,9 +13,13 @@ pub mod Begins
 pub mod Growth
 pub mod Led
 pub mod Onward
+pub mod Reaches
+pub mod Stepping
 pub mod Headed
+pub mod Cores
+pub mod Productions
+pub mod Growing
 pub mod Climbing
-pub mod Heads
 pub mod Searched
 pub mod Found
 pub mod Trees

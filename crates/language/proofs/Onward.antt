@@ -26,7 +26,8 @@ use Rattle.tree.specs.Uses.{is_lean}
 use Rattle.language.proofs.Domination.{settled}
 use Rattle.language.proofs.Viewed.{way_of, made, one}
 use Rattle.language.proofs.Spine.{on_spine, grows_on_spine, Grows, whole, grow}
-use Rattle.language.proofs.Begins.{by, first_of, goes_to, number_laid, laid_first, among_by, word_or_sign, div_allows, IsDetermined, ReadBy, retell, taken}
+use Rattle.language.proofs.Begins.{by, first_of, goes_to, number_laid, laid_first, among_by, word_or_sign, div_allows, retell, begun}
+use Rattle.language.specs.Promises.{IsDetermined, ReadBy}
 use Rattle.language.proofs.Led.{Led, led_binary, led_power, led_assign, led_postfix, led_sequence, led_conditional, led_dot, led_index, led_call, led_tag, led_chain, led_of, Linked, link_dot, link_index, link_call, link_chained_name, link_chained_index, link_chained_call, linked_of, between, bracketed, dotted}
 
 -- what a word operator makes
@@ -57,67 +58,80 @@ pub makes : (t : Token) {c : LexicalClass} {w : List ℕ} {x : Operator} → t.c
 makes t {c} c' w' e = ap (λ d. of_class d t.text) c' ∙ ap (of_class c) w' ∙ e
 
 module _ (S : Type 0) (Next : S → Token → S → Type 0) (behind : S → Token) (det : IsDetermined S Next behind) where
+  -- the token with which something goes on at a place, by the goal for what stands behind an operand
+  pub record Goes (x : Operator) (s : S) : Type 0 where
+    pub token : Token
+    pub mid : S
+    pub read : ReadBy S Next behind Div s token mid
+    pub goes : operation token ≡ x
+
   -- the pieces begin with a token that makes the operator
-  by_token : {o : ℕ} {ps : Parts} {s m e : S} {P : List Pair} {c : LexicalClass} {w : List ℕ} {t : Token} {x : Operator} (qs : List (PieceOf Role)) → first_of qs ≡ by c w → IsTrue (allows Div c w) → of_class c w ≡ x →
-      Runs ways S Next behind o qs ps s e P → ReadBy S Next behind Div s t m → operation t ≡ x
-  by_token {t = t} qs h al e d r = let u = taken S Next behind det Div qs h al d r in makes t u.class u.text e
+  by_token : {o : ℕ} {ps : Parts} {s e : S} {P : List Pair} {c : LexicalClass} {w : List ℕ} {x : Operator} (qs : List (PieceOf Role)) → first_of qs ≡ by c w → IsTrue (allows Div c w) → of_class c w ≡ x →
+      Runs ways S Next behind o qs ps s e P → Goes x s
+  by_token {c = c} qs h al e d = let u = begun S Next behind qs h d in
+      let al' : IsTrue (allows Div u.token.class u.token.text) = subst (λ x. IsTrue (allows Div x u.token.text)) (sym u.class) (subst (λ x. IsTrue (allows Div c x)) (sym u.text) al) in
+      record { token = u.token; mid = u.mid; read = record { next = u.next; allowed = al' }; goes = makes u.token u.class u.text e }
 
   -- a template begins with one that makes a tag of what stands before it
-  chunk_tags : {o : ℕ} {y : Bool} {n : Tree} {s e m : S} {P : List Pair} {t : Token} → Spells ways S Next behind o (chunk true y) n s e P → ReadBy S Next behind Div s t m → operation t ≡ tags
+  chunk_tags : {o : ℕ} {y : Bool} {n : Tree} {s e : S} {P : List Pair} → Spells ways S Next behind o (chunk true y) n s e P → Goes tags s
   unfolding spellings
-  chunk_tags {y = y} {n = node TemplateElement w g a b ps} (direct qs h pl d) r =
+  chunk_tags {y = y} {n = node TemplateElement w g a b ps} (direct qs h pl d) =
       let v = way_of h in
-      by_token qs (ap first_of v.is ∙ ap (λ x. first_of (settled (chunk true y) x)) (one v.listed)) refl refl d r
-  chunk_tags {n = node _ w g a b ps} (direct qs h pl d) r = elim ((way_of h).listed) [ ]
+      by_token qs (ap first_of v.is ∙ ap (λ x. first_of (settled (chunk true y) x)) (one v.listed)) refl refl d
+  chunk_tags {n = node _ w g a b ps} (direct qs h pl d) = elim ((way_of h).listed) [ ]
 
-  pub quasi_tags : {o : ℕ} {n : Tree} {s e m : S} {P : List Pair} {t : Token} → Spells ways S Next behind o quasi n s e P → ReadBy S Next behind Div s t m → operation t ≡ tags
+  pub quasi_tags : {o : ℕ} {n : Tree} {s e : S} {P : List Pair} → Spells ways S Next behind o quasi n s e P → Goes tags s
   unfolding spellings
-  quasi_tags {n = node TemplateLiteral w g a b ps} (direct qs h pl d) r = let v = way_of h in
-      of_chunks ps (bare_parts ps) (retell S Next behind (v.is ∙ ap (settled quasi) (one v.listed)) d) r
+  quasi_tags {n = node TemplateLiteral w g a b ps} (direct qs h pl d) = let v = way_of h in
+      of_chunks ps (bare_parts ps) (retell S Next behind (v.is ∙ ap (settled quasi) (one v.listed)) d)
     where
-      of_chunks : {o : ℕ} {s e m : S} {P : List Pair} {t : Token} (ps qs : Parts) → Runs ways S Next behind o (settled quasi (at Primary (chunks true qs))) ps s e P → ReadBy S Next behind Div s t m → operation t ≡ tags
-      of_chunks ps none (step p d) r = elim p [ ]
-      of_chunks ps (gap qs) (step p d) r = elim p [ ]
-      of_chunks ps (part q none) (step p d) r = elim p [ ]
-      of_chunks ps (part q none) (within p d) r = chunk_tags p r
-      of_chunks ps (part q (gap qs)) (step p d) r = elim p [ ]
-      of_chunks ps (part q (part x qs)) (step p d) r = elim p [ ]
-      of_chunks ps (part q (part x qs)) (within p d) r = chunk_tags p r
-  quasi_tags {n = node _ w g a b ps} (direct qs h pl d) r = elim ((way_of h).listed) [ ]
+      of_chunks : {o : ℕ} {s e : S} {P : List Pair} (ps qs : Parts) → Runs ways S Next behind o (settled quasi (at Primary (chunks true qs))) ps s e P → Goes tags s
+      of_chunks ps none (step p d) = elim p [ ]
+      of_chunks ps (gap qs) (step p d) = elim p [ ]
+      of_chunks ps (part q none) (step p d) = elim p [ ]
+      of_chunks ps (part q none) (within p d) = chunk_tags p
+      of_chunks ps (part q (gap qs)) (step p d) = elim p [ ]
+      of_chunks ps (part q (part x qs)) (step p d) = elim p [ ]
+      of_chunks ps (part q (part x qs)) (within p d) = chunk_tags p
+  quasi_tags {n = node _ w g a b ps} (direct qs h pl d) = elim ((way_of h).listed) [ ]
 
-  tag_runs : {o : ℕ} {ps : Parts} {s e m : S} {P : List Pair} {t : Token} → Runs ways S Next behind o (sub quasi ∷ []) ps s e P → ReadBy S Next behind Div s t m → operation t ≡ tags
-  tag_runs (within p d) r = quasi_tags p r
-  tag_runs (step p d) r = elim p [ ]
+  tag_runs : {o : ℕ} {ps : Parts} {s e : S} {P : List Pair} → Runs ways S Next behind o (sub quasi ∷ []) ps s e P → Goes tags s
+  tag_runs (within p d) = quasi_tags p
+  tag_runs (step p d) = elim p [ ]
 
-  comma_runs : {o : ℕ} {ps : Parts} {s e m : S} {P : List Pair} {t : Token} (y : Rank) (i : Bool) (f : Start) (qs : Parts) → is_none qs ≡ false →
-      Runs ways S Next behind o (goes_to y i f (sequence qs)) ps s e P → ReadBy S Next behind Div s t m → operation t ≡ sequences
-  comma_runs y i f none h d r = cc
-  comma_runs y i f (gap qs) h (step p d) r = elim p [ ]
-  comma_runs y i f (part n qs) h d r = by_token (goes_to y i f (sequence (part n qs))) refl refl refl d r
+  comma_runs : {o : ℕ} {ps : Parts} {s e : S} {P : List Pair} (y : Rank) (i : Bool) (f : Start) (qs : Parts) → is_none qs ≡ false →
+      Runs ways S Next behind o (goes_to y i f (sequence qs)) ps s e P → Goes sequences s
+  comma_runs y i f none h d = cc
+  comma_runs y i f (gap qs) h (step p d) = elim p [ ]
+  comma_runs y i f (part n qs) h d = by_token (goes_to y i f (sequence (part n qs))) refl refl refl d
 
   -- the token that is read behind the head of a way makes its operator
-  pub led_token : {y : Rank} {i : Bool} {f : Start} {k : Kind} {w : List ℕ} {g : Flags} {ps ps' : Parts} {b : Role} {rest : List (PieceOf Role)} {x : Operator} {o : ℕ} {s m e : S} {P : List Pair} {t : Token} →
-      Led y i f k w g ps b rest x → (x ≡ no_operator → ⊥) → Runs ways S Next behind o rest ps' s e P → ReadBy S Next behind Div s t m → operation t ≡ x
-  led_token {w = w} (led_binary k op tk im b e) h d r = by_token (between w _) refl (div_allows (is_word_operator w) w) (word_or_sign w ∙ op) (retell S Next behind e d) r
-  led_token {w = w} (led_power k op tk b e) h d r = by_token (between w _) refl (div_allows (is_word_operator w) w) (word_or_sign w ∙ op) (retell S Next behind e d) r
-  led_token {w = w} (led_assign k op ta tk b e) h d r = by_token (between w _) refl (div_allows (is_word_operator w) w) (word_or_sign w ∙ op) (retell S Next behind e d) r
-  led_token {w = w} {rest = rest} (led_postfix k op ta p tk b e) h d r = by_token rest (ap first_of e) (div_allows false w) (steps_sign w op) d r
-  led_token {y} {i} {f} {ps = ps} (led_sequence k c tk b e) h d r = comma_runs y i f (others ps) c (retell S Next behind e d) r
-  led_token {rest = rest} (led_conditional k tk b e) h d r = by_token rest (ap first_of e) refl refl d r
-  led_token {y} {i} {f} {g = g} {ps = ps} {rest = rest} (led_dot k o c s tk b e) h d r = by_token rest (ap first_of e ∙ laid_first y i f dotted (number_laid ps g)) refl refl d r
-  led_token {y} {i} {f} {g = g} {ps = ps} {rest = rest} (led_index k o c s tk b e) h d r = by_token rest (ap first_of e ∙ laid_first y i f bracketed (number_laid ps g)) refl refl d r
-  led_token {rest = rest} (led_call k o s tk b e) h d r = by_token rest (ap first_of e) refl refl d r
-  led_token (led_tag k tk b e) h d r = tag_runs (retell S Next behind e d) r
-  led_token (led_chain k c tk b e) h d r = absurd (h refl)
+  pub led_read : {y : Rank} {i : Bool} {f : Start} {k : Kind} {w : List ℕ} {g : Flags} {ps ps' : Parts} {b : Role} {rest : List (PieceOf Role)} {x : Operator} {o : ℕ} {s e : S} {P : List Pair} →
+      Led y i f k w g ps b rest x → (x ≡ no_operator → ⊥) → Runs ways S Next behind o rest ps' s e P → Goes x s
+  led_read {w = w} (led_binary k op tk im b e) h d = by_token (between w _) refl (div_allows (is_word_operator w) w) (word_or_sign w ∙ op) (retell S Next behind e d)
+  led_read {w = w} (led_power k op tk b e) h d = by_token (between w _) refl (div_allows (is_word_operator w) w) (word_or_sign w ∙ op) (retell S Next behind e d)
+  led_read {w = w} (led_assign k op ta tk b e) h d = by_token (between w _) refl (div_allows (is_word_operator w) w) (word_or_sign w ∙ op) (retell S Next behind e d)
+  led_read {w = w} {rest = rest} (led_postfix k op ta p tk b e) h d = by_token rest (ap first_of e) (div_allows false w) (steps_sign w op) d
+  led_read {y} {i} {f} {ps = ps} (led_sequence k c tk b e) h d = comma_runs y i f (others ps) c (retell S Next behind e d)
+  led_read {rest = rest} (led_conditional k tk b e) h d = by_token rest (ap first_of e) refl refl d
+  led_read {y} {i} {f} {g = g} {ps = ps} {rest = rest} (led_dot k o c s tk b e) h d = by_token rest (ap first_of e ∙ laid_first y i f dotted (number_laid ps g)) refl refl d
+  led_read {y} {i} {f} {g = g} {ps = ps} {rest = rest} (led_index k o c s tk b e) h d = by_token rest (ap first_of e ∙ laid_first y i f bracketed (number_laid ps g)) refl refl d
+  led_read {rest = rest} (led_call k o s tk b e) h d = by_token rest (ap first_of e) refl refl d
+  led_read (led_tag k tk b e) h d = tag_runs (retell S Next behind e d)
+  led_read (led_chain k c tk b e) h d = absurd (h refl)
 
-  pub linked_token : {f : Start} {k : Kind} {g : Flags} {ps ps' : Parts} {b : Role} {rest : List (PieceOf Role)} {x : Operator} {o : ℕ} {s m e : S} {P : List Pair} {t : Token} →
-      Linked f k g ps b rest x → Runs ways S Next behind o rest ps' s e P → ReadBy S Next behind Div s t m → operation t ≡ x
-  linked_token {rest = rest} (link_dot k o c fc b e) d r = by_token rest (ap first_of e) refl refl d r
-  linked_token {rest = rest} (link_index k o c fc b e) d r = by_token rest (ap first_of e) refl refl d r
-  linked_token {rest = rest} (link_call k o fc b e) d r = by_token rest (ap first_of e) refl refl d r
-  linked_token {rest = rest} (link_chained_name k o c b e) d r = by_token rest (ap first_of e) refl refl d r
-  linked_token {rest = rest} (link_chained_index k o c b e) d r = by_token rest (ap first_of e) refl refl d r
-  linked_token {rest = rest} (link_chained_call k o b e) d r = by_token rest (ap first_of e) refl refl d r
+  pub linked_read : {f : Start} {k : Kind} {g : Flags} {ps ps' : Parts} {b : Role} {rest : List (PieceOf Role)} {x : Operator} {o : ℕ} {s e : S} {P : List Pair} →
+      Linked f k g ps b rest x → Runs ways S Next behind o rest ps' s e P → Goes x s
+  linked_read {rest = rest} (link_dot k o c fc b e) d = by_token rest (ap first_of e) refl refl d
+  linked_read {rest = rest} (link_index k o c fc b e) d = by_token rest (ap first_of e) refl refl d
+  linked_read {rest = rest} (link_call k o fc b e) d = by_token rest (ap first_of e) refl refl d
+  linked_read {rest = rest} (link_chained_name k o c b e) d = by_token rest (ap first_of e) refl refl d
+  linked_read {rest = rest} (link_chained_index k o c b e) d = by_token rest (ap first_of e) refl refl d
+  linked_read {rest = rest} (link_chained_call k o b e) d = by_token rest (ap first_of e) refl refl d
+
+  -- so the token that the goal reads is that one
+  pub goes_with : {x : Operator} {s m : S} {t : Token} → Goes x s → ReadBy S Next behind Div s t m → operation t ≡ x
+  goes_with {s = s} {m = m} {t = t} u r = ap operation (det.same Div s t u.token m u.mid r.next u.read.next r.allowed u.read.allowed).0 ∙ u.goes
 
   -- What stands so far, m at b up to mid, in what the whole n at a is: it is the whole; or a way goes on with the token that is read
   -- behind it; or a chain ends there.
@@ -168,7 +182,7 @@ module _ (S : Type 0) (Next : S → Token → S → Type 0) (behind : S → Toke
           Grows S Next behind o s0 a n e P (expr y i f) (node k w g st en ps) to (Q ++ R) → Onward o s0 a n e P b m mid Q t
       go {k} {w} {g} {st} {en} ps eq z l (it_isnt some) lean pl d gs =
           let l' : Led y i f k w g (bare_parts (part m ps')) b rest z = subst (λ qs. Led y i f k w g (bare_parts qs) b rest z) eq l in
-          by_led l' some (led_token l' some d r) (subst (λ qs. is_lean (bare (node k w g st en qs)) ≡ true) eq lean) d
+          by_led l' some (goes_with (led_read l' some d) r) (subst (λ qs. is_lean (bare (node k w g st en qs)) ≡ true) eq lean) d
           (subst (λ qs. Placed S Next behind (expr y i f) (node k w g st en qs) s0 to) eq pl)
           (subst (λ qs. Grows S Next behind o s0 a n e P (expr y i f) (node k w g st en qs) to (Q ++ R)) eq gs)
       go {k} {w} {g} {st} {en} ps eq z l (it_is h) lean pl d gs =
@@ -185,7 +199,7 @@ module _ (S : Type 0) (Next : S → Token → S → Type 0) (behind : S → Toke
       let v = way_of h in
       let u = linked_of f k v.listed v.is in
       let l' : Linked f k g (bare_parts (part m ps')) b rest u.operator = subst (λ qs. Linked f k g (bare_parts qs) b rest u.operator) eq u.linked in
-      by_link l' (linked_token l' d r) (subst (λ qs. is_lean (bare (node k w g st en qs)) ≡ true) eq v.lean) d
+      by_link l' (goes_with (linked_read l' d) r) (subst (λ qs. is_lean (bare (node k w g st en qs)) ≡ true) eq v.lean) d
       (subst (λ qs. Placed S Next behind (spine f) (node k w g st en qs) s0 to) eq pl)
       (subst (λ qs. Grows S Next behind o s0 a n e P (spine f) (node k w g st en qs) to (Q ++ R)) eq gs)
   onward sp r (grow {c = _} h led pl eq d gs) = absurd (false≢true (grows_on_spine S Next behind sp gs))

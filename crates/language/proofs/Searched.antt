@@ -5,7 +5,7 @@ use Rattle.std.proofs.lemmas.Bool.{and_parts}
 use Rattle.std.proofs.lemmas.Bool.Decides.{nat_tests}
 use Rattle.std.proofs.lemmas.Slice.Eq.{bytes_eq-Decides}
 use Rattle.tokens.specs.Lexical.{LexicalClass}
-use Rattle.tokens.specs.Lexical.{Name, Punctuator}
+use Rattle.tokens.specs.Lexical.{Name, Punctuator, Number, Text, Template, RegExp, End}
 use Rattle.language.specs.declared.Rank.{Rank}
 use Rattle.language.specs.declared.Rank.TheVariants.{Expression}
 use Rattle.language.specs.declared.Start.{Start}
@@ -13,14 +13,24 @@ use Rattle.language.specs.declared.Start.TheVariants.{Any}
 use Rattle.tree.specs.declared.kind.Pair.{Pair}
 use Rattle.tree.specs.Tree.{Tree, node, Parts, none, part, gap, parts_of, start_of, stop_of}
 use Rattle.language.specs.Pieces.{Role, expr, PieceOf, tok, may, many, ahead, unbroken, ending, open_parameters, close_parameters, sub, absent, lay, Hint, Ending}
-use Rattle.language.specs.Token.{Token, is_token, is_mark}
+use Rattle.language.specs.Token.{Token, same_class, is_token, is_mark}
 use Rattle.language.specs.Edges.{may_miss, is_sign_class, is_semicolon}
 use Rattle.language.specs.Grammar.{ways}
 use Rattle.language.specs.Cursor.{Next, next, behind}
 use Rattle.language.specs.Derivation.{Among, first, later, Reads, Step, token, with_mark, without_mark, one_more, no_more, seen, same_line, explicit, implicit, laid, Placed, placed, place, pair_of, Spells, direct, grouped, Runs, done, step, opened, closed, within, missing}
 use Rattle.language.specs.Search.{Result, each, over, if_next, over_many, steps_of, lead_steps, tail_pieces, in_place, close, groups, directly, everywhere, at_end, at_gap, at_part, spelled, parts_spelled}
 use Rattle.language.proofs.Viewed.{cases, from_map, from_filter}
-use Rattle.language.proofs.Heads.{same_class_is}
+
+-- classes that are the same
+same_class_is : (c d : LexicalClass) → IsTrue (same_class c d) → d ≡ c
+same_class_is Name Name h = refl
+same_class_is Punctuator Punctuator h = refl
+same_class_is Number Number h = refl
+same_class_is Text Text h = refl
+same_class_is Template Template h = refl
+same_class_is RegExp RegExp h = refl
+same_class_is End End h = refl
+same_class_is _ _ h = cc
 
 module _ (S : Type 0) (N : S → Token → S → Type 0) (B : S → Token) where
   mutual

@@ -13,6 +13,7 @@ pub mod Cursor
 pub mod View
 pub mod Follow
 pub mod Opening
+pub mod Promises
 pub mod Cost
 pub mod Search
 pub mod Layout

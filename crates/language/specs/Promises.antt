@@ -1,0 +1,55 @@
+-- What a function promises that reads an expression at a place: that it is found, the only one there; or that there is none.
+use Rattle.std.specs.Prelude.{◌≡◌, ℕ, ◌≤◌, Bool, true, false, List, IsTrue}
+use Rattle.tokens.specs.Lexical.{LexicalClass}
+use Rattle.tokens.specs.Lexical.{Name, Number, Text, End}
+use Rattle.tokens.specs.Goals.{Goal, Div, allows}
+use Rattle.tree.specs.declared.kind.Pair.{Pair}
+use Rattle.tree.specs.Tree.{Tree, height}
+use Rattle.language.specs.declared.Rank.{Rank}
+use Rattle.language.specs.declared.Start.{Start}
+use Rattle.language.specs.Pieces.{expr}
+use Rattle.language.specs.Token.{Token}
+use Rattle.language.specs.Edges.{edge}
+use Rattle.language.specs.Follow.{stops}
+use Rattle.language.specs.Grammar.{ways}
+use Rattle.language.specs.Derivation.{Spells}
+
+-- the classes that every goal reads
+abbrev pub is_free : LexicalClass → Bool
+is_free Name = true
+is_free Number = true
+is_free Text = true
+is_free End = true
+is_free _ = false
+
+module _ (S : Type 0) (Next : S → Token → S → Type 0) (behind : S → Token) where
+  -- Where tokens are determined once a goal is chosen: by a goal at most one is read at a place; behind it, it is the token before;
+  -- all that are read at a place have the same line break before them; and names, numbers, strings and the end are read by every goal.
+  pub record IsDetermined : Type 0 where
+    pub same : (g : Goal) (s : S) (a b : Token) (e f : S) → Next s a e → Next s b f → IsTrue (allows g a.class a.text) → IsTrue (allows g b.class b.text) → (a ≡ b) × (e ≡ f)
+    pub last : (s : S) (t : Token) (e : S) → Next s t e → behind e ≡ t
+    pub break : (s : S) (a b : Token) (e f : S) → Next s a e → Next s b f → a.after_break ≡ b.after_break
+    pub free : (g : Goal) (s : S) (t : Token) (e : S) → Next s t e → is_free t.class ≡ true → IsTrue (allows g t.class t.text)
+
+  -- the token that a goal reads at a place
+  pub record ReadBy (g : Goal) (s : S) (t : Token) (e : S) : Type 0 where
+    pub next : Next s t e
+    pub allowed : IsTrue (allows g t.class t.text)
+
+  -- the expression that ends here, at this symbol and with this In, can't go on with the token that is read behind an operand
+  abbrev pub Stops : Rank → Bool → Tree → S → Type 0
+  Stops y i n e = (t : Token) (m : S) → ReadBy Div e t m → IsTrue (stops y i (edge n) (behind e) t)
+
+  -- the only thing that the position spells here and that can't go on
+  pub record Found (o : ℕ) (y : Rank) (i : Bool) (f : Start) (s e : S) (n : Tree) (P : List Pair) : Type 0 where
+    pub spelled : Spells ways S Next behind o (expr y i f) n s e P
+    pub stopped : Stops y i n e
+    pub only : (o' : ℕ) (e' : S) (n' : Tree) (P' : List Pair) → Spells ways S Next behind o' (expr y i f) n' s e' P' → Stops y i n' e' → (e' ≡ e) × (n' ≡ n) × (P' ≡ P)
+
+  -- the position spells nothing here, of any nesting, that can't go on
+  pub record Absent (y : Rank) (i : Bool) (f : Start) (s : S) : Type 0 where
+    pub nothing : (o' : ℕ) (e' : S) (n' : Tree) (P' : List Pair) → Spells ways S Next behind o' (expr y i f) n' s e' P' → Stops y i n' e' → ⊥
+
+  -- nothing with at most o open parentheses and a tree of height h
+  pub record AbsentWithin (o h : ℕ) (y : Rank) (i : Bool) (f : Start) (s : S) : Type 0 where
+    pub nothing : (e' : S) (n' : Tree) (P' : List Pair) → Spells ways S Next behind o (expr y i f) n' s e' P' → Stops y i n' e' → height n' ≤ h → ⊥
