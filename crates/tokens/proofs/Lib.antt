@@ -2,3 +2,11 @@ mod LexicalExamples
 mod TokenExamples
 mod Beginnings
 pub mod Longest
+pub mod Passing
+pub mod Separating
+pub mod Names
+pub mod Classes
+pub mod Determined
+pub mod Automata
+pub mod Numerals
+pub mod Expressions

@@ -22,10 +22,13 @@ is_one_of_words [] text = false
 is_one_of_words (word ∷ words) text = bytes_eq text (codes word) || is_one_of_words words text
 
 -- Punctuator, DivPunctuator and RightBracePunctuator (11.7)
-abbrev pub is_punctuator : List ℕ → Bool
-is_punctuator text = is_one_of_words ("{" ∷ "(" ∷ ")" ∷ "[" ∷ "]" ∷ "." ∷ "..." ∷ ";" ∷ "," ∷ "<" ∷ ">" ∷ "<=" ∷ ">=" ∷ "==" ∷ "!="
+abbrev pub punctuators : List String
+punctuators = "{" ∷ "(" ∷ ")" ∷ "[" ∷ "]" ∷ "." ∷ "..." ∷ ";" ∷ "," ∷ "<" ∷ ">" ∷ "<=" ∷ ">=" ∷ "==" ∷ "!="
     ∷ "===" ∷ "!==" ∷ "+" ∷ "-" ∷ "*" ∷ "%" ∷ "**" ∷ "++" ∷ "--" ∷ "<<" ∷ ">>" ∷ ">>>" ∷ "&" ∷ "|" ∷ "^" ∷ "!" ∷ "~" ∷ "&&" ∷ "||" ∷ "??"
-    ∷ "?" ∷ "?." ∷ ":" ∷ "=" ∷ "+=" ∷ "-=" ∷ "*=" ∷ "%=" ∷ "**=" ∷ "<<=" ∷ ">>=" ∷ ">>>=" ∷ "&=" ∷ "|=" ∷ "^=" ∷ "=>" ∷ "/" ∷ "/=" ∷ "}" ∷ []) text
+    ∷ "?" ∷ "?." ∷ ":" ∷ "=" ∷ "+=" ∷ "-=" ∷ "*=" ∷ "%=" ∷ "**=" ∷ "<<=" ∷ ">>=" ∷ ">>>=" ∷ "&=" ∷ "|=" ∷ "^=" ∷ "=>" ∷ "/" ∷ "/=" ∷ "}" ∷ []
+
+abbrev pub is_punctuator : List ℕ → Bool
+is_punctuator text = is_one_of_words punctuators text
 
 -- a text of the class, whatever stands behind it
 abbrev pub is_of : LexicalClass → List ℕ → Bool

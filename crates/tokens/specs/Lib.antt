@@ -9,5 +9,8 @@ pub mod Lexical
 pub mod Goals
 pub mod Tokens
 pub mod Reading
+pub mod Closing
+pub mod Fronts
+pub mod States
 pub mod Scanned
 pub mod Laws

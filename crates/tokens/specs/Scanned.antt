@@ -1,12 +1,13 @@
 -- What the program's own calls say of a text: what is passed from one place to another, as characters.
-use Rattle.std.specs.Prelude.{◌≡◌, ℕ, ◌+◌, ◌≤◌, Bool, not, ◌||◌, List, [], ◌∷◌, ◌++◌, length, IsTrue, IsFalse, IsSome}
-use Rattle.std.specs.List.{list_any}
+use Rattle.std.specs.Prelude.{◌≡◌, ℕ, ◌+◌, Bool, false, ◌||◌, List, [], ◌∷◌, ◌++◌, IsTrue, IsFalse}
+use Rattle.std.specs.List.{list_all, list_any}
 use Rattle.std.specs.Str.{IsUtf8}
 use Rattle.source_text.specs.Source.{IsPlace}
 use Rattle.source_text.specs.Lines.{is_line_terminator}
 use Rattle.tokens.specs.declared.token.Token.{Token}
 use Rattle.tokens.specs.Alphabet.{begins_with, is_white_space}
-use Rattle.tokens.specs.Comments.{begins_comment, is_comment, Separators}
+use Rattle.tokens.specs.Comments.{is_comment, Separators}
+use Rattle.tokens.specs.Closing.{closes_from}
 use Rattle.tokens.specs.Lexical.{LexicalClass, is_token}
 use Rattle.tokens.specs.Tokens.{LexicalToken, size}
 use Rattle.tokens.specs.Reading.{behind}
@@ -37,3 +38,56 @@ pub record IsGap (text : List ℕ) (at stop : ℕ) (broken : Bool) : Type 0 wher
   pub passed : Passed text at stop gap
   pub separated : Separators gap (behind text stop)
   pub breaks : broken ≡ list_any is_line_terminator gap
+
+-- characters that all pass a test, from one place to another
+pub record AllPass (test : ℕ → Bool) (text : List ℕ) (at stop : ℕ) : Type 0 where
+  pub word : List ℕ
+  pub passed : Passed text at stop word
+  pub all : IsTrue (list_all test word)
+
+-- the same, where none follows
+pub record IsRun (test : ℕ → Bool) (text : List ℕ) (at stop : ℕ) : Type 0 where
+  pub run : AllPass test text at stop
+  pub ends : IsFalse (begins_with test (behind text stop))
+
+-- a comment's rest behind its `/*`, with a line terminator or without
+pub record IsBlockRest (text : List ℕ) (at stop : ℕ) (broken : Bool) : Type 0 where
+  pub word : List ℕ
+  pub passed : Passed text at stop word
+  pub closes : IsTrue (closes_from false word)
+  pub breaks : broken ≡ list_any is_line_terminator word
+
+-- no comment's rest stands at a place
+abbrev pub NoBlockRest : List ℕ → ℕ → Type 0
+NoBlockRest text at = (word rest : List ℕ) → behind text at ≡ word ++ rest → IsTrue (closes_from false word) → ⊥
+
+-- a comment behind its `/`
+pub record IsCommentRest (text : List ℕ) (at stop : ℕ) (broken : Bool) : Type 0 where
+  pub word : List ℕ
+  pub passed : Passed text at stop word
+  pub comment : IsTrue (is_comment (0x2F ∷ word) (behind text stop))
+  pub breaks : broken ≡ list_any is_line_terminator word
+
+abbrev pub NoCommentRest : List ℕ → ℕ → Type 0
+NoCommentRest text at = (word rest : List ℕ) → behind text at ≡ word ++ rest → IsTrue (is_comment (0x2F ∷ word) rest) → ⊥
+
+-- one separator: a white space, a line terminator or a comment
+pub record IsSeparator (text : List ℕ) (at stop : ℕ) (broken : Bool) : Type 0 where
+  pub word : List ℕ
+  pub passed : Passed text at stop word
+  pub separated : Separators word (behind text stop)
+  pub breaks : broken ≡ list_any is_line_terminator word
+
+-- no separator stands in front of these characters
+pub record IsSolid (cs : List ℕ) : Type 0 where
+  pub no_blank : IsFalse (begins_with (λ c. is_white_space c || is_line_terminator c) cs)
+  pub no_comment : (word rest : List ℕ) → cs ≡ word ++ rest → IsTrue (is_comment word rest) → ⊥
+
+-- a regular expression behind its `/`
+pub record IsFlagsAt (text : List ℕ) (at stop : ℕ) : Type 0 where
+  pub word : List ℕ
+  pub passed : Passed text at stop word
+  pub longest : IsTrue (is_token LexicalClass.RegExp (0x2F ∷ word) (behind text stop))
+
+abbrev pub NoFlagsAt : List ℕ → ℕ → Type 0
+NoFlagsAt text at = (word rest : List ℕ) → behind text at ≡ word ++ rest → IsTrue (is_token LexicalClass.RegExp (0x2F ∷ word) rest) → ⊥

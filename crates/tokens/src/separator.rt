@@ -1,5 +1,12 @@
 //! White space, line terminators and comments (ECMA-262 11.2 to 11.4).
 
+ghost use Rattle.std.specs.Prelude.{◌≡◌, ◌<◌, not, IfSome, IfNone};
+ghost use Rattle.source_text.specs.Lines.{is_line_terminator};
+ghost use Rattle.source_text.specs.Source.{IsPlace};
+ghost use Rattle.tokens.specs.Comments.{begins_comment};
+ghost use Rattle.tokens.specs.Reading.{behind};
+ghost use Rattle.tokens.specs.Scanned.{IsBlockRest, IsCommentRest, IsGap, IsRun, IsSeparator, IsSolid, NoBlockRest, NoCommentRest};
+
 use crate::step::step_at;
 use source_text::{is_line_terminator, is_space};
 
@@ -11,7 +18,11 @@ pub struct Gap {
 }
 
 // The place behind the line terminators, the white space and the comments at a place.
-pub fn skip(text: &str, at: usize) -> Gap {
+pub fn skip(text: &str, at: usize) -> Gap
+    requires { IsPlace text.now at }
+    ensures gap { IsGap text.now at result.end result.broken }
+    ensures solid { IsSolid (behind text.now result.end) }
+{
     let mut gap = Gap {
         end: at,
         broken: false,
@@ -19,7 +30,7 @@ pub fn skip(text: &str, at: usize) -> Gap {
     while let Some(next) = separator(text, gap.end) {
         gap = Gap {
             end: next.end,
-            broken: gap.broken || next.broken,
+            broken: gap.broken | next.broken,
         };
     }
     gap
@@ -27,7 +38,12 @@ pub fn skip(text: &str, at: usize) -> Gap {
 
 // One of them.
 #[inline]
-fn separator(text: &str, at: usize) -> Option<Gap> {
+fn separator(text: &str, at: usize) -> Option<Gap>
+    requires { IsPlace text.now at }
+    ensures some { IfSome result (λ g. IsSeparator text.now at g.end g.broken) }
+    ensures forward { IfSome result (λ g. at < g.end) }
+    ensures none { IfNone result (IsSolid (behind text.now at)) }
+{
     let Some(step) = step_at(text, at) else {
         return None;
     };
@@ -35,7 +51,7 @@ fn separator(text: &str, at: usize) -> Option<Gap> {
         return comment(text, step.end);
     }
     let broken = is_line_terminator(step.c);
-    if broken || is_space(step.c) {
+    if broken | is_space(step.c) {
         return Some(Gap {
             end: step.end,
             broken,
@@ -45,7 +61,11 @@ fn separator(text: &str, at: usize) -> Option<Gap> {
 }
 
 // A comment whose `/` stands before a place.
-fn comment(text: &str, at: usize) -> Option<Gap> {
+fn comment(text: &str, at: usize) -> Option<Gap>
+    requires { IsPlace text.now at }
+    ensures some { IfSome result (λ g. IsCommentRest text.now at g.end g.broken) }
+    ensures none { IfNone result (NoCommentRest text.now at) }
+{
     let Some(step) = step_at(text, at) else {
         return None;
     };
@@ -60,11 +80,14 @@ fn comment(text: &str, at: usize) -> Option<Gap> {
 }
 
 // The place of the first line terminator from a place on, or the end of the text.
-fn line_end(text: &str, at: usize) -> usize {
+fn line_end(text: &str, at: usize) -> usize
+    requires { IsPlace text.now at }
+    ensures { IsRun (λ c. not (is_line_terminator c)) text.now at result }
+{
     let mut end = at;
     while let Some(step) = step_at(text, end) {
         if is_line_terminator(step.c) {
-            break;
+            return end;
         }
         end = step.end;
     }
@@ -72,7 +95,11 @@ fn line_end(text: &str, at: usize) -> usize {
 }
 
 // What is left of a comment behind its `/*`, with the first `*/`.
-fn block_rest(text: &str, at: usize) -> Option<Gap> {
+fn block_rest(text: &str, at: usize) -> Option<Gap>
+    requires { IsPlace text.now at }
+    ensures some { IfSome result (λ g. IsBlockRest text.now at g.end g.broken) }
+    ensures none { IfNone result (NoBlockRest text.now at) }
+{
     let mut gap = Gap {
         end: at,
         broken: false,
@@ -81,9 +108,9 @@ fn block_rest(text: &str, at: usize) -> Option<Gap> {
     while let Some(step) = step_at(text, gap.end) {
         gap = Gap {
             end: step.end,
-            broken: gap.broken || is_line_terminator(step.c),
+            broken: gap.broken | is_line_terminator(step.c),
         };
-        if starred && step.c == '/' {
+        if starred & (step.c == '/') {
             return Some(gap);
         }
         starred = step.c == '*';
@@ -93,7 +120,10 @@ fn block_rest(text: &str, at: usize) -> Option<Gap> {
 
 // Whether a comment can begin at a place, whether it ends or not.
 #[inline]
-pub fn comment_begins(text: &str, at: usize) -> bool {
+pub fn comment_begins(text: &str, at: usize) -> bool
+    requires { IsPlace text.now at }
+    ensures { result ≡ begins_comment (behind text.now at) }
+{
     let Some(first) = step_at(text, at) else {
         return false;
     };
