@@ -54,7 +54,7 @@ from_range test low (suc n) c h k l = here (cases_lt c (low + n)) where
     here (inr ge) = let q : low + n ≡ c = omega arith in subst (λ x. IsTrue (test x)) q (first (test (low + n)) (all_from test low n) h)
 
 -- a test that all characters of a list pass
-from_list : (test : ℕ → Bool) (cs : List ℕ) (c : ℕ) → IsTrue (list_all test cs) → IsTrue (is_among c cs) → IsTrue (test c)
+pub from_list : (test : ℕ → Bool) (cs : List ℕ) (c : ℕ) → IsTrue (list_all test cs) → IsTrue (is_among c cs) → IsTrue (test c)
 from_list test [] c h k = absurd (true_false _ k refl)
 from_list test (x ∷ []) c h k = subst (λ y. IsTrue (test y)) (sym (eqb-true c x k)) (first (test x) h) where
     first : (a : Bool) → IsTrue (a && true) → IsTrue a

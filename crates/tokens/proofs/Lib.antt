@@ -9,4 +9,6 @@ pub mod Classes
 pub mod Determined
 pub mod Automata
 pub mod Numerals
+pub mod Parts
+pub mod Punctuators
 pub mod Expressions

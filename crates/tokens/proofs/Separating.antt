@@ -82,11 +82,11 @@ no_front F G word behind tail same closed can none w rest e h =
       left_nil [] b e = refl
       left_nil (c ∷ a) b e = cc
 
-nil_only : (cs : List ℕ) → IsTrue (is_empty cs) → cs ≡ []
+pub nil_only : (cs : List ℕ) → IsTrue (is_empty cs) → cs ≡ []
 nil_only [] h = refl
 nil_only (c ∷ cs) h = absurd (true_false _ h refl)
 
-right_nil : (w m : List ℕ) → w ≡ [] → w ++ m ≡ [] → m ≡ []
+pub right_nil : (w m : List ℕ) → w ≡ [] → w ++ m ≡ [] → m ≡ []
 right_nil w m e k = let q : w ++ m ≡ [] ++ m = ap (λ x. x ++ m) e in sym q ∙ k
 
 pub closed_once : (s : Bool) (w m : List ℕ) → IsTrue (closes_from s w) → IsTrue (closes_from s (w ++ m)) → m ≡ []

@@ -12,5 +12,6 @@ pub mod Reading
 pub mod Closing
 pub mod Fronts
 pub mod States
+pub mod Marks
 pub mod Scanned
 pub mod Laws
