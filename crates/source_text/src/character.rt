@@ -18,6 +18,16 @@ pub fn is_line_terminator(c: char) -> bool
 pub fn is_space(c: char) -> bool
     ensures { result ≡ is_white_space c }
 {
-    matches!(c, '\t' | '\u{B}' | '\u{C}' | ' ' | '\u{A0}' | '\u{FEFF}' | '\u{1680}' | '\u{202F}' | '\u{205F}' | '\u{3000}')
-        || matches!(c, '\u{2000}'..='\u{200A}')
+    matches!(
+        c,
+        '\t' | '\u{B}'
+            | '\u{C}'
+            | ' '
+            | '\u{A0}'
+            | '\u{FEFF}'
+            | '\u{1680}'
+            | '\u{202F}'
+            | '\u{205F}'
+            | '\u{3000}'
+    ) || matches!(c, '\u{2000}'..='\u{200A}')
 }

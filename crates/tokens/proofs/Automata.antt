@@ -18,9 +18,11 @@ only_greedy run dead P s append stays alive stuck word behind here stops w r e h
       beyond : (v : List ℕ) (x : ℕ) (xs : List ℕ) → IsTrue (dead (run s (v ++ x ∷ []))) → IsTrue (dead (run s (v ++ x ∷ xs)))
       beyond v x xs k = let q : run s (v ++ x ∷ xs) ≡ run (run s (v ++ x ∷ [])) xs = ap (run s) (sym (append_assoc v (x ∷ []) xs)) ∙ append s (v ++ x ∷ []) xs in
           subst (λ y. IsTrue (dead y)) (sym q) (stays (run s (v ++ x ∷ [])) xs k)
+
       longer : (m : List ℕ) → w ≡ word ++ m → behind ≡ m ++ r → P word behind
       longer [] p q = let z : w ≡ word = p ∙ append-nil word in subst (λ y. P y behind) z (subst (λ y. P w y) (sym q) h)
       longer (x ∷ m) p q = absurd (true_false _ (beyond word x m (stops x (m ++ r) q)) (subst (λ y. IsFalse (dead (run s y))) p (alive w r h)))
+
       shorter : (m : List ℕ) → word ≡ w ++ m → r ≡ m ++ behind → P word behind
       shorter [] p q = let z : word ≡ w = p ∙ append-nil w in subst (λ y. P y behind) (sym z) (subst (λ y. P w y) q h)
       shorter (x ∷ m) p q = absurd (true_false _ (beyond w x m (stuck w x (m ++ behind) (subst (λ y. P w y) q h))) (subst (λ y. IsFalse (dead (run s y))) p here))

@@ -34,6 +34,7 @@ start_plain c h =
     ] where
       ascii : (c : ℕ) (x : Bool) → c < 128 → x ≡ is_ascii_alphabetic c → IsTrue (one_of "$_" c || x) → IsFalse (is_special c)
       ascii c x lt e h = grind (arith, nat_tests)
+
       far : (c : ℕ) → 128 ≤ c → IsFalse (is_special c)
       far c ge = grind (arith, nat_tests)
 
@@ -41,13 +42,13 @@ start_plain c h =
 
 pub token_is : (class : LexicalClass) (word rest : List ℕ) → IsTrue (is_token class word rest) → IsTrue (is_of class word)
 token_is class word rest h = first (is_of class word) (may_stand class word rest) (none_longer class word rest) (ends_well class rest) h where
-    first : (a b d e : Bool) → IsTrue (((a && b) && d) && e) → IsTrue a
-    first a b d e h = grind (arith, nat_tests)
+  first : (a b d e : Bool) → IsTrue (((a && b) && d) && e) → IsTrue a
+  first a b d e h = grind (arith, nat_tests)
 
 pub token_may : (class : LexicalClass) (word rest : List ℕ) → IsTrue (is_token class word rest) → IsTrue (may_stand class word rest)
 token_may class word rest h = second (is_of class word) (may_stand class word rest) (none_longer class word rest) (ends_well class rest) h where
-    second : (a b d e : Bool) → IsTrue (((a && b) && d) && e) → IsTrue b
-    second a b d e h = grind (arith, nat_tests)
+  second : (a b d e : Bool) → IsTrue (((a && b) && d) && e) → IsTrue b
+  second a b d e h = grind (arith, nat_tests)
 
 -- a test that all words of a list pass
 abbrev pub all_words : (List ℕ → Bool) → List String → Bool
@@ -107,63 +108,73 @@ dead_stays (c ∷ cs) = dead_stays cs
 -- a number begins with a digit, or with a point and a digit
 pub number_begins : (c : ℕ) (cs : List ℕ) → IsTrue (is_number (c ∷ cs)) → IsTrue (is_decimal_digit c || (one_of "." c && begins_with is_decimal_digit cs))
 number_begins c cs h = by_first (one_of "0" c) (is_non_zero_digit c) (one_of "." c) refl refl refl h where
-    zero_digit : (c : ℕ) (x : Bool) → one_of "0" c ≡ true → IsTrue (is_decimal_digit c || x)
-    zero_digit c x h = grind (arith, nat_tests)
-    other_digit : (c : ℕ) (x : Bool) → is_non_zero_digit c ≡ true → IsTrue (is_decimal_digit c || x)
-    other_digit c x h = grind (arith, nat_tests)
-    point : (a b x : Bool) → a ≡ true → IsTrue x → IsTrue (b || (a && x))
-    point a b x e h = grind (arith, nat_tests)
-    no : (cs : List ℕ) → IsTrue (is_complete (numeral_behind no_numeral cs)) → ⊥
-    no cs h = true_false _ h (ap is_complete (dead_stays cs))
-    behind_point : (cs : List ℕ) → IsTrue (is_complete (numeral_behind leading_point cs)) → IsTrue (begins_with is_decimal_digit cs)
-    behind_point [] h = absurd (true_false _ h refl)
-    behind_point (d ∷ ds) h = digit (is_decimal_digit d) h where
-      digit : (a : Bool) → IsTrue (is_complete (numeral_behind (if a then fraction else no_numeral) ds)) → IsTrue a
-      digit true h = refl
-      digit false h = absurd (true_false _ h (ap is_complete (dead_stays ds)))
-    by_first : (a b d : Bool) → one_of "0" c ≡ a → is_non_zero_digit c ≡ b → one_of "." c ≡ d →
-        IsTrue (is_complete (numeral_behind (if a then nought else if b then integer else if d then leading_point else no_numeral) cs)) →
-        IsTrue (is_decimal_digit c || (one_of "." c && begins_with is_decimal_digit cs))
-    by_first true b d e f g h = zero_digit c (one_of "." c && begins_with is_decimal_digit cs) e
-    by_first false true d e f g h = other_digit c (one_of "." c && begins_with is_decimal_digit cs) f
-    by_first false false true e f g h = point (one_of "." c) (is_decimal_digit c) (begins_with is_decimal_digit cs) g (behind_point cs h)
-    by_first false false false e f g h = absurd (no cs h)
+  zero_digit : (c : ℕ) (x : Bool) → one_of "0" c ≡ true → IsTrue (is_decimal_digit c || x)
+  zero_digit c x h = grind (arith, nat_tests)
+
+  other_digit : (c : ℕ) (x : Bool) → is_non_zero_digit c ≡ true → IsTrue (is_decimal_digit c || x)
+  other_digit c x h = grind (arith, nat_tests)
+
+  point : (a b x : Bool) → a ≡ true → IsTrue x → IsTrue (b || (a && x))
+  point a b x e h = grind (arith, nat_tests)
+
+  no : (cs : List ℕ) → IsTrue (is_complete (numeral_behind no_numeral cs)) → ⊥
+  no cs h = true_false _ h (ap is_complete (dead_stays cs))
+
+  behind_point : (cs : List ℕ) → IsTrue (is_complete (numeral_behind leading_point cs)) → IsTrue (begins_with is_decimal_digit cs)
+  behind_point [] h = absurd (true_false _ h refl)
+  behind_point (d ∷ ds) h = digit (is_decimal_digit d) h where
+    digit : (a : Bool) → IsTrue (is_complete (numeral_behind (if a then fraction else no_numeral) ds)) → IsTrue a
+    digit true h = refl
+    digit false h = absurd (true_false _ h (ap is_complete (dead_stays ds)))
+
+  by_first : (a b d : Bool) → one_of "0" c ≡ a → is_non_zero_digit c ≡ b → one_of "." c ≡ d →
+      IsTrue (is_complete (numeral_behind (if a then nought else if b then integer else if d then leading_point else no_numeral) cs)) →
+      IsTrue (is_decimal_digit c || (one_of "." c && begins_with is_decimal_digit cs))
+  by_first true b d e f g h = zero_digit c (one_of "." c && begins_with is_decimal_digit cs) e
+  by_first false true d e f g h = other_digit c (one_of "." c && begins_with is_decimal_digit cs) f
+  by_first false false true e f g h = point (one_of "." c) (is_decimal_digit c) (begins_with is_decimal_digit cs) g (behind_point cs h)
+  by_first false false false e f g h = absurd (no cs h)
 
 number_class : (goal : Goal) (c : ℕ) (cs : List ℕ) → IsTrue (is_decimal_digit c || (one_of "." c && begins_with is_decimal_digit cs)) → Number ≡ class_of goal (c ∷ cs)
 number_class goal c cs h = by_digit (is_decimal_digit c) refl h where
-    point : (c : ℕ) (x : Bool) → IsTrue (false || (one_of "." c && x)) → (c ≡ 0x2E) × (x ≡ true)
-    point c x h = (grind (arith, nat_tests), grind (arith, nat_tests))
-    at_point : (b : Bool) → b ≡ true → Number ≡ (if b then Number else Punctuator)
-    at_point true e = refl
-    at_point false e = absurd (true_false true refl (sym e))
-    by_digit : (a : Bool) → is_decimal_digit c ≡ a → IsTrue (a || (one_of "." c && begins_with is_decimal_digit cs)) → Number ≡ class_of goal (c ∷ cs)
-    by_digit true e h = digit (is_decimal_digit c) e _ where
-      digit : (b : Bool) → b ≡ true → (x : LexicalClass) → Number ≡ (if b then Number else x)
-      digit true e x = refl
-      digit false e x = absurd (true_false true refl (sym e))
-    by_digit false e h = let p = point c (begins_with is_decimal_digit cs) h in subst (λ x. Number ≡ class_of goal (x ∷ cs)) (sym p.0) (at_point (begins_with is_decimal_digit cs) p.1)
+  point : (c : ℕ) (x : Bool) → IsTrue (false || (one_of "." c && x)) → (c ≡ 0x2E) × (x ≡ true)
+  point c x h = (grind (arith, nat_tests), grind (arith, nat_tests))
+
+  at_point : (b : Bool) → b ≡ true → Number ≡ (if b then Number else Punctuator)
+  at_point true e = refl
+  at_point false e = absurd (true_false true refl (sym e))
+
+  by_digit : (a : Bool) → is_decimal_digit c ≡ a → IsTrue (a || (one_of "." c && begins_with is_decimal_digit cs)) → Number ≡ class_of goal (c ∷ cs)
+  by_digit true e h = digit (is_decimal_digit c) e _ where
+    digit : (b : Bool) → b ≡ true → (x : LexicalClass) → Number ≡ (if b then Number else x)
+    digit true e x = refl
+    digit false e x = absurd (true_false true refl (sym e))
+  by_digit false e h = let p = point c (begins_with is_decimal_digit cs) h in subst (λ x. Number ≡ class_of goal (x ∷ cs)) (sym p.0) (at_point (begins_with is_decimal_digit cs) p.1)
 
 -- where a number begins, by a point and a digit or by a digit
 text_class : (goal : Goal) (c : ℕ) (cs : List ℕ) → IsTrue (one_of "'\"" c) → Text ≡ class_of goal (c ∷ cs)
 text_class goal c cs h = by_quote (cases_Bool (c == 39)) where
-    other : (c : ℕ) → (c == 39) ≡ false → IsTrue (one_of "'\"" c) → c ≡ 34
-    other c e h = grind (arith, nat_tests)
-    by_quote : ((c == 39) ≡ true) ⊎ ((c == 39) ≡ false) → Text ≡ class_of goal (c ∷ cs)
-    by_quote (inl e) = subst (λ x. Text ≡ class_of goal (x ∷ cs)) (sym (eqb-true c 39 e)) refl
-    by_quote (inr e) = subst (λ x. Text ≡ class_of goal (x ∷ cs)) (sym (other c e h)) refl
+  other : (c : ℕ) → (c == 39) ≡ false → IsTrue (one_of "'\"" c) → c ≡ 34
+  other c e h = grind (arith, nat_tests)
+
+  by_quote : ((c == 39) ≡ true) ⊎ ((c == 39) ≡ false) → Text ≡ class_of goal (c ∷ cs)
+  by_quote (inl e) = subst (λ x. Text ≡ class_of goal (x ∷ cs)) (sym (eqb-true c 39 e)) refl
+  by_quote (inr e) = subst (λ x. Text ≡ class_of goal (x ∷ cs)) (sym (other c e h)) refl
 
 template_class : (goal : Goal) (c : ℕ) (cs : List ℕ) (word : List ℕ) → IsTrue (one_of "`}" c) → IsTrue (allows goal Template (c ∷ word)) → Template ≡ class_of goal (c ∷ cs)
 template_class goal c cs word h k = by_mark (cases_Bool (c == 96)) where
-    other : (c : ℕ) → (c == 96) ≡ false → IsTrue (one_of "`}" c) → c ≡ 125
-    other c e h = grind (arith, nat_tests)
-    by_goal : (goal : Goal) → IsTrue (allows goal Template (125 ∷ word)) → Template ≡ class_of goal (125 ∷ cs)
-    by_goal Div k = absurd (true_false _ k refl)
-    by_goal Goal.RegExp k = absurd (true_false _ k refl)
-    by_goal TemplateTail k = refl
-    by_mark : ((c == 96) ≡ true) ⊎ ((c == 96) ≡ false) → Template ≡ class_of goal (c ∷ cs)
-    by_mark (inl e) = subst (λ x. Template ≡ class_of goal (x ∷ cs)) (sym (eqb-true c 96 e)) refl
-    by_mark (inr e) =
-        subst (λ x. Template ≡ class_of goal (x ∷ cs)) (sym (other c e h)) (by_goal goal (subst (λ x. IsTrue (allows goal Template (x ∷ word))) (other c e h) k))
+  other : (c : ℕ) → (c == 96) ≡ false → IsTrue (one_of "`}" c) → c ≡ 125
+  other c e h = grind (arith, nat_tests)
+
+  by_goal : (goal : Goal) → IsTrue (allows goal Template (125 ∷ word)) → Template ≡ class_of goal (125 ∷ cs)
+  by_goal Div k = absurd (true_false _ k refl)
+  by_goal Goal.RegExp k = absurd (true_false _ k refl)
+  by_goal TemplateTail k = refl
+
+  by_mark : ((c == 96) ≡ true) ⊎ ((c == 96) ≡ false) → Template ≡ class_of goal (c ∷ cs)
+  by_mark (inl e) = subst (λ x. Template ≡ class_of goal (x ∷ cs)) (sym (eqb-true c 96 e)) refl
+  by_mark (inr e) =
+      subst (λ x. Template ≡ class_of goal (x ∷ cs)) (sym (other c e h)) (by_goal goal (subst (λ x. IsTrue (allows goal Template (x ∷ word))) (other c e h) k))
 
 regexp_class : (goal : Goal) (c : ℕ) (cs : List ℕ) (word : List ℕ) → IsTrue (one_of "/" c) → IsTrue (allows goal LexicalClass.RegExp (c ∷ word)) →
     LexicalClass.RegExp ≡ class_of goal (c ∷ cs)
@@ -188,12 +199,15 @@ punctuator_class goal word rest h m k =
       by_goal Div cs word k = refl
       by_goal Goal.RegExp cs word k = absurd (true_false _ k refl)
       by_goal TemplateTail cs word k = refl
+
       by_goal_brace : (goal : Goal) (cs : List ℕ) (word : List ℕ) → IsTrue (allows goal Punctuator (125 ∷ word)) → Punctuator ≡ class_of goal (125 ∷ cs)
       by_goal_brace Div cs word k = refl
       by_goal_brace Goal.RegExp cs word k = refl
       by_goal_brace TemplateTail cs word k = absurd (true_false _ k refl)
+
       other : (c : ℕ) → (c == 47) ≡ false → one_of "}/" c ≡ true → c ≡ 125
       other c e h = grind (arith, nat_tests)
+
       slash_or_brace : (c : ℕ) (cs : List ℕ) → one_of "}/" c ≡ true → IsTrue (allows goal Punctuator (c ∷ cs)) → Punctuator ≡ class_of goal (c ∷ cs ++ rest)
       slash_or_brace c cs e k = by_mark (cases_Bool (c == 47)) where
         by_mark : ((c == 47) ≡ true) ⊎ ((c == 47) ≡ false) → Punctuator ≡ class_of goal (c ∷ cs ++ rest)
@@ -201,9 +215,11 @@ punctuator_class goal word rest h m k =
         by_mark (inr q) =
             subst (λ x. Punctuator ≡ class_of goal (x ∷ cs ++ rest)) (sym (other c q e))
             (by_goal_brace goal (cs ++ rest) cs (subst (λ x. IsTrue (allows goal Punctuator (x ∷ cs))) (other c q e) k))
+
       point : (x : Bool) → IsTrue (not (true && x)) → Punctuator ≡ (if x then Number else Punctuator)
       point true h = absurd (true_false _ h refl)
       point false h = refl
+
       by_start : (w : List ℕ) (a b d e : Bool) → begins_with is_mark w ≡ a → begins_with (one_of "}/") w ≡ b → (d ≡ true → w ≡ codes ".") → (e ≡ true → w ≡ codes "...") →
           IsTrue (a || b || d || e) → IsTrue (may_stand Punctuator w rest) → IsTrue (allows goal Punctuator w) → Punctuator ≡ class_of goal (w ++ rest)
       by_start [] false false false false p q f g h m k = absurd (true_false _ h refl)
@@ -222,30 +238,33 @@ punctuator_class goal word rest h m k =
 pub class_fits : (goal : Goal) (class : LexicalClass) (word rest : List ℕ) → IsTrue (is_token class word rest) → IsTrue (allows goal class word) →
     class ≡ class_of goal (word ++ rest)
 class_fits goal class word rest h k = by_class class word rest (token_is class word rest h) (token_may class word rest h) k where
-    first_true : (a b : Bool) → IsTrue (a && b) → IsTrue a
-    first_true a b h = grind (arith, nat_tests)
-    ended : (rest : List ℕ) → IsTrue (is_empty rest) → End ≡ class_of goal rest
-    ended [] h = refl
-    ended (c ∷ cs) h = absurd (true_false _ h refl)
-    by_class : (class : LexicalClass) (word rest : List ℕ) → IsTrue (is_of class word) → IsTrue (may_stand class word rest) → IsTrue (allows goal class word) → class ≡ class_of goal (word ++ rest)
-    by_class Name [] rest h m k = absurd (true_false _ h refl)
-    by_class Name (c ∷ cs) rest h m k = name_class goal c (cs ++ rest) (first_true (is_identifier_start c) (list_all is_identifier_part cs) h)
-    by_class Punctuator word rest h m k = punctuator_class goal word rest h m k
-    by_class Number [] rest h m k = absurd (true_false _ h refl)
-    by_class Number (c ∷ cs) rest h m k = number_class goal c (cs ++ rest) (along (is_decimal_digit c) (one_of "." c) (number_begins c cs h) (λ b. begins_append is_decimal_digit cs rest b)) where
-      begins_append : (test : ℕ → Bool) (v w : List ℕ) → IsTrue (begins_with test v) → IsTrue (begins_with test (v ++ w))
-      begins_append test [] w h = absurd (true_false _ h refl)
-      begins_append test (c ∷ v) w h = h
-      along : (a b : Bool) → IsTrue (a || (b && begins_with is_decimal_digit cs)) → (IsTrue (begins_with is_decimal_digit cs) → IsTrue (begins_with is_decimal_digit (cs ++ rest))) →
-          IsTrue (a || (b && begins_with is_decimal_digit (cs ++ rest)))
-      along true b h f = refl
-      along false true h f = f h
-      along false false h f = h
-    by_class Text [] rest h m k = absurd (true_false _ h refl)
-    by_class Text (c ∷ cs) rest h m k = text_class goal c (cs ++ rest) (first_true (one_of "'\"" c) (closes_string c 0 cs) h)
-    by_class Template [] rest h m k = absurd (true_false _ h refl)
-    by_class Template (c ∷ cs) rest h m k = template_class goal c (cs ++ rest) cs (first_true (one_of "`}" c) (closes_template false cs) h) k
-    by_class LexicalClass.RegExp [] rest h m k = absurd (true_false _ h refl)
-    by_class LexicalClass.RegExp (c ∷ cs) rest h m k = regexp_class goal c (cs ++ rest) cs (first_true (one_of "/" c) (has_flags (expression_behind opened cs)) h) k
-    by_class End [] rest h m k = ended rest m
-    by_class End (c ∷ cs) rest h m k = absurd (true_false _ h refl)
+  first_true : (a b : Bool) → IsTrue (a && b) → IsTrue a
+  first_true a b h = grind (arith, nat_tests)
+
+  ended : (rest : List ℕ) → IsTrue (is_empty rest) → End ≡ class_of goal rest
+  ended [] h = refl
+  ended (c ∷ cs) h = absurd (true_false _ h refl)
+
+  by_class : (class : LexicalClass) (word rest : List ℕ) → IsTrue (is_of class word) → IsTrue (may_stand class word rest) → IsTrue (allows goal class word) → class ≡ class_of goal (word ++ rest)
+  by_class Name [] rest h m k = absurd (true_false _ h refl)
+  by_class Name (c ∷ cs) rest h m k = name_class goal c (cs ++ rest) (first_true (is_identifier_start c) (list_all is_identifier_part cs) h)
+  by_class Punctuator word rest h m k = punctuator_class goal word rest h m k
+  by_class Number [] rest h m k = absurd (true_false _ h refl)
+  by_class Number (c ∷ cs) rest h m k = number_class goal c (cs ++ rest) (along (is_decimal_digit c) (one_of "." c) (number_begins c cs h) (λ b. begins_append is_decimal_digit cs rest b)) where
+    begins_append : (test : ℕ → Bool) (v w : List ℕ) → IsTrue (begins_with test v) → IsTrue (begins_with test (v ++ w))
+    begins_append test [] w h = absurd (true_false _ h refl)
+    begins_append test (c ∷ v) w h = h
+
+    along : (a b : Bool) → IsTrue (a || (b && begins_with is_decimal_digit cs)) → (IsTrue (begins_with is_decimal_digit cs) → IsTrue (begins_with is_decimal_digit (cs ++ rest))) →
+        IsTrue (a || (b && begins_with is_decimal_digit (cs ++ rest)))
+    along true b h f = refl
+    along false true h f = f h
+    along false false h f = h
+  by_class Text [] rest h m k = absurd (true_false _ h refl)
+  by_class Text (c ∷ cs) rest h m k = text_class goal c (cs ++ rest) (first_true (one_of "'\"" c) (closes_string c 0 cs) h)
+  by_class Template [] rest h m k = absurd (true_false _ h refl)
+  by_class Template (c ∷ cs) rest h m k = template_class goal c (cs ++ rest) cs (first_true (one_of "`}" c) (closes_template false cs) h) k
+  by_class LexicalClass.RegExp [] rest h m k = absurd (true_false _ h refl)
+  by_class LexicalClass.RegExp (c ∷ cs) rest h m k = regexp_class goal c (cs ++ rest) cs (first_true (one_of "/" c) (has_flags (expression_behind opened cs)) h) k
+  by_class End [] rest h m k = ended rest m
+  by_class End (c ∷ cs) rest h m k = absurd (true_false _ h refl)

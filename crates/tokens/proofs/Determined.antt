@@ -38,36 +38,41 @@ all_from test low (suc n) = test (low + n) && all_from test low n
 from_range : (test : ℕ → Bool) (low n c : ℕ) → IsTrue (all_from test low n) → low ≤ c → c < low + n → IsTrue (test c)
 from_range test low zero c h k l = absurd (omega arith)
 from_range test low (suc n) c h k l = here (cases_lt c (low + n)) where
-    first : (a b : Bool) → IsTrue (a && b) → IsTrue a
-    first a b h = grind (arith, nat_tests)
-    second : (a b : Bool) → IsTrue (a && b) → IsTrue b
-    second a b h = grind (arith, nat_tests)
-    deeper : (d : ℕ) (e : ℕ) → IsTrue (all_from test low e) → low ≤ d → d < low + e → IsTrue (test d)
-    deeper d zero h k l = absurd (omega arith)
-    deeper d (suc e) h k l =
-        elim (cases_lt d (low + e)) [
-          | inl lt ↦ deeper d e (second (test (low + e)) (all_from test low e) h) k lt
-          | inr ge ↦ let q : low + e ≡ d = omega arith in subst (λ x. IsTrue (test x)) q (first (test (low + e)) (all_from test low e) h)
-        ]
-    here : (c < low + n) ⊎ (low + n ≤ c) → IsTrue (test c)
-    here (inl lt) = deeper c n (second (test (low + n)) (all_from test low n) h) k lt
-    here (inr ge) = let q : low + n ≡ c = omega arith in subst (λ x. IsTrue (test x)) q (first (test (low + n)) (all_from test low n) h)
+  first : (a b : Bool) → IsTrue (a && b) → IsTrue a
+  first a b h = grind (arith, nat_tests)
+
+  second : (a b : Bool) → IsTrue (a && b) → IsTrue b
+  second a b h = grind (arith, nat_tests)
+
+  deeper : (d : ℕ) (e : ℕ) → IsTrue (all_from test low e) → low ≤ d → d < low + e → IsTrue (test d)
+  deeper d zero h k l = absurd (omega arith)
+  deeper d (suc e) h k l =
+      elim (cases_lt d (low + e)) [
+        | inl lt ↦ deeper d e (second (test (low + e)) (all_from test low e) h) k lt
+        | inr ge ↦ let q : low + e ≡ d = omega arith in subst (λ x. IsTrue (test x)) q (first (test (low + e)) (all_from test low e) h)
+      ]
+
+  here : (c < low + n) ⊎ (low + n ≤ c) → IsTrue (test c)
+  here (inl lt) = deeper c n (second (test (low + n)) (all_from test low n) h) k lt
+  here (inr ge) = let q : low + n ≡ c = omega arith in subst (λ x. IsTrue (test x)) q (first (test (low + n)) (all_from test low n) h)
 
 -- a test that all characters of a list pass
 pub from_list : (test : ℕ → Bool) (cs : List ℕ) (c : ℕ) → IsTrue (list_all test cs) → IsTrue (is_among c cs) → IsTrue (test c)
 from_list test [] c h k = absurd (true_false _ k refl)
 from_list test (x ∷ []) c h k = subst (λ y. IsTrue (test y)) (sym (eqb-true c x k)) (first (test x) h) where
-    first : (a : Bool) → IsTrue (a && true) → IsTrue a
-    first a h = grind (arith, nat_tests)
+  first : (a : Bool) → IsTrue (a && true) → IsTrue a
+  first a h = grind (arith, nat_tests)
 from_list test (x ∷ y ∷ ys) c h k = here (c == x) refl h k (λ a b. from_list test (y ∷ ys) c a b) where
-    first : (a b : Bool) → IsTrue (a && b) → IsTrue a
-    first a b h = grind (arith, nat_tests)
-    second : (a b : Bool) → IsTrue (a && b) → IsTrue b
-    second a b h = grind (arith, nat_tests)
-    here : (a : Bool) → (c == x) ≡ a → IsTrue (test x && list_all test (y ∷ ys)) → IsTrue (a || is_among c (y ∷ ys)) →
-        (IsTrue (list_all test (y ∷ ys)) → IsTrue (is_among c (y ∷ ys)) → IsTrue (test c)) → IsTrue (test c)
-    here true e h k f = subst (λ z. IsTrue (test z)) (sym (eqb-true c x e)) (first (test x) (list_all test (y ∷ ys)) h)
-    here false e h k f = f (second (test x) (list_all test (y ∷ ys)) h) k
+  first : (a b : Bool) → IsTrue (a && b) → IsTrue a
+  first a b h = grind (arith, nat_tests)
+
+  second : (a b : Bool) → IsTrue (a && b) → IsTrue b
+  second a b h = grind (arith, nat_tests)
+
+  here : (a : Bool) → (c == x) ≡ a → IsTrue (test x && list_all test (y ∷ ys)) → IsTrue (a || is_among c (y ∷ ys)) →
+      (IsTrue (list_all test (y ∷ ys)) → IsTrue (is_among c (y ∷ ys)) → IsTrue (test c)) → IsTrue (test c)
+  here true e h k f = subst (λ z. IsTrue (test z)) (sym (eqb-true c x e)) (first (test x) (list_all test (y ∷ ys)) h)
+  here false e h k f = f (second (test x) (list_all test (y ∷ ys)) h) k
 
 abbrev no_start : ℕ → Bool
 no_start c = not (is_xid_start c)
@@ -92,12 +97,16 @@ blank_no_start c h =
     ] where
       ascii : (c : ℕ) (x : Bool) → c < 128 → x ≡ is_ascii_alphabetic c → IsTrue (is_blank c) → IsFalse (one_of "$_" c || x)
       ascii c x lt e h = grind (arith, nat_tests)
+
       plain : (c : ℕ) (x : Bool) → 128 ≤ c → IsTrue (not x) → IsFalse (one_of "$_" c || x)
       plain c x ge h = grind (arith, nat_tests)
+
       within : (c : ℕ) → (nat_le 0x2000 c && nat_le c 0x200A) ≡ true → (0x2000 ≤ c) × (c < 0x2000 + 11)
       within c e = (grind (arith, nat_tests), grind (arith, nat_tests))
+
       neither : (c : ℕ) → 128 ≤ c → is_among c far_blanks ≡ false → (nat_le 0x2000 c && nat_le c 0x200A) ≡ false → IsTrue (is_blank c) → ⊥
       neither c ge e f h = grind (arith, nat_tests)
+
       far : (a b : Bool) → is_among c far_blanks ≡ a → (nat_le 0x2000 c && nat_le c 0x200A) ≡ b → 128 ≤ c → IsFalse (is_identifier_start c)
       far true b e f ge = plain c (is_xid_start c) ge (from_list no_start far_blanks c listed e)
       far false true e f ge = plain c (is_xid_start c) ge (from_range no_start 0x2000 11 c ranged (within c f).0 (within c f).1)
@@ -109,35 +118,41 @@ special_no_blank c h = grind (arith, nat_tests)
 -- a token's first character
 pub token_begins : (class : LexicalClass) (c : ℕ) (cs : List ℕ) → IsTrue (is_of class (c ∷ cs)) → IsFalse (is_blank c)
 token_begins class c cs h = by_class class h where
-    start : (x : Bool) → is_identifier_start c ≡ true → is_blank c ≡ x → IsFalse x
-    start true e f = absurd (true_false _ e (blank_no_start c f))
-    start false e f = refl
-    first_true : (a b : Bool) → IsTrue (a && b) → IsTrue a
-    first_true a b h = grind (arith, nat_tests)
-    digit : (c : ℕ) (x : Bool) → IsTrue (is_decimal_digit c || (one_of "." c && x)) → IsTrue (is_special c)
-    digit c x h = grind (arith, nat_tests)
-    quote : (c : ℕ) → IsTrue (one_of "'\"" c) → IsTrue (is_special c)
-    quote c h = grind (arith, nat_tests)
-    accent : (c : ℕ) → IsTrue (one_of "`}" c) → IsTrue (is_special c)
-    accent c h = grind (arith, nat_tests)
-    slash : (c : ℕ) → IsTrue (one_of "/" c) → IsTrue (is_special c)
-    slash c h = grind (arith, nat_tests)
-    by_class : (class : LexicalClass) → IsTrue (is_of class (c ∷ cs)) → IsFalse (is_blank c)
-    by_class Name h = start (is_blank c) (first_true (is_identifier_start c) (list_all is_identifier_part cs) h) refl
-    by_class Punctuator h = special_no_blank c (words_all punctuators (begins_with is_special) (c ∷ cs) refl h)
-    by_class Number h = special_no_blank c (digit c (begins_with is_decimal_digit cs) (number_begins c cs h))
-    by_class Text h = special_no_blank c (quote c (first_true (one_of "'\"" c) (closes_string c 0 cs) h))
-    by_class Template h = special_no_blank c (accent c (first_true (one_of "`}" c) (closes_template false cs) h))
-    by_class LexicalClass.RegExp h = special_no_blank c (slash c (first_true (one_of "/" c) (has_flags (expression_behind opened cs)) h))
-    by_class End h = absurd (true_false _ h refl)
+  start : (x : Bool) → is_identifier_start c ≡ true → is_blank c ≡ x → IsFalse x
+  start true e f = absurd (true_false _ e (blank_no_start c f))
+  start false e f = refl
+
+  first_true : (a b : Bool) → IsTrue (a && b) → IsTrue a
+  first_true a b h = grind (arith, nat_tests)
+
+  digit : (c : ℕ) (x : Bool) → IsTrue (is_decimal_digit c || (one_of "." c && x)) → IsTrue (is_special c)
+  digit c x h = grind (arith, nat_tests)
+
+  quote : (c : ℕ) → IsTrue (one_of "'\"" c) → IsTrue (is_special c)
+  quote c h = grind (arith, nat_tests)
+
+  accent : (c : ℕ) → IsTrue (one_of "`}" c) → IsTrue (is_special c)
+  accent c h = grind (arith, nat_tests)
+
+  slash : (c : ℕ) → IsTrue (one_of "/" c) → IsTrue (is_special c)
+  slash c h = grind (arith, nat_tests)
+
+  by_class : (class : LexicalClass) → IsTrue (is_of class (c ∷ cs)) → IsFalse (is_blank c)
+  by_class Name h = start (is_blank c) (first_true (is_identifier_start c) (list_all is_identifier_part cs) h) refl
+  by_class Punctuator h = special_no_blank c (words_all punctuators (begins_with is_special) (c ∷ cs) refl h)
+  by_class Number h = special_no_blank c (digit c (begins_with is_decimal_digit cs) (number_begins c cs h))
+  by_class Text h = special_no_blank c (quote c (first_true (one_of "'\"" c) (closes_string c 0 cs) h))
+  by_class Template h = special_no_blank c (accent c (first_true (one_of "`}" c) (closes_template false cs) h))
+  by_class LexicalClass.RegExp h = special_no_blank c (slash c (first_true (one_of "/" c) (has_flags (expression_behind opened cs)) h))
+  by_class End h = absurd (true_false _ h refl)
 
 -- ---- comments
 
 pub comment_begins : (word rest : List ℕ) → IsTrue (is_comment word rest) → IsTrue (begins_comment (word ++ rest))
 comment_begins [] rest h = absurd (true_false _ h refl)
 comment_begins (c ∷ []) rest h = absurd (short (one_of "/" c) (is_empty rest || begins_with is_line_terminator rest) h) where
-    short : (a b : Bool) → IsTrue ((((a && false) && true) && b) || false) → ⊥
-    short a b h = grind (arith, nat_tests)
+  short : (a b : Bool) → IsTrue ((((a && false) && true) && b) || false) → ⊥
+  short a b h = grind (arith, nat_tests)
 comment_begins (c ∷ d ∷ w) rest h =
     tests c d (not (list_any is_line_terminator (d ∷ w))) (is_empty rest || begins_with is_line_terminator rest) (closes_comment w) h where
       tests : (c d : ℕ) (b e g : Bool) → IsTrue ((((one_of "/" c && one_of "/" d) && b) && e) || ((one_of "/" c && one_of "*" d) && g)) → IsTrue (one_of "/" c && one_of "/*" d)
@@ -147,30 +162,35 @@ comment_begins (c ∷ d ∷ w) rest h =
 pub comment_longer : (v m b : List ℕ) → IsTrue (is_comment v (m ++ b)) → IsTrue (is_comment (v ++ m) b) → m ≡ []
 comment_longer [] m b h k = absurd (true_false _ h refl)
 comment_longer (c ∷ []) m b h k = absurd (short (one_of "/" c) (is_empty (m ++ b) || begins_with is_line_terminator (m ++ b)) h) where
-    short : (a b : Bool) → IsTrue ((((a && false) && true) && b) || false) → ⊥
-    short a b h = grind (arith, nat_tests)
+  short : (a b : Bool) → IsTrue ((((a && false) && true) && b) || false) → ⊥
+  short a b h = grind (arith, nat_tests)
 comment_longer (c ∷ d ∷ vs) m b h k = by_kind (one_of "/" d) refl where
-    line_any : (c d : ℕ) (x y g : Bool) → one_of "/" d ≡ true → IsTrue ((((one_of "/" c && one_of "/" d) && not x) && y) || ((one_of "/" c && one_of "*" d) && g)) → x ≡ false
-    line_any c d x y g e h = grind (arith, nat_tests)
-    line_end : (c d : ℕ) (x y g : Bool) → one_of "/" d ≡ true → IsTrue ((((one_of "/" c && one_of "/" d) && not x) && y) || ((one_of "/" c && one_of "*" d) && g)) → y ≡ true
-    line_end c d x y g e h = grind (arith, nat_tests)
-    block_end : (c d : ℕ) (x y g : Bool) → one_of "/" d ≡ false → IsTrue ((((one_of "/" c && one_of "/" d) && not x) && y) || ((one_of "/" c && one_of "*" d) && g)) → IsTrue g
-    block_end c d x y g e h = grind (arith, nat_tests)
-    at_end : (m : List ℕ) → (is_empty (m ++ b) || begins_with is_line_terminator (m ++ b)) ≡ true → list_any is_line_terminator ((d ∷ vs) ++ m) ≡ false → m ≡ []
-    at_end [] e f = refl
-    at_end (x ∷ xs) e f = absurd (last (list_any is_line_terminator (d ∷ vs)) (is_line_terminator x) (list_any is_line_terminator xs) e (sym (any_append is_line_terminator (d ∷ vs) (x ∷ xs)) ∙ f)) where
-      last : (a b g : Bool) → b ≡ true → (a || (b || g)) ≡ false → ⊥
-      last a b g e f = grind (arith, nat_tests)
-    closed : (vs : List ℕ) → IsTrue (closes_comment vs) → IsTrue (closes_comment (vs ++ m)) → m ≡ []
-    closed [] h k = absurd (true_false _ h refl)
-    closed (y ∷ ys) h k = closed_once (one_of "*" y) ys m (subst IsTrue (closes_same y ys) h) (subst IsTrue (closes_same y (ys ++ m)) k)
-    by_kind : (a : Bool) → one_of "/" d ≡ a → m ≡ []
-    by_kind true e =
-        at_end m (line_end c d (list_any is_line_terminator (d ∷ vs)) (is_empty (m ++ b) || begins_with is_line_terminator (m ++ b)) (closes_comment vs) e h)
-        (line_any c d (list_any is_line_terminator ((d ∷ vs) ++ m)) (is_empty b || begins_with is_line_terminator b) (closes_comment (vs ++ m)) e k)
-    by_kind false e =
-        closed vs (block_end c d (list_any is_line_terminator (d ∷ vs)) (is_empty (m ++ b) || begins_with is_line_terminator (m ++ b)) (closes_comment vs) e h)
-        (block_end c d (list_any is_line_terminator ((d ∷ vs) ++ m)) (is_empty b || begins_with is_line_terminator b) (closes_comment (vs ++ m)) e k)
+  line_any : (c d : ℕ) (x y g : Bool) → one_of "/" d ≡ true → IsTrue ((((one_of "/" c && one_of "/" d) && not x) && y) || ((one_of "/" c && one_of "*" d) && g)) → x ≡ false
+  line_any c d x y g e h = grind (arith, nat_tests)
+
+  line_end : (c d : ℕ) (x y g : Bool) → one_of "/" d ≡ true → IsTrue ((((one_of "/" c && one_of "/" d) && not x) && y) || ((one_of "/" c && one_of "*" d) && g)) → y ≡ true
+  line_end c d x y g e h = grind (arith, nat_tests)
+
+  block_end : (c d : ℕ) (x y g : Bool) → one_of "/" d ≡ false → IsTrue ((((one_of "/" c && one_of "/" d) && not x) && y) || ((one_of "/" c && one_of "*" d) && g)) → IsTrue g
+  block_end c d x y g e h = grind (arith, nat_tests)
+
+  at_end : (m : List ℕ) → (is_empty (m ++ b) || begins_with is_line_terminator (m ++ b)) ≡ true → list_any is_line_terminator ((d ∷ vs) ++ m) ≡ false → m ≡ []
+  at_end [] e f = refl
+  at_end (x ∷ xs) e f = absurd (last (list_any is_line_terminator (d ∷ vs)) (is_line_terminator x) (list_any is_line_terminator xs) e (sym (any_append is_line_terminator (d ∷ vs) (x ∷ xs)) ∙ f)) where
+    last : (a b g : Bool) → b ≡ true → (a || (b || g)) ≡ false → ⊥
+    last a b g e f = grind (arith, nat_tests)
+
+  closed : (vs : List ℕ) → IsTrue (closes_comment vs) → IsTrue (closes_comment (vs ++ m)) → m ≡ []
+  closed [] h k = absurd (true_false _ h refl)
+  closed (y ∷ ys) h k = closed_once (one_of "*" y) ys m (subst IsTrue (closes_same y ys) h) (subst IsTrue (closes_same y (ys ++ m)) k)
+
+  by_kind : (a : Bool) → one_of "/" d ≡ a → m ≡ []
+  by_kind true e =
+      at_end m (line_end c d (list_any is_line_terminator (d ∷ vs)) (is_empty (m ++ b) || begins_with is_line_terminator (m ++ b)) (closes_comment vs) e h)
+      (line_any c d (list_any is_line_terminator ((d ∷ vs) ++ m)) (is_empty b || begins_with is_line_terminator b) (closes_comment (vs ++ m)) e k)
+  by_kind false e =
+      closed vs (block_end c d (list_any is_line_terminator (d ∷ vs)) (is_empty (m ++ b) || begins_with is_line_terminator (m ++ b)) (closes_comment vs) e h)
+      (block_end c d (list_any is_line_terminator ((d ∷ vs) ++ m)) (is_empty b || begins_with is_line_terminator b) (closes_comment (vs ++ m)) e k)
 
 -- two fronts of one list, of which none goes on to the other, are one
 pub same_fronts : (P : List ℕ → List ℕ → Type 0) → ((v m b : List ℕ) → P v (m ++ b) → P (v ++ m) b → m ≡ []) → (v w a b : List ℕ) → P v a → P w b → v ++ a ≡ w ++ b → v ≡ w
@@ -194,13 +214,17 @@ token_solid class word rest h k =
       no : (a : Bool) → IsTrue (not a) → a ≡ false
       no true h = absurd (true_false _ h refl)
       no false h = refl
+
       second : (a b d e : Bool) → IsTrue (((a && b) && d) && e) → IsTrue b
       second a b d e h = grind (arith, nat_tests)
+
       ends : (class : LexicalClass) (word rest : List ℕ) → IsTrue (is_token class word rest) → IsTrue (may_stand class word rest)
       ends class word rest h = second (is_of class word) (may_stand class word rest) (none_longer class word rest) (ends_well class rest) h
+
       empty_rest : (rest : List ℕ) → IsTrue (is_empty rest) → IsFalse (begins_with is_blank rest)
       empty_rest [] h = refl
       empty_rest (c ∷ cs) h = absurd (true_false _ h refl)
+
       no_blank : (class : LexicalClass) (word rest : List ℕ) → IsTrue (is_of class word) → IsTrue (may_stand class word rest) → IsFalse (begins_with is_blank (word ++ rest))
       no_blank class (c ∷ cs) rest h m = token_begins class c cs h
       no_blank End [] rest h m = empty_rest rest m
@@ -255,6 +279,7 @@ token_longer class v (x ∷ xs) b h k =
     (longer_is_none class v x xs b (longest (is_at class v (x ∷ xs ++ b)) (none_longer class v (x ∷ xs ++ b)) (ends_well class (x ∷ xs ++ b)) h))) where
       at : (a b d : Bool) → IsTrue ((a && b) && d) → IsTrue a
       at a b d h = grind (arith, nat_tests)
+
       longest : (a b d : Bool) → IsTrue ((a && b) && d) → IsTrue b
       longest a b d h = grind (arith, nat_tests)
 
@@ -277,19 +302,21 @@ determined goal at cs a b ra rb x y =
     let class : a.class ≡ b.class = class_fits goal a.class x.word ra x.longest x.allowed ∙ ap (class_of goal) words ∙ sym (class_fits goal b.class y.word rb y.longest y.allowed) in
     let word : x.word ≡ y.word = longest_same b.class x.word y.word ra rb (subst (λ c. IsTrue (is_token c x.word ra)) class x.longest) y.longest words in
     let rest : ra ≡ rb = append_cancel_left x.word ra rb (words ∙ ap (λ w. w ++ rb) (sym word)) in
-    let start : a.start ≡ b.start = x.start ∙ ap (λ g. at + size g) gaps ∙ sym y.start in
-    (token_same a b class (x.text ∙ ap encode_utf8_all word ∙ sym y.text) start (x.stop ∙ ap (λ n. n + size x.word) start ∙ ap (λ w. b.start + size w) word ∙ sym y.stop)
-    (x.after_break ∙ ap (list_any is_line_terminator) gaps ∙ sym y.after_break), rest)
+    let start : a.start ≡ b.start = x.start ∙ ap (λ g. at + size g) gaps ∙ sym y.start in (
+      token_same a b class (x.text ∙ ap encode_utf8_all word ∙ sym y.text) start (x.stop ∙ ap (λ n. n + size x.word) start ∙ ap (λ w. b.start + size w) word ∙ sym y.stop)
+          (x.after_break ∙ ap (list_any is_line_terminator) gaps ∙ sym y.after_break),
+      rest,
+    )
 
 -- by the goal Div alone one token is read behind a token at most, and reading goes on behind it
 pub next_determined : (text : List ℕ) (s a b e f : LexicalToken) → Next text div_alone s a e → Next text div_alone s b f → (a ≡ b) × (e ≡ f)
 next_determined text s a b e f (next goal d h) (next other k i) =
     let g : goal ≡ other = div_only goal other d k in
     let same = (determined other s.stop (behind text s.stop) a b (behind text a.stop) (behind text b.stop) (subst (λ x. Reads text x s.stop a) g h) i).0 in (same, same)
-    where
-      div_only : (g h : Goal) → IsTrue (div_alone g) → IsTrue (div_alone h) → g ≡ h
-      div_only Goal.Div Goal.Div d k = refl
-      div_only Goal.RegExp h d k = absurd (true_false _ d refl)
-      div_only Goal.TemplateTail h d k = absurd (true_false _ d refl)
-      div_only Goal.Div Goal.RegExp d k = absurd (true_false _ k refl)
-      div_only Goal.Div Goal.TemplateTail d k = absurd (true_false _ k refl)
+  where
+    div_only : (g h : Goal) → IsTrue (div_alone g) → IsTrue (div_alone h) → g ≡ h
+    div_only Goal.Div Goal.Div d k = refl
+    div_only Goal.RegExp h d k = absurd (true_false _ d refl)
+    div_only Goal.TemplateTail h d k = absurd (true_false _ d refl)
+    div_only Goal.Div Goal.RegExp d k = absurd (true_false _ k refl)
+    div_only Goal.Div Goal.TemplateTail d k = absurd (true_false _ k refl)

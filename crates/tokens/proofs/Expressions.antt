@@ -49,22 +49,23 @@ IsRest w r = IsTrue (is_token LexicalClass.RegExp (0x2F ∷ w) r)
 
 rest_flags : (w r : List ℕ) → IsRest w r → IsTrue (has_flags (expression_behind opened w))
 rest_flags w r h = first (has_flags (expression_behind opened w)) (none_longer LexicalClass.RegExp (0x2F ∷ w) r) h where
-    first : (a n : Bool) → IsTrue (((a && true) && n) && true) → IsTrue a
-    first a n h = grind (arith, nat_tests)
+  first : (a n : Bool) → IsTrue (((a && true) && n) && true) → IsTrue a
+  first a n h = grind (arith, nat_tests)
 
 rest_alive : (w r : List ℕ) → IsRest w r → IsFalse (is_over (expression_behind opened w))
 rest_alive w r h = ap is_over (flags_is _ (rest_flags w r h))
 
 rest_stuck : (w : List ℕ) (x : ℕ) (r : List ℕ) → IsRest w (x ∷ r) → IsTrue (is_over (expression_behind opened (w ++ x ∷ [])))
 rest_stuck w x r h = by_part (is_identifier_part x) refl (expression_append opened w (x ∷ []) ∙ ap (λ s. next_expression s x) (flags_is _ (rest_flags w (x ∷ r) h))) where
-    longer : (a l n : Bool) → IsTrue l → IsTrue (((a && true) && (not (l && true) && n)) && true) → ⊥
-    longer a l n e h = grind (arith, nat_tests)
-    by_part : (a : Bool) → is_identifier_part x ≡ a → expression_behind opened (w ++ x ∷ []) ≡ (if is_identifier_part x then flags else no_expression) →
-        IsTrue (is_over (expression_behind opened (w ++ x ∷ [])))
-    by_part false e q = ap is_over (q ∙ ap (λ b. if b then flags else no_expression) e)
-    by_part true e q =
-        absurd (longer (has_flags (expression_behind opened w)) (has_flags (expression_behind opened (w ++ x ∷ []))) (none_longer LexicalClass.RegExp (0x2F ∷ w ++ x ∷ []) r)
-        (ap has_flags (q ∙ ap (λ b. if b then flags else no_expression) e)) h)
+  longer : (a l n : Bool) → IsTrue l → IsTrue (((a && true) && (not (l && true) && n)) && true) → ⊥
+  longer a l n e h = grind (arith, nat_tests)
+
+  by_part : (a : Bool) → is_identifier_part x ≡ a → expression_behind opened (w ++ x ∷ []) ≡ (if is_identifier_part x then flags else no_expression) →
+      IsTrue (is_over (expression_behind opened (w ++ x ∷ [])))
+  by_part false e q = ap is_over (q ∙ ap (λ b. if b then flags else no_expression) e)
+  by_part true e q =
+      absurd (longer (has_flags (expression_behind opened w)) (has_flags (expression_behind opened (w ++ x ∷ []))) (none_longer LexicalClass.RegExp (0x2F ∷ w ++ x ∷ []) r)
+      (ap has_flags (q ∙ ap (λ b. if b then flags else no_expression) e)) h)
 
 pub record InExpression (text : List ℕ) (at stop : ℕ) (part : RegularExpression) : Type 0 where
   pub word : List ℕ
@@ -87,8 +88,8 @@ expression_goes_on text at stop more c part new h p e a =
 
 whole : (w rest : List ℕ) → IsTrue (has_flags (expression_behind opened w)) → IsTrue (none_longer LexicalClass.RegExp (0x2F ∷ w) rest) → IsRest w rest
 whole w rest a b = all (has_flags (expression_behind opened w)) (none_longer LexicalClass.RegExp (0x2F ∷ w) rest) a b where
-    all : (a n : Bool) → IsTrue a → IsTrue n → IsTrue (((a && true) && n) && true)
-    all a n h k = grind (arith, nat_tests)
+  all : (a n : Bool) → IsTrue a → IsTrue n → IsTrue (((a && true) && n) && true)
+  all a n h k = grind (arith, nat_tests)
 
 pub expression_found : (text : List ℕ) (at stop more c : ℕ) (part : RegularExpression) → InExpression text at stop part → Passed text stop more (c ∷ []) →
     is_over (next_expression part c) ≡ true → has_flags part ≡ true → IsFlagsAt text at stop
@@ -101,6 +102,7 @@ expression_found text at stop more c part h p d k =
     } where
       no : (a : Bool) → a ≡ false → IsFalse (a && true)
       no a e = grind (arith, nat_tests)
+
       none : (x : ℕ) (xs r : List ℕ) → c ∷ behind text more ≡ x ∷ xs ++ r → IsFalse (is_at LexicalClass.RegExp (0x2F ∷ h.word ++ x ∷ xs) r)
       none x xs r e =
           let q : c ≡ x = cc in
@@ -138,25 +140,26 @@ expression_word text at start stop p h = record { word = 0x2F ∷ h.word; passed
 
 no_empty : (r : List ℕ) → IsTrue (is_token LexicalClass.RegExp [] r) → ⊥
 no_empty r h = nothing (none_longer LexicalClass.RegExp [] r) h where
-    nothing : (n : Bool) → IsTrue ((false && n) && true) → ⊥
-    nothing n h = grind (arith, nat_tests)
+  nothing : (n : Bool) → IsTrue ((false && n) && true) → ⊥
+  nothing n h = grind (arith, nat_tests)
 
 pub no_expression_word : (text : List ℕ) (at start : ℕ) → Passed text at start (0x2F ∷ []) → NoFlagsAt text start → NoWordAt LexicalClass.RegExp text at
 no_expression_word text at start p none = λ w r e h. at_slash w r (sym p.split ∙ e) h where
-    at_slash : (w r : List ℕ) → 0x2F ∷ behind text start ≡ w ++ r → IsTrue (is_token LexicalClass.RegExp w r) → ⊥
-    at_slash [] r e h = no_empty r h
-    at_slash (c ∷ w) r e h = let q : c ≡ 0x2F = cc in let z : behind text start ≡ w ++ r = cc in none w r z (subst (λ x. IsTrue (is_token LexicalClass.RegExp (x ∷ w) r)) q h)
+  at_slash : (w r : List ℕ) → 0x2F ∷ behind text start ≡ w ++ r → IsTrue (is_token LexicalClass.RegExp w r) → ⊥
+  at_slash [] r e h = no_empty r h
+  at_slash (c ∷ w) r e h = let q : c ≡ 0x2F = cc in let z : behind text start ≡ w ++ r = cc in none w r z (subst (λ x. IsTrue (is_token LexicalClass.RegExp (x ∷ w) r)) q h)
 
 pub no_expression_other : (text : List ℕ) (at start c : ℕ) → Passed text at start (c ∷ []) → one_of "/" c ≡ false → NoWordAt LexicalClass.RegExp text at
 no_expression_other text at start c p t = λ w r e h. other w r (sym p.split ∙ e) h where
-    refuse : (a b n : Bool) → a ≡ false → IsTrue ((((a && b) && true) && n) && true) → ⊥
-    refuse a b n e h = grind (arith, nat_tests)
-    other : (w r : List ℕ) → c ∷ behind text start ≡ w ++ r → IsTrue (is_token LexicalClass.RegExp w r) → ⊥
-    other [] r e h = no_empty r h
-    other (d ∷ w) r e h = let q : d ≡ c = cc in refuse (one_of "/" d) (has_flags (expression_behind opened w)) (none_longer LexicalClass.RegExp (d ∷ w) r) (ap (one_of "/") q ∙ t) h
+  refuse : (a b n : Bool) → a ≡ false → IsTrue ((((a && b) && true) && n) && true) → ⊥
+  refuse a b n e h = grind (arith, nat_tests)
+
+  other : (w r : List ℕ) → c ∷ behind text start ≡ w ++ r → IsTrue (is_token LexicalClass.RegExp w r) → ⊥
+  other [] r e h = no_empty r h
+  other (d ∷ w) r e h = let q : d ≡ c = cc in refuse (one_of "/" d) (has_flags (expression_behind opened w)) (none_longer LexicalClass.RegExp (d ∷ w) r) (ap (one_of "/") q ∙ t) h
 
 pub no_expression_nothing : (text : List ℕ) (at : ℕ) → behind text at ≡ [] → NoWordAt LexicalClass.RegExp text at
 no_expression_nothing text at q = λ w r e h. other w r (sym q ∙ e) h where
-    other : (w r : List ℕ) → [] ≡ w ++ r → IsTrue (is_token LexicalClass.RegExp w r) → ⊥
-    other [] r e h = no_empty r h
-    other (d ∷ w) r e h = cc
+  other : (w r : List ℕ) → [] ≡ w ++ r → IsTrue (is_token LexicalClass.RegExp w r) → ⊥
+  other [] r e h = no_empty r h
+  other (d ∷ w) r e h = cc

@@ -10,5 +10,10 @@ pub mod Determined
 pub mod Automata
 pub mod Numerals
 pub mod Parts
+pub mod Escaping
+pub mod Stringing
+pub mod Valued
 pub mod Punctuators
+pub mod Scanning
+pub mod Bounds
 pub mod Expressions

@@ -13,13 +13,13 @@ use Rattle.tokens.proofs.Longest.{none_is_longer}
 -- where a character follows that fails the test, no longer text has all passing
 pub all_stop : (test : ℕ → Bool) (v more : List ℕ) (c : ℕ) → IsFalse (test c) → IsFalse (list_all test (v ++ c ∷ more))
 all_stop test [] more c h = first (test c) (list_all test more) h where
-    first : (a b : Bool) → IsFalse a → IsFalse (a && b)
-    first true b h = absurd (true_false _ refl h)
-    first false b h = refl
+  first : (a b : Bool) → IsFalse a → IsFalse (a && b)
+  first true b h = absurd (true_false _ refl h)
+  first false b h = refl
 all_stop test (d ∷ v) more c h = later (test d) (list_all test (v ++ c ∷ more)) (all_stop test v more c h) where
-    later : (a b : Bool) → IsFalse b → IsFalse (a && b)
-    later true b h = h
-    later false b h = refl
+  later : (a b : Bool) → IsFalse b → IsFalse (a && b)
+  later true b h = h
+  later false b h = refl
 
 name_longest : (c : ℕ) (parts rest : List ℕ) → IsTrue (is_identifier_start c) → IsTrue (list_all is_identifier_part parts) →
     IsFalse (begins_with is_identifier_part rest) → IsTrue (is_token Name (c ∷ parts) rest)
@@ -29,6 +29,7 @@ name_longest c parts rest s a e =
     at_more (is_identifier_start c) (list_all is_identifier_part (parts ++ d ∷ more)) (all_stop is_identifier_part parts more d (subst (λ x. IsFalse (begins_with is_identifier_part x)) q e)))) where
       whole : (a b n : Bool) → IsTrue a → IsTrue b → IsTrue n → IsTrue ((((a && b) && true) && n) && true)
       whole a b n h k l = grind (arith, nat_tests)
+
       at_more : (a b : Bool) → IsFalse b → IsFalse ((a && b) && true)
       at_more a b h = grind (arith, nat_tests)
 
@@ -43,18 +44,21 @@ name_word text at start stop c p s r =
 
 pub no_name : (text : List ℕ) (at stop c : ℕ) → Passed text at stop (c ∷ []) → is_identifier_start c ≡ false → NoWordAt Name text at
 no_name text at stop c p s = λ w rest e h. none w rest (sym p.split ∙ e) h where
-    begins : (a b n : Bool) → IsFalse a → IsTrue ((((a && b) && true) && n) && true) → ⊥
-    begins a b n h k = grind (arith, nat_tests)
-    nothing : (n : Bool) → IsTrue ((false && n) && true) → ⊥
-    nothing n h = grind (arith, nat_tests)
-    none : (w rest : List ℕ) → c ∷ behind text stop ≡ w ++ rest → IsTrue (is_token Name w rest) → ⊥
-    none [] rest e h = nothing (none_longer Name [] rest) h
-    none (d ∷ w) rest e h = let q : c ≡ d = cc in begins (is_identifier_start d) (list_all is_identifier_part w) (none_longer Name (d ∷ w) rest) (subst (λ x. IsFalse (is_identifier_start x)) q (subst IsFalse (sym s) refl)) h
+  begins : (a b n : Bool) → IsFalse a → IsTrue ((((a && b) && true) && n) && true) → ⊥
+  begins a b n h k = grind (arith, nat_tests)
+
+  nothing : (n : Bool) → IsTrue ((false && n) && true) → ⊥
+  nothing n h = grind (arith, nat_tests)
+
+  none : (w rest : List ℕ) → c ∷ behind text stop ≡ w ++ rest → IsTrue (is_token Name w rest) → ⊥
+  none [] rest e h = nothing (none_longer Name [] rest) h
+  none (d ∷ w) rest e h = let q : c ≡ d = cc in begins (is_identifier_start d) (list_all is_identifier_part w) (none_longer Name (d ∷ w) rest) (subst (λ x. IsFalse (is_identifier_start x)) q (subst IsFalse (sym s) refl)) h
 
 pub no_name_end : (text : List ℕ) (at : ℕ) → behind text at ≡ [] → NoWordAt Name text at
 no_name_end text at q = λ w rest e h. none w rest (sym q ∙ e) h where
-    nothing : (n : Bool) → IsTrue ((false && n) && true) → ⊥
-    nothing n h = grind (arith, nat_tests)
-    none : (w rest : List ℕ) → [] ≡ w ++ rest → IsTrue (is_token Name w rest) → ⊥
-    none [] rest e h = nothing (none_longer Name [] rest) h
-    none (d ∷ w) rest e h = cc
+  nothing : (n : Bool) → IsTrue ((false && n) && true) → ⊥
+  nothing n h = grind (arith, nat_tests)
+
+  none : (w rest : List ℕ) → [] ≡ w ++ rest → IsTrue (is_token Name w rest) → ⊥
+  none [] rest e h = nothing (none_longer Name [] rest) h
+  none (d ∷ w) rest e h = cc

@@ -58,10 +58,11 @@ complete_alive suffix h = refl
 -- the letters that go on with a number without completing one
 letter : (c : ℕ) → IsTrue (one_of "bBoOxXeE" c) → IsTrue (is_identifier_start c)
 letter c h = starts c (is_xid_start c) (is_xid_start-ascii c (small c h)) h where
-    small : (c : ℕ) → IsTrue (one_of "bBoOxXeE" c) → c < 128
-    small c h = grind (arith, nat_tests)
-    starts : (c : ℕ) (x : Bool) → x ≡ is_ascii_alphabetic c → IsTrue (one_of "bBoOxXeE" c) → IsTrue (one_of "$_" c || x)
-    starts c x e h = grind (arith, nat_tests)
+  small : (c : ℕ) → IsTrue (one_of "bBoOxXeE" c) → c < 128
+  small c h = grind (arith, nat_tests)
+
+  starts : (c : ℕ) (x : Bool) → x ≡ is_ascii_alphabetic c → IsTrue (one_of "bBoOxXeE" c) → IsTrue (one_of "$_" c || x)
+  starts c x e h = grind (arith, nat_tests)
 
 -- behind a whole number a character ends it, completes a longer one, or is one that may not follow
 abbrev ends_or_goes_on : Numeral → ℕ → Bool
@@ -101,20 +102,20 @@ fraction_kind c false false f = refl
 whole_kind : (s : Numeral) (c : ℕ) → IsTrue (is_complete s) → IsTrue (ends_or_goes_on (next_numeral s c) c)
 whole_kind nought c h = nought_kind c (one_of "bB" c) (one_of "oO" c) (one_of "xX" c) (λ e. letter c (prefix_letter_b c e)) (λ e. letter c (prefix_letter_o c e)) (λ e. letter c (prefix_letter_x c e))
 whole_kind integer c h = at_integer (is_decimal_digit c) where
-    at_integer : (a : Bool) → IsTrue (ends_or_goes_on (if a then integer else if one_of "." c then point else if one_of "eE" c then exponent_mark else if one_of "n" c then suffix else no_numeral) c)
-    at_integer true = refl
-    at_integer false = integer_kind c (one_of "." c) (one_of "eE" c) (one_of "n" c) (λ e. letter c (exponent_letter c e))
+  at_integer : (a : Bool) → IsTrue (ends_or_goes_on (if a then integer else if one_of "." c then point else if one_of "eE" c then exponent_mark else if one_of "n" c then suffix else no_numeral) c)
+  at_integer true = refl
+  at_integer false = integer_kind c (one_of "." c) (one_of "eE" c) (one_of "n" c) (λ e. letter c (exponent_letter c e))
 whole_kind point c h = fraction_kind c (is_decimal_digit c) (one_of "eE" c) (λ e. letter c (exponent_letter c e))
 whole_kind fraction c h = fraction_kind c (is_decimal_digit c) (one_of "eE" c) (λ e. letter c (exponent_letter c e))
 whole_kind exponent c h = at_exponent (is_decimal_digit c) where
-    at_exponent : (a : Bool) → IsTrue (ends_or_goes_on (if a then exponent else no_numeral) c)
-    at_exponent true = refl
-    at_exponent false = refl
+  at_exponent : (a : Bool) → IsTrue (ends_or_goes_on (if a then exponent else no_numeral) c)
+  at_exponent true = refl
+  at_exponent false = refl
 whole_kind (digits base) c h = at_digits (is_digit_of base c) (one_of "n" c) where
-    at_digits : (a b : Bool) → IsTrue (ends_or_goes_on (if a then digits base else if b then suffix else no_numeral) c)
-    at_digits true b = refl
-    at_digits false true = refl
-    at_digits false false = refl
+  at_digits : (a b : Bool) → IsTrue (ends_or_goes_on (if a then digits base else if b then suffix else no_numeral) c)
+  at_digits true b = refl
+  at_digits false true = refl
+  at_digits false false = refl
 whole_kind suffix c h = refl
 whole_kind unread c h = absurd (true_false _ h refl)
 whole_kind leading_point c h = absurd (true_false _ h refl)
@@ -127,8 +128,8 @@ whole_kind no_numeral c h = absurd (true_false _ h refl)
 
 pub number_complete : (w r : List ℕ) → IsTrue (is_token Number w r) → IsTrue (is_complete (numeral_behind unread w))
 number_complete w r h = first (is_complete (numeral_behind unread w)) (none_longer Number w r) (ends_well Number r) h where
-    first : (a n e : Bool) → IsTrue (((a && true) && n) && e) → IsTrue a
-    first a n e h = grind (arith, nat_tests)
+  first : (a n e : Bool) → IsTrue (((a && true) && n) && e) → IsTrue a
+  first a n e h = grind (arith, nat_tests)
 
 number_stuck : (w : List ℕ) (x : ℕ) (r : List ℕ) → IsTrue (is_token Number w (x ∷ r)) → IsTrue (is_dead (numeral_behind unread (w ++ x ∷ [])))
 number_stuck w x r h =
@@ -136,6 +137,7 @@ number_stuck w x r h =
     (subst (λ s. IsTrue (ends_or_goes_on s x)) (sym (behind_append unread w (x ∷ []))) (whole_kind (numeral_behind unread w) x (number_complete w (x ∷ r) h))) h where
       next_state : Numeral
       next_state = numeral_behind unread (w ++ x ∷ [])
+
       decide : (dead complete start digit a n : Bool) → IsTrue (dead || complete || start) → IsTrue (((a && true) && (not (complete && true) && n)) && not (start || digit)) → IsTrue dead
       decide dead complete start digit a n h k = grind (arith, nat_tests)
 
@@ -162,8 +164,8 @@ number_goes_on text at stop more c state new h p e a =
 
 whole_number : (w rest : List ℕ) → IsTrue (is_complete (numeral_behind unread w)) → IsTrue (none_longer Number w rest) → IsTrue (ends_well Number rest) → IsTrue (is_token Number w rest)
 whole_number w rest a b d = all (is_complete (numeral_behind unread w)) (none_longer Number w rest) (ends_well Number rest) a b d where
-    all : (a n e : Bool) → IsTrue a → IsTrue n → IsTrue e → IsTrue (((a && true) && n) && e)
-    all a n e h k l = grind (arith, nat_tests)
+  all : (a n e : Bool) → IsTrue a → IsTrue n → IsTrue e → IsTrue (((a && true) && n) && e)
+  all a n e h k l = grind (arith, nat_tests)
 
 -- a character ends it
 pub number_found : (text : List ℕ) (at stop more c : ℕ) (state : Numeral) → InNumber text at stop state → Passed text stop more (c ∷ []) → is_dead (next_numeral state c) ≡ true →
@@ -177,6 +179,7 @@ number_found text at stop more c state h p d k b =
     } where
       no : (a : Bool) → a ≡ false → IsFalse (a && true)
       no a e = grind (arith, nat_tests)
+
       none : (x : ℕ) (xs r : List ℕ) → c ∷ behind text more ≡ x ∷ xs ++ r → IsFalse (is_at Number (h.word ++ x ∷ xs) r)
       none x xs r e =
           let q : c ≡ x = cc in

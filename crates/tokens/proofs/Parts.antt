@@ -32,12 +32,16 @@ same_ends (c ∷ cs) = let r = same_ends cs in
     } where
       one_bs : (c : ℕ) → one_of "$" c ≡ true → one_of "\\" c ≡ false
       one_bs c h = grind (arith, nat_tests)
+
       not_accent : (c : ℕ) → one_of "{" c ≡ true → one_of "`" c ≡ false
       not_accent c h = grind (arith, nat_tests)
+
       not_other : (c : ℕ) → one_of "{" c ≡ true → one_of "$" c ≡ false
       not_other c h = grind (arith, nat_tests)
+
       not_back : (c : ℕ) → one_of "{" c ≡ true → one_of "\\" c ≡ false
       not_back c h = grind (arith, nat_tests)
+
       from_plain : (a d b : Bool) → (d ≡ true → b ≡ false) → ends_part false false cs ≡ closes_template false cs → ends_part true false cs ≡ closes_template true cs →
           ends_part false true cs ≡ after_dollar cs →
           (if true && (a || (false && one_of "{" c)) then is_empty cs else ends_part (true && b) (true && d) cs) ≡
@@ -47,6 +51,7 @@ same_ends (c ∷ cs) = let r = same_ends cs in
       from_plain false true false f p t q = q
       from_plain false false true f p t q = t
       from_plain false false false f p t q = p
+
       from_dollar : (a e d b : Bool) → (d ≡ true → b ≡ false) → (e ≡ true → a ≡ false) → (e ≡ true → d ≡ false) → (e ≡ true → b ≡ false) →
           ends_part false false cs ≡ closes_template false cs → ends_part true false cs ≡ closes_template true cs → ends_part false true cs ≡ after_dollar cs →
           (if true && (a || (true && e)) then is_empty cs else ends_part (true && b) (true && d) cs) ≡
@@ -107,9 +112,11 @@ part_lacks text at stop taken dollar h e = λ w rest q k.
       tail : Bool → List ℕ
       tail true = 0x61 ∷ 0x60 ∷ []
       tail false = 0x60 ∷ []
+
       can : (t d : Bool) → IsTrue (ends_part t d (tail t))
       can true d = refl
       can false d = refl
+
       none : (m r : List ℕ) → [] ≡ m ++ r → IsTrue (ends_part taken dollar m) → ⊥
       none [] r d g = true_false _ g refl
       none (c ∷ m) r d g = cc
@@ -126,40 +133,44 @@ part_word text at start stop c p o r =
     } where
       all : (a b n : Bool) → a ≡ true → b ≡ true → IsTrue n → IsTrue ((((a && b) && true) && n) && true)
       all a b n h k l = grind (arith, nat_tests)
+
       no : (a b : Bool) → b ≡ false → IsFalse ((a && b) && true)
       no a b h = grind (arith, nat_tests)
+
       never : (b : Bool) (d : ℕ) (more : List ℕ) → ends_part false false (r.word ++ d ∷ more) ≡ b → b ≡ false
       never true d more e = let z : d ∷ more ≡ [] = part_once false false r.word (d ∷ more) r.ends e in cc
       never false d more e = refl
+
       none : (d : ℕ) (more : List ℕ) → IsFalse ((one_of "`}" c && closes_template false (r.word ++ d ∷ more)) && true)
       none d more = no (one_of "`}" c) (closes_template false (r.word ++ d ∷ more)) (sym (ends_same (r.word ++ d ∷ more)) ∙ never (ends_part false false (r.word ++ d ∷ more)) d more refl)
 
 template_first : (c : ℕ) (w r : List ℕ) → IsTrue (is_token Template (c ∷ w) r) → (one_of "`}" c ≡ true) × IsTrue (closes_template false w)
 template_first c w r h = (first (one_of "`}" c) (closes_template false w) (none_longer Template (c ∷ w) r) h, second (one_of "`}" c) (closes_template false w) (none_longer Template (c ∷ w) r) h) where
-    first : (a b n : Bool) → IsTrue ((((a && b) && true) && n) && true) → a ≡ true
-    first a b n h = grind (arith, nat_tests)
-    second : (a b n : Bool) → IsTrue ((((a && b) && true) && n) && true) → IsTrue b
-    second a b n h = grind (arith, nat_tests)
+  first : (a b n : Bool) → IsTrue ((((a && b) && true) && n) && true) → a ≡ true
+  first a b n h = grind (arith, nat_tests)
+
+  second : (a b n : Bool) → IsTrue ((((a && b) && true) && n) && true) → IsTrue b
+  second a b n h = grind (arith, nat_tests)
 
 no_empty : (r : List ℕ) → IsTrue (is_token Template [] r) → ⊥
 no_empty r h = nothing (none_longer Template [] r) h where
-    nothing : (n : Bool) → IsTrue ((false && n) && true) → ⊥
-    nothing n h = grind (arith, nat_tests)
+  nothing : (n : Bool) → IsTrue ((false && n) && true) → ⊥
+  nothing n h = grind (arith, nat_tests)
 
 pub no_part : (text : List ℕ) (at start c : ℕ) → Passed text at start (c ∷ []) → NoPartRest text start → NoWordAt Template text at
 no_part text at start c p none = λ w r e h. here w r (sym p.split ∙ e) h where
-    here : (w r : List ℕ) → c ∷ behind text start ≡ w ++ r → IsTrue (is_token Template w r) → ⊥
-    here [] r e h = no_empty r h
-    here (d ∷ w) r e h = let z : behind text start ≡ w ++ r = cc in none w r z (ends_same w ∙ (template_first d w r h).1)
+  here : (w r : List ℕ) → c ∷ behind text start ≡ w ++ r → IsTrue (is_token Template w r) → ⊥
+  here [] r e h = no_empty r h
+  here (d ∷ w) r e h = let z : behind text start ≡ w ++ r = cc in none w r z (ends_same w ∙ (template_first d w r h).1)
 
 pub no_part_other : (text : List ℕ) (at start c : ℕ) → Passed text at start (c ∷ []) → one_of "`}" c ≡ false → NoWordAt Template text at
 no_part_other text at start c p t = λ w r e h. here w r (sym p.split ∙ e) h where
-    here : (w r : List ℕ) → c ∷ behind text start ≡ w ++ r → IsTrue (is_token Template w r) → ⊥
-    here [] r e h = no_empty r h
-    here (d ∷ w) r e h = let q : d ≡ c = cc in true_false _ ((template_first d w r h).0) (ap (one_of "`}") q ∙ t)
+  here : (w r : List ℕ) → c ∷ behind text start ≡ w ++ r → IsTrue (is_token Template w r) → ⊥
+  here [] r e h = no_empty r h
+  here (d ∷ w) r e h = let q : d ≡ c = cc in true_false _ ((template_first d w r h).0) (ap (one_of "`}") q ∙ t)
 
 pub no_part_end : (text : List ℕ) (at : ℕ) → behind text at ≡ [] → NoWordAt Template text at
 no_part_end text at q = λ w r e h. here w r (sym q ∙ e) h where
-    here : (w r : List ℕ) → [] ≡ w ++ r → IsTrue (is_token Template w r) → ⊥
-    here [] r e h = no_empty r h
-    here (d ∷ w) r e h = cc
+  here : (w r : List ℕ) → [] ≡ w ++ r → IsTrue (is_token Template w r) → ⊥
+  here [] r e h = no_empty r h
+  here (d ∷ w) r e h = cc

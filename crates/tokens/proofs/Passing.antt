@@ -73,7 +73,6 @@ passed_slice text at stop word u p h =
     let n : size word ≡ stop - at = omega arith in
     sym (take_at (encode_utf8_all word) (encode_utf8_all (behind text stop)) (stop - at) n) ∙ ap (λ x. take (stop - at) x) (sym whole)
 
-
 -- what follows for the value of an option, and for none
 pub some_gives : {A : Type 0} (P Q : A → Type 0) (o : Option A) → ((x : A) → P x → Q x) → IfSome o P → IfSome o Q
 some_gives P Q (Some x) f h = f x h

@@ -104,13 +104,13 @@ begins_front (c ∷ cs) = refl
 
 head_not_zero : (a : ℕ) (w : List ℕ) → IsTrue (no_zero (a ∷ w)) → a ≡ 0 → ⊥
 head_not_zero a w h e = no (a == 0) (list_all (λ x. not (x == 0)) w) h (subst (λ x. (x == 0) ≡ true) (sym e) refl) where
-    no : (a b : Bool) → IsTrue (not a && b) → a ≡ true → ⊥
-    no a b h e = grind (arith, nat_tests)
+  no : (a b : Bool) → IsTrue (not a && b) → a ≡ true → ⊥
+  no a b h e = grind (arith, nat_tests)
 
 rest_no_zero : (a : ℕ) (w : List ℕ) → IsTrue (no_zero (a ∷ w)) → IsTrue (no_zero w)
 rest_no_zero a w h = second (not (a == 0)) (list_all (λ x. not (x == 0)) w) h where
-    second : (a b : Bool) → IsTrue (a && b) → IsTrue b
-    second a b h = grind (arith, nat_tests)
+  second : (a b : Bool) → IsTrue (a && b) → IsTrue b
+  second a b h = grind (arith, nat_tests)
 
 -- characters that are no 0 are there
 there : (cs : List ℕ) → (front cs ≡ 0 → ⊥) → cs ≡ front cs ∷ tail cs
@@ -125,17 +125,18 @@ short w h = leb-true (length w) 4 (words_all punctuators (λ x. nat_le (length x
 
 at_word : (w r : List ℕ) → IsTrue (is_at Punctuator w r) → Sized (length w) (w ++ r)
 at_word w r h = record { long = ap length (cut w r); stands = subst (λ x. IsTrue (is_at Punctuator x (drop (length w) (w ++ r)))) (sym (cut w r)) (subst (λ x. IsTrue (is_at Punctuator w x)) (sym (behind_cut w r)) h) } where
-    cut : (w r : List ℕ) → take (length w) (w ++ r) ≡ w
-    cut [] r = refl
-    cut (c ∷ w) r = ap (λ x. c ∷ x) (cut w r)
-    behind_cut : (w r : List ℕ) → drop (length w) (w ++ r) ≡ r
-    behind_cut [] r = refl
-    behind_cut (c ∷ w) r = behind_cut w r
+  cut : (w r : List ℕ) → take (length w) (w ++ r) ≡ w
+  cut [] r = refl
+  cut (c ∷ w) r = ap (λ x. c ∷ x) (cut w r)
+
+  behind_cut : (w r : List ℕ) → drop (length w) (w ++ r) ≡ r
+  behind_cut [] r = refl
+  behind_cut (c ∷ w) r = behind_cut w r
 
 is_of_at : (w r : List ℕ) → IsTrue (is_at Punctuator w r) → IsTrue (is_punctuator w)
 is_of_at w r h = first (is_punctuator w) (may_stand Punctuator w r) h where
-    first : (a b : Bool) → IsTrue (a && b) → IsTrue a
-    first a b h = grind (arith, nat_tests)
+  first : (a b : Bool) → IsTrue (a && b) → IsTrue a
+  first a b h = grind (arith, nat_tests)
 
 false_from_none : (b : Bool) → (IsTrue b → ⊥) → IsFalse b
 false_from_none true f = absurd (f refl)
@@ -157,8 +158,8 @@ longest_mark w r h none =
 
 pub token_sized : (w r : List ℕ) → IsTrue (is_token Punctuator w r) → Sized (length w) (w ++ r)
 token_sized w r h = at_word w r (first (is_at Punctuator w r) (none_longer Punctuator w r) h) where
-    first : (a b : Bool) → IsTrue ((a && b) && true) → IsTrue a
-    first a b h = grind (arith, nat_tests)
+  first : (a b : Bool) → IsTrue ((a && b) && true) → IsTrue a
+  first a b h = grind (arith, nat_tests)
 
 -- ---- the next characters of a text
 
@@ -187,13 +188,13 @@ sized_tests n cs s = subst (λ x. IsTrue (is_at Punctuator x (drop n cs))) (sym 
 -- what is asked of each length
 four_at : (b c d e : ℕ) (r : List ℕ) → is_at Punctuator (b ∷ c ∷ d ∷ e ∷ []) r ≡ is_quadruple b c d e
 four_at b c d e r = alone (b == 63) (c == 46) (b == 46) (is_punctuator (b ∷ c ∷ d ∷ e ∷ [])) (begins_with is_decimal_digit r) ∙ quadruple_is b c d e where
-    alone : (p q o a x : Bool) → (a && not (((p && (q && false)) || ((o && false) || false)) && x)) ≡ a
-    alone p q o a x = grind (arith, nat_tests)
+  alone : (p q o a x : Bool) → (a && not (((p && (q && false)) || ((o && false) || false)) && x)) ≡ a
+  alone p q o a x = grind (arith, nat_tests)
 
 three_at : (b c d : ℕ) (r : List ℕ) → is_at Punctuator (b ∷ c ∷ d ∷ []) r ≡ is_triple b c d
 three_at b c d r = alone (b == 63) (c == 46) (b == 46) (is_punctuator (b ∷ c ∷ d ∷ [])) (begins_with is_decimal_digit r) ∙ triple_is b c d where
-    alone : (p q o a x : Bool) → (a && not (((p && (q && false)) || ((o && false) || false)) && x)) ≡ a
-    alone p q o a x = grind (arith, nat_tests)
+  alone : (p q o a x : Bool) → (a && not (((p && (q && false)) || ((o && false) || false)) && x)) ≡ a
+  alone p q o a x = grind (arith, nat_tests)
 
 two_at : (b c : ℕ) (r : List ℕ) → is_at Punctuator (b ∷ c ∷ []) r ≡ (is_pair b c && not (((b == 63) && (c == 46)) && is_decimal_digit (front r)))
 two_at b c r =
@@ -354,8 +355,8 @@ found_one text at b c d e p q r s f u v w t =
 
 token_at : (w r : List ℕ) → IsTrue (is_token Punctuator w r) → IsTrue (is_at Punctuator w r)
 token_at w r h = first (is_at Punctuator w r) (none_longer Punctuator w r) h where
-    first : (a b : Bool) → IsTrue ((a && b) && true) → IsTrue a
-    first a b h = grind (arith, nat_tests)
+  first : (a b : Bool) → IsTrue ((a && b) && true) → IsTrue a
+  first a b h = grind (arith, nat_tests)
 
 not_empty : (w : List ℕ) → IsTrue (is_punctuator w) → 0 < length w
 not_empty [] h = absurd (true_false _ h refl)

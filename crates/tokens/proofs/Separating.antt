@@ -16,16 +16,16 @@ use Rattle.tokens.proofs.Beginnings.{true_false}
 pub any_append : (test : ℕ → Bool) (v w : List ℕ) → list_any test (v ++ w) ≡ (list_any test v || list_any test w)
 any_append test [] w = refl
 any_append test (c ∷ v) w = ap (λ x. test c || x) (any_append test v w) ∙ or_assoc (test c) (list_any test v) (list_any test w) where
-    or_assoc : (a b c : Bool) → (a || (b || c)) ≡ ((a || b) || c)
-    or_assoc true b c = refl
-    or_assoc false b c = refl
+  or_assoc : (a b c : Bool) → (a || (b || c)) ≡ ((a || b) || c)
+  or_assoc true b c = refl
+  or_assoc false b c = refl
 
 pub all_append : (test : ℕ → Bool) (v w : List ℕ) → IsTrue (list_all test v) → IsTrue (list_all test w) → IsTrue (list_all test (v ++ w))
 all_append test [] w h k = k
 all_append test (c ∷ v) w h k = both (test c) (list_all test v) (list_all test (v ++ w)) h (λ t. all_append test v w t k) where
-    both : (a b c : Bool) → IsTrue (a && b) → (IsTrue b → IsTrue c) → IsTrue (a && c)
-    both true b c h f = f h
-    both false b c h f = h
+  both : (a b c : Bool) → IsTrue (a && b) → (IsTrue b → IsTrue c) → IsTrue (a && c)
+  both true b c h f = f h
+  both false b c h f = h
 
 pub all_begins : (test : ℕ → Bool) (text : List ℕ) (at : ℕ) → IsPlace text at → AllPass test text at at
 all_begins test text at p = record { word = []; passed = passed_none text at p; all = refl }
@@ -60,10 +60,10 @@ pub fronts : (v w a b : List ℕ) → v ++ a ≡ w ++ b → ((m : List ℕ) × (
 fronts [] w a b e = inl (w, refl, e)
 fronts (c ∷ v) [] a b e = inr (c ∷ v, refl, sym e)
 fronts (c ∷ v) (d ∷ w) a b e = grow (let q : c ≡ d = cc in q) (fronts v w a b cc) where
-    grow : c ≡ d → ((m : List ℕ) × (w ≡ v ++ m) × (a ≡ m ++ b)) ⊎ ((m : List ℕ) × (v ≡ w ++ m) × (b ≡ m ++ a)) →
-        ((m : List ℕ) × (d ∷ w ≡ (c ∷ v) ++ m) × (a ≡ m ++ b)) ⊎ ((m : List ℕ) × (c ∷ v ≡ (d ∷ w) ++ m) × (b ≡ m ++ a))
-    grow r (inl h) = inl (h.0, (let q = h.1 in cc), h.2)
-    grow r (inr h) = inr (h.0, (let q = h.1 in cc), h.2)
+  grow : c ≡ d → ((m : List ℕ) × (w ≡ v ++ m) × (a ≡ m ++ b)) ⊎ ((m : List ℕ) × (v ≡ w ++ m) × (b ≡ m ++ a)) →
+      ((m : List ℕ) × (d ∷ w ≡ (c ∷ v) ++ m) × (a ≡ m ++ b)) ⊎ ((m : List ℕ) × (c ∷ v ≡ (d ∷ w) ++ m) × (b ≡ m ++ a))
+  grow r (inl h) = inl (h.0, (let q = h.1 in cc), h.2)
+  grow r (inr h) = inr (h.0, (let q = h.1 in cc), h.2)
 
 -- What closes has no front that closes. So where a text goes on by a state that can still close, and nothing closes from that state on
 -- within what stands behind, no front of the whole closes.
@@ -92,21 +92,21 @@ right_nil w m e k = let q : w ++ m ≡ [] ++ m = ap (λ x. x ++ m) e in sym q �
 pub closed_once : (s : Bool) (w m : List ℕ) → IsTrue (closes_from s w) → IsTrue (closes_from s (w ++ m)) → m ≡ []
 closed_once s [] m h k = absurd (true_false _ h refl)
 closed_once s (c ∷ w) m h k = by_test (s && one_of "/" c) (closes_from (one_of "*" c) w) (closes_from (one_of "*" c) (w ++ m)) h k (λ a b. closed_once (one_of "*" c) w m a b) where
-    by_test : (t a b : Bool) → IsTrue (if t then is_empty w else a) → IsTrue (if t then is_empty (w ++ m) else b) → (IsTrue a → IsTrue b → m ≡ []) → m ≡ []
-    by_test true a b h k f = right_nil w m (nil_only w h) (nil_only (w ++ m) k)
-    by_test false a b h k f = f h k
+  by_test : (t a b : Bool) → IsTrue (if t then is_empty w else a) → IsTrue (if t then is_empty (w ++ m) else b) → (IsTrue a → IsTrue b → m ≡ []) → m ≡ []
+  by_test true a b h k f = right_nil w m (nil_only w h) (nil_only (w ++ m) k)
+  by_test false a b h k f = f h k
 
 -- the end of a comment, as `Comments` says it
 pub closes_same : (c : ℕ) (cs : List ℕ) → closes_comment (c ∷ cs) ≡ closes_from (one_of "*" c) cs
 closes_same c [] = refl
 closes_same c (d ∷ []) = two (one_of "*" c && one_of "/" d) where
-    two : (a : Bool) → a ≡ (if a then true else false)
-    two true = refl
-    two false = refl
+  two : (a : Bool) → a ≡ (if a then true else false)
+  two true = refl
+  two false = refl
 closes_same c (d ∷ e ∷ cs) = ap (λ x. not (one_of "*" c && one_of "/" d) && x) (closes_same d (e ∷ cs)) ∙ more (one_of "*" c && one_of "/" d) (closes_from (one_of "*" d) (e ∷ cs)) where
-    more : (a b : Bool) → (not a && b) ≡ (if a then false else b)
-    more true b = refl
-    more false b = refl
+  more : (a b : Bool) → (not a && b) ≡ (if a then false else b)
+  more true b = refl
+  more false b = refl
 
 -- ---- the turns of the loop over a comment's rest
 
@@ -115,9 +115,9 @@ block_begins text at p = record { word = []; passed = passed_none text at p; unc
 
 one_more : (broken : Bool) (test : ℕ → Bool) (word : List ℕ) (c : ℕ) → broken ≡ list_any test word → (broken || test c) ≡ list_any test (word ++ c ∷ [])
 one_more broken test word c e = ap (λ x. x || test c) e ∙ ap (λ x. list_any test word || x) (or_false (test c)) ∙ sym (any_append test word (c ∷ [])) where
-    or_false : (a : Bool) → a ≡ (a || false)
-    or_false true = refl
-    or_false false = refl
+  or_false : (a : Bool) → a ≡ (a || false)
+  or_false true = refl
+  or_false false = refl
 
 -- over a character that doesn't close it
 pub block_goes_on : (text : List ℕ) (at stop more c : ℕ) (broken starred : Bool) → InBlock text at stop broken starred → Passed text stop more (c ∷ []) →
@@ -150,9 +150,11 @@ block_ends text at stop broken starred h e = λ w rest q k.
     (λ m r d g. none m r d g) w rest (sym (h.passed.split ∙ ap (λ x. h.word ++ x) e) ∙ q) k where
       codes_end : Bool → List ℕ
       codes_end b = 0x2A ∷ 0x2F ∷ []
+
       can : (b : Bool) → IsTrue (closes_from b (0x2A ∷ 0x2F ∷ []))
       can true = refl
       can false = refl
+
       none : (m r : List ℕ) → [] ≡ m ++ r → IsTrue (closes_from starred m) → ⊥
       none [] r d g = true_false _ g refl
       none (c ∷ m) r d g = cc
@@ -162,16 +164,16 @@ block_ends text at stop broken starred h e = λ w rest q k.
 empty_or_begins : (cs : List ℕ) → IsFalse (begins_with (λ c. not (is_line_terminator c)) cs) → IsTrue (is_empty cs || begins_with is_line_terminator cs)
 empty_or_begins [] h = refl
 empty_or_begins (c ∷ cs) h = twice (is_line_terminator c) h where
-    twice : (a : Bool) → IsFalse (not a) → IsTrue a
-    twice true h = refl
-    twice false h = sym h
+  twice : (a : Bool) → IsFalse (not a) → IsTrue a
+  twice true h = refl
+  twice false h = sym h
 
 none_any : (test : ℕ → Bool) (w : List ℕ) → IsTrue (list_all (λ c. not (test c)) w) → list_any test w ≡ false
 none_any test [] h = refl
 none_any test (c ∷ w) h = step (test c) (list_all (λ d. not (test d)) w) (list_any test w) h (none_any test w) where
-    step : (a b d : Bool) → IsTrue (not a && b) → (IsTrue b → d ≡ false) → (a || d) ≡ false
-    step true b d h f = absurd (true_false _ h refl)
-    step false b d h f = f h
+  step : (a b d : Bool) → IsTrue (not a && b) → (IsTrue b → d ≡ false) → (a || d) ≡ false
+  step true b d h f = absurd (true_false _ h refl)
+  step false b d h f = f h
 
 -- a comment up to the end of the line
 pub line_rest : (text : List ℕ) (at start stop : ℕ) → Passed text at start (0x2F ∷ []) → IsRun (λ c. not (is_line_terminator c)) text start stop →
@@ -206,40 +208,41 @@ block_rest_comment text at start stop broken p r =
 -- none where no `*/` follows
 pub no_block_comment : (text : List ℕ) (at start : ℕ) → Passed text at start (0x2A ∷ []) → NoBlockRest text start → NoCommentRest text at
 no_block_comment text at start p none = λ w rest e h. at_star w rest (sym p.split ∙ e) h where
-    at_star : (w rest : List ℕ) → 0x2A ∷ behind text start ≡ w ++ rest → IsTrue (is_comment (0x2F ∷ w) rest) → ⊥
-    at_star [] rest e h = true_false _ h refl
-    at_star (c ∷ []) rest e h = let q : c ≡ 0x2A = cc in true_false _ (subst (λ x. IsTrue (is_comment (0x2F ∷ x ∷ []) rest)) q h) refl
-    at_star (c ∷ d ∷ w) rest e h =
-        let q : c ≡ 0x2A = cc in
-        let r : behind text start ≡ (d ∷ w) ++ rest = cc in
-        none (d ∷ w) rest r (subst IsTrue (closes_same d w) (subst (λ x. IsTrue (is_comment (0x2F ∷ x ∷ d ∷ w) rest)) q h))
+  at_star : (w rest : List ℕ) → 0x2A ∷ behind text start ≡ w ++ rest → IsTrue (is_comment (0x2F ∷ w) rest) → ⊥
+  at_star [] rest e h = true_false _ h refl
+  at_star (c ∷ []) rest e h = let q : c ≡ 0x2A = cc in true_false _ (subst (λ x. IsTrue (is_comment (0x2F ∷ x ∷ []) rest)) q h) refl
+  at_star (c ∷ d ∷ w) rest e h =
+      let q : c ≡ 0x2A = cc in
+      let r : behind text start ≡ (d ∷ w) ++ rest = cc in
+      none (d ∷ w) rest r (subst IsTrue (closes_same d w) (subst (λ x. IsTrue (is_comment (0x2F ∷ x ∷ d ∷ w) rest)) q h))
 
 -- none where another character follows, or none
 pub no_comment_at : (text : List ℕ) (at start c : ℕ) → Passed text at start (c ∷ []) → one_of "/*" c ≡ false → NoCommentRest text at
 no_comment_at text at start c p t = λ w rest e h. other w rest (sym p.split ∙ e) h where
-    tests : (c : ℕ) (a b d : Bool) → one_of "/*" c ≡ false → IsTrue ((one_of "/" c && a && b) || (one_of "*" c && d)) → ⊥
-    tests c a b d e h = grind (arith, nat_tests)
-    other : (w rest : List ℕ) → c ∷ behind text start ≡ w ++ rest → IsTrue (is_comment (0x2F ∷ w) rest) → ⊥
-    other [] rest e h = true_false _ h refl
-    other (d ∷ w) rest e h = let q : d ≡ c = cc in tests d _ _ _ (ap (one_of "/*") q ∙ t) h
+  tests : (c : ℕ) (a b d : Bool) → one_of "/*" c ≡ false → IsTrue ((one_of "/" c && a && b) || (one_of "*" c && d)) → ⊥
+  tests c a b d e h = grind (arith, nat_tests)
+
+  other : (w rest : List ℕ) → c ∷ behind text start ≡ w ++ rest → IsTrue (is_comment (0x2F ∷ w) rest) → ⊥
+  other [] rest e h = true_false _ h refl
+  other (d ∷ w) rest e h = let q : d ≡ c = cc in tests d _ _ _ (ap (one_of "/*") q ∙ t) h
 
 pub no_comment_end : (text : List ℕ) (at : ℕ) → behind text at ≡ [] → NoCommentRest text at
 no_comment_end text at q = λ w rest e h. other w rest (sym q ∙ e) h where
-    other : (w rest : List ℕ) → [] ≡ w ++ rest → IsTrue (is_comment (0x2F ∷ w) rest) → ⊥
-    other [] rest e h = true_false _ h refl
-    other (d ∷ w) rest e h = cc
+  other : (w rest : List ℕ) → [] ≡ w ++ rest → IsTrue (is_comment (0x2F ∷ w) rest) → ⊥
+  other [] rest e h = true_false _ h refl
+  other (d ∷ w) rest e h = cc
 
 -- ---- separators
 
 -- separators with more behind them
 pub separators_on : (gap more rest : List ℕ) → Separators gap (more ++ rest) → Separators more rest → Separators (gap ++ more) rest
 separators_on gap more rest s t = on gap (more ++ rest) s refl where
-    on : (gap tail : List ℕ) → Separators gap tail → tail ≡ more ++ rest → Separators (gap ++ more) rest
-    on gap tail nothing e = t
-    on gap tail (blank {c = c} {gap = g} h s) e = blank h (on g tail s e)
-    on gap tail (comment {gap = g} body behind q h s) e =
-        comment body (behind ++ more) (ap (λ x. x ++ more) q ∙ append_assoc body behind more)
-        (subst (λ x. IsTrue (is_comment body x)) (ap (λ x. behind ++ x) e ∙ sym (append_assoc behind more rest)) h) (on behind tail s e)
+  on : (gap tail : List ℕ) → Separators gap tail → tail ≡ more ++ rest → Separators (gap ++ more) rest
+  on gap tail nothing e = t
+  on gap tail (blank {c = c} {gap = g} h s) e = blank h (on g tail s e)
+  on gap tail (comment {gap = g} body behind q h s) e =
+      comment body (behind ++ more) (ap (λ x. x ++ more) q ∙ append_assoc body behind more)
+      (subst (λ x. IsTrue (is_comment body x)) (ap (λ x. behind ++ x) e ∙ sym (append_assoc behind more rest)) h) (on behind tail s e)
 
 pub gap_begins : (text : List ℕ) (at : ℕ) → IsPlace text at → IsGap text at at false
 gap_begins text at p = record { gap = []; passed = passed_none text at p; separated = nothing; breaks = refl }
@@ -258,9 +261,9 @@ is_blank c = is_white_space c || is_line_terminator c
 
 pub blank_separator : (text : List ℕ) (at stop c : ℕ) → Passed text at stop (c ∷ []) → IsTrue (is_blank c) → IsSeparator text at stop (is_line_terminator c)
 blank_separator text at stop c p h = record { word = c ∷ []; passed = p; separated = blank h nothing; breaks = or_false (is_line_terminator c) } where
-    or_false : (a : Bool) → a ≡ (a || false)
-    or_false true = refl
-    or_false false = refl
+  or_false : (a : Bool) → a ≡ (a || false)
+  or_false true = refl
+  or_false false = refl
 
 pub comment_separator : (text : List ℕ) (at start stop : ℕ) (broken : Bool) → Passed text at start (0x2F ∷ []) → IsCommentRest text start stop broken →
     IsSeparator text at stop broken
@@ -276,8 +279,8 @@ comment_separator text at start stop broken p r =
 pub begins_slash : (word rest : List ℕ) → IsTrue (is_comment word rest) → (w : List ℕ) × (word ≡ 0x2F ∷ w)
 begins_slash [] rest h = absurd (true_false _ h refl)
 begins_slash (c ∷ []) rest h = absurd (tests (one_of "/" c) (is_empty rest || begins_with is_line_terminator rest) h) where
-    tests : (a b : Bool) → IsTrue ((((a && false) && true) && b) || false) → ⊥
-    tests a b h = grind (arith, nat_tests)
+  tests : (a b : Bool) → IsTrue ((((a && false) && true) && b) || false) → ⊥
+  tests a b h = grind (arith, nat_tests)
 begins_slash (c ∷ d ∷ w) rest h =
     (d ∷ w, let q : c ≡ 0x2F = tests c (one_of "/" d) (not (list_any is_line_terminator (d ∷ w))) (is_empty rest || begins_with is_line_terminator rest) (one_of "*" d) (closes_comment w) h in cc) where
       tests : (c : ℕ) (a b e f g : Bool) → IsTrue ((((one_of "/" c && a) && b) && e) || ((one_of "/" c && f) && g)) → c ≡ 0x2F
@@ -285,9 +288,9 @@ begins_slash (c ∷ d ∷ w) rest h =
 
 pub solid_end : (text : List ℕ) (at : ℕ) → behind text at ≡ [] → IsSolid (behind text at)
 solid_end text at e = subst IsSolid (sym e) (record { no_blank = refl; no_comment = λ w r q h. no w r q h }) where
-    no : (w r : List ℕ) → [] ≡ w ++ r → IsTrue (is_comment w r) → ⊥
-    no [] r q h = true_false _ h refl
-    no (c ∷ w) r q h = cc
+  no : (w r : List ℕ) → [] ≡ w ++ r → IsTrue (is_comment w r) → ⊥
+  no [] r q h = true_false _ h refl
+  no (c ∷ w) r q h = cc
 
 pub solid_slash : (text : List ℕ) (at start : ℕ) → Passed text at start (0x2F ∷ []) → NoCommentRest text start → IsSolid (behind text at)
 solid_slash text at start p none =

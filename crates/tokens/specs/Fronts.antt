@@ -8,11 +8,15 @@ use Rattle.tokens.specs.Goals.{Goal, reads_regexps, reads_template_parts}
 abbrev pub is_mark : ℕ → Bool
 is_mark c = one_of "{()[];,<>=!+-*%&|^~?:" c
 
-abbrev pub class_of : Goal → List ℕ → LexicalClass
-class_of goal [] = End
-class_of goal (c ∷ cs) =
+-- the class by the first character, where a flag says whether a digit stands behind a point
+abbrev pub class_by : Goal → ℕ → Bool → LexicalClass
+class_by goal c digit =
     if is_decimal_digit c then Number else if one_of "'\"" c then Text else if one_of "`" c then Template
     else if one_of "}" c then (if reads_template_parts goal then Template else Punctuator)
     else if one_of "/" c then (if reads_regexps goal then LexicalClass.RegExp else Punctuator)
-    else if one_of "." c then (if begins_with is_decimal_digit cs then Number else Punctuator)
+    else if one_of "." c then (if digit then Number else Punctuator)
     else if is_mark c then Punctuator else Name
+
+abbrev pub class_of : Goal → List ℕ → LexicalClass
+class_of goal [] = End
+class_of goal (c ∷ cs) = class_by goal c (begins_with is_decimal_digit cs)

@@ -14,4 +14,5 @@ pub mod Fronts
 pub mod States
 pub mod Marks
 pub mod Scanned
+pub mod Escaped
 pub mod Laws

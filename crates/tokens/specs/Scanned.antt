@@ -1,14 +1,12 @@
 -- What the program's own calls say of a text: what is passed from one place to another, as characters.
-use Rattle.std.specs.Prelude.{◌≡◌, ℕ, ◌+◌, Bool, false, ◌||◌, List, [], ◌∷◌, ◌++◌, length, take, Option, Some, None, IsTrue, IsFalse}
+use Rattle.std.specs.Prelude.{◌≡◌, ℕ, ◌+◌, Bool, false, ◌||◌, List, [], ◌∷◌, ◌++◌, take, IsTrue, IsFalse}
 use Rattle.std.specs.List.{list_all, list_any}
 use Rattle.std.specs.Str.{IsUtf8}
 use Rattle.source_text.specs.Source.{IsPlace}
 use Rattle.source_text.specs.Lines.{is_line_terminator}
 use Rattle.tokens.specs.declared.token.Token.{Token}
-use Rattle.tokens.specs.Alphabet.{begins_with, is_white_space, is_hex_digit}
+use Rattle.tokens.specs.Alphabet.{begins_with, is_white_space}
 use Rattle.tokens.specs.Comments.{is_comment, Separators}
-use Rattle.tokens.specs.Escapes.{Piece, escape, hex_value}
-use Rattle.std.specs.Char.Escape.{encode_utf16}
 use Rattle.tokens.specs.Marks.{front, tail}
 use Rattle.tokens.specs.Closing.{closes_from, ends_part}
 use Rattle.tokens.specs.Lexical.{LexicalClass, is_token}
@@ -110,21 +108,3 @@ pub record Looks (text : List ℕ) (at c stop : ℕ) : Type 0 where
   pub others : behind text stop ≡ tail (behind text at)
   pub reaches : stop ≡ at + size (take 1 (behind text at))
   pub place : IsPlace text stop
-
--- the units that an escape's value is: none behind a line continuation
-abbrev pub value_units : Option ℕ → List ℕ
-value_units (Some c) = encode_utf16 c
-value_units None = []
-
--- an escape behind its backslash
-pub record IsEscape (text : List ℕ) (at stop : ℕ) (value : Option ℕ) : Type 0 where
-  pub word : List ℕ
-  pub passed : Passed text at stop word
-  pub escaped : escape (behind text at) ≡ Some (record { more = length word; units = value_units value })
-
--- hexadecimal digits, and what they write
-pub record AreDigits (text : List ℕ) (at stop number : ℕ) : Type 0 where
-  pub word : List ℕ
-  pub passed : Passed text at stop word
-  pub digits : IsTrue (list_all is_hex_digit word)
-  pub value : number ≡ hex_value 0 word

@@ -16,7 +16,7 @@ mod template;
 mod token;
 mod value;
 
-pub use laws::at_most_one_token;
+pub use laws::{at_most_one_token, readings_take_tokens};
 pub use scanner::{ScanFault, scan};
 pub use token::{Class, Goal, Token};
 pub use value::{string_units, template_value};

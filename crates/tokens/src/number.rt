@@ -126,7 +126,11 @@ fn next_state(state: State, c: char) -> State
 fn digit_or_dead(c: char, state: State) -> State
     ensures { numeral_of result ≡ (if is_decimal_digit c then numeral_of state else no_numeral) }
 {
-    if c.is_ascii_digit() { state } else { State::Dead }
+    if c.is_ascii_digit() {
+        state
+    } else {
+        State::Dead
+    }
 }
 
 // Behind a prefix and perhaps digits.
@@ -203,7 +207,11 @@ pub fn number_end(text: &str, at: usize) -> Option<usize>
     while let Some(step) = step_at(text, end) {
         let next = next_state(state, step.c);
         if is_dead(next) {
-            return if is_complete(state) & !is_bad_end(step.c) { Some(end) } else { None };
+            return if is_complete(state) & !is_bad_end(step.c) {
+                Some(end)
+            } else {
+                None
+            };
         }
         state = next;
         end = step.end;

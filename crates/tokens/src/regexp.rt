@@ -82,7 +82,11 @@ fn next_part(part: Part, c: char) -> Part
 fn taken(c: char, part: Part) -> Part
     ensures { expression_of result ≡ (if is_line_terminator c then no_expression else expression_of part) }
 {
-    if is_line_terminator(c) { Part::NoPart } else { part }
+    if is_line_terminator(c) {
+        Part::NoPart
+    } else {
+        part
+    }
 }
 
 // The place behind the regular expression at a place, if there is one.

@@ -1,10 +1,13 @@
 //! The next token of a text.
 
-ghost use Rattle.std.specs.Prelude.{◌≡◌, ◌≢◌, ◌+◌, ◌≤◌, ◌<◌, ◌++◌, ℕ, List, slice_range, IfOk, IfErr, OnErr};
+ghost use Rattle.std.specs.Prelude.{◌≡◌, ◌≢◌, ◌≤◌, ◌<◌, ◌++◌, ℕ, List, [], slice_range, IfOk, IfErr, IfNone, IfSome, OnErr};
 ghost use Rattle.source_text.specs.Source.{IsPlace};
 ghost use Rattle.tokens.specs.Tokens.{LexicalToken, IsTokenAt};
 ghost use Rattle.tokens.specs.Reading.{behind, Reads};
-ghost use Rattle.tokens.specs.Scanned.{IsGap, token_of};
+ghost use Rattle.tokens.specs.Alphabet.{begins_with, is_decimal_digit};
+ghost use Rattle.tokens.specs.Fronts.{class_by, class_of, is_mark};
+ghost use Rattle.tokens.specs.Goals.{reads_regexps, reads_template_parts};
+ghost use Rattle.tokens.specs.Scanned.{IsWordAt, NoWordAt, token_of};
 
 use crate::name::name_end;
 use crate::number::number_end;
@@ -23,36 +26,135 @@ pub struct ScanFault {
     pub at: usize,
 }
 
-// The class of the tokens that begin at a place.
+// Whether the goal reads a regular expression at `/`, and a part of a template at `}`.
 #[inline]
-fn class_at(text: &str, at: usize, goal: Goal) -> Class {
-    let Some(first) = step_at(text, at) else {
-        return Class::End;
-    };
-    match first.c {
-        '0'..='9' => Class::Number,
-        '"' | '\'' => Class::Text,
-        '`' => Class::Template,
-        '}' if goal == Goal::TemplateTail => Class::Template,
-        '/' if goal == Goal::RegExp => Class::RegExp,
-        '.' => match step_at(text, first.end) {
-            Some(second) if second.c.is_ascii_digit() => Class::Number,
-            _ => Class::Punctuator,
-        },
-        c if is_mark(c) => Class::Punctuator,
-        _ => Class::Name,
+fn reads_regexps(goal: Goal) -> bool
+    ensures { result ≡ reads_regexps goal }
+{
+    match goal {
+        Goal::Div => false,
+        Goal::RegExp => true,
+        Goal::TemplateTail => false,
     }
 }
 
-// Whether a punctuator begins with the character.
 #[inline]
-fn is_mark(c: char) -> bool {
-    matches!(c, '{' | '}' | '(' | ')' | '[' | ']' | ';' | ',' | '<' | '>' | '=' | '!' | '+' | '-' | '*' | '%' | '&' | '|' | '^' | '~' | '?' | ':' | '/')
+fn reads_template_parts(goal: Goal) -> bool
+    ensures { result ≡ reads_template_parts goal }
+{
+    match goal {
+        Goal::Div => false,
+        Goal::RegExp => false,
+        Goal::TemplateTail => true,
+    }
 }
 
-// The place behind the token of a class that begins at a place.
+// Whether nothing but a punctuator begins with the character.
 #[inline]
-fn token_end(text: &str, at: usize, class: Class) -> Option<usize> {
+fn is_mark(c: char) -> bool
+    ensures { result ≡ is_mark c }
+{
+    matches!(
+        c,
+        '{' | '('
+            | ')'
+            | '['
+            | ']'
+            | ';'
+            | ','
+            | '<'
+            | '>'
+            | '='
+            | '!'
+            | '+'
+            | '-'
+            | '*'
+            | '%'
+            | '&'
+            | '|'
+            | '^'
+            | '~'
+            | '?'
+            | ':'
+    )
+}
+
+// Whether a digit stands at a place.
+#[inline]
+fn digit_follows(text: &str, at: usize) -> bool
+    requires { IsPlace text.now at }
+    ensures { result ≡ begins_with is_decimal_digit (behind text.now at) }
+{
+    match step_at(text, at) {
+        Some(step) => step.c.is_ascii_digit(),
+        None => false,
+    }
+}
+
+// The class of the tokens that begin with a character, by the goal and whether a digit follows a point.
+#[inline]
+fn class_by(c: char, goal: Goal, digit: bool) -> Class
+    ensures { result ≡ class_by goal c digit }
+{
+    if c.is_ascii_digit() {
+        return Class::Number;
+    }
+    match c {
+        '"' | '\'' => Class::Text,
+        '`' => Class::Template,
+        '}' => {
+            if reads_template_parts(goal) {
+                Class::Template
+            } else {
+                Class::Punctuator
+            }
+        }
+        '/' => {
+            if reads_regexps(goal) {
+                Class::RegExp
+            } else {
+                Class::Punctuator
+            }
+        }
+        '.' => {
+            if digit {
+                Class::Number
+            } else {
+                Class::Punctuator
+            }
+        }
+        _ => {
+            if is_mark(c) {
+                Class::Punctuator
+            } else {
+                Class::Name
+            }
+        }
+    }
+}
+
+// The class of the tokens that the goal reads at a place.
+#[inline]
+fn class_at(text: &str, at: usize, goal: Goal) -> Class
+    requires { IsPlace text.now at }
+    ensures { result ≡ class_of goal (behind text.now at) }
+{
+    let Some(first) = step_at(text, at) else {
+        return Class::End;
+    };
+    let digit = (first.c == '.') & digit_follows(text, first.end);
+    class_by(first.c, goal, digit)
+}
+
+// The place behind the token of a class that begins at a place, if there is one. The class is the one that the goal
+// reads there.
+#[inline]
+fn token_end(text: &str, at: usize, class: Class) -> Option<usize>
+    requires place { IsPlace text.now at }
+    requires end { class ≡ Class.End → behind text.now at ≡ [] }
+    ensures some { IfSome result (λ e. IsWordAt class text.now at e) }
+    ensures none { IfNone result (NoWordAt class text.now at) }
+{
     match class {
         Class::Name => name_end(text, at),
         Class::Punctuator => punctuator_end(text, at),

@@ -76,7 +76,13 @@ fn separators(rt: HostRuntime) {
         ("a/**/", 1, Class::End, "", 5, false),
         ("a /b", 1, Class::Punctuator, "/", 2, false),
     ] {
-        expect_token(&rt, text, at, Goal::Div, Ok((class, word, start, after_break)));
+        expect_token(
+            &rt,
+            text,
+            at,
+            Goal::Div,
+            Ok((class, word, start, after_break)),
+        );
     }
 }
 
@@ -103,9 +109,10 @@ fn names(rt: HostRuntime) {
 #[test]
 fn punctuators(rt: HostRuntime) {
     for text in [
-        "{", "(", ")", "[", "]", ".", "...", ";", ",", "<", ">", "<=", ">=", "==", "!=", "===", "!==", "+", "-", "*", "%",
-        "**", "++", "--", "<<", ">>", ">>>", "&", "|", "^", "!", "~", "&&", "||", "??", "?", "?.", ":", "=", "+=", "-=",
-        "*=", "%=", "**=", "<<=", ">>=", ">>>=", "&=", "|=", "^=", "=>", "/", "/=", "}",
+        "{", "(", ")", "[", "]", ".", "...", ";", ",", "<", ">", "<=", ">=", "==", "!=", "===",
+        "!==", "+", "-", "*", "%", "**", "++", "--", "<<", ">>", ">>>", "&", "|", "^", "!", "~",
+        "&&", "||", "??", "?", "?.", ":", "=", "+=", "-=", "*=", "%=", "**=", "<<=", ">>=", ">>>=",
+        "&=", "|=", "^=", "=>", "/", "/=", "}",
     ] {
         expect_front(&rt, text, Class::Punctuator, text);
     }
@@ -172,9 +179,31 @@ fn numbers(rt: HostRuntime) {
 #[test]
 fn strings(rt: HostRuntime) {
     for text in [
-        "''", "\"\"", "'a'", "'\"'", "\"'\"", "'\\''", "'\\\\'", "'\\0'", "'\\0a'", "'\\x41'", "'\\u0041'", "'\\u{41}'",
-        "'\\u{0010FFFF}'", "'\\q'", "'\\b\\t\\n\\v\\f\\r'", "'é'", "'\u{2028}\u{2029}'", "'\\\n'", "'\\\r\n'", "'\\\u{2028}'",
-        "'😀'", "'\\😀'", "'\\\r'", "'\\u{000000041}'", "'//'",
+        "''",
+        "\"\"",
+        "'a'",
+        "'\"'",
+        "\"'\"",
+        "'\\''",
+        "'\\\\'",
+        "'\\0'",
+        "'\\0a'",
+        "'\\x41'",
+        "'\\u0041'",
+        "'\\u{41}'",
+        "'\\u{0010FFFF}'",
+        "'\\q'",
+        "'\\b\\t\\n\\v\\f\\r'",
+        "'é'",
+        "'\u{2028}\u{2029}'",
+        "'\\\n'",
+        "'\\\r\n'",
+        "'\\\u{2028}'",
+        "'😀'",
+        "'\\😀'",
+        "'\\\r'",
+        "'\\u{000000041}'",
+        "'//'",
     ] {
         expect_front(&rt, text, Class::Text, text);
     }
@@ -184,15 +213,21 @@ fn strings(rt: HostRuntime) {
 #[test]
 fn templates(rt: HostRuntime) {
     for text in [
-        "``", "`a`", "`a${", "`$`", "`$(`", "`$$${", "`\\``", "`\\${`", "`$\\{`", "`\\1`", "`\\u{`", "`{}`", "`'\"`", "`\\\\`", "`\r\n`",
-        "`é`", "`\\é`",
+        "``", "`a`", "`a${", "`$`", "`$(`", "`$$${", "`\\``", "`\\${`", "`$\\{`", "`\\1`",
+        "`\\u{`", "`{}`", "`'\"`", "`\\\\`", "`\r\n`", "`é`", "`\\é`",
     ] {
         expect_front(&rt, text, Class::Template, text);
     }
     expect_front(&rt, "`a`b`", Class::Template, "`a`");
     expect_front(&rt, "`a${b}c`", Class::Template, "`a${");
     for text in ["}`", "}a`", "}x${", "}{}`"] {
-        expect_token(&rt, text, 0, Goal::TemplateTail, Ok((Class::Template, text, 0, false)));
+        expect_token(
+            &rt,
+            text,
+            0,
+            Goal::TemplateTail,
+            Ok((Class::Template, text, 0, false)),
+        );
     }
 }
 
@@ -213,9 +248,27 @@ fn regular_expressions(rt: HostRuntime) {
         ("/é/", "/é/"),
         ("/a//b", "/a/"),
     ] {
-        expect_token(&rt, text, 0, Goal::RegExp, Ok((Class::RegExp, word, 0, false)));
+        expect_token(
+            &rt,
+            text,
+            0,
+            Goal::RegExp,
+            Ok((Class::RegExp, word, 0, false)),
+        );
     }
-    for text in ["/", "/a", "/[/", "/[/g", "/\\/", "/a\n/", "/[\n]/", "/\\\n/", "/\\\u{2028}/", "/[\\]/", "/[\\\n]/"] {
+    for text in [
+        "/",
+        "/a",
+        "/[/",
+        "/[/g",
+        "/\\/",
+        "/a\n/",
+        "/[\n]/",
+        "/\\\n/",
+        "/\\\u{2028}/",
+        "/[\\]/",
+        "/[\\\n]/",
+    ] {
         expect_token(&rt, text, 0, Goal::RegExp, Err(0));
     }
 }
@@ -281,11 +334,20 @@ fn string_values(rt: HostRuntime) -> Result<(), Fail> {
         ("'😀'", [0xD83D, 0xDE00].as_slice()),
         ("''", [].as_slice()),
         ("'a\\x41\\u0042'", [0x61, 0x41, 0x42].as_slice()),
-        ("'\\b\\t\\n\\v\\f\\r\\'\\\"\\\\'", [8, 9, 10, 11, 12, 13, 0x27, 0x22, 0x5C].as_slice()),
+        (
+            "'\\b\\t\\n\\v\\f\\r\\'\\\"\\\\'",
+            [8, 9, 10, 11, 12, 13, 0x27, 0x22, 0x5C].as_slice(),
+        ),
         ("'\\0\\q\\é'", [0, 0x71, 0xE9].as_slice()),
-        ("'a\\\r\nb\\\nc\\\u{2028}d\\\re'", [0x61, 0x62, 0x63, 0x64, 0x65].as_slice()),
+        (
+            "'a\\\r\nb\\\nc\\\u{2028}d\\\re'",
+            [0x61, 0x62, 0x63, 0x64, 0x65].as_slice(),
+        ),
         ("'\\u{D800}\\uDFFF'", [0xD800, 0xDFFF].as_slice()),
-        ("'\\u{10FFFF}\\u{10000}'", [0xDBFF, 0xDFFF, 0xD800, 0xDC00].as_slice()),
+        (
+            "'\\u{10FFFF}\\u{10000}'",
+            [0xDBFF, 0xDFFF, 0xD800, 0xDC00].as_slice(),
+        ),
         ("'\\u{FFFF}\u{2029}'", [0xFFFF, 0x2029].as_slice()),
     ] {
         let value = string_units(alloc, text)?;
@@ -301,7 +363,11 @@ fn template_values(rt: HostRuntime) -> Result<(), Fail> {
         ("\\x41\r\nb", "\\x41\nb", Some([0x41, 0xA, 0x62].as_slice())),
         ("\\1", "\\1", None),
         ("", "", Some([].as_slice())),
-        ("a\rb\r\r\n", "a\nb\n\n", Some([0x61, 0xA, 0x62, 0xA, 0xA].as_slice())),
+        (
+            "a\rb\r\r\n",
+            "a\nb\n\n",
+            Some([0x61, 0xA, 0x62, 0xA, 0xA].as_slice()),
+        ),
         ("\\\r\na", "\\\na", Some([0x61].as_slice())),
         ("\\08", "\\08", None),
         ("\\xg", "\\xg", None),

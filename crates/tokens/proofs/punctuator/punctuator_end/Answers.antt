@@ -8,7 +8,6 @@ use Rattle.tokens.proofs.punctuator.punctuator_end.Goals.{After-look-e}
 seen : (c : After-look-e) → Four c.args.text.now c.args.at c.look-b.result.c c.look-c.result.c c.look-d.result.c c.look-e.result.c c.look-b.result.end c.look-c.result.end c.look-d.result.end c.look-e.result.end
 seen c = record { one = c.look-b.ensures; two = c.look-c.ensures; three = c.look-d.ensures; four = c.look-e.ensures }
 
-
 same_pair : (p q k x y : Bool) → p ≡ q → x ≡ y → (p && not (k && x)) ≡ (q && not (k && y))
 same_pair p q k x y e f = ap (λ a. a && not (k && x)) e ∙ ap (λ b. q && not (k && b)) f
 

@@ -1,0 +1,53 @@
+use Rattle.std.proofs.Common.{◌≡◌, ◌≢◌, ◌<◌, ℕ, Bool, true, false, List, [], sym, ap, ◌∙◌, subst}
+use Rattle.std.specs.Prelude.{slice_range}
+use Rattle.source_text.specs.Source.{IsPlace}
+use Rattle.tokens.specs.declared.token.Class.TheVariants.{End}
+use Rattle.tokens.specs.Comments.{begins_comment}
+use Rattle.tokens.specs.Fronts.{class_of}
+use Rattle.tokens.specs.Lexical.{LexicalClass}
+use Rattle.tokens.specs.Reading.{behind}
+use Rattle.tokens.specs.Scanned.{IsGap, IsSolid, IsWordAt, NoWordAt}
+use Rattle.tokens.proofs.Scanning.{end_only, token_reads, none_in_comment, none_of_class, word_forward}
+use Rattle.tokens.proofs.scanner.scan.Goals as goal
+use Rattle.tokens.proofs.scanner.scan.Goals.{After-skip-gap}
+
+-- what holds of the text holds of the source
+along : (c : After-skip-gap) (P : List ℕ → Type 0) → P c.text-text.result.now → P c.args.source.now
+along c P h = subst P c.text-text.ensures.value h
+
+gap : (c : After-skip-gap) → IsGap c.args.source.now c.args.at c.skip-gap.result.end c.skip-gap.result.broken
+gap c = along c (λ x. IsGap x c.args.at c.skip-gap.result.end c.skip-gap.result.broken) c.skip-gap.ensures.gap
+
+solid : (c : After-skip-gap) → IsSolid (behind c.args.source.now c.skip-gap.result.end)
+solid c = along c (λ x. IsSolid (behind x c.skip-gap.result.end)) c.skip-gap.ensures.solid
+
+place : (c : After-skip-gap) → IsPlace c.args.source.now c.skip-gap.result.end
+place c = let g = gap c in let p = g.passed in p.place
+
+pub returns-then-comment_begins-clause-err : goal.returns-then-comment_begins-clause-err
+returns-then-comment_begins-clause-err d =
+    let c = (goal.at.returns-then-comment_begins-clause-err d).After-skip-gap in
+    none_in_comment c.args.source.now c.args.goal c.args.at c.skip-gap.result.end c.skip-gap.result.broken (gap c) (solid c)
+    (along c (λ x. begins_comment (behind x c.skip-gap.result.end) ≡ true) (sym d.comment_begins.ensures ∙ d.if-comment_begins.true))
+
+pub token_end-requires-clause-end : goal.token_end-requires-clause-end
+token_end-requires-clause-end d = λ e. end_only d.args.goal (behind d.text-text.result.now d.skip-gap.result.end) (sym d.class_at-class.ensures ∙ e)
+
+pub returns-in_default-clause-err : goal.returns-in_default-clause-err
+returns-in_default-clause-err d =
+    let c = (goal.at.returns-in_default-clause-err d).After-skip-gap in
+    none_of_class c.args.source.now c.args.goal c.args.at c.skip-gap.result.end c.skip-gap.result.broken d.class_at-class.result (gap c) (solid c)
+    (along c (λ x. d.class_at-class.result ≡ class_of c.args.goal (behind x c.skip-gap.result.end)) d.class_at-class.ensures)
+    (along c (λ x. NoWordAt d.class_at-class.result x c.skip-gap.result.end) d.in_default.ensures.none)
+
+pub returns-clause-ok : goal.returns-clause-ok
+returns-clause-ok d =
+    let c = (goal.at.returns-clause-ok d).After-skip-gap in
+    token_reads c.args.source.now c.args.goal c.args.at c.skip-gap.result.end d.in-Some.end c.skip-gap.result.broken d.class_at-class.result d.range.result.now c.text-text.ensures.utf8 (place c) (gap c)
+    (along c (λ x. begins_comment (behind x c.skip-gap.result.end) ≡ false) (sym d.comment_begins.ensures ∙ d.if-comment_begins.false))
+    (along c (λ x. d.class_at-class.result ≡ class_of c.args.goal (behind x c.skip-gap.result.end)) d.class_at-class.ensures)
+    (along c (λ x. IsWordAt d.class_at-class.result x c.skip-gap.result.end d.in-Some.end) d.in-Some.ensures.some)
+    (d.range.ensures.value ∙ ap (λ (x : List ℕ). slice_range x c.skip-gap.result.end d.in-Some.end) c.text-text.ensures.value)
+
+pub returns-clause-goes_on : goal.returns-clause-goes_on
+returns-clause-goes_on d = word_forward d.class_at-class.result d.text-text.result.now d.skip-gap.result.end d.in-Some.end d.in-Some.ensures.some
