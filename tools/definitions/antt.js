@@ -15,7 +15,7 @@ const path = require('path');
 class AnttError extends Error {}
 
 // Modules that aren't loaded: they speak of the program's own values (its trees, devices, code of trees).
-const LEFT_OUT = /^Rattle\.(tree\.specs\.(TreeCode|View|Node)|tokens\.specs\.(Io|Memory|Source|Scanned|Reading|Words|Lexeme|Characters|LineBytes))$/;
+const LEFT_OUT = /^Rattle\.(tree\.specs\.(TreeCode|View|Node)|source_text\.specs\.(Io|Memory|Source|LineBytes)|tokens\.specs\.(Scanned|Reading|Closing|Fronts|States|Marks|Escaped|Laws))$/;
 
 // ---------------------------------------------------------------- values
 
@@ -446,7 +446,7 @@ class Spec {
       while (['pattern', 'unfoldable', 'abbrev', 'pub'].includes(words[i])) i++;
       const head = words[i];
       if (head === 'mod') { current = null; continue; }
-      if (head === 'use') { current = null; this.readUse(m, tokens.slice(i + 1), where); continue; }
+      if (head === 'use') { current = null; this.readUse(m, tokens.slice(i + 1), where, words.slice(0, i).includes('pub')); continue; }
       if (['infix', 'infixl', 'infixr'].includes(head)) {
         for (const op of words.slice(i + 2)) FIXITY[op.replace(/◌/g, '')] = [Number(words[i + 1]), head === 'infix' ? 'n' : head.slice(5)];
         continue;
@@ -496,7 +496,7 @@ class Spec {
       current.clauses.push(lines);
     }
   }
-  readUse(m, tokens, where) {
+  readUse(m, tokens, where, passedOn) {
     const bits = [];
     let i = 0;
     while (tokens[i]?.k === 'name' || tokens[i]?.k === 'number') { bits.push(String(tokens[i].v)); i++; if (tokens[i]?.k === '.') i++; else break; }
@@ -510,14 +510,18 @@ class Spec {
       names.push([name, as, tokens[0].no]);
       if (tokens[i].k === ',') i++;
     }
-    m.uses.push({ module: bits.join('.'), names });
+    m.uses.push({ module: bits.join('.'), names, passedOn });
   }
   entryOf(moduleName, name, where) {
     const m = this.modules.get(moduleName);
     if (m !== undefined) {
       const e = m.exports.get(name);
-      if (e === undefined) throw new AnttError(`${where}: ${moduleName} has no ${name}`);
-      return e;
+      if (e !== undefined) return e;
+      for (const use of m.uses) {             // `pub use`
+        const found = use.passedOn && use.names !== null && use.names.find(([, as]) => as === name);
+        if (found) return this.entryOf(use.module, found[0], where);
+      }
+      throw new AnttError(`${where}: ${moduleName} has no ${name}`);
     }
     const declared = /^Rattle\.(\w+)\.specs\.declared\.(?:.*\.)?(\w+)\.TheVariants$/.exec(moduleName);
     if (declared && !/option|result/.test(moduleName)) {

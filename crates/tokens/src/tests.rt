@@ -317,6 +317,15 @@ fn faults(rt: HostRuntime) {
         ("'\\u{}'", 0, 0),
         ("'\\u{110000}'", 0, 0),
         ("'\\u{41'", 0, 0),
+        ("'\\u{41g}'", 0, 0),
+        ("'\\u{g}'", 0, 0),
+        ("'\\u'", 0, 0),
+        ("'\\uD80'", 0, 0),
+        ("'\\x'", 0, 0),
+        ("'\\xg1'", 0, 0),
+        ("'\\8'", 0, 0),
+        ("'\\u{FFFFFFFFFFFFFFFF}'", 0, 0),
+        ("'\\\n\n'", 0, 0),
         ("\"'", 0, 0),
         ("`", 0, 0),
         ("`a$(", 0, 0),
@@ -349,6 +358,10 @@ fn string_values(rt: HostRuntime) -> Result<(), Fail> {
             [0xDBFF, 0xDFFF, 0xD800, 0xDC00].as_slice(),
         ),
         ("'\\u{FFFF}\u{2029}'", [0xFFFF, 0x2029].as_slice()),
+        ("'\\xfF\\uabCD\\u{0}'", [0xFF, 0xABCD, 0].as_slice()),
+        ("'\\0\\\u{2029}\\\n\\\n'", [0].as_slice()),
+        ("'\\😀\\$\\`'", [0xD83D, 0xDE00, 0x24, 0x60].as_slice()),
+        ("\"'\\\"\"", [0x27, 0x22].as_slice()),
     ] {
         let value = string_units(alloc, text)?;
         assert!(rt; value.as_slice() == units, "{text}");
@@ -372,6 +385,25 @@ fn template_values(rt: HostRuntime) -> Result<(), Fail> {
         ("\\08", "\\08", None),
         ("\\xg", "\\xg", None),
         ("\\u{", "\\u{", None),
+        ("\\9", "\\9", None),
+        ("\\00", "\\00", None),
+        ("\\x", "\\x", None),
+        ("\\x4", "\\x4", None),
+        ("\\u006", "\\u006", None),
+        ("\\u{}", "\\u{}", None),
+        ("\\u{61", "\\u{61", None),
+        ("\\u{110000}", "\\u{110000}", None),
+        ("a\\1b\r", "a\\1b\n", None),
+        (
+            "\\0a\\`\\$",
+            "\\0a\\`\\$",
+            Some([0, 0x61, 0x60, 0x24].as_slice()),
+        ),
+        (
+            "\\\r\\\r\nb\u{2028}",
+            "\\\n\\\nb\u{2028}",
+            Some([0x62, 0x2028].as_slice()),
+        ),
         ("é😀", "é😀", Some([0xE9, 0xD83D, 0xDE00].as_slice())),
     ] {
         let (raw_value, cooked_value) = template_value(alloc, text)?;
