@@ -17,7 +17,7 @@ class AnttError extends Error {}
 // Modules that aren't loaded: they speak of the program's own values (its trees, devices, code of trees).
 // Of proofs/, only examples and the words that they are written with.
 const EXAMPLES = /\/(language|early_errors)\/proofs\/(Trees|Sources|Nest|Tables|\w*Examples|\w*Rows)\.antt$/;
-const LEFT_OUT = /^Rattle\.(tree\.specs\.(TreeCode|View|Node)|tokens\.specs\.(Io|Memory|Source|Scanned|Reading|Words|Lexeme|Characters|LineBytes))$/;
+const LEFT_OUT = /^Rattle\.(tree\.specs\.(TreeCode|View|Node)|source_text\.specs\.(Io|Memory|Source|LineBytes)|tokens\.specs\.(Scanned|Reading|Closing|Fronts|States|Marks|Escaped|Laws))$/;
 
 // ---------------------------------------------------------------- values
 
@@ -448,7 +448,7 @@ class Spec {
       while (['pattern', 'unfoldable', 'abbrev', 'pub'].includes(words[i])) i++;
       const head = words[i];
       if (head === 'mod') { current = null; continue; }
-      if (head === 'use') { current = null; this.readUse(m, tokens.slice(i + 1), where); continue; }
+      if (head === 'use') { current = null; this.readUse(m, tokens.slice(i + 1), where, words.slice(0, i).includes('pub')); continue; }
       if (['infix', 'infixl', 'infixr'].includes(head)) {
         for (const op of words.slice(i + 2)) FIXITY[op.replace(/◌/g, '')] = [Number(words[i + 1]), head === 'infix' ? 'n' : head.slice(5)];
         continue;
@@ -498,7 +498,7 @@ class Spec {
       current.clauses.push(lines);
     }
   }
-  readUse(m, tokens, where) {
+  readUse(m, tokens, where, passedOn) {
     const bits = [];
     let i = 0;
     while (tokens[i]?.k === 'name' || tokens[i]?.k === 'number') { bits.push(String(tokens[i].v)); i++; if (tokens[i]?.k === '.') i++; else break; }
@@ -512,14 +512,18 @@ class Spec {
       names.push([name, as, tokens[0].no]);
       if (tokens[i].k === ',') i++;
     }
-    m.uses.push({ module: bits.join('.'), names });
+    m.uses.push({ module: bits.join('.'), names, passedOn });
   }
   entryOf(moduleName, name, where) {
     const m = this.modules.get(moduleName);
     if (m !== undefined) {
       const e = m.exports.get(name);
-      if (e === undefined) throw new AnttError(`${where}: ${moduleName} has no ${name}`);
-      return e;
+      if (e !== undefined) return e;
+      for (const use of m.uses) {             // `pub use`
+        const found = use.passedOn && use.names !== null && use.names.find(([, as]) => as === name);
+        if (found) return this.entryOf(use.module, found[0], where);
+      }
+      throw new AnttError(`${where}: ${moduleName} has no ${name}`);
     }
     const declared = /^Rattle\.(\w+)\.specs\.declared\.(?:.*\.)?(\w+)\.TheVariants$/.exec(moduleName);
     if (declared && !/option|result/.test(moduleName)) {
@@ -530,6 +534,7 @@ class Spec {
     }
     if (/\.specs\.declared\./.test(moduleName)) return { k: 'type', name };
     if (/^(Rattle\.(std|core|std_alloc|unicode_ident)\b|Prim\.|lib\.|mathlib\.)/.test(moduleName)) return this.library(name) ?? { k: 'missing', name: moduleName + '.' + name };
+    if (LEFT_OUT.test(moduleName)) return { k: 'missing', name: moduleName + '.' + name };   // types alone are taken from these
     throw new AnttError(`${where}: module ${moduleName} isn't loaded`);
   }
   library(name) {

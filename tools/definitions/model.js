@@ -4,7 +4,7 @@
 const path = require('path');
 const antt = require('./antt.js');
 const REFERENCE = path.join(__dirname, '../reference');
-const CRATES = ['tokens', 'tree', 'language', 'early_errors'].map((c) => path.join(__dirname, '../../crates', c));
+const CRATES = ['source_text', 'tokens', 'tree', 'language', 'early_errors'].map((c) => path.join(__dirname, '../../crates', c));
 
 // Names of the definitions: ours -> [name, the last part of its module, its crate].
 // Change these when the definitions move or are renamed.
@@ -28,7 +28,7 @@ const NAMES = {
   errors: ['errors', 'Early', 'early_errors'], least_error: ['least_error', 'Early', 'early_errors'],
   // tokens as texts, and their values
   token_at: ['is_token', 'Lexical', 'tokens'], allows: ['allows', 'Goals', 'tokens'], begins_comment: ['begins_comment', 'Comments', 'tokens'], is_comment: ['is_comment', 'Comments', 'tokens'],
-  is_white_space: ['is_white_space', 'Alphabet', 'tokens'], is_line_terminator: ['is_line_terminator', 'Lines', 'tokens'], size: ['size', 'Tokens', 'tokens'], line_column: ['line_column', 'Lines', 'tokens'],
+  is_white_space: ['is_white_space', 'Spaces', 'source_text'], is_line_terminator: ['is_line_terminator', 'Lines', 'source_text'], size: ['size', 'Tokens', 'tokens'], line_column: ['line_column', 'Lines', 'source_text'],
   string_units: ['string_units', 'Strings', 'tokens'], raw_value: ['raw_value', 'Templates', 'tokens'], cooked_value: ['cooked_value', 'Templates', 'tokens'],
   literal_units: ['literal_units', 'Strings', 'language'], cooks: ['cooks', 'Cooked', 'early_errors'],
 };
@@ -44,8 +44,8 @@ class Model {
     for (const [key, where] of Object.entries(NAMES)) this[key] = this.spec.fn(...where);
     const unwrap = (v) => (typeof v === 'function' ? v() : v);
     this.none = unwrap(this.none); this.script = unwrap(this.script); this.contexts = unwrap(this.contexts); this.beginning = unwrap(this.beginning);
-    this.classes = Object.fromEntries(Object.entries(CLASS).map(([k, v]) => [k, this.spec.find(v, 'Lexical', 'tokens').con.constant]));
-    this.goals = Object.fromEntries(GOALS.map((v) => [v, this.spec.find(v, 'Goals', 'tokens').con.constant]));
+    this.classes = Object.fromEntries(Object.entries(CLASS).map(([k, v]) => [k, this.spec.variant('Class', v)]));
+    this.goals = Object.fromEntries(GOALS.map((v) => [v, this.spec.variant('Goal', v)]));
     this.forms = Object.fromEntries(Object.entries(FORM).map(([k, v]) => [k, this.spec.variant('Form', v)]));
     const wide = [this.spec.variant('Rank', 'Expression'), true, this.spec.variant('Start', 'Any')];
     this.exprAny = this.expr(...wide);

@@ -1,7 +1,7 @@
 -- Where no token begins: a test that computes, for the examples.
 use Rattle.std.proofs.Common.{◌≡◌, ℕ, Bool, true, false, not, ◌&&◌, ◌||◌, List, [], ◌∷◌, ◌++◌, IsTrue, IsFalse, refl, sym, ◌∙◌, subst, append_assoc, append-nil, arith}
 use Rattle.std.proofs.lemmas.Bool.Decides.{nat_tests}
-use Rattle.tokens.specs.Lines.{is_line_terminator}
+use Rattle.source_text.specs.Lines.{is_line_terminator}
 use Rattle.tokens.specs.Alphabet.{begins_with, is_white_space}
 use Rattle.tokens.specs.Comments.{begins_comment, is_comment, Separators, nothing, blank, comment}
 use Rattle.tokens.specs.Lexical.{LexicalClass, Name, Punctuator, Number, Text, Template, RegExp, End, is_token}

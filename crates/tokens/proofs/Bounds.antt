@@ -1,49 +1,101 @@
--- Where a token that is read stands.
-use Rattle.std.proofs.Common.{◌≡◌, ◌≢◌, ℕ, ◌+◌, ◌<◌, ◌≤◌, List, [], length, refl, subst, arith, length-drop, length-take}
-use Rattle.std.specs.Prelude.{slice_range}
+-- Where a token that is read stands in its text, and that a word behind separators is the token that is read.
+use Rattle.std.proofs.Common.{◌≡◌, ◌≢◌, ℕ, ◌+◌, ◌-◌, ◌<◌, ◌≤◌, List, [], ◌∷◌, ◌++◌, length, drop, refl, sym, ap, ◌∙◌, subst, arith, append_assoc, length-append, length-drop, IsTrue, not}
+use Rattle.std.specs.Prelude.{slice_range, encode_utf8_all}
+use Rattle.std.specs.List.{list_any}
+use Rattle.std.specs.Char.{encode_utf8, len_utf8}
 use Rattle.std.specs.Str.{IsUtf8}
-use Rattle.std.proofs.lemmas.Grind.{common_steps}
-use Rattle.std.proofs.lemmas.Str.{IsCharBoundary-end}
-use Rattle.tokens.specs.declared.token.Class.{Class}
-use Rattle.tokens.specs.declared.token.Class.TheVariants.{End}
-use Rattle.tokens.specs.Lexeme.{Lexeme}
-use Rattle.tokens.specs.Reading.{GoesOn, IsTokenAt, token, ended}
-use Rattle.tokens.specs.Source.{IsPlace}
-use Rattle.tokens.proofs.Places.{spaces_place, token_place}
+use Rattle.std.proofs.lemmas.Str.{encodes-append, encodes-chars, IsUtf8-drop}
+use Rattle.std.proofs.lemmas.List.{append_cancel_left}
+use Rattle.source_text.specs.Source.{IsPlace}
+use Rattle.source_text.specs.Lines.{is_line_terminator}
+use Rattle.tokens.specs.Comments.{begins_comment, Separators}
+use Rattle.tokens.specs.Lexical.{LexicalClass, End, is_token}
+use Rattle.tokens.specs.Goals.{Goal, allows}
+use Rattle.tokens.specs.Tokens.{LexicalToken, IsTokenAt, size}
+use Rattle.tokens.specs.Reading.{behind, Reads}
+use Rattle.tokens.specs.Scanned.{Passed, IsWordAt}
+use Rattle.tokens.proofs.Passing.{size_append, size_one, pass_char, passed_none, passed_on, passed_slice}
+use Rattle.tokens.proofs.Scanning.{word_forward}
 
-pub record IsWithin (text : List ℕ) (at : ℕ) (t : Lexeme) : Type 0 where
-  pub behind : at ≤ t.start
+-- characters that stand at a place are passed
+pub pass_word : (text : List ℕ) (at : ℕ) (word rest : List ℕ) → IsUtf8 text → IsPlace text at → behind text at ≡ word ++ rest → Passed text at (at + size word) word
+pass_word text at [] rest u p e = let z : at ≡ at + size [] = omega arith in subst (λ n. Passed text at n []) z (passed_none text at p)
+pass_word text at (c ∷ word) rest u p e =
+    let whole : drop at text ≡ encode_utf8 c ++ encode_utf8_all (word ++ rest) = sym (encodes-chars (drop at text) (IsUtf8-drop text at u p)) ∙ ap encode_utf8_all e in
+    let one = pass_char text (encode_utf8_all (word ++ rest)) at c u p whole in
+    let behind_one : behind text (at + len_utf8 c) ≡ word ++ rest = (let z = sym one.split ∙ e in cc) in
+    let others = pass_word text (at + len_utf8 c) word rest u one.place behind_one in
+    let n = size_append (c ∷ []) word in
+    let m = size_one c in
+    let z : at + len_utf8 c + size word ≡ at + size (c ∷ word) = omega arith in
+    subst (λ k. Passed text at k (c ∷ word)) z (passed_on text at (at + len_utf8 c) (at + len_utf8 c + size word) (c ∷ []) word one others)
+
+-- and what is behind them is what was said
+pub rest_of_word : (text : List ℕ) (at : ℕ) (word rest : List ℕ) → IsUtf8 text → IsPlace text at → behind text at ≡ word ++ rest → behind text (at + size word) ≡ rest
+rest_of_word text at word rest u p e = let h = pass_word text at word rest u p e in append_cancel_left word (behind text (at + size word)) rest (sym h.split ∙ e)
+
+pub record IsWithin (text : List ℕ) (at : ℕ) (t : LexicalToken) : Type 0 where
+  pub behind_place : at ≤ t.start
   pub ordered : t.start ≤ t.stop
   pub inside : t.stop ≤ length text
   pub size : length t.text + t.start ≡ t.stop
 
+-- what stands between a place and a token, and the token
+gap_passed : (text : List ℕ) (goal : Goal) (at : ℕ) (t : LexicalToken) → IsUtf8 text → IsPlace text at → (h : Reads text goal at t) → Passed text at t.start h.gap
+gap_passed text goal at t u p h =
+    let e : behind text at ≡ h.gap ++ (h.word ++ behind text t.stop) = h.split ∙ append_assoc h.gap h.word (behind text t.stop) in
+    subst (λ n. Passed text at n h.gap) (sym h.start) (pass_word text at h.gap (h.word ++ behind text t.stop) u p e)
+
+word_passed : (text : List ℕ) (goal : Goal) (at : ℕ) (t : LexicalToken) → IsUtf8 text → IsPlace text at → (h : Reads text goal at t) → Passed text t.start t.stop h.word
+word_passed text goal at t u p h =
+    let g = gap_passed text goal at t u p h in
+    let e : behind text t.start ≡ h.word ++ behind text t.stop =
+    append_cancel_left h.gap (behind text t.start) (h.word ++ behind text t.stop) (sym g.split ∙ h.split ∙ append_assoc h.gap h.word (behind text t.stop)) in
+    subst (λ n. Passed text t.start n h.word) (sym h.stop) (pass_word text t.start h.word (behind text t.stop) u g.place e)
+
 -- a token stands behind the place where it is read, and within the text
-pub token_within : (text : List ℕ) (at : ℕ) (t : Lexeme) → IsTokenAt text at t → IsWithin text at t
-token_within text at t (token {s = s} {e = e} {class = class} u l) =
-    let o = l.is_of.ordered in
-    let i = l.is_of.within in
-    record { behind = u.ordered; ordered = omega arith; inside = i; size = simp (length-take, length-drop) (omega arith) }
-token_within text at t (ended u) = record { behind = u.ordered; ordered = omega arith; inside = omega arith; size = omega arith }
+pub token_within : (text : List ℕ) (goal : Goal) (at : ℕ) (t : LexicalToken) → IsUtf8 text → IsPlace text at → Reads text goal at t → IsWithin text at t
+token_within text goal at t u p h =
+    let w = word_passed text goal at t u p h in
+    let a = h.start in
+    let b = h.stop in
+    let c = ap length h.text in
+    let i = w.place.0 in
+    record { behind_place = omega arith; ordered = omega arith; inside = i; size = omega arith }
 
 -- its text is the slice of the text between its places
-pub token_slice : (text : List ℕ) (at : ℕ) (t : Lexeme) → IsTokenAt text at t → t.text ≡ slice_range text t.start t.stop
-token_slice text at t (token u l) = refl
-token_slice text at t (ended u) = grind (arith, common_steps)
-
--- a token that is not the end is not empty
-pub token_goes_on : (text : List ℕ) (at : ℕ) (t : Lexeme) → IsTokenAt text at t → t.class ≢ End → t.start < t.stop
-token_goes_on text at t (token u l) ne = l.is_of.ordered
-token_goes_on text at t (ended u) ne = absurd (ne refl)
-
-no_end : (text : List ℕ) (s e : ℕ) (class : Class) → class ≡ End → GoesOn class text s e → ⊥
-no_end text s e class h g = subst (λ x. GoesOn x text s e) h g
-
--- the end stands at the end of the text
-pub end_stop : (text : List ℕ) (at : ℕ) (t : Lexeme) → IsTokenAt text at t → t.class ≡ End → (t.text ≡ []) × (t.start ≡ length text) × (t.stop ≡ length text)
-end_stop text at t (token {s = s} {e = e} {class = class} u l) h = absurd (no_end text s e class h l.is_of.goes_on)
-end_stop text at t (ended u) h = (refl, refl, refl)
+pub token_slice : (text : List ℕ) (goal : Goal) (at : ℕ) (t : LexicalToken) → IsUtf8 text → IsPlace text at → Reads text goal at t → t.text ≡ slice_range text t.start t.stop
+token_slice text goal at t u p h =
+    let g = gap_passed text goal at t u p h in
+    h.text ∙ passed_slice text t.start t.stop h.word u g.place (word_passed text goal at t u p h)
 
 -- a token begins and ends at places of the text
-pub token_places : (text : List ℕ) (at : ℕ) (t : Lexeme) → IsUtf8 text → IsPlace text at → IsTokenAt text at t → IsPlace text t.start × IsPlace text t.stop
-token_places text at t utf8 place (token {s = s} {e = e} {class = class} u l) = (spaces_place text at s utf8 place u, token_place class text s e utf8 l)
-token_places text at t utf8 place (ended u) = (IsCharBoundary-end text, IsCharBoundary-end text)
+pub token_places : (text : List ℕ) (goal : Goal) (at : ℕ) (t : LexicalToken) → IsUtf8 text → IsPlace text at → Reads text goal at t → IsPlace text t.start × IsPlace text t.stop
+token_places text goal at t u p h = let g = gap_passed text goal at t u p h in let w = word_passed text goal at t u p h in (g.place, w.place)
+
+-- a token that is not the end is not empty
+pub token_goes_on : (text : List ℕ) (goal : Goal) (at : ℕ) (t : LexicalToken) → IsUtf8 text → IsPlace text at → Reads text goal at t → t.class ≢ End → t.start < t.stop
+token_goes_on text goal at t u p h ne =
+    word_forward t.class text t.start t.stop (record { word = h.word; passed = word_passed text goal at t u p h; longest = h.longest }) ne
+
+-- a word behind separators is the token that is read
+pub read_word : (text : List ℕ) (goal : Goal) (at : ℕ) (gap word rest : List ℕ) (class : LexicalClass) → IsUtf8 text → IsPlace text at → behind text at ≡ gap ++ (word ++ rest) →
+    Separators gap (word ++ rest) → IsTrue (not (begins_comment (word ++ rest))) → IsTrue (is_token class word rest) → IsTrue (allows goal class word) →
+    Reads text goal at (record { class = class; text = encode_utf8_all word; start = at + size gap; stop = at + size gap + size word; after_break = list_any is_line_terminator gap })
+read_word text goal at gap word rest class u p e s n l a =
+    let g = pass_word text at gap (word ++ rest) u p e in
+    let r = rest_of_word text (at + size gap) word rest u g.place (rest_of_word text at gap (word ++ rest) u p e) in
+    let whole : behind text at ≡ gap ++ word ++ behind text (at + size gap + size word) = e ∙ sym (append_assoc gap word rest) ∙ ap (λ x. gap ++ word ++ x) (sym r) in
+    record {
+      gap = gap;
+      word = word;
+      split = whole;
+      separated = subst (λ x. Separators gap (word ++ x)) (sym r) s;
+      no_comment = subst (λ x. IsTrue (not (begins_comment (word ++ x)))) (sym r) n;
+      longest = subst (λ x. IsTrue (is_token class word x)) (sym r) l;
+      allowed = a;
+      text = refl;
+      start = refl;
+      stop = refl;
+      after_break = refl;
+    }

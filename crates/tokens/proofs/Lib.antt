@@ -1,10 +1,19 @@
-pub mod Bounds
-pub mod Determined
-pub mod Lines
-pub mod Parts
-pub mod Places
-pub mod Words
 mod LexicalExamples
 mod TokenExamples
 mod Beginnings
 pub mod Longest
+pub mod Passing
+pub mod Separating
+pub mod Names
+pub mod Classes
+pub mod Determined
+pub mod Automata
+pub mod Numerals
+pub mod Parts
+pub mod Escaping
+pub mod Stringing
+pub mod Valued
+pub mod Punctuators
+pub mod Scanning
+pub mod Bounds
+pub mod Expressions

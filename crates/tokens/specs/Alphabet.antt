@@ -1,13 +1,8 @@
--- The characters of tokens and of what stands between them (ECMA-262 11.2, 11.6.1, 11.8), as code points. Line terminators (11.3) are in `Lines`.
+-- The characters of tokens (ECMA-262 11.6.1, 11.8), as code points. White space and line terminators (11.2, 11.3) are those of source_text.
 use Rattle.std.specs.Prelude.{ℕ, Bool, true, false, ◌&&◌, ◌||◌, ◌==◌, List, [], ◌∷◌, nat_le, codes}
 use Prim.Native.String.{String}
+pub use Rattle.source_text.specs.Spaces.{is_among, is_white_space}
 use Rattle.unicode_ident.specs.Ident.{is_xid_start, is_xid_continue}
-
--- the character is one of these
-abbrev pub is_among : ℕ → List ℕ → Bool
-is_among c [] = false
-is_among c (x ∷ []) = c == x
-is_among c (x ∷ y ∷ ys) = (c == x) || is_among c (y ∷ ys)
 
 -- the character is one of a text's
 abbrev pub one_of : String → ℕ → Bool
@@ -27,10 +22,6 @@ line_feed = 0xA
 
 abbrev pub carriage_return : ℕ
 carriage_return = 0xD
-
--- WhiteSpace (11.2): TAB, VT, FF, ZWNBSP, and the space separators of Unicode, SP and NBSP among them
-abbrev pub is_white_space : ℕ → Bool
-is_white_space c = is_among c (0x9 ∷ 0xB ∷ 0xC ∷ 0x20 ∷ 0xA0 ∷ 0xFEFF ∷ 0x1680 ∷ 0x202F ∷ 0x205F ∷ 0x3000 ∷ []) || (nat_le 0x2000 c && nat_le c 0x200A)
 
 -- IdentifierStart (11.6.1), without escapes
 abbrev pub is_identifier_start : ℕ → Bool

@@ -1,7 +1,7 @@
 -- Comments, and all that may stand between tokens (ECMA-262 11.2 to 11.4).
 use Rattle.std.specs.Prelude.{◌≡◌, ℕ, Bool, false, not, ◌&&◌, ◌||◌, List, [], ◌∷◌, ◌++◌, IsTrue}
 use Rattle.std.specs.List.{list_any}
-use Rattle.tokens.specs.Lines.{is_line_terminator}
+use Rattle.source_text.specs.Lines.{is_line_terminator}
 use Rattle.tokens.specs.Alphabet.{one_of, begins_with, is_empty, is_white_space}
 
 -- a comment can begin here, whether it ends or not

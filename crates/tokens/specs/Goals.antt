@@ -4,9 +4,8 @@ use Rattle.std.specs.Prelude.{ℕ, Bool, true, false, List, if◌then◌else◌}
 use Rattle.std.specs.Bool.{beq}
 use Rattle.tokens.specs.Alphabet.{one_of, begins_with}
 use Rattle.tokens.specs.Lexical.{LexicalClass}
-
-pub data Goal : Type 0 where
-  Div RegExp TemplateTail : Goal
+pub use Rattle.tokens.specs.declared.token.Goal.{Goal}
+pub use Rattle.tokens.specs.declared.token.Goal.TheVariants.{Div, RegExp, TemplateTail}
 
 -- whether `/` begins a regular expression
 abbrev pub reads_regexps : Goal → Bool

@@ -3,15 +3,14 @@ use Rattle.std.specs.Prelude.{ℕ, Bool, true, false, not, ◌&&◌, ◌||◌, L
 use Rattle.std.specs.List.{list_all}
 use Rattle.std.specs.Str.{bytes_eq}
 use Prim.Native.String.{String}
+-- the classes, as the program has them: `Text` is that of strings; the end of the text is a token too
+pub use Rattle.tokens.specs.declared.token.Class.{Class as LexicalClass}
+pub use Rattle.tokens.specs.declared.token.Class.TheVariants.{Name, Punctuator, Number, Text, Template, RegExp, End}
 use Rattle.tokens.specs.Alphabet.{begins_with, is_empty, is_identifier_start, is_identifier_part, is_decimal_digit}
 use Rattle.tokens.specs.Numbers.{is_number}
 use Rattle.tokens.specs.Strings.{is_string}
 use Rattle.tokens.specs.Templates.{is_template}
 use Rattle.tokens.specs.RegularExpressions.{is_regular_expression}
-
--- `Text` is the class of strings; the end of the text is a token too
-pub data LexicalClass : Type 0 where
-  Name Punctuator Number Text Template RegExp End : LexicalClass
 
 -- IdentifierName (11.6.1), reserved words among them
 abbrev pub is_name : List ℕ → Bool
@@ -23,10 +22,13 @@ is_one_of_words [] text = false
 is_one_of_words (word ∷ words) text = bytes_eq text (codes word) || is_one_of_words words text
 
 -- Punctuator, DivPunctuator and RightBracePunctuator (11.7)
-abbrev pub is_punctuator : List ℕ → Bool
-is_punctuator text = is_one_of_words ("{" ∷ "(" ∷ ")" ∷ "[" ∷ "]" ∷ "." ∷ "..." ∷ ";" ∷ "," ∷ "<" ∷ ">" ∷ "<=" ∷ ">=" ∷ "==" ∷ "!="
+abbrev pub punctuators : List String
+punctuators = "{" ∷ "(" ∷ ")" ∷ "[" ∷ "]" ∷ "." ∷ "..." ∷ ";" ∷ "," ∷ "<" ∷ ">" ∷ "<=" ∷ ">=" ∷ "==" ∷ "!="
     ∷ "===" ∷ "!==" ∷ "+" ∷ "-" ∷ "*" ∷ "%" ∷ "**" ∷ "++" ∷ "--" ∷ "<<" ∷ ">>" ∷ ">>>" ∷ "&" ∷ "|" ∷ "^" ∷ "!" ∷ "~" ∷ "&&" ∷ "||" ∷ "??"
-    ∷ "?" ∷ "?." ∷ ":" ∷ "=" ∷ "+=" ∷ "-=" ∷ "*=" ∷ "%=" ∷ "**=" ∷ "<<=" ∷ ">>=" ∷ ">>>=" ∷ "&=" ∷ "|=" ∷ "^=" ∷ "=>" ∷ "/" ∷ "/=" ∷ "}" ∷ []) text
+    ∷ "?" ∷ "?." ∷ ":" ∷ "=" ∷ "+=" ∷ "-=" ∷ "*=" ∷ "%=" ∷ "**=" ∷ "<<=" ∷ ">>=" ∷ ">>>=" ∷ "&=" ∷ "|=" ∷ "^=" ∷ "=>" ∷ "/" ∷ "/=" ∷ "}" ∷ []
+
+abbrev pub is_punctuator : List ℕ → Bool
+is_punctuator text = is_one_of_words punctuators text
 
 -- a text of the class, whatever stands behind it
 abbrev pub is_of : LexicalClass → List ℕ → Bool

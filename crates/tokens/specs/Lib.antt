@@ -1,14 +1,3 @@
-pub mod Lexeme
-pub mod Scanned
-pub mod Characters
-pub mod Reading
-pub mod Source
-pub mod Lines
-pub mod LineBytes
-pub mod Words
-mod Examples
-pub mod Io
-pub mod Memory
 pub mod Alphabet
 pub mod Comments
 pub mod Numbers
@@ -19,3 +8,11 @@ pub mod RegularExpressions
 pub mod Lexical
 pub mod Goals
 pub mod Tokens
+pub mod Reading
+pub mod Closing
+pub mod Fronts
+pub mod States
+pub mod Marks
+pub mod Scanned
+pub mod Escaped
+pub mod Laws

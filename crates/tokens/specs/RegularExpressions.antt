@@ -1,6 +1,6 @@
 -- RegularExpressionLiteral (ECMA-262 11.8.5), by how far a literal has been read.
 use Rattle.std.specs.Prelude.{ℕ, Bool, true, false, ◌&&◌, List, [], ◌∷◌, if◌then◌else◌}
-use Rattle.tokens.specs.Lines.{is_line_terminator}
+use Rattle.source_text.specs.Lines.{is_line_terminator}
 use Rattle.tokens.specs.Alphabet.{one_of, is_identifier_part}
 
 pub data RegularExpression : Type 0 where

@@ -1,7 +1,7 @@
 -- The token that is read at a place of a text, and readings of whole texts (ECMA-262 11). Texts are lists of characters, places count bytes.
 use Rattle.std.specs.Prelude.{◌≡◌, ℕ, ◌+◌, Bool, true, false, not, List, [], ◌∷◌, ◌++◌, length, encode_utf8_all, IsTrue}
 use Rattle.std.specs.List.{list_any}
-use Rattle.tokens.specs.Lines.{is_line_terminator}
+use Rattle.source_text.specs.Lines.{is_line_terminator}
 use Rattle.tokens.specs.Comments.{begins_comment, Separators}
 use Rattle.tokens.specs.Lexical.{LexicalClass, is_token}
 use Rattle.tokens.specs.Goals.{Goal, allows}

@@ -1,22 +1,25 @@
 #![tactic(auto)]
 
-//! Checked source text, devices, refusals, and the tokens of a text.
+//! The tokens of a text, and the values of strings and templates.
 
-mod device;
-mod fault;
-mod memory;
+mod escape;
+mod laws;
+mod name;
+mod number;
+mod punctuator;
+mod regexp;
 mod scanner;
-mod sink;
-mod source;
+mod separator;
+mod step;
+mod string;
+mod template;
 mod token;
+mod value;
 
-pub use device::Device;
-pub use fault::{Fault, Reason};
-pub use memory::{MemoryFeed, MemorySink, Plan};
+pub use laws::{at_most_one_token, readings_take_tokens};
 pub use scanner::{ScanFault, scan};
-pub use sink::{DeviceFault, Feed, Sink};
-pub use source::{MAX_BYTES, Source};
-pub use token::{Class, Token};
+pub use token::{Class, Goal, Token};
+pub use value::{string_units, template_value};
 
 #[cfg(test)]
 mod tests;

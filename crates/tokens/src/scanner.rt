@@ -1,186 +1,193 @@
 //! The next token of a text.
 
-ghost use Rattle.std.specs.Prelude.{◌≡◌, ◌≢◌, ◌+◌, ◌≤◌, ◌<◌, ℕ, length, slice_index, slice_range, IsTrue, false, IfOk, IfErr, OnErr, IfSome, IfNone};
-ghost use Rattle.tokens.specs.Characters.{is_space, is_digit, is_name_start, is_name_part, is_mark, class_at};
-ghost use Rattle.tokens.specs.Lexeme.{Lexeme};
-ghost use Rattle.tokens.specs.Reading.{AreSpaces, IsOf, IsLongest, IsTokenAt};
-ghost use Rattle.tokens.specs.Scanned.{IsFirstSolid, lexeme_of};
-ghost use Rattle.tokens.specs.Source.{IsPlace};
+ghost use Rattle.std.specs.Prelude.{◌≡◌, ◌≢◌, ◌≤◌, ◌<◌, ◌++◌, ℕ, List, [], slice_range, IfOk, IfErr, IfNone, IfSome, OnErr};
+ghost use Rattle.source_text.specs.Source.{IsPlace};
+ghost use Rattle.tokens.specs.Tokens.{LexicalToken, IsTokenAt};
+ghost use Rattle.tokens.specs.Reading.{behind, Reads};
+ghost use Rattle.tokens.specs.Alphabet.{begins_with, is_decimal_digit};
+ghost use Rattle.tokens.specs.Fronts.{class_by, class_of, is_mark};
+ghost use Rattle.tokens.specs.Goals.{reads_regexps, reads_template_parts};
+ghost use Rattle.tokens.specs.Scanned.{IsWordAt, NoWordAt, token_of};
 
-use crate::{Class, Source, Token};
+use crate::name::name_end;
+use crate::number::number_end;
+use crate::punctuator::punctuator_end;
+use crate::regexp::regexp_end;
+use crate::separator::{comment_begins, skip};
+use crate::step::step_at;
+use crate::string::string_end;
+use crate::template::template_end;
+use crate::{Class, Goal, Token};
+use source_text::Source;
 
-/// No token begins behind the white space at a place; `at` is where one would begin, in bytes.
+/// No token is read at a place; `at` is where it would begin, behind white space and comments, in bytes.
 #[derive(Clone, Copy, Debug, PartialEq, Eq)]
 pub struct ScanFault {
     pub at: usize,
 }
 
+// Whether the goal reads a regular expression at `/`, and a part of a template at `}`.
 #[inline]
-fn is_space_byte(c: u8) -> bool
-    ensures { result ≡ is_space c }
+fn reads_regexps(goal: Goal) -> bool
+    ensures { result ≡ reads_regexps goal }
 {
-    matches!(c, b'\t' | b'\n' | b'\r' | b' ')
+    match goal {
+        Goal::Div => false,
+        Goal::RegExp => true,
+        Goal::TemplateTail => false,
+    }
 }
 
 #[inline]
-fn is_digit_byte(c: u8) -> bool
-    ensures { result ≡ is_digit c }
+fn reads_template_parts(goal: Goal) -> bool
+    ensures { result ≡ reads_template_parts goal }
 {
-    c.is_ascii_digit()
+    match goal {
+        Goal::Div => false,
+        Goal::RegExp => false,
+        Goal::TemplateTail => true,
+    }
 }
 
+// Whether nothing but a punctuator begins with the character.
 #[inline]
-fn is_name_start_byte(c: u8) -> bool
-    ensures { result ≡ is_name_start c }
-{
-    matches!(c, b'a'..=b'z' | b'A'..=b'Z' | b'$' | b'_')
-}
-
-#[inline]
-fn is_name_part_byte(c: u8) -> bool
-    ensures { result ≡ is_name_part c }
-{
-    is_name_start_byte(c) || is_digit_byte(c)
-}
-
-#[inline]
-fn is_mark_byte(c: u8) -> bool
+fn is_mark(c: char) -> bool
     ensures { result ≡ is_mark c }
 {
-    matches!(c, b'+' | b'-' | b'*' | b'/' | b',' | b';' | b'(' | b')')
+    matches!(
+        c,
+        '{' | '('
+            | ')'
+            | '['
+            | ']'
+            | ';'
+            | ','
+            | '<'
+            | '>'
+            | '='
+            | '!'
+            | '+'
+            | '-'
+            | '*'
+            | '%'
+            | '&'
+            | '|'
+            | '^'
+            | '~'
+            | '?'
+            | ':'
+    )
 }
 
+// Whether a digit stands at a place.
 #[inline]
-fn class_of_byte(c: u8) -> Option<Class>
-    ensures { result ≡ class_at c }
+fn digit_follows(text: &str, at: usize) -> bool
+    requires { IsPlace text.now at }
+    ensures { result ≡ begins_with is_decimal_digit (behind text.now at) }
 {
-    if is_name_start_byte(c) {
-        Some(Class::Name)
-    } else if is_digit_byte(c) {
-        Some(Class::Number)
-    } else if is_mark_byte(c) {
-        Some(Class::Punctuator)
-    } else {
-        None
+    match step_at(text, at) {
+        Some(step) => step.c.is_ascii_digit(),
+        None => false,
     }
 }
 
-// The first place from `at` on where no space stands.
+// The class of the tokens that begin with a character, by the goal and whether a digit follows a point.
 #[inline]
-fn skip_spaces(text: &[u8], at: usize) -> usize
-    requires { at ≤ length text.now }
-    ensures spaces { AreSpaces text.now at result }
-    ensures stops { result < length text.now → is_space (slice_index text.now result) ≡ false }
+fn class_by(c: char, goal: Goal, digit: bool) -> Class
+    ensures { result ≡ class_by goal c digit }
 {
-    let mut end = at;
-    while end < text.len() && is_space_byte(text[end]) {
-        end += 1;
+    if c.is_ascii_digit() {
+        return Class::Number;
     }
-    end
+    match c {
+        '"' | '\'' => Class::Text,
+        '`' => Class::Template,
+        '}' => {
+            if reads_template_parts(goal) {
+                Class::Template
+            } else {
+                Class::Punctuator
+            }
+        }
+        '/' => {
+            if reads_regexps(goal) {
+                Class::RegExp
+            } else {
+                Class::Punctuator
+            }
+        }
+        '.' => {
+            if digit {
+                Class::Number
+            } else {
+                Class::Punctuator
+            }
+        }
+        _ => {
+            if is_mark(c) {
+                Class::Punctuator
+            } else {
+                Class::Name
+            }
+        }
+    }
 }
 
-// The end of the name whose further characters begin at `at`.
+// The class of the tokens that the goal reads at a place.
 #[inline]
-fn name_end(text: &[u8], at: usize) -> usize
-    requires { at ≤ length text.now }
-    ensures within { (at ≤ result) × (result ≤ length text.now) }
-    ensures all { (k : ℕ) → at ≤ k → k < result → IsTrue (is_name_part (slice_index text.now k)) }
-    ensures stops { result < length text.now → is_name_part (slice_index text.now result) ≡ false }
+fn class_at(text: &str, at: usize, goal: Goal) -> Class
+    requires { IsPlace text.now at }
+    ensures { result ≡ class_of goal (behind text.now at) }
 {
-    let mut end = at;
-    while end < text.len() && is_name_part_byte(text[end]) {
-        end += 1;
-    }
-    end
+    let Some(first) = step_at(text, at) else {
+        return Class::End;
+    };
+    let digit = (first.c == '.') & digit_follows(text, first.end);
+    class_by(first.c, goal, digit)
 }
 
-// The end of the digits from `at` on.
+// The place behind the token of a class that begins at a place, if there is one. The class is the one that the goal
+// reads there.
 #[inline]
-fn digits_end(text: &[u8], at: usize) -> usize
-    requires { at ≤ length text.now }
-    ensures within { (at ≤ result) × (result ≤ length text.now) }
-    ensures all { (k : ℕ) → at ≤ k → k < result → IsTrue (is_digit (slice_index text.now k)) }
-    ensures stops { result < length text.now → is_digit (slice_index text.now result) ≡ false }
-{
-    let mut end = at;
-    while end < text.len() && is_digit_byte(text[end]) {
-        end += 1;
-    }
-    end
-}
-
-// The end of the longest text of a number that begins at `start`.
-fn number_text_end(text: &[u8], start: usize) -> usize
-    requires within { start < length text.now }
-    requires begins { class_at (slice_index text.now start) ≡ Some Class.Number }
-    ensures is_of { IsOf Class.Number text.now start result }
-    ensures longest { (f : ℕ) → IsOf Class.Number text.now start f → f ≤ result }
-{
-    if text[start] == b'0' {
-        return start + 1;
-    }
-    digits_end(text, start + 1)
-}
-
-// The end of the number that begins at `start`, unless a name or a number goes on behind it.
-fn number_end(text: &[u8], start: usize) -> Option<usize>
-    requires within { start < length text.now }
-    requires begins { class_at (slice_index text.now start) ≡ Some Class.Number }
-    ensures some { IfSome result (λ e. IsLongest Class.Number text.now start e) }
-    ensures none { IfNone result ((e : ℕ) → IsLongest Class.Number text.now start e → ⊥) }
-{
-    let end = number_text_end(text, start);
-    if end < text.len() && is_name_part_byte(text[end]) {
-        return None;
-    }
-    Some(end)
-}
-
-// The end of the token of a class that begins at `start`.
-fn token_end(text: &[u8], start: usize, class: Class) -> Option<usize>
-    requires within { start < length text.now }
-    requires begins { class_at (slice_index text.now start) ≡ Some class }
-    ensures some { IfSome result (λ e. IsLongest class text.now start e) }
-    ensures none { IfNone result ((e : ℕ) → IsLongest class text.now start e → ⊥) }
+fn token_end(text: &str, at: usize, class: Class) -> Option<usize>
+    requires place { IsPlace text.now at }
+    requires end { class ≡ Class.End → behind text.now at ≡ [] }
+    ensures some { IfSome result (λ e. IsWordAt class text.now at e) }
+    ensures none { IfNone result (NoWordAt class text.now at) }
 {
     match class {
-        Class::Name => Some(name_end(text, start + 1)),
-        Class::Number => number_end(text, start),
-        Class::Punctuator => Some(start + 1),
-        Class::End => None,
+        Class::Name => name_end(text, at),
+        Class::Punctuator => punctuator_end(text, at),
+        Class::Number => number_end(text, at),
+        Class::Text => string_end(text, at),
+        Class::Template => template_end(text, at),
+        Class::RegExp => regexp_end(text, at),
+        Class::End => Some(at),
     }
 }
 
-/// The token behind the white space at a place, or the end of the text. It is a slice of the source; nothing is
-/// allocated.
+/// The token that the goal reads at a place (ECMA-262 clause 11): behind white space, line terminators and comments
+/// the longest of its class, or the end of the text. Its text is a slice of the source; nothing is allocated.
 ///
 /// # Errors
-/// `ScanFault` where no token is read, with the place behind the white space.
-pub fn scan<'s>(source: &Source<'s>, at: usize) -> Result<Token<'s>, ScanFault>
+/// `ScanFault` where the goal reads none, with the place behind the separators: also where a `/*` there has no end.
+pub fn scan<'s>(source: &Source<'s>, at: usize, goal: Goal) -> Result<Token<'s>, ScanFault>
     requires { IsPlace source.now at }
-    ensures ok { IfOk result (λ t. IsTokenAt source.now at (lexeme_of t)) }
+    ensures ok { IfOk result (λ t. Reads source.now goal at (token_of t)) }
     ensures within { IfOk result (λ t. (at ≤ t.start) × (t.start ≤ t.end) × IsPlace source.now t.start × IsPlace source.now t.end) }
     ensures goes_on { IfOk result (λ t. t.class ≢ Class.End → t.start < t.end) }
     ensures slice { IfOk result (λ t. t.text.now ≡ slice_range source.now t.start t.end) }
-    ensures err { OnErr result ((t : Lexeme) → IsTokenAt source.now at t → ⊥) }
+    ensures err { OnErr result ((t : LexicalToken) (rest : List ℕ) → IsTokenAt goal at (behind source.now at) t rest → ⊥) }
     ensures fault_place { IfErr result (λ f. (at ≤ f.at) × IsPlace source.now f.at) }
-    ensures fault_first { IfErr result (λ f. IsFirstSolid source.now at f.at) }
 {
     let text = source.text();
-    let bytes = text.as_bytes();
-    let start = skip_spaces(bytes, at);
-    if start == bytes.len() {
-        return Ok(Token {
-            class: Class::End,
-            text: &text[start..start],
-            start,
-            end: start,
-        });
-    }
-    let Some(class) = class_of_byte(bytes[start]) else {
+    let gap = skip(text, at);
+    let start = gap.end;
+    if comment_begins(text, start) {
         return Err(ScanFault { at: start });
-    };
-    let Some(end) = token_end(bytes, start, class) else {
+    }
+    let class = class_at(text, start, goal);
+    let Some(end) = token_end(text, start, class) else {
         return Err(ScanFault { at: start });
     };
     Ok(Token {
@@ -188,5 +195,6 @@ pub fn scan<'s>(source: &Source<'s>, at: usize) -> Result<Token<'s>, ScanFault>
         text: &text[start..end],
         start,
         end,
+        after_break: gap.broken,
     })
 }

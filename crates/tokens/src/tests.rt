@@ -1,24 +1,28 @@
-use crate::{Class, Fault, MAX_BYTES, Reason, Source, scan};
+use crate::{Class, Goal, scan, string_units, template_value};
+use source_text::Source;
 use std::process::Abort;
 use std::test::Fail;
 
-// What is read at a place: the token's class, text, start and end, or the place of the fault.
+// What a goal reads at a place: the token's class, text, start and whether a line break stands before it, or the
+// place of the fault.
 fn expect_token(
     rt: &impl Abort,
     text: &str,
     at: usize,
-    expected: Result<(Class, &str, usize, usize), usize>,
+    goal: Goal,
+    expected: Result<(Class, &str, usize, bool), usize>,
 ) {
     let source = Source::new(text.as_bytes());
     assert!(rt; source.is_ok(), "{text}");
     if let Ok(source) = source {
         assert!(rt; source.text().is_char_boundary(at), "{text}");
-        match (scan(&source, at), expected) {
-            (Ok(token), Ok((class, word, start, end))) => {
+        match (scan(&source, at, goal), expected) {
+            (Ok(token), Ok((class, word, start, after_break))) => {
                 assert_eq!(rt; token.class, class, "{text} at {at}");
                 assert!(rt; token.text == word, "{text} at {at}");
                 assert_eq!(rt; token.start, start, "{text} at {at}");
-                assert_eq!(rt; token.end, end, "{text} at {at}");
+                assert_eq!(rt; token.end, start + word.len(), "{text} at {at}");
+                assert_eq!(rt; token.after_break, after_break, "{text} at {at}");
             }
             (Err(fault), Err(place)) => assert_eq!(rt; fault.at, place, "{text} at {at}"),
             (Ok(_), Err(_)) => panic!(rt; "{text} at {at} is read"),
@@ -27,101 +31,388 @@ fn expect_token(
     }
 }
 
-#[test]
-fn tokens(rt: HostRuntime) {
-    expect_token(&rt, "", 0, Ok((Class::End, "", 0, 0)));
-    expect_token(&rt, " \t\r\n", 0, Ok((Class::End, "", 4, 4)));
-    expect_token(&rt, "  $_x9+", 0, Ok((Class::Name, "$_x9", 2, 6)));
-    expect_token(&rt, "  $_x9+", 3, Ok((Class::Name, "_x9", 3, 6)));
-    expect_token(&rt, "  $_x9+", 6, Ok((Class::Punctuator, "+", 6, 7)));
-    expect_token(&rt, "++", 0, Ok((Class::Punctuator, "+", 0, 1)));
-    expect_token(&rt, "120;", 0, Ok((Class::Number, "120", 0, 3)));
-    expect_token(&rt, "0 ", 0, Ok((Class::Number, "0", 0, 1)));
-    expect_token(&rt, "1 a", 0, Ok((Class::Number, "1", 0, 1)));
-    expect_token(&rt, "1 a", 1, Ok((Class::Name, "a", 2, 3)));
-    expect_token(&rt, "1a", 0, Err(0));
-    expect_token(&rt, " 007", 0, Err(1));
-    expect_token(&rt, "é", 0, Err(0));
-    expect_token(&rt, "aé", 0, Ok((Class::Name, "a", 0, 1)));
-    expect_token(&rt, "a  é", 1, Err(3));
+// The token of a class in front of a text, by the goal Div.
+fn expect_front(rt: &impl Abort, text: &str, class: Class, word: &str) {
+    expect_token(rt, text, 0, Goal::Div, Ok((class, word, 0, false)));
 }
 
 #[test]
-fn sources(rt: HostRuntime) -> Result<(), Fail> {
-    for (bytes, at) in [
-        (b"a\xFF".as_slice(), 1),
-        (b"\xFF".as_slice(), 0),
-        (b"a\xE2\x82".as_slice(), 1),
-        (b"ab\xC0\x80".as_slice(), 2),
-        (b"\xE0\x80\x80".as_slice(), 0),
-        (b"a\xED\xA0\x80".as_slice(), 1),
-        (b"\xF4\x90\x80\x80".as_slice(), 0),
-        (b"\xE2\x82\xACx\x80".as_slice(), 4),
+fn goals(rt: HostRuntime) {
+    for (text, at, goal, class, word) in [
+        ("a?.5:1", 1, Goal::Div, Class::Punctuator, "?"),
+        ("a?.5:1", 2, Goal::Div, Class::Number, ".5"),
+        ("a?.b", 1, Goal::Div, Class::Punctuator, "?."),
+        ("/=x/", 0, Goal::Div, Class::Punctuator, "/="),
+        ("/=x/", 0, Goal::RegExp, Class::RegExp, "/=x/"),
+        ("/=x/", 0, Goal::TemplateTail, Class::Punctuator, "/="),
+        ("}x${", 0, Goal::TemplateTail, Class::Template, "}x${"),
+        ("}x${", 0, Goal::Div, Class::Punctuator, "}"),
+        ("}x${", 0, Goal::RegExp, Class::Punctuator, "}"),
+        ("a", 0, Goal::RegExp, Class::Name, "a"),
+        ("a", 0, Goal::TemplateTail, Class::Name, "a"),
+        ("`x`", 0, Goal::RegExp, Class::Template, "`x`"),
     ] {
-        let fault = Source::new(bytes).err();
-        assert_eq!(rt; fault, Some(Fault::NotUtf8(at)));
+        expect_token(&rt, text, at, goal, Ok((class, word, at, false)));
     }
+}
+
+#[test]
+fn separators(rt: HostRuntime) {
+    for (text, at, class, word, start, after_break) in [
+        ("", 0, Class::End, "", 0, false),
+        (" \t\r\n", 0, Class::End, "", 4, true),
+        (" \t", 0, Class::End, "", 2, false),
+        ("/*\n*/ x", 0, Class::Name, "x", 6, true),
+        ("/* \u{2028} */x", 0, Class::Name, "x", 9, true),
+        ("/* * / **/x", 0, Class::Name, "x", 10, false),
+        ("/**/x", 0, Class::Name, "x", 4, false),
+        ("/***/x", 0, Class::Name, "x", 5, false),
+        ("// a /* b", 0, Class::End, "", 9, false),
+        ("// a\nb", 0, Class::Name, "b", 5, true),
+        ("// a\u{2029}b", 0, Class::Name, "b", 7, true),
+        ("//\r/**/b", 0, Class::Name, "b", 7, true),
+        ("a\u{A0}\u{FEFF}\u{3000}b", 1, Class::Name, "b", 9, false),
+        ("a\u{2028}b", 1, Class::Name, "b", 4, true),
+        ("a/**/", 1, Class::End, "", 5, false),
+        ("a /b", 1, Class::Punctuator, "/", 2, false),
+    ] {
+        expect_token(
+            &rt,
+            text,
+            at,
+            Goal::Div,
+            Ok((class, word, start, after_break)),
+        );
+    }
+}
+
+#[test]
+fn names(rt: HostRuntime) {
+    for (text, word) in [
+        ("$_x9+", "$_x9"),
+        ("aé", "aé"),
+        ("é", "é"),
+        ("ℵ ", "ℵ"),
+        ("𝒜x;", "𝒜x"),
+        ("a\u{200C}\u{200D}b", "a\u{200C}\u{200D}b"),
+        ("a\u{200B}", "a"),
+        ("zZ{", "zZ"),
+        ("AZaz09@", "AZaz09"),
+        ("a\\u0061", "a"),
+        ("if(", "if"),
+        ("a\u{2028}", "a"),
+    ] {
+        expect_front(&rt, text, Class::Name, word);
+    }
+}
+
+#[test]
+fn punctuators(rt: HostRuntime) {
+    for text in [
+        "{", "(", ")", "[", "]", ".", "...", ";", ",", "<", ">", "<=", ">=", "==", "!=", "===",
+        "!==", "+", "-", "*", "%", "**", "++", "--", "<<", ">>", ">>>", "&", "|", "^", "!", "~",
+        "&&", "||", "??", "?", "?.", ":", "=", "+=", "-=", "*=", "%=", "**=", "<<=", ">>=", ">>>=",
+        "&=", "|=", "^=", "=>", "/", "/=", "}",
+    ] {
+        expect_front(&rt, text, Class::Punctuator, text);
+    }
+    for (text, word) in [
+        ("..", "."),
+        ("....", "..."),
+        ("..5", "."),
+        ("...5", "..."),
+        ("?.5", "?"),
+        ("?..5", "?."),
+        ("?.=", "?."),
+        ("??=", "??"),
+        ("&&=", "&&"),
+        ("||=", "||"),
+        ("!===", "!=="),
+        ("====", "==="),
+        ("=>>", "=>"),
+        ("<=>", "<="),
+        ("+++", "++"),
+        ("+-", "+"),
+        ("***", "**"),
+        (">>>>", ">>>"),
+        (">>>==", ">>>="),
+        ("<<<", "<<"),
+        ("<!--", "<"),
+        ("-->", "--"),
+        ("^^", "^"),
+        ("%%", "%"),
+        ("~=", "~"),
+        (".é", "."),
+        ("?.é", "?."),
+        ("<é", "<"),
+    ] {
+        expect_front(&rt, text, Class::Punctuator, word);
+    }
+}
+
+#[test]
+fn numbers(rt: HostRuntime) {
+    for (text, word) in [
+        ("0", "0"),
+        ("7;", "7"),
+        ("120 ", "120"),
+        ("1.", "1."),
+        ("1..a", "1."),
+        ("0.5", "0.5"),
+        (".5.5", ".5"),
+        ("1e3", "1e3"),
+        ("1.5E-30)", "1.5E-30"),
+        (".5e+1", ".5e+1"),
+        ("0n", "0n"),
+        ("12n+", "12n"),
+        ("1n.", "1n"),
+        ("0xaFn", "0xaFn"),
+        ("0b01", "0b01"),
+        ("0O17", "0O17"),
+        ("1.5.5", "1.5"),
+        ("1/é", "1"),
+    ] {
+        expect_front(&rt, text, Class::Number, word);
+    }
+}
+
+#[test]
+fn strings(rt: HostRuntime) {
+    for text in [
+        "''",
+        "\"\"",
+        "'a'",
+        "'\"'",
+        "\"'\"",
+        "'\\''",
+        "'\\\\'",
+        "'\\0'",
+        "'\\0a'",
+        "'\\x41'",
+        "'\\u0041'",
+        "'\\u{41}'",
+        "'\\u{0010FFFF}'",
+        "'\\q'",
+        "'\\b\\t\\n\\v\\f\\r'",
+        "'é'",
+        "'\u{2028}\u{2029}'",
+        "'\\\n'",
+        "'\\\r\n'",
+        "'\\\u{2028}'",
+        "'😀'",
+        "'\\😀'",
+        "'\\\r'",
+        "'\\u{000000041}'",
+        "'//'",
+    ] {
+        expect_front(&rt, text, Class::Text, text);
+    }
+    expect_front(&rt, "'a''b'", Class::Text, "'a'");
+}
+
+#[test]
+fn templates(rt: HostRuntime) {
+    for text in [
+        "``", "`a`", "`a${", "`$`", "`$(`", "`$$${", "`\\``", "`\\${`", "`$\\{`", "`\\1`",
+        "`\\u{`", "`{}`", "`'\"`", "`\\\\`", "`\r\n`", "`é`", "`\\é`",
+    ] {
+        expect_front(&rt, text, Class::Template, text);
+    }
+    expect_front(&rt, "`a`b`", Class::Template, "`a`");
+    expect_front(&rt, "`a${b}c`", Class::Template, "`a${");
+    for text in ["}`", "}a`", "}x${", "}{}`"] {
+        expect_token(
+            &rt,
+            text,
+            0,
+            Goal::TemplateTail,
+            Ok((Class::Template, text, 0, false)),
+        );
+    }
+}
+
+#[test]
+fn regular_expressions(rt: HostRuntime) {
+    for (text, word) in [
+        ("/a/", "/a/"),
+        ("/a/gi.b", "/a/gi"),
+        ("/[/]/", "/[/]/"),
+        ("/[\\]/]/", "/[\\]/]/"),
+        ("/\\//", "/\\//"),
+        ("/[[]/", "/[[]/"),
+        ("/]/", "/]/"),
+        ("/a*/;", "/a*/"),
+        ("/\\*/", "/\\*/"),
+        ("/ /x$_9", "/ /x$_9"),
+        ("/{/é+", "/{/é"),
+        ("/é/", "/é/"),
+        ("/a//b", "/a/"),
+    ] {
+        expect_token(
+            &rt,
+            text,
+            0,
+            Goal::RegExp,
+            Ok((Class::RegExp, word, 0, false)),
+        );
+    }
+    for text in [
+        "/",
+        "/a",
+        "/[/",
+        "/[/g",
+        "/\\/",
+        "/a\n/",
+        "/[\n]/",
+        "/\\\n/",
+        "/\\\u{2028}/",
+        "/[\\]/",
+        "/[\\\n]/",
+    ] {
+        expect_token(&rt, text, 0, Goal::RegExp, Err(0));
+    }
+}
+
+#[test]
+fn faults(rt: HostRuntime) {
+    for (text, at, place) in [
+        ("3in", 0, 0),
+        ("010", 0, 0),
+        ("\\u0061", 0, 0),
+        ("'\\08'", 0, 0),
+        ("08", 0, 0),
+        ("1.a", 0, 0),
+        ("1e", 0, 0),
+        ("1e+", 0, 0),
+        ("1.5n", 0, 0),
+        ("0x", 0, 0),
+        ("0xg", 0, 0),
+        ("0o8", 0, 0),
+        ("0b2", 0, 0),
+        ("1_0", 0, 0),
+        ("1é", 0, 0),
+        ("0x1n1", 0, 0),
+        ("/*", 0, 0),
+        ("a /* b", 1, 2),
+        ("/*/", 0, 0),
+        ("\n/**", 0, 1),
+        ("@", 0, 0),
+        (" #", 0, 1),
+        ("\\", 0, 0),
+        ("\u{200B}", 0, 0),
+        ("\u{200C}", 0, 0),
+        ("é €", 2, 3),
+        ("'", 0, 0),
+        ("'a", 0, 0),
+        ("'a\n'", 0, 0),
+        ("'a\r'", 0, 0),
+        ("'\\", 0, 0),
+        ("'\\'", 0, 0),
+        ("'\\00'", 0, 0),
+        ("'\\1'", 0, 0),
+        ("'\\9'", 0, 0),
+        ("'\\x4'", 0, 0),
+        ("'\\x4g'", 0, 0),
+        ("'\\u004'", 0, 0),
+        ("'\\u{}'", 0, 0),
+        ("'\\u{110000}'", 0, 0),
+        ("'\\u{41'", 0, 0),
+        ("'\\u{41g}'", 0, 0),
+        ("'\\u{g}'", 0, 0),
+        ("'\\u'", 0, 0),
+        ("'\\uD80'", 0, 0),
+        ("'\\x'", 0, 0),
+        ("'\\xg1'", 0, 0),
+        ("'\\8'", 0, 0),
+        ("'\\u{FFFFFFFFFFFFFFFF}'", 0, 0),
+        ("'\\\n\n'", 0, 0),
+        ("\"'", 0, 0),
+        ("`", 0, 0),
+        ("`a$(", 0, 0),
+        ("`\\`", 0, 0),
+    ] {
+        expect_token(&rt, text, at, Goal::Div, Err(place));
+    }
+}
+
+#[test]
+fn string_values(rt: HostRuntime) -> Result<(), Fail> {
     let alloc = rt.alloc();
-    let mut bytes = vec![in alloc; b' '; MAX_BYTES]?;
-    assert!(rt; Source::new(bytes.as_slice()).is_ok());
-    bytes.push(b' ')?;
-    assert_eq!(rt; Source::new(bytes.as_slice()).err(), Some(Fault::TooLong));
-    let bytes = vec![in alloc; b'\xFF'; MAX_BYTES + 1]?;
-    assert_eq!(rt; Source::new(bytes.as_slice()).err(), Some(Fault::TooLong));
+    for (text, units) in [
+        ("'\\u{1F600}'", [0xD83D, 0xDE00].as_slice()),
+        ("'😀'", [0xD83D, 0xDE00].as_slice()),
+        ("''", [].as_slice()),
+        ("'a\\x41\\u0042'", [0x61, 0x41, 0x42].as_slice()),
+        (
+            "'\\b\\t\\n\\v\\f\\r\\'\\\"\\\\'",
+            [8, 9, 10, 11, 12, 13, 0x27, 0x22, 0x5C].as_slice(),
+        ),
+        ("'\\0\\q\\é'", [0, 0x71, 0xE9].as_slice()),
+        (
+            "'a\\\r\nb\\\nc\\\u{2028}d\\\re'",
+            [0x61, 0x62, 0x63, 0x64, 0x65].as_slice(),
+        ),
+        ("'\\u{D800}\\uDFFF'", [0xD800, 0xDFFF].as_slice()),
+        (
+            "'\\u{10FFFF}\\u{10000}'",
+            [0xDBFF, 0xDFFF, 0xD800, 0xDC00].as_slice(),
+        ),
+        ("'\\u{FFFF}\u{2029}'", [0xFFFF, 0x2029].as_slice()),
+        ("'\\xfF\\uabCD\\u{0}'", [0xFF, 0xABCD, 0].as_slice()),
+        ("'\\0\\\u{2029}\\\n\\\n'", [0].as_slice()),
+        ("'\\😀\\$\\`'", [0xD83D, 0xDE00, 0x24, 0x60].as_slice()),
+        ("\"'\\\"\"", [0x27, 0x22].as_slice()),
+    ] {
+        let value = string_units(alloc, text)?;
+        assert!(rt; value.as_slice() == units, "{text}");
+    }
     Ok(())
 }
 
 #[test]
-fn places(rt: HostRuntime) {
-    for (text, offset, line, column) in [
-        ("", 0, 1, 1),
-        ("a\u{2028}b", 4, 2, 1),
-        ("a\u{2029}b", 4, 2, 1),
-        ("a\u{202A}b", 4, 1, 3),
-        ("é b", 3, 1, 3),
-        ("a\r\nb", 1, 1, 2),
-        ("a\r\nb", 2, 1, 3),
-        ("a\r\nb", 3, 2, 1),
-        ("a\r\nb", 4, 2, 2),
-        ("a\rb", 2, 2, 1),
-        ("a\r", 2, 2, 1),
-        ("\n\r\n\r\r", 5, 5, 1),
-        ("😀\n😀x", 9, 2, 2),
-    ] {
-        let source = Source::new(text.as_bytes());
-        assert!(rt; source.is_ok(), "{text}");
-        if let Ok(source) = source {
-            assert_eq!(rt; source.len(), text.len());
-            assert_eq!(rt; source.is_empty(), text.is_empty());
-            assert_eq!(rt; source.bytes().len(), text.len());
-            assert!(rt; source.text().is_char_boundary(offset), "{text}");
-            assert_eq!(rt;
-                source.line_column(offset),
-                (line, column),
-                "{text} at {offset}"
-            );
-        }
-    }
-}
-
-#[test]
-fn messages(rt: HostRuntime) -> Result<(), Fail> {
+fn template_values(rt: HostRuntime) -> Result<(), Fail> {
     let alloc = rt.alloc();
-    for (fault, message) in [
-        (Fault::NotUtf8(7), "not UTF-8 at byte 7"),
-        (Fault::TooLong, "longer than 16777216 bytes"),
-        (Fault::Syntax(3), "syntax error at byte 3"),
-        (Fault::TooDeep, "nested too deep"),
-        (Fault::Early(12, 4), "early error E12 at byte 4"),
-        (Fault::OutOfMemory, "out of memory"),
-        (Fault::BadSettings, "bad settings"),
-        (Fault::BadTable(2, Reason::High), "bad table row 2 High"),
-        (Fault::WriteFailed, "write failed"),
-        (Fault::ReadFailed, "read failed"),
-        (Fault::Usage, "usage"),
+    for (text, raw, cooked) in [
+        ("\\x41\r\nb", "\\x41\nb", Some([0x41, 0xA, 0x62].as_slice())),
+        ("\\1", "\\1", None),
+        ("", "", Some([].as_slice())),
+        (
+            "a\rb\r\r\n",
+            "a\nb\n\n",
+            Some([0x61, 0xA, 0x62, 0xA, 0xA].as_slice()),
+        ),
+        ("\\\r\na", "\\\na", Some([0x61].as_slice())),
+        ("\\08", "\\08", None),
+        ("\\xg", "\\xg", None),
+        ("\\u{", "\\u{", None),
+        ("\\9", "\\9", None),
+        ("\\00", "\\00", None),
+        ("\\x", "\\x", None),
+        ("\\x4", "\\x4", None),
+        ("\\u006", "\\u006", None),
+        ("\\u{}", "\\u{}", None),
+        ("\\u{61", "\\u{61", None),
+        ("\\u{110000}", "\\u{110000}", None),
+        ("a\\1b\r", "a\\1b\n", None),
+        (
+            "\\0a\\`\\$",
+            "\\0a\\`\\$",
+            Some([0, 0x61, 0x60, 0x24].as_slice()),
+        ),
+        (
+            "\\\r\\\r\nb\u{2028}",
+            "\\\n\\\nb\u{2028}",
+            Some([0x62, 0x2028].as_slice()),
+        ),
+        ("é😀", "é😀", Some([0xE9, 0xD83D, 0xDE00].as_slice())),
     ] {
-        let text = format!(in alloc; "{fault}")?;
-        assert!(rt; text.as_str() == message, "{text}");
+        let (raw_value, cooked_value) = template_value(alloc, text)?;
+        assert!(rt; raw_value.as_str() == raw, "{text}");
+        match (cooked_value, cooked) {
+            (Some(units), Some(expected)) => assert!(rt; units.as_slice() == expected, "{text}"),
+            (None, None) => {}
+            _ => panic!(rt; "{text}"),
+        }
     }
     Ok(())
 }

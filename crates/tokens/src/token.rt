@@ -1,12 +1,30 @@
 //! Tokens, as the scanner gives them.
 
+/// What `/` and `}` begin (the goal symbols of ECMA-262 clause 11).
+#[derive(Clone, Copy, Debug, PartialEq, Eq)]
+pub enum Goal {
+    /// `/` and `}` are punctuators.
+    Div,
+    /// `/` begins a regular expression.
+    RegExp,
+    /// `}` begins a part of a template.
+    TemplateTail,
+}
+
 /// What a token is (ECMA-262 clause 11).
 #[derive(Clone, Copy, Debug, PartialEq, Eq)]
 pub enum Class {
     /// An IdentifierName, reserved or not.
     Name,
     Punctuator,
+    /// A NumericLiteral.
     Number,
+    /// A StringLiteral.
+    Text,
+    /// A part of a template, with its delimiters.
+    Template,
+    /// A RegularExpressionLiteral.
+    RegExp,
     /// The end of the text.
     End,
 }
@@ -18,4 +36,6 @@ pub struct Token<'s> {
     pub text: &'s str,
     pub start: usize,
     pub end: usize,
+    /// Whether a line terminator stands between the place where reading began and the token, inside a comment too.
+    pub after_break: bool,
 }

@@ -1,78 +1,53 @@
-use Rattle.std.proofs.Common.{◌≡◌, ◌≢◌, ◌<◌, ℕ, List, length, Some, false, refl, sym, ap, ◌∙◌, subst, arith}
-use Rattle.std.specs.Prelude.{slice_index, slice_range}
-use Rattle.tokens.specs.declared.token.Class.{Class}
+use Rattle.std.proofs.Common.{◌≡◌, ◌≢◌, ◌<◌, ℕ, Bool, true, false, List, [], sym, ap, ◌∙◌, subst}
+use Rattle.std.specs.Prelude.{slice_range}
+use Rattle.source_text.specs.Source.{IsPlace}
 use Rattle.tokens.specs.declared.token.Class.TheVariants.{End}
-use Rattle.tokens.specs.Characters.{is_space, class_at}
-use Rattle.tokens.specs.Reading.{AreSpaces, IsLongest, IsTokenAt, token}
-use Rattle.tokens.specs.Source.{IsPlace}
-use Rattle.tokens.proofs.Determined.{no_class, no_token, ended_at}
-use Rattle.tokens.proofs.Places.{spaces_place, token_place}
+use Rattle.tokens.specs.Comments.{begins_comment}
+use Rattle.tokens.specs.Fronts.{class_of}
+use Rattle.tokens.specs.Lexical.{LexicalClass}
+use Rattle.tokens.specs.Reading.{behind}
+use Rattle.tokens.specs.Scanned.{IsGap, IsSolid, IsWordAt, NoWordAt}
+use Rattle.tokens.proofs.Scanning.{end_only, token_reads, none_in_comment, none_of_class, word_forward}
 use Rattle.tokens.proofs.scanner.scan.Goals as goal
-use Rattle.tokens.proofs.scanner.scan.Goals.{After-skip_spaces-start}
+use Rattle.tokens.proofs.scanner.scan.Goals.{After-skip-gap}
 
--- what holds of the bytes holds of the source
-along : (c : After-skip_spaces-start) (P : List ℕ → Type 0) → P c.as_bytes-bytes.result.now → P c.args.source.now
-along c P h = subst P (c.as_bytes-bytes.ensures.value ∙ c.text-text.ensures.value) h
+-- what holds of the text holds of the source
+along : (c : After-skip-gap) (P : List ℕ → Type 0) → P c.text-text.result.now → P c.args.source.now
+along c P h = subst P c.text-text.ensures.value h
 
-spaces : (c : After-skip_spaces-start) → AreSpaces c.args.source.now c.args.at c.skip_spaces-start.result
-spaces c = along c (λ x. AreSpaces x c.args.at c.skip_spaces-start.result) c.skip_spaces-start.ensures.spaces
+gap : (c : After-skip-gap) → IsGap c.args.source.now c.args.at c.skip-gap.result.end c.skip-gap.result.broken
+gap c = along c (λ x. IsGap x c.args.at c.skip-gap.result.end c.skip-gap.result.broken) c.skip-gap.ensures.gap
 
-stops : (c : After-skip_spaces-start) → c.skip_spaces-start.result < length c.args.source.now → is_space (slice_index c.args.source.now c.skip_spaces-start.result) ≡ false
-stops c = along c (λ x. c.skip_spaces-start.result < length x → is_space (slice_index x c.skip_spaces-start.result) ≡ false) c.skip_spaces-start.ensures.stops
+solid : (c : After-skip-gap) → IsSolid (behind c.args.source.now c.skip-gap.result.end)
+solid c = along c (λ x. IsSolid (behind x c.skip-gap.result.end)) c.skip-gap.ensures.solid
 
-inside : (c : After-skip_spaces-start) → c.skip_spaces-start.result ≢ length c.as_bytes-bytes.result.now → c.skip_spaces-start.result < length c.args.source.now
-inside c ne = along c (λ x. c.skip_spaces-start.result < length x) (let h = c.skip_spaces-start.ensures.spaces.within in omega arith)
+place : (c : After-skip-gap) → IsPlace c.args.source.now c.skip-gap.result.end
+place c = let g = gap c in let p = g.passed in p.place
 
-start_place : (c : After-skip_spaces-start) → IsPlace c.args.source.now c.skip_spaces-start.result
-start_place c = spaces_place c.args.source.now c.args.at c.skip_spaces-start.result c.text-text.ensures.utf8 c.requires (spaces c)
+pub returns-then-comment_begins-clause-err : goal.returns-then-comment_begins-clause-err
+returns-then-comment_begins-clause-err d =
+    let c = (goal.at.returns-then-comment_begins-clause-err d).After-skip-gap in
+    none_in_comment c.args.source.now c.args.goal c.args.at c.skip-gap.result.end c.skip-gap.result.broken (gap c) (solid c)
+    (along c (λ x. begins_comment (behind x c.skip-gap.result.end) ≡ true) (sym d.comment_begins.ensures ∙ d.if-comment_begins.true))
 
-end_place : (c : After-skip_spaces-start) (class : Class) (e : ℕ) → IsLongest class c.as_bytes-bytes.result.now c.skip_spaces-start.result e → IsPlace c.args.source.now e
-end_place c class e h =
-    token_place class c.args.source.now c.skip_spaces-start.result e c.text-text.ensures.utf8 (along c (λ x. IsLongest class x c.skip_spaces-start.result e) h)
-
-pub returns-then-start-bytes-clause-ok : goal.returns-then-start-bytes-clause-ok
-returns-then-start-bytes-clause-ok d =
-    let c = (goal.at.returns-then-start-bytes-clause-ok d).After-skip_spaces-start in
-    let s = c.skip_spaces-start.result in
-    let e : s ≡ length c.args.source.now = along c (λ x. s ≡ length x) d.if-start-bytes.true in
-    let p : d.range.result.now ≡ slice_range c.args.source.now s s = d.range.ensures.value ∙ ap (λ x. slice_range x s s) c.text-text.ensures.value in
-    subst (λ x. IsTokenAt c.args.source.now c.args.at (record { class = End; text = x; start = s; stop = s })) (sym p) (ended_at _ _ _ e (spaces c))
+pub token_end-requires-clause-end : goal.token_end-requires-clause-end
+token_end-requires-clause-end d = λ e. end_only d.args.goal (behind d.text-text.result.now d.skip-gap.result.end) (sym d.class_at-class.ensures ∙ e)
 
 pub returns-in_default-clause-err : goal.returns-in_default-clause-err
 returns-in_default-clause-err d =
-    let c = (goal.at.returns-in_default-clause-err d).After-skip_spaces-start in
-    let lt = inside c d.if-start-bytes.false in
-    no_class _ _ _ (spaces c) lt (stops c lt) (λ k h e l. d.in_default.not-Some k (d.class_of_byte.ensures ∙ along c (λ x. class_at (slice_index c.as_bytes-bytes.result.now c.skip_spaces-start.result) ≡ class_at (slice_index x c.skip_spaces-start.result)) refl ∙ h))
-
-pub returns-in_default-clause-fault_place : goal.returns-in_default-clause-fault_place
-returns-in_default-clause-fault_place d =
-    let c = (goal.at.returns-in_default-clause-fault_place d).After-skip_spaces-start in
-    (c.skip_spaces-start.ensures.spaces.ordered, start_place c)
-
-pub returns-in_default-token_end-clause-err : goal.returns-in_default-token_end-clause-err
-returns-in_default-token_end-clause-err d =
-    let c = (goal.at.returns-in_default-token_end-clause-err d).After-skip_spaces-start in
-    let lt = inside c d.if-start-bytes.false in
-    let begins = along c (λ x. class_at (slice_index x c.skip_spaces-start.result) ≡ Some d.in-Some.class) (sym d.class_of_byte.ensures ∙ d.in-Some.is) in
-    let none = along c (λ x. (e : ℕ) → IsLongest d.in-Some.class x c.skip_spaces-start.result e → ⊥) d.in_default-token_end.ensures.none in
-    no_token _ _ _ d.in-Some.class (spaces c) lt (stops c lt) begins none
-
-pub range-requires-2-clause-end_boundary : goal.range-requires-2-clause-end_boundary
-range-requires-2-clause-end_boundary d =
-    let c = (goal.at.range-requires-2-clause-end_boundary d).After-skip_spaces-start in
-    let p = end_place c d.in-Some.class _ d.in-Some-token_end.ensures.some in
-    subst (λ x. IsPlace x d.in-Some-token_end.end) (sym c.text-text.ensures.value) p
+    let c = (goal.at.returns-in_default-clause-err d).After-skip-gap in
+    none_of_class c.args.source.now c.args.goal c.args.at c.skip-gap.result.end c.skip-gap.result.broken d.class_at-class.result (gap c) (solid c)
+    (along c (λ x. d.class_at-class.result ≡ class_of c.args.goal (behind x c.skip-gap.result.end)) d.class_at-class.ensures)
+    (along c (λ x. NoWordAt d.class_at-class.result x c.skip-gap.result.end) d.in_default.ensures.none)
 
 pub returns-clause-ok : goal.returns-clause-ok
 returns-clause-ok d =
-    let c = (goal.at.returns-clause-ok d).After-skip_spaces-start in
-    let s = c.skip_spaces-start.result in
-    let e = d.in-Some-token_end.end in
-    let p : d.range-2.result.now ≡ slice_range c.args.source.now s e = d.range-2.ensures.value ∙ ap (λ x. slice_range x s e) c.text-text.ensures.value in
-    let longest = along c (λ x. IsLongest d.in-Some.class x s e) d.in-Some-token_end.ensures.some in
-    subst (λ x. IsTokenAt c.args.source.now c.args.at (record { class = d.in-Some.class; text = x; start = s; stop = e })) (sym p) (token (spaces c) longest)
+    let c = (goal.at.returns-clause-ok d).After-skip-gap in
+    token_reads c.args.source.now c.args.goal c.args.at c.skip-gap.result.end d.in-Some.end c.skip-gap.result.broken d.class_at-class.result d.range.result.now c.text-text.ensures.utf8 (place c) (gap c)
+    (along c (λ x. begins_comment (behind x c.skip-gap.result.end) ≡ false) (sym d.comment_begins.ensures ∙ d.if-comment_begins.false))
+    (along c (λ x. d.class_at-class.result ≡ class_of c.args.goal (behind x c.skip-gap.result.end)) d.class_at-class.ensures)
+    (along c (λ x. IsWordAt d.class_at-class.result x c.skip-gap.result.end d.in-Some.end) d.in-Some.ensures.some)
+    (d.range.ensures.value ∙ ap (λ (x : List ℕ). slice_range x c.skip-gap.result.end d.in-Some.end) c.text-text.ensures.value)
 
-pub returns-clause-within : goal.returns-clause-within
-returns-clause-within d =
-    let c = (goal.at.returns-clause-within d).After-skip_spaces-start in
-    (c.skip_spaces-start.ensures.spaces.ordered, (let h = d.in-Some-token_end.ensures.some.is_of.ordered in omega arith), start_place c, end_place c d.in-Some.class _ d.in-Some-token_end.ensures.some)
+pub returns-clause-goes_on : goal.returns-clause-goes_on
+returns-clause-goes_on d = word_forward d.class_at-class.result d.text-text.result.now d.skip-gap.result.end d.in-Some.end d.in-Some.ensures.some

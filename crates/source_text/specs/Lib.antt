@@ -1,0 +1,6 @@
+pub mod Source
+pub mod Lines
+pub mod LineBytes
+pub mod Spaces
+pub mod Io
+pub mod Memory

@@ -1,0 +1,5 @@
+use Rattle.tokens.proofs.Escaping.{HasDigits}
+use Rattle.tokens.proofs.escape.fixed_digits.Given as goal
+
+abbrev pub invariant-loop : goal.invariant-loop
+invariant-loop l = HasDigits l.text l.at l.end l.counter l.value

@@ -1,0 +1,12 @@
+use Rattle.std.proofs.Common.{sym, ◌∙◌}
+use Rattle.tokens.specs.Alphabet.{is_identifier_part}
+use Rattle.tokens.proofs.Separating.{all_begins, all_goes_on, run_stops, run_ends}
+use Rattle.tokens.proofs.name.parts_end.Goals as goal
+
+pub loop-step-init : goal.loop-step-init
+loop-step-init c = all_begins is_identifier_part c.args.text.now c.args.at c.requires
+
+pub loop-step-preserved : goal.loop-step-preserved
+loop-step-preserved c =
+    all_goes_on is_identifier_part c.args.text.now c.args.at c.loop-step.end c.in-Some.step.end c.in-Some.step.c c.loop-step.invariant c.in-Some.ensures.some
+    (sym c.is_part.ensures ∙ c.if-not-is_part.false)

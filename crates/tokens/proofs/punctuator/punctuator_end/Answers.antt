@@ -1,0 +1,37 @@
+use Rattle.std.proofs.Common.{◌≡◌, Bool, not, ◌&&◌, ◌==◌, sym, ap, ◌∙◌}
+use Rattle.tokens.specs.Alphabet.{is_decimal_digit}
+use Rattle.tokens.specs.Marks.{is_pair, is_single}
+use Rattle.tokens.proofs.Punctuators.{Four, found_four, found_three, found_two, found_one, found_none, digit_is}
+use Rattle.tokens.proofs.punctuator.punctuator_end.Goals as goal
+use Rattle.tokens.proofs.punctuator.punctuator_end.Goals.{After-look-e}
+
+seen : (c : After-look-e) → Four c.args.text.now c.args.at c.look-b.result.c c.look-c.result.c c.look-d.result.c c.look-e.result.c c.look-b.result.end c.look-c.result.end c.look-d.result.end c.look-e.result.end
+seen c = record { one = c.look-b.ensures; two = c.look-c.ensures; three = c.look-d.ensures; four = c.look-e.ensures }
+
+same_pair : (p q k x y : Bool) → p ≡ q → x ≡ y → (p && not (k && x)) ≡ (q && not (k && y))
+same_pair p q k x y e f = ap (λ a. a && not (k && x)) e ∙ ap (λ b. q && not (k && b)) f
+
+pub returns-then-is_quadruple-clause-some : goal.returns-then-is_quadruple-clause-some
+returns-then-is_quadruple-clause-some c =
+    found_four _ _ _ _ _ _ _ _ _ _ (seen (goal.at.returns-then-is_quadruple-clause-some c).After-look-e) (sym c.is_quadruple.ensures ∙ c.if-is_quadruple.true)
+
+pub returns-then-is_triple-clause-some : goal.returns-then-is_triple-clause-some
+returns-then-is_triple-clause-some c =
+    found_three _ _ _ _ _ _ _ _ _ _ (seen (goal.at.returns-then-is_triple-clause-some c).After-look-e) (sym c.is_quadruple.ensures ∙ c.if-is_quadruple.false) (sym c.is_triple.ensures ∙ c.if-is_triple.true)
+
+pub returns-then-is_pair-chains-clause-some : goal.returns-then-is_pair-chains-clause-some
+returns-then-is_pair-chains-clause-some c =
+    found_two _ _ _ _ _ _ _ _ _ _ (seen (goal.at.returns-then-is_pair-chains-clause-some c).After-look-e) (sym c.is_quadruple.ensures ∙ c.if-is_quadruple.false) (sym c.is_triple.ensures ∙ c.if-is_triple.false)
+    (sym (same_pair _ _ ((c.look-b.result.c == 63) && (c.look-c.result.c == 46)) _ _ c.is_pair.ensures (c.is_ascii_digit.ensures.value ∙ digit_is c.look-d.result.c)) ∙ c.if-is_pair-chains.true)
+
+pub returns-then-is_single-b-clause-some : goal.returns-then-is_single-b-clause-some
+returns-then-is_single-b-clause-some c =
+    found_one _ _ _ _ _ _ _ _ _ _ (seen (goal.at.returns-then-is_single-b-clause-some c).After-look-e) (sym c.is_quadruple.ensures ∙ c.if-is_quadruple.false) (sym c.is_triple.ensures ∙ c.if-is_triple.false)
+    (sym (same_pair _ _ ((c.look-b.result.c == 63) && (c.look-c.result.c == 46)) _ _ c.is_pair.ensures (c.is_ascii_digit.ensures.value ∙ digit_is c.look-d.result.c)) ∙ c.if-is_pair-chains.false)
+    (sym (same_pair _ _ (c.look-b.result.c == 46) _ _ c.is_single.ensures (c.is_ascii_digit-2.ensures.value ∙ digit_is c.look-c.result.c)) ∙ c.if-is_single-b.true)
+
+pub returns-clause-none : goal.returns-clause-none
+returns-clause-none c =
+    found_none _ _ _ _ _ _ _ _ _ _ (seen (goal.at.returns-clause-none c).After-look-e) (sym c.is_quadruple.ensures ∙ c.if-is_quadruple.false) (sym c.is_triple.ensures ∙ c.if-is_triple.false)
+    (sym (same_pair _ _ ((c.look-b.result.c == 63) && (c.look-c.result.c == 46)) _ _ c.is_pair.ensures (c.is_ascii_digit.ensures.value ∙ digit_is c.look-d.result.c)) ∙ c.if-is_pair-chains.false)
+    (sym (same_pair _ _ (c.look-b.result.c == 46) _ _ c.is_single.ensures (c.is_ascii_digit-2.ensures.value ∙ digit_is c.look-c.result.c)) ∙ c.if-is_single-b.false)

@@ -1,0 +1,11 @@
+use Rattle.std.proofs.Common.{sym, subst}
+use Rattle.tokens.proofs.Valued.{InUnits, units_begin, units_go_on}
+use Rattle.tokens.proofs.value.units.Goals as goal
+
+pub loop-step-init : goal.loop-step-init
+loop-step-init c = subst (λ us. InUnits c.args.text.now 0 us) (sym c.in_ok-out.ensures.items) (units_begin c.args.text.now c.utf8.text)
+
+pub loop-step-preserved : goal.loop-step-preserved
+loop-step-preserved c =
+    subst (λ us. InUnits c.args.text.now c.in-Some-piece.piece.end us) (sym c.in_ok-push_units.ensures)
+    (units_go_on c.args.text.now c.loop-step.at c.in-Some.step.end c.in-Some.step.c c.in-Some-piece.piece c.loop-step.out.items c.loop-step.invariant c.in-Some.ensures.some c.in-Some-piece.ensures.some)

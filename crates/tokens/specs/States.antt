@@ -1,0 +1,48 @@
+-- The states of the program's own readers of numbers and regular expressions, as those of the definitions.
+use Rattle.std.specs.Prelude.{Bool, true, false}
+use Rattle.tokens.specs.declared.number.Base.{Base as ReaderBase}
+use Rattle.tokens.specs.declared.number.Base.TheVariants.{Binary, Octal, Hexadecimal}
+use Rattle.tokens.specs.declared.number.State.{State as NumberState}
+use Rattle.tokens.specs.declared.number.State.TheVariants.{Unread, Nought, Integer, LeadingPoint, Point, Fraction, ExponentMark, ExponentSign, Exponent, Prefix, Digits, Suffix, Dead}
+use Rattle.tokens.specs.declared.regexp.Part.{Part}
+use Rattle.tokens.specs.declared.regexp.Part.TheVariants.{Opened, Body, Brackets, Flags, BodyBackslash, BracketsBackslash, NoPart}
+use Rattle.tokens.specs.Numbers.{Base, binary, octal, hexadecimal, Numeral, unread, nought, integer, leading_point, point, fraction, exponent_mark, exponent_sign, exponent, prefix, digits, suffix, no_numeral}
+use Rattle.tokens.specs.RegularExpressions.{RegularExpression, opened, body, brackets, flags, body_backslash, brackets_backslash, no_expression}
+
+abbrev pub base_of : ReaderBase → Base
+base_of Binary = binary
+base_of Octal = octal
+base_of Hexadecimal = hexadecimal
+
+abbrev pub numeral_of : NumberState → Numeral
+numeral_of Unread = unread
+numeral_of Nought = nought
+numeral_of Integer = integer
+numeral_of LeadingPoint = leading_point
+numeral_of Point = point
+numeral_of Fraction = fraction
+numeral_of ExponentMark = exponent_mark
+numeral_of ExponentSign = exponent_sign
+numeral_of Exponent = exponent
+numeral_of (Prefix base) = prefix (base_of base)
+numeral_of (Digits base) = digits (base_of base)
+numeral_of Suffix = suffix
+numeral_of Dead = no_numeral
+
+-- nothing goes on from there
+abbrev pub is_dead : Numeral → Bool
+is_dead no_numeral = true
+is_dead _ = false
+
+abbrev pub expression_of : Part → RegularExpression
+expression_of Opened = opened
+expression_of Body = body
+expression_of Brackets = brackets
+expression_of Flags = flags
+expression_of BodyBackslash = body_backslash
+expression_of BracketsBackslash = brackets_backslash
+expression_of NoPart = no_expression
+
+abbrev pub is_over : RegularExpression → Bool
+is_over no_expression = true
+is_over _ = false

@@ -1,0 +1,56 @@
+//! Names (ECMA-262 11.6.1).
+
+ghost use Rattle.std.specs.Prelude.{◌≡◌, IfSome, IfNone};
+ghost use Rattle.source_text.specs.Source.{IsPlace};
+ghost use Rattle.tokens.specs.Alphabet.{is_identifier_start, is_identifier_part};
+ghost use Rattle.tokens.specs.Scanned.{IsRun, IsWordAt, NoWordAt};
+
+use crate::Class;
+use crate::step::step_at;
+use unicode_ident::{is_xid_continue, is_xid_start};
+
+// IdentifierStart, without escapes.
+#[inline]
+pub fn is_start(c: char) -> bool
+    ensures { result ≡ is_identifier_start c }
+{
+    c == '$' || c == '_' || is_xid_start(c)
+}
+
+// IdentifierPart, without escapes.
+#[inline]
+pub fn is_part(c: char) -> bool
+    ensures { result ≡ is_identifier_part c }
+{
+    c == '$' || is_xid_continue(c) || c == '\u{200C}' || c == '\u{200D}'
+}
+
+// The place behind the name at a place, if there is one.
+pub fn name_end(text: &str, at: usize) -> Option<usize>
+    requires { IsPlace text.now at }
+    ensures some { IfSome result (λ e. IsWordAt Class.Name text.now at e) }
+    ensures none { IfNone result (NoWordAt Class.Name text.now at) }
+{
+    let Some(first) = step_at(text, at) else {
+        return None;
+    };
+    if is_start(first.c) {
+        return Some(parts_end(text, first.end));
+    }
+    None
+}
+
+// The first place from a place on where no IdentifierPart stands.
+pub fn parts_end(text: &str, at: usize) -> usize
+    requires { IsPlace text.now at }
+    ensures { IsRun is_identifier_part text.now at result }
+{
+    let mut end = at;
+    while let Some(step) = step_at(text, end) {
+        if !is_part(step.c) {
+            return end;
+        }
+        end = step.end;
+    }
+    end
+}

@@ -1,0 +1,134 @@
+//! Punctuators (ECMA-262 11.7).
+
+ghost use Rattle.std.specs.Prelude.{◌≡◌, IfSome, IfNone};
+ghost use Rattle.source_text.specs.Source.{IsPlace};
+ghost use Rattle.tokens.specs.Alphabet.{is_among};
+ghost use Rattle.tokens.specs.Marks.{firsts, is_pair, is_quadruple, is_single, is_triple};
+ghost use Rattle.tokens.specs.Scanned.{IsWordAt, Looks, NoWordAt};
+
+use crate::Class;
+use crate::step::{Step, step_at};
+
+// The next character, U+0000 at the end of the text, and the place behind it.
+#[inline]
+fn look(text: &str, at: usize) -> Step
+    requires { IsPlace text.now at }
+    ensures { Looks text.now at result.c result.end }
+{
+    match step_at(text, at) {
+        Some(step) => step,
+        None => Step { c: '\0', end: at },
+    }
+}
+
+#[inline]
+fn is_single(b: char) -> bool
+    ensures { result ≡ is_single b }
+{
+    matches!(
+        b,
+        '{' | '}'
+            | '('
+            | ')'
+            | '['
+            | ']'
+            | ';'
+            | ','
+            | ':'
+            | '~'
+            | '.'
+            | '?'
+            | '<'
+            | '>'
+            | '+'
+            | '-'
+            | '*'
+            | '%'
+            | '&'
+            | '|'
+            | '^'
+            | '!'
+            | '='
+            | '/'
+    )
+}
+
+#[inline]
+fn stands_before_equals(b: char) -> bool
+    ensures { result ≡ is_among b (firsts 61) }
+{
+    matches!(
+        b,
+        '<' | '>' | '=' | '!' | '+' | '-' | '*' | '%' | '&' | '|' | '^' | '/'
+    )
+}
+
+#[inline]
+fn is_pair(b: char, c: char) -> bool
+    ensures { result ≡ is_pair b c }
+{
+    match c {
+        '=' => stands_before_equals(b),
+        '>' => (b == '=') | (b == '>'),
+        '.' => b == '?',
+        '+' => b == '+',
+        '-' => b == '-',
+        '*' => b == '*',
+        '<' => b == '<',
+        '&' => b == '&',
+        '|' => b == '|',
+        '?' => b == '?',
+        _ => false,
+    }
+}
+
+#[inline]
+fn is_triple(b: char, c: char, d: char) -> bool
+    ensures { result ≡ is_triple b c d }
+{
+    match d {
+        '=' => match c {
+            '=' => matches!(b, '=' | '!'),
+            '*' => b == '*',
+            '<' => b == '<',
+            '>' => b == '>',
+            _ => false,
+        },
+        '.' => (c == '.') & (b == '.'),
+        '>' => (c == '>') & (b == '>'),
+        _ => false,
+    }
+}
+
+#[inline]
+fn is_quadruple(b: char, c: char, d: char, e: char) -> bool
+    ensures { result ≡ is_quadruple b c d e }
+{
+    ((b == '>') & (c == '>')) & ((d == '>') & (e == '='))
+}
+
+// The place behind the punctuator at a place, if there is one; `?.` and `.` are none before a digit.
+pub fn punctuator_end(text: &str, at: usize) -> Option<usize>
+    requires { IsPlace text.now at }
+    ensures some { IfSome result (λ e. IsWordAt Class.Punctuator text.now at e) }
+    ensures none { IfNone result (NoWordAt Class.Punctuator text.now at) }
+{
+    let b = look(text, at);
+    let c = look(text, b.end);
+    let d = look(text, c.end);
+    let e = look(text, d.end);
+    if is_quadruple(b.c, c.c, d.c, e.c) {
+        return Some(e.end);
+    }
+    if is_triple(b.c, c.c, d.c) {
+        return Some(d.end);
+    }
+    let chains = (b.c == '?') & (c.c == '.');
+    if is_pair(b.c, c.c) & !(chains & d.c.is_ascii_digit()) {
+        return Some(c.end);
+    }
+    if is_single(b.c) & !((b.c == '.') & c.c.is_ascii_digit()) {
+        return Some(b.end);
+    }
+    None
+}

@@ -1,0 +1,48 @@
+//! The character at a place of a text.
+
+ghost use Rattle.std.specs.Prelude.{◌≡◌, ◌≤◌, ◌<◌, [], ◌∷◌, length, IfSome, IfNone};
+ghost use Rattle.source_text.specs.Source.{IsPlace};
+ghost use Rattle.tokens.specs.Reading.{behind};
+ghost use Rattle.tokens.specs.Scanned.{Passed};
+
+/// A character, and the place behind it.
+#[derive(Clone, Copy)]
+pub struct Step {
+    pub c: char,
+    pub end: usize,
+}
+
+// The character at a place, if the text doesn't end there.
+#[inline]
+pub fn step_at(text: &str, at: usize) -> Option<Step>
+    requires { IsPlace text.now at }
+    ensures some { IfSome result (λ s. Passed text.now at s.end (s.c ∷ [])) }
+    ensures within { IfSome result (λ s. (at < s.end) × (s.end ≤ length text.now)) }
+    ensures none { IfNone result (behind text.now at ≡ []) }
+{
+    let bytes = text.as_bytes();
+    if at < bytes.len() && bytes[at] < 128 {
+        return Some(Step {
+            c: char::from(bytes[at]),
+            end: at + 1,
+        });
+    }
+    far_step_at(text, at)
+}
+
+// The same, whatever the character is.
+fn far_step_at(text: &str, at: usize) -> Option<Step>
+    requires { IsPlace text.now at }
+    ensures some { IfSome result (λ s. Passed text.now at s.end (s.c ∷ [])) }
+    ensures within { IfSome result (λ s. (at < s.end) × (s.end ≤ length text.now)) }
+    ensures none { IfNone result (behind text.now at ≡ []) }
+{
+    let mut rest = text[at..].chars();
+    let Some(c) = rest.next() else {
+        return None;
+    };
+    Some(Step {
+        c,
+        end: at + c.len_utf8(),
+    })
+}

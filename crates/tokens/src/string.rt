@@ -1,0 +1,47 @@
+//! Strings (ECMA-262 11.8.4).
+
+ghost use Rattle.std.specs.Prelude.{IfSome, IfNone};
+ghost use Rattle.source_text.specs.Source.{IsPlace};
+ghost use Rattle.tokens.specs.Escaped.{IsStringRest, NoStringRest};
+ghost use Rattle.tokens.specs.Scanned.{IsWordAt, NoWordAt};
+
+use crate::Class;
+use crate::escape::piece;
+use crate::step::step_at;
+
+// The place behind the string at a place, if there is one.
+pub fn string_end(text: &str, at: usize) -> Option<usize>
+    requires { IsPlace text.now at }
+    ensures some { IfSome result (λ e. IsWordAt Class.Text text.now at e) }
+    ensures none { IfNone result (NoWordAt Class.Text text.now at) }
+{
+    let Some(first) = step_at(text, at) else {
+        return None;
+    };
+    if first.c == '"' || first.c == '\'' {
+        return closed_end(text, first.end, first.c);
+    }
+    None
+}
+
+// The place behind the quote that ends the string.
+fn closed_end(text: &str, at: usize, quote: char) -> Option<usize>
+    requires { IsPlace text.now at }
+    ensures some { IfSome result (λ e. IsStringRest quote text.now at e) }
+    ensures none { IfNone result (NoStringRest quote text.now at) }
+{
+    let mut end = at;
+    while let Some(step) = step_at(text, end) {
+        if step.c == quote {
+            return Some(step.end);
+        }
+        if step.c == '\n' || step.c == '\r' {
+            return None;
+        }
+        let Some(piece) = piece(text, step.c, step.end) else {
+            return None;
+        };
+        end = piece.end;
+    }
+    None
+}

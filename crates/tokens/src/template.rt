@@ -1,0 +1,44 @@
+//! Parts of templates (ECMA-262 11.8.6).
+
+ghost use Rattle.std.specs.Prelude.{◌≡◌, IfSome, IfNone};
+ghost use Rattle.source_text.specs.Source.{IsPlace};
+ghost use Rattle.tokens.specs.Scanned.{IsPartRest, IsWordAt, NoPartRest, NoWordAt};
+
+use crate::Class;
+use crate::step::step_at;
+
+// The place behind the part of a template at a place, if there is one.
+pub fn template_end(text: &str, at: usize) -> Option<usize>
+    requires { IsPlace text.now at }
+    ensures some { IfSome result (λ e. IsWordAt Class.Template text.now at e) }
+    ensures none { IfNone result (NoWordAt Class.Template text.now at) }
+{
+    let Some(first) = step_at(text, at) else {
+        return None;
+    };
+    if (first.c == '`') | (first.c == '}') {
+        return part_end(text, first.end);
+    }
+    None
+}
+
+// The place behind the grave accent or the `${` that ends the part; a backslash takes the next character.
+fn part_end(text: &str, at: usize) -> Option<usize>
+    requires { IsPlace text.now at }
+    ensures some { IfSome result (λ e. IsPartRest text.now at e) }
+    ensures none { IfNone result (NoPartRest text.now at) }
+{
+    let mut end = at;
+    let mut taken = false;
+    let mut dollar = false;
+    while let Some(step) = step_at(text, end) {
+        let closes = (step.c == '`') | (dollar & (step.c == '{'));
+        if !taken & closes {
+            return Some(step.end);
+        }
+        dollar = !taken & (step.c == '$');
+        taken = !taken & (step.c == '\\');
+        end = step.end;
+    }
+    None
+}
