@@ -2,8 +2,8 @@
 use Rattle.std.specs.Prelude.{ℕ, Bool, true, false, not, cond, ◌&&◌, ◌||◌, List, [], ◌∷◌, nat_eq, codes}
 use Rattle.tree.specs.declared.kind.Kind.{Kind}
 use Rattle.tree.specs.declared.kind.Kind.TheVariants.{Literal, TemplateLiteral, TemplateElement}
-use Rattle.tokens.specs.Lexical.{LexicalClass}
-use Rattle.tokens.specs.Lexical.{RegExp}
+use Rattle.tokens.specs.declared.token.Class.{Class}
+use Rattle.tokens.specs.declared.token.Class.TheVariants.{RegExp}
 use Rattle.tree.specs.Tree.{Tree, node, Parts, none, part, gap, kind_of, text_of}
 use Rattle.language.specs.Words.{literal_class}
 use Rattle.early_errors.specs.Cooked.{cooks}
@@ -38,7 +38,7 @@ abbrev pub are_flags : List ℕ → Bool
 are_flags [] = true
 are_flags (c ∷ w) = holds (codes "gimsuy") c && (not (holds w c) && are_flags w)
 
-abbrev pub is_reg_exp : LexicalClass → Bool
+abbrev pub is_reg_exp : Class → Bool
 is_reg_exp RegExp = true
 is_reg_exp _ = false
 

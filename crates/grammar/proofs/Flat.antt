@@ -5,7 +5,7 @@ use Rattle.std.specs.List.{list_all}
 use Rattle.std.proofs.lemmas.Bool.Decides.{nat_tests}
 use Rattle.std.proofs.lemmas.Slice.Eq.{bytes_eq-Decides}
 use Rattle.tokens.specs.Alphabet.{is_decimal_digit, is_non_zero_digit}
-use Rattle.tokens.specs.Lexical.{Name, Number, Text, RegExp}
+use Rattle.tokens.specs.declared.token.Class.TheVariants.{Name, Number, Text, RegExp}
 use Rattle.tree.specs.declared.kind.Kind.{Kind}
 use Rattle.tree.specs.declared.kind.Flags.{Flags}
 use Rattle.tree.specs.Tree.{node, Parts}

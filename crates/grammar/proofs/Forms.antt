@@ -1,7 +1,7 @@
 -- The view of the table by productions: what spells an expression, a list and a script, one step at a time.
 use Rattle.std.proofs.Common.{◌≡◌, ℕ, suc, ◌≤◌, Bool, true, false, cond, List, [], ◌∷◌, ◌++◌, refl, sym, ap, ◌∙◌, subst, append-nil, ap₂}
 use Rattle.std.specs.Prelude.{IsTrue, codes, ◌||◌, ◌&&◌, not}
-use Rattle.tokens.specs.Lexical.{Name, Punctuator, Number, End}
+use Rattle.tokens.specs.declared.token.Class.TheVariants.{Name, Punctuator, Number, End}
 use Rattle.tree.specs.declared.kind.Kind.{Kind}
 use Rattle.tree.specs.declared.kind.Kind.TheVariants.{Program, ExpressionStatement, SequenceExpression, BinaryExpression, Identifier, Literal}
 use Rattle.tree.specs.declared.kind.Flags.{Flags}

@@ -1,7 +1,7 @@
 -- What is read at an Expression: one part, or several with commas between them.
 use Rattle.std.proofs.Common.{◌≡◌, ℕ, ◌+◌, ◌-◌, ◌≤◌, List, ◌++◌, refl, sym, ap, ◌∙◌, subst, arith, append_assoc, true}
 use Rattle.std.specs.Prelude.{codes}
-use Rattle.tokens.specs.Lexical.{Punctuator}
+use Rattle.tokens.specs.declared.token.Class.TheVariants.{Punctuator}
 use Rattle.language.specs.Token.{Token}
 use Rattle.tree.specs.declared.kind.Pair.{Pair}
 use Rattle.tree.specs.Tree.{Tree, Parts, none, part, gap, height, parts_height, push, join}

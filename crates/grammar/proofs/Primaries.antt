@@ -1,7 +1,7 @@
 -- What is read at a Primary: a name, a number or a group.
 use Rattle.std.proofs.Common.{◌≡◌, ℕ, suc, ◌<◌, ◌≤◌, List, [], ◌∷◌, Some, None, refl, sym, ap, ◌∙◌, subst, arith, false, true}
 use Rattle.std.specs.Prelude.{codes}
-use Rattle.tokens.specs.Lexical.{Name, Punctuator, Number}
+use Rattle.tokens.specs.declared.token.Class.TheVariants.{Name, Punctuator, Number}
 use Rattle.language.specs.Token.{Token}
 use Rattle.tree.specs.declared.kind.Pair.{Pair}
 use Rattle.tree.specs.Tree.{Tree}

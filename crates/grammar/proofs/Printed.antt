@@ -2,7 +2,7 @@
 use Rattle.std.proofs.Common.{◌≡◌, ℕ, zero, suc, ◌+◌, ◌≤◌, Bool, true, false, List, [], ◌∷◌, ◌++◌, length, refl, sym, ap, ◌∙◌, subst, arith, append_assoc, append-nil, length-append}
 use Rattle.std.specs.Prelude.{codes, nat_lt}
 use Rattle.std.proofs.lemmas.Grind.{common_steps}
-use Rattle.tokens.specs.Lexical.{Name, Punctuator, Number}
+use Rattle.tokens.specs.declared.token.Class.TheVariants.{Name, Punctuator, Number}
 use Rattle.language.specs.Token.{Token}
 use Rattle.tree.specs.declared.kind.Pair.{Pair}
 use Rattle.tree.specs.declared.kind.Kind.TheVariants.{Program, ExpressionStatement, SequenceExpression, BinaryExpression, Identifier, Literal}

@@ -8,8 +8,8 @@ use Rattle.tokens.specs.Lexeme.{Lexeme}
 use Rattle.tokens.specs.Reading.{IsTokenAt, token, ended}
 pub use Rattle.tokens.specs.Words.{AllSpaces, IsClean}
 use Rattle.tokens.specs.Words.{IsWord, Clean}
-use Rattle.tokens.specs.Lexical.{LexicalClass}
-use Rattle.tokens.specs.Lexical.{Punctuator, End}
+use Rattle.tokens.specs.declared.token.Class.{Class}
+use Rattle.tokens.specs.declared.token.Class.TheVariants.{Punctuator, End}
 use Rattle.tokens.proofs.Words.{read_word, rest_of_word, read_end, word_of_class, clean_any}
 use Rattle.tokens.proofs.Determined.{determined}
 use Rattle.tokens.proofs.Bounds.{end_stop}
@@ -74,13 +74,13 @@ end_behind text at t h c =
     omega arith
 
 -- the text of a token of a class, by itself
-pub record Word (class : LexicalClass) (word : List ℕ) : Type 0 where
+pub record Word (class : Class) (word : List ℕ) : Type 0 where
   scanned : Class
   is : class_of scanned ≡ class
   shape : IsWord scanned word
 
 -- the text of a token is a word of its class
-pub word_is : (text : List ℕ) (at : ℕ) (t : Token) (class : LexicalClass) → ReadsAt text at t → t.class ≡ class → class ≢ End → Word class t.text
+pub word_is : (text : List ℕ) (at : ℕ) (t : Token) (class : Class) → ReadsAt text at t → t.class ≡ class → class ≢ End → Word class t.text
 word_is text at t class h c ne =
     let same = ap (λ (x : Token). x.class) h.is in
     record {
@@ -90,13 +90,13 @@ word_is text at t class h c ne =
     }
 
 -- a word in front of a rest with which it makes no longer token
-pub record Stands (class : LexicalClass) (word rest : List ℕ) : Type 0 where
+pub record Stands (class : Class) (word rest : List ℕ) : Type 0 where
   scanned : Class
   is : class_of scanned ≡ class
   shape : IsWord scanned word
   clean : Clean scanned rest
 
-pub stands_clean : {class : LexicalClass} {word rest : List ℕ} → Word class word → IsClean rest → Stands class word rest
+pub stands_clean : {class : Class} {word rest : List ℕ} → Word class word → IsClean rest → Stands class word rest
 stands_clean {rest = rest} w clean = record { scanned = w.scanned; is = w.is; shape = w.shape; clean = clean_any w.scanned rest clean }
 
 mark_stands : (c : ℕ) (rest : List ℕ) → class_at c ≡ Some class.Punctuator → Stands Punctuator (c ∷ []) rest
@@ -133,12 +133,12 @@ pub before_same : {text : List ℕ} {s : Token} {rest other : List ℕ} → rest
 before_same {text} {s} e b = subst (λ x. Before text s x) e b
 
 -- a word is read, and the rest stands behind it
-pub record Read (text : List ℕ) (class : LexicalClass) (word : List ℕ) (s : Token) (rest : List ℕ) : Type 0 where
+pub record Read (text : List ℕ) (class : Class) (word : List ℕ) (s : Token) (rest : List ℕ) : Type 0 where
   pub token : Token
   pub reads : Reads Token (Next text) itself class word s token token
   pub before : Before text token rest
 
-pub read : (text : List ℕ) (class : LexicalClass) (word : List ℕ) (s : Token) (gap rest : List ℕ) → AllSpaces gap → Stands class word rest →
+pub read : (text : List ℕ) (class : Class) (word : List ℕ) (s : Token) (gap rest : List ℕ) → AllSpaces gap → Stands class word rest →
     Before text s (gap ++ (word ++ rest)) → Read text class word s rest
 read text class word s gap rest all w b =
     let within = b.within in

@@ -1,7 +1,7 @@
 -- What is read at a script: statements up to the end of the text.
 use Rattle.std.proofs.Common.{◌≡◌, ℕ, ◌+◌, ◌≤◌, List, [], ◌++◌, refl, sym, ap, ◌∙◌, subst, arith, append_assoc, append-nil, true}
 use Rattle.std.specs.Prelude.{codes}
-use Rattle.tokens.specs.Lexical.{Punctuator, End}
+use Rattle.tokens.specs.declared.token.Class.TheVariants.{Punctuator, End}
 use Rattle.language.specs.Token.{Token}
 use Rattle.tree.specs.declared.kind.Pair.{Pair}
 use Rattle.tree.specs.Tree.{Tree, Parts, none, part, height, parts_height, push, join}

@@ -1,6 +1,6 @@
 -- The steps of the loop over operators: what is known before an operator, and behind its operand.
 use Rattle.std.proofs.Common.{◌≡◌, ℕ, ◌-◌, ◌<◌, ◌≤◌, List, ◌++◌, Some, refl, sym, ap, ◌∙◌, subst, arith, true, false}
-use Rattle.tokens.specs.Lexical.{Punctuator}
+use Rattle.tokens.specs.declared.token.Class.TheVariants.{Punctuator}
 use Rattle.language.specs.Token.{Token}
 use Rattle.tree.specs.declared.kind.Pair.{Pair}
 use Rattle.tree.specs.Tree.{Tree, height}

@@ -1,7 +1,7 @@
 -- What a way of the first path is, and how one is had: the table of the language at the nodes that are read.
 use Rattle.std.proofs.Common.{◌≡◌, ℕ, ◌≤◌, Bool, true, false, cond, List, [], ◌∷◌, ◌++◌, refl, ap, ◌∙◌}
 use Rattle.std.specs.Prelude.{IsTrue, ◌||◌, not, map, filter, codes}
-use Rattle.tokens.specs.Lexical.{Name, Punctuator, Number, End}
+use Rattle.tokens.specs.declared.token.Class.TheVariants.{Name, Punctuator, Number, End}
 use Rattle.tree.specs.declared.kind.Kind.TheVariants.{Identifier, Literal}
 use Rattle.tree.specs.Tree.{Tree, node, Parts, none, part, gap, plain, kind_of, text_of, bare, bare_parts}
 use Rattle.tree.specs.Uses.{is_lean}

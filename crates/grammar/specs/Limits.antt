@@ -4,8 +4,8 @@ use Rattle.tokens.specs.declared.token.Class.{Class}
 use Rattle.tokens.specs.declared.token.Class.TheVariants as class
 use Rattle.tokens.specs.Lexeme.{Lexeme}
 use Rattle.tokens.specs.Reading.{IsTokenAt}
-use Rattle.tokens.specs.Lexical.{LexicalClass}
-use Rattle.tokens.specs.Lexical.{Name, Punctuator, Number, End}
+use Rattle.tokens.specs.declared.token.Class.{Class}
+use Rattle.tokens.specs.declared.token.Class.TheVariants.{Name, Punctuator, Number, End}
 use Rattle.tree.specs.declared.kind.Pair.{Pair}
 use Rattle.tree.specs.Tree.{Tree, height}
 use Rattle.language.specs.Pieces.{Role, script}
@@ -15,7 +15,7 @@ use Rattle.language.specs.Derivation.{Spells}
 use Rattle.grammar.specs.Sums.{sum_ways}
 
 -- the class of a scanned token, in the definitions
-abbrev pub class_of : Class → LexicalClass
+abbrev pub class_of : Class → Class
 class_of class.Name = Name
 class_of class.Punctuator = Punctuator
 class_of class.Number = Number

@@ -3,7 +3,7 @@
 use Rattle.std.specs.Prelude.{ℕ, Bool, true, false, cond, ◌&&◌, List, [], ◌∷◌, map, codes}
 use Rattle.std.specs.List.{list_all}
 use Rattle.tokens.specs.Alphabet.{is_decimal_digit, is_non_zero_digit}
-use Rattle.tokens.specs.Lexical.{Punctuator}
+use Rattle.tokens.specs.declared.token.Class.TheVariants.{Punctuator}
 use Rattle.tree.specs.declared.kind.Kind.{Kind}
 use Rattle.tree.specs.declared.kind.Kind.TheVariants.{Program, ExpressionStatement, SequenceExpression, BinaryExpression, Identifier, Literal}
 use Rattle.tree.specs.Tree.{Tree, kind_of, text_of}

@@ -3,12 +3,14 @@ use Rattle.std.proofs.Common.{◌≡◌, ℕ, Bool, true, false, cond, List, [],
 use Rattle.std.specs.Prelude.{IsTrue, map, codes, ◌||◌}
 use Prim.Native.String.{String}
 use Rattle.std.proofs.lemmas.Slice.Eq.{bytes_eq-Decides}
-use Rattle.tokens.specs.Lexical.{LexicalClass}
-use Rattle.tokens.specs.Lexical.{Name, Punctuator}
+use Rattle.tokens.specs.declared.token.Class.{Class}
+use Rattle.tokens.specs.declared.token.Class.TheVariants.{Name, Punctuator}
 use Rattle.std.specs.Bool.{beq}
 use Rattle.std.specs.Prelude.{if◌then◌else◌}
 use Rattle.tokens.specs.Alphabet.{one_of, begins_with}
-use Rattle.tokens.specs.Goals.{Goal, Div, allows}
+use Rattle.tokens.specs.declared.token.Goal.{Goal}
+use Rattle.tokens.specs.declared.token.Goal.TheVariants.{Div}
+use Rattle.tokens.specs.Goals.{allows}
 use Rattle.tree.specs.declared.kind.Flags.{Flags}
 use Rattle.language.specs.declared.Rank.{Rank}
 use Rattle.language.specs.declared.Start.{Start}
@@ -26,7 +28,7 @@ use Rattle.language.proofs.Spine.{is_led}
 
 -- what a list of pieces begins with
 pub data First : Type 0 where
-  by : LexicalClass → List ℕ → First
+  by : Class → List ℕ → First
   another : First
 
 abbrev pub first_of : List (PieceOf Role) → First
@@ -110,7 +112,7 @@ module _ (S : Type 0) (Next : S → Token → S → Type 0) (behind : S → Toke
   retell {o} {ps = ps} {s = s} {e = e} {P = P} h d = subst (λ x. Runs ways S Next behind o x ps s e P) h d
 
   -- the first token of the pieces, and what stands behind it
-  pub record Begun (o : ℕ) (c : LexicalClass) (w : List ℕ) (qs : List (PieceOf Role)) (ps : Parts) (s e : S) (P : List Pair) : Type 0 where
+  pub record Begun (o : ℕ) (c : Class) (w : List ℕ) (qs : List (PieceOf Role)) (ps : Parts) (s e : S) (P : List Pair) : Type 0 where
     pub token : Token
     pub mid : S
     pub next : Next s token mid
@@ -118,7 +120,7 @@ module _ (S : Type 0) (Next : S → Token → S → Type 0) (behind : S → Toke
     pub text : token.text ≡ w
     pub runs : Runs ways S Next behind o (behind_first qs) ps mid e P
 
-  pub begun : {o : ℕ} {ps : Parts} {s e : S} {P : List Pair} {c : LexicalClass} {w : List ℕ} (qs : List (PieceOf Role)) → first_of qs ≡ by c w →
+  pub begun : {o : ℕ} {ps : Parts} {s e : S} {P : List Pair} {c : Class} {w : List ℕ} (qs : List (PieceOf Role)) → first_of qs ≡ by c w →
       Runs ways S Next behind o qs ps s e P → Begun o c w qs ps s e P
   begun (tok c' w' ∷ qs) h (step (token {t = t} k) d) = let p : c' ≡ _ = cc in let q : w' ≡ _ = cc in
       record { token = t; mid = _; next = k.next; class = k.class ∙ p; text = k.text ∙ q; runs = d }
@@ -127,12 +129,12 @@ module _ (S : Type 0) (Next : S → Token → S → Type 0) (behind : S → Toke
   begun _ h d = cc
 
   -- the token that a goal reads is that with which the pieces begin
-  pub record Taken (o : ℕ) (c : LexicalClass) (w : List ℕ) (t : Token) (m : S) (qs : List (PieceOf Role)) (ps : Parts) (e : S) (P : List Pair) : Type 0 where
+  pub record Taken (o : ℕ) (c : Class) (w : List ℕ) (t : Token) (m : S) (qs : List (PieceOf Role)) (ps : Parts) (e : S) (P : List Pair) : Type 0 where
     pub class : t.class ≡ c
     pub text : t.text ≡ w
     pub runs : Runs ways S Next behind o (behind_first qs) ps m e P
 
-  pub taken : IsDetermined S Next behind → (g : Goal) → {o : ℕ} {ps : Parts} {s m e : S} {P : List Pair} {c : LexicalClass} {w : List ℕ} {t : Token} (qs : List (PieceOf Role)) → first_of qs ≡ by c w → IsTrue (allows g c w) →
+  pub taken : IsDetermined S Next behind → (g : Goal) → {o : ℕ} {ps : Parts} {s m e : S} {P : List Pair} {c : Class} {w : List ℕ} {t : Token} (qs : List (PieceOf Role)) → first_of qs ≡ by c w → IsTrue (allows g c w) →
       Runs ways S Next behind o qs ps s e P → ReadBy S Next behind g s t m → Taken o c w t m qs ps e P
   taken det g {o} {ps} {s} {m} {e} {P} {c} {w} {t} qs h al d r =
       let u = begun qs h d in
@@ -145,7 +147,7 @@ module _ (S : Type 0) (Next : S → Token → S → Type 0) (behind : S → Toke
       }
 
   -- the same where the token is a name, a number or a string
-  pub taken_free : IsDetermined S Next behind → (g : Goal) → {o : ℕ} {ps : Parts} {s m e : S} {P : List Pair} {c : LexicalClass} {w : List ℕ} {t : Token} (qs : List (PieceOf Role)) → first_of qs ≡ by c w → is_free c ≡ true →
+  pub taken_free : IsDetermined S Next behind → (g : Goal) → {o : ℕ} {ps : Parts} {s m e : S} {P : List Pair} {c : Class} {w : List ℕ} {t : Token} (qs : List (PieceOf Role)) → first_of qs ≡ by c w → is_free c ≡ true →
       Runs ways S Next behind o qs ps s e P → ReadBy S Next behind g s t m → Taken o c w t m qs ps e P
   taken_free det g {o} {ps} {s} {m} {e} {P} {c} {w} {t} qs h al d r =
       let u = begun qs h d in

@@ -4,8 +4,8 @@ use Rattle.std.specs.Prelude.{IsTrue, nat_le, codes}
 use Rattle.std.proofs.lemmas.Bool.{and_parts, false≢true}
 use Rattle.std.proofs.lemmas.List.{append-nil}
 use Rattle.std.proofs.lemmas.Bool.Decides.{nat_tests}
-use Rattle.tokens.specs.Lexical.{LexicalClass}
-use Rattle.tokens.specs.Lexical.{Punctuator}
+use Rattle.tokens.specs.declared.token.Class.{Class}
+use Rattle.tokens.specs.declared.token.Class.TheVariants.{Punctuator}
 use Rattle.tree.specs.declared.kind.Kind.{Kind}
 use Rattle.tree.specs.declared.kind.Kind.TheVariants.{BinaryExpression, LogicalExpression, MemberExpression, CallExpression}
 use Rattle.language.specs.declared.Rank.{Rank}
@@ -138,7 +138,7 @@ module _ (S : Type 0) (Next : S → Token → S → Type 0) (behind : S → Toke
     pub parts : ps ≡ part operand none
     pub spelled : Spells ways S Next behind o a operand s e R
 
-  right_side : IsDetermined S Next behind → {o : ℕ} {c : LexicalClass} {v : List ℕ} {a : Role} {ps : Parts} {s m e : S} {R : List Pair} {t : Token} →
+  right_side : IsDetermined S Next behind → {o : ℕ} {c : Class} {v : List ℕ} {a : Role} {ps : Parts} {s m e : S} {R : List Pair} {t : Token} →
       Runs ways S Next behind o (lay space ∷ tok c v ∷ lay space ∷ sub a ∷ []) ps s e R → Next s t m → RightSide o a ps m e R
   right_side det (step laid (step (token h) (step laid (within p done)))) nx' = alone (det.same _ _ _ _ _ h.next nx').1 p
     where

@@ -1,8 +1,9 @@
 -- What an expression begins with, by its first token: a group, or one of the ways that begin with a token.
 use Rattle.std.proofs.Common.{◌≡◌, ℕ, suc, Bool, true, List, ◌∷◌, refl, sym, ◌∙◌, subst}
 use Rattle.std.specs.Prelude.{IsTrue, codes}
-use Rattle.tokens.specs.Lexical.{Punctuator}
-use Rattle.tokens.specs.Goals.{Goal, allows}
+use Rattle.tokens.specs.declared.token.Class.TheVariants.{Punctuator}
+use Rattle.tokens.specs.declared.token.Goal.{Goal}
+use Rattle.tokens.specs.Goals.{allows}
 use Rattle.tree.specs.declared.kind.Kind.{Kind}
 use Rattle.language.specs.declared.Rank.{Rank}
 use Rattle.language.specs.declared.Rank.TheVariants.{Expression}

@@ -6,7 +6,7 @@ use Rattle.language.specs.declared.Rank.{Rank}
 use Rattle.language.specs.declared.Rank.TheVariants.{Expression, Member}
 use Rattle.language.specs.declared.Start.{Start}
 use Rattle.language.specs.declared.Start.TheVariants.{Any, NoBrace, Statement}
-use Rattle.tokens.specs.Lexical.{Name, Punctuator}
+use Rattle.tokens.specs.declared.token.Class.TheVariants.{Name, Punctuator}
 use Rattle.tree.specs.Tree.{Tree, node, parts_of, bare}
 use Rattle.language.specs.Words.{tightness}
 use Rattle.language.specs.Pieces.{Role, expr, Slot, fixed, left, lead, tail, callee, lead_spine, lead_pattern, PieceOf, Piece, tok, may, many, ahead, unbroken, ending, open_parameters, close_parameters, sub, absent, never, lay, Spelling, settle, settle_piece}

@@ -3,14 +3,14 @@ use Rattle.std.specs.Prelude.{◌≡◌, Bool, true, false, refl, codes}
 use Prim.Native.String.{String}
 use Rattle.language.specs.declared.Rank.TheVariants.{Expression, Assignment, Conditional, Additive, Multiplicative, Unary, LeftHandSide, New, Member}
 use Rattle.language.specs.declared.Edge.TheVariants.{Arrow, Postfix, Other}
-use Rattle.tokens.specs.Lexical.{LexicalClass}
-use Rattle.tokens.specs.Lexical.{Name, Punctuator, Text, Template}
+use Rattle.tokens.specs.declared.token.Class.{Class}
+use Rattle.tokens.specs.declared.token.Class.TheVariants.{Name, Punctuator, Text, Template}
 use Rattle.language.specs.Pieces.{behind}
 use Rattle.language.specs.Edges.{may_miss}
 use Rattle.language.specs.Token.{Token}
 use Rattle.language.specs.Follow.{stops}
 
-abbrev pub tk : LexicalClass → String → Bool → Token
+abbrev pub tk : Class → String → Bool → Token
 tk c s b = record { class = c; text = codes s; start = 0; stop = 0; after_break = b }
 
 abbrev pub sign : String → Token

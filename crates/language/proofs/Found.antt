@@ -4,8 +4,8 @@ use Rattle.std.specs.Prelude.{IsTrue, not, nat_eq, codes, map, filter}
 use Rattle.std.proofs.lemmas.Bool.{and_from}
 use Rattle.std.proofs.lemmas.Bool.Decides.{nat_tests}
 use Rattle.std.proofs.lemmas.Slice.Eq.{bytes_eq-Decides}
-use Rattle.tokens.specs.Lexical.{LexicalClass}
-use Rattle.tokens.specs.Lexical.{Name, Punctuator, Number, Text, Template, RegExp, End}
+use Rattle.tokens.specs.declared.token.Class.{Class}
+use Rattle.tokens.specs.declared.token.Class.TheVariants.{Name, Punctuator, Number, Text, Template, RegExp, End}
 use Rattle.language.specs.declared.Rank.TheVariants.{Expression}
 use Rattle.language.specs.declared.Start.TheVariants.{Any}
 use Rattle.tree.specs.declared.kind.Pair.{Pair}
@@ -49,7 +49,7 @@ in_filter : {X : Type 0} {x : X} (f : X → Bool) {xs : List X} → Among x xs �
 in_filter {x = x} f first e = in_cond (f x) _ e first
 in_filter f {xs = y ∷ ys} (later h) e = in_both (f y) y (in_filter f h e)
 
-same_class_refl : (c : LexicalClass) → IsTrue (same_class c c)
+same_class_refl : (c : Class) → IsTrue (same_class c c)
 same_class_refl Name = refl
 same_class_refl Punctuator = refl
 same_class_refl Number = refl
@@ -58,7 +58,7 @@ same_class_refl Template = refl
 same_class_refl RegExp = refl
 same_class_refl End = refl
 
-token_true : {c : LexicalClass} {w : List ℕ} {s e : List Token} {t : Token} → Reads (List Token) Next behind c w s t e → is_token c w t ≡ true
+token_true : {c : Class} {w : List ℕ} {s e : List Token} {t : Token} → Reads (List Token) Next behind c w s t e → is_token c w t ≡ true
 token_true {c} {w} {t = t} r = and_from _ _ (subst (λ d. IsTrue (same_class c d)) (sym r.class) (same_class_refl c)) ((bytes_eq-Decides t.text w).1 r.text)
 
 semicolon_true : {s e : List Token} {t : Token} → Reads (List Token) Next behind Punctuator (codes ";") s t e → is_semicolon t ≡ true

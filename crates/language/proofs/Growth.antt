@@ -2,8 +2,8 @@
 use Rattle.std.proofs.Common.{◌≡◌, ℕ, Bool, true, false, cond, List, [], ◌∷◌, ◌++◌, refl, sym, ap, ◌∙◌, subst}
 use Rattle.std.specs.Prelude.{IsTrue, map, codes}
 use Rattle.std.proofs.lemmas.Bool.{and_parts}
-use Rattle.tokens.specs.Lexical.{LexicalClass}
-use Rattle.tokens.specs.Lexical.{Name, Punctuator}
+use Rattle.tokens.specs.declared.token.Class.{Class}
+use Rattle.tokens.specs.declared.token.Class.TheVariants.{Name, Punctuator}
 use Rattle.tree.specs.declared.kind.Kind.{Kind}
 use Rattle.tree.specs.declared.kind.Kind.TheVariants.{BinaryExpression, LogicalExpression, TemplateLiteral, TemplateElement}
 use Rattle.language.specs.declared.Rank.{Rank}
@@ -28,7 +28,7 @@ use Rattle.language.proofs.Spine.{is_led}
 
 -- what a list of pieces begins with
 pub data First : Type 0 where
-  by : LexicalClass → List ℕ → First
+  by : Class → List ℕ → First
   another : First
 
 abbrev pub first_of : List (PieceOf Role) → First
@@ -80,7 +80,7 @@ module _ (S : Type 0) (Next : S → Token → S → Type 0) (behind : S → Toke
     pub same : (s : S) (a b : Token) (e f : S) → Next s a e → Next s b f → (a ≡ b) × (e ≡ f)
     pub last : (s : S) (t : Token) (e : S) → Next s t e → behind e ≡ t
 
-  pub first_token : {o : ℕ} {ps : Parts} {s e : S} {P : List Pair} {c : LexicalClass} {w : List ℕ} (qs : List (PieceOf Role)) → first_of qs ≡ by c w →
+  pub first_token : {o : ℕ} {ps : Parts} {s e : S} {P : List Pair} {c : Class} {w : List ℕ} (qs : List (PieceOf Role)) → first_of qs ≡ by c w →
       Runs ways S Next behind o qs ps s e P → (t : Token) × (m : S) × Next s t m × (t.class ≡ c) × (t.text ≡ w)
   first_token (tok c' w' ∷ qs) h (step (token {t = t} k) d) = let p : c' ≡ _ = cc in let q : w' ≡ _ = cc in (t, _, k.next, k.class ∙ p, k.text ∙ q)
   first_token (lay x ∷ qs) h (step laid d) = first_token qs h d
@@ -144,7 +144,7 @@ module _ (S : Type 0) (Next : S → Token → S → Type 0) (behind : S → Toke
       }
 
   -- the token that is read is that with which the pieces begin
-  pub token_same : IsDetermined → {o : ℕ} {ps : Parts} {s e m : S} {P : List Pair} {c : LexicalClass} {w : List ℕ} {t : Token} (qs : List (PieceOf Role)) → first_of qs ≡ by c w →
+  pub token_same : IsDetermined → {o : ℕ} {ps : Parts} {s e m : S} {P : List Pair} {c : Class} {w : List ℕ} {t : Token} (qs : List (PieceOf Role)) → first_of qs ≡ by c w →
       Runs ways S Next behind o qs ps s e P → Next s t m → t.text ≡ w
   token_same det {t = t} qs h d nx = let u = first_token qs h d in ap (λ (x : Token). x.text) (det.same _ t u.0 _ u.1 nx u.2).0 ∙ u.4
 

@@ -7,9 +7,10 @@ use Rattle.std.proofs.lemmas.Slice.Eq.{bytes_eq-Decides}
 use Rattle.std.specs.Bool.{beq}
 use Rattle.std.specs.Prelude.{if◌then◌else◌}
 use Rattle.tokens.specs.Alphabet.{one_of, begins_with}
-use Rattle.tokens.specs.Lexical.{LexicalClass}
-use Rattle.tokens.specs.Lexical.{Name, Punctuator, Number, Text}
-use Rattle.tokens.specs.Goals.{Goal, allows}
+use Rattle.tokens.specs.declared.token.Class.{Class}
+use Rattle.tokens.specs.declared.token.Class.TheVariants.{Name, Punctuator, Number, Text}
+use Rattle.tokens.specs.declared.token.Goal.{Goal}
+use Rattle.tokens.specs.Goals.{allows}
 use Rattle.tree.specs.declared.kind.Kind.{Kind}
 use Rattle.tree.specs.declared.kind.Kind.TheVariants.{Identifier, Literal, ThisExpression, Super, ArrayExpression, ObjectExpression, FunctionExpression, ArrowFunctionExpression, ClassExpression, TemplateLiteral, TemplateElement, MemberExpression, CallExpression, NewExpression, MetaProperty, ImportExpression, UpdateExpression, UnaryExpression, AssignmentExpression, ArrayPattern, ObjectPattern}
 use Rattle.language.specs.declared.Rank.{Rank}
@@ -141,7 +142,7 @@ module _ (y : Rank) (i : Bool) (f : Start) where
   headed_of (several h) fit eq un = is_led_so eq refl un
 
 -- an opening is that of the token's class and text
-pub opens : (t : Token) {c : LexicalClass} {w : List ℕ} {x : Opening} → t.class ≡ c → t.text ≡ w → opening_by c w ≡ x → opening_of t ≡ x
+pub opens : (t : Token) {c : Class} {w : List ℕ} {x : Opening} → t.class ≡ c → t.text ≡ w → opening_by c w ≡ x → opening_of t ≡ x
 opens t {c} c' w' e = ap (λ d. opening_by d t.text) c' ∙ ap (opening_by c) w' ∙ e
 
 -- a text that is in no row
@@ -199,7 +200,7 @@ not_or false e = cc
 pub literal_opens : (w : List ℕ) → (is_name (literal_class w) && not (among w ("true" ∷ "false" ∷ "null" ∷ []))) ≡ false → opening_by (literal_class w) w ≡ with_literal
 literal_opens w h = go _ _ _ h
   where
-    go : (a b c : Bool) → (is_name (cond a Text (cond b LexicalClass.RegExp (cond c Number Name))) && not (among w ("true" ∷ "false" ∷ "null" ∷ []))) ≡ false → opening_by (cond a Text (cond b LexicalClass.RegExp (cond c Number Name))) w ≡ with_literal
+    go : (a b c : Bool) → (is_name (cond a Text (cond b Class.RegExp (cond c Number Name))) && not (among w ("true" ∷ "false" ∷ "null" ∷ []))) ≡ false → opening_by (cond a Text (cond b Class.RegExp (cond c Number Name))) w ≡ with_literal
     go true b c h = refl
     go false true c h = refl
     go false false true h = refl
@@ -230,12 +231,12 @@ module _ (S : Type 0) (Next : S → Token → S → Type 0) (behind : S → Toke
     pub opens : opening_of token ≡ x
 
   -- the pieces begin with a name, a number or a string; or with a sign
-  by_free : {o : ℕ} {ps : Parts} {s e : S} {P : List Pair} {c : LexicalClass} {w : List ℕ} {x : Opening} (qs : List (PieceOf Role)) → first_of qs ≡ by c w → is_free c ≡ true → opening_by c w ≡ x →
+  by_free : {o : ℕ} {ps : Parts} {s e : S} {P : List Pair} {c : Class} {w : List ℕ} {x : Opening} (qs : List (PieceOf Role)) → first_of qs ≡ by c w → is_free c ≡ true → opening_by c w ≡ x →
       Runs ways S Next behind o qs ps s e P → Opens x s
   by_free qs h al e d = let u = begun S Next behind qs h d in
       record { token = u.token; mid = u.mid; read = record { next = u.next; allowed = det.free Goal.RegExp _ u.token u.mid u.next (ap is_free u.class ∙ al) }; opens = opens u.token u.class u.text e }
 
-  by_sign : {o : ℕ} {ps : Parts} {s e : S} {P : List Pair} {c : LexicalClass} {w : List ℕ} {x : Opening} (qs : List (PieceOf Role)) → first_of qs ≡ by c w → IsTrue (allows Goal.RegExp c w) → opening_by c w ≡ x →
+  by_sign : {o : ℕ} {ps : Parts} {s e : S} {P : List Pair} {c : Class} {w : List ℕ} {x : Opening} (qs : List (PieceOf Role)) → first_of qs ≡ by c w → IsTrue (allows Goal.RegExp c w) → opening_by c w ≡ x →
       Runs ways S Next behind o qs ps s e P → Opens x s
   by_sign {c = c} qs h al e d = let u = begun S Next behind qs h d in
       let al' : IsTrue (allows Goal.RegExp u.token.class u.token.text) = subst (λ x. IsTrue (allows Goal.RegExp x u.token.text)) (sym u.class) (subst (λ x. IsTrue (allows Goal.RegExp c x)) (sym u.text) al) in
@@ -245,10 +246,10 @@ module _ (S : Type 0) (Next : S → Token → S → Type 0) (behind : S → Toke
       Runs ways S Next behind o (tok (literal_class w) w ∷ []) ps s e P → Opens with_literal s
   by_literal {o} {ps} {s} {e} {P} w h d = go _ _ _ (literal_opens w h) d
     where
-      go : (a b c : Bool) → opening_by (cond a Text (cond b LexicalClass.RegExp (cond c Number Name))) w ≡ with_literal →
-          Runs ways S Next behind o (tok (cond a Text (cond b LexicalClass.RegExp (cond c Number Name))) w ∷ []) ps s e P → Opens with_literal s
+      go : (a b c : Bool) → opening_by (cond a Text (cond b Class.RegExp (cond c Number Name))) w ≡ with_literal →
+          Runs ways S Next behind o (tok (cond a Text (cond b Class.RegExp (cond c Number Name))) w ∷ []) ps s e P → Opens with_literal s
       go true b c h d = by_free (tok Text w ∷ []) refl refl refl d
-      go false true c h d = by_sign (tok LexicalClass.RegExp w ∷ []) refl (either_class (begins_with (one_of "/") w) (begins_with (one_of "}") w)) refl d
+      go false true c h d = by_sign (tok Class.RegExp w ∷ []) refl (either_class (begins_with (one_of "/") w) (begins_with (one_of "}") w)) refl d
       go false false true h d = by_free (tok Number w ∷ []) refl refl refl d
       go false false false h d = by_free (tok Name w ∷ []) refl refl h d
 

@@ -8,6 +8,8 @@ use Rattle.language.specs.Grammar.{ways, ways_bare}
 use Rattle.language.specs.Positions.{first_roles}
 use Rattle.language.specs.Cursor.{Next, behind}
 use Rattle.language.specs.Derivation.{Spells}
+use Rattle.tokens.specs.Reading.{any_goal}
+use Rattle.language.specs.Places.{NextIn, itself}
 use Rattle.language.specs.Cost.{AtMost, least, parts_least, cell_position, add_cost}
 use Rattle.language.specs.Claims.{Derives}
 use Rattle.language.proofs.LowerBound.{at_least}
@@ -47,4 +49,4 @@ spelled_at_least n m a P h d = subst (λ c. AtMost c (length P)) (same_least n m
 
 -- every derivation of every text with the same tree
 pub derived_at_least : (n m : Tree) (text : List ℕ) (P : List Pair) → SameTree m n → Derives text m P → AtMost (least n script) (length P)
-derived_at_least n m text P h d = spelled_at_least n m script P h d.1.3
+derived_at_least n m text P h d = subst (λ c. AtMost c (length P)) (same_least n m script h) (at_least Token (NextIn text any_goal) itself d.1.1)

@@ -39,3 +39,4 @@ pub mod SoundTables
 pub mod SameTrees
 pub mod WordExamples
 pub mod FollowExamples
+pub mod Readings

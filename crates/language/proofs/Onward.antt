@@ -3,9 +3,10 @@ use Rattle.std.proofs.Common.{◌≡◌, ℕ, Bool, true, false, cond, List, [],
 use Rattle.std.specs.Prelude.{IsTrue}
 use Rattle.std.proofs.lemmas.Bool.{false≢true}
 use Rattle.std.proofs.lemmas.List.{append-nil}
-use Rattle.tokens.specs.Lexical.{LexicalClass}
-use Rattle.tokens.specs.Lexical.{Punctuator}
-use Rattle.tokens.specs.Goals.{Div, allows}
+use Rattle.tokens.specs.declared.token.Class.{Class}
+use Rattle.tokens.specs.declared.token.Class.TheVariants.{Punctuator}
+use Rattle.tokens.specs.declared.token.Goal.TheVariants.{Div}
+use Rattle.tokens.specs.Goals.{allows}
 use Rattle.tree.specs.declared.kind.Kind.{Kind}
 use Rattle.tree.specs.declared.kind.Kind.TheVariants.{TemplateLiteral, TemplateElement, ChainExpression}
 use Rattle.language.specs.declared.Rank.{Rank}
@@ -54,7 +55,7 @@ pub steps_sign : (w : List ℕ) → operator_of w ≡ steps → of_class Punctua
 steps_sign w h = ap (λ b. cond b no_operator (operator_of w)) (steps_no_word w h) ∙ h
 
 -- a token of this class and text makes the operator
-pub makes : (t : Token) {c : LexicalClass} {w : List ℕ} {x : Operator} → t.class ≡ c → t.text ≡ w → of_class c w ≡ x → operation t ≡ x
+pub makes : (t : Token) {c : Class} {w : List ℕ} {x : Operator} → t.class ≡ c → t.text ≡ w → of_class c w ≡ x → operation t ≡ x
 makes t {c} c' w' e = ap (λ d. of_class d t.text) c' ∙ ap (of_class c) w' ∙ e
 
 module _ (S : Type 0) (Next : S → Token → S → Type 0) (behind : S → Token) (det : IsDetermined S Next behind) where
@@ -66,7 +67,7 @@ module _ (S : Type 0) (Next : S → Token → S → Type 0) (behind : S → Toke
     pub goes : operation token ≡ x
 
   -- the pieces begin with a token that makes the operator
-  by_token : {o : ℕ} {ps : Parts} {s e : S} {P : List Pair} {c : LexicalClass} {w : List ℕ} {x : Operator} (qs : List (PieceOf Role)) → first_of qs ≡ by c w → IsTrue (allows Div c w) → of_class c w ≡ x →
+  by_token : {o : ℕ} {ps : Parts} {s e : S} {P : List Pair} {c : Class} {w : List ℕ} {x : Operator} (qs : List (PieceOf Role)) → first_of qs ≡ by c w → IsTrue (allows Div c w) → of_class c w ≡ x →
       Runs ways S Next behind o qs ps s e P → Goes x s
   by_token {c = c} qs h al e d = let u = begun S Next behind qs h d in
       let al' : IsTrue (allows Div u.token.class u.token.text) = subst (λ x. IsTrue (allows Div x u.token.text)) (sym u.class) (subst (λ x. IsTrue (allows Div c x)) (sym u.text) al) in

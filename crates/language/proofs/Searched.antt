@@ -4,8 +4,8 @@ use Rattle.std.specs.Prelude.{IsTrue, ◌⊎◌, not, nat_eq, codes, map}
 use Rattle.std.proofs.lemmas.Bool.{and_parts}
 use Rattle.std.proofs.lemmas.Bool.Decides.{nat_tests}
 use Rattle.std.proofs.lemmas.Slice.Eq.{bytes_eq-Decides}
-use Rattle.tokens.specs.Lexical.{LexicalClass}
-use Rattle.tokens.specs.Lexical.{Name, Punctuator, Number, Text, Template, RegExp, End}
+use Rattle.tokens.specs.declared.token.Class.{Class}
+use Rattle.tokens.specs.declared.token.Class.TheVariants.{Name, Punctuator, Number, Text, Template, RegExp, End}
 use Rattle.language.specs.declared.Rank.{Rank}
 use Rattle.language.specs.declared.Rank.TheVariants.{Expression}
 use Rattle.language.specs.declared.Start.{Start}
@@ -22,7 +22,7 @@ use Rattle.language.specs.Search.{Result, each, over, if_next, over_many, steps_
 use Rattle.language.proofs.Viewed.{cases, from_map, from_filter}
 
 -- classes that are the same
-same_class_is : (c d : LexicalClass) → IsTrue (same_class c d) → d ≡ c
+same_class_is : (c d : Class) → IsTrue (same_class c d) → d ≡ c
 same_class_is Name Name h = refl
 same_class_is Punctuator Punctuator h = refl
 same_class_is Number Number h = refl
@@ -85,7 +85,7 @@ pub from_each : {X Y : Type 0} {y : Y} (f : X → List Y) (xs : List X) → Amon
 from_each f [] h = elim h [ ]
 from_each f (x ∷ xs) h = from_one f x xs (λ k. from_each f xs k) (from_append (f x) (each f xs) h)
 
-reads : (c : LexicalClass) (w : List ℕ) {b t : Token} {ts : List Token} → is_token c w t ≡ true → Reads (List Token) Next behind c w (b ∷ t ∷ ts) t (t ∷ ts)
+reads : (c : Class) (w : List ℕ) {b t : Token} {ts : List Token} → is_token c w t ≡ true → Reads (List Token) Next behind c w (b ∷ t ∷ ts) t (t ∷ ts)
 reads c w {t = t} h = let u = and_parts _ _ h in record { next = next; class = same_class_is c t.class u.0; text = (bytes_eq-Decides t.text w).0 u.1 }
 
 data Over (p : Token → Bool) : List Token → List Token → Type 0 where
@@ -136,14 +136,14 @@ many_sound w (b ∷ []) h = no_more_by w h
 many_sound w (b ∷ t ∷ ts) h = many_by w (is_mark w t) refl (λ k. many_sound w (t ∷ ts) k) (from_append (cond (is_mark w t) (over_many w (t ∷ ts)) []) ((b ∷ t ∷ ts) ∷ []) h)
 
 -- the token is `;`
-sign_class : (c : LexicalClass) → is_sign_class c ≡ true → c ≡ Punctuator
+sign_class : (c : Class) → is_sign_class c ≡ true → c ≡ Punctuator
 sign_class Punctuator e = refl
 sign_class _ e = cc
 
 semicolon : {b t : Token} {ts : List Token} → is_semicolon t ≡ true → Reads (List Token) Next behind Punctuator (codes ";") (b ∷ t ∷ ts) t (t ∷ ts)
 semicolon {t = t} e = record { next = next; class = sign_class t.class (and_parts _ _ e).0; text = (bytes_eq-Decides t.text (codes ";")).0 (and_parts _ _ e).1 }
 
-token_walk : {c : LexicalClass} {w : List ℕ} {ts vs : List Token} → Over (is_token c w) ts vs → Walk (tok c w) ts vs
+token_walk : {c : Class} {w : List ℕ} {ts vs : List Token} → Over (is_token c w) ts vs → Walk (tok c w) ts vs
 token_walk {c} {w} (over_one e) = stepped (token (reads c w e))
 
 may_walk : {w : List ℕ} {ts vs : List Token} → Over (is_mark w) ts vs ⊎ Among vs (ts ∷ []) → Walk (may w) ts vs

@@ -2,8 +2,8 @@
 -- template. Whether a `/` begins a regular expression is said by the caller for the whole text.
 use Rattle.std.specs.Prelude.{ℕ, suc, Bool, true, false, cond, ◌&&◌, ◌||◌, List, [], ◌∷◌, ◌++◌, nat_le, nat_eq, codes, Option, Some, None}
 use Prim.Native.String.{String}
-use Rattle.tokens.specs.Lexical.{LexicalClass}
-use Rattle.tokens.specs.Lexical.{Name, Punctuator, Number, Text, Template, RegExp, End}
+use Rattle.tokens.specs.declared.token.Class.{Class}
+use Rattle.tokens.specs.declared.token.Class.TheVariants.{Name, Punctuator, Number, Text, Template, RegExp, End}
 use Rattle.language.specs.Words.{among}
 use Rattle.language.specs.Token.{Token}
 use Rattle.language.specs.Cursor.{beginning}
@@ -19,7 +19,7 @@ pub data Mode : Type 0 where
 
 pub record Scan : Type 0 where
   pub mode : Mode
-  pub class : LexicalClass
+  pub class : Class
   -- of the token that has been begun; empty between tokens
   pub text : List ℕ
   pub start : ℕ
@@ -56,14 +56,14 @@ takes_on (escaped q) w c = Some (quoted q)
 takes_on whole w c = None
 
 -- how a token goes on that begins with the character, and its class
-abbrev pub first_mode : Bool → Bool → ℕ → Mode × LexicalClass
+abbrev pub first_mode : Bool → Bool → ℕ → Mode × Class
 first_mode regexps in_template c =
     cond (is_word_character c) (word, cond (is_digit c) Number Name) (
     cond (nat_eq c 34 || nat_eq c 39) (quoted c, Text) (
     cond (nat_eq c 96 || (in_template && nat_eq c 125)) (quoted 96, Template) (
     cond (regexps && nat_eq c 47) (body, RegExp) (mark, Punctuator))))
 
-abbrev pub is_template : LexicalClass → Bool
+abbrev pub is_template : Class → Bool
 is_template Template = true
 is_template _ = false
 

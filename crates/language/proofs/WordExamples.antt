@@ -2,7 +2,7 @@
 use Rattle.std.specs.Prelude.{◌≡◌, Bool, true, false, not, ◌&&◌, List, [], ◌∷◌, refl, codes}
 use Prim.Native.String.{String}
 use Rattle.language.specs.declared.Rank.TheVariants.{Expression, Assignment, ShortCircuit, Coalesce, LogicalOr, LogicalAnd, BitwiseOr, Exponentiation, Unary, LeftHandSide, New, Call, Member, Grouped}
-use Rattle.tokens.specs.Lexical.{Template, Text}
+use Rattle.tokens.specs.declared.token.Class.TheVariants.{Template, Text}
 use Rattle.language.specs.Words.{is_reserved, takes}
 use Rattle.language.specs.Token.{as_read}
 

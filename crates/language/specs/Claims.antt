@@ -7,17 +7,17 @@ use Rattle.language.specs.declared.Start.TheVariants.{Any, NoBrace, Statement}
 use Rattle.tree.specs.declared.kind.Pair.{Pair}
 use Rattle.tree.specs.Tree.{Tree, node, Parts, none, part, gap, kind_of, parts_of, height, SameTree}
 use Rattle.language.specs.Pieces.{Role, expr, script, PieceOf}
-use Rattle.language.specs.Token.{Token, as_read}
+use Rattle.language.specs.Token.{Token}
 use Rattle.language.specs.Grammar.{ways}
 use Rattle.language.specs.Derivation.{Spells, Runs, Among}
 use Rattle.language.specs.Positions.{rows, first_roles}
+use Rattle.language.specs.Places.{SpellsIn}
 use Rattle.language.specs.Cursor.{beginning, Next, behind}
 use Rattle.language.specs.Cost.{add_cost, lesser, cell_position, if_any}
-use Rattle.tokens.specs.Tokens.{LexicalToken, IsReading}
 
--- some reading of the text spells the tree as a Script, with at most o parentheses open at one point
+-- the text, in UTF-8, spells the tree as a Script, with at most o parentheses open at one point
 abbrev pub DerivesOpen : ℕ → List ℕ → Tree → List Pair → Type 0
-DerivesOpen o text n P = (tokens : List LexicalToken) × (last : Token) × IsReading 0 text tokens × Spells ways (List Token) Next behind o script n (beginning ∷ map as_read tokens) (last ∷ []) P
+DerivesOpen o text n P = (last : Token) × SpellsIn text o script n beginning last P
 
 abbrev pub Derives : List ℕ → Tree → List Pair → Type 0
 Derives text n P = (o : ℕ) × DerivesOpen o text n P

@@ -1,8 +1,8 @@
 -- Derivations. S is where a token may be read; Next s t e says that behind s the token t is read, and that reading goes on
 -- at e; behind s is the token before s.
 use Rattle.std.specs.Prelude.{◌≡◌, ℕ, suc, ◌+◌, ◌-◌, true, false, cond, List, [], ◌∷◌, ◌++◌, Bool, IsTrue, codes}
-use Rattle.tokens.specs.Lexical.{LexicalClass}
-use Rattle.tokens.specs.Lexical.{Name, Punctuator}
+use Rattle.tokens.specs.declared.token.Class.{Class}
+use Rattle.tokens.specs.declared.token.Class.TheVariants.{Name, Punctuator}
 use Rattle.language.specs.declared.Rank.{Rank}
 use Rattle.language.specs.declared.Rank.TheVariants.{Expression}
 use Rattle.language.specs.declared.Start.{Start}
@@ -30,14 +30,14 @@ pair_of left right = record { left = left.start; right = right.start }
 
 module _ (S : Type 0) (Next : S → Token → S → Type 0) (behind : S → Token) where
   -- a token of this class and text is read
-  pub record Reads (c : LexicalClass) (w : List ℕ) (s : S) (t : Token) (e : S) : Type 0 where
+  pub record Reads (c : Class) (w : List ℕ) (s : S) (t : Token) (e : S) : Type 0 where
     pub next : Next s t e
     pub class : t.class ≡ c
     pub text : t.text ≡ w
 
   -- a piece that is no node
   pub data Step : PieceOf Role → S → S → Type 0 where
-    token : {c : LexicalClass} {w : List ℕ} {t : Token} {s e : S} → Reads c w s t e → Step (tok c w) s e
+    token : {c : Class} {w : List ℕ} {t : Token} {s e : S} → Reads c w s t e → Step (tok c w) s e
     with_mark : {w : List ℕ} {t : Token} {s e : S} → Reads Punctuator w s t e → Step (may w) s e
     without_mark : {w : List ℕ} {s : S} → Step (may w) s s
     one_more : {w : List ℕ} {t : Token} {s m e : S} → Reads Punctuator w s t m → Step (many w) m e → Step (many w) s e

@@ -4,8 +4,8 @@ use Rattle.tree.specs.declared.kind.Kind.{Kind}
 use Rattle.tree.specs.declared.kind.Kind.TheVariants.{SequenceExpression, AssignmentExpression, BinaryExpression, LogicalExpression, ConditionalExpression, UnaryExpression, UpdateExpression, ArrowFunctionExpression, VariableDeclaration, VariableDeclarator, IfStatement, LabeledStatement, WhileStatement, ForStatement, ForInStatement, ForOfStatement}
 use Rattle.language.specs.declared.Edge.{Edge}
 use Rattle.language.specs.declared.Edge.TheVariants.{Arrow, Postfix, Other, Closed}
-use Rattle.tokens.specs.Lexical.{LexicalClass}
-use Rattle.tokens.specs.Lexical.{Punctuator, End}
+use Rattle.tokens.specs.declared.token.Class.{Class}
+use Rattle.tokens.specs.declared.token.Class.TheVariants.{Punctuator, End}
 use Rattle.tree.specs.Tree.{Tree, node, Parts, none, part, gap}
 use Rattle.language.specs.Words.{is, among}
 use Rattle.language.specs.Pieces.{Ending, of_do, behind}
@@ -68,7 +68,7 @@ abbrev mutual
   last_ends_in_if (part n (gap ps)) = last_ends_in_if ps
   last_ends_in_if (gap ps) = last_ends_in_if ps
 
-abbrev pub is_sign_class : LexicalClass → Bool
+abbrev pub is_sign_class : Class → Bool
 is_sign_class Punctuator = true
 is_sign_class _ = false
 
@@ -78,7 +78,7 @@ is_sign t = is_sign_class t.class
 abbrev pub is_end : Token → Bool
 is_end t = at_end t.class
   where
-    at_end : LexicalClass → Bool
+    at_end : Class → Bool
     at_end End = true
     at_end _ = false
 

@@ -7,8 +7,8 @@ use Rattle.tree.specs.declared.kind.Kind.TheVariants.{Identifier, Literal, ThisE
 use Rattle.language.specs.declared.Rank.{Rank}
 use Rattle.language.specs.declared.Rank.TheVariants.{Expression, Assignment, Conditional, ShortCircuit, Exponentiation, Unary, Update, LeftHandSide, New, Call, Member, Primary}
 use Rattle.language.specs.declared.Start.TheVariants.{Any, NoBrace}
-use Rattle.tokens.specs.Lexical.{Name}
-use Rattle.tokens.specs.Lexical.{LexicalClass}
+use Rattle.tokens.specs.declared.token.Class.TheVariants.{Name}
+use Rattle.tokens.specs.declared.token.Class.{Class}
 use Rattle.tree.specs.declared.kind.Flags.{Flags}
 use Rattle.tree.specs.declared.kind.Form.{Form}
 use Rattle.tree.specs.declared.kind.Form.TheVariants.{Init, Get, Set, Method, Shorthand, Constructor}
@@ -163,7 +163,7 @@ arrows g ps = single ps ++ at Assignment (open_parameters ∷ parameters (close_
     single _ = []
 
 abbrev pub infix_pieces : List ℕ → List Piece
-infix_pieces w = sp ∷ tok (cond (is_word_operator w) LexicalClass.Name LexicalClass.Punctuator) w ∷ sp ∷ []
+infix_pieces w = sp ∷ tok (cond (is_word_operator w) Class.Name Class.Punctuator) w ∷ sp ∷ []
 
 -- the node's own symbol is that of its left side
 abbrev pub joined : List ℕ → Rank → Rank → Spelling
@@ -217,13 +217,13 @@ expressions ChainExpression w g ps = cond (first_chained ps) (at LeftHandSide (s
 expressions UpdateExpression w g ps =
     cond (not (is_step w && is_target (lead_kind ps))) [] (
     cond g.prefix
-    (at Update (tok LexicalClass.Punctuator w ∷ lay (apart (cond (is w "++") 43 45)) ∷ put (expr LeftHandSide true Any) ∷ []) ∷ [])
-    (at Update (sub (lead LeftHandSide) ∷ unbroken ∷ tok LexicalClass.Punctuator w ∷ []) ∷ []))
+    (at Update (tok Class.Punctuator w ∷ lay (apart (cond (is w "++") 43 45)) ∷ put (expr LeftHandSide true Any) ∷ []) ∷ [])
+    (at Update (sub (lead LeftHandSide) ∷ unbroken ∷ tok Class.Punctuator w ∷ []) ∷ []))
 expressions UnaryExpression w g ps =
     cond (not (is_prefix w)) [] (
     cond (is_word_operator w)
     (at Unary (tok Name w ∷ sp ∷ put (expr Unary true Any) ∷ []) ∷ [])
-    (at Unary (tok LexicalClass.Punctuator w ∷ cond (is w "+") (lay (apart 43) ∷ []) (cond (is w "-") (lay (apart 45) ∷ []) []) ++ put (expr Unary true Any) ∷ []) ∷ []))
+    (at Unary (tok Class.Punctuator w ∷ cond (is w "+") (lay (apart 43) ∷ []) (cond (is w "-") (lay (apart 45) ∷ []) []) ++ put (expr Unary true Any) ∷ []) ∷ []))
 expressions BinaryExpression w g ps = binary_ways w (operator_of w)
 expressions LogicalExpression w g ps = logical_ways w (operator_of w)
 expressions ConditionalExpression w g ps =

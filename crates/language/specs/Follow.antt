@@ -4,14 +4,14 @@ use Rattle.language.specs.declared.Rank.{Rank}
 use Rattle.language.specs.declared.Rank.TheVariants.{Expression, Assignment, Conditional, Exponentiation, Update, LeftHandSide, Call, Member}
 use Rattle.language.specs.declared.Edge.{Edge}
 use Rattle.language.specs.declared.Edge.TheVariants.{Arrow, Postfix, Other, Closed}
-use Rattle.tokens.specs.Lexical.{LexicalClass}
-use Rattle.tokens.specs.Lexical.{Name, Punctuator, Template}
+use Rattle.tokens.specs.declared.token.Class.{Class}
+use Rattle.tokens.specs.declared.token.Class.TheVariants.{Name, Punctuator, Template}
 use Rattle.language.specs.Words.{is, takes, tightness, is_word_operator, Operator, binds, powers, assigns, steps, sequences, asks, selects, calls, indexes, chains, arrows, tags, no_operator, operator_of}
 use Rattle.language.specs.Edges.{standing}
 use Rattle.language.specs.Token.{Token}
 
 -- what a token makes of what stands before it: a word or a sign by its text, a template as one behind a tag
-abbrev pub of_class : LexicalClass → List ℕ → Operator
+abbrev pub of_class : Class → List ℕ → Operator
 of_class Name w = cond (is_word_operator w) (operator_of w) no_operator
 of_class Punctuator w = cond (is_word_operator w) no_operator (operator_of w)
 of_class Template w = cond (nat_eq (slice_index_or w 0 0) 96) tags no_operator

@@ -7,8 +7,8 @@ use Rattle.language.specs.declared.Rank.{Rank}
 use Rattle.language.specs.declared.Rank.TheVariants.{Expression, ShortCircuit, Coalesce}
 use Rattle.language.specs.declared.Start.{Start}
 use Rattle.language.specs.declared.Start.TheVariants.{Any, Statement}
-use Rattle.tokens.specs.Lexical.{LexicalClass}
-use Rattle.tokens.specs.Lexical.{Name, Punctuator, Text, Template, End}
+use Rattle.tokens.specs.declared.token.Class.{Class}
+use Rattle.tokens.specs.declared.token.Class.TheVariants.{Name, Punctuator, Text, Template, End}
 use Rattle.tree.specs.Tree.{Tree, node, Parts, bare}
 use Rattle.tree.specs.Uses.{implies, is_lean}
 use Rattle.language.specs.FirstPart.{lead, others}
@@ -22,8 +22,8 @@ abbrev pub keys : Kind → List ℕ → List Spelling
 keys Identifier w = only (tok Name w ∷ [])
 keys Literal w = cond (is_name (literal_class w) || is_slash (literal_class w)) [] (only (tok (literal_class w) w ∷ []))
   where
-    is_slash : LexicalClass → Bool
-    is_slash LexicalClass.RegExp = true
+    is_slash : Class → Bool
+    is_slash Class.RegExp = true
     is_slash _ = false
 keys _ w = []
 

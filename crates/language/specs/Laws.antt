@@ -1,5 +1,5 @@
 -- What is proved of the definitions.
-use Rattle.std.specs.Prelude.{◌≡◌, ◌↔◌, ℕ, Bool, false, List, ◌++◌, length}
+use Rattle.std.specs.Prelude.{◌≡◌, ◌↔◌, ℕ, Bool, false, List, ◌++◌, length, map, ◌∷◌, []}
 use Rattle.tree.specs.declared.kind.Kind.{Kind}
 use Rattle.tree.specs.declared.kind.Kind.TheVariants.{ArrowFunctionExpression, NewExpression}
 use Rattle.tree.specs.declared.kind.Pair.{Pair}
@@ -8,12 +8,14 @@ use Rattle.language.specs.FirstPart.{others}
 use Rattle.language.specs.Words.{is_identifier}
 use Rattle.language.specs.Pieces.{Role, script, PieceOf, is_none}
 use Rattle.language.specs.Grammar.{ways}
-use Rattle.language.specs.Token.{Token}
-use Rattle.language.specs.Cursor.{Next, behind}
+use Rattle.language.specs.Token.{Token, as_read}
+use Rattle.language.specs.Cursor.{beginning, Next, behind}
 use Rattle.language.specs.Derivation.{Among, Spells}
 use Rattle.language.specs.Search.{spelled}
 use Rattle.language.specs.Cost.{AtMost, least}
-use Rattle.language.specs.Claims.{Derives}
+use Rattle.language.specs.Claims.{Derives, DerivesOpen}
+use Rattle.tokens.specs.Tokens.{LexicalToken, IsReading}
+use Rattle.std.specs.Str.{chars, IsUtf8}
 
 -- Two ways to spell a node: an arrow with one plain parameter, with its parentheses or without; a `new` without arguments,
 -- with its parentheses or without.
@@ -51,3 +53,9 @@ StaysWithMoreTokens =
 -- places change no way
 abbrev pub PlacesChangeNoWay : Type 0
 PlacesChangeNoWay = (a : Role) (n : Tree) → ways a (bare n) ≡ ways a n
+
+-- a reading of a text is one way to read it at its own places: what its tokens spell, the text derives
+abbrev pub ReadingsAreDerived : Type 0
+ReadingsAreDerived =
+    (o : ℕ) (text : List ℕ) (n : Tree) (P : List Pair) (tokens : List LexicalToken) (final : Token) → IsUtf8 text → IsReading 0 (chars text) tokens →
+    Spells ways (List Token) Next behind o script n (beginning ∷ map as_read tokens) (final ∷ []) P → DerivesOpen o text n P

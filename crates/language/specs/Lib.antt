@@ -10,6 +10,7 @@ pub mod Grammar
 pub mod Positions
 pub mod Derivation
 pub mod Cursor
+pub mod Places
 pub mod View
 pub mod Follow
 pub mod Opening

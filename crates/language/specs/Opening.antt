@@ -1,8 +1,8 @@
 -- What an expression begins with: a test on its first token.
 use Rattle.std.specs.Prelude.{ℕ, cond, List, [], ◌∷◌, nat_eq, slice_index_or}
 use Prim.Native.String.{String}
-use Rattle.tokens.specs.Lexical.{LexicalClass}
-use Rattle.tokens.specs.Lexical.{Name, Punctuator, Number, Text, Template, RegExp, End}
+use Rattle.tokens.specs.declared.token.Class.{Class}
+use Rattle.tokens.specs.declared.token.Class.TheVariants.{Name, Punctuator, Number, Text, Template, RegExp, End}
 use Rattle.language.specs.Words.{among, is_reserved}
 use Rattle.language.specs.Token.{Token}
 
@@ -49,7 +49,7 @@ opening_among w [] other = other
 opening_among w (row ∷ rows) other = cond (among w row.0) row.1 (opening_among w rows other)
 
 -- an expression begins with no other reserved word
-abbrev pub opening_by : LexicalClass → List ℕ → Opening
+abbrev pub opening_by : Class → List ℕ → Opening
 opening_by Name w = opening_among w opening_words (cond (is_reserved w) no_opening with_name)
 opening_by Punctuator w = opening_among w opening_signs no_opening
 opening_by Number w = with_literal

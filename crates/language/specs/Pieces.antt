@@ -7,8 +7,8 @@ use Rattle.language.specs.declared.Start.{Start}
 use Rattle.language.specs.declared.Start.TheVariants.{Any}
 use Rattle.language.specs.declared.Edge.{Edge}
 use Rattle.tree.specs.declared.kind.Form.{Form}
-use Rattle.tokens.specs.Lexical.{LexicalClass}
-use Rattle.tokens.specs.Lexical.{Name, Punctuator}
+use Rattle.tokens.specs.declared.token.Class.{Class}
+use Rattle.tokens.specs.declared.token.Class.TheVariants.{Name, Punctuator}
 use Rattle.tree.specs.declared.kind.Kind.{Kind}
 use Rattle.tree.specs.declared.kind.Kind.TheVariants.{AssignmentPattern}
 use Rattle.tree.specs.Tree.{Tree, Parts, none, part, gap, kind_of}
@@ -87,7 +87,7 @@ pub data Slot : Type 0 where
 -- a piece of a spelling; R says how positions are written
 pub data PieceOf (R : Type 0) : Type 0 where
   -- a token of this class and text
-  tok : LexicalClass → List ℕ → PieceOf R
+  tok : Class → List ℕ → PieceOf R
   -- such a punctuator, or nothing
   may : List ℕ → PieceOf R
   -- such punctuators in any number

@@ -1,8 +1,10 @@
 -- What a function promises that reads an expression at a place: that it is found, the only one there; or that there is none.
 use Rattle.std.specs.Prelude.{◌≡◌, ℕ, ◌≤◌, Bool, true, false, List, IsTrue}
-use Rattle.tokens.specs.Lexical.{LexicalClass}
-use Rattle.tokens.specs.Lexical.{Name, Number, Text, End}
-use Rattle.tokens.specs.Goals.{Goal, Div, allows}
+use Rattle.tokens.specs.declared.token.Class.{Class}
+use Rattle.tokens.specs.declared.token.Class.TheVariants.{Name, Number, Text, End}
+use Rattle.tokens.specs.declared.token.Goal.{Goal}
+use Rattle.tokens.specs.declared.token.Goal.TheVariants.{Div}
+use Rattle.tokens.specs.Goals.{allows}
 use Rattle.tree.specs.declared.kind.Pair.{Pair}
 use Rattle.tree.specs.Tree.{Tree, height}
 use Rattle.language.specs.declared.Rank.{Rank}
@@ -15,7 +17,7 @@ use Rattle.language.specs.Grammar.{ways}
 use Rattle.language.specs.Derivation.{Spells}
 
 -- the classes that every goal reads
-abbrev pub is_free : LexicalClass → Bool
+abbrev pub is_free : Class → Bool
 is_free Name = true
 is_free Number = true
 is_free Text = true

@@ -1,6 +1,6 @@
 -- A plain program for the relation: from a cursor, every cursor up to which the tokens spell a node, with the pairs.
 use Rattle.std.specs.Prelude.{ℕ, Bool, true, false, not, cond, ◌&&◌, List, [], ◌∷◌, ◌++◌, nat_eq, codes, map, filter}
-use Rattle.tokens.specs.Lexical.{Name}
+use Rattle.tokens.specs.declared.token.Class.TheVariants.{Name}
 use Rattle.language.specs.declared.Rank.TheVariants.{Expression}
 use Rattle.language.specs.declared.Start.TheVariants.{Any}
 use Rattle.tree.specs.declared.kind.Pair.{Pair}

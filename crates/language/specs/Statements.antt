@@ -7,7 +7,7 @@ use Rattle.language.specs.declared.Start.TheVariants.{Any, Statement}
 use Rattle.language.specs.declared.Edge.{Edge}
 use Rattle.language.specs.declared.Edge.TheVariants.{Closed, Other}
 use Rattle.tree.specs.declared.kind.Flags.{Flags}
-use Rattle.tokens.specs.Lexical.{LexicalClass}
+use Rattle.tokens.specs.declared.token.Class.{Class}
 use Rattle.tree.specs.declared.kind.Form.{Form}
 use Rattle.tree.specs.declared.kind.Form.TheVariants.{Get, Set, Method, Constructor}
 use Rattle.tree.specs.Tree.{Tree, Parts, none, part, gap, kind_of, text_of, flags_of, parts_of}
@@ -60,7 +60,7 @@ declarators a (part n (gap ps)) = nothing
 declarators a (gap ps) = nothing
 
 abbrev pub declaration : List ℕ → Role → Parts → List Piece
-declaration w a ps = tok LexicalClass.Name w ∷ sp ∷ declarators a ps
+declaration w a ps = tok Class.Name w ∷ sp ∷ declarators a ps
 
 abbrev pub is_one : Parts → Bool
 is_one none = false

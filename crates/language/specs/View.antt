@@ -5,8 +5,8 @@ use Rattle.tree.specs.declared.kind.Kind.TheVariants.{Identifier, Literal, ThisE
 use Rattle.language.specs.declared.Rank.{Rank}
 use Rattle.language.specs.declared.Rank.TheVariants.{Expression, Assignment, Conditional, ShortCircuit, Exponentiation, Unary, Update, LeftHandSide, New, Call, Member, Primary}
 use Rattle.language.specs.declared.Start.TheVariants.{Any}
-use Rattle.tokens.specs.Lexical.{Name}
-use Rattle.tokens.specs.Lexical.{LexicalClass}
+use Rattle.tokens.specs.declared.token.Class.TheVariants.{Name}
+use Rattle.tokens.specs.declared.token.Class.{Class}
 use Rattle.tree.specs.declared.kind.Flags.{Flags}
 use Rattle.tree.specs.Tree.{Tree, Parts, none, part, kind_of}
 use Rattle.language.specs.FirstPart.{lead as lead_kind, others}
@@ -36,11 +36,11 @@ pub data Made : Kind → List ℕ → Flags → Parts → Spelling → Type 0 wh
   import_call : {w : List ℕ} {g : Flags} {ps : Parts} → Made ImportExpression w g ps (at Call (term "import" ∷ sign "(" ∷ assignment ∷ sign ")" ∷ []))
   chain : {w : List ℕ} {g : Flags} {ps : Parts} → first_chained ps ≡ true → Made ChainExpression w g ps (at LeftHandSide (sub lead_spine ∷ []))
   prefix : {w : List ℕ} {g : Flags} {ps : Parts} → operator_of w ≡ steps → is_target (lead_kind ps) ≡ true → g.prefix ≡ true →
-      Made UpdateExpression w g ps (at Update (tok LexicalClass.Punctuator w ∷ lay (apart (cond (is w "++") 43 45)) ∷ put (expr LeftHandSide true Any) ∷ []))
+      Made UpdateExpression w g ps (at Update (tok Class.Punctuator w ∷ lay (apart (cond (is w "++") 43 45)) ∷ put (expr LeftHandSide true Any) ∷ []))
   postfix : {w : List ℕ} {g : Flags} {ps : Parts} → operator_of w ≡ steps → is_target (lead_kind ps) ≡ true → g.prefix ≡ false →
-      Made UpdateExpression w g ps (at Update (sub (lead LeftHandSide) ∷ unbroken ∷ tok LexicalClass.Punctuator w ∷ []))
+      Made UpdateExpression w g ps (at Update (sub (lead LeftHandSide) ∷ unbroken ∷ tok Class.Punctuator w ∷ []))
   unary_word : {w : List ℕ} {g : Flags} {ps : Parts} → is_prefix w ≡ true → is_word_operator w ≡ true → Made UnaryExpression w g ps (at Unary (tok Name w ∷ sp ∷ put (expr Unary true Any) ∷ []))
-  unary_sign : {w : List ℕ} {g : Flags} {ps : Parts} → is_prefix w ≡ true → is_word_operator w ≡ false → Made UnaryExpression w g ps (at Unary (tok LexicalClass.Punctuator w ∷ cond (is w "+") (lay (apart 43) ∷ []) (cond (is w "-") (lay (apart 45) ∷ []) []) ++ put (expr Unary true Any) ∷ []))
+  unary_sign : {w : List ℕ} {g : Flags} {ps : Parts} → is_prefix w ≡ true → is_word_operator w ≡ false → Made UnaryExpression w g ps (at Unary (tok Class.Punctuator w ∷ cond (is w "+") (lay (apart 43) ∷ []) (cond (is w "-") (lay (apart 45) ∷ []) []) ++ put (expr Unary true Any) ∷ []))
   power : {w : List ℕ} {g : Flags} {ps : Parts} → operator_of w ≡ powers → Made BinaryExpression w g ps (at Exponentiation (sub (lead Update) ∷ infix_pieces w ++ put (expr Exponentiation true Any) ∷ []))
   binary : {w : List ℕ} {g : Flags} {ps : Parts} {z q : Rank} → operator_of w ≡ binds false z q → Made BinaryExpression w g ps (joined w z q)
   logical : {w : List ℕ} {g : Flags} {ps : Parts} {z q : Rank} → operator_of w ≡ binds true z q → Made LogicalExpression w g ps (joined w z q)

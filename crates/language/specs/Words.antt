@@ -6,8 +6,8 @@ use Rattle.tree.specs.declared.kind.Kind.{Kind}
 use Rattle.tree.specs.declared.kind.Kind.TheVariants.{Identifier, MemberExpression, ArrayPattern, ObjectPattern, RestElement, SpreadElement, Super}
 use Rattle.language.specs.declared.Rank.{Rank}
 use Rattle.language.specs.declared.Rank.TheVariants.{Expression, Assignment, Conditional, ShortCircuit, Coalesce, LogicalOr, LogicalAnd, BitwiseOr, BitwiseXor, BitwiseAnd, Equality, Relational, Shift, Additive, Multiplicative, Exponentiation, Unary, Update, LeftHandSide, New, Call, Member, Primary, Grouped}
-use Rattle.tokens.specs.Lexical.{LexicalClass}
-use Rattle.tokens.specs.Lexical.{Name, Number, Text, RegExp}
+use Rattle.tokens.specs.declared.token.Class.{Class}
+use Rattle.tokens.specs.declared.token.Class.TheVariants.{Name, Number, Text, RegExp}
 
 abbrev pub is : List ℕ → String → Bool
 is w s = bytes_eq w (codes s)
@@ -115,21 +115,21 @@ unfoldable pub is_reserved : List ℕ → Bool
 is_reserved w = among w ("break" ∷ "case" ∷ "catch" ∷ "class" ∷ "const" ∷ "continue" ∷ "debugger" ∷ "default" ∷ "delete" ∷ "do" ∷ "else" ∷ "enum" ∷ "export" ∷ "extends" ∷ "false" ∷ "finally" ∷ "for" ∷ "function" ∷ "if" ∷ "import" ∷ "in" ∷ "instanceof" ∷ "new" ∷ "null" ∷ "return" ∷ "super" ∷ "switch" ∷ "this" ∷ "throw" ∷ "true" ∷ "try" ∷ "typeof" ∷ "var" ∷ "void" ∷ "while" ∷ "with" ∷ "yield" ∷ "let" ∷ "static" ∷ "implements" ∷ "interface" ∷ "package" ∷ "private" ∷ "protected" ∷ "public" ∷ [])
 
 -- what a literal's text is: its first character tells
-abbrev pub literal_class : List ℕ → LexicalClass
+abbrev pub literal_class : List ℕ → Class
 literal_class w =
     let c = slice_index_or w 0 0 in
     cond (nat_eq c 34 || nat_eq c 39) Text (cond (nat_eq c 47) RegExp (cond (nat_eq c 46 || (nat_le 48 c && nat_le c 57)) Number Name))
 
-abbrev pub is_string : LexicalClass → Bool
+abbrev pub is_string : Class → Bool
 is_string Text = true
 is_string _ = false
 
-abbrev pub is_name : LexicalClass → Bool
+abbrev pub is_name : Class → Bool
 is_name Name = true
 is_name _ = false
 
 -- a number that a `.` behind it would join: any but one with the suffix n
-abbrev pub is_open_number : LexicalClass → List ℕ → Bool
+abbrev pub is_open_number : Class → List ℕ → Bool
 is_open_number Number w = not (ends_in_n w)
   where
     ends_in_n : List ℕ → Bool

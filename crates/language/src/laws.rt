@@ -1,6 +1,6 @@
 //! What is proved of the definitions: each contract is a theorem, and the body does nothing.
 
-ghost use Rattle.language.specs.Laws.{AtMostOneWay, FindsDerivations, NoFewerPairs, NoFewerPairsOfTokens, PlacesChangeNoWay, StaysWithMoreTokens};
+ghost use Rattle.language.specs.Laws.{AtMostOneWay, FindsDerivations, NoFewerPairs, NoFewerPairsOfTokens, PlacesChangeNoWay, ReadingsAreDerived, StaysWithMoreTokens};
 
 /// A node has at most one way at a position, but for an arrow with one plain parameter and a `new` without arguments.
 pub fn at_most_one_way()
@@ -30,4 +30,9 @@ pub fn stays_with_more_tokens()
 /// Places change no way to spell a node.
 pub fn places_change_no_way()
     ensures { PlacesChangeNoWay }
+{}
+
+/// What the tokens of a reading of a text spell, the text derives at its own places.
+pub fn readings_are_derived()
+    ensures { ReadingsAreDerived }
 {}

@@ -4,8 +4,8 @@ use Rattle.std.specs.Prelude.{codes}
 use Rattle.tokens.specs.Tokens.{LexicalToken}
 use Rattle.tokens.specs.declared.token.Class.{Class}
 use Rattle.grammar.specs.Limits.{ReadsAt, Next, next}
-use Rattle.tokens.specs.Lexical.{LexicalClass}
-use Rattle.tokens.specs.Lexical.{Punctuator, End}
+use Rattle.tokens.specs.declared.token.Class.{Class}
+use Rattle.tokens.specs.declared.token.Class.TheVariants.{Punctuator, End}
 use Rattle.language.specs.declared.Rank.{Rank}
 use Rattle.language.specs.declared.Rank.TheVariants.{Expression}
 use Rattle.language.specs.Words.{tightness}
@@ -47,7 +47,7 @@ stops_ahead text y s t a less t' e z n b = less z (ap binding (sym (same_ahead a
 pub not_punctuator : (t : LexicalToken) (z : Rank) → t.class ≢ Punctuator → binding t ≡ Some z → ⊥
 not_punctuator t z other b = of t.class other b
   where
-    of : (c : LexicalClass) → c ≢ Punctuator → of_class c t.text ≡ Some z → ⊥
+    of : (c : Class) → c ≢ Punctuator → of_class c t.text ≡ Some z → ⊥
     of Punctuator other h = other refl
     of _ other h = cc
 
@@ -82,6 +82,6 @@ comma_of t z b low = of t.class refl b
     of_comma true e h = is_comma t.text e
     of_comma false e h = absurd (of_op (sum_operator t.text) refl h)
 
-    of : (c : LexicalClass) → t.class ≡ c → of_class c t.text ≡ Some z → (t.class ≡ Punctuator) × (t.text ≡ codes ",")
+    of : (c : Class) → t.class ≡ c → of_class c t.text ≡ Some z → (t.class ≡ Punctuator) × (t.text ≡ codes ",")
     of Punctuator e h = (e, of_comma (is t.text ",") refl h)
     of _ e h = absurd (cc)

@@ -8,7 +8,7 @@ use Rattle.lint.specs.Cursor.{token_of}
 use Rattle.tokens.specs.declared.fault.Fault.{Fault}
 use Rattle.tokens.specs.declared.fault.Fault.TheVariants.{NotUtf8, TooLong, Syntax, TooDeep, Early, OutOfMemory, BadSettings, BadTable, WriteFailed, ReadFailed, Usage}
 use Rattle.tokens.specs.declared.token.Token.{Token}
-use Rattle.tokens.specs.Lexical.{Punctuator, End}
+use Rattle.tokens.specs.declared.token.Class.TheVariants.{Punctuator, End}
 use Rattle.tree.specs.Tree.{Tree, parts_height, push, parts_from}
 use Rattle.tree.specs.View.{expression_tree, statement_tree}
 use Rattle.tree.specs.declared.kind.Pair.{Pair}

@@ -4,7 +4,7 @@ use Rattle.tokens.specs.Tokens.{LexicalToken}
 use Rattle.tokens.specs.Scanned.{lexeme_of}
 use Rattle.tokens.specs.Source.{IsPlace}
 use Rattle.grammar.specs.Limits.{as_token, ReadsAt}
-use Rattle.tokens.specs.Lexical.{End}
+use Rattle.tokens.specs.declared.token.Class.TheVariants.{End}
 use Rattle.tokens.specs.declared.token.Token.{Token}
 use Rattle.tokens.specs.declared.scanner.ScanFault.{ScanFault}
 

@@ -12,7 +12,7 @@ use Rattle.language.specs.declared.Rank.{Rank}
 use Rattle.grammar.specs.Limits.{itself}
 use Rattle.grammar.specs.Promises.{Found, Absent, AbsentWithin}
 use Rattle.lint.specs.Cursor.{token_of}
-use Rattle.tokens.specs.Lexical.{Punctuator}
+use Rattle.tokens.specs.declared.token.Class.TheVariants.{Punctuator}
 use Rattle.tokens.specs.declared.token.Token.{Token}
 use Rattle.tree.specs.View.{operator_text}
 use Rattle.language.specs.Words.{tightness}

@@ -4,7 +4,7 @@ use Rattle.std.specs.declared.alloc.Global.{Global}
 use Rattle.tokens.specs.Tokens.{LexicalToken}
 use Rattle.grammar.specs.Limits.{ReadsAt}
 use Rattle.tokens.specs.Source.{IsPlace}
-use Rattle.tokens.specs.Lexical.{End}
+use Rattle.tokens.specs.declared.token.Class.TheVariants.{End}
 use Rattle.tokens.specs.declared.fault.Fault.{Fault}
 use Rattle.tokens.specs.declared.fault.Fault.TheVariants.{Syntax, TooDeep, OutOfMemory}
 use Rattle.tree.specs.Tree.{Tree, parts_from}
