@@ -1,0 +1,10 @@
+pub mod Steps
+pub mod Tables
+pub mod Quotes
+pub mod Walking
+pub mod Floatless
+pub mod Pieces
+pub mod Shown
+mod ScriptRows
+mod ExpressionRows
+mod StatementRows

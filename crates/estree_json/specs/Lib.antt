@@ -1,0 +1,7 @@
+pub mod Types
+pub mod Texts
+pub mod Fields
+pub mod Strings
+pub mod Json
+pub mod View
+pub mod Writing

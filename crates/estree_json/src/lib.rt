@@ -1,0 +1,16 @@
+#![tactic(auto)]
+
+//! The tree of a script as JSON, by ESTree.
+
+mod fields;
+mod node;
+mod object;
+mod texts;
+mod types;
+mod write;
+
+pub use node::to_value;
+pub use write::write_tree;
+
+#[cfg(test)]
+mod tests;
