@@ -2,7 +2,7 @@
 use Rattle.std.proofs.Common.{◌≡◌, ℕ, suc, ◌<◌, ◌≤◌, List, ◌++◌, Some, None, refl, sym, ap, ◌∙◌, subst, arith, cond, true, false, Bool}
 use Rattle.std.specs.Prelude.{codes}
 use Rattle.std.proofs.lemmas.Slice.Eq.{bytes_eq-Decides}
-use Rattle.tokens.specs.declared.token.Class.{Class}
+use Rattle.tokens.specs.declared.token.Class.{Class as LexicalClass}
 use Rattle.tokens.specs.declared.token.Class.TheVariants.{Punctuator, End}
 use Rattle.language.specs.Token.{Token}
 use Rattle.tree.specs.declared.kind.Kind.TheVariants.{BinaryExpression}
@@ -64,7 +64,7 @@ binding_below t z e = of t.class e
     of_comma true h = let u : Expression ≡ z = cc in let v = ap tightness u in omega arith
     of_comma false h = of_op (sum_operator t.text) h refl
 
-    of : (c : Class) → of_class c t.text ≡ Some z → tightness z < tightness Primary
+    of : (c : LexicalClass) → of_class c t.text ≡ Some z → tightness z < tightness Primary
     of Punctuator h = of_comma (is t.text ",") h
     of _ h = cc
 

@@ -1,6 +1,6 @@
 -- A tree is no higher than its text is long: each node on a path down has a byte of its own.
 use Rattle.std.proofs.Common.{◌≡◌, ◌≢◌, ℕ, suc, ◌+◌, ◌≤◌, true, List, length, sym, ap, ◌∙◌, arith}
-use Rattle.tokens.specs.declared.token.Class.{Class}
+use Rattle.tokens.specs.declared.token.Class.{Class as LexicalClass}
 use Rattle.tokens.specs.declared.token.Class.TheVariants.{Name, Punctuator, Number, End}
 use Rattle.tree.specs.declared.kind.Pair.{Pair}
 use Rattle.tree.specs.Tree.{Tree, node, Parts, none, part, gap, parts_of, height, parts_height}
@@ -15,7 +15,7 @@ use Rattle.grammar.proofs.Scripted.{script_of}
 use Rattle.grammar.proofs.ReadWords.{reading_text, token_up, end_behind}
 
 -- a token is a byte at least
-next_up : {text : List ℕ} {s e : Token} (t : Token) (class : Class) → Next text s t e → t.class ≡ class → class ≢ End → suc s.stop ≤ e.stop
+next_up : {text : List ℕ} {s e : Token} (t : Token) (class : LexicalClass) → Next text s t e → t.class ≡ class → class ≢ End → suc s.stop ≤ e.stop
 next_up {text} {s} t class (next h) c ne = token_up text s.stop t h (λ q. ne (sym c ∙ q))
 
 reads_up : {text w : List ℕ} {s t e : Token} → Reads Token (Next text) itself Punctuator w s t e → suc s.stop ≤ e.stop

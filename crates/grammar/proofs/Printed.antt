@@ -11,7 +11,7 @@ use Rattle.language.specs.declared.Rank.{Rank}
 use Rattle.language.specs.declared.Rank.TheVariants.{Expression, Assignment, Primary}
 use Rattle.language.specs.Words.{tightness}
 use Rattle.language.specs.Words.{binds, is_reserved}
-use Rattle.language.specs.Pieces.{expr, script}
+use Rattle.language.specs.Pieces.{expr, item, script}
 use Rattle.language.specs.Derivation.{Reads, grouped, pair_of}
 use Rattle.grammar.specs.Layout.{layout, wrapped_count, fixed_text}
 use Rattle.grammar.specs.Limits.{Next, next, itself, front, SpellsIn, max_height, max_open, Derives, DerivesWithin, IsSpelled, IsScript}
@@ -21,9 +21,14 @@ use Rattle.grammar.proofs.Scripted.{script_of, script_spelled}
 use Rattle.grammar.proofs.Ways.{Full, full, more_full}
 use Rattle.grammar.proofs.Layouts.{pair_text, pair_count, rest_text, rest_count, lines_text, lines_count, name_layout, name_count, number_layout, number_count, both_layout, both_count, several_layout, several_count, statement_layout, statement_count, program_count, fixed_program}
 use Rattle.grammar.proofs.Unplaced.{layout_same, count_same, height_same}
-use Rattle.grammar.proofs.ReadWords.{AllSpaces, IsClean, reading_text, Word, word_is, Before, before_same, Read, read, read_over, no_space, one_space, line_feed, stands_clean, open_stands, close_stands, comma_stands, semicolon_stands, operator_stands}
+use Rattle.grammar.proofs.ReadWords.{AllSpaces, IsClean, reading_text, Word, word_is, Before, before_same, Read, read, read_over, no_space, one_space, line_feed, name_stands, number_stands, open_stands, close_stands, comma_stands, semicolon_stands, operator_stands}
 use Rattle.grammar.specs.Sums.{is_integer, sum_operator}
 use Rattle.language.specs.declared.Start.TheVariants.{Any}
+use Rattle.std.specs.Prelude.{encode_utf8_all}
+use Rattle.std.specs.Str.{IsUtf8}
+use Rattle.std.proofs.Math.Utf8.{scalars}
+use Rattle.std.proofs.lemmas.Str.{IsUtf8-append, IsUtf8-nil}
+use Rattle.grammar.proofs.Flat.{Sign, sum, difference, product, quotient, sign_of}
 
 -- what a tree looks like that something spells, the groups round it left out
 
@@ -141,7 +146,7 @@ wrap n z own count inner text_is count_is y o text s spaces rest all clean befor
 
 name_inside : (w : List ℕ) (a b : ℕ) → Word Name w → is_reserved w ≡ false → PrintsInside (node Identifier w plain a b none) Primary w 0
 name_inside w a b word free y o text s spaces rest all clean le before low =
-    let r = read text Name w s spaces rest all (stands_clean word clean) before in
+    let r = read text Name w s spaces rest all (name_stands word clean) before in
     record {
       end = r.token;
       tree = name_node r.token;
@@ -158,7 +163,7 @@ name_prints w a b word free =
 
 number_inside : (w : List ℕ) (a b : ℕ) → Word Number w → is_integer w ≡ true → PrintsInside (node Literal w plain a b none) Primary w 0
 number_inside w a b word integer y o text s spaces rest all clean le before low =
-    let r = read text Number w s spaces rest all (stands_clean word clean) before in
+    let r = read text Number w s spaces rest all (number_stands word clean) before in
     record {
       end = r.token;
       tree = number_node r.token;
@@ -373,6 +378,71 @@ shape_full : {ps : Parts} → ItemsShape ps → Full ps
 shape_full no_items = full
 shape_full (item_shape h f) = more_full (shape_full f)
 
+-- the text of each tree is UTF-8
+
+plain_utf8 : (cs : List ℕ) → scalars cs ≡ true → encode_utf8_all cs ≡ cs → IsUtf8 cs
+plain_utf8 cs h e = (cs, (h, e))
+
+sign_utf8 : {w : List ℕ} {z q : Rank} → Sign w z q → IsUtf8 w
+sign_utf8 sum = plain_utf8 (codes "+") refl refl
+sign_utf8 difference = plain_utf8 (codes "-") refl refl
+sign_utf8 product = plain_utf8 (codes "*") refl refl
+sign_utf8 quotient = plain_utf8 (codes "/") refl refl
+
+abbrev Encodes : Tree → Type 0
+Encodes n = (y : Rank) → IsUtf8 (layout n (expr y true Any))
+
+pair_utf8 : (b : Bool) (own : List ℕ) → IsUtf8 own → IsUtf8 (pair_text b own)
+pair_utf8 true own h = IsUtf8-append (codes "(") (own ++ codes ")") (plain_utf8 (codes "(") refl refl) (IsUtf8-append own (codes ")") h (plain_utf8 (codes ")") refl refl))
+pair_utf8 false own h = h
+
+abbrev EachEncodes : Parts → Type 0
+EachEncodes none = Unit {0}
+EachEncodes (part n ps) = ((y : Rank) → IsSpelled (expr y true Any) n → Encodes n) × EachEncodes ps
+EachEncodes (gap ps) = EachEncodes ps
+
+rest_utf8 : {ps : Parts} → ListedShape ps → EachEncodes ps → IsUtf8 (rest_text ps)
+rest_utf8 (last_shape {n = n} h) each =
+    IsUtf8-append (codes ", ") (layout n (expr Assignment true Any) ++ []) (plain_utf8 (codes ", ") refl refl)
+    (IsUtf8-append (layout n (expr Assignment true Any)) [] (each.0 Assignment h Assignment) IsUtf8-nil)
+rest_utf8 (more_shape {n = n} {ps = ps} h f) each =
+    IsUtf8-append (codes ", ") (layout n (expr Assignment true Any) ++ rest_text ps) (plain_utf8 (codes ", ") refl refl)
+    (IsUtf8-append (layout n (expr Assignment true Any)) (rest_text ps) (each.0 Assignment h Assignment) (rest_utf8 f each.1))
+
+binary_utf8 : (w : List ℕ) (z q : Rank) (l r : Tree) → sum_operator w ≡ binds false z q → Encodes l → Encodes r → IsUtf8 (binary_own w z q l r)
+unfolding binary_own
+binary_utf8 w z q l r op left right =
+    IsUtf8-append (layout l (expr z true Any)) (codes " " ++ (w ++ (codes " " ++ layout r (expr q true Any)))) (left z)
+    (IsUtf8-append (codes " ") (w ++ (codes " " ++ layout r (expr q true Any))) (plain_utf8 (codes " ") refl refl)
+    (IsUtf8-append w (codes " " ++ layout r (expr q true Any)) (sign_utf8 (sign_of w z q op))
+    (IsUtf8-append (codes " ") (layout r (expr q true Any)) (plain_utf8 (codes " ") refl refl) (right q))))
+
+shape_utf8 : {n : Tree} → Shape n → EachEncodes (parts_of n) → Encodes n
+unfolding binary_own
+shape_utf8 (name_shape {w = w} {a = a} {b = b} word free) each y = subst IsUtf8 (sym (name_layout w a b y free)) (pair_utf8 (nat_lt (tightness Primary) (tightness y)) w word.utf8)
+shape_utf8 (number_shape {w = w} {a = a} {b = b} word integer) each y = subst IsUtf8 (sym (number_layout w a b y integer)) (pair_utf8 (nat_lt (tightness Primary) (tightness y)) w word.utf8)
+shape_utf8 (binary_shape {w = w} {a = a} {b = b} {l = l} {r = r} z q op h k) each y =
+    subst IsUtf8 (sym (both_layout w a b l r y z q op)) (pair_utf8 (nat_lt (tightness z) (tightness y)) (binary_own w z q l r) (binary_utf8 w z q l r op (each.0 z h) (each.1.0 q k)))
+shape_utf8 (sequence_shape {a = a} {b = b} {n = n} {ps = ps} h f) each y =
+    subst IsUtf8 (sym (sequence_layout a b n y f)) (pair_utf8 (nat_lt 0 (tightness y)) (layout n (expr Assignment true Any) ++ rest_text ps)
+    (IsUtf8-append (layout n (expr Assignment true Any)) (rest_text ps) (each.0 Assignment h Assignment) (rest_utf8 f each.1)))
+
+mutual
+  tree_utf8 : (n : Tree) → Shape n → Encodes n
+  tree_utf8 (node k w g a b ps) shape = shape_utf8 shape (each_utf8 ps)
+
+  each_utf8 : (ps : Parts) → EachEncodes ps
+  each_utf8 none = tt
+  each_utf8 (part n ps) = (λ y h. tree_utf8 n (shape_of h), each_utf8 ps)
+  each_utf8 (gap ps) = each_utf8 ps
+
+lines_utf8 : {ps : Parts} → ItemsShape ps → IsUtf8 (lines_text ps)
+lines_utf8 no_items = IsUtf8-nil
+lines_utf8 (item_shape {a = a} {b = b} {n = n} {ps = ps} h f) =
+    IsUtf8-append (layout (statement_node a b n) (item false)) (10 ∷ lines_text ps)
+    (subst IsUtf8 (sym (statement_layout a b n)) (IsUtf8-append (layout n (expr Expression true Any)) (codes ";") (tree_utf8 n (shape_of h) Expression) (plain_utf8 (codes ";") refl refl)))
+    (IsUtf8-append (10 ∷ []) (lines_text ps) (plain_utf8 (10 ∷ []) refl refl) (lines_utf8 f))
+
 record AgainItems (text : List ℕ) (o : ℕ) (ps : Parts) (s : Token) : Type 0 where
   end : Token
   parts : Parts
@@ -420,7 +490,8 @@ record AgainScript (n : Tree) : Type 0 where
 program_again : (b : ℕ) (ps : Parts) → ItemsShape ps → height (program_node b ps) ≤ max_height → AgainScript (program_node b ps)
 program_again b ps shape low =
     let text = fixed_text (program_node b ps) in
-    let i = items_print shape max_open text front [] no_space (before_same (fixed_program b ps (shape_full shape)) (record { within = omega arith; is = refl })) (omega arith) in
+    let utf8 = subst IsUtf8 (sym (fixed_program b ps (shape_full shape))) (lines_utf8 shape) in
+    let i = items_print shape max_open text front [] no_space (before_same (fixed_program b ps (shape_full shape)) (record { source = utf8; utf8 = utf8; within = omega arith; is = refl })) (omega arith) in
     let same : SameTree (program_node i.end.stop i.parts) (program_node b ps) = ap (λ x. node Program [] plain 0 0 x) i.same in
     let h = height_same (program_node i.end.stop i.parts) (program_node b ps) same in
     record {

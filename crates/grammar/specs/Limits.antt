@@ -1,11 +1,10 @@
 -- What a text derives, and what it derives within the limits.
-use Rattle.std.specs.Prelude.{◌≡◌, ℕ, ◌≤◌, false, List, []}
-use Rattle.tokens.specs.declared.token.Class.{Class}
-use Rattle.tokens.specs.declared.token.Class.TheVariants as class
-use Rattle.tokens.specs.Lexeme.{Lexeme}
-use Rattle.tokens.specs.Reading.{IsTokenAt}
-use Rattle.tokens.specs.declared.token.Class.{Class}
-use Rattle.tokens.specs.declared.token.Class.TheVariants.{Name, Punctuator, Number, End}
+use Rattle.std.specs.Prelude.{ℕ, ◌≤◌, false, List, []}
+use Rattle.std.specs.Str.{IsUtf8}
+use Rattle.source_text.specs.Source.{IsPlace}
+use Rattle.tokens.specs.declared.token.Class.TheVariants.{End}
+use Rattle.tokens.specs.declared.token.Goal.TheVariants.{Div}
+use Rattle.tokens.specs.Reading.{Reads}
 use Rattle.tree.specs.declared.kind.Pair.{Pair}
 use Rattle.tree.specs.Tree.{Tree, height}
 use Rattle.language.specs.Pieces.{Role, script}
@@ -14,22 +13,11 @@ use Rattle.language.specs.Grammar.{ways}
 use Rattle.language.specs.Derivation.{Spells}
 use Rattle.grammar.specs.Sums.{sum_ways}
 
--- the class of a scanned token, in the definitions
-abbrev pub class_of : Class → Class
-class_of class.Name = Name
-class_of class.Punctuator = Punctuator
-class_of class.Number = Number
-class_of class.End = End
-
--- a scanned token, in the definitions. Line breaks in front of tokens aren't told yet: with an explicit `;` none counts
-abbrev pub as_token : Lexeme → Token
-as_token x = record { class = class_of x.class; text = x.text; start = x.start; stop = x.stop; after_break = false }
-
--- this token is read at a place of a text
+-- this token is read at a place of a source text, where `/` and `}` are punctuators
 pub record ReadsAt (text : List ℕ) (at : ℕ) (t : Token) : Type 0 where
-  pub scanned : Lexeme
-  pub read : IsTokenAt text at scanned
-  pub is : t ≡ as_token scanned
+  pub source : IsUtf8 text
+  pub place : IsPlace text at
+  pub read : Reads text Div at t
 
 -- Where a token may be read: behind the token before. Behind `s` the token `t` is read, and reading goes on behind it.
 pub data Next (text : List ℕ) : Token → Token → Token → Type 0 where

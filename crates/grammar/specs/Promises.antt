@@ -1,6 +1,6 @@
 -- What a function promises that reads an expression at a place: that it is found, the only one there; or that there is none.
 use Rattle.std.specs.Prelude.{◌≡◌, ℕ, ◌≤◌, ◌<◌, true, cond, List, Option, Some, None}
-use Rattle.tokens.specs.declared.token.Class.{Class}
+use Rattle.tokens.specs.declared.token.Class.{Class as LexicalClass}
 use Rattle.tokens.specs.declared.token.Class.TheVariants.{Punctuator}
 use Rattle.language.specs.Token.{Token}
 use Rattle.tree.specs.declared.kind.Pair.{Pair}
@@ -22,7 +22,7 @@ abbrev pub of_sign : List ℕ → Option Rank
 of_sign w = cond (is w ",") (Some Expression) (of_operator (sum_operator w))
 
 -- the symbol of the node that a token would make of what stands before it
-abbrev pub of_class : Class → List ℕ → Option Rank
+abbrev pub of_class : LexicalClass → List ℕ → Option Rank
 of_class Punctuator w = of_sign w
 of_class _ w = None
 

@@ -3,7 +3,7 @@
 //! The program `jslint`: its words, its file, its streams and its exit status.
 
 ghost use Rattle.std.specs.Prelude.{◌≡◌, ◌≢◌, IfErr, false};
-ghost use Rattle.tokens.specs.declared.fault.Fault.TheVariants.{Usage};
+ghost use Rattle.source_text.specs.declared.fault.Fault.TheVariants.{Usage};
 ghost use Rattle.clap.specs.Words.{kind_of};
 ghost use Rattle.jslint.specs.Program.{RunsOnFile};
 
@@ -14,7 +14,7 @@ use lint::run::{Refused, run};
 use std::process::ExitCode;
 use std::rt::{Env, Files};
 use std::{env, fs, io};
-use tokens::{Device, Fault, Sink};
+use source_text::{Device, Fault, Sink};
 
 /// The words of the command line, the program's name first. Words that are not UTF-8 name no file that can be read.
 fn own_words<R: Env + AllocGlobal>(rt: &R) -> Result<Vec<String>, Fault>

@@ -5,7 +5,7 @@ use lint::command_line::Line;
 use lint::run::{Command, Refused};
 use std::alloc::{AllocError, Global};
 use std::test::Fail;
-use tokens::{Fault, MemorySink, Plan};
+use source_text::{Fault, MemorySink, Plan};
 
 fn writer(alloc: Global) -> Result<MemorySink, AllocError>
     ensures { IfOk result (λ sink. sink.failed ≡ false) }

@@ -4,9 +4,9 @@ use Rattle.std.proofs.Math.Seq.{set-append_seam}
 use Rattle.std.specs.Prelude.{codes, Result, Ok, Err, IsErrAnd}
 use Rattle.tokens.specs.Tokens.{LexicalToken}
 use Rattle.grammar.specs.Limits.{ReadsAt, Next}
-use Rattle.lint.specs.Cursor.{token_of}
-use Rattle.tokens.specs.declared.fault.Fault.{Fault}
-use Rattle.tokens.specs.declared.fault.Fault.TheVariants.{NotUtf8, TooLong, Syntax, TooDeep, Early, OutOfMemory, BadSettings, BadTable, WriteFailed, ReadFailed, Usage}
+use Rattle.tokens.specs.Scanned.{token_of}
+use Rattle.source_text.specs.declared.fault.Fault.{Fault}
+use Rattle.source_text.specs.declared.fault.Fault.TheVariants.{NotUtf8, TooLong, Syntax, TooDeep, Early, OutOfMemory, BadSettings, BadTable, WriteFailed, ReadFailed, Usage}
 use Rattle.tokens.specs.declared.token.Token.{Token}
 use Rattle.tokens.specs.declared.token.Class.TheVariants.{Punctuator, End}
 use Rattle.tree.specs.Tree.{Tree, node, height, parts_height, push, parts_from}

@@ -2,34 +2,20 @@
 use Rattle.std.proofs.Common.{◌≡◌, ◌≢◌, ℕ, ◌<◌, Bool, true, false, cond, List, Some, None, refl, sym, ap, ◌∙◌, arith}
 use Rattle.std.specs.Prelude.{codes}
 use Rattle.tokens.specs.Tokens.{LexicalToken}
-use Rattle.tokens.specs.declared.token.Class.{Class}
 use Rattle.grammar.specs.Limits.{ReadsAt, Next, next}
-use Rattle.tokens.specs.declared.token.Class.{Class}
+use Rattle.tokens.specs.declared.token.Class.{Class as LexicalClass}
 use Rattle.tokens.specs.declared.token.Class.TheVariants.{Punctuator, End}
 use Rattle.language.specs.declared.Rank.{Rank}
 use Rattle.language.specs.declared.Rank.TheVariants.{Expression}
 use Rattle.language.specs.Words.{tightness}
 use Rattle.language.specs.Words.{Operator, binds, powers, assigns, steps, no_operator, is}
 use Rattle.grammar.specs.Sums.{sum_operator}
-use Rattle.grammar.specs.Limits.{class_of, itself}
+use Rattle.grammar.specs.Limits.{itself}
 use Rattle.grammar.specs.Promises.{of_operator, of_class, binding, Stops}
 use Rattle.grammar.proofs.Climb.{binds_binding, is_comma}
 use Rattle.grammar.proofs.Flat.{operator_step, only_signs}
 use Rattle.grammar.proofs.ReadWords.{reads_same}
 use Rattle.lint.specs.Cursor.{IsAhead}
-
--- a scanned punctuator, and the scanned end, by their classes
-pub mark_scanned : (c : Class) → class_of c ≡ Punctuator → c ≡ Class.Punctuator
-mark_scanned Class.Punctuator e = refl
-mark_scanned Class.Name e = cc
-mark_scanned Class.Number e = cc
-mark_scanned Class.End e = cc
-
-pub end_scanned : (c : Class) → class_of c ≡ End → c ≡ Class.End
-end_scanned Class.End e = refl
-end_scanned Class.Name e = cc
-end_scanned Class.Number e = cc
-end_scanned Class.Punctuator e = cc
 
 pub token_at : {text : List ℕ} {s t e : LexicalToken} → Next text s t e → ReadsAt text s.stop t
 token_at (next h) = h
@@ -47,7 +33,7 @@ stops_ahead text y s t a less t' e z n b = less z (ap binding (sym (same_ahead a
 pub not_punctuator : (t : LexicalToken) (z : Rank) → t.class ≢ Punctuator → binding t ≡ Some z → ⊥
 not_punctuator t z other b = of t.class other b
   where
-    of : (c : Class) → c ≢ Punctuator → of_class c t.text ≡ Some z → ⊥
+    of : (c : LexicalClass) → c ≢ Punctuator → of_class c t.text ≡ Some z → ⊥
     of Punctuator other h = other refl
     of _ other h = cc
 
@@ -82,6 +68,6 @@ comma_of t z b low = of t.class refl b
     of_comma true e h = is_comma t.text e
     of_comma false e h = absurd (of_op (sum_operator t.text) refl h)
 
-    of : (c : Class) → t.class ≡ c → of_class c t.text ≡ Some z → (t.class ≡ Punctuator) × (t.text ≡ codes ",")
+    of : (c : LexicalClass) → t.class ≡ c → of_class c t.text ≡ Some z → (t.class ≡ Punctuator) × (t.text ≡ codes ",")
     of Punctuator e h = (e, of_comma (is t.text ",") refl h)
     of _ e h = absurd (cc)

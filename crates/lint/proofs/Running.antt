@@ -2,9 +2,9 @@
 use Rattle.std.proofs.Common.{◌≡◌, ◌<◌, ◌≤◌, ◌+◌, ℕ, List, length, take, arith, refl, ap, ◌∙◌, Some, None, IfSome}
 use Rattle.std.proofs.lemmas.List.{length-take, take_all}
 use Rattle.std.specs.declared.option.Option.{Option}
-use Rattle.tokens.specs.Source.{max_bytes}
-use Rattle.tokens.specs.declared.fault.Fault.{Fault}
-use Rattle.tokens.specs.declared.fault.Fault.TheVariants.{NotUtf8, TooLong, Syntax, TooDeep, Early, OutOfMemory, BadSettings, BadTable, WriteFailed, ReadFailed, Usage}
+use Rattle.source_text.specs.Source.{max_bytes}
+use Rattle.source_text.specs.declared.fault.Fault.{Fault}
+use Rattle.source_text.specs.declared.fault.Fault.TheVariants.{NotUtf8, TooLong, Syntax, TooDeep, Early, OutOfMemory, BadSettings, BadTable, WriteFailed, ReadFailed, Usage}
 use Rattle.lint.specs.declared.run.Command.{Command}
 use Rattle.lint.specs.declared.run.Command.TheVariants.{Fix}
 use Rattle.lint.specs.Scripts.{RefusesScript}

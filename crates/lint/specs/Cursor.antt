@@ -1,16 +1,12 @@
 -- Where reading stands in a text.
 use Rattle.std.specs.Prelude.{◌≢◌, ℕ, ◌≤◌, ◌<◌, List, Result, Ok, Err}
 use Rattle.tokens.specs.Tokens.{LexicalToken}
-use Rattle.tokens.specs.Scanned.{lexeme_of}
-use Rattle.tokens.specs.Source.{IsPlace}
-use Rattle.grammar.specs.Limits.{as_token, ReadsAt}
+use Rattle.tokens.specs.Scanned.{token_of}
+use Rattle.source_text.specs.Source.{IsPlace}
+use Rattle.grammar.specs.Limits.{ReadsAt}
 use Rattle.tokens.specs.declared.token.Class.TheVariants.{End}
 use Rattle.tokens.specs.declared.token.Token.{Token}
 use Rattle.tokens.specs.declared.scanner.ScanFault.{ScanFault}
-
--- the token that a scanned one stands for
-abbrev pub token_of : Token → LexicalToken
-token_of t = as_token (lexeme_of t)
 
 -- the text, and the token before
 pub record Point : Type 0 where

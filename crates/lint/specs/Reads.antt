@@ -2,16 +2,16 @@
 use Rattle.std.specs.Prelude.{◌≡◌, ℕ, false, ◌≤◌, ◌+◌, min, length, List, ◌++◌, Result, Ok, Err}
 use Rattle.tokens.specs.Tokens.{LexicalToken}
 use Rattle.grammar.specs.Limits.{Next}
-use Rattle.tokens.specs.Source.{IsPlace}
-use Rattle.tokens.specs.declared.fault.Fault.{Fault}
-use Rattle.tokens.specs.declared.fault.Fault.TheVariants.{Syntax, TooDeep, OutOfMemory}
+use Rattle.source_text.specs.Source.{IsPlace}
+use Rattle.source_text.specs.declared.fault.Fault.{Fault}
+use Rattle.source_text.specs.declared.fault.Fault.TheVariants.{Syntax, TooDeep, OutOfMemory}
 use Rattle.tree.specs.Tree.{Tree, height}
 use Rattle.tree.specs.View.{expression_tree}
 use Rattle.tree.specs.declared.kind.Pair.{Pair}
 use Rattle.language.specs.declared.Rank.{Rank}
 use Rattle.grammar.specs.Limits.{itself}
 use Rattle.grammar.specs.Promises.{Found, Absent, AbsentWithin}
-use Rattle.lint.specs.Cursor.{token_of}
+use Rattle.tokens.specs.Scanned.{token_of}
 use Rattle.tokens.specs.declared.token.Class.TheVariants.{Punctuator}
 use Rattle.tokens.specs.declared.token.Token.{Token}
 use Rattle.tree.specs.View.{operator_text}

@@ -2,10 +2,10 @@
 use Rattle.std.specs.Prelude.{ℕ, List, [], ◌∷◌, ◌++◌, Bool, true, false, Option, codes}
 use Rattle.std.specs.Fmt.{decimal}
 use Rattle.std.specs.Io.KnownBytes.{Appends}
-use Rattle.tokens.specs.declared.fault.Fault.{Fault}
-use Rattle.tokens.specs.declared.fault.Fault.TheVariants.{NotUtf8, TooLong, Syntax, TooDeep, Early, OutOfMemory, BadSettings, BadTable, WriteFailed, ReadFailed, Usage}
-use Rattle.tokens.specs.declared.fault.Reason.{Reason}
-use Rattle.tokens.specs.declared.fault.Reason.TheVariants as reason
+use Rattle.source_text.specs.declared.fault.Fault.{Fault}
+use Rattle.source_text.specs.declared.fault.Fault.TheVariants.{NotUtf8, TooLong, Syntax, TooDeep, Early, OutOfMemory, BadSettings, BadTable, WriteFailed, ReadFailed, Usage}
+use Rattle.source_text.specs.declared.fault.Reason.{Reason}
+use Rattle.source_text.specs.declared.fault.Reason.TheVariants as reason
 use Rattle.lint.specs.declared.run.Refused.{Refused}
 use Rattle.lint.specs.Streams.{AppendsBeginning}
 

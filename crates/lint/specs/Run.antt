@@ -3,10 +3,10 @@ use Rattle.std.specs.Prelude.{◌≡◌, ◌≤◌, ℕ, List, Bool, true, false
 use Rattle.std.specs.Str.{IsUtf8}
 use Rattle.std.specs.declared.alloc.Global.{Global}
 use Rattle.std.specs.Io.KnownBytes.{Appends, Keeps}
-use Rattle.tokens.specs.Source.{IsPlace, IsRefusal, max_bytes}
-use Rattle.tokens.specs.Lines.{line_column}
-use Rattle.tokens.specs.declared.fault.Fault.{Fault}
-use Rattle.tokens.specs.declared.fault.Fault.TheVariants.{Syntax, TooDeep, Early, OutOfMemory, ReadFailed, WriteFailed}
+use Rattle.source_text.specs.Source.{IsPlace, IsRefusal, max_bytes}
+use Rattle.source_text.specs.Lines.{line_column}
+use Rattle.source_text.specs.declared.fault.Fault.{Fault}
+use Rattle.source_text.specs.declared.fault.Fault.TheVariants.{Syntax, TooDeep, Early, OutOfMemory, ReadFailed, WriteFailed}
 use Rattle.lint.specs.declared.run.Command.{Command}
 use Rattle.lint.specs.declared.run.Command.TheVariants.{Fix}
 use Rattle.lint.specs.declared.run.Refused.{Refused}

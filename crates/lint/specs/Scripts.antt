@@ -3,10 +3,10 @@ use Rattle.std.specs.Prelude.{◌≡◌, ℕ, ◌≤◌, map, length, List, Resu
 use Rattle.std.specs.declared.alloc.Global.{Global}
 use Rattle.tokens.specs.Tokens.{LexicalToken}
 use Rattle.grammar.specs.Limits.{ReadsAt}
-use Rattle.tokens.specs.Source.{IsPlace}
+use Rattle.source_text.specs.Source.{IsPlace}
 use Rattle.tokens.specs.declared.token.Class.TheVariants.{End}
-use Rattle.tokens.specs.declared.fault.Fault.{Fault}
-use Rattle.tokens.specs.declared.fault.Fault.TheVariants.{Syntax, TooDeep, OutOfMemory}
+use Rattle.source_text.specs.declared.fault.Fault.{Fault}
+use Rattle.source_text.specs.declared.fault.Fault.TheVariants.{Syntax, TooDeep, OutOfMemory}
 use Rattle.tree.specs.Tree.{Tree, parts_from}
 use Rattle.tree.specs.View.{statement_tree}
 use Rattle.tree.specs.declared.kind.Pair.{Pair}

@@ -1,7 +1,7 @@
 -- The tokens that begin a Primary.
 use Rattle.std.specs.Prelude.{◌≡◌, codes, true, false}
 use Rattle.tokens.specs.Tokens.{LexicalToken}
-use Rattle.tokens.specs.declared.token.Class.{Class}
+use Rattle.tokens.specs.declared.token.Class.{Class as LexicalClass}
 use Rattle.tokens.specs.declared.token.Class.TheVariants.{Punctuator}
 use Rattle.language.specs.Words.{is_reserved}
 use Rattle.grammar.specs.Sums.{is_integer}
@@ -9,6 +9,6 @@ use Rattle.lint.specs.declared.parser.Start.{Start}
 use Rattle.lint.specs.declared.parser.Start.TheVariants.{Name, Number, Group}
 
 abbrev pub StartsWith : Start → LexicalToken → Type 0
-StartsWith Name t = (t.class ≡ Class.Name) × (is_reserved t.text ≡ false)
-StartsWith Number t = (t.class ≡ Class.Number) × (is_integer t.text ≡ true)
+StartsWith Name t = (t.class ≡ LexicalClass.Name) × (is_reserved t.text ≡ false)
+StartsWith Number t = (t.class ≡ LexicalClass.Number) × (is_integer t.text ≡ true)
 StartsWith Group t = (t.class ≡ Punctuator) × (t.text ≡ codes "(")

@@ -2,9 +2,9 @@
 use Rattle.std.specs.Prelude.{◌≡◌, ◌≤◌, ◌+◌, List, ℕ, Bool, true, false, length, take, Result, Ok, Err, Vec, Option, IfSome}
 use Rattle.std.specs.Io.KnownBytes.{Appends}
 use Rattle.std.specs.declared.alloc.Global.{Global}
-use Rattle.tokens.specs.declared.sink.DeviceFault.{DeviceFault}
-use Rattle.tokens.specs.declared.fault.Fault.{Fault}
-use Rattle.tokens.specs.declared.fault.Fault.TheVariants.{ReadFailed, OutOfMemory}
+use Rattle.source_text.specs.declared.sink.DeviceFault.{DeviceFault}
+use Rattle.source_text.specs.declared.fault.Fault.{Fault}
+use Rattle.source_text.specs.declared.fault.Fault.TheVariants.{ReadFailed, OutOfMemory}
 
 -- a beginning of the text was written
 abbrev pub AppendsBeginning : Option (List ℕ) → Option (List ℕ) → List ℕ → Type 0

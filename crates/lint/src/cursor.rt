@@ -2,15 +2,16 @@
 
 ghost use Rattle.std.specs.Prelude.{◌≡◌, ◌≢◌, ◌≤◌, ◌<◌, length, IsTrue, ◌↔◌, IfSome, IfNone};
 ghost use Rattle.tokens.specs.Tokens.{LexicalToken};
-ghost use Rattle.lint.specs.Cursor.{token_of};
-ghost use Rattle.tokens.specs.Lexical.{LexicalClass};
-ghost use Rattle.tokens.specs.Source.{IsPlace};
+ghost use Rattle.tokens.specs.Scanned.{token_of};
+ghost use Rattle.tokens.specs.declared.token.Class.{Class as LexicalClass};
+ghost use Rattle.source_text.specs.Source.{IsPlace};
 ghost use Rattle.grammar.specs.Limits.{ReadsAt, Next};
 ghost use Rattle.grammar.specs.Limits.{front};
 ghost use Rattle.lint.specs.Cursor.{Ahead, IsAhead};
 
 use std::marker::Model;
-use tokens::{Class, ScanFault, Source, Token, scan};
+use source_text::Source;
+use tokens::{Class, Goal, ScanFault, Token, scan};
 
 /// A place between two tokens of a text, with the token that stands ahead.
 #[derive(Drop)]
@@ -21,8 +22,8 @@ pub(crate) struct Cursor<'t, 's> {
 }
 
 impl<'t, 's> Model for Cursor<'t, 's> {
-    ghost use Rattle.tokens.specs.Source.{IsPlace};
-    ghost use Rattle.lint.specs.Cursor.{token_of};
+    ghost use Rattle.source_text.specs.Source.{IsPlace};
+    ghost use Rattle.tokens.specs.Scanned.{token_of};
     ghost use Rattle.lint.specs.Cursor.{Point, Ahead};
 
     ghost Value = { Point };
@@ -37,7 +38,8 @@ fn look<'s>(source: &Source<'s>, at: usize) -> Result<Token<'s>, ScanFault>
     requires { IsPlace source.now at }
     ensures { Ahead source.now at result }
 {
-    match scan(source, at) {
+    let _text = source.text();
+    match scan(source, at, Goal::Div) {
         Ok(token) => Ok(token),
         Err(fault) => Err(fault),
     }
@@ -62,6 +64,7 @@ impl<'t, 's> Cursor<'t, 's> {
             text: "",
             start: 0,
             end: 0,
+            after_break: false,
         };
         Cursor {
             source,

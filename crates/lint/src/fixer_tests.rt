@@ -1,7 +1,7 @@
 use crate::fix;
 use std::alloc::{AllocError, Global};
 use std::test::Fail;
-use tokens::{Fault, Source};
+use source_text::{Fault, Source};
 
 /// What `fix` answers for a text, as a text.
 fn answer(alloc: Global, text: &str) -> Result<String, AllocError> {

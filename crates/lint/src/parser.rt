@@ -2,7 +2,7 @@
 
 ghost use Rattle.std.specs.Prelude.{◌≡◌, ◌≢◌, ◌+◌, ◌-◌, ◌≤◌, ◌<◌, ℕ, length, codes, true, false, IfOk, IfErr, IfSome, IfNone};
 ghost use Rattle.tokens.specs.Tokens.{LexicalToken};
-ghost use Rattle.lint.specs.Cursor.{token_of};
+ghost use Rattle.tokens.specs.Scanned.{token_of};
 ghost use Rattle.grammar.specs.Limits.{ReadsAt, Next};
 ghost use Rattle.tree.specs.Tree.{height};
 ghost use Rattle.tree.specs.View.{expression_tree, operator_text};
@@ -21,7 +21,8 @@ use grammar::{is_integer, is_reserved};
 use language::{Rank, tightness_of};
 use std::alloc::Global;
 use std::borrow::CowStr;
-use tokens::{Class, Fault, Token};
+use source_text::Fault;
+use tokens::{Class, Token};
 use tree::{BinaryOperator, Expression, Pair, Span};
 
 /// An expression, with its height and the start of its first token, parentheses round it included.

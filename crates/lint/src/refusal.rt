@@ -7,7 +7,7 @@ ghost use Rattle.lint.specs.Refusal.{WritesLine, place_words, reason_words, refu
 use crate::run::Refused;
 use crate::short_text::ShortText;
 use crate::streams::write_text;
-use tokens::{Fault, Reason, Sink};
+use source_text::{Fault, Reason, Sink};
 
 /// The exit status of a refusal: 1 for a bad cost table, else 2.
 pub fn status(fault: Fault) -> u8

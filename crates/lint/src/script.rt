@@ -3,7 +3,7 @@
 ghost use Rattle.std.specs.Prelude.{◌≡◌, ◌≢◌, ℕ, []};
 ghost use Rattle.std.specs.Bool.{OnTrue, OnFalse};
 ghost use Rattle.tokens.specs.Tokens.{LexicalToken};
-ghost use Rattle.tokens.specs.Lexical.{LexicalClass};
+ghost use Rattle.tokens.specs.declared.token.Class.{Class as LexicalClass};
 ghost use Rattle.grammar.specs.Limits.{ReadsAt};
 ghost use Rattle.grammar.specs.Limits.{front};
 ghost use Rattle.lint.specs.Scripts.{IsOver, ReadsStatements, Parses};
@@ -11,7 +11,8 @@ ghost use Rattle.lint.specs.Scripts.{IsOver, ReadsStatements, Parses};
 use crate::cursor::Cursor;
 use crate::parser::Parser;
 use std::alloc::Global;
-use tokens::{Class, Fault, Source};
+use source_text::{Fault, Source};
+use tokens::Class;
 use tree::{Pair, Program, Span, Statement};
 
 /// The most grouping parentheses that may be open at one point.

@@ -4,7 +4,7 @@ ghost use Rattle.std.specs.Prelude.{◌≡◌, ◌<◌, ◌^◌, false};
 ghost use Rattle.lint.specs.Streams.{ReadsUpTo, WritesText};
 
 use std::alloc::Global;
-use tokens::{DeviceFault, Fault, Feed, Sink};
+use source_text::{DeviceFault, Fault, Feed, Sink};
 
 /// The most bytes that one `put` is handed.
 pub const PIECE: usize = 4096;

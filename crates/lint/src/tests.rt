@@ -6,7 +6,7 @@ use crate::run::{Command, Refused, run};
 use crate::streams::{read_up_to, write_text};
 use clap::error::ErrorKind;
 use std::test::Fail;
-use tokens::{Device, Fault, MemoryFeed, MemorySink, Plan, Reason};
+use source_text::{Device, Fault, MemoryFeed, MemorySink, Plan, Reason};
 
 const WHOLE: Plan = Plan {
     per_call: 65536,

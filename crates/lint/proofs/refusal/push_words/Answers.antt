@@ -1,5 +1,5 @@
 use Rattle.std.proofs.Common.{◌≡◌, List, ◌++◌, ◌∙◌, ℕ, ap}
-use Rattle.tokens.specs.declared.fault.Fault.{Fault}
+use Rattle.source_text.specs.declared.fault.Fault.{Fault}
 use Rattle.lint.specs.Refusal.{fault_words, place_words, refusal_words}
 use Rattle.lint.specs.declared.run.Refused.{Refused}
 use Rattle.lint.proofs.Wording.{one_piece, two_pieces, four_pieces}
