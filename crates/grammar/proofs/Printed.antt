@@ -1,5 +1,5 @@
 -- The fixed text of a script derives the script again, with a pair for each node that is wrapped.
-use Rattle.std.proofs.Common.{◌≡◌, ℕ, zero, suc, ◌+◌, ◌≤◌, Bool, true, false, List, [], ◌∷◌, ◌++◌, length, refl, sym, ap, ◌∙◌, subst, arith, append_assoc, append-nil, length-append}
+use Rattle.std.proofs.Common.{◌≡◌, ℕ, zero, suc, ◌+◌, ◌<◌, ◌≤◌, Bool, true, false, List, [], ◌∷◌, ◌++◌, length, refl, sym, ap, ◌∙◌, subst, arith, append_assoc, append-nil, length-append}
 use Rattle.std.specs.Prelude.{codes, nat_lt}
 use Rattle.std.proofs.lemmas.Grind.{common_steps}
 use Rattle.tokens.specs.declared.token.Class.TheVariants.{Name, Punctuator, Number}
@@ -25,9 +25,9 @@ use Rattle.grammar.proofs.ReadWords.{AllSpaces, IsClean, reading_text, Word, wor
 use Rattle.grammar.specs.Sums.{is_integer, sum_operator}
 use Rattle.language.specs.declared.Start.TheVariants.{Any}
 use Rattle.std.specs.Prelude.{encode_utf8_all}
-use Rattle.std.specs.Str.{IsUtf8}
+use Rattle.std.specs.Str.{IsUtf8, IsAscii}
 use Rattle.std.proofs.Math.Utf8.{scalars}
-use Rattle.std.proofs.lemmas.Str.{IsUtf8-append, IsUtf8-nil}
+use Rattle.std.proofs.lemmas.Str.{IsUtf8-append, IsUtf8-nil, IsUtf8-from_ascii}
 use Rattle.grammar.proofs.Flat.{Sign, sum, difference, product, quotient, sign_of}
 
 -- what a tree looks like that something spells, the groups round it left out
@@ -380,20 +380,24 @@ shape_full (item_shape h f) = more_full (shape_full f)
 
 -- the text of each tree is UTF-8
 
-plain_utf8 : (cs : List ℕ) → scalars cs ≡ true → encode_utf8_all cs ≡ cs → IsUtf8 cs
-plain_utf8 cs h e = (cs, (h, e))
+ascii_utf8 : (c : ℕ) → c < 128 → IsUtf8 (c ∷ [])
+ascii_utf8 c h = IsUtf8-from_ascii (c ∷ []) ascii
+  where
+    ascii : IsAscii (c ∷ [])
+    ascii zero = h
+    ascii (suc i) = omega arith
 
 sign_utf8 : {w : List ℕ} {z q : Rank} → Sign w z q → IsUtf8 w
-sign_utf8 sum = plain_utf8 (codes "+") refl refl
-sign_utf8 difference = plain_utf8 (codes "-") refl refl
-sign_utf8 product = plain_utf8 (codes "*") refl refl
-sign_utf8 quotient = plain_utf8 (codes "/") refl refl
+sign_utf8 sum = ascii_utf8 43 (omega arith)
+sign_utf8 difference = ascii_utf8 45 (omega arith)
+sign_utf8 product = ascii_utf8 42 (omega arith)
+sign_utf8 quotient = ascii_utf8 47 (omega arith)
 
 abbrev Encodes : Tree → Type 0
 Encodes n = (y : Rank) → IsUtf8 (layout n (expr y true Any))
 
 pair_utf8 : (b : Bool) (own : List ℕ) → IsUtf8 own → IsUtf8 (pair_text b own)
-pair_utf8 true own h = IsUtf8-append (codes "(") (own ++ codes ")") (plain_utf8 (codes "(") refl refl) (IsUtf8-append own (codes ")") h (plain_utf8 (codes ")") refl refl))
+pair_utf8 true own h = IsUtf8-append (codes "(") (own ++ codes ")") (ascii_utf8 40 (omega arith)) (IsUtf8-append own (codes ")") h (ascii_utf8 41 (omega arith)))
 pair_utf8 false own h = h
 
 abbrev EachEncodes : Parts → Type 0
@@ -403,19 +407,19 @@ EachEncodes (gap ps) = EachEncodes ps
 
 rest_utf8 : {ps : Parts} → ListedShape ps → EachEncodes ps → IsUtf8 (rest_text ps)
 rest_utf8 (last_shape {n = n} h) each =
-    IsUtf8-append (codes ", ") (layout n (expr Assignment true Any) ++ []) (plain_utf8 (codes ", ") refl refl)
+    IsUtf8-append (codes ", ") (layout n (expr Assignment true Any) ++ []) (IsUtf8-append (codes ",") (codes " ") (ascii_utf8 44 (omega arith)) (ascii_utf8 32 (omega arith)))
     (IsUtf8-append (layout n (expr Assignment true Any)) [] (each.0 Assignment h Assignment) IsUtf8-nil)
 rest_utf8 (more_shape {n = n} {ps = ps} h f) each =
-    IsUtf8-append (codes ", ") (layout n (expr Assignment true Any) ++ rest_text ps) (plain_utf8 (codes ", ") refl refl)
+    IsUtf8-append (codes ", ") (layout n (expr Assignment true Any) ++ rest_text ps) (IsUtf8-append (codes ",") (codes " ") (ascii_utf8 44 (omega arith)) (ascii_utf8 32 (omega arith)))
     (IsUtf8-append (layout n (expr Assignment true Any)) (rest_text ps) (each.0 Assignment h Assignment) (rest_utf8 f each.1))
 
 binary_utf8 : (w : List ℕ) (z q : Rank) (l r : Tree) → sum_operator w ≡ binds false z q → Encodes l → Encodes r → IsUtf8 (binary_own w z q l r)
 unfolding binary_own
 binary_utf8 w z q l r op left right =
     IsUtf8-append (layout l (expr z true Any)) (codes " " ++ (w ++ (codes " " ++ layout r (expr q true Any)))) (left z)
-    (IsUtf8-append (codes " ") (w ++ (codes " " ++ layout r (expr q true Any))) (plain_utf8 (codes " ") refl refl)
+    (IsUtf8-append (codes " ") (w ++ (codes " " ++ layout r (expr q true Any))) (ascii_utf8 32 (omega arith))
     (IsUtf8-append w (codes " " ++ layout r (expr q true Any)) (sign_utf8 (sign_of w z q op))
-    (IsUtf8-append (codes " ") (layout r (expr q true Any)) (plain_utf8 (codes " ") refl refl) (right q))))
+    (IsUtf8-append (codes " ") (layout r (expr q true Any)) (ascii_utf8 32 (omega arith)) (right q))))
 
 shape_utf8 : {n : Tree} → Shape n → EachEncodes (parts_of n) → Encodes n
 unfolding binary_own
@@ -440,8 +444,8 @@ lines_utf8 : {ps : Parts} → ItemsShape ps → IsUtf8 (lines_text ps)
 lines_utf8 no_items = IsUtf8-nil
 lines_utf8 (item_shape {a = a} {b = b} {n = n} {ps = ps} h f) =
     IsUtf8-append (layout (statement_node a b n) (item false)) (10 ∷ lines_text ps)
-    (subst IsUtf8 (sym (statement_layout a b n)) (IsUtf8-append (layout n (expr Expression true Any)) (codes ";") (tree_utf8 n (shape_of h) Expression) (plain_utf8 (codes ";") refl refl)))
-    (IsUtf8-append (10 ∷ []) (lines_text ps) (plain_utf8 (10 ∷ []) refl refl) (lines_utf8 f))
+    (subst IsUtf8 (sym (statement_layout a b n)) (IsUtf8-append (layout n (expr Expression true Any)) (codes ";") (tree_utf8 n (shape_of h) Expression) (ascii_utf8 59 (omega arith))))
+    (IsUtf8-append (10 ∷ []) (lines_text ps) (ascii_utf8 10 (omega arith)) (lines_utf8 f))
 
 record AgainItems (text : List ℕ) (o : ℕ) (ps : Parts) (s : Token) : Type 0 where
   end : Token

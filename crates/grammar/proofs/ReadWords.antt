@@ -176,7 +176,7 @@ clean_name : (rest : List ℕ) → IsClean rest → IsFalse (begins_with is_iden
 clean_name rest h =
     elim (clean_first rest h) [
       | inl e ↦ subst (λ x. IsFalse (begins_with is_identifier_part x)) (sym e) refl
-      | inr u ↦ subst (λ x. IsFalse (begins_with is_identifier_part x)) (sym u.2.0) (clean_part u.0 u.2.1)
+      | inr u ↦ subst (λ x. IsFalse (begins_with is_identifier_part x)) (sym u.2) (clean_part u.0 u.3)
     ]
 
 -- a name
@@ -295,10 +295,10 @@ number_stands_as w rest h (inl e) = subst (λ x. IsTrue (is_token Number w x)) (
   where
     whole : (a : Bool) → IsTrue a → IsTrue (((a && true) && true) && true)
     whole a h = grind (arith, nat_tests)
-number_stands_as w rest h (inr u) = subst (λ x. IsTrue (is_token Number w x)) (sym u.2.0)
+number_stands_as w rest h (inr u) = subst (λ x. IsTrue (is_token Number w x)) (sym u.2)
     (whole (is_of Number w) (none_longer Number w (u.0 ∷ u.1)) (is_identifier_start u.0) (is_decimal_digit u.0) h
-    (none_is_longer Number w (u.0 ∷ u.1) (λ d more behind q. (let same : u.0 ≡ d = cc in at_more (is_of Number (w ++ d ∷ more)) (number_ends w more d (ap is_clean (sym same) ∙ u.2.1)))))
-    (clean_start u.0 u.2.1) (clean_digit u.0 u.2.1))
+    (none_is_longer Number w (u.0 ∷ u.1) (λ d more behind q. (let same : u.0 ≡ d = cc in at_more (is_of Number (w ++ d ∷ more)) (number_ends w more d (ap is_clean (sym same) ∙ u.3)))))
+    (clean_start u.0 u.3) (clean_digit u.0 u.3))
   where
     whole : (a n s d : Bool) → IsTrue a → IsTrue n → s ≡ false → d ≡ false → IsTrue (((a && true) && n) && not (s || d))
     whole a n s d h k p q = grind (arith, nat_tests)
