@@ -1,6 +1,5 @@
 -- What an automaton reads greedily is the only word of its class that can stand there.
-use Rattle.std.proofs.Common.{◌≡◌, ℕ, Bool, true, false, List, [], ◌∷◌, ◌++◌, IsTrue, IsFalse, refl, sym, ap, ◌∙◌, subst, append_assoc, append-nil, inl, inr}
-use Rattle.std.proofs.lemmas.List.{append_cancel_left}
+use Rattle.std.proofs.Common.{◌≡◌, ℕ, Bool, List, [], ◌∷◌, ◌++◌, IsTrue, IsFalse, sym, ap, ◌∙◌, subst, append_assoc, append-nil, inl, inr}
 use Rattle.tokens.proofs.Beginnings.{true_false}
 use Rattle.tokens.proofs.Separating.{fronts}
 

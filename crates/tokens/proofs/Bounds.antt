@@ -1,19 +1,19 @@
 -- Where a token that is read stands in its text, and that a word behind separators is the token that is read.
-use Rattle.std.proofs.Common.{◌≡◌, ◌≢◌, ℕ, ◌+◌, ◌-◌, ◌<◌, ◌≤◌, List, [], ◌∷◌, ◌++◌, length, drop, refl, sym, ap, ◌∙◌, subst, arith, append_assoc, length-append, length-drop, IsTrue, not}
+use Rattle.std.proofs.Common.{◌≡◌, ◌≢◌, ℕ, ◌+◌, ◌<◌, ◌≤◌, List, [], ◌∷◌, ◌++◌, length, drop, refl, sym, ap, ◌∙◌, subst, arith, append_assoc, IsTrue, not}
 use Rattle.std.specs.Prelude.{slice_range, encode_utf8_all}
 use Rattle.std.specs.List.{list_any}
 use Rattle.std.specs.Char.{encode_utf8, len_utf8}
 use Rattle.std.specs.Str.{IsUtf8}
-use Rattle.std.proofs.lemmas.Str.{encodes-append, encodes-chars, IsUtf8-drop}
+use Rattle.std.proofs.lemmas.Str.{encodes-chars, IsUtf8-drop}
 use Rattle.std.proofs.lemmas.List.{append_cancel_left}
 use Rattle.source_text.specs.Source.{IsPlace}
 use Rattle.source_text.specs.Lines.{is_line_terminator}
 use Rattle.tokens.specs.Comments.{begins_comment, Separators}
 use Rattle.tokens.specs.Lexical.{LexicalClass, End, is_token}
 use Rattle.tokens.specs.Goals.{Goal, allows}
-use Rattle.tokens.specs.Tokens.{LexicalToken, IsTokenAt, size}
+use Rattle.tokens.specs.Tokens.{LexicalToken, size}
 use Rattle.tokens.specs.Reading.{behind, Reads}
-use Rattle.tokens.specs.Scanned.{Passed, IsWordAt}
+use Rattle.tokens.specs.Scanned.{Passed}
 use Rattle.tokens.proofs.Passing.{size_append, size_one, pass_char, passed_none, passed_on, passed_slice}
 use Rattle.tokens.proofs.Scanning.{word_forward}
 

@@ -1,18 +1,15 @@
 -- No class but one fits what stands at a place: the first character decides, and the second behind a point.
-use Rattle.std.proofs.Common.{◌≡◌, ℕ, ◌<◌, ◌≤◌, Bool, true, false, not, ◌&&◌, ◌||◌, ◌==◌, List, [], ◌∷◌, ◌++◌, IsTrue, IsFalse, refl, sym, ap, ◌∙◌, subst, arith, inl, inr, ◌⊎◌, if◌then◌else◌, codes}
+use Rattle.std.proofs.Common.{◌≡◌, ℕ, ◌<◌, ◌≤◌, Bool, true, false, not, ◌&&◌, ◌||◌, ◌==◌, List, [], ◌∷◌, ◌++◌, IsTrue, IsFalse, refl, sym, ap, subst, arith, inl, inr, ◌⊎◌, if◌then◌else◌, codes}
 use Prim.Native.String.{String}
-use Rattle.std.specs.Bool.{beq}
 use Rattle.std.specs.List.{list_all}
 use Rattle.std.specs.Str.{bytes_eq}
 use Rattle.std.specs.Char.{is_ascii_alphabetic}
 use Rattle.std.proofs.lemmas.Bool.{cases_lt, cases_Bool, eqb-true}
 use Rattle.std.proofs.lemmas.Bool.Decides.{nat_tests}
-use Rattle.unicode_ident.specs.Ident.{is_xid_start}
 use Rattle.unicode_ident.proofs.IdentLemmas.{is_xid_start-ascii}
-use Rattle.source_text.specs.Lines.{is_line_terminator}
-use Rattle.tokens.specs.Alphabet.{one_of, is_among, is_empty, begins_with, is_white_space, is_identifier_start, is_decimal_digit}
-use Rattle.tokens.specs.Lexical.{LexicalClass, Name, Punctuator, Number, Text, Template, RegExp, End, is_one_of_words, punctuators, is_of, may_stand, none_longer, ends_well, is_token}
-use Rattle.tokens.specs.Numbers.{Numeral, nought, integer, leading_point, fraction, no_numeral, numeral_behind, is_complete, is_number}
+use Rattle.tokens.specs.Alphabet.{one_of, is_empty, begins_with, is_identifier_start, is_decimal_digit}
+use Rattle.tokens.specs.Lexical.{LexicalClass, Name, Punctuator, Number, Text, Template, End, is_one_of_words, punctuators, is_of, may_stand, none_longer, ends_well, is_token}
+use Rattle.tokens.specs.Numbers.{nought, integer, leading_point, fraction, no_numeral, numeral_behind, is_complete, is_number}
 use Rattle.tokens.specs.Alphabet.{is_non_zero_digit, is_identifier_part}
 use Rattle.tokens.specs.Strings.{closes_string}
 use Rattle.tokens.specs.Templates.{closes_template}

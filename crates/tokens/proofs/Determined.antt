@@ -1,20 +1,18 @@
 -- By a goal at most one token is read at a place.
-use Rattle.std.proofs.Common.{◌≡◌, ℕ, ◌+◌, ◌-◌, ◌<◌, ◌≤◌, Bool, true, false, not, ◌&&◌, ◌||◌, ◌==◌, List, [], ◌∷◌, ◌++◌, IsTrue, IsFalse, refl, sym, ap, ◌∙◌, subst, arith, inl, inr, ◌⊎◌, zero, suc, append-nil}
+use Rattle.std.proofs.Common.{◌≡◌, ℕ, ◌+◌, ◌<◌, ◌≤◌, Bool, true, false, not, ◌&&◌, ◌||◌, ◌==◌, List, [], ◌∷◌, ◌++◌, IsTrue, IsFalse, refl, sym, ap, ◌∙◌, subst, arith, inl, inr, ◌⊎◌, zero, suc, append-nil}
 use Rattle.std.specs.Prelude.{encode_utf8_all, nat_le}
 use Rattle.std.specs.List.{list_all, list_any}
-use Rattle.std.specs.Str.{chars}
 use Rattle.std.specs.Char.{is_ascii_alphabetic}
 use Rattle.std.proofs.lemmas.List.{append_cancel_left, append_assoc}
-use Rattle.std.proofs.lemmas.Bool.{cases_lt, cases_Bool, eqb-true}
+use Rattle.std.proofs.lemmas.Bool.{cases_lt, eqb-true}
 use Rattle.std.proofs.lemmas.Bool.Decides.{nat_tests}
 use Rattle.unicode_ident.specs.Ident.{is_xid_start}
 use Rattle.unicode_ident.proofs.Computing.{unicode_ident}
 use Rattle.unicode_ident.proofs.IdentLemmas.{is_xid_start-ascii}
 use Rattle.source_text.specs.Lines.{is_line_terminator}
-use Rattle.tokens.specs.Alphabet.{one_of, is_among, is_empty, begins_with, is_white_space, is_identifier_start, is_identifier_part, is_decimal_digit}
-use Rattle.tokens.specs.Comments.{begins_comment, is_line_comment, closes_comment, is_block_comment, is_comment, Separators, nothing, blank, comment}
-use Rattle.tokens.specs.Closing.{closes_from}
-use Rattle.tokens.specs.Lexical.{LexicalClass, Name, Punctuator, Number, Text, Template, RegExp, End, punctuators, is_of, may_stand, is_at, none_longer, ends_well, is_token}
+use Rattle.tokens.specs.Alphabet.{one_of, is_among, is_empty, begins_with, is_identifier_start, is_identifier_part, is_decimal_digit}
+use Rattle.tokens.specs.Comments.{begins_comment, closes_comment, is_comment, Separators, nothing, blank, comment}
+use Rattle.tokens.specs.Lexical.{LexicalClass, Name, Punctuator, Number, Text, Template, End, punctuators, is_of, may_stand, is_at, none_longer, ends_well, is_token}
 use Rattle.tokens.specs.Strings.{closes_string}
 use Rattle.tokens.specs.Templates.{closes_template}
 use Rattle.tokens.specs.RegularExpressions.{opened, expression_behind, has_flags}

@@ -1,21 +1,21 @@
 -- Escapes, part by part.
-use Rattle.std.proofs.Common.{◌≡◌, ℕ, zero, suc, ◌+◌, ◌*◌, ◌<◌, ◌≤◌, Bool, true, false, not, ◌&&◌, ◌||◌, ◌==◌, List, [], ◌∷◌, ◌++◌, length, take, drop, Option, Some, None, IfSome, min, nat_le, ltb, if◌then◌else◌, IsTrue, IsFalse, refl, sym, ap, ◌∙◌, subst, arith, append_assoc, append-nil, length-append, inl, inr, ◌⊎◌}
+use Rattle.std.proofs.Common.{◌≡◌, ℕ, zero, suc, ◌+◌, ◌*◌, ◌<◌, ◌≤◌, Bool, true, false, not, ◌&&◌, ◌==◌, List, [], ◌∷◌, ◌++◌, length, take, drop, Option, Some, None, min, nat_le, ltb, if◌then◌else◌, IsTrue, IsFalse, refl, sym, ap, ◌∙◌, subst, arith, append-nil, inl, inr, ◌⊎◌}
 use Rattle.std.specs.List.{list_all, take_while}
 use Rattle.std.specs.Char.{digit_value}
 use Rattle.std.specs.Char.Escape.{encode_utf16}
-use Rattle.std.proofs.lemmas.Bool.{cases_Bool, cond-true, lt-ltb}
+use Rattle.std.proofs.lemmas.Bool.{cond-true, lt-ltb}
 use Rattle.std.proofs.lemmas.Bool.Decides.{nat_tests}
 use Rattle.std.proofs.lemmas.List.{take_at, take_all, drop_at, length_push}
 use Rattle.std.proofs.lemmas.List.Sums.{take_while-cons}
 use Rattle.std.proofs.lemmas.Str.{length-le-encodes}
 use Rattle.source_text.specs.Source.{IsPlace}
 use Rattle.source_text.specs.Lines.{is_line_terminator}
-use Rattle.tokens.specs.Alphabet.{one_of, begins_with, is_empty, is_decimal_digit, is_hex_digit}
+use Rattle.tokens.specs.Alphabet.{one_of, begins_with, is_empty, is_hex_digit}
 use Rattle.tokens.specs.declared.escape.Escaped.{Escaped as Found}
-use Rattle.tokens.specs.Escapes.{Piece, hex_value, fixed_escape, code_point_escape, unicode_escape, escaped_character, escape}
+use Rattle.tokens.specs.Escapes.{Piece, hex_value, fixed_escape, code_point_escape, unicode_escape, escape}
 use Rattle.tokens.specs.Escaped.{units_of, IsPieceAt}
 use Rattle.tokens.specs.Reading.{behind}
-use Rattle.tokens.specs.Scanned.{Passed, AllPass}
+use Rattle.tokens.specs.Scanned.{Passed}
 use Rattle.tokens.proofs.Beginnings.{true_false}
 use Rattle.tokens.proofs.Passing.{passed_none, passed_on}
 use Rattle.tokens.proofs.Separating.{all_append}

@@ -1,9 +1,8 @@
 -- Regular expressions: what is read greedily is the longest, and nothing but it can stand there.
-use Rattle.std.proofs.Common.{◌≡◌, ℕ, Bool, true, false, not, ◌&&◌, ◌||◌, List, [], ◌∷◌, ◌++◌, IsTrue, IsFalse, refl, sym, ap, ◌∙◌, subst, append_assoc, append-nil, arith, if◌then◌else◌}
+use Rattle.std.proofs.Common.{◌≡◌, ℕ, Bool, true, false, not, ◌&&◌, List, [], ◌∷◌, ◌++◌, IsTrue, IsFalse, refl, sym, ap, ◌∙◌, subst, arith, if◌then◌else◌}
 use Rattle.std.proofs.lemmas.Bool.Decides.{nat_tests}
-use Rattle.std.proofs.lemmas.Bool.{eqb-true}
 use Rattle.tokens.specs.Alphabet.{one_of, is_identifier_part}
-use Rattle.tokens.specs.RegularExpressions.{RegularExpression, opened, body, brackets, flags, body_backslash, brackets_backslash, no_expression, next_expression, has_flags, expression_behind, is_regular_expression}
+use Rattle.tokens.specs.RegularExpressions.{RegularExpression, opened, body, brackets, flags, body_backslash, brackets_backslash, no_expression, next_expression, has_flags, expression_behind}
 use Rattle.tokens.specs.Lexical.{LexicalClass, is_at, none_longer, is_token}
 use Rattle.tokens.specs.States.{is_over}
 use Rattle.tokens.specs.Reading.{behind}

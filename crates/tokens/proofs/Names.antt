@@ -1,11 +1,11 @@
 -- Names: the longest.
-use Rattle.std.proofs.Common.{◌≡◌, ℕ, Bool, true, false, not, ◌&&◌, ◌||◌, List, [], ◌∷◌, ◌++◌, IsTrue, IsFalse, refl, sym, ap, ◌∙◌, subst, append_assoc, arith}
+use Rattle.std.proofs.Common.{◌≡◌, ℕ, Bool, true, false, ◌&&◌, List, [], ◌∷◌, ◌++◌, IsTrue, IsFalse, refl, sym, ◌∙◌, subst, arith}
 use Rattle.std.specs.List.{list_all}
 use Rattle.std.proofs.lemmas.Bool.Decides.{nat_tests}
 use Rattle.tokens.specs.Alphabet.{begins_with, is_identifier_start, is_identifier_part}
-use Rattle.tokens.specs.Lexical.{LexicalClass, Name, is_name, is_at, none_longer, is_token}
+use Rattle.tokens.specs.Lexical.{Name, none_longer, is_token}
 use Rattle.tokens.specs.Reading.{behind}
-use Rattle.tokens.specs.Scanned.{Passed, AllPass, IsRun, IsWordAt, NoWordAt}
+use Rattle.tokens.specs.Scanned.{Passed, IsRun, IsWordAt, NoWordAt}
 use Rattle.tokens.proofs.Passing.{passed_on}
 use Rattle.tokens.proofs.Beginnings.{true_false}
 use Rattle.tokens.proofs.Longest.{none_is_longer}

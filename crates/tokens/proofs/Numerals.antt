@@ -1,20 +1,19 @@
 -- Numbers: what is read greedily is the longest, and nothing but it can stand there.
-use Rattle.std.proofs.Common.{◌≡◌, ℕ, ◌<◌, Bool, true, false, not, ◌&&◌, ◌||◌, List, [], ◌∷◌, ◌++◌, IsTrue, IsFalse, refl, sym, ap, ◌∙◌, subst, append_assoc, append-nil, arith, inl, inr, ◌⊎◌, if◌then◌else◌}
+use Rattle.std.proofs.Common.{◌≡◌, ℕ, ◌<◌, Bool, true, false, not, ◌&&◌, ◌||◌, List, [], ◌∷◌, ◌++◌, IsTrue, IsFalse, refl, sym, ap, ◌∙◌, subst, arith, if◌then◌else◌}
 use Rattle.std.specs.Char.{is_ascii_alphabetic}
-use Rattle.std.proofs.lemmas.Bool.{cases_Bool}
 use Rattle.std.proofs.lemmas.Bool.Decides.{nat_tests}
 use Rattle.unicode_ident.specs.Ident.{is_xid_start}
 use Rattle.unicode_ident.proofs.IdentLemmas.{is_xid_start-ascii}
-use Rattle.tokens.specs.Alphabet.{one_of, begins_with, is_identifier_start, is_decimal_digit, is_non_zero_digit}
-use Rattle.tokens.specs.Numbers.{Base, binary, octal, hexadecimal, Numeral, unread, nought, integer, leading_point, point, fraction, exponent_mark, exponent_sign, exponent, prefix, digits, suffix, no_numeral, is_digit_of, next_numeral, is_complete, numeral_behind, is_number}
-use Rattle.tokens.specs.Lexical.{LexicalClass, Number, is_at, none_longer, ends_well, is_token}
+use Rattle.tokens.specs.Alphabet.{one_of, is_identifier_start, is_decimal_digit}
+use Rattle.tokens.specs.Numbers.{binary, octal, hexadecimal, Numeral, unread, nought, integer, leading_point, point, fraction, exponent_mark, exponent_sign, exponent, prefix, digits, suffix, no_numeral, is_digit_of, next_numeral, is_complete, numeral_behind}
+use Rattle.tokens.specs.Lexical.{Number, is_at, none_longer, ends_well, is_token}
 use Rattle.tokens.specs.States.{is_dead}
 use Rattle.tokens.specs.Reading.{behind}
 use Rattle.tokens.specs.Scanned.{Passed, IsWordAt, NoWordAt}
 use Rattle.source_text.specs.Source.{IsPlace}
 use Rattle.tokens.proofs.Passing.{passed_none, passed_on}
 use Rattle.tokens.proofs.Beginnings.{true_false}
-use Rattle.tokens.proofs.Longest.{none_is_longer, longer_is_none}
+use Rattle.tokens.proofs.Longest.{none_is_longer}
 use Rattle.tokens.proofs.Classes.{dead_stays}
 use Rattle.tokens.proofs.Automata.{only_greedy}
 

@@ -1,10 +1,10 @@
 -- Parts of templates: where the first ends, and nothing but it can stand there.
-use Rattle.std.proofs.Common.{◌≡◌, ℕ, Bool, true, false, not, ◌&&◌, ◌||◌, ◌==◌, List, [], ◌∷◌, ◌++◌, IsTrue, IsFalse, drop, refl, sym, ap, ◌∙◌, subst, append_assoc, append-nil, arith, inl, inr, if◌then◌else◌}
+use Rattle.std.proofs.Common.{◌≡◌, ℕ, Bool, true, false, not, ◌&&◌, ◌||◌, List, [], ◌∷◌, ◌++◌, IsTrue, IsFalse, drop, refl, sym, ap, ◌∙◌, append_assoc, arith, if◌then◌else◌}
 use Rattle.std.proofs.lemmas.Bool.Decides.{nat_tests}
 use Rattle.tokens.specs.Alphabet.{one_of, begins_with, is_empty}
 use Rattle.tokens.specs.Closing.{ends_part}
 use Rattle.tokens.specs.Templates.{closes_template}
-use Rattle.tokens.specs.Lexical.{LexicalClass, Template, is_at, none_longer, is_token}
+use Rattle.tokens.specs.Lexical.{Template, none_longer, is_token}
 use Rattle.tokens.specs.Reading.{behind}
 use Rattle.tokens.specs.Scanned.{Passed, IsPartRest, NoPartRest, IsWordAt, NoWordAt}
 use Rattle.source_text.specs.Source.{IsPlace}

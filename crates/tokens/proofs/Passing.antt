@@ -1,10 +1,10 @@
 -- What is passed from one place of a text to another, as characters.
-use Rattle.std.proofs.Common.{◌≡◌, ℕ, ◌+◌, ◌-◌, ◌<◌, ◌≤◌, List, [], ◌∷◌, ◌++◌, length, get_or, take, drop, refl, sym, ap, ◌∙◌, subst, arith, append_assoc, append-nil, length-append, length-drop, length-take}
-use Rattle.std.specs.Prelude.{slice_index, slice_range, encode_utf8_all, Option, Some, None, IfSome, IfNone}
+use Rattle.std.proofs.Common.{◌≡◌, ℕ, ◌+◌, ◌-◌, ◌<◌, ◌≤◌, List, [], ◌∷◌, ◌++◌, length, get_or, take, drop, refl, sym, ap, ◌∙◌, arith, append_assoc, append-nil, length-append}
+use Rattle.std.specs.Prelude.{slice_range, encode_utf8_all, Option, Some, None, IfSome, IfNone}
 use Rattle.std.specs.Char.{encode_utf8, len_utf8}
 use Rattle.std.specs.Str.{chars, IsUtf8}
 use Rattle.std.proofs.lemmas.Str.{encodes-append, encode_ascii, chars-nil, chars_past_char, encodes-chars, IsUtf8-drop, IsCharBoundary-after_ascii, IsCharBoundary-past_char, drop_past_char, length-encode, len_utf8_ascii, len_utf8_bounds}
-use Rattle.std.proofs.lemmas.List.{drop_more, drop_at, drop-drop, take_at, drop_all}
+use Rattle.std.proofs.lemmas.List.{drop_more, take_at, drop_all}
 use Rattle.source_text.specs.Source.{IsPlace}
 use Rattle.tokens.specs.Tokens.{size}
 use Rattle.tokens.specs.Reading.{behind}

@@ -1,16 +1,16 @@
 -- Punctuators by their length, and the longest.
-use Rattle.std.proofs.Common.{take-append-drop, ◌≡◌, ℕ, suc, zero, ◌+◌, ◌<◌, ◌≤◌, Bool, true, false, not, ◌&&◌, ◌||◌, ◌==◌, List, [], ◌∷◌, ◌++◌, length, take, drop, IsTrue, IsFalse, refl, sym, ap, ◌∙◌, subst, append_assoc, append-nil, arith, inl, inr, if◌then◌else◌, codes}
+use Rattle.std.proofs.Common.{take-append-drop, ◌≡◌, ℕ, suc, zero, ◌+◌, ◌<◌, ◌≤◌, Bool, true, false, not, ◌&&◌, ◌||◌, ◌==◌, List, [], ◌∷◌, ◌++◌, length, take, drop, IsTrue, IsFalse, refl, sym, ap, ◌∙◌, subst, append_assoc, arith, inl, inr, if◌then◌else◌, codes}
 use Rattle.std.specs.Prelude.{nat_le}
 use Rattle.std.specs.List.{list_all}
 use Rattle.std.specs.Char.{is_ascii_digit}
 use Rattle.std.proofs.lemmas.Bool.Decides.{nat_tests}
 use Rattle.std.proofs.lemmas.Bool.{cases_lt, eqb-true, leb-true}
-use Rattle.tokens.specs.Alphabet.{one_of, is_among, begins_with, is_decimal_digit}
-use Rattle.tokens.specs.Lexical.{LexicalClass, Punctuator, is_one_of_words, punctuators, is_punctuator, may_stand, is_at, none_longer, is_token}
+use Rattle.tokens.specs.Alphabet.{is_among, begins_with, is_decimal_digit}
+use Rattle.tokens.specs.Lexical.{Punctuator, punctuators, is_punctuator, may_stand, is_at, none_longer, is_token}
 use Rattle.tokens.specs.Marks.{front, tail, is_single, firsts, is_pair, firsts_of_three, is_triple, is_quadruple}
 use Rattle.tokens.specs.Tokens.{size}
 use Rattle.tokens.specs.Reading.{behind}
-use Rattle.tokens.specs.Scanned.{Passed, IsWordAt, NoWordAt, Looks}
+use Rattle.tokens.specs.Scanned.{IsWordAt, NoWordAt, Looks}
 use Rattle.source_text.specs.Source.{IsPlace}
 use Rattle.tokens.proofs.Beginnings.{true_false}
 use Rattle.tokens.proofs.Longest.{none_is_longer}

@@ -1,21 +1,19 @@
 -- From what stands at a place to the token that a goal reads there.
-use Rattle.std.proofs.Common.{◌≡◌, ℕ, ◌+◌, ◌-◌, ◌<◌, ◌≤◌, Bool, true, false, not, ◌&&◌, ◌||◌, ◌==◌, List, [], ◌∷◌, ◌++◌, length, IsTrue, IsFalse, refl, sym, ap, ◌∙◌, subst, append_assoc, append-nil, arith, if◌then◌else◌}
-use Rattle.std.specs.Prelude.{slice_range, encode_utf8_all, ◌≢◌}
-use Rattle.std.specs.List.{list_any}
+use Rattle.std.proofs.Common.{◌≡◌, ℕ, ◌+◌, ◌<◌, Bool, true, false, not, ◌&&◌, ◌==◌, List, [], ◌∷◌, ◌++◌, IsTrue, refl, sym, ap, ◌∙◌, subst, append_assoc, arith, if◌then◌else◌}
+use Rattle.std.specs.Prelude.{slice_range, ◌≢◌}
 use Rattle.std.specs.Str.{IsUtf8}
 use Rattle.std.proofs.lemmas.Str.{len_utf8_bounds}
 use Rattle.std.proofs.lemmas.Bool.Decides.{nat_tests}
 use Rattle.std.proofs.lemmas.List.{append_cancel_left}
 use Rattle.source_text.specs.Source.{IsPlace}
-use Rattle.source_text.specs.Lines.{is_line_terminator}
-use Rattle.tokens.specs.Alphabet.{one_of, is_empty, begins_with, is_decimal_digit}
+use Rattle.tokens.specs.Alphabet.{one_of, begins_with, is_decimal_digit}
 use Rattle.tokens.specs.Comments.{begins_comment, Separators}
-use Rattle.tokens.specs.Lexical.{LexicalClass, Name, Punctuator, Number, Text, Template, RegExp, End, is_of, is_at, none_longer, is_token}
+use Rattle.tokens.specs.Lexical.{LexicalClass, Name, Punctuator, Number, Text, Template, End, is_of, is_token}
 use Rattle.tokens.specs.Goals.{Goal, Div, TemplateTail, allows, reads_regexps, reads_template_parts}
 use Rattle.tokens.specs.Fronts.{class_by, class_of, is_mark}
 use Rattle.tokens.specs.Tokens.{LexicalToken, IsTokenAt, size}
 use Rattle.tokens.specs.Reading.{behind, Reads}
-use Rattle.tokens.specs.Scanned.{Passed, IsWordAt, NoWordAt, IsGap, IsSolid}
+use Rattle.tokens.specs.Scanned.{IsWordAt, NoWordAt, IsGap, IsSolid}
 use Rattle.tokens.proofs.Beginnings.{true_false}
 use Rattle.tokens.proofs.Passing.{passed_none, passed_slice, size_append, size_one}
 use Rattle.tokens.proofs.Classes.{token_is, class_fits}

@@ -1,16 +1,15 @@
 -- Separators, step by step, and where they end.
-use Rattle.std.proofs.Common.{◌≡◌, ℕ, ◌<◌, ◌≤◌, Bool, true, false, not, ◌&&◌, ◌||◌, List, [], ◌∷◌, ◌++◌, IsTrue, IsFalse, length, refl, sym, ap, ◌∙◌, subst, arith, append_assoc, append-nil, inl, inr, ◌⊎◌, if◌then◌else◌}
+use Rattle.std.proofs.Common.{◌≡◌, ℕ, Bool, true, false, not, ◌&&◌, ◌||◌, List, [], ◌∷◌, ◌++◌, IsTrue, IsFalse, refl, sym, ap, ◌∙◌, subst, arith, append_assoc, append-nil, inl, inr, ◌⊎◌, if◌then◌else◌}
 use Rattle.std.specs.List.{list_all, list_any}
-use Rattle.std.proofs.lemmas.Bool.{cases_Bool}
 use Rattle.std.proofs.lemmas.Bool.Decides.{nat_tests}
 use Rattle.source_text.specs.Lines.{is_line_terminator}
 use Rattle.tokens.specs.Alphabet.{one_of, begins_with, is_empty, is_white_space}
-use Rattle.tokens.specs.Comments.{begins_comment, is_line_comment, closes_comment, is_block_comment, is_comment, Separators, nothing, blank, comment}
+use Rattle.tokens.specs.Comments.{closes_comment, is_block_comment, is_comment, Separators, nothing, blank, comment}
 use Rattle.tokens.specs.Closing.{closes_from}
 use Rattle.tokens.specs.Reading.{behind}
 use Rattle.tokens.specs.Scanned.{Passed, AllPass, IsRun, IsBlockRest, NoBlockRest, IsCommentRest, NoCommentRest, IsSeparator, IsSolid, IsGap}
 use Rattle.source_text.specs.Source.{IsPlace}
-use Rattle.tokens.proofs.Passing.{passed_none, passed_on, behind_end}
+use Rattle.tokens.proofs.Passing.{passed_none, passed_on}
 use Rattle.tokens.proofs.Beginnings.{true_false}
 
 pub any_append : (test : ℕ → Bool) (v w : List ℕ) → list_any test (v ++ w) ≡ (list_any test v || list_any test w)

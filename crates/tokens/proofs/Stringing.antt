@@ -10,8 +10,8 @@ use Rattle.source_text.specs.Source.{IsPlace}
 use Rattle.source_text.specs.Lines.{is_line_terminator}
 use Rattle.tokens.specs.Alphabet.{one_of, begins_with, is_empty, is_decimal_digit, is_hex_digit, line_feed, carriage_return}
 use Rattle.tokens.specs.Escapes.{Piece, hex_value, fixed_escape, code_point_escape, unicode_escape, escaped_character, escape, piece, more_of}
-use Rattle.tokens.specs.Strings.{closes_string, is_string}
-use Rattle.tokens.specs.Lexical.{LexicalClass, Text, none_longer, is_token}
+use Rattle.tokens.specs.Strings.{closes_string}
+use Rattle.tokens.specs.Lexical.{Text, none_longer, is_token}
 use Rattle.tokens.specs.declared.escape.Escaped.{Escaped as Found}
 use Rattle.tokens.specs.Escaped.{IsPieceAt, IsStringRest, NoStringRest}
 use Rattle.tokens.specs.Reading.{behind}

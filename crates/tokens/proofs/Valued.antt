@@ -1,10 +1,10 @@
 -- The values of strings and templates, character by character.
-use Rattle.std.proofs.Common.{◌≡◌, ℕ, zero, suc, ◌+◌, ◌-◌, ◌<◌, ◌≤◌, Bool, true, false, not, ◌&&◌, ◌||◌, ◌==◌, List, [], ◌∷◌, ◌++◌, length, get_or, take, drop, Option, Some, None, is_some, unwrap_or, if◌then◌else◌, IsTrue, IsFalse, refl, sym, ap, ◌∙◌, subst, arith, append_assoc, append-nil, length-append, inl, inr, ◌⊎◌}
+use Rattle.std.proofs.Common.{◌≡◌, ℕ, zero, suc, ◌+◌, ◌-◌, ◌<◌, ◌≤◌, Bool, true, false, not, ◌&&◌, ◌||◌, ◌==◌, List, [], ◌∷◌, ◌++◌, length, get_or, take, drop, Option, Some, None, is_some, unwrap_or, if◌then◌else◌, IsTrue, refl, sym, ap, ◌∙◌, arith, append_assoc, append-nil, length-append, inl, inr, ◌⊎◌}
 use Rattle.std.specs.Prelude.{encode_utf8_all, slice_range}
 use Rattle.std.specs.List.{list_any}
 use Rattle.std.specs.Char.{encode_utf8}
 use Rattle.std.specs.Str.{chars, IsUtf8}
-use Rattle.std.proofs.lemmas.Bool.{cases_lt, eqb-true, eqb-false}
+use Rattle.std.proofs.lemmas.Bool.{cases_lt, eqb-true}
 use Rattle.std.proofs.lemmas.Bool.Decides.{nat_tests}
 use Rattle.std.proofs.lemmas.List.{take_at, get_or_at}
 use Rattle.std.proofs.lemmas.List.Folds.{list_any-append}
@@ -12,7 +12,7 @@ use Rattle.std.proofs.lemmas.Str.{encodes-append, encodes-chars, encode_ascii, c
 use Rattle.source_text.specs.Source.{IsPlace}
 use Rattle.tokens.specs.declared.escape.Escaped.{Escaped as Found}
 use Rattle.tokens.specs.Alphabet.{one_of, is_empty, line_feed, carriage_return}
-use Rattle.tokens.specs.Escapes.{Piece, piece, more_of, join_units, units_behind, unescaped}
+use Rattle.tokens.specs.Escapes.{piece, more_of, join_units, units_behind, unescaped}
 use Rattle.tokens.specs.Strings.{closes_string, is_string, string_contents, string_units}
 use Rattle.tokens.specs.Templates.{line_end_turned, raw_behind, raw_value, cooked_value}
 use Rattle.tokens.specs.Escaped.{units_of, IsPieceAt}

@@ -1,5 +1,5 @@
 -- The characters of tokens (ECMA-262 11.6.1, 11.8), as code points. White space and line terminators (11.2, 11.3) are those of source_text.
-use Rattle.std.specs.Prelude.{ℕ, Bool, true, false, ◌&&◌, ◌||◌, ◌==◌, List, [], ◌∷◌, nat_le, codes}
+use Rattle.std.specs.Prelude.{ℕ, Bool, true, false, ◌&&◌, ◌||◌, List, [], ◌∷◌, nat_le, codes}
 use Prim.Native.String.{String}
 pub use Rattle.source_text.specs.Spaces.{is_among, is_white_space}
 use Rattle.unicode_ident.specs.Ident.{is_xid_start, is_xid_continue}

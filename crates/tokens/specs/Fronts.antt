@@ -1,7 +1,7 @@
 -- The class of the tokens that a goal reads in front of a text, by the first character, and the second behind a point.
 use Rattle.std.specs.Prelude.{ℕ, Bool, List, [], ◌∷◌, if◌then◌else◌}
 use Rattle.tokens.specs.Alphabet.{one_of, begins_with, is_decimal_digit}
-use Rattle.tokens.specs.Lexical.{LexicalClass, Name, Punctuator, Number, Text, Template, RegExp, End}
+use Rattle.tokens.specs.Lexical.{LexicalClass, Name, Punctuator, Number, Text, Template, End}
 use Rattle.tokens.specs.Goals.{Goal, reads_regexps, reads_template_parts}
 
 -- a character with which nothing but a punctuator begins

@@ -1,7 +1,6 @@
 -- What the program's own calls say of a text: what is passed from one place to another, as characters.
-use Rattle.std.specs.Prelude.{◌≡◌, ℕ, ◌+◌, Bool, false, ◌||◌, List, [], ◌∷◌, ◌++◌, take, IsTrue, IsFalse}
+use Rattle.std.specs.Prelude.{◌≡◌, ℕ, ◌+◌, Bool, false, ◌||◌, List, ◌∷◌, ◌++◌, take, IsTrue, IsFalse}
 use Rattle.std.specs.List.{list_all, list_any}
-use Rattle.std.specs.Str.{IsUtf8}
 use Rattle.source_text.specs.Source.{IsPlace}
 use Rattle.source_text.specs.Lines.{is_line_terminator}
 use Rattle.tokens.specs.declared.token.Token.{Token}

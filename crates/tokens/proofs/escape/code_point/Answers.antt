@@ -1,4 +1,4 @@
-use Rattle.std.proofs.Common.{◌≡◌, [], ◌∷◌, IsFalse, refl, sym, subst, arith}
+use Rattle.std.proofs.Common.{[], ◌∷◌, IsFalse, refl, sym, subst, arith}
 use Rattle.std.proofs.lemmas.Bool.{ne_eqb}
 use Rattle.tokens.specs.Alphabet.{one_of, begins_with}
 use Rattle.tokens.specs.Scanned.{Passed}

@@ -1,4 +1,4 @@
-use Rattle.std.proofs.Common.{◌≡◌, ℕ, List, [], ◌∷◌, refl, inl, inr}
+use Rattle.std.proofs.Common.{ℕ, List, [], ◌∷◌, refl, inl, inr}
 use Rattle.tokens.specs.Tokens.{LexicalToken, IsReading, last, more}
 use Rattle.tokens.specs.Laws.{FirstIsRead}
 use Rattle.tokens.proofs.laws.readings_take_tokens.Goals as goal

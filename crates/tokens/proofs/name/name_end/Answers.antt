@@ -1,5 +1,5 @@
 use Rattle.std.proofs.Common.{sym, ◌∙◌}
-use Rattle.tokens.proofs.Names.{name_word, no_name, no_name_end}
+use Rattle.tokens.proofs.Names.{name_word}
 use Rattle.tokens.proofs.name.name_end.Goals as goal
 
 pub returns-then-is_start-clause-some : goal.returns-then-is_start-clause-some

@@ -1,7 +1,6 @@
-use Rattle.std.proofs.Common.{◌≡◌, Bool, true, false, not, ◌&&◌, ◌||◌, sym, ap, ◌∙◌, subst, arith}
+use Rattle.std.proofs.Common.{◌≡◌, Bool, true, false, not, ◌&&◌, ◌||◌, sym, ap, ◌∙◌, arith}
 use Rattle.std.proofs.lemmas.Bool.Decides.{nat_tests}
 use Rattle.tokens.specs.Alphabet.{is_decimal_digit, is_identifier_start}
-use Rattle.tokens.specs.Numbers.{is_complete, next_numeral}
 use Rattle.tokens.specs.States.{is_dead, numeral_of}
 use Rattle.tokens.proofs.Numerals.{number_starts, number_goes_on, number_found, number_found_end, no_number, no_number_end}
 use Rattle.tokens.proofs.number.number_end.Goals as goal

@@ -1,6 +1,4 @@
 use Rattle.std.proofs.Common.{◌≡◌, Bool, not, ◌&&◌, ◌==◌, sym, ap, ◌∙◌}
-use Rattle.tokens.specs.Alphabet.{is_decimal_digit}
-use Rattle.tokens.specs.Marks.{is_pair, is_single}
 use Rattle.tokens.proofs.Punctuators.{Four, found_four, found_three, found_two, found_one, found_none, digit_is}
 use Rattle.tokens.proofs.punctuator.punctuator_end.Goals as goal
 use Rattle.tokens.proofs.punctuator.punctuator_end.Goals.{After-look-e}

@@ -1,4 +1,4 @@
-use Rattle.std.proofs.Common.{◌≡◌, sym, ap, ◌∙◌}
+use Rattle.std.proofs.Common.{sym, ap, ◌∙◌}
 use Rattle.tokens.specs.States.{is_over, expression_of}
 use Rattle.tokens.proofs.Expressions.{expression_starts, expression_goes_on, expression_found, expression_found_end, no_expression_here, no_expression_end}
 use Rattle.tokens.proofs.regexp.flags_end.Goals as goal

@@ -1,10 +1,8 @@
-use Rattle.std.proofs.Common.{◌≡◌, ◌≢◌, ◌<◌, ℕ, Bool, true, false, List, [], sym, ap, ◌∙◌, subst}
+use Rattle.std.proofs.Common.{◌≡◌, ℕ, true, false, List, sym, ap, ◌∙◌, subst}
 use Rattle.std.specs.Prelude.{slice_range}
 use Rattle.source_text.specs.Source.{IsPlace}
-use Rattle.tokens.specs.declared.token.Class.TheVariants.{End}
 use Rattle.tokens.specs.Comments.{begins_comment}
 use Rattle.tokens.specs.Fronts.{class_of}
-use Rattle.tokens.specs.Lexical.{LexicalClass}
 use Rattle.tokens.specs.Reading.{behind}
 use Rattle.tokens.specs.Scanned.{IsGap, IsSolid, IsWordAt, NoWordAt}
 use Rattle.tokens.proofs.Scanning.{end_only, token_reads, none_in_comment, none_of_class, word_forward}

@@ -1,4 +1,4 @@
-use Rattle.std.proofs.Common.{◌≡◌, [], ◌∷◌, sym, subst}
+use Rattle.std.proofs.Common.{[], ◌∷◌, subst}
 use Rattle.tokens.specs.Scanned.{Passed, IsBlockRest, NoBlockRest, IsCommentRest, NoCommentRest}
 use Rattle.tokens.specs.declared.separator.Gap.{Gap}
 use Rattle.tokens.proofs.Passing.{some_gives, none_gives}

@@ -1,7 +1,7 @@
 use Rattle.std.proofs.Common.{sym, ap, ◌∙◌}
 use Rattle.std.specs.Prelude.{not}
 use Rattle.source_text.specs.Lines.{is_line_terminator}
-use Rattle.tokens.proofs.Separating.{all_begins, all_goes_on, run_stops, run_ends}
+use Rattle.tokens.proofs.Separating.{all_begins, all_goes_on}
 use Rattle.tokens.proofs.separator.line_end.Goals as goal
 
 pub loop-step-init : goal.loop-step-init

@@ -1,4 +1,4 @@
-use Rattle.std.proofs.Common.{◌||◌, ◌==◌, IsTrue, refl, ap, subst, sym}
+use Rattle.std.proofs.Common.{◌||◌, ◌==◌, IsTrue}
 use Rattle.std.proofs.lemmas.Bool.{eq-eqb, or_left, or_right}
 use Rattle.tokens.proofs.Stringing.{string_begins, string_goes_on, string_closes, string_open, string_broken, string_bad}
 use Rattle.tokens.proofs.string.closed_end.Goals as goal

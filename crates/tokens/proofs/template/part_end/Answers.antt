@@ -1,4 +1,3 @@
-use Rattle.std.proofs.Common.{ap, ◌∙◌}
 use Rattle.tokens.proofs.Parts.{part_starts, part_goes_on, part_closes, part_lacks}
 use Rattle.tokens.proofs.template.part_end.Goals as goal
 
