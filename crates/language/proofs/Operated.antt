@@ -1,7 +1,7 @@
 -- The step of a loop over operators with two sides, at any symbol.
 use Rattle.std.proofs.Common.{◌≡◌, ℕ, Bool, true, cond, List, ◌++◌, refl, sym, ap, ◌∙◌, subst}
 use Rattle.std.specs.Prelude.{IsTrue}
-use Rattle.tokens.specs.Goals.{Div}
+use Rattle.tokens.specs.declared.token.Goal.TheVariants.{Div}
 use Rattle.tree.specs.declared.kind.Kind.{Kind}
 use Rattle.tree.specs.declared.kind.Kind.TheVariants.{BinaryExpression, LogicalExpression}
 use Rattle.language.specs.declared.Rank.{Rank}

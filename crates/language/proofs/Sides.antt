@@ -2,8 +2,8 @@
 use Rattle.std.proofs.Common.{◌≡◌, ℕ, Bool, true, false, List, [], ◌∷◌, ◌++◌, refl, sym, ap, subst}
 use Rattle.std.specs.Prelude.{codes}
 use Rattle.std.proofs.lemmas.List.{append-nil}
-use Rattle.tokens.specs.Lexical.{Punctuator}
-use Rattle.tokens.specs.Goals.{Div}
+use Rattle.tokens.specs.declared.token.Class.TheVariants.{Punctuator}
+use Rattle.tokens.specs.declared.token.Goal.TheVariants.{Div}
 use Rattle.language.specs.declared.Rank.{Rank}
 use Rattle.language.specs.declared.Rank.TheVariants.{Expression, Assignment}
 use Rattle.language.specs.declared.Start.{Start}

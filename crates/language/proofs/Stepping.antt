@@ -3,9 +3,10 @@ use Rattle.std.proofs.Common.{◌≡◌, ℕ, Bool, true, false, List, ◌∷◌
 use Rattle.std.specs.Prelude.{IsTrue, Some, codes, not, ◌&&◌, ◌||◌}
 use Rattle.std.proofs.lemmas.Bool.{false≢true}
 use Rattle.std.proofs.lemmas.Slice.Eq.{bytes_eq-Decides}
-use Rattle.tokens.specs.Lexical.{LexicalClass}
-use Rattle.tokens.specs.Lexical.{Name, Punctuator, Number, Text, Template, RegExp, End}
-use Rattle.tokens.specs.Goals.{Div, allows}
+use Rattle.tokens.specs.declared.token.Class.{Class}
+use Rattle.tokens.specs.declared.token.Class.TheVariants.{Name, Punctuator, Number, Text, Template, RegExp, End}
+use Rattle.tokens.specs.declared.token.Goal.TheVariants.{Div}
+use Rattle.tokens.specs.Goals.{allows}
 use Rattle.tree.specs.declared.kind.Kind.{Kind}
 use Rattle.language.specs.declared.Rank.{Rank}
 use Rattle.language.specs.declared.Rank.TheVariants.{Expression, Assignment, Conditional, Exponentiation, Update, LeftHandSide, Call, Member, Relational, Shift}
@@ -31,7 +32,7 @@ use Rattle.language.proofs.Onward.{Onward, ended, by_led, by_link, by_chain, onw
 use Rattle.language.proofs.Reaches.{Reaches, reaches, led_symbol, linked_symbol, loose_of, binds_loose}
 
 -- a token with the text `in` makes a relational node, or nothing
-in_makes : (c : LexicalClass) (w : List ℕ) {x : Operator} → w ≡ codes "in" → of_class c w ≡ x → (x ≡ binds false Relational Shift → ⊥) → (x ≡ no_operator → ⊥) → ⊥
+in_makes : (c : Class) (w : List ℕ) {x : Operator} → w ≡ codes "in" → of_class c w ≡ x → (x ≡ binds false Relational Shift → ⊥) → (x ≡ no_operator → ⊥) → ⊥
 in_makes Name w e h f g = f (sym h ∙ ap (of_class Name) e)
 in_makes Punctuator w e h f g = g (sym h ∙ ap (of_class Punctuator) e)
 in_makes Template w e h f g = g (sym h ∙ ap (of_class Template) e)
@@ -58,7 +59,7 @@ pub no_spine : {h : Rank} {j : Bool} {f g : Start} → expr h j f ≡ spine g �
 no_spine e = cc
 
 module _ (S : Type 0) (Next : S → Token → S → Type 0) (behind : S → Token) (det : IsDetermined S Next behind) where
-  pub text_taken : {o : ℕ} {ps : Parts} {s m e : S} {P : List Pair} {c : LexicalClass} {w : List ℕ} {t : Token} (qs : List (PieceOf Role)) → first_of qs ≡ by c w → IsTrue (allows Div c w) →
+  pub text_taken : {o : ℕ} {ps : Parts} {s m e : S} {P : List Pair} {c : Class} {w : List ℕ} {t : Token} (qs : List (PieceOf Role)) → first_of qs ≡ by c w → IsTrue (allows Div c w) →
       Runs ways S Next behind o qs ps s e P → ReadBy S Next behind Div s t m → t.text ≡ w
   text_taken qs h al d r = (taken S Next behind det Div qs h al d r).text
 

@@ -1,6 +1,6 @@
 mod LexicalExamples
 mod TokenExamples
-mod Beginnings
+pub mod Beginnings
 pub mod Longest
 pub mod Passing
 pub mod Separating
