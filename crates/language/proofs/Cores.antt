@@ -1,10 +1,12 @@
 -- What an expression begins with, by its first token: a group, or one of the ways that begin with a token.
-use Rattle.std.proofs.Common.{◌≡◌, ℕ, suc, Bool, true, List, ◌∷◌, refl, sym, ◌∙◌, subst}
+use Rattle.std.proofs.Common.{◌≡◌, ℕ, suc, Bool, true, false, List, [], ◌∷◌, refl, sym, ap, ◌∙◌, subst}
 use Rattle.std.specs.Prelude.{IsTrue, codes}
 use Rattle.tokens.specs.declared.token.Class.TheVariants.{Punctuator}
 use Rattle.tokens.specs.declared.token.Goal.{Goal}
 use Rattle.tokens.specs.Goals.{allows}
 use Rattle.tree.specs.declared.kind.Kind.{Kind}
+use Rattle.tree.specs.declared.kind.Kind.TheVariants.{MemberExpression, CallExpression}
+use Rattle.std.proofs.lemmas.Bool.{false≢true}
 use Rattle.language.specs.declared.Rank.{Rank}
 use Rattle.language.specs.declared.Rank.TheVariants.{Expression}
 use Rattle.language.specs.declared.Start.{Start}
@@ -13,15 +15,20 @@ use Rattle.tree.specs.declared.kind.Flags.{Flags}
 use Rattle.tree.specs.declared.kind.Pair.{Pair}
 use Rattle.tree.specs.Tree.{Tree, node, Parts, bare, bare_parts}
 use Rattle.tree.specs.Uses.{is_lean}
-use Rattle.language.specs.Pieces.{Role, expr, PieceOf}
+use Rattle.language.specs.Pieces.{Role, expr, spine, Piece, PieceOf, Spelling}
+use Rattle.language.specs.Expressions.{spines, linked, member_link, call_link, first_chained}
+use Rattle.language.proofs.Domination.{settled}
 use Rattle.language.specs.Token.{Token}
 use Rattle.language.specs.Opening.{Opening, with_parenthesis, opening_of}
 use Rattle.language.specs.Grammar.{spellings, ways}
-use Rattle.language.specs.Derivation.{pair_of, Reads, Spells, Runs, Placed}
-use Rattle.language.proofs.Viewed.{way_of, made}
-use Rattle.language.proofs.Spine.{Core, group, plain}
+use Rattle.language.specs.Derivation.{Among, pair_of, Reads, Spells, Runs, Placed}
+use Rattle.language.proofs.Viewed.{way_of, made, one, cases}
+use Rattle.language.proofs.Spine.{is_led, on_spine, grows_on_spine, Core, group, plain, spine_of}
 use Rattle.language.specs.Promises.{IsDetermined, ReadBy}
 use Rattle.language.proofs.Headed.{Headed, headed_of, headed_read, Opens, opens_with, opens}
+
+linked_led : (f : Start) (o : Bool) (ps : Parts) (qs : List Piece) {x : Spelling} → Among x (linked o ps qs) → is_led (settled (spine f) x) ≡ true
+linked_led f o ps qs h = cases (first_chained ps) h (λ b k. ap (λ z. is_led (settled (spine f) z)) (one k)) (λ b k. cases o k (λ c j. ap (λ z. is_led (settled (spine f) z)) (one j)) (λ c j. elim j [ ]))
 
 module _ (S : Type 0) (Next : S → Token → S → Type 0) (behind : S → Token) (det : IsDetermined S Next behind) where
   -- a core of an expression: its first token, and what it is
@@ -54,3 +61,24 @@ module _ (S : Type 0) (Next : S → Token → S → Type 0) (behind : S → Toke
       ReadBy S Next behind Goal.RegExp s t m → opening_of t ≡ x → Core S Next behind o (expr y i f) n s e P → Cored o y i f n s e P x
   core_by {o} {y} {i} {f} {n} {s} {e} {P = P} r h c = let u = core_of c in
       subst (λ z. Cored o y i f n s e P z) (sym (opens_with S Next behind det u.begins r) ∙ h) u.cored
+
+  -- the token with which an expression begins, read by the goal for operands
+  pub record Begins (s : S) : Type 0 where
+    pub opening : Opening
+    pub begins : Opens S Next behind det opening s
+
+  -- each way of a part of a chain is led
+  spines_led : (f : Start) (k : Kind) (g : Flags) (ps : Parts) {x : Spelling} → Among x (spines k g ps) → is_led (settled (spine f) x) ≡ true
+  spines_led f MemberExpression g ps h = linked_led f g.optional ps (member_link g) h
+  spines_led f CallExpression g ps h = linked_led f g.optional ps (call_link g ps) h
+  spines_led f _ g ps h = elim h [ ]
+
+  core_begins : {o : ℕ} {n : Tree} {s e : S} {P : List Pair} (a : Role) → on_spine a ≡ true → Core S Next behind o a n s e P → Begins s
+  unfolding spellings
+  core_begins (expr y i f) h c = let u = core_of c in record { opening = u.opening; begins = u.begins }
+  core_begins (spine f) h (plain {n = node k w g st en ps} qs way un pl eq d) = let v = way_of way in absurd (false≢true (sym un ∙ ap is_led v.is ∙ spines_led f k g (bare_parts ps) v.listed))
+  core_begins _ h c = absurd (false≢true h)
+
+  -- So where an expression begins, the goal for operands reads a token: never the punctuator `/` or `/=`, which that goal doesn't read.
+  pub operand_begins : {o : ℕ} {y : Rank} {i : Bool} {f : Start} {n : Tree} {s e : S} {P : List Pair} → Spells ways S Next behind o (expr y i f) n s e P → Begins s
+  operand_begins d = let u = spine_of S Next behind d in core_begins u.role (grows_on_spine S Next behind refl u.grows) u.core

@@ -13,8 +13,10 @@ pub mod Begins
 pub mod Growth
 pub mod Led
 pub mod Onward
+pub mod Sides
 pub mod Reaches
 pub mod Stepping
+pub mod Operated
 pub mod Headed
 pub mod Cores
 pub mod Productions

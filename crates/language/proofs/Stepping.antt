@@ -55,11 +55,11 @@ no_way true true false h k l = cc
 no_way true false c h k l = cc
 no_way false b c h k l = cc
 
-no_spine : {h : Rank} {j : Bool} {f g : Start} → expr h j f ≡ spine g → ⊥
+pub no_spine : {h : Rank} {j : Bool} {f g : Start} → expr h j f ≡ spine g → ⊥
 no_spine e = cc
 
 module _ (S : Type 0) (Next : S → Token → S → Type 0) (behind : S → Token) (det : IsDetermined S Next behind) where
-  text_taken : {o : ℕ} {ps : Parts} {s m e : S} {P : List Pair} {c : Class} {w : List ℕ} {t : Token} (qs : List (PieceOf Role)) → first_of qs ≡ by c w → IsTrue (allows Div c w) →
+  pub text_taken : {o : ℕ} {ps : Parts} {s m e : S} {P : List Pair} {c : Class} {w : List ℕ} {t : Token} (qs : List (PieceOf Role)) → first_of qs ≡ by c w → IsTrue (allows Div c w) →
       Runs ways S Next behind o qs ps s e P → ReadBy S Next behind Div s t m → t.text ≡ w
   text_taken qs h al d r = (taken S Next behind det Div qs h al d r).text
 
