@@ -9,8 +9,8 @@ ghost use Rattle.grammar.specs.Limits.{ReadsAt, Next};
 ghost use Rattle.grammar.specs.Limits.{front};
 ghost use Rattle.lint.specs.Cursor.{Ahead, IsAhead};
 
-use std::marker::Model;
 use source_text::Source;
+use std::marker::Model;
 use tokens::{Class, Goal, ScanFault, Token, scan};
 
 /// A place between two tokens of a text, with the token that stands ahead.

@@ -7,8 +7,8 @@ ghost use Rattle.lint.specs.Fix.{IsFixed};
 
 use crate::printer::print_text;
 use crate::script::parse;
-use std::alloc::Global;
 use source_text::{Fault, Source};
+use std::alloc::Global;
 
 /// The fixed text of a script: one statement a line, one space round operators and behind commas, and parentheses just
 /// round the nodes whose symbol is looser than that of their position. It derives the same tree, and fixing it again gives

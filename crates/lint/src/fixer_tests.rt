@@ -1,7 +1,7 @@
 use crate::fix;
+use source_text::{Fault, Source};
 use std::alloc::{AllocError, Global};
 use std::test::Fail;
-use source_text::{Fault, Source};
 
 /// What `fix` answers for a text, as a text.
 fn answer(alloc: Global, text: &str) -> Result<String, AllocError> {
@@ -52,6 +52,13 @@ fn fixes_sums(rt: HostRuntime) -> Result<(), Fail> {
         ("(a*b)+(c/d)-(e);", "a * b + c / d - e;\n"),
         ("$_x9\n+ 120\t;let1;", "$_x9 + 120;\nlet1;\n"),
         ("await;async;of;", "await;\nasync;\nof;\n"),
+        ("\u{FEFF}a\u{A0}+\u{3000}b\u{2028};", "a + b;\n"),
+        ("// a\na /* b; */ - /**/ c; // d", "a - c;\n"),
+        ("/* \n */ a\u{B}*\u{C}(b + c) /* * */;", "a * (b + c);\n"),
+        (
+            "\u{E9}t\u{E9} + \u{1D4D0}1\u{200D}; \u{437}/x;",
+            "\u{E9}t\u{E9} + \u{1D4D0}1\u{200D};\n\u{437} / x;\n",
+        ),
     ];
     for (text, fixed) in rows {
         let first = answer(rt.alloc(), text)?;
@@ -68,6 +75,15 @@ fn refuses_what_derives_nothing(rt: HostRuntime) -> Result<(), Fail> {
         "a + ;",
         "1a;",
         "007;",
+        "1.5 + a;",
+        "0x1F;",
+        "10n;",
+        "'a';",
+        "`a`;",
+        "/a/;",
+        "\\u0061;",
+        "a /* b;",
+        "a \u{180E};",
         "(a;",
         "if;",
         "a",
@@ -84,8 +100,6 @@ fn refuses_what_derives_nothing(rt: HostRuntime) -> Result<(), Fail> {
         "+a;",
         "a b",
         "a;b",
-        "é;",
-        "a;//",
         "let;",
         "static + 1;",
         "1.5;",

@@ -19,9 +19,9 @@ ghost use Rattle.lint.specs.Starts.{StartsWith};
 use crate::cursor::Cursor;
 use grammar::{is_integer, is_reserved};
 use language::{Rank, tightness_of};
+use source_text::Fault;
 use std::alloc::Global;
 use std::borrow::CowStr;
-use source_text::Fault;
 use tokens::{Class, Token};
 use tree::{BinaryOperator, Expression, Pair, Span};
 

@@ -5,8 +5,8 @@ ghost use Rattle.lint.specs.Run.{Answers, HasPlace, Runs, place_of};
 
 use crate::fixer::fix;
 use crate::streams::{read_up_to, write_text};
-use std::alloc::Global;
 use source_text::{DeviceFault, Fault, Feed, MAX_BYTES, Sink, Source};
+use std::alloc::Global;
 
 /// What the program is asked to do with a file.
 #[derive(Clone, Copy, Debug, PartialEq, Eq)]

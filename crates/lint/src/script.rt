@@ -10,8 +10,8 @@ ghost use Rattle.lint.specs.Scripts.{IsOver, ReadsStatements, Parses};
 
 use crate::cursor::Cursor;
 use crate::parser::Parser;
-use std::alloc::Global;
 use source_text::{Fault, Source};
+use std::alloc::Global;
 use tokens::Class;
 use tree::{Pair, Program, Span, Statement};
 

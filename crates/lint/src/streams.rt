@@ -3,8 +3,8 @@
 ghost use Rattle.std.specs.Prelude.{◌≡◌, ◌<◌, ◌^◌, false};
 ghost use Rattle.lint.specs.Streams.{ReadsUpTo, WritesText};
 
-use std::alloc::Global;
 use source_text::{DeviceFault, Fault, Feed, Sink};
+use std::alloc::Global;
 
 /// The most bytes that one `put` is handed.
 pub const PIECE: usize = 4096;

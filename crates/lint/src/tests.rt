@@ -5,8 +5,8 @@ use crate::refusal::write_refusal;
 use crate::run::{Command, Refused, run};
 use crate::streams::{read_up_to, write_text};
 use clap::error::ErrorKind;
-use std::test::Fail;
 use source_text::{Device, Fault, MemoryFeed, MemorySink, Plan, Reason};
+use std::test::Fail;
 
 const WHOLE: Plan = Plan {
     per_call: 65536,
