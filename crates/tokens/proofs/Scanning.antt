@@ -1,8 +1,8 @@
 -- From what stands at a place to the token that a goal reads there.
 use Rattle.std.proofs.Common.{◌≡◌, ℕ, ◌+◌, ◌<◌, Bool, true, false, not, ◌&&◌, ◌==◌, List, [], ◌∷◌, ◌++◌, IsTrue, refl, sym, ap, ◌∙◌, subst, append_assoc, arith, if◌then◌else◌}
 use Rattle.std.specs.Prelude.{slice_range, ◌≢◌}
-use Rattle.std.specs.Str.{IsUtf8}
-use Rattle.std.proofs.lemmas.Str.{len_utf8_bounds}
+use Rattle.std.specs.Str.{chars, IsUtf8}
+use Rattle.std.proofs.lemmas.Str.{len_utf8_bounds, chars_from_encodes}
 use Rattle.std.proofs.lemmas.Bool.Decides.{nat_tests}
 use Rattle.std.proofs.lemmas.List.{append_cancel_left}
 use Rattle.source_text.specs.Source.{IsPlace}
@@ -10,6 +10,7 @@ use Rattle.tokens.specs.Alphabet.{one_of, begins_with, is_decimal_digit}
 use Rattle.tokens.specs.Comments.{begins_comment, Separators}
 use Rattle.tokens.specs.Lexical.{LexicalClass, Name, Punctuator, Number, Text, Template, End, is_of, is_token}
 use Rattle.tokens.specs.Goals.{Goal, Div, TemplateTail, allows, reads_regexps, reads_template_parts}
+use Rattle.tokens.specs.Strings.{is_string}
 use Rattle.tokens.specs.Fronts.{class_by, class_of, is_mark}
 use Rattle.tokens.specs.Tokens.{LexicalToken, IsTokenAt, size}
 use Rattle.tokens.specs.Reading.{behind, Reads}
@@ -122,6 +123,12 @@ token_reads text goal at start stop broken class slice u p g n c w s =
       stop = w.passed.reaches;
       after_break = g.breaks;
     }
+
+-- the text of a string that is read is one, by its characters
+pub string_read : (text : List ℕ) (goal : Goal) (at : ℕ) (t : LexicalToken) → IsUtf8 t.text → Reads text goal at t → t.class ≡ Text → IsTrue (is_string (chars t.text))
+string_read text goal at t u h e =
+    let of_class : IsTrue (is_of Text h.word) = token_is Text h.word (behind text t.stop) (subst (λ c. IsTrue (is_token c h.word (behind text t.stop))) e h.longest) in
+    subst (λ x. IsTrue (is_string x)) (chars_from_encodes h.word t.text u (sym h.text)) of_class
 
 -- a token at a place stands behind the separators that are there
 pub token_behind : (text : List ℕ) (goal : Goal) (at start : ℕ) (broken : Bool) (t : LexicalToken) (rest : List ℕ) → IsGap text at start broken → IsSolid (behind text start) →

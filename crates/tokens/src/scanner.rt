@@ -1,6 +1,7 @@
 //! The next token of a text.
 
-ghost use Rattle.std.specs.Prelude.{◌≡◌, ◌≢◌, ◌≤◌, ◌<◌, ◌++◌, ℕ, List, [], slice_range, IfOk, IfErr, IfNone, IfSome, OnErr};
+ghost use Rattle.std.specs.Prelude.{◌≡◌, ◌≢◌, ◌≤◌, ◌<◌, ◌++◌, ℕ, List, [], slice_range, IsTrue, IfOk, IfErr, IfNone, IfSome, OnErr};
+ghost use Rattle.std.specs.Str.{chars};
 ghost use Rattle.source_text.specs.Source.{IsPlace};
 ghost use Rattle.tokens.specs.Tokens.{LexicalToken, IsTokenAt};
 ghost use Rattle.tokens.specs.Reading.{behind, Reads};
@@ -8,6 +9,7 @@ ghost use Rattle.tokens.specs.Alphabet.{begins_with, is_decimal_digit};
 ghost use Rattle.tokens.specs.Fronts.{class_by, class_of, is_mark};
 ghost use Rattle.tokens.specs.Goals.{reads_regexps, reads_template_parts};
 ghost use Rattle.tokens.specs.Scanned.{IsWordAt, NoWordAt, token_of};
+ghost use Rattle.tokens.specs.Strings.{is_string};
 
 use crate::name::name_end;
 use crate::number::number_end;
@@ -177,6 +179,7 @@ pub fn scan<'s>(source: &Source<'s>, at: usize, goal: Goal) -> Result<Token<'s>,
     ensures within { IfOk result (λ t. (at ≤ t.start) × (t.start ≤ t.end) × IsPlace source.now t.start × IsPlace source.now t.end) }
     ensures goes_on { IfOk result (λ t. t.class ≢ Class.End → t.start < t.end) }
     ensures slice { IfOk result (λ t. t.text.now ≡ slice_range source.now t.start t.end) }
+    ensures string { IfOk result (λ t. t.class ≡ Class.Text → IsTrue (is_string (chars t.text.now))) }
     ensures err { OnErr result ((t : LexicalToken) (rest : List ℕ) → IsTokenAt goal at (behind source.now at) t rest → ⊥) }
     ensures fault_place { IfErr result (λ f. (at ≤ f.at) × IsPlace source.now f.at) }
 {

@@ -5,7 +5,7 @@ use Rattle.tokens.specs.Comments.{begins_comment}
 use Rattle.tokens.specs.Fronts.{class_of}
 use Rattle.tokens.specs.Reading.{behind}
 use Rattle.tokens.specs.Scanned.{IsGap, IsSolid, IsWordAt, NoWordAt}
-use Rattle.tokens.proofs.Scanning.{end_only, token_reads, none_in_comment, none_of_class, word_forward}
+use Rattle.tokens.proofs.Scanning.{end_only, token_reads, string_read, none_in_comment, none_of_class, word_forward}
 use Rattle.tokens.proofs.scanner.scan.Goals as goal
 use Rattle.tokens.proofs.scanner.scan.Goals.{After-skip-gap}
 
@@ -46,6 +46,9 @@ returns-clause-ok d =
     (along c (λ x. d.class_at-class.result ≡ class_of c.args.goal (behind x c.skip-gap.result.end)) d.class_at-class.ensures)
     (along c (λ x. IsWordAt d.class_at-class.result x c.skip-gap.result.end d.in-Some.end) d.in-Some.ensures.some)
     (d.range.ensures.value ∙ ap (λ (x : List ℕ). slice_range x c.skip-gap.result.end d.in-Some.end) c.text-text.ensures.value)
+
+pub returns-clause-string : goal.returns-clause-string
+returns-clause-string d = string_read d.args.source.now d.args.goal d.args.at _ d.range.utf8 (returns-clause-ok d)
 
 pub returns-clause-goes_on : goal.returns-clause-goes_on
 returns-clause-goes_on d = word_forward d.class_at-class.result d.text-text.result.now d.skip-gap.result.end d.in-Some.end d.in-Some.ensures.some
