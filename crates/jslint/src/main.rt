@@ -11,10 +11,10 @@ use clap::error::ErrorKind;
 use lint::command_line::{Line, command_line};
 use lint::refusal::write_refusal;
 use lint::run::{Refused, run};
+use source_text::{Device, Fault, Sink};
 use std::process::ExitCode;
 use std::rt::{Env, Files};
 use std::{env, fs, io};
-use source_text::{Device, Fault, Sink};
 
 /// The words of the command line, the program's name first. Words that are not UTF-8 name no file that can be read.
 fn own_words<R: Env + AllocGlobal>(rt: &R) -> Result<Vec<String>, Fault>

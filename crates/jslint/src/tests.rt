@@ -3,9 +3,9 @@ ghost use Rattle.std.specs.Prelude.{◌≡◌, IfOk, false};
 use super::{obey, open_and_run};
 use lint::command_line::Line;
 use lint::run::{Command, Refused};
+use source_text::{Fault, MemorySink, Plan};
 use std::alloc::{AllocError, Global};
 use std::test::Fail;
-use source_text::{Fault, MemorySink, Plan};
 
 fn writer(alloc: Global) -> Result<MemorySink, AllocError>
     ensures { IfOk result (λ sink. sink.failed ≡ false) }
