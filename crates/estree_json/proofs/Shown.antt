@@ -1,5 +1,5 @@
 -- Short words to write the examples' trees with, and what the examples compute with.
-use Rattle.std.specs.Prelude.{◌≡◌, ℕ, ◌+◌, List, [], ◌∷◌, ◌++◌, length, codes}
+use Rattle.std.specs.Prelude.{◌≡◌, ℕ, ◌+◌, [], ◌∷◌, ◌++◌, length, codes}
 use Rattle.std.proofs.Common.{◌∙◌, ap, lit<, lit≤}
 use Rattle.std.specs.Fmt.{decimal}
 use Rattle.std.specs.Str.{chars}

@@ -1,12 +1,12 @@
 -- What one more member makes of an object.
-use Rattle.std.proofs.Common.{◌≡◌, ℕ, Bool, true, false, not, ◌+◌, ◌-◌, ◌<◌, ◌≤◌, List, [], ◌∷◌, ◌++◌, length, take, drop, map, Result, Vec, Global, IfOk, refl, sym, ap, ◌∙◌, subst, arith, rules}
+use Rattle.std.proofs.Common.{◌≡◌, ℕ, Bool, true, false, not, ◌-◌, List, [], ◌∷◌, length, take, drop, map, Result, Vec, Global, IfOk, refl, subst, arith, rules}
 use Rattle.std.proofs.lemmas.List.{length-map, take-map, drop-map}
 use Rattle.std.specs.declared.alloc.AllocError.{AllocError}
-use Rattle.serde_json.specs.Data.{Data, null, string, array, Members}
-use Rattle.serde_json.specs.View.{view, items_view, items_of}
+use Rattle.serde_json.specs.Data.{null, string, Members}
+use Rattle.serde_json.specs.View.{view}
 use Rattle.serde_json.specs.declared.value.Value.{Value, Null, Array, the_lemmas}
 use Rattle.serde_json.proofs.Views.{view-Array}
-use Rattle.estree_json.specs.Json.{Made, with_value, with_part, with_list, with_turns, with_option, first_or_null, odd_ones, even_ones}
+use Rattle.estree_json.specs.Json.{Made, with_value, with_part, with_list, with_turns, with_option, odd_ones, even_ones}
 use Rattle.estree_json.specs.Fields.{Label, directive}
 use Rattle.estree_json.specs.Texts.{unquoted}
 use Rattle.estree_json.specs.View.{made}

@@ -1,8 +1,8 @@
 -- What is in no line of a table is in the next one.
-use Rattle.std.proofs.Common.{◌≡◌, Bool, List, [], refl}
+use Rattle.std.proofs.Common.{◌≡◌, Bool, [], refl}
 use Rattle.tree.specs.declared.kind.Kind.{Kind}
 use Rattle.tree.specs.declared.kind.Kind.TheVariants as k
-use Rattle.estree_json.specs.Fields.{Field, Label, function_fields, expression_fields, statement_fields, fields}
+use Rattle.estree_json.specs.Fields.{Label, function_fields, expression_fields, statement_fields, fields}
 
 pub statement_default : (kind : Kind) (l : Label)
     → ¬ (kind ≡ k.Program) → ¬ (kind ≡ k.ExpressionStatement) → ¬ (kind ≡ k.BlockStatement) → ¬ (kind ≡ k.ReturnStatement) → ¬ (kind ≡ k.ThrowStatement) → ¬ (kind ≡ k.BreakStatement) → ¬ (kind ≡ k.ContinueStatement) → ¬ (kind ≡ k.LabeledStatement) → ¬ (kind ≡ k.IfStatement) → ¬ (kind ≡ k.SwitchStatement) → ¬ (kind ≡ k.SwitchCase) → ¬ (kind ≡ k.TryStatement) → ¬ (kind ≡ k.CatchClause) → ¬ (kind ≡ k.WhileStatement) → ¬ (kind ≡ k.DoWhileStatement) → ¬ (kind ≡ k.ForStatement) → ¬ (kind ≡ k.ForInStatement) → ¬ (kind ≡ k.ForOfStatement) → ¬ (kind ≡ k.VariableDeclaration) → ¬ (kind ≡ k.VariableDeclarator)

@@ -1,7 +1,7 @@
 -- The JSON of a tree: an object for each node, with ESTree's type, the node's place in bytes and the fields of its type, keys in
 -- the order of their bytes.
-use Rattle.std.specs.Prelude.{ℕ, Bool, true, false, suc, ◌-◌, List, [], ◌∷◌, length, take, drop, Option, Some, None, codes}
-use Rattle.serde_json.specs.Data.{Data, null, boolean, number, unsigned, string, array, object, Items, no_items, item, Members, no_members, member, put}
+use Rattle.std.specs.Prelude.{ℕ, Bool, true, false, ◌-◌, List, [], ◌∷◌, length, take, drop, Option, Some, None, codes}
+use Rattle.serde_json.specs.Data.{Data, null, number, unsigned, string, array, object, Members, no_members, put}
 use Rattle.serde_json.specs.View.{items_of}
 use Rattle.serde_json.specs.Written.{compact_text}
 use Rattle.tree.specs.declared.kind.Kind.{Kind}

@@ -1,15 +1,16 @@
 //! Small trees, built by hand, as JSON. The examples in `proofs/` have a row for each type of node.
 
-ghost use Rattle.std.specs.Prelude.{◌≡◌, IfOk, false};
+ghost use Rattle.std.specs.Prelude.{◌≡◌, IfOk, IfSome, false};
 ghost use Rattle.tree.specs.View.{expression_tree};
 ghost use Rattle.estree_json.specs.Strings.{HasStrings};
 ghost use Rattle.estree_json.specs.Texts.{is_quoted};
 
 use crate::{to_value, write_tree};
-use source_text::{Fault, MemorySink, Plan};
+use source_text::{Fault, MemorySink, Plan, Source};
 use std::alloc::{AllocError, Global};
 use std::borrow::CowStr;
 use std::test::Fail;
+use tokens::{Class, Goal, scan};
 use tree::{BinaryOperator, Expression, Program, Span, Statement};
 
 const WHOLE: Plan = Plan {
@@ -31,6 +32,27 @@ fn number(text: &str, start: usize, end: usize) -> Expression<'_>
     let span = Span { start, end };
     let raw = CowStr::Borrowed(text);
     Expression::Literal { raw, span }
+}
+
+/// The string that a source begins with, if it does.
+fn string<'s>(source: &Source<'s>) -> Option<Expression<'s>>
+    ensures { IfSome result (λ e. HasStrings (expression_tree e)) }
+{
+    if !source.text().is_char_boundary(0) {
+        return None;
+    }
+    let Ok(token) = scan(source, 0, Goal::Div) else {
+        return None;
+    };
+    let Class::Text = token.class else {
+        return None;
+    };
+    let span = Span {
+        start: token.start,
+        end: token.end,
+    };
+    let raw = CowStr::Borrowed(token.text);
+    Some(Expression::Literal { raw, span })
 }
 
 fn sum<'s>(
@@ -116,6 +138,29 @@ fn values_are_found(rt: HostRuntime) -> Result<(), Fail> {
     assert_eq!(rt; found.and_then(|value| value.as_bool()), Some(true));
     let found = value.pointer("/body/0/end");
     assert_eq!(rt; found.and_then(|value| value.as_u64()), Some(5));
+    Ok(())
+}
+
+#[test]
+fn strings_have_values(rt: HostRuntime) -> Result<(), Fail> {
+    let alloc = rt.alloc();
+    for (text, expected) in [
+        ("'a\\x41'", Some("aA")),
+        ("\"\\uD83D\\u{DE00}\"", Some("😀")),
+        ("''", Some("")),
+        ("'\\uD800'", None),
+    ] {
+        let Ok(source) = Source::new(text.as_bytes()) else {
+            panic!(rt; "{text}");
+        };
+        let Some(literal) = string(&source) else {
+            panic!(rt; "{text}");
+        };
+        let script = script(alloc, literal, text.len())?;
+        let value = to_value(alloc, &script)?;
+        let found = value.pointer("/body/0/expression/value");
+        assert_eq!(rt; found.and_then(|value| value.as_str()), expected, "{text}");
+    }
     Ok(())
 }
 

@@ -1,4 +1,4 @@
-use Rattle.std.proofs.Common.{◌≡◌, sym, ap}
+use Rattle.std.proofs.Common.{sym, ap}
 use Rattle.estree_json.specs.Json.{with_fields, label_of}
 use Rattle.estree_json.specs.View.{made}
 use Rattle.tree.specs.Node.{node_tree}

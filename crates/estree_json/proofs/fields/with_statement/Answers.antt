@@ -1,7 +1,6 @@
 use Rattle.std.proofs.Common.{sym, ap}
 use Rattle.estree_json.specs.Json.{with_fields, label_of}
 use Rattle.estree_json.specs.View.{made}
-use Rattle.estree_json.specs.Fields.{statement_fields}
 use Rattle.tree.specs.Node.{node_tree}
 use Rattle.estree_json.proofs.Tables.{statement_default}
 use Rattle.estree_json.proofs.fields.with_statement.Goals as goal
