@@ -162,7 +162,7 @@ coalesce : json_text (n k.Program 0 6 (one (n k.ExpressionStatement 0 6 (one (t 
 unfolding computing
 coalesce = rw (d0, d1, d5, d6)
 
--- a ? b : c
+-- a conditional
 condition : json_text (n k.Program 0 9 (one (n k.ExpressionStatement 0 9 (one (n k.ConditionalExpression 0 9 (three (id "a" 0) (id "b" 4) (id "c" 8)))))))
     ≡ codes "{\"body\":[{\"end\":9,\"expression\":{\"alternate\":{\"end\":9,\"name\":\"c\",\"start\":8,\"type\":\"Identifier\"},\"consequent\":{\"end\":5,\"name\":\"b\",\"start\":4,\"type\":\"Identifier\"},\"end\":9,\"start\":0,\"test\":{\"end\":1,\"name\":\"a\",\"start\":0,\"type\":\"Identifier\"},\"type\":\"ConditionalExpression\"},\"start\":0,\"type\":\"ExpressionStatement\"}],\"end\":9,\"sourceType\":\"script\",\"start\":0,\"type\":\"Program\"}"
 unfolding computing
