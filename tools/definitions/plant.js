@@ -159,7 +159,7 @@ function one(fault) {
   return new Promise((resolve) => {
     const { dir, hit } = plant(fault);
     if (fault !== null && hit.length === 0) { fs.rmSync(dir, { recursive: true }); process.exitCode = 1; resolve(`not applicable   ${fault[0]}`); return; }
-    const parts = fault === null ? 'odd,programs,generated,early,tokens' : hit.includes('tokens') || fault[0].startsWith('code points') ? 'tokens,odd' : hit.includes('early_errors') ? 'odd,early' : 'odd,programs,generated';
+    const parts = fault === null ? 'odd,programs,generated,early,tokens' : hit.some((c) => c === 'tokens' || c === 'source_text') || fault[0].startsWith('code points') ? 'tokens,odd' : hit.includes('early_errors') ? 'odd,early' : 'odd,programs,generated';
     const p = spawn(process.execPath, [path.join(__dirname, 'run.js'), '--specs', dir, '--n', n, '--jobs', '1', '--only', parts, '--fast', '--first']);
     let out = '';
     p.stdout.on('data', (d) => { out += d; }); p.stderr.on('data', (d) => { out += d; });
