@@ -1,0 +1,227 @@
+//! The next token of a text, by goal.
+
+ghost use Rattle.std.specs.Prelude.{◌≡◌, ◌≢◌, ◌≤◌, ◌<◌, ◌+◌, ◌-◌, ℕ, true, false, IfOk, IfErr, IfSome, IfNone, slice_index_or};
+ghost use Rattle.tokens.specs.Tokens.{LexicalToken};
+ghost use Rattle.tokens.specs.Scanned.{token_of};
+ghost use Rattle.tokens.specs.Reading.{Reads};
+ghost use Rattle.tokens.specs.declared.token.Class.{Class as LexicalClass};
+ghost use Rattle.tokens.specs.declared.token.Goal.{Goal as LexicalGoal};
+ghost use Rattle.source_text.specs.Source.{IsPlace};
+ghost use Rattle.language.specs.Token.{Token as Read, as_read};
+ghost use Rattle.language.specs.Cursor.{beginning};
+ghost use Rattle.language.specs.Edges.{is_semicolon};
+ghost use Rattle.token_cursor.specs.Ends.{EndsAt, IsEnd};
+ghost use Rattle.token_cursor.specs.Point.{depends, Ahead, IsAhead, IsAheadBySome, NoneAhead, OnlyEnd, IsPlaceFrom, IsSyntax};
+
+use crate::semicolon::{Ending, may_miss};
+use source_text::{Fault, Source};
+use std::marker::Model;
+use tokens::{Class, Goal, ScanFault, Token, scan};
+
+/// The most parentheses that group or hold an arrow's parameters and are open at one point.
+pub const MAX_OPEN: u32 = 1000;
+
+/// A place between two tokens of a text, with the parentheses that are open there and count.
+#[derive(Drop)]
+pub struct Cursor<'t, 's> {
+    source: &'t Source<'s>,
+    last: Token<'s>,
+    opened: u32,
+    // What stands ahead, by the goal Div.
+    ahead: Result<Token<'s>, ScanFault>,
+}
+
+impl<'t, 's> Model for Cursor<'t, 's> {
+    ghost use Rattle.std.specs.Prelude.{◌≤◌};
+    ghost use Rattle.source_text.specs.Source.{IsPlace};
+    ghost use Rattle.tokens.specs.declared.token.Goal.TheVariants.{Div};
+    ghost use Rattle.tokens.specs.Scanned.{token_of};
+    ghost use Rattle.language.specs.Token.{as_read};
+    ghost use Rattle.token_cursor.specs.Point.{Point, Ahead};
+
+    ghost Value = { Point };
+
+    ghost view = { λ c. record { text = c.source.now; last = as_read (token_of c.last); opened = c.opened } };
+
+    ghost invariant = { λ c. IsPlace c.source.now c.last.end × (c.opened ≤ 1000) × Ahead Div c.source.now c.last.end c.ahead };
+}
+
+// What the goal reads behind a place.
+fn look<'s>(source: &Source<'s>, at: usize, goal: Goal) -> Result<Token<'s>, ScanFault>
+    requires { IsPlace source.now at }
+    ensures { Ahead goal source.now at result }
+{
+    let _text = source.text();
+    match scan(source, at, goal) {
+        Ok(token) => Ok(token),
+        Err(fault) => Err(fault),
+    }
+}
+
+// Whether another goal may read another token.
+fn depends_on_goal(token: &Token<'_>) -> bool
+    ensures { result ≡ depends (token_of token.now).text }
+{
+    match token.text.as_bytes().first() {
+        Some(first) => *first == b'/' || *first == b'}',
+        None => false,
+    }
+}
+
+// Whether a token is a `;`.
+fn is_semicolon(token: &Token<'_>) -> bool
+    ensures { result ≡ is_semicolon (as_read (token_of token.now)) }
+{
+    token.class == Class::Punctuator && token.text == ";"
+}
+
+impl<'t, 's> Cursor<'t, 's> {
+    /// Before the first token, with no parenthesis open.
+    pub fn new(source: &'t Source<'s>) -> Cursor<'t, 's>
+        ensures text { result.text ≡ source.now }
+        ensures last { result.last ≡ beginning }
+        ensures none { result.opened ≡ 0 }
+    {
+        let _text = source.text();
+        let last = Token {
+            class: Class::End,
+            text: "",
+            start: 0,
+            end: 0,
+            after_break: false,
+        };
+        Cursor {
+            source,
+            last,
+            opened: 0,
+            ahead: look(source, 0, Goal::Div),
+        }
+    }
+
+    /// Where the last token ends, in bytes; 0 before the first.
+    pub fn last_end(&self) -> usize
+        ensures { result ≡ self.now.last.stop }
+    {
+        self.last.end
+    }
+
+    /// The token that the goal reads ahead, the end of the text too; none where it reads none.
+    pub fn peek(&self, goal: Goal) -> Option<Token<'s>>
+        ensures some { IfSome result (λ t. IsAhead goal self.now.text self.now.last.stop (token_of t)) }
+        ensures none { IfNone result (NoneAhead goal self.now.text self.now.last.stop) }
+    {
+        match self.ahead_by(goal) {
+            Ok(token) => Some(token),
+            Err(_) => None,
+        }
+    }
+
+    // What the goal reads ahead: it is looked for anew only where goals may differ.
+    fn ahead_by(&self, goal: Goal) -> Result<Token<'s>, ScanFault>
+        ensures { Ahead goal self.now.text self.now.last.stop result }
+    {
+        let _text = self.source.text();
+        match self.ahead {
+            Ok(token) if !depends_on_goal(&token) => Ok(token),
+            _ => match goal {
+                Goal::Div => self.ahead,
+                Goal::RegExp | Goal::TemplateTail => look(self.source, self.last.end, goal),
+            },
+        }
+    }
+
+    /// Where what stands ahead begins, in bytes: the place that a syntax error names.
+    pub fn place(&self) -> usize
+        ensures place { IsPlaceFrom self.now.text self.now.last.stop result }
+        ensures starts { (t : LexicalToken) → Reads self.now.text LexicalGoal.Div self.now.last.stop t → result ≡ t.start }
+    {
+        match self.ahead {
+            Ok(token) => token.start,
+            Err(fault) => fault.at,
+        }
+    }
+
+    /// Goes past a token that stands ahead.
+    pub fn advance(&mut self, token: Token<'s>)
+        requires { IsAheadBySome self.old.text self.old.last.stop (token_of token) }
+        ensures text { self.new.text ≡ self.old.text }
+        ensures last { self.new.last ≡ as_read (token_of token.entry) }
+        ensures same_open { self.new.opened ≡ self.old.opened }
+    {
+        self.last = token;
+        self.ahead = look(self.source, token.end, Goal::Div);
+    }
+
+    /// Goes past the token that the goal reads ahead, and gives it.
+    ///
+    /// # Errors
+    /// `Syntax` at the end of the text, and where the goal reads none; then the cursor stays as it was.
+    pub fn take(&mut self, goal: Goal) -> Result<Token<'s>, Fault>
+        ensures text { self.new.text ≡ self.old.text }
+        ensures same_open { self.new.opened ≡ self.old.opened }
+        ensures ok { IfOk result (λ t. IsAhead goal self.old.text self.old.last.stop (token_of t) × (t.class ≢ LexicalClass.End) × (self.new.last ≡ as_read (token_of t))) }
+        ensures err { IfErr result (λ fault. IsSyntax self.old.text self.old.last.stop fault × OnlyEnd goal self.old.text self.old.last.stop × (self.new.last ≡ self.old.last)) }
+    {
+        let Some(token) = self.peek(goal) else {
+            return Err(Fault::Syntax(self.place()));
+        };
+        match token.class {
+            Class::End => Err(Fault::Syntax(self.place())),
+            _ => {
+                self.advance(token);
+                Ok(token)
+            }
+        }
+    }
+
+    /// Goes past the `;` of a statement, or stays where it may be missing (ECMA-262 11.9.1).
+    ///
+    /// # Errors
+    /// `Syntax` where there is none and it may not be missing; then the cursor stays as it was.
+    pub fn semicolon(&mut self, ending: Ending) -> Result<(), Fault>
+        ensures text { self.new.text ≡ self.old.text }
+        ensures forward { self.old.last.stop ≤ self.new.last.stop }
+        ensures same_open { self.new.opened ≡ self.old.opened }
+        ensures ok { IfOk result (λ _. IsEnd self.old.text ending self.old.last self.new.last) }
+        ensures err { IfErr result (λ fault. IsSyntax self.old.text self.old.last.stop fault × ((e : Read) → EndsAt self.old.text ending self.old.last e → ⊥) × (self.new.last ≡ self.old.last)) }
+    {
+        let _text = self.source.text();
+        let Some(token) = self.peek(Goal::Div) else {
+            return Err(Fault::Syntax(self.place()));
+        };
+        if is_semicolon(&token) {
+            self.advance(token);
+            return Ok(());
+        }
+        if may_miss(ending, &self.last, &token) {
+            return Ok(());
+        }
+        Err(Fault::Syntax(self.place()))
+    }
+
+    /// Opens a parenthesis that groups or holds an arrow's parameters.
+    ///
+    /// # Errors
+    /// `TooDeep` where `MAX_OPEN` of them are open; then the cursor stays as it was.
+    pub fn enter(&mut self) -> Result<(), Fault>
+        ensures text { self.new.text ≡ self.old.text }
+        ensures last { self.new.last ≡ self.old.last }
+        ensures ok { IfOk result (λ _. (self.old.opened < 1000) × (self.new.opened ≡ self.old.opened + 1)) }
+        ensures err { IfErr result (λ fault. (fault ≡ Fault.TooDeep) × (self.old.opened ≡ 1000) × (self.new.opened ≡ self.old.opened)) }
+    {
+        if self.opened >= MAX_OPEN {
+            return Err(Fault::TooDeep);
+        }
+        self.opened += 1;
+        Ok(())
+    }
+
+    /// Closes the last such parenthesis.
+    pub fn leave(&mut self)
+        ensures text { self.new.text ≡ self.old.text }
+        ensures last { self.new.last ≡ self.old.last }
+        ensures closed { self.new.opened ≡ self.old.opened - 1 }
+    {
+        self.opened = self.opened.saturating_sub(1);
+    }
+}

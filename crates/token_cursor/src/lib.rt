@@ -1,0 +1,12 @@
+#![tactic(auto)]
+
+//! The place of a parser in a text: the next token by goal, missing semicolons, open parentheses.
+
+mod cursor;
+mod semicolon;
+
+pub use cursor::{Cursor, MAX_OPEN};
+pub use semicolon::{Ending, goes_on};
+
+#[cfg(test)]
+mod tests;
