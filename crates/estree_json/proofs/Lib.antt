@@ -1,3 +1,4 @@
+pub mod Derived
 pub mod Steps
 pub mod Tables
 pub mod Quotes

@@ -5,3 +5,4 @@ pub mod Strings
 pub mod Json
 pub mod View
 pub mod Writing
+pub mod Laws

@@ -12,7 +12,7 @@ use Rattle.tree.specs.Tree.{Tree, node, none, part, height}
 use Rattle.language.specs.declared.Rank.{Rank}
 use Rattle.language.specs.declared.Rank.TheVariants.{Expression, Primary}
 use Rattle.language.specs.Words.{tightness}
-use Rattle.language.specs.Words.{Operator, binds, powers, assigns, steps, no_operator, is}
+use Rattle.language.specs.Words.{Operator, binds, no_operator, is}
 use Rattle.language.specs.Pieces.{expr}
 use Rattle.language.specs.Derivation.{Spells, grouped}
 use Rattle.grammar.specs.Promises.{of_operator, of_sign, of_class, binding, IsReading, Stops}

@@ -24,9 +24,7 @@ use Rattle.grammar.proofs.Unplaced.{layout_same, count_same, height_same}
 use Rattle.grammar.proofs.ReadWords.{AllSpaces, IsClean, reading_text, Word, word_is, Before, before_same, Read, read, read_over, no_space, one_space, line_feed, name_stands, number_stands, open_stands, close_stands, comma_stands, semicolon_stands, operator_stands}
 use Rattle.grammar.specs.Sums.{is_integer, sum_operator}
 use Rattle.language.specs.declared.Start.TheVariants.{Any}
-use Rattle.std.specs.Prelude.{encode_utf8_all}
 use Rattle.std.specs.Str.{IsUtf8, IsAscii}
-use Rattle.std.proofs.Math.Utf8.{scalars}
 use Rattle.std.proofs.lemmas.Str.{IsUtf8-append, IsUtf8-nil, IsUtf8-from_ascii}
 use Rattle.grammar.proofs.Flat.{Sign, sum, difference, product, quotient, sign_of}
 

@@ -1,10 +1,10 @@
 -- Words in front of the rest of a text, read one after the other.
-use Rattle.std.proofs.Common.{◌≡◌, ◌≢◌, ℕ, zero, suc, ◌+◌, ◌<◌, ◌≤◌, Bool, true, false, not, ◌&&◌, ◌||◌, List, [], ◌∷◌, ◌++◌, length, take, drop, refl, sym, ap, ◌∙◌, subst, arith, IsTrue, IsFalse, append_assoc, append-nil, length-append, length-drop, inl, inr, ◌⊎◌}
-use Rattle.std.specs.Prelude.{codes, encode_utf8_all, cond, ◌==◌, if◌then◌else◌}
+use Rattle.std.proofs.Common.{◌≡◌, ◌≢◌, ℕ, zero, suc, ◌+◌, ◌<◌, ◌≤◌, Bool, true, false, not, ◌&&◌, ◌||◌, List, [], ◌∷◌, ◌++◌, length, drop, refl, sym, ap, ◌∙◌, subst, arith, IsTrue, IsFalse, append_assoc, append-nil, length-append, length-drop, inl, inr, ◌⊎◌}
+use Rattle.std.specs.Prelude.{codes, encode_utf8_all, ◌==◌, if◌then◌else◌}
 use Rattle.std.specs.List.{list_all, list_any}
 use Rattle.std.specs.Str.{chars, IsUtf8, IsAscii}
-use Rattle.std.proofs.Math.Utf8.{scalars, scalar}
-use Rattle.std.proofs.lemmas.Str.{chars-encodes, chars-append, chars-IsAscii, IsUtf8-from_ascii, IsUtf8-append, chars-nil, chars_from_encodes, encodes-chars, scalars-chars, IsUtf8-drop, IsUtf8-nil, IsCharBoundary-from_drop, IsCharBoundary-from_take, encodes-append}
+use Rattle.std.proofs.Math.Utf8.{scalars}
+use Rattle.std.proofs.lemmas.Str.{chars-append, chars-IsAscii, IsUtf8-from_ascii, chars-nil, chars_from_encodes, encodes-chars, scalars-chars, IsUtf8-drop, IsUtf8-nil, IsCharBoundary-from_drop, IsCharBoundary-from_take}
 use Rattle.std.proofs.lemmas.List.{drop_at, take_at, drop-drop}
 use Rattle.std.proofs.lemmas.Bool.Decides.{nat_tests}
 use Rattle.std.proofs.lemmas.Bool.{eqb-true}
@@ -12,11 +12,11 @@ use Rattle.unicode_ident.specs.Ident.{is_xid_continue, is_xid_start}
 use Rattle.unicode_ident.proofs.IdentLemmas.{is_xid_continue-ascii, is_xid_start-ascii}
 use Rattle.source_text.specs.Lines.{is_line_terminator}
 use Rattle.tokens.specs.Alphabet.{one_of, is_among, is_white_space, begins_with, is_identifier_start, is_identifier_part, is_decimal_digit}
-use Rattle.tokens.specs.Numbers.{Numeral, unread, nought, integer, leading_point, point, fraction, exponent_mark, exponent_sign, exponent, prefix, digits, binary, octal, hexadecimal, suffix, no_numeral, next_numeral, numeral_behind, is_complete}
+use Rattle.tokens.specs.Numbers.{Numeral, unread, prefix, digits, binary, octal, hexadecimal, no_numeral, next_numeral, numeral_behind, is_complete}
 use Rattle.tokens.specs.Comments.{begins_comment, Separators, nothing, blank}
 use Rattle.tokens.specs.declared.token.Class.{Class as LexicalClass}
-use Rattle.tokens.specs.declared.token.Class.TheVariants.{Name, Punctuator, Number, Text, Template, RegExp, End}
-use Rattle.tokens.specs.Lexical.{is_of, is_at, none_longer, ends_well, is_token, is_punctuator, may_stand}
+use Rattle.tokens.specs.declared.token.Class.TheVariants.{Name, Punctuator, Number, Text, Template, End}
+use Rattle.tokens.specs.Lexical.{is_of, is_at, none_longer, is_token, may_stand}
 use Rattle.tokens.specs.declared.token.Goal.TheVariants.{Div}
 use Rattle.tokens.specs.Goals.{allows}
 use Rattle.tokens.specs.Tokens.{IsTokenAt, size}
@@ -28,7 +28,8 @@ use Rattle.tokens.proofs.Names.{all_stop}
 use Rattle.tokens.proofs.Longest.{none_is_longer}
 use Rattle.tokens.proofs.Passing.{size_append, size_one}
 use Rattle.tokens.proofs.Beginnings.{true_false}
-use Rattle.std.specs.Char.{is_ascii_alphabetic, is_ascii_alphanumeric, len_utf8}
+use Rattle.tokens.proofs.Wellformed.{both_scalars}
+use Rattle.std.specs.Char.{is_ascii_alphabetic, is_ascii_alphanumeric}
 use Rattle.std.proofs.lemmas.Str.{len_utf8_bounds}
 use Rattle.language.specs.declared.Rank.{Rank}
 use Rattle.language.specs.Words.{binds}
@@ -37,7 +38,7 @@ use Rattle.language.specs.Derivation.{Reads}
 use Rattle.grammar.specs.Sums.{sum_operator}
 use Rattle.grammar.specs.Promises.{IsReading}
 use Rattle.grammar.specs.Limits.{ReadsAt, Next, next, itself}
-use Rattle.grammar.proofs.Flat.{both_true, Sign, sum, difference, product, quotient, sign_of}
+use Rattle.grammar.proofs.Flat.{Sign, sum, difference, product, quotient, sign_of}
 
 -- at most one token is read at a place
 pub reads_same : {text : List ℕ} {at : ℕ} {a b : Token} → ReadsAt text at a → ReadsAt text at b → a ≡ b
@@ -54,13 +55,6 @@ pub reading_text : (text : List ℕ) → IsReading Token (Next text) itself
 reading_text text = record { same = λ s a b e f h k. next_same text s a b e f h k; last = last_read text }
 
 -- what a token that is read is made of
-
-both_scalars : (xs ys : List ℕ) → scalars (xs ++ ys) ≡ true → (scalars xs ≡ true) × (scalars ys ≡ true)
-both_scalars [] ys h = (refl, h)
-both_scalars (x ∷ xs) ys h =
-    let u = both_true (scalar x) (scalars (xs ++ ys)) h in
-    let v = both_scalars xs ys u.1 in
-    (ap (λ b. b && scalars xs) u.0 ∙ v.0, v.1)
 
 empty_end : (class : LexicalClass) → IsTrue (is_of class []) → class ≡ End
 empty_end End h = refl

@@ -1,7 +1,6 @@
 -- Where an operator binds nothing, its node stands at Primary.
-use Rattle.std.proofs.Common.{◌≡◌, ℕ, List, refl, sym, ap, ◌∙◌, true, false}
-use Rattle.std.specs.Prelude.{Option, Some, None}
-use Rattle.tree.specs.declared.kind.Kind.{Kind}
+use Rattle.std.proofs.Common.{◌≡◌, ℕ, List, refl, ap, ◌∙◌}
+use Rattle.std.specs.Prelude.{None}
 use Rattle.tree.specs.declared.kind.Kind.TheVariants.{BinaryExpression}
 use Rattle.tree.specs.Tree.{Tree, node, kind_of, text_of}
 use Rattle.language.specs.declared.Rank.TheVariants.{Primary}

@@ -1,9 +1,9 @@
 -- A token that begins with neither `/` nor `}` is read by every goal, and where one that does is read, the goal Div reads one too.
-use Rattle.std.proofs.Common.{◌≡◌, ◌≢◌, ℕ, ◌+◌, ◌<◌, ◌≤◌, Bool, true, false, not, ◌&&◌, ◌||◌, ◌==◌, List, [], ◌∷◌, ◌++◌, length, drop, IsTrue, IsFalse, refl, sym, ap, ◌∙◌, subst, append_assoc, arith, inl, inr, ◌⊎◌}
+use Rattle.std.proofs.Common.{◌≡◌, ◌≢◌, ℕ, ◌+◌, ◌<◌, ◌≤◌, Bool, true, false, not, ◌&&◌, ◌||◌, ◌==◌, List, [], ◌∷◌, ◌++◌, length, IsTrue, IsFalse, refl, sym, ap, ◌∙◌, subst, append_assoc, arith, inl, inr, ◌⊎◌}
 use Rattle.std.specs.Prelude.{encode_utf8_all, nat_eq, slice_index_or, codes, if◌then◌else◌}
 use Rattle.std.specs.Str.{IsUtf8, bytes_eq}
-use Rattle.std.proofs.Math.Utf8.{scalars, scalar}
-use Rattle.std.proofs.lemmas.Str.{chars_from_encodes, encode_ascii, scalars-chars, IsUtf8-drop, IsCharBoundary-start, len_utf8_bounds}
+use Rattle.std.proofs.Math.Utf8.{scalars}
+use Rattle.std.proofs.lemmas.Str.{chars_from_encodes, encode_ascii, IsCharBoundary-start, len_utf8_bounds}
 use Rattle.std.proofs.lemmas.Bool.{cases_lt, eqb-true}
 use Rattle.std.proofs.lemmas.Bool.Decides.{nat_tests}
 use Rattle.source_text.specs.Source.{IsPlace}
@@ -22,25 +22,8 @@ use Rattle.tokens.proofs.Classes.{token_is}
 use Rattle.tokens.proofs.Determined.{determined}
 use Rattle.tokens.proofs.Longest.{none_is_longer}
 use Rattle.tokens.proofs.Passing.{size_one, size_append, pass_ascii}
+use Rattle.tokens.proofs.Wellformed.{word_scalars}
 use Rattle.token_cursor.specs.Point.{depends, IsAhead}
-
-both_scalars : (xs ys : List ℕ) → scalars (xs ++ ys) ≡ true → (scalars xs ≡ true) × (scalars ys ≡ true)
-both_scalars [] ys h = (refl, h)
-both_scalars (x ∷ xs) ys h =
-    let u = parts (scalar x) (scalars (xs ++ ys)) h in
-    let v = both_scalars xs ys u.1 in
-    (ap (λ b. b && scalars xs) u.0 ∙ v.0, v.1)
-  where
-    parts : (a b : Bool) → (a && b) ≡ true → (a ≡ true) × (b ≡ true)
-    parts true b e = (refl, e)
-    parts false b e = cc
-
--- the characters of a token's text
-word_scalars : (text : List ℕ) (goal : Goal) (at : ℕ) (t : LexicalToken) → IsUtf8 text → IsPlace text at → (h : Reads text goal at t) → scalars h.word ≡ true
-word_scalars text goal at t u p h =
-    let whole = scalars-chars (drop at text) (IsUtf8-drop text at u p) in
-    let front = (both_scalars (h.gap ++ h.word) (behind text t.stop) (ap scalars (sym h.split) ∙ whole)).0 in
-    (both_scalars h.gap h.word front).1
 
 -- the first byte of a text is its first character where either is an ASCII one
 low_first : (c : ℕ) (cs : List ℕ) → c < 128 → slice_index_or (encode_utf8_all (c ∷ cs)) 0 0 ≡ c

@@ -13,6 +13,7 @@ pub mod Parts
 pub mod Escaping
 pub mod Stringing
 pub mod Valued
+pub mod Wellformed
 pub mod Punctuators
 pub mod Scanning
 pub mod Bounds
