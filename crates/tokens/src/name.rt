@@ -1,20 +1,38 @@
 //! Names (ECMA-262 11.6.1).
 
-ghost use Rattle.std.specs.Prelude.{◌≡◌, IfSome, IfNone};
+ghost use Rattle.std.specs.Prelude.{◌≡◌, ◌||◌, IfSome, IfNone};
+ghost use Rattle.std.specs.Char.{is_ascii_alphabetic, is_ascii_alphanumeric};
 ghost use Rattle.source_text.specs.Source.{IsPlace};
-ghost use Rattle.tokens.specs.Alphabet.{is_identifier_start, is_identifier_part};
+ghost use Rattle.tokens.specs.Alphabet.{is_identifier_start, is_identifier_part, one_of};
 ghost use Rattle.tokens.specs.Scanned.{IsRun, IsWordAt, NoWordAt};
 
 use crate::Class;
 use crate::step::step_at;
 use unicode_ident::{is_xid_continue, is_xid_start};
 
+#[inline]
+fn is_ascii_start(c: char) -> bool
+    ensures { result ≡ (one_of "$_" c || is_ascii_alphabetic c) }
+{
+    matches!(c, 'a'..='z' | 'A'..='Z' | '$' | '_')
+}
+
+#[inline]
+fn is_ascii_part(c: char) -> bool
+    ensures { result ≡ (one_of "$_" c || is_ascii_alphanumeric c) }
+{
+    matches!(c, 'a'..='z' | 'A'..='Z' | '0'..='9' | '$' | '_')
+}
+
 // IdentifierStart, without escapes.
 #[inline]
 pub fn is_start(c: char) -> bool
     ensures { result ≡ is_identifier_start c }
 {
-    c == '$' || c == '_' || is_xid_start(c)
+    if c.is_ascii() {
+        return is_ascii_start(c);
+    }
+    is_xid_start(c)
 }
 
 // IdentifierPart, without escapes.
@@ -22,7 +40,10 @@ pub fn is_start(c: char) -> bool
 pub fn is_part(c: char) -> bool
     ensures { result ≡ is_identifier_part c }
 {
-    c == '$' || is_xid_continue(c) || c == '\u{200C}' || c == '\u{200D}'
+    if c.is_ascii() {
+        return is_ascii_part(c);
+    }
+    is_xid_continue(c) || c == '\u{200C}' || c == '\u{200D}'
 }
 
 // The place behind the name at a place, if there is one.

@@ -1,5 +1,6 @@
-use Rattle.std.proofs.Common.{◌≡◌, Bool, not, ◌&&◌, ◌==◌, sym, ap, ◌∙◌}
-use Rattle.tokens.proofs.Punctuators.{Four, found_four, found_three, found_two, found_one, found_none, digit_is}
+use Rattle.std.proofs.Common.{◌≡◌, Bool, true, false, not, ◌&&◌, ◌==◌, sym, ap, ◌∙◌, arith}
+use Rattle.std.proofs.lemmas.Bool.Decides.{nat_tests}
+use Rattle.tokens.proofs.Punctuators.{Four, found_four, found_three, found_two, found_one, found_none, found_alone, found_plain, digit_is}
 use Rattle.tokens.proofs.punctuator.punctuator_end.Goals as goal
 use Rattle.tokens.proofs.punctuator.punctuator_end.Goals.{After-look-e}
 
@@ -8,6 +9,17 @@ seen c = record { one = c.look-b.ensures; two = c.look-c.ensures; three = c.look
 
 same_pair : (p q k x y : Bool) → p ≡ q → x ≡ y → (p && not (k && x)) ≡ (q && not (k && y))
 same_pair p q k x y e f = ap (λ a. a && not (k && x)) e ∙ ap (λ b. q && not (k && b)) f
+
+pub returns-then-is_alone-clause-some : goal.returns-then-is_alone-clause-some
+returns-then-is_alone-clause-some c = found_alone c.args.text.now c.args.at c.look-b.result.c c.look-b.result.end c.utf8.text c.look-b.ensures (sym c.is_alone.ensures ∙ c.if-is_alone.true)
+
+pub returns-then-is_single-goes_on-clause-some : goal.returns-then-is_single-goes_on-clause-some
+returns-then-is_single-goes_on-clause-some c =
+    let h = split c.is_single.result c.goes_on.result c.if-is_single-goes_on.true in
+    found_plain c.args.text.now c.args.at c.look-b.result.c c.look-c.result.c c.look-b.result.end c.look-c.result.end c.utf8.text c.look-b.ensures c.look-c.ensures
+    (sym c.is_single.ensures ∙ h.0) (sym c.goes_on.ensures ∙ h.1) where
+      split : (a b : Bool) → (a && not b) ≡ true → (a ≡ true) × (b ≡ false)
+      split a b h = (grind (arith, nat_tests), grind (arith, nat_tests))
 
 pub returns-then-is_quadruple-clause-some : goal.returns-then-is_quadruple-clause-some
 returns-then-is_quadruple-clause-some c =
@@ -26,10 +38,10 @@ pub returns-then-is_single-b-clause-some : goal.returns-then-is_single-b-clause-
 returns-then-is_single-b-clause-some c =
     found_one _ _ _ _ _ _ _ _ _ _ (seen (goal.at.returns-then-is_single-b-clause-some c).After-look-e) (sym c.is_quadruple.ensures ∙ c.if-is_quadruple.false) (sym c.is_triple.ensures ∙ c.if-is_triple.false)
     (sym (same_pair _ _ ((c.look-b.result.c == 63) && (c.look-c.result.c == 46)) _ _ c.is_pair.ensures (c.is_ascii_digit.ensures.value ∙ digit_is c.look-d.result.c)) ∙ c.if-is_pair-chains.false)
-    (sym (same_pair _ _ (c.look-b.result.c == 46) _ _ c.is_single.ensures (c.is_ascii_digit-2.ensures.value ∙ digit_is c.look-c.result.c)) ∙ c.if-is_single-b.true)
+    (sym (same_pair _ _ (c.look-b.result.c == 46) _ _ c.is_single-2.ensures (c.is_ascii_digit-2.ensures.value ∙ digit_is c.look-c.result.c)) ∙ c.if-is_single-b.true)
 
 pub returns-clause-none : goal.returns-clause-none
 returns-clause-none c =
     found_none _ _ _ _ _ _ _ _ _ _ (seen (goal.at.returns-clause-none c).After-look-e) (sym c.is_quadruple.ensures ∙ c.if-is_quadruple.false) (sym c.is_triple.ensures ∙ c.if-is_triple.false)
     (sym (same_pair _ _ ((c.look-b.result.c == 63) && (c.look-c.result.c == 46)) _ _ c.is_pair.ensures (c.is_ascii_digit.ensures.value ∙ digit_is c.look-d.result.c)) ∙ c.if-is_pair-chains.false)
-    (sym (same_pair _ _ (c.look-b.result.c == 46) _ _ c.is_single.ensures (c.is_ascii_digit-2.ensures.value ∙ digit_is c.look-c.result.c)) ∙ c.if-is_single-b.false)
+    (sym (same_pair _ _ (c.look-b.result.c == 46) _ _ c.is_single-2.ensures (c.is_ascii_digit-2.ensures.value ∙ digit_is c.look-c.result.c)) ∙ c.if-is_single-b.false)
