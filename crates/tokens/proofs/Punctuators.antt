@@ -13,13 +13,13 @@ use Rattle.tokens.specs.Lexical.{Punctuator, punctuators, is_punctuator, may_sta
 use Rattle.tokens.specs.Marks.{alone, front, goes_on, tail, is_single, firsts, is_pair, firsts_of_three, is_triple, is_quadruple}
 use Rattle.tokens.specs.Tokens.{size}
 use Rattle.tokens.specs.Reading.{behind}
-use Rattle.tokens.specs.Scanned.{IsWordAt, NoWordAt, Looks}
+use Rattle.tokens.specs.Scanned.{IsWordAt, NoWordAt, Looks, Passed}
 use Rattle.source_text.specs.Source.{IsPlace}
 use Rattle.tokens.proofs.Beginnings.{true_false}
 use Rattle.tokens.proofs.Longest.{none_is_longer}
 use Rattle.tokens.proofs.Classes.{words_all}
 use Rattle.tokens.proofs.Determined.{from_list}
-use Rattle.tokens.proofs.Passing.{size_append, size_one, pass_char}
+use Rattle.tokens.proofs.Passing.{size_append, pass_char}
 
 -- a test and its converse
 same_tests : (a b : Bool) → (IsTrue a → IsTrue b) → (IsTrue b → IsTrue a) → a ≡ b
@@ -384,6 +384,16 @@ record Seen (text : List ℕ) (at : ℕ) : Type 0 where
   stop : ℕ
   looks : Looks text at c stop
 
+-- a step is a look
+pub first_look : (text : List ℕ) (at stop c : ℕ) → Passed text at stop (c ∷ []) → Looks text at c stop
+first_look text at stop c p =
+    record {
+      first = sym (ap front p.split);
+      others = sym (ap tail p.split);
+      reaches = p.reaches ∙ ap (λ x. at + size (take 1 x)) (sym p.split);
+      place = p.place;
+    }
+
 -- at each place there is something to look at
 seen_at : (text : List ℕ) (at : ℕ) → IsUtf8 text → IsPlace text at → Seen text at
 seen_at text at u p = by_front (behind text at) refl where
@@ -393,17 +403,7 @@ seen_at text at u p = by_front (behind text at) refl where
     stays = omega arith
   by_front (c ∷ cs) e =
       let w = pass_char text (encode_utf8_all cs) at c u p (sym (encodes-chars (drop at text) (IsUtf8-drop text at u p)) ∙ ap encode_utf8_all e) in
-      let n = size_one c in
-      record {
-        c = c;
-        stop = at + len_utf8 c;
-        looks = record {
-          first = sym (ap front e);
-          others = sym (ap tail w.split);
-          reaches = ap (λ x. at + x) (sym n) ∙ ap (λ x. at + size (take 1 x)) (sym e);
-          place = w.place;
-        };
-      }
+      record { c = c; stop = at + len_utf8 c; looks = first_look text at (at + len_utf8 c) c w }
 
 if_false : (t : Bool) (x y : List ℕ) → t ≡ false → (if t then x else y) ≡ y
 if_false true x y e = absurd (true_false _ refl e)

@@ -1,13 +1,13 @@
 //! Names (ECMA-262 11.6.1).
 
-ghost use Rattle.std.specs.Prelude.{◌≡◌, ◌||◌, IfSome, IfNone};
+ghost use Rattle.std.specs.Prelude.{◌≡◌, ◌||◌, [], ◌∷◌, ℕ, IfSome, IfNone};
 ghost use Rattle.std.specs.Char.{is_ascii_alphabetic, is_ascii_alphanumeric};
 ghost use Rattle.source_text.specs.Source.{IsPlace};
 ghost use Rattle.tokens.specs.Alphabet.{is_identifier_start, is_identifier_part, one_of};
-ghost use Rattle.tokens.specs.Scanned.{IsRun, IsWordAt, NoWordAt};
+ghost use Rattle.tokens.specs.Scanned.{IsRun, IsWordAt, NoWordAt, Passed};
 
 use crate::Class;
-use crate::step::step_at;
+use crate::step::{Step, step_at};
 use unicode_ident::{is_xid_continue, is_xid_start};
 
 #[inline]
@@ -46,15 +46,13 @@ pub fn is_part(c: char) -> bool
     is_xid_continue(c) || c == '\u{200C}' || c == '\u{200D}'
 }
 
-// The place behind the name at a place, if there is one.
-pub fn name_end(text: &str, at: usize) -> Option<usize>
-    requires { IsPlace text.now at }
-    ensures some { IfSome result (λ e. IsWordAt Class.Name text.now at e) }
-    ensures none { IfNone result (NoWordAt Class.Name text.now at) }
+// The place behind the name that begins with a step, if there is one.
+#[inline]
+pub fn name_end(text: &str, first: Step) -> Option<usize>
+    requires { IsPlace text.now first.end }
+    ensures some { (at : ℕ) → Passed text.now at first.end (first.c ∷ []) → IfSome result (λ e. IsWordAt Class.Name text.now at e) }
+    ensures none { (at : ℕ) → Passed text.now at first.end (first.c ∷ []) → IfNone result (NoWordAt Class.Name text.now at) }
 {
-    let Some(first) = step_at(text, at) else {
-        return None;
-    };
     if is_start(first.c) {
         return Some(parts_end(text, first.end));
     }
