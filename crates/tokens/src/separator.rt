@@ -96,6 +96,15 @@ fn is_solid(text: &str, at: usize) -> bool
     }
 }
 
+// Whether no separator begins with a character of ASCII.
+#[inline]
+fn separates_none(c: char) -> bool
+    requires { c < 128 }
+    ensures { result ≡ not (one_of "/" c || is_white_space c || is_line_terminator c) }
+{
+    !matches!(c, '/' | ' ' | '\t'..='\r')
+}
+
 // A white space, a line terminator or a comment.
 #[inline]
 fn separator(text: &str, at: usize) -> Option<Gap>
@@ -108,15 +117,6 @@ fn separator(text: &str, at: usize) -> Option<Gap>
         return None;
     }
     any_separator(text, at)
-}
-
-// Whether no separator begins with a character of ASCII.
-#[inline]
-fn separates_none(c: char) -> bool
-    requires { c < 128 }
-    ensures { result ≡ not (one_of "/" c || is_white_space c || is_line_terminator c) }
-{
-    !matches!(c, '/' | ' ' | '\t'..='\r')
 }
 
 // The same, whatever stands there.
