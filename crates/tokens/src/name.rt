@@ -1,6 +1,6 @@
 //! Names (ECMA-262 11.6.1).
 
-ghost use Rattle.std.specs.Prelude.{◌≡◌, ◌||◌, [], ◌∷◌, ℕ, IfSome, IfNone};
+ghost use Rattle.std.specs.Prelude.{◌≡◌, ◌<◌, ◌||◌, [], ◌∷◌, ℕ, IfSome, IfNone};
 ghost use Rattle.std.specs.Char.{is_ascii_alphabetic, is_ascii_alphanumeric};
 ghost use Rattle.source_text.specs.Source.{IsPlace};
 ghost use Rattle.tokens.specs.Alphabet.{is_identifier_start, is_identifier_part, one_of};
@@ -9,6 +9,9 @@ ghost use Rattle.tokens.specs.Scanned.{IsRun, IsWordAt, NoWordAt, Passed};
 use crate::Class;
 use crate::step::{Step, step_at};
 use unicode_ident::{is_xid_continue, is_xid_start};
+
+// The IdentifierPart characters of ASCII, a bit for each: `$`, the digits, the letters and `_`.
+const PARTS: [u64; 2] = [0x03FF_0010_0000_0000, 0x07FF_FFFE_87FF_FFFE];
 
 #[inline]
 fn is_ascii_start(c: char) -> bool
@@ -19,9 +22,11 @@ fn is_ascii_start(c: char) -> bool
 
 #[inline]
 fn is_ascii_part(c: char) -> bool
+    requires { c < 128 }
     ensures { result ≡ (one_of "$_" c || is_ascii_alphanumeric c) }
 {
-    matches!(c, 'a'..='z' | 'A'..='Z' | '0'..='9' | '$' | '_')
+    let bits = PARTS[c as usize / 64];
+    (bits >> (c as u32 % 64)) & 1 == 1
 }
 
 // IdentifierStart, without escapes.
