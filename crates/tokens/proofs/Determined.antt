@@ -29,11 +29,11 @@ use Rattle.tokens.proofs.Classes.{is_special, words_all, token_is, number_begins
 -- ---- no token begins with a blank
 
 -- a test that all characters of a range pass
-abbrev all_from : (ℕ → Bool) → ℕ → ℕ → Bool
+abbrev pub all_from : (ℕ → Bool) → ℕ → ℕ → Bool
 all_from test low zero = true
 all_from test low (suc n) = test (low + n) && all_from test low n
 
-from_range : (test : ℕ → Bool) (low n c : ℕ) → IsTrue (all_from test low n) → low ≤ c → c < low + n → IsTrue (test c)
+pub from_range : (test : ℕ → Bool) (low n c : ℕ) → IsTrue (all_from test low n) → low ≤ c → c < low + n → IsTrue (test c)
 from_range test low zero c h k l = absurd (omega arith)
 from_range test low (suc n) c h k l = here (cases_lt c (low + n)) where
   first : (a b : Bool) → IsTrue (a && b) → IsTrue a

@@ -1,11 +1,14 @@
 -- What is passed from one place of a text to another, as characters.
-use Rattle.std.proofs.Common.{◌≡◌, ℕ, ◌+◌, ◌-◌, ◌<◌, ◌≤◌, List, [], ◌∷◌, ◌++◌, length, get_or, take, drop, refl, sym, ap, ◌∙◌, arith, append_assoc, append-nil, length-append}
+use Rattle.std.proofs.Common.{◌≡◌, ℕ, ◌+◌, ◌-◌, ◌<◌, ◌≤◌, List, [], ◌∷◌, ◌++◌, length, get_or, take, drop, refl, sym, ap, ◌∙◌, arith, append_assoc, append-nil, length-append, IsFalse, inl, inr}
 use Rattle.std.specs.Prelude.{slice_range, encode_utf8_all, Option, Some, None, IfSome, IfNone}
-use Rattle.std.specs.Char.{encode_utf8, len_utf8}
+use Rattle.std.specs.Char.{encode_utf8, len_utf8, is_ascii}
 use Rattle.std.specs.Str.{chars, IsUtf8}
 use Rattle.std.proofs.lemmas.Str.{encodes-append, encode_ascii, chars-nil, chars_past_char, encodes-chars, IsUtf8-drop, IsCharBoundary-after_ascii, IsCharBoundary-past_char, drop_past_char, length-encode, len_utf8_ascii, len_utf8_bounds}
+use Rattle.std.proofs.lemmas.Bool.{cases_lt}
+use Rattle.std.proofs.lemmas.Bool.Decides.{nat_tests}
 use Rattle.std.proofs.lemmas.List.{drop_more, take_at, drop_all}
 use Rattle.source_text.specs.Source.{IsPlace}
+use Rattle.tokens.specs.Alphabet.{begins_with}
 use Rattle.tokens.specs.Tokens.{size}
 use Rattle.tokens.specs.Reading.{behind}
 use Rattle.tokens.specs.Scanned.{Passed}
@@ -46,6 +49,26 @@ pass_ascii text at u p lt h =
       reaches = omega arith;
       place = IsCharBoundary-after_ascii text at u lt h;
     }
+
+-- where no ASCII character stands
+pub no_ascii_end : (text : List ℕ) (at : ℕ) → length text ≤ at → IsFalse (begins_with is_ascii (behind text at))
+no_ascii_end text at h = ap (begins_with is_ascii) (behind_end text at h)
+
+pub no_ascii_far : (text : List ℕ) (at : ℕ) → IsUtf8 text → IsPlace text at → at < length text → 128 ≤ get_or text at 0 → IsFalse (begins_with is_ascii (behind text at))
+no_ascii_far text at u p lt far = by_front (behind text at) refl where
+  large : (c : ℕ) → 128 ≤ c → IsFalse (is_ascii c)
+  large c h = grind (arith, nat_tests)
+
+  by_front : (cs : List ℕ) → behind text at ≡ cs → IsFalse (begins_with is_ascii cs)
+  by_front [] e = refl
+  by_front (c ∷ cs) e = elim (cases_lt c 128) [
+    | inl small ↦
+        let whole : drop at text ≡ encode_utf8 c ++ encode_utf8_all cs = sym (encodes-chars (drop at text) (IsUtf8-drop text at u p)) ∙ ap encode_utf8_all e in
+        let front : get_or text at 0 ∷ drop (at + 1) text ≡ c ∷ encode_utf8_all cs = sym (drop_more text at 0 lt) ∙ whole ∙ ap (λ x. x ++ encode_utf8_all cs) (encode_ascii c small) in
+        let q : get_or text at 0 ≡ c = cc in
+        absurd (omega arith)
+    | inr ge ↦ large c ge
+  ]
 
 -- over any character
 pub pass_char : (text rest : List ℕ) (at c : ℕ) → IsUtf8 text → IsPlace text at → drop at text ≡ encode_utf8 c ++ rest → Passed text at (at + len_utf8 c) (c ∷ [])

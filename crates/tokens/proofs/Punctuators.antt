@@ -1,22 +1,25 @@
 -- Punctuators by their length, and the longest.
 use Rattle.std.proofs.Common.{take-append-drop, ◌≡◌, ℕ, suc, zero, ◌+◌, ◌<◌, ◌≤◌, Bool, true, false, not, ◌&&◌, ◌||◌, ◌==◌, List, [], ◌∷◌, ◌++◌, length, take, drop, IsTrue, IsFalse, refl, sym, ap, ◌∙◌, subst, append_assoc, arith, inl, inr, if◌then◌else◌, codes}
-use Rattle.std.specs.Prelude.{nat_le}
+use Rattle.std.specs.Prelude.{nat_le, encode_utf8_all}
+use Rattle.std.specs.Str.{IsUtf8}
+use Rattle.std.specs.Char.{len_utf8}
+use Rattle.std.proofs.lemmas.Str.{encodes-chars, IsUtf8-drop}
 use Rattle.std.specs.List.{list_all}
 use Rattle.std.specs.Char.{is_ascii_digit}
 use Rattle.std.proofs.lemmas.Bool.Decides.{nat_tests}
 use Rattle.std.proofs.lemmas.Bool.{cases_lt, eqb-true, leb-true}
-use Rattle.tokens.specs.Alphabet.{is_among, begins_with, is_decimal_digit}
+use Rattle.tokens.specs.Alphabet.{one_of, is_among, begins_with, is_decimal_digit}
 use Rattle.tokens.specs.Lexical.{Punctuator, punctuators, is_punctuator, may_stand, is_at, none_longer, is_token}
-use Rattle.tokens.specs.Marks.{front, tail, is_single, firsts, is_pair, firsts_of_three, is_triple, is_quadruple}
+use Rattle.tokens.specs.Marks.{alone, front, goes_on, tail, is_single, firsts, is_pair, firsts_of_three, is_triple, is_quadruple}
 use Rattle.tokens.specs.Tokens.{size}
 use Rattle.tokens.specs.Reading.{behind}
-use Rattle.tokens.specs.Scanned.{IsWordAt, NoWordAt, Looks}
+use Rattle.tokens.specs.Scanned.{IsWordAt, NoWordAt, Looks, Passed}
 use Rattle.source_text.specs.Source.{IsPlace}
 use Rattle.tokens.proofs.Beginnings.{true_false}
 use Rattle.tokens.proofs.Longest.{none_is_longer}
 use Rattle.tokens.proofs.Classes.{words_all}
 use Rattle.tokens.proofs.Determined.{from_list}
-use Rattle.tokens.proofs.Passing.{size_append}
+use Rattle.tokens.proofs.Passing.{size_append, pass_char}
 
 -- a test and its converse
 same_tests : (a b : Bool) → (IsTrue a → IsTrue b) → (IsTrue b → IsTrue a) → a ≡ b
@@ -373,3 +376,124 @@ found_none text at b c d e p q r s f u v w t = λ word rest same h.
 
 pub digit_is : (c : ℕ) → is_ascii_digit c ≡ is_decimal_digit c
 digit_is c = grind (arith, nat_tests)
+
+-- ---- without looking further than is needed
+
+record Seen (text : List ℕ) (at : ℕ) : Type 0 where
+  c : ℕ
+  stop : ℕ
+  looks : Looks text at c stop
+
+-- a step is a look
+pub first_look : (text : List ℕ) (at stop c : ℕ) → Passed text at stop (c ∷ []) → Looks text at c stop
+first_look text at stop c p =
+    record {
+      first = sym (ap front p.split);
+      others = sym (ap tail p.split);
+      reaches = p.reaches ∙ ap (λ x. at + size (take 1 x)) (sym p.split);
+      place = p.place;
+    }
+
+-- at each place there is something to look at
+seen_at : (text : List ℕ) (at : ℕ) → IsUtf8 text → IsPlace text at → Seen text at
+seen_at text at u p = by_front (behind text at) refl where
+  by_front : (cs : List ℕ) → behind text at ≡ cs → Seen text at
+  by_front [] e = record { c = 0; stop = at; looks = record { first = sym (ap front e); others = e ∙ sym (ap tail e); reaches = stays ∙ ap (λ x. at + size (take 1 x)) (sym e); place = p } } where
+    stays : at ≡ at + size []
+    stays = omega arith
+  by_front (c ∷ cs) e =
+      let w = pass_char text (encode_utf8_all cs) at c u p (sym (encodes-chars (drop at text) (IsUtf8-drop text at u p)) ∙ ap encode_utf8_all e) in
+      record { c = c; stop = at + len_utf8 c; looks = first_look text at (at + len_utf8 c) c w }
+
+if_false : (t : Bool) (x y : List ℕ) → t ≡ false → (if t then x else y) ≡ y
+if_false true x y e = absurd (true_false _ refl e)
+if_false false x y e = refl
+
+if_none : (t : Bool) (x y : List ℕ) → x ≡ [] → y ≡ [] → (if t then x else y) ≡ []
+if_none true x y e f = e
+if_none false x y e f = f
+
+and_false : (a b : Bool) → a ≡ false → (a && b) ≡ false
+and_false a b e = ap (λ x. x && b) e
+
+-- a character that passes a test that another doesn't pass isn't that one
+other : (test : ℕ → Bool) (c k : ℕ) → test c ≡ false → IsTrue (test k) → (c == k) ≡ false
+other test c k e h = by_test (c == k) refl where
+  by_test : (t : Bool) → (c == k) ≡ t → t ≡ false
+  by_test true q = absurd (true_false (test k) h (subst (λ x. test x ≡ false) (eqb-true c k q) e))
+  by_test false q = refl
+
+-- ---- a character with which no longer punctuator begins
+
+apart : (b : ℕ) (xs : List ℕ) → IsTrue (is_among b alone) → IsTrue (list_all (λ x. not (is_among x xs)) alone) → is_among b xs ≡ false
+apart b xs h k = no (is_among b xs) (from_list (λ x. not (is_among x xs)) alone b k h) where
+  no : (a : Bool) → IsTrue (not a) → a ≡ false
+  no true h = absurd (true_false _ h refl)
+  no false h = refl
+
+apart_if : (t : Bool) (b : ℕ) (xs ys : List ℕ) → is_among b xs ≡ false → is_among b ys ≡ false → is_among b (if t then xs else ys) ≡ false
+apart_if true b xs ys e f = e
+apart_if false b xs ys e f = f
+
+alone_pair : (b c : ℕ) → IsTrue (is_among b alone) → is_pair b c ≡ false
+alone_pair b c h =
+    apart_if (c == 61) b _ _ (apart b (codes "<>=!+-*%&|^/") h refl) (apart_if (c == 62) b _ _ (apart b (codes "=>") h refl) (apart_if (c == 46) b _ _ (apart b (codes "?") h refl)
+    (apart_if (c == 43) b _ _ (apart b (codes "+") h refl) (apart_if (c == 45) b _ _ (apart b (codes "-") h refl) (apart_if (c == 42) b _ _ (apart b (codes "*") h refl)
+    (apart_if (c == 60) b _ _ (apart b (codes "<") h refl) (apart_if (c == 38) b _ _ (apart b (codes "&") h refl) (apart_if (c == 124) b _ _ (apart b (codes "|") h refl)
+    (apart_if (c == 63) b _ _ (apart b (codes "?") h refl) refl)))))))))
+
+alone_triple : (b c d : ℕ) → IsTrue (is_among b alone) → is_triple b c d ≡ false
+alone_triple b c d h =
+    apart_if (d == 61) b _ _ (apart_if (c == 61) b _ _ (apart b (codes "=!") h refl) (apart_if (c == 42) b _ _ (apart b (codes "*") h refl) (apart_if (c == 60) b _ _ (apart b (codes "<") h refl)
+    (apart_if (c == 62) b _ _ (apart b (codes ">") h refl) refl))))
+    (apart_if (d == 46) b _ _ (apart_if (c == 46) b _ _ (apart b (codes ".") h refl) refl) (apart_if (d == 62) b _ _ (apart_if (c == 62) b _ _ (apart b (codes ">") h refl) refl) refl))
+
+alone_no : (b k : ℕ) → IsTrue (is_among b alone) → IsTrue (list_all (λ x. not (x == k)) alone) → (b == k) ≡ false
+alone_no b k h l = no (b == k) (from_list (λ x. not (x == k)) alone b l h) where
+  no : (a : Bool) → IsTrue (not a) → a ≡ false
+  no true h = absurd (true_false _ h refl)
+  no false h = refl
+
+pub found_alone : (text : List ℕ) (at b p : ℕ) → IsUtf8 text → Looks text at b p → is_among b alone ≡ true → IsWordAt Punctuator text at p
+found_alone text at b p u f h =
+    let two = seen_at text p u f.place in
+    let three = seen_at text two.stop u two.looks.place in
+    let four = seen_at text three.stop u three.looks.place in
+    found_one text at b two.c three.c four.c p two.stop three.stop four.stop (record { one = f; two = two.looks; three = three.looks; four = four.looks })
+    (quad (b == 62) (two.c == 62) ((three.c == 62) && (four.c == 61)) (alone_no b 62 h refl)) (alone_triple b two.c three.c h) (and_false (is_pair b two.c) _ (alone_pair b two.c h))
+    (single (is_single b) (b == 46) (is_decimal_digit two.c) (from_list is_single alone b refl h) (alone_no b 46 h refl)) where
+      quad : (x y z : Bool) → x ≡ false → ((x && y) && z) ≡ false
+      quad x y z e = grind (arith, nat_tests)
+
+      single : (x y z : Bool) → IsTrue x → y ≡ false → (x && not (y && z)) ≡ true
+      single x y z h e = grind (arith, nat_tests)
+
+-- ---- a character that none follows with which a longer one goes on
+
+stops_pair : (b c : ℕ) → goes_on c ≡ false → is_pair b c ≡ false
+stops_pair b c h =
+    let n : (k : ℕ) → IsTrue (goes_on k) → (c == k) ≡ false = λ k l. other goes_on c k h l in
+    ap (is_among b) (if_false (c == 61) _ _ (n 61 refl) ∙ if_false (c == 62) _ _ (n 62 refl) ∙ if_false (c == 46) _ _ (n 46 refl) ∙ if_false (c == 43) _ _ (n 43 refl) ∙ if_false (c == 45) _ _ (n 45 refl)
+    ∙ if_false (c == 42) _ _ (n 42 refl) ∙ if_false (c == 60) _ _ (n 60 refl) ∙ if_false (c == 38) _ _ (n 38 refl) ∙ if_false (c == 124) _ _ (n 124 refl) ∙ if_false (c == 63) _ _ (n 63 refl))
+
+stops_triple : (b c d : ℕ) → goes_on c ≡ false → is_triple b c d ≡ false
+stops_triple b c d h =
+    let n : (k : ℕ) → IsTrue (goes_on k) → (c == k) ≡ false = λ k l. other goes_on c k h l in
+    ap (is_among b) (if_none (d == 61) _ _ (if_false (c == 61) _ _ (n 61 refl) ∙ if_false (c == 42) _ _ (n 42 refl) ∙ if_false (c == 60) _ _ (n 60 refl) ∙ if_false (c == 62) _ _ (n 62 refl))
+    (if_none (d == 46) _ _ (if_false (c == 46) _ _ (n 46 refl)) (if_none (d == 62) _ _ (if_false (c == 62) _ _ (n 62 refl)) refl)))
+
+pub found_plain : (text : List ℕ) (at b c p q : ℕ) → IsUtf8 text → Looks text at b p → Looks text p c q → is_single b ≡ true → goes_on c ≡ false → IsWordAt Punctuator text at p
+found_plain text at b c p q u f g s h =
+    let three = seen_at text q u g.place in
+    let four = seen_at text three.stop u three.looks.place in
+    found_one text at b c three.c four.c p q three.stop four.stop (record { one = f; two = g; three = three.looks; four = four.looks })
+    (quad (b == 62) (c == 62) ((three.c == 62) && (four.c == 61)) (other goes_on c 62 h refl)) (stops_triple b c three.c h) (and_false (is_pair b c) _ (stops_pair b c h))
+    (single (is_single b) (b == 46) (is_decimal_digit c) s (digit (is_decimal_digit c) (one_of "=>.+-*<&|?" c) h)) where
+      quad : (x y z : Bool) → y ≡ false → ((x && y) && z) ≡ false
+      quad x y z e = grind (arith, nat_tests)
+
+      single : (x y z : Bool) → x ≡ true → z ≡ false → (x && not (y && z)) ≡ true
+      single x y z h e = grind (arith, nat_tests)
+
+      digit : (x y : Bool) → (x || y) ≡ false → x ≡ false
+      digit x y h = grind (arith, nat_tests)

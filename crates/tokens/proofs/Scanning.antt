@@ -40,11 +40,10 @@ class_at_point goal c cs d e = by_point (c == 46) refl e where
 pub end_word : (text : List ℕ) (at : ℕ) → IsPlace text at → behind text at ≡ [] → IsWordAt End text at at
 end_word text at p e = record { word = []; passed = passed_none text at p; longest = subst (λ x. IsTrue (is_token End [] x)) (sym e) refl }
 
--- the class is End at the end alone
-pub end_only : (goal : Goal) (cs : List ℕ) → class_of goal cs ≡ End → cs ≡ []
-end_only goal [] e = refl
-end_only goal (c ∷ cs) e =
-    absurd (never (is_decimal_digit c) (one_of "'\"" c) (one_of "`" c) (one_of "}" c) (one_of "/" c) (one_of "." c) (is_mark c) (reads_template_parts goal) (reads_regexps goal) (begins_with is_decimal_digit cs) e) where
+-- the class of no character is End
+pub class_not_end : (goal : Goal) (c : ℕ) (digit : Bool) → class_by goal c digit ≡ End → ⊥
+class_not_end goal c digit e =
+    never (is_decimal_digit c) (one_of "'\"" c) (one_of "`" c) (one_of "}" c) (one_of "/" c) (one_of "." c) (is_mark c) (reads_template_parts goal) (reads_regexps goal) digit e where
       pick : (t : Bool) (x y : LexicalClass) → (x ≡ End → ⊥) → (y ≡ End → ⊥) → (if t then x else y) ≡ End → ⊥
       pick true x y f g e = f e
       pick false x y f g e = g e

@@ -1,15 +1,15 @@
 -- Separators, step by step, and where they end.
-use Rattle.std.proofs.Common.{◌≡◌, ℕ, Bool, true, false, not, ◌&&◌, ◌||◌, List, [], ◌∷◌, ◌++◌, IsTrue, IsFalse, refl, sym, ap, ◌∙◌, subst, arith, append_assoc, append-nil, inl, inr, ◌⊎◌, if◌then◌else◌}
+use Rattle.std.proofs.Common.{◌≡◌, ℕ, ◌-◌, ◌<◌, length, Bool, true, false, not, ◌&&◌, ◌||◌, List, [], ◌∷◌, ◌++◌, IsTrue, IsFalse, refl, sym, ap, ◌∙◌, subst, arith, append_assoc, append-nil, inl, inr, ◌⊎◌, if◌then◌else◌}
 use Rattle.std.specs.List.{list_all, list_any}
 use Rattle.std.proofs.lemmas.Bool.Decides.{nat_tests}
 use Rattle.source_text.specs.Lines.{is_line_terminator}
 use Rattle.tokens.specs.Alphabet.{one_of, begins_with, is_empty, is_white_space}
 use Rattle.tokens.specs.Comments.{closes_comment, is_block_comment, is_comment, Separators, nothing, blank, comment}
-use Rattle.tokens.specs.Closing.{closes_from}
+use Rattle.tokens.specs.Closing.{closes_from, is_plain}
 use Rattle.tokens.specs.Reading.{behind}
 use Rattle.tokens.specs.Scanned.{Passed, AllPass, IsRun, IsBlockRest, NoBlockRest, IsCommentRest, NoCommentRest, IsSeparator, IsSolid, IsGap}
 use Rattle.source_text.specs.Source.{IsPlace}
-use Rattle.tokens.proofs.Passing.{passed_none, passed_on}
+use Rattle.tokens.proofs.Passing.{passed_none, passed_on, passed_ordered}
 use Rattle.tokens.proofs.Beginnings.{true_false}
 
 pub any_append : (test : ℕ → Bool) (v w : List ℕ) → list_any test (v ++ w) ≡ (list_any test v || list_any test w)
@@ -36,6 +36,31 @@ all_goes_on test text at stop more c h p t =
       one : (a : Bool) → IsTrue a → IsTrue (a && true)
       one true h = refl
       one false h = h
+
+pub all_weaker : (test weaker : ℕ → Bool) → ((c : ℕ) → IsTrue (test c) → IsTrue (weaker c)) → (w : List ℕ) → IsTrue (list_all test w) → IsTrue (list_all weaker w)
+all_weaker test weaker f [] h = refl
+all_weaker test weaker f (c ∷ w) h = both (test c) (list_all test w) (weaker c) (list_all weaker w) h (f c) (all_weaker test weaker f w) where
+  both : (a b d e : Bool) → IsTrue (a && b) → (IsTrue a → IsTrue d) → (IsTrue b → IsTrue e) → IsTrue (d && e)
+  both true b d e h f g = two d e (f refl) (g h) where
+    two : (d e : Bool) → IsTrue d → IsTrue e → IsTrue (d && e)
+    two d e h k = grind (arith, nat_tests)
+  both false b d e h f g = absurd (true_false _ h refl)
+
+-- where a place is passed, less is left
+pub all_shrinks : {test : ℕ → Bool} (text : List ℕ) (at stop more : ℕ) → at < stop → AllPass test text stop more → length text - more < length text - at
+all_shrinks text at stop more lt h = let o = passed_ordered text stop more h.word h.passed in let i = h.passed.place.0 in omega arith
+
+-- plain characters end no line
+pub plain_lines : (text : List ℕ) (at stop more : ℕ) → AllPass (λ c. not (is_line_terminator c)) text at stop → AllPass is_plain text stop more →
+    AllPass (λ c. not (is_line_terminator c)) text at more
+plain_lines text at stop more h p =
+    record {
+      word = h.word ++ p.word;
+      passed = passed_on text at stop more h.word p.word h.passed p.passed;
+      all = all_append (λ c. not (is_line_terminator c)) h.word p.word h.all (all_weaker is_plain (λ c. not (is_line_terminator c)) (λ c k. second (one_of "*" c) (is_line_terminator c) k) p.word p.all);
+    } where
+      second : (a b : Bool) → IsTrue (not (a || b)) → IsTrue (not b)
+      second a b h = grind (arith, nat_tests)
 
 pub run_stops : (test : ℕ → Bool) (text : List ℕ) (at stop more c : ℕ) → AllPass test text at stop → Passed text stop more (c ∷ []) → test c ≡ false → IsRun test text at stop
 run_stops test text at stop more c h p t =
@@ -107,6 +132,13 @@ closes_same c (d ∷ e ∷ cs) = ap (λ x. not (one_of "*" c && one_of "/" d) &&
   more true b = refl
   more false b = refl
 
+none_any : (test : ℕ → Bool) (w : List ℕ) → IsTrue (list_all (λ c. not (test c)) w) → list_any test w ≡ false
+none_any test [] h = refl
+none_any test (c ∷ w) h = step (test c) (list_all (λ d. not (test d)) w) (list_any test w) h (none_any test w) where
+  step : (a b d : Bool) → IsTrue (not a && b) → (IsTrue b → d ≡ false) → (a || d) ≡ false
+  step true b d h f = absurd (true_false _ h refl)
+  step false b d h f = f h
+
 -- ---- the turns of the loop over a comment's rest
 
 pub block_begins : (text : List ℕ) (at : ℕ) → IsPlace text at → InBlock text at at false false
@@ -129,6 +161,37 @@ block_goes_on text at stop more c broken starred h p t =
           ∙ ap (λ b. if b then is_empty m else closes_from (one_of "*" c) m) t;
       breaks = one_more broken is_line_terminator h.word c h.breaks;
     }
+
+-- over plain characters, unless `*` stands before them
+pub block_plain : (text : List ℕ) (at stop more : ℕ) (broken starred : Bool) → InBlock text at stop broken starred → AllPass is_plain text stop more →
+    (IsTrue starred → more ≡ stop) → InBlock text at more broken starred
+block_plain text at stop more broken true h p e = subst (λ n. InBlock text at n broken true) (sym (e refl)) h
+block_plain text at stop more broken false h p e =
+    record {
+      word = h.word ++ p.word;
+      passed = passed_on text at stop more h.word p.word h.passed p.passed;
+      unclosed = λ m. ap (closes_from false) (append_assoc h.word p.word m) ∙ h.unclosed (p.word ++ m) ∙ passes p.word m p.all;
+      breaks = h.breaks ∙ none_more (list_any is_line_terminator h.word) ∙ ap (λ x. list_any is_line_terminator h.word || x) (sym (none_any is_line_terminator p.word (all_weaker is_plain (λ c. not (is_line_terminator c)) (λ c k. second (one_of "*" c) (is_line_terminator c) k) p.word p.all)))
+          ∙ sym (any_append is_line_terminator h.word p.word);
+    } where
+      second : (a b : Bool) → IsTrue (not (a || b)) → IsTrue (not b)
+      second a b h = grind (arith, nat_tests)
+
+      none_more : (a : Bool) → a ≡ (a || false)
+      none_more true = refl
+      none_more false = refl
+
+      first : (a b d : Bool) → IsTrue (not (a || b) && d) → a ≡ false
+      first a b d h = grind (arith, nat_tests)
+
+      rest : (a b d : Bool) → IsTrue (not (a || b) && d) → IsTrue d
+      rest a b d h = grind (arith, nat_tests)
+
+      passes : (w m : List ℕ) → IsTrue (list_all is_plain w) → closes_from false (w ++ m) ≡ closes_from false m
+      passes [] m h = refl
+      passes (c ∷ w) m h =
+          ap (λ s. closes_from s (w ++ m)) (first (one_of "*" c) (is_line_terminator c) (list_all is_plain w) h)
+          ∙ passes w m (rest (one_of "*" c) (is_line_terminator c) (list_all is_plain w) h)
 
 -- over the `/` that closes it
 pub block_closes : (text : List ℕ) (at stop more c : ℕ) (broken starred : Bool) → InBlock text at stop broken starred → Passed text stop more (c ∷ []) →
@@ -166,13 +229,6 @@ empty_or_begins (c ∷ cs) h = twice (is_line_terminator c) h where
   twice : (a : Bool) → IsFalse (not a) → IsTrue a
   twice true h = refl
   twice false h = sym h
-
-none_any : (test : ℕ → Bool) (w : List ℕ) → IsTrue (list_all (λ c. not (test c)) w) → list_any test w ≡ false
-none_any test [] h = refl
-none_any test (c ∷ w) h = step (test c) (list_all (λ d. not (test d)) w) (list_any test w) h (none_any test w) where
-  step : (a b d : Bool) → IsTrue (not a && b) → (IsTrue b → d ≡ false) → (a || d) ≡ false
-  step true b d h f = absurd (true_false _ h refl)
-  step false b d h f = f h
 
 -- a comment up to the end of the line
 pub line_rest : (text : List ℕ) (at start stop : ℕ) → Passed text at start (0x2F ∷ []) → IsRun (λ c. not (is_line_terminator c)) text start stop →
@@ -264,6 +320,19 @@ blank_separator text at stop c p h = record { word = c ∷ []; passed = p; separ
   or_false true = refl
   or_false false = refl
 
+-- over a blank
+pub blank_goes_on : (text : List ℕ) (at stop more c : ℕ) (broken : Bool) → IsGap text at stop broken → Passed text stop more (c ∷ []) → IsTrue (is_blank c) →
+    IsGap text at more (broken || is_line_terminator c)
+blank_goes_on text at stop more c broken g p h = gap_goes_on text at stop more broken (is_line_terminator c) g (blank_separator text stop more c p h)
+
+-- separators behind separators
+pub gap_joins : (text : List ℕ) (at stop more : ℕ) (broken new : Bool) → IsGap text at stop broken → IsGap text stop more new → IsGap text at more (broken || new)
+gap_joins text at stop more broken new g s =
+    gap_goes_on text at stop more broken new g (record { word = s.gap; passed = s.passed; separated = s.separated; breaks = s.breaks })
+
+pub gap_shrinks : (text : List ℕ) (at stop more : ℕ) (broken : Bool) → at < stop → IsGap text stop more broken → length text - more < length text - at
+gap_shrinks text at stop more broken lt g = let o = passed_ordered text stop more g.gap g.passed in let i = g.passed.place.0 in omega arith
+
 pub comment_separator : (text : List ℕ) (at start stop : ℕ) (broken : Bool) → Passed text at start (0x2F ∷ []) → IsCommentRest text start stop broken →
     IsSeparator text at stop broken
 comment_separator text at start stop broken p r =
@@ -305,3 +374,12 @@ solid_other text at stop c p t s =
       no w r q h = let k = begins_slash w r h in slash k.0 (sym (ap (λ x. x ++ r) k.1) ∙ sym q) where
         slash : (v : List ℕ) → 0x2F ∷ v ++ r ≡ c ∷ behind text stop → ⊥
         slash v e = let q : c ≡ 0x2F = cc in true_false (one_of "/" c) (subst (λ x. IsTrue (one_of "/" x)) (sym q) refl) s
+
+-- what begins no separator, a character of ASCII
+pub solid_none : (text : List ℕ) (at stop c : ℕ) → Passed text at stop (c ∷ []) → not (one_of "/" c || is_white_space c || is_line_terminator c) ≡ true → IsSolid (behind text at)
+solid_none text at stop c p h = solid_other text at stop c p (blank (one_of "/" c) (is_white_space c) (is_line_terminator c) h) (slash (one_of "/" c) (is_white_space c) (is_line_terminator c) h) where
+  blank : (a b d : Bool) → not (a || b || d) ≡ true → (b || d) ≡ false
+  blank a b d h = grind (arith, nat_tests)
+
+  slash : (a b d : Bool) → not (a || b || d) ≡ true → a ≡ false
+  slash a b d h = grind (arith, nat_tests)

@@ -14,7 +14,7 @@ use Rattle.tokens.specs.declared.escape.Escaped.{Escaped as Found}
 use Rattle.tokens.specs.Alphabet.{one_of, is_empty, line_feed, carriage_return}
 use Rattle.tokens.specs.Escapes.{piece, more_of, join_units, units_behind, unescaped}
 use Rattle.tokens.specs.Strings.{closes_string, is_string, string_contents, string_units}
-use Rattle.tokens.specs.Templates.{line_end_turned, raw_behind, raw_value, cooked_value}
+use Rattle.tokens.specs.Templates.{IsSettled, line_end_turned, raw_behind, raw_value, cooked_value}
 use Rattle.tokens.specs.Escaped.{units_of, IsPieceAt}
 use Rattle.tokens.specs.Reading.{behind}
 use Rattle.tokens.specs.Scanned.{Passed}
@@ -269,3 +269,9 @@ raw_borrowed text u f = sym (ap encode_utf8_all (raw_same (chars text) f) ∙ en
 -- the units of the bytes of a raw value
 pub raw_units : (text bytes : List ℕ) → IsUtf8 bytes → bytes ≡ encode_utf8_all (raw_value (chars text)) → unescaped (chars bytes) ≡ cooked_value (chars text)
 raw_units text bytes u e = ap (λ x. units_behind 0 x) (sym (chars_from_encodes (raw_value (chars text)) bytes u (sym e)))
+
+-- handed in again, a raw value gives the same two
+pub settled : (text bytes : List ℕ) → IsUtf8 bytes → bytes ≡ encode_utf8_all (raw_value (chars text)) → IsSettled (chars text) (chars bytes)
+settled text bytes u e =
+    let q : raw_value (chars text) ≡ chars bytes = chars_from_encodes (raw_value (chars text)) bytes u (sym e) in
+    (sym (ap raw_value q) ∙ raw_again (chars text) ∙ q, sym (ap cooked_value q) ∙ cooked_again (chars text))

@@ -1,6 +1,6 @@
 -- Punctuators of one, two, three and four characters, by their last characters; `Punctuators` of `proofs` shows that they are those of `Lexical`.
-use Rattle.std.specs.Prelude.{ℕ, Bool, ◌&&◌, ◌==◌, List, [], ◌∷◌, if◌then◌else◌, codes}
-use Rattle.tokens.specs.Alphabet.{one_of, is_among}
+use Rattle.std.specs.Prelude.{ℕ, Bool, ◌&&◌, ◌||◌, ◌==◌, List, [], ◌∷◌, if◌then◌else◌, codes}
+use Rattle.tokens.specs.Alphabet.{one_of, is_among, is_decimal_digit}
 
 -- the next character, or 0 at the end
 abbrev pub front : List ℕ → ℕ
@@ -13,6 +13,14 @@ tail (c ∷ cs) = cs
 
 abbrev pub is_single : ℕ → Bool
 is_single b = one_of "{}()[];,:~.?<>+-*%&|^!=/" b
+
+-- the punctuators of one character that begin no other
+abbrev pub alone : List ℕ
+alone = codes "{}()[];,:~"
+
+-- a decimal digit, or what may stand second in a punctuator
+abbrev pub goes_on : ℕ → Bool
+goes_on c = is_decimal_digit c || one_of "=>.+-*<&|?" c
 
 -- what may stand before the second character
 abbrev pub firsts : ℕ → List ℕ

@@ -1,5 +1,5 @@
 -- Parts of templates (ECMA-262 11.8.6).
-use Rattle.std.specs.Prelude.{ℕ, Bool, true, false, ◌&&◌, ◌==◌, List, [], ◌∷◌, ◌++◌, drop, Option, if◌then◌else◌}
+use Rattle.std.specs.Prelude.{◌≡◌, ℕ, Bool, true, false, ◌&&◌, ◌==◌, List, [], ◌∷◌, ◌++◌, drop, Option, if◌then◌else◌}
 use Rattle.tokens.specs.Alphabet.{one_of, begins_with, is_empty, line_feed, carriage_return}
 use Rattle.tokens.specs.Escapes.{unescaped}
 
@@ -32,3 +32,7 @@ raw_value cs = raw_behind false cs
 -- TV (11.8.6.1), in units of UTF-16, of a part without its delimiters: none where an escape is bad
 abbrev pub cooked_value : List ℕ → Option (List ℕ)
 cooked_value cs = unescaped (raw_value cs)
+
+-- a text's raw value, handed in again, gives the same two: it is its own raw value, and has the text's cooked value
+abbrev pub IsSettled : List ℕ → List ℕ → Type 0
+IsSettled text raw = (raw_value raw ≡ raw) × (cooked_value raw ≡ cooked_value text)

@@ -1,20 +1,43 @@
 //! Names (ECMA-262 11.6.1).
 
-ghost use Rattle.std.specs.Prelude.{◌≡◌, IfSome, IfNone};
+ghost use Rattle.std.specs.Prelude.{◌≡◌, ◌<◌, ◌||◌, [], ◌∷◌, ℕ, IfSome, IfNone};
+ghost use Rattle.std.specs.Char.{is_ascii_alphabetic, is_ascii_alphanumeric};
 ghost use Rattle.source_text.specs.Source.{IsPlace};
-ghost use Rattle.tokens.specs.Alphabet.{is_identifier_start, is_identifier_part};
-ghost use Rattle.tokens.specs.Scanned.{IsRun, IsWordAt, NoWordAt};
+ghost use Rattle.tokens.specs.Alphabet.{is_identifier_start, is_identifier_part, one_of};
+ghost use Rattle.tokens.specs.Scanned.{IsRun, IsWordAt, NoWordAt, Passed};
 
 use crate::Class;
-use crate::step::step_at;
+use crate::step::{Step, step_at};
 use unicode_ident::{is_xid_continue, is_xid_start};
+
+// The IdentifierPart characters of ASCII, a bit for each: `$`, the digits, the letters and `_`.
+const PARTS: [u64; 2] = [0x03FF_0010_0000_0000, 0x07FF_FFFE_87FF_FFFE];
+
+#[inline]
+fn is_ascii_start(c: char) -> bool
+    ensures { result ≡ (one_of "$_" c || is_ascii_alphabetic c) }
+{
+    matches!(c, 'a'..='z' | 'A'..='Z' | '$' | '_')
+}
+
+#[inline]
+fn is_ascii_part(c: char) -> bool
+    requires { c < 128 }
+    ensures { result ≡ (one_of "$_" c || is_ascii_alphanumeric c) }
+{
+    let bits = PARTS[c as usize / 64];
+    (bits >> (c as u32 % 64)) & 1 == 1
+}
 
 // IdentifierStart, without escapes.
 #[inline]
 pub fn is_start(c: char) -> bool
     ensures { result ≡ is_identifier_start c }
 {
-    c == '$' || c == '_' || is_xid_start(c)
+    if c.is_ascii() {
+        return is_ascii_start(c);
+    }
+    is_xid_start(c)
 }
 
 // IdentifierPart, without escapes.
@@ -22,18 +45,19 @@ pub fn is_start(c: char) -> bool
 pub fn is_part(c: char) -> bool
     ensures { result ≡ is_identifier_part c }
 {
-    c == '$' || is_xid_continue(c) || c == '\u{200C}' || c == '\u{200D}'
+    if c.is_ascii() {
+        return is_ascii_part(c);
+    }
+    is_xid_continue(c) || c == '\u{200C}' || c == '\u{200D}'
 }
 
-// The place behind the name at a place, if there is one.
-pub fn name_end(text: &str, at: usize) -> Option<usize>
-    requires { IsPlace text.now at }
-    ensures some { IfSome result (λ e. IsWordAt Class.Name text.now at e) }
-    ensures none { IfNone result (NoWordAt Class.Name text.now at) }
+// The place behind the name that begins with a step, if there is one.
+#[inline]
+pub fn name_end(text: &str, first: Step) -> Option<usize>
+    requires { IsPlace text.now first.end }
+    ensures some { (at : ℕ) → Passed text.now at first.end (first.c ∷ []) → IfSome result (λ e. IsWordAt Class.Name text.now at e) }
+    ensures none { (at : ℕ) → Passed text.now at first.end (first.c ∷ []) → IfNone result (NoWordAt Class.Name text.now at) }
 {
-    let Some(first) = step_at(text, at) else {
-        return None;
-    };
     if is_start(first.c) {
         return Some(parts_end(text, first.end));
     }

@@ -1,10 +1,10 @@
 //! Punctuators (ECMA-262 11.7).
 
-ghost use Rattle.std.specs.Prelude.{◌≡◌, IfSome, IfNone};
+ghost use Rattle.std.specs.Prelude.{◌≡◌, [], ◌∷◌, ℕ, IfSome, IfNone};
 ghost use Rattle.source_text.specs.Source.{IsPlace};
 ghost use Rattle.tokens.specs.Alphabet.{is_among};
-ghost use Rattle.tokens.specs.Marks.{firsts, is_pair, is_quadruple, is_single, is_triple};
-ghost use Rattle.tokens.specs.Scanned.{IsWordAt, Looks, NoWordAt};
+ghost use Rattle.tokens.specs.Marks.{alone, firsts, goes_on, is_pair, is_quadruple, is_single, is_triple};
+ghost use Rattle.tokens.specs.Scanned.{IsWordAt, Looks, NoWordAt, Passed};
 
 use crate::Class;
 use crate::step::{Step, step_at};
@@ -50,6 +50,25 @@ fn is_single(b: char) -> bool
             | '!'
             | '='
             | '/'
+    )
+}
+
+// Whether no longer punctuator begins with the character, and a digit behind it changes nothing.
+#[inline]
+fn is_alone(b: char) -> bool
+    ensures { result ≡ is_among b alone }
+{
+    matches!(b, '{' | '}' | '(' | ')' | '[' | ']' | ';' | ',' | ':' | '~')
+}
+
+// Whether the character is a digit or the second one of some punctuator.
+#[inline]
+fn goes_on(c: char) -> bool
+    ensures { result ≡ goes_on c }
+{
+    matches!(
+        c,
+        '0'..='9' | '=' | '>' | '.' | '+' | '-' | '*' | '<' | '&' | '|' | '?'
     )
 }
 
@@ -107,14 +126,20 @@ fn is_quadruple(b: char, c: char, d: char, e: char) -> bool
     ((b == '>') & (c == '>')) & ((d == '>') & (e == '='))
 }
 
-// The place behind the punctuator at a place, if there is one; `?.` and `.` are none before a digit.
-pub fn punctuator_end(text: &str, at: usize) -> Option<usize>
-    requires { IsPlace text.now at }
-    ensures some { IfSome result (λ e. IsWordAt Class.Punctuator text.now at e) }
-    ensures none { IfNone result (NoWordAt Class.Punctuator text.now at) }
+// The place behind the punctuator that begins with a step, if there is one; `?.` and `.` are none before a digit.
+#[inline]
+pub fn punctuator_end(text: &str, b: Step) -> Option<usize>
+    requires { IsPlace text.now b.end }
+    ensures some { (at : ℕ) → Passed text.now at b.end (b.c ∷ []) → IfSome result (λ e. IsWordAt Class.Punctuator text.now at e) }
+    ensures none { (at : ℕ) → Passed text.now at b.end (b.c ∷ []) → IfNone result (NoWordAt Class.Punctuator text.now at) }
 {
-    let b = look(text, at);
+    if is_alone(b.c) {
+        return Some(b.end);
+    }
     let c = look(text, b.end);
+    if is_single(b.c) & !goes_on(c.c) {
+        return Some(b.end);
+    }
     let d = look(text, c.end);
     let e = look(text, d.end);
     if is_quadruple(b.c, c.c, d.c, e.c) {

@@ -1,6 +1,6 @@
 //! The next token of a text.
 
-ghost use Rattle.std.specs.Prelude.{◌≡◌, ◌≢◌, ◌≤◌, ◌<◌, ◌++◌, ℕ, List, [], slice_range, IsTrue, IfOk, IfErr, IfNone, IfSome, OnErr};
+ghost use Rattle.std.specs.Prelude.{◌≡◌, ◌≢◌, ◌≤◌, ◌<◌, ◌++◌, ◌∷◌, ◌==◌, ◌&&◌, ℕ, List, [], slice_range, IsTrue, IfOk, IfErr, IfNone, IfSome, OnErr};
 ghost use Rattle.std.specs.Str.{chars};
 ghost use Rattle.source_text.specs.Source.{IsPlace};
 ghost use Rattle.tokens.specs.Tokens.{LexicalToken, IsTokenAt};
@@ -8,7 +8,7 @@ ghost use Rattle.tokens.specs.Reading.{behind, Reads};
 ghost use Rattle.tokens.specs.Alphabet.{begins_with, is_decimal_digit};
 ghost use Rattle.tokens.specs.Fronts.{class_by, class_of, is_mark};
 ghost use Rattle.tokens.specs.Goals.{reads_regexps, reads_template_parts};
-ghost use Rattle.tokens.specs.Scanned.{IsWordAt, NoWordAt, token_of};
+ghost use Rattle.tokens.specs.Scanned.{IsWordAt, NoWordAt, Passed, token_of};
 ghost use Rattle.tokens.specs.Strings.{is_string};
 
 use crate::name::name_end;
@@ -16,7 +16,7 @@ use crate::number::number_end;
 use crate::punctuator::punctuator_end;
 use crate::regexp::regexp_end;
 use crate::separator::{comment_begins, skip};
-use crate::step::step_at;
+use crate::step::{Step, step_at};
 use crate::string::string_end;
 use crate::template::template_end;
 use crate::{Class, Goal, Token};
@@ -135,37 +135,65 @@ fn class_by(c: char, goal: Goal, digit: bool) -> Class
     }
 }
 
-// The class of the tokens that the goal reads at a place.
+// Whether the character is a point and a digit stands behind it.
 #[inline]
-fn class_at(text: &str, at: usize, goal: Goal) -> Class
-    requires { IsPlace text.now at }
-    ensures { result ≡ class_of goal (behind text.now at) }
+fn is_point_before_digit(text: &str, first: Step) -> bool
+    requires { IsPlace text.now first.end }
+    ensures { result ≡ ((first.c == 46) && begins_with is_decimal_digit (behind text.now first.end)) }
 {
-    let Some(first) = step_at(text, at) else {
-        return Class::End;
-    };
-    let digit = (first.c == '.') & digit_follows(text, first.end);
-    class_by(first.c, goal, digit)
+    if first.c != '.' {
+        return false;
+    }
+    digit_follows(text, first.end)
 }
 
-// The place behind the token of a class that begins at a place, if there is one. The class is the one that the goal
+// The place behind the token of a class that begins with a step, if there is one. The class is the one that the goal
 // reads there.
 #[inline]
-fn token_end(text: &str, at: usize, class: Class) -> Option<usize>
+fn token_end(text: &str, at: usize, first: Step, class: Class) -> Option<usize>
     requires place { IsPlace text.now at }
-    requires end { class ≡ Class.End → behind text.now at ≡ [] }
+    requires first { Passed text.now at first.end (first.c ∷ []) }
+    requires class { class ≢ Class.End }
     ensures some { IfSome result (λ e. IsWordAt class text.now at e) }
     ensures none { IfNone result (NoWordAt class text.now at) }
 {
     match class {
-        Class::Name => name_end(text, at),
-        Class::Punctuator => punctuator_end(text, at),
+        Class::Name => name_end(text, first),
+        Class::Punctuator => punctuator_end(text, first),
         Class::Number => number_end(text, at),
         Class::Text => string_end(text, at),
         Class::Template => template_end(text, at),
         Class::RegExp => regexp_end(text, at),
-        Class::End => Some(at),
+        Class::End => None,
     }
+}
+
+// A token's class, and the place behind it.
+#[derive(Clone, Copy)]
+struct Word {
+    class: Class,
+    end: usize,
+}
+
+// The token that the goal reads at a place where no separator stands, if there is one.
+#[inline]
+fn word_at(text: &str, at: usize, goal: Goal) -> Option<Word>
+    requires { IsPlace text.now at }
+    ensures some { IfSome result (λ w. (w.class ≡ class_of goal (behind text.now at)) × IsWordAt w.class text.now at w.end) }
+    ensures none { IfNone result (NoWordAt (class_of goal (behind text.now at)) text.now at) }
+{
+    let Some(first) = step_at(text, at) else {
+        return Some(Word {
+            class: Class::End,
+            end: at,
+        });
+    };
+    let digit = is_point_before_digit(text, first);
+    let class = class_by(first.c, goal, digit);
+    let Some(end) = token_end(text, at, first, class) else {
+        return None;
+    };
+    Some(Word { class, end })
 }
 
 /// The token that the goal reads at a place (ECMA-262 clause 11): behind white space, line terminators and comments
@@ -189,15 +217,14 @@ pub fn scan<'s>(source: &Source<'s>, at: usize, goal: Goal) -> Result<Token<'s>,
     if comment_begins(text, start) {
         return Err(ScanFault { at: start });
     }
-    let class = class_at(text, start, goal);
-    let Some(end) = token_end(text, start, class) else {
+    let Some(word) = word_at(text, start, goal) else {
         return Err(ScanFault { at: start });
     };
     Ok(Token {
-        class,
-        text: &text[start..end],
+        class: word.class,
+        text: &text[start..word.end],
         start,
-        end,
+        end: word.end,
         after_break: gap.broken,
     })
 }

@@ -1,13 +1,16 @@
 //! White space, line terminators and comments (ECMA-262 11.2 to 11.4).
 
-ghost use Rattle.std.specs.Prelude.{◌≡◌, ◌<◌, not, IfSome, IfNone};
+ghost use Rattle.std.specs.Prelude.{◌≡◌, ◌<◌, ◌||◌, not, IfSome, IfNone, IsTrue};
 ghost use Rattle.source_text.specs.Lines.{is_line_terminator};
 ghost use Rattle.source_text.specs.Source.{IsPlace};
+ghost use Rattle.source_text.specs.Spaces.{is_white_space};
+ghost use Rattle.tokens.specs.Alphabet.{one_of};
+ghost use Rattle.tokens.specs.Closing.{is_plain};
 ghost use Rattle.tokens.specs.Comments.{begins_comment};
 ghost use Rattle.tokens.specs.Reading.{behind};
-ghost use Rattle.tokens.specs.Scanned.{IsBlockRest, IsCommentRest, IsGap, IsRun, IsSeparator, IsSolid, NoBlockRest, NoCommentRest};
+ghost use Rattle.tokens.specs.Scanned.{AllPass, IsBlockRest, IsCommentRest, IsGap, IsRun, IsSeparator, IsSolid, NoBlockRest, NoCommentRest};
 
-use crate::step::step_at;
+use crate::step::{ascii_step_at, step_at};
 use source_text::{is_line_terminator, is_space};
 
 /// The place behind separators, and whether a line terminator is among them.
@@ -17,28 +20,107 @@ pub struct Gap {
     pub broken: bool,
 }
 
-// The place behind the line terminators, the white space and the comments at a place.
+// The place behind the line terminators, the white space and the comments at a place; often the place itself.
+#[inline]
 pub fn skip(text: &str, at: usize) -> Gap
     requires { IsPlace text.now at }
     ensures gap { IsGap text.now at result.end result.broken }
     ensures solid { IsSolid (behind text.now result.end) }
 {
-    let mut gap = Gap {
-        end: at,
-        broken: false,
-    };
+    if is_solid(text, at) {
+        return Gap {
+            end: at,
+            broken: false,
+        };
+    }
+    skip_all(text, at)
+}
+
+// The same, whatever stands there.
+fn skip_all(text: &str, at: usize) -> Gap
+    requires { IsPlace text.now at }
+    ensures gap { IsGap text.now at result.end result.broken }
+    ensures solid { IsSolid (behind text.now result.end) }
+{
+    let mut gap = blanks(text, at);
     while let Some(next) = separator(text, gap.end) {
+        let more = blanks(text, next.end);
         gap = Gap {
-            end: next.end,
-            broken: gap.broken | next.broken,
+            end: more.end,
+            broken: gap.broken | next.broken | more.broken,
         };
     }
     gap
 }
 
-// One of them.
+// The place behind the line terminators and the white space of ASCII at a place.
+#[inline]
+fn blanks(text: &str, at: usize) -> Gap
+    requires { IsPlace text.now at }
+    ensures { IsGap text.now at result.end result.broken }
+{
+    let mut gap = Gap {
+        end: at,
+        broken: false,
+    };
+    while let Some(step) = ascii_step_at(text, gap.end) {
+        if !is_ascii_blank(step.c) {
+            return gap;
+        }
+        gap = Gap {
+            end: step.end,
+            broken: gap.broken | is_line_terminator(step.c),
+        };
+    }
+    gap
+}
+
+// Whether a character of ASCII separates tokens by itself.
+#[inline]
+fn is_ascii_blank(c: char) -> bool
+    requires { c < 128 }
+    ensures { result ≡ (is_white_space c || is_line_terminator c) }
+{
+    matches!(c, ' ' | '\t'..='\r')
+}
+
+// Whether a character of ASCII stands at a place with which no separator begins.
+#[inline]
+fn is_solid(text: &str, at: usize) -> bool
+    requires { IsPlace text.now at }
+    ensures { IsTrue result → IsSolid (behind text.now at) }
+{
+    match ascii_step_at(text, at) {
+        Some(step) => separates_none(step.c),
+        None => false,
+    }
+}
+
+// Whether no separator begins with a character of ASCII.
+#[inline]
+fn separates_none(c: char) -> bool
+    requires { c < 128 }
+    ensures { result ≡ not (one_of "/" c || is_white_space c || is_line_terminator c) }
+{
+    !matches!(c, '/' | ' ' | '\t'..='\r')
+}
+
+// A white space, a line terminator or a comment.
 #[inline]
 fn separator(text: &str, at: usize) -> Option<Gap>
+    requires { IsPlace text.now at }
+    ensures some { IfSome result (λ g. IsSeparator text.now at g.end g.broken) }
+    ensures forward { IfSome result (λ g. at < g.end) }
+    ensures none { IfNone result (IsSolid (behind text.now at)) }
+{
+    if is_solid(text, at) {
+        return None;
+    }
+    any_separator(text, at)
+}
+
+// The same, whatever stands there.
+fn any_separator(text: &str, at: usize) -> Option<Gap>
     requires { IsPlace text.now at }
     ensures some { IfSome result (λ g. IsSeparator text.now at g.end g.broken) }
     ensures forward { IfSome result (λ g. at < g.end) }
@@ -89,9 +171,48 @@ fn line_end(text: &str, at: usize) -> usize
         if is_line_terminator(step.c) {
             return end;
         }
+        end = plain_end(text, step.end);
+    }
+    end
+}
+
+// The place behind the characters at a place that neither end a line nor begin the end of a comment, up to the first
+// that isn't of ASCII at most.
+#[inline]
+fn plain_end(text: &str, at: usize) -> usize
+    requires { IsPlace text.now at }
+    ensures { AllPass is_plain text.now at result }
+{
+    let mut end = at;
+    while let Some(step) = ascii_step_at(text, end) {
+        if !is_ascii_plain(step.c) {
+            return end;
+        }
         end = step.end;
     }
     end
+}
+
+// The same, but behind a `*` the place itself.
+#[inline]
+fn plain_unless(text: &str, at: usize, starred: bool) -> usize
+    requires { IsPlace text.now at }
+    ensures plain { AllPass is_plain text.now at result }
+    ensures stays { IsTrue starred → result ≡ at }
+{
+    if starred {
+        return at;
+    }
+    plain_end(text, at)
+}
+
+// Whether a character of ASCII is one of them.
+#[inline]
+fn is_ascii_plain(c: char) -> bool
+    requires { c < 128 }
+    ensures { result ≡ is_plain c }
+{
+    !matches!(c, '\n' | '\r' | '*')
 }
 
 // What is left of a comment behind its `/*`, with the first `*/`.
@@ -106,14 +227,18 @@ fn block_rest(text: &str, at: usize) -> Option<Gap>
     };
     let mut starred = false;
     while let Some(step) = step_at(text, gap.end) {
-        gap = Gap {
-            end: step.end,
-            broken: gap.broken | is_line_terminator(step.c),
-        };
+        let broken = gap.broken | is_line_terminator(step.c);
         if starred & (step.c == '/') {
-            return Some(gap);
+            return Some(Gap {
+                end: step.end,
+                broken,
+            });
         }
         starred = step.c == '*';
+        gap = Gap {
+            end: plain_unless(text, step.end, starred),
+            broken,
+        };
     }
     None
 }

@@ -76,6 +76,22 @@ fn separators(rt: HostRuntime) {
         ("a\u{2028}b", 1, Class::Name, "b", 4, true),
         ("a/**/", 1, Class::End, "", 5, false),
         ("a /b", 1, Class::Punctuator, "/", 2, false),
+        (
+            "\t\u{B}\u{C} \u{1680}\u{2000}\u{200A}\u{202F}\u{205F}b",
+            0,
+            Class::Name,
+            "b",
+            19,
+            false,
+        ),
+        (" \n\u{A0}\r//\n b", 0, Class::Name, "b", 9, true),
+        ("/*a*b\n*c*/x", 0, Class::Name, "x", 10, true),
+        ("/* a**/x", 0, Class::Name, "x", 7, false),
+        ("/*a\r*/x", 0, Class::Name, "x", 6, true),
+        ("/*é*😀*/x", 0, Class::Name, "x", 11, false),
+        ("/*é\u{2029}*/", 0, Class::End, "", 9, true),
+        ("// * /\nb", 0, Class::Name, "b", 7, true),
+        ("//é😀*\u{2028}b", 0, Class::Name, "b", 12, true),
     ] {
         expect_token(
             &rt,
@@ -102,6 +118,18 @@ fn names(rt: HostRuntime) {
         ("a\\u0061", "a"),
         ("if(", "if"),
         ("a\u{2028}", "a"),
+        ("a`", "a"),
+        ("z[", "z"),
+        ("A/", "A"),
+        ("Z:", "Z"),
+        ("_^", "_"),
+        ("$]", "$"),
+        ("ªµ", "ªµ"),
+        ("a\u{B7}\u{300}", "a\u{B7}\u{300}"),
+        ("℘\u{E33}", "℘\u{E33}"),
+        ("a\u{37A}", "a"),
+        ("a\u{1D7CE}\u{E0100}", "a\u{1D7CE}\u{E0100}"),
+        ("a😀", "a"),
     ] {
         expect_front(&rt, text, Class::Name, word);
     }
@@ -172,6 +200,15 @@ fn numbers(rt: HostRuntime) {
         ("0O17", "0O17"),
         ("1.5.5", "1.5"),
         ("1/é", "1"),
+        ("1.e5", "1.e5"),
+        ("0.", "0."),
+        ("0e0;", "0e0"),
+        ("1e1.5", "1e1"),
+        ("0b1n", "0b1n"),
+        ("9/", "9"),
+        ("1:", "1"),
+        ("1\u{300}", "1"),
+        ("1😀", "1"),
     ] {
         expect_front(&rt, text, Class::Number, word);
     }
@@ -214,8 +251,25 @@ fn strings(rt: HostRuntime) {
 #[test]
 fn templates(rt: HostRuntime) {
     for text in [
-        "``", "`a`", "`a${", "`$`", "`$(`", "`$$${", "`\\``", "`\\${`", "`$\\{`", "`\\1`",
-        "`\\u{`", "`{}`", "`'\"`", "`\\\\`", "`\r\n`", "`é`", "`\\é`",
+        "``",
+        "`a`",
+        "`a${",
+        "`$`",
+        "`$(`",
+        "`$$${",
+        "`\\``",
+        "`\\${`",
+        "`$\\{`",
+        "`\\1`",
+        "`\\u{`",
+        "`{}`",
+        "`'\"`",
+        "`\\\\`",
+        "`\r\n`",
+        "`é`",
+        "`\\é`",
+        "`😀${",
+        "`\\😀\u{2028}`",
     ] {
         expect_front(&rt, text, Class::Template, text);
     }
@@ -248,6 +302,10 @@ fn regular_expressions(rt: HostRuntime) {
         ("/{/é+", "/{/é"),
         ("/é/", "/é/"),
         ("/a//b", "/a/"),
+        ("/a/*b*/", "/a/"),
+        ("/a/\\u0061", "/a/"),
+        ("/😀/u", "/😀/u"),
+        ("/[\\😀]/", "/[\\😀]/"),
     ] {
         expect_token(
             &rt,
@@ -269,6 +327,7 @@ fn regular_expressions(rt: HostRuntime) {
         "/\\\u{2028}/",
         "/[\\]/",
         "/[\\\n]/",
+        "/a\u{2029}/",
     ] {
         expect_token(&rt, text, 0, Goal::RegExp, Err(0));
     }
@@ -285,6 +344,16 @@ fn faults(rt: HostRuntime) {
         ("1.a", 0, 0),
         ("1e", 0, 0),
         ("1e+", 0, 0),
+        ("1e+a", 0, 0),
+        ("1.e", 0, 0),
+        ("1e5n", 0, 0),
+        (".5n", 0, 0),
+        ("00", 0, 0),
+        ("09.5", 0, 0),
+        ("0b", 0, 0),
+        ("0b12", 0, 0),
+        ("0o", 0, 0),
+        ("1𝒜", 0, 0),
         ("1.5n", 0, 0),
         ("0x", 0, 0),
         ("0xg", 0, 0),
@@ -303,6 +372,16 @@ fn faults(rt: HostRuntime) {
         ("\u{200B}", 0, 0),
         ("\u{200C}", 0, 0),
         ("é €", 2, 3),
+        ("\u{0}", 0, 0),
+        ("\u{7F}", 0, 0),
+        ("\u{85}", 0, 0),
+        ("\u{180E}", 0, 0),
+        ("\u{B7}", 0, 0),
+        ("\u{300}", 0, 0),
+        ("\u{37A}", 0, 0),
+        ("\u{E33}", 0, 0),
+        ("\u{1D7CE}", 0, 0),
+        (" 😀", 0, 1),
         ("'", 0, 0),
         ("'a", 0, 0),
         ("'a\n'", 0, 0),
@@ -334,6 +413,86 @@ fn faults(rt: HostRuntime) {
     ] {
         expect_token(&rt, text, at, Goal::Div, Err(place));
     }
+    for text in ["}", "}a", "}\\`", "}$"] {
+        expect_token(&rt, text, 0, Goal::TemplateTail, Err(0));
+    }
+}
+
+// The tokens of a text from its start, each by a goal.
+fn expect_reading(rt: &impl Abort, text: &str, words: &[(Goal, &str)]) {
+    let source = Source::new(text.as_bytes());
+    assert!(rt; source.is_ok(), "{text}");
+    if let Ok(source) = source {
+        let mut at = 0;
+        for (goal, word) in words {
+            assert!(rt; source.text().is_char_boundary(at), "{text}");
+            match scan(&source, at, *goal) {
+                Ok(token) => {
+                    assert!(rt; token.text == *word, "{word} of {text} is {}", token.text);
+                    at = token.end;
+                }
+                Err(_) => panic!(rt; "{word} of {text} is not read"),
+            }
+        }
+        assert_eq!(rt; at, text.len(), "{text}");
+    }
+}
+
+#[test]
+fn readings(rt: HostRuntime) {
+    expect_reading(
+        &rt,
+        "`x${ {b: `c${d}e`} }f`",
+        &[
+            (Goal::RegExp, "`x${"),
+            (Goal::RegExp, "{"),
+            (Goal::RegExp, "b"),
+            (Goal::Div, ":"),
+            (Goal::RegExp, "`c${"),
+            (Goal::RegExp, "d"),
+            (Goal::TemplateTail, "}e`"),
+            (Goal::Div, "}"),
+            (Goal::TemplateTail, "}f`"),
+            (Goal::Div, ""),
+        ],
+    );
+    expect_reading(
+        &rt,
+        "if(a)/[/]/g.b/=2/3",
+        &[
+            (Goal::RegExp, "if"),
+            (Goal::Div, "("),
+            (Goal::RegExp, "a"),
+            (Goal::Div, ")"),
+            (Goal::RegExp, "/[/]/g"),
+            (Goal::Div, "."),
+            (Goal::Div, "b"),
+            (Goal::Div, "/="),
+            (Goal::RegExp, "2"),
+            (Goal::Div, "/"),
+            (Goal::RegExp, "3"),
+        ],
+    );
+    expect_reading(
+        &rt,
+        "a?.b?.5:c?.[0]\n++\nd--",
+        &[
+            (Goal::RegExp, "a"),
+            (Goal::Div, "?."),
+            (Goal::Div, "b"),
+            (Goal::Div, "?"),
+            (Goal::RegExp, ".5"),
+            (Goal::Div, ":"),
+            (Goal::RegExp, "c"),
+            (Goal::Div, "?."),
+            (Goal::Div, "["),
+            (Goal::RegExp, "0"),
+            (Goal::Div, "]"),
+            (Goal::Div, "++"),
+            (Goal::RegExp, "d"),
+            (Goal::Div, "--"),
+        ],
+    );
 }
 
 // The units of the string that a text begins with, if it does.

@@ -7,7 +7,7 @@ ghost use Rattle.std.specs.String.{string_bytes};
 ghost use Rattle.tokens.specs.Escaped.{units_of};
 ghost use Rattle.tokens.specs.Escapes.{unescaped};
 ghost use Rattle.tokens.specs.Strings.{is_string, string_units};
-ghost use Rattle.tokens.specs.Templates.{cooked_value, line_end_turned, raw_value};
+ghost use Rattle.tokens.specs.Templates.{IsSettled, cooked_value, line_end_turned, raw_value};
 
 use crate::escape::piece;
 use crate::step::step_at;
@@ -35,6 +35,7 @@ pub fn template_value<'s>(
     ensures raw { IfOk result (λ r. cow_str_bytes r.0 ≡ encode_utf8_all (raw_value (chars text.now))) }
     ensures borrowed { IfOk result (λ r. raw_value (chars text.now) ≡ chars text.now → IsBorrowedStr r.0) }
     ensures cooked { IfOk result (λ r. option_map (λ v. v.items) r.1 ≡ cooked_value (chars text.now)) }
+    ensures again { IfOk result (λ r. IsSettled (chars text.now) (chars (cow_str_bytes r.0))) }
 {
     if text.as_bytes().contains(&b'\r') {
         let raw = turned(alloc, text)?;

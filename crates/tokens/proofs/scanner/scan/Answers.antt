@@ -1,11 +1,11 @@
-use Rattle.std.proofs.Common.{◌≡◌, ℕ, true, false, List, sym, ap, ◌∙◌, subst}
+use Rattle.std.proofs.Common.{◌≡◌, ℕ, true, false, List, refl, sym, ap, ◌∙◌, subst}
 use Rattle.std.specs.Prelude.{slice_range}
 use Rattle.source_text.specs.Source.{IsPlace}
 use Rattle.tokens.specs.Comments.{begins_comment}
 use Rattle.tokens.specs.Fronts.{class_of}
 use Rattle.tokens.specs.Reading.{behind}
 use Rattle.tokens.specs.Scanned.{IsGap, IsSolid, IsWordAt, NoWordAt}
-use Rattle.tokens.proofs.Scanning.{end_only, token_reads, string_read, none_in_comment, none_of_class, word_forward}
+use Rattle.tokens.proofs.Scanning.{token_reads, string_read, none_in_comment, none_of_class, word_forward}
 use Rattle.tokens.proofs.scanner.scan.Goals as goal
 use Rattle.tokens.proofs.scanner.scan.Goals.{After-skip-gap}
 
@@ -28,27 +28,24 @@ returns-then-comment_begins-clause-err d =
     none_in_comment c.args.source.now c.args.goal c.args.at c.skip-gap.result.end c.skip-gap.result.broken (gap c) (solid c)
     (along c (λ x. begins_comment (behind x c.skip-gap.result.end) ≡ true) (sym d.comment_begins.ensures ∙ d.if-comment_begins.true))
 
-pub token_end-requires-clause-end : goal.token_end-requires-clause-end
-token_end-requires-clause-end d = λ e. end_only d.args.goal (behind d.text-text.result.now d.skip-gap.result.end) (sym d.class_at-class.ensures ∙ e)
-
 pub returns-in_default-clause-err : goal.returns-in_default-clause-err
 returns-in_default-clause-err d =
     let c = (goal.at.returns-in_default-clause-err d).After-skip-gap in
-    none_of_class c.args.source.now c.args.goal c.args.at c.skip-gap.result.end c.skip-gap.result.broken d.class_at-class.result (gap c) (solid c)
-    (along c (λ x. d.class_at-class.result ≡ class_of c.args.goal (behind x c.skip-gap.result.end)) d.class_at-class.ensures)
-    (along c (λ x. NoWordAt d.class_at-class.result x c.skip-gap.result.end) d.in_default.ensures.none)
+    none_of_class c.args.source.now c.args.goal c.args.at c.skip-gap.result.end c.skip-gap.result.broken (class_of c.args.goal (behind c.args.source.now c.skip-gap.result.end)) (gap c) (solid c) refl
+    (along c (λ x. NoWordAt (class_of c.args.goal (behind x c.skip-gap.result.end)) x c.skip-gap.result.end) d.in_default.ensures.none)
 
 pub returns-clause-ok : goal.returns-clause-ok
 returns-clause-ok d =
     let c = (goal.at.returns-clause-ok d).After-skip-gap in
-    token_reads c.args.source.now c.args.goal c.args.at c.skip-gap.result.end d.in-Some.end c.skip-gap.result.broken d.class_at-class.result d.range.result.now c.text-text.ensures.utf8 (place c) (gap c)
+    let word = d.in-Some.word in
+    token_reads c.args.source.now c.args.goal c.args.at c.skip-gap.result.end word.end c.skip-gap.result.broken word.class d.range.result.now c.text-text.ensures.utf8 (place c) (gap c)
     (along c (λ x. begins_comment (behind x c.skip-gap.result.end) ≡ false) (sym d.comment_begins.ensures ∙ d.if-comment_begins.false))
-    (along c (λ x. d.class_at-class.result ≡ class_of c.args.goal (behind x c.skip-gap.result.end)) d.class_at-class.ensures)
-    (along c (λ x. IsWordAt d.class_at-class.result x c.skip-gap.result.end d.in-Some.end) d.in-Some.ensures.some)
-    (d.range.ensures.value ∙ ap (λ (x : List ℕ). slice_range x c.skip-gap.result.end d.in-Some.end) c.text-text.ensures.value)
+    (along c (λ x. word.class ≡ class_of c.args.goal (behind x c.skip-gap.result.end)) d.in-Some.ensures.some.0)
+    (along c (λ x. IsWordAt word.class x c.skip-gap.result.end word.end) d.in-Some.ensures.some.1)
+    (d.range.ensures.value ∙ ap (λ (x : List ℕ). slice_range x c.skip-gap.result.end word.end) c.text-text.ensures.value)
 
 pub returns-clause-string : goal.returns-clause-string
 returns-clause-string d = string_read d.args.source.now d.args.goal d.args.at _ d.range.utf8 (returns-clause-ok d)
 
 pub returns-clause-goes_on : goal.returns-clause-goes_on
-returns-clause-goes_on d = word_forward d.class_at-class.result d.text-text.result.now d.skip-gap.result.end d.in-Some.end d.in-Some.ensures.some
+returns-clause-goes_on d = word_forward d.in-Some.word.class d.text-text.result.now d.skip-gap.result.end d.in-Some.word.end d.in-Some.ensures.some.1

@@ -1,6 +1,6 @@
 use Rattle.std.proofs.Common.{◌-◌, length}
 use Rattle.tokens.specs.Scanned.{IsGap}
-use Rattle.tokens.proofs.separator.skip.Given as goal
+use Rattle.tokens.proofs.separator.skip_all.Given as goal
 
 abbrev pub invariant-loop-next : goal.invariant-loop-next
 invariant-loop-next l = IsGap l.text l.at l.gap.end l.gap.broken

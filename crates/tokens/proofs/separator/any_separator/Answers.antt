@@ -5,7 +5,7 @@ use Rattle.tokens.specs.declared.separator.Gap.{Gap}
 use Rattle.tokens.specs.Reading.{behind}
 use Rattle.tokens.proofs.Passing.{some_gives, none_gives}
 use Rattle.tokens.proofs.Separating.{comment_separator, solid_slash, blank_separator}
-use Rattle.tokens.proofs.separator.separator.Goals as goal
+use Rattle.tokens.proofs.separator.any_separator.Goals as goal
 
 pub returns-then-step-eq47-clause-some : goal.returns-then-step-eq47-clause-some
 returns-then-step-eq47-clause-some c =

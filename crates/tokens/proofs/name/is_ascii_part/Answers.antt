@@ -1,0 +1,5 @@
+use Rattle.tokens.proofs.Names.{part_bits}
+use Rattle.tokens.proofs.name.is_ascii_part.Goals as goal
+
+pub returns : goal.returns
+returns c = part_bits c.args.c c.requires

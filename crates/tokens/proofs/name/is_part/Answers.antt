@@ -1,0 +1,6 @@
+use Rattle.std.proofs.Common.{sym, ◌∙◌}
+use Rattle.tokens.proofs.Names.{ascii_part}
+use Rattle.tokens.proofs.name.is_part.Goals as goal
+
+pub returns-then-is_ascii : goal.returns-then-is_ascii
+returns-then-is_ascii c = c.is_ascii_part.ensures ∙ ascii_part c.args.c (sym c.is_ascii.ensures ∙ c.if-is_ascii.true)
