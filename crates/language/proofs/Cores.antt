@@ -1,5 +1,5 @@
 -- What an expression begins with, by its first token: a group, or one of the ways that begin with a token.
-use Rattle.std.proofs.Common.{◌≡◌, ℕ, suc, Bool, true, false, List, [], ◌∷◌, refl, sym, ap, ◌∙◌, subst}
+use Rattle.std.proofs.Common.{◌≡◌, ℕ, suc, Bool, true, List, ◌∷◌, refl, sym, ap, ◌∙◌, subst}
 use Rattle.std.specs.Prelude.{IsTrue, codes}
 use Rattle.tokens.specs.declared.token.Class.TheVariants.{Punctuator}
 use Rattle.tokens.specs.declared.token.Goal.{Goal}

@@ -15,6 +15,7 @@ pub mod Led
 pub mod Onward
 pub mod Sides
 pub mod Reaches
+pub mod RightEdges
 pub mod Stepping
 pub mod Operated
 pub mod Headed
