@@ -10,7 +10,6 @@ pub mod Least
 pub mod Viewed
 pub mod Spine
 pub mod Begins
-pub mod Growth
 pub mod Led
 pub mod Onward
 pub mod Sides
@@ -22,7 +21,9 @@ pub mod Headed
 pub mod Cores
 pub mod Productions
 pub mod Growing
+pub mod Tails
 pub mod Climbing
+pub mod TwoSides
 pub mod Searched
 pub mod Found
 pub mod Trees

@@ -156,7 +156,7 @@ module _ (S : Type 0) (Next : S → Token → S → Type 0) (behind : S → Toke
 
       of : Onward S Next behind det o s0 (expr y i f) n e P (expr h j f') m mid Q t → Ended (expr y i f) n e P (expr h j f') m mid Q
       of (ended a b c d) = record { role = a; tree = b; place = c; pairs = d }
-      of (by_led {y = y2} {i = i2} {f = f2} led some op lean d pl gs') =
+      of (by_led {y = y2} {i = i2} {f = f2} led some op lean d pl grown gs') =
           let z = led_makes led some d r in
           let u = reaches S Next behind gs' in
           absurd (refused (record {
@@ -166,7 +166,7 @@ module _ (S : Type 0) (Next : S → Token → S → Type 0) (behind : S → Toke
             has_in = led_in y i u led some op d r;
             held = led_holds t.after_break led z.1 edge_is;
           }))
-      of (by_link {f = f2} linked op lean d pl gs') =
+      of (by_link {f = f2} linked op lean d pl grown gs') =
           let z = linked_makes t.after_break linked in
           absurd (refused (record {
             symbol = z.0;
@@ -175,7 +175,7 @@ module _ (S : Type 0) (Next : S → Token → S → Type 0) (behind : S → Toke
             has_in = linked_in t i linked op;
             held = linked_holds z.0 linked edge_is;
           }))
-      of (by_chain b tk lean pl gs') = absurd (no_spine b)
+      of (by_chain b tk lean pl grown gs') = absurd (no_spine b)
 
   -- the test of what can go on says so
   stops_none : (y : Rank) (i : Bool) (t : Token) (x : Edge) → IsTrue (stops_at y i x t (symbol_of (operation t) t.after_break)) → Takes y i x t → ⊥

@@ -26,10 +26,12 @@ is_free _ = false
 
 module _ (S : Type 0) (Next : S → Token → S → Type 0) (behind : S → Token) where
   -- Where tokens are determined once a goal is chosen: by a goal at most one is read at a place; behind it, it is the token before;
-  -- all that are read at a place have the same line break before them; and names, numbers, strings and the end are read by every goal.
+  -- all that are read at a place start at one place, with the same line break before them; and names, numbers, strings and the end are
+  -- read by every goal.
   pub record IsDetermined : Type 0 where
     pub same : (g : Goal) (s : S) (a b : Token) (e f : S) → Next s a e → Next s b f → IsTrue (allows g a.class a.text) → IsTrue (allows g b.class b.text) → (a ≡ b) × (e ≡ f)
     pub last : (s : S) (t : Token) (e : S) → Next s t e → behind e ≡ t
+    pub start : (s : S) (a b : Token) (e f : S) → Next s a e → Next s b f → a.start ≡ b.start
     pub break : (s : S) (a b : Token) (e f : S) → Next s a e → Next s b f → a.after_break ≡ b.after_break
     pub free : (g : Goal) (s : S) (t : Token) (e : S) → Next s t e → is_free t.class ≡ true → IsTrue (allows g t.class t.text)
 
