@@ -23,7 +23,10 @@ pub mod Productions
 pub mod Growing
 pub mod Tails
 pub mod Climbing
+pub mod Signs
 pub mod TwoSides
+pub mod Conditionals
+pub mod Suffixes
 pub mod Searched
 pub mod Found
 pub mod Trees

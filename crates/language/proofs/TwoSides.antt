@@ -27,6 +27,7 @@ use Rattle.language.specs.Grammar.{ways}
 use Rattle.language.specs.Derivation.{Reads, Spells, Placed, placed}
 use Rattle.language.proofs.Spine.{Grows}
 use Rattle.language.proofs.Operators.{binding}
+use Rattle.language.proofs.Signs.{op_reads}
 use Rattle.language.proofs.Begins.{retell}
 use Rattle.language.proofs.Led.{Led, led_binary, led_power, led_assign, between}
 use Rattle.language.proofs.Sides.{right_side}
@@ -48,31 +49,6 @@ rank_is e = cc
 
 some_same : {b c : Rank} → Some b ≡ Some c → b ≡ c
 some_same e = cc
-
--- the token of such an operator is a word or a sign, whose text says what it makes
-pub op_reads : (t : Token) {x : Operator} → operation t ≡ x → (x ≡ no_operator → ⊥) → (x ≡ tags → ⊥) → (t.class ≡ cond (is_word_operator t.text) Name Punctuator) × (operator_of t.text ≡ x)
-op_reads t {x} h n m = go t.class refl h
-  where
-    named : (b : Bool) → t.class ≡ Name → is_word_operator t.text ≡ b → cond b (operator_of t.text) no_operator ≡ x → (t.class ≡ cond (is_word_operator t.text) Name Punctuator) × (operator_of t.text ≡ x)
-    named true e p k = (e ∙ sym (ap (λ b. cond b Name Punctuator) p), k)
-    named false e p k = absurd (n (sym k))
-
-    signed : (b : Bool) → t.class ≡ Punctuator → is_word_operator t.text ≡ b → cond b no_operator (operator_of t.text) ≡ x → (t.class ≡ cond (is_word_operator t.text) Name Punctuator) × (operator_of t.text ≡ x)
-    signed true e p k = absurd (n (sym k))
-    signed false e p k = (e ∙ sym (ap (λ b. cond b Name Punctuator) p), k)
-
-    tagged : (b : Bool) {A : Type 0} → cond b tags no_operator ≡ x → A
-    tagged true k = absurd (m (sym k))
-    tagged false k = absurd (n (sym k))
-
-    go : (c : Class) → t.class ≡ c → of_class c t.text ≡ x → (t.class ≡ cond (is_word_operator t.text) Name Punctuator) × (operator_of t.text ≡ x)
-    go Name e k = named (is_word_operator t.text) e refl k
-    go Punctuator e k = signed (is_word_operator t.text) e refl k
-    go Template e k = tagged (nat_eq (slice_index_or t.text 0 0) 96) k
-    go Number e k = absurd (n (sym k))
-    go Text e k = absurd (n (sym k))
-    go RegExp e k = absurd (n (sym k))
-    go End e k = absurd (n (sym k))
 
 two_reads : (t : Token) {x : Operator} {K : Kind} {a z q : Rank} {b : Bool} → TwoSided x K a z q b → operation t ≡ x → (t.class ≡ cond (is_word_operator t.text) Name Punctuator) × (operator_of t.text ≡ x)
 two_reads t two_binds h = op_reads t h (λ e. cc) (λ e. cc)

@@ -1,0 +1,2 @@
+-- stub
+use Rattle.std.proofs.Common.{ℕ}
