@@ -26,7 +26,9 @@ pub mod Climbing
 pub mod Signs
 pub mod TwoSides
 pub mod Conditionals
+pub mod Fixed
 pub mod Suffixes
+pub mod Calls
 pub mod Searched
 pub mod Found
 pub mod Trees

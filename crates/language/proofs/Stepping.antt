@@ -79,7 +79,7 @@ module _ (S : Type 0) (Next : S → Token → S → Type 0) (behind : S → Toke
   led_text (led_tag k tk b e) h d r = absurd (false≢true (sym (ap has_text k) ∙ h))
   led_text (led_chain k c tk b e) h d r = absurd (false≢true (sym (ap has_text k) ∙ h))
 
-  unbroken_runs : {o : ℕ} {qs : List (PieceOf Role)} {ps : Parts} {s m e : S} {P : List Pair} {t : Token} → Runs ways S Next behind o (unbroken ∷ qs) ps s e P → ReadBy S Next behind Div s t m → t.after_break ≡ false
+  pub unbroken_runs : {o : ℕ} {qs : List (PieceOf Role)} {ps : Parts} {s m e : S} {P : List Pair} {t : Token} → Runs ways S Next behind o (unbroken ∷ qs) ps s e P → ReadBy S Next behind Div s t m → t.after_break ≡ false
   unbroken_runs {s = s} {m = m} {t = t} (step (same_line {t = u} {e = e} nx h) d) r = det.break s t u m e r.next nx ∙ h
 
   -- the symbol of what a token makes
