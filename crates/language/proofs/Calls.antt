@@ -1,46 +1,40 @@
 -- Turns of the loop at `[`, at the arguments of a call and at a template behind a tag.
-use Rattle.std.proofs.Common.{◌≡◌, ℕ, ◌-◌, ◌≤◌, Bool, true, false, cond, List, [], ◌∷◌, ◌++◌, refl, sym, ap, ◌∙◌, subst, arith}
-use Rattle.std.specs.Prelude.{IsTrue, Some, codes, max, not, ◌&&◌, ◌||◌, nat_le, nat_eq, map}
+use Rattle.std.proofs.Common.{◌≡◌, ℕ, ◌-◌, ◌≤◌, Bool, true, false, List, [], ◌∷◌, ◌++◌, refl, sym, ap, ◌∙◌, subst, arith}
+use Rattle.std.specs.Prelude.{IsTrue, codes, max}
 use Rattle.std.proofs.lemmas.Bool.{false≢true}
-use Rattle.std.proofs.lemmas.Bool.Decides.{nat_tests}
 use Rattle.std.proofs.lemmas.List.{append-nil}
 use Rattle.tokens.specs.declared.token.Class.TheVariants.{Punctuator}
 use Rattle.tokens.specs.declared.token.Goal.TheVariants.{Div}
 use Rattle.tree.specs.declared.kind.Kind.{Kind}
-use Rattle.tree.specs.declared.kind.Kind.TheVariants.{Super, MemberExpression, CallExpression, TaggedTemplateExpression, UpdateExpression}
+use Rattle.tree.specs.declared.kind.Kind.TheVariants.{MemberExpression, CallExpression, TaggedTemplateExpression}
 use Rattle.language.specs.declared.Rank.{Rank}
-use Rattle.language.specs.declared.Rank.TheVariants.{Expression, Assignment, LeftHandSide, Update, Call, Member}
+use Rattle.language.specs.declared.Rank.TheVariants.{Expression, Call, Member}
 use Rattle.language.specs.declared.Start.{Start}
 use Rattle.language.specs.declared.Start.TheVariants.{Any}
 use Rattle.tree.specs.declared.kind.Flags.{Flags}
 use Rattle.tree.specs.declared.kind.Pair.{Pair}
-use Rattle.tree.specs.Tree.{Tree, node, Parts, none, part, gap, height, parts_height, kind_of, bare, bare_parts, plain}
-use Rattle.tree.specs.Uses.{is_lean, used_flags, has_text}
+use Rattle.tree.specs.Tree.{Tree, node, Parts, none, part, height, parts_height, bare, bare_parts, plain}
+use Rattle.tree.specs.Uses.{used_flags, has_text}
 use Rattle.tree.proofs.Lean.{lean_flags, lean_text}
-use Rattle.language.specs.FirstPart.{lead as lead_kind, others}
-use Rattle.language.specs.Words.{takes, takes_number, tightness, is_target, is_super, is_rest, is_spread, Operator, steps, selects, indexes, calls, tags, chains, operator_of}
-use Rattle.language.specs.Pieces.{Role, expr, word, quasi, Piece, PieceOf, sub, tok, unbroken, is_tight, listed, argument, sign, separator, is_none, may, sp}
+use Rattle.language.specs.FirstPart.{others}
+use Rattle.language.specs.Words.{takes, indexes, calls, tags}
+use Rattle.language.specs.Pieces.{Role, expr, quasi, PieceOf, sub, is_tight}
 use Rattle.language.specs.Token.{Token}
 use Rattle.language.specs.Edges.{edge}
-use Rattle.language.specs.Expressions.{expressions, arguments, after_number}
-use Rattle.language.specs.Follow.{operation, symbol_of, stops}
+use Rattle.language.specs.Expressions.{arguments, after_number}
+use Rattle.language.specs.Follow.{operation, stops}
 use Rattle.language.specs.Promises.{IsDetermined, ReadBy, Stops, Found, Absent, AbsentWithin, FoundAt, AbsentAt, AbsentAtWithin, FoundParts, AbsentParts, AbsentPartsWithin}
-use Rattle.language.specs.Grammar.{ways, spellings}
-use Rattle.language.specs.Derivation.{Among, Reads, Spells, direct, grouped, Runs, step, within, token, Placed}
-use Rattle.language.proofs.Spine.{Grows}
+use Rattle.language.specs.Grammar.{ways}
+use Rattle.language.specs.Derivation.{Reads, Spells, Runs, step, token, Placed}
 use Rattle.language.proofs.Begins.{retell, goes_to}
-use Rattle.language.proofs.Viewed.{way_of}
-use Rattle.language.proofs.Fixed.{Fixed, all_done, one_more, same_pieces, fixed_join, fixed_listed}
-use Rattle.language.proofs.Led.{callee_rank, bracketed, dotted, Led, led_postfix, led_dot, led_index, led_call, led_tag}
-use Rattle.language.proofs.Sides.{nothing_more, selected, indexed, called, one_part}
-use Rattle.language.proofs.Signs.{reads_dot, reads_index, reads_call, reads_step}
-use Rattle.language.proofs.Growing.{kind_bare, postfix_grows, dot_grows, index_grows, call_grows, tag_grows}
-use Rattle.language.proofs.Reaches.{is_loose}
-use Rattle.language.proofs.Stepping.{goes_where_not, led_text, unbroken_runs}
-use Rattle.language.proofs.Climbing.{goes_on, grows_height, Leads, Climbing, LedOn, led_on}
-use Rattle.language.proofs.TwoSides.{same_node, replaced, same_places, retold, regrown}
+use Rattle.language.proofs.Led.{callee_rank, bracketed, Led, led_index, led_call, led_tag}
+use Rattle.language.proofs.Sides.{indexed, called, one_part}
+use Rattle.language.proofs.Signs.{reads_index, reads_call}
+use Rattle.language.proofs.Growing.{index_grows, call_grows, tag_grows}
+use Rattle.language.proofs.Stepping.{goes_where_not}
+use Rattle.language.proofs.Climbing.{grows_height, Leads, Climbing, led_on}
+use Rattle.language.proofs.TwoSides.{replaced, retold}
 use Rattle.language.proofs.Conditionals.{same_sign, stops_before}
-
 use Rattle.language.proofs.Suffixes.{rank_is, some_same, suffix_rank, suffix_fits, suffix_stands, callee_call, callee_tight, computed_flags, argument_pieces, arguments_fixed, stands_callee, no_super, leads_on, symbol_taken, member_flags, call_flags}
 
 module _ (S : Type 0) (Next : S → Token → S → Type 0) (behind : S → Token) (det : IsDetermined S Next behind) where

@@ -1,6 +1,6 @@
 -- A turn of the loop at the `?` of a conditional.
-use Rattle.std.proofs.Common.{◌≡◌, ℕ, ◌-◌, ◌≤◌, Bool, true, false, cond, List, [], ◌∷◌, ◌++◌, refl, sym, ap, ◌∙◌, subst, arith}
-use Rattle.std.specs.Prelude.{IsTrue, Some, codes, max}
+use Rattle.std.proofs.Common.{◌≡◌, ℕ, ◌-◌, Bool, true, false, List, [], ◌∷◌, ◌++◌, refl, sym, ap, ◌∙◌, subst, arith}
+use Rattle.std.specs.Prelude.{IsTrue, Some, codes}
 use Rattle.std.proofs.lemmas.Bool.{false≢true}
 use Rattle.tokens.specs.declared.token.Class.{Class}
 use Rattle.tokens.specs.declared.token.Class.TheVariants.{Punctuator}
@@ -15,10 +15,10 @@ use Rattle.language.specs.declared.Start.TheVariants.{Any}
 use Rattle.language.specs.declared.Edge.{Edge}
 use Rattle.tree.specs.declared.kind.Flags.{Flags}
 use Rattle.tree.specs.declared.kind.Pair.{Pair}
-use Rattle.tree.specs.Tree.{Tree, node, Parts, none, part, height, bare, bare_parts, plain}
-use Rattle.tree.specs.Uses.{implies, is_lean, used_flags, has_text}
+use Rattle.tree.specs.Tree.{Tree, node, Parts, none, part, bare, plain}
+use Rattle.tree.specs.Uses.{used_flags, has_text}
 use Rattle.tree.proofs.Lean.{lean_flags, lean_text}
-use Rattle.language.specs.Words.{is, takes, tightness, Operator, asks, no_operator, chains}
+use Rattle.language.specs.Words.{takes, tightness, Operator, asks}
 use Rattle.language.specs.Pieces.{Role, expr, PieceOf, lay, tok, sub, space}
 use Rattle.language.specs.Token.{Token}
 use Rattle.language.specs.Edges.{edge}

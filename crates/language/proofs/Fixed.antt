@@ -1,5 +1,5 @@
 -- Pieces that a node's own position doesn't change.
-use Rattle.std.proofs.Common.{◌≡◌, ℕ, Bool, true, false, cond, List, [], ◌∷◌, ◌++◌, refl, ap}
+use Rattle.std.proofs.Common.{◌≡◌, Bool, true, false, cond, List, [], ◌∷◌, ◌++◌, refl}
 use Rattle.std.specs.Prelude.{Option, Some, None, codes}
 use Rattle.tokens.specs.declared.token.Class.TheVariants.{Punctuator}
 use Rattle.language.specs.declared.Rank.{Rank}
@@ -7,7 +7,7 @@ use Rattle.language.specs.declared.Start.{Start}
 use Rattle.tree.specs.declared.kind.Kind.{Kind}
 use Rattle.tree.specs.Tree.{Tree, Parts, none, part, gap, kind_of}
 use Rattle.language.specs.Words.{is_rest}
-use Rattle.language.specs.Pieces.{Role, Slot, fixed, left, lead, tail, callee, lead_spine, lead_pattern, Piece, tok, may, many, ahead, unbroken, ending, open_parameters, close_parameters, sub, absent, never, lay, settle_piece, separator, listed, elements, parameters, put_at, pattern_element, is_none, space}
+use Rattle.language.specs.Pieces.{Role, Slot, fixed, left, lead, tail, callee, lead_spine, lead_pattern, Piece, tok, may, sub, never, lay, settle_piece, separator, listed, elements, parameters, put_at, is_none, space}
 use Rattle.language.proofs.Begins.{goes_to}
 
 abbrev pub is_fixed_slot : Slot → Bool

@@ -49,3 +49,4 @@ pub mod SameTrees
 pub mod WordExamples
 pub mod FollowExamples
 pub mod Readings
+pub mod TextPlaces

@@ -9,7 +9,6 @@ use Rattle.language.specs.Words.{is, among, is_word_operator, Operator, steps, s
 use Rattle.language.specs.Token.{Token}
 use Rattle.language.specs.Follow.{of_class, operation}
 use Rattle.language.specs.Derivation.{Reads}
-use Rattle.language.specs.Promises.{ReadBy}
 use Rattle.language.proofs.Operators.{texts_of, text_among}
 use Rattle.language.proofs.Onward.{steps_no_word}
 
@@ -37,7 +36,6 @@ op_reads t {x} h n m = go t.class refl h
     go Text e k = absurd (n (sym k))
     go RegExp e k = absurd (n (sym k))
     go End e k = absurd (n (sym k))
-
 
 abbrev pub is_comma : Operator → Bool
 is_comma sequences = true

@@ -1,45 +1,42 @@
 -- Turns of the loop at what stands behind an operand: `++` and `--`, a member, a call, a template behind a tag.
 use Rattle.std.proofs.Common.{◌≡◌, ℕ, ◌-◌, ◌≤◌, Bool, true, false, cond, List, [], ◌∷◌, ◌++◌, refl, sym, ap, ◌∙◌, subst, arith}
-use Rattle.std.specs.Prelude.{IsTrue, Some, codes, max, not, ◌&&◌, ◌||◌, nat_le, nat_eq, map}
+use Rattle.std.specs.Prelude.{IsTrue, Some, max, not}
 use Rattle.std.proofs.lemmas.Bool.{false≢true}
 use Rattle.std.proofs.lemmas.Bool.Decides.{nat_tests}
-use Rattle.std.proofs.lemmas.List.{append-nil}
 use Rattle.tokens.specs.declared.token.Class.TheVariants.{Punctuator}
 use Rattle.tokens.specs.declared.token.Goal.TheVariants.{Div}
 use Rattle.tree.specs.declared.kind.Kind.{Kind}
-use Rattle.tree.specs.declared.kind.Kind.TheVariants.{Super, MemberExpression, CallExpression, TaggedTemplateExpression, UpdateExpression}
+use Rattle.tree.specs.declared.kind.Kind.TheVariants.{Super, MemberExpression, CallExpression, UpdateExpression}
 use Rattle.language.specs.declared.Rank.{Rank}
-use Rattle.language.specs.declared.Rank.TheVariants.{Expression, Assignment, LeftHandSide, Update, Call, Member}
+use Rattle.language.specs.declared.Rank.TheVariants.{Expression, LeftHandSide, Update, Call, Member}
 use Rattle.language.specs.declared.Start.{Start}
 use Rattle.language.specs.declared.Start.TheVariants.{Any}
 use Rattle.tree.specs.declared.kind.Flags.{Flags}
 use Rattle.tree.specs.declared.kind.Pair.{Pair}
 use Rattle.tree.specs.Tree.{Tree, node, Parts, none, part, gap, height, kind_of, bare, bare_parts, plain}
-use Rattle.tree.specs.Uses.{is_lean, used_flags, has_text}
+use Rattle.tree.specs.Uses.{used_flags, has_text}
 use Rattle.tree.proofs.Lean.{lean_flags, lean_text}
-use Rattle.language.specs.FirstPart.{lead as lead_kind, others}
-use Rattle.language.specs.Words.{takes, takes_number, tightness, is_target, is_super, is_rest, is_spread, Operator, steps, selects, indexes, calls, tags, chains, operator_of}
-use Rattle.language.specs.Pieces.{Role, expr, word, quasi, Piece, PieceOf, sub, tok, unbroken, is_tight, listed, argument, sign, separator, is_none, may, sp}
+use Rattle.language.specs.FirstPart.{lead as lead_kind}
+use Rattle.language.specs.Words.{takes, takes_number, tightness, is_target, is_super, Operator, steps, selects}
+use Rattle.language.specs.Pieces.{Role, expr, word, PieceOf, tok, unbroken, is_tight, listed, argument, sign}
 use Rattle.language.specs.Token.{Token}
 use Rattle.language.specs.Edges.{edge}
-use Rattle.language.specs.Expressions.{expressions, arguments, after_number}
+use Rattle.language.specs.Expressions.{expressions, after_number}
 use Rattle.language.specs.Follow.{operation, symbol_of, stops}
-use Rattle.language.specs.Promises.{IsDetermined, ReadBy, Stops, Found, Absent, AbsentWithin, FoundAt, AbsentAt, AbsentAtWithin, FoundParts, AbsentParts, AbsentPartsWithin}
+use Rattle.language.specs.Promises.{IsDetermined, ReadBy, Stops, Absent, FoundAt, AbsentAt}
 use Rattle.language.specs.Grammar.{ways, spellings}
-use Rattle.language.specs.Derivation.{Among, Reads, Spells, direct, grouped, Runs, step, within, token, Placed}
-use Rattle.language.proofs.Spine.{Grows}
+use Rattle.language.specs.Derivation.{Among, Spells, direct, grouped, Placed}
 use Rattle.language.proofs.Begins.{retell, goes_to}
 use Rattle.language.proofs.Viewed.{way_of}
-use Rattle.language.proofs.Fixed.{Fixed, all_done, one_more, same_pieces, fixed_join, fixed_listed}
-use Rattle.language.proofs.Led.{callee_rank, bracketed, dotted, Led, led_postfix, led_dot, led_index, led_call, led_tag}
-use Rattle.language.proofs.Sides.{nothing_more, selected, indexed, called, one_part}
-use Rattle.language.proofs.Signs.{reads_dot, reads_index, reads_call, reads_step}
-use Rattle.language.proofs.Growing.{kind_bare, postfix_grows, dot_grows, index_grows, call_grows, tag_grows}
+use Rattle.language.proofs.Fixed.{all_done, one_more, same_pieces, fixed_join, fixed_listed}
+use Rattle.language.proofs.Led.{callee_rank, dotted, Led, led_postfix, led_dot}
+use Rattle.language.proofs.Sides.{nothing_more, selected}
+use Rattle.language.proofs.Signs.{reads_dot, reads_step}
+use Rattle.language.proofs.Growing.{kind_bare, postfix_grows, dot_grows}
 use Rattle.language.proofs.Reaches.{is_loose}
-use Rattle.language.proofs.Stepping.{goes_where_not, led_text, unbroken_runs}
+use Rattle.language.proofs.Stepping.{goes_where_not, led_text}
 use Rattle.language.proofs.Climbing.{goes_on, grows_height, Leads, Climbing, LedOn, led_on}
 use Rattle.language.proofs.TwoSides.{same_node, replaced, same_places, retold, regrown}
-use Rattle.language.proofs.Conditionals.{same_sign, stops_before}
 
 pub rank_is : {y z : Rank} {i j : Bool} {f g : Start} → expr y i f ≡ expr z j g → y ≡ z
 rank_is e = cc

@@ -1,9 +1,8 @@
 -- A turn of the loop at an operator with a left and a right side: a binary or a logical one, `**`, or an assignment.
 use Rattle.std.proofs.Common.{◌≡◌, ℕ, ◌-◌, Bool, true, false, cond, List, ◌++◌, refl, sym, ap, ◌∙◌, subst, arith}
-use Rattle.std.specs.Prelude.{IsTrue, Some, nat_eq, slice_index_or}
+use Rattle.std.specs.Prelude.{IsTrue, Some}
 use Rattle.std.proofs.lemmas.Bool.{false≢true}
-use Rattle.tokens.specs.declared.token.Class.{Class}
-use Rattle.tokens.specs.declared.token.Class.TheVariants.{Name, Punctuator, Number, Text, Template, RegExp, End}
+use Rattle.tokens.specs.declared.token.Class.TheVariants.{Name, Punctuator}
 use Rattle.tokens.specs.declared.token.Goal.TheVariants.{Div}
 use Rattle.tree.specs.declared.kind.Kind.{Kind}
 use Rattle.tree.specs.declared.kind.Kind.TheVariants.{BinaryExpression, LogicalExpression, AssignmentExpression}
@@ -17,11 +16,11 @@ use Rattle.tree.specs.Tree.{Tree, node, Parts, none, part, bare, kind_of, plain}
 use Rattle.tree.specs.Uses.{implies, has_text, used_flags}
 use Rattle.tree.proofs.Lean.{lean_flags}
 use Rattle.language.specs.FirstPart.{lead as lead_kind}
-use Rattle.language.specs.Words.{is, takes, tightness, is_word_operator, is_target, Operator, binds, powers, assigns, tags, no_operator, does_assign, operator_of, chains}
+use Rattle.language.specs.Words.{is, takes, tightness, is_word_operator, is_target, Operator, binds, powers, assigns, does_assign, operator_of, chains}
 use Rattle.language.specs.Pieces.{Role, expr, PieceOf}
 use Rattle.language.specs.Token.{Token}
 use Rattle.language.specs.Edges.{edge, standing}
-use Rattle.language.specs.Follow.{of_class, operation, symbol_of, stops}
+use Rattle.language.specs.Follow.{operation, symbol_of, stops}
 use Rattle.language.specs.Promises.{IsDetermined, ReadBy, Stops, Found, Absent, AbsentWithin}
 use Rattle.language.specs.Grammar.{ways}
 use Rattle.language.specs.Derivation.{Reads, Spells, Placed, placed}
