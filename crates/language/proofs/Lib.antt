@@ -25,6 +25,7 @@ pub mod Tails
 pub mod Climbing
 pub mod Signs
 pub mod TwoSides
+pub mod Starting
 pub mod Conditionals
 pub mod Fixed
 pub mod Suffixes
