@@ -30,6 +30,8 @@ pub mod Conditionals
 pub mod Fixed
 pub mod Suffixes
 pub mod Calls
+pub mod Running
+pub mod Commas
 pub mod Searched
 pub mod Found
 pub mod Trees
