@@ -1,249 +1,257 @@
--- Operators on the left spine.
-use Rattle.std.proofs.Common.{◌≡◌, ℕ, ◌≤◌, ◌<◌, Bool, true, false, cond, List, [], ◌∷◌, ◌++◌, refl, sym, ap, ◌∙◌, subst, arith}
-use Rattle.std.specs.Prelude.{IsTrue, nat_le, codes}
-use Rattle.std.proofs.lemmas.Bool.{and_parts, false≢true}
-use Rattle.std.proofs.lemmas.List.{append-nil}
-use Rattle.std.proofs.lemmas.Bool.Decides.{nat_tests}
+-- The loop over the operators: what is known of all derivations at a position before each turn, and behind the last.
+use Rattle.std.proofs.Common.{◌≡◌, ℕ, ◌≤◌, ◌<◌, Bool, true, false, List, ◌++◌, refl, sym, ap, ◌∙◌, subst, arith}
+use Rattle.std.specs.Prelude.{IsTrue, Some, None, Option, not, ◌&&◌, ◌||◌, max, codes}
+use Rattle.std.proofs.lemmas.Bool.{false≢true}
+use Rattle.std.proofs.lemmas.Slice.Eq.{bytes_eq-Decides}
 use Rattle.tokens.specs.declared.token.Class.{Class}
-use Rattle.tokens.specs.declared.token.Class.TheVariants.{Punctuator}
+use Rattle.tokens.specs.declared.token.Class.TheVariants.{Name, Punctuator, Number, Text, Template, RegExp, End}
+use Rattle.tokens.specs.declared.token.Goal.TheVariants.{Div}
 use Rattle.tree.specs.declared.kind.Kind.{Kind}
-use Rattle.tree.specs.declared.kind.Kind.TheVariants.{BinaryExpression, LogicalExpression, MemberExpression, CallExpression}
 use Rattle.language.specs.declared.Rank.{Rank}
-use Rattle.language.specs.declared.Rank.TheVariants.{Expression, Conditional, Call, Member}
+use Rattle.language.specs.declared.Rank.TheVariants.{Relational, Shift, Call}
 use Rattle.language.specs.declared.Start.{Start}
-use Rattle.language.specs.declared.Start.TheVariants.{Any}
+use Rattle.language.specs.declared.Edge.{Edge}
 use Rattle.tree.specs.declared.kind.Flags.{Flags}
 use Rattle.tree.specs.declared.kind.Pair.{Pair}
-use Rattle.tree.specs.Tree.{Tree, node, Parts, none, part, bare_parts}
-use Rattle.language.specs.FirstPart.{others}
-use Rattle.language.specs.Words.{chains, is, takes, takes_number, tightness, binds, operator_of}
-use Rattle.language.specs.Pieces.{Role, expr, spine, PieceOf, Piece, tok, lay, sub, space, is_tight, Spelling, sign}
+use Rattle.tree.specs.Tree.{Tree, node, Parts, part, height, parts_height, bare, bare_parts}
+use Rattle.tree.specs.Uses.{implies, is_lean}
+use Rattle.language.specs.Words.{is, takes, tightness, Operator, binds, chains, no_operator}
+use Rattle.language.specs.Pieces.{Role, expr, spine, PieceOf}
 use Rattle.language.specs.Token.{Token}
-use Rattle.tree.specs.Uses.{implies}
-use Rattle.language.specs.Grammar.{spellings, ways}
-use Rattle.language.specs.Expressions.{first_chained, spines, linked, member_link, call_link, joined, arguments}
-use Rattle.language.specs.Derivation.{Among, Spells, Runs, done, step, within, token, laid, Placed}
-use Rattle.language.specs.View.{Made, template, tagged, member, call, postfix, power, binary, logical, conditional, assign, several}
-use Rattle.language.proofs.Domination.{settled, fits}
-use Rattle.language.proofs.Viewed.{way_of, made, one, cases}
-use Rattle.language.proofs.Operators.{binding, Rises}
-use Rattle.language.proofs.Spine.{is_led, Grows, whole, grow, grows_on_spine}
-use Rattle.language.proofs.Growth.{IsDetermined, joins, retell, token_same, first_of, goes_to, by, chunks_unled}
+use Rattle.language.specs.Edges.{edge, standing}
+use Rattle.language.specs.Follow.{of_class, operation, symbol_of, holds, stops_at, stops}
+use Rattle.language.specs.Promises.{IsDetermined, ReadBy, Stops, Found, AbsentWithin}
+use Rattle.language.specs.Grammar.{ways, spellings}
+use Rattle.language.specs.Derivation.{Spells, Runs, Placed}
+use Rattle.language.proofs.Spine.{Grows, whole, grow, grows_on_spine}
+use Rattle.language.proofs.Viewed.{way_of, made}
+use Rattle.language.proofs.Led.{Led, led_of, Linked, link_dot, link_index, link_call, link_chained_name, link_chained_index, link_chained_call, linked_of, led_chain}
+use Rattle.language.proofs.Onward.{Onward, ended, by_led, by_link, by_chain, onward, led_read, linked_read}
+use Rattle.language.proofs.Reaches.{is_loose, linked_base}
+use Rattle.language.proofs.Tails.{Tails, no_further}
+use Rattle.language.proofs.RightEdges.{takes_less}
+use Rattle.language.proofs.Stepping.{Ended, ends_where_stops, no_spine, led_makes}
 
-abbrev pub loose : Rank → Bool
-loose y = nat_le (tightness y) 15
+-- what the test says where something goes on
+pub record GoesOn (q : Rank) (i : Bool) (x : Edge) (t : Token) (s : Option Rank) : Type 0 where
+  pub symbol : Rank
+  pub makes : s ≡ Some symbol
+  pub taken : takes q symbol ≡ true
+  pub has_in : implies (is t.text "in") i ≡ true
+  pub held : holds x symbol ≡ true
 
-tail_is : {a b : Role} {qs rs : List (PieceOf Role)} → ◌≡◌ {A = List (PieceOf Role)} (sub a ∷ qs) (sub b ∷ rs) → qs ≡ rs
-tail_is e = cc
-
-head_is : {a b : Role} {qs rs : List (PieceOf Role)} → ◌≡◌ {A = List (PieceOf Role)} (sub a ∷ qs) (sub b ∷ rs) → a ≡ b
-head_is e = cc
-
--- the left part of a loose way keeps its position's In
-pub record Steady (y y' : Rank) (i i' : Bool) : Type 0 where
-  pub in_same : i' ≡ i
-  pub is_loose : IsTrue (loose y)
-
-steady_by : {y y' : Rank} (z : Rank) {a : Rank} {i i' : Bool} {f f' : Start} → expr y' i' f' ≡ expr a i f → IsTrue (takes y z) → IsTrue (loose z) → Steady y y' i i'
-steady_by {y} z e t h = record { in_same = cc; is_loose = le (tightness y) (tightness z) t h }
+three : (a b c d : Bool) → (not a || ((b && not c) || not d)) ≡ false → (a ≡ true) × ((not b || c) ≡ true) × (d ≡ true)
+three true true true true h = (refl, refl, refl)
+three true false c true h = (refl, refl, refl)
+three true true false d h = cc
+three true b c false h = last b c h
   where
-    le : (a b : ℕ) → IsTrue (takes_number a b) → IsTrue (nat_le b 15) → IsTrue (nat_le a 15)
-    le a b t h = grind (arith, nat_tests)
+    last : (b c : Bool) → ((b && not c) || true) ≡ false → (true ≡ true) × ((not b || c) ≡ true) × (false ≡ true)
+    last true true h = cc
+    last true false h = cc
+    last false c h = cc
+three false b c d h = cc
 
--- a tight left part isn't loose
-tight_by : {y' a : Rank} {i' j : Bool} {f' g : Start} {A : Type 0} → expr y' i' f' ≡ expr a j g → IsTrue (loose y') → loose a ≡ false → A
-tight_by e h k = let u : loose _ ≡ true = ap loose (rank_is e) ∙ h in absurd (false≢true (sym k ∙ u))
+not_three : (a b c d : Bool) → a ≡ true → (not b || c) ≡ true → d ≡ true → (not a || ((b && not c) || not d)) ≡ true → ⊥
+not_three true true true true h k l m = cc
+not_three true true false d h k l m = cc
+not_three true false c true h k l m = cc
+not_three a b c false h k l m = cc
+not_three false b c d h k l m = cc
+
+goes_on_at : (q : Rank) (i : Bool) (x : Edge) (t : Token) (s : Option Rank) → stops_at q i x t s ≡ false → GoesOn q i x t s
+goes_on_at q i x t None h = cc
+goes_on_at q i x t (Some z) h = let u = three (takes q z) (is t.text "in") i (holds x z) h in record { symbol = z; makes = refl; taken = u.0; has_in = u.1; held = u.2 }
+
+-- where the test says that something goes on
+pub goes_on : (y : Rank) (i : Bool) (x : Edge) (last t : Token) → stops y i x last t ≡ false → GoesOn y i (standing x last) t (symbol_of (operation t) t.after_break)
+goes_on y i x last t h = goes_on_at y i (standing x last) t (symbol_of (operation t) t.after_break) h
+
+-- what a token with the text `in` makes: a relational node, or nothing
+data OfIn (x : Operator) : Type 0 where
+  relates : x ≡ binds false Relational Shift → OfIn x
+  makes_none : x ≡ no_operator → OfIn x
+
+of_in : (c : Class) (w : List ℕ) → w ≡ codes "in" → OfIn (of_class c w)
+of_in Name w e = relates (ap (of_class Name) e)
+of_in Punctuator w e = makes_none (ap (of_class Punctuator) e)
+of_in Template w e = makes_none (ap (of_class Template) e)
+of_in Number w e = makes_none refl
+of_in Text w e = makes_none refl
+of_in RegExp w e = makes_none refl
+of_in End w e = makes_none refl
+
+some_same : {b c : Rank} → Some b ≡ Some c → b ≡ c
+some_same e = cc
+
+in_symbol : (t : Token) {z : Rank} → is t.text "in" ≡ true → symbol_of (operation t) t.after_break ≡ Some z → z ≡ Relational
+in_symbol t {z} h k = go (operation t) (of_in t.class t.text ((bytes_eq-Decides t.text (codes "in")).0 h)) k
   where
-    rank_is : {y' a : Rank} {i' j : Bool} {f' g : Start} → expr y' i' f' ≡ expr a j g → a ≡ y'
-    rank_is e = cc
+    go : (x : Operator) → OfIn x → symbol_of x t.after_break ≡ Some z → z ≡ Relational
+    go x (relates e) k = sym (some_same (sym (ap (λ v. symbol_of v t.after_break) e) ∙ k))
+    go x (makes_none e) k = let u : None ≡ Some z = sym (ap (λ v. symbol_of v t.after_break) e) ∙ k in cc
 
-callee_tight : (b : Bool) → loose (cond b Member Call) ≡ false
-callee_tight true = refl
-callee_tight false = refl
+-- only a `?.` follows a base
+pub linked_chains : {f : Start} {k : Kind} {g : Flags} {ps : Parts} {h : Rank} {j : Bool} {f' : Start} {rest : List (PieceOf Role)} {x : Operator} → Linked f k g ps (expr h j f') rest x → x ≡ chains
+linked_chains (link_dot k o c fc b e) = cc
+linked_chains (link_index k o c fc b e) = cc
+linked_chains (link_call k o fc b e) = cc
+linked_chains (link_chained_name k o c b e) = refl
+linked_chains (link_chained_index k o c b e) = refl
+linked_chains (link_chained_call k o b e) = refl
 
-binds_loosely : (w : List ℕ) {l : Bool} {z q : Rank} → operator_of w ≡ binds l z q → loose z ≡ true
-binds_loosely w {z = z} {q = q} h = let u = binding w h in low (tightness z) (tightness q) u.rises.0 u.most
-  where
-    low : (a b : ℕ) → a < b → b ≤ 15 → nat_le a 15 ≡ true
-    low a b h k = grind (arith, nat_tests)
+role_is : {y z : Rank} {i j : Bool} {f g : Start} → expr y i f ≡ expr z j g → (y ≡ z) × (i ≡ j)
+role_is {y} {z} {i} {j} e = let u : y ≡ z = cc in let v : i ≡ j = cc in (u, v)
 
-takes_of : (y : Rank) (i : Bool) (f : Start) (x : Spelling) → IsTrue (fits (expr y i f) x) → IsTrue (takes y x.rank)
-takes_of y i f x h = (and_parts _ _ (and_parts _ _ h).0).0
+part_low : (ps : Parts) (n : Tree) (qs : Parts) → ps ≡ part n qs → height n ≤ parts_height ps
+part_low ps n qs e = let u : parts_height ps ≡ max (height n) (parts_height qs) = ap parts_height e in omega arith
 
-pub steady_head : {y y' : Rank} {i i' : Bool} (f : Start) {f' : Start} {k : Kind} {w : List ℕ} {g : Flags} {ps : Parts} {x : Spelling} {rest : List (PieceOf Role)} →
-    Made k w g ps x → IsTrue (fits (expr y i f) x) → sub (expr y' i' f') ∷ rest ≡ settled (expr y i f) x → IsTrue (loose y') → Steady y y' i i'
-steady_head {y} f tagged fit eq h = tight_by (head_is eq) h (callee_tight (is_tight y))
-steady_head {y} f (member a b) fit eq h = tight_by (head_is eq) h (callee_tight (is_tight y))
-steady_head f (call a b) fit eq h = tight_by (head_is eq) h refl
-steady_head f (power a) fit eq h = tight_by (head_is eq) h refl
-steady_head {y} {i = i} f {w = w} (binary {z = z} {q = q} a) fit eq h = steady_by z (head_is eq) (takes_of y i f (joined w z q) fit) (binds_loosely w a)
-steady_head {y} {i = i} f {w = w} (logical {z = z} {q = q} a) fit eq h = steady_by z (head_is eq) (takes_of y i f (joined w z q) fit) (binds_loosely w a)
-steady_head {y} {i = i} f {x = x} conditional fit eq h = steady_by Conditional (head_is eq) (and_parts _ _ (and_parts _ _ fit).0).0 refl
-steady_head {y} {i = i} f {x = x} (several a) fit eq h = steady_by Expression (head_is eq) (and_parts _ _ (and_parts _ _ fit).0).0 refl
-steady_head {y} {y'} {i} {i'} f {f'} {rest = rest} (template {ps = ps}) fit eq h = let u : is_led (sub (expr y' i' f') ∷ rest) ≡ false = ap is_led eq ∙ chunks_unled y i f true ps in absurd (false≢true (sym u))
-steady_head f (postfix a b c) fit eq h = tight_by (head_is eq) h refl
-steady_head f (assign a b) fit eq h = tight_by (head_is eq) h refl
-steady_head _ _ fit eq h = cc
+module _ (S : Type 0) (Next : S → Token → S → Type 0) (behind : S → Token) (det : IsDetermined S Next behind) where
+  -- a tree only grows
+  pub grows_height : {o : ℕ} {s0 e : S} {a : Role} {n : Tree} {P : List Pair} {b : Role} {m : Tree} {mid : S} {Q : List Pair} → Grows S Next behind o s0 a n e P b m mid Q → height m ≤ height n
+  grows_height whole = omega arith
+  grows_height (grow {m = m} {l = node k w g st en ps} {ps = qs} h led pl eq d gs) = let u = grows_height gs in let v = part_low ps m qs eq in omega arith
 
--- the base of a chain stands at Call, before `?.`
-pub record ChainBase (y' : Rank) (i' : Bool) (f f' : Start) (rest qs : List (PieceOf Role)) (o : Bool) : Type 0 where
-  pub role : expr y' i' f' ≡ expr Call true f
-  pub optional : o ≡ true
-  pub rest_is : rest ≡ qs
+  -- What stands so far, m up to mid, on the spine of a whole: it stands at a position that takes its symbol r, and is spelled there.
+  pub record Leads (o : ℕ) (s0 : S) (y : Rank) (i : Bool) (f : Start) (n : Tree) (e : S) (P : List Pair) (r : Rank) (m : Tree) (mid : S) (Q : List Pair) : Type 0 where
+    pub h : Rank
+    pub j : Bool
+    pub g : Start
+    pub fits : IsTrue (takes h r)
+    pub spelled : Spells ways S Next behind o (expr h j g) m s0 mid Q
+    pub grows : Grows S Next behind o s0 (expr y i f) n e P (expr h j g) m mid Q
 
-chain_base : {y' : Rank} {i' : Bool} (f : Start) {f' : Start} {rest : List (PieceOf Role)} (qs : List Piece) (o : Bool) (ps : Parts) {x : Spelling} →
-    Among x (linked o ps qs) → sub (expr y' i' f') ∷ rest ≡ settled (spine f) x → ChainBase y' i' f f' rest (goes_to Expression true f qs) o
-chain_base f qs o ps h e = cases (first_chained ps) h (λ b k. let u = e ∙ ap (settled (spine f)) (one k) in cc) (λ b k. cases o k (λ c j. let u = e ∙ ap (settled (spine f)) (one j) in record { role = head_is u; optional = c; rest_is = tail_is u }) (λ c j. elim j [ ]))
+  -- Before each turn of the loop at the position `expr y i f`, from s0: m is read up to mid, whose symbol is r. It is spelled at each
+  -- position that takes r, with the same In where In matters; and what the position spells here, and what can't go on, begins with m.
+  pub record Climbing (o : ℕ) (y : Rank) (i : Bool) (f : Start) (r : Rank) (s0 : S) (m : Tree) (mid : S) (Q : List Pair) : Type 0 where
+    pub low : IsTrue (takes y r)
+    pub stands : (h : Rank) (j : Bool) → IsTrue (takes h r) → (is_loose h ≡ true → j ≡ i) → Spells ways S Next behind o (expr h j f) m s0 mid Q
+    pub leads : (o' : ℕ) (e' : S) (n' : Tree) (P' : List Pair) → Spells ways S Next behind o' (expr y i f) n' s0 e' P' → Stops S Next behind y i n' e' → Leads o' s0 y i f n' e' P' r m mid Q
 
-question_first : (f : Start) (b : Bool) (qs rs : List Piece) → b ≡ true → first_of (goes_to Expression true f (cond b (sign "?." ∷ qs) rs)) ≡ by Punctuator (codes "?.")
-question_first f true qs rs h = refl
-question_first f false qs rs h = cc
+  -- it is the whole, or a token is read behind it
+  data ReadsOn (a : Role) (n : Tree) (e : S) (P : List Pair) (b : Role) (m : Tree) (mid : S) (Q : List Pair) : Type 0 where
+    no_more : Ended S Next behind det a n e P b m mid Q → ReadsOn a n e P b m mid Q
+    one_more : (t : Token) (x : S) → ReadBy S Next behind Div mid t x → ReadsOn a n e P b m mid Q
 
-question_call : (f : Start) (b : Bool) (ps : Parts) → b ≡ true → first_of (goes_to Expression true f (cond b (sign "?." ∷ []) [] ++ arguments ps)) ≡ by Punctuator (codes "?.")
-question_call f true ps h = refl
-question_call f false ps h = cc
-
-spine_tight : {y' : Rank} {i' : Bool} (f : Start) {f' : Start} (k : Kind) (g : Flags) (ps : Parts) {x : Spelling} {rest : List (PieceOf Role)} {A : Type 0} →
-    Among x (spines k g ps) → sub (expr y' i' f') ∷ rest ≡ settled (spine f) x → IsTrue (loose y') → A
-spine_tight f MemberExpression g ps t eq h = tight_by (chain_base f (member_link g) g.optional ps t eq).role h refl
-spine_tight f CallExpression g ps t eq h = tight_by (chain_base f (call_link g ps) g.optional ps t eq).role h refl
-spine_tight f _ g ps t eq h = elim t [ ]
-
-between_numbers : (y z q x : ℕ) → IsTrue (takes_number y z) → Rises z q → z ≤ 15 → IsTrue (takes_number q x) → IsTrue (takes_number y x)
-between_numbers y z q x h (k, c) l j = grind (arith, nat_tests)
-
-not_back : (z q x : ℕ) → IsTrue (takes_number x z) → z < q → IsTrue (takes_number q x) → ⊥
-not_back z q x h k j = grind (arith, nat_tests)
-
-rank_of_role : {y z : Rank} {i j : Bool} {f g : Start} → expr y i f ≡ expr z j g → y ≡ z
-rank_of_role e = cc
-
-stands_loose : (y z : Rank) → IsTrue (takes y z) → loose z ≡ true → IsTrue (loose y)
-stands_loose y z h k = numbers (tightness y) (tightness z) h k
-  where
-    numbers : (a b : ℕ) → IsTrue (takes_number a b) → nat_le b 15 ≡ true → IsTrue (nat_le a 15)
-    numbers a b h k = grind (arith, nat_tests)
-
-loose_number : (z : ℕ) → nat_le z 15 ≡ true → z ≤ 15
-loose_number z h = grind (arith, nat_tests)
-
-module _ (S : Type 0) (Next : S → Token → S → Type 0) (behind : S → Token) where
-  -- no operator of the symbol y or a tighter one is read here
-  abbrev pub Stops : Rank → Bool → S → Type 0
-  Stops y i e = (t : Token) (m : S) (l : Bool) (z q : Rank) → Next e t m → operator_of t.text ≡ binds l z q → IsTrue (takes y z) → IsTrue (implies (is t.text "in") i) → ⊥
-
-  -- an operator and its right side
-  pub record RightSide (o : ℕ) (a : Role) (ps : Parts) (s e : S) (R : List Pair) : Type 0 where
-    pub operand : Tree
-    pub parts : ps ≡ part operand none
-    pub spelled : Spells ways S Next behind o a operand s e R
-
-  right_side : IsDetermined S Next behind → {o : ℕ} {c : Class} {v : List ℕ} {a : Role} {ps : Parts} {s m e : S} {R : List Pair} {t : Token} →
-      Runs ways S Next behind o (lay space ∷ tok c v ∷ lay space ∷ sub a ∷ []) ps s e R → Next s t m → RightSide o a ps m e R
-  right_side det (step laid (step (token h) (step laid (within p done)))) nx' = alone (det.same _ _ _ _ _ h.next nx').1 p
+  reads_on : {o : ℕ} {s0 e : S} {y : Rank} {i : Bool} {f : Start} {n : Tree} {P : List Pair} {h : Rank} {j : Bool} {f' : Start} {m : Tree} {mid : S} {Q : List Pair} →
+      Grows S Next behind o s0 (expr y i f) n e P (expr h j f') m mid Q → ReadsOn (expr y i f) n e P (expr h j f') m mid Q
+  unfolding spellings
+  reads_on whole = no_more (record { role = refl; tree = refl; place = refl; pairs = refl })
+  reads_on {h = h} {j = j} {f' = f'} (grow {c = expr y2 i2 f2} {l = node k w g st en ps} {rest = rest} t led pl eq d gs) =
+      let v = way_of t in
+      let u = led_of y2 i2 f2 (made k v.listed) v.fit v.is led in
+      let w = led_read S Next behind det u.led (some u.led) d in
+      one_more w.token w.mid w.read
     where
-      alone : {o : ℕ} {a : Role} {n : Tree} {m x e : S} {P : List Pair} → m ≡ x → Spells ways S Next behind o a n m e P → RightSide o a (part n none) x e (P ++ [])
-      alone {o} {a} {n} {m} {x} {e} {P} h p = record { operand = n; parts = refl; spelled = subst (λ y. Spells ways S Next behind o a n y e (P ++ [])) h (subst (λ y. Spells ways S Next behind o a n m e y) (sym (append-nil P)) p) }
-  right_side det (step laid (step (token h) (step laid (step p d)))) nx' = elim p [ ]
+      some : {y : Rank} {i : Bool} {f : Start} {k : Kind} {w : List ℕ} {g : Flags} {ps : Parts} {rest : List (PieceOf Role)} {x : Operator} → Led y i f k w g ps (expr h j f') rest x → x ≡ no_operator → ⊥
+      some (led_chain k c tk b e) x = no_spine b
+      some _ x = cc
+  reads_on (grow {c = spine f2} {l = node k w g st en ps} t led pl eq d gs) =
+      let v = way_of t in
+      let w = linked_read S Next behind det (linked_of f2 k v.listed v.is).linked d in
+      one_more w.token w.mid w.read
+  reads_on (grow {c = _} t led pl eq d gs) = absurd (false≢true (grows_on_spine S Next behind refl gs))
 
-  -- the operator's node, and how it goes on
-  pub record Operated (o : ℕ) (s0 : S) (a : Role) (n : Tree) (e : S) (P : List Pair) (b : Role) (m : Tree) (mid : S) (Q : List Pair) (v : List ℕ) (l : Bool) (z q : Rank) : Type 0 where
+  -- what can't go on is the whole
+  pub whole_where_stops : {o : ℕ} {s0 e : S} {y : Rank} {i : Bool} {f : Start} {n : Tree} {P : List Pair} {h : Rank} {j : Bool} {f' : Start} {m : Tree} {mid : S} {Q : List Pair} →
+      Spells ways S Next behind o (expr h j f') m s0 mid Q → Stops S Next behind y i m mid → Grows S Next behind o s0 (expr y i f) n e P (expr h j f') m mid Q → Ended S Next behind det (expr y i f) n e P (expr h j f') m mid Q
+  whole_where_stops {o} {s0} {e} {y} {i} {f} {n} {P} {h} {j} {f'} {m} {mid} {Q} sp st gs = of (reads_on gs)
+    where
+      of : ReadsOn (expr y i f) n e P (expr h j f') m mid Q → Ended S Next behind det (expr y i f) n e P (expr h j f') m mid Q
+      of (no_more u) = u
+      of (one_more t x r) = ends_where_stops S Next behind det sp r (st t x r) gs
+
+  -- where nothing can go on, what stands so far is found
+  pub climb_stop : {o : ℕ} {y : Rank} {i : Bool} {f : Start} {r : Rank} {s0 : S} {m : Tree} {mid : S} {Q : List Pair} → Climbing o y i f r s0 m mid Q → Stops S Next behind y i m mid → Found S Next behind o y i f s0 mid m Q
+  climb_stop {y = y} {i = i} c st = record {
+    spelled = c.stands y i c.low (λ h. refl);
+    stopped = st;
+    only = λ o' e' n' P' d st'. let v = c.leads o' e' n' P' d st' in let u = whole_where_stops v.spelled st v.grows in (u.place, u.tree, u.pairs);
+  }
+
+  -- what stands so far is too high already
+  pub climb_high : {o hi : ℕ} {y : Rank} {i : Bool} {f : Start} {r : Rank} {s0 : S} {m : Tree} {mid : S} {Q : List Pair} → Climbing o y i f r s0 m mid Q → hi < height m → AbsentWithin S Next behind o hi y i f s0
+  climb_high {o} c over = record { nothing = λ e' n' P' d st le. (let v = c.leads o e' n' P' d st in let low = grows_height v.grows in omega arith) }
+
+  -- The way that goes on from what stands so far, and how the spine goes on from it
+  pub record LedOn (o : ℕ) (s0 : S) (a : Role) (n : Tree) (e : S) (P : List Pair) (h : Rank) (j : Bool) (f' : Start) (m : Tree) (mid : S) (Q : List Pair) (x : Operator) : Type 0 where
     pub y : Rank
     pub i : Bool
     pub f : Start
-    pub flags : Flags
-    pub start : ℕ
-    pub stop : ℕ
-    pub operand : Tree
+    pub k : Kind
+    pub w : List ℕ
+    pub g : Flags
+    pub st : ℕ
+    pub en : ℕ
+    pub ps : Parts
+    pub rest : List (PieceOf Role)
     pub to : S
-    pub right : List Pair
-    pub role : b ≡ expr z i f
-    pub stands : IsTrue (takes y z)
-    pub spelled : Spells ways S Next behind o (expr q i Any) operand mid to right
-    pub placed : Placed S Next behind (expr y i f) (node (cond l LogicalExpression BinaryExpression) v flags start stop (part m (part operand none))) s0 to
-    pub grows : Grows S Next behind o s0 a n e P (expr y i f) (node (cond l LogicalExpression BinaryExpression) v flags start stop (part m (part operand none))) to (Q ++ right)
+    pub more : List Pair
+    pub led : Led y i f k w g (bare_parts (part m ps)) (expr h j f') rest x
+    pub lean : is_lean (bare (node k w g st en (part m ps))) ≡ true
+    pub runs : Runs ways S Next behind o rest ps mid to more
+    pub placed : Placed S Next behind (expr y i f) (node k w g st en (part m ps)) s0 to
+    pub spelled : Spells ways S Next behind o (expr y i f) (node k w g st en (part m ps)) s0 to (Q ++ more)
+    pub grows : Grows S Next behind o s0 a n e P (expr y i f) (node k w g st en (part m ps)) to (Q ++ more)
 
-  pub operated : IsDetermined S Next behind → {o : ℕ} {s0 e : S} {y : Rank} {i : Bool} {f : Start} {n : Tree} {P : List Pair} {y1 : Rank} {i1 : Bool} {f1 : Start} {m : Tree} {mid x : S} {Q : List Pair}
-      {t : Token} {l : Bool} {z q : Rank} → Next mid t x → operator_of t.text ≡ binds l z q → IsTrue (takes y z) → IsTrue (implies (is t.text "in") i) → Stops y i e →
-      Grows S Next behind o s0 (expr y i f) n e P (expr y1 i1 f1) m mid Q → Operated o s0 (expr y i f) n e P (expr y1 i1 f1) m x Q t.text l z q
-  unfolding spellings
-  operated det nx op tk im st whole = absurd (st _ _ _ _ _ nx op tk im)
-  operated det {t = t} {l = l} {z = z} {q = q} nx op tk im st (grow {c = expr y2 i2 f2} {l = node kk w g s1 e1 ps} {rest = rest} h led pl eq d gs) =
-      let v = way_of h in
-      let j = joins S Next behind det (made kk v.listed) v.fit v.is d nx refl op in
-      of_right (right_side det (retell S Next behind j.pieces d) nx) j.kind j.text j.role j.stands eq pl gs
+  -- where the token that is read goes on, and is no `?.`
+  pub led_on : {o : ℕ} {s0 e x : S} {y : Rank} {i : Bool} {f : Start} {n : Tree} {P : List Pair} {h : Rank} {j : Bool} {f' : Start} {m : Tree} {mid : S} {Q : List Pair} {t : Token} {z : Operator} →
+      ReadBy S Next behind Div mid t x → operation t ≡ z → (z ≡ chains → ⊥) → (Ended S Next behind det (expr y i f) n e P (expr h j f') m mid Q → ⊥) → Spells ways S Next behind o (expr h j f') m s0 mid Q →
+      Grows S Next behind o s0 (expr y i f) n e P (expr h j f') m mid Q → LedOn o s0 (expr y i f) n e P h j f' m mid Q z
+  led_on {o} {s0} {e} {x} {y} {i} {f} {n} {P} {h} {j} {f'} {m} {mid} {Q} {t} {z} r op other goes sp gs = of (onward S Next behind det refl r gs)
     where
-      of_right : {o : ℕ} {s0 e : S} {y : Rank} {i : Bool} {f : Start} {n : Tree} {P : List Pair} {b : Role} {m : Tree} {x : S} {Q : List Pair} {to : S} {R : List Pair} {ps ps' : Parts} →
-          RightSide o (expr q i2 Any) ps' x to R → kk ≡ cond l LogicalExpression BinaryExpression → w ≡ t.text → b ≡ expr z i2 f2 → IsTrue (takes y2 z) → ps ≡ part m ps' →
-          Placed S Next behind (expr y2 i2 f2) (node kk w g s1 e1 ps) s0 to → Grows S Next behind o s0 (expr y i f) n e P (expr y2 i2 f2) (node kk w g s1 e1 ps) to (Q ++ R) →
-          Operated o s0 (expr y i f) n e P b m x Q t.text l z q
-      of_right {o} {s0} {e} {y} {i} {f} {n} {P} {m = m} {Q = Q} {to = to} {R = R} {ps = ps} side kind text role stands eq pl gs =
-          let same : node kk w g s1 e1 ps ≡ node (cond l LogicalExpression BinaryExpression) t.text g s1 e1 (part m (part side.operand none)) =
-          ap (λ x. node x w g s1 e1 ps) kind ∙ ap (λ x. node (cond l LogicalExpression BinaryExpression) x g s1 e1 ps) text ∙ ap (λ x. node (cond l LogicalExpression BinaryExpression) t.text g s1 e1 x) (eq ∙ ap (part m) side.parts) in
-          record {
-            y = y2;
-            i = i2;
-            f = f2;
-            flags = g;
-            start = s1;
-            stop = e1;
-            operand = side.operand;
-            to = to;
-            right = R;
-            role = role;
-            stands = stands;
-            spelled = side.spelled;
-            placed = subst (λ x. Placed S Next behind (expr y2 i2 f2) x s0 to) same pl;
-            grows = subst (λ x. Grows S Next behind o s0 (expr y i f) n e P (expr y2 i2 f2) x to (Q ++ R)) same gs;
-          }
-  operated det {t = t} nx op tk im st (grow {c = spine f2} {l = node kk w g s1 e1 ps} {rest = rest} h led pl eq d gs) =
-      let v = way_of h in absurd (no_operator_in kk g (bare_parts ps) v.listed v.is d nx op)
+      of : Onward S Next behind det o s0 (expr y i f) n e P (expr h j f') m mid Q t → LedOn o s0 (expr y i f) n e P h j f' m mid Q z
+      of (ended a b c d) = absurd (goes (record { role = a; tree = b; place = c; pairs = d }))
+      of (by_led {y = y2} {i = i2} {f = f2} {k = k} {w = w} {g = g} {st = st} {en = en} {ps = ps} {rest = rest} {to = to} {R = R} {x = x2} led some op' lean d pl grown gs') = record {
+        y = y2;
+        i = i2;
+        f = f2;
+        k = k;
+        w = w;
+        g = g;
+        st = st;
+        en = en;
+        ps = ps;
+        rest = rest;
+        to = to;
+        more = R;
+        led = subst (λ v. Led y2 i2 f2 k w g (bare_parts (part m ps)) (expr h j f') rest v) (sym op' ∙ op) led;
+        lean = lean;
+        runs = d;
+        placed = pl;
+        spelled = grown sp;
+        grows = gs';
+      }
+      of (by_link linked op' lean d pl grown gs') = absurd (other (sym op ∙ op' ∙ linked_chains linked))
+      of (by_chain b tk lean pl grown gs') = absurd (no_spine b)
+
+  -- The whole can't go on, so nothing goes on behind its last part either: the part u, at the symbol q, ends where the node does.
+  pub stops_inside : {o : ℕ} {s0 e : S} {y : Rank} {i : Bool} {f : Start} {n : Tree} {P : List Pair} {h : Rank} {j : Bool} {f' : Start} {m : Tree} {to : S} {Q : List Pair} (z q : Rank) (i' : Bool) (u : Tree) → Tails z q →
+      (tightness y ≡ 2 → tightness z ≡ 2 → ⊥) → IsTrue (takes h z) → (takes q Relational ≡ true → i' ≡ j) → standing (edge m) (behind to) ≡ standing (edge u) (behind to) → Stops S Next behind y i n e →
+      Grows S Next behind o s0 (expr y i f) n e P (expr h j f') m to Q → Stops S Next behind q i' u to
+  stops_inside {o} {s0} {e} {y} {i} {f} {n} {P} {h} {j} {f'} {m} {to} {Q} z q i' u tails conditional stands ins same st gs t x r = decide (stops q i' (edge u) (behind to) t) refl
     where
-      from_question : {l : Bool} {z q : Rank} → t.text ≡ codes "?." → operator_of t.text ≡ binds l z q → ⊥
-      from_question e op = let u : chains ≡ _ = sym (ap operator_of e) ∙ op in cc
+      goes : GoesOn q i' (standing (edge u) (behind to)) t (symbol_of (operation t) t.after_break) → Onward S Next behind det o s0 (expr y i f) n e P (expr h j f') m to Q t → ⊥
+      goes c (ended a b d p) =
+          let role = role_is a in
+          let stopped : stops_at y i (standing (edge n) (behind e)) t (symbol_of (operation t) t.after_break) ≡ true = st t x (subst (λ v. ReadBy S Next behind Div v t x) (sym d) r) in
+          let standing' : standing (edge n) (behind e) ≡ standing (edge u) (behind to) = ap (λ v. standing (edge v) (behind e)) b ∙ ap (λ v. standing (edge m) (behind v)) d ∙ same in
+          let stopped2 : stops_at y i (standing (edge u) (behind to)) t (Some c.symbol) ≡ true = subst (λ v. stops_at y i v t (Some c.symbol) ≡ true) standing' (subst (λ v. stops_at y i (standing (edge n) (behind e)) t v ≡ true) c.makes stopped) in
+          let taken : takes y c.symbol ≡ true = tails.passes (tightness y) (tightness c.symbol) conditional (subst (λ v. IsTrue (takes v z)) (sym role.0) stands) c.taken in
+          not_three (takes y c.symbol) (is t.text "in") i (holds (standing (edge u) (behind to)) c.symbol) taken (has_in (is t.text "in") refl role.1) c.held stopped2
+        where
+          has_in : (b : Bool) → is t.text "in" ≡ b → i ≡ j → (not b || i) ≡ true
+          has_in false e k = refl
+          has_in true e k =
+              let w : takes q Relational ≡ true = subst (λ v. takes q v ≡ true) (in_symbol t e c.makes) c.taken in
+              k ∙ sym (ins w) ∙ ap (λ b. not b || i') (sym e) ∙ c.has_in
+      goes c (by_led led some op lean d pl grown gs') =
+          let w = led_makes S Next behind det led some d r in
+          no_further t.after_break z q led (ap (λ v. symbol_of v t.after_break) (sym op) ∙ c.makes) tails stands c.taken
+      goes c (by_link linked op lean d pl grown gs') =
+          let less = takes_less Call z (subst (λ v. IsTrue (takes v z)) (linked_base linked) stands) in let high = tails.highest in absurd (omega arith)
+      goes c (by_chain b tk lean pl grown gs') = no_spine b
 
-      no_operator_in : (k : Kind) {y' : Rank} {i' : Bool} {f' : Start} (g : Flags) (qs : Parts) {ps : Parts} {x : Spelling} {o : ℕ} {s e m : S} {P : List Pair} {l : Bool} {z q : Rank} →
-          Among x (spines k g qs) → sub (expr y' i' f') ∷ rest ≡ settled (spine f2) x → Runs ways S Next behind o rest ps s e P → Next s t m → operator_of t.text ≡ binds l z q → ⊥
-      no_operator_in MemberExpression g qs listed eq d nx op =
-          let u = chain_base f2 (member_link g) g.optional qs listed eq in
-          from_question (token_same S Next behind det rest (ap first_of u.rest_is ∙ question_first f2 g.optional _ _ u.optional) d nx) op
-      no_operator_in CallExpression g qs listed eq d nx op =
-          let u = chain_base f2 (call_link g qs) g.optional qs listed eq in
-          from_question (token_same S Next behind det rest (ap first_of u.rest_is ∙ question_call f2 g.optional (others qs) u.optional) d nx) op
-      no_operator_in _ g qs listed eq d nx op = elim listed [ ]
-  operated det nx op tk im st (grow {c = _} h led pl eq d gs) = absurd (false≢true (grows_on_spine S Next behind refl gs))
-
-  -- outward from a loose position of a spine In stays
-  pub steady : {o : ℕ} {s0 e : S} {y : Rank} {i : Bool} {f : Start} {n : Tree} {P : List Pair} {y1 : Rank} {i1 : Bool} {f1 : Start} {m : Tree} {mid : S} {Q : List Pair} →
-      IsTrue (loose y1) → Grows S Next behind o s0 (expr y i f) n e P (expr y1 i1 f1) m mid Q → i1 ≡ i
-  unfolding spellings
-  steady h whole = refl
-  steady h (grow {c = expr y2 i2 f2} {l = node kk w g s1 e1 ps} t led pl eq d gs) =
-      let v = way_of t in let u = steady_head f2 (made kk v.listed) v.fit v.is h in u.in_same ∙ steady u.is_loose gs
-  steady h (grow {c = spine f2} {l = node kk w g s1 e1 ps} t led pl eq d gs) = let v = way_of t in spine_tight f2 kk g (bare_parts ps) v.listed v.is h
-  steady h (grow {c = _} t led pl eq d gs) = absurd (false≢true (grows_on_spine S Next behind refl gs))
-
-  -- behind the right side of an operator, no operator that it would take
-  pub stops_after : IsDetermined S Next behind → {o : ℕ} {s0 e : S} {y : Rank} {i : Bool} {f : Start} {n : Tree} {P : List Pair} {y1 : Rank} {i1 : Bool} {f1 : Start} {m : Tree} {mid : S} {Q : List Pair} (z q : Rank) →
-      IsTrue (takes y z) → loose z ≡ true → Rises (tightness z) (tightness q) → IsTrue (takes y1 z) → Stops y i e → Grows S Next behind o s0 (expr y i f) n e P (expr y1 i1 f1) m mid Q → Stops q i mid
-  stops_after det {y = y} {y1 = y1} z q tk lo less stands st gs t x l' z' q' nx op tk' im =
-      let u = operated det nx op (between_numbers (tightness y) (tightness z) (tightness q) (tightness z') tk less (loose_number (tightness z) lo) tk') im st gs in
-      not_back (tightness z) (tightness q) (tightness z') (subst (λ a. IsTrue (takes a z)) (rank_of_role u.role) stands) less.0 tk'
-
-  -- the only thing that the position spells here, as far as it goes
-  pub record Found (o : ℕ) (y : Rank) (i : Bool) (f : Start) (s e : S) (n : Tree) (P : List Pair) : Type 0 where
-    pub spelled : Spells ways S Next behind o (expr y i f) n s e P
-    pub stops : Stops y i e
-    pub only : (o' : ℕ) (e' : S) (n' : Tree) (P' : List Pair) → Spells ways S Next behind o' (expr y i f) n' s e' P' → Stops y i e' → (e' ≡ e) × (n' ≡ n) × (P' ≡ P)
-
-  -- what an operator behind the operand so far makes of a goal, where its right side was found
-  pub goes : IsDetermined S Next behind → {o o' : ℕ} {s0 e x to : S} {y : Rank} {i : Bool} {f : Start} {n u : Tree} {P : List Pair} {y1 : Rank} {i1 : Bool} {f1 : Start} {m : Tree} {mid : S} {Q : List Pair} {U : List Pair}
-      {t : Token} {l : Bool} {z q : Rank} → Next mid t x → operator_of t.text ≡ binds l z q → Rises (tightness z) (tightness q) → IsTrue (takes y z) → IsTrue (implies (is t.text "in") i) → Stops y i e →
-      Found o' q i Any x to u U → Grows S Next behind o s0 (expr y i f) n e P (expr y1 i1 f1) m mid Q →
-      (w : Operated o s0 (expr y i f) n e P (expr y1 i1 f1) m x Q t.text l z q) × (w.to ≡ to) × (w.operand ≡ u) × (w.right ≡ U)
-  goes det {o = o} {x = x} {i = i} {y1 = y1} {i1 = i1} {f1 = f1} {m = m} {t = t} {z = z} {q = q} nx op less tk im st found gs =
-      let w = operated det nx op tk im st gs in
-      let lo : loose z ≡ true = binds_loosely t.text op in
-      let same : w.i ≡ i = steady (stands_loose w.y z w.stands lo) w.grows in
-      let h : (w.to ≡ _) × (w.operand ≡ _) × (w.right ≡ _) = found.only o w.to w.operand w.right (subst (λ j. Spells ways S Next behind o (expr q j Any) w.operand x w.to w.right) same w.spelled) (stops_after det z q tk lo less w.stands st w.grows) in
-      (w, h.0, h.1, h.2)
+      decide : (b : Bool) → stops q i' (edge u) (behind to) t ≡ b → IsTrue (stops q i' (edge u) (behind to) t)
+      decide true k = k
+      decide false k = absurd (goes (goes_on q i' (edge u) (behind to) t k) (onward S Next behind det refl r gs))

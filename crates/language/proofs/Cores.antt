@@ -1,5 +1,5 @@
 -- What an expression begins with, by its first token: a group, or one of the ways that begin with a token.
-use Rattle.std.proofs.Common.{◌≡◌, ℕ, suc, Bool, true, false, List, [], ◌∷◌, refl, sym, ap, ◌∙◌, subst}
+use Rattle.std.proofs.Common.{◌≡◌, ℕ, suc, Bool, true, List, ◌∷◌, refl, sym, ap, ◌∙◌, subst}
 use Rattle.std.specs.Prelude.{IsTrue, codes}
 use Rattle.tokens.specs.declared.token.Class.TheVariants.{Punctuator}
 use Rattle.tokens.specs.declared.token.Goal.{Goal}
@@ -73,10 +73,15 @@ module _ (S : Type 0) (Next : S → Token → S → Type 0) (behind : S → Toke
   spines_led f CallExpression g ps h = linked_led f g.optional ps (call_link g ps) h
   spines_led f _ g ps h = elim h [ ]
 
+  -- so none is a core
+  pub no_spine_core : {o : ℕ} {f : Start} {n : Tree} {s e : S} {P : List Pair} → Core S Next behind o (spine f) n s e P → ⊥
+  unfolding spellings
+  no_spine_core {f = f} (plain {n = node k w g st en ps} qs way un pl eq d) = let v = way_of way in false≢true (sym un ∙ ap is_led v.is ∙ spines_led f k g (bare_parts ps) v.listed)
+
   core_begins : {o : ℕ} {n : Tree} {s e : S} {P : List Pair} (a : Role) → on_spine a ≡ true → Core S Next behind o a n s e P → Begins s
   unfolding spellings
   core_begins (expr y i f) h c = let u = core_of c in record { opening = u.opening; begins = u.begins }
-  core_begins (spine f) h (plain {n = node k w g st en ps} qs way un pl eq d) = let v = way_of way in absurd (false≢true (sym un ∙ ap is_led v.is ∙ spines_led f k g (bare_parts ps) v.listed))
+  core_begins (spine f) h c = absurd (no_spine_core c)
   core_begins _ h c = absurd (false≢true h)
 
   -- So where an expression begins, the goal for operands reads a token: never the punctuator `/` or `/=`, which that goal doesn't read.

@@ -43,10 +43,10 @@ module _ (S : Type 0) (Next : S → Token → S → Type 0) (behind : S → Toke
   last_runs : {o : ℕ} {a : Role} {n : Tree} {s e : S} {P : List Pair} → Spells ways S Next behind o a n s e P → Runs ways S Next behind o (sub a ∷ []) (part n none) s e P
   last_runs {o} {a} {n} {s} {e} {P} d = subst (λ z. Runs ways S Next behind o (sub a ∷ []) (part n none) s e z) (append-nil P) (within d done)
 
-  abbrev Whole : ℕ → Rank → Bool → Start → ℕ → ℕ → Tree → S → S → List Pair → Kind → List ℕ → Flags → Parts → List Pair → Type 0
+  abbrev pub Whole : ℕ → Rank → Bool → Start → ℕ → ℕ → Tree → S → S → List Pair → Kind → List ℕ → Flags → Parts → List Pair → Type 0
   Whole o y i f st en m s e P k w g ps Q = Spells ways S Next behind o (expr y i f) (node k w g st en (part m ps)) s e (P ++ Q)
 
-  abbrev Here : Rank → Bool → Start → ℕ → ℕ → Tree → S → S → Kind → List ℕ → Flags → Parts → Type 0
+  abbrev pub Here : Rank → Bool → Start → ℕ → ℕ → Tree → S → S → Kind → List ℕ → Flags → Parts → Type 0
   Here y i f st en m s e k w g ps = Placed S Next behind (expr y i f) (node k w g st en (part m ps)) s e
 
   module _ {o : ℕ} {y : Rank} {i : Bool} {f : Start} {st en : ℕ} {m : Tree} {s mid e : S} {P : List Pair} where

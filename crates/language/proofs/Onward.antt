@@ -14,7 +14,7 @@ use Rattle.language.specs.declared.Rank.TheVariants.{Primary, Relational, Shift,
 use Rattle.language.specs.declared.Start.{Start}
 use Rattle.tree.specs.declared.kind.Flags.{Flags}
 use Rattle.tree.specs.declared.kind.Pair.{Pair}
-use Rattle.tree.specs.Tree.{Tree, node, Parts, none, part, gap, bare, bare_parts}
+use Rattle.tree.specs.Tree.{Tree, node, Parts, none, part, gap, parts_of, bare, bare_parts}
 use Rattle.language.specs.FirstPart.{others}
 use Rattle.language.specs.Words.{is_word_operator, takes, Operator, binds, steps, sequences, tags, no_operator, operator_of}
 use Rattle.language.specs.Pieces.{Role, expr, spine, quasi, chunk, PieceOf, sub, at, is_none}
@@ -22,7 +22,7 @@ use Rattle.language.specs.Token.{Token}
 use Rattle.language.specs.Follow.{of_class, operation}
 use Rattle.language.specs.Grammar.{spellings, ways}
 use Rattle.language.specs.Expressions.{chunks, sequence}
-use Rattle.language.specs.Derivation.{Spells, direct, Runs, done, step, within, Placed}
+use Rattle.language.specs.Derivation.{Among, Spells, direct, Runs, done, step, within, Placed}
 use Rattle.tree.specs.Uses.{is_lean}
 use Rattle.language.proofs.Domination.{settled}
 use Rattle.language.proofs.Viewed.{way_of, made, one}
@@ -135,20 +135,23 @@ module _ (S : Type 0) (Next : S → Token → S → Type 0) (behind : S → Toke
   goes_with {s = s} {m = m} {t = t} u r = ap operation (det.same Div s t u.token m u.mid r.next u.read.next r.allowed u.read.allowed).0 ∙ u.goes
 
   -- What stands so far, m at b up to mid, in what the whole n at a is: it is the whole; or a way goes on with the token that is read
-  -- behind it; or a chain ends there.
+  -- behind it; or a chain ends there. Where it is spelled at b, so is then what it has grown to.
   pub data Onward (o : ℕ) (s0 : S) (a : Role) (n : Tree) (e : S) (P : List Pair) (b : Role) (m : Tree) (mid : S) (Q : List Pair) (t : Token) : Type 0 where
     ended : a ≡ b → n ≡ m → e ≡ mid → P ≡ Q → Onward o s0 a n e P b m mid Q t
     by_led : {y : Rank} {i : Bool} {f : Start} {k : Kind} {w : List ℕ} {g : Flags} {st en : ℕ} {ps : Parts} {rest : List (PieceOf Role)} {to : S} {R : List Pair} {x : Operator} →
         Led y i f k w g (bare_parts (part m ps)) b rest x → (x ≡ no_operator → ⊥) → operation t ≡ x → is_lean (bare (node k w g st en (part m ps))) ≡ true →
         Runs ways S Next behind o rest ps mid to R → Placed S Next behind (expr y i f) (node k w g st en (part m ps)) s0 to →
+        (Spells ways S Next behind o b m s0 mid Q → Spells ways S Next behind o (expr y i f) (node k w g st en (part m ps)) s0 to (Q ++ R)) →
         Grows S Next behind o s0 a n e P (expr y i f) (node k w g st en (part m ps)) to (Q ++ R) → Onward o s0 a n e P b m mid Q t
     by_link : {f : Start} {k : Kind} {w : List ℕ} {g : Flags} {st en : ℕ} {ps : Parts} {rest : List (PieceOf Role)} {to : S} {R : List Pair} {x : Operator} →
         Linked f k g (bare_parts (part m ps)) b rest x → operation t ≡ x → is_lean (bare (node k w g st en (part m ps))) ≡ true →
         Runs ways S Next behind o rest ps mid to R → Placed S Next behind (spine f) (node k w g st en (part m ps)) s0 to →
+        (Spells ways S Next behind o b m s0 mid Q → Spells ways S Next behind o (spine f) (node k w g st en (part m ps)) s0 to (Q ++ R)) →
         Grows S Next behind o s0 a n e P (spine f) (node k w g st en (part m ps)) to (Q ++ R) → Onward o s0 a n e P b m mid Q t
     by_chain : {y : Rank} {i : Bool} {f : Start} {w : List ℕ} {g : Flags} {st en : ℕ} →
         b ≡ spine f → IsTrue (takes y LeftHandSide) → is_lean (bare (node ChainExpression w g st en (part m none))) ≡ true →
         Placed S Next behind (expr y i f) (node ChainExpression w g st en (part m none)) s0 mid →
+        (Spells ways S Next behind o b m s0 mid Q → Spells ways S Next behind o (expr y i f) (node ChainExpression w g st en (part m none)) s0 mid Q) →
         Grows S Next behind o s0 a n e P (expr y i f) (node ChainExpression w g st en (part m none)) mid Q → Onward o s0 a n e P b m mid Q t
 
   -- whether it is no operator
@@ -169,6 +172,11 @@ module _ (S : Type 0) (Next : S → Token → S → Type 0) (behind : S → Toke
   chain_done : {o : ℕ} {ps : Parts} {s e : S} {P : List Pair} → Runs ways S Next behind o [] ps s e P → (ps ≡ none) × (s ≡ e) × (P ≡ [])
   chain_done done = (refl, refl, refl)
 
+  -- a way that is led, where its head is spelled
+  way_spelled : {o : ℕ} {s0 : S} {b c : Role} {m l : Tree} {ps : Parts} {rest : List (PieceOf Role)} {mid to : S} {Q R : List Pair} → Among (sub b ∷ rest) (ways c l) → Placed S Next behind c l s0 to → parts_of l ≡ part m ps →
+      Runs ways S Next behind o rest ps mid to R → Spells ways S Next behind o b m s0 mid Q → Spells ways S Next behind o c l s0 to (Q ++ R)
+  way_spelled {o} {s0} {b} {rest = rest} {to = to} {Q = Q} {R = R} h pl eq d sp = direct (sub b ∷ rest) h pl (subst (λ qs. Runs ways S Next behind o (sub b ∷ rest) qs s0 to (Q ++ R)) (sym eq) (within sp d))
+
   pub onward : {o : ℕ} {s0 e x : S} {a : Role} {n : Tree} {P : List Pair} {b : Role} {m : Tree} {mid : S} {Q : List Pair} {t : Token} →
       on_spine a ≡ true → ReadBy S Next behind Div mid t x → Grows S Next behind o s0 a n e P b m mid Q → Onward o s0 a n e P b m mid Q t
   unfolding spellings
@@ -176,23 +184,28 @@ module _ (S : Type 0) (Next : S → Token → S → Type 0) (behind : S → Toke
   onward {o} {s0} {e} {x} {a} {n} {P} {b} {m} {mid} {Q} {t} sp r (grow {c = expr y i f} {l = node k w g st en ps} {ps = ps'} {rest = rest} {to = to} {R = R} h led pl eq d gs) =
       let v = way_of h in
       let u = led_of y i f (made k v.listed) v.fit v.is led in
-      go ps eq u.operator u.led (nothing_or u.operator) v.lean pl d gs
+      go ps eq u.operator u.led (nothing_or u.operator) v.lean pl d (way_spelled h pl eq d) gs
     where
       go : {k : Kind} {w : List ℕ} {g : Flags} {st en : ℕ} (ps : Parts) → ps ≡ part m ps' → (z : Operator) → Led y i f k w g (bare_parts ps) b rest z → Nothing z → is_lean (bare (node k w g st en ps)) ≡ true →
           Placed S Next behind (expr y i f) (node k w g st en ps) s0 to → Runs ways S Next behind o rest ps' mid to R →
+          (Spells ways S Next behind o b m s0 mid Q → Spells ways S Next behind o (expr y i f) (node k w g st en ps) s0 to (Q ++ R)) →
           Grows S Next behind o s0 a n e P (expr y i f) (node k w g st en ps) to (Q ++ R) → Onward o s0 a n e P b m mid Q t
-      go {k} {w} {g} {st} {en} ps eq z l (it_isnt some) lean pl d gs =
+      go {k} {w} {g} {st} {en} ps eq z l (it_isnt some) lean pl d sp gs =
           let l' : Led y i f k w g (bare_parts (part m ps')) b rest z = subst (λ qs. Led y i f k w g (bare_parts qs) b rest z) eq l in
           by_led l' some (goes_with (led_read l' some d) r) (subst (λ qs. is_lean (bare (node k w g st en qs)) ≡ true) eq lean) d
           (subst (λ qs. Placed S Next behind (expr y i f) (node k w g st en qs) s0 to) eq pl)
+          (λ x. subst (λ qs. Spells ways S Next behind o (expr y i f) (node k w g st en qs) s0 to (Q ++ R)) eq (sp x))
           (subst (λ qs. Grows S Next behind o s0 a n e P (expr y i f) (node k w g st en qs) to (Q ++ R)) eq gs)
-      go {k} {w} {g} {st} {en} ps eq z l (it_is h) lean pl d gs =
+      go {k} {w} {g} {st} {en} ps eq z l (it_is h) lean pl d sp gs =
           let u = led_ends l h in
           let v = chain_done (retell S Next behind u.3 d) in
           let same : node k w g st en ps ≡ node ChainExpression w g st en (part m none) = ap (λ c. node c w g st en ps) u.0 ∙ ap (node ChainExpression w g st en) (eq ∙ ap (part m) v.0) in
           let pairs : Q ++ R ≡ Q = ap (λ ys. Q ++ ys) v.2 ∙ append-nil Q in
           by_chain u.2 u.1 (subst (λ c. is_lean (bare c) ≡ true) same lean)
           (subst (λ c. Placed S Next behind (expr y i f) c s0 mid) same (subst (λ z. Placed S Next behind (expr y i f) (node k w g st en ps) s0 z) (sym v.1) pl))
+          (λ x. subst (λ c. Spells ways S Next behind o (expr y i f) c s0 mid Q) same
+          (subst (λ z. Spells ways S Next behind o (expr y i f) (node k w g st en ps) s0 z Q) (sym v.1)
+          (subst (λ ys. Spells ways S Next behind o (expr y i f) (node k w g st en ps) s0 to ys) pairs (sp x))))
           (subst (λ c. Grows S Next behind o s0 a n e P (expr y i f) c mid Q) same
           (subst (λ z. Grows S Next behind o s0 a n e P (expr y i f) (node k w g st en ps) z Q) (sym v.1)
           (subst (λ ys. Grows S Next behind o s0 a n e P (expr y i f) (node k w g st en ps) to ys) pairs gs)))
@@ -202,5 +215,6 @@ module _ (S : Type 0) (Next : S → Token → S → Type 0) (behind : S → Toke
       let l' : Linked f k g (bare_parts (part m ps')) b rest u.operator = subst (λ qs. Linked f k g (bare_parts qs) b rest u.operator) eq u.linked in
       by_link l' (goes_with (linked_read l' d) r) (subst (λ qs. is_lean (bare (node k w g st en qs)) ≡ true) eq v.lean) d
       (subst (λ qs. Placed S Next behind (spine f) (node k w g st en qs) s0 to) eq pl)
+      (λ x. subst (λ qs. Spells ways S Next behind o (spine f) (node k w g st en qs) s0 to (Q ++ R)) eq (way_spelled h pl eq d x))
       (subst (λ qs. Grows S Next behind o s0 a n e P (spine f) (node k w g st en qs) to (Q ++ R)) eq gs)
   onward sp r (grow {c = _} h led pl eq d gs) = absurd (false≢true (grows_on_spine S Next behind sp gs))

@@ -101,6 +101,6 @@ module _ (S : Type 0) (Next : S → Token → S → Type 0) (behind : S → Toke
 
       of : Onward S Next behind det o s0 (expr y i f) n e P (expr h j f') m mid Q t → Operated o s0 (expr y i f) n e P (expr h j f') m x Q t.text l z q
       of (ended a b c d) = absurd (goes (record { role = a; tree = b; place = c; pairs = d }))
-      of (by_led led some op' lean d pl gs') = of_led led (sym op ∙ op') lean d pl gs'
-      of (by_link linked op' lean d pl gs') = absurd (linked_joins linked (sym op ∙ op'))
-      of (by_chain b tk lean pl gs') = absurd (no_spine b)
+      of (by_led led some op' lean d pl grown gs') = of_led led (sym op ∙ op') lean d pl gs'
+      of (by_link linked op' lean d pl grown gs') = absurd (linked_joins linked (sym op ∙ op'))
+      of (by_chain b tk lean pl grown gs') = absurd (no_spine b)

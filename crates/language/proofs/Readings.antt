@@ -1,6 +1,6 @@
 -- A list of tokens that is a reading of a text: what it spells, the text spells at its own places.
-use Rattle.std.proofs.Common.{◌≡◌, ℕ, ◌+◌, ◌≤◌, Bool, true, List, [], ◌∷◌, ◌++◌, length, drop, refl, sym, ap, ◌∙◌, subst, arith, length-append, length-drop}
-use Rattle.std.specs.Prelude.{map, encode_utf8_all, IsTrue}
+use Rattle.std.proofs.Common.{◌≡◌, ℕ, ◌+◌, true, List, [], ◌∷◌, ◌++◌, length, drop, refl, sym, ap, ◌∙◌, subst, arith, length-append, length-drop}
+use Rattle.std.specs.Prelude.{map, encode_utf8_all}
 use Rattle.std.specs.Str.{chars, IsUtf8, IsCharBoundary}
 use Rattle.std.proofs.Math.Utf8.{scalars}
 use Rattle.std.proofs.Math.Seq.{drop-append_seam}
@@ -11,7 +11,7 @@ use Rattle.tree.specs.declared.kind.Pair.{Pair}
 use Rattle.tree.specs.Tree.{Tree}
 use Rattle.tokens.specs.declared.token.Goal.{Goal}
 use Rattle.tokens.specs.Tokens.{LexicalToken, IsTokenAt, IsReading, last, more, size}
-use Rattle.tokens.specs.Reading.{behind, Reads, any_goal}
+use Rattle.tokens.specs.Reading.{behind, any_goal}
 use Rattle.language.specs.Token.{Token, as_read}
 use Rattle.language.specs.Pieces.{script}
 use Rattle.language.specs.Grammar.{ways}

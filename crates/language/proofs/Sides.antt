@@ -45,7 +45,7 @@ module _ (S : Type 0) (Next : S → Token → S → Type 0) (behind : S → Toke
     pub place : m ≡ e
     pub pairs : R ≡ []
 
-  no_more_runs : {o : ℕ} {ps : Parts} {s e : S} {R : List Pair} → Runs ways S Next behind o [] ps s e R → Nothing ps s e R
+  pub no_more_runs : {o : ℕ} {ps : Parts} {s e : S} {R : List Pair} → Runs ways S Next behind o [] ps s e R → Nothing ps s e R
   no_more_runs done = record { parts = refl; place = refl; pairs = refl }
 
   pub nothing_more : {o : ℕ} {w : List ℕ} {ps : Parts} {s m e : S} {R : List Pair} {t : Token} → Runs ways S Next behind o (unbroken ∷ tok Punctuator w ∷ []) ps s e R → ReadBy S Next behind Div s t m → Nothing ps m e R

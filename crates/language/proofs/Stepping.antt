@@ -19,16 +19,16 @@ use Rattle.language.specs.Words.{is, takes, is_word_operator, Operator, binds, s
 use Rattle.language.specs.Pieces.{Role, expr, spine, PieceOf, unbroken}
 use Rattle.language.specs.Token.{Token}
 use Rattle.language.specs.declared.Edge.{Edge}
-use Rattle.language.specs.declared.Edge.TheVariants.{Other}
 use Rattle.language.specs.Edges.{edge, standing}
-use Rattle.language.specs.Follow.{of_class, operation, symbol_of, stops_at, stops}
+use Rattle.language.specs.Follow.{of_class, operation, symbol_of, holds, stops_at, stops}
 use Rattle.language.specs.Promises.{IsDetermined, ReadBy, Stops}
 use Rattle.language.specs.Grammar.{ways}
-use Rattle.language.specs.Derivation.{Runs, step, same_line}
+use Rattle.language.specs.Derivation.{Spells, Runs, step, same_line}
 use Rattle.language.proofs.Spine.{Grows}
 use Rattle.language.proofs.Begins.{first_of, by, retell, taken, div_allows}
 use Rattle.language.proofs.Led.{Led, led_binary, led_power, led_assign, led_postfix, led_sequence, led_conditional, led_dot, led_index, led_call, led_tag, led_chain, Linked, link_dot, link_index, link_call, link_chained_name, link_chained_index, link_chained_call, between}
 use Rattle.language.proofs.Onward.{Onward, ended, by_led, by_link, by_chain, onward}
+use Rattle.language.proofs.RightEdges.{Edged, edged, led_holds, linked_holds}
 use Rattle.language.proofs.Reaches.{Reaches, reaches, led_symbol, linked_symbol, loose_of, binds_loose}
 
 -- a token with the text `in` makes a relational node, or nothing
@@ -49,11 +49,12 @@ no_in t i h f g = go (is t.text "in") refl
     go false e = refl
     go true e = absurd (in_makes t.class t.text ((bytes_eq-Decides t.text (codes "in")).0 e) h f g)
 
-no_way : (a b c : Bool) → a ≡ true → (not b || c) ≡ true → (not a || ((b && not c) || false)) ≡ true → ⊥
-no_way true true true h k l = cc
-no_way true true false h k l = cc
-no_way true false c h k l = cc
-no_way false b c h k l = cc
+no_way : (a b c d : Bool) → a ≡ true → (not b || c) ≡ true → d ≡ true → (not a || ((b && not c) || not d)) ≡ true → ⊥
+no_way true true true true h k d l = cc
+no_way true true false d h k e l = cc
+no_way true false c true h k d l = cc
+no_way a b c false h k d l = cc
+no_way false b c d h k e l = cc
 
 pub no_spine : {h : Rank} {j : Bool} {f g : Start} → expr h j f ≡ spine g → ⊥
 no_spine e = cc
@@ -78,7 +79,7 @@ module _ (S : Type 0) (Next : S → Token → S → Type 0) (behind : S → Toke
   led_text (led_tag k tk b e) h d r = absurd (false≢true (sym (ap has_text k) ∙ h))
   led_text (led_chain k c tk b e) h d r = absurd (false≢true (sym (ap has_text k) ∙ h))
 
-  unbroken_runs : {o : ℕ} {qs : List (PieceOf Role)} {ps : Parts} {s m e : S} {P : List Pair} {t : Token} → Runs ways S Next behind o (unbroken ∷ qs) ps s e P → ReadBy S Next behind Div s t m → t.after_break ≡ false
+  pub unbroken_runs : {o : ℕ} {qs : List (PieceOf Role)} {ps : Parts} {s m e : S} {P : List Pair} {t : Token} → Runs ways S Next behind o (unbroken ∷ qs) ps s e P → ReadBy S Next behind Div s t m → t.after_break ≡ false
   unbroken_runs {s = s} {m = m} {t = t} (step (same_line {t = u} {e = e} nx h) d) r = det.break s t u m e r.next nx ∙ h
 
   -- the symbol of what a token makes
@@ -129,12 +130,13 @@ module _ (S : Type 0) (Next : S → Token → S → Type 0) (behind : S → Toke
   linked_in t i0 (link_chained_index k o c b e) op = no_in t i0 op (λ c. cc) (λ c. cc)
   linked_in t i0 (link_chained_call k o b e) op = no_in t i0 op (λ c. cc) (λ c. cc)
 
-  -- the position takes what the token would make
-  pub record Takes (y : Rank) (i : Bool) (t : Token) : Type 0 where
+  -- the position takes what the token would make, and the edge can be its left part
+  pub record Takes (y : Rank) (i : Bool) (x : Edge) (t : Token) : Type 0 where
     pub symbol : Rank
     pub makes : symbol_of (operation t) t.after_break ≡ Some symbol
     pub taken : IsTrue (takes y symbol)
     pub has_in : IsTrue (implies (is t.text "in") i)
+    pub held : IsTrue (holds x symbol)
 
   -- what stands so far is the whole
   pub record Ended (a : Role) (n : Tree) (e : S) (P : List Pair) (b : Role) (m : Tree) (mid : S) (Q : List Pair) : Type 0 where
@@ -144,31 +146,48 @@ module _ (S : Type 0) (Next : S → Token → S → Type 0) (behind : S → Toke
     pub pairs : P ≡ Q
 
   -- Where the position doesn't take what the token that is read would make, what stands so far is the whole.
-  pub ends : {o : ℕ} {s0 e x : S} {y : Rank} {i : Bool} {f : Start} {n : Tree} {P : List Pair} {h : Rank} {j : Bool} {f' : Start} {m : Tree} {mid : S} {Q : List Pair} {t : Token} →
-      ReadBy S Next behind Div mid t x → (Takes y i t → ⊥) → Grows S Next behind o s0 (expr y i f) n e P (expr h j f') m mid Q → Ended (expr y i f) n e P (expr h j f') m mid Q
-  ends {o} {s0} {e} {x} {y} {i} {f} {n} {P} {h} {j} {f'} {m} {mid} {Q} {t} r refused gs = of (onward S Next behind det refl r gs)
+  pub ends : {o o' : ℕ} {s0 e x : S} {y : Rank} {i : Bool} {f : Start} {n : Tree} {P : List Pair} {h : Rank} {j : Bool} {f' : Start} {m : Tree} {mid : S} {Q R : List Pair} {t : Token} →
+      Spells ways S Next behind o' (expr h j f') m s0 mid R → ReadBy S Next behind Div mid t x → (Takes y i (standing (edge m) (behind mid)) t → ⊥) → Grows S Next behind o s0 (expr y i f) n e P (expr h j f') m mid Q →
+      Ended (expr y i f) n e P (expr h j f') m mid Q
+  ends {o} {s0 = s0} {e = e} {x = x} {y = y} {i = i} {f = f} {n = n} {P = P} {h = h} {j = j} {f' = f'} {m = m} {mid = mid} {Q = Q} {t = t} sp r refused gs = of (onward S Next behind det refl r gs)
     where
+      edge_is : Edged h (edge m) (behind mid)
+      edge_is = edged S Next behind det sp
+
       of : Onward S Next behind det o s0 (expr y i f) n e P (expr h j f') m mid Q t → Ended (expr y i f) n e P (expr h j f') m mid Q
       of (ended a b c d) = record { role = a; tree = b; place = c; pairs = d }
-      of (by_led {y = y2} {i = i2} {f = f2} led some op lean d pl gs') =
+      of (by_led {y = y2} {i = i2} {f = f2} led some op lean d pl grown gs') =
           let z = led_makes led some d r in
           let u = reaches S Next behind gs' in
-          absurd (refused (record { symbol = z.0; makes = ap (λ v. symbol_of v t.after_break) op ∙ z.1; taken = u.taken z.0 (led_symbol t.after_break led z.1); has_in = led_in y i u led some op d r }))
-      of (by_link {f = f2} linked op lean d pl gs') =
+          absurd (refused (record {
+            symbol = z.0;
+            makes = ap (λ v. symbol_of v t.after_break) op ∙ z.1;
+            taken = u.taken z.0 (led_symbol t.after_break led z.1);
+            has_in = led_in y i u led some op d r;
+            held = led_holds t.after_break led z.1 edge_is;
+          }))
+      of (by_link {f = f2} linked op lean d pl grown gs') =
           let z = linked_makes t.after_break linked in
-          absurd (refused (record { symbol = z.0; makes = ap (λ v. symbol_of v t.after_break) op ∙ z.1; taken = linked_symbol y t.after_break (reaches S Next behind gs') linked z.1; has_in = linked_in t i linked op }))
-      of (by_chain b tk lean pl gs') = absurd (no_spine b)
+          absurd (refused (record {
+            symbol = z.0;
+            makes = ap (λ v. symbol_of v t.after_break) op ∙ z.1;
+            taken = linked_symbol y t.after_break (reaches S Next behind gs') linked z.1;
+            has_in = linked_in t i linked op;
+            held = linked_holds z.0 linked edge_is;
+          }))
+      of (by_chain b tk lean pl grown gs') = absurd (no_spine b)
 
-  -- the test of what can go on says so, at an edge that is neither an arrow's body nor `++` or `--`
-  stops_none : (y : Rank) (i : Bool) (t : Token) (x : Edge) → x ≡ Other → IsTrue (stops_at y i x t (symbol_of (operation t) t.after_break)) → Takes y i t → ⊥
-  stops_none y i t x e h k =
-      let u : stops_at y i Other t (Some k.symbol) ≡ true = subst (λ v. stops_at y i v t (Some k.symbol) ≡ true) e (subst (λ v. stops_at y i x t v ≡ true) k.makes h) in
-      no_way (takes y k.symbol) (is t.text "in") i k.taken k.has_in u
+  -- the test of what can go on says so
+  stops_none : (y : Rank) (i : Bool) (t : Token) (x : Edge) → IsTrue (stops_at y i x t (symbol_of (operation t) t.after_break)) → Takes y i x t → ⊥
+  stops_none y i t x h k =
+      let u : stops_at y i x t (Some k.symbol) ≡ true = subst (λ v. stops_at y i x t v ≡ true) k.makes h in
+      no_way (takes y k.symbol) (is t.text "in") i (holds x k.symbol) k.taken k.has_in k.held u
 
-  pub ends_where_stops : {o : ℕ} {s0 e x : S} {y : Rank} {i : Bool} {f : Start} {n : Tree} {P : List Pair} {h : Rank} {j : Bool} {f' : Start} {m : Tree} {mid : S} {Q : List Pair} {t : Token} →
-      ReadBy S Next behind Div mid t x → standing (edge m) (behind mid) ≡ Other → IsTrue (stops y i (edge m) (behind mid) t) → Grows S Next behind o s0 (expr y i f) n e P (expr h j f') m mid Q →
+  -- so what stands so far, spelled at its position, is the whole where the test says that nothing goes on
+  pub ends_where_stops : {o o' : ℕ} {s0 e x : S} {y : Rank} {i : Bool} {f : Start} {n : Tree} {P : List Pair} {h : Rank} {j : Bool} {f' : Start} {m : Tree} {mid : S} {Q R : List Pair} {t : Token} →
+      Spells ways S Next behind o' (expr h j f') m s0 mid R → ReadBy S Next behind Div mid t x → IsTrue (stops y i (edge m) (behind mid) t) → Grows S Next behind o s0 (expr y i f) n e P (expr h j f') m mid Q →
       Ended (expr y i f) n e P (expr h j f') m mid Q
-  ends_where_stops {y = y} {i = i} {m = m} {mid = mid} {t = t} r e h gs = ends r (stops_none y i t (standing (edge m) (behind mid)) e h) gs
+  ends_where_stops {y = y} {i = i} {m = m} {mid = mid} {t = t} sp r h gs = ends sp r (stops_none y i t (standing (edge m) (behind mid)) h) gs
 
   -- where the test says that something goes on, what stands so far isn't the whole of what can't go on
   pub goes_where_not : {e x : S} (y : Rank) (i : Bool) {a : Role} {n : Tree} {P : List Pair} {b : Role} {m : Tree} {mid : S} {Q : List Pair} {t : Token} →

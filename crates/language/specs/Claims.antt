@@ -9,7 +9,7 @@ use Rattle.tree.specs.Tree.{Tree, node, Parts, none, part, gap, kind_of, parts_o
 use Rattle.language.specs.Pieces.{Role, expr, script, PieceOf}
 use Rattle.language.specs.Token.{Token}
 use Rattle.language.specs.Grammar.{ways}
-use Rattle.language.specs.Derivation.{Spells, Runs, Among}
+use Rattle.language.specs.Derivation.{Runs, Among}
 use Rattle.language.specs.Positions.{rows, first_roles}
 use Rattle.language.specs.Places.{SpellsIn}
 use Rattle.language.specs.Cursor.{beginning, Next, behind}

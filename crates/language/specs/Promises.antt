@@ -1,4 +1,4 @@
--- What a function promises that reads an expression at a place: that it is found, the only one there; or that there is none.
+-- What a function promises that reads an expression at a place, or something else: that it is found, the only one there; or that there is none.
 use Rattle.std.specs.Prelude.{◌≡◌, ℕ, ◌≤◌, Bool, true, false, List, IsTrue}
 use Rattle.tokens.specs.declared.token.Class.{Class}
 use Rattle.tokens.specs.declared.token.Class.TheVariants.{Name, Number, Text, End}
@@ -6,15 +6,15 @@ use Rattle.tokens.specs.declared.token.Goal.{Goal}
 use Rattle.tokens.specs.declared.token.Goal.TheVariants.{Div}
 use Rattle.tokens.specs.Goals.{allows}
 use Rattle.tree.specs.declared.kind.Pair.{Pair}
-use Rattle.tree.specs.Tree.{Tree, height}
+use Rattle.tree.specs.Tree.{Tree, Parts, height, parts_height}
 use Rattle.language.specs.declared.Rank.{Rank}
 use Rattle.language.specs.declared.Start.{Start}
-use Rattle.language.specs.Pieces.{expr}
+use Rattle.language.specs.Pieces.{Role, expr, PieceOf}
 use Rattle.language.specs.Token.{Token}
 use Rattle.language.specs.Edges.{edge}
 use Rattle.language.specs.Follow.{stops}
 use Rattle.language.specs.Grammar.{ways}
-use Rattle.language.specs.Derivation.{Spells}
+use Rattle.language.specs.Derivation.{Spells, Runs}
 
 -- the classes that every goal reads
 abbrev pub is_free : Class → Bool
@@ -26,10 +26,12 @@ is_free _ = false
 
 module _ (S : Type 0) (Next : S → Token → S → Type 0) (behind : S → Token) where
   -- Where tokens are determined once a goal is chosen: by a goal at most one is read at a place; behind it, it is the token before;
-  -- all that are read at a place have the same line break before them; and names, numbers, strings and the end are read by every goal.
+  -- all that are read at a place start at one place, with the same line break before them; and names, numbers, strings and the end are
+  -- read by every goal.
   pub record IsDetermined : Type 0 where
     pub same : (g : Goal) (s : S) (a b : Token) (e f : S) → Next s a e → Next s b f → IsTrue (allows g a.class a.text) → IsTrue (allows g b.class b.text) → (a ≡ b) × (e ≡ f)
     pub last : (s : S) (t : Token) (e : S) → Next s t e → behind e ≡ t
+    pub start : (s : S) (a b : Token) (e f : S) → Next s a e → Next s b f → a.start ≡ b.start
     pub break : (s : S) (a b : Token) (e f : S) → Next s a e → Next s b f → a.after_break ≡ b.after_break
     pub free : (g : Goal) (s : S) (t : Token) (e : S) → Next s t e → is_free t.class ≡ true → IsTrue (allows g t.class t.text)
 
@@ -55,3 +57,25 @@ module _ (S : Type 0) (Next : S → Token → S → Type 0) (behind : S → Toke
   -- nothing with at most o open parentheses and a tree of height h
   pub record AbsentWithin (o h : ℕ) (y : Rank) (i : Bool) (f : Start) (s : S) : Type 0 where
     pub nothing : (e' : S) (n' : Tree) (P' : List Pair) → Spells ways S Next behind o (expr y i f) n' s e' P' → Stops y i n' e' → height n' ≤ h → ⊥
+
+  -- the only thing that another position spells here; nothing; nothing within the limits
+  pub record FoundAt (o : ℕ) (a : Role) (s e : S) (n : Tree) (P : List Pair) : Type 0 where
+    pub spelled : Spells ways S Next behind o a n s e P
+    pub only : (o' : ℕ) (e' : S) (n' : Tree) (P' : List Pair) → Spells ways S Next behind o' a n' s e' P' → (e' ≡ e) × (n' ≡ n) × (P' ≡ P)
+
+  pub record AbsentAt (a : Role) (s : S) : Type 0 where
+    pub nothing : (o' : ℕ) (e' : S) (n' : Tree) (P' : List Pair) → Spells ways S Next behind o' a n' s e' P' → ⊥
+
+  pub record AbsentAtWithin (o h : ℕ) (a : Role) (s : S) : Type 0 where
+    pub nothing : (e' : S) (n' : Tree) (P' : List Pair) → Spells ways S Next behind o a n' s e' P' → height n' ≤ h → ⊥
+
+  -- the only parts over which pieces run here, which the parts decide; none; none within the limits
+  pub record FoundParts (o : ℕ) (pieces : Parts → List (PieceOf Role)) (s e : S) (ps : Parts) (P : List Pair) : Type 0 where
+    pub runs : Runs ways S Next behind o (pieces ps) ps s e P
+    pub only : (o' : ℕ) (e' : S) (ps' : Parts) (P' : List Pair) → Runs ways S Next behind o' (pieces ps') ps' s e' P' → (e' ≡ e) × (ps' ≡ ps) × (P' ≡ P)
+
+  pub record AbsentParts (pieces : Parts → List (PieceOf Role)) (s : S) : Type 0 where
+    pub nothing : (o' : ℕ) (e' : S) (ps' : Parts) (P' : List Pair) → Runs ways S Next behind o' (pieces ps') ps' s e' P' → ⊥
+
+  pub record AbsentPartsWithin (o h : ℕ) (pieces : Parts → List (PieceOf Role)) (s : S) : Type 0 where
+    pub nothing : (e' : S) (ps' : Parts) (P' : List Pair) → Runs ways S Next behind o (pieces ps') ps' s e' P' → parts_height ps' ≤ h → ⊥
