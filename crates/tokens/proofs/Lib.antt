@@ -5,6 +5,7 @@ pub mod Longest
 pub mod Passing
 pub mod Separating
 pub mod Names
+pub mod Sets
 pub mod Classes
 pub mod Determined
 pub mod Automata

@@ -1,37 +1,26 @@
 -- Names: the longest.
-use Rattle.std.proofs.Common.{◌≡◌, ℕ, ◌<◌, ◌/◌, ◌%◌, ◌^◌, Bool, true, false, ◌&&◌, ◌||◌, ◌==◌, List, [], ◌∷◌, ◌++◌, IsTrue, IsFalse, refl, sym, ap, ◌∙◌, subst, arith}
-use Rattle.std.specs.Prelude.{nat_eq, bit_and, slice_index_or}
-use Rattle.std.specs.Bool.{beq}
+use Rattle.std.proofs.Common.{◌≡◌, ℕ, ◌<◌, Bool, true, false, ◌&&◌, ◌||◌, ◌==◌, List, [], ◌∷◌, ◌++◌, IsTrue, IsFalse, refl, sym, ap, ◌∙◌, subst, arith}
 use Rattle.std.specs.Char.{is_ascii, is_ascii_alphabetic, is_ascii_alphanumeric}
 use Rattle.std.specs.List.{list_all}
 use Rattle.std.proofs.lemmas.Bool.Decides.{nat_tests}
 use Rattle.unicode_ident.specs.Ident.{is_xid_continue}
 use Rattle.unicode_ident.proofs.IdentLemmas.{is_xid_start-ascii, is_xid_continue-ascii}
 use Rattle.tokens.specs.Alphabet.{one_of, is_among, begins_with, is_identifier_start, is_identifier_part}
+use Rattle.tokens.specs.Sets.{has_bit}
 use Rattle.tokens.specs.Lexical.{Name, none_longer, is_token}
 use Rattle.tokens.specs.Reading.{behind}
 use Rattle.tokens.specs.Scanned.{Passed, IsRun, IsWordAt, NoWordAt}
 use Rattle.tokens.proofs.Passing.{passed_on}
 use Rattle.tokens.proofs.Beginnings.{true_false}
-use Rattle.tokens.proofs.Determined.{from_range}
+use Rattle.tokens.proofs.Sets.{set_is}
 use Rattle.tokens.proofs.Longest.{none_is_longer}
 
 -- the identifier characters of ASCII
 small : (c : ℕ) → is_ascii c ≡ true → c < 128
 small c e = grind (arith, nat_tests)
 
-abbrev pub part_bit : ℕ → Bool
-part_bit c = nat_eq (bit_and (slice_index_or {A = ℕ} (0x03FF001000000000 ∷ 0x07FFFFFE87FFFFFE ∷ []) (c / 64) 0 / 2 ^ (c % 64)) 1) 1
-
--- they are those whose bit is set
-pub part_bits : (c : ℕ) → c < 128 → part_bit c ≡ (one_of "$_" c || is_ascii_alphanumeric c)
-part_bits c lt =
-    same (part_bit c) (one_of "$_" c || is_ascii_alphanumeric c) (from_range (λ x. beq (part_bit x) (one_of "$_" x || is_ascii_alphanumeric x)) 0 128 c refl (omega arith) (omega arith)) where
-      same : (a b : Bool) → IsTrue (beq a b) → a ≡ b
-      same true true h = refl
-      same true false h = absurd (true_false _ h refl)
-      same false true h = absurd (true_false _ h refl)
-      same false false h = refl
+pub part_bits : (c : ℕ) → c < 128 → has_bit (0x03FF001000000000 ∷ 0x07FFFFFE87FFFFFE ∷ []) c ≡ (one_of "$_" c || is_ascii_alphanumeric c)
+part_bits c lt = set_is (0x03FF001000000000 ∷ 0x07FFFFFE87FFFFFE ∷ []) (λ x. one_of "$_" x || is_ascii_alphanumeric x) refl c lt
 
 pub ascii_start : (c : ℕ) → is_ascii c ≡ true → (one_of "$_" c || is_ascii_alphabetic c) ≡ is_identifier_start c
 ascii_start c e = ap (λ x. one_of "$_" c || x) (sym (is_xid_start-ascii c (small c e)))

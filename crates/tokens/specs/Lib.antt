@@ -13,6 +13,7 @@ pub mod Closing
 pub mod Fronts
 pub mod States
 pub mod Marks
+pub mod Sets
 pub mod Scanned
 pub mod Escaped
 pub mod Laws

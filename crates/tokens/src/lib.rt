@@ -2,6 +2,7 @@
 
 //! The tokens of a text, and the values of strings and templates.
 
+mod ascii;
 mod escape;
 mod laws;
 mod name;

@@ -7,10 +7,11 @@ ghost use Rattle.tokens.specs.Alphabet.{is_identifier_start, is_identifier_part,
 ghost use Rattle.tokens.specs.Scanned.{IsRun, IsWordAt, NoWordAt, Passed};
 
 use crate::Class;
+use crate::ascii::is_in;
 use crate::step::{Step, step_at};
 use unicode_ident::{is_xid_continue, is_xid_start};
 
-// The IdentifierPart characters of ASCII, a bit for each: `$`, the digits, the letters and `_`.
+// The IdentifierPart characters of ASCII: `$`, the digits, the letters and `_`.
 const PARTS: [u64; 2] = [0x03FF_0010_0000_0000, 0x07FF_FFFE_87FF_FFFE];
 
 #[inline]
@@ -25,8 +26,7 @@ fn is_ascii_part(c: char) -> bool
     requires { c < 128 }
     ensures { result ≡ (one_of "$_" c || is_ascii_alphanumeric c) }
 {
-    let bits = PARTS[c as usize / 64];
-    (bits >> (c as u32 % 64)) & 1 == 1
+    is_in(&PARTS, c)
 }
 
 // IdentifierStart, without escapes.

@@ -7,6 +7,7 @@ ghost use Rattle.tokens.specs.Marks.{alone, firsts, goes_on, is_pair, is_quadrup
 ghost use Rattle.tokens.specs.Scanned.{IsWordAt, Looks, NoWordAt, Passed};
 
 use crate::Class;
+use crate::ascii::is_in;
 use crate::step::{Step, step_at};
 
 // The next character, U+0000 at the end of the text, and the place behind it.
@@ -53,12 +54,18 @@ fn is_single(b: char) -> bool
     )
 }
 
+// `{` `}` `(` `)` `[` `]` `;` `,` `:` `~`
+const ALONE: [u64; 2] = [0x0C00_1300_0000_0000, 0x6800_0000_2800_0000];
+
 // Whether no longer punctuator begins with the character, and a digit behind it changes nothing.
 #[inline]
 fn is_alone(b: char) -> bool
     ensures { result ≡ is_among b alone }
 {
-    matches!(b, '{' | '}' | '(' | ')' | '[' | ']' | ';' | ',' | ':' | '~')
+    if !b.is_ascii() {
+        return false;
+    }
+    is_in(&ALONE, b)
 }
 
 // Whether the character is a digit or the second one of some punctuator.

@@ -11,6 +11,7 @@ ghost use Rattle.tokens.specs.Goals.{reads_regexps, reads_template_parts};
 ghost use Rattle.tokens.specs.Scanned.{IsWordAt, NoWordAt, Passed, token_of};
 ghost use Rattle.tokens.specs.Strings.{is_string};
 
+use crate::ascii::is_in;
 use crate::name::name_end;
 use crate::number::number_end;
 use crate::punctuator::punctuator_end;
@@ -51,34 +52,18 @@ fn reads_template_parts(goal: Goal) -> bool
     }
 }
 
+// `{` `(` `)` `[` `]` `;` `,` `<` `>` `=` `!` `+` `-` `*` `%` `&` `|` `^` `~` `?` `:`
+const MARKS: [u64; 2] = [0xFC00_3F62_0000_0000, 0x5800_0000_6800_0000];
+
 // Whether nothing but a punctuator begins with the character.
 #[inline]
 fn is_mark(c: char) -> bool
     ensures { result ≡ is_mark c }
 {
-    matches!(
-        c,
-        '{' | '('
-            | ')'
-            | '['
-            | ']'
-            | ';'
-            | ','
-            | '<'
-            | '>'
-            | '='
-            | '!'
-            | '+'
-            | '-'
-            | '*'
-            | '%'
-            | '&'
-            | '|'
-            | '^'
-            | '~'
-            | '?'
-            | ':'
-    )
+    if !c.is_ascii() {
+        return false;
+    }
+    is_in(&MARKS, c)
 }
 
 // Whether a digit stands at a place.
@@ -98,6 +83,9 @@ fn digit_follows(text: &str, at: usize) -> bool
 fn class_by(c: char, goal: Goal, digit: bool) -> Class
     ensures { result ≡ class_by goal c digit }
 {
+    if c.is_ascii_alphabetic() {
+        return Class::Name;
+    }
     if c.is_ascii_digit() {
         return Class::Number;
     }
