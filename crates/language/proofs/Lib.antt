@@ -32,6 +32,7 @@ pub mod Suffixes
 pub mod Calls
 pub mod Running
 pub mod Commas
+pub mod Lists
 pub mod Searched
 pub mod Found
 pub mod Trees
