@@ -33,6 +33,7 @@ pub mod Calls
 pub mod Running
 pub mod Commas
 pub mod Lists
+pub mod Leaves
 pub mod Searched
 pub mod Found
 pub mod Trees
