@@ -1,9 +1,8 @@
 -- Leftmost parts of one token: names, `this`, literals; and names of properties.
-use Rattle.std.proofs.Common.{◌≡◌, ℕ, ◌≤◌, Bool, true, false, cond, List, [], ◌∷◌, ◌++◌, refl, sym, ap, ◌∙◌, subst, arith}
+use Rattle.std.proofs.Common.{◌≡◌, ℕ, ◌≤◌, Bool, true, false, cond, List, [], ◌∷◌, refl, sym, ap, ◌∙◌, subst, arith}
 use Rattle.std.specs.Prelude.{IsTrue, codes, not, ◌&&◌}
 use Rattle.std.proofs.lemmas.Bool.{and_parts, false≢true}
 use Rattle.std.proofs.lemmas.Bool.Decides.{nat_tests}
-use Rattle.std.specs.Bool.{beq}
 use Rattle.tokens.specs.declared.token.Class.{Class}
 use Rattle.tokens.specs.declared.token.Class.TheVariants.{Name, Punctuator, Number, Text}
 use Rattle.tokens.specs.declared.token.Goal.{Goal}
@@ -18,28 +17,28 @@ use Rattle.language.specs.declared.Start.{Start}
 use Rattle.language.specs.declared.Start.TheVariants.{Any, NoBrace, Statement}
 use Rattle.tree.specs.declared.kind.Flags.{Flags}
 use Rattle.tree.specs.declared.kind.Pair.{Pair}
-use Rattle.tree.specs.Tree.{Tree, node, Parts, none, part, bare, bare_parts, kind_of, plain, start_of, stop_of}
+use Rattle.tree.specs.Tree.{Tree, node, Parts, none, bare, plain, start_of, stop_of}
 use Rattle.tree.specs.Uses.{is_lean, used_flags, has_text}
 use Rattle.tree.proofs.Lean.{lean_flags, lean_text}
 use Rattle.language.specs.Words.{is, among, takes, takes_number, tightness, is_reserved, is_name, literal_class}
-use Rattle.language.specs.Pieces.{Role, expr, name, word, PieceOf, tok, only, at, Spelling, Slot, Piece}
+use Rattle.language.specs.Pieces.{expr, name, word, tok, at, Spelling}
 use Rattle.language.specs.Token.{Token}
-use Rattle.language.specs.Opening.{Opening, with_name, with_literal, with_this, with_parenthesis, opening_of}
-use Rattle.language.specs.Promises.{is_free, IsDetermined, ReadBy, Stops, FoundAt}
+use Rattle.language.specs.Opening.{with_name, with_literal, with_this, with_parenthesis, opening_of}
+use Rattle.language.specs.Promises.{is_free, IsDetermined, ReadBy, FoundAt}
 use Rattle.language.specs.Grammar.{ways, spellings, starts}
-use Rattle.language.specs.Derivation.{Among, first, Reads, Spells, direct, Runs, done, step, token, Placed, placed}
+use Rattle.language.specs.Derivation.{first, Reads, Spells, direct, Runs, done, step, token, Placed, placed}
 use Rattle.language.specs.View.{Made, literal, this, identifier, binary, logical}
 use Rattle.language.proofs.Viewed.{way_of, made, one, unless}
 use Rattle.language.proofs.Operators.{binding}
 use Rattle.language.proofs.Spine.{Core, group, plain as plain_core}
 use Rattle.language.proofs.Productions.{spell, way_from, in_false}
 use Rattle.language.proofs.Begins.{among_by, retell}
-use Rattle.language.proofs.Headed.{Headed, head_identifier, head_literal, head_this, head_short_arrow, either_class, opens, identifier_opens}
-use Rattle.language.proofs.Cores.{Cored, in_group, in_way, core_by}
+use Rattle.language.proofs.Headed.{head_identifier, head_literal, head_this, head_short_arrow, either_class, opens, identifier_opens}
+use Rattle.language.proofs.Cores.{Cored, in_way, core_by}
 use Rattle.language.proofs.Running.{run_none, run_token, run_laid, run_unbroken, run_part}
 use Rattle.language.proofs.Climbing.{Climbing}
-use Rattle.language.proofs.Starting.{Begun, climb_start}
-use Rattle.language.proofs.TwoSides.{same_node, same_places, replaced}
+use Rattle.language.proofs.Starting.{climb_start}
+use Rattle.language.proofs.TwoSides.{same_node}
 
 node_start : {k k' : Kind} {w w' : List ℕ} {g g' : Flags} {st st' en en' : ℕ} {ps ps' : Parts} → node k w g st en ps ≡ node k' w' g' st' en' ps' → (st ≡ st') × (en ≡ en')
 node_start h = (ap start_of h, ap stop_of h)

@@ -10,9 +10,9 @@ use Rattle.language.specs.declared.Start.{Start}
 use Rattle.language.specs.declared.Rank.TheVariants.{Expression, Assignment}
 use Rattle.language.specs.declared.Start.TheVariants.{Any}
 use Rattle.tree.specs.declared.kind.Pair.{Pair}
-use Rattle.tree.specs.Tree.{Tree, node, Parts, none, part, gap, kind_of, bare, bare_parts}
+use Rattle.tree.specs.Tree.{Tree, node, Parts, none, part, gap, kind_of, bare_parts}
 use Rattle.language.specs.Words.{is_rest, is_spread}
-use Rattle.language.specs.Pieces.{Role, expr, spread, property, pattern_property, rest, chunk, Piece, PieceOf, tok, may, lay, sub, never, absent, space, sp, sign, put_at, put, nothing, is_none, separator, listed, elements, parameters, pattern_element, with_default, argument, settle_piece}
+use Rattle.language.specs.Pieces.{Role, expr, spread, property, pattern_property, rest, chunk, Piece, PieceOf, tok, may, sp, sign, put_at, nothing, is_none, separator, listed, elements, parameters, with_default, settle_piece}
 use Rattle.language.specs.Token.{Token}
 use Rattle.language.specs.Expressions.{object_part, object_pattern_part, chunks}
 use Rattle.language.specs.Grammar.{ways}
