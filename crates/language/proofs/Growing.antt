@@ -40,7 +40,7 @@ module _ (S : Type 0) (Next : S → Token → S → Type 0) (behind : S → Toke
   lay_runs y i f rs one_laid d = step laid d
 
   -- the last part of a node
-  last_runs : {o : ℕ} {a : Role} {n : Tree} {s e : S} {P : List Pair} → Spells ways S Next behind o a n s e P → Runs ways S Next behind o (sub a ∷ []) (part n none) s e P
+  pub last_runs : {o : ℕ} {a : Role} {n : Tree} {s e : S} {P : List Pair} → Spells ways S Next behind o a n s e P → Runs ways S Next behind o (sub a ∷ []) (part n none) s e P
   last_runs {o} {a} {n} {s} {e} {P} d = subst (λ z. Runs ways S Next behind o (sub a ∷ []) (part n none) s e z) (append-nil P) (within d done)
 
   abbrev pub Whole : ℕ → Rank → Bool → Start → ℕ → ℕ → Tree → S → S → List Pair → Kind → List ℕ → Flags → Parts → List Pair → Type 0

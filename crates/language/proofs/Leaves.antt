@@ -173,7 +173,7 @@ module _ (S : Type 0) (Next : S → Token → S → Type 0) (behind : S → Toke
       of false e = refl
       of true e = absurd (false≢true (sym h ∙ among_by (λ v. is_reserved v ≡ true) w ("function" ∷ "class" ∷ []) e (refl, (refl, tt))))
 
-  by_name : {s0 x : S} {t : Token} {w : List ℕ} → ReadBy S Next behind Goal.RegExp s0 t x → (t1 : Token) (m1 : S) → Reads S Next behind Name w s0 t1 m1 → (t1 ≡ t) × (m1 ≡ x)
+  pub by_name : {s0 x : S} {t : Token} {w : List ℕ} → ReadBy S Next behind Goal.RegExp s0 t x → (t1 : Token) (m1 : S) → Reads S Next behind Name w s0 t1 m1 → (t1 ≡ t) × (m1 ≡ x)
   by_name {s0} {x} {t} r t1 m1 h = det.same Goal.RegExp s0 t1 t m1 x h.next r.next (det.free Goal.RegExp s0 t1 m1 h.next (ap is_free h.class)) r.allowed
 
   -- a leftmost part that isn't a group stands at a symbol that takes a Primary

@@ -34,6 +34,7 @@ pub mod Running
 pub mod Commas
 pub mod Lists
 pub mod Leaves
+pub mod Arrows
 pub mod Searched
 pub mod Found
 pub mod Trees
