@@ -35,7 +35,7 @@ none_bare (gap ps) = refl
 
 module _ (S : Type 0) (Next : S → Token → S → Type 0) (behind : S → Token) where
   -- pieces that only lay out run over nothing
-  lay_runs : {o : ℕ} {ps : Parts} {s e : S} {P : List Pair} (y : Rank) (i : Bool) (f : Start) {qs : List Piece} (rs : List Piece) → AllLaid qs → Runs ways S Next behind o (goes_to y i f rs) ps s e P → Runs ways S Next behind o (goes_to y i f (qs ++ rs)) ps s e P
+  pub lay_runs : {o : ℕ} {ps : Parts} {s e : S} {P : List Pair} (y : Rank) (i : Bool) (f : Start) {qs : List Piece} (rs : List Piece) → AllLaid qs → Runs ways S Next behind o (goes_to y i f rs) ps s e P → Runs ways S Next behind o (goes_to y i f (qs ++ rs)) ps s e P
   lay_runs y i f rs no_piece d = d
   lay_runs y i f rs one_laid d = step laid d
 

@@ -35,6 +35,7 @@ pub mod Commas
 pub mod Lists
 pub mod Leaves
 pub mod Arrows
+pub mod Prefixes
 pub mod Searched
 pub mod Found
 pub mod Trees
