@@ -1,8 +1,6 @@
 -- A leftmost part that is an arrow with one plain parameter.
-use Rattle.std.proofs.Common.{◌≡◌, ℕ, ◌≤◌, Bool, true, false, cond, List, [], ◌∷◌, ◌++◌, refl, sym, ap, ◌∙◌, subst, arith}
+use Rattle.std.proofs.Common.{◌≡◌, ℕ, Bool, true, false, cond, List, [], ◌∷◌, ◌++◌, refl, sym, ap, ◌∙◌, subst, arith}
 use Rattle.std.specs.Prelude.{IsTrue, Some, codes, not, ◌&&◌, ◌||◌}
-use Rattle.std.proofs.lemmas.Bool.{false≢true}
-use Rattle.std.proofs.lemmas.List.{append-nil}
 use Rattle.tokens.specs.declared.token.Class.TheVariants.{Name, Punctuator}
 use Rattle.tokens.specs.declared.token.Goal.{Goal}
 use Rattle.tokens.specs.declared.token.Goal.TheVariants.{Div}
@@ -10,26 +8,25 @@ use Rattle.tokens.specs.Goals.{allows}
 use Rattle.tree.specs.declared.kind.Kind.{Kind}
 use Rattle.tree.specs.declared.kind.Kind.TheVariants.{Identifier, ArrowFunctionExpression}
 use Rattle.language.specs.declared.Rank.{Rank}
-use Rattle.language.specs.declared.Rank.TheVariants.{Assignment, Relational}
+use Rattle.language.specs.declared.Rank.TheVariants.{Assignment}
 use Rattle.language.specs.declared.Start.{Start}
-use Rattle.language.specs.declared.Start.TheVariants.{Any, NoBrace}
-use Rattle.language.specs.declared.Edge.{Edge}
-use Rattle.language.specs.declared.Edge.TheVariants.{Other, Arrow}
+use Rattle.language.specs.declared.Start.TheVariants.{NoBrace}
+use Rattle.language.specs.declared.Edge.TheVariants.{Other}
 use Rattle.tree.specs.declared.kind.Flags.{Flags}
 use Rattle.tree.specs.declared.kind.Pair.{Pair}
-use Rattle.tree.specs.Tree.{Tree, node, Parts, none, part, bare, bare_parts, kind_of, plain}
+use Rattle.tree.specs.Tree.{Tree, node, Parts, none, part, bare, plain}
 use Rattle.tree.specs.Uses.{is_lean, used_flags, has_text}
 use Rattle.tree.proofs.Lean.{lean_flags, lean_text}
-use Rattle.language.specs.Words.{is, takes, tightness, is_reserved, Operator, arrows}
-use Rattle.language.specs.Pieces.{Role, expr, name, body, PieceOf, put, sub, tail, at, Slot, fixed}
+use Rattle.language.specs.Words.{is, takes, is_reserved, arrows}
+use Rattle.language.specs.Pieces.{Role, expr, name, body, PieceOf, put, sub, tail, at, fixed}
 use Rattle.language.specs.Token.{Token}
 use Rattle.language.specs.Edges.{edge, standing}
 use Rattle.language.specs.Expressions.{arrow_end}
-use Rattle.language.specs.Follow.{operation, symbol_of, holds, stops_at, stops}
-use Rattle.language.specs.Opening.{with_name, opening_of}
+use Rattle.language.specs.Follow.{operation, symbol_of, stops_at, stops}
+use Rattle.language.specs.Opening.{with_name}
 use Rattle.language.specs.Promises.{IsDetermined, ReadBy, Stops, Found, Absent, FoundAt, AbsentAt}
 use Rattle.language.specs.Grammar.{ways}
-use Rattle.language.specs.Derivation.{Reads, Spells, Runs, done, step, within, token, laid, same_line, Placed}
+use Rattle.language.specs.Derivation.{Reads, Spells, Runs, step, within, token, laid, same_line, Placed}
 use Rattle.language.specs.View.{short_arrow}
 use Rattle.language.proofs.Productions.{spell, starts_led}
 use Rattle.language.proofs.Begins.{goes_to, retell}
@@ -82,7 +79,7 @@ module _ (S : Type 0) (Next : S → Token → S → Type 0) (behind : S → Toke
       let r : ReadBy S Next behind Div mid v x = record { next = eq.next; allowed = al } in
       let goes : stops_at y i Other v (Some Assignment) ≡ false = refused (takes y Assignment) (is v.text "in") i true tk (ap (λ w. is w "in") eq.text) refl in
       let goes' : stops y i (edge m) (behind mid) v ≡ false = ap (λ c. stops_at y i (standing c (behind mid)) v (symbol_of (operation v) v.after_break)) at ∙ ap (λ c. stops_at y i Other v (symbol_of c v.after_break)) op
-          ∙ ap (λ c. stops_at y i Other v (symbol_of arrows c)) line ∙ goes in
+      ∙ ap (λ c. stops_at y i Other v (symbol_of arrows c)) line ∙ goes in
       none_led (led_on S Next behind det r op (λ q. cc) (goes_where_not S Next behind det y i r b.stopped goes') (core_spelled S Next behind b.core) b.grows).led
 
   module _ (y : Rank) (i : Bool) (f : Start) (s0 x x2 : S) (t v : Token) (r : ReadBy S Next behind Goal.RegExp s0 t x) (low : IsTrue (takes y Assignment)) (class : t.class ≡ Name) (free : is_reserved t.text ≡ false)

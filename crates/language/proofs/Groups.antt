@@ -1,5 +1,5 @@
 -- A leftmost part that is a group, where nothing there is an arrow.
-use Rattle.std.proofs.Common.{◌≡◌, ℕ, zero, suc, ◌-◌, ◌≤◌, Bool, true, false, List, [], ◌∷◌, refl, sym, ap, ◌∙◌, subst, arith}
+use Rattle.std.proofs.Common.{◌≡◌, ℕ, suc, Bool, true, List, ◌∷◌, refl, sym, ap, ◌∙◌, subst, arith}
 use Rattle.std.specs.Prelude.{IsTrue, codes}
 use Rattle.tokens.specs.declared.token.Class.TheVariants.{Punctuator}
 use Rattle.tokens.specs.declared.token.Goal.{Goal}
@@ -11,11 +11,11 @@ use Rattle.language.specs.declared.Start.{Start}
 use Rattle.language.specs.declared.Start.TheVariants.{Any}
 use Rattle.tree.specs.declared.kind.Flags.{Flags}
 use Rattle.tree.specs.declared.kind.Pair.{Pair}
-use Rattle.tree.specs.Tree.{Tree, Parts, height, bare_parts}
+use Rattle.tree.specs.Tree.{Tree, Parts, bare_parts}
 use Rattle.language.specs.Words.{takes}
 use Rattle.language.specs.Pieces.{Role, expr, PieceOf}
 use Rattle.language.specs.Token.{Token}
-use Rattle.language.specs.Opening.{with_parenthesis, opening_of}
+use Rattle.language.specs.Opening.{with_parenthesis}
 use Rattle.language.specs.Promises.{IsDetermined, ReadBy, Stops, Found, Absent, AbsentWithin}
 use Rattle.language.specs.Grammar.{ways}
 use Rattle.language.specs.Derivation.{pair_of, Reads, Spells, grouped, Runs}
@@ -127,7 +127,7 @@ module _ (S : Type 0) (Next : S → Token → S → Type 0) (behind : S → Toke
       climb_group {y = y} {right = right} closes = climb_start S Next behind det (takes_group y)
           (λ h j tk lo. grouped opened found.spelled closes)
           (λ o' n e P h j m mid Q b.
-              let c = core_of (no_arrow o') b in
-              let same = found.only c.less c.place m c.inner c.spelled (group_stops c) in
-              let end = same_sign S Next behind det (subst (λ k. Reads S Next behind Punctuator (codes ")") k c.right mid) same.0 c.closes) closes refl in
-              (end.1, same.1, c.pairs ∙ ap (λ k. pair_of t k ∷ c.inner) end.0 ∙ ap (λ k. pair_of t right ∷ k) same.2, takes_group h))
+          let c = core_of (no_arrow o') b in
+          let same = found.only c.less c.place m c.inner c.spelled (group_stops c) in
+          let end = same_sign S Next behind det (subst (λ k. Reads S Next behind Punctuator (codes ")") k c.right mid) same.0 c.closes) closes refl in
+          (end.1, same.1, c.pairs ∙ ap (λ k. pair_of t k ∷ c.inner) end.0 ∙ ap (λ k. pair_of t right ∷ k) same.2, takes_group h))

@@ -16,7 +16,6 @@ pub mod Sides
 pub mod Reaches
 pub mod RightEdges
 pub mod Stepping
-pub mod Operated
 pub mod Headed
 pub mod Cores
 pub mod Productions

@@ -1,7 +1,6 @@
 -- A leftmost part that begins with an operator: a unary one, `++` or `--`.
-use Rattle.std.proofs.Common.{◌≡◌, ℕ, ◌-◌, ◌≤◌, Bool, true, false, cond, List, [], ◌∷◌, ◌++◌, refl, sym, ap, ◌∙◌, subst, arith}
-use Rattle.std.specs.Prelude.{IsTrue, codes, not, max}
-use Rattle.std.proofs.lemmas.Bool.{false≢true}
+use Rattle.std.proofs.Common.{◌≡◌, ℕ, ◌-◌, Bool, true, false, cond, List, [], ◌∷◌, ◌++◌, refl, sym, ap, ◌∙◌, subst, arith}
+use Rattle.std.specs.Prelude.{IsTrue, not}
 use Rattle.tokens.specs.declared.token.Class.TheVariants.{Name, Punctuator}
 use Rattle.tokens.specs.declared.token.Goal.{Goal}
 use Rattle.tokens.specs.Goals.{allows}
@@ -14,12 +13,12 @@ use Rattle.language.specs.declared.Start.TheVariants.{Any, NoBrace, Statement}
 use Rattle.language.specs.declared.Edge.TheVariants.{Other}
 use Rattle.tree.specs.declared.kind.Flags.{Flags}
 use Rattle.tree.specs.declared.kind.Pair.{Pair}
-use Rattle.tree.specs.Tree.{Tree, node, Parts, none, part, height, parts_height, bare, bare_parts, kind_of, plain}
-use Rattle.tree.specs.Uses.{is_lean, used_flags, has_text}
+use Rattle.tree.specs.Tree.{Tree, node, Parts, none, part, height, bare, bare_parts, kind_of, plain}
+use Rattle.tree.specs.Uses.{is_lean, used_flags}
 use Rattle.tree.proofs.Lean.{lean_flags}
 use Rattle.language.specs.FirstPart.{lead as lead_kind}
 use Rattle.language.specs.Words.{is, among, takes, tightness, is_prefix, is_word_operator, is_target, steps, operator_of}
-use Rattle.language.specs.Pieces.{Role, expr, Piece, PieceOf, tok, lay, sub, apart, sp, put, at}
+use Rattle.language.specs.Pieces.{expr, Piece, tok, lay, apart, sp, put, at}
 use Rattle.language.specs.Token.{Token}
 use Rattle.language.specs.Edges.{edge, standing}
 use Rattle.language.specs.Opening.{Opening, with_word, with_sign, with_step, opening_of}
@@ -35,7 +34,6 @@ use Rattle.language.proofs.Cores.{Cored, in_way, core_by}
 use Rattle.language.proofs.Sides.{OnePart, one_part}
 use Rattle.language.proofs.Running.{run_token, run_laid}
 use Rattle.language.proofs.Growing.{kind_bare, last_runs, lay_runs}
-use Rattle.language.proofs.Reaches.{is_loose}
 use Rattle.language.proofs.Tails.{Tails, tails_unary, tails_step}
 use Rattle.language.proofs.Climbing.{Climbing}
 use Rattle.language.proofs.TwoSides.{same_node, replaced, same_places}
@@ -197,7 +195,7 @@ module _ (S : Type 0) (Next : S → Token → S → Type 0) (behind : S → Toke
     climb_prefix {f = f} {u = u} {to = to} {U = U} {st = st} {en = en} low target found places = climb_start S Next behind det low
         (λ h j tk lo. prefix_runs h j f p r tk target found.spelled (replaced S Next behind det places))
         (λ o' n e P h j m mid Q b.
-            let c = prefix_core p r (core_by S Next behind det r (opening_is p) b.core) in
-            let same = found.only o' mid c.operand Q c.spelled (prefix_stops b c) in
-            let where_is = same_places S Next behind det (subst (λ v. Placed S Next behind (expr h j f) v s0 mid) c.tree c.places) places same.0 in
-            (same.0, c.tree ∙ same_node refl refl refl where_is.0 where_is.1 (ap (λ v. part v none) same.1), same.2, c.stands))
+        let c = prefix_core p r (core_by S Next behind det r (opening_is p) b.core) in
+        let same = found.only o' mid c.operand Q c.spelled (prefix_stops b c) in
+        let where_is = same_places S Next behind det (subst (λ v. Placed S Next behind (expr h j f) v s0 mid) c.tree c.places) places same.0 in
+        (same.0, c.tree ∙ same_node refl refl refl where_is.0 where_is.1 (ap (λ v. part v none) same.1), same.2, c.stands))
