@@ -1,6 +1,6 @@
 -- The loop over the commas of a sequence, behind its first expression.
-use Rattle.std.proofs.Common.{◌≡◌, ℕ, suc, ◌-◌, ◌≤◌, ◌<◌, Bool, true, false, cond, List, [], ◌∷◌, ◌++◌, refl, sym, ap, ◌∙◌, subst, arith, append_assoc}
-use Rattle.std.specs.Prelude.{IsTrue, Some, codes, max, nat_le, nat_eq, not, ◌&&◌, ◌||◌}
+use Rattle.std.proofs.Common.{◌≡◌, ℕ, suc, ◌-◌, ◌≤◌, Bool, true, false, cond, List, [], ◌++◌, refl, sym, ap, ◌∙◌, subst, arith, append_assoc}
+use Rattle.std.specs.Prelude.{IsTrue, Some, max, not, ◌&&◌, ◌||◌}
 use Rattle.std.proofs.lemmas.Bool.{false≢true}
 use Rattle.std.proofs.lemmas.List.{append-nil}
 use Rattle.tokens.specs.declared.token.Class.TheVariants.{Punctuator}
@@ -16,26 +16,26 @@ use Rattle.language.specs.declared.Edge.TheVariants.{Arrow, Postfix, Other, Clos
 use Rattle.tree.specs.declared.kind.Flags.{Flags}
 use Rattle.tree.specs.declared.kind.Pair.{Pair}
 use Rattle.tree.specs.Tree.{Tree, node, Parts, none, part, gap, height, parts_height, bare, bare_parts, plain, push, join}
-use Rattle.tree.specs.Uses.{is_lean, used_flags, has_text}
+use Rattle.tree.specs.Uses.{used_flags, has_text}
 use Rattle.tree.proofs.Lean.{lean_flags, lean_text}
 use Rattle.tree.proofs.Shapes.{join-none, join-push, parts_height-join}
 use Rattle.language.specs.FirstPart.{others}
-use Rattle.language.specs.Words.{is, takes, tightness, Operator, sequences, operator_of}
-use Rattle.language.specs.Pieces.{Role, expr, spine, PieceOf, tok, lay, sub, space, is_none, is_tight}
+use Rattle.language.specs.Words.{is, takes, tightness, Operator, sequences}
+use Rattle.language.specs.Pieces.{Role, expr, spine, PieceOf, is_none, is_tight}
 use Rattle.language.specs.Token.{Token}
 use Rattle.language.specs.Edges.{edge, last_edge, standing}
 use Rattle.language.specs.Expressions.{sequence}
 use Rattle.language.specs.Follow.{operation, symbol_of, holds, stops_at, stops}
 use Rattle.language.specs.Promises.{IsDetermined, ReadBy, Stops, Found, Absent, AbsentWithin}
 use Rattle.language.specs.Grammar.{ways, spellings}
-use Rattle.language.specs.Derivation.{Reads, Spells, Runs, done, step, within, token, laid, Placed}
+use Rattle.language.specs.Derivation.{Spells, Runs, done, step, within, token, laid, Placed}
 use Rattle.language.proofs.Spine.{Grows, whole, grow, grows_on_spine}
 use Rattle.language.proofs.Viewed.{way_of, made}
 use Rattle.language.proofs.Operators.{binding}
 use Rattle.language.proofs.Begins.{goes_to, retell}
 use Rattle.language.proofs.Led.{Led, led_binary, led_power, led_assign, led_postfix, led_sequence, led_conditional, led_dot, led_index, led_call, led_tag, led_chain, led_of, linked_of}
 use Rattle.language.proofs.Reaches.{reaches, linked_base}
-use Rattle.language.proofs.RightEdges.{Edged, edged}
+use Rattle.language.proofs.RightEdges.{edged}
 use Rattle.language.proofs.Growing.{sequence_grows}
 use Rattle.language.proofs.Sides.{no_more_runs}
 use Rattle.language.proofs.Running.{run_none, run_token, run_laid, run_never, run_the_part}
@@ -43,7 +43,7 @@ use Rattle.language.proofs.Onward.{makes}
 use Rattle.tokens.specs.Goals.{allows}
 use Rattle.language.proofs.Stepping.{Ended, goes_where_not}
 use Rattle.language.proofs.Tails.{tails_sequence}
-use Rattle.language.proofs.Climbing.{Leads, Climbing, led_on, stops_inside}
+use Rattle.language.proofs.Climbing.{Climbing, led_on, stops_inside}
 use Rattle.language.proofs.TwoSides.{same_node, same_places}
 use Rattle.language.proofs.Signs.{reads_comma}
 use Rattle.language.proofs.Conditionals.{same_sign, stops_before}

@@ -35,12 +35,12 @@ none_bare (gap ps) = refl
 
 module _ (S : Type 0) (Next : S → Token → S → Type 0) (behind : S → Token) where
   -- pieces that only lay out run over nothing
-  lay_runs : {o : ℕ} {ps : Parts} {s e : S} {P : List Pair} (y : Rank) (i : Bool) (f : Start) {qs : List Piece} (rs : List Piece) → AllLaid qs → Runs ways S Next behind o (goes_to y i f rs) ps s e P → Runs ways S Next behind o (goes_to y i f (qs ++ rs)) ps s e P
+  pub lay_runs : {o : ℕ} {ps : Parts} {s e : S} {P : List Pair} (y : Rank) (i : Bool) (f : Start) {qs : List Piece} (rs : List Piece) → AllLaid qs → Runs ways S Next behind o (goes_to y i f rs) ps s e P → Runs ways S Next behind o (goes_to y i f (qs ++ rs)) ps s e P
   lay_runs y i f rs no_piece d = d
   lay_runs y i f rs one_laid d = step laid d
 
   -- the last part of a node
-  last_runs : {o : ℕ} {a : Role} {n : Tree} {s e : S} {P : List Pair} → Spells ways S Next behind o a n s e P → Runs ways S Next behind o (sub a ∷ []) (part n none) s e P
+  pub last_runs : {o : ℕ} {a : Role} {n : Tree} {s e : S} {P : List Pair} → Spells ways S Next behind o a n s e P → Runs ways S Next behind o (sub a ∷ []) (part n none) s e P
   last_runs {o} {a} {n} {s} {e} {P} d = subst (λ z. Runs ways S Next behind o (sub a ∷ []) (part n none) s e z) (append-nil P) (within d done)
 
   abbrev pub Whole : ℕ → Rank → Bool → Start → ℕ → ℕ → Tree → S → S → List Pair → Kind → List ℕ → Flags → Parts → List Pair → Type 0

@@ -214,10 +214,10 @@ pub prefix_sign_opens : (w : List ℕ) → is_prefix w ≡ true → is_word_oper
 prefix_sign_opens w h k = among_by (λ v. is_word_operator v ≡ false → (opening_by Punctuator v ≡ with_sign) × IsTrue (allows Goal.RegExp Punctuator v)) w ("delete" ∷ "void" ∷ "typeof" ∷ "+" ∷ "-" ∷ "~" ∷ "!" ∷ []) h
     ((λ e. cc), ((λ e. cc), ((λ e. cc), ((λ e. (refl, refl)), ((λ e. (refl, refl)), ((λ e. (refl, refl)), ((λ e. (refl, refl)), tt))))))) k
 
-step_opens : (w : List ℕ) → operator_of w ≡ steps → (opening_by Punctuator w ≡ with_step) × IsTrue (allows Goal.RegExp Punctuator w)
+pub step_opens : (w : List ℕ) → operator_of w ≡ steps → (opening_by Punctuator w ≡ with_step) × IsTrue (allows Goal.RegExp Punctuator w)
 step_opens w h = among_by (λ v. (opening_by Punctuator v ≡ with_step) × IsTrue (allows Goal.RegExp Punctuator v)) w ("++" ∷ "--" ∷ []) (step_texts w h) ((refl, refl), ((refl, refl), tt))
 
-either_class : (x y : Bool) → IsTrue (if x then beq true true else if y then beq false false else true)
+pub either_class : (x y : Bool) → IsTrue (if x then beq true true else if y then beq false false else true)
 either_class true y = refl
 either_class false true = refl
 either_class false false = refl

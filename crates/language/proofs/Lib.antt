@@ -16,7 +16,6 @@ pub mod Sides
 pub mod Reaches
 pub mod RightEdges
 pub mod Stepping
-pub mod Operated
 pub mod Headed
 pub mod Cores
 pub mod Productions
@@ -32,6 +31,11 @@ pub mod Suffixes
 pub mod Calls
 pub mod Running
 pub mod Commas
+pub mod Lists
+pub mod Leaves
+pub mod Arrows
+pub mod Prefixes
+pub mod Groups
 pub mod Searched
 pub mod Found
 pub mod Trees

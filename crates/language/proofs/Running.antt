@@ -101,6 +101,10 @@ module _ (S : Type 0) (Next : S → Token → S → Type 0) (behind : S → Toke
   run_absent (missing {ps = ps} d) = record { rest = ps; parts = refl; runs = d }
   run_absent (step p d) = elim p [ ]
 
+  pub run_the_gap : {o : ℕ} {qs : List (PieceOf Role)} {ps : Parts} {s e : S} {P : List Pair} → Runs ways S Next behind o (absent ∷ qs) (gap ps) s e P → Runs ways S Next behind o qs ps s e P
+  run_the_gap (missing d) = d
+  run_the_gap (step p d) = elim p [ ]
+
   -- the parentheses round an arrow's parameters
   pub record AnOpening (o : ℕ) (qs : List (PieceOf Role)) (ps : Parts) (s e : S) (P : List Pair) : Type 0 where
     pub less : ℕ

@@ -1,8 +1,7 @@
 -- Before the first turn of the loop: the leftmost part of all derivations at a position.
-use Rattle.std.proofs.Common.{◌≡◌, ℕ, suc, ◌≤◌, Bool, true, false, List, [], ◌∷◌, ◌++◌, refl, sym, ap, ◌∙◌, subst, arith}
+use Rattle.std.proofs.Common.{◌≡◌, ℕ, ◌≤◌, Bool, true, List, refl, sym, ap, ◌∙◌, subst, arith}
 use Rattle.std.specs.Prelude.{IsTrue}
 use Rattle.std.proofs.lemmas.Bool.{false≢true}
-use Rattle.tokens.specs.declared.token.Goal.{Goal}
 use Rattle.tree.specs.declared.kind.Kind.{Kind}
 use Rattle.language.specs.declared.Rank.{Rank}
 use Rattle.language.specs.declared.Rank.TheVariants.{Relational}
@@ -13,18 +12,17 @@ use Rattle.tree.specs.Tree.{Tree, node, Parts, height}
 use Rattle.language.specs.Words.{takes, tightness, Operator}
 use Rattle.language.specs.Pieces.{Role, expr, spine, PieceOf}
 use Rattle.language.specs.Token.{Token}
-use Rattle.language.specs.Opening.{Opening, opening_of}
 use Rattle.language.specs.Edges.{edge, standing}
-use Rattle.language.specs.Promises.{IsDetermined, ReadBy, Stops, Absent, AbsentWithin}
+use Rattle.language.specs.Promises.{IsDetermined, Stops, Absent, AbsentWithin}
 use Rattle.language.specs.Grammar.{ways, spellings, own_start}
 use Rattle.language.specs.Derivation.{Spells, direct, grouped, Runs}
 use Rattle.language.proofs.Spine.{Core, group, plain, Grows, whole, grow, on_spine, grows_on_spine, spine_of}
 use Rattle.language.proofs.Viewed.{way_of, made}
 use Rattle.language.proofs.Led.{Led, led_binary, led_power, led_assign, led_postfix, led_sequence, led_conditional, led_dot, led_index, led_call, led_tag, led_chain, led_of, on_part, on_base, Linked, link_dot, link_index, link_call, link_chained_name, link_chained_index, link_chained_call, linked_of}
-use Rattle.language.proofs.Cores.{Cored, core_by, no_spine_core}
+use Rattle.language.proofs.Cores.{no_spine_core}
 use Rattle.language.proofs.Reaches.{is_loose, Reaches, reaches}
 use Rattle.language.proofs.Tails.{Tails}
-use Rattle.language.proofs.Climbing.{grows_height, Leads, Climbing, stops_inside}
+use Rattle.language.proofs.Climbing.{grows_height, Climbing, stops_inside}
 
 -- the head of a way keeps the start of its node
 led_start : {y : Rank} {i : Bool} {f : Start} {k : Kind} {w : List ℕ} {g : Flags} {ps : Parts} {b : Role} {rest : List (PieceOf Role)} {x : Operator} → Led y i f k w g ps b rest x → own_start b ≡ f
