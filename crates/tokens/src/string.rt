@@ -1,6 +1,6 @@
 //! Strings (ECMA-262 11.8.4).
 
-ghost use Rattle.std.specs.Prelude.{IfSome, IfNone};
+ghost use Rattle.std.specs.Prelude.{◌≡◌, ◌==◌, ◌||◌, IfSome, IfNone};
 ghost use Rattle.source_text.specs.Source.{IsPlace};
 ghost use Rattle.tokens.specs.Escaped.{IsStringRest, NoStringRest};
 ghost use Rattle.tokens.specs.Scanned.{IsWordAt, NoWordAt};
@@ -24,6 +24,14 @@ pub fn string_end(text: &str, at: usize) -> Option<usize>
     None
 }
 
+// Whether no string goes on over the character (ECMA-262 11.8.4).
+#[inline]
+fn ends_line(c: char) -> bool
+    ensures { result ≡ ((c == 0xA) || (c == 0xD)) }
+{
+    c == '\n' || c == '\r'
+}
+
 // The place behind the quote that ends the string.
 fn closed_end(text: &str, at: usize, quote: char) -> Option<usize>
     requires { IsPlace text.now at }
@@ -35,7 +43,7 @@ fn closed_end(text: &str, at: usize, quote: char) -> Option<usize>
         if step.c == quote {
             return Some(step.end);
         }
-        if step.c == '\n' || step.c == '\r' {
+        if ends_line(step.c) {
             return None;
         }
         let Some(piece) = piece(text, step.c, step.end) else {
