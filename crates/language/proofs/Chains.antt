@@ -24,20 +24,23 @@ use Rattle.language.specs.Edges.{edge, standing}
 use Rattle.language.specs.Expressions.{arguments, first_chained, chained}
 use Rattle.language.specs.Follow.{operation, symbol_of, stops_at, stops}
 use Rattle.language.specs.Promises.{IsDetermined, ReadBy, Stops, Absent, AbsentWithin}
-use Rattle.language.specs.Grammar.{ways}
+use Rattle.language.specs.Grammar.{ways, spellings}
 use Rattle.language.specs.Derivation.{Reads, Spells, Runs, step, token, Placed, placed}
-use Rattle.language.proofs.Spine.{Grows}
+use Rattle.language.proofs.Spine.{Grows, grow, grows_on_spine}
+use Rattle.language.proofs.Viewed.{way_of, made}
+use Rattle.language.proofs.Running.{run_none}
+use Rattle.std.proofs.lemmas.List.{append-nil}
 use Rattle.language.proofs.Begins.{goes_to, retell, taken}
-use Rattle.language.proofs.Led.{callee_rank, bracketed, dotted, Led, led_binary, led_power, led_assign, led_postfix, led_sequence, led_conditional, led_dot, led_index, led_call, led_tag, led_chain, Linked, link_dot, link_index, link_call, link_chained_name, link_chained_index, link_chained_call, Below}
-use Rattle.language.proofs.Onward.{Onward, ended, by_led, by_link, by_chain, onward}
-use Rattle.language.proofs.Growing.{link_grows, link_call_grows, base_grows, base_call_grows}
+use Rattle.language.proofs.Led.{callee_rank, bracketed, dotted, Led, led_binary, led_power, led_assign, led_postfix, led_sequence, led_conditional, led_dot, led_index, led_call, led_tag, led_chain, Linked, link_dot, link_index, link_call, link_chained_name, link_chained_index, link_chained_call, led_of, linked_of}
+use Rattle.language.proofs.Onward.{Onward, ended, by_led, by_link, by_chain, onward, Goes, linked_read, way_spelled}
+use Rattle.language.proofs.Growing.{link_grows, link_call_grows, base_grows, base_call_grows, chain_grows}
 use Rattle.language.proofs.Reaches.{linked_base}
 use Rattle.language.proofs.Stepping.{Ended, Takes, stops_none, no_in, no_spine, goes_where_not}
 use Rattle.language.proofs.RightEdges.{takes_less}
 use Rattle.language.proofs.Signs.{reads_dot, reads_index, reads_call, reads_chain}
 use Rattle.language.proofs.Climbing.{goes_on, grows_height, Leads, Climbing}
 use Rattle.language.proofs.Suffixes.{computed_flags, argument_pieces, arguments_fixed}
-use Rattle.language.proofs.TwoSides.{same_node, retold, regrown}
+use Rattle.language.proofs.TwoSides.{same_node, same_places, replaced, retold, regrown}
 
 abbrev pub optional_flags : Bool → Flags
 optional_flags c = record plain { computed = c; optional = true }
@@ -401,3 +404,64 @@ module _ (S : Type 0) (Next : S → Token → S → Type 0) (behind : S → Toke
             let low = grows_height S Next behind det w.grows in
             missed.nothing w.K w.G w.pieces w.ps w.to w.more w.link w.runs (omega arith);
       }
+
+  -- How a spine goes on from a part of a chain: by a token with which a chain goes on; or the chain ends there.
+  data SpineOn (o : ℕ) (s0 : S) (y : Rank) (i : Bool) (f : Start) (n : Tree) (e : S) (P : List Pair) (g : Start) (m : Tree) (mid : S) (Q : List Pair) : Type 0 where
+    by_part : {x : Operator} → SymbolOf x → Goes S Next behind det x mid → SpineOn o s0 y i f n e P g m mid Q
+    by_end : {y2 : Rank} {i2 : Bool} {f2 : Start} {st en : ℕ} → IsTrue (takes y2 LeftHandSide) → Placed S Next behind (expr y2 i2 f2) (node ChainExpression [] plain st en (part m none)) s0 mid →
+        (Spells ways S Next behind o (spine g) m s0 mid Q → Spells ways S Next behind o (expr y2 i2 f2) (node ChainExpression [] plain st en (part m none)) s0 mid Q) →
+        Grows S Next behind o s0 (expr y i f) n e P (expr y2 i2 f2) (node ChainExpression [] plain st en (part m none)) mid Q → SpineOn o s0 y i f n e P g m mid Q
+
+  spine_on : {o : ℕ} {s0 e : S} {y : Rank} {i : Bool} {f : Start} {n : Tree} {P : List Pair} {g : Start} {m : Tree} {mid : S} {Q : List Pair} → Grows S Next behind o s0 (expr y i f) n e P (spine g) m mid Q → SpineOn o s0 y i f n e P g m mid Q
+  unfolding spellings
+  spine_on {o} {s0} {e} {y} {i} {f} {n} {P} {g} {m} {mid} {Q} (grow {c = expr y2 i2 f2} {l = node k w fl st en ps} {ps = ps'} {rest = rest} {to = to} {R = R} h led pl eq d gs) =
+      let v = way_of h in
+      let u = chain_led (led_of y2 i2 f2 (made k v.listed) v.fit v.is led).led in
+      let z = run_none S Next behind (retell S Next behind u.2 d) in
+      let tree : node k w fl st en ps ≡ node ChainExpression [] plain st en (part m none) = as_node v.lean u.0 refl refl ∙ ap (node ChainExpression [] plain st en) (eq ∙ ap (part m) z.parts) in
+      let pairs : Q ++ R ≡ Q = ap (λ c. Q ++ c) z.pairs ∙ append-nil Q in
+      by_end u.1 (subst (λ c. Placed S Next behind (expr y2 i2 f2) c s0 mid) tree (subst (λ c. Placed S Next behind (expr y2 i2 f2) (node k w fl st en ps) s0 c) (sym z.place) pl))
+      (λ sp. retold S Next behind det tree (sym z.place) pairs (way_spelled S Next behind det h pl eq d sp)) (regrown S Next behind det tree (sym z.place) pairs gs)
+    where
+      chain_led : {y : Rank} {i : Bool} {f : Start} {k : Kind} {w : List ℕ} {g : Flags} {ps : Parts} {f' : Start} {rest : List (PieceOf Role)} {x : Operator} → Led y i f k w g ps (spine f') rest x → (k ≡ ChainExpression) × IsTrue (takes y LeftHandSide) × (rest ≡ [])
+      chain_led (led_chain k c tk b e) = (k, tk, e)
+      chain_led (led_binary k op tk im b e) = cc
+      chain_led (led_power k op tk b e) = cc
+      chain_led (led_assign k op ta tk b e) = cc
+      chain_led (led_postfix k op ta p tk b e) = cc
+      chain_led (led_sequence k c tk b e) = cc
+      chain_led (led_conditional k tk b e) = cc
+      chain_led (led_dot k o c s tk b e) = cc
+      chain_led (led_index k o c s tk b e) = cc
+      chain_led (led_call k o s tk b e) = cc
+      chain_led (led_tag k tk b e) = cc
+  spine_on (grow {c = spine f2} {l = node k w fl st en ps} h led pl eq d gs) =
+      let v = way_of h in
+      let u = linked_of f2 k v.listed v.is in
+      by_part (linked_symbol u.linked) (linked_read S Next behind det u.linked d)
+    where
+      linked_symbol : {f : Start} {k : Kind} {g : Flags} {ps : Parts} {b : Role} {rest : List (PieceOf Role)} {x : Operator} → Linked f k g ps b rest x → SymbolOf x
+      linked_symbol (link_dot k o c fc b e) = record { symbol = Member; is = select_symbol }
+      linked_symbol (link_index k o c fc b e) = record { symbol = Member; is = index_symbol }
+      linked_symbol (link_call k o fc b e) = record { symbol = Call; is = call_symbol }
+      linked_symbol (link_chained_name k o c b e) = record { symbol = LeftHandSide; is = chain_symbol }
+      linked_symbol (link_chained_index k o c b e) = record { symbol = LeftHandSide; is = chain_symbol }
+      linked_symbol (link_chained_call k o b e) = record { symbol = LeftHandSide; is = chain_symbol }
+  spine_on (grow {c = _} h led pl eq d gs) = absurd (false≢true (grows_on_spine S Next behind refl gs))
+
+  -- where no token goes on in a chain, it ends, and what stands so far is the whole chain
+  pub chain_end : {o : ℕ} {y : Rank} {i : Bool} {f : Start} {s0 mid : S} {m : Tree} {Q : List Pair} {st en : ℕ} → Chaining o y i f s0 m mid Q →
+      ((t : Token) (x : S) (z : Operator) (c : Rank) → ReadBy S Next behind Div mid t x → LinkSymbol z c → operation t ≡ z → ⊥) → Placed S Next behind (expr y i f) (node ChainExpression [] plain st en (part m none)) s0 mid →
+      Climbing S Next behind det o y i f LeftHandSide s0 (node ChainExpression [] plain st en (part m none)) mid Q
+  chain_end {y = y} {i = i} {f = f} {s0 = s0} {mid = mid} {m = m} {Q = Q} {st = st} {en = en} chain no_part places = record {
+    low = chain.low;
+    stands = λ h j tk lo. retold S Next behind det refl refl (append-nil Q) (chain_grows S Next behind chain.in_chain tk chain.spelled (replaced S Next behind det places));
+    leads = λ o' e' n' P' d st'. let v = chain.leads o' e' n' P' d st' in of v.spelled (spine_on v.grows);
+  }
+    where
+      of : {o' : ℕ} {n' : Tree} {e' : S} {P' : List Pair} {g : Start} → Spells ways S Next behind o' (spine g) m s0 mid Q → SpineOn o' s0 y i f n' e' P' g m mid Q → Leads S Next behind det o' s0 y i f n' e' P' LeftHandSide (node ChainExpression [] plain st en (part m none)) mid Q
+      of sp (by_part is goes) = absurd (no_part goes.token goes.mid _ is.symbol goes.read is.is goes.goes)
+      of sp (by_end {y2 = y2} {i2 = i2} {f2 = f2} tk pl grown gs) =
+          let where_is = same_places S Next behind det pl places refl in
+          let tree = same_node {k = ChainExpression} {w = []} {g = plain} {ps = part m none} refl refl refl where_is.0 where_is.1 refl in
+          record { h = y2; j = i2; g = f2; fits = tk; spelled = retold S Next behind det tree refl refl (grown sp); grows = regrown S Next behind det tree refl refl gs }
