@@ -68,7 +68,7 @@ module _ (S : Type 0) (Next : S → Token → S → Type 0) (behind : S → Toke
     pub closes : Reads S Next behind Punctuator (codes "]") place closing e
     pub pairs_are : R ≡ pairs
 
-  in_bracket : {o : ℕ} {ps : Parts} {s e : S} {R : List Pair} → Runs ways S Next behind o (sub (expr Expression true Any) ∷ tok Punctuator (codes "]") ∷ []) ps s e R → Bracketed o ps s e R
+  pub in_bracket : {o : ℕ} {ps : Parts} {s e : S} {R : List Pair} → Runs ways S Next behind o (sub (expr Expression true Any) ∷ tok Punctuator (codes "]") ∷ []) ps s e R → Bracketed o ps s e R
   in_bracket (within {n = n} {m = m} {P = P} p (step (token {t = t} k) done)) = record { inner = n; place = m; closing = t; pairs = P; parts = refl; spelled = p; closes = k; pairs_are = append-nil P }
   in_bracket (step p d) = elim p [ ]
 
