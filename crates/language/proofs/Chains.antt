@@ -1,6 +1,6 @@
 -- The loop over the parts of an optional chain.
 use Rattle.std.proofs.Common.{◌≡◌, ℕ, ◌-◌, ◌≤◌, Bool, true, false, cond, List, [], ◌∷◌, ◌++◌, refl, sym, ap, ◌∙◌, subst, arith}
-use Rattle.std.specs.Prelude.{IsTrue, Some, codes, max, not, ◌&&◌, ◌||◌}
+use Rattle.std.specs.Prelude.{IsTrue, Some, codes}
 use Rattle.std.proofs.lemmas.Bool.{false≢true}
 use Rattle.std.proofs.lemmas.Bool.Decides.{nat_tests}
 use Rattle.tokens.specs.declared.token.Class.TheVariants.{Punctuator}
@@ -14,28 +14,28 @@ use Rattle.language.specs.declared.Start.TheVariants.{Any}
 use Rattle.language.specs.declared.Edge.TheVariants.{Other}
 use Rattle.tree.specs.declared.kind.Flags.{Flags}
 use Rattle.tree.specs.declared.kind.Pair.{Pair}
-use Rattle.tree.specs.Tree.{Tree, node, Parts, none, part, height, parts_height, bare, bare_parts, plain}
+use Rattle.tree.specs.Tree.{Tree, node, Parts, none, part, parts_height, bare, bare_parts, plain}
 use Rattle.tree.specs.Uses.{is_lean, used_flags, has_text, implies}
 use Rattle.tree.proofs.Lean.{lean_flags, lean_text}
-use Rattle.language.specs.Words.{is, takes, takes_number, tightness, Operator, selects, indexes, calls, chains, no_operator, operator_of}
+use Rattle.language.specs.Words.{is, takes, takes_number, tightness, Operator, selects, indexes, calls, chains, no_operator}
 use Rattle.language.specs.Pieces.{Role, expr, spine, word, PieceOf, tok, sub, is_tight}
 use Rattle.language.specs.Token.{Token}
 use Rattle.language.specs.Edges.{edge, standing}
-use Rattle.language.specs.Expressions.{arguments, first_chained, chained}
+use Rattle.language.specs.Expressions.{arguments, chained}
 use Rattle.language.specs.Follow.{operation, symbol_of, stops_at, stops}
 use Rattle.language.specs.Promises.{IsDetermined, ReadBy, Stops, Absent, AbsentWithin}
 use Rattle.language.specs.Grammar.{ways, spellings}
-use Rattle.language.specs.Derivation.{Reads, Spells, Runs, step, token, Placed, placed}
+use Rattle.language.specs.Derivation.{Spells, Runs, step, token, Placed, placed}
 use Rattle.language.proofs.Spine.{Grows, grow, grows_on_spine}
 use Rattle.language.proofs.Viewed.{way_of, made}
 use Rattle.language.proofs.Running.{run_none}
 use Rattle.std.proofs.lemmas.List.{append-nil}
 use Rattle.language.proofs.Begins.{goes_to, retell, taken}
-use Rattle.language.proofs.Led.{callee_rank, bracketed, dotted, Led, led_binary, led_power, led_assign, led_postfix, led_sequence, led_conditional, led_dot, led_index, led_call, led_tag, led_chain, Linked, link_dot, link_index, link_call, link_chained_name, link_chained_index, link_chained_call, led_of, linked_of}
+use Rattle.language.proofs.Led.{bracketed, dotted, Led, led_binary, led_power, led_assign, led_postfix, led_sequence, led_conditional, led_dot, led_index, led_call, led_tag, led_chain, Linked, link_dot, link_index, link_call, link_chained_name, link_chained_index, link_chained_call, led_of, linked_of}
 use Rattle.language.proofs.Onward.{Onward, ended, by_led, by_link, by_chain, onward, Goes, linked_read, way_spelled}
 use Rattle.language.proofs.Growing.{link_grows, link_call_grows, base_grows, base_call_grows, chain_grows}
 use Rattle.language.proofs.Reaches.{linked_base}
-use Rattle.language.proofs.Stepping.{Ended, Takes, stops_none, no_in, no_spine, goes_where_not}
+use Rattle.language.proofs.Stepping.{Ended, stops_none, no_in, no_spine, goes_where_not}
 use Rattle.language.proofs.RightEdges.{takes_less}
 use Rattle.language.proofs.Signs.{reads_dot, reads_index, reads_call, reads_chain}
 use Rattle.language.proofs.Climbing.{goes_on, grows_height, Leads, Climbing}

@@ -1,5 +1,5 @@
 -- The parts of a chain that are found, from what stands in them; and what is no part of a chain.
-use Rattle.std.proofs.Common.{◌≡◌, ℕ, Bool, true, false, cond, List, [], ◌∷◌, ◌++◌, refl, sym, ap, ◌∙◌, subst}
+use Rattle.std.proofs.Common.{◌≡◌, ℕ, Bool, true, false, List, [], ◌∷◌, refl, sym, ap, ◌∙◌, subst}
 use Rattle.std.specs.Prelude.{codes, IsTrue, ◌&&◌, ◌||◌}
 use Rattle.std.proofs.lemmas.Bool.{false≢true}
 use Rattle.std.proofs.lemmas.List.{append-nil}
@@ -9,31 +9,73 @@ use Rattle.tokens.specs.Goals.{allows}
 use Rattle.tree.specs.declared.kind.Kind.{Kind}
 use Rattle.tree.specs.declared.kind.Kind.TheVariants.{Super, MemberExpression, CallExpression}
 use Rattle.language.specs.declared.Rank.{Rank}
-use Rattle.language.specs.declared.Rank.TheVariants.{Expression, Call}
+use Rattle.language.specs.declared.Rank.TheVariants.{Expression}
 use Rattle.language.specs.declared.Start.{Start}
 use Rattle.language.specs.declared.Start.TheVariants.{Any}
 use Rattle.tree.specs.declared.kind.Flags.{Flags}
 use Rattle.tree.specs.declared.kind.Pair.{Pair}
-use Rattle.tree.specs.Tree.{Tree, node, Parts, none, part, gap, kind_of, bare, bare_parts, parts_of, plain}
+use Rattle.tree.specs.Tree.{Tree, node, Parts, none, part, gap, bare, bare_parts, plain}
 use Rattle.language.specs.FirstPart.{lead as lead_kind}
 use Rattle.language.specs.Words.{is, is_super, selects, indexes, calls, chains}
-use Rattle.language.specs.Pieces.{Role, expr, word, PieceOf, Spelling, tok, sub, left, lead, callee}
+use Rattle.language.specs.Pieces.{Role, expr, word, PieceOf, Spelling, tok, sub}
 use Rattle.language.specs.Token.{Token}
 use Rattle.language.specs.Expressions.{first_chained, chained, is_spine}
 use Rattle.language.specs.Promises.{IsDetermined, Stops, Found, FoundAt, FoundParts}
-use Rattle.language.specs.Grammar.{ways, spellings}
-use Rattle.language.specs.Derivation.{Among, Reads, Spells, direct, grouped, Runs, done, step, within, token}
+use Rattle.language.specs.Grammar.{ways}
+use Rattle.language.specs.Derivation.{Reads, Spells, direct, grouped, Runs, done, step, opened, closed, within, missing, token}
 use Rattle.language.specs.View.{Made, super_member, member, super_call, call}
-use Rattle.language.proofs.Domination.{settled, fits}
-use Rattle.language.proofs.Viewed.{way_of, made}
+use Rattle.language.proofs.Domination.{settled}
+use Rattle.language.proofs.RightEdges.{view_of}
 use Rattle.language.proofs.Led.{bracketed}
 use Rattle.language.proofs.Sides.{one_part, Bracketed, in_bracket}
 use Rattle.language.proofs.Running.{run_token}
 use Rattle.language.proofs.Growing.{last_runs}
 use Rattle.language.proofs.Suffixes.{computed_flags, argument_pieces}
 use Rattle.language.proofs.Conditionals.{same_sign, stops_before}
-use Rattle.language.proofs.Leaves.{OneToken, word_form}
+use Rattle.language.proofs.Leaves.{word_form}
 use Rattle.language.proofs.Chains.{optional_flags, Link, on_dot, on_index, on_call, on_name, on_brackets, on_arguments, FoundLink}
+
+-- what stands at the position of an expression is no part of a chain
+abbrev pub NoPart : Role → Tree → Type 0
+NoPart (expr y i f) n = chained (bare n) ≡ false
+NoPart _ n = Unit {0}
+
+-- the pieces begin with an expression
+data BeginsPlain : List (PieceOf Role) → Type 0 where
+  plain_first : {y : Rank} {i : Bool} {f : Start} {qs : List (PieceOf Role)} → BeginsPlain (sub (expr y i f) ∷ qs)
+
+super_first : (ps : Parts) → is_super (lead_kind ps) ≡ true → first_chained ps ≡ false
+super_first none h = cc
+super_first (gap ps) h = cc
+super_first (part (node Super w g st en qs) ps) h = refl
+super_first (part (node _ w g st en qs) ps) h = cc
+
+neither : (a b : Bool) → a ≡ false → b ≡ false → (a || b) ≡ false
+neither false false h k = refl
+neither true b h k = cc
+neither false true h k = cc
+
+made_no_part : (y : Rank) (i : Bool) (f : Start) {k : Kind} {w : List ℕ} {g : Flags} {ps : Parts} {x : Spelling} → Made k w g ps x → (BeginsPlain (settled (expr y i f) x) → first_chained ps ≡ false) → (is_spine k && (g.optional || first_chained ps)) ≡ false
+made_no_part y i f {g = g} {ps = ps} (super_member o s) u = neither g.optional (first_chained ps) o (super_first ps s)
+made_no_part y i f {g = g} {ps = ps} (super_call o s) u = neither g.optional (first_chained ps) o (super_first ps s)
+made_no_part y i f {g = g} {ps = ps} (member o s) u = neither g.optional (first_chained ps) o (u plain_first)
+made_no_part y i f {g = g} {ps = ps} (call o s) u = neither g.optional (first_chained ps) o (u plain_first)
+made_no_part y i f _ u = refl
+
+module _ (S : Type 0) (Next : S → Token → S → Type 0) (behind : S → Token) where
+  mutual
+    pub no_part : {o : ℕ} {a : Role} {n : Tree} {s e : S} {P : List Pair} → Spells ways S Next behind o a n s e P → NoPart a n
+    no_part (grouped p d q) = no_part d
+    no_part {a = expr y i f} {n = node k w g st en ps} (direct qs h pl d) = let v = view_of st en h in made_no_part y i f v.made (λ u. first_no_part (subst BeginsPlain (sym v.is) u) d)
+    no_part {a = _} (direct qs h pl d) = tt
+
+    first_no_part : {o : ℕ} {qs : List (PieceOf Role)} {ps : Parts} {s e : S} {P : List Pair} → BeginsPlain qs → Runs ways S Next behind o qs ps s e P → first_chained (bare_parts ps) ≡ false
+    first_no_part plain_first (within p d) = no_part p
+    first_no_part plain_first (step p d) = elim p [ ]
+    first_no_part u done = elim u [ ]
+    first_no_part u (opened k d) = elim u [ ]
+    first_no_part u (closed k d) = elim u [ ]
+    first_no_part u (missing d) = elim u [ ]
 
 module _ (S : Type 0) (Next : S → Token → S → Type 0) (behind : S → Token) (det : IsDetermined S Next behind) where
   -- a name and a sign aren't read at one place, nor are two signs
