@@ -359,6 +359,7 @@ module _ (S : Type 0) (Next : S → Token → S → Type 0) (behind : S → Toke
       base_on : {o : ℕ} {n : Tree} {e : S} {P Q : List Pair} {c : Rank} → Stops S Next behind y i n e → Leads S Next behind det o s0 y i f n e P c m mid Q → LinkOn o s0 y i f n e P m x Q chains
       base_on st v = link_on_base r is_op (goes_where_not S Next behind det y i r st goes) v.spelled v.grows
 
+      -- where it is found, the chain begins
       pub chain_first : {o : ℕ} {c : Rank} {Q U : List Pair} {K : Kind} {G : Flags} {pieces : Parts → List (PieceOf Role)} {ps : Parts} {to : S} {st en : ℕ} → Climbing S Next behind det o y i f c s0 m mid Q → IsTrue (takes Call c) → chained (bare m) ≡ false →
           FoundLink o chains x to K G pieces ps U → Placed S Next behind (spine f) (node K [] G st en (part m ps)) s0 to → Chaining o y i f s0 (node K [] G st en (part m ps)) to (Q ++ U)
       chain_first {ps = ps} {st = st} {en = en} climb fits unchained found places =
@@ -371,9 +372,11 @@ module _ (S : Type 0) (Next : S → Token → S → Type 0) (behind : S → Toke
             leads = λ o' e' n' P' d stopped. spine_leads found places (base_on stopped (climb.leads o' e' n' P' d stopped));
           }
 
+      -- nothing behind `?.`
       pub chain_first_absent : {o : ℕ} {c : Rank} {Q : List Pair} → Climbing S Next behind det o y i f c s0 m mid Q → AbsentLink chains x → Absent S Next behind y i f s0
       chain_first_absent climb missed = record { nothing = λ o' e' n' P' d stopped. (let w = base_on stopped (climb.leads o' e' n' P' d stopped) in missed.nothing o' w.K w.G w.pieces w.ps w.to w.more w.link w.runs) }
 
+      -- nothing within the limits
       pub chain_first_deep : {o hi : ℕ} {c : Rank} {Q : List Pair} → Climbing S Next behind det o y i f c s0 m mid Q → AbsentLinkWithin o (hi - 1) chains x → AbsentWithin S Next behind o hi y i f s0
       chain_first_deep {o} climb missed = record {
         nothing = λ e' n' P' d stopped le. let w = base_on stopped (climb.leads o e' n' P' d stopped) in
@@ -386,6 +389,7 @@ module _ (S : Type 0) (Next : S → Token → S → Type 0) (behind : S → Toke
       part_on : {o o' : ℕ} {n : Tree} {e : S} {P Q : List Pair} → Chaining o y i f s0 m mid Q → Spells ways S Next behind o' (expr y i f) n s0 e P → Stops S Next behind y i n e → LinkOn o' s0 y i f n e P m x Q z
       part_on chain d st = let v = chain.leads _ _ _ _ d st in link_on_spine is_link chain.low r is_op st v.spelled v.grows
 
+      -- where it is found, the chain goes on
       pub chain_more : {o : ℕ} {Q U : List Pair} {K : Kind} {G : Flags} {pieces : Parts → List (PieceOf Role)} {ps : Parts} {to : S} {st en : ℕ} → Chaining o y i f s0 m mid Q → FoundLink o z x to K G pieces ps U →
           Placed S Next behind (spine f) (node K [] G st en (part m ps)) s0 to → Chaining o y i f s0 (node K [] G st en (part m ps)) to (Q ++ U)
       chain_more {ps = ps} {st = st} {en = en} chain found places = record {
@@ -395,9 +399,11 @@ module _ (S : Type 0) (Next : S → Token → S → Type 0) (behind : S → Toke
         leads = λ o' e' n' P' d stopped. spine_leads found places (part_on chain d stopped);
       }
 
+      -- nothing behind its token
       pub chain_absent : {o : ℕ} {Q : List Pair} → Chaining o y i f s0 m mid Q → AbsentLink z x → Absent S Next behind y i f s0
       chain_absent chain missed = record { nothing = λ o' e' n' P' d stopped. (let w = part_on chain d stopped in missed.nothing o' w.K w.G w.pieces w.ps w.to w.more w.link w.runs) }
 
+      -- nothing within the limits
       pub chain_deep : {o hi : ℕ} {Q : List Pair} → Chaining o y i f s0 m mid Q → AbsentLinkWithin o (hi - 1) z x → AbsentWithin S Next behind o hi y i f s0
       chain_deep chain missed = record {
         nothing = λ e' n' P' d stopped le. let w = part_on chain d stopped in

@@ -64,6 +64,7 @@ made_no_part y i f _ u = refl
 
 module _ (S : Type 0) (Next : S → Token → S → Type 0) (behind : S → Token) where
   mutual
+    -- by the position and the first part
     pub no_part : {o : ℕ} {a : Role} {n : Tree} {s e : S} {P : List Pair} → Spells ways S Next behind o a n s e P → NoPart a n
     no_part (grouped p d q) = no_part d
     no_part {a = expr y i f} {n = node k w g st en ps} (direct qs h pl d) = let v = view_of st en h in made_no_part y i f v.made (λ u. first_no_part (subst BeginsPlain (sym v.is) u) d)

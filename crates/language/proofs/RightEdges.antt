@@ -80,6 +80,7 @@ parameters_end y i f after (part n (part m ps)) u = more (ends_behind y i f (sep
 less_number : (y z : ℕ) → IsTrue (takes_number y z) → y ≤ z
 less_number y z h = grind (arith, nat_tests)
 
+-- a position takes only what is as tight or tighter
 pub takes_less : (y z : Rank) → IsTrue (takes y z) → tightness y ≤ tightness z
 takes_less y z h = less_number (tightness y) (tightness z) h
 
@@ -171,6 +172,7 @@ pub record ViewOf (y : Rank) (i : Bool) (f : Start) (k : Kind) (w : List ℕ) (g
   pub fit : IsTrue (fits (expr y i f) spelling)
   pub is : qs ≡ settled (expr y i f) spelling
 
+-- each way of an expression is a production
 pub view_of : {y : Rank} {i : Bool} {f : Start} {k : Kind} {w : List ℕ} {g : Flags} (st en : ℕ) {ps : Parts} {qs : List (PieceOf Role)} → Among qs (ways (expr y i f) (node k w g st en ps)) → ViewOf y i f k w g ps qs
 unfolding spellings
 view_of {k = k} st en h = let v = way_of h in record { spelling = v.spelling; made = made k v.listed; fit = v.fit; is = v.is }
