@@ -90,12 +90,15 @@ module _ (S : Type 0) (Next : S → Token → S → Type 0) (behind : S → Toke
           leads = λ st en u to' U name place pairs places. leads_on S Next behind det (suffix_rank c) on led.kind text flags (b.parts ∙ ap (λ k. part k none) name) place (b.pairs_are ∙ pairs) places (suffix_fits on.y c head led.stands);
         }
 
+    -- what stands before `[` is too loose
     pub climb_index_unfit : {o : ℕ} {f : Start} {c : Rank} {Q : List Pair} → Climbing S Next behind det o y i f c s0 m mid Q → takes Call c ≡ false → Absent S Next behind y i f s0
     climb_index_unfit climb no_fit = record { nothing = λ o' e' n' P' d stopped. false≢true (sym no_fit ∙ (index_on stopped (climb.leads o' e' n' P' d stopped)).fits) }
 
+    -- no expression behind `[`
     pub climb_index_absent : {o : ℕ} {f : Start} {c : Rank} {Q : List Pair} → Climbing S Next behind det o y i f c s0 m mid Q → Absent S Next behind Expression true Any x → Absent S Next behind y i f s0
     climb_index_absent climb missed = record { nothing = λ o' e' n' P' d stopped. (let w = index_on stopped (climb.leads o' e' n' P' d stopped) in missed.nothing o' w.place w.inner w.pairs w.spelled w.stopped) }
 
+    -- none within the limits
     pub climb_index_deep : {o hi : ℕ} {f : Start} {c : Rank} {Q : List Pair} → Climbing S Next behind det o y i f c s0 m mid Q → AbsentWithin S Next behind o (hi - 1) Expression true Any x → AbsentWithin S Next behind o hi y i f s0
     climb_index_deep {o} climb missed = record {
       nothing = λ e' n' P' d stopped le. let w = index_on stopped (climb.leads o e' n' P' d stopped) in
@@ -171,12 +174,15 @@ module _ (S : Type 0) (Next : S → Token → S → Type 0) (behind : S → Toke
           leads = λ st en ps to' U parts place pairs places. leads_on S Next behind det Call on led.kind text flags parts place pairs places led.stands;
         }
 
+    -- what stands before the arguments is too loose
     pub climb_call_unfit : {o : ℕ} {f : Start} {c : Rank} {Q : List Pair} → Climbing S Next behind det o y i f c s0 m mid Q → takes Call c ≡ false → Absent S Next behind y i f s0
     climb_call_unfit climb no_fit = record { nothing = λ o' e' n' P' d stopped. false≢true (sym no_fit ∙ (call_on stopped (climb.leads o' e' n' P' d stopped)).fits) }
 
+    -- no arguments behind `(`
     pub climb_call_absent : {o : ℕ} {f : Start} {c : Rank} {Q : List Pair} → Climbing S Next behind det o y i f c s0 m mid Q → AbsentParts S Next behind argument_pieces x → Absent S Next behind y i f s0
     climb_call_absent climb missed = record { nothing = λ o' e' n' P' d stopped. (let w = call_on stopped (climb.leads o' e' n' P' d stopped) in missed.nothing o' w.to w.given w.pairs w.runs) }
 
+    -- none within the limits
     pub climb_call_deep : {o hi : ℕ} {f : Start} {c : Rank} {Q : List Pair} → Climbing S Next behind det o y i f c s0 m mid Q → AbsentPartsWithin S Next behind o (hi - 1) argument_pieces x → AbsentWithin S Next behind o hi y i f s0
     climb_call_deep {o} climb missed = record {
       nothing = λ e' n' P' d stopped le. let w = call_on stopped (climb.leads o e' n' P' d stopped) in
@@ -256,12 +262,15 @@ module _ (S : Type 0) (Next : S → Token → S → Type 0) (behind : S → Toke
               w.leads st en u to U same.1 same.0 same.2 places;
         }
 
+    -- what stands before the template is too loose
     pub climb_tag_unfit : {o : ℕ} {f : Start} {c : Rank} {Q : List Pair} → Climbing S Next behind det o y i f c s0 m mid Q → takes Call c ≡ false → Absent S Next behind y i f s0
     climb_tag_unfit climb no_fit = record { nothing = λ o' e' n' P' d stopped. false≢true (sym no_fit ∙ (tag_on stopped (climb.leads o' e' n' P' d stopped)).fits) }
 
+    -- no template
     pub climb_tag_absent : {o : ℕ} {f : Start} {c : Rank} {Q : List Pair} → Climbing S Next behind det o y i f c s0 m mid Q → AbsentAt S Next behind quasi mid → Absent S Next behind y i f s0
     climb_tag_absent climb missed = record { nothing = λ o' e' n' P' d stopped. (let w = tag_on stopped (climb.leads o' e' n' P' d stopped) in missed.nothing o' w.to w.template w.pairs w.spelled) }
 
+    -- none within the limits
     pub climb_tag_deep : {o hi : ℕ} {f : Start} {c : Rank} {Q : List Pair} → Climbing S Next behind det o y i f c s0 m mid Q → AbsentAtWithin S Next behind o (hi - 1) quasi mid → AbsentWithin S Next behind o hi y i f s0
     climb_tag_deep {o} climb missed = record {
       nothing = λ e' n' P' d stopped le. let w = tag_on stopped (climb.leads o e' n' P' d stopped) in

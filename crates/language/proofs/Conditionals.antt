@@ -149,6 +149,7 @@ module _ (S : Type 0) (Next : S → Token → S → Type 0) (behind : S → Toke
     pub climb_ask_absent : {o : ℕ} {f : Start} {c : Rank} {Q : List Pair} → Climbing S Next behind det o y i f c s0 m mid Q → Absent S Next behind Assignment true Any x → Absent S Next behind y i f s0
     climb_ask_absent climb missed = record { nothing = λ o' e' n' P' d stopped. (let w = ask_on stopped (climb.leads o' e' n' P' d stopped) in missed.nothing o' w.place w.consequent w.first_pairs w.one w.one_stops) }
 
+    -- nothing behind `?` within the limits
     pub climb_ask_deep : {o hi : ℕ} {f : Start} {c : Rank} {Q : List Pair} → Climbing S Next behind det o y i f c s0 m mid Q → AbsentWithin S Next behind o (hi - 1) Assignment true Any x → AbsentWithin S Next behind o hi y i f s0
     climb_ask_deep {o} climb missed = record {
       nothing = λ e' n' P' d stopped le. let w = ask_on stopped (climb.leads o e' n' P' d stopped) in
@@ -185,6 +186,7 @@ module _ (S : Type 0) (Next : S → Token → S → Type 0) (behind : S → Toke
           nothing = λ o' e' n' P' d stopped. let w = ask_on stopped (climb.leads o' e' n' P' d stopped) in missed.nothing o' w.to w.alternate w.more_pairs (past w).other w.other_stops;
         }
 
+        -- nothing behind `:` within the limits
         pub climb_other_deep : {o hi : ℕ} {f : Start} {c : Rank} {Q : List Pair} → Climbing S Next behind det o y i f c s0 m mid Q → AbsentWithin S Next behind o (hi - 1) Assignment i Any x2 → AbsentWithin S Next behind o hi y i f s0
         climb_other_deep {o} climb missed = record {
           nothing = λ e' n' P' d stopped le. let w = ask_on stopped (climb.leads o e' n' P' d stopped) in

@@ -37,10 +37,12 @@ pub same_pieces : {qs : List Piece} (y y' : Rank) (i i' : Bool) (f f' : Start) �
 same_pieces y y' i i' f f' all_done = refl
 same_pieces y y' i i' f f' (one_more {p = p} h u) = λ k. piece_same y y' i i' f f' p h k ∷ same_pieces y y' i i' f f' u k
 
+-- both lists are fixed, so are they together
 pub fixed_join : {qs rs : List Piece} → Fixed qs → Fixed rs → Fixed (qs ++ rs)
 fixed_join all_done v = v
 fixed_join (one_more h u) v = one_more h (fixed_join u v)
 
+-- what stands behind an item
 pub fixed_separator : (k : Kind) (b : Bool) → Fixed (separator k b)
 fixed_separator k true = of (is_rest k)
   where
@@ -53,11 +55,13 @@ fixed_separator k false = of (is_rest k)
     of true = one_more refl all_done
     of false = one_more refl (one_more refl all_done)
 
+-- a list of fixed items
 pub fixed_listed : (f : Tree → Piece) → ((n : Tree) → is_fixed (f n) ≡ true) → (ps : Parts) → Fixed (listed f ps)
 fixed_listed f h none = all_done
 fixed_listed f h (gap ps) = one_more refl all_done
 fixed_listed f h (part n ps) = one_more (h n) (fixed_join (fixed_separator (kind_of n) (is_none ps)) (fixed_listed f h ps))
 
+-- the same with holes
 pub fixed_elements : (f : Tree → Piece) → ((n : Tree) → is_fixed (f n) ≡ true) → (ps : Parts) → Fixed (elements f ps)
 fixed_elements f h none = all_done
 fixed_elements f h (part n ps) = one_more (h n) (fixed_join (fixed_separator (kind_of n) (is_none ps)) (fixed_elements f h ps))
@@ -71,6 +75,7 @@ fixed_put : (a : Option Role) → is_fixed (put_at a) ≡ true
 fixed_put (Some a) = refl
 fixed_put None = refl
 
+-- parameters, before what is fixed
 pub fixed_parameters : (after : List Piece) → Fixed after → (ps : Parts) → Fixed (parameters after ps)
 fixed_parameters after u none = one_more refl all_done
 fixed_parameters after u (gap ps) = one_more refl all_done

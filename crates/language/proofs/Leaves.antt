@@ -110,6 +110,7 @@ module _ (S : Type 0) (Next : S → Token → S → Type 0) (behind : S → Toke
         only = λ o' e' n' P' d. let u = word_form d in same_leaf u here (same_name u.reads h);
       }
 
+  -- so a name that isn't reserved is the only one that binds there
   pub name_found : {o : ℕ} {s e : S} {t : Token} {w : List ℕ} → Reads S Next behind Name w s t e → is_reserved w ≡ false → FoundAt S Next behind o name s e (node Identifier w plain t.start (behind e).stop none) []
   unfolding spellings
   name_found {o} {s} {e} {t} {w} h free =
@@ -173,6 +174,7 @@ module _ (S : Type 0) (Next : S → Token → S → Type 0) (behind : S → Toke
       of false e = refl
       of true e = absurd (false≢true (sym h ∙ among_by (λ v. is_reserved v ≡ true) w ("function" ∷ "class" ∷ []) e (refl, (refl, tt))))
 
+  -- a name that is read there is the token that the goal reads
   pub by_name : {s0 x : S} {t : Token} {w : List ℕ} → ReadBy S Next behind Goal.RegExp s0 t x → (t1 : Token) (m1 : S) → Reads S Next behind Name w s0 t1 m1 → (t1 ≡ t) × (m1 ≡ x)
   by_name {s0} {x} {t} r t1 m1 h = det.same Goal.RegExp s0 t1 t m1 x h.next r.next (det.free Goal.RegExp s0 t1 m1 h.next (ap is_free h.class)) r.allowed
 

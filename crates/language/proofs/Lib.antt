@@ -36,6 +36,8 @@ pub mod Leaves
 pub mod Arrows
 pub mod Prefixes
 pub mod Groups
+pub mod Chains
+pub mod Links
 pub mod Searched
 pub mod Found
 pub mod Trees

@@ -71,6 +71,7 @@ pattern_same b (node _ w g st en ps) = refl
 pub object_pieces : (ps : Parts) → listed object_part ps ≡ listed (item_piece object_role) ps
 object_pieces ps = λ i. listed (λ n. object_same (kind_of n) n refl i) ps
 
+-- the same of an object pattern
 pub object_pattern_pieces : (b : Bool) (ps : Parts) → listed (object_pattern_part b) ps ≡ listed (item_piece (object_pattern_role b)) ps
 object_pattern_pieces b ps = λ i. listed (λ n. pattern_same b n i) ps
 
@@ -219,6 +220,7 @@ module _ (S : Type 0) (Next : S → Token → S → Type 0) (behind : S → Toke
   laid_hole true xs ys d = d
   laid_hole false xs ys d = step laid d
 
+  -- what runs over the pieces of a list with holes is one of these
   pub element_form : {o : ℕ} {r : Kind → Option Role} {w : List ℕ} {s e : S} {P : List Pair} (ps : Parts) → Runs ways S Next behind o (element_pieces r w ps) ps s e P → ElementForm o r w s e P ps
   element_form none d = let c = closes d in no_element c.reads c.pairs
   element_form {r = r} {w = w} (gap ps) d =
@@ -236,6 +238,7 @@ module _ (S : Type 0) (Next : S → Token → S → Type 0) (behind : S → Toke
       let b = behind_item Expression true Any (is_rest k) (elements (item_piece r) (bare_parts (part m ps)) ++ tok Punctuator w ∷ []) (joined (separator k false) (elements (item_piece r) (bare_parts (part m ps))) (tok Punctuator w ∷ []) p.runs) in
       more_elements p.is b.no_rest refl p.spelled b.comma b.runs p.pairs
 
+  -- and each of them runs
   pub element_runs : {o : ℕ} {r : Kind → Option Role} {w : List ℕ} {s e : S} {P : List Pair} {ps : Parts} → ElementForm o r w s e P ps → Runs ways S Next behind o (element_pieces r w ps) ps s e P
   element_runs {o} {r} {w} {s} {e} (no_element x z) = subst (λ v. Runs ways S Next behind o (tok Punctuator w ∷ []) none s e v) (sym z) (closing x)
   element_runs {o} {r} {w} {s} {e} (a_hole {ps = ps} c d) = missing (step (token c) (laid_hole (is_none (bare_parts ps)) (elements (item_piece r) (bare_parts ps)) (tok Punctuator w ∷ []) d))
@@ -258,6 +261,7 @@ module _ (S : Type 0) (Next : S → Token → S → Type 0) (behind : S → Toke
     more_parameters : {a : Role} {n l : Tree} {ps : Parts} {m k : S} {c : Token} {Q R : List Pair} → element_role true (kind_of n) ≡ Some a → is_rest (kind_of n) ≡ false → is_none ps ≡ false → Spells ways S Next behind o a n s m Q →
         Reads S Next behind Punctuator (codes ",") m c k → Runs ways S Next behind o (parameter_pieces y i f after (part l ps)) (part l ps) k e R → P ≡ Q ++ R → ParameterForm o y i f after s e P (part n (part l ps))
 
+  -- what runs over the pieces of parameters is one of these
   pub parameter_form : {o : ℕ} {y : Rank} {i : Bool} {f : Start} {after : List Piece} {s e : S} {P : List Pair} (ps : Parts) → Runs ways S Next behind o (parameter_pieces y i f after ps) ps s e P → ParameterForm o y i f after s e P ps
   parameter_form none d = absurd (run_never S Next behind d)
   parameter_form (gap ps) d = absurd (run_never S Next behind d)
@@ -275,6 +279,7 @@ module _ (S : Type 0) (Next : S → Token → S → Type 0) (behind : S → Toke
       let b = behind_item y i f (is_rest k) (parameters after (bare_parts (part l (gap ps)))) p.runs in
       more_parameters p.is b.no_rest refl p.spelled b.comma b.runs p.pairs
 
+  -- and each of them runs
   pub parameter_runs : {o : ℕ} {y : Rank} {i : Bool} {f : Start} {after : List Piece} {s e : S} {P : List Pair} {ps : Parts} → ParameterForm o y i f after s e P ps → Runs ways S Next behind o (parameter_pieces y i f after ps) ps s e P
   parameter_runs (no_parameter d) = d
   parameter_runs {o} {y} {i} {f} {after} {s} {e} (last_parameter {n = node k v g st en qs} {b = l} h p b z) =
@@ -294,6 +299,7 @@ module _ (S : Type 0) (Next : S → Token → S → Type 0) (behind : S → Toke
     more_chunks : {q n : Tree} {ps : Parts} {m k : S} {A B C : List Pair} → Spells ways S Next behind o (chunk b false) q s m A → Spells ways S Next behind o (expr Expression true Any) n m k B →
         Runs ways S Next behind o (chunk_pieces false ps) ps k e C → P ≡ A ++ (B ++ C) → ChunkForm o b s e P (part q (part n ps))
 
+  -- what runs over the pieces of a template is one of these
   pub chunk_form : {o : ℕ} {b : Bool} {s e : S} {P : List Pair} (ps : Parts) → Runs ways S Next behind o (chunk_pieces b ps) ps s e P → ChunkForm o b s e P ps
   chunk_form none d = absurd (run_never S Next behind d)
   chunk_form (gap ps) d = absurd (run_never S Next behind d)
@@ -307,6 +313,7 @@ module _ (S : Type 0) (Next : S → Token → S → Type 0) (behind : S → Toke
       let u = run_the_part S Next behind p.runs in
       more_chunks p.spelled u.spelled u.runs (p.pairs ∙ ap (λ v. p.one ++ v) u.pairs)
 
+  -- and each of them runs
   pub chunk_runs : {o : ℕ} {b : Bool} {s e : S} {P : List Pair} {ps : Parts} → ChunkForm o b s e P ps → Runs ways S Next behind o (chunk_pieces b ps) ps s e P
   chunk_runs {o} {b} {s} {e} {P} (last_chunk {q = q} p) = subst (λ v. Runs ways S Next behind o (chunk_pieces b (part q none)) (part q none) s e v) (append-nil P) (within p done)
   chunk_runs {o} {b} {s} {e} {P} (more_chunks {q = q} {n = n} {ps = ps} p u d z) = subst (λ v. Runs ways S Next behind o (chunk_pieces b (part q (part n ps))) (part q (part n ps)) s e v) (sym z) (within p (within u d))
@@ -317,11 +324,13 @@ module _ (S : Type 0) (Next : S → Token → S → Type 0) (behind : S → Toke
     a_comma : {n : Tree} {ps : Parts} {k m : S} {c : Token} {A B : List Pair} → Reads S Next behind Punctuator (codes ",") s c k → Spells ways S Next behind o (expr Assignment i Any) n k m A →
         Runs ways S Next behind o (comma_pieces i f ps) ps m e B → P ≡ A ++ B → CommaForm o i f s e P (part n ps)
 
+  -- what runs over the pieces of a sequence is one of these
   pub comma_form : {o : ℕ} {i : Bool} {f : Start} {s e : S} {P : List Pair} (ps : Parts) → Runs ways S Next behind o (comma_pieces i f ps) ps s e P → CommaForm o i f s e P ps
   comma_form none d = let z = run_none S Next behind d in no_comma z.place z.pairs
   comma_form (gap ps) d = absurd (run_never S Next behind d)
   comma_form (part n ps) d = let c = run_token S Next behind d in let p = run_the_part S Next behind (run_laid S Next behind c.runs) in a_comma c.reads p.spelled p.runs p.pairs
 
+  -- and each of them runs
   pub comma_runs : {o : ℕ} {i : Bool} {f : Start} {s e : S} {P : List Pair} {ps : Parts} → CommaForm o i f s e P ps → Runs ways S Next behind o (comma_pieces i f ps) ps s e P
   comma_runs {o} {i} {f} {s} {e} (no_comma h z) = subst (λ v. Runs ways S Next behind o [] none s e v) (sym z) (subst (λ v. Runs ways S Next behind o [] none s v []) h done)
   comma_runs {o} {i} {f} {s} {e} (a_comma {n = n} {ps = ps} c p d z) = subst (λ v. Runs ways S Next behind o (comma_pieces i f (part n ps)) (part n ps) s e v) (sym z) (step (token c) (step laid (within p d)))

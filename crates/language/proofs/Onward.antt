@@ -173,7 +173,7 @@ module _ (S : Type 0) (Next : S → Token → S → Type 0) (behind : S → Toke
   chain_done done = (refl, refl, refl)
 
   -- a way that is led, where its head is spelled
-  way_spelled : {o : ℕ} {s0 : S} {b c : Role} {m l : Tree} {ps : Parts} {rest : List (PieceOf Role)} {mid to : S} {Q R : List Pair} → Among (sub b ∷ rest) (ways c l) → Placed S Next behind c l s0 to → parts_of l ≡ part m ps →
+  pub way_spelled : {o : ℕ} {s0 : S} {b c : Role} {m l : Tree} {ps : Parts} {rest : List (PieceOf Role)} {mid to : S} {Q R : List Pair} → Among (sub b ∷ rest) (ways c l) → Placed S Next behind c l s0 to → parts_of l ≡ part m ps →
       Runs ways S Next behind o rest ps mid to R → Spells ways S Next behind o b m s0 mid Q → Spells ways S Next behind o c l s0 to (Q ++ R)
   way_spelled {o} {s0} {b} {rest = rest} {to = to} {Q = Q} {R = R} h pl eq d sp = direct (sub b ∷ rest) h pl (subst (λ qs. Runs ways S Next behind o (sub b ∷ rest) qs s0 to (Q ++ R)) (sym eq) (within sp d))
 

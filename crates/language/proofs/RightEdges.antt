@@ -80,6 +80,7 @@ parameters_end y i f after (part n (part m ps)) u = more (ends_behind y i f (sep
 less_number : (y z : ℕ) → IsTrue (takes_number y z) → y ≤ z
 less_number y z h = grind (arith, nat_tests)
 
+-- a position takes only what is as tight or tighter
 pub takes_less : (y z : Rank) → IsTrue (takes y z) → tightness y ≤ tightness z
 takes_less y z h = less_number (tightness y) (tightness z) h
 
@@ -165,13 +166,14 @@ module _ (y : Rank) (i : Bool) (f : Start) (last : Token) where
   way_edged st en ps (several {ps = qs} a) fit u = right Expression Assignment ps (and_parts _ _ (and_parts _ _ fit).0).0 (λ h. omega arith) (omega arith) (u Assignment (more (sequence_ends y i f (others qs) a)))
 
 -- a way of an expression, as a production
-record ViewOf (y : Rank) (i : Bool) (f : Start) (k : Kind) (w : List ℕ) (g : Flags) (ps : Parts) (qs : List (PieceOf Role)) : Type 0 where
-  spelling : Spelling
-  made : Made k w g (bare_parts ps) spelling
-  fit : IsTrue (fits (expr y i f) spelling)
-  is : qs ≡ settled (expr y i f) spelling
+pub record ViewOf (y : Rank) (i : Bool) (f : Start) (k : Kind) (w : List ℕ) (g : Flags) (ps : Parts) (qs : List (PieceOf Role)) : Type 0 where
+  pub spelling : Spelling
+  pub made : Made k w g (bare_parts ps) spelling
+  pub fit : IsTrue (fits (expr y i f) spelling)
+  pub is : qs ≡ settled (expr y i f) spelling
 
-view_of : {y : Rank} {i : Bool} {f : Start} {k : Kind} {w : List ℕ} {g : Flags} (st en : ℕ) {ps : Parts} {qs : List (PieceOf Role)} → Among qs (ways (expr y i f) (node k w g st en ps)) → ViewOf y i f k w g ps qs
+-- each way of an expression is a production
+pub view_of : {y : Rank} {i : Bool} {f : Start} {k : Kind} {w : List ℕ} {g : Flags} (st en : ℕ) {ps : Parts} {qs : List (PieceOf Role)} → Among qs (ways (expr y i f) (node k w g st en ps)) → ViewOf y i f k w g ps qs
 unfolding spellings
 view_of {k = k} st en h = let v = way_of h in record { spelling = v.spelling; made = made k v.listed; fit = v.fit; is = v.is }
 

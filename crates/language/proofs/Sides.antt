@@ -29,6 +29,7 @@ module _ (S : Type 0) (Next : S → Token → S → Type 0) (behind : S → Toke
     pub parts : ps ≡ part operand none
     pub spelled : Spells ways S Next behind o a operand s e R
 
+  -- where one piece is left, it is the last part
   pub one_part : {o : ℕ} {a : Role} {ps : Parts} {s e : S} {R : List Pair} → Runs ways S Next behind o (sub a ∷ []) ps s e R → OnePart o a ps s e R
   one_part {o} {a} {s = s} {e = e} (within {n = n} {P = P} p done) = record { operand = n; parts = refl; spelled = subst (λ z. Spells ways S Next behind o a n s e z) (sym (append-nil P)) p }
   one_part (step p d) = elim p [ ]
@@ -46,9 +47,11 @@ module _ (S : Type 0) (Next : S → Token → S → Type 0) (behind : S → Toke
     pub place : m ≡ e
     pub pairs : R ≡ []
 
+  -- where no piece is left, there is no part
   pub no_more_runs : {o : ℕ} {ps : Parts} {s e : S} {R : List Pair} → Runs ways S Next behind o [] ps s e R → Nothing ps s e R
   no_more_runs done = record { parts = refl; place = refl; pairs = refl }
 
+  -- behind `++` or `--` there is nothing
   pub nothing_more : {o : ℕ} {w : List ℕ} {ps : Parts} {s m e : S} {R : List Pair} {t : Token} → Runs ways S Next behind o (unbroken ∷ tok Punctuator w ∷ []) ps s e R → ReadBy S Next behind Div s t m → Nothing ps m e R
   nothing_more {w = w} d r = no_more_runs (taken S Next behind det Div (unbroken ∷ tok Punctuator w ∷ []) refl (div_allows false w) d r).runs
 
@@ -68,10 +71,12 @@ module _ (S : Type 0) (Next : S → Token → S → Type 0) (behind : S → Toke
     pub closes : Reads S Next behind Punctuator (codes "]") place closing e
     pub pairs_are : R ≡ pairs
 
-  in_bracket : {o : ℕ} {ps : Parts} {s e : S} {R : List Pair} → Runs ways S Next behind o (sub (expr Expression true Any) ∷ tok Punctuator (codes "]") ∷ []) ps s e R → Bracketed o ps s e R
+  -- what runs behind `[`
+  pub in_bracket : {o : ℕ} {ps : Parts} {s e : S} {R : List Pair} → Runs ways S Next behind o (sub (expr Expression true Any) ∷ tok Punctuator (codes "]") ∷ []) ps s e R → Bracketed o ps s e R
   in_bracket (within {n = n} {m = m} {P = P} p (step (token {t = t} k) done)) = record { inner = n; place = m; closing = t; pairs = P; parts = refl; spelled = p; closes = k; pairs_are = append-nil P }
   in_bracket (step p d) = elim p [ ]
 
+  -- so behind the object of a member
   pub indexed : {o : ℕ} (y : Rank) (i : Bool) (f : Start) (qs : Parts) (g : Flags) {ps : Parts} {s m e : S} {R : List Pair} {t : Token} →
       Runs ways S Next behind o (goes_to y i f (after_number qs g) ++ bracketed) ps s e R → ReadBy S Next behind Div s t m → Bracketed o ps m e R
   indexed y i f qs g d r = in_bracket (retell S Next behind (laid_behind y i f bracketed (number_laid qs g)) (taken S Next behind det Div (goes_to y i f (after_number qs g) ++ bracketed) (laid_first y i f bracketed (number_laid qs g)) refl d r).runs)
@@ -110,6 +115,7 @@ module _ (S : Type 0) (Next : S → Token → S → Type 0) (behind : S → Toke
   in_branches (step laid (step p d)) = elim p [ ]
   in_branches (step laid (within p (step laid (step k (step laid (step q d)))))) = elim q [ ]
 
+  -- so behind a test
   pub branches : {o : ℕ} {i : Bool} {ps : Parts} {s m e : S} {R : List Pair} {t : Token} →
       Runs ways S Next behind o (lay space ∷ tok Punctuator (codes "?") ∷ lay space ∷ sub (expr Assignment true Any) ∷ lay space ∷ tok Punctuator (codes ":") ∷ lay space ∷ sub (expr Assignment i Any) ∷ []) ps s e R →
       ReadBy S Next behind Div s t m → Branches o i ps m e R
@@ -138,6 +144,7 @@ module _ (S : Type 0) (Next : S → Token → S → Type 0) (behind : S → Toke
     pub opens : Reads S Next behind Punctuator (codes "[") m opening within
     pub inside : Bracketed o ps within e R
 
+  -- what runs behind `?.` where `[` follows
   pub chained_indexed : {o : ℕ} {ps : Parts} {s m e : S} {R : List Pair} {t : Token} → Runs ways S Next behind o (tok Punctuator (codes "?.") ∷ bracketed) ps s e R → ReadBy S Next behind Div s t m → ChainedIndex o ps m e R
   chained_indexed d r = let c = run_token S Next behind (taken S Next behind det Div (tok Punctuator (codes "?.") ∷ bracketed) refl refl d r).runs in record { opening = c.sign; within = c.mid; opens = c.reads; inside = in_bracket c.runs }
 
@@ -147,6 +154,7 @@ module _ (S : Type 0) (Next : S → Token → S → Type 0) (behind : S → Toke
     pub opens : Reads S Next behind Punctuator (codes "(") m opening within
     pub inside : Runs ways S Next behind o (behind_first (goes_to Expression true f (arguments qs))) ps within e R
 
+  -- what runs behind `?.` where arguments follow
   pub chained_called : {o : ℕ} (f : Start) (qs : Parts) {ps : Parts} {s m e : S} {R : List Pair} {t : Token} → Runs ways S Next behind o (tok Punctuator (codes "?.") ∷ goes_to Expression true f (arguments qs)) ps s e R → ReadBy S Next behind Div s t m → ChainedCall o f qs ps m e R
   chained_called f qs d r =
       let c = run_token S Next behind (taken S Next behind det Div (tok Punctuator (codes "?.") ∷ goes_to Expression true f (arguments qs)) refl refl d r).runs in

@@ -77,21 +77,27 @@ module _ (S : Type 0) (Next : S → Token → S → Type 0) (behind : S → Toke
       let text : t.text ≡ codes v = one_text t.text v (sym (ap (among t.text) texts) ∙ text_among test t.text operators other (ap test r.1 ∙ it)) in
       record { next = nx; class = r.0 ∙ ap (λ w. cond (is_word_operator w) Name Punctuator) text ∙ ap (λ b. cond b Name Punctuator) sign; text = text }
 
+  -- `?`
   pub reads_question : {s e : S} {t : Token} → Next s t e → operation t ≡ asks → Reads S Next behind Punctuator (codes "?") s t e
   reads_question {t = t} nx op = one_sign t "?" is_question refl refl refl refl nx op (λ e. cc) (λ e. cc)
 
+  -- `,`
   pub reads_comma : {s e : S} {t : Token} → Next s t e → operation t ≡ sequences → Reads S Next behind Punctuator (codes ",") s t e
   reads_comma {t = t} nx op = one_sign t "," is_comma refl refl refl refl nx op (λ e. cc) (λ e. cc)
 
+  -- `.`
   pub reads_dot : {s e : S} {t : Token} → Next s t e → operation t ≡ selects → Reads S Next behind Punctuator (codes ".") s t e
   reads_dot {t = t} nx op = one_sign t "." is_dot refl refl refl refl nx op (λ e. cc) (λ e. cc)
 
+  -- `(`
   pub reads_call : {s e : S} {t : Token} → Next s t e → operation t ≡ calls → Reads S Next behind Punctuator (codes "(") s t e
   reads_call {t = t} nx op = one_sign t "(" is_call refl refl refl refl nx op (λ e. cc) (λ e. cc)
 
+  -- `[`
   pub reads_index : {s e : S} {t : Token} → Next s t e → operation t ≡ indexes → Reads S Next behind Punctuator (codes "[") s t e
   reads_index {t = t} nx op = one_sign t "[" is_index refl refl refl refl nx op (λ e. cc) (λ e. cc)
 
+  -- `?.`
   pub reads_chain : {s e : S} {t : Token} → Next s t e → operation t ≡ chains → Reads S Next behind Punctuator (codes "?.") s t e
   reads_chain {t = t} nx op = one_sign t "?." is_chain refl refl refl refl nx op (λ e. cc) (λ e. cc)
 

@@ -42,7 +42,7 @@ in_makes RegExp w e h f g = g (sym h)
 in_makes End w e h f g = g (sym h)
 
 -- an operator that isn't one with two sides asks for no In
-no_in : (t : Token) (i : Bool) {x : Operator} → operation t ≡ x → (x ≡ binds false Relational Shift → ⊥) → (x ≡ no_operator → ⊥) → IsTrue (implies (is t.text "in") i)
+pub no_in : (t : Token) (i : Bool) {x : Operator} → operation t ≡ x → (x ≡ binds false Relational Shift → ⊥) → (x ≡ no_operator → ⊥) → IsTrue (implies (is t.text "in") i)
 no_in t i h f g = go (is t.text "in") refl
   where
     go : (b : Bool) → is t.text "in" ≡ b → IsTrue (implies b i)
@@ -178,7 +178,7 @@ module _ (S : Type 0) (Next : S → Token → S → Type 0) (behind : S → Toke
       of (by_chain b tk lean pl grown gs') = absurd (no_spine b)
 
   -- the test of what can go on says so
-  stops_none : (y : Rank) (i : Bool) (t : Token) (x : Edge) → IsTrue (stops_at y i x t (symbol_of (operation t) t.after_break)) → Takes y i x t → ⊥
+  pub stops_none : (y : Rank) (i : Bool) (t : Token) (x : Edge) → IsTrue (stops_at y i x t (symbol_of (operation t) t.after_break)) → Takes y i x t → ⊥
   stops_none y i t x h k =
       let u : stops_at y i x t (Some k.symbol) ≡ true = subst (λ v. stops_at y i x t v ≡ true) k.makes h in
       no_way (takes y k.symbol) (is t.text "in") i (holds x k.symbol) k.taken k.has_in k.held u

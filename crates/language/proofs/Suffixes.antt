@@ -38,9 +38,11 @@ use Rattle.language.proofs.Stepping.{goes_where_not, led_text}
 use Rattle.language.proofs.Climbing.{goes_on, grows_height, Leads, Climbing, LedOn, led_on}
 use Rattle.language.proofs.TwoSides.{same_node, replaced, same_places, retold, regrown}
 
+-- the same position has the same symbol
 pub rank_is : {y z : Rank} {i j : Bool} {f g : Start} → expr y i f ≡ expr z j g → y ≡ z
 rank_is e = cc
 
+-- the same symbol is given
 pub some_same : {b c : Rank} → Some b ≡ Some c → b ≡ c
 some_same e = cc
 
@@ -54,6 +56,7 @@ call_member h t = grind (arith, nat_tests)
 member_call : (c : ℕ) → IsTrue (takes_number 21 c) → IsTrue (takes_number 20 c)
 member_call c t = grind (arith, nat_tests)
 
+-- a position that takes a member, whose object it takes, takes the node by its symbol
 pub suffix_fits : (h c : Rank) → IsTrue (takes (callee_rank h) c) → IsTrue (takes h Member) → IsTrue (takes h (suffix_rank c))
 suffix_fits h c f t = go (takes Member c) refl (takes h Call) refl f
   where
@@ -62,6 +65,7 @@ suffix_fits h c f t = go (takes Member c) refl (takes h Call) refl f
     go false e true k f = k
     go false e false k f = absurd (false≢true (sym e ∙ f))
 
+-- and where it takes the node by its symbol, it takes a member and its object
 pub suffix_stands : (h c : Rank) → IsTrue (takes h (suffix_rank c)) → IsTrue (takes Call c) → IsTrue (takes h Member) × IsTrue (takes (callee_rank h) c)
 suffix_stands h c f t = go (takes Member c) refl (takes h Call) refl f
   where
@@ -71,6 +75,7 @@ suffix_stands h c f t = go (takes Member c) refl (takes h Call) refl f
     go false e true k f = (call_member (tightness h) f, t)
     go false e false k f = absurd (false≢true (sym k ∙ f))
 
+-- what is taken as an object is taken at Call
 pub callee_call : (h c : Rank) → IsTrue (takes (callee_rank h) c) → IsTrue (takes Call c)
 callee_call h c f = go (takes h Call) f
   where
@@ -78,6 +83,7 @@ callee_call h c f = go (takes h Call) f
     go true f = f
     go false f = member_call (tightness c) f
 
+-- the position of an object is tight
 pub callee_tight : (b : Bool) → is_loose (cond b Member Call) ≡ true → ⊥
 callee_tight true h = cc
 callee_tight false h = cc
@@ -115,6 +121,7 @@ not_super y i f (node Super w g st en ps) h = elim ((way_of h).listed) [ ]
 not_super y i f (node _ w g st en ps) h = refl
 
 module _ (S : Type 0) (Next : S → Token → S → Type 0) (behind : S → Token) where
+  -- what stands at the position of an expression is no `super`
   pub no_super : {o : ℕ} {a : Role} {n : Tree} {s e : S} {P : List Pair} → Spells ways S Next behind o a n s e P → NoSuper a n
   no_super (grouped p d q) = no_super d
   no_super {a = expr y i f} {n = n} (direct qs h pl d) = not_super y i f n h
@@ -186,15 +193,19 @@ module _ (S : Type 0) (Next : S → Token → S → Type 0) (behind : S → Toke
           leads = λ o' e' n' P' d stopped. (step_on stopped (climb.leads o' e' n' P' d stopped)).leads st en places;
         }
 
+    -- what stands before `++` is too loose
     pub climb_step_unfit : {o : ℕ} {f : Start} {c : Rank} {Q : List Pair} → Climbing S Next behind det o y i f c s0 m mid Q → takes LeftHandSide c ≡ false → Absent S Next behind y i f s0
     climb_step_unfit climb no_fit = record { nothing = λ o' e' n' P' d stopped. false≢true (sym no_fit ∙ (step_on stopped (climb.leads o' e' n' P' d stopped)).fits) }
 
+    -- it is neither an identifier nor a member
     pub climb_step_no_target : {o : ℕ} {f : Start} {c : Rank} {Q : List Pair} → Climbing S Next behind det o y i f c s0 m mid Q → is_target (kind_of m) ≡ false → Absent S Next behind y i f s0
     climb_step_no_target climb no_fit = record { nothing = λ o' e' n' P' d stopped. false≢true (sym no_fit ∙ (step_on stopped (climb.leads o' e' n' P' d stopped)).target) }
 
+  -- the flags of a member that isn't in a chain
   pub member_flags : (g : Flags) (c : Bool) → g.optional ≡ false → g.computed ≡ c → used_flags MemberExpression g ≡ record plain { computed = c }
   member_flags g c o k = λ v. record plain { computed = k v; optional = o v }
 
+  -- the flags of a call that isn't in a chain
   pub call_flags : (g : Flags) → g.optional ≡ false → used_flags CallExpression g ≡ plain
   call_flags g o = λ v. record plain { optional = o v }
 
@@ -259,8 +270,10 @@ module _ (S : Type 0) (Next : S → Token → S → Type 0) (behind : S → Toke
               w.leads st en u to U same.1 same.0 same.2 places;
         }
 
+    -- what stands before `.` is too loose
     pub climb_dot_unfit : {o : ℕ} {f : Start} {c : Rank} {Q : List Pair} → Climbing S Next behind det o y i f c s0 m mid Q → takes Call c ≡ false → Absent S Next behind y i f s0
     climb_dot_unfit climb no_fit = record { nothing = λ o' e' n' P' d stopped. false≢true (sym no_fit ∙ (dot_on stopped (climb.leads o' e' n' P' d stopped)).fits) }
 
+    -- no name behind `.`
     pub climb_dot_absent : {o : ℕ} {f : Start} {c : Rank} {Q : List Pair} → Climbing S Next behind det o y i f c s0 m mid Q → AbsentAt S Next behind word x → Absent S Next behind y i f s0
     climb_dot_absent climb missed = record { nothing = λ o' e' n' P' d stopped. (let w = dot_on stopped (climb.leads o' e' n' P' d stopped) in missed.nothing o' w.to w.name w.pairs w.spelled) }

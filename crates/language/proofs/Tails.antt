@@ -28,6 +28,7 @@ pub record Tails (z q : Rank) : Type 0 where
 by_binary : (y z q x : ℕ) → IsTrue (takes_number y z) → Rises z q → z ≤ 15 → IsTrue (takes_number q x) → IsTrue (takes_number y x)
 by_binary y z q x h (k, c) l j = grind (arith, nat_tests)
 
+-- the right side of an operator with two sides
 pub tails_binary : (z q : Rank) → Binding z q → Tails z q
 tails_binary z q b = let up = b.rises.0 in let low = b.least in let most = b.most in record {
   highest = omega arith;
@@ -59,6 +60,7 @@ by_step y x h k = grind (arith, nat_tests)
 by_new : (y x : ℕ) → IsTrue (takes_number y 19) → IsTrue (takes_number 19 x) → IsTrue (takes_number y x)
 by_new y x h k = grind (arith, nat_tests)
 
+-- that of `**`
 pub tails_power : Tails Exponentiation Exponentiation
 tails_power = record { highest = omega arith; least = omega arith; loose = λ h. absurd (omega arith); middle = λ h k. absurd (omega arith); tight = λ h. absurd (omega arith); passes = λ y x n h k. by_power y x h k }
 
@@ -66,6 +68,7 @@ tails_power = record { highest = omega arith; least = omega arith; loose = λ h.
 pub tails_assign : Tails Assignment Assignment
 tails_assign = record { highest = omega arith; least = omega arith; loose = λ h. omega arith; middle = λ h k. absurd (omega arith); tight = λ h. absurd (omega arith); passes = λ y x n h k. by_assign y x h k }
 
+-- what stands behind the `:` of a conditional
 pub tails_conditional : Tails Conditional Assignment
 tails_conditional = record {
   highest = omega arith;
@@ -76,12 +79,15 @@ tails_conditional = record {
   passes = λ y x n h k. by_conditional y x (λ e. n e refl) h k;
 }
 
+-- the last part of a sequence
 pub tails_sequence : Tails Expression Assignment
 tails_sequence = record { highest = omega arith; least = omega arith; loose = λ h. omega arith; middle = λ h k. absurd (omega arith); tight = λ h. absurd (omega arith); passes = λ y x n h k. by_sequence y x h k }
 
+-- the operand of a unary operator
 pub tails_unary : Tails Unary Unary
 tails_unary = record { highest = omega arith; least = omega arith; loose = λ h. absurd (omega arith); middle = λ h k. absurd (omega arith); tight = λ h. absurd (omega arith); passes = λ y x n h k. by_unary y x h k }
 
+-- that of `++` and `--`
 pub tails_step : Tails Update LeftHandSide
 tails_step = record { highest = omega arith; least = omega arith; loose = λ h. absurd (omega arith); middle = λ h k. absurd (omega arith); tight = λ h. omega arith; passes = λ y x n h k. by_step y x h k }
 

@@ -120,6 +120,7 @@ two_edge (two_binds {l = l}) w g st en m u = of l
 two_edge two_powers w g st en m u = refl
 two_edge two_assigns w g st en m u = refl
 
+-- nodes are the same where all that they hold is
 pub same_node : {k k' : Kind} {w w' : List ℕ} {g g' : Flags} {st st' en en' : ℕ} {ps ps' : Parts} → k ≡ k' → w ≡ w' → g ≡ g' → st ≡ st' → en ≡ en' → ps ≡ ps' → node k w g st en ps ≡ node k' w' g' st' en' ps'
 same_node a b c d e f = λ i. node (a i) (b i) (c i) (d i) (e i) (f i)
 
@@ -128,6 +129,7 @@ module _ (S : Type 0) (Next : S → Token → S → Type 0) (behind : S → Toke
   pub replaced : {y y' : Rank} {i i' : Bool} {f f' : Start} {n : Tree} {s e : S} → Placed S Next behind (expr y i f) n s e → Placed S Next behind (expr y' i' f') n s e
   replaced (placed nx p) = placed nx p
 
+  -- nodes that start and end at the same places have the same span
   pub same_places : {y y' : Rank} {i i' : Bool} {f f' : Start} {k k' : Kind} {w w' : List ℕ} {g g' : Flags} {st st' en en' : ℕ} {ps ps' : Parts} {s e e' : S} → Placed S Next behind (expr y i f) (node k w g st en ps) s e →
       Placed S Next behind (expr y' i' f') (node k' w' g' st' en' ps') s e' → e ≡ e' → (st ≡ st') × (en ≡ en')
   same_places {s = s} (placed {t = t} {m = m} nx p) (placed {t = t'} {m = m'} nx' p') h =
@@ -163,6 +165,7 @@ module _ (S : Type 0) (Next : S → Token → S → Type 0) (behind : S → Toke
   pub retold : {o : ℕ} {a : Role} {n n' : Tree} {s e e' : S} {P P' : List Pair} → n ≡ n' → e ≡ e' → P ≡ P' → Spells ways S Next behind o a n s e P → Spells ways S Next behind o a n' s e' P'
   retold {o} {a} {n} {n'} {s} {e} {e'} {P} {P'} h k l d = subst (λ v. Spells ways S Next behind o a n' s e' v) l (subst (λ v. Spells ways S Next behind o a n' s v P) k (subst (λ v. Spells ways S Next behind o a v s e P) h d))
 
+  -- the same growth, told of what is equal
   pub regrown : {o : ℕ} {s0 e : S} {a b : Role} {w m m' : Tree} {mid mid' : S} {P Q Q' : List Pair} → m ≡ m' → mid ≡ mid' → Q ≡ Q' → Grows S Next behind o s0 a w e P b m mid Q → Grows S Next behind o s0 a w e P b m' mid' Q'
   regrown {o} {s0} {e} {a} {b} {w} {m} {m'} {mid} {mid'} {P} {Q} {Q'} h k l d =
       subst (λ v. Grows S Next behind o s0 a w e P b m' mid' v) l (subst (λ v. Grows S Next behind o s0 a w e P b m' v Q) k (subst (λ v. Grows S Next behind o s0 a w e P b v mid Q) h d))
