@@ -1,12 +1,11 @@
 -- Outlines and their positions don't depend on places.
-use Rattle.std.proofs.Common.{◌≡◌, ℕ, zero, suc, Bool, true, false, cond, List, [], ◌∷◌, refl, sym, ap, ap₂, ◌∙◌}
+use Rattle.std.proofs.Common.{◌≡◌, ℕ, zero, suc, cond, List, [], refl, ap, ap₂, ◌∙◌}
 use Rattle.std.specs.Prelude.{Option, Some, None, ◌||◌, ◌&&◌}
-use Rattle.tree.specs.Tree.{Tree, node, Parts, none, part, gap, kind_of, text_of, bare, bare_parts}
+use Rattle.tree.specs.Tree.{Tree, node, Parts, none, part, gap, bare, bare_parts}
 use Rattle.language.specs.FirstPart.{others}
 use Rattle.language.specs.Pieces.{is_none}
 use Rattle.language.specs.Expressions.{chained, first_chained, is_spine}
 use Rattle.positions.specs.declared.position.Slot.{Slot}
-use Rattle.positions.specs.declared.outline.Front.{Front}
 use Rattle.positions.specs.declared.outline.Tail.{Tail}
 use Rattle.positions.specs.declared.outline.Outline.{Outline}
 use Rattle.positions.specs.Outlines.{tail_slots, tail_at, part_of_tail, is_before_last, going, is_over, skips_gap, parts_behind, front_before, outline_slots}

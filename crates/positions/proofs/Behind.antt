@@ -1,8 +1,7 @@
 -- The parts from a place on, and a tail over them.
-use Rattle.std.proofs.Common.{◌≡◌, ℕ, zero, suc, ◌+◌, ◌-◌, ◌<◌, ◌≤◌, Bool, true, false, cond, nat_eq, List, [], ◌∷◌, Option, Some, None, refl, sym, arith, ap, ap₂, ◌∙◌, add-one}
+use Rattle.std.proofs.Common.{◌≡◌, ℕ, zero, suc, ◌+◌, ◌-◌, ◌<◌, ◌≤◌, Bool, true, false, cond, nat_eq, List, [], ◌∷◌, Option, Some, None, refl, sym, arith, ap, ◌∙◌, add-one}
 use Rattle.std.proofs.lemmas.Bool.Decides.{nat_tests}
-use Rattle.tree.specs.Tree.{Tree, node, Parts, none, part, gap, part_count, part_at}
-use Rattle.language.specs.FirstPart.{others}
+use Rattle.tree.specs.Tree.{Tree, Parts, none, part, gap, part_count, part_at}
 use Rattle.language.specs.Pieces.{is_none, Slot}
 use Rattle.positions.specs.declared.position.Slot as own
 use Rattle.positions.specs.declared.outline.Tail.{Tail}

@@ -1,7 +1,5 @@
 -- A part of a chain, from its first part.
-use Rattle.std.proofs.Common.{◌≡◌, Bool, true, false, Option, Some, None, refl, sym, ap, ◌∙◌}
-use Rattle.tree.specs.declared.kind.Kind.{Kind}
-use Rattle.tree.specs.declared.kind.Kind.TheVariants.{MemberExpression, CallExpression}
+use Rattle.std.proofs.Common.{◌≡◌, true, false, Option, refl, ap, ◌∙◌}
 use Rattle.tree.specs.Tree.{Tree, node, Parts, none, part, gap, kind_of, flags_of, parts_of, part_at}
 use Rattle.language.specs.Expressions.{chained, first_chained, is_spine}
 use Rattle.positions.specs.Chains.{is_chained_part}

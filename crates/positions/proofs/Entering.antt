@@ -1,7 +1,6 @@
 -- What stands at a place, from the part there.
 use Rattle.std.proofs.Common.{◌≡◌, ℕ, zero, suc, ◌+◌, ◌<◌, ◌≤◌, Option, Some, None, refl, arith, ap}
 use Rattle.tree.specs.Tree.{Tree, Parts, none, part, gap, kind_of, text_of, part_count, part_at}
-use Rattle.positions.specs.declared.position.Entry.{Entry}
 use Rattle.positions.specs.declared.position.Entry.TheVariants.{Past, Gap, Part}
 use Rattle.positions.specs.Entries.{entry_at, text_at}
 

@@ -1,36 +1,32 @@
 -- The outlines of expressions are those of the table.
 use Rattle.std.proofs.Common.{◌≡◌, ℕ, Bool, true, false, cond, List, [], ◌∷◌, ◌++◌, refl, sym, ap, ap₂, ◌∙◌}
-use Rattle.std.specs.Prelude.{Option, Some, None, ◌&&◌, ◌||◌, not, codes, IsTrue}
-use Rattle.std.proofs.lemmas.Bool.{and_parts}
+use Rattle.std.specs.Prelude.{Some, None, ◌&&◌, not, codes}
 use Rattle.tree.specs.declared.kind.Kind.{Kind}
 use Rattle.tree.specs.declared.kind.Kind.TheVariants as kind
 use Rattle.tree.specs.declared.kind.Flags.{Flags}
 use Rattle.tree.specs.Tree.{Tree, node, Parts, none, part, gap, kind_of, text_of}
 use Rattle.tokens.specs.declared.token.Class.TheVariants as class
 use Rattle.language.specs.declared.Rank.{Rank}
-use Rattle.language.specs.declared.Rank.TheVariants.{Expression, Assignment, Conditional, ShortCircuit, Exponentiation, Unary, Update, LeftHandSide, New, Call, Member, Primary}
+use Rattle.language.specs.declared.Rank.TheVariants.{Expression, Assignment, Conditional, ShortCircuit, Exponentiation, Unary, Update, LeftHandSide, Call, Member, Primary}
 use Rattle.language.specs.declared.Start.{Start}
 use Rattle.language.specs.declared.Start.TheVariants.{Any, NoBrace, Statement}
 use Rattle.language.specs.FirstPart.{lead as lead_kind, others}
-use Rattle.language.specs.Words.{is, among, Operator, binds, powers, operator_of, is_assignment, is_step, is_prefix, is_reserved, literal_class, is_name, is_target, is_pattern, is_super, is_identifier, is_word_operator, is_open_number}
+use Rattle.language.specs.Words.{is, among, Operator, binds, powers, operator_of, is_assignment, is_step, is_prefix, is_reserved, literal_class, is_name, is_target, is_pattern, is_super, is_word_operator, is_open_number}
 use Rattle.language.specs.Pieces as piece
 use Rattle.language.specs.Pieces.{Role, Piece, Slot, Spelling, at, at_in, only, put, sub, tok, lay, fixed, left, lead, tail, callee, lead_spine, lead_pattern, sign, term, sp, nothing, is_none, listed, elements, argument, parameters, never, absent, unbroken, open_parameters, close_parameters}
-use Rattle.language.specs.Expressions.{expressions, arguments, selector, after_number, in_brackets, chunks, object_part, function_pieces, class_pieces, arrow_end, arrows, infix_pieces, joined, sequence, lead_is, first_chained, binary_ways, logical_ways, assignment}
+use Rattle.language.specs.Expressions.{expressions, arguments, selector, after_number, in_brackets, chunks, object_part, function_pieces, class_pieces, arrow_end, arrows, infix_pieces, joined, sequence, lead_is, first_chained, binary_ways, logical_ways}
 use Rattle.language.specs.Grammar.{starts}
-use Rattle.language.proofs.Domination.{fits}
 use Rattle.language.proofs.Looser.{same}
 use Rattle.language.proofs.TidyTable.{new-fits, arrow-fits}
-use Rattle.positions.specs.declared.position.Entry.{Entry}
 use Rattle.positions.specs.declared.position.Position.TheVariants as position
 use Rattle.positions.specs.declared.position.Slot.TheVariants as own
 use Rattle.positions.specs.declared.outline.Front.TheVariants.{Zero, One, Two, Three}
 use Rattle.positions.specs.declared.outline.Tail.TheVariants as tails
-use Rattle.positions.specs.declared.outline.Outline.{Outline}
-use Rattle.positions.specs.Outlines.{slot_of, before, front_before, tail_slots, parts_behind, opens_at, assignment_at, whole_at, leaf, fronted, lined}
+use Rattle.positions.specs.Outlines.{slot_of, before, tail_slots, opens_at, assignment_at, whole_at, leaf, fronted, lined}
 use Rattle.positions.specs.Entries.{entry_at, text_at, around}
 use Rattle.positions.specs.Operations.{operation, operation_at}
-use Rattle.positions.specs.Expressions.{kind_at, is_past, expression_outline, member_outline, call_outline, selected, update_outline, unary_outline, joined_outline, binary_outline, logical_outline, assignment_outline, meta_outline, sequence_outline, function_outline, class_outline, arrow_outline, chain_outline}
-use Rattle.positions.proofs.Named.{named, joined as joined_names, named-append, named-closed}
+use Rattle.positions.specs.Expressions.{kind_at, is_past, expression_outline, selected, joined_outline, binary_outline, logical_outline, function_outline, class_outline, arrow_outline}
+use Rattle.positions.proofs.Named.{named, named-closed}
 use Rattle.positions.proofs.Lists.{arguments-named, object-named, elements-named, parameters-named, chunks-named, sequence-named}
 use Rattle.positions.proofs.Outlined.{Describes, Outlined, no_way, never_runs, one_way, two_ways, by_case, lists, fronts, sub_starts, word_starts, sign_starts, nothing_slots}
 use Rattle.positions.proofs.FirstTokens.{name_starts, literal_starts, prefix_word, prefix_sign, step_sign}
@@ -106,7 +102,6 @@ module _ (ps : Parts) where
       of : (b : Bool) → named (cond b in_brackets (sign "." ∷ put piece.word ∷ [])) ≡ before (slot_of (own.Fixed (cond b whole_at position.Word))) (Some [])
       of true = refl
       of false = refl
-
 
   call : (x : Slot) (y : Rattle.positions.specs.declared.position.Slot.Slot) → x ≡ slot_of y → Outlined ps (at Call (sub x ∷ arguments (others ps)) ∷ []) (Some (lined Call (One y) (tails.Arguments false) 1))
   call x y e = lists Call (One y) (tails.Arguments false) 1 (sub x ∷ arguments (others ps)) (ap₂ (λ u v. before u v) e (arguments_names (others ps))) (λ f. sub_starts f x (arguments (others ps)))

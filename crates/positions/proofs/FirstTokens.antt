@@ -1,17 +1,16 @@
 -- What names, literals and operators begin with.
 use Rattle.std.proofs.Common.{◌≡◌, ℕ, Bool, true, false, List, [], ◌∷◌, refl, sym, ap, ◌∙◌, subst}
-use Rattle.std.specs.Prelude.{codes, not, cond, ◌||◌, ◌&&◌, nat_eq, nat_le, slice_index_or}
-use Rattle.std.proofs.lemmas.Bool.{false≢true, and_parts}
+use Rattle.std.specs.Prelude.{not, cond, ◌||◌, ◌&&◌, nat_eq, nat_le, slice_index_or}
+use Rattle.std.proofs.lemmas.Bool.{false≢true}
 use Rattle.tokens.specs.declared.token.Class.{Class}
 use Rattle.tokens.specs.declared.token.Class.TheVariants as class
 use Rattle.language.specs.declared.Start.{Start}
 use Rattle.language.specs.declared.Start.TheVariants.{Any, NoBrace, Statement}
-use Rattle.language.specs.Words.{is, among, is_reserved, is_prefix, is_step, is_name, literal_class, does_step, operator_of, operators, operator_among}
+use Rattle.language.specs.Words.{is, among, is_reserved, is_prefix, is_step, is_name, literal_class}
 use Rattle.language.specs.Pieces.{Piece, tok}
 use Rattle.language.specs.Grammar.{starts}
 use Rattle.language.proofs.Begins.{among_by, Each}
 use Rattle.positions.proofs.Outlined.{word_starts, sign_starts}
-use Rattle.positions.proofs.Operations.{Quiet, quiet}
 
 -- of a text among these, what holds of each
 by_words : (f : List ℕ → Bool) (w : List ℕ) (ss : List Prim.Native.String.String) → among w ss ≡ true → Each (λ v. f v ≡ false) ss → f w ≡ false

@@ -1,12 +1,9 @@
 -- The positions that are given are those of the outline.
-use Rattle.std.proofs.Common.{◌≡◌, ℕ, Bool, true, false, cond, List, [], ◌∷◌, Option, Some, None, refl, sym, ap, ap₂, ◌∙◌, subst}
-use Rattle.std.specs.Prelude.{option_map, ◌&&◌, ◌||◌}
+use Rattle.std.proofs.Common.{◌≡◌, Bool, true, false, cond, List, [], ◌∷◌, Option, Some, None, refl, sym, ap, ap₂, ◌∙◌, subst}
+use Rattle.std.specs.Prelude.{option_map}
 use Rattle.tree.specs.Tree.{Tree, node, Parts, kind_of, text_of, flags_of, parts_of}
-use Rattle.tree.specs.Node.{node_tree}
 use Rattle.tree.specs.Uses.{is_lean}
 use Rattle.language.specs.Pieces as piece
-use Rattle.language.specs.Positions.{first_roles}
-use Rattle.language.specs.Layout.{some_way}
 use Rattle.positions.specs.declared.position.Position.{Position}
 use Rattle.positions.specs.declared.position.Slot as own
 use Rattle.positions.specs.declared.outline.Front.{Front}
@@ -14,9 +11,9 @@ use Rattle.positions.specs.declared.outline.Front.TheVariants.{Zero, One, Two, T
 use Rattle.positions.specs.declared.outline.Tail.{Tail}
 use Rattle.positions.specs.declared.outline.Outline.{Outline}
 use Rattle.positions.specs.declared.spelling.Positions.{Positions}
-use Rattle.positions.specs.Outlines.{role_of, slot_of, before, front_before, tail_slots, parts_behind, outline_slots}
+use Rattle.positions.specs.Outlines.{role_of, slot_of, front_before, tail_slots, parts_behind, outline_slots}
 use Rattle.positions.specs.Spelled.{lean_label, fits_outline, settled_roles, outlined_roles, roles_by, Verdict}
-use Rattle.positions.specs.Remaining.{slots_left, front_left, tail_left, left, remaining, Taken, Next, Gives, IsSpelled, goes_over, left_of}
+use Rattle.positions.specs.Remaining.{slots_left, front_left, left, remaining, Taken, Next, Gives, IsSpelled, goes_over, left_of}
 use Rattle.positions.proofs.Behind.{slots_known}
 
 pub lean_of : (n : Tree) → lean_label (kind_of n) (text_of n) (flags_of n) ≡ is_lean n
@@ -111,5 +108,7 @@ next_some p x a h e = of (left p) h
   where
     of : (xs : List piece.Slot) → Taken xs p (Some x) → Next (settled_roles (role_of p.position) xs) (Some (a, x.1))
     of [] k = elim k [ ]
-    of (s ∷ xs) k = (e ∙ ap (λ u. piece.settle (Rattle.language.specs.Grammar.own_rank (role_of p.position)) (Rattle.language.specs.Grammar.own_in (role_of p.position)) (Rattle.language.specs.Grammar.own_start (role_of p.position)) u) k.0,
-        ap₂ (λ q ys. settled_roles (role_of q) ys) k.2 k.1)
+    of (s ∷ xs) k = (
+      e ∙ ap (λ u. piece.settle (Rattle.language.specs.Grammar.own_rank (role_of p.position)) (Rattle.language.specs.Grammar.own_in (role_of p.position)) (Rattle.language.specs.Grammar.own_start (role_of p.position)) u) k.0,
+      ap₂ (λ q ys. settled_roles (role_of q) ys) k.2 k.1,
+    )

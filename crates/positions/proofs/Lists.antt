@@ -1,12 +1,11 @@
 -- The lists of the table name what the tails do.
-use Rattle.std.proofs.Common.{◌≡◌, ℕ, Bool, true, false, cond, List, [], ◌∷◌, ◌++◌, refl, sym, ap, ap₂, ◌∙◌}
+use Rattle.std.proofs.Common.{◌≡◌, Bool, true, false, cond, List, [], ◌∷◌, ◌++◌, refl, ap, ap₂, ◌∙◌}
 use Rattle.std.specs.Prelude.{Option, Some, None, ◌&&◌, ◌||◌, not, codes}
 use Rattle.tree.specs.declared.kind.Kind.{Kind}
 use Rattle.tree.specs.declared.kind.Kind.TheVariants as kind
-use Rattle.tree.specs.Tree.{Tree, node, Parts, none, part, gap, kind_of, flags_of}
+use Rattle.tree.specs.Tree.{Tree, node, Parts, none, part, gap, kind_of}
 use Rattle.language.specs.declared.Rank.TheVariants.{LeftHandSide, Expression, Assignment}
 use Rattle.language.specs.declared.Start.TheVariants.{Any}
-use Rattle.language.specs.FirstPart.{others}
 use Rattle.language.specs.Words.{is_rest, is_spread, is_pattern, is_identifier, is_target}
 use Rattle.language.specs.Pieces as piece
 use Rattle.language.specs.Pieces.{Piece, Slot, sub, never, may, absent, lay, fixed, put, put_at, sign, sp, nothing, is_none, separator, listed, elements, argument, pattern_element, parameters, bound, with_default}
@@ -18,8 +17,8 @@ use Rattle.positions.specs.declared.position.Slot.TheVariants as at
 use Rattle.positions.specs.declared.position.Position.TheVariants as position
 use Rattle.positions.specs.declared.outline.Tail.{Tail}
 use Rattle.positions.specs.declared.outline.Tail.TheVariants as tail
-use Rattle.positions.specs.Outlines.{role_of, slot_of, listed_at, tail_at, tail_slots, going, before, is_over, may_end, skips_gap, argument_at, object_part_at, element_at, pattern_part_at, bound_at, default_at, part_of_tail, is_before_last}
-use Rattle.positions.proofs.Named.{named, joined, named-append, named-closed}
+use Rattle.positions.specs.Outlines.{role_of, slot_of, listed_at, tail_slots, going, before, argument_at, object_part_at, element_at, pattern_part_at, bound_at, default_at}
+use Rattle.positions.proofs.Named.{named, joined, named-append}
 
 -- the piece of a position that may be none
 abbrev piece_at : Option Position → Piece

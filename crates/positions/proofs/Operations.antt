@@ -1,5 +1,5 @@
 -- What texts make, where they are none of an operator's.
-use Rattle.std.proofs.Common.{◌≡◌, ℕ, Bool, true, false, List, [], ◌∷◌, refl, sym, ap, ◌∙◌}
+use Rattle.std.proofs.Common.{◌≡◌, ℕ, Bool, true, false, List, [], ◌∷◌, refl, sym, ◌∙◌}
 use Rattle.std.specs.Prelude.{cond, codes, ◌||◌}
 use Rattle.std.proofs.lemmas.Slice.Eq.{bytes_eq-Decides}
 use Rattle.std.proofs.lemmas.Bool.{false≢true}
@@ -52,6 +52,28 @@ pub no_plain : (w : List ℕ) →
     NoneOf w ("<" ∷ ">" ∷ "<=" ∷ ">=" ∷ "instanceof" ∷ "in" ∷ []) → NoneOf w ("<<" ∷ ">>" ∷ ">>>" ∷ []) → NoneOf w ("+" ∷ "-" ∷ []) →
     NoneOf w ("*" ∷ "/" ∷ "%" ∷ []) → NoneOf w ("**" ∷ []) → logical_operation (operator_of w) ≡ operation (operator_of w)
 no_plain w a b c d e f g h i =
-    as_logical (operator_of w) (quiet is_plain w operators
-    (unless w ("|" ∷ []) a, (unless w ("^" ∷ []) b, (unless w ("&" ∷ []) c, (unless w ("==" ∷ "!=" ∷ "===" ∷ "!==" ∷ []) d, (unless w ("<" ∷ ">" ∷ "<=" ∷ ">=" ∷ "instanceof" ∷ "in" ∷ []) e, (unless w ("<<" ∷ ">>" ∷ ">>>" ∷ []) f, (unless w ("+" ∷ "-" ∷ []) g, (unless w ("*" ∷ "/" ∷ "%" ∷ []) h,
-    ((λ x. refl), ((λ x. refl), ((λ x. refl), (unless w ("**" ∷ []) i, ((λ x. refl), ((λ x. refl), ((λ x. refl), ((λ x. refl), ((λ x. refl), ((λ x. refl), ((λ x. refl), ((λ x. refl), ((λ x. refl), refl))))))))))))))))))))))
+    as_logical (operator_of w) (quiet is_plain w operators (
+      unless w ("|" ∷ []) a,
+      (
+        unless w ("^" ∷ []) b,
+        (
+          unless w ("&" ∷ []) c,
+          (
+            unless w ("==" ∷ "!=" ∷ "===" ∷ "!==" ∷ []) d,
+            (
+              unless w ("<" ∷ ">" ∷ "<=" ∷ ">=" ∷ "instanceof" ∷ "in" ∷ []) e,
+              (
+                unless w ("<<" ∷ ">>" ∷ ">>>" ∷ []) f,
+                (
+                  unless w ("+" ∷ "-" ∷ []) g,
+                  (
+                    unless w ("*" ∷ "/" ∷ "%" ∷ []) h,
+                    ((λ x. refl), ((λ x. refl), ((λ x. refl), (unless w ("**" ∷ []) i, ((λ x. refl), ((λ x. refl), ((λ x. refl), ((λ x. refl), ((λ x. refl), ((λ x. refl), ((λ x. refl), ((λ x. refl), ((λ x. refl), refl))))))))))))),
+                  ),
+                ),
+              ),
+            ),
+          ),
+        ),
+      ),
+    ))

@@ -1,22 +1,20 @@
 -- What an outline says of the ways to spell a node.
-use Rattle.std.proofs.Common.{◌≡◌, ℕ, zero, suc, Bool, true, false, cond, List, [], ◌∷◌, ◌++◌, refl, sym, ap, ◌∙◌}
-use Rattle.std.specs.Prelude.{Option, Some, None, codes, not, IsTrue}
-use Prim.Native.String.{String}
-use Rattle.tree.specs.Tree.{Tree, Parts, none, part, gap}
-use Rattle.tokens.specs.declared.token.Class.{Class}
+use Rattle.std.proofs.Common.{◌≡◌, ℕ, Bool, true, false, cond, List, [], ◌∷◌, refl, sym, ap, ◌∙◌}
+use Rattle.std.specs.Prelude.{Option, Some, None, not, IsTrue}
+use Rattle.tree.specs.Tree.{Parts, none, part, gap}
 use Rattle.tokens.specs.declared.token.Class.TheVariants.{Name, Punctuator}
 use Rattle.language.specs.declared.Rank.{Rank}
 use Rattle.language.specs.declared.Start.{Start}
 use Rattle.language.specs.declared.Start.TheVariants.{Any, NoBrace, Statement}
 use Rattle.language.specs.Words.{is, among}
-use Rattle.language.specs.Pieces.{Role, Slot, Piece, tok, sub, Spelling, at, at_in}
+use Rattle.language.specs.Pieces.{Role, Slot, Piece, tok, sub, Spelling, at}
 use Rattle.language.specs.Grammar.{starts}
 use Rattle.language.proofs.Domination.{fits}
 use Rattle.positions.specs.declared.outline.Front.{Front}
 use Rattle.positions.specs.declared.outline.Tail.{Tail}
 use Rattle.positions.specs.declared.outline.Tail.TheVariants as tail
 use Rattle.positions.specs.declared.outline.Outline.{Outline}
-use Rattle.positions.specs.Outlines.{before, opens_at, outline_slots, front_before, tail_slots, parts_behind, lined, fronted}
+use Rattle.positions.specs.Outlines.{opens_at, outline_slots, front_before, tail_slots, parts_behind, lined, fronted}
 use Rattle.positions.proofs.Named.{named}
 
 -- a spelling is as the outline says

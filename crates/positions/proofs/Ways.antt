@@ -1,19 +1,16 @@
 -- The ways to spell a node, by an outline.
-use Rattle.std.proofs.Common.{◌≡◌, ℕ, Bool, true, false, cond, List, [], ◌∷◌, refl, sym, ap, ap₂, ◌∙◌, subst}
-use Rattle.std.specs.Prelude.{Option, Some, None, ◌&&◌, IsTrue, map, filter, option_map}
+use Rattle.std.proofs.Common.{◌≡◌, Bool, true, false, cond, List, [], ◌∷◌, refl, sym, ap, ap₂, ◌∙◌, subst}
+use Rattle.std.specs.Prelude.{Option, Some, None, ◌&&◌, map, option_map}
 use Rattle.std.proofs.lemmas.Bool.{false≢true}
-use Rattle.tree.specs.Tree.{Tree, node, Parts, none, part, gap, kind_of, text_of, flags_of, parts_of, bare, bare_parts}
-use Rattle.tree.specs.Uses.{implies, is_lean}
+use Rattle.tree.specs.Tree.{Tree, node, Parts, kind_of, text_of, flags_of, parts_of, bare, bare_parts}
+use Rattle.tree.specs.Uses.{is_lean}
 use Rattle.language.specs.declared.Rank.{Rank}
 use Rattle.language.specs.declared.Start.{Start}
-use Rattle.language.specs.Words.{takes}
-use Rattle.language.specs.Pieces.{Role, expr, pattern, Slot, Spelling, settle}
-use Rattle.language.specs.Grammar.{ways, ways_bare, spellings, fits_position, can_run, starts, own_rank, own_in, own_start}
-use Rattle.language.specs.Positions.{roles, first_roles}
-use Rattle.language.specs.Layout.{some_way}
+use Rattle.language.specs.Pieces.{Role, expr, pattern, Slot, Spelling}
+use Rattle.language.specs.Grammar.{ways, ways_bare, spellings, fits_position, can_run, own_rank, own_in, own_start}
 use Rattle.language.proofs.Domination.{settled, fits, ways_of}
 use Rattle.positions.specs.declared.outline.Outline.{Outline}
-use Rattle.positions.specs.Outlines.{opens_at, outline_slots}
+use Rattle.positions.specs.Outlines.{outline_slots}
 use Rattle.positions.specs.Entries.{around}
 use Rattle.positions.specs.Expressions.{expression_outline}
 use Rattle.positions.specs.Spelled.{fits_outline, settled_roles, outlined_roles, roles_by, Verdict}

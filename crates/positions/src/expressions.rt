@@ -157,10 +157,7 @@ fn member_outline(flags: Flags, object: Kind) -> Option<Outline>
         Kind::Super => Slot::Fixed(Position::Base),
         _ => Slot::Callee,
     };
-    Some(Outline::of_front(
-        Rank::Member,
-        Front::Two(head, selected(flags)),
-    ))
+    Some(Outline::of_front(Rank::Member, Front::Two(head, selected(flags))))
 }
 
 /// The position of a member's property.

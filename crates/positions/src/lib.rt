@@ -11,6 +11,8 @@ mod tail;
 mod walk;
 mod words;
 
-pub use outline::{Front, Opens, Outline, Tail};
+pub use position::Position;
 pub use spelling::{Positions, expression_positions};
-pub use position::{Entry, Position, Slot, entry_of};
+
+#[cfg(test)]
+mod tests;

@@ -18,7 +18,9 @@ pub enum Position {
         start: Start,
     },
     /// A part of a chain above its base.
-    Spine { start: Start },
+    Spine {
+        start: Start,
+    },
     /// A name that binds or labels, or a shorthand value.
     Name,
     /// An identifier's characters, reserved or not.
@@ -34,28 +36,58 @@ pub enum Position {
     /// The template behind a tag.
     Quasi,
     /// A part of a template.
-    Chunk { is_first: bool, is_last: bool },
+    Chunk {
+        is_first: bool,
+        is_last: bool,
+    },
     Spread,
     Property,
     /// A pattern, which binds names or assigns.
-    Pattern { binds: bool, start: Start },
-    PatternProperty { binds: bool },
+    Pattern {
+        binds: bool,
+        start: Start,
+    },
+    PatternProperty {
+        binds: bool,
+    },
     /// A target, name or pattern with a default.
-    Element { binds: bool },
-    Rest { binds: bool, of_object: bool },
+    Element {
+        binds: bool,
+    },
+    Rest {
+        binds: bool,
+        of_object: bool,
+    },
     /// The function of a method, from its `(`.
     Method(Form),
     Body,
     /// Statements; the flag allows `return`.
-    Statement { returns: bool },
-    Item { returns: bool },
-    Opening { returns: bool },
-    Block { returns: bool },
+    Statement {
+        returns: bool,
+    },
+    Item {
+        returns: bool,
+    },
+    Opening {
+        returns: bool,
+    },
+    Block {
+        returns: bool,
+    },
     /// A declaration in the head of a `for`, with initialisers or with none.
-    Head { initialised: bool },
-    Declarator { with_in: bool, initialised: bool },
-    SwitchCase { returns: bool },
-    Handler { returns: bool },
+    Head {
+        initialised: bool,
+    },
+    Declarator {
+        with_in: bool,
+        initialised: bool,
+    },
+    SwitchCase {
+        returns: bool,
+    },
+    Handler {
+        returns: bool,
+    },
     ClassBody,
     Member,
     Script,
@@ -101,7 +133,7 @@ pub enum Entry {
 }
 
 /// What stands at a place among a node's parts.
-pub fn entry_of(node: Node, index: usize) -> Entry
+pub(crate) fn entry_of(node: Node, index: usize) -> Entry
     ensures { result ≡ entry_at (parts_of (node_tree node.entry)) index }
 {
     match node.part(index) {

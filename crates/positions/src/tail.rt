@@ -32,7 +32,12 @@ pub(crate) fn next_slot(tail: Tail, next: Next) -> Option<(Slot, Tail)>
             listed(element(binds, next.kind), next.kind, next.is_last, tail)
         }
         Tail::PatternProperties { binds } => {
-            listed(pattern_part(binds, next.kind), next.kind, next.is_last, tail)
+            listed(
+                pattern_part(binds, next.kind),
+                next.kind,
+                next.is_last,
+                tail,
+            )
         }
         Tail::Parameters(slot) => parameter(slot, next),
         Tail::Chunks { .. } | Tail::Substitution => Some(template_part(tail, next.is_last)),
@@ -41,12 +46,7 @@ pub(crate) fn next_slot(tail: Tail, next: Next) -> Option<(Slot, Tail)>
 }
 
 /// A part of a list at a position, which goes on so; behind a rest nothing stands.
-fn listed(
-    position: Option<Position>,
-    kind: Kind,
-    is_last: bool,
-    tail: Tail,
-) -> Option<(Slot, Tail)>
+fn listed(position: Option<Position>, kind: Kind, is_last: bool, tail: Tail) -> Option<(Slot, Tail)>
     ensures { result ≡ listed_at position kind is_last tail }
 {
     let Some(position) = position else {
@@ -143,7 +143,12 @@ fn parameter(slot: Slot, next: Next) -> Option<(Slot, Tail)>
         return Some((slot, Tail::Nothing));
     }
     let position = element(true, next.kind);
-    listed(position, next.kind, next.is_before_last, Tail::Parameters(slot))
+    listed(
+        position,
+        next.kind,
+        next.is_before_last,
+        Tail::Parameters(slot),
+    )
 }
 
 fn template_part(tail: Tail, is_last: bool) -> (Slot, Tail)

@@ -12,12 +12,7 @@ use crate::tail::{Next, is_over, may_end, next_slot, skips_gap};
 use tree::Node;
 
 /// The position of the part at an index, and how they go on behind it.
-pub(crate) fn slot_of_part(
-    node: Node,
-    part: Node,
-    tail: Tail,
-    index: usize,
-) -> Option<(Slot, Tail)>
+pub(crate) fn slot_of_part(node: Node, part: Node, tail: Tail, index: usize) -> Option<(Slot, Tail)>
     requires { index < part_count (parts_of (node_tree node)) }
     ensures { result ≡ part_of_tail tail (node_tree part.entry) (parts_behind (suc index) (parts_of (node_tree node.entry))) }
 {

@@ -1,4 +1,4 @@
-use Rattle.std.proofs.Common.{sym, ap, ◌∙◌, arith, Some, Option}
+use Rattle.std.proofs.Common.{ap, ◌∙◌, arith}
 use Rattle.tree.specs.Node.{node_tree}
 use Rattle.tree.specs.Tree.{parts_of}
 use Rattle.positions.specs.declared.position.Entry.TheVariants.{Part}

@@ -1,4 +1,4 @@
-use Rattle.std.proofs.Common.{ap, sym, ◌∙◌}
+use Rattle.std.proofs.Common.{ap}
 use Rattle.tree.specs.Node.{node_tree}
 use Rattle.tree.specs.Tree.{parts_of}
 use Rattle.positions.specs.Outlines.{role_of}

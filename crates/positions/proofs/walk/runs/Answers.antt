@@ -1,7 +1,6 @@
-use Rattle.std.proofs.Common.{◌≡◌, ◌∙◌, ◌<◌, ◌≤◌, sym, true, false, arith, ap}
+use Rattle.std.proofs.Common.{◌∙◌, ◌<◌, sym, arith}
 use Rattle.tree.specs.Node.{node_tree}
 use Rattle.tree.specs.Tree.{parts_of, part_count}
-use Rattle.positions.specs.Outlines.{parts_behind, is_over, skips_gap}
 use Rattle.positions.proofs.Behind.{over_runs, end_runs, gap_stops, gap_passes, part_stops, part_passes}
 use Rattle.positions.proofs.walk.runs.Goals as goal
 

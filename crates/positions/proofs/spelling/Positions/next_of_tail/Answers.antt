@@ -1,8 +1,8 @@
-use Rattle.std.proofs.Common.{◌≡◌, ◌∙◌, ◌<◌, ◌≤◌, sym, arith, suc, [], false, refl, ap, add-one}
+use Rattle.std.proofs.Common.{◌∙◌, ◌<◌, sym, arith, suc, refl, ap, add-one}
 use Rattle.tree.specs.Node.{node_tree}
 use Rattle.tree.specs.Tree.{parts_of, part_count}
-use Rattle.positions.specs.Outlines.{parts_behind, is_over, part_of_tail, slot_of}
-use Rattle.positions.specs.Remaining.{slots_left, tail_left, left_of}
+use Rattle.positions.specs.Outlines.{parts_behind}
+use Rattle.positions.specs.Remaining.{slots_left, tail_left}
 use Rattle.positions.proofs.Behind.{over_left, end_left, gap_left, gap_skipped, part_left}
 use Rattle.positions.proofs.Given.{taken_none, taken_part, refused, stepped}
 use Rattle.positions.proofs.spelling.Positions.next_of_tail.Goals as goal
