@@ -1,6 +1,6 @@
 -- What stands at a place among a node's parts.
 use Rattle.std.specs.Prelude.{ℕ, zero, suc, List, []}
-use Rattle.tree.specs.Tree.{Tree, Parts, none, part, gap, kind_of, text_of, parts_of}
+use Rattle.tree.specs.Tree.{Parts, none, part, gap, kind_of, text_of}
 use Rattle.language.specs.Expressions.{first_chained}
 use Rattle.positions.specs.declared.position.Entry.{Entry}
 use Rattle.positions.specs.declared.position.Entry.TheVariants.{Past, Gap, Part}

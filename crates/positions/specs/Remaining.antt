@@ -1,6 +1,6 @@
 -- What is left of the positions of a node's parts.
-use Rattle.std.specs.Prelude.{◌≡◌, ℕ, Bool, true, false, not, cond, ◌&&◌, List, [], ◌∷◌, Option, Some, None}
-use Rattle.tree.specs.Tree.{Tree, Parts, none, part, gap, parts_of}
+use Rattle.std.specs.Prelude.{◌≡◌, Bool, true, false, cond, List, [], ◌∷◌, Option, Some, None}
+use Rattle.tree.specs.Tree.{Parts, none, part, gap, parts_of}
 use Rattle.tree.specs.Node.{node_tree}
 use Rattle.language.specs.Pieces as piece
 use Rattle.positions.specs.declared.position.Slot.{Slot}

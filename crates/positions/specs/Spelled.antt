@@ -1,6 +1,6 @@
 -- The positions that a node's parts have, where an outline fits the node's own.
-use Rattle.std.specs.Prelude.{◌≡◌, ℕ, ◌||◌, Bool, true, false, cond, ◌&&◌, List, [], ◌∷◌, Option, Some, None, map, option_map}
-use Rattle.tree.specs.Tree.{Tree, Parts, none, part, gap, parts_of}
+use Rattle.std.specs.Prelude.{◌≡◌, ℕ, ◌||◌, Bool, true, cond, ◌&&◌, List, [], Option, Some, None, map, option_map}
+use Rattle.tree.specs.Tree.{Tree, Parts, parts_of}
 use Rattle.tree.specs.declared.kind.Kind.{Kind}
 use Rattle.tree.specs.declared.kind.Flags.{Flags}
 use Rattle.tree.specs.Uses.{implies, is_lean, has_text, is_empty, within, used_flags}
