@@ -1,0 +1,73 @@
+-- Outlines and their positions don't depend on places.
+use Rattle.std.proofs.Common.{◌≡◌, ℕ, zero, suc, cond, List, [], refl, ap, ap₂, ◌∙◌}
+use Rattle.std.specs.Prelude.{Option, Some, None, ◌||◌, ◌&&◌}
+use Rattle.tree.specs.Tree.{Tree, node, Parts, none, part, gap, bare, bare_parts}
+use Rattle.language.specs.FirstPart.{others}
+use Rattle.language.specs.Pieces.{is_none}
+use Rattle.language.specs.Expressions.{chained, first_chained, is_spine}
+use Rattle.positions.specs.declared.position.Slot.{Slot}
+use Rattle.positions.specs.declared.outline.Tail.{Tail}
+use Rattle.positions.specs.declared.outline.Outline.{Outline}
+use Rattle.positions.specs.Outlines.{tail_slots, tail_at, part_of_tail, is_before_last, going, is_over, skips_gap, parts_behind, front_before, outline_slots}
+use Rattle.positions.specs.Entries.{entry_at, text_at, around}
+
+pub none-bare : (ps : Parts) → is_none (bare_parts ps) ≡ is_none ps
+none-bare none = refl
+none-bare (part n ps) = refl
+none-bare (gap ps) = refl
+
+pub others-bare : (ps : Parts) → others (bare_parts ps) ≡ bare_parts (others ps)
+others-bare none = refl
+others-bare (part n ps) = refl
+others-bare (gap ps) = refl
+
+before_last-bare : (ps : Parts) → is_before_last (bare_parts ps) ≡ is_before_last ps
+before_last-bare none = refl
+before_last-bare (part n ps) = none-bare ps
+before_last-bare (gap ps) = none-bare ps
+
+part_of_tail-bare : (t : Tail) (n : Tree) (ps : Parts) → part_of_tail t (bare n) (bare_parts ps) ≡ part_of_tail t n ps
+part_of_tail-bare t (node k w g s e us) ps = ap₂ (λ a b. tail_at t k g.directive a b) (none-bare ps) (before_last-bare ps)
+
+going-alike : (f g : Tail → Option (List Rattle.language.specs.Pieces.Slot)) (u : Option (Slot × Tail)) → ((t : Tail) → f t ≡ g t) → going f u ≡ going g u
+going-alike f g None h = refl
+going-alike f g (Some x) h = ap (Rattle.positions.specs.Outlines.before (Rattle.positions.specs.Outlines.slot_of x.0)) (h x.1)
+
+pub tail_slots-bare : (t : Tail) (ps : Parts) → tail_slots t (bare_parts ps) ≡ tail_slots t ps
+tail_slots-bare t none = refl
+tail_slots-bare t (gap ps) = ap (λ x. cond (is_over t) (Some []) (cond (skips_gap t) x None)) (tail_slots-bare t ps)
+tail_slots-bare t (part n ps) =
+    ap (cond (is_over t) (Some [])) (ap (going (λ u. tail_slots u (bare_parts ps))) (part_of_tail-bare t n ps) ∙ going-alike (λ u. tail_slots u (bare_parts ps)) (λ u. tail_slots u ps) (part_of_tail t n ps) (λ u. tail_slots-bare u ps))
+
+behind-bare : (i : ℕ) (ps : Parts) → parts_behind i (bare_parts ps) ≡ bare_parts (parts_behind i ps)
+behind-bare zero ps = refl
+behind-bare (suc i) ps = ap (parts_behind i) (others-bare ps) ∙ behind-bare i (others ps)
+
+pub outline_slots-bare : (x : Outline) (ps : Parts) → outline_slots x (bare_parts ps) ≡ outline_slots x ps
+outline_slots-bare x ps = ap (front_before x.front) (ap (tail_slots x.tail) (behind-bare x.from ps) ∙ tail_slots-bare x.tail (parts_behind x.from ps))
+
+entry-bare : (ps : Parts) (i : ℕ) → entry_at (bare_parts ps) i ≡ entry_at ps i
+entry-bare none i = refl
+entry-bare (part (node k w g s e us) ps) zero = refl
+entry-bare (part n ps) (suc i) = entry-bare ps i
+entry-bare (gap ps) zero = refl
+entry-bare (gap ps) (suc i) = entry-bare ps i
+
+text-bare : (ps : Parts) (i : ℕ) → text_at (bare_parts ps) i ≡ text_at ps i
+text-bare none i = refl
+text-bare (part (node k w g s e us) ps) zero = refl
+text-bare (part n ps) (suc i) = text-bare ps i
+text-bare (gap ps) zero = refl
+text-bare (gap ps) (suc i) = text-bare ps i
+
+mutual
+  chained-bare : (n : Tree) → chained (bare n) ≡ chained n
+  chained-bare (node k w g s e ps) = ap (λ b. is_spine k && (g.optional || b)) (first_chained-bare ps)
+
+  pub first_chained-bare : (ps : Parts) → first_chained (bare_parts ps) ≡ first_chained ps
+  first_chained-bare none = refl
+  first_chained-bare (part n ps) = chained-bare n
+  first_chained-bare (gap ps) = refl
+
+pub around-bare : (ps : Parts) → around (bare_parts ps) ≡ around ps
+around-bare ps = λ i. record { first = entry-bare ps 0 i; second = entry-bare ps 1 i; first_text = text-bare ps 0 i; second_text = text-bare ps 1 i; chained = first_chained-bare ps i }

@@ -1,0 +1,13 @@
+pub mod Entering
+pub mod Chained
+pub mod Operations
+pub mod Tables
+pub mod Named
+pub mod Lists
+pub mod Outlined
+pub mod FirstTokens
+pub mod ExpressionTable
+pub mod Bare
+pub mod Behind
+pub mod Given
+pub mod Ways

@@ -1,0 +1,72 @@
+-- What is left of the positions of a node's parts.
+use Rattle.std.specs.Prelude.{◌≡◌, Bool, true, false, cond, List, [], ◌∷◌, Option, Some, None}
+use Rattle.tree.specs.Tree.{Parts, none, part, gap, parts_of}
+use Rattle.tree.specs.Node.{node_tree}
+use Rattle.language.specs.Pieces as piece
+use Rattle.positions.specs.declared.position.Slot.{Slot}
+use Rattle.positions.specs.declared.outline.Front.{Front}
+use Rattle.positions.specs.declared.outline.Front.TheVariants.{Zero, One, Two, Three, Four}
+use Rattle.positions.specs.declared.outline.Tail.{Tail}
+use Rattle.positions.specs.declared.spelling.Positions.{Positions}
+use Rattle.positions.specs.declared.position.Position.{Position}
+use Rattle.positions.specs.Outlines.{role_of, slot_of, is_over, skips_gap, part_of_tail, parts_behind}
+use Rattle.language.specs.Positions.{first_roles}
+use Rattle.language.specs.Layout.{some_way}
+use Rattle.positions.specs.Spelled.{settled_roles}
+
+abbrev pub left_of : (Tail → List piece.Slot) → Option (Slot × Tail) → List piece.Slot
+left_of f None = []
+left_of f (Some x) = slot_of x.0 ∷ f x.1
+
+-- the positions that a tail gives, as far as it goes
+abbrev pub slots_left : Tail → Parts → List piece.Slot
+slots_left t none = []
+slots_left t (gap ps) = cond (is_over t) [] (cond (skips_gap t) (slots_left t ps) [])
+slots_left t (part n ps) = cond (is_over t) [] (left_of (λ u. slots_left u ps) (part_of_tail t n ps))
+
+abbrev pub front_left : Front → List piece.Slot → List piece.Slot
+front_left Zero xs = xs
+front_left (One a) xs = slot_of a ∷ xs
+front_left (Two a b) xs = slot_of a ∷ slot_of b ∷ xs
+front_left (Three a b c) xs = slot_of a ∷ slot_of b ∷ slot_of c ∷ xs
+front_left (Four a b c d) xs = slot_of a ∷ slot_of b ∷ slot_of c ∷ slot_of d ∷ xs
+
+abbrev pub tail_left : Positions → List piece.Slot
+tail_left p = slots_left p.tail (parts_behind p.from (parts_of (node_tree p.node)))
+
+abbrev pub left : Positions → List piece.Slot
+left p = front_left p.front (tail_left p)
+
+-- the positions that are left
+abbrev pub remaining : Positions → List piece.Role
+remaining p = settled_roles (role_of p.position) (left p)
+
+-- the first of them, and the others
+abbrev pub Taken : List piece.Slot → Positions → Option (Slot × Positions) → Type 0
+Taken [] q None = Unit {0}
+Taken [] q (Some x) = ⊥
+Taken (s ∷ xs) q None = ⊥
+Taken (s ∷ xs) q (Some x) = (slot_of x.0 ≡ s) × (left x.1 ≡ xs) × (x.1.position ≡ q.position) × (x.1.node ≡ q.node)
+
+-- the first position, and the others
+abbrev pub Next : List piece.Role → Option (Position × Positions) → Type 0
+Next [] None = Unit {0}
+Next [] (Some x) = ⊥
+Next (a ∷ xs) None = ⊥
+Next (a ∷ xs) (Some x) = (role_of x.0 ≡ a) × (remaining x.1 ≡ xs)
+
+-- these positions, or none
+abbrev pub Gives : Option (List piece.Role) → Option Positions → Type 0
+Gives None None = Unit {0}
+Gives None (Some p) = ⊥
+Gives (Some xs) None = ⊥
+Gives (Some xs) (Some p) = remaining p ≡ xs
+
+-- these are the positions of the parts by the first of the ways; none where there is no way
+abbrev pub IsSpelled : List (List (piece.PieceOf piece.Role)) → Option Positions → Type 0
+IsSpelled xs None = xs ≡ []
+IsSpelled xs (Some p) = (some_way xs ≡ true) × (remaining p ≡ first_roles xs)
+
+abbrev pub goes_over : Option (List piece.Slot) → Bool
+goes_over None = false
+goes_over (Some xs) = true

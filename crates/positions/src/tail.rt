@@ -1,0 +1,212 @@
+//! How positions go on behind the first ones, part by part.
+
+ghost use Rattle.std.specs.Prelude.{◌≡◌, Option};
+ghost use Rattle.positions.specs.declared.outline.Tail.TheVariants;
+ghost use Rattle.positions.specs.Outlines.{chunk_at, item_at, tail_at, skips_gap as may_skip_gap, may_end as may_end_here, listed_at, bound_at, default_at, element_at, argument_at, object_part_at, pattern_part_at, is_over as is_over_tail};
+
+use crate::outline::Tail;
+use crate::position::{ASSIGNMENT, Position, Slot, WHOLE};
+use crate::words::{is_identifier, is_pattern, is_rest, is_target};
+use language::{Rank, Start};
+use tree::Kind;
+
+/// What stands next in a list: its kind, whether it is a directive, and whether none or one part is behind it.
+#[derive(Clone, Copy)]
+pub(crate) struct Next {
+    pub kind: Kind,
+    pub is_directive: bool,
+    pub is_last: bool,
+    pub is_before_last: bool,
+}
+
+/// The position of the next part, and how they go on behind it; none where the list refuses it.
+pub(crate) fn next_slot(tail: Tail, next: Next) -> Option<(Slot, Tail)>
+    ensures { result ≡ tail_at tail next.kind next.is_directive next.is_last next.is_before_last }
+{
+    match tail {
+        Tail::Nothing => None,
+        Tail::Each(slot) | Tail::Some(slot) => Some((slot, Tail::Each(slot))),
+        Tail::Arguments { .. } => listed(Some(argument(next.kind)), next.kind, next.is_last, tail),
+        Tail::ObjectParts => listed(object_part(next.kind), next.kind, next.is_last, tail),
+        Tail::PatternElements { binds } => {
+            listed(element(binds, next.kind), next.kind, next.is_last, tail)
+        }
+        Tail::PatternProperties { binds } => {
+            listed(
+                pattern_part(binds, next.kind),
+                next.kind,
+                next.is_last,
+                tail,
+            )
+        }
+        Tail::Parameters(slot) => parameter(slot, next),
+        Tail::Chunks { .. } | Tail::Substitution => Some(template_part(tail, next.is_last)),
+        Tail::Prologue { returns, is_open } => Some(item(returns, is_open, next.is_directive)),
+    }
+}
+
+/// A part of a list at a position, which goes on so; behind a rest nothing stands.
+fn listed(position: Option<Position>, kind: Kind, is_last: bool, tail: Tail) -> Option<(Slot, Tail)>
+    ensures { result ≡ listed_at position kind is_last tail }
+{
+    let Some(position) = position else {
+        return None;
+    };
+    if is_last || !is_rest(kind) {
+        return Some((Slot::Fixed(position), tail));
+    }
+    None
+}
+
+fn argument(kind: Kind) -> Position
+    ensures { result ≡ argument_at kind }
+{
+    match kind {
+        Kind::SpreadElement => Position::Spread,
+        _ => ASSIGNMENT,
+    }
+}
+
+fn object_part(kind: Kind) -> Option<Position>
+    ensures { result ≡ object_part_at kind }
+{
+    match kind {
+        Kind::SpreadElement => Some(Position::Spread),
+        Kind::Property => Some(Position::Property),
+        _ => None,
+    }
+}
+
+fn pattern_part(binds: bool, kind: Kind) -> Option<Position>
+    ensures { result ≡ pattern_part_at binds kind }
+{
+    match kind {
+        Kind::RestElement => Some(Position::Rest {
+            binds,
+            of_object: true,
+        }),
+        Kind::Property => Some(Position::PatternProperty { binds }),
+        _ => None,
+    }
+}
+
+/// A name or binding pattern; a target or assignment pattern.
+pub(crate) fn bound(binds: bool, kind: Kind) -> Option<Position>
+    ensures { result ≡ bound_at binds kind }
+{
+    if is_pattern(kind) {
+        return Some(Position::Pattern {
+            binds,
+            start: Start::Any,
+        });
+    }
+    if binds && is_identifier(kind) {
+        return Some(Position::Name);
+    }
+    if !binds && is_target(kind) {
+        return Some(Position::Expression {
+            rank: Rank::LeftHandSide,
+            with_in: true,
+            start: Start::Any,
+        });
+    }
+    None
+}
+
+/// The same, with a default or without.
+pub(crate) fn with_default(binds: bool, kind: Kind) -> Option<Position>
+    ensures { result ≡ default_at binds kind }
+{
+    match kind {
+        Kind::AssignmentPattern => Some(Position::Element { binds }),
+        _ => bound(binds, kind),
+    }
+}
+
+/// The element of an array pattern, and a parameter.
+pub(crate) fn element(binds: bool, kind: Kind) -> Option<Position>
+    ensures { result ≡ element_at binds kind }
+{
+    match kind {
+        Kind::RestElement => Some(Position::Rest {
+            binds,
+            of_object: false,
+        }),
+        _ => with_default(binds, kind),
+    }
+}
+
+fn parameter(slot: Slot, next: Next) -> Option<(Slot, Tail)>
+    ensures { result ≡ tail_at (TheVariants.Parameters slot) next.kind next.is_directive next.is_last next.is_before_last }
+{
+    if next.is_last {
+        return Some((slot, Tail::Nothing));
+    }
+    let position = element(true, next.kind);
+    listed(
+        position,
+        next.kind,
+        next.is_before_last,
+        Tail::Parameters(slot),
+    )
+}
+
+fn template_part(tail: Tail, is_last: bool) -> (Slot, Tail)
+    ensures { result ≡ chunk_at tail is_last }
+{
+    match tail {
+        Tail::Chunks { is_first } => {
+            let slot = Slot::Fixed(Position::Chunk { is_first, is_last });
+            let rest = if is_last {
+                Tail::Nothing
+            } else {
+                Tail::Substitution
+            };
+            (slot, rest)
+        }
+        _ => (Slot::Fixed(WHOLE), Tail::Chunks { is_first: false }),
+    }
+}
+
+fn item(returns: bool, is_open: bool, is_directive: bool) -> (Slot, Tail)
+    ensures { result ≡ item_at returns is_open is_directive }
+{
+    let position = if is_open {
+        Position::Opening { returns }
+    } else {
+        Position::Item { returns }
+    };
+    let rest = Tail::Prologue {
+        returns,
+        is_open: is_open && is_directive,
+    };
+    (Slot::Fixed(position), rest)
+}
+
+/// Whether a gap may be next.
+pub(crate) fn skips_gap(tail: Tail) -> bool
+    ensures { result ≡ may_skip_gap tail }
+{
+    match tail {
+        Tail::Nothing | Tail::PatternElements { .. } => true,
+        Tail::Arguments { holes } => holes,
+        _ => false,
+    }
+}
+
+/// Whether the parts may end here.
+pub(crate) fn may_end(tail: Tail) -> bool
+    ensures { result ≡ may_end_here tail }
+{
+    !matches!(
+        tail,
+        Tail::Some(_) | Tail::Parameters(_) | Tail::Chunks { .. } | Tail::Substitution
+    )
+}
+
+/// Whether nothing more is at a position.
+pub(crate) fn is_over(tail: Tail) -> bool
+    ensures { result ≡ is_over_tail tail }
+{
+    matches!(tail, Tail::Nothing)
+}
