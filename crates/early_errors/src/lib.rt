@@ -1,7 +1,24 @@
 //! The early errors of ECMA-262, 11th edition, that a strict script can have.
 #![tactic(auto)]
 
+mod around;
+mod clashes;
+mod classes;
+mod found;
+mod functions;
+mod labels;
 pub mod laws;
+mod literals;
+mod names;
+mod own;
+mod scopes;
+mod table;
+mod walk;
+
+use around::Around;
+use std::alloc::{AllocError, Global};
+use tree::Program;
+use walk::{Walk, walk_node};
 
 /// An early error, in the order of the numbers 1 to 21 that reports name it by.
 #[derive(Copy, Clone)]
@@ -80,6 +97,19 @@ pub fn number_of(error: EarlyError) -> u8
         EarlyError::UncookedTemplate => 20,
         EarlyError::RegExpFlags => 21,
     }
+}
+
+/// The number and the place, in bytes, of the least early error of a script, by place, then by number.
+///
+/// # Errors
+/// Where memory is refused.
+pub fn first_early_error(
+    alloc: Global,
+    program: &Program,
+) -> Result<Option<(u8, usize)>, AllocError> {
+    let mut walk = Walk::new(alloc);
+    walk_node(program.root(), Around::OUTSIDE, &mut walk)?;
+    Ok(walk.found)
 }
 
 #[cfg(test)]

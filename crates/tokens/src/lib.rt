@@ -9,6 +9,7 @@ mod name;
 mod number;
 mod punctuator;
 mod regexp;
+mod says;
 mod scanner;
 mod separator;
 mod step;
@@ -18,6 +19,7 @@ mod token;
 mod value;
 
 pub use laws::{at_most_one_token, readings_take_tokens};
+pub use says::string_says;
 pub use scanner::{ScanFault, scan};
 pub use token::{Class, Goal, Token};
 pub use value::{string_units, template_value};

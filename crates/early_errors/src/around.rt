@@ -1,0 +1,168 @@
+//! What holds round a node, and how it comes down to the node's parts.
+
+use tree::{Form, Kind, Node};
+
+/// What holds round a node, its labels aside.
+#[derive(Clone, Copy)]
+pub(crate) struct Around {
+    pub(crate) in_loop: bool,
+    pub(crate) in_switch: bool,
+    pub(crate) super_property: bool,
+    pub(crate) super_call: bool,
+    pub(crate) new_target: bool,
+    pub(crate) derived: bool,
+    pub(crate) tagged: bool,
+    pub(crate) is_body: bool,
+    pub(crate) in_head: bool,
+    pub(crate) of_method: bool,
+    /// Of a label's statement: whether it is a loop, further labels aside, where that is known.
+    pub(crate) labels_loop: Option<bool>,
+}
+
+pub(crate) fn is_loop(kind: Kind) -> bool {
+    match kind {
+        Kind::WhileStatement
+        | Kind::DoWhileStatement
+        | Kind::ForStatement
+        | Kind::ForInStatement
+        | Kind::ForOfStatement => true,
+        _ => false,
+    }
+}
+
+pub(crate) fn is_accessor(form: Form) -> bool {
+    match form {
+        Form::Get | Form::Set => true,
+        _ => false,
+    }
+}
+
+pub(crate) fn is_constructor(form: Form) -> bool {
+    match form {
+        Form::Constructor => true,
+        _ => false,
+    }
+}
+
+pub(crate) fn is_method(form: Form) -> bool {
+    match form {
+        Form::Method | Form::Get | Form::Set => true,
+        _ => false,
+    }
+}
+
+impl Around {
+    /// Round the Program.
+    pub(crate) const OUTSIDE: Around = Around {
+        in_loop: false,
+        in_switch: false,
+        super_property: false,
+        super_call: false,
+        new_target: false,
+        derived: false,
+        tagged: false,
+        is_body: false,
+        in_head: false,
+        of_method: false,
+        labels_loop: None,
+    };
+
+    /// Round a part that is nothing special to its node.
+    pub(crate) fn within(self) -> Around {
+        Around {
+            derived: false,
+            tagged: false,
+            is_body: false,
+            in_head: false,
+            of_method: false,
+            labels_loop: None,
+            ..self
+        }
+    }
+
+    fn in_method(calls: bool) -> Around {
+        Around {
+            super_property: true,
+            super_call: calls,
+            of_method: true,
+            ..Around::OUTSIDE
+        }
+    }
+
+    fn in_function_expression(self) -> Around {
+        Around {
+            super_property: self.of_method && self.super_property,
+            super_call: self.of_method && self.super_call,
+            new_target: true,
+            is_body: true,
+            ..Around::OUTSIDE
+        }
+    }
+
+    fn in_arrow(self) -> Around {
+        Around {
+            in_loop: false,
+            in_switch: false,
+            is_body: true,
+            ..self.within()
+        }
+    }
+
+    fn in_property(self, form: Form) -> Around {
+        if is_method(form) {
+            Around::in_method(false)
+        } else {
+            self.within()
+        }
+    }
+
+    /// Round a node's parts behind the first.
+    pub(crate) fn others(self, node: Node) -> Around {
+        match node.kind() {
+            Kind::FunctionDeclaration => Around {
+                new_target: true,
+                is_body: true,
+                ..Around::OUTSIDE
+            },
+            Kind::FunctionExpression => self.in_function_expression(),
+            Kind::ArrowFunctionExpression => self.in_arrow(),
+            Kind::MethodDefinition => {
+                Around::in_method(self.derived && is_constructor(node.flags().form))
+            }
+            Kind::Property => self.in_property(node.flags().form),
+            Kind::ClassExpression | Kind::ClassDeclaration => Around {
+                derived: node.part(1).is_some(),
+                ..self.within()
+            },
+            Kind::ClassBody => Around {
+                derived: self.derived,
+                ..self.within()
+            },
+            Kind::SwitchStatement => Around {
+                in_switch: true,
+                ..self.within()
+            },
+            Kind::TaggedTemplateExpression => Around {
+                tagged: true,
+                ..self.within()
+            },
+            kind => Around {
+                in_loop: self.in_loop || is_loop(kind),
+                ..self.within()
+            },
+        }
+    }
+
+    /// Round a node's first part.
+    pub(crate) fn first(self, node: Node) -> Around {
+        match node.kind() {
+            Kind::MethodDefinition | Kind::Property | Kind::TaggedTemplateExpression =>
+                self.within(),
+            Kind::ForInStatement | Kind::ForOfStatement => Around {
+                in_head: true,
+                ..self.within()
+            },
+            _ => self.others(node),
+        }
+    }
+}

@@ -1,0 +1,26 @@
+//! The least early error found so far.
+
+use crate::{EarlyError, number_of};
+
+/// The number and the place of the least early error found so far, by place, then by number.
+pub(crate) type Found = Option<(u8, usize)>;
+
+/// With one more error at a place.
+pub(crate) fn with_error(found: Found, error: EarlyError, at: usize) -> Found {
+    sooner(found, Some((number_of(error), at)))
+}
+
+/// The lesser of two.
+pub(crate) fn sooner(first: Found, second: Found) -> Found {
+    let Some((first_number, first_at)) = first else {
+        return second;
+    };
+    let Some((second_number, second_at)) = second else {
+        return first;
+    };
+    if first_at < second_at || (first_at == second_at && first_number <= second_number) {
+        first
+    } else {
+        second
+    }
+}

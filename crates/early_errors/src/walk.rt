@@ -1,0 +1,197 @@
+//! The walk over a tree.
+
+use crate::around::{Around, is_method};
+use crate::clashes::{Clashes, enter, leave};
+use crate::found::Found;
+use crate::labels::{Labels, is_true, label_is_loop};
+use crate::names::Named;
+use crate::own::own_errors;
+use crate::scopes::{scope_errors, scope_of};
+use crate::table::Table;
+use std::alloc::{AllocError, Global};
+use std::mem;
+use tree::{Kind, Node};
+
+/// What a walk carries.
+#[derive(Drop)]
+pub(crate) struct Walk<'t> {
+    pub(crate) alloc: Global,
+    /// The least error so far.
+    pub(crate) found: Found,
+    /// What a `var` of a name would clash with, in the scopes round a node, of the same function.
+    pub(crate) vars: Clashes<'t>,
+    /// The labels round a node, of the same function.
+    pub(crate) labels: Labels<'t>,
+    /// Room for the names of one node.
+    pub(crate) names: Vec<Named<'t>>,
+}
+
+impl<'t> Walk<'t> {
+    /// Before anything is found.
+    pub(crate) fn new(alloc: Global) -> Walk<'t> {
+        Walk {
+            alloc,
+            found: None,
+            vars: Table::new(alloc),
+            labels: Table::new(alloc),
+            names: Vec::new(alloc),
+        }
+    }
+}
+
+/// How a walk goes on inside a node.
+#[derive(Clone, Copy)]
+enum Inside {
+    Function,
+    Method,
+    Label,
+    Scope,
+    Plain,
+}
+
+fn inside_of(node: Node) -> Inside {
+    match node.kind() {
+        Kind::FunctionDeclaration | Kind::FunctionExpression | Kind::ArrowFunctionExpression =>
+            Inside::Function,
+        Kind::MethodDefinition => Inside::Method,
+        Kind::Property => {
+            if is_method(node.flags().form) {
+                Inside::Method
+            } else {
+                Inside::Plain
+            }
+        }
+        Kind::LabeledStatement => Inside::Label,
+        Kind::Program
+        | Kind::BlockStatement
+        | Kind::SwitchStatement
+        | Kind::CatchClause
+        | Kind::ForStatement
+        | Kind::ForInStatement
+        | Kind::ForOfStatement => Inside::Scope,
+        _ => Inside::Plain,
+    }
+}
+
+/// What holds round the first part of a node, and round the others.
+#[derive(Clone, Copy)]
+struct Rounds {
+    first: Around,
+    others: Around,
+}
+
+fn rounds_of(node: Node, around: Around) -> Rounds {
+    Rounds {
+        first: around.first(node),
+        others: around.others(node),
+    }
+}
+
+/// Finds the errors of a node and of all below it.
+#[cycle(walk)]
+pub(crate) fn walk_node<'t>(
+    node: Node<'t, '_>,
+    around: Around,
+    walk: &mut Walk<'t>,
+) -> Result<(), AllocError> {
+    own_errors(node, around, walk)?;
+    match inside_of(node) {
+        Inside::Function => walk_function(node, around, walk),
+        Inside::Method => walk_method(node, around, walk),
+        Inside::Label => walk_label(node, around, walk),
+        Inside::Scope => walk_scope(node, around, walk),
+        Inside::Plain => walk_parts(node, 0, node.part_count(), rounds_of(node, around), walk),
+    }
+}
+
+/// Finds the errors of a node's parts from a place to another.
+#[cycle(walk)]
+fn walk_parts<'t>(
+    node: Node<'t, '_>,
+    from: usize,
+    to: usize,
+    rounds: Rounds,
+    walk: &mut Walk<'t>,
+) -> Result<(), AllocError> {
+    for index in from..to {
+        if let Some(part) = node.part(index) {
+            let around = if index == 0 {
+                rounds.first
+            } else {
+                rounds.others
+            };
+            walk_node(part, around, walk)?;
+        }
+    }
+    Ok(())
+}
+
+/// A function has labels and `var`s of its own.
+#[cycle(walk)]
+fn walk_function<'t>(
+    node: Node<'t, '_>,
+    around: Around,
+    walk: &mut Walk<'t>,
+) -> Result<(), AllocError> {
+    let vars = mem::replace(&mut walk.vars, Table::new(walk.alloc));
+    let labels = mem::replace(&mut walk.labels, Table::new(walk.alloc));
+    walk_parts(node, 0, node.part_count(), rounds_of(node, around), walk)?;
+    walk.vars = vars;
+    walk.labels = labels;
+    Ok(())
+}
+
+/// The key of a method belongs to what surrounds it; its function doesn't.
+#[cycle(walk)]
+fn walk_method<'t>(
+    node: Node<'t, '_>,
+    around: Around,
+    walk: &mut Walk<'t>,
+) -> Result<(), AllocError> {
+    let rounds = rounds_of(node, around);
+    walk_parts(node, 0, 1, rounds, walk)?;
+    let labels = mem::replace(&mut walk.labels, Table::new(walk.alloc));
+    walk_parts(node, 1, node.part_count(), rounds, walk)?;
+    walk.labels = labels;
+    Ok(())
+}
+
+/// A label stands round the parts of its statement.
+#[cycle(walk)]
+fn walk_label<'t>(
+    node: Node<'t, '_>,
+    around: Around,
+    walk: &mut Walk<'t>,
+) -> Result<(), AllocError> {
+    let mut rounds = rounds_of(node, around);
+    let Some(label) = node.part(0) else {
+        return walk_parts(node, 0, node.part_count(), rounds, walk);
+    };
+    let is_loop = label_is_loop(node, around.labels_loop);
+    if node.part_count() == 2 {
+        rounds.others.labels_loop = Some(is_loop);
+    }
+    let before = walk.labels.value(label.text());
+    let after = is_loop || is_true(before);
+    walk.labels.replace(label.text(), Some(after))?;
+    walk_parts(node, 0, node.part_count(), rounds, walk)?;
+    walk.labels.replace(label.text(), before)?;
+    Ok(())
+}
+
+/// Names of a scope clash with `var`s inside.
+#[cycle(walk)]
+fn walk_scope<'t>(
+    node: Node<'t, '_>,
+    around: Around,
+    walk: &mut Walk<'t>,
+) -> Result<(), AllocError> {
+    let scope = scope_of(walk.alloc, node, around)?;
+    let names = scope.names.as_slice();
+    walk.found = scope_errors(walk.alloc, node, around, names, walk.found)?;
+    let rounds = rounds_of(node, around);
+    walk_parts(node, 0, scope.from, rounds, walk)?;
+    let saved = enter(walk.alloc, &mut walk.vars, names, scope.error)?;
+    walk_parts(node, scope.from, node.part_count(), rounds, walk)?;
+    leave(&mut walk.vars, saved)
+}
