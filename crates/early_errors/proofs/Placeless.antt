@@ -101,9 +101,6 @@ delete-bare (node _ w g s e ps) = refl
 case_lexical-bare : (n : Tree) → Alike (each_part (lexical_names true) (others (parts_of (bare n)))) (each_part (lexical_names true) (others (parts_of n)))
 case_lexical-bare (node k w g s e ps) = ap (λ q. words (each_part (lexical_names true) q)) (others-bare ps) ∙ alike-each (lexical_names true) (lexical-bare true) (others ps)
 
-case_vars-bare : (n : Tree) → Alike (parts_vars (others (parts_of (bare n)))) (parts_vars (others (parts_of n)))
-case_vars-bare (node k w g s e ps) = ap (λ q. words (parts_vars q)) (others-bare ps) ∙ vars-bare (others ps)
-
 scope_lexical-bare : (z : Around) (k : Kind) (ps : Parts) → Alike (scope_lexical z k (bare_parts ps)) (scope_lexical z k ps)
 scope_lexical-bare z Program ps = alike-each (lexical_names false) (lexical-bare false) ps
 scope_lexical-bare z BlockStatement ps = alike-each (lexical_names (not z.is_body)) (lexical-bare (not z.is_body)) ps

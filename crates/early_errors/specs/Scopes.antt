@@ -18,7 +18,7 @@ scope_lexical z _ ps = []
 abbrev pub scope_vars : Around → Kind → Parts → List Named
 scope_vars z Program ps = each_part function_names ps ++ parts_vars ps
 scope_vars z BlockStatement ps = cond z.is_body (each_part function_names ps) [] ++ parts_vars ps
-scope_vars z SwitchStatement ps = each_part (λ c. parts_vars (others (parts_of c))) (others ps)
+scope_vars z SwitchStatement ps = parts_vars (others ps)
 scope_vars z _ ps = []
 
 -- the names of a `let` or `const` declaration
