@@ -119,7 +119,7 @@ scope_vars-bare z BlockStatement ps =
     alike-append (cond z.is_body (each_part function_names (bare_parts ps)) []) (cond z.is_body (each_part function_names ps) []) (parts_vars (bare_parts ps)) (parts_vars ps)
     (alike-cond z.is_body (each_part function_names (bare_parts ps)) (each_part function_names ps) [] [] (functions-bare ps) refl) (vars-bare ps)
 scope_vars-bare z SwitchStatement ps =
-    ap (λ q. words (each_part (λ c. parts_vars (others (parts_of c))) q)) (others-bare ps) ∙ alike-each (λ c. parts_vars (others (parts_of c))) case_vars-bare (others ps)
+    ap (λ q. words (parts_vars q)) (others-bare ps) ∙ vars-bare (others ps)
 scope_vars-bare z _ ps = refl
 
 declaration-bare : (k : Kind) (w : List ℕ) (ps : Parts) → Alike (declaration_names k w (bare_parts ps)) (declaration_names k w ps)

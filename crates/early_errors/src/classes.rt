@@ -3,7 +3,8 @@
 use crate::EarlyError;
 use crate::around::{Around, is_accessor, is_constructor};
 use crate::found::{Found, with_error};
-use tokens::string_says;
+use std::alloc::{AllocError, Global};
+use tokens::quoted_units;
 use tree::{Kind, Node};
 
 /// A `super` at the head of a node, where it may not stand (ECMA-262 14.1.2, 14.6.1, 15.1.1).
@@ -62,45 +63,80 @@ fn constructor_key<'t, 's>(member: Option<Node<'t, 's>>) -> Option<Node<'t, 's>>
 }
 
 /// A getter or setter `constructor` that isn't static, a static member `prototype` (ECMA-262 14.6.1).
-pub(crate) fn member_errors(member: Node, found: Found) -> Found {
+pub(crate) fn member_errors(
+    alloc: Global,
+    member: Node,
+    found: Found,
+) -> Result<Found, AllocError> {
     let flags = member.flags();
-    if flags.computed {
-        return found;
-    }
     let Some(key) = member.part(0) else {
-        return found;
+        return Ok(found);
     };
+    if flags.computed {
+        return Ok(found);
+    }
     if flags.is_static {
-        if key_is(key, "prototype") {
-            return with_error(found, EarlyError::StaticPrototype, key.span().start);
-        }
-        return found;
+        return key_error(alloc, key, "prototype", EarlyError::StaticPrototype, found);
     }
-    if is_accessor(flags.form) && key_is(key, "constructor") {
-        return with_error(found, EarlyError::SpecialConstructor, key.span().start);
+    if is_accessor(flags.form) {
+        return key_error(
+            alloc,
+            key,
+            "constructor",
+            EarlyError::SpecialConstructor,
+            found,
+        );
     }
-    found
+    Ok(found)
 }
 
-/// Whether a key has a word of ASCII as its value (ECMA-262 12.2.6.5).
-fn key_is(key: Node, word: &str) -> bool {
-    let text = key.text();
-    if is_literal(key.kind()) && is_quoted(text) {
-        return string_says(text, word);
+/// The error of a key whose value is a word.
+fn key_error(
+    alloc: Global,
+    key: Node,
+    word: &str,
+    error: EarlyError,
+    found: Found,
+) -> Result<Found, AllocError> {
+    if key_is(alloc, key, word)? {
+        return Ok(with_error(found, error, key.span().start));
     }
-    text == word
+    Ok(found)
 }
 
-fn is_literal(kind: Kind) -> bool {
-    match kind {
-        Kind::Literal => true,
+/// Whether a key's value (ECMA-262 12.2.6.5) is a word of ASCII.
+fn key_is(alloc: Global, key: Node, word: &str) -> Result<bool, AllocError> {
+    if !is_quoted(key) {
+        return Ok(key.text() == word);
+    }
+    let units = quoted_units(alloc, key.text())?;
+    Ok(is_word(units.as_slice(), word.as_bytes()))
+}
+
+/// Whether a node is a literal that begins with a quote.
+fn is_quoted(node: Node) -> bool {
+    match node.kind() {
+        Kind::Literal => begins_with_quote(node.text()),
         _ => false,
     }
 }
 
-fn is_quoted(text: &str) -> bool {
+fn begins_with_quote(text: &str) -> bool {
     match text.as_bytes().first() {
         Some(first) => *first == b'\'' || *first == b'"',
         None => false,
     }
+}
+
+/// Whether units are those of a word of ASCII.
+fn is_word(units: &[u16], word: &[u8]) -> bool {
+    if units.len() != word.len() {
+        return false;
+    }
+    for (unit, byte) in units.iter().zip(word) {
+        if *unit != *byte as u16 {
+            return false;
+        }
+    }
+    true
 }

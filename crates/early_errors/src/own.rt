@@ -37,6 +37,10 @@ pub(crate) fn own_errors<'t>(
             walk.found = template_errors(walk.alloc, node, around, walk.found)?;
             Ok(())
         }
+        Kind::MethodDefinition => {
+            walk.found = member_errors(walk.alloc, node, walk.found)?;
+            Ok(())
+        }
         _ => {
             walk.found = small_errors(node, around, walk);
             Ok(())
@@ -65,7 +69,6 @@ fn small_errors(node: Node, around: Around, walk: &Walk) -> Found {
         ),
         Kind::MetaProperty => target_errors(node, around, walk.found),
         Kind::ClassBody => constructor_errors(node, walk.found),
-        Kind::MethodDefinition => member_errors(node, walk.found),
         Kind::Literal => literal_errors(node, walk.found),
         _ => walk.found,
     }

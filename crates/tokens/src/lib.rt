@@ -9,7 +9,6 @@ mod name;
 mod number;
 mod punctuator;
 mod regexp;
-mod says;
 mod scanner;
 mod separator;
 mod step;
@@ -19,10 +18,9 @@ mod token;
 mod value;
 
 pub use laws::{at_most_one_token, readings_take_tokens};
-pub use says::string_says;
 pub use scanner::{ScanFault, scan};
 pub use token::{Class, Goal, Token};
-pub use value::{string_units, template_value};
+pub use value::{quoted_units, string_units, template_value};
 
 #[cfg(test)]
 mod tests;

@@ -25,6 +25,20 @@ pub fn string_units(alloc: Global, text: &str) -> Result<Vec<u16>, AllocError>
     }
 }
 
+/// The same of any text: the UTF-16 units of what stands between its first and its last character, none where an escape
+/// is bad.
+pub fn quoted_units(alloc: Global, text: &str) -> Result<Vec<u16>, AllocError>
+    ensures { IfOk result (λ v. v.items ≡ string_units (chars text.now)) }
+{
+    let mut inner = text.chars();
+    inner.next();
+    inner.next_back();
+    let Some(value) = units(alloc, inner.as_str())? else {
+        return Ok(Vec::new(alloc));
+    };
+    Ok(value)
+}
+
 /// The raw value (TRV) of a part of a template, given without its delimiters, and the UTF-16 units of its cooked
 /// value (TV), which there is unless an escape is bad. The raw value is the text itself where nothing changes. A raw
 /// value gives the same two.
