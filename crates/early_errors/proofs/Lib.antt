@@ -9,3 +9,6 @@ pub mod LabelRows
 pub mod SuperRows
 pub mod ClassRows
 pub mod LiteralRows
+pub mod Least
+pub mod Naming
+pub mod Tables

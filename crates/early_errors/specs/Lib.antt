@@ -11,3 +11,4 @@ pub mod Literals
 pub mod Early
 pub mod Accepted
 pub mod Laws
+pub mod Walk

@@ -1,5 +1,12 @@
 //! Names that clash with names.
 
+ghost use Rattle.std.specs.Prelude.{◌≡◌, [], ◌∷◌, filter, is_some, IfOk, OnOk};
+ghost use Rattle.language.specs.Words.{among};
+ghost use Rattle.early_errors.specs.Early.{each};
+ghost use Rattle.early_errors.specs.Names.{has_name, places, shared, twice};
+ghost use Rattle.early_errors.specs.Strict.{is_restricted};
+ghost use Rattle.early_errors.specs.Walk.{Agree, after, all_named, clashing, hits, look, sooner, stands, undone};
+
 use crate::EarlyError;
 use crate::found::{Found, sooner, with_error};
 use crate::names::Named;
@@ -16,11 +23,19 @@ pub(crate) struct Saved<'t> {
     value: Found,
 }
 
+fn is_restricted(name: &str) -> bool
+    ensures { result ≡ among name.now ("eval" ∷ "arguments" ∷ []) }
+{
+    name == "eval" || name == "arguments"
+}
+
 /// `eval` and `arguments` among the names.
-pub(crate) fn restricted(names: &[Named], found: Found) -> Found {
+pub(crate) fn restricted(names: &[Named], found: Found) -> Found
+    ensures { result ≡ after found (each EarlyError.EvalOrArguments (places (filter is_restricted (all_named names.now)))) }
+{
     let mut found = found;
     for named in names {
-        if named.name == "eval" || named.name == "arguments" {
+        if is_restricted(named.name) {
             found = with_error(found, EarlyError::EvalOrArguments, named.at);
         }
     }
@@ -33,7 +48,9 @@ pub(crate) fn repeated<'t>(
     names: &[Named<'t>],
     error: EarlyError,
     found: Found,
-) -> Result<Found, AllocError> {
+) -> Result<Found, AllocError>
+    ensures { IfOk result (λ r. r ≡ after found (each error (places (twice (all_named names.now))))) }
+{
     if names.len() < 2 {
         return Ok(found);
     }
@@ -54,25 +71,44 @@ pub(crate) fn shared<'t>(
     others: &[Named<'t>],
     error: EarlyError,
     found: Found,
-) -> Result<Found, AllocError> {
-    if names.is_empty() || others.is_empty() {
+) -> Result<Found, AllocError>
+    ensures { IfOk result (λ r. r ≡ after found (each error (places (shared (all_named names.now) (all_named others.now))))) }
+{
+    if names.is_empty() {
         return Ok(found);
     }
-    let mut found = found;
+    let there = table_of(alloc, others)?;
+    Ok(reported(names, &there, error, found))
+}
+
+/// A table of names.
+fn table_of<'t>(alloc: Global, names: &[Named<'t>]) -> Result<Table<'t, ()>, AllocError>
+    ensures { IfOk result (λ t. (w : _) → is_some (look t w) ≡ has_name w (all_named names.now)) }
+{
     let mut there: Table<'t, ()> = Table::new(alloc);
-    for named in others {
+    for named in names {
         there.replace(named.name, Some(()))?;
     }
+    Ok(there)
+}
+
+/// Those of the names that are in a table.
+fn reported(names: &[Named], there: &Table<()>, error: EarlyError, found: Found) -> Found
+    ensures { result ≡ after found (each error (places (filter (stands (look there.now)) (all_named names.now)))) }
+{
+    let mut found = found;
     for named in names {
         if there.value(named.name).is_some() {
             found = with_error(found, error, named.at);
         }
     }
-    Ok(found)
+    found
 }
 
 /// The errors that the names would clash with.
-pub(crate) fn hits(clashes: &Clashes, names: &[Named], found: Found) -> Found {
+pub(crate) fn hits(clashes: &Clashes, names: &[Named], found: Found) -> Found
+    ensures { result ≡ sooner found (hits (look clashes.now) (all_named names.now)) }
+{
     let mut found = found;
     for named in names {
         found = sooner(found, clashes.value(named.name));
@@ -86,7 +122,10 @@ pub(crate) fn enter<'t>(
     clashes: &mut Clashes<'t>,
     names: &[Named<'t>],
     error: EarlyError,
-) -> Result<Vec<Saved<'t>>, AllocError> {
+) -> Result<Vec<Saved<'t>>, AllocError>
+    ensures entered { OnOk result (Agree (look clashes.new) (clashing (look clashes.old) error (all_named names.now))) }
+    ensures kept { IfOk result (λ saved. Agree (undone (look clashes.new) saved.items) (look clashes.old)) }
+{
     let mut saved = Vec::new(alloc);
     for named in names {
         let value = clashes.value(named.name);
@@ -100,10 +139,9 @@ pub(crate) fn enter<'t>(
 }
 
 /// Lets names clash as before.
-pub(crate) fn leave<'t>(
-    clashes: &mut Clashes<'t>,
-    saved: Vec<Saved<'t>>,
-) -> Result<(), AllocError> {
+pub(crate) fn leave<'t>(clashes: &mut Clashes<'t>, saved: Vec<Saved<'t>>) -> Result<(), AllocError>
+    ensures { OnOk result (Agree (look clashes.new) (undone (look clashes.old) saved.entry.items)) }
+{
     let mut saved = saved;
     while let Some(last) = saved.pop() {
         clashes.replace(last.name, last.value)?;

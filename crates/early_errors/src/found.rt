@@ -1,17 +1,25 @@
 //! The least early error found so far.
 
+ghost use Rattle.std.specs.Prelude.{◌≡◌, [], ◌∷◌};
+ghost use Rattle.early_errors.specs.Early.{number};
+ghost use Rattle.early_errors.specs.Walk.{after, sooner};
+
 use crate::{EarlyError, number_of};
 
 /// The number and the place of the least early error found so far, by place, then by number.
 pub(crate) type Found = Option<(u8, usize)>;
 
 /// With one more error at a place.
-pub(crate) fn with_error(found: Found, error: EarlyError, at: usize) -> Found {
+pub(crate) fn with_error(found: Found, error: EarlyError, at: usize) -> Found
+    ensures { result ≡ after found ((number error, at) ∷ []) }
+{
     sooner(found, Some((number_of(error), at)))
 }
 
 /// The lesser of two.
-pub(crate) fn sooner(first: Found, second: Found) -> Found {
+pub(crate) fn sooner(first: Found, second: Found) -> Found
+    ensures { result ≡ sooner first second }
+{
     let Some((first_number, first_at)) = first else {
         return second;
     };

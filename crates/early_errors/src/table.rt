@@ -1,5 +1,8 @@
 //! Names with values.
 
+ghost use Rattle.std.specs.Prelude.{◌≡◌, IfOk, OnOk, None};
+ghost use Rattle.early_errors.specs.Walk.{Agree, look, with_value};
+
 use indexmap::IndexMap;
 use std::alloc::{AllocError, Global};
 
@@ -11,14 +14,18 @@ pub(crate) struct Table<'t, V> {
 
 impl<'t, V: Copy> Table<'t, V> {
     /// No name stands for anything.
-    pub(crate) fn new(alloc: Global) -> Table<'t, V> {
+    pub(crate) fn new(alloc: Global) -> Table<'t, V>
+        ensures { Agree (look result) (λ _. None) }
+    {
         Table {
             entries: IndexMap::new(alloc),
         }
     }
 
     /// What a name stands for.
-    pub(crate) fn value(&self, name: &str) -> Option<V> {
+    pub(crate) fn value(&self, name: &str) -> Option<V>
+        ensures { result ≡ look self.now name.now }
+    {
         match self.entries.get(name) {
             Some(value) => *value,
             None => None,
@@ -30,7 +37,10 @@ impl<'t, V: Copy> Table<'t, V> {
         &mut self,
         name: &'t str,
         value: Option<V>,
-    ) -> Result<Option<V>, AllocError> {
+    ) -> Result<Option<V>, AllocError>
+        ensures before { IfOk result (λ o. o ≡ look self.old name.now) }
+        ensures after { OnOk result (Agree (look self.new) (with_value (look self.old) name.now value)) }
+    {
         match self.entries.insert(name, value)? {
             Some(before) => Ok(before),
             None => Ok(None),

@@ -1,0 +1,60 @@
+-- What the program's own calls say on the way: the least error so far, tables of names, and what a `var` clashes with.
+use Rattle.std.specs.Prelude.{◌≡◌, ℕ, Bool, cond, List, [], ◌∷◌, map, Option, Some, None, is_some}
+use Rattle.std.specs.Str.{bytes_eq}
+use Rattle.indexmap.specs.IndexMap.{get_by}
+use Rattle.early_errors.specs.declared.EarlyError.{EarlyError}
+use Rattle.early_errors.specs.declared.names.Named.{Named}
+use Rattle.early_errors.specs.declared.table.Table.{Table}
+use Rattle.early_errors.specs.declared.clashes.Saved.{Saved}
+use Rattle.early_errors.specs.Names as names
+use Rattle.early_errors.specs.Early.{Error, number, lesser, least}
+
+-- the lesser of two, where there are any
+abbrev pub sooner : Option Error → Option Error → Option Error
+sooner None o = o
+sooner (Some x) o = Some (lesser x o)
+
+-- the least of what was found and of these
+abbrev pub after : Option Error → List Error → Option Error
+after o xs = sooner o (least xs)
+
+abbrev pub named : Named → names.Named
+named x = (x.name.now, x.at)
+
+abbrev pub all_named : List Named → List names.Named
+all_named xs = map named xs
+
+abbrev pub value_of : {V : Type 0} → Option (Option V) → Option V
+value_of None = None
+value_of (Some o) = o
+
+-- what a name stands for in a table
+abbrev pub look : {V : Type 0} → Table V → List ℕ → Option V
+look t w = value_of (get_by (λ k. bytes_eq w k.now) t.entries)
+
+-- the same, with another value at one name
+abbrev pub with_value : {V : Type 0} → (List ℕ → Option V) → List ℕ → Option V → List ℕ → Option V
+with_value f name o w = cond (bytes_eq name w) o (f w)
+
+-- a name stands for something
+abbrev pub stands : {V : Type 0} → (List ℕ → Option V) → names.Named → Bool
+stands f x = is_some (f x.0)
+
+-- two tables say the same of each name
+abbrev pub Agree : {V : Type 0} → (f g : List ℕ → Option V) → Type 0
+Agree f g = (w : List ℕ) → f w ≡ g w
+
+-- the least error that a table has for one of the names
+abbrev pub hits : (List ℕ → Option Error) → List names.Named → Option Error
+hits f [] = None
+hits f (v ∷ vs) = sooner (f v.0) (hits f vs)
+
+-- with names that clash, each with an error at its place
+abbrev pub clashing : (List ℕ → Option Error) → EarlyError → List names.Named → List ℕ → Option Error
+clashing f e [] = f
+clashing f e (x ∷ xs) = clashing (λ w. cond (bytes_eq x.0 w) (sooner (f x.0) (Some (number e, x.1))) (f w)) e xs
+
+-- with what names stood for before, the last first
+abbrev pub undone : (List ℕ → Option Error) → List Saved → List ℕ → Option Error
+undone f [] = f
+undone f (x ∷ xs) = with_value (undone f xs) x.name.now x.value
