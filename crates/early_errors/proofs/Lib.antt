@@ -12,3 +12,6 @@ pub mod LiteralRows
 pub mod Least
 pub mod Naming
 pub mod Tables
+pub mod Dropping
+pub mod Bindings
+pub mod Results

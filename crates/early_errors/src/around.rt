@@ -1,5 +1,8 @@
 //! What holds round a node, and how it comes down to the node's parts.
 
+ghost use Rattle.std.specs.Prelude.{◌≡◌};
+ghost use Rattle.early_errors.specs.Around.{is_accessor, is_constructor, is_loop, is_method};
+
 use tree::{Form, Kind, Node};
 
 /// What holds round a node, its labels aside.
@@ -19,7 +22,9 @@ pub(crate) struct Around {
     pub(crate) labels_loop: Option<bool>,
 }
 
-pub(crate) fn is_loop(kind: Kind) -> bool {
+pub(crate) fn is_loop(kind: Kind) -> bool
+    ensures { result ≡ is_loop kind }
+{
     match kind {
         Kind::WhileStatement
         | Kind::DoWhileStatement
@@ -30,21 +35,27 @@ pub(crate) fn is_loop(kind: Kind) -> bool {
     }
 }
 
-pub(crate) fn is_accessor(form: Form) -> bool {
+pub(crate) fn is_accessor(form: Form) -> bool
+    ensures { result ≡ is_accessor form }
+{
     match form {
         Form::Get | Form::Set => true,
         _ => false,
     }
 }
 
-pub(crate) fn is_constructor(form: Form) -> bool {
+pub(crate) fn is_constructor(form: Form) -> bool
+    ensures { result ≡ is_constructor form }
+{
     match form {
         Form::Constructor => true,
         _ => false,
     }
 }
 
-pub(crate) fn is_method(form: Form) -> bool {
+pub(crate) fn is_method(form: Form) -> bool
+    ensures { result ≡ is_method form }
+{
     match form {
         Form::Method | Form::Get | Form::Set => true,
         _ => false,
