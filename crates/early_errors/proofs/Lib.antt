@@ -15,3 +15,7 @@ pub mod Tables
 pub mod Dropping
 pub mod Bindings
 pub mod Results
+pub mod Jumps
+pub mod Owning
+pub mod Founds
+pub mod Constructors

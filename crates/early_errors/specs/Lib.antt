@@ -12,3 +12,4 @@ pub mod Early
 pub mod Accepted
 pub mod Laws
 pub mod Walk
+pub mod Owns

@@ -69,6 +69,10 @@ at_part f (Some t) = f t
 abbrev pub names_at : Option Tree → List names.Named
 names_at o = at_part names_in o
 
+abbrev pub listed : Option ℕ → List ℕ
+listed None = []
+listed (Some p) = p ∷ []
+
 -- the names of a declarator
 abbrev pub declared_by : Tree → List names.Named
 declared_by n = first_names (parts_of n)

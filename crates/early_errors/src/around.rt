@@ -1,6 +1,6 @@
 //! What holds round a node, and how it comes down to the node's parts.
 
-ghost use Rattle.std.specs.Prelude.{◌≡◌};
+ghost use Rattle.std.specs.Prelude.{◌≡◌, ◌||◌};
 ghost use Rattle.early_errors.specs.Around.{is_accessor, is_constructor, is_loop, is_method};
 
 use tree::{Form, Kind, Node};
@@ -63,6 +63,8 @@ pub(crate) fn is_method(form: Form) -> bool
 }
 
 impl Around {
+    ghost use Rattle.std.specs.Prelude.{◌≡◌, ◌||◌};
+
     /// Round the Program.
     pub(crate) const OUTSIDE: Around = Around {
         in_loop: false,
@@ -89,6 +91,13 @@ impl Around {
             labels_loop: None,
             ..self
         }
+    }
+
+    /// Whether a `break` without label may stand here.
+    pub(crate) fn may_break(self) -> bool
+        ensures { result ≡ (self.in_loop || self.in_switch) }
+    {
+        self.in_loop || self.in_switch
     }
 
     fn in_method(calls: bool) -> Around {

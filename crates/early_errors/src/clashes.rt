@@ -93,7 +93,12 @@ fn table_of<'t>(alloc: Global, names: &[Named<'t>]) -> Result<Table<'t, ()>, All
 }
 
 /// Those of the names that are in a table.
-fn reported(names: &[Named], there: &Table<()>, error: EarlyError, found: Found) -> Found
+pub(crate) fn reported<V: Copy>(
+    names: &[Named],
+    there: &Table<V>,
+    error: EarlyError,
+    found: Found,
+) -> Found
     ensures { result ≡ after found (each error (places (filter (stands (look there.now)) (all_named names.now)))) }
 {
     let mut found = found;

@@ -1,32 +1,52 @@
 //! `super`, `new.target` and the members of classes.
 
+ghost use Rattle.std.specs.Prelude.{◌≡◌, not, option_map};
+ghost use Rattle.tree.specs.Node.{node_tree};
+ghost use Rattle.tree.specs.Tree.{kind_of, parts_of};
+ghost use Rattle.language.specs.Words.{is_super};
+ghost use Rattle.early_errors.specs.Classes.{constructor_places, super_places};
+ghost use Rattle.early_errors.specs.Early.{each, own_errors};
+ghost use Rattle.early_errors.specs.Names.{when};
+ghost use Rattle.early_errors.specs.Owns.{own_of, round};
+ghost use Rattle.early_errors.specs.Walk.{after, at_part, listed};
+ghost use Rattle.early_errors.specs.declared.own.Own.{Own};
+
 use crate::EarlyError;
 use crate::around::{Around, is_accessor, is_constructor};
-use crate::found::{Found, with_error};
+use crate::found::{Found, with_error, with_error_if};
 use std::alloc::{AllocError, Global};
 use tokens::quoted_units;
 use tree::{Kind, Node};
 
 /// A `super` at the head of a node, where it may not stand (ECMA-262 14.1.2, 14.6.1, 15.1.1).
-pub(crate) fn super_errors(node: Node, may_stand: bool, error: EarlyError, found: Found) -> Found {
+pub(crate) fn super_errors(node: Node, may_stand: bool, error: EarlyError, found: Found) -> Found
+    ensures { result ≡ after found (each error (when (not may_stand) (super_places (parts_of (node_tree node.entry))))) }
+{
     if may_stand {
         return found;
     }
     let Some(head) = node.part(0) else {
         return found;
     };
-    match head.kind() {
-        Kind::Super => with_error(found, error, head.span().start),
-        _ => found,
+    with_error_if(is_super(head.kind()), found, error, head.span().start)
+}
+
+fn is_super(kind: Kind) -> bool
+    ensures { result ≡ is_super kind }
+{
+    match kind {
+        Kind::Super => true,
+        _ => false,
     }
 }
 
 /// `new.target` outside every function that isn't an arrow (ECMA-262 15.1.1).
-pub(crate) fn target_errors(node: Node, around: Around, found: Found) -> Found {
-    if around.new_target {
-        return found;
-    }
-    with_error(
+pub(crate) fn target_errors(node: Node, around: Around, found: Found) -> Found
+    requires { own_of (kind_of (node_tree node)) ≡ Own.Target }
+    ensures { (ls : _) → result ≡ after found (own_errors (round around ls) (node_tree node.entry)) }
+{
+    with_error_if(
+        !around.new_target,
         found,
         EarlyError::NewTargetOutsideFunction,
         node.span().start,
@@ -34,30 +54,33 @@ pub(crate) fn target_errors(node: Node, around: Around, found: Found) -> Found {
 }
 
 /// A second or later constructor of one class (ECMA-262 14.6.1).
-pub(crate) fn constructor_errors(body: Node, found: Found) -> Found {
+pub(crate) fn constructor_errors(body: Node, found: Found) -> Found
+    requires { own_of (kind_of (node_tree body)) ≡ Own.Constructors }
+    ensures { (z : _) → result ≡ after found (own_errors z (node_tree body.entry)) }
+{
     let mut found = found;
     let mut has_one = false;
     for index in 0..body.part_count() {
-        if let Some(key) = constructor_key(body.part(index)) {
-            if has_one {
-                found = with_error(found, EarlyError::DuplicateConstructor, key.span().start);
-            }
+        if let Some(at) = constructor_place(body.part(index)) {
+            found = with_error_if(has_one, found, EarlyError::DuplicateConstructor, at);
             has_one = true;
         }
     }
     found
 }
 
-/// The key of a member that is a constructor.
-fn constructor_key<'t, 's>(member: Option<Node<'t, 's>>) -> Option<Node<'t, 's>> {
-    match member {
-        Some(member) => {
-            if is_constructor(member.flags().form) {
-                member.part(0)
-            } else {
-                None
-            }
-        }
+/// The place of the key of a member that is a constructor.
+fn constructor_place(member: Option<Node>) -> Option<usize>
+    ensures { listed result ≡ at_part constructor_places (option_map node_tree member.entry) }
+{
+    let Some(member) = member else {
+        return None;
+    };
+    if !is_constructor(member.flags().form) {
+        return None;
+    }
+    match member.part(0) {
+        Some(key) => Some(key.span().start),
         None => None,
     }
 }

@@ -1,7 +1,8 @@
 //! The least early error found so far.
 
 ghost use Rattle.std.specs.Prelude.{◌≡◌, [], ◌∷◌};
-ghost use Rattle.early_errors.specs.Early.{number};
+ghost use Rattle.early_errors.specs.Early.{each, number};
+ghost use Rattle.early_errors.specs.Names.{when};
 ghost use Rattle.early_errors.specs.Walk.{after, sooner};
 
 use crate::{EarlyError, number_of};
@@ -14,6 +15,17 @@ pub(crate) fn with_error(found: Found, error: EarlyError, at: usize) -> Found
     ensures { result ≡ after found ((number error, at) ∷ []) }
 {
     sooner(found, Some((number_of(error), at)))
+}
+
+/// With one more error at a place, where it is one.
+pub(crate) fn with_error_if(is_one: bool, found: Found, error: EarlyError, at: usize) -> Found
+    ensures { result ≡ after found (each error (when is_one (at ∷ []))) }
+{
+    if is_one {
+        with_error(found, error, at)
+    } else {
+        found
+    }
 }
 
 /// The lesser of two.

@@ -1,5 +1,8 @@
 //! Parameters of functions.
 
+ghost use Rattle.std.specs.Prelude.{◌≡◌};
+ghost use Rattle.language.specs.Words.{is_identifier};
+
 use crate::EarlyError;
 use crate::clashes::{repeated, restricted, shared};
 use crate::found::{Found, with_error};
@@ -79,7 +82,9 @@ fn is_simple(node: Node, from: usize) -> bool {
     true
 }
 
-fn is_identifier(kind: Kind) -> bool {
+pub(crate) fn is_identifier(kind: Kind) -> bool
+    ensures { result ≡ is_identifier kind }
+{
     match kind {
         Kind::Identifier => true,
         _ => false,

@@ -1,71 +1,135 @@
 //! `break`, `continue` and labels.
 
+ghost use Rattle.std.specs.Prelude.{◌≡◌, ◌&&◌, filter, not, IfSome};
+ghost use Rattle.tree.specs.Node.{node_tree};
+ghost use Rattle.tree.specs.Tree.{kind_of, parts_of};
+ghost use Rattle.tree.specs.declared.kind.Kind.TheVariants.{LabeledStatement};
+ghost use Rattle.language.specs.FirstPart.{others};
+ghost use Rattle.early_errors.specs.Around.{is_label, labels_loop, last_loop};
+ghost use Rattle.early_errors.specs.Early.{each, own_errors};
+ghost use Rattle.early_errors.specs.Labels.{is_bare};
+ghost use Rattle.early_errors.specs.Names.{first_names, places};
+ghost use Rattle.early_errors.specs.Owns.{Knows, own_of, is_label_for, misses, or_false, round};
+ghost use Rattle.early_errors.specs.Walk.{after, all_named, look};
+ghost use Rattle.early_errors.specs.declared.own.Own.{Own};
+
 use crate::EarlyError;
 use crate::around::{Around, is_loop};
-use crate::found::{Found, with_error};
-use crate::names::last_part;
+use crate::found::{Found, with_error, with_error_if};
+use crate::names::{Named, last_part};
 use crate::table::Table;
 use tree::{Kind, Node};
 
 /// The labels round a node, of the same function: whether one of the name labels a loop.
 pub(crate) type Labels<'t> = Table<'t, bool>;
 
-/// A `break` without label outside loop and switch, or to a label that isn't there (ECMA-262 13.9.1).
-pub(crate) fn break_errors(node: Node, around: Around, labels: &Labels, found: Found) -> Found {
-    let Some(label) = node.part(0) else {
-        if around.in_loop || around.in_switch {
-            return found;
-        }
-        return with_error(found, EarlyError::MisplacedJump, node.span().start);
-    };
-    undefined_label(label, labels.value(label.text()).is_some(), found)
+/// A `break` without label outside loop and switch, or to labels, given, that aren't there (ECMA-262 13.9.1).
+pub(crate) fn break_errors(
+    node: Node,
+    around: Around,
+    labels: &Labels,
+    names: &[Named],
+    found: Found,
+) -> Found
+    requires kind { own_of (kind_of (node_tree node)) ≡ Own.Break }
+    requires names { all_named names.now ≡ first_names (parts_of (node_tree node)) }
+    ensures { (ls : _) → Knows (look labels.now) ls → result ≡ after found (own_errors (round around ls) (node_tree node.entry)) }
+{
+    let misplaced = is_misplaced(node, around.may_break());
+    let found = with_error_if(
+        misplaced,
+        found,
+        EarlyError::MisplacedJump,
+        node.span().start,
+    );
+    undefined(names, labels, false, found)
 }
 
-/// A `continue` without label outside a loop, or to a label that isn't there or labels no loop (ECMA-262 13.8.1).
-pub(crate) fn continue_errors(node: Node, around: Around, labels: &Labels, found: Found) -> Found {
-    let Some(label) = node.part(0) else {
-        if around.in_loop {
-            return found;
-        }
-        return with_error(found, EarlyError::MisplacedJump, node.span().start);
-    };
-    undefined_label(label, is_true(labels.value(label.text())), found)
+/// A `continue` without label outside a loop, or to labels, given, that aren't there or label no loop (ECMA-262 13.8.1).
+pub(crate) fn continue_errors(
+    node: Node,
+    around: Around,
+    labels: &Labels,
+    names: &[Named],
+    found: Found,
+) -> Found
+    requires kind { own_of (kind_of (node_tree node)) ≡ Own.Continue }
+    requires names { all_named names.now ≡ first_names (parts_of (node_tree node)) }
+    ensures { (ls : _) → Knows (look labels.now) ls → result ≡ after found (own_errors (round around ls) (node_tree node.entry)) }
+{
+    let misplaced = is_misplaced(node, around.in_loop);
+    let found = with_error_if(
+        misplaced,
+        found,
+        EarlyError::MisplacedJump,
+        node.span().start,
+    );
+    undefined(names, labels, true, found)
 }
 
-fn undefined_label(label: Node, is_there: bool, found: Found) -> Found {
-    if is_there {
-        return found;
+/// Whether a jump has no label and may not stand so.
+fn is_misplaced(node: Node, may_stand: bool) -> bool
+    ensures { result ≡ (is_bare (parts_of (node_tree node.entry)) && not may_stand) }
+{
+    match node.part(0) {
+        Some(_) => false,
+        None => !may_stand,
     }
-    with_error(found, EarlyError::UndefinedLabel, label.span().start)
 }
 
-/// A label inside a statement with the same label (ECMA-262 13.1.1).
-pub(crate) fn label_errors(node: Node, labels: &Labels, found: Found) -> Found {
-    let Some(label) = node.part(0) else {
-        return found;
-    };
-    if labels.value(label.text()).is_some() {
-        return with_error(found, EarlyError::DuplicateLabel, label.span().start);
+/// The names that label nothing, or no loop where the flag asks for one.
+fn undefined(names: &[Named], labels: &Labels, loops: bool, found: Found) -> Found
+    ensures { result ≡ after found (each EarlyError.UndefinedLabel (places (filter (misses loops (look labels.now)) (all_named names.now)))) }
+{
+    let mut found = found;
+    for named in names {
+        if !is_label_for(loops, labels.value(named.name)) {
+            found = with_error(found, EarlyError::UndefinedLabel, named.at);
+        }
     }
     found
 }
 
-/// Whether a label's statement is a loop, further labels aside.
-pub(crate) fn labels_loop(node: Node) -> bool {
-    if is_loop(node.kind()) {
-        return true;
+fn is_label_for(loops: bool, value: Option<bool>) -> bool
+    ensures { result ≡ is_label_for loops value }
+{
+    match value {
+        Some(is_loop) => is_loop || !loops,
+        None => false,
     }
-    match node.kind() {
-        Kind::LabeledStatement => match last_part(node) {
-            Some(body) => labels_loop(body),
-            None => false,
-        },
+}
+
+fn is_label(kind: Kind) -> bool
+    ensures { result ≡ is_label kind }
+{
+    match kind {
+        Kind::LabeledStatement => true,
         _ => false,
     }
 }
 
+/// Whether a node is a loop, labels before it aside.
+#[tactic(auto, using(tree::proofs::PartWalk::part_steps))]
+pub(crate) fn labels_loop(node: Node) -> bool
+    ensures { result ≡ labels_loop (node_tree node.entry) }
+{
+    if is_loop(node.kind()) {
+        return true;
+    }
+    if !is_label(node.kind()) {
+        return false;
+    }
+    match last_part(node) {
+        Some(body) => labels_loop(body),
+        None => false,
+    }
+}
+
 /// Whether a label's statement is a loop, where the label above may know it.
-pub(crate) fn label_is_loop(node: Node, known: Option<bool>) -> bool {
+pub(crate) fn label_is_loop(node: Node, known: Option<bool>) -> bool
+    requires { IfSome known (λ b. b ≡ labels_loop (node_tree node)) }
+    ensures { kind_of (node_tree node.entry) ≡ LabeledStatement → result ≡ last_loop (others (parts_of (node_tree node.entry))) }
+{
     if node.part_count() < 2 {
         return false;
     }
@@ -76,7 +140,9 @@ pub(crate) fn label_is_loop(node: Node, known: Option<bool>) -> bool {
 }
 
 /// Whether something stands there and is true.
-pub(crate) fn is_true(value: Option<bool>) -> bool {
+pub(crate) fn is_true(value: Option<bool>) -> bool
+    ensures { result ≡ or_false value }
+{
     match value {
         Some(value) => value,
         None => false,

@@ -1,12 +1,21 @@
 //! The errors of a node itself, but for those of names that clash with names of `var`s inside.
 
+ghost use Rattle.std.specs.Prelude.{◌≡◌, ◌&&◌};
+ghost use Rattle.tree.specs.Node.{node_tree};
+ghost use Rattle.tree.specs.Tree.{kind_of, parts_of, text_of};
+ghost use Rattle.language.specs.FirstPart.{lead};
+ghost use Rattle.language.specs.Words.{is, is_identifier};
+ghost use Rattle.early_errors.specs.Early.{own_errors};
+ghost use Rattle.early_errors.specs.Owns.{own_of};
+ghost use Rattle.early_errors.specs.Walk.{after};
+
 use crate::EarlyError;
 use crate::around::Around;
-use crate::clashes::{hits, restricted};
+use crate::clashes::{hits, reported, restricted};
 use crate::classes::{constructor_errors, member_errors, super_errors, target_errors};
-use crate::found::{Found, with_error};
-use crate::functions::function_errors;
-use crate::labels::{break_errors, continue_errors, label_errors};
+use crate::found::{Found, with_error_if};
+use crate::functions::{function_errors, is_identifier};
+use crate::labels::{break_errors, continue_errors};
 use crate::literals::{literal_errors, template_errors};
 use crate::names::{push_declared, push_part_names};
 use crate::scopes::declaration_errors;
@@ -14,17 +23,33 @@ use crate::walk::Walk;
 use std::alloc::AllocError;
 use tree::{Kind, Node};
 
-/// Finds the errors of a node itself.
-pub(crate) fn own_errors<'t>(
-    node: Node<'t, '_>,
-    around: Around,
-    walk: &mut Walk<'t>,
-) -> Result<(), AllocError> {
-    match node.kind() {
-        Kind::VariableDeclaration => variable_errors(node, around, walk),
+/// Which errors a node itself can have.
+#[derive(Clone, Copy)]
+pub(crate) enum Own {
+    Variables,
+    Function,
+    FirstNames,
+    Break,
+    Continue,
+    Label,
+    Delete,
+    SuperProperty,
+    SuperCall,
+    Target,
+    Constructors,
+    Member,
+    Template,
+    Literal,
+    Nothing,
+}
+
+fn own_of(kind: Kind) -> Own
+    ensures { result ≡ own_of kind }
+{
+    match kind {
+        Kind::VariableDeclaration => Own::Variables,
         Kind::FunctionDeclaration | Kind::FunctionExpression | Kind::ArrowFunctionExpression => {
-            walk.found = function_errors(walk.alloc, node, walk.found)?;
-            Ok(())
+            Own::Function
         }
         Kind::ClassDeclaration
         | Kind::ClassExpression
@@ -32,45 +57,73 @@ pub(crate) fn own_errors<'t>(
         | Kind::AssignmentExpression
         | Kind::UpdateExpression
         | Kind::ForInStatement
-        | Kind::ForOfStatement => first_name_errors(node, walk),
-        Kind::TemplateLiteral => {
-            walk.found = template_errors(walk.alloc, node, around, walk.found)?;
+        | Kind::ForOfStatement => Own::FirstNames,
+        Kind::BreakStatement => Own::Break,
+        Kind::ContinueStatement => Own::Continue,
+        Kind::LabeledStatement => Own::Label,
+        Kind::UnaryExpression => Own::Delete,
+        Kind::MemberExpression => Own::SuperProperty,
+        Kind::CallExpression => Own::SuperCall,
+        Kind::MetaProperty => Own::Target,
+        Kind::ClassBody => Own::Constructors,
+        Kind::MethodDefinition => Own::Member,
+        Kind::TemplateLiteral => Own::Template,
+        Kind::Literal => Own::Literal,
+        _ => Own::Nothing,
+    }
+}
+
+/// Finds the errors of a node itself.
+pub(crate) fn own_errors<'t>(
+    node: Node<'t, '_>,
+    around: Around,
+    walk: &mut Walk<'t>,
+) -> Result<(), AllocError> {
+    let own = own_of(node.kind());
+    match own {
+        Own::Variables => variable_errors(node, around, walk),
+        Own::Function => {
+            walk.found = function_errors(walk.alloc, node, walk.found)?;
             Ok(())
         }
-        Kind::MethodDefinition => {
+        Own::FirstNames | Own::Break | Own::Continue | Own::Label => {
+            first_name_errors(node, own, around, walk)
+        }
+        Own::Member => {
             walk.found = member_errors(walk.alloc, node, walk.found)?;
             Ok(())
         }
+        Own::Template => {
+            walk.found = template_errors(walk.alloc, node, around, walk.found)?;
+            Ok(())
+        }
         _ => {
-            walk.found = small_errors(node, around, walk);
+            walk.found = small_errors(node, own, around, walk.found);
             Ok(())
         }
     }
 }
 
-/// The errors of a node that binds or assigns nothing.
-fn small_errors(node: Node, around: Around, walk: &Walk) -> Found {
-    match node.kind() {
-        Kind::UnaryExpression => delete_errors(node, walk.found),
-        Kind::BreakStatement => break_errors(node, around, &walk.labels, walk.found),
-        Kind::ContinueStatement => continue_errors(node, around, &walk.labels, walk.found),
-        Kind::LabeledStatement => label_errors(node, &walk.labels, walk.found),
-        Kind::MemberExpression => super_errors(
+/// The errors of a node whose names don't matter.
+fn small_errors(node: Node, own: Own, around: Around, found: Found) -> Found {
+    match own {
+        Own::Delete => delete_errors(node, found),
+        Own::SuperProperty => super_errors(
             node,
             around.super_property,
             EarlyError::SuperPropertyOutsideMethod,
-            walk.found,
+            found,
         ),
-        Kind::CallExpression => super_errors(
+        Own::SuperCall => super_errors(
             node,
             around.super_call,
             EarlyError::SuperCallOutsideConstructor,
-            walk.found,
+            found,
         ),
-        Kind::MetaProperty => target_errors(node, around, walk.found),
-        Kind::ClassBody => constructor_errors(node, walk.found),
-        Kind::Literal => literal_errors(node, walk.found),
-        _ => walk.found,
+        Own::Target => target_errors(node, around, found),
+        Own::Constructors => constructor_errors(node, found),
+        Own::Literal => literal_errors(node, found),
+        _ => found,
     }
 }
 
@@ -91,23 +144,46 @@ fn variable_errors<'t>(
     Ok(())
 }
 
-/// The names of a node's first part, which the node binds or assigns.
-fn first_name_errors<'t>(node: Node<'t, '_>, walk: &mut Walk<'t>) -> Result<(), AllocError> {
+/// The names of a node's first part: those that it binds or assigns, or labels.
+fn first_name_errors<'t>(
+    node: Node<'t, '_>,
+    own: Own,
+    around: Around,
+    walk: &mut Walk<'t>,
+) -> Result<(), AllocError> {
     walk.names.clear();
     push_part_names(node.part(0), &mut walk.names)?;
-    walk.found = restricted(walk.names.as_slice(), walk.found);
+    let names = walk.names.as_slice();
+    walk.found = match own {
+        Own::Break => break_errors(node, around, &walk.labels, names, walk.found),
+        Own::Continue => continue_errors(node, around, &walk.labels, names, walk.found),
+        Own::Label => reported(names, &walk.labels, EarlyError::DuplicateLabel, walk.found),
+        _ => restricted(names, walk.found),
+    };
     Ok(())
 }
 
 /// `delete` of an identifier, grouped or not (ECMA-262 12.5.3.1).
-fn delete_errors(node: Node, found: Found) -> Found {
-    let Some(operand) = node.part(0) else {
-        return found;
-    };
-    match operand.kind() {
-        Kind::Identifier if node.text() == "delete" => {
-            with_error(found, EarlyError::DeleteOfIdentifier, node.span().start)
-        }
-        _ => found,
+fn delete_errors(node: Node, found: Found) -> Found
+    requires { own_of (kind_of (node_tree node)) ≡ Own.Delete }
+    ensures { (z : _) → result ≡ after found (own_errors z (node_tree node.entry)) }
+{
+    with_error_if(
+        deletes_identifier(node),
+        found,
+        EarlyError::DeleteOfIdentifier,
+        node.span().start,
+    )
+}
+
+fn deletes_identifier(node: Node) -> bool
+    ensures { result ≡ (is (text_of (node_tree node.entry)) "delete" && is_identifier (lead (parts_of (node_tree node.entry)))) }
+{
+    if node.text() != "delete" {
+        return false;
+    }
+    match node.part(0) {
+        Some(operand) => is_identifier(operand.kind()),
+        None => false,
     }
 }

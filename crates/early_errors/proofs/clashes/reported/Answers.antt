@@ -5,7 +5,7 @@ use Rattle.early_errors.proofs.clashes.reported.Goals as goal
 use Rattle.early_errors.proofs.clashes.reported.Goals.{then-is_some, else-is_some}
 
 pub loop-named-preserved : goal.loop-named-preserved
-loop-named-preserved c =
+loop-named-preserved g c =
     elim c.if-is_some.branch [
       | then-is_some w ↦
           w.found-is ∙ w.with_error-found.ensures

@@ -4,4 +4,4 @@ use Rattle.early_errors.proofs.Naming.{passing}
 use Rattle.early_errors.proofs.clashes.reported.Given as goal
 
 abbrev pub invariant-loop-named : goal.invariant-loop-named
-invariant-loop-named l = l.found ≡ after l.fn.found (passing (stands (look l.there)) l.error (all_named (take l.named-index l.names)))
+invariant-loop-named g l = l.found ≡ after l.fn.found (passing (stands (look l.there)) l.error (all_named (take l.named-index l.names)))

@@ -10,5 +10,5 @@ pub returns-in-Some : goal.returns-in-Some
 returns-in-Some c =
     on_ok c.push_part_names.result
     (λ h. h ∙ ap (λ o. all_named c.args.names.now.items ++ names_at o) c.part.ensures ∙ ap (λ l. all_named c.args.names.now.items ++ l) (sym (first_names-at (parts_of (node_tree c.in-Some.declarator))))
-        ∙ ap (λ o. all_named c.args.names.now.items ++ at_part declared_by (option_map node_tree o)) (sym c.in-Some.is))
+    ∙ ap (λ o. all_named c.args.names.now.items ++ at_part declared_by (option_map node_tree o)) (sym c.in-Some.is))
     c.push_part_names.ensures

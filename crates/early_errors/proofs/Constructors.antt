@@ -1,0 +1,44 @@
+-- The constructors of a class, one by one: all but the first are errors.
+use Rattle.std.proofs.Common.{◌≡◌, ℕ, Bool, true, false, ◌+◌, ◌<◌, ◌≤◌, List, [], ◌∷◌, ◌++◌, Option, Some, None, refl, sym, ap, ◌∙◌, append-nil}
+use Rattle.tree.specs.Tree.{Tree, Parts, part_at, part_count}
+use Rattle.early_errors.specs.declared.EarlyError.TheVariants.{DuplicateConstructor}
+use Rattle.early_errors.specs.Classes.{constructor_places, behind_first}
+use Rattle.early_errors.specs.Names.{each_part, when}
+use Rattle.early_errors.specs.Early.{Error, each}
+use Rattle.early_errors.specs.Walk.{after, at_part, listed, parts_drop}
+use Rattle.early_errors.proofs.Least.{sooner-none, after-append, each-append}
+use Rattle.early_errors.proofs.Dropping.{drop-step, drop-past}
+
+-- those that are errors, where one stands before or none
+abbrev pub further : Bool → List ℕ → List ℕ
+further true xs = xs
+further false xs = behind_first xs
+
+-- what is still to be found
+abbrev pub to_come : Bool → ℕ → Parts → List Error
+to_come b i ps = each DuplicateConstructor (further b (each_part constructor_places (parts_drop i ps)))
+
+with_one : (b : Bool) (p : ℕ) (xs : List ℕ) → further b (p ∷ xs) ≡ when b (p ∷ []) ++ xs
+with_one true p xs = refl
+with_one false p xs = refl
+
+pub one-comes : (o q total : Option Error) (b : Bool) (ps : Parts) (i : ℕ) (m : Option Tree) (r : Option ℕ) (p : ℕ) → i < part_count ps → m ≡ part_at ps i → listed r ≡ at_part constructor_places m → r ≡ Some p →
+    q ≡ after o (each DuplicateConstructor (when b (p ∷ []))) → after o (to_come b i ps) ≡ total → after q (to_come true (i + 1) ps) ≡ total
+one-comes o q total b ps i m r p l e k s x so =
+    let rest = each_part constructor_places (parts_drop (i + 1) ps) in
+    ap (λ y. after y (each DuplicateConstructor rest)) x ∙ sym (after-append o (each DuplicateConstructor (when b (p ∷ []))) (each DuplicateConstructor rest))
+    ∙ ap (after o) (sym (each-append DuplicateConstructor (when b (p ∷ [])) rest) ∙ ap (each DuplicateConstructor) (sym (with_one b p rest)))
+    ∙ ap (λ y. after o (each DuplicateConstructor (further b y))) (sym (drop-step constructor_places ps i m l e ∙ ap (λ y. y ++ rest) (sym k ∙ ap listed s))) ∙ so
+
+pub none-comes : (o total : Option Error) (b : Bool) (ps : Parts) (i : ℕ) (m : Option Tree) (r : Option ℕ) → i < part_count ps → m ≡ part_at ps i → listed r ≡ at_part constructor_places m → r ≡ None →
+    after o (to_come b i ps) ≡ total → after o (to_come b (i + 1) ps) ≡ total
+none-comes o total b ps i m r l e k s so =
+    let rest = each_part constructor_places (parts_drop (i + 1) ps) in
+    ap (λ y. after o (each DuplicateConstructor (further b y))) (sym (drop-step constructor_places ps i m l e ∙ ap (λ y. y ++ rest) (sym k ∙ ap listed s))) ∙ so
+
+pub all-came : (o total : Option Error) (b : Bool) (ps : Parts) (i : ℕ) → part_count ps ≤ i → after o (to_come b i ps) ≡ total → o ≡ total
+all-came o total b ps i l so = sym (sooner-none o) ∙ ap (λ y. after o (each DuplicateConstructor y)) (nothing b) ∙ ap (λ y. after o (each DuplicateConstructor (further b y))) (sym (drop-past constructor_places ps i l)) ∙ so
+  where
+    nothing : (b : Bool) → [] ≡ further b []
+    nothing true = refl
+    nothing false = refl

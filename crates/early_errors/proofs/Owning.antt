@@ -1,0 +1,58 @@
+-- A node's own errors, kind by kind.
+use Rattle.std.proofs.Common.{◌≡◌, ℕ, Bool, true, false, not, cond, List, [], ◌∷◌, ◌++◌, filter, refl, sym, ap, ◌∙◌, append-nil}
+use Rattle.std.specs.Prelude.{◌||◌, ◌&&◌}
+use Rattle.tree.specs.declared.kind.Kind.{Kind}
+use Rattle.tree.specs.declared.kind.Kind.TheVariants.{BreakStatement, ContinueStatement, LabeledStatement, UnaryExpression, MemberExpression, CallExpression, MetaProperty, ClassBody, MethodDefinition, TemplateLiteral, Literal}
+use Rattle.tree.specs.declared.kind.Flags.{Flags}
+use Rattle.tree.specs.Tree.{Tree, node, Parts, kind_of, text_of, flags_of, start_of, stop_of, parts_of}
+use Rattle.language.specs.FirstPart.{lead}
+use Rattle.language.specs.Words.{is, is_identifier}
+use Rattle.early_errors.specs.declared.EarlyError.TheVariants.{MisplacedJump, UndefinedLabel, DuplicateLabel, DeleteOfIdentifier, SuperPropertyOutsideMethod, SuperCallOutsideConstructor, NewTargetOutsideFunction, DuplicateConstructor, SpecialConstructor, StaticPrototype, UncookedTemplate, RegExpFlags}
+use Rattle.early_errors.specs.declared.own.Own as declared
+use Rattle.early_errors.specs.declared.own.Own.{Own}
+use Rattle.early_errors.specs.declared.own.Own.TheVariants as own
+use Rattle.early_errors.specs.Around.{Around}
+use Rattle.early_errors.specs.Names.{places, when, each_part, first_names}
+use Rattle.early_errors.specs.Scopes.{duplicate_lexical_name, lexical_name_is_var, const_without_initializer, catch_parameter_conflict, for_name_is_var}
+use Rattle.early_errors.specs.Functions.{duplicate_parameter, parameter_is_lexical_name, use_strict_behind_pattern}
+use Rattle.early_errors.specs.Strict.{eval_or_arguments, delete_of_identifier}
+use Rattle.early_errors.specs.Labels.{is_bare, labels_statement, labels_a_loop, misplaced_jump, undefined_label, duplicate_label}
+use Rattle.early_errors.specs.Classes.{super_places, constructor_places, behind_first, super_property_outside_method, super_call_outside_constructor, new_target_outside_function, duplicate_constructor, special_constructor, static_prototype}
+use Rattle.early_errors.specs.Literals.{some_uncooked, good_flags, uncooked_template, reg_exp_flags}
+use Rattle.early_errors.specs.Early.{Error, each, own_errors}
+use Rattle.early_errors.specs.Owns.{own_of}
+
+-- a node of a known kind
+pub at_kind : (t : Tree) (k : Kind) → kind_of t ≡ k → t ≡ node k (text_of t) (flags_of t) (start_of t) (stop_of t) (parts_of t)
+at_kind (node j w g s e ps) k h = ap (λ x. node x w g s e ps) h
+
+-- the errors of each kind that binds nothing
+abbrev pub small : Own → Around → Tree → List Error
+small own.Break z n = each MisplacedJump (when (is_bare (parts_of n) && not (z.in_loop || z.in_switch)) (start_of n ∷ [])) ++ each UndefinedLabel (places (filter (λ x. not (labels_statement z.labels x.0)) (first_names (parts_of n))))
+small own.Continue z n = each MisplacedJump (when (is_bare (parts_of n) && not z.in_loop) (start_of n ∷ [])) ++ each UndefinedLabel (places (filter (λ x. not (labels_a_loop z.labels x.0)) (first_names (parts_of n))))
+small own.Label z n = each DuplicateLabel (places (filter (λ x. labels_statement z.labels x.0) (first_names (parts_of n))))
+small own.Delete z n = each DeleteOfIdentifier (when (is (text_of n) "delete" && is_identifier (lead (parts_of n))) (start_of n ∷ []))
+small own.SuperProperty z n = each SuperPropertyOutsideMethod (when (not z.super_property) (super_places (parts_of n)))
+small own.SuperCall z n = each SuperCallOutsideConstructor (when (not z.super_call) (super_places (parts_of n)))
+small own.Target z n = each NewTargetOutsideFunction (when (not z.new_target) (start_of n ∷ []))
+small own.Constructors z n = each DuplicateConstructor (behind_first (each_part constructor_places (parts_of n)))
+small own.Template z n = each UncookedTemplate (when (not z.tagged && some_uncooked (parts_of n)) (start_of n ∷ []))
+small own.Literal z n = each RegExpFlags (when (not (good_flags (text_of n))) (start_of n ∷ []))
+small _ z n = own_errors z n
+
+pub small_by_kind : (z : Around) (t : Tree) → own_errors z t ≡ small (own_of (kind_of t)) z t
+unfolding own_errors duplicate_lexical_name lexical_name_is_var const_without_initializer catch_parameter_conflict for_name_is_var duplicate_parameter parameter_is_lexical_name use_strict_behind_pattern eval_or_arguments delete_of_identifier misplaced_jump undefined_label duplicate_label super_property_outside_method super_call_outside_constructor new_target_outside_function duplicate_constructor special_constructor static_prototype uncooked_template reg_exp_flags
+small_by_kind z (node BreakStatement w g s e ps) = ap (λ x. each MisplacedJump (when (is_bare ps && not (z.in_loop || z.in_switch)) (s ∷ [])) ++ x) (append-nil _)
+small_by_kind z (node ContinueStatement w g s e ps) = ap (λ x. each MisplacedJump (when (is_bare ps && not z.in_loop) (s ∷ [])) ++ x) (append-nil _)
+small_by_kind z (node LabeledStatement w g s e ps) = append-nil _
+small_by_kind z (node UnaryExpression w g s e ps) = append-nil _
+small_by_kind z (node MemberExpression w g s e ps) = append-nil _
+small_by_kind z (node CallExpression w g s e ps) = append-nil _
+small_by_kind z (node MetaProperty w g s e ps) = append-nil _
+small_by_kind z (node ClassBody w g s e ps) = append-nil _
+small_by_kind z (node TemplateLiteral w g s e ps) = append-nil _
+small_by_kind z (node Literal w g s e ps) = append-nil _
+small_by_kind z (node _ w g s e ps) = refl
+
+pub small_given : (o : Own) (z : Around) (t : Tree) → own_of (kind_of t) ≡ o → own_errors z t ≡ small o z t
+small_given o z t e = small_by_kind z t ∙ ap (λ x. small x z t) e

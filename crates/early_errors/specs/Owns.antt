@@ -1,0 +1,82 @@
+-- What the program's own calls say of a node itself: what holds round it, the labels that a table knows, and which of its errors are found
+-- where.
+use Rattle.std.specs.Prelude.{◌≡◌, ℕ, Bool, true, false, not, cond, ◌||◌, ◌&&◌, List, [], ◌∷◌, ◌++◌, map, filter, Option, Some, None, is_some}
+use Rattle.std.specs.Str.{bytes_eq}
+use Rattle.tree.specs.declared.kind.Kind.{Kind}
+use Rattle.tree.specs.declared.kind.Kind.TheVariants as kind
+use Rattle.tree.specs.Tree.{Tree, node, Parts, none, part, gap, kind_of, text_of, flags_of, start_of, parts_of, part_at, part_count}
+use Rattle.early_errors.specs.declared.EarlyError.{EarlyError}
+use Rattle.early_errors.specs.declared.EarlyError.TheVariants as error
+use Rattle.early_errors.specs.declared.around.Around.{Around as Code}
+use Rattle.early_errors.specs.declared.own.Own.{Own}
+use Rattle.early_errors.specs.declared.own.Own.TheVariants.{Variables, Function, FirstNames, Break, Continue, Label, Delete, SuperProperty, SuperCall, Target, Constructors, Member, Template, Literal, Nothing}
+use Rattle.early_errors.specs.Around as around
+use Rattle.early_errors.specs.Around.{Around}
+use Rattle.early_errors.specs.Names.{Named, places, first_names}
+use Rattle.early_errors.specs.Strict.{eval_or_arguments}
+use Rattle.early_errors.specs.Early.{Error, each, own_errors}
+
+-- what holds round a node, with these labels
+abbrev pub round : Code → List around.Label → Around
+round a ls = record { in_loop = a.in_loop; in_switch = a.in_switch; labels = ls; super_property = a.super_property; super_call = a.super_call; new_target = a.new_target; derived = a.derived; tagged = a.tagged; is_body = a.is_body; in_head = a.in_head; of_method = a.of_method }
+
+abbrev pub or_false : Option Bool → Bool
+or_false None = false
+or_false (Some b) = b
+
+-- what a table has for a label serves a jump, which may ask for a loop
+abbrev pub is_label_for : Bool → Option Bool → Bool
+is_label_for loops None = false
+is_label_for loops (Some b) = b || not loops
+
+abbrev pub misses : Bool → (List ℕ → Option Bool) → Named → Bool
+misses loops f x = not (is_label_for loops (f x.0))
+
+-- whether a label of the name stands there, and whether one of them labels a loop
+abbrev pub label_of : List around.Label → List ℕ → Option Bool
+label_of [] w = None
+label_of (l ∷ ls) w = cond (bytes_eq l.0 w) (Some (l.1 || or_false (label_of ls w))) (label_of ls w)
+
+-- a table answers as the labels do
+abbrev pub Knows : (List ℕ → Option Bool) → List around.Label → Type 0
+Knows f ls = (w : List ℕ) → f w ≡ label_of ls w
+
+abbrev pub own_of : Kind → Own
+own_of kind.VariableDeclaration = Variables
+own_of kind.FunctionDeclaration = Function
+own_of kind.FunctionExpression = Function
+own_of kind.ArrowFunctionExpression = Function
+own_of kind.ClassDeclaration = FirstNames
+own_of kind.ClassExpression = FirstNames
+own_of kind.CatchClause = FirstNames
+own_of kind.AssignmentExpression = FirstNames
+own_of kind.UpdateExpression = FirstNames
+own_of kind.ForInStatement = FirstNames
+own_of kind.ForOfStatement = FirstNames
+own_of kind.BreakStatement = Break
+own_of kind.ContinueStatement = Continue
+own_of kind.LabeledStatement = Label
+own_of kind.UnaryExpression = Delete
+own_of kind.MemberExpression = SuperProperty
+own_of kind.CallExpression = SuperCall
+own_of kind.MetaProperty = Target
+own_of kind.ClassBody = Constructors
+own_of kind.MethodDefinition = Member
+own_of kind.TemplateLiteral = Template
+own_of kind.Literal = Literal
+own_of _ = Nothing
+
+-- a node whose names clash with `var`s inside, or stand in one scope
+abbrev pub makes_scope : Kind → Bool
+makes_scope kind.Program = true
+makes_scope kind.BlockStatement = true
+makes_scope kind.SwitchStatement = true
+makes_scope kind.CatchClause = true
+makes_scope kind.ForStatement = true
+makes_scope kind.ForInStatement = true
+makes_scope kind.ForOfStatement = true
+makes_scope _ = false
+
+-- a node's own errors, without those of the scope that it makes
+abbrev pub plain_errors : Around → Tree → List Error
+plain_errors z n = cond (makes_scope (kind_of n)) (each error.EvalOrArguments (eval_or_arguments n)) (own_errors z n)
