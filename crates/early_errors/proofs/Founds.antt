@@ -1,18 +1,23 @@
 -- How the errors of a node come together from those that its function finds.
 use Rattle.std.proofs.Common.{◌≡◌, ℕ, Bool, true, false, not, List, [], ◌∷◌, ◌++◌, Option, filter, refl, sym, ap, ◌∙◌}
-use Rattle.std.specs.Prelude.{◌||◌, ◌&&◌}
-use Rattle.tree.specs.Tree.{Tree, kind_of, start_of, parts_of}
-use Rattle.early_errors.specs.declared.EarlyError.TheVariants.{MisplacedJump, UndefinedLabel, DuplicateLabel}
+use Rattle.std.specs.Prelude.{◌||◌, ◌&&◌, codes}
+use Rattle.tree.specs.declared.kind.Flags.{Flags}
+use Rattle.tree.specs.Tree.{Tree, kind_of, start_of, parts_of, flags_of, part_at}
+use Rattle.language.specs.Words.{is}
+use Rattle.early_errors.specs.Keys.{key_value}
+use Rattle.early_errors.specs.Classes.{has_key, key_places}
+use Rattle.early_errors.specs.declared.EarlyError.TheVariants.{MisplacedJump, UndefinedLabel, SpecialConstructor, StaticPrototype}
 use Rattle.early_errors.specs.declared.own.Own.TheVariants as own
 use Rattle.early_errors.specs.Around as around
-use Rattle.early_errors.specs.Around.{Around}
+use Rattle.early_errors.specs.Around.{Around, is_accessor}
 use Rattle.early_errors.specs.Names.{Named, places, when, first_names}
 use Rattle.early_errors.specs.Labels.{is_bare, labels_statement, labels_a_loop}
 use Rattle.early_errors.specs.Early.{Error, each, own_errors}
-use Rattle.early_errors.specs.Owns.{own_of, Knows, misses}
+use Rattle.early_errors.specs.Owns.{own_of, Knows, misses, key_says, places_at}
 use Rattle.early_errors.specs.Walk.{after}
 use Rattle.early_errors.proofs.Least.{after-append}
 use Rattle.early_errors.proofs.Owning.{small_given}
+use Rattle.early_errors.proofs.Keyed.{key-says, key-places}
 use Rattle.early_errors.proofs.Jumps.{misses_any, misses_loop}
 
 pub breaks : (z : Around) (t : Tree) (f : List ℕ → Option Bool) (ns : List Named) (b may : Bool) (s : ℕ) (o p q : Option Error) → own_of (kind_of t) ≡ own.Break → Knows f z.labels → ns ≡ first_names (parts_of t) →
@@ -30,3 +35,19 @@ continues z t f ns b s o p q k h n e d x y =
     y ∙ (λ i. after (x i) (each UndefinedLabel (places (filter (λ v. misses_loop f z.labels h v i) (n i)))))
     ∙ (λ i. after (after o (each MisplacedJump (when (d i) (e i ∷ [])))) (each UndefinedLabel (places (filter (λ v. not (labels_a_loop z.labels v.0)) (first_names (parts_of t))))))
     ∙ sym (ap (after o) (small_given own.Continue z t k) ∙ after-append o (each MisplacedJump (when (is_bare (parts_of t) && not z.in_loop) (start_of t ∷ []))) (each UndefinedLabel (places (filter (λ v. not (labels_a_loop z.labels v.0)) (first_names (parts_of t))))))
+
+pub members : (z : Around) (t : Tree) (g : Flags) (k : Option Tree) (a b d e h i : Bool) (o p q : Option Error) → own_of (kind_of t) ≡ own.Member → g ≡ flags_of t → k ≡ part_at (parts_of t) 0 → a ≡ is_accessor g.form →
+    b ≡ (a && not g.is_static) → d ≡ (not g.computed && key_says k (codes "constructor")) → e ≡ (b && d) → p ≡ after o (each SpecialConstructor (when e (places_at k))) →
+    h ≡ (not g.computed && key_says k (codes "prototype")) → i ≡ (g.is_static && h) → q ≡ after p (each StaticPrototype (when i (places_at k))) → q ≡ after o (own_errors z t)
+members z t g k a b d e h i o p q m f x n r s u v w y j =
+    let ps = parts_of t in
+    let special : e ≡ ((is_accessor (flags_of t).form && not (flags_of t).is_static) && (not (flags_of t).computed && has_key ps (λ m. is (key_value m) "constructor"))) =
+    u ∙ (λ l. (r ∙ ap (λ c. c && not g.is_static) n) l && (s ∙ ap (λ c. not g.computed && c) (key-says ps (λ m. is (key_value m) "constructor") k (codes "constructor") x (λ m. refl))) l)
+    ∙ ap (λ c. (is_accessor c.form && not c.is_static) && (not c.computed && has_key ps (λ m. is (key_value m) "constructor"))) f
+    in
+    let prototype : i ≡ ((flags_of t).is_static && (not (flags_of t).computed && has_key ps (λ m. is (key_value m) "prototype"))) =
+    y ∙ (λ l. g.is_static && (w ∙ ap (λ c. not g.computed && c) (key-says ps (λ m. is (key_value m) "prototype") k (codes "prototype") x (λ m. refl))) l)
+    ∙ ap (λ c. c.is_static && (not c.computed && has_key ps (λ m. is (key_value m) "prototype"))) f
+    in
+    j ∙ (λ l. after (v l) (each StaticPrototype (when (prototype l) (key-places ps k x l)))) ∙ (λ l. after (after o (each SpecialConstructor (when (special l) (key-places ps k x l)))) (each StaticPrototype (when ((flags_of t).is_static && (not (flags_of t).computed && has_key ps (λ m. is (key_value m) "prototype"))) (key_places ps))))
+    ∙ sym (ap (after o) (small_given own.Member z t m) ∙ after-append o (each SpecialConstructor (when ((is_accessor (flags_of t).form && not (flags_of t).is_static) && (not (flags_of t).computed && has_key ps (λ m. is (key_value m) "constructor"))) (key_places ps))) (each StaticPrototype (when ((flags_of t).is_static && (not (flags_of t).computed && has_key ps (λ m. is (key_value m) "prototype"))) (key_places ps))))

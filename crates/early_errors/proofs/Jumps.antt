@@ -49,6 +49,7 @@ misses_loop f ls h x = ap not (for_loop (f x.0) ∙ ap or_false (h x.0) ∙ labe
 
 pub stands_label : (f : List ℕ → Option Bool) (ls : List around.Label) → Knows f ls → (x : Named) → stands f x ≡ labels_statement ls x.0
 stands_label f ls h x = ap is_some (h x.0) ∙ label_stands ls x.0
+
 -- ---- whether a label's statement is a loop
 
 abbrev loops_at : Option Tree → Bool

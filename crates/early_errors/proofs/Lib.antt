@@ -19,3 +19,7 @@ pub mod Jumps
 pub mod Owning
 pub mod Founds
 pub mod Constructors
+pub mod Points
+pub mod Literally
+pub mod Keyed
+pub mod Listing

@@ -2,22 +2,23 @@
 use Rattle.std.proofs.Common.{◌≡◌, ℕ, Bool, true, false, not, cond, List, [], ◌∷◌, ◌++◌, filter, refl, sym, ap, ◌∙◌, append-nil}
 use Rattle.std.specs.Prelude.{◌||◌, ◌&&◌}
 use Rattle.tree.specs.declared.kind.Kind.{Kind}
-use Rattle.tree.specs.declared.kind.Kind.TheVariants.{BreakStatement, ContinueStatement, LabeledStatement, UnaryExpression, MemberExpression, CallExpression, MetaProperty, ClassBody, MethodDefinition, TemplateLiteral, Literal}
+use Rattle.tree.specs.declared.kind.Kind.TheVariants.{FunctionDeclaration, FunctionExpression, ArrowFunctionExpression, BreakStatement, ContinueStatement, LabeledStatement, UnaryExpression, MemberExpression, CallExpression, MetaProperty, ClassBody, MethodDefinition, TemplateLiteral, Literal}
 use Rattle.tree.specs.declared.kind.Flags.{Flags}
 use Rattle.tree.specs.Tree.{Tree, node, Parts, kind_of, text_of, flags_of, start_of, stop_of, parts_of}
 use Rattle.language.specs.FirstPart.{lead}
 use Rattle.language.specs.Words.{is, is_identifier}
-use Rattle.early_errors.specs.declared.EarlyError.TheVariants.{MisplacedJump, UndefinedLabel, DuplicateLabel, DeleteOfIdentifier, SuperPropertyOutsideMethod, SuperCallOutsideConstructor, NewTargetOutsideFunction, DuplicateConstructor, SpecialConstructor, StaticPrototype, UncookedTemplate, RegExpFlags}
+use Rattle.early_errors.specs.declared.EarlyError.TheVariants.{EvalOrArguments, DuplicateParameter, ParameterIsLexicalName, UseStrictBehindPattern, MisplacedJump, UndefinedLabel, DuplicateLabel, DeleteOfIdentifier, SuperPropertyOutsideMethod, SuperCallOutsideConstructor, NewTargetOutsideFunction, DuplicateConstructor, SpecialConstructor, StaticPrototype, UncookedTemplate, RegExpFlags}
 use Rattle.early_errors.specs.declared.own.Own as declared
 use Rattle.early_errors.specs.declared.own.Own.{Own}
 use Rattle.early_errors.specs.declared.own.Own.TheVariants as own
-use Rattle.early_errors.specs.Around.{Around}
-use Rattle.early_errors.specs.Names.{places, when, each_part, first_names}
+use Rattle.early_errors.specs.Keys.{key_value}
+use Rattle.early_errors.specs.Around.{Around, is_accessor}
+use Rattle.early_errors.specs.Names.{places, when, each_part, first_names, twice, shared, lexical_names, parameter_names, parameters_on, body_items}
 use Rattle.early_errors.specs.Scopes.{duplicate_lexical_name, lexical_name_is_var, const_without_initializer, catch_parameter_conflict, for_name_is_var}
-use Rattle.early_errors.specs.Functions.{duplicate_parameter, parameter_is_lexical_name, use_strict_behind_pattern}
-use Rattle.early_errors.specs.Strict.{eval_or_arguments, delete_of_identifier}
+use Rattle.early_errors.specs.Functions.{is_simple, use_strict, duplicate_parameter, parameter_is_lexical_name, use_strict_behind_pattern}
+use Rattle.early_errors.specs.Strict.{is_restricted, names_given, eval_or_arguments, delete_of_identifier}
 use Rattle.early_errors.specs.Labels.{is_bare, labels_statement, labels_a_loop, misplaced_jump, undefined_label, duplicate_label}
-use Rattle.early_errors.specs.Classes.{super_places, constructor_places, behind_first, super_property_outside_method, super_call_outside_constructor, new_target_outside_function, duplicate_constructor, special_constructor, static_prototype}
+use Rattle.early_errors.specs.Classes.{key_places, has_key, super_places, constructor_places, behind_first, super_property_outside_method, super_call_outside_constructor, new_target_outside_function, duplicate_constructor, special_constructor, static_prototype}
 use Rattle.early_errors.specs.Literals.{some_uncooked, good_flags, uncooked_template, reg_exp_flags}
 use Rattle.early_errors.specs.Early.{Error, each, own_errors}
 use Rattle.early_errors.specs.Owns.{own_of}
@@ -26,7 +27,20 @@ use Rattle.early_errors.specs.Owns.{own_of}
 pub at_kind : (t : Tree) (k : Kind) → kind_of t ≡ k → t ≡ node k (text_of t) (flags_of t) (start_of t) (stop_of t) (parts_of t)
 at_kind (node j w g s e ps) k h = ap (λ x. node x w g s e ps) h
 
--- the errors of each kind that binds nothing
+-- a function's
+abbrev pub names_of : Kind → Parts → List Error
+names_of k ps = each EvalOrArguments (places (filter is_restricted (names_given k ps)))
+
+abbrev pub doubles_of : Kind → Parts → List Error
+doubles_of k ps = each DuplicateParameter (places (twice (parameter_names (parameters_on k ps))))
+
+abbrev pub lexicals_of : Kind → Parts → List Error
+lexicals_of k ps = each ParameterIsLexicalName (places (shared (each_part (lexical_names false) (body_items (parameters_on k ps))) (parameter_names (parameters_on k ps))))
+
+abbrev pub directives_of : Kind → Parts → List Error
+directives_of k ps = each UseStrictBehindPattern (when (not (is_simple (parameters_on k ps))) (each_part use_strict (body_items (parameters_on k ps))))
+
+-- the errors of each kind that makes no scope
 abbrev pub small : Own → Around → Tree → List Error
 small own.Break z n = each MisplacedJump (when (is_bare (parts_of n) && not (z.in_loop || z.in_switch)) (start_of n ∷ [])) ++ each UndefinedLabel (places (filter (λ x. not (labels_statement z.labels x.0)) (first_names (parts_of n))))
 small own.Continue z n = each MisplacedJump (when (is_bare (parts_of n) && not z.in_loop) (start_of n ∷ [])) ++ each UndefinedLabel (places (filter (λ x. not (labels_a_loop z.labels x.0)) (first_names (parts_of n))))
@@ -38,7 +52,14 @@ small own.Target z n = each NewTargetOutsideFunction (when (not z.new_target) (s
 small own.Constructors z n = each DuplicateConstructor (behind_first (each_part constructor_places (parts_of n)))
 small own.Template z n = each UncookedTemplate (when (not z.tagged && some_uncooked (parts_of n)) (start_of n ∷ []))
 small own.Literal z n = each RegExpFlags (when (not (good_flags (text_of n))) (start_of n ∷ []))
+small own.Member z n =
+    each SpecialConstructor (when ((is_accessor (flags_of n).form && not (flags_of n).is_static) && (not (flags_of n).computed && has_key (parts_of n) (λ m. is (key_value m) "constructor"))) (key_places (parts_of n)))
+    ++ each StaticPrototype (when ((flags_of n).is_static && (not (flags_of n).computed && has_key (parts_of n) (λ m. is (key_value m) "prototype"))) (key_places (parts_of n)))
+small own.Function z n = names_of (kind_of n) (parts_of n) ++ (doubles_of (kind_of n) (parts_of n) ++ (lexicals_of (kind_of n) (parts_of n) ++ directives_of (kind_of n) (parts_of n)))
 small _ z n = own_errors z n
+
+function_list : (k : Kind) (ps : Parts) → names_of k ps ++ (doubles_of k ps ++ (lexicals_of k ps ++ (directives_of k ps ++ []))) ≡ names_of k ps ++ (doubles_of k ps ++ (lexicals_of k ps ++ directives_of k ps))
+function_list k ps = ap (λ x. names_of k ps ++ (doubles_of k ps ++ (lexicals_of k ps ++ x))) (append-nil (directives_of k ps))
 
 pub small_by_kind : (z : Around) (t : Tree) → own_errors z t ≡ small (own_of (kind_of t)) z t
 unfolding own_errors duplicate_lexical_name lexical_name_is_var const_without_initializer catch_parameter_conflict for_name_is_var duplicate_parameter parameter_is_lexical_name use_strict_behind_pattern eval_or_arguments delete_of_identifier misplaced_jump undefined_label duplicate_label super_property_outside_method super_call_outside_constructor new_target_outside_function duplicate_constructor special_constructor static_prototype uncooked_template reg_exp_flags
@@ -50,6 +71,11 @@ small_by_kind z (node MemberExpression w g s e ps) = append-nil _
 small_by_kind z (node CallExpression w g s e ps) = append-nil _
 small_by_kind z (node MetaProperty w g s e ps) = append-nil _
 small_by_kind z (node ClassBody w g s e ps) = append-nil _
+small_by_kind z (node MethodDefinition w g s e ps) =
+    ap (λ x. each SpecialConstructor (when ((is_accessor g.form && not g.is_static) && (not g.computed && has_key ps (λ m. is (key_value m) "constructor"))) (key_places ps)) ++ x) (append-nil _)
+small_by_kind z (node FunctionDeclaration w g s e ps) = function_list FunctionDeclaration ps
+small_by_kind z (node FunctionExpression w g s e ps) = function_list FunctionExpression ps
+small_by_kind z (node ArrowFunctionExpression w g s e ps) = function_list ArrowFunctionExpression ps
 small_by_kind z (node TemplateLiteral w g s e ps) = append-nil _
 small_by_kind z (node Literal w g s e ps) = append-nil _
 small_by_kind z (node _ w g s e ps) = refl

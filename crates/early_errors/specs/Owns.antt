@@ -1,10 +1,11 @@
 -- What the program's own calls say of a node itself: what holds round it, the labels that a table knows, and which of its errors are found
 -- where.
-use Rattle.std.specs.Prelude.{◌≡◌, ℕ, Bool, true, false, not, cond, ◌||◌, ◌&&◌, List, [], ◌∷◌, ◌++◌, map, filter, Option, Some, None, is_some}
+use Rattle.std.specs.Prelude.{◌≡◌, ℕ, zero, suc, Bool, true, false, not, cond, ◌||◌, ◌&&◌, List, [], ◌∷◌, ◌++◌, map, filter, Option, Some, None, is_some}
 use Rattle.std.specs.Str.{bytes_eq}
 use Rattle.tree.specs.declared.kind.Kind.{Kind}
 use Rattle.tree.specs.declared.kind.Kind.TheVariants as kind
 use Rattle.tree.specs.Tree.{Tree, node, Parts, none, part, gap, kind_of, text_of, flags_of, start_of, parts_of, part_at, part_count}
+use Rattle.language.specs.Words.{among, is_identifier}
 use Rattle.early_errors.specs.declared.EarlyError.{EarlyError}
 use Rattle.early_errors.specs.declared.EarlyError.TheVariants as error
 use Rattle.early_errors.specs.declared.around.Around.{Around as Code}
@@ -14,6 +15,8 @@ use Rattle.early_errors.specs.Around as around
 use Rattle.early_errors.specs.Around.{Around}
 use Rattle.early_errors.specs.Names.{Named, places, first_names}
 use Rattle.early_errors.specs.Strict.{eval_or_arguments}
+use Rattle.early_errors.specs.Keys.{key_value}
+use Rattle.early_errors.specs.Literals.{is_uncooked}
 use Rattle.early_errors.specs.Early.{Error, each, own_errors}
 
 -- what holds round a node, with these labels
@@ -80,3 +83,50 @@ makes_scope _ = false
 -- a node's own errors, without those of the scope that it makes
 abbrev pub plain_errors : Around → Tree → List Error
 plain_errors z n = cond (makes_scope (kind_of n)) (each error.EvalOrArguments (eval_or_arguments n)) (own_errors z n)
+
+abbrev pub is_element : Kind → Bool
+is_element kind.TemplateElement = true
+is_element _ = false
+
+abbrev pub uncooked_at : Option Tree → Bool
+uncooked_at None = false
+uncooked_at (Some t) = is_uncooked (kind_of t) (text_of t)
+
+-- a key's value is a word
+abbrev pub key_says : Option Tree → List ℕ → Bool
+key_says None w = false
+key_says (Some t) w = bytes_eq (key_value t) w
+
+abbrev pub places_at : Option Tree → List ℕ
+places_at None = []
+places_at (Some t) = start_of t ∷ []
+
+abbrev pub is_block : Kind → Bool
+is_block kind.BlockStatement = true
+is_block _ = false
+
+-- a part where that is a block
+abbrev pub block_at : Option Tree → Option Tree
+block_at None = None
+block_at (Some t) = cond (is_block (kind_of t)) (Some t) None
+
+abbrev pub items_at : Option Tree → Parts
+items_at None = none
+items_at (Some t) = parts_of t
+
+-- where a function's parameters begin among its parts, and the name before them
+abbrev pub parameter_place : Kind → ℕ
+parameter_place kind.ArrowFunctionExpression = 0
+parameter_place _ = 1
+
+abbrev pub function_name : ℕ → Parts → Option Tree
+function_name zero ps = None
+function_name (suc n) ps = part_at ps 0
+
+abbrev pub is_plain : Option Tree → Bool
+is_plain None = true
+is_plain (Some t) = is_identifier (kind_of t)
+
+abbrev pub says_use_strict : Option Tree → Bool
+says_use_strict None = false
+says_use_strict (Some t) = among (text_of t) ("'use strict'" ∷ "\"use strict\"" ∷ [])

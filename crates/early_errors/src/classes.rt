@@ -1,19 +1,23 @@
 //! `super`, `new.target` and the members of classes.
 
-ghost use Rattle.std.specs.Prelude.{◌≡◌, not, option_map};
+ghost use Rattle.std.specs.Prelude.{◌≡◌, ◌&&◌, not, option_map, IfOk};
+ghost use Rattle.std.specs.Str.{bytes_eq};
 ghost use Rattle.tree.specs.Node.{node_tree};
-ghost use Rattle.tree.specs.Tree.{kind_of, parts_of};
+ghost use Rattle.tree.specs.Tree.{kind_of, parts_of, text_of};
+ghost use Rattle.language.specs.Statements.{is_string_literal};
+ghost use Rattle.early_errors.specs.Keys.{key_value};
 ghost use Rattle.language.specs.Words.{is_super};
 ghost use Rattle.early_errors.specs.Classes.{constructor_places, super_places};
 ghost use Rattle.early_errors.specs.Early.{each, own_errors};
 ghost use Rattle.early_errors.specs.Names.{when};
-ghost use Rattle.early_errors.specs.Owns.{own_of, round};
+ghost use Rattle.early_errors.specs.Owns.{key_says, own_of, places_at, round};
 ghost use Rattle.early_errors.specs.Walk.{after, at_part, listed};
 ghost use Rattle.early_errors.specs.declared.own.Own.{Own};
 
 use crate::EarlyError;
 use crate::around::{Around, is_accessor, is_constructor};
-use crate::found::{Found, with_error, with_error_if};
+use crate::found::{Found, with_error_if};
+use crate::literals::{begins_with_quote, both};
 use std::alloc::{AllocError, Global};
 use tokens::quoted_units;
 use tree::{Kind, Node};
@@ -86,49 +90,49 @@ fn constructor_place(member: Option<Node>) -> Option<usize>
 }
 
 /// A getter or setter `constructor` that isn't static, a static member `prototype` (ECMA-262 14.6.1).
-pub(crate) fn member_errors(
-    alloc: Global,
-    member: Node,
-    found: Found,
-) -> Result<Found, AllocError> {
+pub(crate) fn member_errors(alloc: Global, member: Node, found: Found) -> Result<Found, AllocError>
+    requires { own_of (kind_of (node_tree member)) ≡ Own.Member }
+    ensures { IfOk result (λ r. (z : _) → r ≡ after found (own_errors z (node_tree member.entry))) }
+{
     let flags = member.flags();
-    let Some(key) = member.part(0) else {
-        return Ok(found);
-    };
-    if flags.computed {
-        return Ok(found);
-    }
-    if flags.is_static {
-        return key_error(alloc, key, "prototype", EarlyError::StaticPrototype, found);
-    }
-    if is_accessor(flags.form) {
-        return key_error(
-            alloc,
-            key,
-            "constructor",
-            EarlyError::SpecialConstructor,
-            found,
-        );
-    }
-    Ok(found)
+    let key = member.part(0);
+    let is_special = both(is_accessor(flags.form), !flags.is_static);
+    let special = both(is_special, says(alloc, key, flags.computed, "constructor")?);
+    let found = key_error(key, special, EarlyError::SpecialConstructor, found);
+    let prototype = both(
+        flags.is_static,
+        says(alloc, key, flags.computed, "prototype")?,
+    );
+    Ok(key_error(key, prototype, EarlyError::StaticPrototype, found))
 }
 
-/// The error of a key whose value is a word.
-fn key_error(
-    alloc: Global,
-    key: Node,
-    word: &str,
-    error: EarlyError,
-    found: Found,
-) -> Result<Found, AllocError> {
-    if key_is(alloc, key, word)? {
-        return Ok(with_error(found, error, key.span().start));
+/// The error of a key, where it is one.
+fn key_error(key: Option<Node>, is_one: bool, error: EarlyError, found: Found) -> Found
+    ensures { result ≡ after found (each error (when is_one (places_at (option_map node_tree key.entry)))) }
+{
+    match key {
+        Some(key) => with_error_if(is_one, found, error, key.span().start),
+        None => found,
     }
-    Ok(found)
 }
 
-/// Whether a key's value (ECMA-262 12.2.6.5) is a word of ASCII.
-fn key_is(alloc: Global, key: Node, word: &str) -> Result<bool, AllocError> {
+/// Whether a key that isn't computed has a word as its value.
+fn says(alloc: Global, key: Option<Node>, is_computed: bool, word: &str) -> Result<bool, AllocError>
+    ensures { IfOk result (λ b. b ≡ (not is_computed && key_says (option_map node_tree key.entry) word.now)) }
+{
+    if is_computed {
+        return Ok(false);
+    }
+    match key {
+        Some(key) => key_is(alloc, key, word),
+        None => Ok(false),
+    }
+}
+
+/// Whether a key's value (ECMA-262 12.2.6.5) is a word.
+fn key_is(alloc: Global, key: Node, word: &str) -> Result<bool, AllocError>
+    ensures { IfOk result (λ b. b ≡ bytes_eq (key_value (node_tree key.entry)) word.now) }
+{
     if !is_quoted(key) {
         return Ok(key.text() == word);
     }
@@ -136,28 +140,25 @@ fn key_is(alloc: Global, key: Node, word: &str) -> Result<bool, AllocError> {
     Ok(is_word(units.as_slice(), word.as_bytes()))
 }
 
-/// Whether a node is a literal that begins with a quote.
-fn is_quoted(node: Node) -> bool {
+/// Whether a node is a string.
+fn is_quoted(node: Node) -> bool
+    ensures { result ≡ is_string_literal (kind_of (node_tree node.entry)) (text_of (node_tree node.entry)) }
+{
     match node.kind() {
         Kind::Literal => begins_with_quote(node.text()),
         _ => false,
     }
 }
 
-fn begins_with_quote(text: &str) -> bool {
-    match text.as_bytes().first() {
-        Some(first) => *first == b'\'' || *first == b'"',
-        None => false,
-    }
-}
-
-/// Whether units are those of a word of ASCII.
-fn is_word(units: &[u16], word: &[u8]) -> bool {
+/// Whether units are those of a word.
+fn is_word(units: &[u16], word: &[u8]) -> bool
+    ensures { result ≡ bytes_eq units.now word.now }
+{
     if units.len() != word.len() {
         return false;
     }
-    for (unit, byte) in units.iter().zip(word) {
-        if *unit != *byte as u16 {
+    for index in 0..units.len() {
+        if units[index] != word[index] as u16 {
             return false;
         }
     }

@@ -3,7 +3,7 @@
 ghost use Rattle.std.specs.Prelude.{◌≡◌, [], ◌∷◌};
 ghost use Rattle.early_errors.specs.Early.{each, number};
 ghost use Rattle.early_errors.specs.Names.{when};
-ghost use Rattle.early_errors.specs.Walk.{after, sooner};
+ghost use Rattle.early_errors.specs.Walk.{after, listed, sooner};
 
 use crate::{EarlyError, number_of};
 
@@ -25,6 +25,16 @@ pub(crate) fn with_error_if(is_one: bool, found: Found, error: EarlyError, at: u
         with_error(found, error, at)
     } else {
         found
+    }
+}
+
+/// With one more error, where it has a place.
+pub(crate) fn with_place(found: Found, error: EarlyError, place: Option<usize>) -> Found
+    ensures { result ≡ after found (each error (listed place)) }
+{
+    match place {
+        Some(at) => with_error(found, error, at),
+        None => found,
     }
 }
 

@@ -1,46 +1,88 @@
 //! Parameters of functions.
 
-ghost use Rattle.std.specs.Prelude.{◌≡◌};
-ghost use Rattle.language.specs.Words.{is_identifier};
+ghost use Rattle.std.specs.Prelude.{◌≡◌, [], ◌∷◌, false, not, option_map, IfOk};
+ghost use Rattle.tree.specs.Node.{node_tree};
+ghost use Rattle.tree.specs.Tree.{kind_of, parts_of};
+ghost use Rattle.language.specs.Words.{among, is_identifier};
+ghost use Rattle.early_errors.specs.Early.{each, own_errors};
+ghost use Rattle.early_errors.specs.Functions.{is_simple, use_strict};
+ghost use Rattle.early_errors.specs.Names.{body_items, each_part, lexical_names, places, shared, when};
+ghost use Rattle.early_errors.specs.Owns.{function_name, is_plain, items_at, own_of, parameter_place, says_use_strict};
+ghost use Rattle.early_errors.specs.Walk.{after, all_named, at_part, listed, names_at, parts_drop};
+ghost use Rattle.early_errors.specs.declared.own.Own.{Own};
 
 use crate::EarlyError;
 use crate::clashes::{repeated, restricted, shared};
-use crate::found::{Found, with_error};
-use crate::names::{push_lexical_parts, push_parameters, push_part_names};
+use crate::found::{Found, with_place};
+use crate::names::{Named, push_lexical_parts, push_parameters, push_part_names};
 use crate::scopes::body_of;
 use std::alloc::{AllocError, Global};
 use tree::{Kind, Node};
 
+/// The errors of a function's name, parameters and directives.
+pub(crate) fn function_errors(alloc: Global, node: Node, found: Found) -> Result<Found, AllocError>
+    requires { own_of (kind_of (node_tree node)) ≡ Own.Function }
+    ensures { IfOk result (λ r. (z : _) → r ≡ after found (own_errors z (node_tree node.entry))) }
+{
+    let from = parameter_place(node.kind());
+    let mut names = Vec::new(alloc);
+    push_part_names(function_name(node, from), &mut names)?;
+    let named = restricted(names.as_slice(), found);
+    let mut parameters = Vec::new(alloc);
+    push_parameters(node, from, &mut parameters)?;
+    let bound = restricted(parameters.as_slice(), named);
+    let doubled = repeated(
+        alloc,
+        parameters.as_slice(),
+        EarlyError::DuplicateParameter,
+        bound,
+    )?;
+    let body = body_of_function(node, from);
+    let simple = is_simple(node, from);
+    body_errors(alloc, body, simple, parameters.as_slice(), doubled)
+}
+
 /// The place of a function's first parameter among its parts.
-fn parameter_place(node: Node) -> usize {
-    match node.kind() {
+fn parameter_place(kind: Kind) -> usize
+    ensures { result ≡ parameter_place kind }
+{
+    match kind {
         Kind::ArrowFunctionExpression => 0,
         _ => 1,
     }
 }
 
-/// The errors of a function's name, parameters and directives.
-pub(crate) fn function_errors(
-    alloc: Global,
-    node: Node,
-    found: Found,
-) -> Result<Found, AllocError> {
-    let from = parameter_place(node);
-    let mut names = Vec::new(alloc);
-    if from == 1 {
-        push_part_names(node.part(0), &mut names)?;
+/// The name, where one stands before the parameters.
+fn function_name<'t, 's>(node: Node<'t, 's>, from: usize) -> Option<Node<'t, 's>>
+    ensures { option_map node_tree result ≡ function_name from (parts_of (node_tree node.entry)) }
+{
+    if from == 0 {
+        return None;
     }
-    let found = restricted(names.as_slice(), found);
-    names.clear();
-    push_parameters(node, from, &mut names)?;
-    let found = restricted(names.as_slice(), found);
-    let found = repeated(
-        alloc,
-        names.as_slice(),
-        EarlyError::DuplicateParameter,
-        found,
-    )?;
-    let Some(body) = body_of_function(node, from) else {
+    node.part(0)
+}
+
+/// The body where it is a block.
+fn body_of_function<'t, 's>(node: Node<'t, 's>, from: usize) -> Option<Node<'t, 's>>
+    ensures { items_at (option_map node_tree result) ≡ body_items (parts_drop from (parts_of (node_tree node.entry))) }
+{
+    if node.part_count() <= from {
+        return None;
+    }
+    body_of(node)
+}
+
+/// The errors of a function's body, where it is a block, with the names of the parameters.
+fn body_errors(
+    alloc: Global,
+    body: Option<Node>,
+    simple: bool,
+    parameters: &[Named],
+    found: Found,
+) -> Result<Found, AllocError>
+    ensures { IfOk result (λ r. r ≡ after (after found (each EarlyError.ParameterIsLexicalName (places (shared (each_part (lexical_names false) (items_at (option_map node_tree body.entry))) (all_named parameters.now))))) (each EarlyError.UseStrictBehindPattern (when (not simple) (each_part use_strict (items_at (option_map node_tree body.entry)))))) }
+{
+    let Some(body) = body else {
         return Ok(found);
     };
     let mut lexical = Vec::new(alloc);
@@ -48,38 +90,40 @@ pub(crate) fn function_errors(
     let found = shared(
         alloc,
         lexical.as_slice(),
-        names.as_slice(),
+        parameters,
         EarlyError::ParameterIsLexicalName,
         found,
     )?;
-    if is_simple(node, from) {
+    if simple {
         return Ok(found);
     }
     Ok(use_strict(body, found))
 }
 
-/// The body where it is a block.
-fn body_of_function<'t, 's>(node: Node<'t, 's>, from: usize) -> Option<Node<'t, 's>> {
-    if node.part_count() <= from {
-        return None;
-    }
-    body_of(node)
-}
-
 /// Whether all parameters are names without more (ECMA-262 14.1.13).
-fn is_simple(node: Node, from: usize) -> bool {
+fn is_simple(node: Node, from: usize) -> bool
+    ensures { result ≡ is_simple (parts_drop from (parts_of (node_tree node.entry))) }
+{
     let count = node.part_count();
     if count == 0 {
         return true;
     }
     for index in from..count - 1 {
-        if let Some(parameter) = node.part(index) {
-            if !is_identifier(parameter.kind()) {
-                return false;
-            }
+        if !is_plain(node.part(index)) {
+            return false;
         }
     }
     true
+}
+
+/// Whether a parameter, where it is there, is a name.
+fn is_plain(parameter: Option<Node>) -> bool
+    ensures { result ≡ is_plain (option_map node_tree parameter.entry) }
+{
+    match parameter {
+        Some(parameter) => is_identifier(parameter.kind()),
+        None => true,
+    }
 }
 
 pub(crate) fn is_identifier(kind: Kind) -> bool
@@ -92,26 +136,45 @@ pub(crate) fn is_identifier(kind: Kind) -> bool
 }
 
 /// The directives `use strict` of a body.
-fn use_strict(body: Node, found: Found) -> Found {
+fn use_strict(body: Node, found: Found) -> Found
+    ensures { result ≡ after found (each EarlyError.UseStrictBehindPattern (each_part use_strict (parts_of (node_tree body.entry)))) }
+{
     let mut found = found;
     for index in 0..body.part_count() {
-        if let Some(item) = body.part(index) {
-            if is_use_strict(item) {
-                found = with_error(found, EarlyError::UseStrictBehindPattern, item.span().start);
-            }
-        }
+        let place = directive_place(body.part(index));
+        found = with_place(found, EarlyError::UseStrictBehindPattern, place);
     }
     found
 }
 
-/// Whether an item is the directive, spelled so without escapes (ECMA-262 14.1.1).
-fn is_use_strict(item: Node) -> bool {
-    if !item.flags().directive {
-        return false;
-    }
-    let Some(literal) = item.part(0) else {
-        return false;
+/// The place of an item that is the directive, spelled so without escapes (ECMA-262 14.1.1).
+fn directive_place(item: Option<Node>) -> Option<usize>
+    ensures { listed result ≡ at_part use_strict (option_map node_tree item.entry) }
+{
+    let Some(item) = item else {
+        return None;
     };
-    let text = literal.text();
+    if !item.flags().directive {
+        return None;
+    }
+    if says_use_strict(item.part(0)) {
+        Some(item.span().start)
+    } else {
+        None
+    }
+}
+
+fn says_use_strict(literal: Option<Node>) -> bool
+    ensures { result ≡ says_use_strict (option_map node_tree literal.entry) }
+{
+    match literal {
+        Some(literal) => is_use_strict(literal.text()),
+        None => false,
+    }
+}
+
+fn is_use_strict(text: &str) -> bool
+    ensures { result ≡ among text.now ("'use strict'" ∷ "\"use strict\"" ∷ []) }
+{
     text == "'use strict'" || text == "\"use strict\""
 }

@@ -1,8 +1,18 @@
 //! Templates and regular expressions.
 
+ghost use Rattle.std.specs.Prelude.{◌≡◌, ◌≤◌, ◌&&◌, [], drop, length, codes, option_map, slice_index_or, IfOk};
+ghost use Rattle.tree.specs.Node.{node_tree};
+ghost use Rattle.tree.specs.Tree.{kind_of, parts_of};
+ghost use Rattle.language.specs.Words.{is_string, literal_class};
+ghost use Rattle.early_errors.specs.Early.{own_errors};
+ghost use Rattle.early_errors.specs.Literals.{are_flags, flags_part, good_flags, holds, is_reg_exp, some_uncooked};
+ghost use Rattle.early_errors.specs.Owns.{is_element, own_of, round, uncooked_at};
+ghost use Rattle.early_errors.specs.Walk.{after};
+ghost use Rattle.early_errors.specs.declared.own.Own.{Own};
+
 use crate::EarlyError;
 use crate::around::Around;
-use crate::found::{Found, with_error};
+use crate::found::{Found, with_error_if};
 use std::alloc::{AllocError, Global};
 use tokens::template_value;
 use tree::{Kind, Node};
@@ -13,79 +23,142 @@ pub(crate) fn template_errors(
     node: Node,
     around: Around,
     found: Found,
-) -> Result<Found, AllocError> {
-    if around.tagged || !some_uncooked(alloc, node)? {
-        return Ok(found);
-    }
-    Ok(with_error(found, EarlyError::UncookedTemplate, node.span().start))
+) -> Result<Found, AllocError>
+    requires { own_of (kind_of (node_tree node)) ≡ Own.Template }
+    ensures { IfOk result (λ r. (ls : _) → r ≡ after found (own_errors (round around ls) (node_tree node.entry))) }
+{
+    let is_uncooked = some_uncooked(alloc, node)?;
+    Ok(with_error_if(
+        both(!around.tagged, is_uncooked),
+        found,
+        EarlyError::UncookedTemplate,
+        node.span().start,
+    ))
 }
 
-fn some_uncooked(alloc: Global, node: Node) -> Result<bool, AllocError> {
+pub(crate) fn both(first: bool, second: bool) -> bool
+    ensures { result ≡ (first && second) }
+{
+    first && second
+}
+
+fn some_uncooked(alloc: Global, node: Node) -> Result<bool, AllocError>
+    ensures { IfOk result (λ b. b ≡ some_uncooked (parts_of (node_tree node.entry))) }
+{
     for index in 0..node.part_count() {
-        if let Some(part) = node.part(index) {
-            if is_uncooked(alloc, part)? {
-                return Ok(true);
-            }
+        if is_uncooked(alloc, node.part(index))? {
+            return Ok(true);
         }
     }
     Ok(false)
 }
 
-fn is_uncooked(alloc: Global, part: Node) -> Result<bool, AllocError> {
-    match part.kind() {
-        Kind::TemplateElement => {
-            let (_, cooked) = template_value(alloc, part.text())?;
-            Ok(cooked.is_none())
-        }
-        _ => Ok(false),
+fn is_uncooked(alloc: Global, part: Option<Node>) -> Result<bool, AllocError>
+    ensures { IfOk result (λ b. b ≡ uncooked_at (option_map node_tree part.entry)) }
+{
+    let Some(part) = part else {
+        return Ok(false);
+    };
+    if !is_element(part.kind()) {
+        return Ok(false);
+    }
+    let (_, cooked) = template_value(alloc, part.text())?;
+    Ok(cooked.is_none())
+}
+
+fn is_element(kind: Kind) -> bool
+    ensures { result ≡ is_element kind }
+{
+    match kind {
+        Kind::TemplateElement => true,
+        _ => false,
     }
 }
 
 /// Flags of a regular expression that aren't known, or stand twice (ECMA-262 12.2.8.1).
-pub(crate) fn literal_errors(node: Node, found: Found) -> Found {
-    if has_good_flags(node.text()) {
-        return found;
-    }
-    with_error(found, EarlyError::RegExpFlags, node.span().start)
+pub(crate) fn literal_errors(node: Node, found: Found) -> Found
+    requires { own_of (kind_of (node_tree node)) ≡ Own.Literal }
+    ensures { (z : _) → result ≡ after found (own_errors z (node_tree node.entry)) }
+{
+    with_error_if(
+        !has_good_flags(node.text()),
+        found,
+        EarlyError::RegExpFlags,
+        node.span().start,
+    )
 }
 
 /// Whether a literal is no regular expression, or one whose flags are each one of `g i m s u y` and stand once.
-fn has_good_flags(text: &str) -> bool {
+fn has_good_flags(text: &str) -> bool
+    ensures { result ≡ good_flags text.now }
+{
+    if !begins_with_slash(text) {
+        return true;
+    }
     let bytes = text.as_bytes();
-    match bytes.first() {
-        Some(first) => *first != b'/' || are_flags(bytes),
-        None => true,
+    are_flags(&bytes[flags_start(bytes)..])
+}
+
+/// The first byte of a text, 0 where there is none.
+fn first_byte(text: &str) -> u8
+    ensures { result ≡ slice_index_or text.now 0 0 }
+{
+    match text.as_bytes().first() {
+        Some(first) => *first,
+        None => 0,
     }
 }
 
-/// Whether what stands behind the last `/` are flags, none of them twice.
-fn are_flags(bytes: &[u8]) -> bool {
-    let mut at = bytes.len();
-    let mut seen = 0u8;
-    while at > 0 {
-        at -= 1;
-        let byte = bytes[at];
-        if byte == b'/' {
-            return true;
+/// Whether a literal's text is that of a string.
+pub(crate) fn begins_with_quote(text: &str) -> bool
+    ensures { result ≡ is_string (literal_class text.now) }
+{
+    let first = first_byte(text);
+    first == b'"' || first == b'\''
+}
+
+/// Whether a literal's text is that of a regular expression.
+fn begins_with_slash(text: &str) -> bool
+    ensures { result ≡ is_reg_exp (literal_class text.now) }
+{
+    first_byte(text) == b'/'
+}
+
+/// The place behind the last `/`, the end where there is none.
+fn flags_start(bytes: &[u8]) -> usize
+    ensures flags { drop result bytes.now ≡ flags_part [] bytes.now }
+    ensures within { result ≤ length bytes.now }
+{
+    let mut start = bytes.len();
+    for index in 0..bytes.len() {
+        if bytes[index] == b'/' {
+            start = index + 1;
         }
-        let flag = flag_bit(byte);
-        if flag == 0 || seen & flag != 0 {
+    }
+    start
+}
+
+/// Whether each byte is a flag, and none stands twice.
+fn are_flags(flags: &[u8]) -> bool
+    ensures { result ≡ are_flags flags.now }
+{
+    for index in 0..flags.len() {
+        let flag = flags[index];
+        if !is_flag(flag) || holds(&flags[index + 1..], flag) {
             return false;
         }
-        seen |= flag;
     }
     true
 }
 
-/// A bit for each flag.
-fn flag_bit(byte: u8) -> u8 {
-    match byte {
-        b'g' => 1,
-        b'i' => 2,
-        b'm' => 4,
-        b's' => 8,
-        b'u' => 16,
-        b'y' => 32,
-        _ => 0,
-    }
+fn is_flag(byte: u8) -> bool
+    ensures { result ≡ holds (codes "gimsuy") byte }
+{
+    byte == b'g' || byte == b'i' || byte == b'm' || byte == b's' || byte == b'u' || byte == b'y'
+}
+
+fn holds(bytes: &[u8], byte: u8) -> bool
+    ensures { result ≡ holds bytes.now byte }
+{
+    bytes.contains(&byte)
 }

@@ -1,5 +1,10 @@
 //! Names that clash: of a Program, a body, a block or a switch; of a catch clause; of a `for` head.
 
+ghost use Rattle.std.specs.Prelude.{◌≡◌, ◌-◌, option_map};
+ghost use Rattle.tree.specs.Node.{node_tree};
+ghost use Rattle.tree.specs.Tree.{part_at, part_count, parts_of};
+ghost use Rattle.early_errors.specs.Owns.{block_at, is_block};
+
 use crate::EarlyError;
 use crate::around::Around;
 use crate::clashes::{repeated, shared};
@@ -73,11 +78,25 @@ fn push_cases<'t>(node: Node<'t, '_>, names: &mut Vec<Named<'t>>) -> Result<(), 
 }
 
 /// The last part where that is a block.
-pub(crate) fn body_of<'t, 's>(node: Node<'t, 's>) -> Option<Node<'t, 's>> {
-    let body = last_part(node)?;
-    match body.kind() {
-        Kind::BlockStatement => Some(body),
-        _ => None,
+pub(crate) fn body_of<'t, 's>(node: Node<'t, 's>) -> Option<Node<'t, 's>>
+    ensures { option_map node_tree result ≡ block_at (part_at (parts_of (node_tree node.entry)) (part_count (parts_of (node_tree node.entry)) - 1)) }
+{
+    let Some(body) = last_part(node) else {
+        return None;
+    };
+    if is_block(body.kind()) {
+        Some(body)
+    } else {
+        None
+    }
+}
+
+fn is_block(kind: Kind) -> bool
+    ensures { result ≡ is_block kind }
+{
+    match kind {
+        Kind::BlockStatement => true,
+        _ => false,
     }
 }
 

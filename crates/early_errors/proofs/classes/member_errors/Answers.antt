@@ -1,0 +1,11 @@
+use Rattle.std.proofs.Common.{Bool, not, sym, ap, ◌∙◌, refl}
+use Rattle.std.specs.Prelude.{◌&&◌}
+use Rattle.tree.specs.Node.{node_tree}
+use Rattle.tree.specs.Tree.{parts_of, flags_of}
+use Rattle.early_errors.proofs.Founds.{members}
+use Rattle.early_errors.proofs.classes.member_errors.Goals as goal
+
+pub returns : goal.returns
+returns c = λ z.
+    members z (node_tree c.args.member) c.flags-flags.result _ c.is_accessor.result c.both-is_special.result c.in_ok-says.field-0 c.both-special.result c.in_ok-says-2.field-0 c.both-prototype.result c.args.found c.key_error-found.result c.key_error.result
+    c.requires c.flags-flags.ensures c.part-key.ensures c.is_accessor.ensures c.both-is_special.ensures c.in_ok-says.ensures c.both-special.ensures c.key_error-found.ensures c.in_ok-says-2.ensures c.both-prototype.ensures c.key_error.ensures
