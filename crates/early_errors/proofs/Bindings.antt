@@ -9,7 +9,8 @@ use Rattle.early_errors.specs.declared.names.Lexical.{Lexical}
 use Rattle.early_errors.specs.declared.names.Lexical.TheVariants as lexical
 use Rattle.language.specs.Words.{is}
 use Rattle.early_errors.specs.Names as names
-use Rattle.early_errors.specs.Names.{each_part, names_in, all_names, first_names, last_names, declared_names, lexical_names}
+use Rattle.early_errors.specs.Names.{each_part, names_in, all_names, first_names, last_names, declared_names, lexical_names, function_names}
+use Rattle.early_errors.specs.Owns.{declares_function}
 use Rattle.early_errors.specs.Walk.{names_at, binding_of, lexical_of}
 use Rattle.early_errors.proofs.Dropping.{all_names-each, first_names-at, last_names-at}
 
@@ -51,3 +52,10 @@ lexical_by_kind b (node _ w g s e ps) = refl
 
 pub lexical_given : (b : Bool) (t : Tree) (l : Lexical) → l ≡ lexical_of b t → lexical_names b t ≡ declared_as l t
 lexical_given b t l e = lexical_by_kind b t ∙ ap (λ x. declared_as x t) (sym e)
+
+pub function_given : (t : Tree) (k : Kind) (b : Bool) → k ≡ kind_of t → b ≡ declares_function k → b ≡ true → names_at (part_at (parts_of t) 0) ≡ function_names t
+function_given t k b e f h = given t (ap declares_function (sym e) ∙ sym f ∙ h)
+  where
+    given : (t : Tree) → declares_function (kind_of t) ≡ true → names_at (part_at (parts_of t) 0) ≡ function_names t
+    given (node FunctionDeclaration w g s e ps) h = sym (first_names-at ps)
+    given (node _ w g s e ps) h = absurd (cc)

@@ -23,3 +23,4 @@ pub mod Points
 pub mod Literally
 pub mod Keyed
 pub mod Listing
+pub mod FunctionErrors

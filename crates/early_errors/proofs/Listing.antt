@@ -126,3 +126,8 @@ pub directive : (t : Tree) → use_strict t ≡ when ((flags_of t).directive && 
 directive (node k w g s e none) = refl
 directive (node k w g s e (part t ps)) = refl
 directive (node k w g s e (gap ps)) = refl
+
+pub body-whole : (ps : Parts) (o : Option Tree) → o ≡ block_at (part_at ps (part_count ps - 1)) → items_at o ≡ body_items ps
+body-whole none o e = ap items_at e
+body-whole (part t ps) o e = body-at (part t ps) 0 o (omega arith) e
+body-whole (gap ps) o e = body-at (gap ps) 0 o (omega arith) e

@@ -1,6 +1,6 @@
 -- What the program's own calls say of a node itself: what holds round it, the labels that a table knows, and which of its errors are found
 -- where.
-use Rattle.std.specs.Prelude.{◌≡◌, ℕ, zero, suc, Bool, true, false, not, cond, ◌||◌, ◌&&◌, List, [], ◌∷◌, ◌++◌, map, filter, Option, Some, None, is_some}
+use Rattle.std.specs.Prelude.{◌≡◌, ℕ, zero, suc, Bool, true, false, not, cond, ◌||◌, ◌&&◌, List, [], ◌∷◌, ◌++◌, ◌-◌, map, filter, Option, Some, None, is_some}
 use Rattle.std.specs.Str.{bytes_eq}
 use Rattle.tree.specs.declared.kind.Kind.{Kind}
 use Rattle.tree.specs.declared.kind.Kind.TheVariants as kind
@@ -13,7 +13,11 @@ use Rattle.early_errors.specs.declared.own.Own.{Own}
 use Rattle.early_errors.specs.declared.own.Own.TheVariants.{Variables, Function, FirstNames, Break, Continue, Label, Delete, SuperProperty, SuperCall, Target, Constructors, Member, Template, Literal, Nothing}
 use Rattle.early_errors.specs.Around as around
 use Rattle.early_errors.specs.Around.{Around}
-use Rattle.early_errors.specs.Names.{Named, places, first_names}
+use Rattle.language.specs.FirstPart.{others}
+use Rattle.early_errors.specs.Names.{Named, places, each_part, twice, shared, names_in, lexical_names, function_names, body_items}
+use Rattle.early_errors.specs.Walk.{at_part, names_at, parts_drop}
+use Rattle.early_errors.specs.declared.scopes.ScopeKind.{ScopeKind}
+use Rattle.early_errors.specs.declared.scopes.ScopeKind.TheVariants as scope
 use Rattle.early_errors.specs.Strict.{eval_or_arguments}
 use Rattle.early_errors.specs.Keys.{key_value}
 use Rattle.early_errors.specs.Literals.{is_uncooked}
@@ -130,3 +134,66 @@ is_plain (Some t) = is_identifier (kind_of t)
 abbrev pub says_use_strict : Option Tree → Bool
 says_use_strict None = false
 says_use_strict (Some t) = among (text_of t) ("'use strict'" ∷ "\"use strict\"" ∷ [])
+
+-- ---- scopes
+
+abbrev pub scope_kind : Kind → ScopeKind
+scope_kind kind.Program = scope.Program
+scope_kind kind.BlockStatement = scope.Block
+scope_kind kind.SwitchStatement = scope.Switch
+scope_kind kind.CatchClause = scope.Catch
+scope_kind kind.ForStatement = scope.For
+scope_kind kind.ForInStatement = scope.ForEach
+scope_kind kind.ForOfStatement = scope.ForEach
+scope_kind _ = scope.Nothing
+
+-- the lexical names of a switch's case
+abbrev pub case_names : Tree → List Named
+case_names c = each_part (lexical_names true) (others (parts_of c))
+
+-- the names that clash with `var`s inside; the flag says whether the node is a function's body
+abbrev pub names_of_scope : ScopeKind → Bool → Parts → List Named
+names_of_scope scope.Program b ps = each_part (lexical_names false) ps
+names_of_scope scope.Block b ps = each_part (lexical_names (not b)) ps
+names_of_scope scope.Switch b ps = each_part case_names (parts_drop 1 ps)
+names_of_scope scope.Catch b ps = names_at (part_at ps 0)
+names_of_scope scope.For b ps = at_part (lexical_names false) (part_at ps 0)
+names_of_scope scope.ForEach b ps = at_part (lexical_names false) (part_at ps 0)
+names_of_scope scope.Nothing b ps = []
+
+-- the error of a name that clashes so
+abbrev pub scope_error : ScopeKind → EarlyError
+scope_error scope.Catch = error.CatchParameterConflict
+scope_error scope.For = error.ForNameIsVar
+scope_error scope.ForEach = error.ForNameIsVar
+scope_error _ = error.LexicalNameIsVar
+
+abbrev pub body_place : Parts → ℕ
+body_place ps = cond (is_some (block_at (part_at ps (part_count ps - 1)))) (part_count ps - 1) (part_count ps)
+
+-- the part from which on a `var` clashes
+abbrev pub place_of_scope : ScopeKind → Parts → ℕ
+place_of_scope scope.Switch ps = 1
+place_of_scope scope.Catch ps = body_place ps
+place_of_scope scope.For ps = 3
+place_of_scope scope.ForEach ps = 2
+place_of_scope _ ps = 0
+
+abbrev pub declares_function : Kind → Bool
+declares_function kind.FunctionDeclaration = true
+declares_function _ = false
+
+abbrev pub doubled : EarlyError → List Named → List Error
+doubled e ns = each e (places (twice ns))
+
+abbrev pub clash_with : EarlyError → List Named → List Named → List Error
+clash_with e ns vs = each e (places (shared ns vs))
+
+-- the errors of these names that aren't about `var`s inside
+abbrev pub found_of_scope : ScopeKind → Bool → Parts → List Named → List Error
+found_of_scope scope.Program b ps ns = doubled error.DuplicateLexicalName ns ++ clash_with error.LexicalNameIsVar ns (each_part function_names ps)
+found_of_scope scope.Block true ps ns = doubled error.DuplicateLexicalName ns ++ clash_with error.LexicalNameIsVar ns (each_part function_names ps)
+found_of_scope scope.Block false ps ns = doubled error.DuplicateLexicalName ns
+found_of_scope scope.Switch b ps ns = doubled error.DuplicateLexicalName ns
+found_of_scope scope.Catch b ps ns = doubled error.CatchParameterConflict ns ++ clash_with error.CatchParameterConflict ns (each_part (lexical_names true) (body_items ps))
+found_of_scope _ b ps ns = []

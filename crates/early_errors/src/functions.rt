@@ -30,16 +30,12 @@ pub(crate) fn function_errors(alloc: Global, node: Node, found: Found) -> Result
     let named = restricted(names.as_slice(), found);
     let mut parameters = Vec::new(alloc);
     push_parameters(node, from, &mut parameters)?;
-    let bound = restricted(parameters.as_slice(), named);
-    let doubled = repeated(
-        alloc,
-        parameters.as_slice(),
-        EarlyError::DuplicateParameter,
-        bound,
-    )?;
+    let bound = parameters.as_slice();
+    let found = restricted(bound, named);
+    let found = repeated(alloc, bound, EarlyError::DuplicateParameter, found)?;
     let body = body_of_function(node, from);
     let simple = is_simple(node, from);
-    body_errors(alloc, body, simple, parameters.as_slice(), doubled)
+    body_errors(alloc, body, simple, bound, found)
 }
 
 /// The place of a function's first parameter among its parts.

@@ -11,16 +11,16 @@ ghost use Rattle.early_errors.specs.Walk.{after};
 
 use crate::EarlyError;
 use crate::around::Around;
-use crate::clashes::{hits, reported, restricted};
+use crate::clashes::{hits, repeated, reported, restricted};
 use crate::classes::{constructor_errors, member_errors, super_errors, target_errors};
 use crate::found::{Found, with_error_if};
 use crate::functions::{function_errors, is_identifier};
 use crate::labels::{break_errors, continue_errors};
 use crate::literals::{literal_errors, template_errors};
-use crate::names::{push_declared, push_part_names};
-use crate::scopes::declaration_errors;
+use crate::names::{Named, push_declared, push_part_names};
+use crate::scopes::without_initializer;
 use crate::walk::Walk;
-use std::alloc::AllocError;
+use std::alloc::{AllocError, Global};
 use tree::{Kind, Node};
 
 /// Which errors a node itself can have.
@@ -136,12 +136,28 @@ fn variable_errors<'t>(
     walk.names.clear();
     push_declared(node, &mut walk.names)?;
     let names = walk.names.as_slice();
-    let mut found = restricted(names, walk.found);
-    if node.text() == "var" {
-        found = hits(&walk.vars, names, found);
-    }
-    walk.found = declaration_errors(walk.alloc, node, around, names, found)?;
+    let found = restricted(names, walk.found);
+    walk.found = if node.text() == "var" {
+        hits(&walk.vars, names, found)
+    } else {
+        lexical_errors(walk.alloc, node, around.in_head, names, found)?
+    };
     Ok(())
+}
+
+/// The errors of a `let` or `const` of these names.
+fn lexical_errors(
+    alloc: Global,
+    node: Node,
+    in_head: bool,
+    names: &[Named],
+    found: Found,
+) -> Result<Found, AllocError> {
+    let found = repeated(alloc, names, EarlyError::DuplicateLexicalName, found)?;
+    if node.text() == "const" && !in_head {
+        return Ok(without_initializer(node, found));
+    }
+    Ok(found)
 }
 
 /// The names of a node's first part: those that it binds or assigns, or labels.

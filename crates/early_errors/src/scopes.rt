@@ -1,19 +1,32 @@
 //! Names that clash: of a Program, a body, a block or a switch; of a catch clause; of a `for` head.
 
-ghost use Rattle.std.specs.Prelude.{◌≡◌, ◌-◌, option_map};
+ghost use Rattle.std.specs.Prelude.{◌≡◌, ◌-◌, ◌++◌, true, option_map, IfOk, OnOk};
 ghost use Rattle.tree.specs.Node.{node_tree};
-ghost use Rattle.tree.specs.Tree.{part_at, part_count, parts_of};
-ghost use Rattle.early_errors.specs.Owns.{block_at, is_block};
+ghost use Rattle.tree.specs.Tree.{kind_of, part_at, part_count, parts_of, text_of};
+ghost use Rattle.early_errors.specs.Early.{each};
+ghost use Rattle.early_errors.specs.Names.{body_items, each_part, function_names, lexical_names, places, shared, twice};
+ghost use Rattle.early_errors.specs.Owns.{block_at, body_place, case_names, found_of_scope, is_block, items_at, names_of_scope, place_of_scope, declares_function, scope_error, scope_kind};
+ghost use Rattle.early_errors.specs.Scopes.{without_initializer};
+ghost use Rattle.early_errors.specs.Walk.{after, all_named, at_part, listed, parts_drop};
 
 use crate::EarlyError;
-use crate::around::Around;
 use crate::clashes::{repeated, shared};
-use crate::found::{Found, with_error};
-use crate::names::{
-    Named, last_part, push_declared, push_lexical, push_lexical_parts, push_part_names,
-};
+use crate::found::{Found, with_place};
+use crate::names::{Named, last_part, push_lexical_part, push_lexical_parts, push_part_names};
 use std::alloc::{AllocError, Global};
 use tree::{Kind, Node};
+
+/// What makes a scope.
+#[derive(Clone, Copy)]
+pub(crate) enum ScopeKind {
+    Program,
+    Block,
+    Switch,
+    Catch,
+    For,
+    ForEach,
+    Nothing,
+}
 
 /// Names that clash with each `var` of the same name in a node's parts from a place on: the error, which stands at
 /// the name.
@@ -24,57 +37,96 @@ pub(crate) struct Scope<'t> {
     pub(crate) names: Vec<Named<'t>>,
 }
 
-/// The scope that a node makes. A node that makes none has one without names.
-pub(crate) fn scope_of<'t>(
-    alloc: Global,
-    node: Node<'t, '_>,
-    around: Around,
-) -> Result<Scope<'t>, AllocError> {
-    let mut names = Vec::new(alloc);
-    let (from, error) = match node.kind() {
-        Kind::Program => {
-            push_lexical_parts(false, node, 0, &mut names)?;
-            (0, EarlyError::LexicalNameIsVar)
-        }
-        Kind::BlockStatement => {
-            push_lexical_parts(!around.is_body, node, 0, &mut names)?;
-            (0, EarlyError::LexicalNameIsVar)
-        }
-        Kind::SwitchStatement => {
-            push_cases(node, &mut names)?;
-            (1, EarlyError::LexicalNameIsVar)
-        }
-        Kind::CatchClause => {
-            push_part_names(node.part(0), &mut names)?;
-            (body_place(node), EarlyError::CatchParameterConflict)
-        }
-        Kind::ForStatement => {
-            push_head(node, &mut names)?;
-            (3, EarlyError::ForNameIsVar)
-        }
-        Kind::ForInStatement | Kind::ForOfStatement => {
-            push_head(node, &mut names)?;
-            (2, EarlyError::ForNameIsVar)
-        }
-        _ => (0, EarlyError::LexicalNameIsVar),
-    };
-    Ok(Scope { from, error, names })
+pub(crate) fn scope_kind(kind: Kind) -> ScopeKind
+    ensures { result ≡ scope_kind kind }
+{
+    match kind {
+        Kind::Program => ScopeKind::Program,
+        Kind::BlockStatement => ScopeKind::Block,
+        Kind::SwitchStatement => ScopeKind::Switch,
+        Kind::CatchClause => ScopeKind::Catch,
+        Kind::ForStatement => ScopeKind::For,
+        Kind::ForInStatement | Kind::ForOfStatement => ScopeKind::ForEach,
+        _ => ScopeKind::Nothing,
+    }
 }
 
-fn push_head<'t>(node: Node<'t, '_>, names: &mut Vec<Named<'t>>) -> Result<(), AllocError> {
-    match node.part(0) {
-        Some(head) => push_lexical(false, head, names),
+/// The scope that a node makes.
+pub(crate) fn scope_of<'t>(
+    alloc: Global,
+    kind: ScopeKind,
+    node: Node<'t, '_>,
+    is_body: bool,
+) -> Result<Scope<'t>, AllocError>
+    ensures names { IfOk result (λ s. all_named s.names.items ≡ names_of_scope kind is_body (parts_of (node_tree node.entry))) }
+    ensures place { IfOk result (λ s. s.from ≡ place_of_scope kind (parts_of (node_tree node.entry))) }
+    ensures error { IfOk result (λ s. s.error ≡ scope_error kind) }
+{
+    let mut names = Vec::new(alloc);
+    push_scope(kind, node, is_body, &mut names)?;
+    Ok(Scope {
+        from: place_of_scope(kind, node),
+        error: scope_error(kind),
+        names,
+    })
+}
+
+fn push_scope<'t>(
+    kind: ScopeKind,
+    node: Node<'t, '_>,
+    is_body: bool,
+    names: &mut Vec<Named<'t>>,
+) -> Result<(), AllocError>
+    ensures { OnOk result (all_named names.new.items ≡ all_named names.old.items ++ names_of_scope kind is_body (parts_of (node_tree node.entry))) }
+{
+    match kind {
+        ScopeKind::Program => push_lexical_parts(false, node, 0, names),
+        ScopeKind::Block => push_lexical_parts(!is_body, node, 0, names),
+        ScopeKind::Switch => push_cases(node, names),
+        ScopeKind::Catch => push_part_names(node.part(0), names),
+        ScopeKind::For | ScopeKind::ForEach => push_lexical_part(false, node.part(0), names),
+        ScopeKind::Nothing => Ok(()),
+    }
+}
+
+fn push_cases<'t>(node: Node<'t, '_>, names: &mut Vec<Named<'t>>) -> Result<(), AllocError>
+    ensures { OnOk result (all_named names.new.items ≡ all_named names.old.items ++ each_part case_names (parts_drop 1 (parts_of (node_tree node.entry)))) }
+{
+    for index in 1..node.part_count() {
+        push_case(node.part(index), names)?;
+    }
+    Ok(())
+}
+
+fn push_case<'t>(case: Option<Node<'t, '_>>, names: &mut Vec<Named<'t>>) -> Result<(), AllocError>
+    ensures { OnOk result (all_named names.new.items ≡ all_named names.old.items ++ at_part case_names (option_map node_tree case.entry)) }
+{
+    match case {
+        Some(case) => push_lexical_parts(true, case, 1, names),
         None => Ok(()),
     }
 }
 
-fn push_cases<'t>(node: Node<'t, '_>, names: &mut Vec<Named<'t>>) -> Result<(), AllocError> {
-    for index in 1..node.part_count() {
-        if let Some(case) = node.part(index) {
-            push_lexical_parts(true, case, 1, names)?;
-        }
+fn scope_error(kind: ScopeKind) -> EarlyError
+    ensures { result ≡ scope_error kind }
+{
+    match kind {
+        ScopeKind::Catch => EarlyError::CatchParameterConflict,
+        ScopeKind::For | ScopeKind::ForEach => EarlyError::ForNameIsVar,
+        _ => EarlyError::LexicalNameIsVar,
     }
-    Ok(())
+}
+
+fn place_of_scope(kind: ScopeKind, node: Node) -> usize
+    ensures { result ≡ place_of_scope kind (parts_of (node_tree node.entry)) }
+{
+    match kind {
+        ScopeKind::Switch => 1,
+        ScopeKind::Catch => body_place(node),
+        ScopeKind::For => 3,
+        ScopeKind::ForEach => 2,
+        _ => 0,
+    }
 }
 
 /// The last part where that is a block.
@@ -101,49 +153,53 @@ fn is_block(kind: Kind) -> bool
 }
 
 /// The place of the last part where that is a block, else a place behind all parts.
-fn body_place(node: Node) -> usize {
-    match body_of(node) {
-        Some(_) => node.part_count() - 1,
-        None => node.part_count(),
+fn body_place(node: Node) -> usize
+    ensures { result ≡ body_place (parts_of (node_tree node.entry)) }
+{
+    let count = node.part_count();
+    if body_of(node).is_some() && count > 0 {
+        count - 1
+    } else {
+        count
     }
 }
 
-/// Names of a scope that stand twice, or clash with names of the scope other than those of `var`s inside.
+/// Names of a scope, given, that stand twice, or clash with names of the scope other than those of `var`s inside.
 pub(crate) fn scope_errors(
     alloc: Global,
+    kind: ScopeKind,
     node: Node,
-    around: Around,
+    is_body: bool,
     names: &[Named],
     found: Found,
-) -> Result<Found, AllocError> {
-    if names.is_empty() {
-        return Ok(found);
-    }
-    match node.kind() {
-        Kind::Program => top_errors(alloc, node, names, found),
-        Kind::BlockStatement if around.is_body => top_errors(alloc, node, names, found),
-        Kind::BlockStatement | Kind::SwitchStatement => {
-            repeated(alloc, names, EarlyError::DuplicateLexicalName, found)
+) -> Result<Found, AllocError>
+    ensures { IfOk result (λ r. r ≡ after found (found_of_scope kind is_body (parts_of (node_tree node.entry)) (all_named names.now))) }
+{
+    match kind {
+        ScopeKind::Program => top_errors(alloc, node, names, found),
+        ScopeKind::Block => {
+            if is_body {
+                top_errors(alloc, node, names, found)
+            } else {
+                repeated(alloc, names, EarlyError::DuplicateLexicalName, found)
+            }
         }
-        Kind::CatchClause => catch_errors(alloc, node, names, found),
+        ScopeKind::Switch => repeated(alloc, names, EarlyError::DuplicateLexicalName, found),
+        ScopeKind::Catch => catch_errors(alloc, node, names, found),
         _ => Ok(found),
     }
 }
 
 /// At the top of a Program or body: functions are var names there.
-fn top_errors(
-    alloc: Global,
-    node: Node,
-    names: &[Named],
-    found: Found,
-) -> Result<Found, AllocError> {
+fn top_errors(alloc: Global, node: Node, names: &[Named], found: Found) -> Result<Found, AllocError>
+    ensures { IfOk result (λ r. r ≡ after (after found (each EarlyError.DuplicateLexicalName (places (twice (all_named names.now))))) (each EarlyError.LexicalNameIsVar (places (shared (all_named names.now) (each_part function_names (parts_of (node_tree node.entry))))))) }
+{
+    if names.is_empty() {
+        return Ok(found);
+    }
     let found = repeated(alloc, names, EarlyError::DuplicateLexicalName, found)?;
     let mut functions = Vec::new(alloc);
-    for index in 0..node.part_count() {
-        if let Some(item) = node.part(index) {
-            push_function(item, &mut functions)?;
-        }
-    }
+    push_functions(node, &mut functions)?;
     shared(
         alloc,
         names,
@@ -153,10 +209,37 @@ fn top_errors(
     )
 }
 
-fn push_function<'t>(item: Node<'t, '_>, names: &mut Vec<Named<'t>>) -> Result<(), AllocError> {
-    match item.kind() {
-        Kind::FunctionDeclaration => push_part_names(item.part(0), names),
-        _ => Ok(()),
+fn push_functions<'t>(node: Node<'t, '_>, names: &mut Vec<Named<'t>>) -> Result<(), AllocError>
+    ensures { OnOk result (all_named names.new.items ≡ all_named names.old.items ++ each_part function_names (parts_of (node_tree node.entry))) }
+{
+    for index in 0..node.part_count() {
+        push_function(node.part(index), names)?;
+    }
+    Ok(())
+}
+
+fn push_function<'t>(
+    item: Option<Node<'t, '_>>,
+    names: &mut Vec<Named<'t>>,
+) -> Result<(), AllocError>
+    ensures { OnOk result (all_named names.new.items ≡ all_named names.old.items ++ at_part function_names (option_map node_tree item.entry)) }
+{
+    let Some(item) = item else {
+        return Ok(());
+    };
+    if is_function(item.kind()) {
+        push_part_names(item.part(0), names)
+    } else {
+        Ok(())
+    }
+}
+
+fn is_function(kind: Kind) -> bool
+    ensures { result ≡ declares_function kind }
+{
+    match kind {
+        Kind::FunctionDeclaration => true,
+        _ => false,
     }
 }
 
@@ -165,48 +248,46 @@ fn catch_errors(
     node: Node,
     names: &[Named],
     found: Found,
-) -> Result<Found, AllocError> {
+) -> Result<Found, AllocError>
+    ensures { IfOk result (λ r. r ≡ after (after found (each EarlyError.CatchParameterConflict (places (twice (all_named names.now))))) (each EarlyError.CatchParameterConflict (places (shared (all_named names.now) (each_part (lexical_names true) (body_items (parts_of (node_tree node.entry)))))))) }
+{
     let error = EarlyError::CatchParameterConflict;
     let found = repeated(alloc, names, error, found)?;
-    let Some(body) = body_of(node) else {
-        return Ok(found);
-    };
     let mut lexical = Vec::new(alloc);
-    push_lexical_parts(true, body, 0, &mut lexical)?;
+    push_body(body_of(node), &mut lexical)?;
     shared(alloc, names, lexical.as_slice(), error, found)
 }
 
-/// The declarators of a `const` without initializer.
-pub(crate) fn without_initializer(node: Node, found: Found) -> Found {
+fn push_body<'t>(body: Option<Node<'t, '_>>, names: &mut Vec<Named<'t>>) -> Result<(), AllocError>
+    ensures { OnOk result (all_named names.new.items ≡ all_named names.old.items ++ each_part (lexical_names true) (items_at (option_map node_tree body.entry))) }
+{
+    match body {
+        Some(body) => push_lexical_parts(true, body, 0, names),
+        None => Ok(()),
+    }
+}
+
+/// The declarators without initializer.
+pub(crate) fn without_initializer(node: Node, found: Found) -> Found
+    ensures { result ≡ after found (each EarlyError.ConstWithoutInitializer (each_part without_initializer (parts_of (node_tree node.entry)))) }
+{
     let mut found = found;
     for index in 0..node.part_count() {
-        if let Some(declarator) = node.part(index) {
-            if declarator.part(1).is_none() {
-                found = with_error(
-                    found,
-                    EarlyError::ConstWithoutInitializer,
-                    declarator.span().start,
-                );
-            }
-        }
+        let place = bare_place(node.part(index));
+        found = with_place(found, EarlyError::ConstWithoutInitializer, place);
     }
     found
 }
 
-/// The names of a declaration, given, and their own errors.
-pub(crate) fn declaration_errors(
-    alloc: Global,
-    node: Node,
-    around: Around,
-    names: &[Named],
-    found: Found,
-) -> Result<Found, AllocError> {
-    if node.text() == "var" {
-        return Ok(found);
+/// The place of a declarator without initializer.
+fn bare_place(declarator: Option<Node>) -> Option<usize>
+    ensures { listed result ≡ at_part without_initializer (option_map node_tree declarator.entry) }
+{
+    let Some(declarator) = declarator else {
+        return None;
+    };
+    match declarator.part(1) {
+        Some(_) => None,
+        None => Some(declarator.span().start),
     }
-    let found = repeated(alloc, names, EarlyError::DuplicateLexicalName, found)?;
-    if node.text() == "const" && !around.in_head {
-        return Ok(without_initializer(node, found));
-    }
-    Ok(found)
 }

@@ -6,7 +6,7 @@ use crate::found::Found;
 use crate::labels::{Labels, is_true, label_is_loop};
 use crate::names::Named;
 use crate::own::own_errors;
-use crate::scopes::{scope_errors, scope_of};
+use crate::scopes::{scope_errors, scope_kind, scope_of};
 use crate::table::Table;
 use std::alloc::{AllocError, Global};
 use std::mem;
@@ -186,9 +186,10 @@ fn walk_scope<'t>(
     around: Around,
     walk: &mut Walk<'t>,
 ) -> Result<(), AllocError> {
-    let scope = scope_of(walk.alloc, node, around)?;
+    let kind = scope_kind(node.kind());
+    let scope = scope_of(walk.alloc, kind, node, around.is_body)?;
     let names = scope.names.as_slice();
-    walk.found = scope_errors(walk.alloc, node, around, names, walk.found)?;
+    walk.found = scope_errors(walk.alloc, kind, node, around.is_body, names, walk.found)?;
     let rounds = rounds_of(node, around);
     walk_parts(node, 0, scope.from, rounds, walk)?;
     let saved = enter(walk.alloc, &mut walk.vars, names, scope.error)?;
