@@ -9,12 +9,14 @@ use Rattle.language.specs.Words.{among, is_identifier}
 use Rattle.early_errors.specs.declared.EarlyError.{EarlyError}
 use Rattle.early_errors.specs.declared.EarlyError.TheVariants as error
 use Rattle.early_errors.specs.declared.around.Around.{Around as Code}
+use Rattle.early_errors.specs.declared.own.Sort.{Sort}
+use Rattle.early_errors.specs.declared.own.Sort.TheVariants as sort
 use Rattle.early_errors.specs.declared.own.Own.{Own}
 use Rattle.early_errors.specs.declared.own.Own.TheVariants.{Variables, Function, FirstNames, Break, Continue, Label, Delete, SuperProperty, SuperCall, Target, Constructors, Member, Template, Literal, Nothing}
 use Rattle.early_errors.specs.Around as around
 use Rattle.early_errors.specs.Around.{Around}
 use Rattle.language.specs.FirstPart.{others}
-use Rattle.early_errors.specs.Names.{Named, places, each_part, twice, shared, names_in, lexical_names, function_names, body_items}
+use Rattle.early_errors.specs.Names.{Named, places, each_part, twice, shared, names_in, lexical_names, function_names, body_items, own_vars}
 use Rattle.early_errors.specs.Walk.{at_part, names_at, parts_drop}
 use Rattle.early_errors.specs.declared.scopes.ScopeKind.{ScopeKind}
 use Rattle.early_errors.specs.declared.scopes.ScopeKind.TheVariants as scope
@@ -197,3 +199,35 @@ found_of_scope scope.Block false ps ns = doubled error.DuplicateLexicalName ns
 found_of_scope scope.Switch b ps ns = doubled error.DuplicateLexicalName ns
 found_of_scope scope.Catch b ps ns = doubled error.CatchParameterConflict ns ++ clash_with error.CatchParameterConflict ns (each_part (lexical_names true) (body_items ps))
 found_of_scope _ b ps ns = []
+
+-- ---- a node's own errors, by what it is
+
+-- the names that a node itself declares by `var`
+abbrev pub vars_of : Tree → List Named
+vars_of n = own_vars (kind_of n) (text_of n) (parts_of n)
+
+-- those of nodes whose first part's names don't matter
+abbrev pub nameless : Own → Around → Tree → List Error
+nameless Variables z n = []
+nameless FirstNames z n = []
+nameless Break z n = []
+nameless Continue z n = []
+nameless Label z n = []
+nameless Nothing z n = []
+nameless _ z n = own_errors z n
+
+-- those of nodes whose first part's names matter
+abbrev pub named_errors : Own → Around → Tree → List Error
+named_errors Break z n = own_errors z n
+named_errors Continue z n = own_errors z n
+named_errors Label z n = own_errors z n
+named_errors FirstNames z n = each error.EvalOrArguments (eval_or_arguments n)
+named_errors _ z n = []
+
+abbrev pub sort_of : Own → Sort
+sort_of Variables = sort.Variables
+sort_of FirstNames = sort.Named
+sort_of Break = sort.Named
+sort_of Continue = sort.Named
+sort_of Label = sort.Named
+sort_of _ = sort.Nameless

@@ -1,22 +1,24 @@
 //! The errors of a node itself, but for those of names that clash with names of `var`s inside.
 
-ghost use Rattle.std.specs.Prelude.{◌≡◌, ◌&&◌};
+ghost use Rattle.std.specs.Prelude.{◌≡◌, ◌&&◌, true, false, not, IfOk, OnOk};
 ghost use Rattle.tree.specs.Node.{node_tree};
 ghost use Rattle.tree.specs.Tree.{kind_of, parts_of, text_of};
 ghost use Rattle.language.specs.FirstPart.{lead};
 ghost use Rattle.language.specs.Words.{is, is_identifier};
-ghost use Rattle.early_errors.specs.Early.{own_errors};
-ghost use Rattle.early_errors.specs.Owns.{own_of};
-ghost use Rattle.early_errors.specs.Walk.{after};
+ghost use Rattle.early_errors.specs.Early.{each, own_errors};
+ghost use Rattle.early_errors.specs.Names.{each_part, first_names, when};
+ghost use Rattle.early_errors.specs.Owns.{Knows, doubled, named_errors, nameless, own_of, plain_errors, round, sort_of, vars_of};
+ghost use Rattle.early_errors.specs.Scopes.{without_initializer};
+ghost use Rattle.early_errors.specs.Walk.{after, all_named, hits, look, sooner};
 
 use crate::EarlyError;
 use crate::around::Around;
-use crate::clashes::{hits, repeated, reported, restricted};
+use crate::clashes::{Clashes, hits, repeated, reported, restricted};
 use crate::classes::{constructor_errors, member_errors, super_errors, target_errors};
 use crate::found::{Found, with_error_if};
 use crate::functions::{function_errors, is_identifier};
-use crate::labels::{break_errors, continue_errors};
-use crate::literals::{literal_errors, template_errors};
+use crate::labels::{Labels, break_errors, continue_errors};
+use crate::literals::{both, literal_errors, template_errors};
 use crate::names::{Named, push_declared, push_part_names};
 use crate::scopes::without_initializer;
 use crate::walk::Walk;
@@ -78,52 +80,72 @@ pub(crate) fn own_errors<'t>(
     node: Node<'t, '_>,
     around: Around,
     walk: &mut Walk<'t>,
-) -> Result<(), AllocError> {
+) -> Result<(), AllocError>
+    ensures found { OnOk result ((ls : _) → Knows (look walk.old.labels) ls → walk.new.found ≡ sooner (after walk.old.found (plain_errors (round around ls) (node_tree node.entry))) (hits (look walk.old.vars) (vars_of (node_tree node.entry)))) }
+    ensures vars { OnOk result (walk.new.vars ≡ walk.old.vars) }
+    ensures labels { OnOk result (walk.new.labels ≡ walk.old.labels) }
+{
     let own = own_of(node.kind());
-    match own {
-        Own::Variables => variable_errors(node, around, walk),
-        Own::Function => {
-            walk.found = function_errors(walk.alloc, node, walk.found)?;
-            Ok(())
-        }
-        Own::FirstNames | Own::Break | Own::Continue | Own::Label => {
-            first_name_errors(node, own, around, walk)
-        }
-        Own::Member => {
-            walk.found = member_errors(walk.alloc, node, walk.found)?;
-            Ok(())
-        }
-        Own::Template => {
-            walk.found = template_errors(walk.alloc, node, around, walk.found)?;
-            Ok(())
-        }
-        _ => {
-            walk.found = small_errors(node, own, around, walk.found);
+    match sort_of(own) {
+        Sort::Variables => variable_errors(node, around, walk),
+        Sort::Named => first_name_errors(node, own, around, walk),
+        Sort::Nameless => {
+            walk.found = nameless_errors(walk.alloc, node, own, around, walk.found)?;
             Ok(())
         }
     }
 }
 
-/// The errors of a node whose names don't matter.
-fn small_errors(node: Node, own: Own, around: Around, found: Found) -> Found {
+/// Whether the names of a node's first part matter, or those of declarators.
+#[derive(Clone, Copy)]
+pub(crate) enum Sort {
+    Variables,
+    Named,
+    Nameless,
+}
+
+fn sort_of(own: Own) -> Sort
+    ensures { result ≡ sort_of own }
+{
     match own {
-        Own::Delete => delete_errors(node, found),
-        Own::SuperProperty => super_errors(
+        Own::Variables => Sort::Variables,
+        Own::FirstNames | Own::Break | Own::Continue | Own::Label => Sort::Named,
+        _ => Sort::Nameless,
+    }
+}
+
+/// The errors of a node whose first part's names don't matter.
+fn nameless_errors(
+    alloc: Global,
+    node: Node,
+    own: Own,
+    around: Around,
+    found: Found,
+) -> Result<Found, AllocError>
+    requires { own ≡ own_of (kind_of (node_tree node)) }
+    ensures { IfOk result (λ r. (ls : _) → r ≡ after found (nameless own (round around ls) (node_tree node.entry))) }
+{
+    match own {
+        Own::Function => function_errors(alloc, node, found),
+        Own::Member => member_errors(alloc, node, found),
+        Own::Template => template_errors(alloc, node, around, found),
+        Own::Delete => Ok(delete_errors(node, found)),
+        Own::SuperProperty => Ok(super_errors(
             node,
             around.super_property,
             EarlyError::SuperPropertyOutsideMethod,
             found,
-        ),
-        Own::SuperCall => super_errors(
+        )),
+        Own::SuperCall => Ok(super_errors(
             node,
             around.super_call,
             EarlyError::SuperCallOutsideConstructor,
             found,
-        ),
-        Own::Target => target_errors(node, around, found),
-        Own::Constructors => constructor_errors(node, found),
-        Own::Literal => literal_errors(node, found),
-        _ => found,
+        )),
+        Own::Target => Ok(target_errors(node, around, found)),
+        Own::Constructors => Ok(constructor_errors(node, found)),
+        Own::Literal => Ok(literal_errors(node, found)),
+        _ => Ok(found),
     }
 }
 
@@ -132,29 +154,38 @@ fn variable_errors<'t>(
     node: Node<'t, '_>,
     around: Around,
     walk: &mut Walk<'t>,
-) -> Result<(), AllocError> {
+) -> Result<(), AllocError>
+    requires { own_of (kind_of (node_tree node)) ≡ Own.Variables }
+    ensures found { OnOk result ((ls : _) → walk.new.found ≡ sooner (after walk.old.found (own_errors (round around ls) (node_tree node.entry))) (hits (look walk.old.vars) (vars_of (node_tree node.entry)))) }
+    ensures vars { OnOk result (walk.new.vars ≡ walk.old.vars) }
+    ensures labels { OnOk result (walk.new.labels ≡ walk.old.labels) }
+{
     walk.names.clear();
     push_declared(node, &mut walk.names)?;
     let names = walk.names.as_slice();
     let found = restricted(names, walk.found);
-    walk.found = if node.text() == "var" {
-        hits(&walk.vars, names, found)
-    } else {
-        lexical_errors(walk.alloc, node, around.in_head, names, found)?
-    };
+    walk.found = declared_errors(walk.alloc, node, around.in_head, &walk.vars, names, found)?;
     Ok(())
 }
 
-/// The errors of a `let` or `const` of these names.
-fn lexical_errors(
+/// The errors of a declaration of these names.
+fn declared_errors(
     alloc: Global,
     node: Node,
     in_head: bool,
+    vars: &Clashes,
     names: &[Named],
     found: Found,
-) -> Result<Found, AllocError> {
+) -> Result<Found, AllocError>
+    ensures var { IfOk result (λ r. is (text_of (node_tree node.entry)) "var" ≡ true → r ≡ sooner found (hits (look vars.now) (all_named names.now))) }
+    ensures lexical { IfOk result (λ r. is (text_of (node_tree node.entry)) "var" ≡ false → r ≡ after (after found (doubled EarlyError.DuplicateLexicalName (all_named names.now))) (each EarlyError.ConstWithoutInitializer (when (is (text_of (node_tree node.entry)) "const" && not in_head) (each_part without_initializer (parts_of (node_tree node.entry)))))) }
+{
+    let word = node.text();
+    if word == "var" {
+        return Ok(hits(vars, names, found));
+    }
     let found = repeated(alloc, names, EarlyError::DuplicateLexicalName, found)?;
-    if node.text() == "const" && !in_head {
+    if both(word == "const", !in_head) {
         return Ok(without_initializer(node, found));
     }
     Ok(found)
@@ -166,17 +197,39 @@ fn first_name_errors<'t>(
     own: Own,
     around: Around,
     walk: &mut Walk<'t>,
-) -> Result<(), AllocError> {
+) -> Result<(), AllocError>
+    requires { own ≡ own_of (kind_of (node_tree node)) }
+    ensures found { OnOk result ((ls : _) → Knows (look walk.old.labels) ls → walk.new.found ≡ after walk.old.found (named_errors own (round around ls) (node_tree node.entry))) }
+    ensures vars { OnOk result (walk.new.vars ≡ walk.old.vars) }
+    ensures labels { OnOk result (walk.new.labels ≡ walk.old.labels) }
+{
     walk.names.clear();
     push_part_names(node.part(0), &mut walk.names)?;
     let names = walk.names.as_slice();
-    walk.found = match own {
-        Own::Break => break_errors(node, around, &walk.labels, names, walk.found),
-        Own::Continue => continue_errors(node, around, &walk.labels, names, walk.found),
-        Own::Label => reported(names, &walk.labels, EarlyError::DuplicateLabel, walk.found),
-        _ => restricted(names, walk.found),
-    };
+    walk.found = named_found(node, own, around, &walk.labels, names, walk.found);
     Ok(())
+}
+
+/// The errors of these names.
+fn named_found(
+    node: Node,
+    own: Own,
+    around: Around,
+    labels: &Labels,
+    names: &[Named],
+    found: Found,
+) -> Found
+    requires own { own ≡ own_of (kind_of (node_tree node)) }
+    requires names { all_named names.now ≡ first_names (parts_of (node_tree node)) }
+    ensures { (ls : _) → Knows (look labels.now) ls → result ≡ after found (named_errors own (round around ls) (node_tree node.entry)) }
+{
+    match own {
+        Own::Break => break_errors(node, around, labels, names, found),
+        Own::Continue => continue_errors(node, around, labels, names, found),
+        Own::Label => reported(names, labels, EarlyError::DuplicateLabel, found),
+        Own::FirstNames => restricted(names, found),
+        _ => found,
+    }
 }
 
 /// `delete` of an identifier, grouped or not (ECMA-262 12.5.3.1).

@@ -16,7 +16,7 @@ returns-in-Program c =
     let ns = all_named c.args.names.now in
     if_ok c.top_errors.result _ _
     (λ r h. h ∙ sym (after-append c.args.found (doubled DuplicateLexicalName ns) (clash_with LexicalNameIsVar ns (each_part function_names ps)))
-        ∙ ap (λ k. after c.args.found (found_of_scope k c.args.is_body ps ns)) (sym c.in-Program.is))
+    ∙ ap (λ k. after c.args.found (found_of_scope k c.args.is_body ps ns)) (sym c.in-Program.is))
     c.top_errors.ensures
 
 pub returns-then-is_body : goal.returns-then-is_body
@@ -25,8 +25,8 @@ returns-then-is_body c =
     let ns = all_named c.args.names.now in
     if_ok c.top_errors-then-is_body.result _ _
     (λ r h. h ∙ sym (after-append c.args.found (doubled DuplicateLexicalName ns) (clash_with LexicalNameIsVar ns (each_part function_names ps)))
-        ∙ ap (λ b. after c.args.found (found_of_scope Block b ps ns)) (sym c.if-is_body.true)
-        ∙ ap (λ k. after c.args.found (found_of_scope k c.args.is_body ps ns)) (sym c.in-Block.is))
+    ∙ ap (λ b. after c.args.found (found_of_scope Block b ps ns)) (sym c.if-is_body.true)
+    ∙ ap (λ k. after c.args.found (found_of_scope k c.args.is_body ps ns)) (sym c.in-Block.is))
     c.top_errors-then-is_body.ensures
 
 pub returns-in-Catch : goal.returns-in-Catch
@@ -35,5 +35,5 @@ returns-in-Catch c =
     let ns = all_named c.args.names.now in
     if_ok c.catch_errors.result _ _
     (λ r h. h ∙ sym (after-append c.args.found (doubled CatchParameterConflict ns) (clash_with CatchParameterConflict ns (each_part (lexical_names true) (body_items ps))))
-        ∙ ap (λ k. after c.args.found (found_of_scope k c.args.is_body ps ns)) (sym c.in-Catch.is))
+    ∙ ap (λ k. after c.args.found (found_of_scope k c.args.is_body ps ns)) (sym c.in-Catch.is))
     c.catch_errors.ensures

@@ -1,0 +1,10 @@
+use Rattle.std.proofs.Common.{◌++◌, option_map, sym, ap, ◌∙◌}
+use Rattle.tree.specs.Node.{node_tree}
+use Rattle.tree.specs.Tree.{parts_of}
+use Rattle.early_errors.specs.Walk.{all_named, names_at}
+use Rattle.early_errors.proofs.Dropping.{first_names-at}
+use Rattle.early_errors.proofs.own.first_name_errors.Goals as goal
+
+pub named_found-walk-requires-clause-names : goal.named_found-walk-requires-clause-names
+named_found-walk-requires-clause-names c =
+    ap all_named c.as_slice-names.ensures.value ∙ c.in_ok-push_part_names.ensures ∙ (λ i. all_named (c.clear.ensures.items i) ++ names_at (c.part.ensures i)) ∙ sym (first_names-at (parts_of (node_tree c.args.node)))
