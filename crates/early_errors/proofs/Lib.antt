@@ -24,3 +24,5 @@ pub mod Literally
 pub mod Keyed
 pub mod Listing
 pub mod FunctionErrors
+pub mod OwnErrors
+pub mod Turning

@@ -4,6 +4,7 @@ use Rattle.std.specs.Prelude.{◌≡◌, ℕ, zero, suc, Bool, true, false, not,
 use Rattle.std.specs.Str.{bytes_eq}
 use Rattle.tree.specs.declared.kind.Kind.{Kind}
 use Rattle.tree.specs.declared.kind.Kind.TheVariants as kind
+use Rattle.tree.specs.declared.kind.Flags.{Flags}
 use Rattle.tree.specs.Tree.{Tree, node, Parts, none, part, gap, kind_of, text_of, flags_of, start_of, parts_of, part_at, part_count}
 use Rattle.language.specs.Words.{among, is_identifier}
 use Rattle.early_errors.specs.declared.EarlyError.{EarlyError}
@@ -231,3 +232,13 @@ sort_of Break = sort.Named
 sort_of Continue = sort.Named
 sort_of Label = sort.Named
 sort_of _ = sort.Nameless
+
+-- the labels round a node's parts: a function and a method have none of those above
+abbrev pub inner_labels : Kind → Flags → Parts → List around.Label → List around.Label
+inner_labels kind.FunctionDeclaration g ps ls = []
+inner_labels kind.FunctionExpression g ps ls = []
+inner_labels kind.ArrowFunctionExpression g ps ls = []
+inner_labels kind.MethodDefinition g ps ls = []
+inner_labels kind.Property g ps ls = cond (around.is_method g.form) [] ls
+inner_labels kind.LabeledStatement g ps ls = around.own_label ps ls
+inner_labels _ g ps ls = ls

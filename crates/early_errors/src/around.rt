@@ -3,6 +3,7 @@
 ghost use Rattle.std.specs.Prelude.{◌≡◌, ◌||◌};
 ghost use Rattle.early_errors.specs.Around.{is_accessor, is_constructor, is_loop, is_method};
 
+use crate::literals::both;
 use tree::{Form, Kind, Node};
 
 /// What holds round a node, its labels aside.
@@ -63,7 +64,11 @@ pub(crate) fn is_method(form: Form) -> bool
 }
 
 impl Around {
-    ghost use Rattle.std.specs.Prelude.{◌≡◌, ◌||◌};
+    ghost use Rattle.std.specs.Prelude.{◌≡◌, ◌||◌, ◌&&◌, [], None};
+    ghost use Rattle.language.specs.FirstPart.{others};
+    ghost use Rattle.early_errors.specs.Around.{around_others, has_heritage, in_method, outside, within};
+    ghost use Rattle.early_errors.specs.Owns.{inner_labels, round};
+    ghost use Rattle.tree.specs.declared.kind.Kind.TheVariants.{ArrowFunctionExpression, FunctionExpression, Property};
 
     /// Round the Program.
     pub(crate) const OUTSIDE: Around = Around {
@@ -81,7 +86,10 @@ impl Around {
     };
 
     /// Round a part that is nothing special to its node.
-    pub(crate) fn within(self) -> Around {
+    pub(crate) fn within(self) -> Around
+        ensures around { (ls : _) → round result ls ≡ within (round self ls) }
+        ensures unknown { result.labels_loop ≡ None }
+    {
         Around {
             derived: false,
             tagged: false,
@@ -100,7 +108,10 @@ impl Around {
         self.in_loop || self.in_switch
     }
 
-    fn in_method(calls: bool) -> Around {
+    fn in_method(calls: bool) -> Around
+        ensures around { round result [] ≡ in_method calls }
+        ensures unknown { result.labels_loop ≡ None }
+    {
         Around {
             super_property: true,
             super_call: calls,
@@ -109,7 +120,10 @@ impl Around {
         }
     }
 
-    fn in_function_expression(self) -> Around {
+    fn in_function_expression(self) -> Around
+        ensures around { (ls : _) → (g : _) → (ps : _) → round result [] ≡ around_others (round self ls) FunctionExpression g ps }
+        ensures unknown { result.labels_loop ≡ None }
+    {
         Around {
             super_property: self.of_method && self.super_property,
             super_call: self.of_method && self.super_call,
@@ -119,7 +133,10 @@ impl Around {
         }
     }
 
-    fn in_arrow(self) -> Around {
+    fn in_arrow(self) -> Around
+        ensures around { (ls : _) → (g : _) → (ps : _) → round result [] ≡ around_others (round self ls) ArrowFunctionExpression g ps }
+        ensures unknown { result.labels_loop ≡ None }
+    {
         Around {
             in_loop: false,
             in_switch: false,
@@ -128,7 +145,10 @@ impl Around {
         }
     }
 
-    fn in_property(self, form: Form) -> Around {
+    fn in_property(self, form: Form) -> Around
+        ensures around { (ls : _) → (g : _) → (ps : _) → g.form ≡ form → round result (inner_labels Property g ps ls) ≡ around_others (round self ls) Property g ps }
+        ensures unknown { result.labels_loop ≡ None }
+    {
         if is_method(form) {
             Around::in_method(false)
         } else {
@@ -136,9 +156,12 @@ impl Around {
         }
     }
 
-    /// Round a node's parts behind the first.
-    pub(crate) fn others(self, node: Node) -> Around {
-        match node.kind() {
+    /// Round the parts behind the first of a node of a kind, by its form and whether it has a second part.
+    fn others(self, kind: Kind, form: Form, has_second: bool) -> Around
+        ensures around { (ls : _) → (g : _) → (ps : _) → g.form ≡ form → has_heritage (others ps) ≡ has_second → round result (inner_labels kind g ps ls) ≡ around_others (round self ls) kind g ps }
+        ensures unknown { result.labels_loop ≡ None }
+    {
+        match kind {
             Kind::FunctionDeclaration => Around {
                 new_target: true,
                 is_body: true,
@@ -147,11 +170,11 @@ impl Around {
             Kind::FunctionExpression => self.in_function_expression(),
             Kind::ArrowFunctionExpression => self.in_arrow(),
             Kind::MethodDefinition => {
-                Around::in_method(self.derived && is_constructor(node.flags().form))
+                Around::in_method(both(self.derived, is_constructor(form)))
             }
-            Kind::Property => self.in_property(node.flags().form),
+            Kind::Property => self.in_property(form),
             Kind::ClassExpression | Kind::ClassDeclaration => Around {
-                derived: node.part(1).is_some(),
+                derived: has_second,
                 ..self.within()
             },
             Kind::ClassBody => Around {
@@ -172,17 +195,25 @@ impl Around {
             },
         }
     }
+}
 
-    /// Round a node's first part.
-    pub(crate) fn first(self, node: Node) -> Around {
-        match node.kind() {
-            Kind::MethodDefinition | Kind::Property | Kind::TaggedTemplateExpression =>
-                self.within(),
-            Kind::ForInStatement | Kind::ForOfStatement => Around {
-                in_head: true,
-                ..self.within()
-            },
-            _ => self.others(node),
-        }
-    }
+/// What holds round the first part of a node, and round the others.
+#[derive(Clone, Copy)]
+pub(crate) struct Rounds {
+    pub(crate) first: Around,
+    pub(crate) others: Around,
+}
+
+/// What holds round a node's parts.
+pub(crate) fn rounds_of(node: Node, around: Around) -> Rounds {
+    let others = around.others(node.kind(), node.flags().form, node.part(1).is_some());
+    let first = match node.kind() {
+        Kind::MethodDefinition | Kind::Property | Kind::TaggedTemplateExpression => around.within(),
+        Kind::ForInStatement | Kind::ForOfStatement => Around {
+            in_head: true,
+            ..around.within()
+        },
+        _ => others,
+    };
+    Rounds { first, others }
 }

@@ -1,6 +1,6 @@
 //! The walk over a tree.
 
-use crate::around::{Around, is_method};
+use crate::around::{Around, Rounds, is_method, rounds_of};
 use crate::clashes::{Clashes, enter, leave};
 use crate::found::Found;
 use crate::labels::{Labels, is_true, label_is_loop};
@@ -70,20 +70,6 @@ fn inside_of(node: Node) -> Inside {
         | Kind::ForInStatement
         | Kind::ForOfStatement => Inside::Scope,
         _ => Inside::Plain,
-    }
-}
-
-/// What holds round the first part of a node, and round the others.
-#[derive(Clone, Copy)]
-struct Rounds {
-    first: Around,
-    others: Around,
-}
-
-fn rounds_of(node: Node, around: Around) -> Rounds {
-    Rounds {
-        first: around.first(node),
-        others: around.others(node),
     }
 }
 

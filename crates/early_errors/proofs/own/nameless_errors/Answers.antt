@@ -15,4 +15,3 @@ pub returns-in-SuperCall : goal.returns-in-SuperCall
 returns-in-SuperCall c = λ ls.
     c.super_errors-in-SuperCall.ensures ∙ sym (ap (after c.args.found) (small_given own.SuperCall (round c.args.around ls) (node_tree c.args.node) (sym c.requires ∙ c.in-SuperCall.is)))
     ∙ ap (λ o. after c.args.found (nameless o (round c.args.around ls) (node_tree c.args.node))) (sym c.in-SuperCall.is)
-
