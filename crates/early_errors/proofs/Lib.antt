@@ -26,3 +26,4 @@ pub mod Listing
 pub mod FunctionErrors
 pub mod OwnErrors
 pub mod Turning
+pub mod Surrounds

@@ -10,6 +10,8 @@ use Rattle.language.specs.Words.{among, is_identifier}
 use Rattle.early_errors.specs.declared.EarlyError.{EarlyError}
 use Rattle.early_errors.specs.declared.EarlyError.TheVariants as error
 use Rattle.early_errors.specs.declared.around.Around.{Around as Code}
+use Rattle.early_errors.specs.declared.around.FirstPart.{FirstPart}
+use Rattle.early_errors.specs.declared.around.FirstPart.TheVariants as first
 use Rattle.early_errors.specs.declared.own.Sort.{Sort}
 use Rattle.early_errors.specs.declared.own.Sort.TheVariants as sort
 use Rattle.early_errors.specs.declared.own.Own.{Own}
@@ -242,3 +244,17 @@ inner_labels kind.MethodDefinition g ps ls = []
 inner_labels kind.Property g ps ls = cond (around.is_method g.form) [] ls
 inner_labels kind.LabeledStatement g ps ls = around.own_label ps ls
 inner_labels _ g ps ls = ls
+
+abbrev pub first_part : Kind → FirstPart
+first_part kind.MethodDefinition = first.Plain
+first_part kind.Property = first.Plain
+first_part kind.TaggedTemplateExpression = first.Plain
+first_part kind.ForInStatement = first.Head
+first_part kind.ForOfStatement = first.Head
+first_part _ = first.LikeOthers
+
+-- the labels round a node's first part
+abbrev pub first_labels : Kind → Flags → Parts → List around.Label → List around.Label
+first_labels kind.MethodDefinition g ps ls = ls
+first_labels kind.Property g ps ls = ls
+first_labels k g ps ls = inner_labels k g ps ls

@@ -1,9 +1,13 @@
 //! What holds round a node, and how it comes down to the node's parts.
 
-ghost use Rattle.std.specs.Prelude.{◌≡◌, ◌||◌};
-ghost use Rattle.early_errors.specs.Around.{is_accessor, is_constructor, is_loop, is_method};
+ghost use Rattle.std.specs.Prelude.{◌≡◌, None};
+ghost use Rattle.tree.specs.Node.{node_tree};
+ghost use Rattle.tree.specs.Tree.{flags_of, kind_of, parts_of};
+ghost use Rattle.language.specs.FirstPart.{others};
+ghost use Rattle.early_errors.specs.Owns.{first_labels, first_part, inner_labels, round};
+ghost use Rattle.early_errors.specs.Around.{around_first, around_others, has_heritage, is_accessor, is_constructor, is_loop, is_method};
 
-use crate::literals::both;
+use crate::literals::{both, either};
 use tree::{Form, Kind, Node};
 
 /// What holds round a node, its labels aside.
@@ -66,8 +70,8 @@ pub(crate) fn is_method(form: Form) -> bool
 impl Around {
     ghost use Rattle.std.specs.Prelude.{◌≡◌, ◌||◌, ◌&&◌, [], None};
     ghost use Rattle.language.specs.FirstPart.{others};
-    ghost use Rattle.early_errors.specs.Around.{around_others, has_heritage, in_method, outside, within};
-    ghost use Rattle.early_errors.specs.Owns.{inner_labels, round};
+    ghost use Rattle.early_errors.specs.Around.{around_first, around_others, has_heritage, in_method, within};
+    ghost use Rattle.early_errors.specs.Owns.{first_labels, inner_labels, round};
     ghost use Rattle.tree.specs.declared.kind.Kind.TheVariants.{ArrowFunctionExpression, FunctionExpression, Property};
 
     /// Round the Program.
@@ -156,6 +160,22 @@ impl Around {
         }
     }
 
+    /// Round the first part of a node of a kind, by what holds round the others.
+    fn first(self, kind: Kind, others: Around) -> Around
+        requires { others.labels_loop ≡ None }
+        ensures around { (ls : _) → (g : _) → (ps : _) → round others (inner_labels kind g ps ls) ≡ around_others (round self ls) kind g ps → round result (first_labels kind g ps ls) ≡ around_first (round self ls) kind g ps }
+        ensures unknown { result.labels_loop ≡ None }
+    {
+        match first_part(kind) {
+            FirstPart::Plain => self.within(),
+            FirstPart::Head => Around {
+                in_head: true,
+                ..self.within()
+            },
+            FirstPart::LikeOthers => others,
+        }
+    }
+
     /// Round the parts behind the first of a node of a kind, by its form and whether it has a second part.
     fn others(self, kind: Kind, form: Form, has_second: bool) -> Around
         ensures around { (ls : _) → (g : _) → (ps : _) → g.form ≡ form → has_heritage (others ps) ≡ has_second → round result (inner_labels kind g ps ls) ≡ around_others (round self ls) kind g ps }
@@ -190,10 +210,29 @@ impl Around {
                 ..self.within()
             },
             kind => Around {
-                in_loop: self.in_loop || is_loop(kind),
+                in_loop: either(self.in_loop, is_loop(kind)),
                 ..self.within()
             },
         }
+    }
+}
+
+/// How the first part stands to its node.
+#[derive(Clone, Copy)]
+pub(crate) enum FirstPart {
+    Plain,
+    Head,
+    LikeOthers,
+}
+
+fn first_part(kind: Kind) -> FirstPart
+    ensures { result ≡ first_part kind }
+{
+    match kind {
+        Kind::MethodDefinition | Kind::Property | Kind::TaggedTemplateExpression =>
+            FirstPart::Plain,
+        Kind::ForInStatement | Kind::ForOfStatement => FirstPart::Head,
+        _ => FirstPart::LikeOthers,
     }
 }
 
@@ -205,15 +244,22 @@ pub(crate) struct Rounds {
 }
 
 /// What holds round a node's parts.
-pub(crate) fn rounds_of(node: Node, around: Around) -> Rounds {
-    let others = around.others(node.kind(), node.flags().form, node.part(1).is_some());
-    let first = match node.kind() {
-        Kind::MethodDefinition | Kind::Property | Kind::TaggedTemplateExpression => around.within(),
-        Kind::ForInStatement | Kind::ForOfStatement => Around {
-            in_head: true,
-            ..around.within()
-        },
-        _ => others,
-    };
-    Rounds { first, others }
+pub(crate) fn rounds_of(node: Node, around: Around) -> Rounds
+    ensures first { (ls : _) → round result.first (first_labels (kind_of (node_tree node.entry)) (flags_of (node_tree node.entry)) (parts_of (node_tree node.entry)) ls) ≡ around_first (round around ls) (kind_of (node_tree node.entry)) (flags_of (node_tree node.entry)) (parts_of (node_tree node.entry)) }
+    ensures others { (ls : _) → round result.others (inner_labels (kind_of (node_tree node.entry)) (flags_of (node_tree node.entry)) (parts_of (node_tree node.entry)) ls) ≡ around_others (round around ls) (kind_of (node_tree node.entry)) (flags_of (node_tree node.entry)) (parts_of (node_tree node.entry)) }
+    ensures first_unknown { result.first.labels_loop ≡ None }
+    ensures others_unknown { result.others.labels_loop ≡ None }
+{
+    let kind = node.kind();
+    let others = around.others(kind, node.flags().form, has_second(node));
+    Rounds {
+        first: around.first(kind, others),
+        others,
+    }
+}
+
+fn has_second(node: Node) -> bool
+    ensures { has_heritage (others (parts_of (node_tree node.entry))) ≡ result }
+{
+    node.part(1).is_some()
 }
