@@ -13,3 +13,4 @@ pub mod Accepted
 pub mod Laws
 pub mod Walk
 pub mod Owns
+pub mod Walks

@@ -12,6 +12,9 @@ use Rattle.early_errors.specs.declared.EarlyError.TheVariants as error
 use Rattle.early_errors.specs.declared.around.Around.{Around as Code}
 use Rattle.early_errors.specs.declared.around.FirstPart.{FirstPart}
 use Rattle.early_errors.specs.declared.around.FirstPart.TheVariants as first
+use Rattle.tree.specs.declared.kind.Form.{Form}
+use Rattle.early_errors.specs.declared.walk.Inside.{Inside}
+use Rattle.early_errors.specs.declared.walk.Inside.TheVariants as inside
 use Rattle.early_errors.specs.declared.own.Sort.{Sort}
 use Rattle.early_errors.specs.declared.own.Sort.TheVariants as sort
 use Rattle.early_errors.specs.declared.own.Own.{Own}
@@ -258,3 +261,20 @@ abbrev pub first_labels : Kind → Flags → Parts → List around.Label → Lis
 first_labels kind.MethodDefinition g ps ls = ls
 first_labels kind.Property g ps ls = ls
 first_labels k g ps ls = inner_labels k g ps ls
+
+-- how a walk goes on inside a node
+abbrev pub inside_of : Kind → Form → Inside
+inside_of kind.FunctionDeclaration f = inside.Function
+inside_of kind.FunctionExpression f = inside.Function
+inside_of kind.ArrowFunctionExpression f = inside.Function
+inside_of kind.MethodDefinition f = inside.Method
+inside_of kind.Property f = cond (around.is_method f) inside.Method inside.Plain
+inside_of kind.LabeledStatement f = inside.Label
+inside_of kind.Program f = inside.Scope
+inside_of kind.BlockStatement f = inside.Scope
+inside_of kind.SwitchStatement f = inside.Scope
+inside_of kind.CatchClause f = inside.Scope
+inside_of kind.ForStatement f = inside.Scope
+inside_of kind.ForInStatement f = inside.Scope
+inside_of kind.ForOfStatement f = inside.Scope
+inside_of _ f = inside.Plain

@@ -1,5 +1,14 @@
 //! The walk over a tree.
 
+ghost use Rattle.std.specs.Prelude.{◌≡◌, ◌-◌, ◌<◌, None, Some, OnOk};
+ghost use Rattle.tree.specs.Node.{node_tree};
+ghost use Rattle.tree.specs.Tree.{flags_of, kind_of, part_at, parts_of};
+ghost use Rattle.early_errors.specs.Early.{errors_within};
+ghost use Rattle.early_errors.specs.Names.{var_names};
+ghost use Rattle.early_errors.specs.Owns.{Knows, inside_of, plain_errors, round, vars_of};
+ghost use Rattle.early_errors.specs.Walk.{Agree, after, hits, look, sooner};
+ghost use Rattle.early_errors.specs.Walks.{Fits, range_errors, range_vars};
+
 use crate::around::{Around, Rounds, is_method, rounds_of};
 use crate::clashes::{Clashes, enter, leave};
 use crate::found::Found;
@@ -10,7 +19,7 @@ use crate::scopes::{scope_errors, scope_kind, scope_of};
 use crate::table::Table;
 use std::alloc::{AllocError, Global};
 use std::mem;
-use tree::{Kind, Node};
+use tree::{Form, Kind, Node};
 
 /// What a walk carries.
 #[derive(Drop)]
@@ -41,7 +50,7 @@ impl<'t> Walk<'t> {
 
 /// How a walk goes on inside a node.
 #[derive(Clone, Copy)]
-enum Inside {
+pub(crate) enum Inside {
     Function,
     Method,
     Label,
@@ -49,13 +58,15 @@ enum Inside {
     Plain,
 }
 
-fn inside_of(node: Node) -> Inside {
-    match node.kind() {
+fn inside_of(kind: Kind, form: Form) -> Inside
+    ensures { result ≡ inside_of kind form }
+{
+    match kind {
         Kind::FunctionDeclaration | Kind::FunctionExpression | Kind::ArrowFunctionExpression =>
             Inside::Function,
         Kind::MethodDefinition => Inside::Method,
         Kind::Property => {
-            if is_method(node.flags().form) {
+            if is_method(form) {
                 Inside::Method
             } else {
                 Inside::Plain
@@ -75,13 +86,19 @@ fn inside_of(node: Node) -> Inside {
 
 /// Finds the errors of a node and of all below it.
 #[cycle(walk)]
+#[tactic(auto, using(tree::proofs::PartWalk::part_steps))]
 pub(crate) fn walk_node<'t>(
     node: Node<'t, '_>,
     around: Around,
     walk: &mut Walk<'t>,
-) -> Result<(), AllocError> {
+) -> Result<(), AllocError>
+    requires { Fits around (node_tree node) }
+    ensures found { OnOk result ((ls : _) → Knows (look walk.old.labels) ls → walk.new.found ≡ sooner (after walk.old.found (errors_within (round around ls) (node_tree node.entry))) (hits (look walk.old.vars) (var_names (node_tree node.entry)))) }
+    ensures vars { OnOk result (Agree (look walk.new.vars) (look walk.old.vars)) }
+    ensures labels { OnOk result (Agree (look walk.new.labels) (look walk.old.labels)) }
+{
     own_errors(node, around, walk)?;
-    match inside_of(node) {
+    match inside_of(node.kind(), node.flags().form) {
         Inside::Function => walk_function(node, around, walk),
         Inside::Method => walk_method(node, around, walk),
         Inside::Label => walk_label(node, around, walk),
@@ -92,13 +109,20 @@ pub(crate) fn walk_node<'t>(
 
 /// Finds the errors of a node's parts from a place to another.
 #[cycle(walk)]
+#[tactic(auto, using(tree::proofs::PartWalk::part_steps))]
 fn walk_parts<'t>(
     node: Node<'t, '_>,
     from: usize,
     to: usize,
     rounds: Rounds,
     walk: &mut Walk<'t>,
-) -> Result<(), AllocError> {
+) -> Result<(), AllocError>
+    requires first { rounds.first.labels_loop ≡ None }
+    requires others { (i : _) → (u : _) → 0 < i → Some u ≡ part_at (parts_of (node_tree node)) i → Fits rounds.others u }
+    ensures found { OnOk result ((ls : _) → Knows (look walk.old.labels) ls → walk.new.found ≡ sooner (after walk.old.found (range_errors (round rounds.first ls) (round rounds.others ls) (parts_of (node_tree node.entry)) from (to - from))) (hits (look walk.old.vars) (range_vars (parts_of (node_tree node.entry)) from (to - from)))) }
+    ensures vars { OnOk result (Agree (look walk.new.vars) (look walk.old.vars)) }
+    ensures labels { OnOk result (Agree (look walk.new.labels) (look walk.old.labels)) }
+{
     for index in from..to {
         if let Some(part) = node.part(index) {
             let around = if index == 0 {
@@ -114,11 +138,18 @@ fn walk_parts<'t>(
 
 /// A function has labels and `var`s of its own.
 #[cycle(walk)]
+#[tactic(auto, using(tree::proofs::PartWalk::part_steps))]
 fn walk_function<'t>(
     node: Node<'t, '_>,
     around: Around,
     walk: &mut Walk<'t>,
-) -> Result<(), AllocError> {
+) -> Result<(), AllocError>
+    requires inside { inside_of (kind_of (node_tree node)) (flags_of (node_tree node)).form ≡ Inside.Function }
+    requires fits { Fits around (node_tree node) }
+    ensures found { OnOk result ((o : _) → (ls : _) → Knows (look walk.old.labels) ls → walk.old.found ≡ sooner (after o (plain_errors (round around ls) (node_tree node.entry))) (hits (look walk.old.vars) (vars_of (node_tree node.entry))) → walk.new.found ≡ sooner (after o (errors_within (round around ls) (node_tree node.entry))) (hits (look walk.old.vars) (var_names (node_tree node.entry)))) }
+    ensures vars { OnOk result (Agree (look walk.new.vars) (look walk.old.vars)) }
+    ensures labels { OnOk result (Agree (look walk.new.labels) (look walk.old.labels)) }
+{
     let vars = mem::replace(&mut walk.vars, Table::new(walk.alloc));
     let labels = mem::replace(&mut walk.labels, Table::new(walk.alloc));
     walk_parts(node, 0, node.part_count(), rounds_of(node, around), walk)?;
@@ -129,11 +160,18 @@ fn walk_function<'t>(
 
 /// The key of a method belongs to what surrounds it; its function doesn't.
 #[cycle(walk)]
+#[tactic(auto, using(tree::proofs::PartWalk::part_steps))]
 fn walk_method<'t>(
     node: Node<'t, '_>,
     around: Around,
     walk: &mut Walk<'t>,
-) -> Result<(), AllocError> {
+) -> Result<(), AllocError>
+    requires inside { inside_of (kind_of (node_tree node)) (flags_of (node_tree node)).form ≡ Inside.Method }
+    requires fits { Fits around (node_tree node) }
+    ensures found { OnOk result ((o : _) → (ls : _) → Knows (look walk.old.labels) ls → walk.old.found ≡ sooner (after o (plain_errors (round around ls) (node_tree node.entry))) (hits (look walk.old.vars) (vars_of (node_tree node.entry))) → walk.new.found ≡ sooner (after o (errors_within (round around ls) (node_tree node.entry))) (hits (look walk.old.vars) (var_names (node_tree node.entry)))) }
+    ensures vars { OnOk result (Agree (look walk.new.vars) (look walk.old.vars)) }
+    ensures labels { OnOk result (Agree (look walk.new.labels) (look walk.old.labels)) }
+{
     let rounds = rounds_of(node, around);
     walk_parts(node, 0, 1, rounds, walk)?;
     let labels = mem::replace(&mut walk.labels, Table::new(walk.alloc));
@@ -144,11 +182,14 @@ fn walk_method<'t>(
 
 /// A label stands round the parts of its statement.
 #[cycle(walk)]
-fn walk_label<'t>(
-    node: Node<'t, '_>,
-    around: Around,
-    walk: &mut Walk<'t>,
-) -> Result<(), AllocError> {
+#[tactic(auto, using(tree::proofs::PartWalk::part_steps))]
+fn walk_label<'t>(node: Node<'t, '_>, around: Around, walk: &mut Walk<'t>) -> Result<(), AllocError>
+    requires inside { inside_of (kind_of (node_tree node)) (flags_of (node_tree node)).form ≡ Inside.Label }
+    requires fits { Fits around (node_tree node) }
+    ensures found { OnOk result ((o : _) → (ls : _) → Knows (look walk.old.labels) ls → walk.old.found ≡ sooner (after o (plain_errors (round around ls) (node_tree node.entry))) (hits (look walk.old.vars) (vars_of (node_tree node.entry))) → walk.new.found ≡ sooner (after o (errors_within (round around ls) (node_tree node.entry))) (hits (look walk.old.vars) (var_names (node_tree node.entry)))) }
+    ensures vars { OnOk result (Agree (look walk.new.vars) (look walk.old.vars)) }
+    ensures labels { OnOk result (Agree (look walk.new.labels) (look walk.old.labels)) }
+{
     let mut rounds = rounds_of(node, around);
     let Some(label) = node.part(0) else {
         return walk_parts(node, 0, node.part_count(), rounds, walk);
@@ -167,11 +208,14 @@ fn walk_label<'t>(
 
 /// Names of a scope clash with `var`s inside.
 #[cycle(walk)]
-fn walk_scope<'t>(
-    node: Node<'t, '_>,
-    around: Around,
-    walk: &mut Walk<'t>,
-) -> Result<(), AllocError> {
+#[tactic(auto, using(tree::proofs::PartWalk::part_steps))]
+fn walk_scope<'t>(node: Node<'t, '_>, around: Around, walk: &mut Walk<'t>) -> Result<(), AllocError>
+    requires inside { inside_of (kind_of (node_tree node)) (flags_of (node_tree node)).form ≡ Inside.Scope }
+    requires fits { Fits around (node_tree node) }
+    ensures found { OnOk result ((o : _) → (ls : _) → Knows (look walk.old.labels) ls → walk.old.found ≡ sooner (after o (plain_errors (round around ls) (node_tree node.entry))) (hits (look walk.old.vars) (vars_of (node_tree node.entry))) → walk.new.found ≡ sooner (after o (errors_within (round around ls) (node_tree node.entry))) (hits (look walk.old.vars) (var_names (node_tree node.entry)))) }
+    ensures vars { OnOk result (Agree (look walk.new.vars) (look walk.old.vars)) }
+    ensures labels { OnOk result (Agree (look walk.new.labels) (look walk.old.labels)) }
+{
     let kind = scope_kind(node.kind());
     let scope = scope_of(walk.alloc, kind, node, around.is_body)?;
     let names = scope.names.as_slice();

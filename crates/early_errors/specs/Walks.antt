@@ -1,0 +1,30 @@
+-- What a walk says of a node's parts from a place on.
+use Rattle.std.specs.Prelude.{◌≡◌, ℕ, zero, suc, cond, nat_eq, ◌<◌, List, [], ◌++◌, Option, Some, None, IfSome}
+use Rattle.tree.specs.Tree.{Tree, Parts, part_at}
+use Rattle.early_errors.specs.declared.around.Around.{Around as Code}
+use Rattle.early_errors.specs.Around.{Around, labels_loop}
+use Rattle.early_errors.specs.Names.{Named, var_names}
+use Rattle.early_errors.specs.Early.{Error, errors_within}
+use Rattle.early_errors.specs.Walk.{at_part}
+
+-- so many lists, from a place on
+abbrev pub ranged : {B : Type 0} → (ℕ → List B) → ℕ → ℕ → List B
+ranged f i zero = []
+ranged f i (suc n) = f i ++ ranged f (suc i) n
+
+-- the errors of a part, by its place
+abbrev pub errors_at : Around → Around → Parts → ℕ → List Error
+errors_at y z ps i = at_part (errors_within (cond (nat_eq i 0) y z)) (part_at ps i)
+
+abbrev pub vars_at : Parts → ℕ → List Named
+vars_at ps i = at_part var_names (part_at ps i)
+
+abbrev pub range_errors : Around → Around → Parts → ℕ → ℕ → List Error
+range_errors y z ps from n = ranged (errors_at y z ps) from n
+
+abbrev pub range_vars : Parts → ℕ → ℕ → List Named
+range_vars ps from n = ranged (vars_at ps) from n
+
+-- what is known of a label's statement holds of the node
+abbrev pub Fits : Code → Tree → Type 0
+Fits a t = IfSome a.labels_loop (λ b. b ≡ labels_loop t)
