@@ -67,8 +67,8 @@ pub enum EarlyError {
     RegExpFlags,
 }
 
-ghost use Rattle.std.specs.Prelude.{◌≡◌};
-ghost use Rattle.early_errors.specs.Early.{number};
+ghost use Rattle.std.specs.Prelude.{◌≡◌, IfOk};
+ghost use Rattle.early_errors.specs.Early.{least_error, number};
 
 /// The number that a report names the early error by: 1 to 21.
 pub fn number_of(error: EarlyError) -> u8
@@ -106,7 +106,9 @@ pub fn number_of(error: EarlyError) -> u8
 pub fn first_early_error(
     alloc: Global,
     program: &Program,
-) -> Result<Option<(u8, usize)>, AllocError> {
+) -> Result<Option<(u8, usize)>, AllocError>
+    ensures { IfOk result (λ r. r ≡ least_error program.now) }
+{
     let mut walk = Walk::new(alloc);
     walk_node(program.root(), Around::OUTSIDE, &mut walk)?;
     Ok(walk.found)
