@@ -53,7 +53,7 @@ undone-more : (f : List ℕ → Option Error) (xs : List Saved) (x : Saved) → 
 undone-more f [] x = refl
 undone-more f (y ∷ xs) x = ap (λ q. with_value q y.name.now y.value) (undone-more f xs x)
 
-undone-agrees : (f g : List ℕ → Option Error) (xs : List Saved) → Agree f g → Agree (undone f xs) (undone g xs)
+pub undone-agrees : (f g : List ℕ → Option Error) (xs : List Saved) → Agree f g → Agree (undone f xs) (undone g xs)
 undone-agrees f g [] h w = h w
 undone-agrees f g (x ∷ xs) h w = ap (λ o. cond (bytes_eq x.name.now w) x.value o) (undone-agrees f g xs h w)
 
