@@ -27,3 +27,4 @@ pub mod FunctionErrors
 pub mod OwnErrors
 pub mod Turning
 pub mod Surrounds
+pub mod Ranging
