@@ -28,3 +28,6 @@ pub mod OwnErrors
 pub mod Turning
 pub mod Surrounds
 pub mod Ranging
+pub mod Insides
+pub mod Joining
+pub mod ScopeErrors

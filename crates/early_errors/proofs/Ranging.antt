@@ -53,7 +53,7 @@ module _ {B : Type 0} where
       let d : n - 0 ≡ n = omega arith in
       ap (λ k. ranged f 0 m ++ ranged f k (n - k)) (sym e) ∙ split_from f n h 0 m ∙ ap (ranged f 0) d
 
-past : (ps : Parts) (i : ℕ) → part_count ps ≤ i → part_at ps i ≡ None
+pub past : (ps : Parts) (i : ℕ) → part_count ps ≤ i → part_at ps i ≡ None
 past none i l = refl
 past (part t ps) zero l = absurd (omega (arith, l))
 past (gap ps) zero l = absurd (omega (arith, l))

@@ -1,0 +1,169 @@
+-- A scope's own errors: those of its names alone, and those of `var`s inside.
+use Rattle.std.proofs.Common.{◌≡◌, ℕ, zero, suc, ◌+◌, ◌-◌, ◌<◌, ◌≤◌, Bool, true, false, not, cond, List, [], ◌∷◌, ◌++◌, Option, Some, None, filter, ◌⊎◌, inl, inr, is_some, refl, sym, ap, subst, ◌∙◌, arith, append-nil}
+use Rattle.std.specs.Prelude.{◌||◌, ◌&&◌}
+use Rattle.std.proofs.Math.Dec.{leb}
+use Rattle.std.proofs.lemmas.Bool.Decides.{leb_tells}
+use Rattle.tree.specs.declared.kind.Kind.{Kind}
+use Rattle.tree.specs.declared.kind.Kind.TheVariants.{Program, BlockStatement, SwitchStatement, CatchClause, ForStatement, ForInStatement, ForOfStatement, Property}
+use Rattle.tree.specs.Tree.{Tree, node, Parts, none, part, gap, kind_of, flags_of, parts_of, part_at, part_count}
+use Rattle.language.specs.FirstPart.{others}
+use Rattle.early_errors.specs.declared.EarlyError.{EarlyError}
+use Rattle.early_errors.specs.declared.EarlyError.TheVariants as error
+use Rattle.early_errors.specs.declared.scopes.ScopeKind.TheVariants as scope
+use Rattle.early_errors.specs.declared.walk.Inside.TheVariants as inside
+use Rattle.early_errors.specs.Around.{Around, is_method}
+use Rattle.early_errors.specs.Names.{Named, places, each_part, twice, shared, first_names, var_names, parts_vars, lexical_names, function_names, body_items}
+use Rattle.early_errors.specs.Scopes.{head_lexical, duplicate_lexical_name, lexical_name_is_var, const_without_initializer, catch_parameter_conflict, for_name_is_var}
+use Rattle.early_errors.specs.Functions.{duplicate_parameter, parameter_is_lexical_name, use_strict_behind_pattern}
+use Rattle.early_errors.specs.Strict.{is_restricted, eval_or_arguments, delete_of_identifier}
+use Rattle.early_errors.specs.Labels.{misplaced_jump, undefined_label, duplicate_label}
+use Rattle.early_errors.specs.Classes.{super_property_outside_method, super_call_outside_constructor, new_target_outside_function, duplicate_constructor, special_constructor, static_prototype}
+use Rattle.early_errors.specs.Literals.{uncooked_template, reg_exp_flags}
+use Rattle.early_errors.specs.Early.{Error, each, own_errors, least}
+use Rattle.early_errors.specs.Owns.{inside_of, scope_kind, scope_error, names_of_scope, place_of_scope, body_place, block_at, is_block, items_at, found_of_scope, plain_errors, doubled, clash_with, case_names}
+use Rattle.early_errors.specs.Walk.{sooner, at_part, names_at, parts_drop}
+use Rattle.early_errors.specs.Walks.{vars_at, range_vars}
+use Rattle.early_errors.proofs.Dropping.{first_names-at}
+use Rattle.early_errors.proofs.Insides.{not_scope}
+use Rattle.early_errors.proofs.Least.{sooner-none, sooner-twice, least-append}
+use Rattle.early_errors.proofs.Listing.{others-drop, body-whole}
+use Rattle.early_errors.proofs.Ranging.{past, ranged-step, ranged-past, vars_drop}
+use Rattle.early_errors.proofs.Turning.{shared-both}
+
+each-places : (e : EarlyError) (xs ys : List Named) → each e (places (xs ++ ys)) ≡ each e (places xs) ++ each e (places ys)
+each-places e [] ys = refl
+each-places e (x ∷ xs) ys = ap (λ l. each e (x.1 ∷ []) ++ l) (each-places e xs ys)
+
+-- names alone, with functions of the scope, with `var`s inside
+top : (ns fs vs : List Named) →
+    least (each error.DuplicateLexicalName (places (twice ns ++ [])) ++ (each error.LexicalNameIsVar (places (shared ns (fs ++ vs))) ++ []))
+    ≡ sooner (least (doubled error.DuplicateLexicalName ns ++ clash_with error.LexicalNameIsVar ns fs)) (least (clash_with error.LexicalNameIsVar ns vs))
+top ns fs vs =
+    least-append (each error.DuplicateLexicalName (places (twice ns ++ []))) (each error.LexicalNameIsVar (places (shared ns (fs ++ vs))) ++ [])
+    ∙ (λ i. sooner (least (each error.DuplicateLexicalName (places (append-nil (twice ns) i)))) (least (append-nil (each error.LexicalNameIsVar (places (shared ns (fs ++ vs)))) i)))
+    ∙ ap (sooner (least (doubled error.DuplicateLexicalName ns))) (shared-both error.LexicalNameIsVar ns fs vs)
+    ∙ sym (sooner-twice (least (doubled error.DuplicateLexicalName ns)) (least (clash_with error.LexicalNameIsVar ns fs)) (least (clash_with error.LexicalNameIsVar ns vs)))
+    ∙ ap (λ x. sooner x (least (clash_with error.LexicalNameIsVar ns vs))) (sym (least-append (doubled error.DuplicateLexicalName ns) (clash_with error.LexicalNameIsVar ns fs)))
+
+inner : (ns vs : List Named) →
+    least (each error.DuplicateLexicalName (places (twice ns ++ [])) ++ (each error.LexicalNameIsVar (places (shared ns vs)) ++ []))
+    ≡ sooner (least (doubled error.DuplicateLexicalName ns)) (least (clash_with error.LexicalNameIsVar ns vs))
+inner ns vs =
+    least-append (each error.DuplicateLexicalName (places (twice ns ++ []))) (each error.LexicalNameIsVar (places (shared ns vs)) ++ [])
+    ∙ (λ i. sooner (least (each error.DuplicateLexicalName (places (append-nil (twice ns) i)))) (least (append-nil (each error.LexicalNameIsVar (places (shared ns vs))) i)))
+
+block : (b : Bool) (ps : Parts) (vs : List Named) → let ns = each_part (lexical_names (not b)) ps in
+    least (each error.DuplicateLexicalName (places (twice ns ++ [])) ++ (each error.LexicalNameIsVar (places (shared ns (cond b (each_part function_names ps) [] ++ vs))) ++ []))
+    ≡ sooner (least (found_of_scope scope.Block b ps ns)) (least (clash_with error.LexicalNameIsVar ns vs))
+block true ps vs = top (each_part (lexical_names false) ps) (each_part function_names ps) vs
+block false ps vs = inner (each_part (lexical_names true) ps) vs
+
+catch : (es : List Error) (ns bs vs : List Named) →
+    least (es ++ (each error.CatchParameterConflict (places (twice ns ++ shared ns (bs ++ vs))) ++ []))
+    ≡ sooner (least es) (sooner (least (doubled error.CatchParameterConflict ns ++ clash_with error.CatchParameterConflict ns bs)) (least (clash_with error.CatchParameterConflict ns vs)))
+catch es ns bs vs =
+    let c = error.CatchParameterConflict in
+    least-append es (each c (places (twice ns ++ shared ns (bs ++ vs))) ++ [])
+    ∙ ap (λ x. sooner (least es) (least x)) (append-nil (each c (places (twice ns ++ shared ns (bs ++ vs)))) ∙ each-places c (twice ns) (shared ns (bs ++ vs)))
+    ∙ ap (sooner (least es)) (least-append (doubled c ns) (clash_with c ns (bs ++ vs)) ∙ ap (sooner (least (doubled c ns))) (shared-both c ns bs vs)
+      ∙ sym (sooner-twice (least (doubled c ns)) (least (clash_with c ns bs)) (least (clash_with c ns vs))) ∙ ap (λ x. sooner x (least (clash_with c ns vs))) (sym (least-append (doubled c ns) (clash_with c ns bs))))
+
+head : (es : List Error) (ns vs : List Named) → least (es ++ (each error.ForNameIsVar (places (shared ns vs)) ++ [])) ≡ sooner (least es) (least (clash_with error.ForNameIsVar ns vs))
+head es ns vs = least-append es (each error.ForNameIsVar (places (shared ns vs)) ++ []) ∙ ap (λ x. sooner (least es) (least x)) (append-nil (each error.ForNameIsVar (places (shared ns vs))))
+
+-- ---- the parts with `var`s
+
+head-at : (ps : Parts) → head_lexical ps ≡ at_part (lexical_names false) (part_at ps 0)
+head-at none = refl
+head-at (part t ps) = refl
+head-at (gap ps) = refl
+
+behind_two : (ps : Parts) → others (others ps) ≡ parts_drop 2 ps
+behind_two none = refl
+behind_two (part t ps) = others-drop ps
+behind_two (gap ps) = others-drop ps
+
+behind_three : (ps : Parts) → others (others (others ps)) ≡ parts_drop 3 ps
+behind_three none = refl
+behind_three (part t ps) = behind_two ps
+behind_three (gap ps) = behind_two ps
+
+block-vars : (t : Tree) → is_block (kind_of t) ≡ true → var_names t ≡ parts_vars (parts_of t)
+unfolding var_names
+block-vars (node BlockStatement w g s e ps) h = refl
+block-vars (node _ w g s e ps) h = absurd (cc)
+
+-- from the body on, where there is one
+abbrev place_at : Option Tree → Parts → ℕ
+place_at p ps = cond (is_some (block_at p)) (part_count ps - 1) (part_count ps)
+
+no_body : (ps : Parts) → parts_vars none ≡ range_vars ps (part_count ps) (part_count ps - part_count ps)
+unfolding parts_vars
+no_body ps = sym (ranged-past (vars_at ps) (part_count ps) (part_count ps) (omega arith))
+
+a_body : (ps : Parts) (t : Tree) → Some t ≡ part_at ps (part_count ps - 1) → is_block (kind_of t) ≡ true → parts_vars (parts_of t) ≡ range_vars ps (part_count ps - 1) (part_count ps - (part_count ps - 1))
+a_body ps t e h = whole (leb_tells (part_count ps) (part_count ps - 1))
+  where
+    n : ℕ
+    n = part_count ps
+
+    stands : n - 1 < n → parts_vars (parts_of t) ≡ range_vars ps (n - 1) (n - (n - 1))
+    stands l =
+        sym (block-vars t h) ∙ sym (append-nil (var_names t)) ∙ ap (λ p. at_part var_names p ++ []) e
+        ∙ ap (λ x. vars_at ps (n - 1) ++ x) (sym (ranged-past (vars_at ps) (n - 1 + 1) n (omega arith)))
+        ∙ sym (ranged-step (vars_at ps) (n - 1) n l)
+
+    whole : ((leb n (n - 1) ≡ true) × (n ≤ n - 1)) ⊎ ((leb n (n - 1) ≡ false) × (n - 1 < n)) → parts_vars (parts_of t) ≡ range_vars ps (n - 1) (n - (n - 1))
+    whole (inl l) = let p = past ps (n - 1) l.1 in absurd (cc)
+    whole (inr l) = stands l.1
+
+at_body : (ps : Parts) (p : Option Tree) → p ≡ part_at ps (part_count ps - 1) → parts_vars (items_at (block_at p)) ≡ range_vars ps (place_at p ps) (part_count ps - place_at p ps)
+at_body ps None e = no_body ps
+at_body ps (Some t) e = pick (is_block (kind_of t)) refl
+  where
+    pick : (b : Bool) → is_block (kind_of t) ≡ b →
+        parts_vars (items_at (cond b (Some t) None)) ≡ range_vars ps (cond (is_some (cond b (Some t) None)) (part_count ps - 1) (part_count ps)) (part_count ps - cond (is_some (cond b (Some t) None)) (part_count ps - 1) (part_count ps))
+    pick true h = a_body ps t e h
+    pick false h = no_body ps
+
+body-vars : (ps : Parts) → parts_vars (body_items ps) ≡ range_vars ps (body_place ps) (part_count ps - body_place ps)
+body-vars ps = ap parts_vars (sym (body-whole ps (block_at (part_at ps (part_count ps - 1))) refl)) ∙ at_body ps (part_at ps (part_count ps - 1)) refl
+
+-- ---- kind by kind
+
+module _ (z : Around) where
+  abbrev Split : Tree → Type 0
+  Split t = let k = scope_kind (kind_of t) in let ps = parts_of t in let ns = names_of_scope k z.is_body ps in
+      least (own_errors z t) ≡ sooner (least (plain_errors z t)) (sooner (least (found_of_scope k z.is_body ps ns)) (least (clash_with (scope_error k) ns (range_vars ps (place_of_scope k ps) (part_count ps - place_of_scope k ps)))))
+
+  pub scope-split : (t : Tree) → inside_of (kind_of t) (flags_of t).form ≡ inside.Scope → Split t
+  unfolding own_errors duplicate_lexical_name lexical_name_is_var const_without_initializer catch_parameter_conflict for_name_is_var duplicate_parameter parameter_is_lexical_name use_strict_behind_pattern eval_or_arguments delete_of_identifier misplaced_jump undefined_label duplicate_label super_property_outside_method super_call_outside_constructor new_target_outside_function duplicate_constructor special_constructor static_prototype uncooked_template reg_exp_flags
+  scope-split (node Program w g s e ps) h =
+      let ns = each_part (lexical_names false) ps in
+      top ns (each_part function_names ps) (parts_vars ps)
+      ∙ ap (λ vs. sooner (least (doubled error.DuplicateLexicalName ns ++ clash_with error.LexicalNameIsVar ns (each_part function_names ps))) (least (clash_with error.LexicalNameIsVar ns vs))) (sym (vars_drop ps 0))
+  scope-split (node BlockStatement w g s e ps) h =
+      let ns = each_part (lexical_names (not z.is_body)) ps in
+      block z.is_body ps (parts_vars ps) ∙ ap (λ vs. sooner (least (found_of_scope scope.Block z.is_body ps ns)) (least (clash_with error.LexicalNameIsVar ns vs))) (sym (vars_drop ps 0))
+  scope-split (node SwitchStatement w g s e ps) h =
+      inner (each_part case_names (others ps)) (parts_vars (others ps))
+      ∙ (λ i. sooner (least (doubled error.DuplicateLexicalName (each_part case_names (others-drop ps i)))) (least (clash_with error.LexicalNameIsVar (each_part case_names (others-drop ps i)) ((ap parts_vars (others-drop ps) ∙ sym (vars_drop ps 1)) i))))
+  scope-split (node CatchClause w g s e ps) h =
+      let es = each error.EvalOrArguments (places (filter is_restricted (first_names ps))) in
+      let bs = each_part (lexical_names true) (body_items ps) in
+      let c = error.CatchParameterConflict in
+      catch es (first_names ps) bs (parts_vars (body_items ps))
+      ∙ (λ i. let ns = first_names-at ps i in sooner (least es) (sooner (least (doubled c ns ++ clash_with c ns bs)) (least (clash_with c ns (body-vars ps i)))))
+  scope-split (node ForStatement w g s e ps) h =
+      head [] (head_lexical ps) (parts_vars (others (others (others ps))))
+      ∙ (λ i. least (clash_with error.ForNameIsVar (head-at ps i) ((ap parts_vars (behind_three ps) ∙ sym (vars_drop ps 3)) i)))
+  scope-split (node ForInStatement w g s e ps) h =
+      let es = each error.EvalOrArguments (places (filter is_restricted (first_names ps))) in
+      head es (head_lexical ps) (parts_vars (others (others ps)))
+      ∙ (λ i. sooner (least es) (least (clash_with error.ForNameIsVar (head-at ps i) ((ap parts_vars (behind_two ps) ∙ sym (vars_drop ps 2)) i))))
+  scope-split (node ForOfStatement w g s e ps) h =
+      let es = each error.EvalOrArguments (places (filter is_restricted (first_names ps))) in
+      head es (head_lexical ps) (parts_vars (others (others ps)))
+      ∙ (λ i. sooner (least es) (least (clash_with error.ForNameIsVar (head-at ps i) ((ap parts_vars (behind_two ps) ∙ sym (vars_drop ps 2)) i))))
+  scope-split (node Property w g s e ps) h = absurd (not_scope (is_method g.form) h)
+  scope-split (node _ w g s e ps) h = absurd (cc)
