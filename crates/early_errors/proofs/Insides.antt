@@ -1,6 +1,6 @@
 -- What a node's kind says of the labels round its parts, of its `var`s and of its own errors.
-use Rattle.std.proofs.Common.{◌≡◌, ℕ, zero, suc, ◌+◌, ◌-◌, ◌<◌, ◌≤◌, Bool, true, false, not, cond, List, [], ◌∷◌, ◌++◌, Option, Some, None, filter, ◌⊎◌, inl, inr, is_some, refl, sym, ap, subst, ◌∙◌, arith, append-nil}
-use Rattle.std.specs.Prelude.{◌||◌, ◌&&◌}
+use Rattle.std.proofs.Common.{rules, ◌≡◌, ℕ, zero, suc, ◌+◌, ◌-◌, ◌<◌, ◌≤◌, Bool, true, false, not, cond, List, [], ◌∷◌, ◌++◌, Option, Some, None, filter, ◌⊎◌, inl, inr, is_some, refl, sym, ap, subst, ◌∙◌, arith, append-nil}
+use Rattle.std.specs.Prelude.{◌||◌, ◌&&◌, IfSome}
 use Rattle.std.specs.Str.{bytes_eq}
 use Rattle.std.proofs.lemmas.Slice.Eq.{bytes_eq-Decides}
 use Rattle.tree.specs.declared.kind.Kind.{Kind}
@@ -9,11 +9,13 @@ use Rattle.tree.specs.Tree.{Tree, node, Parts, none, part, gap, kind_of, text_of
 use Rattle.language.specs.FirstPart.{others}
 use Rattle.early_errors.specs.declared.walk.Inside.{Inside}
 use Rattle.early_errors.specs.declared.walk.Inside.TheVariants as inside
+use Rattle.early_errors.specs.declared.around.Around.{Around as Code}
 use Rattle.early_errors.specs.Around.{Around, Label, is_method, labels_loop, last_loop, own_label}
 use Rattle.early_errors.specs.Names.{Named, var_names, parts_vars}
 use Rattle.early_errors.specs.Early.{own_errors}
 use Rattle.early_errors.specs.Owns.{Knows, label_of, or_false, inside_of, inner_labels, first_labels, plain_errors, vars_of}
 use Rattle.early_errors.specs.Walk.{Agree, with_value}
+use Rattle.early_errors.specs.Walks.{Fits}
 
 -- the labels round the first part, those round the others, the node's own `var`s, all its `var`s, its errors
 abbrev Facts : Tree → Around → List Label → (first others : List Label) → (vars : List Named) → Type 0
@@ -140,3 +142,19 @@ the_second (part t ps) zero u n l e = absurd (omega (arith, l))
 the_second (gap ps) zero u n l e = absurd (omega (arith, l))
 the_second (part t ps) (suc i) u n l e = only ps i u (omega (arith, n)) e
 the_second (gap ps) (suc i) u n l e = only ps i u (omega (arith, n)) e
+
+-- ---- what is known of a part
+
+some_fits : (o : Option Bool) (u : Tree) (b : Bool) → o ≡ Some b → b ≡ labels_loop u → IfSome o (λ c. c ≡ labels_loop u)
+some_fits None u b e h = absurd (cc)
+some_fits (Some c) u b e h = cc
+
+none_fits : (o : Option Bool) (u : Tree) → o ≡ None → IfSome o (λ c. c ≡ labels_loop u)
+none_fits None u e = search rules
+none_fits (Some c) u e = absurd (cc)
+
+pub known_fits : (a : Code) (u : Tree) (b : Bool) → a.labels_loop ≡ Some b → b ≡ labels_loop u → Fits a u
+known_fits a u b e h = some_fits a.labels_loop u b e h
+
+pub unknown_fits : (a : Code) (u : Tree) → a.labels_loop ≡ None → Fits a u
+unknown_fits a u e = none_fits a.labels_loop u e

@@ -1,12 +1,14 @@
 -- What a walk has found behind one part and behind the next, and behind all parts of a node.
-use Rattle.std.proofs.Common.{◌≡◌, ℕ, zero, suc, ◌+◌, ◌-◌, ◌<◌, ◌≤◌, List, [], ◌∷◌, ◌++◌, Option, Some, None, refl, sym, ap, ◌∙◌, arith}
-use Rattle.tree.specs.Tree.{Tree, Parts, kind_of, flags_of, parts_of, part_count}
+use Rattle.std.proofs.Common.{◌≡◌, ◌≢◌, ℕ, zero, suc, ◌+◌, ◌-◌, ◌<◌, ◌≤◌, true, false, cond, nat_eq, List, [], ◌∷◌, ◌++◌, Option, Some, None, refl, sym, ap, ◌∙◌, arith}
+use Rattle.std.proofs.lemmas.Bool.Decides.{nat_tests}
+use Rattle.tree.specs.Tree.{Tree, Parts, kind_of, flags_of, parts_of, part_at, part_count}
+use Rattle.early_errors.specs.declared.around.Around.{Around as Code}
 use Rattle.early_errors.specs.declared.EarlyError.{EarlyError}
-use Rattle.early_errors.specs.Around.{Around, around_first, around_others}
+use Rattle.early_errors.specs.Around.{Around, Label, around_first, around_others}
 use Rattle.early_errors.specs.Names.{Named, var_names, parts_vars}
 use Rattle.early_errors.specs.Early.{Error, own_errors, errors_within, least}
-use Rattle.early_errors.specs.Owns.{plain_errors, vars_of, clash_with}
-use Rattle.early_errors.specs.Walk.{sooner, after, hits, clashing, Agree}
+use Rattle.early_errors.specs.Owns.{round, plain_errors, vars_of, clash_with}
+use Rattle.early_errors.specs.Walk.{at_part, sooner, after, hits, clashing, Agree}
 use Rattle.early_errors.specs.Walks.{errors_at, vars_at, range_errors, range_vars}
 use Rattle.early_errors.proofs.Least.{sooner-none, sooner-twice, sooner-turns, least-append, after-append}
 use Rattle.early_errors.proofs.Ranging.{ranged-step, ranged-past, errors-split, errors-behind, errors_whole, vars-split, vars_whole}
@@ -38,6 +40,31 @@ module _ (f : List ℕ → Option Error) (y z : Around) (ps : Parts) (i n : ℕ)
       ∙ (λ j. sooner (after q (sym (ranged-step (errors_at y z ps) i n l) j)) (hits f (sym (ranged-step (vars_at ps) i n l) j)))
       ∙ so
 
+pub part-given : (f g : List ℕ → Option Error) (x y z : Around) (ps : Parts) (i : ℕ) (u : Tree) (q r : Option Error) → Agree g f → Some u ≡ part_at ps i → x ≡ cond (nat_eq i 0) y z →
+    r ≡ sooner (after q (errors_within x u)) (hits g (var_names u)) → r ≡ sooner (after q (errors_at y z ps i)) (hits f (vars_at ps i))
+part-given f g x y z ps i u q r a e k h =
+    h ∙ (λ j. sooner (after q (errors_within (k j) u)) (hits-agree g f (var_names u) a j))
+    ∙ ap (λ o. sooner (after q (at_part (errors_within (cond (nat_eq i 0) y z)) o)) (hits f (at_part var_names o))) e
+
+pub part-missing : (f : List ℕ → Option Error) (y z : Around) (ps : Parts) (i : ℕ) (q r : Option Error) → None ≡ part_at ps i → r ≡ q → r ≡ sooner (after q (errors_at y z ps i)) (hits f (vars_at ps i))
+part-missing f y z ps i q r e h =
+    h ∙ sym (sooner-none q) ∙ sym (sooner-none (sooner q None))
+    ∙ ap (λ o. sooner (after q (at_part (errors_within (cond (nat_eq i 0) y z)) o)) (hits f (at_part var_names o))) e
+
+-- what holds round the part at a place
+pub first-round : (first others around : Code) (i : ℕ) (ls : List Label) → i ≡ 0 → around ≡ first → round around ls ≡ cond (nat_eq i 0) (round first ls) (round others ls)
+first-round first others around i ls e h =
+    let b : nat_eq i 0 ≡ true = grind (arith, nat_tests) in
+    ap (λ a. round a ls) h ∙ sym (ap (λ c. cond c (round first ls) (round others ls)) b)
+
+pub other-round : (first others around : Code) (i : ℕ) (ls : List Label) → i ≢ 0 → around ≡ others → round around ls ≡ cond (nat_eq i 0) (round first ls) (round others ls)
+other-round first others around i ls e h =
+    let b : nat_eq i 0 ≡ false = grind (arith, nat_tests) in
+    ap (λ a. round a ls) h ∙ sym (ap (λ c. cond c (round first ls) (round others ls)) b)
+
+pub from_start : (n : ℕ) → n - 0 ≡ n
+from_start n = omega arith
+
 -- ---- all parts
 
 module _ (o q : Option Error) (f : List ℕ → Option Error) (z y w : Around) (t : Tree) (n : ℕ) (count : n ≡ part_count (parts_of t))
@@ -65,10 +92,10 @@ module _ (o q : Option Error) (f : List ℕ → Option Error) (z y w : Around) (
       ∙ ap (λ x. sooner (after o (errors_within z t)) (hits f x)) (sym v)
 
 -- the parts in two goes, with the same table
-pub two-goes : (f g h : List ℕ → Option Error) (q r s : Option Error) (x y z : Around) (ps : Parts) (n : ℕ) → n ≡ part_count ps → Agree g f → Agree h f →
-    r ≡ sooner (after q (range_errors y x ps 0 1)) (hits g (range_vars ps 0 1)) → s ≡ sooner (after r (range_errors x z ps 1 (n - 1))) (hits h (range_vars ps 1 (n - 1))) →
+pub two-goes : (f g h : List ℕ → Option Error) (q r s : Option Error) (v x y z : Around) (ps : Parts) (n : ℕ) → n ≡ part_count ps → Agree g f → Agree h f →
+    r ≡ sooner (after q (range_errors y v ps 0 1)) (hits g (range_vars ps 0 1)) → s ≡ sooner (after r (range_errors x z ps 1 (n - 1))) (hits h (range_vars ps 1 (n - 1))) →
     s ≡ sooner (after q (range_errors y z ps 0 n)) (hits f (range_vars ps 0 n))
-two-goes f g h q r s x y z ps n count a b d e =
+two-goes f g h q r s v x y z ps n count a b d e =
     e ∙ (λ i. sooner (after (d i) (errors-behind x y z ps 0 (n - 1) i)) (hits-agree h f (range_vars ps 1 (n - 1)) b i))
     ∙ ap (λ p. sooner (after (sooner (after q (range_errors y z ps 0 1)) p) (range_errors y z ps 1 (n - 1))) (hits f (range_vars ps 1 (n - 1)))) (hits-agree g f (range_vars ps 0 1) a)
     ∙ joined f q (range_errors y z ps 0 1) (range_errors y z ps 1 (n - 1)) (range_vars ps 0 1) (range_vars ps 1 (n - 1))

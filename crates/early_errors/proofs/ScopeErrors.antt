@@ -9,6 +9,7 @@ use Rattle.tree.specs.Tree.{Tree, node, Parts, none, part, gap, kind_of, flags_o
 use Rattle.language.specs.FirstPart.{others}
 use Rattle.early_errors.specs.declared.EarlyError.{EarlyError}
 use Rattle.early_errors.specs.declared.EarlyError.TheVariants as error
+use Rattle.early_errors.specs.declared.scopes.ScopeKind.{ScopeKind}
 use Rattle.early_errors.specs.declared.scopes.ScopeKind.TheVariants as scope
 use Rattle.early_errors.specs.declared.walk.Inside.TheVariants as inside
 use Rattle.early_errors.specs.Around.{Around, is_method}
@@ -167,3 +168,14 @@ module _ (z : Around) where
       ∙ (λ i. sooner (least es) (least (clash_with error.ForNameIsVar (head-at ps i) ((ap parts_vars (behind_two ps) ∙ sym (vars_drop ps 2)) i))))
   scope-split (node Property w g s e ps) h = absurd (not_scope (is_method g.form) h)
   scope-split (node _ w g s e ps) h = absurd (cc)
+
+  -- by what a walk has of the scope
+  pub split_given : (t : Tree) (k : ScopeKind) (ns : List Named) (e : EarlyError) (m n : ℕ) → inside_of (kind_of t) (flags_of t).form ≡ inside.Scope →
+      k ≡ scope_kind (kind_of t) → ns ≡ names_of_scope k z.is_body (parts_of t) → e ≡ scope_error k → m ≡ place_of_scope k (parts_of t) → n ≡ part_count (parts_of t) →
+      least (own_errors z t) ≡ sooner (least (plain_errors z t)) (sooner (least (found_of_scope k z.is_body (parts_of t) ns)) (least (clash_with e ns (range_vars (parts_of t) m (n - m)))))
+  split_given t k ns e m n h a b c d g =
+      let names = b ∙ ap (λ j. names_of_scope j z.is_body (parts_of t)) a in
+      let code = c ∙ ap scope_error a in
+      let place = d ∙ ap (λ j. place_of_scope j (parts_of t)) a in
+      scope-split t h
+      ∙ sym (λ i. sooner (least (plain_errors z t)) (sooner (least (found_of_scope (a i) z.is_body (parts_of t) (names i))) (least (clash_with (code i) (names i) (range_vars (parts_of t) (place i) (g i - place i))))))
