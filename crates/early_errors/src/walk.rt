@@ -37,7 +37,11 @@ pub(crate) struct Walk<'t> {
 
 impl<'t> Walk<'t> {
     /// Before anything is found.
-    pub(crate) fn new(alloc: Global) -> Walk<'t> {
+    pub(crate) fn new(alloc: Global) -> Walk<'t>
+        ensures found { result.found ≡ None }
+        ensures vars { Agree (look result.vars) (λ _. None) }
+        ensures labels { Agree (look result.labels) (λ _. None) }
+    {
         Walk {
             alloc,
             found: None,

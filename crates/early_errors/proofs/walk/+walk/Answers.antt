@@ -43,14 +43,14 @@ walk_label-returns-in_default-clause-found t c =
 pub walk_label-walk_parts-requires-2 : goal.walk_label-walk_parts-requires-2
 walk_label-walk_parts-requires-2 t c =
     let t = node_tree c.args.node in
-    (search rules,
+    (search rules, (
       elim c.if-part_count-eq2.branch [
         walk_label-then-part_count-eq2 w ↦ ap (λ r. r.first.labels_loop) w.rounds-is ∙ c.rounds_of-rounds.ensures.first_unknown
       | walk_label-else-part_count-eq2 w ↦ ap (λ r. r.first.labels_loop) w.rounds-is ∙ c.rounds_of-rounds.ensures.first_unknown ],
       λ i u l e. elim c.if-part_count-eq2.branch [
         walk_label-then-part_count-eq2 w ↦ known_fits c.if-part_count-eq2.rounds.others u c.label_is_loop-is_loop.result (ap (λ r. r.others.labels_loop) w.rounds-is)
           (c.label_is_loop-is_loop.ensures (label_facts t (round c.args.around []) [] c.requires.inside).1 ∙ the_second (parts_of t) i u (sym c.part_count-2.ensures ∙ w.if-part_count-eq2.true) l e)
-      | walk_label-else-part_count-eq2 w ↦ unknown_fits c.if-part_count-eq2.rounds.others u (ap (λ r. r.others.labels_loop) w.rounds-is ∙ c.rounds_of-rounds.ensures.others_unknown) ])
+      | walk_label-else-part_count-eq2 w ↦ unknown_fits c.if-part_count-eq2.rounds.others u (ap (λ r. r.others.labels_loop) w.rounds-is ∙ c.rounds_of-rounds.ensures.others_unknown) ]))
 
 pub walk_label-returns-clause-found : goal.walk_label-returns-clause-found
 walk_label-returns-clause-found t c =
