@@ -179,7 +179,7 @@ module _ (S : Type 0) (Next : S → Token → S → Type 0) (behind : S → Toke
   by_name {s0} {x} {t} r t1 m1 h = det.same Goal.RegExp s0 t1 t m1 x h.next r.next (det.free Goal.RegExp s0 t1 m1 h.next (ap is_free h.class)) r.allowed
 
   -- a leftmost part that isn't a group stands at a symbol that takes a Primary
-  core_primary : {o : ℕ} {h : Rank} {j : Bool} {f : Start} {m : Tree} {s mid x : S} {Q : List Pair} {t : Token} → Core S Next behind o (expr h j f) m s mid Q → ReadBy S Next behind Goal.RegExp s t x → (opening_of t ≡ with_parenthesis → ⊥) → IsTrue (takes h Primary)
+  pub core_primary : {o : ℕ} {h : Rank} {j : Bool} {f : Start} {m : Tree} {s mid x : S} {Q : List Pair} {t : Token} → Core S Next behind o (expr h j f) m s mid Q → ReadBy S Next behind Goal.RegExp s t x → (opening_of t ≡ with_parenthesis → ⊥) → IsTrue (takes h Primary)
   unfolding spellings
   core_primary {s = s} {x = x} {t = t} (group {left = u} {m = k} p d q) r other =
       let al : IsTrue (allows Goal.RegExp u.class u.text) = subst (λ c. IsTrue (allows Goal.RegExp c u.text)) (sym p.class) (subst (λ z. IsTrue (allows Goal.RegExp Punctuator z)) (sym p.text) refl) in

@@ -38,6 +38,7 @@ pub mod Prefixes
 pub mod Groups
 pub mod Chains
 pub mod Links
+pub mod Sole
 pub mod Searched
 pub mod Found
 pub mod Trees
