@@ -39,6 +39,7 @@ pub mod Groups
 pub mod Chains
 pub mod Links
 pub mod Sole
+pub mod Targets
 pub mod Searched
 pub mod Found
 pub mod Trees
