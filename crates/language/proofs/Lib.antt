@@ -40,6 +40,7 @@ pub mod Chains
 pub mod Links
 pub mod Sole
 pub mod Targets
+pub mod Supers
 pub mod Searched
 pub mod Found
 pub mod Trees
