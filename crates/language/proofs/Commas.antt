@@ -96,7 +96,8 @@ joined_edge (part n none) u = refl
 joined_edge (part n (part l qs)) u = joined_edge (part l qs) u
 joined_edge (part n (gap qs)) u = joined_edge qs u
 
-last_edge_join : (qs : Parts) (u : Tree) (m : Tree) → last_edge (part m (join qs (part u none))) ≡ edge u
+-- the last part's edge, behind others
+pub last_edge_join : (qs : Parts) (u : Tree) (m : Tree) → last_edge (part m (join qs (part u none))) ≡ edge u
 last_edge_join qs u m = joined_edge (part m qs) u
 
 bare_some : (ps : Parts) → is_none (bare_parts ps) ≡ is_none ps

@@ -41,6 +41,7 @@ pub mod Links
 pub mod Sole
 pub mod Targets
 pub mod Supers
+pub mod ParameterLists
 pub mod Searched
 pub mod Found
 pub mod Trees
