@@ -42,6 +42,7 @@ pub mod Sole
 pub mod Targets
 pub mod Supers
 pub mod ParameterLists
+pub mod Callees
 pub mod Searched
 pub mod Found
 pub mod Trees

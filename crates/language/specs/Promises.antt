@@ -1,20 +1,22 @@
 -- What a function promises that reads an expression at a place, or something else: that it is found, the only one there; or that there is none.
-use Rattle.std.specs.Prelude.{◌≡◌, ℕ, ◌≤◌, Bool, true, false, List, IsTrue}
+use Rattle.std.specs.Prelude.{◌≡◌, ℕ, ◌≤◌, Bool, true, false, List, IsTrue, codes}
 use Rattle.tokens.specs.declared.token.Class.{Class}
-use Rattle.tokens.specs.declared.token.Class.TheVariants.{Name, Number, Text, End}
+use Rattle.tokens.specs.declared.token.Class.TheVariants.{Name, Punctuator, Number, Text, End}
 use Rattle.tokens.specs.declared.token.Goal.{Goal}
 use Rattle.tokens.specs.declared.token.Goal.TheVariants.{Div}
 use Rattle.tokens.specs.Goals.{allows}
 use Rattle.tree.specs.declared.kind.Pair.{Pair}
 use Rattle.tree.specs.Tree.{Tree, Parts, height, parts_height}
 use Rattle.language.specs.declared.Rank.{Rank}
+use Rattle.language.specs.declared.Rank.TheVariants.{New, Member}
 use Rattle.language.specs.declared.Start.{Start}
+use Rattle.language.specs.declared.Start.TheVariants.{Any}
 use Rattle.language.specs.Pieces.{Role, expr, PieceOf}
 use Rattle.language.specs.Token.{Token}
 use Rattle.language.specs.Edges.{edge}
 use Rattle.language.specs.Follow.{stops}
 use Rattle.language.specs.Grammar.{ways}
-use Rattle.language.specs.Derivation.{Spells, Runs}
+use Rattle.language.specs.Derivation.{Reads, Spells, Runs}
 
 -- the classes that every goal reads
 abbrev pub is_free : Class → Bool
@@ -79,3 +81,21 @@ module _ (S : Type 0) (Next : S → Token → S → Type 0) (behind : S → Toke
 
   pub record AbsentPartsWithin (o h : ℕ) (pieces : Parts → List (PieceOf Role)) (s : S) : Type 0 where
     pub nothing : (e' : S) (ps' : Parts) (P' : List Pair) → Runs ways S Next behind o (pieces ps') ps' s e' P' → parts_height ps' ≤ h → ⊥
+
+  -- What stands behind `new` (12.3.3): a MemberExpression; or a NewExpression behind which no `(` follows, since a `new` without
+  -- arguments in it would have taken those.
+  pub data Callee (o : ℕ) (n : Tree) (s e : S) (P : List Pair) : Type 0 where
+    at_member : Spells ways S Next behind o (expr Member true Any) n s e P → Callee o n s e P
+    at_new : Spells ways S Next behind o (expr New true Any) n s e P → ((t : Token) (m : S) → Reads S Next behind Punctuator (codes "(") e t m → ⊥) → Callee o n s e P
+
+  -- the only one here that can't go on; none; none within the limits
+  pub record FoundCallee (o : ℕ) (s e : S) (n : Tree) (P : List Pair) : Type 0 where
+    pub callee : Callee o n s e P
+    pub stopped : Stops New true n e
+    pub only : (o' : ℕ) (e' : S) (n' : Tree) (P' : List Pair) → Callee o' n' s e' P' → Stops New true n' e' → (e' ≡ e) × (n' ≡ n) × (P' ≡ P)
+
+  pub record AbsentCallee (s : S) : Type 0 where
+    pub nothing : (o' : ℕ) (e' : S) (n' : Tree) (P' : List Pair) → Callee o' n' s e' P' → Stops New true n' e' → ⊥
+
+  pub record AbsentCalleeWithin (o h : ℕ) (s : S) : Type 0 where
+    pub nothing : (e' : S) (n' : Tree) (P' : List Pair) → Callee o n' s e' P' → Stops New true n' e' → height n' ≤ h → ⊥
