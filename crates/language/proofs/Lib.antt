@@ -43,6 +43,7 @@ pub mod Targets
 pub mod Supers
 pub mod ParameterLists
 pub mod Callees
+pub mod News
 pub mod Searched
 pub mod Found
 pub mod Trees
