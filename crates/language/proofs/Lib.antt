@@ -44,6 +44,8 @@ pub mod Supers
 pub mod ParameterLists
 pub mod Callees
 pub mod News
+pub mod Turns
+pub mod Standing
 pub mod Searched
 pub mod Found
 pub mod Trees
