@@ -1,19 +1,20 @@
 -- What a function promises that reads an expression at a place, or something else: that it is found, the only one there; or that there is none.
-use Rattle.std.specs.Prelude.{◌≡◌, ℕ, ◌≤◌, Bool, true, false, List, IsTrue, codes}
+use Rattle.std.specs.Prelude.{◌≡◌, ℕ, ◌≤◌, Bool, true, false, List, [], ◌∷◌, IsTrue, map, codes}
 use Rattle.tokens.specs.declared.token.Class.{Class}
 use Rattle.tokens.specs.declared.token.Class.TheVariants.{Name, Punctuator, Number, Text, End}
 use Rattle.tokens.specs.declared.token.Goal.{Goal}
 use Rattle.tokens.specs.declared.token.Goal.TheVariants.{Div}
 use Rattle.tokens.specs.Goals.{allows}
 use Rattle.tree.specs.declared.kind.Pair.{Pair}
-use Rattle.tree.specs.Tree.{Tree, Parts, height, parts_height}
+use Rattle.tree.specs.Tree.{Tree, Parts, none, part, gap, height, parts_height, bare_parts}
 use Rattle.language.specs.declared.Rank.{Rank}
-use Rattle.language.specs.declared.Rank.TheVariants.{New, Member}
+use Rattle.language.specs.declared.Rank.TheVariants.{Expression, Assignment, New, Member}
 use Rattle.language.specs.declared.Start.{Start}
 use Rattle.language.specs.declared.Start.TheVariants.{Any}
-use Rattle.language.specs.Pieces.{Role, expr, PieceOf}
+use Rattle.language.specs.Pieces.{Role, expr, PieceOf, sub, never, settle_piece}
 use Rattle.language.specs.Token.{Token}
-use Rattle.language.specs.Edges.{edge}
+use Rattle.language.specs.Edges.{edge, last_edge}
+use Rattle.language.specs.Expressions.{sequence}
 use Rattle.language.specs.Follow.{stops}
 use Rattle.language.specs.Grammar.{ways}
 use Rattle.language.specs.Derivation.{Reads, Spells, Runs}
@@ -25,6 +26,12 @@ is_free Number = true
 is_free Text = true
 is_free End = true
 is_free _ = false
+
+-- the pieces of a sequence behind its first comma (12.16)
+abbrev pub later_parts : Bool → Parts → List (PieceOf Role)
+later_parts i none = never ∷ []
+later_parts i (gap ps) = never ∷ []
+later_parts i (part n ps) = sub (expr Assignment i Any) ∷ map (settle_piece Expression i Any) (sequence (bare_parts ps))
 
 module _ (S : Type 0) (Next : S → Token → S → Type 0) (behind : S → Token) where
   -- Where tokens are determined once a goal is chosen: by a goal at most one is read at a place; behind it, it is the token before;
@@ -99,3 +106,19 @@ module _ (S : Type 0) (Next : S → Token → S → Type 0) (behind : S → Toke
 
   pub record AbsentCalleeWithin (o h : ℕ) (s : S) : Type 0 where
     pub nothing : (e' : S) (n' : Tree) (P' : List Pair) → Callee o n' s e' P' → Stops New true n' e' → height n' ≤ h → ⊥
+
+  -- the sequence that ends here can't go on, with a comma neither
+  abbrev pub LaterStop : Bool → Parts → S → Type 0
+  LaterStop i ps e = (t : Token) (m : S) → ReadBy Div e t m → IsTrue (stops Expression i (last_edge ps) (behind e) t)
+
+  -- the only parts of a sequence behind its first comma that can't go on; none; none within the limits
+  pub record FoundLater (o : ℕ) (i : Bool) (s e : S) (ps : Parts) (P : List Pair) : Type 0 where
+    pub runs : Runs ways S Next behind o (later_parts i ps) ps s e P
+    pub stopped : LaterStop i ps e
+    pub only : (o' : ℕ) (e' : S) (ps' : Parts) (P' : List Pair) → Runs ways S Next behind o' (later_parts i ps') ps' s e' P' → LaterStop i ps' e' → (e' ≡ e) × (ps' ≡ ps) × (P' ≡ P)
+
+  pub record AbsentLater (i : Bool) (s : S) : Type 0 where
+    pub nothing : (o' : ℕ) (e' : S) (ps' : Parts) (P' : List Pair) → Runs ways S Next behind o' (later_parts i ps') ps' s e' P' → LaterStop i ps' e' → ⊥
+
+  pub record AbsentLaterWithin (o h : ℕ) (i : Bool) (s : S) : Type 0 where
+    pub nothing : (e' : S) (ps' : Parts) (P' : List Pair) → Runs ways S Next behind o (later_parts i ps') ps' s e' P' → LaterStop i ps' e' → parts_height ps' ≤ h → ⊥
