@@ -38,7 +38,7 @@ pub mod Prefixes
 pub mod Groups
 pub mod Chains
 pub mod Links
-pub mod Sole
+pub mod Openers
 pub mod Targets
 pub mod Supers
 pub mod ParameterLists
