@@ -44,6 +44,7 @@ pub mod Supers
 pub mod ParameterLists
 pub mod Callees
 pub mod News
+pub mod Closures
 pub mod Turns
 pub mod Sequences
 pub mod Standing
