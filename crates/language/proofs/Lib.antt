@@ -45,6 +45,7 @@ pub mod ParameterLists
 pub mod Callees
 pub mod News
 pub mod Closures
+pub mod Patterned
 pub mod Unlinked
 pub mod Turns
 pub mod Sequences
