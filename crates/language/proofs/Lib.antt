@@ -47,6 +47,7 @@ pub mod News
 pub mod Closures
 pub mod Patterned
 pub mod Unlinked
+pub mod Chained
 pub mod Turns
 pub mod Sequences
 pub mod Standing
