@@ -1,19 +1,25 @@
 -- The parameters of a function or an arrow, apart from the body, which is the last part beside them: a list with its closing token, and what follows it.
-use Rattle.std.proofs.Common.{◌≡◌, ℕ, Bool, true, false, List, [], ◌∷◌, ◌++◌, refl, sym, ap, ◌∙◌, subst, append_assoc}
-use Rattle.std.specs.Prelude.{Some, codes}
+use Rattle.std.proofs.Common.{◌≡◌, ℕ, ◌≤◌, Bool, true, false, List, [], ◌∷◌, ◌++◌, refl, sym, ap, ◌∙◌, subst, arith, append_assoc}
+use Rattle.std.specs.Prelude.{Some, codes, max}
 use Rattle.std.proofs.lemmas.Bool.{false≢true}
 use Rattle.tokens.specs.declared.token.Class.TheVariants.{Punctuator}
 use Rattle.language.specs.declared.Rank.{Rank}
+use Rattle.language.specs.declared.Rank.TheVariants.{Expression}
 use Rattle.language.specs.declared.Start.{Start}
+use Rattle.language.specs.declared.Start.TheVariants.{Any}
 use Rattle.tree.specs.declared.kind.Pair.{Pair}
-use Rattle.tree.specs.Tree.{Tree, Parts, none, part, gap, kind_of, join}
+use Rattle.tree.specs.Tree.{Tree, Parts, none, part, gap, height, parts_height, kind_of, join}
+use Rattle.tree.proofs.Shapes.{parts_height-join}
 use Rattle.language.specs.Words.{is_rest}
-use Rattle.language.specs.Pieces.{Role, Piece, PieceOf, tok, is_none, settle_piece}
+use Rattle.language.specs.Pieces.{Role, body, Piece, PieceOf, tok, sp, sign, put, is_none, settle_piece}
 use Rattle.language.specs.Token.{Token}
+use Rattle.language.specs.Promises.{IsDetermined, FoundAt, AbsentAt, AbsentAtWithin, FoundParts, AbsentParts, AbsentPartsWithin}
 use Rattle.language.specs.Grammar.{ways}
-use Rattle.language.specs.Derivation.{Reads, Spells, Runs, done, step, token}
+use Rattle.language.specs.Derivation.{Reads, Spells, Runs, done, step, token, laid}
 use Rattle.language.proofs.Begins.{goes_to}
-use Rattle.language.proofs.Running.{run_token, run_none, run_never}
+use Rattle.language.proofs.Running.{run_token, run_laid, run_none, run_never}
+use Rattle.language.proofs.Sides.{one_part}
+use Rattle.language.proofs.Growing.{last_runs}
 use Rattle.language.proofs.Lists.{element_role, list_pieces, parameter_pieces, ListForm, no_item, last_item, trailing, more_items, BehindLast, alone, and_comma, list_form, list_runs, ParameterForm, no_parameter, last_parameter, more_parameters, parameter_form, parameter_runs}
 
 -- the pieces of parameters, with their closing parenthesis
@@ -116,3 +122,69 @@ module _ (S : Type 0) (Next : S → Token → S → Type 0) (behind : S → Toke
     parameters_join (part n none) d r = join_one r (list_form S Next behind (part n none) d)
     parameters_join (part n (gap qs)) d r = join_gap (list_form S Next behind (part n (gap qs)) d)
     parameters_join (part n (part l qs)) {b = b} d r = join_more b (λ s P d. parameters_join (part l qs) d r) (list_form S Next behind (part n (part l qs)) d)
+
+  -- the parenthesis behind a function's parameters
+  pub function_closer : (y : Rank) (i : Bool) (f : Start) (o : ℕ) → Closer y i f o o (sign ")")
+  function_closer y i f o = record { opens = λ d. (let u = run_token S Next behind d in (u.sign, u.mid, u.reads, u.runs)); closes = λ h d. step (token h) d }
+
+-- the pieces of a function behind its `(`
+abbrev pub parameters_and_body : Parts → List (PieceOf Role)
+parameters_and_body ps = parameter_pieces Expression true Any (sign ")" ∷ sp ∷ put body ∷ []) ps
+
+module _ (S : Type 0) (Next : S → Token → S → Type 0) (behind : S → Token) (det : IsDetermined S Next behind) where
+  -- parameters, and the body behind them
+  record Bodied (o : ℕ) (ps : Parts) (s e : S) (P : List Pair) : Type 0 where
+    given : Parts
+    last : Tree
+    mid : S
+    one : List Pair
+    more : List Pair
+    parts : ps ≡ join given (part last none)
+    list : Runs ways S Next behind o (parameter_list given) given s mid one
+    spelled : Spells ways S Next behind o body last mid e more
+    pairs : P ≡ one ++ more
+
+  bodied : {o : ℕ} {s e : S} {P : List Pair} (ps : Parts) → Runs ways S Next behind o (parameters_and_body ps) ps s e P → Bodied o ps s e P
+  bodied {o} ps d =
+      let u = parameters_split S Next behind (sp ∷ put body ∷ []) (function_closer S Next behind Expression true Any o) ps d in
+      let b = one_part S Next behind det (run_laid S Next behind u.runs) in
+      record { given = u.given; last = b.operand; mid = u.mid; one = u.one; more = u.more; parts = u.parts ∙ ap (join u.given) b.parts; list = u.list; spelled = b.spelled; pairs = u.pairs }
+
+  -- both are found
+  pub bodied_found : {o : ℕ} {s m e : S} {ps : Parts} {u : Tree} {A B : List Pair} → FoundParts S Next behind o parameter_list s m ps A → FoundAt S Next behind o body m e u B → FoundParts S Next behind o parameters_and_body s e (join ps (part u none)) (A ++ B)
+  bodied_found {o} {ps = ps} {A = A} list last = record {
+    runs = parameters_join S Next behind (sp ∷ put body ∷ []) (function_closer S Next behind Expression true Any o) ps list.runs (step laid (last_runs S Next behind last.spelled));
+    only = λ o' e' ps' P' d. let w = bodied ps' d in
+        let same = list.only o' w.mid w.given w.one w.list in
+        let end = last.only o' e' w.last w.more (subst (λ c. Spells ways S Next behind o' body w.last c e' w.more) same.0 w.spelled) in
+        (end.0, w.parts ∙ (λ k. join (same.1 k) (part (end.1 k) none)), w.pairs ∙ (λ k. same.2 k ++ end.2 k));
+  }
+
+  -- no parameters, or no body behind them; none within the limits
+  pub parameters_absent : {s : S} → AbsentParts S Next behind parameter_list s → AbsentParts S Next behind parameters_and_body s
+  parameters_absent missed = record { nothing = λ o' e' ps' P' d. (let w = bodied ps' d in missed.nothing o' w.mid w.given w.one w.list) }
+
+  pub parameters_deep : {o hi : ℕ} {s : S} → AbsentPartsWithin S Next behind o hi parameter_list s → AbsentPartsWithin S Next behind o hi parameters_and_body s
+  parameters_deep missed = record {
+    nothing = λ e' ps' P' d le. let w = bodied ps' d in
+        let high : parts_height ps' ≡ parts_height (join w.given (part w.last none)) = ap parts_height w.parts in
+        let inner = parts_height-join w.given (part w.last none) in
+        missed.nothing w.mid w.given w.one w.list (omega arith);
+  }
+
+  module _ {o1 : ℕ} {s m : S} {ps : Parts} {A : List Pair} (list : FoundParts S Next behind o1 parameter_list s m ps A) where
+    pub bodied_absent : AbsentAt S Next behind body m → AbsentParts S Next behind parameters_and_body s
+    bodied_absent missed = record {
+      nothing = λ o' e' ps' P' d. let w = bodied ps' d in
+          let same = list.only o' w.mid w.given w.one w.list in
+          missed.nothing o' e' w.last w.more (subst (λ c. Spells ways S Next behind o' body w.last c e' w.more) same.0 w.spelled);
+    }
+
+    pub bodied_deep : {o hi : ℕ} → AbsentAtWithin S Next behind o hi body m → AbsentPartsWithin S Next behind o hi parameters_and_body s
+    bodied_deep {o} missed = record {
+      nothing = λ e' ps' P' d le. let w = bodied ps' d in
+          let same = list.only o w.mid w.given w.one w.list in
+          let high : parts_height ps' ≡ parts_height (join w.given (part w.last none)) = ap parts_height w.parts in
+          let inner = parts_height-join w.given (part w.last none) in
+          missed.nothing e' w.last w.more (subst (λ c. Spells ways S Next behind o body w.last c e' w.more) same.0 w.spelled) (omega arith);
+    }

@@ -1,28 +1,48 @@
 -- Further forms of the turns of the loop: at `.` within the limits, at `=>` behind what is no arrow's parameters; and limits that nothing meets.
-use Rattle.std.proofs.Common.{◌≡◌, ℕ, ◌-◌, ◌≤◌, Bool, true, false, List, arith}
+use Rattle.std.proofs.Common.{◌≡◌, ℕ, ◌-◌, ◌≤◌, ◌<◌, Bool, true, false, List, refl, ap, arith}
 use Rattle.std.specs.Prelude.{IsTrue}
 use Rattle.tokens.specs.declared.token.Goal.TheVariants.{Div}
 use Rattle.tree.specs.declared.kind.Kind.{Kind}
 use Rattle.language.specs.declared.Rank.{Rank}
+use Rattle.language.specs.declared.Rank.TheVariants.{Conditional, New}
 use Rattle.language.specs.declared.Start.{Start}
 use Rattle.tree.specs.declared.kind.Flags.{Flags}
 use Rattle.tree.specs.declared.kind.Pair.{Pair}
 use Rattle.tree.specs.Tree.{Tree, node, Parts, height, parts_height}
-use Rattle.language.specs.Words.{selects, arrows}
+use Rattle.language.specs.Words.{tightness, Operator, selects, arrows, operator_of}
 use Rattle.language.specs.Pieces.{Role, word, PieceOf}
 use Rattle.language.specs.Token.{Token}
 use Rattle.language.specs.Edges.{edge}
 use Rattle.language.specs.Follow.{operation, stops}
 use Rattle.language.specs.Promises.{IsDetermined, ReadBy, Absent, AbsentWithin, AbsentAt, AbsentAtWithin, AbsentParts, AbsentPartsWithin, AbsentCallee, AbsentCalleeWithin}
+use Rattle.language.proofs.Operators.{binding}
 use Rattle.language.proofs.Led.{Led}
 use Rattle.language.proofs.Stepping.{goes_where_not}
 use Rattle.language.proofs.Climbing.{Climbing, led_on}
+use Rattle.language.proofs.TwoSides.{TwoSided, two_binds, two_powers, two_assigns}
 use Rattle.language.proofs.Suffixes.{dot_on}
 use Rattle.language.proofs.Callees.{ClimbingCallee}
 
 -- nothing is led by what stands before `=>`
 none_led : {y : Rank} {i : Bool} {f : Start} {k : Kind} {w : List ℕ} {g : Flags} {ps : Parts} {b : Role} {rest : List (PieceOf Role)} → Led y i f k w g ps b rest arrows → ⊥
 none_led l = elim l [ ]
+
+-- The turn at `?` wants a position other than Conditional. There two derivations of `a ? b : c = d` can't go on: `a ? b : c`, since an
+-- assignment doesn't stand at Conditional, and the whole. No part of an expression stands there: not the right side of an operator,
+pub not_conditional : (y : Rank) → (y ≡ Conditional → ⊥) → tightness y ≡ 2 → ⊥
+not_conditional Conditional other e = other refl
+not_conditional _ other e = absurd (omega (arith, e))
+
+-- which stands behind no `new` either
+pub right_position : {op : Operator} {K : Kind} {a z q : Rank} {b : Bool} → (w : List ℕ) → operator_of w ≡ op → TwoSided op K a z q b → (tightness q ≡ 2 → ⊥) × (q ≡ New → ⊥)
+right_position w op (two_binds {z = z} {q = q}) =
+    let v = binding w op in
+    let low = v.least in
+    let up = v.rises.0 in
+    let most = v.most in
+    ((λ e. omega arith), (λ e. (let at : tightness q ≡ tightness New = ap tightness e in omega arith)))
+right_position w op two_powers = ((λ e. omega arith), (λ e. cc))
+right_position w op two_assigns = ((λ e. omega arith), (λ e. cc))
 
 -- a tree has a node
 some_height : (n : Tree) → 1 ≤ height n
