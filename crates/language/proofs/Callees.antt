@@ -58,7 +58,7 @@ piece_same y y' i f h (sub x) = slot_same y y' i f h x
 piece_same y y' i f h _ = refl
 
 -- pieces are the same at positions that are both tight
-tight_pieces : (y y' : Rank) (i : Bool) (f : Start) → is_tight y ≡ is_tight y' → (qs : List Piece) → goes_to y i f qs ≡ goes_to y' i f qs
+pub tight_pieces : (y y' : Rank) (i : Bool) (f : Start) → is_tight y ≡ is_tight y' → (qs : List Piece) → goes_to y i f qs ≡ goes_to y' i f qs
 tight_pieces y y' i f h [] = refl
 tight_pieces y y' i f h (p ∷ qs) = λ k. piece_same y y' i f h p k ∷ tight_pieces y y' i f h qs k
 

@@ -50,6 +50,7 @@ pub mod Unlinked
 pub mod Chained
 pub mod Turns
 pub mod Sequences
+pub mod Wholes
 pub mod Standing
 pub mod Searched
 pub mod Found

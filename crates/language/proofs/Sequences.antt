@@ -40,7 +40,6 @@ use Rattle.language.proofs.Climbing.{Leads, Climbing, led_on}
 use Rattle.language.proofs.Stepping.{goes_where_not}
 use Rattle.language.proofs.Commas.{comma_pieces, comma_goes, CommaLeads, Sequencing, seq_first}
 
--- Only a comma makes a node at Expression.
 low_symbol : (z : Rank) → takes Assignment z ≡ false → z ≡ Expression
 low_symbol Expression h = refl
 low_symbol _ h = cc
@@ -48,7 +47,8 @@ low_symbol _ h = cc
 some_is : {b c : Rank} → Some b ≡ Some c → b ≡ c
 some_is e = cc
 
-comma_symbol : (t : Token) (x : Operator) → operation t ≡ x → symbol_of x t.after_break ≡ Some Expression → x ≡ sequences
+-- only a comma makes a node at Expression
+pub comma_symbol : (t : Token) (x : Operator) → operation t ≡ x → symbol_of x t.after_break ≡ Some Expression → x ≡ sequences
 comma_symbol t (binds l z q) op h =
     let reads = op_reads t op (λ e. cc) (λ e. cc) in
     let b = binding t.text reads.1 in
@@ -91,14 +91,16 @@ all_low z c h k = of (takes Expression z) k h
 low_number : (z : ℕ) → takes_number 0 z ≡ true
 low_number z = grind (arith, nat_tests)
 
-takes_all : (z : Rank) → takes Expression z ≡ true
+-- at Expression everything stands
+pub takes_all : (z : Rank) → takes Expression z ≡ true
 takes_all z = low_number (tightness z)
 
-stops_assignment : (i : Bool) (x : Edge) (t : Token) (z : Option Rank) → stops_at Expression i x t z ≡ true → stops_at Assignment i x t z ≡ true
+pub stops_assignment : (i : Bool) (x : Edge) (t : Token) (z : Option Rank) → stops_at Expression i x t z ≡ true → stops_at Assignment i x t z ≡ true
 stops_assignment i x t None h = refl
 stops_assignment i x t (Some z) h = weaker (takes Assignment z) ((is t.text "in" && not i) || not (holds x z)) (all_low z ((is t.text "in" && not i) || not (holds x z)) h (takes_all z))
 
-stops_expression : (i : Bool) (x : Edge) (t : Token) (z : Option Rank) → (z ≡ Some Expression → ⊥) → stops_at Assignment i x t z ≡ true → stops_at Expression i x t z ≡ true
+-- where no comma follows
+pub stops_expression : (i : Bool) (x : Edge) (t : Token) (z : Option Rank) → (z ≡ Some Expression → ⊥) → stops_at Assignment i x t z ≡ true → stops_at Expression i x t z ≡ true
 stops_expression i x t None other h = refl
 stops_expression i x t (Some z) other h = of (takes Assignment z) refl h
   where
@@ -121,7 +123,7 @@ last_joined (part l (part v qs)) n rest = last_joined (part v qs) n rest
 last_joined (part l (gap qs)) n rest = last_joined qs n rest
 
 -- a start changes no pieces behind a comma
-comma_any : (i : Bool) (f : Start) (ps : Parts) → comma_pieces i f ps ≡ comma_pieces i Any ps
+pub comma_any : (i : Bool) (f : Start) (ps : Parts) → comma_pieces i f ps ≡ comma_pieces i Any ps
 comma_any i f none = refl
 comma_any i f (gap ps) = refl
 comma_any i f (part n ps) = ap (λ qs. Rattle.language.specs.Pieces.tok Punctuator (codes ",") ∷ Rattle.language.specs.Pieces.lay Rattle.language.specs.Pieces.space ∷ sub (expr Assignment i Any) ∷ qs) (comma_any i f ps)
