@@ -56,7 +56,6 @@ fixed_function none = one_more refl (one_more refl (one_more refl (fixed_body no
 fixed_function (part n ps) = one_more refl (one_more refl (one_more refl (fixed_body ps)))
 fixed_function (gap ps) = one_more refl (one_more refl (one_more refl (fixed_body ps)))
 
-
 pub fixed_class : (ps : Parts) → Fixed (class_pieces ps)
 fixed_class none = one_more refl (one_more refl (one_more refl (one_more refl (one_more refl all_done))))
 fixed_class (part n none) = one_more refl (one_more refl (one_more refl (one_more refl (one_more refl (one_more refl all_done)))))
