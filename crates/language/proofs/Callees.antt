@@ -16,8 +16,8 @@ use Rattle.language.specs.declared.Start.TheVariants.{Any}
 use Rattle.language.specs.declared.Edge.{Edge}
 use Rattle.language.specs.declared.Edge.TheVariants.{Arrow, Postfix, Other, Closed}
 use Rattle.tree.specs.declared.kind.Pair.{Pair}
-use Rattle.tree.specs.Tree.{Tree, node, Parts, none, part, height, parts_of, bare, plain}
-use Rattle.language.specs.Words.{is, takes, takes_number, tightness, Operator, selects, indexes, calls, tags}
+use Rattle.tree.specs.Tree.{Tree, node, Parts, none, part, height, parts_of, plain}
+use Rattle.language.specs.Words.{is, takes, takes_number, tightness, selects, indexes, calls, tags}
 use Rattle.language.specs.Pieces.{Role, expr, word, quasi, PieceOf, Piece, Slot, fixed, left, lead, tail, callee, lead_spine, lead_pattern, sub, is_tight, settle_piece}
 use Rattle.language.specs.Token.{Token}
 use Rattle.language.specs.Edges.{edge, standing}
@@ -25,11 +25,10 @@ use Rattle.language.specs.Follow.{operation, symbol_of, holds, stops_at, stops}
 use Rattle.language.specs.Promises.{IsDetermined, ReadBy, Stops, Found, Absent, AbsentWithin, FoundAt, AbsentAt, AbsentAtWithin, Callee, at_member, at_new, FoundCallee, AbsentCallee, AbsentCalleeWithin}
 use Rattle.language.specs.Grammar.{ways, spellings}
 use Rattle.language.specs.Derivation.{Among, Reads, Spells, direct, grouped, Runs, Placed}
-use Rattle.language.proofs.Domination.{settled}
 use Rattle.language.proofs.Spine.{is_led, Grows, whole, grow}
 use Rattle.language.proofs.Viewed.{way_of}
 use Rattle.language.proofs.Productions.{way_from}
-use Rattle.language.proofs.Begins.{goes_to, retell}
+use Rattle.language.proofs.Begins.{goes_to}
 use Rattle.language.proofs.Led.{callee_rank, Led, led_call}
 use Rattle.language.proofs.RightEdges.{Edged, standing_closed}
 use Rattle.language.proofs.Reaches.{is_loose}
@@ -39,7 +38,7 @@ use Rattle.language.proofs.Stepping.{ends_where_stops}
 use Rattle.language.proofs.TwoSides.{replaced, retold, regrown}
 use Rattle.language.proofs.Climbing.{grows_height, Leads, Climbing, whole_where_stops}
 use Rattle.language.proofs.Conditionals.{same_sign}
-use Rattle.language.proofs.Suffixes.{rank_is, some_same, suffix_rank, suffix_fits, suffix_stands, callee_tight, computed_flags, stands_callee, no_super, symbol_taken, dot_on}
+use Rattle.language.proofs.Suffixes.{rank_is, suffix_rank, suffix_fits, suffix_stands, callee_tight, computed_flags, stands_callee, no_super, dot_on}
 use Rattle.language.proofs.Calls.{index_on, tag_on}
 use Rattle.language.proofs.Starting.{Begun, begins, core_spelled}
 use Rattle.language.proofs.Targets.{led_behind}

@@ -1,32 +1,30 @@
 -- Optional chains: what stands before `?.` is too loose, a template follows a part of one, a part is too high.
-use Rattle.std.proofs.Common.{◌≡◌, ℕ, suc, ◌-◌, ◌≤◌, ◌<◌, Bool, true, false, List, [], refl, sym, ap, ◌∙◌, subst, arith}
-use Rattle.std.specs.Prelude.{IsTrue, Some, max, not, ◌&&◌, ◌||◌}
+use Rattle.std.proofs.Common.{◌≡◌, ℕ, suc, ◌≤◌, ◌<◌, Bool, true, false, List, [], refl, sym, ap, ◌∙◌, subst, arith}
+use Rattle.std.specs.Prelude.{IsTrue, not, ◌&&◌, ◌||◌}
 use Rattle.std.proofs.lemmas.Bool.{false≢true}
 use Rattle.std.proofs.lemmas.Bool.Decides.{nat_tests}
 use Rattle.tokens.specs.declared.token.Goal.TheVariants.{Div}
-use Rattle.tree.specs.declared.kind.Kind.{Kind}
 use Rattle.tree.specs.declared.kind.Kind.TheVariants.{ChainExpression}
-use Rattle.tree.specs.declared.kind.Flags.{Flags}
 use Rattle.language.specs.declared.Rank.{Rank}
-use Rattle.language.specs.declared.Rank.TheVariants.{LeftHandSide, Call, Member}
+use Rattle.language.specs.declared.Rank.TheVariants.{Call, Member}
 use Rattle.language.specs.declared.Start.{Start}
 use Rattle.language.specs.declared.Edge.TheVariants.{Other}
 use Rattle.tree.specs.declared.kind.Pair.{Pair}
 use Rattle.tree.specs.Tree.{Tree, node, Parts, none, part, height, parts_height, plain}
-use Rattle.language.specs.Words.{is, takes, takes_number, tightness, Operator, selects, indexes, calls, chains, tags}
-use Rattle.language.specs.Pieces.{Role, expr, spine, PieceOf}
+use Rattle.language.specs.Words.{is, takes, takes_number, tightness, Operator, chains, tags}
+use Rattle.language.specs.Pieces.{expr, spine}
 use Rattle.language.specs.Token.{Token}
-use Rattle.language.specs.Edges.{edge, standing}
+use Rattle.language.specs.Edges.{edge}
 use Rattle.language.specs.Follow.{operation, symbol_of, stops_at, stops}
 use Rattle.language.specs.Promises.{IsDetermined, ReadBy, Stops, Absent, AbsentWithin}
 use Rattle.language.specs.Grammar.{ways}
-use Rattle.language.specs.Derivation.{Spells, direct, Runs, Placed, placed}
-use Rattle.language.proofs.Spine.{Grows, whole, grow}
-use Rattle.language.proofs.Led.{Led, Linked}
+use Rattle.language.specs.Derivation.{Spells, direct, Placed, placed}
+use Rattle.language.proofs.Spine.{Grows, grow}
+use Rattle.language.proofs.Led.{Led}
 use Rattle.language.proofs.Onward.{Onward, ended, by_led, by_link, by_chain, onward}
 use Rattle.language.proofs.Reaches.{linked_base}
 use Rattle.language.proofs.Stepping.{no_in, no_spine, goes_where_not}
-use Rattle.language.proofs.Climbing.{grows_height, part_low, Leads, Climbing}
+use Rattle.language.proofs.Climbing.{grows_height, part_low, Climbing}
 use Rattle.language.proofs.Calls.{climb_tag_unfit}
 use Rattle.language.proofs.Chains.{LinkSymbol, select_symbol, index_symbol, call_symbol, chain_symbol, chains_led, Chaining, chain_end}
 

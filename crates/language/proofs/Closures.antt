@@ -1,10 +1,9 @@
 -- Functions, classes and the call of `import` from what stands behind their word; and the body of an arrow by its first token.
-use Rattle.std.proofs.Common.{◌≡◌, ℕ, ◌-◌, ◌≤◌, Bool, true, false, cond, List, [], ◌∷◌, ◌++◌, refl, sym, ap, ◌∙◌, subst, arith}
+use Rattle.std.proofs.Common.{◌≡◌, ℕ, ◌-◌, Bool, true, false, List, [], ◌∷◌, ◌++◌, refl, sym, ap, ◌∙◌, subst, arith}
 use Rattle.std.specs.Prelude.{IsTrue, codes, max}
 use Rattle.std.proofs.lemmas.List.{append-nil}
 use Rattle.tokens.specs.declared.token.Class.TheVariants.{Name, Punctuator}
 use Rattle.tokens.specs.declared.token.Goal.{Goal}
-use Rattle.tokens.specs.declared.token.Goal.TheVariants.{Div}
 use Rattle.tokens.specs.Goals.{allows}
 use Rattle.tree.specs.declared.kind.Kind.TheVariants.{FunctionExpression, ClassExpression, ImportExpression, BlockStatement}
 use Rattle.language.specs.declared.Rank.{Rank}
@@ -16,11 +15,10 @@ use Rattle.tree.specs.Tree.{Tree, node, Parts, none, part, height, parts_height,
 use Rattle.language.specs.Words.{takes}
 use Rattle.language.specs.Pieces.{Role, expr, body, PieceOf, tok, sub, term}
 use Rattle.language.specs.Token.{Token}
-use Rattle.language.specs.Opening.{with_function, with_class, with_import, opening_of}
-use Rattle.language.specs.Promises.{IsDetermined, ReadBy, Stops, Found, Absent, AbsentWithin, FoundAt, AbsentAt, AbsentAtWithin, FoundParts, AbsentParts, AbsentPartsWithin}
+use Rattle.language.specs.Promises.{IsDetermined, ReadBy, Stops, Found, Absent, AbsentWithin, FoundAt, AbsentAt, FoundParts, AbsentParts, AbsentPartsWithin}
 use Rattle.language.specs.Grammar.{ways, spellings, starts}
 use Rattle.language.specs.Derivation.{Reads, Spells, direct, Runs, done, step, within, token, Placed}
-use Rattle.language.proofs.Begins.{behind_first, first_of, by, retell, begun}
+use Rattle.language.proofs.Begins.{behind_first, first_of, begun}
 use Rattle.language.proofs.Viewed.{way_of, one}
 use Rattle.language.proofs.Domination.{settled}
 use Rattle.language.proofs.Headed.{opens}

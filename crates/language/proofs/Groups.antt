@@ -1,7 +1,6 @@
 -- A leftmost part that begins with `(`: a group, or an arrow with its parameters in parentheses.
 use Rattle.std.proofs.Common.{◌≡◌, ℕ, suc, ◌-◌, ◌≤◌, Bool, true, false, cond, List, [], ◌∷◌, ◌++◌, refl, sym, ap, ◌∙◌, subst, arith}
-use Rattle.std.specs.Prelude.{IsTrue, Some, codes, max}
-use Rattle.std.proofs.lemmas.Bool.{false≢true}
+use Rattle.std.specs.Prelude.{IsTrue, codes}
 use Rattle.tokens.specs.declared.token.Class.TheVariants.{Punctuator}
 use Rattle.tokens.specs.declared.token.Goal.{Goal}
 use Rattle.tokens.specs.Goals.{allows}
@@ -19,21 +18,21 @@ use Rattle.tree.specs.Tree.{Tree, node, Parts, none, part, gap, height, parts_he
 use Rattle.tree.specs.Uses.{is_lean, used_flags, has_text}
 use Rattle.tree.proofs.Lean.{lean_flags, lean_text}
 use Rattle.tree.proofs.Shapes.{parts_height-join}
-use Rattle.language.specs.Words.{is, takes, Operator, arrows}
-use Rattle.language.specs.Pieces.{Role, expr, body, PieceOf, Piece, tok, lay, sub, tail, put, at, open_parameters, close_parameters, parameters}
+use Rattle.language.specs.Words.{is, takes, arrows}
+use Rattle.language.specs.Pieces.{Role, expr, body, PieceOf, Piece, sub, tail, put, at, open_parameters, close_parameters, parameters}
 use Rattle.language.specs.Token.{Token}
 use Rattle.language.specs.Edges.{edge, last_edge, standing}
 use Rattle.language.specs.Expressions.{arrow_end}
 use Rattle.language.specs.Follow.{symbol_of}
-use Rattle.language.specs.Opening.{with_parenthesis, opening_of}
-use Rattle.language.specs.Promises.{IsDetermined, ReadBy, Stops, Found, Absent, AbsentWithin, FoundAt, AbsentAt, AbsentAtWithin, FoundParts, AbsentParts, AbsentPartsWithin}
+use Rattle.language.specs.Opening.{with_parenthesis}
+use Rattle.language.specs.Promises.{IsDetermined, ReadBy, Stops, Found, Absent, AbsentWithin, AbsentAt, AbsentAtWithin, FoundParts, AbsentParts, AbsentPartsWithin}
 use Rattle.language.specs.Grammar.{ways, starts}
 use Rattle.language.specs.Derivation.{pair_of, Reads, Spells, grouped, Runs, step, opened, closed, token, laid, same_line, Placed}
 use Rattle.language.specs.View.{arrow}
 use Rattle.language.proofs.Begins.{goes_to, retell}
 use Rattle.language.proofs.Productions.{spell}
 use Rattle.language.proofs.Led.{Led}
-use Rattle.language.proofs.Headed.{Headed, head_arrow, opens}
+use Rattle.language.proofs.Headed.{head_arrow, opens}
 use Rattle.language.proofs.Cores.{Cored, in_group, in_way, core_by}
 use Rattle.language.proofs.Running.{run_opened, run_closed, run_unbroken, run_laid, run_token}
 use Rattle.language.proofs.Sides.{OnePart, one_part}
@@ -46,7 +45,7 @@ use Rattle.language.proofs.TwoSides.{same_node, replaced, same_places}
 use Rattle.language.proofs.Climbing.{Climbing}
 use Rattle.language.proofs.Conditionals.{stops_before, same_sign}
 use Rattle.language.proofs.Starting.{Begun, climb_start, start_absent, start_deep, begun_stops}
-use Rattle.language.proofs.ParameterLists.{parameter_list, Closer, Split, parameters_split, parameters_join}
+use Rattle.language.proofs.ParameterLists.{parameter_list, Closer, parameters_split, parameters_join}
 use Rattle.language.proofs.Arrows.{arrow_flags, ArrowBody, as_expression, as_block}
 use Rattle.language.proofs.Targets.{led_behind, PartsEndAt}
 

@@ -1,7 +1,7 @@
 -- A leftmost part that begins with `new`: with arguments or without, or `new.target`. At the position behind another `new` each has a
 -- form of its own, since a `new` without arguments isn't a callee before `(`.
 use Rattle.std.proofs.Common.{◌≡◌, ℕ, ◌-◌, ◌≤◌, Bool, true, false, List, [], ◌∷◌, ◌++◌, refl, sym, ap, ◌∙◌, subst, arith}
-use Rattle.std.specs.Prelude.{IsTrue, codes, max, ◌&&◌}
+use Rattle.std.specs.Prelude.{IsTrue, codes, ◌&&◌}
 use Rattle.std.proofs.lemmas.Bool.{and_parts, false≢true}
 use Rattle.std.proofs.lemmas.Slice.Eq.{bytes_eq-Decides}
 use Rattle.tokens.specs.declared.token.Class.TheVariants.{Name, Punctuator}
@@ -10,17 +10,16 @@ use Rattle.tokens.specs.Goals.{allows}
 use Rattle.tree.specs.declared.kind.Kind.{Kind}
 use Rattle.tree.specs.declared.kind.Kind.TheVariants.{Identifier, NewExpression, MetaProperty}
 use Rattle.language.specs.declared.Rank.{Rank}
-use Rattle.language.specs.declared.Rank.TheVariants.{New, Call, Member, Relational}
+use Rattle.language.specs.declared.Rank.TheVariants.{New, Member}
 use Rattle.language.specs.declared.Start.{Start}
 use Rattle.language.specs.declared.Start.TheVariants.{Any, NoBrace, Statement}
-use Rattle.language.specs.declared.Edge.TheVariants.{Other}
 use Rattle.tree.specs.declared.kind.Flags.{Flags}
 use Rattle.tree.specs.declared.kind.Pair.{Pair}
-use Rattle.tree.specs.Tree.{Tree, node, Parts, none, part, height, parts_height, text_of, bare, bare_parts, plain}
+use Rattle.tree.specs.Tree.{Tree, node, Parts, none, part, height, text_of, bare, bare_parts, plain}
 use Rattle.tree.specs.Uses.{is_lean, used_flags, has_text}
 use Rattle.tree.proofs.Lean.{lean_flags, lean_text}
 use Rattle.language.specs.FirstPart.{others}
-use Rattle.language.specs.Words.{takes, tightness}
+use Rattle.language.specs.Words.{takes}
 use Rattle.language.specs.Pieces.{Role, expr, word, PieceOf, Piece, tok, sub, put, sp, sign, term, at}
 use Rattle.language.specs.Token.{Token}
 use Rattle.language.specs.Edges.{edge, standing}
@@ -39,7 +38,6 @@ use Rattle.language.proofs.Running.{run_token, run_laid, run_part}
 use Rattle.language.proofs.Sides.{one_part}
 use Rattle.language.proofs.Growing.{last_runs}
 use Rattle.language.proofs.RightEdges.{edged}
-use Rattle.language.proofs.Reaches.{is_loose}
 use Rattle.language.proofs.Tails.{tails_new}
 use Rattle.language.proofs.TwoSides.{same_node, replaced, same_places}
 use Rattle.language.proofs.Climbing.{Climbing}

@@ -1,8 +1,7 @@
 -- Leftmost parts that one production alone makes of their first token: functions, classes, templates, and the call of `import`.
-use Rattle.std.proofs.Common.{◌≡◌, ℕ, ◌-◌, ◌≤◌, Bool, true, false, List, [], ◌∷◌, ◌++◌, refl, sym, ap, ◌∙◌, subst, arith}
+use Rattle.std.proofs.Common.{◌≡◌, ℕ, ◌-◌, Bool, true, false, List, [], ◌∷◌, ◌++◌, refl, sym, ap, ◌∙◌, subst, arith}
 use Rattle.std.specs.Prelude.{IsTrue, codes}
 use Rattle.std.proofs.lemmas.Bool.{false≢true}
-use Rattle.tokens.specs.declared.token.Class.{Class}
 use Rattle.tokens.specs.declared.token.Class.TheVariants.{Name, Punctuator}
 use Rattle.tokens.specs.declared.token.Goal.{Goal}
 use Rattle.tree.specs.declared.kind.Kind.{Kind}
@@ -13,7 +12,7 @@ use Rattle.language.specs.declared.Start.{Start}
 use Rattle.language.specs.declared.Start.TheVariants.{Any, NoBrace, Statement}
 use Rattle.tree.specs.declared.kind.Flags.{Flags}
 use Rattle.tree.specs.declared.kind.Pair.{Pair}
-use Rattle.tree.specs.Tree.{Tree, node, Parts, none, part, gap, height, parts_height, bare, bare_parts, plain}
+use Rattle.tree.specs.Tree.{Tree, node, Parts, none, part, gap, height, bare, bare_parts, plain}
 use Rattle.tree.specs.Uses.{is_lean, used_flags, has_text}
 use Rattle.tree.proofs.Lean.{lean_flags, lean_text}
 use Rattle.language.specs.FirstPart.{others}
@@ -35,7 +34,7 @@ use Rattle.language.proofs.Cores.{Cored, in_group, in_way, core_by}
 use Rattle.language.proofs.Lists.{chunk_pieces}
 use Rattle.language.proofs.TwoSides.{same_node, replaced, same_places}
 use Rattle.language.proofs.Climbing.{Climbing}
-use Rattle.language.proofs.Starting.{Begun, climb_start, start_absent, start_deep}
+use Rattle.language.proofs.Starting.{climb_start, start_absent, start_deep}
 use Rattle.language.proofs.Leaves.{core_primary}
 
 -- the pieces of a function and of a class, at any position

@@ -1,6 +1,6 @@
 -- The parameters of a function or an arrow, apart from the body, which is the last part beside them: a list with its closing token, and what follows it.
-use Rattle.std.proofs.Common.{◌≡◌, ℕ, ◌≤◌, Bool, true, false, List, [], ◌∷◌, ◌++◌, refl, sym, ap, ◌∙◌, subst, arith, append_assoc}
-use Rattle.std.specs.Prelude.{Some, codes, max}
+use Rattle.std.proofs.Common.{◌≡◌, ℕ, Bool, true, false, List, [], ◌∷◌, ◌++◌, refl, sym, ap, ◌∙◌, subst, arith, append_assoc}
+use Rattle.std.specs.Prelude.{Some, codes}
 use Rattle.std.proofs.lemmas.Bool.{false≢true}
 use Rattle.tokens.specs.declared.token.Class.TheVariants.{Punctuator}
 use Rattle.language.specs.declared.Rank.{Rank}
@@ -8,16 +8,16 @@ use Rattle.language.specs.declared.Rank.TheVariants.{Expression}
 use Rattle.language.specs.declared.Start.{Start}
 use Rattle.language.specs.declared.Start.TheVariants.{Any}
 use Rattle.tree.specs.declared.kind.Pair.{Pair}
-use Rattle.tree.specs.Tree.{Tree, Parts, none, part, gap, height, parts_height, kind_of, join}
+use Rattle.tree.specs.Tree.{Tree, Parts, none, part, gap, parts_height, kind_of, join}
 use Rattle.tree.proofs.Shapes.{parts_height-join}
 use Rattle.language.specs.Words.{is_rest}
-use Rattle.language.specs.Pieces.{Role, body, Piece, PieceOf, tok, sp, sign, put, is_none, settle_piece}
+use Rattle.language.specs.Pieces.{Role, body, Piece, PieceOf, sp, sign, put, is_none, settle_piece}
 use Rattle.language.specs.Token.{Token}
 use Rattle.language.specs.Promises.{IsDetermined, FoundAt, AbsentAt, AbsentAtWithin, FoundParts, AbsentParts, AbsentPartsWithin}
 use Rattle.language.specs.Grammar.{ways}
-use Rattle.language.specs.Derivation.{Reads, Spells, Runs, done, step, token, laid}
+use Rattle.language.specs.Derivation.{Reads, Spells, Runs, step, token, laid}
 use Rattle.language.proofs.Begins.{goes_to}
-use Rattle.language.proofs.Running.{run_token, run_laid, run_none, run_never}
+use Rattle.language.proofs.Running.{run_token, run_laid, run_never}
 use Rattle.language.proofs.Sides.{one_part}
 use Rattle.language.proofs.Growing.{last_runs}
 use Rattle.language.proofs.Lists.{element_role, list_pieces, parameter_pieces, ListForm, no_item, last_item, trailing, more_items, BehindLast, alone, and_comma, list_form, list_runs, ParameterForm, no_parameter, last_parameter, more_parameters, parameter_form, parameter_runs}

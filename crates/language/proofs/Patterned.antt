@@ -1,7 +1,7 @@
 -- Patterns by their first token, and the template behind a tag, from their parts.
 use Rattle.std.proofs.Common.{◌≡◌, ℕ, ◌-◌, ◌≤◌, Bool, true, false, List, [], ◌∷◌, ◌++◌, refl, sym, ap, ◌∙◌, subst, arith}
 use Rattle.std.specs.Prelude.{IsTrue, codes}
-use Rattle.std.proofs.lemmas.Bool.{and_parts, and_from, false≢true}
+use Rattle.std.proofs.lemmas.Bool.{and_from, false≢true}
 use Rattle.tokens.specs.declared.token.Class.TheVariants.{Punctuator}
 use Rattle.tokens.specs.declared.token.Goal.TheVariants.{Div}
 use Rattle.tokens.specs.Goals.{allows}
@@ -12,7 +12,7 @@ use Rattle.language.specs.declared.Start.{Start}
 use Rattle.language.specs.declared.Start.TheVariants.{Any, NoBrace, Statement}
 use Rattle.tree.specs.declared.kind.Flags.{Flags}
 use Rattle.tree.specs.declared.kind.Pair.{Pair}
-use Rattle.tree.specs.Tree.{Tree, node, Parts, height, parts_height, kind_of, bare, bare_parts, plain}
+use Rattle.tree.specs.Tree.{Tree, node, Parts, height, kind_of, bare, bare_parts, plain}
 use Rattle.tree.specs.Uses.{is_lean, used_flags, has_text}
 use Rattle.tree.proofs.Lean.{lean_flags, lean_text}
 use Rattle.language.specs.Words.{is}
@@ -20,7 +20,7 @@ use Rattle.language.specs.Pieces.{Role, pattern, quasi, PieceOf, Piece, tok, sig
 use Rattle.language.specs.Token.{Token}
 use Rattle.language.specs.Expressions.{object_pattern_part, chunks}
 use Rattle.language.specs.Promises.{IsDetermined, FoundAt, AbsentAt, AbsentAtWithin, FoundParts, AbsentParts, AbsentPartsWithin}
-use Rattle.language.specs.Grammar.{ways, spellings, starts, can_run}
+use Rattle.language.specs.Grammar.{ways, spellings, starts}
 use Rattle.language.specs.Derivation.{first, Reads, Spells, direct, Runs, Placed, placed}
 use Rattle.language.proofs.Domination.{settled}
 use Rattle.language.proofs.Viewed.{way_of, one}
@@ -31,7 +31,6 @@ use Rattle.language.proofs.Running.{run_token}
 use Rattle.language.proofs.Lists.{element_role, object_pattern_role, item_piece, element_pieces, list_pieces, chunk_pieces, object_pattern_pieces}
 use Rattle.language.proofs.TwoSides.{same_node}
 use Rattle.language.proofs.Targets.{object_starts}
-use Rattle.language.proofs.Openers.{fixed_chunks}
 
 -- the pieces of an array pattern and of an object pattern; the flag says that it binds names
 abbrev pub array_pattern_parts : Bool → Parts → List (PieceOf Role)

@@ -1,29 +1,28 @@
 -- A leftmost part that begins with `super`: a member or a call; and where no expression begins.
-use Rattle.std.proofs.Common.{◌≡◌, ℕ, ◌-◌, ◌≤◌, Bool, true, false, cond, List, [], ◌∷◌, ◌++◌, refl, sym, ap, ◌∙◌, subst, arith}
-use Rattle.std.specs.Prelude.{IsTrue, codes, max}
+use Rattle.std.proofs.Common.{◌≡◌, ℕ, ◌-◌, Bool, true, false, cond, List, [], ◌∷◌, ◌++◌, refl, sym, ap, ◌∙◌, subst, arith}
+use Rattle.std.specs.Prelude.{IsTrue, codes}
 use Rattle.std.proofs.lemmas.Bool.{false≢true}
 use Rattle.tokens.specs.declared.token.Class.TheVariants.{Name, Punctuator}
 use Rattle.tokens.specs.declared.token.Goal.{Goal}
 use Rattle.tokens.specs.declared.token.Goal.TheVariants.{Div}
 use Rattle.tokens.specs.Goals.{allows}
 use Rattle.tree.specs.declared.kind.Kind.{Kind}
-use Rattle.tree.specs.declared.kind.Kind.TheVariants.{Super, MemberExpression, CallExpression}
+use Rattle.tree.specs.declared.kind.Kind.TheVariants.{Super}
 use Rattle.language.specs.declared.Rank.{Rank}
-use Rattle.language.specs.declared.Rank.TheVariants.{Expression, Call, Member, Primary}
+use Rattle.language.specs.declared.Rank.TheVariants.{Call, Member, Primary}
 use Rattle.language.specs.declared.Start.{Start}
-use Rattle.language.specs.declared.Start.TheVariants.{Any}
 use Rattle.tree.specs.declared.kind.Flags.{Flags}
 use Rattle.tree.specs.declared.kind.Pair.{Pair}
-use Rattle.tree.specs.Tree.{Tree, node, Parts, none, part, height, parts_height, bare, bare_parts, plain}
+use Rattle.tree.specs.Tree.{Tree, node, Parts, none, part, height, bare, bare_parts, plain}
 use Rattle.tree.specs.Uses.{is_lean, used_flags, has_text}
 use Rattle.tree.proofs.Lean.{lean_flags, lean_text}
 use Rattle.language.specs.FirstPart.{others}
-use Rattle.language.specs.Words.{is, takes, Operator, selects, indexes, calls}
+use Rattle.language.specs.Words.{takes, Operator, selects, indexes, calls}
 use Rattle.language.specs.Pieces.{Role, expr, spine, base, word, PieceOf, tok, sub, put, sign, at, fixed, Spelling}
 use Rattle.language.specs.Token.{Token}
 use Rattle.language.specs.Expressions.{arguments, selector}
 use Rattle.language.specs.Follow.{of_class, operation}
-use Rattle.language.specs.Opening.{Opening, with_super, no_opening, opening_of}
+use Rattle.language.specs.Opening.{with_super, no_opening, opening_of}
 use Rattle.language.specs.Promises.{IsDetermined, ReadBy, Absent, AbsentWithin}
 use Rattle.language.specs.Grammar.{ways, spellings}
 use Rattle.language.specs.Derivation.{first, Reads, Spells, direct, Runs, done, step, within, token, Placed, placed}
@@ -33,17 +32,15 @@ use Rattle.language.proofs.Viewed.{way_of, one}
 use Rattle.language.proofs.Productions.{spell, starts_led, way_from}
 use Rattle.language.proofs.Begins.{goes_to, retell}
 use Rattle.language.proofs.Onward.{makes}
-use Rattle.language.proofs.Led.{bracketed, dotted}
 use Rattle.language.proofs.Headed.{head_super_member, head_super_call}
 use Rattle.language.proofs.Cores.{Cored, in_way, core_by, operand_begins, no_spine_core}
 use Rattle.language.proofs.Running.{run_token, run_none, run_part}
 use Rattle.language.proofs.Signs.{reads_dot, reads_index, reads_call}
 use Rattle.language.proofs.TwoSides.{same_node, replaced, same_places}
 use Rattle.language.proofs.Climbing.{Climbing}
-use Rattle.language.proofs.Conditionals.{read_there}
-use Rattle.language.proofs.Suffixes.{computed_flags, argument_pieces, arguments_fixed, member_flags, call_flags}
+use Rattle.language.proofs.Suffixes.{computed_flags, arguments_fixed, member_flags, call_flags}
 use Rattle.language.proofs.Chains.{Link, on_dot, on_index, on_call, FoundLink, AbsentLink, AbsentLinkWithin}
-use Rattle.language.proofs.Starting.{Begun, climb_start, start_absent, start_deep}
+use Rattle.language.proofs.Starting.{climb_start, start_absent, start_deep}
 use Rattle.language.proofs.Leaves.{by_name}
 
 -- what follows `super`, and the symbol of the node

@@ -1,9 +1,9 @@
 -- A leftmost part that begins with `[` or `{`: an array or an object, or an assignment to such a pattern.
-use Rattle.std.proofs.Common.{◌≡◌, ℕ, ◌-◌, ◌≤◌, Bool, true, false, cond, List, [], ◌∷◌, ◌++◌, refl, sym, ap, ◌∙◌, subst, arith}
-use Rattle.std.specs.Prelude.{IsTrue, Option, Some, None, codes, max, not, ◌&&◌, ◌||◌}
+use Rattle.std.proofs.Common.{◌≡◌, ℕ, ◌-◌, ◌≤◌, Bool, true, false, List, [], ◌∷◌, ◌++◌, refl, sym, ap, ◌∙◌, subst, arith}
+use Rattle.std.specs.Prelude.{IsTrue, Some, codes, not, ◌&&◌, ◌||◌}
 use Rattle.std.proofs.lemmas.Bool.{and_parts, false≢true}
 use Rattle.std.proofs.lemmas.Slice.Eq.{bytes_eq-Decides}
-use Rattle.tokens.specs.declared.token.Class.TheVariants.{Name, Punctuator}
+use Rattle.tokens.specs.declared.token.Class.TheVariants.{Punctuator}
 use Rattle.tokens.specs.declared.token.Goal.{Goal}
 use Rattle.tokens.specs.declared.token.Goal.TheVariants.{Div}
 use Rattle.tokens.specs.Goals.{allows}
@@ -13,20 +13,19 @@ use Rattle.language.specs.declared.Rank.{Rank}
 use Rattle.language.specs.declared.Rank.TheVariants.{Expression, Assignment, Primary}
 use Rattle.language.specs.declared.Start.{Start}
 use Rattle.language.specs.declared.Start.TheVariants.{Any, NoBrace, Statement}
-use Rattle.language.specs.declared.Edge.{Edge}
 use Rattle.language.specs.declared.Edge.TheVariants.{Other}
 use Rattle.tree.specs.declared.kind.Flags.{Flags}
 use Rattle.tree.specs.declared.kind.Pair.{Pair}
-use Rattle.tree.specs.Tree.{Tree, node, Parts, none, part, height, parts_height, kind_of, bare, bare_parts, plain}
+use Rattle.tree.specs.Tree.{Tree, node, Parts, none, part, height, kind_of, bare, bare_parts, plain}
 use Rattle.tree.specs.Uses.{is_lean, used_flags, has_text}
 use Rattle.tree.proofs.Lean.{lean_flags, lean_text}
 use Rattle.language.specs.FirstPart.{lead as lead_kind}
-use Rattle.language.specs.Words.{is, takes, is_target, is_pattern, Operator, assigns, chains, operator_of}
-use Rattle.language.specs.Pieces.{Role, expr, pattern, PieceOf, Piece, tok, sub, lay, space, put, sign, at, tail, lead_pattern, elements, listed, argument}
+use Rattle.language.specs.Words.{is, takes, is_target, is_pattern, Operator, assigns, chains}
+use Rattle.language.specs.Pieces.{Role, expr, pattern, PieceOf, Piece, tok, sub, sign, at, tail, lead_pattern, elements, listed, argument}
 use Rattle.language.specs.Token.{Token}
 use Rattle.language.specs.Edges.{edge, standing}
 use Rattle.language.specs.Expressions.{object_part, infix_pieces}
-use Rattle.language.specs.Follow.{of_class, operation, symbol_of, holds, stops_at, stops}
+use Rattle.language.specs.Follow.{of_class, operation, symbol_of, stops_at, stops}
 use Rattle.language.specs.Opening.{Opening, with_bracket, with_brace, with_parenthesis, opening_of}
 use Rattle.language.specs.Promises.{IsDetermined, ReadBy, Stops, Found, Absent, AbsentWithin, FoundAt, AbsentAt, AbsentAtWithin, FoundParts, AbsentParts, AbsentPartsWithin}
 use Rattle.language.specs.Grammar.{ways, spellings, starts}
@@ -39,7 +38,7 @@ use Rattle.language.proofs.Begins.{goes_to, retell}
 use Rattle.language.proofs.Onward.{makes}
 use Rattle.language.proofs.Fixed.{Fixed, all_done, one_more, same_pieces, fixed_join, fixed_listed, fixed_elements, fixed_put}
 use Rattle.language.proofs.Led.{Led, led_assign, between}
-use Rattle.language.proofs.Headed.{Headed, head_array, head_object, head_array_pattern, head_object_pattern}
+use Rattle.language.proofs.Headed.{head_array, head_object, head_array_pattern, head_object_pattern}
 use Rattle.language.proofs.Cores.{Cored, in_way, core_by}
 use Rattle.language.proofs.Running.{run_token, run_laid, run_part}
 use Rattle.language.proofs.Sides.{one_part}

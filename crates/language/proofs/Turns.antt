@@ -1,6 +1,5 @@
 -- Further forms of the turns of the loop: at `.` within the limits, at `=>` behind what is no arrow's parameters; and limits that nothing meets.
-use Rattle.std.proofs.Common.{◌≡◌, ℕ, ◌-◌, ◌≤◌, ◌<◌, Bool, true, false, List, refl, ap, arith}
-use Rattle.std.specs.Prelude.{IsTrue}
+use Rattle.std.proofs.Common.{◌≡◌, ℕ, ◌-◌, ◌≤◌, Bool, false, List, refl, ap, arith}
 use Rattle.tokens.specs.declared.token.Goal.TheVariants.{Div}
 use Rattle.tree.specs.declared.kind.Kind.{Kind}
 use Rattle.language.specs.declared.Rank.{Rank}
@@ -8,7 +7,7 @@ use Rattle.language.specs.declared.Rank.TheVariants.{Conditional, New}
 use Rattle.language.specs.declared.Start.{Start}
 use Rattle.tree.specs.declared.kind.Flags.{Flags}
 use Rattle.tree.specs.declared.kind.Pair.{Pair}
-use Rattle.tree.specs.Tree.{Tree, node, Parts, height, parts_height}
+use Rattle.tree.specs.Tree.{Tree, node, Parts, height}
 use Rattle.language.specs.Words.{tightness, Operator, selects, arrows, operator_of}
 use Rattle.language.specs.Pieces.{Role, word, PieceOf}
 use Rattle.language.specs.Token.{Token}
@@ -21,7 +20,6 @@ use Rattle.language.proofs.Stepping.{goes_where_not}
 use Rattle.language.proofs.Climbing.{Climbing, led_on}
 use Rattle.language.proofs.TwoSides.{TwoSided, two_binds, two_powers, two_assigns}
 use Rattle.language.proofs.Suffixes.{dot_on}
-use Rattle.language.proofs.Callees.{ClimbingCallee}
 
 -- nothing is led by what stands before `=>`
 none_led : {y : Rank} {i : Bool} {f : Start} {k : Kind} {w : List ℕ} {g : Flags} {ps : Parts} {b : Role} {rest : List (PieceOf Role)} → Led y i f k w g ps b rest arrows → ⊥

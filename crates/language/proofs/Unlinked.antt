@@ -1,5 +1,5 @@
 -- No part of a chain behind its token, or none within the limits: from what is absent there.
-use Rattle.std.proofs.Common.{◌≡◌, ℕ, ◌≤◌, Bool, true, false, List, [], ◌∷◌, refl, sym, ap, ◌∙◌, subst, arith}
+use Rattle.std.proofs.Common.{◌≡◌, ℕ, ◌≤◌, true, List, [], ◌∷◌, refl, ap, subst, arith}
 use Rattle.std.specs.Prelude.{codes, max}
 use Rattle.tokens.specs.declared.token.Class.TheVariants.{Punctuator}
 use Rattle.tree.specs.declared.kind.Kind.{Kind}
@@ -7,13 +7,13 @@ use Rattle.language.specs.declared.Rank.TheVariants.{Expression}
 use Rattle.language.specs.declared.Start.TheVariants.{Any}
 use Rattle.tree.specs.declared.kind.Flags.{Flags}
 use Rattle.tree.specs.declared.kind.Pair.{Pair}
-use Rattle.tree.specs.Tree.{Tree, Parts, none, part, height, parts_height}
-use Rattle.language.specs.Words.{Operator, selects, indexes, calls, chains}
+use Rattle.tree.specs.Tree.{Tree, Parts, height, parts_height}
+use Rattle.language.specs.Words.{selects, indexes, calls, chains}
 use Rattle.language.specs.Pieces.{Role, expr, word, PieceOf, tok, sub}
 use Rattle.language.specs.Token.{Token}
 use Rattle.language.specs.Promises.{IsDetermined, Stops, Found, Absent, AbsentWithin, AbsentAt, AbsentAtWithin, AbsentParts, AbsentPartsWithin}
 use Rattle.language.specs.Grammar.{ways}
-use Rattle.language.specs.Derivation.{Reads, Spells, Runs}
+use Rattle.language.specs.Derivation.{Reads, Runs}
 use Rattle.language.proofs.Led.{bracketed}
 use Rattle.language.proofs.Sides.{one_part, Bracketed, in_bracket}
 use Rattle.language.proofs.Running.{run_token}

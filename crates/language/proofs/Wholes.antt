@@ -1,7 +1,7 @@
 -- An Expression from its first AssignmentExpression: that alone, or a sequence with it. So what parentheses hold, which is read as a list, is told.
-use Rattle.std.proofs.Common.{◌≡◌, ℕ, suc, ◌-◌, ◌≤◌, Bool, true, false, List, [], ◌∷◌, ◌++◌, refl, sym, ap, ◌∙◌, subst, arith}
-use Rattle.std.specs.Prelude.{IsTrue, codes, max}
-use Rattle.std.proofs.lemmas.Bool.{and_parts, and_from, false≢true}
+use Rattle.std.proofs.Common.{◌≡◌, ℕ, ◌-◌, ◌≤◌, Bool, true, false, List, [], ◌∷◌, ◌++◌, refl, sym, ap, ◌∙◌, subst, arith}
+use Rattle.std.specs.Prelude.{IsTrue, codes}
+use Rattle.std.proofs.lemmas.Bool.{and_parts, and_from}
 use Rattle.tokens.specs.declared.token.Class.TheVariants.{Punctuator}
 use Rattle.tokens.specs.declared.token.Goal.TheVariants.{Div}
 use Rattle.tokens.specs.Goals.{allows}
@@ -12,21 +12,21 @@ use Rattle.language.specs.declared.Rank.{Rank}
 use Rattle.language.specs.declared.Rank.TheVariants.{Expression, Assignment}
 use Rattle.language.specs.declared.Start.{Start}
 use Rattle.tree.specs.declared.kind.Pair.{Pair}
-use Rattle.tree.specs.Tree.{Tree, node, Parts, none, part, gap, height, parts_height, bare, bare_parts, plain}
+use Rattle.tree.specs.Tree.{Tree, node, Parts, none, part, gap, height, bare, bare_parts, plain}
 use Rattle.tree.specs.Uses.{is_lean, used_flags, has_text}
 use Rattle.tree.proofs.Lean.{lean_flags, lean_text}
 use Rattle.language.specs.FirstPart.{others}
 use Rattle.language.specs.Words.{takes, tightness, sequences}
-use Rattle.language.specs.Pieces.{Role, expr, PieceOf, Spelling, at, sub, left, is_none}
+use Rattle.language.specs.Pieces.{expr, Spelling, at, sub, left, is_none}
 use Rattle.language.specs.Token.{Token}
 use Rattle.language.specs.Edges.{edge, last_edge, standing}
 use Rattle.language.specs.Expressions.{sequence}
 use Rattle.language.specs.Follow.{operation, symbol_of, stops}
 use Rattle.language.specs.Promises.{IsDetermined, ReadBy, Stops, Found, Absent, AbsentWithin, later_parts, LaterStop, FoundLater, AbsentLater, AbsentLaterWithin}
 use Rattle.language.specs.Grammar.{ways, spellings}
-use Rattle.language.specs.Derivation.{Among, Reads, Spells, direct, grouped, Runs, step, token, laid, Placed, placed}
+use Rattle.language.specs.Derivation.{Reads, Spells, direct, grouped, Runs, step, token, laid, Placed, placed}
 use Rattle.language.specs.View.{Made, binary, logical, several}
-use Rattle.language.proofs.Domination.{settled, fits}
+use Rattle.language.proofs.Domination.{settled}
 use Rattle.language.proofs.Viewed.{Way, way_of, made}
 use Rattle.language.proofs.Operators.{binding}
 use Rattle.language.proofs.Productions.{way_from}
@@ -34,8 +34,7 @@ use Rattle.language.proofs.Begins.{goes_to, retell}
 use Rattle.language.proofs.Running.{run_token, run_laid, run_never, run_part}
 use Rattle.language.proofs.Onward.{makes}
 use Rattle.language.proofs.Growing.{sequence_grows, none_bare}
-use Rattle.language.proofs.Signs.{reads_comma}
-use Rattle.language.proofs.TwoSides.{same_node, replaced, same_places}
+use Rattle.language.proofs.TwoSides.{same_node, same_places}
 use Rattle.language.proofs.Conditionals.{same_sign, stops_before}
 use Rattle.language.proofs.Commas.{comma_pieces}
 use Rattle.language.proofs.Callees.{tight_pieces}
