@@ -5,7 +5,7 @@ use Rattle.std.proofs.lemmas.List.{append-nil}
 use Rattle.tokens.specs.declared.token.Class.TheVariants.{Name, Punctuator}
 use Rattle.tokens.specs.declared.token.Goal.{Goal}
 use Rattle.tokens.specs.Goals.{allows}
-use Rattle.tree.specs.declared.kind.Kind.TheVariants.{FunctionExpression, ClassExpression, ImportExpression, BlockStatement}
+use Rattle.tree.specs.declared.kind.Kind.TheVariants.{FunctionExpression, ClassExpression, TemplateLiteral, ImportExpression, BlockStatement}
 use Rattle.language.specs.declared.Rank.{Rank}
 use Rattle.language.specs.declared.Rank.TheVariants.{Assignment, Call, Primary}
 use Rattle.language.specs.declared.Start.{Start}
@@ -15,6 +15,7 @@ use Rattle.tree.specs.Tree.{Tree, node, Parts, none, part, height, parts_height,
 use Rattle.language.specs.Words.{takes}
 use Rattle.language.specs.Pieces.{Role, expr, body, PieceOf, tok, sub, term}
 use Rattle.language.specs.Token.{Token}
+use Rattle.language.specs.Opening.{with_template, opening_of}
 use Rattle.language.specs.Promises.{IsDetermined, ReadBy, Stops, Found, Absent, AbsentWithin, FoundAt, AbsentAt, FoundParts, AbsentParts, AbsentPartsWithin}
 use Rattle.language.specs.Grammar.{ways, spellings, starts}
 use Rattle.language.specs.Derivation.{Reads, Spells, direct, Runs, done, step, within, token, Placed}
@@ -28,7 +29,8 @@ use Rattle.language.proofs.Conditionals.{same_sign, stops_before}
 use Rattle.language.proofs.Leaves.{by_name}
 use Rattle.language.proofs.Arrows.{ArrowBody, as_expression, as_block}
 use Rattle.language.proofs.Targets.{start_brace_unfit}
-use Rattle.language.proofs.Openers.{function_parts, class_parts, import_parts, climb_sole, start_sole_absent, start_sole_deep, function_production, class_production, import_production}
+use Rattle.language.proofs.Openers.{function_parts, class_parts, import_parts, climb_sole, start_sole_absent, start_sole_deep, function_production, class_production, template_production, import_production}
+use Rattle.language.proofs.Lists.{chunk_pieces}
 
 -- the pieces behind the word
 abbrev pub function_behind : Parts → List (PieceOf Role)
@@ -89,6 +91,18 @@ module _ (S : Type 0) (Next : S → Token → S → Type 0) (behind : S → Toke
 
       pub start_class_deep : {o hi : ℕ} {y : Rank} {i : Bool} → AbsentPartsWithin S Next behind o (hi - 1) class_behind m → AbsentWithin S Next behind o hi y i f s0
       start_class_deep missed = start_sole_deep S Next behind det (class_production S Next behind det f begins) r (opens t class text refl) (worded_deep {pieces = class_behind} r missed)
+
+  -- a template
+  module _ {f : Start} {s0 m : S} {t : Token} (r : ReadBy S Next behind Goal.RegExp s0 t m) (opening : opening_of t ≡ with_template) where
+    pub climb_template : {o : ℕ} {y : Rank} {i : Bool} {ps : Parts} {to : S} {U : List Pair} {st en : ℕ} → IsTrue (takes y Primary) → FoundParts S Next behind o (chunk_pieces true) s0 to ps U → Placed S Next behind (expr y i f) (node TemplateLiteral [] plain st en ps) s0 to →
+        Climbing S Next behind det o y i f Primary s0 (node TemplateLiteral [] plain st en ps) to U
+    climb_template low found places = climb_sole S Next behind det (template_production S Next behind det f) r opening low found places
+
+    pub start_template_absent : {y : Rank} {i : Bool} → AbsentParts S Next behind (chunk_pieces true) s0 → Absent S Next behind y i f s0
+    start_template_absent missed = start_sole_absent S Next behind det (template_production S Next behind det f) r opening missed
+
+    pub start_template_deep : {o hi : ℕ} {y : Rank} {i : Bool} → AbsentPartsWithin S Next behind o (hi - 1) (chunk_pieces true) s0 → AbsentWithin S Next behind o hi y i f s0
+    start_template_deep missed = start_sole_deep S Next behind det (template_production S Next behind det f) r opening missed
 
   -- what stands in the parentheses of `import`
   record ImportRuns (o : ℕ) (m e : S) (ps : Parts) (P : List Pair) : Type 0 where
