@@ -48,6 +48,7 @@ pub mod Closures
 pub mod Patterned
 pub mod Unlinked
 pub mod Chained
+pub mod AtConditional
 pub mod Turns
 pub mod Sequences
 pub mod Wholes

@@ -26,12 +26,12 @@ none_led : {y : Rank} {i : Bool} {f : Start} {k : Kind} {w : List ℕ} {g : Flag
 none_led l = elim l [ ]
 
 -- The turn at `?` wants a position other than Conditional. There two derivations of `a ? b : c = d` can't go on: `a ? b : c`, since an
--- assignment doesn't stand at Conditional, and the whole. No part of an expression stands there: not the right side of an operator,
+-- assignment doesn't stand at Conditional, and the whole; so Conditional has forms of its own.
 pub not_conditional : (y : Rank) → (y ≡ Conditional → ⊥) → tightness y ≡ 2 → ⊥
 not_conditional Conditional other e = other refl
 not_conditional _ other e = absurd (omega (arith, e))
 
--- which stands behind no `new` either
+-- the right side of an operator stands neither there nor behind `new`
 pub right_position : {op : Operator} {K : Kind} {a z q : Rank} {b : Bool} → (w : List ℕ) → operator_of w ≡ op → TwoSided op K a z q b → (tightness q ≡ 2 → ⊥) × (q ≡ New → ⊥)
 right_position w op (two_binds {z = z} {q = q}) =
     let v = binding w op in

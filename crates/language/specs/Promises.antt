@@ -8,7 +8,7 @@ use Rattle.tokens.specs.Goals.{allows}
 use Rattle.tree.specs.declared.kind.Pair.{Pair}
 use Rattle.tree.specs.Tree.{Tree, Parts, none, part, gap, height, parts_height, bare_parts}
 use Rattle.language.specs.declared.Rank.{Rank}
-use Rattle.language.specs.declared.Rank.TheVariants.{Expression, Assignment, New, Member}
+use Rattle.language.specs.declared.Rank.TheVariants.{Expression, Assignment, Conditional, New, Member}
 use Rattle.language.specs.declared.Start.{Start}
 use Rattle.language.specs.declared.Start.TheVariants.{Any}
 use Rattle.language.specs.Pieces.{Role, expr, PieceOf, sub, never, settle_piece}
@@ -88,6 +88,19 @@ module _ (S : Type 0) (Next : S → Token → S → Type 0) (behind : S → Toke
 
   pub record AbsentPartsWithin (o h : ℕ) (pieces : Parts → List (PieceOf Role)) (s : S) : Type 0 where
     pub nothing : (e' : S) (ps' : Parts) (P' : List Pair) → Runs ways S Next behind o (pieces ps') ps' s e' P' → parts_height ps' ≤ h → ⊥
+
+  -- At Conditional, where `a ? b : c` can't go on before `=`, nor can the whole of `a ? b : c = d` (12.14): the only thing here of
+  -- those that can't go on at Assignment either; nothing of them; nothing within the limits.
+  pub record FoundConditional (o : ℕ) (i : Bool) (f : Start) (s e : S) (n : Tree) (P : List Pair) : Type 0 where
+    pub spelled : Spells ways S Next behind o (expr Conditional i f) n s e P
+    pub stopped : Stops Conditional i n e
+    pub only : (o' : ℕ) (e' : S) (n' : Tree) (P' : List Pair) → Spells ways S Next behind o' (expr Conditional i f) n' s e' P' → Stops Assignment i n' e' → (e' ≡ e) × (n' ≡ n) × (P' ≡ P)
+
+  pub record AbsentConditional (i : Bool) (f : Start) (s : S) : Type 0 where
+    pub nothing : (o' : ℕ) (e' : S) (n' : Tree) (P' : List Pair) → Spells ways S Next behind o' (expr Conditional i f) n' s e' P' → Stops Assignment i n' e' → ⊥
+
+  pub record AbsentConditionalWithin (o h : ℕ) (i : Bool) (f : Start) (s : S) : Type 0 where
+    pub nothing : (e' : S) (n' : Tree) (P' : List Pair) → Spells ways S Next behind o (expr Conditional i f) n' s e' P' → Stops Assignment i n' e' → height n' ≤ h → ⊥
 
   -- What stands behind `new` (12.3.3): a MemberExpression; or a NewExpression behind which no `(` follows, since a `new` without
   -- arguments in it would have taken those.
