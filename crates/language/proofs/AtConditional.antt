@@ -11,28 +11,27 @@ use Rattle.tree.specs.declared.kind.Flags.{Flags}
 use Rattle.tree.specs.declared.kind.Pair.{Pair}
 use Rattle.tree.specs.Tree.{Tree, node, Parts, none, part, plain}
 use Rattle.language.specs.declared.Rank.{Rank}
-use Rattle.language.specs.declared.Rank.TheVariants.{Expression, Assignment, Conditional, ShortCircuit, Exponentiation, Update, LeftHandSide, Call, Member}
+use Rattle.language.specs.declared.Rank.TheVariants.{Expression, Assignment, Conditional, ShortCircuit, Call, Member}
 use Rattle.language.specs.declared.Start.{Start}
 use Rattle.language.specs.declared.Start.TheVariants.{Any}
-use Rattle.language.specs.declared.Edge.{Edge}
 use Rattle.language.specs.Words.{is, takes, takes_number, tightness, Operator, asks}
 use Rattle.language.specs.Pieces.{Role, expr, spine, PieceOf, is_tight}
 use Rattle.language.specs.Token.{Token}
 use Rattle.language.specs.Edges.{edge, standing}
 use Rattle.language.specs.Follow.{operation, symbol_of, holds, stops_at, stops}
 use Rattle.language.specs.Promises.{IsDetermined, ReadBy, Stops, Found, Absent, AbsentWithin, FoundConditional, AbsentConditional, AbsentConditionalWithin}
-use Rattle.language.specs.Grammar.{ways, spellings}
-use Rattle.language.specs.Derivation.{Reads, Spells, Placed}
+use Rattle.language.specs.Grammar.{spellings}
+use Rattle.language.specs.Derivation.{Reads, Placed}
 use Rattle.language.proofs.Spine.{Grows, whole, grow, grows_on_spine}
 use Rattle.language.proofs.Viewed.{way_of, made}
 use Rattle.language.proofs.Operators.{binding}
 use Rattle.language.proofs.RightEdges.{takes_less}
-use Rattle.language.proofs.Led.{callee_rank, Led, led_binary, led_power, led_assign, led_postfix, led_sequence, led_conditional, led_dot, led_index, led_call, led_tag, led_chain, led_of, linked_of}
+use Rattle.language.proofs.Led.{Led, led_binary, led_power, led_assign, led_postfix, led_sequence, led_conditional, led_dot, led_index, led_call, led_tag, led_chain, led_of, linked_of}
 use Rattle.language.proofs.Reaches.{reaches, linked_base}
 use Rattle.language.proofs.Stepping.{Ended}
 use Rattle.language.proofs.Signs.{reads_question}
 use Rattle.language.proofs.Growing.{conditional_grows}
-use Rattle.language.proofs.TwoSides.{same_node, replaced, same_places}
+use Rattle.language.proofs.TwoSides.{same_node, same_places}
 use Rattle.language.proofs.Climbing.{grows_height, Climbing}
 use Rattle.language.proofs.Conditionals.{AskOn, ask_on, past}
 use Rattle.language.proofs.Suffixes.{rank_is}
