@@ -59,3 +59,5 @@ pub mod WordExamples
 pub mod FollowExamples
 pub mod Readings
 pub mod TextPlaces
+pub mod Stated
+pub mod Beginnings
