@@ -184,7 +184,8 @@ made_rank _ = omega arith
 too_tight : (z : ℕ) → z ≤ 22 → IsTrue (takes_number 23 z) → ⊥
 too_tight z l h = grind (arith, nat_tests)
 
-settled_at : {a : Role} {p d r : Bool} → Stands a p d r → (x : Spelling) → settled a x ≡ goes_to Expression true Any x.pieces
+-- a statement's pieces are settled as those of a whole expression
+pub settled_at : {a : Role} {p d r : Bool} → Stands a p d r → (x : Spelling) → settled a x ≡ goes_to Expression true Any x.pieces
 settled_at as_statement x = refl
 settled_at as_item x = refl
 settled_at as_opening x = refl

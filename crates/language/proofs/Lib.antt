@@ -61,3 +61,5 @@ pub mod Readings
 pub mod TextPlaces
 pub mod Stated
 pub mod Beginnings
+pub mod Sole
+pub mod OwnWays
