@@ -63,3 +63,5 @@ pub mod Stated
 pub mod Beginnings
 pub mod Sole
 pub mod OwnWays
+pub mod BareEdges
+pub mod Misses

@@ -4,6 +4,7 @@ use Rattle.std.specs.Prelude.{◌≡◌, ℕ, ◌≤◌, Bool, true, false, not,
 use Rattle.tokens.specs.declared.token.Class.{Class}
 use Rattle.tokens.specs.declared.token.Class.TheVariants.{Name, Punctuator}
 use Rattle.tokens.specs.declared.token.Goal.TheVariants.{RegExp}
+use Rattle.tokens.specs.Alphabet.{one_of, begins_with}
 use Rattle.tree.specs.declared.kind.Kind.{Kind}
 use Rattle.tree.specs.declared.kind.Pair.{Pair}
 use Rattle.tree.specs.Tree.{Tree, node, Parts, height, parts_height, plain}
@@ -25,6 +26,10 @@ abbrev pub may_follow : Bool → Token → Bool
 may_follow b t = begins_item t || (ends_list t || (same_class Name t.class && (is t.text "else" && not b)))
 
 module _ (S : Type 0) (Next : S → Token → S → Type 0) (behind : S → Token) where
+  -- what is read at one place begins with `}` by each goal, or by none
+  pub record IsAlike : Type 0 where
+    pub brace : (s : S) (a b : Token) (e f : S) → Next s a e → Next s b f → begins_with (one_of "}") a.text ≡ begins_with (one_of "}") b.text
+
   -- such a token is read here
   pub record Followed (b : Bool) (e : S) : Type 0 where
     pub token : Token
