@@ -176,12 +176,14 @@ opening_begins d r Template w h = refl
 opening_begins d r Class.RegExp w h = refl
 opening_begins d r End w h = refl
 
-made_rank : {k : Kind} {w : List ℕ} {g : Flags} {ps : Parts} {x : Spelling} → Made k w g ps x → tightness x.rank ≤ 22
+-- nothing stands at a symbol tighter than Primary
+pub made_rank : {k : Kind} {w : List ℕ} {g : Flags} {ps : Parts} {x : Spelling} → Made k w g ps x → tightness x.rank ≤ 22
 made_rank (binary {w = w} op) = let v = binding w op in let up = v.rises.0 in let most = v.most in omega arith
 made_rank (logical {w = w} op) = let v = binding w op in let up = v.rises.0 in let most = v.most in omega arith
 made_rank _ = omega arith
 
-too_tight : (z : ℕ) → z ≤ 22 → IsTrue (takes_number 23 z) → ⊥
+-- so nothing but a group stands at Grouped
+pub too_tight : (z : ℕ) → z ≤ 22 → IsTrue (takes_number 23 z) → ⊥
 too_tight z l h = grind (arith, nat_tests)
 
 -- a statement's pieces are settled as those of a whole expression

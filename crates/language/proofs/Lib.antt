@@ -65,3 +65,4 @@ pub mod Sole
 pub mod OwnWays
 pub mod BareEdges
 pub mod Misses
+pub mod Evaluated

@@ -168,13 +168,14 @@ own_lean FunctionDeclaration w st en ps h = refl
 own_lean ClassDeclaration w st en ps h = refl
 own_lean _ w st en ps h = cc
 
--- a statement has the span of its tokens, and stands at no symbol
-statement_spans : {a : Role} {p d r : Bool} → Stands a p d r → (t l : Token) → place a t l ≡ (t.start, l.stop)
+-- a statement has the span of its tokens
+pub statement_spans : {a : Role} {p d r : Bool} → Stands a p d r → (t l : Token) → place a t l ≡ (t.start, l.stop)
 statement_spans as_statement t l = refl
 statement_spans as_item t l = refl
 statement_spans as_opening t l = refl
 
-statement_fits : {a : Role} {p d r : Bool} → Stands a p d r → (x : Spelling) → fits a x ≡ can_run x.pieces
+-- and stands at no symbol
+pub statement_fits : {a : Role} {p d r : Bool} → Stands a p d r → (x : Spelling) → fits a x ≡ can_run x.pieces
 statement_fits as_statement x = refl
 statement_fits as_item x = refl
 statement_fits as_opening x = refl

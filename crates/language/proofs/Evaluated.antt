@@ -1,0 +1,302 @@
+-- Statements that begin with an expression: from the expression that is found to the statement, where what may follow follows.
+use Rattle.std.proofs.Common.{◌≡◌, ℕ, suc, ◌-◌, ◌≤◌, max, Bool, true, false, cond, List, [], ◌∷◌, ◌++◌, refl, sym, ap, ◌∙◌, subst, arith}
+use Rattle.std.specs.Prelude.{IsTrue, codes, not, ◌&&◌}
+use Rattle.std.proofs.lemmas.Bool.{and_parts, false≢true}
+use Rattle.std.proofs.lemmas.List.{append-nil}
+use Rattle.tokens.specs.declared.token.Class.{Class}
+use Rattle.tokens.specs.declared.token.Class.TheVariants.{Name, Punctuator, Text}
+use Rattle.tokens.specs.declared.token.Goal.{Goal}
+use Rattle.tokens.specs.declared.token.Goal.TheVariants.{Div}
+use Rattle.tokens.specs.Goals.{allows}
+use Rattle.tree.specs.declared.kind.Kind.{Kind}
+use Rattle.tree.specs.declared.kind.Kind.TheVariants.{Identifier, Literal, ExpressionStatement, LabeledStatement}
+use Rattle.tree.specs.declared.kind.Flags.{Flags}
+use Rattle.tree.specs.declared.kind.Pair.{Pair}
+use Rattle.tree.specs.Tree.{Tree, node, Parts, none, part, kind_of, text_of, bare, bare_parts, plain, height, parts_height}
+use Rattle.tree.specs.Uses.{is_lean}
+use Rattle.tree.proofs.Lean.{lean_flags}
+use Rattle.language.specs.declared.Rank.{Rank}
+use Rattle.language.specs.declared.Rank.TheVariants.{Expression, Grouped, Primary}
+use Rattle.language.specs.declared.Start.TheVariants.{Any, Statement}
+use Rattle.language.specs.declared.Edge.{Edge}
+use Rattle.language.specs.declared.Edge.TheVariants.{Other}
+use Rattle.language.specs.Words.{is, among, tightness, is_reserved, literal_class, is_string, is_name}
+use Rattle.language.specs.Edges.{edge, last_edge, ends_in_if, standing}
+use Rattle.language.specs.Pieces.{Role, expr, name, quoted, statement, PieceOf, tok, ending, sub, lay, space, at, put, Spelling, Ending}
+use Rattle.language.specs.Statements.{first_is_string, is_string_literal, end_of}
+use Rattle.language.specs.Token.{Token}
+use Rattle.language.specs.Beginning.{an_expression, beginning_of}
+use Rattle.language.specs.Follow.{of_class, operation, symbol_of, stops_at}
+use Rattle.language.specs.Promises.{is_free, IsDetermined, ReadBy, Stops, Found, Absent, AbsentWithin}
+use Rattle.language.specs.Following.{IsAlike, Followed, Finished, may_follow, FoundWhere, AbsentWhere, AbsentWhereWithin}
+use Rattle.language.specs.Grammar.{ways, spellings, can_run, starts}
+use Rattle.language.specs.Derivation.{Reads, Spells, direct, grouped, Runs, done, step, within, Step, token, explicit, implicit, Placed, placed, place}
+use Rattle.language.specs.View.{identifier, literal}
+use Rattle.language.proofs.Domination.{settled, fits}
+use Rattle.language.proofs.Viewed.{way_of, made, one, cases}
+use Rattle.language.proofs.Productions.{spell, way_from, in_true}
+use Rattle.language.proofs.Begins.{among_by, goes_to, retell}
+use Rattle.language.proofs.Running.{run_none, run_token, run_laid, run_part}
+use Rattle.language.proofs.TwoSides.{same_node}
+use Rattle.language.proofs.Leaves.{OneToken, name_form}
+use Rattle.language.proofs.BareEdges.{edge_bare}
+use Rattle.language.proofs.Misses.{ended_stops}
+use Rattle.language.proofs.Stated.{Stands, as_statement, as_item, as_opening, label_listed, expression_listed, directive_listed, group_listed}
+use Rattle.language.proofs.Beginnings.{directive_flags, made_rank, too_tight, settled_at, OtherWay, a_label, evaluated, a_directive, a_group, other_way}
+use Rattle.language.proofs.OwnWays.{statement_spans, statement_fits}
+use Rattle.language.proofs.Sole.{same_span}
+
+-- a name that isn't reserved may begin a statement
+starts_free : (w : List ℕ) → is_reserved w ≡ false → starts Statement (tok Name w ∷ []) ≡ true
+unfolding is_reserved
+starts_free w h = of (among w ("function" ∷ "class" ∷ [])) refl
+  where
+    of : (b : Bool) → among w ("function" ∷ "class" ∷ []) ≡ b → not b ≡ true
+    of false e = refl
+    of true e = absurd (false≢true (sym h ∙ among_by (λ v. is_reserved v ≡ true) w ("function" ∷ "class" ∷ []) e (refl, (refl, tt))))
+
+text_class : (c : Class) → is_string c ≡ true → c ≡ Text
+text_class Text h = refl
+text_class _ h = cc
+
+-- a token of this class and text
+abbrev colon : Class → List ℕ → Token
+colon c w = record { class = c; text = w; start = 0; stop = 0; after_break = false }
+
+-- the end of a statement behind an expression
+abbrev end_behind : Edge → PieceOf Role
+end_behind x = ending (Rattle.language.specs.Pieces.behind x)
+
+string_bare : (n : Tree) → is_string_literal (kind_of (bare n)) (text_of (bare n)) ≡ is_string_literal (kind_of n) (text_of n)
+string_bare (node k w g s e ps) = refl
+
+module _ (S : Type 0) (Next : S → Token → S → Type 0) (behind : S → Token) (det : IsDetermined S Next behind) (alike : IsAlike S Next behind) where
+  -- where `:` is read nothing goes on
+  colon_stops : {e k : S} {v : Token} (n : Tree) → Reads S Next behind Punctuator (codes ":") e v k → Stops S Next behind Expression true n e
+  colon_stops {e} {k} {v} n h t m r =
+      let al : IsTrue (allows Div v.class v.text) = subst (λ x. IsTrue (allows Div x v.text)) (sym h.class) (subst (λ x. IsTrue (allows Div Punctuator x)) (sym h.text) refl) in
+      let same = det.same Div e t v m k r.next h.next r.allowed al in
+      ap (λ x. stops_at Expression true (standing (edge n) (behind e)) t (symbol_of x t.after_break)) (ap operation same.0 ∙ ap (λ c. of_class c v.text) h.class ∙ ap (of_class Punctuator) h.text)
+
+  -- nor does a statement end before one that isn't at the end of a list
+  no_end : {b : Bool} {e k e' : S} {v : Token} (y : Ending) → Reads S Next behind Punctuator (codes ":") e v k → Step S Next behind (ending y) e e' → Followed S Next behind b e' → ⊥
+  no_end {e = e} {k = k} {v = v} y h (explicit {t = t} {e = m} r) f =
+      let al : IsTrue (allows Div v.class v.text) = subst (λ x. IsTrue (allows Div x v.text)) (sym h.class) (subst (λ x. IsTrue (allows Div Punctuator x)) (sym h.text) refl) in
+      let al' : IsTrue (allows Div t.class t.text) = subst (λ x. IsTrue (allows Div x t.text)) (sym r.class) (subst (λ x. IsTrue (allows Div Punctuator x)) (sym r.text) refl) in
+      let same = det.same Div e v t k m h.next r.next al al' in
+      false≢true (ap (λ w. is w ";") (sym h.text ∙ ap (λ (x : Token). x.text) same.0 ∙ r.text))
+  no_end {b} {e} {k} {v = v} y h (implicit {t = t} nx may) f =
+      let al : IsTrue (allows Goal.RegExp v.class v.text) = subst (λ x. IsTrue (allows Goal.RegExp x v.text)) (sym h.class) (subst (λ x. IsTrue (allows Goal.RegExp Punctuator x)) (sym h.text) refl) in
+      let same = det.same Goal.RegExp e v f.token k f.mid h.next f.read.next al f.read.allowed in
+      false≢true (sym (ap (λ c. may_follow b (colon c v.text)) h.class ∙ ap (λ w. may_follow b (colon Punctuator w)) h.text) ∙ ap (may_follow b) same.0 ∙ f.follows)
+  -- a name is an expression, and a directive's string
+  name_expression : {o : ℕ} {n : Tree} {s e : S} {P : List Pair} → Spells ways S Next behind o name n s e P → Spells ways S Next behind o (expr Expression true Statement) n s e P
+  name_expression {o} {n} {s} {e} {P} d =
+      let u = name_form S Next behind det d in
+      let v = u.0 in
+      subst (λ x. Spells ways S Next behind o (expr Expression true Statement) n s e x) (sym v.pairs)
+      (subst (λ x. Spells ways S Next behind o (expr Expression true Statement) x s e []) (sym v.tree)
+      (spell S Next behind (at Primary (tok Name v.text ∷ [])) (identifier u.1) refl refl refl (starts_free v.text u.1) (placed v.reads.next refl) (step (token v.reads) done)))
+
+  -- the string of a directive, which its token tells
+  record Quoted (o : ℕ) (n : Tree) (s e : S) (P : List Pair) : Type 0 where
+    text : List ℕ
+    sign : Token
+    st : ℕ
+    en : ℕ
+    class : literal_class text ≡ Text
+    reads : Reads S Next behind Text text s sign e
+    tree : n ≡ node Literal text plain st en none
+    placed : Placed S Next behind quoted n s e
+    pairs : P ≡ []
+
+  quoted_form : {o : ℕ} {n : Tree} {s e : S} {P : List Pair} → Spells ways S Next behind o quoted n s e P → Quoted o n s e P
+  unfolding spellings
+  quoted_form {o} {n = node Literal w g st en ps} {s} {e} {P} (direct qs h pl d) = let v = way_of h in
+      cases {ys = []} (is_string (literal_class w)) v.listed (λ b k.
+          let u = run_token S Next behind (retell S Next behind (v.is ∙ ap (settled quoted) (one k)) d) in
+          let z = run_none S Next behind u.runs in
+          record {
+            text = w;
+            sign = u.sign;
+            st = st;
+            en = en;
+            class = text_class (literal_class w) b;
+            reads = subst (λ x. Reads S Next behind Text w s u.sign x) z.place u.reads;
+            tree = same_node refl refl (lean_flags (bare (node Literal w g st en ps)) v.lean) refl refl z.parts;
+            placed = pl;
+            pairs = z.pairs;
+          }) (λ b k. elim k [ ])
+  quoted_form {n = node _ w g st en ps} (direct qs h pl d) = elim ((way_of h).listed) [ ]
+
+  quoted_expression : {o : ℕ} {n : Tree} {s e : S} {P : List Pair} → Spells ways S Next behind o quoted n s e P → Spells ways S Next behind o (expr Expression true Statement) n s e P
+  quoted_expression {o} {n} {s} {e} {P} d =
+      let v = quoted_form d in
+      subst (λ x. Spells ways S Next behind o (expr Expression true Statement) n s e x) (sym v.pairs)
+      (subst (λ x. Spells ways S Next behind o (expr Expression true Statement) x s e []) (sym v.tree)
+      (spell S Next behind (at Primary (tok (literal_class v.text) v.text ∷ [])) (literal (ap (λ c. is_name c && not (among v.text ("true" ∷ "false" ∷ "null" ∷ []))) v.class)) refl refl refl (ap (λ c. starts Statement (tok c v.text ∷ [])) v.class)
+      (replaced (subst (λ x. Placed S Next behind quoted x s e) v.tree v.placed)) (step (token (record { next = v.reads.next; class = v.reads.class ∙ sym v.class; text = v.reads.text })) done)))
+    where
+      replaced : {m : Tree} → Placed S Next behind quoted m s e → Placed S Next behind (expr Expression true Statement) m s e
+      replaced (placed nx p) = placed nx p
+
+  -- a group is one at any position
+  group_expression : {o : ℕ} {n : Tree} {s e : S} {P : List Pair} → Spells ways S Next behind o (expr Grouped true Any) n s e P → Spells ways S Next behind o (expr Expression true Statement) n s e P
+  unfolding spellings
+  group_expression (grouped p d q) = grouped p d q
+  group_expression {n = node k w g st en ps} (direct qs h pl d) = let v = way_of h in absurd (too_tight (tightness v.spelling.rank) (made_rank (made k v.listed)) (and_parts _ _ (and_parts _ _ v.fit).0).0)
+
+  -- an expression, or what is one, and the end behind it
+  record Ends (o : ℕ) (a : Role) (y : Ending) (ps : Parts) (s e : S) (P : List Pair) : Type 0 where
+    item : Tree
+    mid : S
+    parts : ps ≡ part item none
+    spelled : Spells ways S Next behind o a item s mid P
+    ends : Step S Next behind (ending y) mid e
+
+  -- the end of a statement
+  record AnEnd (y : Ending) (ps : Parts) (s e : S) (P : List Pair) : Type 0 where
+    parts : ps ≡ none
+    pairs : P ≡ []
+    ends : Step S Next behind (ending y) s e
+
+  run_end : {o : ℕ} {y : Ending} {ps : Parts} {s e : S} {P : List Pair} → Runs ways S Next behind o (ending y ∷ []) ps s e P → AnEnd y ps s e P
+  run_end {y = y} {s = s} (step p d) = let z = run_none S Next behind d in record { parts = z.parts; pairs = z.pairs; ends = subst (λ v. Step S Next behind (ending y) s v) z.place p }
+
+  ends_of : {o : ℕ} {a : Role} {y : Ending} {ps : Parts} {s e : S} {P : List Pair} → Runs ways S Next behind o (sub a ∷ ending y ∷ []) ps s e P → Ends o a y ps s e P
+  ends_of {o} {a} {s = s} d =
+      let u = run_part S Next behind d in
+      let z = run_end u.runs in
+      record {
+        item = u.item;
+        mid = u.mid;
+        parts = u.parts ∙ ap (part u.item) z.parts;
+        spelled = subst (λ v. Spells ways S Next behind o a u.item s u.mid v) (sym (u.pairs ∙ ap (λ v. u.one ++ v) z.pairs ∙ append-nil u.one)) u.spelled;
+        ends = z.ends;
+      }
+
+  -- what runs so, over an expression and its end
+  ends_runs : {o : ℕ} {a : Role} {y : Ending} {n : Tree} {s mid e : S} {P : List Pair} → Spells ways S Next behind o a n s mid P → Step S Next behind (ending y) mid e → Runs ways S Next behind o (sub a ∷ ending y ∷ []) (part n none) s e P
+  ends_runs {o} {a} {y} {n} {s} {e = e} {P = P} d p = subst (λ v. Runs ways S Next behind o (sub a ∷ ending y ∷ []) (part n none) s e v) (append-nil P) (within d (step p done))
+
+  -- which of the three ways: an expression; in a prologue a directive, or a group with a string alone
+  data Sort (p : Bool) (o : ℕ) (x : Tree) (s e : S) (P : List Pair) : Flags → Type 0 where
+    as_plain : (p ≡ true → is_string_literal (kind_of x) (text_of x) ≡ false) → Sort p o x s e P plain
+    as_directive : p ≡ true → is_string_literal (kind_of x) (text_of x) ≡ true → Spells ways S Next behind o quoted x s e P → Sort p o x s e P directive_flags
+    as_group : p ≡ true → is_string_literal (kind_of x) (text_of x) ≡ true → Spells ways S Next behind o (expr Grouped true Any) x s e P → Sort p o x s e P plain
+
+  -- What spells such a statement, with what may follow: a label, or an expression that can't go on, and its end.
+  data Seen (p r : Bool) (o : ℕ) (a : Role) (n : Tree) (s e : S) (P : List Pair) : Type 0 where
+    seen_label : {st en : ℕ} {x : Tree} {rest : Parts} {mid next : S} {v : Token} {Q R : List Pair} → n ≡ node LabeledStatement [] plain st en (part x rest) → Placed S Next behind a n s e → Spells ways S Next behind o name x s mid Q →
+        Reads S Next behind Punctuator (codes ":") mid v next → Runs ways S Next behind o (sub (statement r) ∷ []) rest next e R → P ≡ Q ++ R → Seen p r o a n s e P
+    seen_expression : {st en : ℕ} {g : Flags} {x : Tree} {mid : S} → n ≡ node ExpressionStatement [] g st en (part x none) → Placed S Next behind a n s e → Spells ways S Next behind o (expr Expression true Statement) x s mid P →
+        Stops S Next behind Expression true x mid → Step S Next behind (end_behind (edge x)) mid e → Sort p o x s mid P g → Seen p r o a n s e P
+
+  seen : {p r : Bool} {o : ℕ} {a : Role} {n : Tree} {s e : S} {P : List Pair} → Finished S Next behind n e → OtherWay S Next behind det p r o a n s e P → Seen p r o a n s e P
+  seen fine (a_label {st = st} {en = en} tree pl d) =
+      let u = run_part S Next behind d in
+      let c = run_token S Next behind u.runs in
+      seen_label (tree ∙ ap (node LabeledStatement [] plain st en) u.parts) pl u.spelled c.reads (run_laid S Next behind c.runs) u.pairs
+  seen {o = o} {s = s} {e = e} {P = P} fine (evaluated {st = st} {en = en} {ps = ps} tree pl single d) =
+      let u = ends_of d in
+      let x : last_edge (bare_parts ps) ≡ edge u.item = ap (λ v. last_edge (bare_parts v)) u.parts ∙ edge_bare u.item in
+      let end : Step S Next behind (end_behind (edge u.item)) u.mid e = subst (λ v. Step S Next behind (end_behind v) u.mid e) x u.ends in
+      seen_expression (tree ∙ ap (node ExpressionStatement [] plain st en) u.parts) pl u.spelled (λ t m r. ended_stops S Next behind det alike Expression true (edge u.item) end fine r) end
+      (as_plain (λ h. sym (string_bare u.item) ∙ sym (ap (λ v. first_is_string (bare_parts v)) u.parts) ∙ single h))
+  seen {e = e} fine (a_directive {st = st} {en = en} {ps = ps} here tree pl single d) =
+      let u = ends_of d in
+      let q = quoted_form u.spelled in
+      let x : Other ≡ edge u.item = sym (ap edge q.tree) in
+      let end : Step S Next behind (end_behind (edge u.item)) u.mid e = subst (λ v. Step S Next behind (end_behind v) u.mid e) x u.ends in
+      seen_expression (tree ∙ ap (node ExpressionStatement [] directive_flags st en) u.parts) pl (quoted_expression u.spelled) (λ t m r. ended_stops S Next behind det alike Expression true (edge u.item) end fine r) end
+      (as_directive here (sym (string_bare u.item) ∙ sym (ap (λ v. first_is_string (bare_parts v)) u.parts) ∙ single) u.spelled)
+  seen {e = e} fine (a_group {st = st} {en = en} {ps = ps} here tree pl single d) =
+      let u = ends_of d in
+      let x : last_edge (bare_parts ps) ≡ edge u.item = ap (λ v. last_edge (bare_parts v)) u.parts ∙ edge_bare u.item in
+      let end : Step S Next behind (end_behind (edge u.item)) u.mid e = subst (λ v. Step S Next behind (end_behind v) u.mid e) x u.ends in
+      seen_expression (tree ∙ ap (node ExpressionStatement [] plain st en) u.parts) pl (group_expression u.spelled) (λ t m r. ended_stops S Next behind det alike Expression true (edge u.item) end fine r) end
+      (as_group here (sym (string_bare u.item) ∙ sym (ap (λ v. first_is_string (bare_parts v)) u.parts) ∙ single) u.spelled)
+
+  module _ {p d r : Bool} {a : Role} {s m : S} {t : Token} (stands : Stands a p d r) (read : ReadBy S Next behind Goal.RegExp s t m) (begun : beginning_of d r t ≡ an_expression) where
+    look : {o : ℕ} {n : Tree} {e : S} {P : List Pair} → Spells ways S Next behind o a n s e P → Finished S Next behind n e → Seen p r o a n s e P
+    look d1 fine = seen fine (other_way S Next behind det stands read begun d1)
+
+    -- no expression, so no such statement
+    pub no_expression : Absent S Next behind Expression true Statement s → AbsentWhere S Next behind (Finished S Next behind) a s
+    no_expression missed = record { nothing = λ o' e' n' P' d1 fine. of (look d1 fine) }
+      where
+        of : {o' : ℕ} {e' : S} {n' : Tree} {P' : List Pair} → Seen p r o' a n' s e' P' → ⊥
+        of {o'} (seen_label {x = x} {mid = mid} {Q = Q} tree pl u c d1 all) = missed.nothing o' mid x Q (name_expression u) (colon_stops x c)
+        of {o'} {P' = P'} (seen_expression {x = x} {mid = mid} tree pl u st end sort) = missed.nothing o' mid x P' u st
+
+    -- none within the limits
+    pub deep_expression : {o hi : ℕ} → AbsentWithin S Next behind o (hi - 1) Expression true Statement s → AbsentWhereWithin S Next behind (Finished S Next behind) o hi a s
+    deep_expression {o} {hi} missed = record { nothing = λ e' n' P' d1 fine le. of le (look d1 fine) }
+      where
+        of : {e' : S} {n' : Tree} {P' : List Pair} → height n' ≤ hi → Seen p r o a n' s e' P' → ⊥
+        of le (seen_label {x = x} {rest = rest} {mid = mid} {Q = Q} tree pl u c d1 all) = let h = ap height tree in missed.nothing mid x Q (name_expression u) (colon_stops x c) (omega arith)
+        of {P' = P'} le (seen_expression {x = x} {mid = mid} tree pl u st end sort) = let h = ap height tree in missed.nothing mid x P' u st (omega arith)
+
+    module _ {o : ℕ} {x : Tree} {e0 : S} {P : List Pair} (found : Found S Next behind o Expression true Statement s e0 x P)
+        (no_label : (o' : ℕ) (n' : Tree) (P' : List Pair) (v : Token) (k : S) → Spells ways S Next behind o' name n' s e0 P' → Reads S Next behind Punctuator (codes ":") e0 v k → ⊥) where
+      -- what such a statement is, where its expression is found and no label
+      record Known (o' : ℕ) (n : Tree) (e : S) (P' : List Pair) : Type 0 where
+        st : ℕ
+        en : ℕ
+        flags : Flags
+        tree : n ≡ node ExpressionStatement [] flags st en (part x none)
+        placed : Placed S Next behind a n s e
+        ends : Step S Next behind (end_behind (edge x)) e0 e
+        sort : Sort p o' x s e0 P' flags
+        pairs : P' ≡ P
+
+      known : {o' : ℕ} {n : Tree} {e : S} {P' : List Pair} → Seen p r o' a n s e P' → Known o' n e P'
+      known {o'} (seen_label {x = y} {mid = mid} {next = k} {v = v} {Q = Q} tree pl u c d1 all) =
+          let same = found.only o' mid y Q (name_expression u) (colon_stops y c) in
+          absurd (no_label o' y Q v k (subst (λ w. Spells ways S Next behind o' name y s w Q) same.0 u) (subst (λ w. Reads S Next behind Punctuator (codes ":") w v k) same.0 c))
+      known {o'} {n} {e} {P'} (seen_expression {st = st} {en = en} {g = g} {x = y} {mid = mid} tree pl u stop end sort) =
+          let same = found.only o' mid y P' u stop in
+          record {
+            st = st;
+            en = en;
+            flags = g;
+            tree = tree ∙ ap (λ w. node ExpressionStatement [] g st en (part w none)) same.1;
+            placed = pl;
+            ends = subst (λ w. Step S Next behind (end_behind (edge x)) w e) same.0 (subst (λ w. Step S Next behind (end_behind (edge w)) mid e) same.1 end);
+            sort = subst (λ w. Sort p o' x s w P' g) same.0 (subst (λ w. Sort p o' w s mid P' g) same.1 sort);
+            pairs = same.2;
+          }
+
+      -- no end behind the expression, so no statement
+      pub no_end_found : ((e : S) → Step S Next behind (end_behind (edge x)) e0 e → ⊥) → AbsentWhere S Next behind (Finished S Next behind) a s
+      no_end_found missed = record { nothing = λ o' e' n' P' d1 fine. (let u = known (look d1 fine) in missed e' u.ends) }
+
+      -- with its end, where these are the flags of all such statements
+      statement_found : {st en : ℕ} {e : S} (g : Flags) → ((o' : ℕ) (P' : List Pair) (g' : Flags) → Sort p o' x s e0 P' g' → g' ≡ g) → ((e' : S) → Step S Next behind (end_behind (edge x)) e0 e' → e' ≡ e) →
+          Spells ways S Next behind o a (node ExpressionStatement [] g st en (part x none)) s e P → Placed S Next behind a (node ExpressionStatement [] g st en (part x none)) s e →
+          FoundWhere S Next behind (Finished S Next behind) o a s e (node ExpressionStatement [] g st en (part x none)) P
+      statement_found {st} {en} {e} g flags only spelled pl = record {
+        spelled = spelled;
+        only = λ o' e' n' P' d1 fine.
+            let u = known (look d1 fine) in
+            let there = only e' u.ends in
+            let span = same_span S Next behind det (statement_spans stands) (subst (λ v. Placed S Next behind a v s e') u.tree u.placed) pl there in
+            (there, u.tree ∙ same_node refl refl (flags o' P' u.flags u.sort) span.0 span.1 refl, u.pairs);
+      }
+
+      expression_spells : {st en : ℕ} {e : S} → (p ≡ true → is_string_literal (kind_of x) (text_of x) ≡ false) → Step S Next behind (end_behind (edge x)) e0 e → Placed S Next behind a (node ExpressionStatement [] plain st en (part x none)) s e →
+          Spells ways S Next behind o a (node ExpressionStatement [] plain st en (part x none)) s e P
+      expression_spells {st} {en} {e} plainly end pl =
+          let w : Spelling = at Primary (put (expr Expression true Statement) ∷ end_of (last_edge (bare_parts (part x none))) ∷ []) in
+          direct (settled a w) (way_from a (node ExpressionStatement [] plain st en (part x none)) w refl (expression_listed [] plain 0 0 (bare_parts (part x none)) stands refl (λ h. string_bare x ∙ plainly h)) (statement_fits stands w)) pl
+          (retell S Next behind (sym (settled_at stands w)) (ends_runs found.spelled (subst (λ v. Step S Next behind (end_behind v) e0 e) (sym (edge_bare x)) end)))
+
+      -- an expression is found as a statement, but for a string alone in a prologue
+      pub expression_found : {st en : ℕ} {e : S} → (p ≡ true → is_string_literal (kind_of x) (text_of x) ≡ false) → Step S Next behind (end_behind (edge x)) e0 e → ((e' : S) → Step S Next behind (end_behind (edge x)) e0 e' → e' ≡ e) →
+          Placed S Next behind a (node ExpressionStatement [] plain st en (part x none)) s e → FoundWhere S Next behind (Finished S Next behind) o a s e (node ExpressionStatement [] plain st en (part x none)) P
+      expression_found plainly end only pl = statement_found plain of only (expression_spells plainly end pl) pl
+        where
+          of : (o' : ℕ) (P' : List Pair) (g' : Flags) → Sort p o' x s e0 P' g' → g' ≡ plain
+          of o' P' g' (as_plain h) = refl
+          of o' P' g' (as_directive h k u) = absurd (false≢true (sym (plainly h) ∙ k))
+          of o' P' g' (as_group h k u) = refl
