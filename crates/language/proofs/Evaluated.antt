@@ -22,22 +22,24 @@ use Rattle.language.specs.declared.Edge.{Edge}
 use Rattle.language.specs.declared.Edge.TheVariants.{Other}
 use Rattle.language.specs.Words.{is, among, tightness, is_reserved, literal_class, is_string, is_name}
 use Rattle.language.specs.Edges.{edge, last_edge, ends_in_if, standing}
-use Rattle.language.specs.Pieces.{Role, expr, name, quoted, statement, PieceOf, tok, ending, sub, lay, space, at, put, Spelling, Ending}
+use Rattle.language.specs.Pieces.{Role, expr, name, quoted, statement, opening, PieceOf, tok, ending, sub, lay, space, at, put, sign, sp, Spelling, Ending}
 use Rattle.language.specs.Statements.{first_is_string, is_string_literal, end_of}
 use Rattle.language.specs.Token.{Token}
 use Rattle.language.specs.Beginning.{an_expression, beginning_of}
 use Rattle.language.specs.Follow.{of_class, operation, symbol_of, stops_at}
-use Rattle.language.specs.Promises.{is_free, IsDetermined, ReadBy, Stops, Found, Absent, AbsentWithin}
+use Rattle.language.specs.Promises.{is_free, IsDetermined, ReadBy, Stops, Found, Absent, AbsentWithin, FoundAt}
 use Rattle.language.specs.Following.{IsAlike, Followed, Finished, may_follow, FoundWhere, AbsentWhere, AbsentWhereWithin}
 use Rattle.language.specs.Grammar.{ways, spellings, can_run, starts}
-use Rattle.language.specs.Derivation.{Reads, Spells, direct, grouped, Runs, done, step, within, Step, token, explicit, implicit, Placed, placed, place}
-use Rattle.language.specs.View.{identifier, literal}
+use Rattle.language.specs.Derivation.{first, Reads, Spells, direct, grouped, Runs, done, step, within, Step, token, laid, explicit, implicit, Placed, placed, place}
+use Rattle.language.specs.View.{Made, identifier, literal}
 use Rattle.language.proofs.Domination.{settled, fits}
 use Rattle.language.proofs.Viewed.{way_of, made, one, cases}
 use Rattle.language.proofs.Productions.{spell, way_from, in_true}
 use Rattle.language.proofs.Begins.{among_by, goes_to, retell}
 use Rattle.language.proofs.Running.{run_none, run_token, run_laid, run_part}
 use Rattle.language.proofs.TwoSides.{same_node}
+use Rattle.language.proofs.Conditionals.{same_sign}
+use Rattle.language.proofs.Growing.{last_runs}
 use Rattle.language.proofs.Leaves.{OneToken, name_form}
 use Rattle.language.proofs.BareEdges.{edge_bare}
 use Rattle.language.proofs.Misses.{ended_stops}
@@ -300,3 +302,157 @@ module _ (S : Type 0) (Next : S → Token → S → Type 0) (behind : S → Toke
           of o' P' g' (as_plain h) = refl
           of o' P' g' (as_directive h k u) = absurd (false≢true (sym (plainly h) ∙ k))
           of o' P' g' (as_group h k u) = refl
+
+  -- what spells a string that the table takes for one, by its first token: the string itself, or a group
+  string_opens : {o : ℕ} {x : Tree} {s e m : S} {P : List Pair} {t : Token} → Spells ways S Next behind o quoted x s e P → ReadBy S Next behind Goal.RegExp s t m → t.class ≡ Text
+  string_opens {s = s} {e = e} {m = m} {t = t} d read = let q = quoted_form d in
+      ap (λ (v : Token). v.class) (det.same Goal.RegExp s t q.sign m e read.next q.reads.next read.allowed (det.free Goal.RegExp s q.sign e q.reads.next (ap is_free q.reads.class))).0 ∙ q.reads.class
+
+  group_opens : {o : ℕ} {x : Tree} {s e m : S} {P : List Pair} {t : Token} → Spells ways S Next behind o (expr Grouped true Any) x s e P → ReadBy S Next behind Goal.RegExp s t m → t.class ≡ Punctuator
+  unfolding spellings
+  group_opens {s = s} {m = m} {t = t} (grouped {left = u} {m = k} p d q) read =
+      let al : IsTrue (allows Goal.RegExp u.class u.text) = subst (λ c. IsTrue (allows Goal.RegExp c u.text)) (sym p.class) (subst (λ z. IsTrue (allows Goal.RegExp Punctuator z)) (sym p.text) refl) in
+      ap (λ (v : Token). v.class) (det.same Goal.RegExp s t u m k read.next p.next read.allowed al).0 ∙ p.class
+  group_opens {x = node k w g st en ps} (direct qs h pl d) read = let v = way_of h in absurd (too_tight (tightness v.spelling.rank) (made_rank (made k v.listed)) (and_parts _ _ (and_parts _ _ v.fit).0).0)
+
+  -- a string alone is spelled as one, or in a group
+  data AsString (o : ℕ) (x : Tree) (s e : S) (P : List Pair) : Type 0 where
+    string_itself : Spells ways S Next behind o quoted x s e P → AsString o x s e P
+    string_group : Spells ways S Next behind o (expr Grouped true Any) x s e P → AsString o x s e P
+
+  as_string : {o : ℕ} {x : Tree} {s e : S} {P : List Pair} → Spells ways S Next behind o (expr Expression true Statement) x s e P → is_string_literal (kind_of x) (text_of x) ≡ true → AsString o x s e P
+  unfolding spellings
+  as_string (grouped p d q) h = string_group (grouped p d q)
+  as_string {o} {x = node Literal w g st en ps} {s} {e} {P} (direct qs h pl d) lit = let v = way_of h in string_itself (of (made Literal v.listed) v.is v.lean)
+    where
+      replaced : {m : Tree} → Placed S Next behind (expr Expression true Statement) m s e → Placed S Next behind quoted m s e
+      replaced (placed nx p) = placed nx p
+
+      of : {y : Spelling} → Made Literal w g (bare_parts ps) y → qs ≡ settled (expr Expression true Statement) y → is_lean (bare (node Literal w g st en ps)) ≡ true → Spells ways S Next behind o quoted (node Literal w g st en ps) s e P
+      of (literal c) q lean =
+          let class : literal_class w ≡ Text = text_class (literal_class w) lit in
+          let z : Spelling = at Primary (tok Text w ∷ []) in
+          direct (settled quoted z) (way_from quoted (node Literal w g st en ps) z lean (in_true [] (is_string (literal_class w)) lit first) refl) (replaced pl) (retell S Next behind (q ∙ ap (λ c. tok c w ∷ []) class) d)
+  as_string {x = node _ w g st en ps} (direct qs h pl d) lit = cc
+
+  stays : {o : ℕ} {x : Tree} {s e0 : S} {P : List Pair} → Found S Next behind o Expression true Statement s e0 x P → is_string_literal (kind_of x) (text_of x) ≡ true →
+      (o' : ℕ) (n' : Tree) (P' : List Pair) (v : Token) (k : S) → Spells ways S Next behind o' name n' s e0 P' → Reads S Next behind Punctuator (codes ":") e0 v k → ⊥
+  stays {e0 = e0} found lit o' n' P' v k d c =
+      let same = found.only o' e0 n' P' (name_expression d) (colon_stops n' c) in
+      let u = (name_form S Next behind det d).0 in
+      false≢true (ap (λ z. is_string_literal (kind_of z) (text_of z)) (sym u.tree ∙ same.1) ∙ lit)
+
+  -- In a prologue, where a string alone is found.
+  module _ {r : Bool} {s m : S} {t : Token} (read : ReadBy S Next behind Goal.RegExp s t m) (begun : beginning_of true r t ≡ an_expression) {o : ℕ} {x : Tree} {e0 : S} {P : List Pair} (found : Found S Next behind o Expression true Statement s e0 x P)
+      (lit : is_string_literal (kind_of x) (text_of x) ≡ true) where
+    -- itself it is a directive
+    pub directive_found : {st en : ℕ} {e : S} → t.class ≡ Text → Step S Next behind (end_behind Other) e0 e → ((e' : S) → Step S Next behind (end_behind Other) e0 e' → e' ≡ e) →
+        Placed S Next behind (opening r) (node ExpressionStatement [] directive_flags st en (part x none)) s e → FoundWhere S Next behind (Finished S Next behind) o (opening r) s e (node ExpressionStatement [] directive_flags st en (part x none)) P
+    directive_found {st} {en} {e} text end only pl =
+        statement_found as_opening read begun found (stays found lit) directive_flags flags (λ e' h. only e' (subst (λ v. Step S Next behind (end_behind v) e0 e') (sym other) h)) (spells (as_string found.spelled lit)) pl
+      where
+        not_both : t.class ≡ Punctuator → ⊥
+        not_both h = let u : Text ≡ Punctuator = sym text ∙ h in cc
+
+        flags : (o' : ℕ) (P' : List Pair) (g' : Flags) → Sort true o' x s e0 P' g' → g' ≡ directive_flags
+        flags o' P' g' (as_plain h) = absurd (false≢true (sym (h refl) ∙ lit))
+        flags o' P' g' (as_directive h k u) = refl
+        flags o' P' g' (as_group h k u) = absurd (not_both (group_opens u read))
+
+        itself : AsString o x s e0 P → Spells ways S Next behind o quoted x s e0 P
+        itself (string_itself u) = u
+        itself (string_group u) = absurd (not_both (group_opens u read))
+
+        other : Other ≡ edge x
+        other = sym (ap edge (quoted_form (itself (as_string found.spelled lit))).tree)
+
+        spells : AsString o x s e0 P → Spells ways S Next behind o (opening r) (node ExpressionStatement [] directive_flags st en (part x none)) s e P
+        spells u =
+            let w : Spelling = at Primary (put quoted ∷ end_of Other ∷ []) in
+            direct (settled (opening r) w) (way_from (opening r) (node ExpressionStatement [] directive_flags st en (part x none)) w refl (directive_listed [] directive_flags 0 0 (bare_parts (part x none)) r refl (string_bare x ∙ lit)) refl) pl
+            (ends_runs (itself u) end)
+
+    -- in parentheses it is none
+    pub string_group_found : {st en : ℕ} {e : S} → t.class ≡ Punctuator → Step S Next behind (end_behind (edge x)) e0 e → ((e' : S) → Step S Next behind (end_behind (edge x)) e0 e' → e' ≡ e) →
+        Placed S Next behind (opening r) (node ExpressionStatement [] plain st en (part x none)) s e → FoundWhere S Next behind (Finished S Next behind) o (opening r) s e (node ExpressionStatement [] plain st en (part x none)) P
+    string_group_found {st} {en} {e} sign end only pl = statement_found as_opening read begun found (stays found lit) plain flags only (spells (as_string found.spelled lit)) pl
+      where
+        not_both : t.class ≡ Text → ⊥
+        not_both h = let u : Punctuator ≡ Text = sym sign ∙ h in cc
+
+        flags : (o' : ℕ) (P' : List Pair) (g' : Flags) → Sort true o' x s e0 P' g' → g' ≡ plain
+        flags o' P' g' (as_plain h) = refl
+        flags o' P' g' (as_directive h k u) = absurd (not_both (string_opens u read))
+        flags o' P' g' (as_group h k u) = refl
+
+        grouped_one : AsString o x s e0 P → Spells ways S Next behind o (expr Grouped true Any) x s e0 P
+        grouped_one (string_itself u) = absurd (not_both (string_opens u read))
+        grouped_one (string_group u) = u
+
+        spells : AsString o x s e0 P → Spells ways S Next behind o (opening r) (node ExpressionStatement [] plain st en (part x none)) s e P
+        spells u =
+            let w : Spelling = at Primary (put (expr Grouped true Any) ∷ end_of (last_edge (bare_parts (part x none))) ∷ []) in
+            direct (settled (opening r) w) (way_from (opening r) (node ExpressionStatement [] plain st en (part x none)) w refl (group_listed [] plain 0 0 (bare_parts (part x none)) r refl (string_bare x ∙ lit)) refl) pl
+            (ends_runs (grouped_one u) (subst (λ v. Step S Next behind (end_behind v) e0 e) (sym (edge_bare x)) end))
+
+  -- A name with a `:` behind it, which begins no expression that a statement may be.
+  module _ {p d r : Bool} {a : Role} {s m : S} {t : Token} (stands : Stands a p d r) (read : ReadBy S Next behind Goal.RegExp s t m) (begun : beginning_of d r t ≡ an_expression)
+      {o : ℕ} {l : Tree} {e0 k : S} {v : Token} (label : FoundAt S Next behind o name s e0 l []) {x : Tree} {Q : List Pair} (found : Found S Next behind o Expression true Statement s e0 x Q) (colon_read : Reads S Next behind Punctuator (codes ":") e0 v k) where
+    -- what spells such a statement is a label
+    record Labelled (o' : ℕ) (n : Tree) (e : S) (P : List Pair) : Type 0 where
+      st : ℕ
+      en : ℕ
+      inner : Tree
+      tree : n ≡ node LabeledStatement [] plain st en (part l (part inner none))
+      placed : Placed S Next behind a n s e
+      spelled : Spells ways S Next behind o' (statement r) inner k e P
+      fine : Finished S Next behind inner e
+
+    labelled : {o' : ℕ} {n : Tree} {e : S} {P : List Pair} → Finished S Next behind n e → Seen p r o' a n s e P → Labelled o' n e P
+    labelled {o'} {n} {e} {P} fine (seen_label {st = st} {en = en} {x = y} {rest = rest} {mid = mid} {next = k'} {v = v'} {Q = A} {R = B} tree pl u c d1 all) =
+        let same = label.only o' mid y A u in
+        let next = same_sign S Next behind det (subst (λ w. Reads S Next behind Punctuator (codes ":") w v' k') same.0 c) colon_read refl in
+        let w = run_part S Next behind d1 in
+        let z = run_none S Next behind w.runs in
+        let is : n ≡ node LabeledStatement [] plain st en (part l (part w.item none)) = tree ∙ ap (λ h. node LabeledStatement [] plain st en h) (ap (λ h. part y h) (w.parts ∙ ap (part w.item) z.parts) ∙ ap (λ h. part h (part w.item none)) same.1) in
+        let pairs : P ≡ w.one = all ∙ ap (λ h. h ++ B) same.2 ∙ w.pairs ∙ ap (λ h. w.one ++ h) z.pairs ∙ append-nil w.one in
+        record {
+          st = st;
+          en = en;
+          inner = w.item;
+          tree = is;
+          placed = pl;
+          spelled = subst (λ h. Spells ways S Next behind o' (statement r) w.item k e h) (sym pairs) (subst (λ h. Spells ways S Next behind o' (statement r) w.item k h w.one) z.place (subst (λ h. Spells ways S Next behind o' (statement r) w.item h w.mid w.one) next.1 w.spelled));
+          fine = subst (λ h. Followed S Next behind (ends_in_if h) e) is fine;
+        }
+    labelled {o'} {e = e} fine (seen_expression {x = y} {mid = mid} tree pl u stop end sort) =
+        let same = found.only o' mid y _ u stop in
+        absurd (no_end (Rattle.language.specs.Pieces.behind (edge y)) colon_read (subst (λ w. Step S Next behind (end_behind (edge y)) w e) same.0 end) fine)
+
+    -- with its statement
+    pub label_found : {st en : ℕ} {e : S} {n : Tree} {P : List Pair} → FoundWhere S Next behind (Finished S Next behind) o (statement r) k e n P → Placed S Next behind a (node LabeledStatement [] plain st en (part l (part n none))) s e →
+        FoundWhere S Next behind (Finished S Next behind) o a s e (node LabeledStatement [] plain st en (part l (part n none))) P
+    label_found {st} {en} {e} {n} {P} inner pl = record {
+      spelled =
+          let w : Spelling = at Primary (put name ∷ sign ":" ∷ sp ∷ put (statement r) ∷ []) in
+          let ps : Parts = part l (part n none) in
+          direct (settled a w) (way_from a (node LabeledStatement [] plain st en ps) w refl (label_listed [] plain 0 0 (bare_parts ps) stands) (statement_fits stands w)) pl
+          (retell S Next behind (sym (settled_at stands w)) (within label.spelled (step (token colon_read) (step laid (last_runs S Next behind inner.spelled)))));
+      only = λ o' e' n' P' d1 fine.
+          let u = labelled fine (look stands read begun d1 fine) in
+          let same = inner.only o' e' u.inner P' u.spelled u.fine in
+          let span = same_span S Next behind det (statement_spans stands) (subst (λ h. Placed S Next behind a h s e') u.tree u.placed) pl same.0 in
+          (same.0, u.tree ∙ same_node refl refl refl span.0 span.1 (ap (λ h. part l (part h none)) same.1), same.2);
+    }
+
+    -- without
+    pub label_absent : AbsentWhere S Next behind (Finished S Next behind) (statement r) k → AbsentWhere S Next behind (Finished S Next behind) a s
+    label_absent missed = record { nothing = λ o' e' n' P' d1 fine. (let u = labelled fine (look stands read begun d1 fine) in missed.nothing o' e' u.inner P' u.spelled u.fine) }
+
+    -- none within the limits
+    pub label_deep : {hi : ℕ} → AbsentWhereWithin S Next behind (Finished S Next behind) o (hi - 1) (statement r) k → AbsentWhereWithin S Next behind (Finished S Next behind) o hi a s
+    label_deep missed = record {
+      nothing = λ e' n' P' d1 fine le. let u = labelled fine (look stands read begun d1 fine) in
+          let h = ap height u.tree in
+          missed.nothing e' u.inner P' u.spelled u.fine (omega arith);
+    }
