@@ -66,3 +66,4 @@ pub mod OwnWays
 pub mod BareEdges
 pub mod Misses
 pub mod Evaluated
+pub mod Sofar
