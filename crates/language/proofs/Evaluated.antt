@@ -47,6 +47,7 @@ use Rattle.language.proofs.Stated.{Stands, as_statement, as_item, as_opening, la
 use Rattle.language.proofs.Beginnings.{directive_flags, made_rank, too_tight, settled_at, OtherWay, a_label, evaluated, a_directive, a_group, other_way}
 use Rattle.language.proofs.OwnWays.{statement_spans, statement_fits}
 use Rattle.language.proofs.Sole.{same_span}
+use Rattle.language.proofs.Sofar.{run_end}
 
 -- a name that isn't reserved may begin a statement
 starts_free : (w : List ℕ) → is_reserved w ≡ false → starts Statement (tok Name w ∷ []) ≡ true
@@ -156,19 +157,10 @@ module _ (S : Type 0) (Next : S → Token → S → Type 0) (behind : S → Toke
     spelled : Spells ways S Next behind o a item s mid P
     ends : Step S Next behind (ending y) mid e
 
-  -- the end of a statement
-  record AnEnd (y : Ending) (ps : Parts) (s e : S) (P : List Pair) : Type 0 where
-    parts : ps ≡ none
-    pairs : P ≡ []
-    ends : Step S Next behind (ending y) s e
-
-  run_end : {o : ℕ} {y : Ending} {ps : Parts} {s e : S} {P : List Pair} → Runs ways S Next behind o (ending y ∷ []) ps s e P → AnEnd y ps s e P
-  run_end {y = y} {s = s} (step p d) = let z = run_none S Next behind d in record { parts = z.parts; pairs = z.pairs; ends = subst (λ v. Step S Next behind (ending y) s v) z.place p }
-
   ends_of : {o : ℕ} {a : Role} {y : Ending} {ps : Parts} {s e : S} {P : List Pair} → Runs ways S Next behind o (sub a ∷ ending y ∷ []) ps s e P → Ends o a y ps s e P
   ends_of {o} {a} {s = s} d =
       let u = run_part S Next behind d in
-      let z = run_end u.runs in
+      let z = run_end S Next behind det u.runs in
       record {
         item = u.item;
         mid = u.mid;

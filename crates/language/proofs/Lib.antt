@@ -67,3 +67,6 @@ pub mod BareEdges
 pub mod Misses
 pub mod Evaluated
 pub mod Sofar
+pub mod Fitting
+pub mod OneKind
+pub mod Blocks

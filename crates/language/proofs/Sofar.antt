@@ -10,7 +10,7 @@ use Rattle.tree.specs.declared.kind.Pair.{Pair}
 use Rattle.tree.specs.Tree.{Tree, Parts, none, part, gap, height, parts_height}
 use Rattle.language.specs.declared.Rank.{Rank}
 use Rattle.language.specs.declared.Start.{Start}
-use Rattle.language.specs.Pieces.{Role, expr, PieceOf, Hint, tok, lay, sub, absent}
+use Rattle.language.specs.Pieces.{Role, expr, PieceOf, Hint, Ending, tok, ending, lay, sub, absent}
 use Rattle.language.specs.Token.{Token}
 use Rattle.language.specs.Promises.{IsDetermined, Stops, Found, Absent, AbsentWithin, FoundAt, AbsentAt, AbsentAtWithin}
 use Rattle.language.specs.Following.{FoundWhere, AbsentWhere, AbsentWhereWithin, FoundPartsWhere, AbsentPartsWhere, AbsentPartsWhereWithin}
@@ -109,6 +109,16 @@ module _ (S : Type 0) (Next : S → Token → S → Type 0) (behind : S → Toke
   run_step p (closed x d) = elim p [ ]
   run_step p (within x d) = elim p [ ]
   run_step p (missing d) = elim p [ ]
+
+  -- the end of a statement
+  pub record AnEnd (y : Ending) (ps : Parts) (s e : S) (P : List Pair) : Type 0 where
+    pub parts : ps ≡ none
+    pub pairs : P ≡ []
+    pub ends : Step S Next behind (ending y) s e
+
+  -- what runs over it
+  pub run_end : {o : ℕ} {y : Ending} {ps : Parts} {s e : S} {P : List Pair} → Runs ways S Next behind o (ending y ∷ []) ps s e P → AnEnd y ps s e P
+  run_end {y = y} {s = s} (step p d) = let z = run_none S Next behind d in record { parts = z.parts; pairs = z.pairs; ends = subst (λ v. Step S Next behind (ending y) s v) z.place p }
 
   -- one that what follows decides
   pub step_on : {Fine : Parts → S → Type 0} {o : ℕ} {q : PieceOf Role} {last : Parts → List (PieceOf Role)} {mid k : S} → Step S Next behind q mid k →

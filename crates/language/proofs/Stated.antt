@@ -156,7 +156,8 @@ pub data Stated (p d r : Bool) (k : Kind) (w : List ℕ) (g : Flags) (ps : Parts
   by_directive : k ≡ ExpressionStatement → p ≡ true → g.directive ≡ true → first_is_string ps ≡ true → qs ≡ put quoted ∷ end_of Other ∷ [] → Stated p d r k w g ps qs
   by_group : k ≡ ExpressionStatement → p ≡ true → g.directive ≡ false → first_is_string ps ≡ true → qs ≡ put (expr Grouped true Any) ∷ end_of (last_edge ps) ∷ [] → Stated p d r k w g ps qs
 
-pieces_of_one : {x : Spelling} {qs : List Piece} → Among x (only qs) → x.pieces ≡ qs
+-- the one way of a list
+pub pieces_of_one : {x : Spelling} {qs : List Piece} → Among x (only qs) → x.pieces ≡ qs
 pieces_of_one h = ap (λ (y : Spelling). y.pieces) (one h)
 
 -- what may stand as a statement may stand as an item
