@@ -70,3 +70,4 @@ pub mod Sofar
 pub mod Fitting
 pub mod OneKind
 pub mod Blocks
+pub mod FirstTokens
