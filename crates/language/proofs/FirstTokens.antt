@@ -135,3 +135,45 @@ module _ (S : Type 0) (Next : S → Token → S → Type 0) (behind : S → Toke
         back o none e P d = never_behind d
         back o (part n ps) e P d = d
         back o (gap ps) e P d = gap_last d
+
+    -- the function of a method, from its `(`
+    pub method_sole : (f : Form) → Reads S Next behind Punctuator (codes "(") s t m → Sole S Next behind det Fine (method f) FunctionExpression [] plain s m (λ ps. goes_to Expression true Any (behind_opening f (bare_parts ps)))
+    method_sole f read = first_told Div refl read (there f) (back f) (one_kind S Next behind det (one_method f))
+      where
+        there : (f : Form) (o : ℕ) (ps : Parts) (e : S) (P : List Pair) → Runs ways S Next behind o (goes_to Expression true Any (method_pieces f (bare_parts ps))) ps s e P → Runs ways S Next behind o (tok Punctuator (codes "(") ∷ goes_to Expression true Any (behind_opening f (bare_parts ps))) ps s e P
+        there Get o (gap (part b none)) e P d = gap_first d
+        there Get o _ e P d = absurd (run_never S Next behind d)
+        there Set o (gap (part (node k w g st en qs) (part b none))) e P d = of (is_rest k) d
+          where
+            of : (c : Bool) → Runs ways S Next behind o (goes_to Expression true Any (cond c nothing (absent ∷ sign "(" ∷ put_at (with_default true k) ∷ sign ")" ∷ sp ∷ put body ∷ []))) (gap (part (node k w g st en qs) (part b none))) s e P →
+                Runs ways S Next behind o (tok Punctuator (codes "(") ∷ goes_to Expression true Any (cond c nothing (absent ∷ put_at (with_default true k) ∷ sign ")" ∷ sp ∷ put body ∷ []))) (gap (part (node k w g st en qs) (part b none))) s e P
+            of true d = absurd (run_never S Next behind d)
+            of false d = gap_first d
+        there Set o _ e P d = absurd (run_never S Next behind d)
+        there Init o (gap ps) e P d = gap_first d
+        there Method o (gap ps) e P d = gap_first d
+        there Shorthand o (gap ps) e P d = gap_first d
+        there Constructor o (gap ps) e P d = gap_first d
+        there Init o _ e P d = absurd (run_never S Next behind d)
+        there Method o _ e P d = absurd (run_never S Next behind d)
+        there Shorthand o _ e P d = absurd (run_never S Next behind d)
+        there Constructor o _ e P d = absurd (run_never S Next behind d)
+
+        back : (f : Form) (o : ℕ) (ps : Parts) (e : S) (P : List Pair) → Runs ways S Next behind o (tok Punctuator (codes "(") ∷ goes_to Expression true Any (behind_opening f (bare_parts ps))) ps s e P → Runs ways S Next behind o (goes_to Expression true Any (method_pieces f (bare_parts ps))) ps s e P
+        back Get o (gap (part b none)) e P d = gap_last d
+        back Get o _ e P d = never_behind d
+        back Set o (gap (part (node k w g st en qs) (part b none))) e P d = of (is_rest k) d
+          where
+            of : (c : Bool) → Runs ways S Next behind o (tok Punctuator (codes "(") ∷ goes_to Expression true Any (cond c nothing (absent ∷ put_at (with_default true k) ∷ sign ")" ∷ sp ∷ put body ∷ []))) (gap (part (node k w g st en qs) (part b none))) s e P →
+                Runs ways S Next behind o (goes_to Expression true Any (cond c nothing (absent ∷ sign "(" ∷ put_at (with_default true k) ∷ sign ")" ∷ sp ∷ put body ∷ []))) (gap (part (node k w g st en qs) (part b none))) s e P
+            of true d = never_behind d
+            of false d = gap_last d
+        back Set o _ e P d = never_behind d
+        back Init o (gap ps) e P d = gap_last d
+        back Method o (gap ps) e P d = gap_last d
+        back Shorthand o (gap ps) e P d = gap_last d
+        back Constructor o (gap ps) e P d = gap_last d
+        back Init o _ e P d = never_behind d
+        back Method o _ e P d = never_behind d
+        back Shorthand o _ e P d = never_behind d
+        back Constructor o _ e P d = never_behind d

@@ -71,3 +71,4 @@ pub mod Fitting
 pub mod OneKind
 pub mod Blocks
 pub mod FirstTokens
+pub mod HeadWays
