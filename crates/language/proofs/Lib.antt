@@ -72,3 +72,4 @@ pub mod OneKind
 pub mod Blocks
 pub mod FirstTokens
 pub mod HeadWays
+pub mod PropertyWays
