@@ -73,3 +73,4 @@ pub mod Blocks
 pub mod FirstTokens
 pub mod HeadWays
 pub mod PropertyWays
+pub mod KeyWays
