@@ -17,20 +17,22 @@ use Rattle.tree.proofs.Lean.{lean_flags}
 use Rattle.language.specs.declared.Rank.TheVariants.{Expression, Primary}
 use Rattle.language.specs.declared.Start.TheVariants.{Any}
 use Rattle.language.specs.Words.{is, literal_class, is_name}
-use Rattle.language.specs.Pieces.{Role, key, property, member, PieceOf, tok, sub, Spelling, at}
+use Rattle.language.specs.Pieces.{Role, key, echo, property, member, PieceOf, tok, ahead, sub, Spelling, at, term, sp}
 use Rattle.language.specs.Token.{Token}
 use Rattle.language.specs.Promises.{is_free, IsDetermined, ReadBy, FoundAt}
 use Rattle.language.specs.Grammar.{ways, spellings, keys, can_run}
-use Rattle.language.specs.Derivation.{Among, first, Reads, Spells, direct, Runs, done, step, token, Placed, placed}
+use Rattle.language.specs.Derivation.{Among, first, Reads, Spells, direct, Runs, done, step, token, seen, Placed, placed}
 use Rattle.language.proofs.Domination.{settled}
 use Rattle.language.proofs.Viewed.{way_of, one, unless}
 use Rattle.language.proofs.Productions.{way_from, runs_can, in_false}
 use Rattle.language.proofs.Begins.{goes_to, retell}
-use Rattle.language.proofs.Running.{run_none, run_token}
+use Rattle.language.proofs.Running.{run_none, run_token, run_part, run_never}
 use Rattle.language.proofs.TwoSides.{same_node}
 use Rattle.language.proofs.Leaves.{OneToken}
 use Rattle.language.proofs.Stated.{pieces_of_one}
-use Rattle.language.proofs.PropertyWays.{property_pieces, property_flags, PropertyForm, property_form}
+use Rattle.language.proofs.PropertyWays.{property_pieces, form_pieces, PropertyForm, MemberForm}
+use Rattle.language.proofs.Conditionals.{read_there}
+use Rattle.tokens.specs.Goals.{allows}
 
 -- the classes of keys
 abbrev pub is_key_class : Class → Bool
@@ -38,6 +40,12 @@ is_key_class Name = true
 is_key_class Number = true
 is_key_class Text = true
 is_key_class _ = false
+
+-- a getter or a setter
+abbrev pub is_accessor : Form → Bool
+is_accessor Get = true
+is_accessor Set = true
+is_accessor _ = false
 
 -- what the key of such a token is
 abbrev pub key_kind : Class → Kind
@@ -166,3 +174,86 @@ module _ (S : Type 0) (Next : S → Token → S → Type 0) (behind : S → Toke
         spelled = direct (settled key x) (way_from key n x refl (literal_there t.text c is_key no_name class) refl) (placed read.next refl) (step (token (record { next = read.next; class = read.class ∙ sym class; text = refl })) done);
         only = λ o' e' n' P' d. let u = key_same c is_key read (key_form d) in (u.0, u.1 ∙ ap (λ k. node k t.text plain t.start (behind e).stop none) (literal_kind c is_key no_name), u.2);
       }
+
+-- What a property or a member that isn't static begins with, by its flags.
+pub data FirstOf (t : Token) : Bool → Form → Type 0 where
+  first_bracket : {f : Form} → is_accessor f ≡ false → t.class ≡ Punctuator → t.text ≡ codes "[" → FirstOf t true f
+  first_get : {c : Bool} → t.class ≡ Name → t.text ≡ codes "get" → FirstOf t c Get
+  first_set : {c : Bool} → t.class ≡ Name → t.text ≡ codes "set" → FirstOf t c Set
+  first_key : {f : Form} → is_accessor f ≡ false → is_key_class t.class ≡ true → FirstOf t false f
+
+module _ (S : Type 0) (Next : S → Token → S → Type 0) (behind : S → Token) (det : IsDetermined S Next behind) {s m : S} {t : Token} (read : ReadBy S Next behind Div s t m) where
+  sign_read : {o : ℕ} {w : List ℕ} {qs : List (PieceOf Role)} {ps : Parts} {e : S} {P : List Pair} → IsTrue (allows Div Punctuator w) → Runs ways S Next behind o (tok Punctuator w ∷ qs) ps s e P → (t.class ≡ Punctuator) × (t.text ≡ w)
+  sign_read al d = let u = run_token S Next behind d in let same = (read_there S Next behind det u.reads al read).0 in (ap (λ (x : Token). x.class) same ∙ u.reads.class, ap (λ (x : Token). x.text) same ∙ u.reads.text)
+
+  word_read : {o : ℕ} {w : List ℕ} {qs : List (PieceOf Role)} {ps : Parts} {e : S} {P : List Pair} → IsTrue (allows Div Name w) → Runs ways S Next behind o (tok Name w ∷ qs) ps s e P → (t.class ≡ Name) × (t.text ≡ w)
+  word_read al d = let u = run_token S Next behind d in let same = (read_there S Next behind det u.reads al read).0 in (ap (λ (x : Token). x.class) same ∙ u.reads.class, ap (λ (x : Token). x.text) same ∙ u.reads.text)
+
+  key_read : {o : ℕ} {qs : List (PieceOf Role)} {ps : Parts} {e : S} {P : List Pair} → Runs ways S Next behind o (sub key ∷ qs) ps s e P → is_key_class t.class ≡ true
+  key_read d =
+      let p = run_part S Next behind d in
+      let u = key_form S Next behind det p.spelled in
+      let v = u.leaf in
+      let same = (det.same Div s t v.sign m p.mid read.next v.reads.next read.allowed (det.free Div s v.sign p.mid v.reads.next (ap is_free v.reads.class ∙ key_free u.class u.is_key))).0 in
+      ap is_key_class (ap (λ (x : Token). x.class) same ∙ v.reads.class) ∙ u.is_key
+
+  echo_read : {o : ℕ} {qs : List (PieceOf Role)} {ps : Parts} {e : S} {P : List Pair} → Runs ways S Next behind o (sub echo ∷ qs) ps s e P → is_key_class t.class ≡ true
+  unfolding spellings
+  echo_read d = let p = run_part S Next behind d in of p.item p.spelled
+    where
+      seen_name : {o : ℕ} {w : List ℕ} {ps : Parts} {e : S} {P : List Pair} → Runs ways S Next behind o (ahead w ∷ []) ps s e P → is_key_class t.class ≡ true
+      seen_name (step (seen {t = v} {e = k} h) d) =
+          let same = (det.same Div s t v m k read.next h.next read.allowed (det.free Div s v k h.next (ap is_free h.class))).0 in
+          ap is_key_class (ap (λ (x : Token). x.class) same ∙ h.class)
+
+      of : {o : ℕ} {e : S} {P : List Pair} (n : Tree) → Spells ways S Next behind o echo n s e P → is_key_class t.class ≡ true
+      of (node Identifier w g st en ps) (direct qs h pl d) = let v = way_of h in seen_name (retell S Next behind (v.is ∙ ap (settled echo) (one v.listed)) d)
+      of (node _ w g st en ps) (direct qs h pl d) = elim ((way_of h).listed) [ ]
+
+  first_by : {o : ℕ} {ps : Parts} {e : S} {P : List Pair} (c : Bool) (f : Form) → Runs ways S Next behind o (goes_to Expression true Any (property_pieces c f)) ps s e P → FirstOf t c f
+  first_by true Init d = let u = sign_read refl d in first_bracket refl u.0 u.1
+  first_by false Init d = first_key refl (key_read d)
+  first_by true Method d = let u = sign_read refl d in first_bracket refl u.0 u.1
+  first_by false Method d = first_key refl (key_read d)
+  first_by true Get d = let u = word_read refl d in first_get u.0 u.1
+  first_by false Get d = let u = word_read refl d in first_get u.0 u.1
+  first_by true Set d = let u = word_read refl d in first_set u.0 u.1
+  first_by false Set d = let u = word_read refl d in first_set u.0 u.1
+  first_by true Shorthand d = absurd (run_never S Next behind d)
+  first_by false Shorthand d = first_key refl (echo_read d)
+  first_by c Constructor d = absurd (run_never S Next behind d)
+
+  -- by its first token, what a property is
+  pub property_first : {o : ℕ} {n : Tree} {e : S} {P : List Pair} (u : PropertyForm S Next behind det o property (λ c f ps. property_pieces c f) n s e P) → FirstOf t u.computed u.form
+  property_first u = first_by u.computed u.form u.runs
+
+  form_first : {o : ℕ} {ps : Parts} {e : S} {P : List Pair} (c : Bool) (f : Form) → Runs ways S Next behind o (goes_to Expression true Any (form_pieces [] c f)) ps s e P → FirstOf t c f
+  form_first true Init d = let u = sign_read refl d in first_bracket refl u.0 u.1
+  form_first false Init d = first_key refl (key_read d)
+  form_first true Method d = let u = sign_read refl d in first_bracket refl u.0 u.1
+  form_first false Method d = first_key refl (key_read d)
+  form_first true Get d = let u = word_read refl d in first_get u.0 u.1
+  form_first false Get d = let u = word_read refl d in first_get u.0 u.1
+  form_first true Set d = let u = word_read refl d in first_set u.0 u.1
+  form_first false Set d = let u = word_read refl d in first_set u.0 u.1
+  form_first true Shorthand d = let u = sign_read refl d in first_bracket refl u.0 u.1
+  form_first false Shorthand d = first_key refl (key_read d)
+  form_first true Constructor d = let u = sign_read refl d in first_bracket refl u.0 u.1
+  form_first false Constructor d = first_key refl (key_read d)
+
+  -- a member begins with `static`, or it isn't static
+  pub member_first : {o : ℕ} {n : Tree} {e : S} {P : List Pair} (u : MemberForm S Next behind det o n s e P) → ((u.is_static ≡ true) × (t.class ≡ Name) × (t.text ≡ codes "static")) ⊎ ((u.is_static ≡ false) × FirstOf t u.computed u.form)
+  member_first {o} {e = e} {P = P} u = of u.is_static refl u.runs
+    where
+      of : (b : Bool) → u.is_static ≡ b → Runs ways S Next behind o (goes_to Expression true Any (cond b (form_pieces (term "static" ∷ sp ∷ []) u.computed u.form) (form_pieces [] u.computed u.form))) u.parts s e P →
+          ((u.is_static ≡ true) × (t.class ≡ Name) × (t.text ≡ codes "static")) ⊎ ((u.is_static ≡ false) × FirstOf t u.computed u.form)
+      of true b d = let v = static_read u.computed u.form d in inl (b, v.0, v.1)
+        where
+          static_read : (c : Bool) (f : Form) → Runs ways S Next behind o (goes_to Expression true Any (form_pieces (term "static" ∷ sp ∷ []) c f)) u.parts s e P → (t.class ≡ Name) × (t.text ≡ codes "static")
+          static_read true Get d = word_read refl d
+          static_read false Get d = word_read refl d
+          static_read true Set d = word_read refl d
+          static_read false Set d = word_read refl d
+          static_read true _ d = word_read refl d
+          static_read false _ d = word_read refl d
+      of false b d = inr (b, form_first u.computed u.form d)
