@@ -74,3 +74,4 @@ pub mod FirstTokens
 pub mod HeadWays
 pub mod PropertyWays
 pub mod KeyWays
+pub mod TextAlike
