@@ -46,7 +46,7 @@ use Rattle.language.proofs.Running.{run_part}
 use Rattle.language.proofs.Stated.{begins_as, own_class, own_text, may_stand, behind_own, own_pieces, Stands, as_statement, as_item, as_opening, Stated, by_own, by_label, by_expression, by_directive, by_group, stated}
 
 -- the first token of such a statement begins it
-own_begins : (d r : Bool) (b : Beginning) (w : List ℕ) → is_own b ≡ true → may_stand d r b w ≡ true → beginning_by d r (own_class b) (own_text b w) ≡ b
+pub own_begins : (d r : Bool) (b : Beginning) (w : List ℕ) → is_own b ≡ true → may_stand d r b w ≡ true → beginning_by d r (own_class b) (own_text b w) ≡ b
 own_begins false r a_variable w h m = among_by (λ v. beginning_by false r Name v ≡ a_variable) w ("var" ∷ []) m (refl, tt)
 own_begins true r a_variable w h m = among_by (λ v. beginning_by true r Name v ≡ a_variable) w ("var" ∷ "let" ∷ "const" ∷ []) m (refl, (refl, (refl, tt)))
 own_begins false true a_return w h m = refl
@@ -81,7 +81,7 @@ own_begins false r a_debugger w h m = refl
 own_begins d r an_expression w h m = cc
 
 -- and the goal for operands reads it
-own_allowed : (b : Beginning) (w : List ℕ) → is_own b ≡ true → (is_free (own_class b) ≡ true) ⊎ IsTrue (allows Goal.RegExp (own_class b) (own_text b w))
+pub own_allowed : (b : Beginning) (w : List ℕ) → is_own b ≡ true → (is_free (own_class b) ≡ true) ⊎ IsTrue (allows Goal.RegExp (own_class b) (own_text b w))
 own_allowed a_block w h = inr refl
 own_allowed an_empty w h = inr refl
 own_allowed an_expression w h = cc

@@ -48,19 +48,7 @@ use Rattle.language.proofs.Beginnings.{directive_flags, made_rank, too_tight, se
 use Rattle.language.proofs.OwnWays.{statement_spans, statement_fits}
 use Rattle.language.proofs.Sole.{same_span}
 use Rattle.language.proofs.Sofar.{run_end}
-
--- a name that isn't reserved may begin a statement
-starts_free : (w : List ℕ) → is_reserved w ≡ false → starts Statement (tok Name w ∷ []) ≡ true
-unfolding is_reserved
-starts_free w h = of (among w ("function" ∷ "class" ∷ [])) refl
-  where
-    of : (b : Bool) → among w ("function" ∷ "class" ∷ []) ≡ b → not b ≡ true
-    of false e = refl
-    of true e = absurd (false≢true (sym h ∙ among_by (λ v. is_reserved v ≡ true) w ("function" ∷ "class" ∷ []) e (refl, (refl, tt))))
-
-text_class : (c : Class) → is_string c ≡ true → c ≡ Text
-text_class Text h = refl
-text_class _ h = cc
+use Rattle.language.proofs.AsExpressions.{text_class, name_expression, quoted_form, quoted_expression, group_expression}
 
 -- a token of this class and text
 abbrev colon : Class → List ℕ → Token
@@ -92,63 +80,6 @@ module _ (S : Type 0) (Next : S → Token → S → Type 0) (behind : S → Toke
       let al : IsTrue (allows Goal.RegExp v.class v.text) = subst (λ x. IsTrue (allows Goal.RegExp x v.text)) (sym h.class) (subst (λ x. IsTrue (allows Goal.RegExp Punctuator x)) (sym h.text) refl) in
       let same = det.same Goal.RegExp e v f.token k f.mid h.next f.read.next al f.read.allowed in
       false≢true (sym (ap (λ c. may_follow b (colon c v.text)) h.class ∙ ap (λ w. may_follow b (colon Punctuator w)) h.text) ∙ ap (may_follow b) same.0 ∙ f.follows)
-  -- a name is an expression, and a directive's string
-  name_expression : {o : ℕ} {n : Tree} {s e : S} {P : List Pair} → Spells ways S Next behind o name n s e P → Spells ways S Next behind o (expr Expression true Statement) n s e P
-  name_expression {o} {n} {s} {e} {P} d =
-      let u = name_form S Next behind det d in
-      let v = u.0 in
-      subst (λ x. Spells ways S Next behind o (expr Expression true Statement) n s e x) (sym v.pairs)
-      (subst (λ x. Spells ways S Next behind o (expr Expression true Statement) x s e []) (sym v.tree)
-      (spell S Next behind (at Primary (tok Name v.text ∷ [])) (identifier u.1) refl refl refl (starts_free v.text u.1) (placed v.reads.next refl) (step (token v.reads) done)))
-
-  -- the string of a directive, which its token tells
-  record Quoted (o : ℕ) (n : Tree) (s e : S) (P : List Pair) : Type 0 where
-    text : List ℕ
-    sign : Token
-    st : ℕ
-    en : ℕ
-    class : literal_class text ≡ Text
-    reads : Reads S Next behind Text text s sign e
-    tree : n ≡ node Literal text plain st en none
-    placed : Placed S Next behind quoted n s e
-    pairs : P ≡ []
-
-  quoted_form : {o : ℕ} {n : Tree} {s e : S} {P : List Pair} → Spells ways S Next behind o quoted n s e P → Quoted o n s e P
-  unfolding spellings
-  quoted_form {o} {n = node Literal w g st en ps} {s} {e} {P} (direct qs h pl d) = let v = way_of h in
-      cases {ys = []} (is_string (literal_class w)) v.listed (λ b k.
-          let u = run_token S Next behind (retell S Next behind (v.is ∙ ap (settled quoted) (one k)) d) in
-          let z = run_none S Next behind u.runs in
-          record {
-            text = w;
-            sign = u.sign;
-            st = st;
-            en = en;
-            class = text_class (literal_class w) b;
-            reads = subst (λ x. Reads S Next behind Text w s u.sign x) z.place u.reads;
-            tree = same_node refl refl (lean_flags (bare (node Literal w g st en ps)) v.lean) refl refl z.parts;
-            placed = pl;
-            pairs = z.pairs;
-          }) (λ b k. elim k [ ])
-  quoted_form {n = node _ w g st en ps} (direct qs h pl d) = elim ((way_of h).listed) [ ]
-
-  quoted_expression : {o : ℕ} {n : Tree} {s e : S} {P : List Pair} → Spells ways S Next behind o quoted n s e P → Spells ways S Next behind o (expr Expression true Statement) n s e P
-  quoted_expression {o} {n} {s} {e} {P} d =
-      let v = quoted_form d in
-      subst (λ x. Spells ways S Next behind o (expr Expression true Statement) n s e x) (sym v.pairs)
-      (subst (λ x. Spells ways S Next behind o (expr Expression true Statement) x s e []) (sym v.tree)
-      (spell S Next behind (at Primary (tok (literal_class v.text) v.text ∷ [])) (literal (ap (λ c. is_name c && not (among v.text ("true" ∷ "false" ∷ "null" ∷ []))) v.class)) refl refl refl (ap (λ c. starts Statement (tok c v.text ∷ [])) v.class)
-      (replaced (subst (λ x. Placed S Next behind quoted x s e) v.tree v.placed)) (step (token (record { next = v.reads.next; class = v.reads.class ∙ sym v.class; text = v.reads.text })) done)))
-    where
-      replaced : {m : Tree} → Placed S Next behind quoted m s e → Placed S Next behind (expr Expression true Statement) m s e
-      replaced (placed nx p) = placed nx p
-
-  -- a group is one at any position
-  group_expression : {o : ℕ} {n : Tree} {s e : S} {P : List Pair} → Spells ways S Next behind o (expr Grouped true Any) n s e P → Spells ways S Next behind o (expr Expression true Statement) n s e P
-  unfolding spellings
-  group_expression (grouped p d q) = grouped p d q
-  group_expression {n = node k w g st en ps} (direct qs h pl d) = let v = way_of h in absurd (too_tight (tightness v.spelling.rank) (made_rank (made k v.listed)) (and_parts _ _ (and_parts _ _ v.fit).0).0)
-
   -- an expression, or what is one, and the end behind it
   record Ends (o : ℕ) (a : Role) (y : Ending) (ps : Parts) (s e : S) (P : List Pair) : Type 0 where
     item : Tree
@@ -199,16 +130,16 @@ module _ (S : Type 0) (Next : S → Token → S → Type 0) (behind : S → Toke
       (as_plain (λ h. sym (string_bare u.item) ∙ sym (ap (λ v. first_is_string (bare_parts v)) u.parts) ∙ single h))
   seen {e = e} fine (a_directive {st = st} {en = en} {ps = ps} here tree pl single d) =
       let u = ends_of d in
-      let q = quoted_form u.spelled in
+      let q = quoted_form S Next behind det u.spelled in
       let x : Other ≡ edge u.item = sym (ap edge q.tree) in
       let end : Step S Next behind (end_behind (edge u.item)) u.mid e = subst (λ v. Step S Next behind (end_behind v) u.mid e) x u.ends in
-      seen_expression (tree ∙ ap (node ExpressionStatement [] directive_flags st en) u.parts) pl (quoted_expression u.spelled) (λ t m r. ended_stops S Next behind det alike Expression true (edge u.item) end fine r) end
+      seen_expression (tree ∙ ap (node ExpressionStatement [] directive_flags st en) u.parts) pl (quoted_expression S Next behind det u.spelled) (λ t m r. ended_stops S Next behind det alike Expression true (edge u.item) end fine r) end
       (as_directive here (sym (string_bare u.item) ∙ sym (ap (λ v. first_is_string (bare_parts v)) u.parts) ∙ single) u.spelled)
   seen {e = e} fine (a_group {st = st} {en = en} {ps = ps} here tree pl single d) =
       let u = ends_of d in
       let x : last_edge (bare_parts ps) ≡ edge u.item = ap (λ v. last_edge (bare_parts v)) u.parts ∙ edge_bare u.item in
       let end : Step S Next behind (end_behind (edge u.item)) u.mid e = subst (λ v. Step S Next behind (end_behind v) u.mid e) x u.ends in
-      seen_expression (tree ∙ ap (node ExpressionStatement [] plain st en) u.parts) pl (group_expression u.spelled) (λ t m r. ended_stops S Next behind det alike Expression true (edge u.item) end fine r) end
+      seen_expression (tree ∙ ap (node ExpressionStatement [] plain st en) u.parts) pl (group_expression S Next behind det u.spelled) (λ t m r. ended_stops S Next behind det alike Expression true (edge u.item) end fine r) end
       (as_group here (sym (string_bare u.item) ∙ sym (ap (λ v. first_is_string (bare_parts v)) u.parts) ∙ single) u.spelled)
 
   module _ {p d r : Bool} {a : Role} {s m : S} {t : Token} (stands : Stands a p d r) (read : ReadBy S Next behind Goal.RegExp s t m) (begun : beginning_of d r t ≡ an_expression) where
@@ -220,7 +151,7 @@ module _ (S : Type 0) (Next : S → Token → S → Type 0) (behind : S → Toke
     no_expression missed = record { nothing = λ o' e' n' P' d1 fine. of (look d1 fine) }
       where
         of : {o' : ℕ} {e' : S} {n' : Tree} {P' : List Pair} → Seen p r o' a n' s e' P' → ⊥
-        of {o'} (seen_label {x = x} {mid = mid} {Q = Q} tree pl u c d1 all) = missed.nothing o' mid x Q (name_expression u) (colon_stops x c)
+        of {o'} (seen_label {x = x} {mid = mid} {Q = Q} tree pl u c d1 all) = missed.nothing o' mid x Q (name_expression S Next behind det u) (colon_stops x c)
         of {o'} {P' = P'} (seen_expression {x = x} {mid = mid} tree pl u st end sort) = missed.nothing o' mid x P' u st
 
     -- none within the limits
@@ -228,7 +159,7 @@ module _ (S : Type 0) (Next : S → Token → S → Type 0) (behind : S → Toke
     deep_expression {o} {hi} missed = record { nothing = λ e' n' P' d1 fine le. of le (look d1 fine) }
       where
         of : {e' : S} {n' : Tree} {P' : List Pair} → height n' ≤ hi → Seen p r o a n' s e' P' → ⊥
-        of le (seen_label {x = x} {rest = rest} {mid = mid} {Q = Q} tree pl u c d1 all) = let h = ap height tree in missed.nothing mid x Q (name_expression u) (colon_stops x c) (omega arith)
+        of le (seen_label {x = x} {rest = rest} {mid = mid} {Q = Q} tree pl u c d1 all) = let h = ap height tree in missed.nothing mid x Q (name_expression S Next behind det u) (colon_stops x c) (omega arith)
         of {P' = P'} le (seen_expression {x = x} {mid = mid} tree pl u st end sort) = let h = ap height tree in missed.nothing mid x P' u st (omega arith)
 
     module _ {o : ℕ} {x : Tree} {e0 : S} {P : List Pair} (found : Found S Next behind o Expression true Statement s e0 x P)
@@ -246,7 +177,7 @@ module _ (S : Type 0) (Next : S → Token → S → Type 0) (behind : S → Toke
 
       known : {o' : ℕ} {n : Tree} {e : S} {P' : List Pair} → Seen p r o' a n s e P' → Known o' n e P'
       known {o'} (seen_label {x = y} {mid = mid} {next = k} {v = v} {Q = Q} tree pl u c d1 all) =
-          let same = found.only o' mid y Q (name_expression u) (colon_stops y c) in
+          let same = found.only o' mid y Q (name_expression S Next behind det u) (colon_stops y c) in
           absurd (no_label o' y Q v k (subst (λ w. Spells ways S Next behind o' name y s w Q) same.0 u) (subst (λ w. Reads S Next behind Punctuator (codes ":") w v k) same.0 c))
       known {o'} {n} {e} {P'} (seen_expression {st = st} {en = en} {g = g} {x = y} {mid = mid} tree pl u stop end sort) =
           let same = found.only o' mid y P' u stop in
@@ -297,7 +228,7 @@ module _ (S : Type 0) (Next : S → Token → S → Type 0) (behind : S → Toke
 
   -- what spells a string that the table takes for one, by its first token: the string itself, or a group
   string_opens : {o : ℕ} {x : Tree} {s e m : S} {P : List Pair} {t : Token} → Spells ways S Next behind o quoted x s e P → ReadBy S Next behind Goal.RegExp s t m → t.class ≡ Text
-  string_opens {s = s} {e = e} {m = m} {t = t} d read = let q = quoted_form d in
+  string_opens {s = s} {e = e} {m = m} {t = t} d read = let q = quoted_form S Next behind det d in
       ap (λ (v : Token). v.class) (det.same Goal.RegExp s t q.sign m e read.next q.reads.next read.allowed (det.free Goal.RegExp s q.sign e q.reads.next (ap is_free q.reads.class))).0 ∙ q.reads.class
 
   group_opens : {o : ℕ} {x : Tree} {s e m : S} {P : List Pair} {t : Token} → Spells ways S Next behind o (expr Grouped true Any) x s e P → ReadBy S Next behind Goal.RegExp s t m → t.class ≡ Punctuator
@@ -330,7 +261,7 @@ module _ (S : Type 0) (Next : S → Token → S → Type 0) (behind : S → Toke
   stays : {o : ℕ} {x : Tree} {s e0 : S} {P : List Pair} → Found S Next behind o Expression true Statement s e0 x P → is_string_literal (kind_of x) (text_of x) ≡ true →
       (o' : ℕ) (n' : Tree) (P' : List Pair) (v : Token) (k : S) → Spells ways S Next behind o' name n' s e0 P' → Reads S Next behind Punctuator (codes ":") e0 v k → ⊥
   stays {e0 = e0} found lit o' n' P' v k d c =
-      let same = found.only o' e0 n' P' (name_expression d) (colon_stops n' c) in
+      let same = found.only o' e0 n' P' (name_expression S Next behind det d) (colon_stops n' c) in
       let u = (name_form S Next behind det d).0 in
       false≢true (ap (λ z. is_string_literal (kind_of z) (text_of z)) (sym u.tree ∙ same.1) ∙ lit)
 
@@ -356,7 +287,7 @@ module _ (S : Type 0) (Next : S → Token → S → Type 0) (behind : S → Toke
         itself (string_group u) = absurd (not_both (group_opens u read))
 
         other : Other ≡ edge x
-        other = sym (ap edge (quoted_form (itself (as_string found.spelled lit))).tree)
+        other = sym (ap edge (quoted_form S Next behind det (itself (as_string found.spelled lit))).tree)
 
         spells : AsString o x s e0 P → Spells ways S Next behind o (opening r) (node ExpressionStatement [] directive_flags st en (part x none)) s e P
         spells u =

@@ -65,6 +65,7 @@ pub mod Sole
 pub mod OwnWays
 pub mod BareEdges
 pub mod Misses
+pub mod AsExpressions
 pub mod Evaluated
 pub mod Sofar
 pub mod Fitting
@@ -75,3 +76,4 @@ pub mod HeadWays
 pub mod PropertyWays
 pub mod KeyWays
 pub mod TextAlike
+pub mod ItemTokens

@@ -88,6 +88,15 @@ module _ (S : Type 0) (Next : S → Token → S → Type 0) (behind : S → Toke
     higher = λ ps. omega arith;
   }
 
+  -- pieces over which the same runs
+  pub turned : {Fine : Parts → S → Type 0} {o : ℕ} {left last : Parts → List (PieceOf Role)} {mid : S} → ((o' : ℕ) (ps : Parts) (e : S) (P : List Pair) → Runs ways S Next behind o' (left ps) ps mid e P → Runs ways S Next behind o' (last ps) ps mid e P) →
+      ((o' : ℕ) (ps : Parts) (e : S) (P : List Pair) → Runs ways S Next behind o' (last ps) ps mid e P → Runs ways S Next behind o' (left ps) ps mid e P) → Sofar Fine o left mid last mid (λ ps. ps) []
+  turned {o = o} there back = record {
+    runs = λ {ps} {e} {R} d. back o ps e R d;
+    leads = λ {o'} {ps} {e} {P} d fine. record { rest = ps; more = P; parts = refl; pairs = refl; runs = there o' ps e P d };
+    higher = λ ps. omega arith;
+  }
+
   -- the same where what runs decides it
   pub retold_where : {Fine : Parts → S → Type 0} {o : ℕ} {left last : Parts → List (PieceOf Role)} {mid : S} → ((o' : ℕ) (ps : Parts) (e : S) (P : List Pair) → Runs ways S Next behind o' (left ps) ps mid e P → Fine ps e → left ps ≡ last ps) →
       ((ps : Parts) (e : S) (P : List Pair) → Runs ways S Next behind o (last ps) ps mid e P → left ps ≡ last ps) → Sofar Fine o left mid last mid (λ ps. ps) []
