@@ -77,3 +77,4 @@ pub mod PropertyWays
 pub mod KeyWays
 pub mod TextAlike
 pub mod ItemTokens
+pub mod LineLists

@@ -37,6 +37,13 @@ module _ (S : Type 0) (Next : S → Token → S → Type 0) (behind : S → Toke
     pub read : ReadBy S Next behind RegExp e token mid
     pub follows : may_follow b token ≡ true
 
+  -- a token is read here that ends a list of statements
+  pub record ListEnds (e : S) : Type 0 where
+    pub token : Token
+    pub mid : S
+    pub read : ReadBy S Next behind RegExp e token mid
+    pub ends : ends_list token ≡ true
+
   -- something follows the statement that may
   abbrev pub Finished : Tree → S → Type 0
   Finished n e = Followed (ends_in_if n) e
