@@ -78,3 +78,4 @@ pub mod KeyWays
 pub mod TextAlike
 pub mod ItemTokens
 pub mod LineLists
+pub mod Shapes
