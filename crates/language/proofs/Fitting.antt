@@ -17,8 +17,8 @@ use Rattle.language.specs.Edges.{edge, last_edge, ends_in_if, standing}
 use Rattle.language.specs.Pieces.{Role, expr, statement, PieceOf, tok, ending, sub, lay, space}
 use Rattle.language.specs.Token.{Token}
 use Rattle.language.specs.Follow.{of_class, operation, symbol_of, stops_at, stops}
-use Rattle.language.specs.Promises.{IsDetermined, ReadBy, Stops}
-use Rattle.language.specs.Following.{IsAlike, Followed, Finished, may_follow}
+use Rattle.language.specs.Promises.{IsDetermined, ReadBy, Stops, Found, Absent, AbsentWithin}
+use Rattle.language.specs.Following.{IsAlike, Followed, Finished, may_follow, FoundWhere, AbsentWhere, AbsentWhereWithin}
 use Rattle.language.specs.Grammar.{ways}
 use Rattle.language.specs.Derivation.{Reads, Spells, Runs, step, Step, token}
 use Rattle.language.proofs.Running.{run_none, run_token, run_laid}
@@ -34,6 +34,16 @@ module _ (S : Type 0) (Next : S → Token → S → Type 0) (behind : S → Toke
   -- the expression can't go on
   abbrev pub CannotGoOn : Rank → Bool → Tree → S → Type 0
   CannotGoOn y i n e = Stops S Next behind y i n e
+
+  -- an expression that is found is found where it can't go on; so with its absence
+  pub found_whole : {o : ℕ} {y : Rank} {i : Bool} {f : Start} {s e : S} {n : Tree} {P : List Pair} → Found S Next behind o y i f s e n P → FoundWhere S Next behind (CannotGoOn y i) o (expr y i f) s e n P
+  found_whole u = record { spelled = u.spelled; only = u.only }
+
+  pub absent_whole : {y : Rank} {i : Bool} {f : Start} {s : S} → Absent S Next behind y i f s → AbsentWhere S Next behind (CannotGoOn y i) (expr y i f) s
+  absent_whole u = record { nothing = u.nothing }
+
+  pub deep_whole : {o hi : ℕ} {y : Rank} {i : Bool} {f : Start} {s : S} → AbsentWithin S Next behind o hi y i f s → AbsentWhereWithin S Next behind (CannotGoOn y i) o hi (expr y i f) s
+  deep_whole u = record { nothing = u.nothing }
 
   -- before such a token nothing goes on
   pub idle_stops : (y : Rank) (i : Bool) (n : Tree) {c : Class} {w : List ℕ} {e k : S} {t : Token} → IsTrue (allows Div c w) → Idle y i c w → Reads S Next behind c w e t k → Stops S Next behind y i n e

@@ -79,3 +79,4 @@ pub mod TextAlike
 pub mod ItemTokens
 pub mod LineLists
 pub mod Shapes
+pub mod WhileFound
