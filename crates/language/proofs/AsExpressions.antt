@@ -1,53 +1,30 @@
 -- What is an expression too: a name, the string of a directive, a group.
-use Rattle.std.proofs.Common.{◌≡◌, ℕ, suc, ◌-◌, ◌≤◌, max, Bool, true, false, cond, List, [], ◌∷◌, ◌++◌, refl, sym, ap, ◌∙◌, subst, arith}
-use Rattle.std.specs.Prelude.{IsTrue, codes, not, ◌&&◌}
+use Rattle.std.proofs.Common.{◌≡◌, ℕ, Bool, true, false, List, [], ◌∷◌, refl, sym, ap, ◌∙◌, subst}
+use Rattle.std.specs.Prelude.{not, ◌&&◌}
 use Rattle.std.proofs.lemmas.Bool.{and_parts, false≢true}
-use Rattle.std.proofs.lemmas.List.{append-nil}
 use Rattle.tokens.specs.declared.token.Class.{Class}
-use Rattle.tokens.specs.declared.token.Class.TheVariants.{Name, Punctuator, Text}
-use Rattle.tokens.specs.declared.token.Goal.{Goal}
-use Rattle.tokens.specs.declared.token.Goal.TheVariants.{Div}
-use Rattle.tokens.specs.Goals.{allows}
-use Rattle.tree.specs.declared.kind.Kind.{Kind}
-use Rattle.tree.specs.declared.kind.Kind.TheVariants.{Identifier, Literal, ExpressionStatement, LabeledStatement}
-use Rattle.tree.specs.declared.kind.Flags.{Flags}
+use Rattle.tokens.specs.declared.token.Class.TheVariants.{Name, Text}
+use Rattle.tree.specs.declared.kind.Kind.TheVariants.{Literal}
 use Rattle.tree.specs.declared.kind.Pair.{Pair}
-use Rattle.tree.specs.Tree.{Tree, node, Parts, none, part, kind_of, text_of, bare, bare_parts, plain, height, parts_height}
-use Rattle.tree.specs.Uses.{is_lean}
+use Rattle.tree.specs.Tree.{Tree, node, none, bare, plain}
 use Rattle.tree.proofs.Lean.{lean_flags}
-use Rattle.language.specs.declared.Rank.{Rank}
 use Rattle.language.specs.declared.Rank.TheVariants.{Expression, Grouped, Primary}
 use Rattle.language.specs.declared.Start.TheVariants.{Any, Statement}
-use Rattle.language.specs.declared.Edge.{Edge}
-use Rattle.language.specs.declared.Edge.TheVariants.{Other}
-use Rattle.language.specs.Words.{is, among, tightness, is_reserved, literal_class, is_string, is_name}
-use Rattle.language.specs.Edges.{edge, last_edge, ends_in_if, standing}
-use Rattle.language.specs.Pieces.{Role, expr, name, quoted, statement, opening, PieceOf, tok, ending, sub, lay, space, at, put, sign, sp, Spelling, Ending}
-use Rattle.language.specs.Statements.{first_is_string, is_string_literal, end_of}
+use Rattle.language.specs.Words.{among, tightness, is_reserved, literal_class, is_string, is_name}
+use Rattle.language.specs.Pieces.{expr, name, quoted, tok, at}
 use Rattle.language.specs.Token.{Token}
-use Rattle.language.specs.Beginning.{an_expression, beginning_of}
-use Rattle.language.specs.Follow.{of_class, operation, symbol_of, stops_at}
-use Rattle.language.specs.Promises.{is_free, IsDetermined, ReadBy, Stops, Found, Absent, AbsentWithin, FoundAt}
-use Rattle.language.specs.Following.{IsAlike, Followed, Finished, may_follow, FoundWhere, AbsentWhere, AbsentWhereWithin}
-use Rattle.language.specs.Grammar.{ways, spellings, can_run, starts}
-use Rattle.language.specs.Derivation.{first, Reads, Spells, direct, grouped, Runs, done, step, within, Step, token, laid, explicit, implicit, Placed, placed, place}
-use Rattle.language.specs.View.{Made, identifier, literal}
-use Rattle.language.proofs.Domination.{settled, fits}
+use Rattle.language.specs.Promises.{IsDetermined}
+use Rattle.language.specs.Grammar.{ways, spellings, starts}
+use Rattle.language.specs.Derivation.{Reads, Spells, direct, grouped, done, step, token, Placed, placed}
+use Rattle.language.specs.View.{identifier, literal}
+use Rattle.language.proofs.Domination.{settled}
 use Rattle.language.proofs.Viewed.{way_of, made, one, cases}
-use Rattle.language.proofs.Productions.{spell, way_from, in_true}
-use Rattle.language.proofs.Begins.{among_by, goes_to, retell}
-use Rattle.language.proofs.Running.{run_none, run_token, run_laid, run_part}
+use Rattle.language.proofs.Productions.{spell}
+use Rattle.language.proofs.Begins.{among_by, retell}
+use Rattle.language.proofs.Running.{run_none, run_token}
 use Rattle.language.proofs.TwoSides.{same_node}
-use Rattle.language.proofs.Conditionals.{same_sign}
-use Rattle.language.proofs.Growing.{last_runs}
-use Rattle.language.proofs.Leaves.{OneToken, name_form}
-use Rattle.language.proofs.BareEdges.{edge_bare}
-use Rattle.language.proofs.Misses.{ended_stops}
-use Rattle.language.proofs.Stated.{Stands, as_statement, as_item, as_opening, label_listed, expression_listed, directive_listed, group_listed}
-use Rattle.language.proofs.Beginnings.{directive_flags, made_rank, too_tight, settled_at, OtherWay, a_label, evaluated, a_directive, a_group, other_way}
-use Rattle.language.proofs.OwnWays.{statement_spans, statement_fits}
-use Rattle.language.proofs.Sole.{same_span}
-use Rattle.language.proofs.Sofar.{run_end}
+use Rattle.language.proofs.Leaves.{name_form}
+use Rattle.language.proofs.Beginnings.{made_rank, too_tight}
 
 -- a name that isn't reserved may begin a statement
 starts_free : (w : List ℕ) → is_reserved w ≡ false → starts Statement (tok Name w ∷ []) ≡ true
@@ -90,19 +67,19 @@ module _ (S : Type 0) (Next : S → Token → S → Type 0) (behind : S → Toke
   unfolding spellings
   quoted_form {o} {n = node Literal w g st en ps} {s} {e} {P} (direct qs h pl d) = let v = way_of h in
       cases {ys = []} (is_string (literal_class w)) v.listed (λ b k.
-          let u = run_token S Next behind (retell S Next behind (v.is ∙ ap (settled quoted) (one k)) d) in
-          let z = run_none S Next behind u.runs in
-          record {
-            text = w;
-            sign = u.sign;
-            st = st;
-            en = en;
-            class = text_class (literal_class w) b;
-            reads = subst (λ x. Reads S Next behind Text w s u.sign x) z.place u.reads;
-            tree = same_node refl refl (lean_flags (bare (node Literal w g st en ps)) v.lean) refl refl z.parts;
-            placed = pl;
-            pairs = z.pairs;
-          }) (λ b k. elim k [ ])
+      let u = run_token S Next behind (retell S Next behind (v.is ∙ ap (settled quoted) (one k)) d) in
+      let z = run_none S Next behind u.runs in
+      record {
+        text = w;
+        sign = u.sign;
+        st = st;
+        en = en;
+        class = text_class (literal_class w) b;
+        reads = subst (λ x. Reads S Next behind Text w s u.sign x) z.place u.reads;
+        tree = same_node refl refl (lean_flags (bare (node Literal w g st en ps)) v.lean) refl refl z.parts;
+        placed = pl;
+        pairs = z.pairs;
+      }) (λ b k. elim k [ ])
   quoted_form {n = node _ w g st en ps} (direct qs h pl d) = elim ((way_of h).listed) [ ]
 
   -- a directive's string is one

@@ -1,5 +1,5 @@
 -- The right edge of a tree, and whether it ends in an `if` without `else`, don't depend on places.
-use Rattle.std.proofs.Common.{◌≡◌, Bool, true, false, cond, refl, ap}
+use Rattle.std.proofs.Common.{◌≡◌, false, cond, refl, ap}
 use Rattle.language.specs.declared.Edge.TheVariants.{Arrow, Postfix, Other}
 use Rattle.tree.specs.Tree.{Tree, node, Parts, none, part, gap, bare, bare_parts}
 use Rattle.language.specs.Edges.{edge, last_edge, goes_right, is_arrow, is_update, trails, ends_in_if, last_ends_in_if}

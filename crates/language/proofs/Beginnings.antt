@@ -1,6 +1,6 @@
 -- Statements and declarations by their first token: one whose first token is its own, or an expression, a directive or a label.
 use Rattle.std.proofs.Common.{◌≡◌, ℕ, ◌≤◌, Bool, true, false, cond, List, [], ◌∷◌, ◌++◌, refl, sym, ap, ◌∙◌, subst, ◌⊎◌, inl, inr, arith}
-use Rattle.std.specs.Prelude.{IsTrue, codes, ◌||◌}
+use Rattle.std.specs.Prelude.{IsTrue, codes}
 use Prim.Native.String.{String}
 use Rattle.std.proofs.lemmas.Bool.{and_parts, false≢true}
 use Rattle.std.proofs.lemmas.Bool.Decides.{nat_tests}
@@ -17,27 +17,26 @@ use Rattle.tree.specs.Uses.{is_lean, used_flags, has_text}
 use Rattle.tree.proofs.Lean.{lean_flags, lean_text}
 use Rattle.language.specs.declared.Rank.{Rank}
 use Rattle.language.specs.declared.Rank.TheVariants.{Expression, Grouped}
-use Rattle.language.specs.declared.Start.{Start}
 use Rattle.language.specs.declared.Start.TheVariants.{Any, Statement}
 use Rattle.language.specs.declared.Edge.TheVariants.{Other}
 use Rattle.language.specs.FirstPart.{lead as lead_kind}
-use Rattle.language.specs.Words.{is, among, takes, takes_number, tightness, is_reserved, literal_class, is_string}
+use Rattle.language.specs.Words.{is, among, takes_number, tightness, is_reserved, literal_class, is_string}
 use Rattle.language.specs.Edges.{last_edge}
 use Rattle.language.specs.Pieces.{Role, expr, spine, name, quoted, pattern, statement, Piece, PieceOf, tok, ending, sub, lay, space, Spelling}
 use Rattle.language.specs.Statements.{first_is_string}
 use Rattle.language.specs.Token.{Token}
-use Rattle.language.specs.Opening.{Opening, with_name, with_brace, with_function, with_class, no_opening, opening_by, opening_of}
+use Rattle.language.specs.Opening.{Opening, with_brace, with_function, with_class, no_opening, opening_by, opening_of}
 use Rattle.language.specs.Beginning.{Beginning, a_block, an_empty, a_variable, an_if, a_do, a_while, a_for, a_continue, a_break, a_return, a_throw, a_switch, a_try, a_debugger, a_function, a_class, an_expression, is_own, statement_words, declaration_words, statement_signs, beginning_among, beginning_by, beginning_of}
 use Rattle.language.specs.Promises.{is_free, IsDetermined, ReadBy}
 use Rattle.language.specs.Grammar.{ways, spellings, starts}
-use Rattle.language.specs.Derivation.{Reads, Spells, direct, grouped, Runs, within, step, Placed}
+use Rattle.language.specs.Derivation.{Spells, direct, grouped, Runs, Placed}
 use Rattle.language.specs.View.{Made, binary, logical}
 use Rattle.language.proofs.Domination.{settled, fits}
 use Rattle.language.proofs.Operators.{binding}
 use Rattle.language.proofs.Viewed.{way_of, made, one, cases}
 use Rattle.language.proofs.Spine.{Core, on_spine, grows_on_spine, spine_of}
 use Rattle.language.proofs.Starting.{grows_start}
-use Rattle.language.proofs.Begins.{Each, among_by, by, first_of, behind_first, goes_to, retell, Taken, taken, taken_free}
+use Rattle.language.proofs.Begins.{Each, among_by, first_of, goes_to, retell, Taken, taken, taken_free}
 use Rattle.language.proofs.Headed.{identifier_opens, head_object, head_function, head_class, head_object_pattern}
 use Rattle.language.proofs.Cores.{Cored, in_group, in_way, core_by, no_spine_core}
 use Rattle.language.proofs.Leaves.{name_form}

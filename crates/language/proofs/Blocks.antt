@@ -1,5 +1,5 @@
 -- Blocks, bodies, cases, handlers, spreads, rests, methods, declarators and elements with a default: each position has nodes of one kind.
-use Rattle.std.proofs.Common.{◌≡◌, ℕ, Bool, true, false, cond, List, [], ◌∷◌, ◌++◌, refl, ap}
+use Rattle.std.proofs.Common.{◌≡◌, ℕ, Bool, true, false, cond, List, [], ◌∷◌, ◌++◌, refl}
 use Rattle.std.specs.Prelude.{Option, Some, None, codes, ◌&&◌}
 use Rattle.tree.specs.declared.kind.Kind.{Kind}
 use Rattle.tree.specs.declared.kind.Kind.TheVariants.{SpreadElement, RestElement, FunctionExpression, BlockStatement, ClassBody, CatchClause, SwitchCase, VariableDeclarator, AssignmentPattern, ArrayPattern, ObjectPattern}
@@ -16,10 +16,8 @@ use Rattle.language.specs.Statements.{lines, prologue, member_lines, whole, decl
 use Rattle.language.specs.Expressions.{assignment, methods}
 use Rattle.language.specs.Grammar.{spellings, rests, can_run}
 use Rattle.language.specs.Derivation.{Among, first}
-use Rattle.language.proofs.Viewed.{one, unless}
-use Rattle.language.proofs.Productions.{in_true, in_false}
 use Rattle.language.proofs.Stated.{behind_brace, pieces_of_one}
-use Rattle.language.proofs.OneKind.{Plain, OneKind}
+use Rattle.language.proofs.OneKind.{OneKind}
 
 -- the pieces of each
 abbrev pub block_pieces : Bool → Parts → List Piece

@@ -1,26 +1,23 @@
 -- Statements that begin with an expression: from the expression that is found to the statement, where what may follow follows.
-use Rattle.std.proofs.Common.{◌≡◌, ℕ, suc, ◌-◌, ◌≤◌, max, Bool, true, false, cond, List, [], ◌∷◌, ◌++◌, refl, sym, ap, ◌∙◌, subst, arith}
-use Rattle.std.specs.Prelude.{IsTrue, codes, not, ◌&&◌}
+use Rattle.std.proofs.Common.{◌≡◌, ℕ, ◌-◌, ◌≤◌, Bool, true, false, List, [], ◌∷◌, ◌++◌, refl, sym, ap, ◌∙◌, subst, arith}
+use Rattle.std.specs.Prelude.{IsTrue, codes}
 use Rattle.std.proofs.lemmas.Bool.{and_parts, false≢true}
 use Rattle.std.proofs.lemmas.List.{append-nil}
 use Rattle.tokens.specs.declared.token.Class.{Class}
-use Rattle.tokens.specs.declared.token.Class.TheVariants.{Name, Punctuator, Text}
+use Rattle.tokens.specs.declared.token.Class.TheVariants.{Punctuator, Text}
 use Rattle.tokens.specs.declared.token.Goal.{Goal}
 use Rattle.tokens.specs.declared.token.Goal.TheVariants.{Div}
 use Rattle.tokens.specs.Goals.{allows}
-use Rattle.tree.specs.declared.kind.Kind.{Kind}
-use Rattle.tree.specs.declared.kind.Kind.TheVariants.{Identifier, Literal, ExpressionStatement, LabeledStatement}
+use Rattle.tree.specs.declared.kind.Kind.TheVariants.{Literal, ExpressionStatement, LabeledStatement}
 use Rattle.tree.specs.declared.kind.Flags.{Flags}
 use Rattle.tree.specs.declared.kind.Pair.{Pair}
-use Rattle.tree.specs.Tree.{Tree, node, Parts, none, part, kind_of, text_of, bare, bare_parts, plain, height, parts_height}
+use Rattle.tree.specs.Tree.{Tree, node, Parts, none, part, kind_of, text_of, bare, bare_parts, plain, height}
 use Rattle.tree.specs.Uses.{is_lean}
-use Rattle.tree.proofs.Lean.{lean_flags}
-use Rattle.language.specs.declared.Rank.{Rank}
 use Rattle.language.specs.declared.Rank.TheVariants.{Expression, Grouped, Primary}
 use Rattle.language.specs.declared.Start.TheVariants.{Any, Statement}
 use Rattle.language.specs.declared.Edge.{Edge}
 use Rattle.language.specs.declared.Edge.TheVariants.{Other}
-use Rattle.language.specs.Words.{is, among, tightness, is_reserved, literal_class, is_string, is_name}
+use Rattle.language.specs.Words.{is, tightness, literal_class, is_string}
 use Rattle.language.specs.Edges.{edge, last_edge, ends_in_if, standing}
 use Rattle.language.specs.Pieces.{Role, expr, name, quoted, statement, opening, PieceOf, tok, ending, sub, lay, space, at, put, sign, sp, Spelling, Ending}
 use Rattle.language.specs.Statements.{first_is_string, is_string_literal, end_of}
@@ -29,21 +26,21 @@ use Rattle.language.specs.Beginning.{an_expression, beginning_of}
 use Rattle.language.specs.Follow.{of_class, operation, symbol_of, stops_at}
 use Rattle.language.specs.Promises.{is_free, IsDetermined, ReadBy, Stops, Found, Absent, AbsentWithin, FoundAt}
 use Rattle.language.specs.Following.{IsAlike, Followed, Finished, may_follow, FoundWhere, AbsentWhere, AbsentWhereWithin}
-use Rattle.language.specs.Grammar.{ways, spellings, can_run, starts}
-use Rattle.language.specs.Derivation.{first, Reads, Spells, direct, grouped, Runs, done, step, within, Step, token, laid, explicit, implicit, Placed, placed, place}
-use Rattle.language.specs.View.{Made, identifier, literal}
-use Rattle.language.proofs.Domination.{settled, fits}
-use Rattle.language.proofs.Viewed.{way_of, made, one, cases}
-use Rattle.language.proofs.Productions.{spell, way_from, in_true}
-use Rattle.language.proofs.Begins.{among_by, goes_to, retell}
+use Rattle.language.specs.Grammar.{ways, spellings}
+use Rattle.language.specs.Derivation.{first, Reads, Spells, direct, grouped, Runs, done, step, within, Step, token, laid, explicit, implicit, Placed, placed}
+use Rattle.language.specs.View.{Made, literal}
+use Rattle.language.proofs.Domination.{settled}
+use Rattle.language.proofs.Viewed.{way_of, made}
+use Rattle.language.proofs.Productions.{way_from, in_true}
+use Rattle.language.proofs.Begins.{retell}
 use Rattle.language.proofs.Running.{run_none, run_token, run_laid, run_part}
 use Rattle.language.proofs.TwoSides.{same_node}
 use Rattle.language.proofs.Conditionals.{same_sign}
 use Rattle.language.proofs.Growing.{last_runs}
-use Rattle.language.proofs.Leaves.{OneToken, name_form}
+use Rattle.language.proofs.Leaves.{name_form}
 use Rattle.language.proofs.BareEdges.{edge_bare}
 use Rattle.language.proofs.Misses.{ended_stops}
-use Rattle.language.proofs.Stated.{Stands, as_statement, as_item, as_opening, label_listed, expression_listed, directive_listed, group_listed}
+use Rattle.language.proofs.Stated.{Stands, as_opening, label_listed, expression_listed, directive_listed, group_listed}
 use Rattle.language.proofs.Beginnings.{directive_flags, made_rank, too_tight, settled_at, OtherWay, a_label, evaluated, a_directive, a_group, other_way}
 use Rattle.language.proofs.OwnWays.{statement_spans, statement_fits}
 use Rattle.language.proofs.Sole.{same_span}
@@ -80,6 +77,7 @@ module _ (S : Type 0) (Next : S → Token → S → Type 0) (behind : S → Toke
       let al : IsTrue (allows Goal.RegExp v.class v.text) = subst (λ x. IsTrue (allows Goal.RegExp x v.text)) (sym h.class) (subst (λ x. IsTrue (allows Goal.RegExp Punctuator x)) (sym h.text) refl) in
       let same = det.same Goal.RegExp e v f.token k f.mid h.next f.read.next al f.read.allowed in
       false≢true (sym (ap (λ c. may_follow b (colon c v.text)) h.class ∙ ap (λ w. may_follow b (colon Punctuator w)) h.text) ∙ ap (may_follow b) same.0 ∙ f.follows)
+
   -- an expression, or what is one, and the end behind it
   record Ends (o : ℕ) (a : Role) (y : Ending) (ps : Parts) (s e : S) (P : List Pair) : Type 0 where
     item : Tree

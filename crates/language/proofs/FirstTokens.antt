@@ -1,41 +1,32 @@
 -- Cases, handlers, the functions of methods and the heads of `for` by their first token; patterns by theirs.
 use Rattle.std.proofs.Common.{◌≡◌, ℕ, Bool, true, false, cond, List, [], ◌∷◌, ◌++◌, refl, sym, ap, ◌∙◌, subst}
-use Rattle.std.specs.Prelude.{IsTrue, codes, ◌&&◌, ◌||◌}
-use Rattle.std.proofs.lemmas.Bool.{and_parts, and_from, false≢true}
+use Rattle.std.specs.Prelude.{IsTrue, codes}
+use Rattle.std.proofs.lemmas.Bool.{false≢true}
 use Rattle.tokens.specs.declared.token.Class.{Class}
 use Rattle.tokens.specs.declared.token.Class.TheVariants.{Name, Punctuator}
 use Rattle.tokens.specs.declared.token.Goal.{Goal}
 use Rattle.tokens.specs.declared.token.Goal.TheVariants.{Div}
 use Rattle.tokens.specs.Goals.{allows}
 use Rattle.tree.specs.declared.kind.Kind.{Kind}
-use Rattle.tree.specs.declared.kind.Kind.TheVariants.{SwitchCase, CatchClause, FunctionExpression, VariableDeclaration, ArrayPattern, ObjectPattern}
+use Rattle.tree.specs.declared.kind.Kind.TheVariants.{SwitchCase, CatchClause, FunctionExpression}
 use Rattle.tree.specs.declared.kind.Flags.{Flags}
 use Rattle.tree.specs.declared.kind.Form.{Form}
 use Rattle.tree.specs.declared.kind.Form.TheVariants.{Init, Get, Set, Method, Shorthand, Constructor}
 use Rattle.tree.specs.declared.kind.Pair.{Pair}
-use Rattle.tree.specs.Tree.{Tree, node, Parts, none, part, gap, kind_of, bare, bare_parts, plain}
-use Rattle.tree.specs.Uses.{is_lean, used_flags}
-use Rattle.tree.proofs.Lean.{lean_flags, lean_text}
-use Rattle.language.specs.declared.Rank.TheVariants.{Expression, Primary}
+use Rattle.tree.specs.Tree.{Tree, node, Parts, none, part, gap, kind_of, bare_parts, plain}
+use Rattle.language.specs.declared.Rank.TheVariants.{Expression}
 use Rattle.language.specs.declared.Start.TheVariants.{Any}
-use Rattle.language.specs.Words.{is, among, is_rest}
+use Rattle.language.specs.Words.{is, is_rest}
 use Rattle.language.specs.Pieces.{Role, item, head, block, body, handler, method, switch_case, declarator, pattern, Piece, PieceOf, tok, absent, lay, deeper, shallower, space, Spelling, at, put, put_at, sign, sp, nothing, bound, with_default, parameters, elements, listed, pattern_element}
-use Rattle.language.specs.Statements.{lines, whole, declarators, is_one, heads}
-use Rattle.language.specs.Expressions.{object_pattern_part}
+use Rattle.language.specs.Statements.{lines, whole}
 use Rattle.language.specs.Token.{Token}
 use Rattle.language.specs.Promises.{is_free, IsDetermined}
-use Rattle.language.specs.Following.{AbsentWhere}
-use Rattle.language.specs.Grammar.{ways, spellings, can_run, patterns}
-use Rattle.language.specs.Derivation.{Among, first, Reads, Spells, Runs, step, token, missing, Placed}
-use Rattle.language.proofs.Domination.{settled}
-use Rattle.language.proofs.Viewed.{way_of, one, cases}
-use Rattle.language.proofs.Productions.{way_from, runs_can, in_true}
-use Rattle.language.proofs.Begins.{goes_to, retell}
-use Rattle.language.proofs.Running.{run_token, run_absent, run_the_gap, run_never}
-use Rattle.language.proofs.TwoSides.{same_node}
-use Rattle.language.proofs.Stated.{pieces_of_one}
-use Rattle.language.proofs.Sole.{Told, Sole}
-use Rattle.language.proofs.OneKind.{OneKind, one_kind}
+use Rattle.language.specs.Grammar.{ways}
+use Rattle.language.specs.Derivation.{Reads, Runs, step, token, missing}
+use Rattle.language.proofs.Begins.{goes_to}
+use Rattle.language.proofs.Running.{run_token, run_the_gap, run_never}
+use Rattle.language.proofs.Sole.{Sole}
+use Rattle.language.proofs.OneKind.{one_kind}
 use Rattle.language.proofs.Blocks.{case_pieces, handler_pieces, method_pieces, one_case, one_handler, one_method}
 
 -- what stands behind the word of a case, and behind that of a handler; behind the `(` of a method's function
@@ -61,7 +52,6 @@ behind_opening _ (gap ps) = absent ∷ parameters (sign ")" ∷ sp ∷ put body 
 behind_opening _ _ = nothing
 
 module _ (S : Type 0) (Next : S → Token → S → Type 0) (behind : S → Token) (det : IsDetermined S Next behind) where
-
   -- behind a first token, before which only a gap is passed
   pub first_told : {Fine : Tree → S → Type 0} {a : Role} {k : Kind} {w : List ℕ} {g : Flags} {s m : S} {t : Token} {c : Class} {v : List ℕ} {pieces tail : Parts → List (PieceOf Role)} (h : Goal) → IsTrue (allows h c v) → Reads S Next behind c v s t m →
       ((o : ℕ) (ps : Parts) (e : S) (P : List Pair) → Runs ways S Next behind o (pieces ps) ps s e P → Runs ways S Next behind o (tok c v ∷ tail ps) ps s e P) →

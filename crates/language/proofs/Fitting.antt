@@ -1,14 +1,13 @@
 -- What follows a part of a statement says that the part can't go on, or that what may follow a statement does.
-use Rattle.std.proofs.Common.{◌≡◌, ℕ, Bool, true, false, cond, List, [], ◌∷◌, ◌++◌, refl, sym, ap, ◌∙◌, subst}
-use Rattle.std.specs.Prelude.{IsTrue, Some, None, Option, codes, not, ◌&&◌, ◌||◌}
-use Rattle.std.proofs.lemmas.Bool.{false≢true}
+use Rattle.std.proofs.Common.{◌≡◌, ℕ, Bool, true, false, List, [], ◌∷◌, refl, sym, ap, ◌∙◌, subst}
+use Rattle.std.specs.Prelude.{IsTrue, codes}
 use Rattle.tokens.specs.declared.token.Class.{Class}
-use Rattle.tokens.specs.declared.token.Class.TheVariants.{Name, Punctuator}
+use Rattle.tokens.specs.declared.token.Class.TheVariants.{Name}
 use Rattle.tokens.specs.declared.token.Goal.{Goal}
 use Rattle.tokens.specs.declared.token.Goal.TheVariants.{Div}
 use Rattle.tokens.specs.Goals.{allows}
 use Rattle.tree.specs.declared.kind.Pair.{Pair}
-use Rattle.tree.specs.Tree.{Tree, node, Parts, none, part, gap, bare, bare_parts, plain}
+use Rattle.tree.specs.Tree.{Tree, Parts, none, part, bare_parts}
 use Rattle.language.specs.declared.Rank.{Rank}
 use Rattle.language.specs.declared.Start.{Start}
 use Rattle.language.specs.declared.Edge.{Edge}
@@ -16,11 +15,11 @@ use Rattle.language.specs.Words.{is_reserved}
 use Rattle.language.specs.Edges.{edge, last_edge, ends_in_if, standing}
 use Rattle.language.specs.Pieces.{Role, expr, statement, PieceOf, tok, ending, sub, lay, space}
 use Rattle.language.specs.Token.{Token}
-use Rattle.language.specs.Follow.{of_class, operation, symbol_of, stops_at, stops}
-use Rattle.language.specs.Promises.{IsDetermined, ReadBy, Stops, Found, Absent, AbsentWithin}
+use Rattle.language.specs.Follow.{of_class, symbol_of, stops_at}
+use Rattle.language.specs.Promises.{IsDetermined, Stops, Found, Absent, AbsentWithin}
 use Rattle.language.specs.Following.{IsAlike, Followed, Finished, may_follow, FoundWhere, AbsentWhere, AbsentWhereWithin}
 use Rattle.language.specs.Grammar.{ways}
-use Rattle.language.specs.Derivation.{Reads, Spells, Runs, step, Step, token}
+use Rattle.language.specs.Derivation.{Reads, Runs, Step}
 use Rattle.language.proofs.Running.{run_none, run_token, run_laid}
 use Rattle.language.proofs.BareEdges.{edge_bare}
 use Rattle.language.proofs.Misses.{ended_stops}

@@ -5,24 +5,21 @@ use Rattle.std.proofs.lemmas.Bool.{and_parts, and_from, false≢true}
 use Rattle.tokens.specs.declared.token.Class.TheVariants.{Name, Punctuator}
 use Rattle.tokens.specs.declared.token.Goal.TheVariants.{Div}
 use Rattle.tokens.specs.Goals.{allows}
-use Rattle.tree.specs.declared.kind.Kind.{Kind}
 use Rattle.tree.specs.declared.kind.Kind.TheVariants.{VariableDeclaration, ArrayPattern, ObjectPattern}
-use Rattle.tree.specs.declared.kind.Flags.{Flags}
 use Rattle.tree.specs.declared.kind.Pair.{Pair}
 use Rattle.tree.specs.Tree.{Tree, node, Parts, bare, bare_parts, plain}
-use Rattle.tree.specs.Uses.{is_lean}
 use Rattle.tree.proofs.Lean.{lean_flags, lean_text}
 use Rattle.language.specs.declared.Rank.TheVariants.{Expression, Primary}
 use Rattle.language.specs.declared.Start.TheVariants.{Any}
 use Rattle.language.specs.Words.{is, among}
-use Rattle.language.specs.Pieces.{Role, head, declarator, pattern, Piece, PieceOf, tok, Spelling, at, sign, sp, nothing, elements, listed, pattern_element}
-use Rattle.language.specs.Statements.{declarators, is_one, heads}
+use Rattle.language.specs.Pieces.{head, declarator, pattern, Piece, tok, Spelling, at, sign, sp, nothing, elements, listed, pattern_element}
+use Rattle.language.specs.Statements.{declarators, is_one}
 use Rattle.language.specs.Expressions.{object_pattern_part}
 use Rattle.language.specs.Token.{Token}
 use Rattle.language.specs.Promises.{is_free, IsDetermined}
 use Rattle.language.specs.Following.{AbsentWhere}
-use Rattle.language.specs.Grammar.{ways, spellings, can_run, patterns}
-use Rattle.language.specs.Derivation.{Among, first, Reads, Spells, direct, Runs, step, token, Placed}
+use Rattle.language.specs.Grammar.{ways, spellings, can_run}
+use Rattle.language.specs.Derivation.{first, Reads, Spells, direct, Runs, step, token, Placed}
 use Rattle.language.proofs.Domination.{settled}
 use Rattle.language.proofs.Viewed.{way_of, cases}
 use Rattle.language.proofs.Productions.{way_from, runs_can, in_true}
@@ -74,21 +71,21 @@ module _ (S : Type 0) (Next : S → Token → S → Type 0) (behind : S → Toke
   unfolding spellings
   head_form {b = b} {n = node VariableDeclaration w g st en ps} (direct qs h pl d) = let v = way_of h in
       cases {ys = []} (is_declaration_word w && (b || is_one (bare_parts ps))) v.listed (λ c k.
-          let both = and_parts (is_declaration_word w) (b || is_one (bare_parts ps)) c in
-          let t = run_token S Next behind (retell S Next behind (v.is ∙ ap (goes_to Expression true Any) (pieces_of_one k)) d) in
-          record {
-            text = w;
-            word = both.0;
-            sign_token = t.sign;
-            mid = t.mid;
-            reads = t.reads;
-            st = st;
-            en = en;
-            parts = ps;
-            tree = same_node refl refl (lean_flags (bare (node VariableDeclaration w g st en ps)) v.lean) refl refl refl;
-            placed = pl;
-            runs = retell S Next behind (ap (goes_to Expression true Any) (cond_true (b || is_one (bare_parts ps)) (sp ∷ declarators (declarator false b) (bare_parts ps)) both.1)) t.runs;
-          }) (λ c k. elim k [ ])
+      let both = and_parts (is_declaration_word w) (b || is_one (bare_parts ps)) c in
+      let t = run_token S Next behind (retell S Next behind (v.is ∙ ap (goes_to Expression true Any) (pieces_of_one k)) d) in
+      record {
+        text = w;
+        word = both.0;
+        sign_token = t.sign;
+        mid = t.mid;
+        reads = t.reads;
+        st = st;
+        en = en;
+        parts = ps;
+        tree = same_node refl refl (lean_flags (bare (node VariableDeclaration w g st en ps)) v.lean) refl refl refl;
+        placed = pl;
+        runs = retell S Next behind (ap (goes_to Expression true Any) (cond_true (b || is_one (bare_parts ps)) (sp ∷ declarators (declarator false b) (bare_parts ps)) both.1)) t.runs;
+      }) (λ c k. elim k [ ])
   head_form {n = node _ w g st en ps} (direct qs h pl d) = elim ((way_of h).listed) [ ]
 
   -- the only way where such a word is read

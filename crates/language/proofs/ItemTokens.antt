@@ -1,25 +1,22 @@
 -- The token with which a statement or declaration begins, so that what stands before it has ended.
-use Rattle.std.proofs.Common.{◌≡◌, ℕ, Bool, true, false, cond, List, [], ◌∷◌, ◌++◌, refl, sym, ap, ◌∙◌, subst, ◌⊎◌, inl, inr}
-use Rattle.std.specs.Prelude.{IsTrue, codes, ◌||◌}
-use Rattle.std.proofs.lemmas.Bool.{false≢true}
-use Rattle.tokens.specs.declared.token.Class.{Class}
-use Rattle.tokens.specs.declared.token.Class.TheVariants.{Name, Punctuator, Text}
+use Rattle.std.proofs.Common.{◌≡◌, ℕ, Bool, true, false, List, [], ◌∷◌, refl, sym, ap, ◌∙◌, subst, ◌⊎◌, inl, inr}
+use Rattle.std.specs.Prelude.{IsTrue, ◌||◌}
+use Rattle.tokens.specs.declared.token.Class.TheVariants.{Name}
 use Rattle.tokens.specs.declared.token.Goal.{Goal}
 use Rattle.tokens.specs.Goals.{allows}
 use Rattle.tree.specs.declared.kind.Kind.{Kind}
 use Rattle.tree.specs.declared.kind.Pair.{Pair}
 use Rattle.tree.specs.Tree.{Tree, node, Parts, bare_parts}
-use Rattle.language.specs.declared.Rank.TheVariants.{Expression, Grouped}
+use Rattle.language.specs.declared.Rank.TheVariants.{Expression}
 use Rattle.language.specs.declared.Start.TheVariants.{Any, Statement}
 use Rattle.language.specs.Words.{among}
-use Rattle.language.specs.Pieces.{Role, expr, name, quoted, statement, item, opening, Piece, PieceOf}
+use Rattle.language.specs.Pieces.{Role, expr, Piece}
 use Rattle.language.specs.Token.{Token}
 use Rattle.language.specs.Opening.{Opening, no_opening, with_brace, with_function, with_class, opening_by, opening_of}
 use Rattle.language.specs.Beginning.{Beginning, a_variable, a_return, a_function, a_class, is_own, is_opening, beginning_by, beginning_of, begins_item}
 use Rattle.language.specs.Promises.{is_free, IsDetermined, ReadBy}
-use Rattle.language.specs.Following.{Followed, ends_list, may_follow}
-use Rattle.language.specs.Grammar.{ways, spellings}
-use Rattle.language.specs.Derivation.{Reads, Spells, direct, grouped, Runs}
+use Rattle.language.specs.Grammar.{ways}
+use Rattle.language.specs.Derivation.{Spells, direct, grouped, Runs}
 use Rattle.language.proofs.Viewed.{way_of}
 use Rattle.language.proofs.Begins.{among_by, goes_to, retell, begun}
 use Rattle.language.proofs.Headed.{identifier_opens}

@@ -1,30 +1,30 @@
 -- Keys, and properties and members by their first token.
-use Rattle.std.proofs.Common.{◌≡◌, ℕ, Bool, true, false, cond, List, [], ◌∷◌, ◌++◌, refl, sym, ap, ◌∙◌, subst, ◌⊎◌, inl, inr, arith}
-use Rattle.std.specs.Prelude.{IsTrue, codes, not, ◌&&◌, ◌||◌, nat_eq, nat_le, slice_index_or}
+use Rattle.std.proofs.Common.{◌≡◌, ℕ, Bool, true, false, cond, List, [], ◌∷◌, refl, sym, ap, ◌∙◌, subst, ◌⊎◌, inl, inr, arith}
+use Rattle.std.specs.Prelude.{IsTrue, codes, ◌&&◌, ◌||◌, nat_eq, nat_le, slice_index_or}
 use Rattle.std.proofs.lemmas.Bool.{false≢true}
 use Rattle.std.proofs.lemmas.Bool.Decides.{nat_tests}
 use Rattle.tokens.specs.declared.token.Class.{Class}
-use Rattle.tokens.specs.declared.token.Class.TheVariants.{Name, Punctuator, Number, Text, Template, End}
+use Rattle.tokens.specs.declared.token.Class.TheVariants.{Name, Punctuator, Number, Text}
 use Rattle.tokens.specs.declared.token.Goal.TheVariants.{Div}
 use Rattle.tree.specs.declared.kind.Kind.{Kind}
-use Rattle.tree.specs.declared.kind.Kind.TheVariants.{Identifier, Literal, Property, MethodDefinition}
+use Rattle.tree.specs.declared.kind.Kind.TheVariants.{Identifier, Literal}
 use Rattle.tree.specs.declared.kind.Form.{Form}
 use Rattle.tree.specs.declared.kind.Form.TheVariants.{Init, Get, Set, Method, Shorthand, Constructor}
 use Rattle.tree.specs.declared.kind.Flags.{Flags}
 use Rattle.tree.specs.declared.kind.Pair.{Pair}
-use Rattle.tree.specs.Tree.{Tree, node, Parts, none, part, gap, bare, bare_parts, plain}
+use Rattle.tree.specs.Tree.{Tree, node, Parts, none, bare, plain}
 use Rattle.tree.proofs.Lean.{lean_flags}
 use Rattle.language.specs.declared.Rank.TheVariants.{Expression, Primary}
 use Rattle.language.specs.declared.Start.TheVariants.{Any}
-use Rattle.language.specs.Words.{is, literal_class, is_name}
-use Rattle.language.specs.Pieces.{Role, key, echo, property, member, PieceOf, tok, ahead, sub, Spelling, at, term, sp}
+use Rattle.language.specs.Words.{literal_class, is_name}
+use Rattle.language.specs.Pieces.{Role, key, echo, property, PieceOf, tok, ahead, sub, Spelling, at, term, sp}
 use Rattle.language.specs.Token.{Token}
 use Rattle.language.specs.Promises.{is_free, IsDetermined, ReadBy, FoundAt}
-use Rattle.language.specs.Grammar.{ways, spellings, keys, can_run}
+use Rattle.language.specs.Grammar.{ways, spellings, keys}
 use Rattle.language.specs.Derivation.{Among, first, Reads, Spells, direct, Runs, done, step, token, seen, Placed, placed}
 use Rattle.language.proofs.Domination.{settled}
 use Rattle.language.proofs.Viewed.{way_of, one, unless}
-use Rattle.language.proofs.Productions.{way_from, runs_can, in_false}
+use Rattle.language.proofs.Productions.{way_from, in_false}
 use Rattle.language.proofs.Begins.{goes_to, retell}
 use Rattle.language.proofs.Running.{run_none, run_token, run_part, run_never}
 use Rattle.language.proofs.TwoSides.{same_node}

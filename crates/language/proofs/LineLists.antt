@@ -7,27 +7,26 @@ use Rattle.tokens.specs.declared.token.Class.TheVariants.{Name, Punctuator, Numb
 use Rattle.tokens.specs.declared.token.Goal.{Goal}
 use Rattle.tokens.specs.Goals.{allows}
 use Rattle.tree.specs.declared.kind.Pair.{Pair}
-use Rattle.tree.specs.Tree.{Tree, node, Parts, none, part, gap, height, parts_height, bare, bare_parts}
+use Rattle.tree.specs.Tree.{Tree, node, Parts, none, part, gap, parts_height, bare, bare_parts}
 use Rattle.language.specs.declared.Rank.TheVariants.{Expression}
 use Rattle.language.specs.declared.Start.TheVariants.{Any}
-use Rattle.language.specs.Edges.{ends_in_if, is_end, is_sign}
 use Rattle.language.specs.Words.{among, is_reserved}
-use Rattle.language.specs.Pieces.{Role, item, opening, Piece, PieceOf, tok, sub, never, lay, line, deeper, shallower, sign, put}
-use Rattle.language.specs.Statements.{lines, prologue, is_directive}
+use Rattle.language.specs.Pieces.{Role, item, opening, Piece, PieceOf, tok, sub, never, lay, line, shallower, sign}
+use Rattle.language.specs.Statements.{lines, is_directive}
 use Rattle.language.specs.Token.{Token}
 use Rattle.language.specs.Beginning.{begins_item}
-use Rattle.language.specs.Promises.{IsDetermined, ReadBy, FoundParts, AbsentParts, AbsentPartsWithin}
+use Rattle.language.specs.Promises.{IsDetermined, FoundParts}
 use Rattle.language.specs.Following.{Followed, ListEnds, Finished, ends_list, may_follow, FoundWhere, AbsentWhere, AbsentWhereWithin, FoundPartsWhere, AbsentPartsWhere, AbsentPartsWhereWithin}
 use Rattle.language.specs.Grammar.{ways}
-use Rattle.language.specs.Derivation.{Reads, Spells, Runs, done, step, within, token, laid}
+use Rattle.language.specs.Derivation.{Reads, Runs, done, step, within, token, laid}
 use Rattle.language.proofs.Begins.{among_by, goes_to, retell}
 use Rattle.language.proofs.Conditionals.{same_sign}
 use Rattle.std.proofs.lemmas.List.{append-nil}
-use Rattle.language.proofs.Running.{run_none, run_token, run_laid, run_never, run_the_part, run_no_part, run_gap_part}
-use Rattle.language.proofs.Stated.{behind_brace, Stands, as_item, as_opening}
+use Rattle.language.proofs.Running.{run_none, run_token, run_laid, run_never, run_the_part}
+use Rattle.language.proofs.Stated.{behind_brace, Stands}
 use Rattle.language.proofs.ItemTokens.{Started, item_starts}
 use Rattle.language.proofs.Fitting.{token_follows}
-use Rattle.language.proofs.Sofar.{Rest, Sofar, Fits, at_first, and_then, turned, part_is, token_on, all_read, refused, too_deep}
+use Rattle.language.proofs.Sofar.{Sofar, and_then, turned, part_is}
 
 -- items one behind the other, and what closes the list
 abbrev pub plain_lines : Role → List (PieceOf Role) → Parts → List (PieceOf Role)

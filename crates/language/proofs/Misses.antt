@@ -1,6 +1,6 @@
 -- Where a `;` stands or may be missing, and what may follow a statement follows, nothing goes on behind the expression before it.
 use Rattle.std.proofs.Common.{◌≡◌, ℕ, ◌≤◌, Bool, true, false, cond, List, [], ◌∷◌, refl, sym, ap, ◌∙◌, subst, ◌⊎◌, inl, inr, arith}
-use Rattle.std.specs.Prelude.{IsTrue, Some, None, Option, codes, not, ◌&&◌, ◌||◌, nat_eq, nat_le, slice_index_or}
+use Rattle.std.specs.Prelude.{IsTrue, Some, None, Option, codes, not, ◌&&◌, ◌||◌, nat_eq, slice_index_or}
 use Prim.Native.String.{String}
 use Rattle.std.proofs.lemmas.Bool.{and_parts, false≢true}
 use Rattle.std.proofs.lemmas.Slice.Eq.{bytes_eq-Decides}

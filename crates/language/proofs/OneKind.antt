@@ -1,40 +1,30 @@
 -- Positions at which only nodes of one kind stand, with one way each: from the table to what is found there.
-use Rattle.std.proofs.Common.{◌≡◌, ℕ, Bool, true, false, cond, List, [], ◌∷◌, ◌++◌, refl, sym, ap, ◌∙◌, subst}
-use Rattle.std.specs.Prelude.{IsTrue, Option, Some, None, codes, not, ◌&&◌, ◌||◌}
-use Rattle.std.proofs.lemmas.Bool.{and_parts}
+use Rattle.std.proofs.Common.{◌≡◌, ℕ, Bool, true, false, List, [], ◌∷◌, refl, sym, ap, ◌∙◌, subst}
+use Rattle.std.specs.Prelude.{IsTrue}
 use Rattle.tokens.specs.declared.token.Class.{Class}
-use Rattle.tokens.specs.declared.token.Class.TheVariants.{Name, Punctuator}
 use Rattle.tokens.specs.declared.token.Goal.{Goal}
 use Rattle.tokens.specs.Goals.{allows}
 use Rattle.tree.specs.declared.kind.Kind.{Kind}
-use Rattle.tree.specs.declared.kind.Kind.TheVariants.{SpreadElement, RestElement, FunctionExpression, BlockStatement, ClassBody, CatchClause, SwitchCase, VariableDeclaration, VariableDeclarator, AssignmentPattern, ArrayPattern, ObjectPattern}
 use Rattle.tree.specs.declared.kind.Flags.{Flags}
-use Rattle.tree.specs.declared.kind.Form.{Form}
-use Rattle.tree.specs.declared.kind.Form.TheVariants.{Get, Set}
 use Rattle.tree.specs.declared.kind.Pair.{Pair}
-use Rattle.tree.specs.Tree.{Tree, node, Parts, none, part, gap, kind_of, parts_of, bare, bare_parts, plain}
+use Rattle.tree.specs.Tree.{Tree, node, Parts, parts_of, bare, bare_parts, plain}
 use Rattle.tree.specs.Uses.{is_lean, has_text, used_flags}
 use Rattle.tree.proofs.Lean.{lean_flags, lean_text}
 use Rattle.language.specs.declared.Rank.{Rank}
-use Rattle.language.specs.declared.Rank.TheVariants.{Expression, Assignment, Primary}
+use Rattle.language.specs.declared.Rank.TheVariants.{Expression, Primary}
 use Rattle.language.specs.declared.Start.{Start}
 use Rattle.language.specs.declared.Start.TheVariants.{Any}
-use Rattle.language.specs.FirstPart.{lead}
-use Rattle.language.specs.Words.{is, among, is_rest, is_pattern}
-use Rattle.language.specs.Pieces.{Role, expr, spread, rest, method, body, block, head, declarator, switch_case, handler, class_body, element, pattern, item, Piece, PieceOf, tok, absent, lay, sub, line, deeper, shallower, Spelling, at, only, put, put_at, sign, term, sp, nothing, bound, with_default, parameters, elements, listed, pattern_element}
-use Rattle.language.specs.Statements.{lines, prologue, declarators, is_one, member_lines, whole}
-use Rattle.language.specs.Expressions.{assignment, object_pattern_part}
+use Rattle.language.specs.Pieces.{Role, expr, Piece, PieceOf, tok, Spelling, at}
 use Rattle.language.specs.Token.{Token}
 use Rattle.language.specs.Promises.{IsDetermined}
 use Rattle.language.specs.Grammar.{ways, spellings, can_run}
-use Rattle.language.specs.Derivation.{Among, first, Reads, Spells, direct, grouped, Runs, step, token, missing, Placed, place}
+use Rattle.language.specs.Derivation.{Among, Reads, Spells, direct, grouped, Runs, step, token, Placed, place}
 use Rattle.language.proofs.Domination.{settled, fits}
-use Rattle.language.proofs.Viewed.{way_of, one, cases, unless}
-use Rattle.language.proofs.Productions.{way_from, runs_can, in_true, in_false}
+use Rattle.language.proofs.Viewed.{way_of}
+use Rattle.language.proofs.Productions.{way_from, runs_can}
 use Rattle.language.proofs.Begins.{goes_to, retell}
-use Rattle.language.proofs.Running.{run_token, run_absent}
+use Rattle.language.proofs.Running.{run_token}
 use Rattle.language.proofs.TwoSides.{same_node}
-use Rattle.language.proofs.Stated.{behind_brace}
 use Rattle.language.proofs.Sole.{Told, Sole}
 
 -- a position of nodes that are no expressions, and whose pieces stand as they are

@@ -1,25 +1,23 @@
 -- A statement or declaration whose first token is its own: from what stands behind that token to the statement.
 use Rattle.std.proofs.Common.{◌≡◌, ℕ, Bool, true, false, cond, List, [], ◌∷◌, ◌++◌, refl, sym, ap, ◌∙◌, subst, ◌⊎◌, inl, inr}
 use Prim.Native.String.{String}
-use Rattle.std.proofs.lemmas.Bool.{false≢true}
-use Rattle.std.proofs.lemmas.Slice.Eq.{bytes_eq-Decides}
 use Rattle.tokens.specs.declared.token.Class.{Class}
 use Rattle.tokens.specs.declared.token.Class.TheVariants.{Name, Punctuator}
 use Rattle.tokens.specs.declared.token.Goal.{Goal}
 use Rattle.tree.specs.declared.kind.Kind.{Kind}
-use Rattle.tree.specs.declared.kind.Kind.TheVariants.{Program, ExpressionStatement, BlockStatement, EmptyStatement, DebuggerStatement, ReturnStatement, ThrowStatement, BreakStatement, ContinueStatement, IfStatement, SwitchStatement, TryStatement, WhileStatement, DoWhileStatement, ForStatement, ForInStatement, ForOfStatement, VariableDeclaration, FunctionDeclaration, ClassDeclaration}
+use Rattle.tree.specs.declared.kind.Kind.TheVariants.{ExpressionStatement, BlockStatement, EmptyStatement, DebuggerStatement, ReturnStatement, ThrowStatement, BreakStatement, ContinueStatement, IfStatement, SwitchStatement, TryStatement, WhileStatement, DoWhileStatement, ForStatement, ForInStatement, ForOfStatement, VariableDeclaration, FunctionDeclaration, ClassDeclaration}
 use Rattle.tree.specs.declared.kind.Pair.{Pair}
 use Rattle.tree.specs.Tree.{Tree, node, Parts, bare, bare_parts, plain}
-use Rattle.tree.specs.Uses.{is_lean, has_text, implies}
+use Rattle.tree.specs.Uses.{is_lean}
 use Rattle.language.specs.declared.Rank.TheVariants.{Expression, Primary}
 use Rattle.language.specs.declared.Start.TheVariants.{Any}
-use Rattle.language.specs.Words.{is, among}
-use Rattle.language.specs.Pieces.{Role, statement, item, opening, Piece, PieceOf, at, Spelling}
+use Rattle.language.specs.Words.{among}
+use Rattle.language.specs.Pieces.{Role, at, Spelling}
 use Rattle.language.specs.Token.{Token}
 use Rattle.language.specs.Beginning.{Beginning, a_block, an_empty, a_variable, an_if, a_do, a_while, a_for, a_continue, a_break, a_return, a_throw, a_switch, a_try, a_debugger, a_function, a_class, an_expression, is_own, statement_words, declaration_words, statement_signs, beginning_among, beginning_by, beginning_of}
 use Rattle.language.specs.Promises.{IsDetermined, ReadBy}
 use Rattle.language.specs.Following.{AbsentPartsWhere}
-use Rattle.language.specs.Grammar.{ways, spellings, can_run}
+use Rattle.language.specs.Grammar.{ways, can_run}
 use Rattle.language.specs.Derivation.{Spells, direct, Runs, step, token, Placed, place}
 use Rattle.language.proofs.Domination.{settled, fits}
 use Rattle.language.proofs.Begins.{Each, among_by, goes_to, retell}
@@ -117,18 +115,106 @@ row : {d r : Bool} {c : Class} {w : List ℕ} {b : Beginning} → c ≡ own_clas
 row p q s h = record { class = p; text = q; stands = s }
 
 token_begun : (d r : Bool) (c : Class) (w : List ℕ) → Row d r c w (beginning_by d r c w)
-token_begun true true Name w = by_row (Row true true Name) w (declaration_words ++ statement_words true) none_begun
-    ((row refl refl refl, tt), ((row refl refl refl, tt), ((row refl refl refl, (row refl refl refl, tt)), ((row refl refl refl, tt), ((row refl refl refl, tt), ((row refl refl refl, tt), ((row refl refl refl, tt), ((row refl refl refl, tt), ((row refl refl refl, tt),
-    ((row refl refl refl, tt), ((row refl refl refl, tt), ((row refl refl refl, tt), ((row refl refl refl, tt), ((row refl refl refl, tt), ((row refl refl refl, tt), tt)))))))))))))))
-token_begun true false Name w = by_row (Row true false Name) w (declaration_words ++ statement_words false) none_begun
-    ((row refl refl refl, tt), ((row refl refl refl, tt), ((row refl refl refl, (row refl refl refl, tt)), ((row refl refl refl, tt), ((row refl refl refl, tt), ((row refl refl refl, tt), ((row refl refl refl, tt), ((row refl refl refl, tt), ((row refl refl refl, tt),
-    ((row refl refl refl, tt), ((none_begun, tt), ((row refl refl refl, tt), ((row refl refl refl, tt), ((row refl refl refl, tt), ((row refl refl refl, tt), tt)))))))))))))))
-token_begun false true Name w = by_row (Row false true Name) w (statement_words true) none_begun
-    ((row refl refl refl, tt), ((row refl refl refl, tt), ((row refl refl refl, tt), ((row refl refl refl, tt), ((row refl refl refl, tt), ((row refl refl refl, tt), ((row refl refl refl, tt),
-    ((row refl refl refl, tt), ((row refl refl refl, tt), ((row refl refl refl, tt), ((row refl refl refl, tt), ((row refl refl refl, tt), tt))))))))))))
-token_begun false false Name w = by_row (Row false false Name) w (statement_words false) none_begun
-    ((row refl refl refl, tt), ((row refl refl refl, tt), ((row refl refl refl, tt), ((row refl refl refl, tt), ((row refl refl refl, tt), ((row refl refl refl, tt), ((row refl refl refl, tt),
-    ((none_begun, tt), ((row refl refl refl, tt), ((row refl refl refl, tt), ((row refl refl refl, tt), ((row refl refl refl, tt), tt))))))))))))
+token_begun true true Name w = by_row (Row true true Name) w (declaration_words ++ statement_words true) none_begun (
+  (row refl refl refl, tt),
+  (
+    (row refl refl refl, tt),
+    (
+      (row refl refl refl, (row refl refl refl, tt)),
+      (
+        (row refl refl refl, tt),
+        (
+          (row refl refl refl, tt),
+          (
+            (row refl refl refl, tt),
+            (
+              (row refl refl refl, tt),
+              (
+                (row refl refl refl, tt),
+                (
+                  (row refl refl refl, tt),
+                  ((row refl refl refl, tt), ((row refl refl refl, tt), ((row refl refl refl, tt), ((row refl refl refl, tt), ((row refl refl refl, tt), ((row refl refl refl, tt), tt)))))),
+                ),
+              ),
+            ),
+          ),
+        ),
+      ),
+    ),
+  ),
+)
+token_begun true false Name w = by_row (Row true false Name) w (declaration_words ++ statement_words false) none_begun (
+  (row refl refl refl, tt),
+  (
+    (row refl refl refl, tt),
+    (
+      (row refl refl refl, (row refl refl refl, tt)),
+      (
+        (row refl refl refl, tt),
+        (
+          (row refl refl refl, tt),
+          (
+            (row refl refl refl, tt),
+            (
+              (row refl refl refl, tt),
+              (
+                (row refl refl refl, tt),
+                (
+                  (row refl refl refl, tt),
+                  ((row refl refl refl, tt), ((none_begun, tt), ((row refl refl refl, tt), ((row refl refl refl, tt), ((row refl refl refl, tt), ((row refl refl refl, tt), tt)))))),
+                ),
+              ),
+            ),
+          ),
+        ),
+      ),
+    ),
+  ),
+)
+token_begun false true Name w = by_row (Row false true Name) w (statement_words true) none_begun (
+  (row refl refl refl, tt),
+  (
+    (row refl refl refl, tt),
+    (
+      (row refl refl refl, tt),
+      (
+        (row refl refl refl, tt),
+        (
+          (row refl refl refl, tt),
+          (
+            (row refl refl refl, tt),
+            (
+              (row refl refl refl, tt),
+              ((row refl refl refl, tt), ((row refl refl refl, tt), ((row refl refl refl, tt), ((row refl refl refl, tt), ((row refl refl refl, tt), tt))))),
+            ),
+          ),
+        ),
+      ),
+    ),
+  ),
+)
+token_begun false false Name w = by_row (Row false false Name) w (statement_words false) none_begun (
+  (row refl refl refl, tt),
+  (
+    (row refl refl refl, tt),
+    (
+      (row refl refl refl, tt),
+      (
+        (row refl refl refl, tt),
+        (
+          (row refl refl refl, tt),
+          (
+            (row refl refl refl, tt),
+            (
+              (row refl refl refl, tt),
+              ((none_begun, tt), ((row refl refl refl, tt), ((row refl refl refl, tt), ((row refl refl refl, tt), ((row refl refl refl, tt), tt))))),
+            ),
+          ),
+        ),
+      ),
+    ),
+  ),
+)
 token_begun d r Punctuator w = by_row (Row d r Punctuator) w statement_signs none_begun ((row refl refl refl, tt), ((row refl refl refl, tt), tt))
 token_begun d r _ w = none_begun
 

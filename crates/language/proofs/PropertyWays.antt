@@ -1,36 +1,28 @@
 -- Properties, members of classes and their keys: what spells them, by their flags.
-use Rattle.std.proofs.Common.{◌≡◌, ℕ, Bool, true, false, cond, List, [], ◌∷◌, ◌++◌, refl, sym, ap, ◌∙◌, subst}
-use Rattle.std.specs.Prelude.{IsTrue, codes, not, ◌&&◌, ◌||◌}
-use Rattle.std.proofs.lemmas.Bool.{and_parts, and_from, false≢true}
-use Rattle.tokens.specs.declared.token.Class.{Class}
-use Rattle.tokens.specs.declared.token.Class.TheVariants.{Name, Punctuator, Number, Text, Template, End}
-use Rattle.tokens.specs.declared.token.Goal.TheVariants.{Div}
+use Rattle.std.proofs.Common.{◌≡◌, ℕ, Bool, true, false, cond, List, [], ◌∷◌, ◌++◌, refl, ap, ◌∙◌, subst}
+use Rattle.std.specs.Prelude.{not, ◌&&◌, ◌||◌}
 use Rattle.tree.specs.declared.kind.Kind.{Kind}
-use Rattle.tree.specs.declared.kind.Kind.TheVariants.{Identifier, Literal, Property, MethodDefinition, AssignmentPattern}
+use Rattle.tree.specs.declared.kind.Kind.TheVariants.{Identifier, Property, MethodDefinition, AssignmentPattern}
 use Rattle.tree.specs.declared.kind.Flags.{Flags}
 use Rattle.tree.specs.declared.kind.Form.{Form}
 use Rattle.tree.specs.declared.kind.Form.TheVariants.{Init, Get, Set, Method, Shorthand, Constructor}
 use Rattle.tree.specs.declared.kind.Pair.{Pair}
 use Rattle.tree.specs.Tree.{Tree, node, Parts, none, part, gap, kind_of, text_of, bare, bare_parts, plain}
-use Rattle.tree.specs.Uses.{is_lean, used_flags}
 use Rattle.tree.proofs.Lean.{lean_flags, lean_text}
-use Rattle.language.specs.declared.Rank.TheVariants.{Expression, Primary}
+use Rattle.language.specs.declared.Rank.TheVariants.{Expression}
 use Rattle.language.specs.declared.Start.TheVariants.{Any}
 use Rattle.language.specs.FirstPart.{lead, others}
-use Rattle.language.specs.Words.{is, literal_class, is_name, is_identifier}
-use Rattle.language.specs.Pieces.{Role, name, key, echo, property, pattern_property, element, method, member, Piece, PieceOf, tok, Spelling, at, only, put, put_at, sign, term, sp, nothing, with_default}
+use Rattle.language.specs.Words.{is, is_identifier}
+use Rattle.language.specs.Pieces.{Role, name, key, echo, property, pattern_property, element, method, member, Piece, Spelling, put, put_at, sign, term, sp, nothing, with_default}
 use Rattle.language.specs.Statements.{is_string_literal, members, class_members}
 use Rattle.language.specs.Strings.{literal_units}
 use Rattle.language.specs.Expressions.{assignment, keyed, properties, shorthand_pattern, pattern_properties}
 use Rattle.language.specs.Token.{Token}
-use Rattle.language.specs.Promises.{is_free, IsDetermined, FoundAt}
-use Rattle.language.specs.Grammar.{ways, spellings, keys}
-use Rattle.language.specs.Derivation.{Among, first, Reads, Spells, direct, Runs, done, step, token, Placed, placed}
-use Rattle.language.proofs.Domination.{settled}
-use Rattle.language.proofs.Viewed.{way_of, one, cases, unless}
-use Rattle.language.proofs.Productions.{way_from, runs_can, in_true, in_false}
+use Rattle.language.specs.Promises.{IsDetermined}
+use Rattle.language.specs.Grammar.{ways, spellings}
+use Rattle.language.specs.Derivation.{Among, Spells, direct, Runs, Placed}
+use Rattle.language.proofs.Viewed.{way_of}
 use Rattle.language.proofs.Begins.{goes_to, retell}
-use Rattle.language.proofs.Running.{run_none, run_token}
 use Rattle.language.proofs.TwoSides.{same_node}
 use Rattle.language.proofs.Stated.{pieces_of_one}
 

@@ -1,19 +1,16 @@
 -- Statements whose pieces depend on which parts there are, as pieces that a parser reads one behind the other.
-use Rattle.std.proofs.Common.{◌≡◌, ℕ, Bool, true, false, cond, List, [], ◌∷◌, ◌++◌, refl, sym, ap, ◌∙◌, subst}
-use Rattle.std.specs.Prelude.{codes, nat_le}
-use Rattle.tree.specs.declared.kind.Pair.{Pair}
-use Rattle.tree.specs.Tree.{Tree, node, Parts, none, part, gap, bare_parts}
-use Rattle.language.specs.declared.Rank.TheVariants.{Expression, LeftHandSide}
+use Rattle.std.proofs.Common.{◌≡◌, ℕ, Bool, true, false, cond, List, [], ◌∷◌, refl, ap}
+use Rattle.std.specs.Prelude.{nat_le}
+use Rattle.tree.specs.Tree.{Parts, none, part, gap, bare_parts}
+use Rattle.language.specs.declared.Rank.TheVariants.{Expression}
 use Rattle.language.specs.declared.Start.TheVariants.{Any}
 use Rattle.language.specs.FirstPart.{others}
 use Rattle.language.specs.Edges.{ends_in_if}
-use Rattle.language.specs.Pieces.{Role, expr, name, body, class_body, statement, block, switch_case, handler, Piece, PieceOf, unbroken, absent, never, lay, sp, sign, term, put, nothing, parameters}
-use Rattle.language.specs.Statements.{whole, lines, defaults, behind_word}
-use Rattle.language.specs.Expressions.{given}
+use Rattle.language.specs.Pieces.{statement, block, switch_case, handler, Piece, absent, sp, sign, term, put, nothing}
+use Rattle.language.specs.Statements.{whole, lines, defaults}
 use Rattle.language.specs.Token.{Token}
 use Rattle.language.specs.Promises.{IsDetermined}
-use Rattle.language.specs.Grammar.{ways, can_run}
-use Rattle.language.specs.Derivation.{Runs}
+use Rattle.language.specs.Grammar.{can_run}
 use Rattle.language.proofs.Begins.{goes_to}
 use Rattle.language.proofs.Productions.{runs_can}
 use Rattle.language.proofs.Stated.{behind_brace, condition, behind_if, behind_try, behind_switch}

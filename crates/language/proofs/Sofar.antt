@@ -1,24 +1,21 @@
 -- Pieces that are read one behind the other: what is read so far, and what is left. Whatever runs over what is left completes it, and
 -- whatever runs over the whole is completed so.
-use Rattle.std.proofs.Common.{◌≡◌, ℕ, ◌-◌, ◌≤◌, max, Bool, true, false, List, [], ◌∷◌, ◌++◌, refl, sym, ap, ◌∙◌, subst, arith, append_assoc}
+use Rattle.std.proofs.Common.{◌≡◌, ℕ, ◌≤◌, List, [], ◌∷◌, ◌++◌, refl, sym, ap, ◌∙◌, subst, arith, append_assoc}
 use Rattle.std.specs.Prelude.{IsTrue}
 use Rattle.std.proofs.lemmas.List.{append-nil}
 use Rattle.tokens.specs.declared.token.Class.{Class}
 use Rattle.tokens.specs.declared.token.Goal.{Goal}
 use Rattle.tokens.specs.Goals.{allows}
 use Rattle.tree.specs.declared.kind.Pair.{Pair}
-use Rattle.tree.specs.Tree.{Tree, Parts, none, part, gap, height, parts_height}
-use Rattle.language.specs.declared.Rank.{Rank}
-use Rattle.language.specs.declared.Start.{Start}
-use Rattle.language.specs.Pieces.{Role, expr, PieceOf, Hint, Ending, tok, ending, lay, sub, absent}
+use Rattle.tree.specs.Tree.{Tree, Parts, none, part, gap, parts_height}
+use Rattle.language.specs.Pieces.{Role, PieceOf, Hint, Ending, tok, ending, lay, sub, absent}
 use Rattle.language.specs.Token.{Token}
-use Rattle.language.specs.Promises.{IsDetermined, Stops, Found, Absent, AbsentWithin, FoundAt, AbsentAt, AbsentAtWithin}
+use Rattle.language.specs.Promises.{IsDetermined}
 use Rattle.language.specs.Following.{FoundWhere, AbsentWhere, AbsentWhereWithin, FoundPartsWhere, AbsentPartsWhere, AbsentPartsWhereWithin}
 use Rattle.language.specs.Grammar.{ways}
 use Rattle.language.specs.Derivation.{Reads, Spells, Runs, done, step, opened, closed, within, missing, Step, token, laid}
 use Rattle.language.proofs.Begins.{retell}
 use Rattle.language.proofs.Running.{run_none, run_part, run_the_part, run_the_gap}
-use Rattle.language.proofs.Sole.{Anyhow}
 
 module _ (S : Type 0) (Next : S → Token → S → Type 0) (behind : S → Token) (det : IsDetermined S Next behind) where
   -- what runs over the rest

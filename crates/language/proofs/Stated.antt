@@ -1,24 +1,24 @@
 -- The view of the table of statements and declarations: those whose first token is their own, by their kind; labels, expressions, directives.
-use Rattle.std.proofs.Common.{◌≡◌, ℕ, Bool, true, false, cond, List, [], ◌∷◌, ◌++◌, refl, sym, ap, ◌∙◌, subst}
+use Rattle.std.proofs.Common.{◌≡◌, ℕ, Bool, true, false, cond, List, [], ◌∷◌, ◌++◌, refl, ap}
 use Rattle.std.specs.Prelude.{codes, nat_le, ◌||◌}
 use Rattle.tokens.specs.declared.token.Class.{Class}
 use Rattle.tokens.specs.declared.token.Class.TheVariants.{Name, Punctuator}
 use Rattle.tree.specs.declared.kind.Kind.{Kind}
 use Rattle.tree.specs.declared.kind.Kind.TheVariants.{ExpressionStatement, BlockStatement, EmptyStatement, DebuggerStatement, ReturnStatement, ThrowStatement, BreakStatement, ContinueStatement, LabeledStatement, IfStatement, SwitchStatement, TryStatement, WhileStatement, DoWhileStatement, ForStatement, ForInStatement, ForOfStatement, VariableDeclaration, FunctionDeclaration, ClassDeclaration}
 use Rattle.tree.specs.declared.kind.Flags.{Flags}
-use Rattle.tree.specs.Tree.{Tree, node, Parts, none, part, gap}
+use Rattle.tree.specs.Tree.{node, Parts, none, part, gap}
 use Rattle.language.specs.declared.Rank.TheVariants.{Expression, Assignment, Grouped, Primary, LeftHandSide}
 use Rattle.language.specs.declared.Start.TheVariants.{Any, Statement}
 use Rattle.language.specs.declared.Edge.TheVariants.{Closed, Other}
 use Rattle.language.specs.FirstPart.{lead, others}
 use Rattle.language.specs.Words.{is, among}
 use Rattle.language.specs.Edges.{last_edge, ends_in_if}
-use Rattle.language.specs.Pieces.{Role, expr, name, quoted, body, class_body, statement, item, opening, block, head, declarator, switch_case, handler, of_do, line, deeper, shallower, Piece, tok, unbroken, ending, put, absent, never, lay, Spelling, at, only, sign, term, sp, nothing, is_none, parameters}
+use Rattle.language.specs.Pieces.{Role, expr, name, quoted, body, class_body, statement, item, opening, block, head, declarator, switch_case, handler, of_do, line, deeper, shallower, Piece, tok, unbroken, ending, put, absent, lay, Spelling, at, only, sign, term, sp, nothing, is_none, parameters}
 use Rattle.language.specs.Statements.{statements, items, openings, whole, lines, declarators, is_declaration, for_left, defaults, behind_word, end_of, first_is_string}
-use Rattle.language.specs.Expressions.{given, named}
+use Rattle.language.specs.Expressions.{given}
 use Rattle.language.specs.Beginning.{Beginning, a_block, an_empty, a_variable, an_if, a_do, a_while, a_for, a_continue, a_break, a_return, a_throw, a_switch, a_try, a_debugger, a_function, a_class, an_expression, is_own}
 use Rattle.language.specs.Grammar.{spellings, can_run}
-use Rattle.language.specs.Derivation.{Among, first, later}
+use Rattle.language.specs.Derivation.{Among, first}
 use Rattle.language.proofs.Viewed.{one, cases, unless}
 use Rattle.language.proofs.Productions.{in_true, in_false}
 use Rattle.language.proofs.Begins.{among_by}

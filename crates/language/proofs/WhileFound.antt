@@ -1,5 +1,5 @@
 -- A `while`, from its parts: how the lemmas on pieces, on what follows and on first tokens answer a statement's promise.
-use Rattle.std.proofs.Common.{◌≡◌, ℕ, ◌-◌, Bool, true, false, List, [], ◌∷◌, ◌++◌, refl, subst}
+use Rattle.std.proofs.Common.{◌≡◌, ℕ, Bool, true, List, [], ◌∷◌, ◌++◌, refl}
 use Rattle.std.specs.Prelude.{codes}
 use Rattle.tokens.specs.declared.token.Class.TheVariants.{Punctuator}
 use Rattle.tokens.specs.declared.token.Goal.{Goal}
@@ -9,18 +9,18 @@ use Rattle.tree.specs.declared.kind.Pair.{Pair}
 use Rattle.tree.specs.Tree.{Tree, node, Parts, none, part, plain}
 use Rattle.language.specs.declared.Rank.TheVariants.{Expression}
 use Rattle.language.specs.declared.Start.TheVariants.{Any}
-use Rattle.language.specs.Edges.{ends_in_if, last_ends_in_if}
+use Rattle.language.specs.Edges.{last_ends_in_if}
 use Rattle.language.specs.Pieces.{Role, expr, statement, PieceOf, tok, sub, lay, space}
 use Rattle.language.specs.Token.{Token}
 use Rattle.language.specs.Beginning.{a_while, beginning_of}
-use Rattle.language.specs.Promises.{IsDetermined, ReadBy, Found, Absent, AbsentWithin}
-use Rattle.language.specs.Following.{IsAlike, Followed, Finished, FoundWhere, AbsentWhere, AbsentWhereWithin, FoundPartsWhere, AbsentPartsWhere}
+use Rattle.language.specs.Promises.{IsDetermined, ReadBy, Found, Absent}
+use Rattle.language.specs.Following.{IsAlike, Followed, Finished, FoundWhere, AbsentWhere}
 use Rattle.language.specs.Derivation.{Reads, Placed}
 use Rattle.language.proofs.Stated.{Stands}
 use Rattle.language.proofs.OwnWays.{own_sole}
-use Rattle.language.proofs.Sole.{sole_found, sole_absent, sole_deep}
-use Rattle.language.proofs.Sofar.{Sofar, and_then, lay_on, token_on, part_on, part_missing, part_deep, all_read, refused, too_deep}
-use Rattle.language.proofs.Fitting.{CannotGoOn, found_whole, absent_whole, deep_whole, before_token, at_last}
+use Rattle.language.proofs.Sole.{sole_found, sole_absent}
+use Rattle.language.proofs.Sofar.{Sofar, and_then, lay_on, token_on, part_on, part_missing, all_read, refused}
+use Rattle.language.proofs.Fitting.{found_whole, absent_whole, before_token, at_last}
 
 -- what stands behind the word, and behind its `(`; behind its expression and behind its `)`
 abbrev while_pieces : Bool → List (PieceOf Role)

@@ -1,13 +1,11 @@
 -- What a function promises that reads what ends where the next token says: a statement, a case, a declarator, an item of a list. `Fine`
 -- says what holds of such a node and of the place behind it, once something follows that may.
-use Rattle.std.specs.Prelude.{◌≡◌, ℕ, ◌≤◌, Bool, true, false, not, cond, ◌&&◌, ◌||◌, List, [], ◌∷◌, IsTrue}
-use Rattle.tokens.specs.declared.token.Class.{Class}
-use Rattle.tokens.specs.declared.token.Class.TheVariants.{Name, Punctuator}
+use Rattle.std.specs.Prelude.{◌≡◌, ℕ, ◌≤◌, Bool, true, not, ◌&&◌, ◌||◌, List, [], ◌∷◌}
+use Rattle.tokens.specs.declared.token.Class.TheVariants.{Name}
 use Rattle.tokens.specs.declared.token.Goal.TheVariants.{RegExp}
 use Rattle.tokens.specs.Alphabet.{one_of, begins_with}
-use Rattle.tree.specs.declared.kind.Kind.{Kind}
 use Rattle.tree.specs.declared.kind.Pair.{Pair}
-use Rattle.tree.specs.Tree.{Tree, node, Parts, height, parts_height, plain}
+use Rattle.tree.specs.Tree.{Tree, Parts, height, parts_height}
 use Rattle.language.specs.Words.{is, among}
 use Rattle.language.specs.Pieces.{Role, PieceOf}
 use Rattle.language.specs.Token.{Token, same_class}
