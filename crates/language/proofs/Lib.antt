@@ -80,3 +80,4 @@ pub mod ItemTokens
 pub mod LineLists
 pub mod Shapes
 pub mod WhileFound
+pub mod ItemExamples

@@ -42,10 +42,6 @@ module _ (S : Type 0) (Next : S → Token → S → Type 0) (behind : S → Toke
     pub read : ReadBy S Next behind RegExp e token mid
     pub ends : ends_list token ≡ true
 
-  -- something follows the statement that may
-  abbrev pub Finished : Tree → S → Type 0
-  Finished n e = Followed (ends_in_if n) e
-
   -- the only thing that the position spells here with what may follow; nothing; nothing within the limits
   pub record FoundWhere (Fine : Tree → S → Type 0) (o : ℕ) (a : Role) (s e : S) (n : Tree) (P : List Pair) : Type 0 where
     pub spelled : Spells ways S Next behind o a n s e P
@@ -67,3 +63,7 @@ module _ (S : Type 0) (Next : S → Token → S → Type 0) (behind : S → Toke
 
   pub record AbsentPartsWhereWithin (Fine : Parts → S → Type 0) (o h : ℕ) (pieces : Parts → List (PieceOf Role)) (s : S) : Type 0 where
     pub nothing : (e' : S) (ps' : Parts) (P' : List Pair) → Runs ways S Next behind o (pieces ps') ps' s e' P' → Fine ps' e' → parts_height ps' ≤ h → ⊥
+
+-- something follows the statement that may
+abbrev pub Finished : (S : Type 0) (Next : S → Token → S → Type 0) (behind : S → Token) → Tree → S → Type 0
+Finished S Next behind n e = Followed S Next behind (ends_in_if n) e
