@@ -81,3 +81,4 @@ pub mod LineLists
 pub mod Shapes
 pub mod WhileFound
 pub mod ItemExamples
+pub mod Prologues

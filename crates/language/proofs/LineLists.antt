@@ -34,12 +34,6 @@ plain_lines a zs none = zs
 plain_lines a zs (part n ps) = sub a ∷ plain_lines a zs ps
 plain_lines a zs (gap ps) = never ∷ []
 
--- the same of a script or a body, whose first items may be directives
-abbrev pub plain_prologue : Bool → Bool → List (PieceOf Role) → Parts → List (PieceOf Role)
-plain_prologue r b zs none = zs
-plain_prologue r b zs (part n ps) = sub (cond b (opening r) (item r)) ∷ plain_prologue r (b && is_directive n) zs ps
-plain_prologue r b zs (gap ps) = never ∷ []
-
 -- no part, and what closes the list
 abbrev pub closed_by : List (PieceOf Role) → Parts → List (PieceOf Role)
 closed_by zs none = zs
@@ -49,9 +43,6 @@ closed_by zs (gap ps) = never ∷ []
 -- the token that closes a block or a body
 abbrev pub closing_brace : List (PieceOf Role)
 closing_brace = tok Punctuator (codes "}") ∷ []
-
-directive_bare : (n : Tree) → is_directive (bare n) ≡ is_directive n
-directive_bare (node k w g s e ps) = refl
 
 either_follows : (b : Bool) (t : Token) → begins_item t ≡ true → may_follow b t ≡ true
 either_follows b t h = or_true (begins_item t) _ h
@@ -150,7 +141,8 @@ module _ (S : Type 0) (Next : S → Token → S → Type 0) (behind : S → Toke
     pub closes : {o : ℕ} {b : Bool} {k e : S} {P : List Pair} → Runs ways S Next behind o zs none k e P → End e → Followed S Next behind b k
     pub no_item : {o : ℕ} {k e : S} {P : List Pair} → Runs ways S Next behind o zs none k e P → End e → Started S Next behind det k → ⊥
 
-  started_follows : {b : Bool} {k : S} → Started S Next behind det k → Followed S Next behind b k
+  -- so what begins an item may follow a statement
+  pub started_follows : {b : Bool} {k : S} → Started S Next behind det k → Followed S Next behind b k
   started_follows {b} u = record { token = u.token; mid = u.mid; read = u.read; follows = either_follows b u.token u.starts }
 
   module _ {End : S → Type 0} {zs : List (PieceOf Role)} (closing : Closing End zs) where
