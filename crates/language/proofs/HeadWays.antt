@@ -121,7 +121,7 @@ module _ (S : Type 0) (Next : S → Token → S → Type 0) (behind : S → Toke
   }
 
   -- two signs at a place are the same
-  two_signs : {v w : List ℕ} {s m k : S} {t u : Token} → IsTrue (allows Div Punctuator v) → IsTrue (allows Div Punctuator w) → Reads S Next behind Punctuator v s t m → Reads S Next behind Punctuator w s u k → (v ≡ w) × (m ≡ k)
+  pub two_signs : {v w : List ℕ} {s m k : S} {t u : Token} → IsTrue (allows Div Punctuator v) → IsTrue (allows Div Punctuator w) → Reads S Next behind Punctuator v s t m → Reads S Next behind Punctuator w s u k → (v ≡ w) × (m ≡ k)
   two_signs {v} {w} {s} {m} {k} {t} {u} al al' a b =
       let same = det.same Div s t u m k a.next b.next (subst (λ x. IsTrue (allows Div x t.text)) (sym a.class) (subst (λ x. IsTrue (allows Div Punctuator x)) (sym a.text) al)) (subst (λ x. IsTrue (allows Div x u.text)) (sym b.class) (subst (λ x. IsTrue (allows Div Punctuator x)) (sym b.text) al')) in
       (sym a.text ∙ ap (λ (x : Token). x.text) same.0 ∙ b.text, same.1)

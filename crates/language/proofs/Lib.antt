@@ -82,3 +82,4 @@ pub mod Shapes
 pub mod WhileFound
 pub mod ItemExamples
 pub mod Prologues
+pub mod CommaLists
