@@ -49,21 +49,23 @@ module _ (S : Type 0) (Next : S → Token → S → Type 0) (behind : S → Toke
     pub nothing : (a : Role) (e' : S) (n' : Tree) (P' : List Pair) → r (kind_of n') ≡ Some a → Spells ways S Next behind o a n' s e' P' → Separated w e' → height n' ≤ h → ⊥
 
   -- an item of some role, and the rest
-  record AnItem (o : ℕ) (x : Option Role) (qs : List (PieceOf Role)) (n : Tree) (ps : Parts) (s e : S) (P : List Pair) : Type 0 where
-    role : Role
-    it_is : x ≡ Some role
-    mid : S
-    one : List Pair
-    more : List Pair
-    pairs : P ≡ one ++ more
-    spelled : Spells ways S Next behind o role n s mid one
-    runs : Runs ways S Next behind o qs ps mid e more
+  pub record AnItem (o : ℕ) (x : Option Role) (qs : List (PieceOf Role)) (n : Tree) (ps : Parts) (s e : S) (P : List Pair) : Type 0 where
+    pub role : Role
+    pub it_is : x ≡ Some role
+    pub mid : S
+    pub one : List Pair
+    pub more : List Pair
+    pub pairs : P ≡ one ++ more
+    pub spelled : Spells ways S Next behind o role n s mid one
+    pub runs : Runs ways S Next behind o qs ps mid e more
 
-  an_item : {o : ℕ} {qs : List (PieceOf Role)} {n : Tree} {ps : Parts} {s e : S} {P : List Pair} (x : Option Role) → Runs ways S Next behind o (settle_piece Expression true Any (put_at x) ∷ qs) (part n ps) s e P → AnItem o x qs n ps s e P
+  -- what runs over it
+  pub an_item : {o : ℕ} {qs : List (PieceOf Role)} {n : Tree} {ps : Parts} {s e : S} {P : List Pair} (x : Option Role) → Runs ways S Next behind o (settle_piece Expression true Any (put_at x) ∷ qs) (part n ps) s e P → AnItem o x qs n ps s e P
   an_item None d = absurd (run_never S Next behind d)
   an_item (Some a) d = let p = run_the_part S Next behind d in record { role = a; it_is = refl; mid = p.mid; one = p.one; more = p.more; pairs = p.pairs; spelled = p.spelled; runs = p.runs }
 
-  item_runs : {o : ℕ} {a : Role} {qs : List (PieceOf Role)} {n : Tree} {ps : Parts} {s m e : S} {P Q : List Pair} (x : Option Role) → x ≡ Some a → Spells ways S Next behind o a n s m P → Runs ways S Next behind o qs ps m e Q →
+  -- an item and what follows it
+  pub item_runs : {o : ℕ} {a : Role} {qs : List (PieceOf Role)} {n : Tree} {ps : Parts} {s m e : S} {P Q : List Pair} (x : Option Role) → x ≡ Some a → Spells ways S Next behind o a n s m P → Runs ways S Next behind o qs ps m e Q →
       Runs ways S Next behind o (settle_piece Expression true Any (put_at x) ∷ qs) (part n ps) s e (P ++ Q)
   item_runs None h p d = cc
   item_runs {o} {a} {n = n} {s = s} {m = m} {P = P} (Some b) h p d = let same : a ≡ b = cc in within (subst (λ v. Spells ways S Next behind o v n s m P) same p) d

@@ -83,3 +83,4 @@ pub mod WhileFound
 pub mod ItemExamples
 pub mod Prologues
 pub mod CommaLists
+pub mod HoleLists
