@@ -1,7 +1,6 @@
 -- Lists with commas, as a loop reads them: before an item; behind one, where a comma or the closing token stands.
-use Rattle.std.proofs.Common.{◌≡◌, ℕ, ◌≤◌, Bool, true, false, cond, List, [], ◌∷◌, ◌++◌, refl, sym, ap, ◌∙◌, subst, arith, append_assoc, ◌⊎◌, inl, inr}
+use Rattle.std.proofs.Common.{◌≡◌, ℕ, ◌≤◌, Bool, true, false, cond, List, [], ◌∷◌, ◌++◌, refl, sym, ap, ◌∙◌, subst, arith}
 use Rattle.std.specs.Prelude.{IsTrue, Option, Some, None, codes}
-use Rattle.std.proofs.lemmas.Bool.{false≢true}
 use Rattle.tokens.specs.declared.token.Class.TheVariants.{Punctuator}
 use Rattle.tokens.specs.declared.token.Goal.TheVariants.{Div}
 use Rattle.tokens.specs.Goals.{allows}
@@ -11,7 +10,7 @@ use Rattle.tree.specs.Tree.{Tree, node, Parts, none, part, gap, kind_of, height,
 use Rattle.language.specs.declared.Rank.TheVariants.{Expression}
 use Rattle.language.specs.declared.Start.TheVariants.{Any}
 use Rattle.language.specs.Words.{is_rest}
-use Rattle.language.specs.Pieces.{Role, Piece, PieceOf, tok, may, never, lay, sign, sp, put_at, nothing, is_none, separator, listed, settle_piece}
+use Rattle.language.specs.Pieces.{Role, Piece, PieceOf, tok, may, sign, sp, put_at, nothing, is_none, separator, listed, settle_piece}
 use Rattle.language.specs.Token.{Token}
 use Rattle.language.specs.Promises.{IsDetermined}
 use Rattle.language.specs.Following.{AbsentPartsWhere, AbsentPartsWhereWithin}
@@ -200,7 +199,6 @@ module _ (S : Type 0) (Next : S → Token → S → Type 0) (behind : S → Toke
         of e none P d le = let c = run_token S Next behind d in not_closed c.sign c.mid c.reads
         of e (gap ps) P d le = run_never S Next behind d
         of e (part (node c v g st en qs) ps) P d le = let u = an_item (r c) d in missed.nothing u.role u.mid (node c v g st en qs) u.one u.it_is u.spelled (separated r w c ps u.runs) (omega arith)
-
 
   module _ {Fine : Parts → S → Type 0} (r : Kind → Option Role) {w : List ℕ} {mid : S} where
     -- neither an item nor the closing token

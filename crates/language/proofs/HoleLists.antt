@@ -1,29 +1,28 @@
 -- Lists with commas and holes, as a loop reads them: before an element; behind one, where a comma or the closing token stands.
-use Rattle.std.proofs.Common.{◌≡◌, ℕ, ◌≤◌, Bool, true, false, cond, List, [], ◌∷◌, ◌++◌, refl, sym, ap, ◌∙◌, subst, arith, append_assoc, ◌⊎◌, inl, inr}
-use Rattle.std.specs.Prelude.{IsTrue, Option, Some, None, codes}
-use Rattle.std.proofs.lemmas.Bool.{false≢true}
+use Rattle.std.proofs.Common.{◌≡◌, ℕ, ◌≤◌, Bool, true, false, cond, List, [], ◌∷◌, ◌++◌, refl, sym, ap, ◌∙◌, subst, arith}
+use Rattle.std.specs.Prelude.{IsTrue, Option, Some, codes}
 use Rattle.tokens.specs.declared.token.Class.TheVariants.{Punctuator}
 use Rattle.tokens.specs.declared.token.Goal.TheVariants.{Div}
 use Rattle.tokens.specs.Goals.{allows}
 use Rattle.tree.specs.declared.kind.Kind.{Kind}
 use Rattle.tree.specs.declared.kind.Pair.{Pair}
-use Rattle.tree.specs.Tree.{Tree, node, Parts, none, part, gap, kind_of, height, parts_height, bare_parts}
+use Rattle.tree.specs.Tree.{Tree, node, Parts, none, part, gap, kind_of, parts_height, bare_parts}
 use Rattle.language.specs.declared.Rank.TheVariants.{Expression}
 use Rattle.language.specs.declared.Start.TheVariants.{Any}
 use Rattle.language.specs.Words.{is_rest}
-use Rattle.language.specs.Pieces.{Role, Piece, PieceOf, tok, may, never, lay, sign, sp, put_at, nothing, is_none, separator, elements, settle_piece}
+use Rattle.language.specs.Pieces.{Role, Piece, PieceOf, tok, may, sign, sp, nothing, is_none, separator, elements}
 use Rattle.language.specs.Token.{Token}
 use Rattle.language.specs.Promises.{IsDetermined}
 use Rattle.language.specs.Following.{AbsentPartsWhere, AbsentPartsWhereWithin}
 use Rattle.language.specs.Grammar.{ways}
-use Rattle.language.specs.Derivation.{Reads, Spells, Runs, step, within, missing, token, with_mark, without_mark, laid}
+use Rattle.language.specs.Derivation.{Reads, Spells, Runs, step, missing, token, with_mark, without_mark, laid}
 use Rattle.language.proofs.Begins.{goes_to, retell}
-use Rattle.language.proofs.Running.{ATrailing, with_it, without_it, run_token, run_laid, run_may, run_never, run_the_part, run_the_gap}
+use Rattle.language.proofs.Running.{ATrailing, with_it, without_it, run_token, run_laid, run_may, run_never, run_the_gap}
 use Rattle.language.proofs.Conditionals.{same_sign}
 use Rattle.language.proofs.HeadWays.{two_signs}
 use Rattle.language.proofs.Lists.{item_piece, element_pieces}
 use Rattle.language.proofs.LineLists.{closed_by}
-use Rattle.language.proofs.CommaLists.{Separated, by_comma, by_closing, ItemFound, ItemAbsent, ItemAbsentWithin, AnItem, an_item, item_runs}
+use Rattle.language.proofs.CommaLists.{Separated, by_comma, by_closing, ItemFound, ItemAbsent, ItemAbsentWithin, an_item, item_runs}
 use Rattle.language.proofs.Sofar.{Rest, Sofar, turned}
 
 -- what stands behind an element of this kind: a comma and the rest, perhaps a trailing one, and the closing token
@@ -187,7 +186,6 @@ module _ (S : Type 0) (Next : S → Token → S → Type 0) (behind : S → Toke
         of e none P d le = let c = run_token S Next behind d in not_closed c.sign c.mid c.reads
         of e (gap ps) P d le = let c = run_token S Next behind (run_the_gap S Next behind d) in no_hole c.sign c.mid c.reads
         of e (part (node c v g st en qs) ps) P d le = let u = an_item S Next behind det (r c) d in missed.nothing u.role u.mid (node c v g st en qs) u.one u.it_is u.spelled (elements_separated r w c ps u.runs) (omega arith)
-
 
   module _ {Fine : Parts → S → Type 0} (r : Kind → Option Role) {w : List ℕ} {mid : S} where
     -- neither an item nor the closing token

@@ -84,3 +84,4 @@ pub mod ItemExamples
 pub mod Prologues
 pub mod CommaLists
 pub mod HoleLists
+pub mod ParameterLists

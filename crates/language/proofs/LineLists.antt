@@ -1,18 +1,18 @@
 -- Lists of statements: a loop reads an item, as long as the next token doesn't end the list.
-use Rattle.std.proofs.Common.{◌≡◌, ℕ, Bool, true, false, cond, List, [], ◌∷◌, ◌++◌, refl, sym, ap, ◌∙◌, subst, append_assoc, arith, ◌≤◌}
-use Rattle.std.specs.Prelude.{IsTrue, codes, ◌||◌, ◌&&◌}
+use Rattle.std.proofs.Common.{◌≡◌, ℕ, Bool, true, false, List, [], ◌∷◌, ◌++◌, refl, sym, ap, ◌∙◌, subst, append_assoc, arith, ◌≤◌}
+use Rattle.std.specs.Prelude.{IsTrue, codes, ◌||◌}
 use Rattle.std.proofs.lemmas.Bool.{false≢true}
 use Rattle.tokens.specs.declared.token.Class.{Class}
 use Rattle.tokens.specs.declared.token.Class.TheVariants.{Name, Punctuator, Number, Text, Template, End}
 use Rattle.tokens.specs.declared.token.Goal.{Goal}
 use Rattle.tokens.specs.Goals.{allows}
 use Rattle.tree.specs.declared.kind.Pair.{Pair}
-use Rattle.tree.specs.Tree.{Tree, node, Parts, none, part, gap, parts_height, bare, bare_parts}
+use Rattle.tree.specs.Tree.{Tree, Parts, none, part, gap, parts_height, bare_parts}
 use Rattle.language.specs.declared.Rank.TheVariants.{Expression}
 use Rattle.language.specs.declared.Start.TheVariants.{Any}
 use Rattle.language.specs.Words.{among, is_reserved}
-use Rattle.language.specs.Pieces.{Role, item, opening, Piece, PieceOf, tok, sub, never, lay, line, shallower, sign}
-use Rattle.language.specs.Statements.{lines, is_directive}
+use Rattle.language.specs.Pieces.{Role, Piece, PieceOf, tok, sub, never, lay, line, shallower, sign}
+use Rattle.language.specs.Statements.{lines}
 use Rattle.language.specs.Token.{Token}
 use Rattle.language.specs.Beginning.{begins_item}
 use Rattle.language.specs.Promises.{IsDetermined, FoundParts}

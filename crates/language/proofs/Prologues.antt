@@ -1,12 +1,12 @@
 -- The items of a script or a body, of which the first may be directives: a loop reads them as it reads other lists of statements.
-use Rattle.std.proofs.Common.{◌≡◌, ℕ, ◌≤◌, Bool, true, false, cond, List, [], ◌∷◌, ◌++◌, refl, sym, ap, ◌∙◌, subst, append_assoc, arith}
-use Rattle.std.specs.Prelude.{codes, ◌&&◌}
-use Rattle.tokens.specs.declared.token.Class.TheVariants.{Punctuator, End}
+use Rattle.std.proofs.Common.{◌≡◌, ℕ, ◌≤◌, Bool, true, false, cond, List, [], ◌∷◌, ◌++◌, refl, sym, ap, subst, append_assoc, arith}
+use Rattle.std.specs.Prelude.{◌&&◌}
+use Rattle.tokens.specs.declared.token.Class.TheVariants.{End}
 use Rattle.tree.specs.declared.kind.Pair.{Pair}
 use Rattle.tree.specs.Tree.{Tree, node, Parts, none, part, gap, parts_height, bare, bare_parts}
 use Rattle.language.specs.declared.Rank.TheVariants.{Expression}
 use Rattle.language.specs.declared.Start.TheVariants.{Any}
-use Rattle.language.specs.Pieces.{Role, item, opening, Piece, PieceOf, tok, sub, never, lay, line, feed, deeper, shallower, sign}
+use Rattle.language.specs.Pieces.{Role, item, opening, Piece, PieceOf, tok, sub, never, lay, line, feed, shallower, sign}
 use Rattle.language.specs.Statements.{prologue, is_directive}
 use Rattle.language.specs.Token.{Token}
 use Rattle.language.specs.Promises.{IsDetermined}
