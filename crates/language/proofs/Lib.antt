@@ -85,3 +85,4 @@ pub mod Prologues
 pub mod CommaLists
 pub mod HoleLists
 pub mod ParameterLists
+pub mod Dangling
