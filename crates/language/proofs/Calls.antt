@@ -51,22 +51,22 @@ module _ (S : Type 0) (Next : S → Token → S → Type 0) (behind : S → Toke
   index_led (led_index k o c s tk b e) = record { kind = k; optional = o; computed = c; head = rank_is b; stands = tk; rest_is = e }
 
   -- the member on the spine of a whole that can't go on, and what stands in its brackets
-  record IndexOn (o : ℕ) (s0 : S) (y : Rank) (i : Bool) (f : Start) (n : Tree) (e : S) (P : List Pair) (m : Tree) (x : S) (Q : List Pair) (c : Rank) : Type 0 where
-    fits : IsTrue (takes Call c)
-    inner : Tree
-    place : S
-    closing : Token
-    to : S
-    pairs : List Pair
-    spelled : Spells ways S Next behind o (expr Expression true Any) inner x place pairs
-    stopped : Stops S Next behind Expression true inner place
-    closes : Reads S Next behind Punctuator (codes "]") place closing to
-    low : height inner ≤ height n - 1
-    leads : (st en : ℕ) (u : Tree) (to' : S) (U : List Pair) → inner ≡ u → to ≡ to' → pairs ≡ U → Placed S Next behind (expr y i f) (node MemberExpression [] computed_flags st en (part m (part u none))) s0 to' →
+  pub record IndexOn (o : ℕ) (s0 : S) (y : Rank) (i : Bool) (f : Start) (n : Tree) (e : S) (P : List Pair) (m : Tree) (x : S) (Q : List Pair) (c : Rank) : Type 0 where
+    pub fits : IsTrue (takes Call c)
+    pub inner : Tree
+    pub place : S
+    pub closing : Token
+    pub to : S
+    pub pairs : List Pair
+    pub spelled : Spells ways S Next behind o (expr Expression true Any) inner x place pairs
+    pub stopped : Stops S Next behind Expression true inner place
+    pub closes : Reads S Next behind Punctuator (codes "]") place closing to
+    pub low : height inner ≤ height n - 1
+    pub leads : (st en : ℕ) (u : Tree) (to' : S) (U : List Pair) → inner ≡ u → to ≡ to' → pairs ≡ U → Placed S Next behind (expr y i f) (node MemberExpression [] computed_flags st en (part m (part u none))) s0 to' →
         Leads S Next behind det o s0 y i f n e P (suffix_rank c) (node MemberExpression [] computed_flags st en (part m (part u none))) to' (Q ++ U)
 
   module _ {y : Rank} {i : Bool} {s0 mid x : S} {m : Tree} {t : Token} (r : ReadBy S Next behind Div mid t x) (is_op : operation t ≡ indexes) (goes : stops y i (edge m) (behind mid) t ≡ false) where
-    index_on : {o : ℕ} {f : Start} {n : Tree} {e : S} {P Q : List Pair} {c : Rank} → Stops S Next behind y i n e → Leads S Next behind det o s0 y i f n e P c m mid Q → IndexOn o s0 y i f n e P m x Q c
+    pub index_on : {o : ℕ} {f : Start} {n : Tree} {e : S} {P Q : List Pair} {c : Rank} → Stops S Next behind y i n e → Leads S Next behind det o s0 y i f n e P c m mid Q → IndexOn o s0 y i f n e P m x Q c
     index_on {c = c} st v =
         let on = led_on S Next behind det r is_op (λ q. cc) (goes_where_not S Next behind det y i r st goes) v.spelled v.grows in
         let led = index_led on.led in
@@ -215,18 +215,18 @@ module _ (S : Type 0) (Next : S → Token → S → Type 0) (behind : S → Toke
   tag_led (led_tag k tk b e) = record { kind = k; head = rank_is b; stands = tk; rest_is = e }
 
   -- the tagged template on the spine of a whole that can't go on
-  record TagOn (o : ℕ) (s0 : S) (y : Rank) (i : Bool) (f : Start) (n : Tree) (e : S) (P : List Pair) (m : Tree) (mid : S) (Q : List Pair) (c : Rank) : Type 0 where
-    fits : IsTrue (takes Call c)
-    template : Tree
-    to : S
-    pairs : List Pair
-    spelled : Spells ways S Next behind o quasi template mid to pairs
-    low : height template ≤ height n - 1
-    leads : (st en : ℕ) (u : Tree) (to' : S) (U : List Pair) → template ≡ u → to ≡ to' → pairs ≡ U → Placed S Next behind (expr y i f) (node TaggedTemplateExpression [] plain st en (part m (part u none))) s0 to' →
+  pub record TagOn (o : ℕ) (s0 : S) (y : Rank) (i : Bool) (f : Start) (n : Tree) (e : S) (P : List Pair) (m : Tree) (mid : S) (Q : List Pair) (c : Rank) : Type 0 where
+    pub fits : IsTrue (takes Call c)
+    pub template : Tree
+    pub to : S
+    pub pairs : List Pair
+    pub spelled : Spells ways S Next behind o quasi template mid to pairs
+    pub low : height template ≤ height n - 1
+    pub leads : (st en : ℕ) (u : Tree) (to' : S) (U : List Pair) → template ≡ u → to ≡ to' → pairs ≡ U → Placed S Next behind (expr y i f) (node TaggedTemplateExpression [] plain st en (part m (part u none))) s0 to' →
         Leads S Next behind det o s0 y i f n e P (suffix_rank c) (node TaggedTemplateExpression [] plain st en (part m (part u none))) to' (Q ++ U)
 
   module _ {y : Rank} {i : Bool} {s0 mid x : S} {m : Tree} {t : Token} (r : ReadBy S Next behind Div mid t x) (is_op : operation t ≡ tags) (goes : stops y i (edge m) (behind mid) t ≡ false) where
-    tag_on : {o : ℕ} {f : Start} {n : Tree} {e : S} {P Q : List Pair} {c : Rank} → Stops S Next behind y i n e → Leads S Next behind det o s0 y i f n e P c m mid Q → TagOn o s0 y i f n e P m mid Q c
+    pub tag_on : {o : ℕ} {f : Start} {n : Tree} {e : S} {P Q : List Pair} {c : Rank} → Stops S Next behind y i n e → Leads S Next behind det o s0 y i f n e P c m mid Q → TagOn o s0 y i f n e P m mid Q c
     tag_on {c = c} st v =
         let on = led_on S Next behind det r is_op (λ q. cc) (goes_where_not S Next behind det y i r st goes) v.spelled v.grows in
         let led = tag_led on.led in

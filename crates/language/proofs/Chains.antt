@@ -122,7 +122,8 @@ spine_led (led_index k o c s tk b e) h = cc
 spine_led (led_call k o s tk b e) h = cc
 spine_led (led_tag k tk b e) h = cc
 
-chains_led : {A : Type 0} {y : Rank} {i : Bool} {f : Start} {k : Kind} {w : List ℕ} {g : Flags} {ps : Parts} {b : Role} {rest : List (PieceOf Role)} → Led y i f k w g ps b rest chains → A
+-- nothing is led by what stands before `?.`
+pub chains_led : {A : Type 0} {y : Rank} {i : Bool} {f : Start} {k : Kind} {w : List ℕ} {g : Flags} {ps : Parts} {b : Role} {rest : List (PieceOf Role)} → Led y i f k w g ps b rest chains → A
 chains_led l = elim l [ ]
 
 member_flags : (g : Flags) (c o : Bool) → g.computed ≡ c → g.optional ≡ o → used_flags MemberExpression g ≡ record plain { computed = c; optional = o }

@@ -103,7 +103,8 @@ linked_chains (link_chained_call k o b e) = refl
 role_is : {y z : Rank} {i j : Bool} {f g : Start} → expr y i f ≡ expr z j g → (y ≡ z) × (i ≡ j)
 role_is {y} {z} {i} {j} e = let u : y ≡ z = cc in let v : i ≡ j = cc in (u, v)
 
-part_low : (ps : Parts) (n : Tree) (qs : Parts) → ps ≡ part n qs → height n ≤ parts_height ps
+-- a first part is no higher than all parts
+pub part_low : (ps : Parts) (n : Tree) (qs : Parts) → ps ≡ part n qs → height n ≤ parts_height ps
 part_low ps n qs e = let u : parts_height ps ≡ max (height n) (parts_height qs) = ap parts_height e in omega arith
 
 module _ (S : Type 0) (Next : S → Token → S → Type 0) (behind : S → Token) (det : IsDetermined S Next behind) where

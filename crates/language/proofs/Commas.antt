@@ -85,6 +85,10 @@ record CommaLed (y : Rank) (i : Bool) (f : Start) (k : Kind) (ps : Parts) (h : R
 comma_led : {y : Rank} {i : Bool} {f : Start} {k : Kind} {w : List ℕ} {g : Flags} {ps : Parts} {h : Rank} {j : Bool} {f' : Start} {rest : List (PieceOf Role)} → Led y i f k w g ps (expr h j f') rest sequences → CommaLed y i f k ps h rest
 comma_led (led_sequence k c tk b e) = record { kind = k; some = c; head = rank_is b; stands = tk; rest_is = e }
 
+-- the symbol of its head
+pub comma_head : {y : Rank} {i : Bool} {f : Start} {k : Kind} {w : List ℕ} {g : Flags} {ps : Parts} {h : Rank} {j : Bool} {f' : Start} {rest : List (PieceOf Role)} → Led y i f k w g ps (expr h j f') rest sequences → h ≡ Assignment
+comma_head l = (comma_led l).head
+
 -- the pieces behind the first expression
 abbrev pub comma_pieces : Bool → Start → Parts → List (PieceOf Role)
 comma_pieces i f ps = goes_to Expression i f (sequence (bare_parts ps))
@@ -96,7 +100,8 @@ joined_edge (part n none) u = refl
 joined_edge (part n (part l qs)) u = joined_edge (part l qs) u
 joined_edge (part n (gap qs)) u = joined_edge qs u
 
-last_edge_join : (qs : Parts) (u : Tree) (m : Tree) → last_edge (part m (join qs (part u none))) ≡ edge u
+-- the last part's edge, behind others
+pub last_edge_join : (qs : Parts) (u : Tree) (m : Tree) → last_edge (part m (join qs (part u none))) ≡ edge u
 last_edge_join qs u m = joined_edge (part m qs) u
 
 bare_some : (ps : Parts) → is_none (bare_parts ps) ≡ is_none ps
@@ -172,7 +177,7 @@ module _ (S : Type 0) (Next : S → Token → S → Type 0) (behind : S → Toke
   }
 
   -- where a comma is read, a sequence isn't at its end
-  comma_goes : {o : ℕ} {i : Bool} {f : Start} {n : Tree} {s e x : S} {P : List Pair} {t : Token} → Spells ways S Next behind o (expr Expression i f) n s e P → Stops S Next behind Expression i n e → ReadBy S Next behind Div e t x → operation t ≡ sequences → ⊥
+  pub comma_goes : {o : ℕ} {i : Bool} {f : Start} {n : Tree} {s e x : S} {P : List Pair} {t : Token} → Spells ways S Next behind o (expr Expression i f) n s e P → Stops S Next behind Expression i n e → ReadBy S Next behind Div e t x → operation t ≡ sequences → ⊥
   comma_goes {i = i} {n = n} {e = e} {x = x} {t = t} d st r op =
       let h : stops_at Expression i (standing (edge n) (behind e)) t (Some Expression) ≡ true = subst (λ v. stops_at Expression i (standing (edge n) (behind e)) t (symbol_of v t.after_break) ≡ true) op (st t x r) in
       let sign = reads_comma S Next behind r.next op in

@@ -77,32 +77,31 @@ module _ (S : Type 0) (Next : S → Token → S → Type 0) (behind : S → Toke
       subst (λ v. stops_at y i (Rattle.language.specs.Edges.standing (edge n) (behind s)) u (symbol_of v u.after_break) ≡ true) (sym op') (none_made (Rattle.language.specs.Edges.standing (edge n) (behind s)) u)
 
   -- the conditional on the spine of a whole that can't go on, with what stands behind `?` and behind `:`
-  record AskOn (o : ℕ) (s0 : S) (y : Rank) (i : Bool) (f : Start) (n : Tree) (e : S) (P : List Pair) (m : Tree) (x : S) (Q : List Pair) (c : Rank) : Type 0 where
-    h : Rank
-    g : Start
-    st : ℕ
-    en : ℕ
-    consequent : Tree
-    place : S
-    first_pairs : List Pair
-    colon : Token
-    next_place : S
-    alternate : Tree
-    to : S
-    more_pairs : List Pair
-    fits : IsTrue (takes ShortCircuit c)
-    stands : IsTrue (takes h Conditional)
-    one : Spells ways S Next behind o (expr Assignment true Any) consequent x place first_pairs
-    one_stops : Stops S Next behind Assignment true consequent place
-    divides : Reads S Next behind Punctuator (codes ":") place colon next_place
-    other : Spells ways S Next behind o (expr Assignment i Any) alternate next_place to more_pairs
-    other_stops : Stops S Next behind Assignment i alternate to
-    places : Placed S Next behind (expr h i g) (node ConditionalExpression [] plain st en (part m (part consequent (part alternate none)))) s0 to
-    spelled : Spells ways S Next behind o (expr h i g) (node ConditionalExpression [] plain st en (part m (part consequent (part alternate none)))) s0 to (Q ++ (first_pairs ++ more_pairs))
-    grows : Grows S Next behind o s0 (expr y i f) n e P (expr h i g) (node ConditionalExpression [] plain st en (part m (part consequent (part alternate none)))) to (Q ++ (first_pairs ++ more_pairs))
+  pub record AskOn (o : ℕ) (s0 : S) (y : Rank) (i : Bool) (f : Start) (n : Tree) (e : S) (P : List Pair) (m : Tree) (x : S) (Q : List Pair) (c : Rank) : Type 0 where
+    pub h : Rank
+    pub g : Start
+    pub st : ℕ
+    pub en : ℕ
+    pub consequent : Tree
+    pub place : S
+    pub first_pairs : List Pair
+    pub colon : Token
+    pub next_place : S
+    pub alternate : Tree
+    pub to : S
+    pub more_pairs : List Pair
+    pub fits : IsTrue (takes ShortCircuit c)
+    pub stands : IsTrue (takes h Conditional)
+    pub one : Spells ways S Next behind o (expr Assignment true Any) consequent x place first_pairs
+    pub one_stops : Stops S Next behind Assignment true consequent place
+    pub divides : Reads S Next behind Punctuator (codes ":") place colon next_place
+    pub other : Spells ways S Next behind o (expr Assignment i Any) alternate next_place to more_pairs
+    pub places : Placed S Next behind (expr h i g) (node ConditionalExpression [] plain st en (part m (part consequent (part alternate none)))) s0 to
+    pub spelled : Spells ways S Next behind o (expr h i g) (node ConditionalExpression [] plain st en (part m (part consequent (part alternate none)))) s0 to (Q ++ (first_pairs ++ more_pairs))
+    pub grows : Grows S Next behind o s0 (expr y i f) n e P (expr h i g) (node ConditionalExpression [] plain st en (part m (part consequent (part alternate none)))) to (Q ++ (first_pairs ++ more_pairs))
 
-  module _ {y : Rank} {i : Bool} {s0 mid x : S} {m : Tree} {t : Token} (is_no : tightness y ≡ 2 → ⊥) (r : ReadBy S Next behind Div mid t x) (is_op : operation t ≡ asks) (goes : stops y i (edge m) (behind mid) t ≡ false) where
-    ask_on : {o : ℕ} {f : Start} {n : Tree} {e : S} {P Q : List Pair} {c : Rank} → Stops S Next behind y i n e → Leads S Next behind det o s0 y i f n e P c m mid Q → AskOn o s0 y i f n e P m x Q c
+  module _ {y : Rank} {i : Bool} {s0 mid x : S} {m : Tree} {t : Token} (r : ReadBy S Next behind Div mid t x) (is_op : operation t ≡ asks) (goes : stops y i (edge m) (behind mid) t ≡ false) where
+    pub ask_on : {o : ℕ} {f : Start} {n : Tree} {e : S} {P Q : List Pair} {c : Rank} → Stops S Next behind y i n e → Leads S Next behind det o s0 y i f n e P c m mid Q → AskOn o s0 y i f n e P m x Q c
     ask_on {o} {f} {n} {e} {P} {Q} {c} st v =
         let on = led_on S Next behind det r is_op (λ q. cc) (goes_where_not S Next behind det y i r st goes) v.spelled v.grows in
         let led = ask_led on.led in
@@ -134,12 +133,15 @@ module _ (S : Type 0) (Next : S → Token → S → Type 0) (behind : S → Toke
           one_stops = stops_before Assignment true b.consequent b.divides refl refl (λ k u. refl);
           divides = b.divides;
           other = subst (λ j. Spells ways S Next behind o (expr Assignment j Any) b.alternate b.next_place on.to b.more_pairs) inside b.other;
-          other_stops = stops_inside S Next behind det Conditional Assignment i b.alternate tails_conditional (λ k l. is_no k) led.stands (λ k. refl) refl st grows;
           places = replaced S Next behind det (subst (λ k. Placed S Next behind (expr on.y on.i on.f) k s0 on.to) same on.placed);
           spelled = subst (λ j. Spells ways S Next behind o (expr on.y j on.f) (node ConditionalExpression [] plain on.st on.en (part m (part b.consequent (part b.alternate none)))) s0 on.to (Q ++ (b.first_pairs ++ b.more_pairs))) inside
               (retold S Next behind det same refl pairs on.spelled);
           grows = grows;
         }
+
+    -- what stands behind `:` can't go on either, at a position other than Conditional
+    other_stops : {o : ℕ} {f : Start} {n : Tree} {e : S} {P Q : List Pair} {c : Rank} → (tightness y ≡ 2 → ⊥) → Stops S Next behind y i n e → (w : AskOn o s0 y i f n e P m x Q c) → Stops S Next behind Assignment i w.alternate w.to
+    other_stops is_no st w = stops_inside S Next behind det Conditional Assignment i w.alternate tails_conditional (λ k l. is_no k) w.stands (λ k. refl) refl st w.grows
 
     -- what stands before `?` can't be a test
     pub climb_ask_unfit : {o : ℕ} {f : Start} {c : Rank} {Q : List Pair} → Climbing S Next behind det o y i f c s0 m mid Q → takes ShortCircuit c ≡ false → Absent S Next behind y i f s0
@@ -168,37 +170,38 @@ module _ (S : Type 0) (Next : S → Token → S → Type 0) (behind : S → Toke
 
       module _ {colon : Token} {x2 : S} (divides : Reads S Next behind Punctuator (codes ":") e1 colon x2) where
         -- what stands behind `:` in a derivation does so behind this one
-        record Past (o : ℕ) (f : Start) (n : Tree) (e : S) (P : List Pair) (Q : List Pair) (c : Rank) (w : AskOn o s0 y i f n e P m x Q c) : Type 0 where
-          place : w.place ≡ e1
-          tree : w.consequent ≡ u
-          pairs : w.first_pairs ≡ U
-          other : Spells ways S Next behind o (expr Assignment i Any) w.alternate x2 w.to w.more_pairs
+        pub record Past (o : ℕ) (f : Start) (n : Tree) (e : S) (P : List Pair) (Q : List Pair) (c : Rank) (w : AskOn o s0 y i f n e P m x Q c) : Type 0 where
+          pub place : w.place ≡ e1
+          pub tree : w.consequent ≡ u
+          pub pairs : w.first_pairs ≡ U
+          pub other : Spells ways S Next behind o (expr Assignment i Any) w.alternate x2 w.to w.more_pairs
 
-        past : {o : ℕ} {f : Start} {n : Tree} {e : S} {P Q : List Pair} {c : Rank} (w : AskOn o s0 y i f n e P m x Q c) → Past o f n e P Q c w
+        -- so it does
+        pub past : {o : ℕ} {f : Start} {n : Tree} {e : S} {P Q : List Pair} {c : Rank} (w : AskOn o s0 y i f n e P m x Q c) → Past o f n e P Q c w
         past {o} w =
             let same = found.only o w.place w.consequent w.first_pairs w.one w.one_stops in
             let sign = same_sign (subst (λ k. Reads S Next behind Punctuator (codes ":") k w.colon w.next_place) same.0 w.divides) divides refl in
             record { place = same.0; tree = same.1; pairs = same.2; other = subst (λ k. Spells ways S Next behind o (expr Assignment i Any) w.alternate k w.to w.more_pairs) sign.1 w.other }
 
         -- nothing behind `:`
-        pub climb_other_absent : {o : ℕ} {f : Start} {c : Rank} {Q : List Pair} → Climbing S Next behind det o y i f c s0 m mid Q → Absent S Next behind Assignment i Any x2 → Absent S Next behind y i f s0
-        climb_other_absent climb missed = record {
-          nothing = λ o' e' n' P' d stopped. let w = ask_on stopped (climb.leads o' e' n' P' d stopped) in missed.nothing o' w.to w.alternate w.more_pairs (past w).other w.other_stops;
+        pub climb_other_absent : {o : ℕ} {f : Start} {c : Rank} {Q : List Pair} → (tightness y ≡ 2 → ⊥) → Climbing S Next behind det o y i f c s0 m mid Q → Absent S Next behind Assignment i Any x2 → Absent S Next behind y i f s0
+        climb_other_absent is_no climb missed = record {
+          nothing = λ o' e' n' P' d stopped. let w = ask_on stopped (climb.leads o' e' n' P' d stopped) in missed.nothing o' w.to w.alternate w.more_pairs (past w).other (other_stops is_no stopped w);
         }
 
         -- nothing behind `:` within the limits
-        pub climb_other_deep : {o hi : ℕ} {f : Start} {c : Rank} {Q : List Pair} → Climbing S Next behind det o y i f c s0 m mid Q → AbsentWithin S Next behind o (hi - 1) Assignment i Any x2 → AbsentWithin S Next behind o hi y i f s0
-        climb_other_deep {o} climb missed = record {
+        pub climb_other_deep : {o hi : ℕ} {f : Start} {c : Rank} {Q : List Pair} → (tightness y ≡ 2 → ⊥) → Climbing S Next behind det o y i f c s0 m mid Q → AbsentWithin S Next behind o (hi - 1) Assignment i Any x2 → AbsentWithin S Next behind o hi y i f s0
+        climb_other_deep {o} is_no climb missed = record {
           nothing = λ e' n' P' d stopped le. let w = ask_on stopped (climb.leads o e' n' P' d stopped) in
               let low = grows_height S Next behind det w.grows in
-              missed.nothing w.to w.alternate w.more_pairs (past w).other w.other_stops (omega arith);
+              missed.nothing w.to w.alternate w.more_pairs (past w).other (other_stops is_no stopped w) (omega arith);
         }
 
         -- the conditional
-        pub climb_conditional : {f : Start} {c : Rank} {Q : List Pair} {v : Tree} {to : S} {V : List Pair} {st en : ℕ} → Climbing S Next behind det o1 y i f c s0 m mid Q → IsTrue (takes ShortCircuit c) →
+        pub climb_conditional : {f : Start} {c : Rank} {Q : List Pair} {v : Tree} {to : S} {V : List Pair} {st en : ℕ} → (tightness y ≡ 2 → ⊥) → Climbing S Next behind det o1 y i f c s0 m mid Q → IsTrue (takes ShortCircuit c) →
             Found S Next behind o1 Assignment i Any x2 to v V → Placed S Next behind (expr y i f) (node ConditionalExpression [] plain st en (part m (part u (part v none)))) s0 to →
             Climbing S Next behind det o1 y i f Conditional s0 (node ConditionalExpression [] plain st en (part m (part u (part v none)))) to (Q ++ (U ++ V))
-        climb_conditional {f} {c} {Q} {v} {to} {V} {st} {en} climb fits other places =
+        climb_conditional {f} {c} {Q} {v} {to} {V} {st} {en} is_no climb fits other places =
             let on = goes_on y i (edge m) (behind mid) t goes in
             let same_symbol : on.symbol ≡ Conditional = some_same (sym on.makes ∙ ap (λ v. symbol_of v t.after_break) is_op) in
             record {
@@ -210,7 +213,7 @@ module _ (S : Type 0) (Next : S → Token → S → Type 0) (behind : S → Toke
               leads = λ o' e' n' P' d stopped.
                   let w = ask_on stopped (climb.leads o' e' n' P' d stopped) in
                   let p = past w in
-                  let same = other.only o' w.to w.alternate w.more_pairs p.other w.other_stops in
+                  let same = other.only o' w.to w.alternate w.more_pairs p.other (other_stops is_no stopped w) in
                   let where_is = same_places S Next behind det w.places places same.0 in
                   let tree : node ConditionalExpression [] plain w.st w.en (part m (part w.consequent (part w.alternate none))) ≡ node ConditionalExpression [] plain st en (part m (part u (part v none))) =
                   same_node refl refl refl where_is.0 where_is.1 (λ k. part m (part (p.tree k) (part (same.1 k) none))) in

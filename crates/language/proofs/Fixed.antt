@@ -71,7 +71,7 @@ fixed_elements f h (gap ps) = one_more refl (one_more refl (fixed_join (of (is_n
     of true = all_done
     of false = one_more refl all_done
 
-fixed_put : (a : Option Role) → is_fixed (put_at a) ≡ true
+pub fixed_put : (a : Option Role) → is_fixed (put_at a) ≡ true
 fixed_put (Some a) = refl
 fixed_put None = refl
 

@@ -28,7 +28,8 @@ use Rattle.language.proofs.Productions.{spell, starts_led, way_from, runs_can, i
 pub kind_bare : (n : Tree) → kind_of (bare n) ≡ kind_of n
 kind_bare (node k w g s e ps) = refl
 
-none_bare : (ps : Parts) → is_none (bare_parts ps) ≡ is_none ps
+-- whether parts are none, places aside
+pub none_bare : (ps : Parts) → is_none (bare_parts ps) ≡ is_none ps
 none_bare none = refl
 none_bare (part n ps) = refl
 none_bare (gap ps) = refl

@@ -12,7 +12,7 @@ use Rattle.tokens.specs.Alphabet.{one_of, begins_with}
 use Rattle.tree.specs.declared.kind.Kind.{Kind}
 use Rattle.tree.specs.declared.kind.Kind.TheVariants.{Identifier, Literal, ThisExpression}
 use Rattle.language.specs.declared.Rank.{Rank}
-use Rattle.language.specs.declared.Rank.TheVariants.{Primary}
+use Rattle.language.specs.declared.Rank.TheVariants.{Assignment, Primary}
 use Rattle.language.specs.declared.Start.{Start}
 use Rattle.language.specs.declared.Start.TheVariants.{Any, NoBrace, Statement}
 use Rattle.tree.specs.declared.kind.Flags.{Flags}
@@ -179,7 +179,7 @@ module _ (S : Type 0) (Next : S → Token → S → Type 0) (behind : S → Toke
   by_name {s0} {x} {t} r t1 m1 h = det.same Goal.RegExp s0 t1 t m1 x h.next r.next (det.free Goal.RegExp s0 t1 m1 h.next (ap is_free h.class)) r.allowed
 
   -- a leftmost part that isn't a group stands at a symbol that takes a Primary
-  core_primary : {o : ℕ} {h : Rank} {j : Bool} {f : Start} {m : Tree} {s mid x : S} {Q : List Pair} {t : Token} → Core S Next behind o (expr h j f) m s mid Q → ReadBy S Next behind Goal.RegExp s t x → (opening_of t ≡ with_parenthesis → ⊥) → IsTrue (takes h Primary)
+  pub core_primary : {o : ℕ} {h : Rank} {j : Bool} {f : Start} {m : Tree} {s mid x : S} {Q : List Pair} {t : Token} → Core S Next behind o (expr h j f) m s mid Q → ReadBy S Next behind Goal.RegExp s t x → (opening_of t ≡ with_parenthesis → ⊥) → IsTrue (takes h Primary)
   unfolding spellings
   core_primary {s = s} {x = x} {t = t} (group {left = u} {m = k} p d q) r other =
       let al : IsTrue (allows Goal.RegExp u.class u.text) = subst (λ c. IsTrue (allows Goal.RegExp c u.text)) (sym p.class) (subst (λ z. IsTrue (allows Goal.RegExp Punctuator z)) (sym p.text) refl) in
@@ -224,26 +224,26 @@ module _ (S : Type 0) (Next : S → Token → S → Type 0) (behind : S → Toke
             let u = leaf_same is k text (lean_flags (bare (node _ w g st en ps)) bares ∙ ap (λ v. used_flags v g) k) pl (retell S Next behind q d) same in
             (u.0, u.1, u.2, tk)
 
-    -- an identifier, where no `=>` makes it the parameter of an arrow
-    pub climb_identifier : {o : ℕ} → t.class ≡ Name → is_reserved t.text ≡ false → ((v : Token) (k : S) → Reads S Next behind Punctuator (codes "=>") x v k → v.after_break ≡ false → ⊥) →
+    -- an identifier, where no `=>` makes it the parameter of an arrow that the position takes
+    pub climb_identifier : {o : ℕ} → t.class ≡ Name → is_reserved t.text ≡ false → (IsTrue (takes y Assignment) → (v : Token) (k : S) → Reads S Next behind Punctuator (codes "=>") x v k → v.after_break ≡ false → ⊥) →
         Climbing S Next behind det o y i f Primary s0 (node Identifier t.text plain t.start (behind x).stop none) x []
     climb_identifier class free no_arrow = climb_start S Next behind det low
         (λ h j tk lo. spell S Next behind (at Primary (tok Name t.text ∷ [])) (identifier free) refl tk refl (starts_name f t.text free) (placed r.next refl) (step (token (record { next = r.next; class = class; text = refl })) done))
-        (λ o' n e P h j m mid Q b. let op = opens t class refl (identifier_opens t.text free) in only (core_by S Next behind det r op b.core) (core_primary b.core r (λ q. (let z = sym q ∙ op in cc))))
+        (λ o' n e P h j m mid Q b. let op = opens t class refl (identifier_opens t.text free) in only (b.reached.taken Assignment) (core_by S Next behind det r op b.core) (core_primary b.core r (λ q. (let z = sym q ∙ op in cc))))
       where
-        only : {o' : ℕ} {h : Rank} {j : Bool} {m : Tree} {mid : S} {Q : List Pair} → Cored S Next behind det o' h j f m s0 mid Q with_name → IsTrue (takes h Primary) →
+        only : {o' : ℕ} {h : Rank} {j : Bool} {m : Tree} {mid : S} {Q : List Pair} → (IsTrue (takes h Assignment) → IsTrue (takes y Assignment)) → Cored S Next behind det o' h j f m s0 mid Q with_name → IsTrue (takes h Primary) →
             (mid ≡ x) × (m ≡ node Identifier t.text plain t.start (behind x).stop none) × (Q ≡ []) × IsTrue (takes h Primary)
-        only (in_way {w = w} {g = g} {st = st} {en = en} {ps = ps} is (head_identifier k c q) lean pl d) tk =
+        only taken (in_way {w = w} {g = g} {st = st} {en = en} {ps = ps} is (head_identifier k c q) lean pl d) tk =
             let bares : is_lean (bare (node _ w g st en ps)) ≡ true = ap (λ v. is_lean (bare v)) (sym is) ∙ lean in
             let v = run_token S Next behind (retell S Next behind q d) in
             let text : w ≡ t.text = sym v.reads.text ∙ ap (λ (t : Token). t.text) (by_name r v.sign v.mid v.reads).0 in
             let u = leaf_same is k text (lean_flags (bare (node _ w g st en ps)) bares ∙ ap (λ v. used_flags v g) k) pl (retell S Next behind q d) (by_name r) in
             (u.0, u.1, u.2, tk)
-        only (in_way {g = g} is (head_short_arrow k p n tk' q) lean pl d) tk =
+        only taken (in_way {g = g} is (head_short_arrow k p n tk' q) lean pl d) tk =
             let a = run_part S Next behind (retell S Next behind q d) in
             let w = name_form a.spelled in
             let here = by_name r w.0.sign a.mid w.0.reads in
             let line = run_unbroken S Next behind a.runs in
             let v = run_token S Next behind (run_laid S Next behind line.runs) in
             let reads : Reads S Next behind Punctuator (codes "=>") x v.sign v.mid = subst (λ c. Reads S Next behind Punctuator (codes "=>") c v.sign v.mid) here.1 v.reads in
-            absurd (no_arrow v.sign v.mid reads (det.break a.mid v.sign line.sign v.mid line.mid v.reads.next line.next ∙ line.unbroken))
+            absurd (no_arrow (taken tk') v.sign v.mid reads (det.break a.mid v.sign line.sign v.mid line.mid v.reads.next line.next ∙ line.unbroken))

@@ -79,8 +79,8 @@ module _ (S : Type 0) (Next : S → Token → S → Type 0) (behind : S → Toke
     first_no_part u (missing d) = elim u [ ]
 
 module _ (S : Type 0) (Next : S → Token → S → Type 0) (behind : S → Token) (det : IsDetermined S Next behind) where
-  -- a name and a sign aren't read at one place, nor are two signs
-  not_both : {A : Type 0} {o : ℕ} {n : Tree} {w : List ℕ} {s e e' : S} {P : List Pair} {t : Token} → Spells ways S Next behind o word n s e' P → Reads S Next behind Punctuator w s t e → IsTrue (allows Div Punctuator w) → A
+  -- a name and a sign aren't read at one place
+  pub not_both : {A : Type 0} {o : ℕ} {n : Tree} {w : List ℕ} {s e e' : S} {P : List Pair} {t : Token} → Spells ways S Next behind o word n s e' P → Reads S Next behind Punctuator w s t e → IsTrue (allows Div Punctuator w) → A
   not_both {w = w} {s = s} {e = e} {t = t} p h al =
       let u = word_form S Next behind det p in
       let al' : IsTrue (allows Div t.class t.text) = subst (λ v. IsTrue (allows Div v t.text)) (sym h.class) (subst (λ v. IsTrue (allows Div Punctuator v)) (sym h.text) al) in
@@ -88,7 +88,8 @@ module _ (S : Type 0) (Next : S → Token → S → Type 0) (behind : S → Toke
       let clash : Name ≡ Punctuator = sym u.reads.class ∙ ap (λ (v : Token). v.class) same.0 ∙ h.class in
       cc
 
-  other_sign : {A : Type 0} {s e e' : S} {t t' : Token} → Reads S Next behind Punctuator (codes "[") s t e → Reads S Next behind Punctuator (codes "(") s t' e' → A
+  -- `[` and `(` aren't read at one place
+  pub other_sign : {A : Type 0} {s e e' : S} {t t' : Token} → Reads S Next behind Punctuator (codes "[") s t e → Reads S Next behind Punctuator (codes "(") s t' e' → A
   other_sign {s = s} {e = e} {e' = e'} {t = t} {t' = t'} h k =
       let al : IsTrue (allows Div t.class t.text) = subst (λ v. IsTrue (allows Div v t.text)) (sym h.class) (subst (λ v. IsTrue (allows Div Punctuator v)) (sym h.text) refl) in
       let al' : IsTrue (allows Div t'.class t'.text) = subst (λ v. IsTrue (allows Div v t'.text)) (sym k.class) (subst (λ v. IsTrue (allows Div Punctuator v)) (sym k.text) refl) in

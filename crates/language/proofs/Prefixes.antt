@@ -1,6 +1,7 @@
 -- A leftmost part that begins with an operator: a unary one, `++` or `--`.
 use Rattle.std.proofs.Common.{◌≡◌, ℕ, ◌-◌, Bool, true, false, cond, List, [], ◌∷◌, ◌++◌, refl, sym, ap, ◌∙◌, subst, arith}
 use Rattle.std.specs.Prelude.{IsTrue, not}
+use Rattle.std.proofs.lemmas.Bool.{false≢true}
 use Rattle.tokens.specs.declared.token.Class.TheVariants.{Name, Punctuator}
 use Rattle.tokens.specs.declared.token.Goal.{Goal}
 use Rattle.tokens.specs.Goals.{allows}
@@ -199,3 +200,14 @@ module _ (S : Type 0) (Next : S → Token → S → Type 0) (behind : S → Toke
         let same = found.only o' mid c.operand Q c.spelled (prefix_stops b c) in
         let where_is = same_places S Next behind det (subst (λ v. Placed S Next behind (expr h j f) v s0 mid) c.tree c.places) places same.0 in
         (same.0, c.tree ∙ same_node refl refl refl where_is.0 where_is.1 (ap (λ v. part v none) same.1), same.2, c.stands))
+
+    -- the position doesn't take its symbol
+    pub start_prefix_unfit : {y : Rank} {i : Bool} {f : Start} → takes y z ≡ false → Absent S Next behind y i f s0
+    start_prefix_unfit no_fit = start_absent S Next behind det (λ o' n e P h j m mid Q b. (let c = prefix_core p r (core_by S Next behind det r (opening_is p) b.core) in false≢true (sym no_fit ∙ b.reached.taken z c.stands)))
+
+    -- what `++` would step is neither an identifier nor a member
+    pub start_step_no_target : {o : ℕ} {y : Rank} {i : Bool} {f : Start} {u : Tree} {to : S} {U : List Pair} → Found S Next behind o q true Any x to u U → (Steps q u → ⊥) → Absent S Next behind y i f s0
+    start_step_no_target found no_target = start_absent S Next behind det (λ o' n e P h j m mid Q b.
+        let c = prefix_core p r (core_by S Next behind det r (opening_is p) b.core) in
+        let same = found.only o' mid c.operand Q c.spelled (prefix_stops b c) in
+        no_target (subst (λ v. Steps q v) same.1 c.target))

@@ -180,7 +180,8 @@ view_of {k = k} st en h = let v = way_of h in record { spelling = v.spelling; ma
 is_nought : (a : ℕ) → nat_eq a 0 ≡ true → a ≡ 0
 is_nought a h = grind (arith, nat_tests)
 
-standing_closed : (x : Edge) (last : Token) → standing x last ≡ Closed → x ≡ Closed
+-- only the end of nothing stands so
+pub standing_closed : (x : Edge) (last : Token) → standing x last ≡ Closed → x ≡ Closed
 standing_closed Closed last e = refl
 standing_closed Other last e = cc
 standing_closed Arrow last e = of (is last.text ")") e

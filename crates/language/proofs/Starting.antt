@@ -71,15 +71,17 @@ module _ (S : Type 0) (Next : S → Token → S → Type 0) (behind : S → Toke
     pub core : Core S Next behind o (expr h j f) m s0 mid Q
     pub grows : Grows S Next behind o s0 (expr y i f) n e P (expr h j f) m mid Q
 
-  record Begins (o : ℕ) (s0 : S) (y : Rank) (i : Bool) (f : Start) (n : Tree) (e : S) (P : List Pair) : Type 0 where
-    h : Rank
-    j : Bool
-    m : Tree
-    mid : S
-    Q : List Pair
-    begun : Begun o s0 y i f n e P h j m mid Q
+  -- what it begins with
+  pub record Begins (o : ℕ) (s0 : S) (y : Rank) (i : Bool) (f : Start) (n : Tree) (e : S) (P : List Pair) : Type 0 where
+    pub h : Rank
+    pub j : Bool
+    pub m : Tree
+    pub mid : S
+    pub Q : List Pair
+    pub begun : Begun o s0 y i f n e P h j m mid Q
 
-  begins : {o : ℕ} {s0 : S} {y : Rank} {i : Bool} {f : Start} {n : Tree} {e : S} {P : List Pair} → Spells ways S Next behind o (expr y i f) n s0 e P → Stops S Next behind y i n e → Begins o s0 y i f n e P
+  -- each derivation that can't go on does so
+  pub begins : {o : ℕ} {s0 : S} {y : Rank} {i : Bool} {f : Start} {n : Tree} {e : S} {P : List Pair} → Spells ways S Next behind o (expr y i f) n s0 e P → Stops S Next behind y i n e → Begins o s0 y i f n e P
   begins {o} {s0} {y} {i} {f} {n} {e} {P} d st = let u = spine_of S Next behind d in of u.role (grows_on_spine S Next behind refl u.grows) u.core u.grows
     where
       of : {m : Tree} {mid : S} {Q : List Pair} (b : Role) → on_spine b ≡ true → Core S Next behind o b m s0 mid Q → Grows S Next behind o s0 (expr y i f) n e P b m mid Q → Begins o s0 y i f n e P

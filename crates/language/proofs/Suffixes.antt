@@ -222,18 +222,18 @@ module _ (S : Type 0) (Next : S → Token → S → Type 0) (behind : S → Toke
   dot_led (led_dot k o c s tk b e) = record { kind = k; optional = o; computed = c; head = rank_is b; stands = tk; rest_is = e }
 
   -- the member on the spine of a whole that can't go on
-  record DotOn (o : ℕ) (s0 : S) (y : Rank) (i : Bool) (f : Start) (n : Tree) (e : S) (P : List Pair) (m : Tree) (x : S) (Q : List Pair) (c : Rank) : Type 0 where
-    fits : IsTrue (takes Call c)
-    name : Tree
-    to : S
-    pairs : List Pair
-    spelled : Spells ways S Next behind o word name x to pairs
-    low : height name ≤ height n - 1
-    leads : (st en : ℕ) (u : Tree) (to' : S) (U : List Pair) → name ≡ u → to ≡ to' → pairs ≡ U → Placed S Next behind (expr y i f) (node MemberExpression [] plain st en (part m (part u none))) s0 to' →
+  pub record DotOn (o : ℕ) (s0 : S) (y : Rank) (i : Bool) (f : Start) (n : Tree) (e : S) (P : List Pair) (m : Tree) (x : S) (Q : List Pair) (c : Rank) : Type 0 where
+    pub fits : IsTrue (takes Call c)
+    pub name : Tree
+    pub to : S
+    pub pairs : List Pair
+    pub spelled : Spells ways S Next behind o word name x to pairs
+    pub low : height name ≤ height n - 1
+    pub leads : (st en : ℕ) (u : Tree) (to' : S) (U : List Pair) → name ≡ u → to ≡ to' → pairs ≡ U → Placed S Next behind (expr y i f) (node MemberExpression [] plain st en (part m (part u none))) s0 to' →
         Leads S Next behind det o s0 y i f n e P (suffix_rank c) (node MemberExpression [] plain st en (part m (part u none))) to' (Q ++ U)
 
   module _ {y : Rank} {i : Bool} {s0 mid x : S} {m : Tree} {t : Token} (r : ReadBy S Next behind Div mid t x) (is_op : operation t ≡ selects) (goes : stops y i (edge m) (behind mid) t ≡ false) where
-    dot_on : {o : ℕ} {f : Start} {n : Tree} {e : S} {P Q : List Pair} {c : Rank} → Stops S Next behind y i n e → Leads S Next behind det o s0 y i f n e P c m mid Q → DotOn o s0 y i f n e P m x Q c
+    pub dot_on : {o : ℕ} {f : Start} {n : Tree} {e : S} {P Q : List Pair} {c : Rank} → Stops S Next behind y i n e → Leads S Next behind det o s0 y i f n e P c m mid Q → DotOn o s0 y i f n e P m x Q c
     dot_on {c = c} st v =
         let on = led_on S Next behind det r is_op (λ q. cc) (goes_where_not S Next behind det y i r st goes) v.spelled v.grows in
         let led = dot_led on.led in

@@ -40,7 +40,7 @@ is_equal : (a d : ℕ) → (a == d) ≡ true → a ≡ d
 is_equal a d h = grind (arith, nat_tests)
 
 -- a text begins with an ASCII character as its bytes do
-begins_same : (d : ℕ) → d < 128 → (w : List ℕ) → begins_with (λ b. b == d) (encode_utf8_all w) ≡ begins_with (λ b. b == d) w
+pub begins_same : (d : ℕ) → d < 128 → (w : List ℕ) → begins_with (λ b. b == d) (encode_utf8_all w) ≡ begins_with (λ b. b == d) w
 begins_same d low [] = refl
 begins_same d low (c ∷ cs) =
     let bs : List ℕ = encode_utf8_all (c ∷ cs) in
@@ -50,7 +50,7 @@ begins_same d low (c ∷ cs) =
     (λ h. let e = is_equal c d h in equal_is (get_or bs 0 0) d (byte_from_char bs (encode_utf8_all cs) c refl (let l : c < 128 = omega arith in l) ∙ e))
 
 -- and as its raw value does, but for a line end
-turned_same : (d : ℕ) → (line_feed == d) ≡ false → (carriage_return == d) ≡ false → (w : List ℕ) → begins_with (λ b. b == d) (raw_value w) ≡ begins_with (λ b. b == d) w
+pub turned_same : (d : ℕ) → (line_feed == d) ≡ false → (carriage_return == d) ≡ false → (w : List ℕ) → begins_with (λ b. b == d) (raw_value w) ≡ begins_with (λ b. b == d) w
 turned_same d feed return [] = refl
 turned_same d feed return (c ∷ cs) = go (c == carriage_return) refl
   where
@@ -129,7 +129,7 @@ module _ {at : ℕ} {cs : List ℕ} where
   }
 
   -- what separates is the same, whatever the goal
-  same_gap : {g h : Goal} {a b : LexicalToken} {ra rb : List ℕ} (x : IsTokenAt g at cs a ra) (y : IsTokenAt h at cs b rb) → x.gap ≡ y.gap
+  pub same_gap : {g h : Goal} {a b : LexicalToken} {ra rb : List ℕ} (x : IsTokenAt g at cs a ra) (y : IsTokenAt h at cs b rb) → x.gap ≡ y.gap
   same_gap {a = a} {b = b} {ra = ra} {rb = rb} x y =
       gap_same x.gap y.gap (x.word ++ ra) (y.word ++ rb) x.separated y.separated (sym (append_assoc x.gap x.word ra) ∙ sym x.split ∙ y.split ∙ append_assoc y.gap y.word rb)
       (token_solid a.class x.word ra x.longest x.no_comment) (token_solid b.class y.word rb y.longest y.no_comment)

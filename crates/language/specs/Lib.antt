@@ -14,7 +14,9 @@ pub mod Places
 pub mod View
 pub mod Follow
 pub mod Opening
+pub mod Beginning
 pub mod Promises
+pub mod Following
 pub mod Cost
 pub mod Search
 pub mod Layout

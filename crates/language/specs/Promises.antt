@@ -1,20 +1,23 @@
 -- What a function promises that reads an expression at a place, or something else: that it is found, the only one there; or that there is none.
-use Rattle.std.specs.Prelude.{◌≡◌, ℕ, ◌≤◌, Bool, true, false, List, IsTrue}
+use Rattle.std.specs.Prelude.{◌≡◌, ℕ, ◌≤◌, Bool, true, false, List, [], ◌∷◌, IsTrue, map, codes}
 use Rattle.tokens.specs.declared.token.Class.{Class}
-use Rattle.tokens.specs.declared.token.Class.TheVariants.{Name, Number, Text, End}
+use Rattle.tokens.specs.declared.token.Class.TheVariants.{Name, Punctuator, Number, Text, End}
 use Rattle.tokens.specs.declared.token.Goal.{Goal}
 use Rattle.tokens.specs.declared.token.Goal.TheVariants.{Div}
 use Rattle.tokens.specs.Goals.{allows}
 use Rattle.tree.specs.declared.kind.Pair.{Pair}
-use Rattle.tree.specs.Tree.{Tree, Parts, height, parts_height}
+use Rattle.tree.specs.Tree.{Tree, Parts, none, part, gap, height, parts_height, bare_parts}
 use Rattle.language.specs.declared.Rank.{Rank}
+use Rattle.language.specs.declared.Rank.TheVariants.{Expression, Assignment, Conditional, New, Member}
 use Rattle.language.specs.declared.Start.{Start}
-use Rattle.language.specs.Pieces.{Role, expr, PieceOf}
+use Rattle.language.specs.declared.Start.TheVariants.{Any}
+use Rattle.language.specs.Pieces.{Role, expr, PieceOf, sub, never, settle_piece}
 use Rattle.language.specs.Token.{Token}
-use Rattle.language.specs.Edges.{edge}
+use Rattle.language.specs.Edges.{edge, last_edge}
+use Rattle.language.specs.Expressions.{sequence}
 use Rattle.language.specs.Follow.{stops}
 use Rattle.language.specs.Grammar.{ways}
-use Rattle.language.specs.Derivation.{Spells, Runs}
+use Rattle.language.specs.Derivation.{Reads, Spells, Runs}
 
 -- the classes that every goal reads
 abbrev pub is_free : Class → Bool
@@ -23,6 +26,12 @@ is_free Number = true
 is_free Text = true
 is_free End = true
 is_free _ = false
+
+-- the pieces of a sequence behind its first comma (12.16)
+abbrev pub later_parts : Bool → Parts → List (PieceOf Role)
+later_parts i none = never ∷ []
+later_parts i (gap ps) = never ∷ []
+later_parts i (part n ps) = sub (expr Assignment i Any) ∷ map (settle_piece Expression i Any) (sequence (bare_parts ps))
 
 module _ (S : Type 0) (Next : S → Token → S → Type 0) (behind : S → Token) where
   -- Where tokens are determined once a goal is chosen: by a goal at most one is read at a place; behind it, it is the token before;
@@ -79,3 +88,50 @@ module _ (S : Type 0) (Next : S → Token → S → Type 0) (behind : S → Toke
 
   pub record AbsentPartsWithin (o h : ℕ) (pieces : Parts → List (PieceOf Role)) (s : S) : Type 0 where
     pub nothing : (e' : S) (ps' : Parts) (P' : List Pair) → Runs ways S Next behind o (pieces ps') ps' s e' P' → parts_height ps' ≤ h → ⊥
+
+  -- At Conditional, where `a ? b : c` can't go on before `=`, nor can the whole of `a ? b : c = d` (12.14): the only thing here of
+  -- those that can't go on at Assignment either; nothing of them; nothing within the limits.
+  pub record FoundConditional (o : ℕ) (i : Bool) (f : Start) (s e : S) (n : Tree) (P : List Pair) : Type 0 where
+    pub spelled : Spells ways S Next behind o (expr Conditional i f) n s e P
+    pub stopped : Stops Conditional i n e
+    pub only : (o' : ℕ) (e' : S) (n' : Tree) (P' : List Pair) → Spells ways S Next behind o' (expr Conditional i f) n' s e' P' → Stops Assignment i n' e' → (e' ≡ e) × (n' ≡ n) × (P' ≡ P)
+
+  pub record AbsentConditional (i : Bool) (f : Start) (s : S) : Type 0 where
+    pub nothing : (o' : ℕ) (e' : S) (n' : Tree) (P' : List Pair) → Spells ways S Next behind o' (expr Conditional i f) n' s e' P' → Stops Assignment i n' e' → ⊥
+
+  pub record AbsentConditionalWithin (o h : ℕ) (i : Bool) (f : Start) (s : S) : Type 0 where
+    pub nothing : (e' : S) (n' : Tree) (P' : List Pair) → Spells ways S Next behind o (expr Conditional i f) n' s e' P' → Stops Assignment i n' e' → height n' ≤ h → ⊥
+
+  -- What stands behind `new` (12.3.3): a MemberExpression; or a NewExpression behind which no `(` follows, since a `new` without
+  -- arguments in it would have taken those.
+  pub data Callee (o : ℕ) (n : Tree) (s e : S) (P : List Pair) : Type 0 where
+    at_member : Spells ways S Next behind o (expr Member true Any) n s e P → Callee o n s e P
+    at_new : Spells ways S Next behind o (expr New true Any) n s e P → ((t : Token) (m : S) → Reads S Next behind Punctuator (codes "(") e t m → ⊥) → Callee o n s e P
+
+  -- the only one here that can't go on; none; none within the limits
+  pub record FoundCallee (o : ℕ) (s e : S) (n : Tree) (P : List Pair) : Type 0 where
+    pub callee : Callee o n s e P
+    pub stopped : Stops New true n e
+    pub only : (o' : ℕ) (e' : S) (n' : Tree) (P' : List Pair) → Callee o' n' s e' P' → Stops New true n' e' → (e' ≡ e) × (n' ≡ n) × (P' ≡ P)
+
+  pub record AbsentCallee (s : S) : Type 0 where
+    pub nothing : (o' : ℕ) (e' : S) (n' : Tree) (P' : List Pair) → Callee o' n' s e' P' → Stops New true n' e' → ⊥
+
+  pub record AbsentCalleeWithin (o h : ℕ) (s : S) : Type 0 where
+    pub nothing : (e' : S) (n' : Tree) (P' : List Pair) → Callee o n' s e' P' → Stops New true n' e' → height n' ≤ h → ⊥
+
+  -- the sequence that ends here can't go on, with a comma neither
+  abbrev pub LaterStop : Bool → Parts → S → Type 0
+  LaterStop i ps e = (t : Token) (m : S) → ReadBy Div e t m → IsTrue (stops Expression i (last_edge ps) (behind e) t)
+
+  -- the only parts of a sequence behind its first comma that can't go on; none; none within the limits
+  pub record FoundLater (o : ℕ) (i : Bool) (s e : S) (ps : Parts) (P : List Pair) : Type 0 where
+    pub runs : Runs ways S Next behind o (later_parts i ps) ps s e P
+    pub stopped : LaterStop i ps e
+    pub only : (o' : ℕ) (e' : S) (ps' : Parts) (P' : List Pair) → Runs ways S Next behind o' (later_parts i ps') ps' s e' P' → LaterStop i ps' e' → (e' ≡ e) × (ps' ≡ ps) × (P' ≡ P)
+
+  pub record AbsentLater (i : Bool) (s : S) : Type 0 where
+    pub nothing : (o' : ℕ) (e' : S) (ps' : Parts) (P' : List Pair) → Runs ways S Next behind o' (later_parts i ps') ps' s e' P' → LaterStop i ps' e' → ⊥
+
+  pub record AbsentLaterWithin (o h : ℕ) (i : Bool) (s : S) : Type 0 where
+    pub nothing : (e' : S) (ps' : Parts) (P' : List Pair) → Runs ways S Next behind o (later_parts i ps') ps' s e' P' → LaterStop i ps' e' → parts_height ps' ≤ h → ⊥
