@@ -1,5 +1,5 @@
 -- What a pattern or an item gives, by its kind.
-use Rattle.std.proofs.Common.{◌≡◌, ℕ, ◌-◌, Bool, true, false, cond, List, [], ◌∷◌, refl, sym, ap, ◌∙◌}
+use Rattle.std.proofs.Common.{◌≡◌, ◌-◌, Bool, true, false, cond, List, [], ◌∷◌, refl, sym, ap, ◌∙◌}
 use Rattle.tree.specs.declared.kind.Kind.{Kind}
 use Rattle.tree.specs.declared.kind.Kind.TheVariants.{Identifier, ArrayPattern, ObjectPattern, RestElement, AssignmentPattern, Property, VariableDeclaration, ClassDeclaration, FunctionDeclaration}
 use Rattle.tree.specs.Tree.{Tree, node, kind_of, text_of, start_of, parts_of, part_at, part_count}

@@ -1,5 +1,5 @@
 -- The constructors of a class, one by one: all but the first are errors.
-use Rattle.std.proofs.Common.{◌≡◌, ℕ, Bool, true, false, ◌+◌, ◌<◌, ◌≤◌, List, [], ◌∷◌, ◌++◌, Option, Some, None, refl, sym, ap, ◌∙◌, append-nil}
+use Rattle.std.proofs.Common.{◌≡◌, ℕ, Bool, true, false, ◌+◌, ◌<◌, ◌≤◌, List, [], ◌∷◌, ◌++◌, Option, Some, None, refl, sym, ap, ◌∙◌}
 use Rattle.tree.specs.Tree.{Tree, Parts, part_at, part_count}
 use Rattle.early_errors.specs.declared.EarlyError.TheVariants.{DuplicateConstructor}
 use Rattle.early_errors.specs.Classes.{constructor_places, behind_first}

@@ -1,8 +1,7 @@
 -- The parts from a place on, as loops over a node's parts go.
-use Rattle.std.proofs.Common.{◌≡◌, ℕ, zero, suc, ◌+◌, ◌-◌, ◌*◌, ◌<◌, ◌≤◌, List, [], ◌∷◌, ◌++◌, Option, Some, None, refl, sym, ap, ◌∙◌, arith, add-one, append_assoc, append-nil}
-use Rattle.tree.specs.Tree.{Tree, node, Parts, none, part, gap, parts_of, part_at, part_count, node_total}
+use Rattle.std.proofs.Common.{◌≡◌, ℕ, zero, suc, ◌+◌, ◌-◌, ◌*◌, ◌<◌, ◌≤◌, List, [], ◌++◌, Option, None, refl, sym, ap, ◌∙◌, arith, add-one, append_assoc, append-nil}
+use Rattle.tree.specs.Tree.{Tree, Parts, none, part, gap, parts_of, part_at, part_count, node_total}
 use Rattle.tree.proofs.PartWalk.{optional_total, optional_smaller}
-use Rattle.early_errors.specs.Names as names
 use Rattle.early_errors.specs.Names.{each_part, names_in, all_names, first_names, last_names, parameter_names}
 use Rattle.early_errors.specs.Walk.{at_part, names_at, parts_drop}
 

@@ -1,5 +1,5 @@
 -- How the errors of a node come together from those that its function finds.
-use Rattle.std.proofs.Common.{◌≡◌, ℕ, Bool, true, false, not, List, [], ◌∷◌, ◌++◌, Option, filter, refl, sym, ap, ◌∙◌}
+use Rattle.std.proofs.Common.{◌≡◌, ℕ, Bool, true, false, not, List, [], ◌∷◌, Option, filter, refl, sym, ap, ◌∙◌}
 use Rattle.std.specs.Prelude.{◌||◌, ◌&&◌, codes}
 use Rattle.tree.specs.declared.kind.Flags.{Flags}
 use Rattle.tree.specs.Tree.{Tree, kind_of, start_of, parts_of, flags_of, part_at}
@@ -8,7 +8,6 @@ use Rattle.early_errors.specs.Keys.{key_value}
 use Rattle.early_errors.specs.Classes.{has_key, key_places}
 use Rattle.early_errors.specs.declared.EarlyError.TheVariants.{MisplacedJump, UndefinedLabel, SpecialConstructor, StaticPrototype}
 use Rattle.early_errors.specs.declared.own.Own.TheVariants as own
-use Rattle.early_errors.specs.Around as around
 use Rattle.early_errors.specs.Around.{Around, is_accessor}
 use Rattle.early_errors.specs.Names.{Named, places, when, first_names}
 use Rattle.early_errors.specs.Labels.{is_bare, labels_statement, labels_a_loop}

@@ -1,13 +1,11 @@
 -- What a node's kind says of the labels round its parts, of its `var`s and of its own errors.
-use Rattle.std.proofs.Common.{rules, ◌≡◌, ℕ, zero, suc, ◌+◌, ◌-◌, ◌<◌, ◌≤◌, Bool, true, false, not, cond, List, [], ◌∷◌, ◌++◌, Option, Some, None, filter, ◌⊎◌, inl, inr, is_some, refl, sym, ap, subst, ◌∙◌, arith, append-nil}
-use Rattle.std.specs.Prelude.{◌||◌, ◌&&◌, IfSome}
+use Rattle.std.proofs.Common.{rules, ◌≡◌, ℕ, zero, suc, ◌<◌, Bool, true, false, cond, List, [], ◌++◌, Option, Some, None, refl, sym, ap, ◌∙◌, arith}
+use Rattle.std.specs.Prelude.{◌||◌, IfSome}
 use Rattle.std.specs.Str.{bytes_eq}
 use Rattle.std.proofs.lemmas.Slice.Eq.{bytes_eq-Decides}
-use Rattle.tree.specs.declared.kind.Kind.{Kind}
 use Rattle.tree.specs.declared.kind.Kind.TheVariants.{Program, BlockStatement, SwitchStatement, CatchClause, ForStatement, ForInStatement, ForOfStatement, FunctionDeclaration, FunctionExpression, ArrowFunctionExpression, MethodDefinition, Property, LabeledStatement}
 use Rattle.tree.specs.Tree.{Tree, node, Parts, none, part, gap, kind_of, text_of, flags_of, parts_of, part_at, part_count}
 use Rattle.language.specs.FirstPart.{others}
-use Rattle.early_errors.specs.declared.walk.Inside.{Inside}
 use Rattle.early_errors.specs.declared.walk.Inside.TheVariants as inside
 use Rattle.early_errors.specs.declared.around.Around.{Around as Code}
 use Rattle.early_errors.specs.Around.{Around, Label, is_method, labels_loop, last_loop, own_label}

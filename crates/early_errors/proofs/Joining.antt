@@ -1,5 +1,5 @@
 -- What a walk has found behind one part and behind the next, and behind all parts of a node.
-use Rattle.std.proofs.Common.{◌≡◌, ◌≢◌, ℕ, zero, suc, ◌+◌, ◌-◌, ◌<◌, ◌≤◌, true, false, cond, nat_eq, List, [], ◌∷◌, ◌++◌, Option, Some, None, refl, sym, ap, ◌∙◌, arith}
+use Rattle.std.proofs.Common.{◌≡◌, ◌≢◌, ℕ, ◌+◌, ◌-◌, ◌<◌, true, false, cond, nat_eq, List, [], ◌∷◌, ◌++◌, Option, Some, None, refl, sym, ap, ◌∙◌, arith}
 use Rattle.std.proofs.lemmas.Bool.Decides.{nat_tests}
 use Rattle.tree.specs.Tree.{Tree, Parts, kind_of, flags_of, parts_of, part_at, part_count}
 use Rattle.early_errors.specs.declared.around.Around.{Around as Code}
@@ -10,8 +10,8 @@ use Rattle.early_errors.specs.Early.{Error, own_errors, errors_within, least}
 use Rattle.early_errors.specs.Owns.{round, plain_errors, vars_of, clash_with}
 use Rattle.early_errors.specs.Walk.{at_part, sooner, after, hits, clashing, Agree}
 use Rattle.early_errors.specs.Walks.{errors_at, vars_at, range_errors, range_vars}
-use Rattle.early_errors.proofs.Least.{sooner-none, sooner-twice, sooner-turns, least-append, after-append}
-use Rattle.early_errors.proofs.Ranging.{ranged-step, ranged-past, errors-split, errors-behind, errors_whole, vars-split, vars_whole}
+use Rattle.early_errors.proofs.Least.{sooner-none, sooner-twice, sooner-turns, after-append}
+use Rattle.early_errors.proofs.Ranging.{ranged-step, errors-split, errors-behind, errors_whole, vars-split, vars_whole}
 use Rattle.early_errors.proofs.Turning.{hits-agree, turned}
 
 pub hits-append : (f : List ℕ → Option Error) (us vs : List Named) → hits f (us ++ vs) ≡ sooner (hits f us) (hits f vs)

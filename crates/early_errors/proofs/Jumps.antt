@@ -1,19 +1,17 @@
 -- Labels: what a table knows of them, and what a jump asks.
-use Rattle.std.proofs.Common.{◌≡◌, ℕ, zero, suc, ◌-◌, Bool, true, false, not, cond, List, [], ◌∷◌, ◌++◌, Option, Some, None, is_some, filter, refl, sym, ap, subst, ◌∙◌, ◌+◌, ◌<◌, ◌≤◌, arith, add-one, append-nil}
+use Rattle.std.proofs.Common.{◌≡◌, ℕ, zero, suc, ◌-◌, Bool, true, false, not, cond, List, [], ◌∷◌, Option, Some, None, is_some, refl, sym, ap, subst, ◌∙◌, ◌+◌, ◌<◌, ◌≤◌, arith, add-one}
 use Rattle.std.specs.Prelude.{◌||◌, ◌&&◌}
 use Rattle.std.specs.Str.{bytes_eq}
 use Rattle.tree.specs.declared.kind.Kind.{Kind}
-use Rattle.tree.specs.declared.kind.Kind.TheVariants.{BreakStatement, ContinueStatement, LabeledStatement}
-use Rattle.tree.specs.Tree.{Tree, node, Parts, none, part, gap, kind_of, start_of, parts_of, part_at, part_count}
+use Rattle.tree.specs.declared.kind.Kind.TheVariants.{LabeledStatement}
+use Rattle.tree.specs.Tree.{Tree, node, Parts, none, part, gap, kind_of, parts_of, part_at, part_count}
 use Rattle.language.specs.FirstPart.{others}
-use Rattle.early_errors.specs.declared.EarlyError.TheVariants.{MisplacedJump, UndefinedLabel, DuplicateLabel}
 use Rattle.early_errors.specs.Around as around
 use Rattle.early_errors.specs.Around.{Around, is_loop, is_label, labels_loop, last_loop}
-use Rattle.early_errors.specs.Names.{Named, places, when, first_names, names_in}
-use Rattle.early_errors.specs.Labels.{is_bare, labels_statement, labels_a_loop, misplaced_jump, undefined_label, duplicate_label}
-use Rattle.early_errors.specs.Early.{Error, each, own_errors}
+use Rattle.early_errors.specs.Names.{Named}
+use Rattle.early_errors.specs.Labels.{is_bare, labels_statement, labels_a_loop}
 use Rattle.early_errors.specs.Owns.{label_of, or_false, Knows, is_label_for, misses}
-use Rattle.early_errors.specs.Walk.{at_part, stands}
+use Rattle.early_errors.specs.Walk.{stands}
 
 pub label_stands : (ls : List around.Label) (w : List ℕ) → is_some (label_of ls w) ≡ labels_statement ls w
 label_stands [] w = refl

@@ -1,13 +1,13 @@
 -- Flags of regular expressions, and the parts of a template.
 use Rattle.std.proofs.Common.{◌≡◌, ℕ, zero, suc, ◌+◌, ◌<◌, ◌≤◌, Bool, true, false, not, cond, List, [], ◌∷◌, length, drop, get_or, Option, Some, None, is_some, option_map, refl, sym, ap, ◌∙◌, arith, add-one}
-use Rattle.std.specs.Prelude.{◌||◌, ◌&&◌, nat_eq, codes, ◌==◌}
+use Rattle.std.specs.Prelude.{◌||◌, ◌&&◌, codes, ◌==◌}
 use Rattle.std.specs.List.{list_any}
 use Rattle.std.specs.Str.{chars}
 use Rattle.std.proofs.lemmas.List.{drop_more}
 use Rattle.tokens.specs.Templates.{cooked_value}
 use Rattle.tree.specs.declared.kind.Kind.{Kind}
 use Rattle.tree.specs.declared.kind.Kind.TheVariants.{TemplateElement}
-use Rattle.tree.specs.Tree.{Tree, node, Parts, none, part, gap, kind_of, text_of, part_at, part_count}
+use Rattle.tree.specs.Tree.{Tree, Parts, none, part, gap, kind_of, text_of, part_at, part_count}
 use Rattle.early_errors.specs.Cooked.{cooks}
 use Rattle.early_errors.specs.Literals.{holds, flags_part, are_flags, some_uncooked, is_uncooked}
 use Rattle.early_errors.specs.Owns.{is_element, uncooked_at}

@@ -1,14 +1,12 @@
 -- A node's own errors, kind by kind.
-use Rattle.std.proofs.Common.{◌≡◌, ℕ, Bool, true, false, not, cond, List, [], ◌∷◌, ◌++◌, filter, refl, sym, ap, ◌∙◌, append-nil}
+use Rattle.std.proofs.Common.{◌≡◌, false, not, List, [], ◌∷◌, ◌++◌, filter, refl, sym, ap, ◌∙◌, append-nil}
 use Rattle.std.specs.Prelude.{◌||◌, ◌&&◌}
 use Rattle.tree.specs.declared.kind.Kind.{Kind}
-use Rattle.tree.specs.declared.kind.Kind.TheVariants.{Program, BlockStatement, SwitchStatement, CatchClause, ForStatement, ForInStatement, ForOfStatement, ClassDeclaration, ClassExpression, AssignmentExpression, UpdateExpression, VariableDeclaration, FunctionDeclaration, FunctionExpression, ArrowFunctionExpression, BreakStatement, ContinueStatement, LabeledStatement, UnaryExpression, MemberExpression, CallExpression, MetaProperty, ClassBody, MethodDefinition, TemplateLiteral, Literal}
-use Rattle.tree.specs.declared.kind.Flags.{Flags}
+use Rattle.tree.specs.declared.kind.Kind.TheVariants.{CatchClause, ForInStatement, ForOfStatement, ClassDeclaration, ClassExpression, AssignmentExpression, UpdateExpression, VariableDeclaration, FunctionDeclaration, FunctionExpression, ArrowFunctionExpression, BreakStatement, ContinueStatement, LabeledStatement, UnaryExpression, MemberExpression, CallExpression, MetaProperty, ClassBody, MethodDefinition, TemplateLiteral, Literal}
 use Rattle.tree.specs.Tree.{Tree, node, Parts, kind_of, text_of, flags_of, start_of, stop_of, parts_of}
 use Rattle.language.specs.FirstPart.{lead}
 use Rattle.language.specs.Words.{is, is_identifier}
 use Rattle.early_errors.specs.declared.EarlyError.TheVariants.{EvalOrArguments, DuplicateLexicalName, ConstWithoutInitializer, DuplicateParameter, ParameterIsLexicalName, UseStrictBehindPattern, MisplacedJump, UndefinedLabel, DuplicateLabel, DeleteOfIdentifier, SuperPropertyOutsideMethod, SuperCallOutsideConstructor, NewTargetOutsideFunction, DuplicateConstructor, SpecialConstructor, StaticPrototype, UncookedTemplate, RegExpFlags}
-use Rattle.early_errors.specs.declared.own.Own as declared
 use Rattle.early_errors.specs.declared.own.Own.{Own}
 use Rattle.early_errors.specs.declared.own.Own.TheVariants as own
 use Rattle.early_errors.specs.Keys.{key_value}

@@ -1,9 +1,7 @@
 -- A scope's own errors: those of its names alone, and those of `var`s inside.
-use Rattle.std.proofs.Common.{◌≡◌, ℕ, zero, suc, ◌+◌, ◌-◌, ◌<◌, ◌≤◌, Bool, true, false, not, cond, List, [], ◌∷◌, ◌++◌, Option, Some, None, filter, ◌⊎◌, inl, inr, is_some, refl, sym, ap, subst, ◌∙◌, arith, append-nil}
-use Rattle.std.specs.Prelude.{◌||◌, ◌&&◌}
+use Rattle.std.proofs.Common.{◌≡◌, ℕ, ◌+◌, ◌-◌, ◌<◌, ◌≤◌, Bool, true, false, not, cond, List, [], ◌∷◌, ◌++◌, Option, Some, None, filter, ◌⊎◌, inl, inr, is_some, refl, sym, ap, ◌∙◌, arith, append-nil}
 use Rattle.std.proofs.Math.Dec.{leb}
 use Rattle.std.proofs.lemmas.Bool.Decides.{leb_tells}
-use Rattle.tree.specs.declared.kind.Kind.{Kind}
 use Rattle.tree.specs.declared.kind.Kind.TheVariants.{Program, BlockStatement, SwitchStatement, CatchClause, ForStatement, ForInStatement, ForOfStatement, Property}
 use Rattle.tree.specs.Tree.{Tree, node, Parts, none, part, gap, kind_of, flags_of, parts_of, part_at, part_count}
 use Rattle.language.specs.FirstPart.{others}
@@ -22,11 +20,11 @@ use Rattle.early_errors.specs.Classes.{super_property_outside_method, super_call
 use Rattle.early_errors.specs.Literals.{uncooked_template, reg_exp_flags}
 use Rattle.early_errors.specs.Early.{Error, each, own_errors, least}
 use Rattle.early_errors.specs.Owns.{inside_of, scope_kind, scope_error, names_of_scope, place_of_scope, body_place, block_at, is_block, items_at, found_of_scope, plain_errors, doubled, clash_with, case_names}
-use Rattle.early_errors.specs.Walk.{sooner, at_part, names_at, parts_drop}
+use Rattle.early_errors.specs.Walk.{sooner, at_part, parts_drop}
 use Rattle.early_errors.specs.Walks.{vars_at, range_vars}
 use Rattle.early_errors.proofs.Dropping.{first_names-at}
 use Rattle.early_errors.proofs.Insides.{not_scope}
-use Rattle.early_errors.proofs.Least.{sooner-none, sooner-twice, least-append}
+use Rattle.early_errors.proofs.Least.{sooner-twice, least-append}
 use Rattle.early_errors.proofs.Listing.{others-drop, body-whole}
 use Rattle.early_errors.proofs.Ranging.{past, ranged-step, ranged-past, vars_drop}
 use Rattle.early_errors.proofs.Turning.{shared-both}
@@ -67,7 +65,7 @@ catch es ns bs vs =
     least-append es (each c (places (twice ns ++ shared ns (bs ++ vs))) ++ [])
     ∙ ap (λ x. sooner (least es) (least x)) (append-nil (each c (places (twice ns ++ shared ns (bs ++ vs)))) ∙ each-places c (twice ns) (shared ns (bs ++ vs)))
     ∙ ap (sooner (least es)) (least-append (doubled c ns) (clash_with c ns (bs ++ vs)) ∙ ap (sooner (least (doubled c ns))) (shared-both c ns bs vs)
-      ∙ sym (sooner-twice (least (doubled c ns)) (least (clash_with c ns bs)) (least (clash_with c ns vs))) ∙ ap (λ x. sooner x (least (clash_with c ns vs))) (sym (least-append (doubled c ns) (clash_with c ns bs))))
+    ∙ sym (sooner-twice (least (doubled c ns)) (least (clash_with c ns bs)) (least (clash_with c ns vs))) ∙ ap (λ x. sooner x (least (clash_with c ns vs))) (sym (least-append (doubled c ns) (clash_with c ns bs))))
 
 head : (es : List Error) (ns vs : List Named) → least (es ++ (each error.ForNameIsVar (places (shared ns vs)) ++ [])) ≡ sooner (least es) (least (clash_with error.ForNameIsVar ns vs))
 head es ns vs = least-append es (each error.ForNameIsVar (places (shared ns vs)) ++ []) ∙ ap (λ x. sooner (least es) (least x)) (append-nil (each error.ForNameIsVar (places (shared ns vs))))

@@ -1,5 +1,5 @@
 -- What holds round the parts of a node that is nothing special.
-use Rattle.std.proofs.Common.{◌≡◌, is_some, ◌⊎◌, inl, inr, Bool, true, false, List, refl, sym, ap, ◌∙◌}
+use Rattle.std.proofs.Common.{◌≡◌, is_some, ◌⊎◌, inl, inr, Bool, true, false, List, refl, sym, ◌∙◌}
 use Rattle.std.specs.Prelude.{◌||◌}
 use Rattle.tree.specs.declared.kind.Kind.{Kind}
 use Rattle.tree.specs.declared.kind.Kind.TheVariants.{Property, FunctionExpression, ArrowFunctionExpression, ClassExpression, ClassBody, MethodDefinition, TaggedTemplateExpression, LabeledStatement, SwitchStatement, ForInStatement, ForOfStatement, FunctionDeclaration, ClassDeclaration}

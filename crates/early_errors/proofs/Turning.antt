@@ -1,13 +1,13 @@
 -- What clashes with a `var`, by the `var` or by the name: turned round it is the same.
-use Rattle.std.proofs.Common.{◌≡◌, ℕ, Bool, true, false, cond, List, [], ◌∷◌, ◌++◌, Option, Some, None, filter, refl, sym, ap, ◌∙◌}
+use Rattle.std.proofs.Common.{◌≡◌, ℕ, Bool, true, false, cond, List, [], ◌∷◌, ◌++◌, Option, Some, None, refl, sym, ap, ◌∙◌}
 use Rattle.std.specs.Prelude.{◌||◌}
 use Rattle.std.specs.Str.{bytes_eq}
 use Rattle.std.proofs.lemmas.Slice.Eq.{bytes_eq-Decides}
 use Rattle.early_errors.specs.declared.EarlyError.{EarlyError}
 use Rattle.early_errors.specs.Names.{Named, places, has_name, shared}
 use Rattle.early_errors.specs.Early.{Error, each, number, least}
-use Rattle.early_errors.specs.Walk.{sooner, after, hits, clashing, Agree}
-use Rattle.early_errors.proofs.Least.{sooner-none, sooner-twice, sooner-swaps, sooner-turns, sooner-same, least-append}
+use Rattle.early_errors.specs.Walk.{sooner, hits, clashing, Agree}
+use Rattle.early_errors.proofs.Least.{sooner-none, sooner-twice, sooner-turns, sooner-same}
 
 abbrev one : (List ℕ → Option Error) → EarlyError → Named → List ℕ → Option Error
 one f e x w = cond (bytes_eq x.0 w) (sooner (f x.0) (Some (number e, x.1))) (f w)

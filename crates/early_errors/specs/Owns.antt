@@ -1,11 +1,11 @@
 -- What the program's own calls say of a node itself: what holds round it, the labels that a table knows, and which of its errors are found
 -- where.
-use Rattle.std.specs.Prelude.{◌≡◌, ℕ, zero, suc, Bool, true, false, not, cond, ◌||◌, ◌&&◌, List, [], ◌∷◌, ◌++◌, ◌-◌, map, filter, Option, Some, None, is_some}
+use Rattle.std.specs.Prelude.{◌≡◌, ℕ, zero, suc, Bool, true, false, not, cond, ◌||◌, List, [], ◌∷◌, ◌++◌, ◌-◌, Option, Some, None, is_some}
 use Rattle.std.specs.Str.{bytes_eq}
 use Rattle.tree.specs.declared.kind.Kind.{Kind}
 use Rattle.tree.specs.declared.kind.Kind.TheVariants as kind
 use Rattle.tree.specs.declared.kind.Flags.{Flags}
-use Rattle.tree.specs.Tree.{Tree, node, Parts, none, part, gap, kind_of, text_of, flags_of, start_of, parts_of, part_at, part_count}
+use Rattle.tree.specs.Tree.{Tree, Parts, none, kind_of, text_of, start_of, parts_of, part_at, part_count}
 use Rattle.language.specs.Words.{among, is_identifier}
 use Rattle.early_errors.specs.declared.EarlyError.{EarlyError}
 use Rattle.early_errors.specs.declared.EarlyError.TheVariants as error
@@ -22,7 +22,7 @@ use Rattle.early_errors.specs.declared.own.Own.TheVariants.{Variables, Function,
 use Rattle.early_errors.specs.Around as around
 use Rattle.early_errors.specs.Around.{Around}
 use Rattle.language.specs.FirstPart.{others}
-use Rattle.early_errors.specs.Names.{Named, places, each_part, twice, shared, names_in, lexical_names, function_names, body_items, own_vars}
+use Rattle.early_errors.specs.Names.{Named, places, each_part, twice, shared, lexical_names, function_names, body_items, own_vars}
 use Rattle.early_errors.specs.Walk.{at_part, names_at, parts_drop}
 use Rattle.early_errors.specs.declared.scopes.ScopeKind.{ScopeKind}
 use Rattle.early_errors.specs.declared.scopes.ScopeKind.TheVariants as scope

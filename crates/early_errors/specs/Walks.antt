@@ -1,5 +1,5 @@
 -- What a walk says of a node's parts from a place on.
-use Rattle.std.specs.Prelude.{◌≡◌, ℕ, zero, suc, cond, nat_eq, ◌<◌, List, [], ◌++◌, Option, Some, None, IfSome}
+use Rattle.std.specs.Prelude.{◌≡◌, ℕ, zero, suc, cond, nat_eq, List, [], ◌++◌, IfSome}
 use Rattle.tree.specs.Tree.{Tree, Parts, part_at}
 use Rattle.early_errors.specs.declared.around.Around.{Around as Code}
 use Rattle.early_errors.specs.Around.{Around, labels_loop}

@@ -1,4 +1,4 @@
-use Rattle.std.proofs.Common.{◌≡◌, [], None, refl, sym, ap, ◌∙◌}
+use Rattle.std.proofs.Common.{[], ap, ◌∙◌}
 use Rattle.tree.specs.Node.{node_tree}
 use Rattle.early_errors.specs.Early.{errors, least}
 use Rattle.early_errors.specs.Names.{var_names}

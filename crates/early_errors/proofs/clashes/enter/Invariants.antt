@@ -1,4 +1,4 @@
-use Rattle.std.proofs.Common.{◌≡◌, take}
+use Rattle.std.proofs.Common.{take}
 use Rattle.early_errors.specs.Walk.{Agree, all_named, clashing, look, undone}
 use Rattle.early_errors.proofs.clashes.enter.Given as goal
 

@@ -1,6 +1,5 @@
-use Rattle.std.proofs.Common.{ap, sym, ◌∙◌}
-use Rattle.early_errors.specs.Walk.{all_named, hits, look, sooner}
-use Rattle.early_errors.proofs.Least.{sooner-none, sooner-twice}
+use Rattle.std.proofs.Common.{◌∙◌}
+use Rattle.early_errors.specs.Walk.{look, sooner}
 use Rattle.early_errors.proofs.Naming.{hits_turn}
 use Rattle.early_errors.proofs.clashes.hits.Goals as goal
 

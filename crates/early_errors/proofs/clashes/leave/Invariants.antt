@@ -1,4 +1,4 @@
-use Rattle.std.proofs.Common.{◌≡◌, length}
+use Rattle.std.proofs.Common.{length}
 use Rattle.early_errors.specs.Walk.{Agree, look, undone}
 use Rattle.early_errors.proofs.clashes.leave.Given as goal
 

@@ -1,7 +1,6 @@
-use Rattle.std.proofs.Common.{sym, ap, ◌∙◌}
+use Rattle.std.proofs.Common.{◌∙◌}
 use Rattle.std.specs.Str.{bytes_eq}
 use Rattle.tree.specs.Node.{node_tree}
-use Rattle.early_errors.specs.Keys.{key_value}
 use Rattle.early_errors.proofs.Keyed.{plain_key, quoted_key}
 use Rattle.early_errors.proofs.classes.key_is.Goals as goal
 

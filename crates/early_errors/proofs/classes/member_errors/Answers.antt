@@ -1,7 +1,4 @@
-use Rattle.std.proofs.Common.{Bool, not, sym, ap, ◌∙◌, refl}
-use Rattle.std.specs.Prelude.{◌&&◌}
 use Rattle.tree.specs.Node.{node_tree}
-use Rattle.tree.specs.Tree.{parts_of, flags_of}
 use Rattle.early_errors.proofs.Founds.{members}
 use Rattle.early_errors.proofs.classes.member_errors.Goals as goal
 

@@ -1,5 +1,4 @@
-use Rattle.std.proofs.Common.{sym, ap, ◌∙◌}
-use Rattle.std.proofs.Common.{option_map}
+use Rattle.std.proofs.Common.{◌∙◌}
 use Rattle.tree.specs.Node.{node_tree}
 use Rattle.early_errors.proofs.Jumps.{is_a_loop, is_neither, is_labelled}
 use Rattle.early_errors.proofs.labels.+labels_loop.Goals as goal

@@ -1,4 +1,4 @@
-use Rattle.std.proofs.Common.{sym, ap, ◌∙◌}
+use Rattle.std.proofs.Common.{◌∙◌}
 use Rattle.tree.specs.Node.{node_tree}
 use Rattle.early_errors.proofs.Jumps.{label_alone, label_follows}
 use Rattle.early_errors.proofs.labels.label_is_loop.Goals as goal

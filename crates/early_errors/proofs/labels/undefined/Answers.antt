@@ -1,4 +1,4 @@
-use Rattle.std.proofs.Common.{Bool, true, false, not, refl, sym, ap, ◌≡◌, ◌∙◌}
+use Rattle.std.proofs.Common.{not, sym, ap, ◌∙◌}
 use Rattle.early_errors.specs.declared.EarlyError.TheVariants.{UndefinedLabel}
 use Rattle.early_errors.specs.Owns.{is_label_for, misses}
 use Rattle.early_errors.specs.Walk.{look}

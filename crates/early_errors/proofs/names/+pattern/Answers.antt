@@ -1,7 +1,7 @@
-use Rattle.std.proofs.Common.{sym, ap, ◌∙◌, ◌++◌, ◌≤◌, ◌<◌, [], ◌∷◌, arith, subst, append-nil}
+use Rattle.std.proofs.Common.{sym, ap, ◌∙◌, ◌++◌, ◌≤◌, ◌<◌, [], ◌∷◌, subst, append-nil}
 use Rattle.std.proofs.lemmas.List.{map-append}
 use Rattle.tree.specs.Node.{node_tree}
-use Rattle.tree.specs.Tree.{parts_of, part_at, part_count}
+use Rattle.tree.specs.Tree.{parts_of}
 use Rattle.early_errors.specs.declared.names.Binding.TheVariants.{Name, AllParts, FirstPart, LastPart, Nothing}
 use Rattle.early_errors.specs.Names.{names_in}
 use Rattle.early_errors.specs.Walk.{all_named, names_at, named}

@@ -1,4 +1,4 @@
-use Rattle.std.proofs.Common.{◌≡◌, ℕ, ◌+◌, ◌*◌, ◌++◌, option_map}
+use Rattle.std.proofs.Common.{◌≡◌, ◌+◌, ◌*◌, ◌++◌, option_map}
 use Rattle.tree.specs.Tree.{node_total, parts_of}
 use Rattle.tree.specs.Node.{node_tree}
 use Rattle.tree.proofs.PartWalk.{optional_total}

@@ -1,7 +1,7 @@
 use Rattle.std.proofs.Common.{◌≡◌, ◌++◌}
 use Rattle.tree.specs.Node.{node_tree}
 use Rattle.tree.specs.Tree.{parts_of}
-use Rattle.early_errors.specs.Names.{each_part, lexical_names}
+use Rattle.early_errors.specs.Names.{each_part}
 use Rattle.early_errors.specs.Walk.{all_named, declared_by, parts_drop}
 use Rattle.early_errors.proofs.names.push_declared.Given as goal
 

@@ -1,8 +1,8 @@
-use Rattle.std.proofs.Common.{sym, ap, ◌∙◌, ◌≤◌, ◌<◌, subst}
+use Rattle.std.proofs.Common.{◌≤◌, ◌<◌, subst}
 use Rattle.tree.specs.Node.{node_tree}
 use Rattle.tree.specs.Tree.{parts_of}
 use Rattle.early_errors.specs.Names.{lexical_names}
-use Rattle.early_errors.specs.Walk.{all_named, declared_by}
+use Rattle.early_errors.specs.Walk.{all_named}
 use Rattle.early_errors.proofs.Dropping.{push-turn, push-end}
 use Rattle.early_errors.proofs.names.push_lexical_parts.Goals as goal
 

@@ -1,8 +1,8 @@
-use Rattle.std.proofs.Common.{ℕ, sym, ap, ◌∙◌, ◌≡◌, ◌≤◌, ◌<◌, ◌-◌, ◌+◌, ◌++◌, arith, append-nil, subst}
+use Rattle.std.proofs.Common.{sym, ap, ◌∙◌, ◌≤◌, ◌<◌, ◌-◌, ◌+◌, ◌++◌, arith, append-nil, subst}
 use Rattle.tree.specs.Node.{node_tree}
 use Rattle.tree.specs.Tree.{parts_of, part_count}
 use Rattle.early_errors.specs.Names.{parameter_names}
-use Rattle.early_errors.specs.Walk.{all_named, names_at, parts_drop}
+use Rattle.early_errors.specs.Walk.{all_named, parts_drop}
 use Rattle.early_errors.proofs.Dropping.{appended, parameters-step, parameters-past}
 use Rattle.early_errors.proofs.names.push_parameters.Goals as goal
 

@@ -1,4 +1,4 @@
-use Rattle.std.proofs.Common.{◌++◌, option_map, sym, ap, ◌∙◌}
+use Rattle.std.proofs.Common.{◌++◌, sym, ap, ◌∙◌}
 use Rattle.tree.specs.Node.{node_tree}
 use Rattle.tree.specs.Tree.{parts_of}
 use Rattle.early_errors.specs.Walk.{all_named, names_at}

@@ -1,7 +1,7 @@
 use Rattle.std.proofs.Common.{filter, sym, ap, ◌∙◌}
 use Rattle.tree.specs.Node.{node_tree}
 use Rattle.early_errors.specs.declared.EarlyError.TheVariants.{EvalOrArguments, DuplicateLabel}
-use Rattle.early_errors.specs.declared.own.Own.TheVariants.{Label, FirstNames}
+use Rattle.early_errors.specs.declared.own.Own.TheVariants.{Label}
 use Rattle.early_errors.specs.Names.{places}
 use Rattle.early_errors.specs.Strict.{is_restricted}
 use Rattle.early_errors.specs.Early.{each}

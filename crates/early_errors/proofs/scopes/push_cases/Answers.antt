@@ -1,7 +1,6 @@
 use Rattle.std.proofs.Common.{◌≤◌, ◌<◌, subst}
 use Rattle.tree.specs.Node.{node_tree}
 use Rattle.tree.specs.Tree.{parts_of}
-use Rattle.early_errors.specs.Names.{function_names}
 use Rattle.early_errors.specs.Owns.{case_names}
 use Rattle.early_errors.specs.Walk.{all_named}
 use Rattle.early_errors.proofs.Dropping.{push-turn, push-end}

@@ -17,77 +17,82 @@ use Rattle.early_errors.proofs.walk.+walk.Goals.{walk_label-then-part_count-eq2,
 pub walk_function-returns-clause-found : goal.walk_function-returns-clause-found
 walk_function-returns-clause-found t c =
     λ o ls k e.
-      let t = node_tree c.args.node in
-      let z = round c.args.around ls in
-      let f = function_facts t z ls c.requires.inside in
-      function-found o c.args.walk.now.found (look c.args.walk.now.vars) z (round c.rounds_of.result.first []) (round c.rounds_of.result.others []) t (c.part_count.result - 0)
-      (from_start c.part_count.result ∙ c.part_count.ensures) (ap (round c.rounds_of.result.first) (sym f.0.0) ∙ c.rounds_of.ensures.first ls) (ap (round c.rounds_of.result.others) (sym f.0.1.0) ∙ c.rounds_of.ensures.others ls)
-      (look c.replace-vars.new.dest) c.walk_parts.new.walk.found f.0.1.1.1 f.0.1.1.0 f.1 (λ w. ap (λ v. look v w) c.replace-vars.ensures.after ∙ c.new.ensures w) e
-      (c.in_ok-walk_parts.ensures.found [] (λ w. ap (λ v. look v w) c.replace-labels.ensures.after ∙ c.new-2.ensures w))
+    let t = node_tree c.args.node in
+    let z = round c.args.around ls in
+    let f = function_facts t z ls c.requires.inside in
+    function-found o c.args.walk.now.found (look c.args.walk.now.vars) z (round c.rounds_of.result.first []) (round c.rounds_of.result.others []) t (c.part_count.result - 0)
+    (from_start c.part_count.result ∙ c.part_count.ensures) (ap (round c.rounds_of.result.first) (sym f.0.0) ∙ c.rounds_of.ensures.first ls) (ap (round c.rounds_of.result.others) (sym f.0.1.0) ∙ c.rounds_of.ensures.others ls)
+    (look c.replace-vars.new.dest) c.walk_parts.new.walk.found f.0.1.1.1 f.0.1.1.0 f.1 (λ w. ap (λ v. look v w) c.replace-vars.ensures.after ∙ c.new.ensures w) e
+    (c.in_ok-walk_parts.ensures.found [] (λ w. ap (λ v. look v w) c.replace-labels.ensures.after ∙ c.new-2.ensures w))
 
 pub walk_label-returns-in_default-clause-found : goal.walk_label-returns-in_default-clause-found
 walk_label-returns-in_default-clause-found t c =
     on_ok c.walk_parts.result
     (λ h o ls k e.
-      let t = node_tree c.args.node in
-      let z = round c.args.around ls in
-      let f = (label_facts t z ls c.requires.inside).0 in
-      let same = no_own_label (parts_of t) ls c.in_default.ensures in
-      let first = c.rounds_of-rounds.result.first in
-      let others = c.rounds_of-rounds.result.others in
-      parts-found o c.args.walk.now.found (look c.args.walk.now.vars) z (round first ls) (round others ls) t (c.part_count.result - 0)
-      (from_start c.part_count.result ∙ c.part_count.ensures) (ap (round first) (sym (f.0 ∙ same)) ∙ c.rounds_of-rounds.ensures.first ls) (ap (round others) (sym (f.1.0 ∙ same)) ∙ c.rounds_of-rounds.ensures.others ls)
-      (look c.args.walk.now.vars) c.walk_parts.new.walk.found f.1.1.1 f.1.1.0 (λ w. refl) e (h ls k))
+    let t = node_tree c.args.node in
+    let z = round c.args.around ls in
+    let f = (label_facts t z ls c.requires.inside).0 in
+    let same = no_own_label (parts_of t) ls c.in_default.ensures in
+    let first = c.rounds_of-rounds.result.first in
+    let others = c.rounds_of-rounds.result.others in
+    parts-found o c.args.walk.now.found (look c.args.walk.now.vars) z (round first ls) (round others ls) t (c.part_count.result - 0)
+    (from_start c.part_count.result ∙ c.part_count.ensures) (ap (round first) (sym (f.0 ∙ same)) ∙ c.rounds_of-rounds.ensures.first ls) (ap (round others) (sym (f.1.0 ∙ same)) ∙ c.rounds_of-rounds.ensures.others ls)
+    (look c.args.walk.now.vars) c.walk_parts.new.walk.found f.1.1.1 f.1.1.0 (λ w. refl) e (h ls k))
     c.walk_parts.ensures.found
 
 pub walk_label-walk_parts-requires-2 : goal.walk_label-walk_parts-requires-2
 walk_label-walk_parts-requires-2 t c =
-    let t = node_tree c.args.node in
-    (search rules, (
-      elim c.if-part_count-eq2.branch [
-        walk_label-then-part_count-eq2 w ↦ ap (λ r. r.first.labels_loop) w.rounds-is ∙ c.rounds_of-rounds.ensures.first_unknown
-      | walk_label-else-part_count-eq2 w ↦ ap (λ r. r.first.labels_loop) w.rounds-is ∙ c.rounds_of-rounds.ensures.first_unknown ],
-      λ i u l e. elim c.if-part_count-eq2.branch [
-        walk_label-then-part_count-eq2 w ↦ known_fits c.if-part_count-eq2.rounds.others u c.label_is_loop-is_loop.result (ap (λ r. r.others.labels_loop) w.rounds-is)
-          (c.label_is_loop-is_loop.ensures (label_facts t (round c.args.around []) [] c.requires.inside).1 ∙ the_second (parts_of t) i u (sym c.part_count-2.ensures ∙ w.if-part_count-eq2.true) l e)
-      | walk_label-else-part_count-eq2 w ↦ unknown_fits c.if-part_count-eq2.rounds.others u (ap (λ r. r.others.labels_loop) w.rounds-is ∙ c.rounds_of-rounds.ensures.others_unknown) ]))
+    let t = node_tree c.args.node in (
+      search rules,
+      (
+        elim c.if-part_count-eq2.branch [
+          | walk_label-then-part_count-eq2 w ↦ ap (λ r. r.first.labels_loop) w.rounds-is ∙ c.rounds_of-rounds.ensures.first_unknown
+          | walk_label-else-part_count-eq2 w ↦ ap (λ r. r.first.labels_loop) w.rounds-is ∙ c.rounds_of-rounds.ensures.first_unknown
+        ],
+        λ i u l e. elim c.if-part_count-eq2.branch [
+          | walk_label-then-part_count-eq2 w ↦ known_fits c.if-part_count-eq2.rounds.others u c.label_is_loop-is_loop.result (ap (λ r. r.others.labels_loop) w.rounds-is)
+              (c.label_is_loop-is_loop.ensures (label_facts t (round c.args.around []) [] c.requires.inside).1 ∙ the_second (parts_of t) i u (sym c.part_count-2.ensures ∙ w.if-part_count-eq2.true) l e)
+          | walk_label-else-part_count-eq2 w ↦ unknown_fits c.if-part_count-eq2.rounds.others u (ap (λ r. r.others.labels_loop) w.rounds-is ∙ c.rounds_of-rounds.ensures.others_unknown)
+        ],
+      ),
+    )
 
 pub walk_label-returns-clause-found : goal.walk_label-returns-clause-found
 walk_label-returns-clause-found t c =
     λ o ls k e.
-      let t = node_tree c.args.node in
-      let z = round c.args.around ls in
-      let facts = label_facts t z ls c.requires.inside in
-      let f = facts.0 in
-      let inner = own_label (parts_of t) ls in
-      let rounds = c.if-part_count-eq2.rounds in
-      let first : round rounds.first inner ≡ round c.rounds_of-rounds.result.first inner =
-        elim c.if-part_count-eq2.branch [ walk_label-then-part_count-eq2 w ↦ ap (λ r. round r.first inner) w.rounds-is | walk_label-else-part_count-eq2 w ↦ ap (λ r. round r.first inner) w.rounds-is ] in
-      let others : round rounds.others inner ≡ round c.rounds_of-rounds.result.others inner =
-        elim c.if-part_count-eq2.branch [ walk_label-then-part_count-eq2 w ↦ ap (λ r. round r.others inner) w.rounds-is | walk_label-else-part_count-eq2 w ↦ ap (λ r. round r.others inner) w.rounds-is ] in
-      let after : c.if-is_loop.after ≡ (c.label_is_loop-is_loop.result || or_false c.value-before.result) =
-        elim c.if-is_loop.branch [ walk_label-then-is_loop w ↦ w.after-is ∙ w.if-is_loop.true ∙ ap (λ b. b || or_false c.value-before.result) (sym w.if-is_loop.true) | walk_label-else-is_loop w ↦ w.after-is ∙ w.is_true-after.ensures ∙ ap (λ b. b || or_false c.value-before.result) (sym w.if-is_loop.false) ] in
-      parts-found o c.args.walk.now.found (look c.args.walk.now.vars) z (round rounds.first inner) (round rounds.others inner) t (c.part_count-3.result - 0)
-      (from_start c.part_count-3.result ∙ c.part_count-3.ensures) (first ∙ ap (round c.rounds_of-rounds.result.first) (sym f.0) ∙ c.rounds_of-rounds.ensures.first ls) (others ∙ ap (round c.rounds_of-rounds.result.others) (sym f.1.0) ∙ c.rounds_of-rounds.ensures.others ls)
-      (look c.args.walk.now.vars) c.walk_parts-2.new.walk.found f.1.1.1 f.1.1.0 (λ w. refl) e
-      (c.in_ok-walk_parts.ensures.found inner
-        (one_label (look c.args.walk.now.labels) (look c.replace.new.self) ls (parts_of t) (node_tree c.in-Some.label) c.text-2.result.now c.label_is_loop-is_loop.result c.if-is_loop.after c.value-before.result c.in-Some.ensures c.text-2.ensures
-          (c.label_is_loop-is_loop.ensures facts.1) (c.value-before.ensures ∙ ap (look c.args.walk.now.labels) (c.text.ensures ∙ sym c.text-2.ensures)) after k c.in_ok-replace.ensures.after))
+    let t = node_tree c.args.node in
+    let z = round c.args.around ls in
+    let facts = label_facts t z ls c.requires.inside in
+    let f = facts.0 in
+    let inner = own_label (parts_of t) ls in
+    let rounds = c.if-part_count-eq2.rounds in
+    let first : round rounds.first inner ≡ round c.rounds_of-rounds.result.first inner =
+    elim c.if-part_count-eq2.branch [ walk_label-then-part_count-eq2 w ↦ ap (λ r. round r.first inner) w.rounds-is | walk_label-else-part_count-eq2 w ↦ ap (λ r. round r.first inner) w.rounds-is ] in
+    let others : round rounds.others inner ≡ round c.rounds_of-rounds.result.others inner =
+    elim c.if-part_count-eq2.branch [ walk_label-then-part_count-eq2 w ↦ ap (λ r. round r.others inner) w.rounds-is | walk_label-else-part_count-eq2 w ↦ ap (λ r. round r.others inner) w.rounds-is ] in
+    let after : c.if-is_loop.after ≡ (c.label_is_loop-is_loop.result || or_false c.value-before.result) =
+    elim c.if-is_loop.branch [ walk_label-then-is_loop w ↦ w.after-is ∙ w.if-is_loop.true ∙ ap (λ b. b || or_false c.value-before.result) (sym w.if-is_loop.true) | walk_label-else-is_loop w ↦ w.after-is ∙ w.is_true-after.ensures ∙ ap (λ b. b || or_false c.value-before.result) (sym w.if-is_loop.false) ] in
+    parts-found o c.args.walk.now.found (look c.args.walk.now.vars) z (round rounds.first inner) (round rounds.others inner) t (c.part_count-3.result - 0)
+    (from_start c.part_count-3.result ∙ c.part_count-3.ensures) (first ∙ ap (round c.rounds_of-rounds.result.first) (sym f.0) ∙ c.rounds_of-rounds.ensures.first ls) (others ∙ ap (round c.rounds_of-rounds.result.others) (sym f.1.0) ∙ c.rounds_of-rounds.ensures.others ls)
+    (look c.args.walk.now.vars) c.walk_parts-2.new.walk.found f.1.1.1 f.1.1.0 (λ w. refl) e
+    (c.in_ok-walk_parts.ensures.found inner
+    (one_label (look c.args.walk.now.labels) (look c.replace.new.self) ls (parts_of t) (node_tree c.in-Some.label) c.text-2.result.now c.label_is_loop-is_loop.result c.if-is_loop.after c.value-before.result c.in-Some.ensures c.text-2.ensures
+    (c.label_is_loop-is_loop.ensures facts.1) (c.value-before.ensures ∙ ap (look c.args.walk.now.labels) (c.text.ensures ∙ sym c.text-2.ensures)) after k c.in_ok-replace.ensures.after))
 
 pub walk_method-returns-clause-found : goal.walk_method-returns-clause-found
 walk_method-returns-clause-found t c =
     λ o ls k e.
-      let t = node_tree c.args.node in
-      let z = round c.args.around ls in
-      let f = method_facts t z ls c.requires.inside in
-      let first = c.rounds_of-rounds.result.first in
-      let others = c.rounds_of-rounds.result.others in
-      parts-found o c.args.walk.now.found (look c.args.walk.now.vars) z (round first ls) (round others []) t c.part_count.result
-      c.part_count.ensures (ap (round first) (sym f.0) ∙ c.rounds_of-rounds.ensures.first ls) (ap (round others) (sym f.1.0) ∙ c.rounds_of-rounds.ensures.others ls)
-      (look c.args.walk.now.vars) c.walk_parts-2.new.walk.found f.1.1.1 f.1.1.0 (λ w. refl) e
-      (two-goes (look c.args.walk.now.vars) (look c.args.walk.now.vars) (look c.walk_parts.new.walk.vars) c.args.walk.now.found c.walk_parts.new.walk.found c.walk_parts-2.new.walk.found
-        (round others ls) (round first []) (round first ls) (round others []) (parts_of t) c.part_count.result c.part_count.ensures (λ w. refl) c.in_ok-walk_parts.ensures.vars
-        (c.in_ok-walk_parts.ensures.found ls k) (c.in_ok-walk_parts-2.ensures.found [] (λ w. ap (λ v. look v w) c.replace-labels.ensures.after ∙ c.new.ensures w)))
+    let t = node_tree c.args.node in
+    let z = round c.args.around ls in
+    let f = method_facts t z ls c.requires.inside in
+    let first = c.rounds_of-rounds.result.first in
+    let others = c.rounds_of-rounds.result.others in
+    parts-found o c.args.walk.now.found (look c.args.walk.now.vars) z (round first ls) (round others []) t c.part_count.result
+    c.part_count.ensures (ap (round first) (sym f.0) ∙ c.rounds_of-rounds.ensures.first ls) (ap (round others) (sym f.1.0) ∙ c.rounds_of-rounds.ensures.others ls)
+    (look c.args.walk.now.vars) c.walk_parts-2.new.walk.found f.1.1.1 f.1.1.0 (λ w. refl) e
+    (two-goes (look c.args.walk.now.vars) (look c.args.walk.now.vars) (look c.walk_parts.new.walk.vars) c.args.walk.now.found c.walk_parts.new.walk.found c.walk_parts-2.new.walk.found
+    (round others ls) (round first []) (round first ls) (round others []) (parts_of t) c.part_count.result c.part_count.ensures (λ w. refl) c.in_ok-walk_parts.ensures.vars
+    (c.in_ok-walk_parts.ensures.found ls k) (c.in_ok-walk_parts-2.ensures.found [] (λ w. ap (λ v. look v w) c.replace-labels.ensures.after ∙ c.new.ensures w)))
 
 pub walk_node-returns-in-Function-clause-vars : goal.walk_node-returns-in-Function-clause-vars
 walk_node-returns-in-Function-clause-vars t c = on_ok c.walk_function.result (λ h w. h w ∙ ap (λ v. look v w) c.in_ok-own_errors.ensures.vars) c.walk_function.ensures.vars
@@ -105,14 +110,14 @@ pub walk_node-returns-in-Plain-clause-found : goal.walk_node-returns-in-Plain-cl
 walk_node-returns-in-Plain-clause-found t c =
     on_ok c.walk_parts.result
     (λ h ls k.
-      let t = node_tree c.args.node in
-      let z = round c.args.around ls in
-      let kind = (λ i. inside_of (sym c.kind.ensures i) (sym c.flags.ensures i).form) ∙ sym c.inside_of.ensures ∙ c.in-Plain.is in
-      let f = plain_facts t z ls kind in
-      parts-found c.args.walk.now.found c.own_errors.new.walk.found (look c.args.walk.now.vars) z (round c.rounds_of.result.first ls) (round c.rounds_of.result.others ls) t (c.part_count.result - 0)
-      (from_start c.part_count.result ∙ c.part_count.ensures) (ap (round c.rounds_of.result.first) (sym f.0) ∙ c.rounds_of.ensures.first ls) (ap (round c.rounds_of.result.others) (sym f.1.0) ∙ c.rounds_of.ensures.others ls)
-      (look c.own_errors.new.walk.vars) c.walk_parts.new.walk.found f.1.1.1 f.1.1.0 (λ w. ap (λ v. look v w) c.in_ok-own_errors.ensures.vars) (c.in_ok-own_errors.ensures.found ls k)
-      (h ls (λ w. ap (λ v. look v w) c.in_ok-own_errors.ensures.labels ∙ k w)))
+    let t = node_tree c.args.node in
+    let z = round c.args.around ls in
+    let kind = (λ i. inside_of (sym c.kind.ensures i) (sym c.flags.ensures i).form) ∙ sym c.inside_of.ensures ∙ c.in-Plain.is in
+    let f = plain_facts t z ls kind in
+    parts-found c.args.walk.now.found c.own_errors.new.walk.found (look c.args.walk.now.vars) z (round c.rounds_of.result.first ls) (round c.rounds_of.result.others ls) t (c.part_count.result - 0)
+    (from_start c.part_count.result ∙ c.part_count.ensures) (ap (round c.rounds_of.result.first) (sym f.0) ∙ c.rounds_of.ensures.first ls) (ap (round c.rounds_of.result.others) (sym f.1.0) ∙ c.rounds_of.ensures.others ls)
+    (look c.own_errors.new.walk.vars) c.walk_parts.new.walk.found f.1.1.1 f.1.1.0 (λ w. ap (λ v. look v w) c.in_ok-own_errors.ensures.vars) (c.in_ok-own_errors.ensures.found ls k)
+    (h ls (λ w. ap (λ v. look v w) c.in_ok-own_errors.ensures.labels ∙ k w)))
     c.walk_parts.ensures.found
 
 pub walk_node-returns-in-Plain-clause-vars : goal.walk_node-returns-in-Plain-clause-vars
@@ -126,45 +131,48 @@ walk_parts-loop-index-preserved t c =
     let V = look c.args.walk.now.vars in
     let i = c.loop-index.index in
     elim c.match-part.branch [
-      walk_parts-in-Some+in_ok-walk_node w ↦ record {
+      | walk_parts-in-Some+in_ok-walk_node w ↦ record {
         found = λ ls k.
-          let round-is : round w.if-index-eq0.around ls ≡ cond (nat_eq i 0) (round first ls) (round others ls) =
+            let round-is : round w.if-index-eq0.around ls ≡ cond (nat_eq i 0) (round first ls) (round others ls) =
             elim w.if-index-eq0.branch [ walk_parts-then-index-eq0 w' ↦ first-round first others w.if-index-eq0.around i ls w'.if-index-eq0.true w'.around-is | walk_parts-else-index-eq0 w' ↦ other-round first others w.if-index-eq0.around i ls w'.if-index-eq0.false w'.around-is ] in
-          part-turn V (round first ls) (round others ls) ps i c.args.to c.loop-index-test.true _ c.loop-index.walk.found c.match-part.walk.found
-          (part-given V (look c.loop-index.walk.vars) (round w.if-index-eq0.around ls) (round first ls) (round others ls) ps i (node_tree w.in-Some.part) c.loop-index.walk.found c.match-part.walk.found c.loop-index.invariant.vars w.in-Some.ensures round-is
+            part-turn V (round first ls) (round others ls) ps i c.args.to c.loop-index-test.true _ c.loop-index.walk.found c.match-part.walk.found
+            (part-given V (look c.loop-index.walk.vars) (round w.if-index-eq0.around ls) (round first ls) (round others ls) ps i (node_tree w.in-Some.part) c.loop-index.walk.found c.match-part.walk.found c.loop-index.invariant.vars w.in-Some.ensures round-is
             (ap (λ x. x.found) w.walk-is ∙ w.in_ok-walk_node.ensures.found ls (λ v. c.loop-index.invariant.labels v ∙ k v)))
-          (c.loop-index.invariant.found ls k);
+            (c.loop-index.invariant.found ls k);
         vars = λ v. ap (λ x. look x.vars v) w.walk-is ∙ w.in_ok-walk_node.ensures.vars v ∙ c.loop-index.invariant.vars v;
-        labels = λ v. ap (λ x. look x.labels v) w.walk-is ∙ w.in_ok-walk_node.ensures.labels v ∙ c.loop-index.invariant.labels v }
-    | walk_parts-in_default w ↦ record {
+        labels = λ v. ap (λ x. look x.labels v) w.walk-is ∙ w.in_ok-walk_node.ensures.labels v ∙ c.loop-index.invariant.labels v;
+      }
+      | walk_parts-in_default w ↦ record {
         found = λ ls k.
-          part-turn V (round first ls) (round others ls) ps i c.args.to c.loop-index-test.true _ c.loop-index.walk.found c.match-part.walk.found
-          (part-missing V (round first ls) (round others ls) ps i c.loop-index.walk.found c.match-part.walk.found w.in_default.ensures (ap (λ x. x.found) w.walk-is))
-          (c.loop-index.invariant.found ls k);
+            part-turn V (round first ls) (round others ls) ps i c.args.to c.loop-index-test.true _ c.loop-index.walk.found c.match-part.walk.found
+            (part-missing V (round first ls) (round others ls) ps i c.loop-index.walk.found c.match-part.walk.found w.in_default.ensures (ap (λ x. x.found) w.walk-is))
+            (c.loop-index.invariant.found ls k);
         vars = λ v. ap (λ x. look x.vars v) w.walk-is ∙ c.loop-index.invariant.vars v;
-        labels = λ v. ap (λ x. look x.labels v) w.walk-is ∙ c.loop-index.invariant.labels v } ]
+        labels = λ v. ap (λ x. look x.labels v) w.walk-is ∙ c.loop-index.invariant.labels v;
+      }
+    ]
 
 pub walk_scope-returns-clause-found : goal.walk_scope-returns-clause-found
 walk_scope-returns-clause-found t c =
     on_ok c.leave.result
     (λ h o ls k e.
-      let t = node_tree c.args.node in
-      let z = round c.args.around ls in
-      let f = scope_facts t z ls c.requires.inside in
-      let first = c.rounds_of-rounds.result.first in
-      let others = c.rounds_of-rounds.result.others in
-      let kind = c.scope_kind-kind.result in
-      let scope = c.in_ok-scope.scope in
-      let names = all_named c.as_slice-names.result.now in
-      let found = found_of_scope kind c.args.around.is_body (parts_of t) names in
-      scope-found o c.args.walk.now.found (look c.args.walk.now.vars) z (round first ls) (round others ls) t c.part_count.result scope.from c.part_count.ensures scope.error names found
-      (ap (round first) (sym f.0) ∙ c.rounds_of-rounds.ensures.first ls) (ap (round others) (sym f.1.0) ∙ c.rounds_of-rounds.ensures.others ls)
-      (look c.args.walk.now.vars) (look c.walk_parts.new.walk.vars) (look c.enter.new.clashes) c.in_ok-walk.field-0 c.walk_parts.new.walk.found c.walk_parts-2.new.walk.found
-      (split_given z t kind names scope.error scope.from c.part_count.result c.requires.inside (c.scope_kind-kind.ensures ∙ ap scope_kind c.kind.ensures) (ap all_named c.as_slice-names.ensures.value ∙ c.in_ok-scope.ensures.names)
-        c.in_ok-scope.ensures.error c.in_ok-scope.ensures.place c.part_count.ensures)
-      f.1.1.0 f.1.1.1 (λ w. refl) c.in_ok-walk_parts.ensures.vars c.in_ok-saved.ensures.entered e c.in_ok-walk.ensures
-      (c.in_ok-walk_parts.ensures.found ls k ∙ ap (λ n. sooner (after c.in_ok-walk.field-0 (range_errors (round first ls) (round others ls) (parts_of t) 0 n)) (hits (look c.args.walk.now.vars) (range_vars (parts_of t) 0 n))) (from_start scope.from))
-      (c.in_ok-walk_parts-2.ensures.found ls (λ w. c.in_ok-walk_parts.ensures.labels w ∙ k w)))
+    let t = node_tree c.args.node in
+    let z = round c.args.around ls in
+    let f = scope_facts t z ls c.requires.inside in
+    let first = c.rounds_of-rounds.result.first in
+    let others = c.rounds_of-rounds.result.others in
+    let kind = c.scope_kind-kind.result in
+    let scope = c.in_ok-scope.scope in
+    let names = all_named c.as_slice-names.result.now in
+    let found = found_of_scope kind c.args.around.is_body (parts_of t) names in
+    scope-found o c.args.walk.now.found (look c.args.walk.now.vars) z (round first ls) (round others ls) t c.part_count.result scope.from c.part_count.ensures scope.error names found
+    (ap (round first) (sym f.0) ∙ c.rounds_of-rounds.ensures.first ls) (ap (round others) (sym f.1.0) ∙ c.rounds_of-rounds.ensures.others ls)
+    (look c.args.walk.now.vars) (look c.walk_parts.new.walk.vars) (look c.enter.new.clashes) c.in_ok-walk.field-0 c.walk_parts.new.walk.found c.walk_parts-2.new.walk.found
+    (split_given z t kind names scope.error scope.from c.part_count.result c.requires.inside (c.scope_kind-kind.ensures ∙ ap scope_kind c.kind.ensures) (ap all_named c.as_slice-names.ensures.value ∙ c.in_ok-scope.ensures.names)
+    c.in_ok-scope.ensures.error c.in_ok-scope.ensures.place c.part_count.ensures)
+    f.1.1.0 f.1.1.1 (λ w. refl) c.in_ok-walk_parts.ensures.vars c.in_ok-saved.ensures.entered e c.in_ok-walk.ensures
+    (c.in_ok-walk_parts.ensures.found ls k ∙ ap (λ n. sooner (after c.in_ok-walk.field-0 (range_errors (round first ls) (round others ls) (parts_of t) 0 n)) (hits (look c.args.walk.now.vars) (range_vars (parts_of t) 0 n))) (from_start scope.from))
+    (c.in_ok-walk_parts-2.ensures.found ls (λ w. c.in_ok-walk_parts.ensures.labels w ∙ k w)))
     c.leave.ensures
 
 pub walk_scope-returns-clause-vars : goal.walk_scope-returns-clause-vars

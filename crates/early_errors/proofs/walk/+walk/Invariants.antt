@@ -1,4 +1,4 @@
-use Rattle.std.proofs.Common.{◌≡◌, ℕ, ◌+◌, ◌-◌, ◌*◌, List}
+use Rattle.std.proofs.Common.{◌≡◌, ◌+◌, ◌-◌, ◌*◌, List}
 use Rattle.tree.specs.Tree.{node_total, parts_of}
 use Rattle.tree.specs.Node.{node_tree}
 use Rattle.early_errors.specs.Around.{Label}

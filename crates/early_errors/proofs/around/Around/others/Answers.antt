@@ -1,4 +1,4 @@
-use Rattle.std.proofs.Common.{true, false, cond, [], sym, ap, ◌∙◌}
+use Rattle.std.proofs.Common.{true, sym, ap, ◌∙◌}
 use Rattle.std.specs.Prelude.{◌||◌}
 use Rattle.early_errors.specs.Around.{around_others}
 use Rattle.early_errors.specs.Owns.{round, inner_labels}
