@@ -26,7 +26,7 @@ all_but_last rest inner None u v m =
     ap (λ x. take (length x - 1) x) e ∙ sym (ap chars m.1 ∙ e)
 all_but_last rest inner (Some d) u v m =
     let whole : chars inner ++ d ∷ [] ≡ chars rest =
-        chars_from_encodes (chars inner ++ d ∷ []) rest u (encodes-append (chars inner) (d ∷ []) ∙ (λ i. encodes-chars inner v i ++ append-nil (encode_utf8 d) i) ∙ sym m) in
+    chars_from_encodes (chars inner ++ d ∷ []) rest u (encodes-append (chars inner) (d ∷ []) ∙ (λ i. encodes-chars inner v i ++ append-nil (encode_utf8 d) i) ∙ sym m) in
     let l : length (chars inner ++ d ∷ []) - 1 ≡ length (chars inner) = let n = length-append (chars inner) (d ∷ []) in omega (arith, n) in
     ap (λ x. take (length x - 1) x) (sym whole) ∙ ap (λ k. take k (chars inner ++ d ∷ [])) l ∙ take_at (chars inner) (d ∷ []) (length (chars inner)) refl
 
