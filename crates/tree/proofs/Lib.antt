@@ -6,3 +6,4 @@ pub mod SameParts
 mod Examples
 pub mod KindsEqual
 pub mod Lean
+pub mod CopyLemmas

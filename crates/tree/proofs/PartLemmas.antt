@@ -1,23 +1,23 @@
--- The parts that come of a list of values: how many, and which stands where.
-use Rattle.std.proofs.Common.{◌≡◌, ℕ, zero, suc, List, [], ◌∷◌, length, map, Some, None, option_map, refl, arith, ap, slice_get, ◌<◌, ◌≤◌, get_or, ◌∙◌}
-use Rattle.std.proofs.lemmas.Option.{slice_get_read, slice_get_past}
-use Rattle.tree.specs.Tree.{Tree, part_count, part_at, parts_from}
+-- The parts that a list gives: how many, and which stands where.
+use Rattle.std.proofs.Common.{◌≡◌, ℕ, zero, suc, List, [], ◌∷◌, length, Option, Some, None, refl, arith, ap, slice_get, ◌<◌, ◌≤◌, get_or, ◌∙◌}
+use Rattle.tree.specs.Tree.{Tree, part_count, part_at, parts_with_gaps}
 
-module _ {X : Type 0} (f : X → Tree) where
-  pub part_count-mapped : (xs : List X) → part_count (parts_from (map f xs)) ≡ length xs
-  part_count-mapped [] = refl
-  part_count-mapped (x ∷ xs) = omega (arith, part_count-mapped xs)
+pub part_count-gaps : (os : List (Option Tree)) → part_count (parts_with_gaps os) ≡ length os
+part_count-gaps [] = refl
+part_count-gaps (None ∷ os) = omega (arith, part_count-gaps os)
+part_count-gaps (Some t ∷ os) = omega (arith, part_count-gaps os)
 
-  pub part_at-mapped : (xs : List X) (i : ℕ) → part_at (parts_from (map f xs)) i ≡ option_map f (slice_get xs i)
-  part_at-mapped [] i = refl
-  part_at-mapped (x ∷ xs) zero = refl
-  part_at-mapped (x ∷ xs) (suc i) = part_at-mapped xs i
+pub part_at-gaps : (os : List (Option Tree)) (i : ℕ) (o : Option Tree) → i < length os → o ≡ get_or os i o → part_at (parts_with_gaps os) i ≡ o
+part_at-gaps [] i o h e = absurd (omega (arith, h))
+part_at-gaps (None ∷ os) zero o h e = cc
+part_at-gaps (Some t ∷ os) zero o h e = cc
+part_at-gaps (None ∷ os) (suc i) o h e = part_at-gaps os i o (omega (arith, h)) e
+part_at-gaps (Some t ∷ os) (suc i) o h e = part_at-gaps os i o (omega (arith, h)) e
 
-  -- the same by what `get` says of the place
-  pub part_at-mapped_some : (xs : List X) (i : ℕ) (x : X) → i < length xs → x ≡ get_or xs i x → part_at (parts_from (map f xs)) i ≡ Some (f x)
-  part_at-mapped_some xs i x h e = part_at-mapped xs i ∙ ap (option_map f) (slice_get_read xs (length xs) i x refl h e)
+pub part_at-gaps_past : (os : List (Option Tree)) (i : ℕ) → length os ≤ i → part_at (parts_with_gaps os) i ≡ None
+part_at-gaps_past [] i h = refl
+part_at-gaps_past (o ∷ os) zero h = absurd (omega (arith, h))
+part_at-gaps_past (None ∷ os) (suc i) h = part_at-gaps_past os i (omega (arith, h))
+part_at-gaps_past (Some t ∷ os) (suc i) h = part_at-gaps_past os i (omega (arith, h))
 
-  pub part_at-mapped_none : (xs : List X) (i : ℕ) → length xs ≤ i → part_at (parts_from (map f xs)) i ≡ None
-  part_at-mapped_none xs i h = part_at-mapped xs i ∙ ap (option_map f) (slice_get_past xs i h)
-
-pub ruleset part_lemmas = (part_count-mapped, part_at-mapped_some, part_at-mapped_none)
+pub ruleset part_lemmas = (part_count-gaps, part_at-gaps, part_at-gaps_past)

@@ -1,39 +1,6 @@
--- The trees of Rust values, one equation for each variant, and how parts grow at their end.
-use Rattle.std.proofs.Common.{◌≡◌, ◌+◌, max, List, [], ◌∷◌, ◌++◌, map, refl, ap, sym, ◌∙◌, arith}
-use Rattle.std.specs.Cow.{cow_str_bytes}
-use Rattle.tree.specs.Tree.{Tree, node, Parts, none, part, gap, plain, parts_from, push, join, height, parts_height, part_count, node_total, parts_total, bare, bare_parts}
-use Rattle.tree.specs.View.{operator_text, expression_step, expression_tree, statement_tree}
-use Rattle.tree.specs.declared.kind.Kind.TheVariants as kind
-use Rattle.tree.specs.declared.kind.Span.{Span}
-use Rattle.tree.specs.declared.ast.BinaryOperator.{BinaryOperator}
-use Rattle.tree.specs.declared.ast.Expression.TheOpen.{Expression-F}
-use Rattle.tree.specs.declared.ast.Expression.TheFolds.{fold-roll-Expression}
-use Rattle.tree.specs.declared.ast.Expression.TheVariants as expression
-use Rattle.tree.specs.declared.ast.Statement.TheVariants as statement
-
-pub tree-Identifier : (name : _) (span : Span) → expression_tree (expression.Identifier name span) ≡ node kind.Identifier (cow_str_bytes name) plain span.start span.end none
-tree-Identifier name span =
-    ap expression_tree (sym (expression.rolls-Identifier name span)) ∙ fold-roll-Expression Tree expression_step (Expression-F.Identifier name span)
-
-pub tree-Literal : (raw : _) (span : Span) → expression_tree (expression.Literal raw span) ≡ node kind.Literal (cow_str_bytes raw) plain span.start span.end none
-tree-Literal raw span =
-    ap expression_tree (sym (expression.rolls-Literal raw span)) ∙ fold-roll-Expression Tree expression_step (Expression-F.Literal raw span)
-
-pub tree-Binary : (operator : BinaryOperator) (left right : _) (span : Span)
-    → expression_tree (expression.Binary operator left right span)
-    ≡ node kind.BinaryExpression (operator_text operator) plain span.start span.end (part (expression_tree left.value) (part (expression_tree right.value) none))
-tree-Binary operator left right span =
-    ap expression_tree (sym (expression.rolls-Binary operator left right span)) ∙ fold-roll-Expression Tree expression_step (Expression-F.Binary operator left right span)
-
-pub tree-Sequence : (expressions : _) (span : Span)
-    → expression_tree (expression.Sequence expressions span)
-    ≡ node kind.SequenceExpression [] plain span.start span.end (parts_from (map expression_tree expressions.items))
-tree-Sequence expressions span =
-    ap expression_tree (sym (expression.rolls-Sequence expressions span)) ∙ fold-roll-Expression Tree expression_step (Expression-F.Sequence expressions span)
-
-pub tree-Expression : (e : _) (span : Span)
-    → statement_tree (statement.Expression e span) ≡ node kind.ExpressionStatement [] plain span.start span.end (part (expression_tree e) none)
-tree-Expression e span = refl
+-- How parts grow at their end, and what is known of them then.
+use Rattle.std.proofs.Common.{◌≡◌, ◌+◌, max, List, Option, Some, None, [], ◌∷◌, ◌++◌, map, refl, ap, sym, ◌∙◌, arith}
+use Rattle.tree.specs.Tree.{Tree, node, Parts, none, part, gap, parts_from, parts_with_gaps, push, push_gap, join, height, parts_height, part_count, node_total, parts_total, bare, bare_parts}
 
 pub map-push : {X Y : Type 0} (f : X → Y) (xs : List X) (x : X) → map f (xs ++ x ∷ []) ≡ map f xs ++ f x ∷ []
 map-push f [] x = refl
@@ -112,4 +79,17 @@ bare_parts-join none qs = refl
 bare_parts-join (part n ps) qs = ap (part (bare n)) (bare_parts-join ps qs)
 bare_parts-join (gap ps) qs = ap gap (bare_parts-join ps qs)
 
-pub ruleset shapes = (tree-Identifier, tree-Literal, tree-Binary, tree-Sequence, parts_from_map-push, parts_from-append, parts_height-push, parts_height-join)
+pub ruleset shapes = (parts_from_map-push, parts_from-append, parts_height-push, parts_height-join)
+
+-- a part or a gap behind a list that may have gaps
+pub parts_with_gaps-push : (os : List (Option Tree)) (t : Tree) → parts_with_gaps (os ++ Some t ∷ []) ≡ push (parts_with_gaps os) t
+parts_with_gaps-push [] t = refl
+parts_with_gaps-push (None ∷ os) t = ap gap (parts_with_gaps-push os t)
+parts_with_gaps-push (Some u ∷ os) t = ap (part u) (parts_with_gaps-push os t)
+
+pub parts_with_gaps-push_gap : (os : List (Option Tree)) → parts_with_gaps (os ++ None ∷ []) ≡ push_gap (parts_with_gaps os)
+parts_with_gaps-push_gap [] = refl
+parts_with_gaps-push_gap (None ∷ os) = ap gap (parts_with_gaps-push_gap os)
+parts_with_gaps-push_gap (Some u ∷ os) = ap (part u) (parts_with_gaps-push_gap os)
+
+pub ruleset gap_shapes = (parts_with_gaps-push, parts_with_gaps-push_gap)

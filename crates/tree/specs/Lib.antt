@@ -1,6 +1,6 @@
 pub mod Tree
 pub mod TreeCode
-pub mod View
+pub mod Sizes
 pub mod Node
 pub mod Same
 pub mod Uses

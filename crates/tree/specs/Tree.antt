@@ -3,6 +3,8 @@
 use Rattle.std.specs.Prelude.{◌≡◌, ℕ, zero, suc, ◌+◌, max, List, [], ◌∷◌, Option, Some, None, false}
 use Rattle.tree.specs.declared.kind.Kind.{Kind}
 use Rattle.tree.specs.declared.kind.Flags.{Flags}
+use Rattle.tree.specs.declared.kind.Kind.TheVariants.{Program}
+use Rattle.tree.specs.declared.kind.Span.{Span}
 use Rattle.tree.specs.declared.kind.Form.TheVariants.{Init}
 
 mutual
@@ -66,11 +68,31 @@ abbrev pub parts_from : List Tree → Parts
 parts_from [] = none
 parts_from (n ∷ ns) = part n (parts_from ns)
 
+-- a part that may be missing, before the others
+abbrev pub maybe : Option Tree → Parts → Parts
+maybe None ps = gap ps
+maybe (Some n) ps = part n ps
+
+-- parts, some of them missing
+abbrev pub parts_with_gaps : List (Option Tree) → Parts
+parts_with_gaps [] = none
+parts_with_gaps (o ∷ os) = maybe o (parts_with_gaps os)
+
+-- the tree of a script of these items
+abbrev pub program_tree : Parts → Span → Tree
+program_tree items span = node Program [] plain span.start span.end items
+
 -- one more part, behind the others
 abbrev pub push : Parts → Tree → Parts
 push none t = part t none
 push (part n ps) t = part n (push ps t)
 push (gap ps) t = gap (push ps t)
+
+-- one more gap, behind the others
+abbrev pub push_gap : Parts → Parts
+push_gap none = gap none
+push_gap (part n ps) = part n (push_gap ps)
+push_gap (gap ps) = gap (push_gap ps)
 
 -- the parts of both, the second's behind the first's
 abbrev pub join : Parts → Parts → Parts

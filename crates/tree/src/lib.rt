@@ -2,17 +2,18 @@
 
 //! The tree of a script: ESTree nodes.
 
-mod ast;
+mod copy;
 mod kind;
 mod node;
+mod parts;
 mod program;
+mod syntax;
 mod walk;
 
-pub use ast::{BinaryOperator, Expression, Statement};
+pub use copy::try_copy;
 pub use kind::{Flags, Form, Kind, Pair, Span};
 pub use node::Node;
+pub use parts::Parts;
 pub use program::Program;
+pub use syntax::Syntax;
 pub use walk::{height, same_tree};
-
-#[cfg(test)]
-mod tests;
