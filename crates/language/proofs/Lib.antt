@@ -101,3 +101,16 @@ pub mod CommaLists
 pub mod HoleLists
 pub mod ParameterItems
 pub mod Dangling
+pub mod CoverElements
+pub mod CoverItems
+pub mod CoverSpreads
+pub mod CoverLists
+pub mod CoverTrees
+pub mod CoverReadings
+pub mod CoverProperties
+pub mod CoverKeys
+pub mod CoverObjects
+pub mod CoverDefinitions
+pub mod CoverRests
+pub mod CoverEnds
+pub mod CoverExamples
