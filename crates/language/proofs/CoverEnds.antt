@@ -12,6 +12,7 @@ use Rattle.language.specs.Token.{Token}
 use Rattle.language.specs.Promises.{IsDetermined, Stops}
 use Rattle.language.specs.Derivation.{Reads}
 use Rattle.language.proofs.Conditionals.{stops_before}
+use Rattle.language.proofs.CommaLists.{Separated, by_comma, by_closing}
 use Rattle.language.proofs.CoverSpreads.{two_texts}
 use Rattle.language.proofs.CoverObjects.{Mark}
 
@@ -29,28 +30,23 @@ apart : {v w : List ℕ} (s : List ℕ → Bool) → s v ≡ true → s w ≡ fa
 apart s h k e = false≢true (sym k ∙ ap s (sym e) ∙ h)
 
 module _ (S : Type 0) (Next : S → Token → S → Type 0) (behind : S → Token) (det : IsDetermined S Next behind) where
-  -- a comma or the closing sign is read
-  pub data ItemEnds (w : List ℕ) (e : S) : Type 0 where
-    before_comma : {t : Token} {m : S} → Reads S Next behind Punctuator (codes ",") e t m → ItemEnds w e
-    before_closing : {t : Token} {m : S} → Reads S Next behind Punctuator w e t m → ItemEnds w e
-
   -- nothing goes on there
-  pub item_stops : {w : List ℕ} → Closing w → (y : Rank) (n : Tree) (e : S) → takes y Expression ≡ false → ItemEnds w e → Stops S Next behind y true n e
-  item_stops c y n e h (before_comma k) = stops_before S Next behind det y true n k refl refl (λ x u. not_taken (takes y Expression) ((is u.text "in" && not true) || not (holds x Expression)) h)
-  item_stops a_bracket y n e h (before_closing k) = stops_before S Next behind det y true n k refl refl (λ x u. refl)
-  item_stops a_parenthesis y n e h (before_closing k) = stops_before S Next behind det y true n k refl refl (λ x u. refl)
-  item_stops a_brace y n e h (before_closing k) = stops_before S Next behind det y true n k refl refl (λ x u. refl)
+  pub item_stops : {w : List ℕ} → Closing w → (y : Rank) (n : Tree) (e : S) → takes y Expression ≡ false → Separated S Next behind det w e → Stops S Next behind y true n e
+  item_stops c y n e h (by_comma k) = stops_before S Next behind det y true n k refl refl (λ x u. not_taken (takes y Expression) ((is u.text "in" && not true) || not (holds x Expression)) h)
+  item_stops a_bracket y n e h (by_closing k) = stops_before S Next behind det y true n k refl refl (λ x u. refl)
+  item_stops a_parenthesis y n e h (by_closing k) = stops_before S Next behind det y true n k refl refl (λ x u. refl)
+  item_stops a_brace y n e h (by_closing k) = stops_before S Next behind det y true n k refl refl (λ x u. refl)
 
   -- nothing is assigned there
-  pub item_quiet : {w : List ℕ} → Closing w → (e : S) (v : Token) (k : S) → ItemEnds w e → Reads S Next behind Punctuator (codes "=") e v k → ⊥
-  item_quiet c e v k (before_comma h) eq = apart (λ x. is x "=") refl refl (two_texts S Next behind det refl refl eq h)
-  item_quiet a_bracket e v k (before_closing h) eq = apart (λ x. is x "=") refl refl (two_texts S Next behind det refl refl eq h)
-  item_quiet a_parenthesis e v k (before_closing h) eq = apart (λ x. is x "=") refl refl (two_texts S Next behind det refl refl eq h)
-  item_quiet a_brace e v k (before_closing h) eq = apart (λ x. is x "=") refl refl (two_texts S Next behind det refl refl eq h)
+  pub item_quiet : {w : List ℕ} → Closing w → (e : S) (v : Token) (k : S) → Separated S Next behind det w e → Reads S Next behind Punctuator (codes "=") e v k → ⊥
+  item_quiet c e v k (by_comma h) eq = apart (λ x. is x "=") refl refl (two_texts S Next behind det refl refl eq h)
+  item_quiet a_bracket e v k (by_closing h) eq = apart (λ x. is x "=") refl refl (two_texts S Next behind det refl refl eq h)
+  item_quiet a_parenthesis e v k (by_closing h) eq = apart (λ x. is x "=") refl refl (two_texts S Next behind det refl refl eq h)
+  item_quiet a_brace e v k (by_closing h) eq = apart (λ x. is x "=") refl refl (two_texts S Next behind det refl refl eq h)
 
   -- a property ends there
-  pub item_marks : {w : List ℕ} → Closing w → (e : S) → ItemEnds w e → Mark S Next behind det e
-  item_marks c e (before_comma {t = t} {m = m} h) = record {
+  pub item_marks : {w : List ℕ} → Closing w → (e : S) → Separated S Next behind det w e → Mark S Next behind det e
+  item_marks c e (by_comma {t = t} {m = m} h) = record {
     text = codes ",";
     sign = t;
     mid = m;
@@ -62,7 +58,7 @@ module _ (S : Type 0) (Next : S → Token → S → Type 0) (behind : S → Toke
     no_call = apart (λ x. is x ",") refl refl;
     no_bracket = apart (λ x. is x ",") refl refl;
   }
-  item_marks a_bracket e (before_closing {t = t} {m = m} h) = record {
+  item_marks a_bracket e (by_closing {t = t} {m = m} h) = record {
     text = codes "]";
     sign = t;
     mid = m;
@@ -74,7 +70,7 @@ module _ (S : Type 0) (Next : S → Token → S → Type 0) (behind : S → Toke
     no_call = apart (λ x. is x "]") refl refl;
     no_bracket = apart (λ x. is x "]") refl refl;
   }
-  item_marks a_parenthesis e (before_closing {t = t} {m = m} h) = record {
+  item_marks a_parenthesis e (by_closing {t = t} {m = m} h) = record {
     text = codes ")";
     sign = t;
     mid = m;
@@ -86,7 +82,7 @@ module _ (S : Type 0) (Next : S → Token → S → Type 0) (behind : S → Toke
     no_call = apart (λ x. is x ")") refl refl;
     no_bracket = apart (λ x. is x ")") refl refl;
   }
-  item_marks a_brace e (before_closing {t = t} {m = m} h) = record {
+  item_marks a_brace e (by_closing {t = t} {m = m} h) = record {
     text = codes "}";
     sign = t;
     mid = m;

@@ -1,5 +1,5 @@
 -- The properties of an object, each reading by what stands behind the key: a value, nothing, or a default (ECMA-262 12.2.6, 12.15.5, 13.3.3).
-use Rattle.std.proofs.Common.{◌≡◌, ℕ, Bool, true, false, List, [], ◌∷◌, ◌++◌, refl, sym, ap, ◌∙◌, subst}
+use Rattle.std.proofs.Common.{◌≡◌, ℕ, ◌-◌, Bool, true, false, List, [], ◌∷◌, ◌++◌, refl, sym, ap, ◌∙◌, subst, arith}
 use Rattle.std.specs.Prelude.{IsTrue, Option, Some, codes}
 use Rattle.std.proofs.lemmas.Bool.{false≢true}
 use Rattle.tokens.specs.declared.token.Class.TheVariants.{Name, Punctuator}
@@ -10,14 +10,14 @@ use Rattle.tree.specs.declared.kind.Kind.{Kind}
 use Rattle.tree.specs.declared.kind.Kind.TheVariants.{Identifier, Property, SpreadElement, RestElement, AssignmentPattern}
 use Rattle.tree.specs.declared.kind.Form.TheVariants.{Init, Shorthand}
 use Rattle.tree.specs.declared.kind.Pair.{Pair}
-use Rattle.tree.specs.Tree.{Tree, node, Parts, none, part, kind_of, bare, plain}
+use Rattle.tree.specs.Tree.{Tree, node, Parts, none, part, kind_of, height, bare, plain}
 use Rattle.language.specs.declared.Rank.TheVariants.{Assignment, Primary}
 use Rattle.language.specs.declared.Start.TheVariants.{Any}
 use Rattle.language.specs.Words.{is, is_reserved}
 use Rattle.language.specs.Pieces.{Role, expr, name, element, property, pattern_property, Spelling, sign, sp, put, put_at, at, only, with_default}
 use Rattle.language.specs.Token.{Token}
 use Rattle.language.specs.Expressions.{assignment, keyed, properties, pattern_properties}
-use Rattle.language.specs.Covers.{Reading, as_expression, as_pattern, property_as, FoundItem, AbsentItem}
+use Rattle.language.specs.Covers.{Reading, as_expression, as_pattern, property_as, FoundItem, AbsentItem, AbsentItemWithin}
 use Rattle.language.specs.Promises.{is_free, IsDetermined}
 use Rattle.language.specs.Grammar.{ways, spellings}
 use Rattle.language.specs.Derivation.{Among, first, Reads, Spells, direct, Runs, step, within, token, laid, Placed, placed}
@@ -157,10 +157,10 @@ module _ (S : Type 0) (Next : S → Token → S → Type 0) (behind : S → Toke
         pub colon_is : {o' : ℕ} {u : Tree} {c' : Bool} {k' x' : S} {v' : Token} {Q : List Pair} → KeyAt S Next behind det o' u s k' Q c' → Reads S Next behind Punctuator (codes ":") k' v' x' → W ≡ codes ":"
         colon_is {o'} {u} {c'} {k'} {x'} {v'} {Q} key colon = two_texts S Next behind det al refl reads (subst (λ z. Reads S Next behind Punctuator (codes ":") z v' x') (found.only c' o' k' u Q key).1 colon)
 
-        call_is : {o' : ℕ} {u : Tree} {c' : Bool} {k' x' : S} {v' : Token} {Q : List Pair} → KeyAt S Next behind det o' u s k' Q c' → Reads S Next behind Punctuator (codes "(") k' v' x' → W ≡ codes "("
+        pub call_is : {o' : ℕ} {u : Tree} {c' : Bool} {k' x' : S} {v' : Token} {Q : List Pair} → KeyAt S Next behind det o' u s k' Q c' → Reads S Next behind Punctuator (codes "(") k' v' x' → W ≡ codes "("
         call_is {o'} {u} {c'} {k'} {x'} {v'} {Q} key call = two_texts S Next behind det al refl reads (subst (λ z. Reads S Next behind Punctuator (codes "(") z v' x') (found.only c' o' k' u Q key).1 call)
 
-        accessor_is : {o' : ℕ} {u : Tree} {c' : Bool} {w : List ℕ} {k' x' : S} {t : Token} {Q : List Pair} → (W ≡ codes "[" → ⊥) → Reads S Next behind Name w s t x' → KeyAt S Next behind det o' u x' k' Q c' → ⊥
+        pub accessor_is : {o' : ℕ} {u : Tree} {c' : Bool} {w : List ℕ} {k' x' : S} {t : Token} {Q : List Pair} → (W ≡ codes "[" → ⊥) → Reads S Next behind Name w s t x' → KeyAt S Next behind det o' u x' k' Q c' → ⊥
         accessor_is {o'} {u} {c'} {w} {k'} {x'} {t} {Q} other word key =
             let there : x' ≡ k = (found.only false o' x' (node Identifier w plain t.start (behind x').stop none) [] (plain_key (word_key S Next behind word))).1 in
             key_at_sign S Next behind det al' al other (subst (λ z. KeyAt S Next behind det o' u z k' Q c') there key) reads
@@ -175,8 +175,8 @@ module _ (S : Type 0) (Next : S → Token → S → Type 0) (behind : S → Toke
         valued_by : (a : Reading) → W ≡ codes ":" → {o' : ℕ} {n' : Tree} {e' : S} {P' : List Pair} → FormAs a o' n' s e' P' → Ends e' → Valued S Next behind det (value_as a) o' n' s e' P'
         valued_by as_expression is (by_value u) ends = u
         valued_by as_expression is (by_name u) ends = let m = mark_is ends (short_ends u) in absurd (m.0.no_colon (sym m.1 ∙ is))
-        valued_by as_expression is (by_method key call) ends = absurd (colon_call (sym is ∙ call_is key call))
-        valued_by as_expression is (by_accessor word key call) ends = absurd (accessor_is (λ e. colon_bracket (sym is ∙ e)) word key)
+        valued_by as_expression is (by_method u) ends = absurd (colon_call (sym is ∙ call_is u.key u.reads))
+        valued_by as_expression is (by_accessor f h word u) ends = absurd (accessor_is (λ e. colon_bracket (sym is ∙ e)) word u.key)
         valued_by (as_pattern b) is (with_value u) ends = u
         valued_by (as_pattern b) is (with_name u) ends = let m = mark_is ends (short_ends u) in absurd (m.0.no_colon (sym m.1 ∙ is))
         valued_by (as_pattern b) is (with_element u) ends = absurd (colon_equals (sym is ∙ equals_is (default_ends u)))
@@ -213,6 +213,14 @@ module _ (S : Type 0) (Next : S → Token → S → Type 0) (behind : S → Toke
 
         pub pair_absent : (a : Reading) → AbsentItem S Next behind Ends (value_as a) x → AbsentItem S Next behind Ends (property_as a) s
         pair_absent a missed = record { nothing = λ o' r e' n' P' h d ends. (let u = valued_by colon refl refl a refl (form_as a n' h d) ends in missed.nothing o' u.role e' u.value u.more u.it_is (same_value a u) ends) }
+
+        pub pair_deep : (a : Reading) {o' h : ℕ} → AbsentItemWithin S Next behind Ends (value_as a) o' (h - 1) x → AbsentItemWithin S Next behind Ends (property_as a) o' h s
+        pair_deep a {o'} {h} missed = record {
+          nothing = λ r e' n' P' i d ends low.
+              let u = valued_by colon refl refl a refl (form_as a n' i d) ends in
+              let high : height n' ≡ height (node Property [] (flags_as u.computed Init) u.st u.en (part u.name (part u.value none))) = ap height u.tree in
+              missed.nothing u.role e' u.value u.more u.it_is (same_value a u) ends (omega arith);
+        }
 
     -- a name that is key and value, with a default or without
     module _ (Ends : S → Type 0) (marks : (e : S) → Ends e → Mark e) {ok : ℕ} {k : S} {w : List ℕ} {t : Token} (word : Reads S Next behind Name w s t k) (free : is_reserved w ≡ false)
@@ -268,8 +276,8 @@ module _ (S : Type 0) (Next : S → Token → S → Type 0) (behind : S → Toke
               (e' ≡ k) × (n' ≡ node Property [] (flags_as false Shorthand) st en (part (node Identifier w plain t.start t.stop none) (part (node Identifier w plain t.start (behind k).stop none) none))) × (P' ≡ [])
           of as_expression o' n' e' P' pl (by_value u) = absurd (m.no_colon (colon_is Ends marks found m.reads m.allowed m.operand u.key u.reads))
           of as_expression o' n' e' P' pl (by_name u) = there as_expression pl u
-          of as_expression o' n' e' P' pl (by_method key call) = absurd (m.no_call (call_is Ends marks found m.reads m.allowed m.operand key call))
-          of as_expression o' n' e' P' pl (by_accessor before key call) = absurd (accessor_is Ends marks found m.reads m.allowed m.operand m.no_bracket before key)
+          of as_expression o' n' e' P' pl (by_method u) = absurd (m.no_call (call_is Ends marks found m.reads m.allowed m.operand u.key u.reads))
+          of as_expression o' n' e' P' pl (by_accessor f h before u) = absurd (accessor_is Ends marks found m.reads m.allowed m.operand m.no_bracket before u.key)
           of (as_pattern b) o' n' e' P' pl (with_value u) = absurd (m.no_colon (colon_is Ends marks found m.reads m.allowed m.operand u.key u.reads))
           of (as_pattern b) o' n' e' P' pl (with_name u) = there (as_pattern b) pl u
           of (as_pattern b) o' n' e' P' pl (with_element u) = absurd (m.no_equals (equals_is Ends marks found m.reads m.allowed m.operand (default_ends Ends marks found u)))
@@ -285,8 +293,8 @@ module _ (S : Type 0) (Next : S → Token → S → Type 0) (behind : S → Toke
             of : {o' : ℕ} {n' : Tree} {e' : S} {P' : List Pair} → PropertyAt S Next behind det o' n' s e' P' → Ends e' → ⊥
             of (by_value u) ends = colon_equals (sym (colon_is Ends marks found equals refl refl u.key u.reads))
             of (by_name u) ends = no_mark ends (short_ends Ends marks found u)
-            of (by_method key call) ends = equals_call (call_is Ends marks found equals refl refl key call)
-            of (by_accessor before key call) ends = accessor_is Ends marks found equals refl refl equals_bracket before key
+            of (by_method u) ends = equals_call (call_is Ends marks found equals refl refl u.key u.reads)
+            of (by_accessor f h before u) ends = accessor_is Ends marks found equals refl refl equals_bracket before u.key
 
         -- the default that stands there, of a pattern's property
         initial : (b : Bool) {o' : ℕ} {n' : Tree} {e' : S} {P' : List Pair} → PatternPropertyAt S Next behind det b o' n' s e' P' → Ends e' → Short S Next behind det (element true) o' n' s e' P'
@@ -371,3 +379,11 @@ module _ (S : Type 0) (Next : S → Token → S → Type 0) (behind : S → Toke
 
         pub initialized_absent : (b : Bool) → AbsentItem S Next behind Ends to_expression x → AbsentItem S Next behind Ends (property_as (as_pattern b)) s
         initialized_absent b missed = record { nothing = λ o' r e' n' P' h d ends. (let z = initial_parts (initial b (form_as (as_pattern b) n' h d) ends) in missed.nothing o' (expr Assignment true Any) e' z.value z.more refl z.spelled ends) }
+
+        pub initialized_deep : (b : Bool) {o' h : ℕ} → AbsentItemWithin S Next behind Ends to_expression o' (h - 2) x → AbsentItemWithin S Next behind Ends (property_as (as_pattern b)) o' h s
+        initialized_deep b {o'} {h} missed = record {
+          nothing = λ r e' n' P' i d ends low.
+              let z = initial_parts (initial b (form_as (as_pattern b) n' i d) ends) in
+              let high : height n' ≡ height (node Property [] (flags_as false Shorthand) z.st z.en (part (node Identifier w plain t.start t.stop none) (part (node AssignmentPattern [] plain z.st1 z.en1 (part (node Identifier w plain t.start (behind k).stop none) (part z.value none))) none))) = ap height z.tree in
+              missed.nothing (expr Assignment true Any) e' z.value z.more refl z.spelled ends (omega arith);
+        }

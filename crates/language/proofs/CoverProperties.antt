@@ -26,10 +26,16 @@ use Rattle.language.proofs.Begins.{goes_to, retell}
 use Rattle.language.proofs.Running.{run_none, run_token, run_laid, run_part, run_absent}
 use Rattle.language.proofs.Sides.{one_part}
 use Rattle.language.proofs.TwoSides.{same_node}
+use Rattle.language.proofs.KeyWays.{is_accessor}
 
 -- the flags of a property
 abbrev pub flags_as : Bool → Form → Flags
 flags_as c f = record plain { computed = c; form = f }
+
+-- the word before the key of a getter or a setter
+abbrev pub accessor_word : Form → List ℕ
+accessor_word Set = codes "set"
+accessor_word _ = codes "get"
 
 -- the position of a property's value in an expression
 abbrev pub to_expression : Kind → Option Role
@@ -79,15 +85,15 @@ module _ (S : Type 0) (Next : S → Token → S → Type 0) (behind : S → Toke
   key_runs false after (plain_key d) r = within d r
 
   -- the first token of the function of a method
-  record Begins (w : List ℕ) (s : S) : Type 0 where
-    sign : Token
-    mid : S
-    reads : Reads S Next behind Punctuator w s sign mid
+  pub record Begins (w : List ℕ) (s : S) : Type 0 where
+    pub sign : Token
+    pub mid : S
+    pub reads : Reads S Next behind Punctuator w s sign mid
 
   method_way : (a : Role) {o : ℕ} {x : Spelling} {qs : List Piece} {ps : Parts} {s e : S} {P : List Pair} → Among x (only (Rattle.language.specs.Pieces.absent ∷ sign "(" ∷ qs)) → Runs ways S Next behind o (settled a x) ps s e P → Begins (codes "(") s
   method_way a h d = let u = run_token S Next behind (run_absent S Next behind (retell S Next behind (ap (settled a) (one h)) d)).runs in record { sign = u.sign; mid = u.mid; reads = u.reads }
 
-  method_begins : {o : ℕ} (f : Form) {n : Tree} {s e : S} {P : List Pair} → Spells ways S Next behind o (method f) n s e P → Begins (codes "(") s
+  pub method_begins : {o : ℕ} (f : Form) {n : Tree} {s e : S} {P : List Pair} → Spells ways S Next behind o (method f) n s e P → Begins (codes "(") s
   unfolding spellings
   method_begins {o} f {n = node FunctionExpression w g st en ps} {s} {e} {P} (direct qs h pl d) = of f (bare_parts ps) ((way_of h).listed)
     where
@@ -169,12 +175,35 @@ module _ (S : Type 0) (Next : S → Token → S → Type 0) (behind : S → Toke
     pub spelled : Spells ways S Next behind o a value mid e more
     pub pairs : P ≡ one ++ more
 
+  -- A function behind its key: of a method, or of a getter or setter, whose key stands behind a word.
+  pub record Called (f : Form) (o : ℕ) (n : Tree) (s z e : S) (P : List Pair) : Type 0 where
+    pub computed : Bool
+    pub st : ℕ
+    pub en : ℕ
+    pub name : Tree
+    pub function : Tree
+    pub mid : S
+    pub x : S
+    pub sign : Token
+    pub one : List Pair
+    pub more : List Pair
+    pub tree : n ≡ node Property [] (flags_as computed f) st en (part name (part function none))
+    pub start : Token
+    pub behind_start : S
+    pub next : Next s start behind_start
+    pub starts : start.start ≡ st
+    pub stops : (behind e).stop ≡ en
+    pub key : KeyAt o name z mid one computed
+    pub reads : Reads S Next behind Punctuator (codes "(") mid sign x
+    pub spelled : Spells ways S Next behind o (method f) function mid e more
+    pub pairs : P ≡ one ++ more
+
   -- a property of an object: a value, a shorthand, a method, or a getter or setter
   pub data PropertyAt (o : ℕ) (n : Tree) (s e : S) (P : List Pair) : Type 0 where
     by_value : Valued to_expression o n s e P → PropertyAt o n s e P
     by_name : Short name o n s e P → PropertyAt o n s e P
-    by_method : {c : Bool} {u : Tree} {k m : S} {t : Token} {Q : List Pair} → KeyAt o u s k Q c → Reads S Next behind Punctuator (codes "(") k t m → PropertyAt o n s e P
-    by_accessor : {c : Bool} {u : Tree} {w : List ℕ} {x k m : S} {t v : Token} {Q : List Pair} → Reads S Next behind Name w s t x → KeyAt o u x k Q c → Reads S Next behind Punctuator (codes "(") k v m → PropertyAt o n s e P
+    by_method : Called Method o n s s e P → PropertyAt o n s e P
+    by_accessor : {x : S} {t : Token} (f : Form) → is_accessor f ≡ true → Reads S Next behind Name (accessor_word f) s t x → Called f o n s x e P → PropertyAt o n s e P
 
   -- of an object pattern: a value, a shorthand, or one with a default
   pub data PatternPropertyAt (b : Bool) (o : ℕ) (n : Tree) (s e : S) (P : List Pair) : Type 0 where
@@ -210,6 +239,35 @@ module _ (S : Type 0) (Next : S → Token → S → Type 0) (behind : S → Toke
         key = k.key;
         reads = v.reads;
         it_is = kind k.item k.rest k.parts u.operand u.parts;
+        spelled = u.spelled;
+        pairs = k.pairs;
+      }
+
+  called_at : {o : ℕ} (f : Form) {n : Tree} (c : Bool) {g : Flags} {w : List ℕ} {st en : ℕ} {ps : Parts} {s z e m : S} {t : Token} {P : List Pair} → n ≡ node Property w g st en ps → w ≡ [] → g ≡ flags_as c f → Next s t m → t.start ≡ st → (behind e).stop ≡ en →
+      Runs ways S Next behind o (goes_to Expression true Any (key_pieces c (put (method f) ∷ []))) ps z e P → Called f o n s z e P
+  called_at f c {st = st} {en = en} {m = m} {t = t} is text flags nx p q d =
+      let k = run_key c (put (method f) ∷ []) d in
+      let u = one_part S Next behind det k.runs in
+      let b = method_begins f u.spelled in
+      record {
+        computed = c;
+        st = st;
+        en = en;
+        name = k.item;
+        function = u.operand;
+        mid = k.mid;
+        x = b.mid;
+        sign = b.sign;
+        one = k.one;
+        more = k.more;
+        tree = is ∙ same_node refl text flags refl refl (k.parts ∙ ap (part k.item) u.parts);
+        start = t;
+        behind_start = m;
+        next = nx;
+        starts = p;
+        stops = q;
+        key = k.key;
+        reads = b.reads;
         spelled = u.spelled;
         pairs = k.pairs;
       }
@@ -252,16 +310,11 @@ module _ (S : Type 0) (Next : S → Token → S → Type 0) (behind : S → Toke
       run : {rs : List Piece} → (way_of h).spelling.pieces ≡ rs → Runs ways S Next behind o (goes_to Expression true Any rs) ps s e P
       run k = retell S Next behind ((way_of h).is ∙ ap (goes_to Expression true Any) k) d
 
-      called : (f : Form) (c : Bool) → Keyed o c (put (method f) ∷ []) ps s e P → PropertyAt o (node Property w g st en ps) s e P
-      called f c k = let u = run_part S Next behind k.runs in let b = method_begins f u.spelled in by_method k.key b.reads
+      called : {z : S} (f : Form) → g.form ≡ f → Runs ways S Next behind o (goes_to Expression true Any (key_pieces g.computed (put (method f) ∷ []))) ps z e P → Called f o (node Property w g st en ps) s z e P
+      called f k r = called_at f g.computed refl text (flags refl k) nx (ap (λ (c : ℕ × ℕ). c.0) p) (ap (λ (c : ℕ × ℕ). c.1) p) r
 
-      accessed : (f : Form) (c : Bool) {v : List ℕ} → Runs ways S Next behind o (goes_to Expression true Any (tok Name v ∷ sp ∷ key_pieces c (put (method f) ∷ []))) ps s e P → PropertyAt o (node Property w g st en ps) s e P
-      accessed f c r =
-          let v = run_token S Next behind r in
-          let k = run_key c (put (method f) ∷ []) (run_laid S Next behind v.runs) in
-          let u = run_part S Next behind k.runs in
-          let b = method_begins f u.spelled in
-          by_accessor v.reads k.key b.reads
+      accessed : (f : Form) → is_accessor f ≡ true → g.form ≡ f → Runs ways S Next behind o (goes_to Expression true Any (tok Name (accessor_word f) ∷ sp ∷ key_pieces g.computed (put (method f) ∷ []))) ps s e P → PropertyAt o (node Property w g st en ps) s e P
+      accessed f is k r = let v = run_token S Next behind r in by_accessor f is v.reads (called f k (run_laid S Next behind v.runs))
 
       shortened : (c : Bool) → g.computed ≡ c → g.form ≡ Shorthand → Among (way_of h).spelling (cond c [] (only (put echo ∷ put name ∷ []))) → PropertyAt o (node Property w g st en ps) s e P
       shortened true k f l = elim l [ ]
@@ -269,9 +322,9 @@ module _ (S : Type 0) (Next : S → Token → S → Type 0) (behind : S → Toke
 
       of : (f : Form) → g.form ≡ f → Among (way_of h).spelling (properties g.computed f) → PropertyAt o (node Property w g st en ps) s e P
       of Init f l = by_value (value_at to_expression g.computed refl text (flags refl f) nx (ap (λ (c : ℕ × ℕ). c.0) p) (ap (λ (c : ℕ × ℕ). c.1) p) (λ u rest i v j. refl) (run (key_way g.computed (sign ":" ∷ sp ∷ assignment ∷ []) l)))
-      of Method f l = called Method g.computed (run_key g.computed (put (method Method) ∷ []) (run (key_way g.computed (put (method Method) ∷ []) l)))
-      of Get f l = accessed Get g.computed (run (word_way (codes "get") g.computed (put (method Get) ∷ []) l))
-      of Set f l = accessed Set g.computed (run (word_way (codes "set") g.computed (put (method Set) ∷ []) l))
+      of Method f l = by_method (called Method f (run (key_way g.computed (put (method Method) ∷ []) l)))
+      of Get f l = accessed Get refl f (run (word_way (codes "get") g.computed (put (method Get) ∷ []) l))
+      of Set f l = accessed Set refl f (run (word_way (codes "set") g.computed (put (method Set) ∷ []) l))
       of Shorthand f l = shortened g.computed refl f l
       of Constructor f l = elim l [ ]
   property_at {n = node _ w g st en ps} (direct qs h pl d) = elim ((way_of h).listed) [ ]

@@ -1,5 +1,5 @@
 -- What stands behind `...` in an object: a spread of an expression; a rest, which is no pattern (ECMA-262 12.2.6, 12.15.5, 13.3.3).
-use Rattle.std.proofs.Common.{◌≡◌, ℕ, Bool, true, false, cond, List, [], refl, sym, ap, ◌∙◌, subst}
+use Rattle.std.proofs.Common.{◌≡◌, ℕ, ◌-◌, Bool, true, false, cond, List, [], refl, sym, ap, ◌∙◌, subst, arith}
 use Rattle.std.specs.Prelude.{Option, Some, None, codes, ◌&&◌, not}
 use Rattle.std.proofs.lemmas.Bool.{false≢true}
 use Rattle.tokens.specs.declared.token.Class.TheVariants.{Punctuator}
@@ -7,15 +7,15 @@ use Rattle.tree.specs.declared.kind.Kind.{Kind}
 use Rattle.tree.specs.declared.kind.Kind.TheVariants.{Identifier, MemberExpression, ArrayExpression, ObjectExpression, AssignmentExpression, SpreadElement, Property, ArrayPattern, ObjectPattern, RestElement}
 use Rattle.tree.specs.declared.kind.Flags.{Flags}
 use Rattle.tree.specs.declared.kind.Pair.{Pair}
-use Rattle.tree.specs.Tree.{Tree, node, Parts, none, part, kind_of, plain}
+use Rattle.tree.specs.Tree.{Tree, node, Parts, none, part, kind_of, height, plain}
 use Rattle.language.specs.declared.Rank.{Rank}
 use Rattle.language.specs.declared.Rank.TheVariants.{Expression, Assignment}
 use Rattle.language.specs.declared.Start.TheVariants.{Any}
 use Rattle.language.specs.Words.{is, takes, is_pattern}
 use Rattle.language.specs.Pieces.{Role, expr, rest, spread, bound, with_default}
 use Rattle.language.specs.Token.{Token}
-use Rattle.language.specs.Covers.{Reading, as_expression, as_pattern, shaped, is_default, has_value, with_parts, refined, pattern_of, patterns_of, property_as, FoundItem, AbsentItem, Decided, it_fits, no_fit, Cover}
-use Rattle.language.specs.Promises.{IsDetermined, Stops, Absent}
+use Rattle.language.specs.Covers.{Reading, as_expression, as_pattern, shaped, is_default, has_value, with_parts, refined, pattern_of, patterns_of, property_as, FoundItem, AbsentItem, AbsentItemWithin, Decided, it_fits, no_fit, Cover, NoCover, NoCoverWithin}
+use Rattle.language.specs.Promises.{IsDetermined, Stops, Absent, AbsentWithin}
 use Rattle.language.specs.Grammar.{ways}
 use Rattle.language.specs.Derivation.{Reads, Spells}
 use Rattle.language.proofs.TwoSides.{same_node}
@@ -77,8 +77,8 @@ module _ (S : Type 0) (Next : S → Token → S → Type 0) (behind : S → Toke
   no_property : {o : ℕ} {n : Tree} {e : S} {P : List Pair} → PropertyAt S Next behind det o n s e P → ⊥
   no_property (by_value u) = no_key u.key
   no_property (by_name u) = name_or_sign S Next behind det refl (echo_form S Next behind det u.echoes).reads dots
-  no_property (by_method key call) = no_key key
-  no_property (by_accessor word key call) = name_or_sign S Next behind det refl word dots
+  no_property (by_method u) = no_key u.key
+  no_property (by_accessor f h word u) = name_or_sign S Next behind det refl word dots
 
   no_pattern_property : {b : Bool} {o : ℕ} {n : Tree} {e : S} {P : List Pair} → PatternPropertyAt S Next behind det b o n s e P → ⊥
   no_pattern_property (with_value u) = no_key u.key
@@ -156,9 +156,23 @@ module _ (S : Type 0) (Next : S → Token → S → Type 0) (behind : S → Toke
   object_spread_cover {n = n} r u v (as_pattern false) = rest_read false n u
   object_spread_cover {n = n} r u v (as_pattern true) = rest_read true n v
 
-  pub no_object_spread : Absent S Next behind Assignment true Any x → ((b : Bool) → AbsentItem S Next behind Ends (with_default b) x) → (a : Reading) → AbsentItem S Next behind Ends (property_as a) s
+  pub no_object_spread : Absent S Next behind Assignment true Any x → ((b : Bool) → AbsentItem S Next behind Ends (with_default b) x) → NoCover S Next behind Ends property_as s
   no_object_spread missed items as_expression = record {
     nothing = λ o' a e' n' P' h d ends. let u = spread_at n' h d in
         missed.nothing o' e' u.0.inner P' (subst (λ c. Spells ways S Next behind o' c u.0.inner x e' P') u.1 (moved u.0.reads u.0.value)) (stops Assignment u.0.inner e' refl ends);
   }
   no_object_spread missed items (as_pattern b) = record { nothing = λ o' a e' n' P' h d ends. (let u = rest_at b n' h d in (items b).nothing o' u.dotted.role e' u.dotted.inner P' (bound_defaults b (kind_of u.dotted.inner) u.it_is) u.value ends) }
+
+  pub no_object_spread_within : {o h : ℕ} → AbsentWithin S Next behind o (h - 1) Assignment true Any x → ((b : Bool) → AbsentItemWithin S Next behind Ends (with_default b) o (h - 1) x) → NoCoverWithin S Next behind Ends property_as o h s
+  no_object_spread_within {o} {h} missed items as_expression = record {
+    nothing = λ a e' n' P' i d ends low.
+        let u = spread_at n' i d in
+        let high : height n' ≡ height (node SpreadElement [] plain u.0.st u.0.en (part u.0.inner none)) = ap height u.0.tree in
+        missed.nothing e' u.0.inner P' (subst (λ c. Spells ways S Next behind o c u.0.inner x e' P') u.1 (moved u.0.reads u.0.value)) (stops Assignment u.0.inner e' refl ends) (omega arith);
+  }
+  no_object_spread_within {o} {h} missed items (as_pattern b) = record {
+    nothing = λ a e' n' P' i d ends low.
+        let u = rest_at b n' i d in
+        let high : height n' ≡ height (node RestElement [] plain u.dotted.st u.dotted.en (part u.dotted.inner none)) = ap height u.dotted.tree in
+        (items b).nothing u.dotted.role e' u.dotted.inner P' (bound_defaults b (kind_of u.dotted.inner) u.it_is) u.value ends (omega arith);
+  }

@@ -111,6 +111,9 @@ pub mod CoverProperties
 pub mod CoverKeys
 pub mod CoverObjects
 pub mod CoverDefinitions
+pub mod CoverMethods
+pub mod CoverMissing
+pub mod CoverHeights
 pub mod CoverRests
 pub mod CoverEnds
 pub mod CoverExamples
