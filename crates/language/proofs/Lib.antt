@@ -114,6 +114,10 @@ pub mod CoverDefinitions
 pub mod CoverMethods
 pub mod CoverMissing
 pub mod CoverHeights
+pub mod CoverSofar
+pub mod CoverSteps
+pub mod CoverSigns
+pub mod CoverWholes
 pub mod CoverRests
 pub mod CoverEnds
 pub mod CoverExamples
