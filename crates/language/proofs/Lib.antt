@@ -118,6 +118,7 @@ pub mod CoverSofar
 pub mod CoverSteps
 pub mod CoverSigns
 pub mod CoverWholes
+pub mod CoverGroups
 pub mod CoverRests
 pub mod CoverEnds
 pub mod CoverExamples
