@@ -101,6 +101,7 @@ pub mod CommaLists
 pub mod HoleLists
 pub mod ParameterItems
 pub mod Dangling
+pub mod OptionalParts
 pub mod CoverElements
 pub mod CoverItems
 pub mod CoverSpreads
