@@ -6,12 +6,13 @@ use Rattle.tokens.specs.declared.token.Goal.TheVariants.{Div}
 use Rattle.tokens.specs.Goals.{allows}
 use Rattle.tree.specs.declared.kind.Kind.{Kind}
 use Rattle.tree.specs.declared.kind.Pair.{Pair}
-use Rattle.tree.specs.Tree.{Tree, node, Parts, none, part, gap, kind_of, height, parts_height, bare_parts}
+use Rattle.tree.specs.Tree.{Tree, node, Parts, none, part, gap, kind_of, parts_height, bare_parts}
 use Rattle.language.specs.declared.Rank.TheVariants.{Expression}
 use Rattle.language.specs.declared.Start.TheVariants.{Any}
 use Rattle.language.specs.Words.{is_rest}
 use Rattle.language.specs.Pieces.{Role, Piece, PieceOf, tok, may, sign, sp, put_at, nothing, is_none, separator, listed, settle_piece}
 use Rattle.language.specs.Token.{Token}
+use Rattle.language.specs.Covers.{FoundItem, AbsentItem, AbsentItemWithin}
 use Rattle.language.specs.Promises.{IsDetermined}
 use Rattle.language.specs.Following.{AbsentPartsWhere, AbsentPartsWhereWithin}
 use Rattle.language.specs.Grammar.{ways}
@@ -35,17 +36,14 @@ module _ (S : Type 0) (Next : S → Token → S → Type 0) (behind : S → Toke
     by_closing : {t : Token} {m : S} → Reads S Next behind Punctuator w k t m → Separated w k
 
   -- the only item there, whatever its kind, where a comma or the closing token follows; none; none within the limits
-  pub record ItemFound (r : Kind → Option Role) (w : List ℕ) (o : ℕ) (s e : S) (n : Tree) (P : List Pair) : Type 0 where
-    pub role : Role
-    pub it_is : r (kind_of n) ≡ Some role
-    pub spelled : Spells ways S Next behind o role n s e P
-    pub only : (o' : ℕ) (a : Role) (e' : S) (n' : Tree) (P' : List Pair) → r (kind_of n') ≡ Some a → Spells ways S Next behind o' a n' s e' P' → Separated w e' → (e' ≡ e) × (n' ≡ n) × (P' ≡ P)
+  abbrev pub ItemFound : (Kind → Option Role) → List ℕ → ℕ → S → S → Tree → List Pair → Type 0
+  ItemFound r w = FoundItem S Next behind (Separated w) r
 
-  pub record ItemAbsent (r : Kind → Option Role) (w : List ℕ) (s : S) : Type 0 where
-    pub nothing : (o' : ℕ) (a : Role) (e' : S) (n' : Tree) (P' : List Pair) → r (kind_of n') ≡ Some a → Spells ways S Next behind o' a n' s e' P' → Separated w e' → ⊥
+  abbrev pub ItemAbsent : (Kind → Option Role) → List ℕ → S → Type 0
+  ItemAbsent r w = AbsentItem S Next behind (Separated w) r
 
-  pub record ItemAbsentWithin (r : Kind → Option Role) (w : List ℕ) (o h : ℕ) (s : S) : Type 0 where
-    pub nothing : (a : Role) (e' : S) (n' : Tree) (P' : List Pair) → r (kind_of n') ≡ Some a → Spells ways S Next behind o a n' s e' P' → Separated w e' → height n' ≤ h → ⊥
+  abbrev pub ItemAbsentWithin : (Kind → Option Role) → List ℕ → ℕ → ℕ → S → Type 0
+  ItemAbsentWithin r w = AbsentItemWithin S Next behind (Separated w) r
 
   -- an item of some role, and the rest
   pub record AnItem (o : ℕ) (x : Option Role) (qs : List (PieceOf Role)) (n : Tree) (ps : Parts) (s e : S) (P : List Pair) : Type 0 where

@@ -93,7 +93,7 @@ literal_key w h = unless _ h (λ e k. let u = of (literal_classes w) (or_left _ 
     of (inr (inr (inl p))) named other = (ap is_key_class p, ap key_kind p)
     of (inr (inr (inr p))) named other = absurd (false≢true (sym named ∙ ap is_name p))
 
-key_free : (c : Class) → is_key_class c ≡ true → is_free c ≡ true
+pub key_free : (c : Class) → is_key_class c ≡ true → is_free c ≡ true
 key_free Name h = refl
 key_free Number h = refl
 key_free Text h = refl
@@ -110,6 +110,14 @@ literal_there w Number h k p = in_false [] _ (cc) first
 literal_there w Text h k p = in_false [] _ (cc) first
 literal_there w Name h k p = cc
 literal_there w _ h k p = cc
+
+-- a word is a key
+module _ (S : Type 0) (Next : S → Token → S → Type 0) (behind : S → Token) where
+  pub word_key : {o : ℕ} {w : List ℕ} {s e : S} {t : Token} → Reads S Next behind Name w s t e → Spells ways S Next behind o key (node Identifier w plain t.start (behind e).stop none) s e []
+  unfolding spellings
+  word_key {w = w} {e = e} {t = t} h =
+      let x : Spelling = at Primary (tok Name w ∷ []) in
+      direct (settled key x) (way_from key (node Identifier w plain t.start (behind e).stop none) x refl first refl) (placed h.next refl) (step (token h) done)
 
 module _ (S : Type 0) (Next : S → Token → S → Type 0) (behind : S → Token) (det : IsDetermined S Next behind) where
   key_token : {o : ℕ} {c : Class} {k : Kind} {w : List ℕ} {g : Flags} {st en : ℕ} {ps : Parts} {s e : S} {P : List Pair} → Runs ways S Next behind o (tok c w ∷ []) ps s e P → g ≡ plain → Placed S Next behind key (node k w g st en ps) s e → OneToken S Next behind det c k (node k w g st en ps) s e P
@@ -154,14 +162,7 @@ module _ (S : Type 0) (Next : S → Token → S → Type 0) (behind : S → Toke
 
   -- so a name is the only key there
   pub name_key_found : {o : ℕ} {s e : S} {t : Token} → Reads S Next behind Name t.text s t e → FoundAt S Next behind o key s e (node Identifier t.text plain t.start (behind e).stop none) []
-  unfolding spellings
-  name_key_found {o} {s} {e} {t} read =
-      let n : Tree = node Identifier t.text plain t.start (behind e).stop none in
-      let x : Spelling = at Primary (tok Name t.text ∷ []) in
-      record {
-        spelled = direct (settled key x) (way_from key n x refl first refl) (placed read.next refl) (step (token read) done);
-        only = λ o' e' n' P' d. key_same Name refl read (key_form d);
-      }
+  name_key_found read = record { spelled = word_key S Next behind read; only = λ o' e' n' P' d. key_same Name refl read (key_form d) }
 
   -- and a number or a string
   pub literal_key_found : {o : ℕ} {s e : S} {t : Token} (c : Class) → is_key_class c ≡ true → is_name c ≡ false → literal_class t.text ≡ c → Reads S Next behind c t.text s t e →

@@ -46,7 +46,7 @@ some_same e = cc
 abbrev as_token : Class → List ℕ → Token
 as_token c w = record { class = c; text = w; start = 0; stop = 0; after_break = false }
 
-either : (a b : Bool) → (a || b) ≡ true → (a ≡ true) ⊎ (b ≡ true)
+pub either : (a b : Bool) → (a || b) ≡ true → (a ≡ true) ⊎ (b ≡ true)
 either true b h = inl refl
 either false b h = inr h
 
@@ -206,14 +206,14 @@ arrow_holds t arrows {z} op e h = of t.after_break e
     of false k = let u = some_same k in absurd (false≢true (ap (holds Arrow) u ∙ h))
 
 -- what a token says that isn't one of the two which may stand where a `;` is missing without a line break
-ended_class : (t : Token) → is_end t ≡ true → t.class ≡ End
+pub ended_class : (t : Token) → is_end t ≡ true → t.class ≡ End
 ended_class t h = go t.class h
   where
     go : (c : Class) → is_end (as_token c []) ≡ true → c ≡ End
     go End h = refl
     go _ h = cc
 
-signed_class : (t : Token) → is_sign t ≡ true → t.class ≡ Punctuator
+pub signed_class : (t : Token) → is_sign t ≡ true → t.class ≡ Punctuator
 signed_class t h = go t.class h
   where
     go : (c : Class) → is_sign (as_token c []) ≡ true → c ≡ Punctuator
@@ -224,7 +224,7 @@ not_true : (b : Bool) → not b ≡ true → b ≡ true → ⊥
 not_true true h k = cc
 not_true false h k = cc
 
-misses : (x : Edge) (last t : Token) → IsTrue (may_miss (Rattle.language.specs.Pieces.behind x) last t) → ((is_end t || (is_sign t && is t.text "}")) ≡ true) ⊎ ((t.after_break && not (goes_on (standing x last) t)) ≡ true)
+pub misses : (x : Edge) (last t : Token) → IsTrue (may_miss (Rattle.language.specs.Pieces.behind x) last t) → ((is_end t || (is_sign t && is t.text "}")) ≡ true) ⊎ ((t.after_break && not (goes_on (standing x last) t)) ≡ true)
 misses x last t h = either (is_end t || (is_sign t && is t.text "}")) (t.after_break && not (goes_on (standing x last) t)) (and_parts (not (is_semicolon t)) ((is_end t || (is_sign t && is t.text "}")) || (t.after_break && not (goes_on (standing x last) t))) h).1
 
 no_symbol : (x : Operator) (b : Bool) {z : Rank} → x ≡ no_operator → symbol_of x b ≡ Some z → ⊥

@@ -17,6 +17,7 @@ pub mod Opening
 pub mod Beginning
 pub mod Promises
 pub mod Following
+pub mod Covers
 pub mod Cost
 pub mod Search
 pub mod Layout

@@ -9,11 +9,9 @@ use Rattle.source_text.specs.declared.fault.Fault.{Fault}
 use Rattle.source_text.specs.declared.fault.Fault.TheVariants.{NotUtf8, TooLong, Syntax, TooDeep, Early, OutOfMemory, BadSettings, BadTable, WriteFailed, ReadFailed, Usage}
 use Rattle.tokens.specs.declared.token.Token.{Token}
 use Rattle.tokens.specs.declared.token.Class.TheVariants.{Punctuator, End}
-use Rattle.tree.specs.Tree.{Tree, node, height, parts_height, push, parts_from}
-use Rattle.tree.specs.View.{expression_tree, operator_text}
+use Rattle.tree.specs.Tree.{Tree, node, Parts, none, part, height, parts_height, push}
 use Rattle.tree.specs.declared.kind.Pair.{Pair}
-use Rattle.tree.specs.declared.ast.Expression.{Expression}
-use Rattle.tree.proofs.Shapes.{parts_from_map-push, parts_height-push}
+use Rattle.tree.proofs.Shapes.{parts_height-push}
 use Rattle.language.specs.declared.Rank.{Rank}
 use Rattle.language.specs.declared.Rank.TheVariants.{Expression as Whole, Assignment, Primary}
 use Rattle.language.specs.Words.{tightness}
@@ -95,20 +93,19 @@ sign_binds text y from token sign i = i.binds_is
 module _ (text : List ℕ) (o h : ℕ) (y : Rank) (from s to : LexicalToken) (old mid new : List Pair) (left right : Part) (token : Token) (sign : Sign)
     (c : Climbs text o h y from s old mid left) (i : IsSign text y s token sign) (f : ReadsPart text o (h - 1) sign.right (token_of token) to mid new right) where
   whole : Tree
-  whole = both (operator_text sign.operator) left.start to.stop (expression_tree left.expression) (expression_tree right.expression)
+  whole = both token.text.now left.start to.stop left.node right.node
 
-  whole_is : whole ≡ both (token_of token).text c.first.start to.stop (expression_tree left.expression) (expression_tree right.expression)
+  whole_is : whole ≡ both (token_of token).text c.first.start to.stop left.node right.node
   unfolding whole
-  whole_is = ap (λ x. both x left.start to.stop (expression_tree left.expression) (expression_tree right.expression)) i.text_is
-      ∙ ap (λ x. both (token_of token).text x to.stop (expression_tree left.expression) (expression_tree right.expression)) c.start_is
+  whole_is = ap (λ x. both (token_of token).text x to.stop left.node right.node) c.start_is
 
   stepped : Climbing LexicalToken (Next text) itself o y sign.own from to c.first whole (c.pairs ++ f.pairs)
   stepped = subst (λ x. Climbing LexicalToken (Next text) itself o y sign.own from to c.first x (c.pairs ++ f.pairs)) (sym whole_is)
       (climb_step LexicalToken (Next text) itself (reading text) c.climbing (ahead s i.ahead) i.class i.binds_is i.tight f.found)
 
   pub climbs_on : (p : Part) →
-      expression_tree p.expression ≡ both (operator_text sign.operator) left.start to.stop (expression_tree left.expression) (expression_tree right.expression) →
-      p.height ≡ height (expression_tree p.expression) → p.height ≤ h → p.start ≡ left.start → Climbs text o h y from to old new p
+      p.node ≡ both token.text.now left.start to.stop left.node right.node →
+      p.height ≡ height p.node → p.height ≤ h → p.start ≡ left.start → Climbs text o h y from to old new p
   unfolding whole
   climbs_on p e k le b = record {
     symbol = sign.own;
@@ -123,7 +120,7 @@ module _ (text : List ℕ) (o h : ℕ) (y : Rank) (from s to : LexicalToken) (ol
     within = f.within;
   }
 
-  pub climbs_high : h < height (both (operator_text sign.operator) left.start to.stop (expression_tree left.expression) (expression_tree right.expression)) → IsTooDeep text o h y from
+  pub climbs_high : h < height (both token.text.now left.start to.stop left.node right.node) → IsTooDeep text o h y from
   unfolding whole
   climbs_high over = record {
     absent = climb_high LexicalToken (Next text) itself stepped over;
@@ -184,10 +181,10 @@ group_unclosed text o h from m old new left p a b f lacks = group_open LexicalTo
 pub group_reads : (text : List ℕ) (o h : ℕ) (from m : LexicalToken) (left right : Token) (first : Pair) (old mid : List Pair) (p : Part) (n : ℕ) → o ≢ 0 →
     IsAhead text from.stop (token_of left) → StartsWith Start.Group (token_of left) → ReadsPart text (o - 1) h Whole (token_of left) m (old ++ first ∷ []) mid p →
     IsAhead text m.stop (token_of right) → (token_of right).class ≡ Punctuator → right.text.now ≡ codes ")" → n ≡ length old →
-    ReadsPart text o h Primary from (token_of right) old (set mid n (record { left = left.start; right = right.start })) (record { expression = p.expression; height = p.height; start = left.start })
+    ReadsPart text o h Primary from (token_of right) old (set mid n (record { left = left.start; right = right.start })) (record { node = p.node; height = p.height; start = left.start })
 group_reads text o h from m left right first old mid p n some a b f a' class t e = record {
   pairs = pair_of (token_of left) (token_of right) ∷ f.pairs;
-  found = subst (λ x. Found LexicalToken (Next text) itself x Primary from (token_of right) (expression_tree p.expression) (pair_of (token_of left) (token_of right) ∷ f.pairs)) (let e : suc (o - 1) ≡ o = omega arith in e)
+  found = subst (λ x. Found LexicalToken (Next text) itself x Primary from (token_of right) p.node (pair_of (token_of left) (token_of right) ∷ f.pairs)) (let e : suc (o - 1) ≡ o = omega arith in e)
       (group_found LexicalToken (Next text) itself (reading text) (opens {s = from} left a b) f.found (record { next = ahead m a'; class = class; text = t }));
   pairs_are = ap (λ x. set mid x (pair_of (token_of left) (token_of right))) e
       ∙ ap (λ x. set x (length old) (pair_of (token_of left) (token_of right))) (f.pairs_are ∙ append_assoc old (first ∷ []) f.pairs)
@@ -237,7 +234,7 @@ lists_high text o h from m old new p comma f c over = record {
 
 pub lists_start : (text : List ℕ) (o h : ℕ) (from m : LexicalToken) (old new : List Pair) (p : Part) (comma : Token) → ReadsPart text o h Assignment from m old new p →
     IsAhead text m.stop (token_of comma) × ((token_of comma).class ≡ Punctuator) × (comma.text.now ≡ codes ",") → p.height < h →
-    Lists text o h from (token_of comma) old new (p.expression ∷ []) p.height p.start
+    Lists text o h from (token_of comma) old new (part p.node none) p.height p.start
 lists_start text o h from m old new p comma f c low = record {
   pairs = f.pairs;
   first = f.first;
@@ -249,41 +246,38 @@ lists_start text o h from m old new p comma f c low = record {
   height_is = let e = f.height_is in omega arith;
 }
 
-pub lists_refused : (text : List ℕ) (o h : ℕ) (from s : LexicalToken) (old mid : List Pair) (expressions : List Expression) (so_far start : ℕ) → from.stop < s.stop →
-    Lists text o h from s old mid expressions so_far start → (fault : Fault) → Refuses text o (h - 1) Assignment s fault → Refuses text o h Whole from fault
-lists_refused text o h from s old mid expressions so_far start forward l fault r = refuse fault r
+pub lists_refused : (text : List ℕ) (o h : ℕ) (from s : LexicalToken) (old mid : List Pair) (items : Parts) (so_far start : ℕ) → from.stop < s.stop →
+    Lists text o h from s old mid items so_far start → (fault : Fault) → Refuses text o (h - 1) Assignment s fault → Refuses text o h Whole from fault
+lists_refused text o h from s old mid items so_far start forward l fault r = refuse fault r
     (list_absent LexicalToken (Next text) itself (reading text) l.listing)
     (λ d. record { absent = list_deep LexicalToken (Next text) itself (reading text) l.listing d.absent; long = let l = d.long in omega arith })
 
-pub lists_on : (text : List ℕ) (o h : ℕ) (from s m : LexicalToken) (old mid new : List Pair) (expressions : List Expression) (so_far start : ℕ) (p : Part) (comma : Token) →
-    Lists text o h from s old mid expressions so_far start → ReadsPart text o (h - 1) Assignment s m mid new p →
+pub lists_on : (text : List ℕ) (o h : ℕ) (from s m : LexicalToken) (old mid new : List Pair) (items : Parts) (so_far start : ℕ) (p : Part) (comma : Token) →
+    Lists text o h from s old mid items so_far start → ReadsPart text o (h - 1) Assignment s m mid new p →
     IsAhead text m.stop (token_of comma) × ((token_of comma).class ≡ Punctuator) × (comma.text.now ≡ codes ",") →
-    Lists text o h from (token_of comma) old new (expressions ++ p.expression ∷ []) (max so_far p.height) start
-lists_on text o h from s m old mid new expressions so_far start p comma l f c = record {
+    Lists text o h from (token_of comma) old new (push items p.node) (max so_far p.height) start
+lists_on text o h from s m old mid new items so_far start p comma l f c = record {
   pairs = l.pairs ++ f.pairs;
   first = l.first;
   next = l.next;
   start_is = l.start_is;
-  listing = subst (λ x. Listing LexicalToken (Next text) itself o from (token_of comma) l.first x (l.pairs ++ f.pairs)) (sym (parts_from_map-push expression_tree expressions p.expression))
-      (list_more LexicalToken (Next text) itself (reading text) l.listing f.found (comma_read {s = m} comma c));
+  listing = list_more LexicalToken (Next text) itself (reading text) l.listing f.found (comma_read {s = m} comma c);
   pairs_are = f.pairs_are ∙ ap (λ x. x ++ f.pairs) l.pairs_are ∙ append_assoc old l.pairs f.pairs;
   low = let a = l.low in let b = f.low in let d = f.height_is in omega arith;
   height_is = let a = l.height_is in let d = f.height_is in
-      let e = ap parts_height (parts_from_map-push expression_tree expressions p.expression) in
-      let g = parts_height-push (parts_from (map expression_tree expressions)) (expression_tree p.expression) in omega arith;
+      let g = parts_height-push items p.node in omega arith;
 }
 
-pub lists_end : (text : List ℕ) (o h : ℕ) (from s m : LexicalToken) (old mid new : List Pair) (expressions : List Expression) (so_far start : ℕ) (p : Part) (q : Part) →
-    Lists text o h from s old mid expressions so_far start → ReadsPart text o (h - 1) Assignment s m mid new p →
+pub lists_end : (text : List ℕ) (o h : ℕ) (from s m : LexicalToken) (old mid new : List Pair) (items : Parts) (so_far start : ℕ) (p : Part) (q : Part) →
+    Lists text o h from s old mid items so_far start → ReadsPart text o (h - 1) Assignment s m mid new p →
     ((t : LexicalToken) → ReadsAt text m.stop t → t.class ≡ Punctuator → t.text ≡ codes "," → ⊥) →
-    expression_tree q.expression ≡ several start m.stop (parts_from (map expression_tree (expressions ++ p.expression ∷ []))) → q.height ≡ max so_far p.height + 1 → q.start ≡ start →
+    q.node ≡ several start m.stop (push items p.node) → q.height ≡ max so_far p.height + 1 → q.start ≡ start →
     ReadsPart text o h Whole from m old new q
-lists_end text o h from s m old mid new expressions so_far start p q l f lacks tree k b =
-    let t : expression_tree q.expression ≡ several l.first.start m.stop (push (parts_from (map expression_tree expressions)) (expression_tree p.expression)) =
-    tree ∙ ap (λ x. several x m.stop (parts_from (map expression_tree (expressions ++ p.expression ∷ [])))) l.start_is
-    ∙ ap (λ x. several l.first.start m.stop x) (parts_from_map-push expression_tree expressions p.expression) in
+lists_end text o h from s m old mid new items so_far start p q l f lacks tree k b =
+    let t : q.node ≡ several l.first.start m.stop (push items p.node) =
+    tree ∙ ap (λ x. several x m.stop (push items p.node)) l.start_is in
     let high = ap height t in
-    let g = parts_height-push (parts_from (map expression_tree expressions)) (expression_tree p.expression) in
+    let g = parts_height-push items p.node in
     let a = l.low in let c = f.low in let d = f.height_is in let e = l.height_is in
     record {
       pairs = l.pairs ++ f.pairs;

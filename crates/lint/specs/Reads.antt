@@ -6,15 +6,14 @@ use Rattle.source_text.specs.Source.{IsPlace}
 use Rattle.source_text.specs.declared.fault.Fault.{Fault}
 use Rattle.source_text.specs.declared.fault.Fault.TheVariants.{Syntax, TooDeep, OutOfMemory}
 use Rattle.tree.specs.Tree.{Tree, height}
-use Rattle.tree.specs.View.{expression_tree}
 use Rattle.tree.specs.declared.kind.Pair.{Pair}
 use Rattle.language.specs.declared.Rank.{Rank}
+use Rattle.language.specs.declared.Rank.TheVariants.{Primary}
 use Rattle.grammar.specs.Limits.{itself}
 use Rattle.grammar.specs.Promises.{Found, Absent, AbsentWithin}
 use Rattle.tokens.specs.Scanned.{token_of}
 use Rattle.tokens.specs.declared.token.Class.TheVariants.{Punctuator}
 use Rattle.tokens.specs.declared.token.Token.{Token}
-use Rattle.tree.specs.View.{operator_text}
 use Rattle.language.specs.Words.{tightness}
 use Rattle.language.specs.Words.{binds}
 use Rattle.grammar.specs.Sums.{sum_operator}
@@ -25,10 +24,10 @@ use Rattle.lint.specs.declared.parser.Sign.{Sign}
 -- the only thing that the symbol y spells at a place, as far as it goes
 pub record ReadsPart (text : List ℕ) (o h : ℕ) (y : Rank) (from to : LexicalToken) (old new : List Pair) (part : Part) : Type 0 where
   pub pairs : List Pair
-  pub found : Found LexicalToken (Next text) itself o y from to (expression_tree part.expression) pairs
+  pub found : Found LexicalToken (Next text) itself o y from to part.node pairs
   pub pairs_are : new ≡ old ++ pairs
-  pub low : height (expression_tree part.expression) ≤ h
-  pub height_is : part.height ≡ height (expression_tree part.expression)
+  pub low : height part.node ≤ h
+  pub height_is : part.height ≡ height part.node
   pub first : LexicalToken
   pub next : Next text from first first
   pub start_is : part.start ≡ first.start
@@ -55,10 +54,11 @@ pub record IsSign (text : List ℕ) (y : Rank) (from : LexicalToken) (token : To
   pub ahead : IsAhead text from.stop (token_of token)
   pub class : (token_of token).class ≡ Punctuator
   pub binds_is : sum_operator token.text.now ≡ binds false sign.own sign.right
-  pub text_is : operator_text sign.operator ≡ token.text.now
+  pub right_above : 1 ≤ tightness sign.right
+  pub right_below : tightness sign.right ≤ tightness Primary
   pub tight : tightness y ≤ tightness sign.own
 
 -- a node with no parts, or no room for it
 abbrev pub AnswersLeaf : Tree → ℕ → ℕ → Result Part Fault → Type 0
-AnswersLeaf n start h (Ok part) = (expression_tree part.expression ≡ n) × (part.height ≡ 1) × (1 ≤ h) × (part.start ≡ start)
+AnswersLeaf n start h (Ok part) = (part.node ≡ n) × (part.height ≡ 1) × (1 ≤ h) × (part.start ≡ start)
 AnswersLeaf n start h (Err fault) = (fault ≡ TooDeep) × (h ≡ 0)

@@ -1,16 +1,13 @@
 -- What reading a whole text answers.
-use Rattle.std.specs.Prelude.{◌≡◌, ℕ, ◌≤◌, map, length, List, Result, Ok, Err, Vec}
-use Rattle.std.specs.declared.alloc.Global.{Global}
+use Rattle.std.specs.Prelude.{◌≡◌, ℕ, ◌≤◌, length, List, Result, Ok, Err}
 use Rattle.tokens.specs.Tokens.{LexicalToken}
 use Rattle.grammar.specs.Limits.{ReadsAt}
 use Rattle.source_text.specs.Source.{IsPlace}
 use Rattle.tokens.specs.declared.token.Class.TheVariants.{End}
 use Rattle.source_text.specs.declared.fault.Fault.{Fault}
 use Rattle.source_text.specs.declared.fault.Fault.TheVariants.{Syntax, TooDeep, OutOfMemory}
-use Rattle.tree.specs.Tree.{Tree, parts_from}
-use Rattle.tree.specs.View.{statement_tree}
+use Rattle.tree.specs.Tree.{Tree, Parts}
 use Rattle.tree.specs.declared.kind.Pair.{Pair}
-use Rattle.tree.specs.declared.ast.Statement.{Statement}
 use Rattle.grammar.specs.Limits.{Derives, DerivesWithin}
 use Rattle.grammar.specs.Nodes.{program_node}
 use Rattle.lint.specs.declared.script.Parsed.{Parsed}
@@ -41,8 +38,8 @@ RefusesScript text TooDeep = NothingWithinLimits text
 RefusesScript text OutOfMemory = Unit {0}
 RefusesScript text _ = ⊥
 
-abbrev pub ReadsStatements : List ℕ → List Pair → Result (Vec Statement Global) Fault → Type 0
-ReadsStatements text pairs (Ok statements) = IsOnly text (program_node (length text) (parts_from (map statement_tree statements.items))) pairs
+abbrev pub ReadsStatements : List ℕ → List Pair → Result Parts Fault → Type 0
+ReadsStatements text pairs (Ok statements) = IsOnly text (program_node (length text) statements) pairs
 ReadsStatements text pairs (Err fault) = RefusesScript text fault
 
 abbrev pub Parses : List ℕ → Result Parsed Fault → Type 0

@@ -5,7 +5,6 @@ ghost use Rattle.tokens.specs.Tokens.{LexicalToken};
 ghost use Rattle.tokens.specs.Scanned.{token_of};
 ghost use Rattle.grammar.specs.Limits.{ReadsAt, Next};
 ghost use Rattle.tree.specs.Tree.{height};
-ghost use Rattle.tree.specs.View.{expression_tree, operator_text};
 ghost use Rattle.language.specs.Words.{Operator, binds, no_operator};
 ghost use Rattle.grammar.specs.Sums.{sum_operator};
 ghost use Rattle.language.specs.Words.{tightness};
@@ -23,12 +22,12 @@ use source_text::Fault;
 use std::alloc::Global;
 use std::borrow::CowStr;
 use tokens::{Class, Token};
-use tree::{BinaryOperator, Expression, Pair, Span};
+use tree::{Flags, Kind, Pair, Parts, Span, Syntax};
 
 /// An expression, with its height and the start of its first token, parentheses round it included.
 #[derive(Drop)]
 pub(crate) struct Part<'s> {
-    pub(crate) expression: Expression<'s>,
+    pub(crate) node: Syntax<'s>,
     pub(crate) height: u32,
     pub(crate) start: usize,
 }
@@ -44,7 +43,6 @@ pub(crate) enum Start {
 /// An operator between two expressions: the symbol of the node and of its left side, and that of its right side.
 #[derive(Clone, Copy)]
 pub(crate) struct Sign {
-    pub(crate) operator: BinaryOperator,
     pub(crate) own: Rank,
     pub(crate) right: Rank,
 }
@@ -59,27 +57,23 @@ pub(crate) struct Parser<'t, 's> {
 
 // The operator that a punctuator is.
 fn sign_of(text: &str) -> Option<Sign>
-    ensures some { IfSome result (λ sign. (sum_operator text.now ≡ binds false sign.own sign.right) × (operator_text sign.operator ≡ text.now)) }
+    ensures some { IfSome result (λ sign. (sum_operator text.now ≡ binds false sign.own sign.right) × (1 ≤ tightness sign.right) × (tightness sign.right ≤ tightness Rank.Primary)) }
     ensures none { IfNone result (sum_operator text.now ≡ no_operator) }
 {
     match text {
         "+" => Some(Sign {
-            operator: BinaryOperator::Add,
             own: Rank::Additive,
             right: Rank::Multiplicative,
         }),
         "-" => Some(Sign {
-            operator: BinaryOperator::Subtract,
             own: Rank::Additive,
             right: Rank::Multiplicative,
         }),
         "*" => Some(Sign {
-            operator: BinaryOperator::Multiply,
             own: Rank::Multiplicative,
             right: Rank::Exponentiation,
         }),
         "/" => Some(Sign {
-            operator: BinaryOperator::Divide,
             own: Rank::Multiplicative,
             right: Rank::Exponentiation,
         }),
@@ -103,18 +97,18 @@ fn start_of(token: &Token<'_>) -> Option<Start>
 // The node of an operator and its operands.
 fn join<'s>(
     alloc: Global,
-    operator: BinaryOperator,
+    text: &'s str,
     left: Part<'s>,
     right: Part<'s>,
     end: usize,
     high: u32,
 ) -> Result<Part<'s>, Fault>
-    requires left_is { left.height ≡ height (expression_tree left.expression) }
-    requires right_is { right.height ≡ height (expression_tree right.expression) }
-    ensures tree { IfOk result (λ part. expression_tree part.expression ≡ both (operator_text operator) left.entry.start end (expression_tree left.entry.expression) (expression_tree right.entry.expression)) }
-    ensures height { IfOk result (λ part. (part.height ≡ height (expression_tree part.expression)) × (part.height ≤ high)) }
+    requires left_is { left.height ≡ height left.node }
+    requires right_is { right.height ≡ height right.node }
+    ensures tree { IfOk result (λ part. part.node ≡ both text.now left.entry.start end left.entry.node right.entry.node) }
+    ensures height { IfOk result (λ part. (part.height ≡ height part.node) × (part.height ≤ high)) }
     ensures start { IfOk result (λ part. part.start ≡ left.entry.start) }
-    ensures deep { result ≡ Err Fault.TooDeep → high < height (both (operator_text operator) left.entry.start end (expression_tree left.entry.expression) (expression_tree right.entry.expression)) }
+    ensures deep { result ≡ Err Fault.TooDeep → high < height (both text.now left.entry.start end left.entry.node right.entry.node) }
     ensures only { IfErr result (λ fault. (fault ≢ Fault.TooDeep) → fault ≡ Fault.OutOfMemory) }
 {
     let height = left.height.max(right.height);
@@ -122,23 +116,18 @@ fn join<'s>(
         return Err(Fault::TooDeep);
     }
     let start = left.start;
-    let left = Box::new(alloc, left.expression)?;
-    let right = Box::new(alloc, right.expression)?;
+    let parts = Parts::two(alloc, left.node, right.node)?;
+    let text = CowStr::Borrowed(text);
     let span = Span { start, end };
     Ok(Part {
-        expression: Expression::Binary {
-            operator,
-            left,
-            right,
-            span,
-        },
+        node: Syntax::new(Kind::BinaryExpression, text, Flags::PLAIN, span, parts),
         height: height + 1,
         start,
     })
 }
 
 // The node of a name.
-fn identifier(token: Token<'_>, high: u32) -> Result<Part<'_>, Fault>
+fn identifier(alloc: Global, token: Token<'_>, high: u32) -> Result<Part<'_>, Fault>
     ensures { AnswersLeaf (name_node (token_of token.entry)) token.entry.start high result }
 {
     if high == 0 {
@@ -150,14 +139,14 @@ fn identifier(token: Token<'_>, high: u32) -> Result<Part<'_>, Fault>
     };
     let name = CowStr::Borrowed(token.text);
     Ok(Part {
-        expression: Expression::Identifier { name, span },
+        node: Syntax::leaf(alloc, Kind::Identifier, name, span),
         height: 1,
         start: token.start,
     })
 }
 
 // The node of a number.
-fn literal(token: Token<'_>, high: u32) -> Result<Part<'_>, Fault>
+fn literal(alloc: Global, token: Token<'_>, high: u32) -> Result<Part<'_>, Fault>
     ensures { AnswersLeaf (number_node (token_of token.entry)) token.entry.start high result }
 {
     if high == 0 {
@@ -169,7 +158,7 @@ fn literal(token: Token<'_>, high: u32) -> Result<Part<'_>, Fault>
     };
     let raw = CowStr::Borrowed(token.text);
     Ok(Part {
-        expression: Expression::Literal { raw, span },
+        node: Syntax::leaf(alloc, Kind::Literal, raw, span),
         height: 1,
         start: token.start,
     })
@@ -213,11 +202,11 @@ impl<'t, 's> Parser<'t, 's> {
         match start {
             Start::Name => {
                 self.cursor.advance(token);
-                identifier(token, high)
+                identifier(self.alloc, token, high)
             }
             Start::Number => {
                 self.cursor.advance(token);
-                literal(token, high)
+                literal(self.alloc, token, high)
             }
             Start::Group => self.group(token, groups, high),
         }
@@ -250,7 +239,7 @@ impl<'t, 's> Parser<'t, 's> {
             right: right.start,
         };
         Ok(Part {
-            expression: part.expression,
+            node: part.node,
             height: part.height,
             start: left.start,
         })
@@ -267,10 +256,11 @@ impl<'t, 's> Parser<'t, 's> {
     {
         let mut left = self.primary(groups, high)?;
         'operators: while let Some((token, sign)) = self.sign(rank) {
+            let text = token.text;
             self.cursor.advance(token);
             let right = self.operators(sign.right, groups, high.saturating_sub(1))?;
             let end = self.cursor.last_end();
-            left = join(self.alloc, sign.operator, left, right, end, high)?;
+            left = join(self.alloc, text, left, right, end, high)?;
         }
         Ok(left)
     }
@@ -291,12 +281,12 @@ impl<'t, 's> Parser<'t, 's> {
         }
         let start = first.start;
         let mut height = first.height;
-        let mut expressions = Vec::new(self.alloc);
-        expressions.push(first.expression)?;
+        let mut items = Parts::new(self.alloc);
+        items.push(first.node)?;
         'parts: loop {
             let part = self.operators(Rank::Assignment, groups, high - 1)?;
             height = height.max(part.height);
-            expressions.push(part.expression)?;
+            items.push(part.node)?;
             let Some(_comma) = self.cursor.take_mark(",") else {
                 break;
             };
@@ -306,7 +296,13 @@ impl<'t, 's> Parser<'t, 's> {
             end: self.cursor.last_end(),
         };
         Ok(Part {
-            expression: Expression::Sequence { expressions, span },
+            node: Syntax::new(
+                Kind::SequenceExpression,
+                CowStr::Borrowed(""),
+                Flags::PLAIN,
+                span,
+                items,
+            ),
             height: height + 1,
             start,
         })

@@ -12,8 +12,9 @@ use crate::cursor::Cursor;
 use crate::parser::Parser;
 use source_text::{Fault, Source};
 use std::alloc::Global;
+use std::borrow::CowStr;
 use tokens::Class;
-use tree::{Pair, Program, Span, Statement};
+use tree::{Flags, Kind, Pair, Parts, Program, Span, Syntax};
 
 /// The most grouping parentheses that may be open at one point.
 pub(crate) const MAX_OPEN: u32 = 1000;
@@ -44,12 +45,12 @@ impl<'t, 's> Parser<'t, 's> {
     }
 
     // The statements from the beginning of the text on.
-    fn statements(&mut self) -> Result<Vec<Statement<'s>>, Fault>
+    fn statements(&mut self) -> Result<Parts<'s>, Fault>
         requires start { self.old.cursor.last ≡ front }
         requires none { self.old.pairs.items ≡ [] }
         ensures { ReadsStatements self.old.cursor.text self.new.pairs.items result }
     {
-        let mut statements = Vec::new(self.alloc);
+        let mut statements = Parts::new(self.alloc);
         'statements: while !self.is_over() {
             let part = self.expression(MAX_OPEN, MAX_HEIGHT - 2)?;
             let Some(semicolon) = self.cursor.take_mark(";") else {
@@ -59,10 +60,10 @@ impl<'t, 's> Parser<'t, 's> {
                 start: part.start,
                 end: semicolon.end,
             };
-            statements.push(Statement::Expression {
-                expression: part.expression,
-                span,
-            })?;
+            let parts = Parts::one(self.alloc, part.node)?;
+            let text = CowStr::Borrowed("");
+            let kind = Kind::ExpressionStatement;
+            statements.push(Syntax::new(kind, text, Flags::PLAIN, span, parts))?;
         }
         Ok(statements)
     }

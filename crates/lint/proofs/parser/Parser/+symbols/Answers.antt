@@ -1,9 +1,7 @@
-use Rattle.std.proofs.Common.{◌+◌, [], ◌∷◌, ◌++◌, refl, sym, ap, ◌∙◌, subst, arith}
+use Rattle.std.proofs.Common.{◌+◌, [], ◌∷◌, ◌++◌, length, refl, sym, ap, ◌∙◌, subst, arith}
 use Rattle.tokens.specs.Tokens.{LexicalToken}
 use Rattle.lint.specs.Reads.{IsTooDeep}
-use Rattle.tree.specs.Tree.{parts_from}
-use Rattle.tree.specs.View.{expression_tree}
-use Rattle.tree.proofs.Shapes.{tree-Sequence}
+use Rattle.tree.specs.Tree.{push}
 use Rattle.grammar.specs.Nodes.{several}
 use Rattle.std.specs.Prelude.{map}
 use Rattle.lint.proofs.Parsing.{passed_on, climbs_start, climbs_stop, climbs_on, climbs_high, climbs_refused, up_refused, group_limited, group_refused, group_unclosed, group_reads, expression_refused, single_reads, lists_high, lists_start, lists_refused, lists_on, lists_end, join_refused, nothing_ahead, nothing_begins, name_reads, number_reads}
@@ -31,7 +29,7 @@ expression-parts-init t c =
     rw (c.in-Some.ensures.some.3) (record {
       same = c.in-Some.ensures.text ∙ c.in_ok-first.ensures.text;
       forward = omega arith;
-      lists = rw (c.in_ok-push.ensures.items, c.new-expressions.ensures.items)
+      lists = rw (c.in_ok-push.ensures.pushed, c.new-items.ensures)
           (lists_start _ _ _ _ _ _ _ _ c.in-Some._comma c.in_ok-first.ensures.reads (some.0, some.1, some.2) (omega arith));
     })
 
@@ -50,18 +48,16 @@ expression-parts-preserved t c =
     rw (c.in-Some-take_mark.ensures.some.3) (record {
       same = c.in-Some-take_mark.ensures.text ∙ c.in_ok-part.ensures.text ∙ c.parts.invariant.same;
       forward = omega arith;
-      lists = rw (c.in_ok-push-2.ensures.items, c.max-height.ensures)
+      lists = rw (c.in_ok-push-2.ensures.pushed, c.max-height.ensures)
           (lists_on _ _ _ _ _ _ _ _ _ _ _ _ _ c.in-Some-take_mark._comma c.parts.invariant.lists (rw c.parts.invariant.same at c.in_ok-part.ensures.reads) (some.0, some.1, some.2));
     })
 
 pub expression-returns-clause-reads : goal.expression-returns-clause-reads
 expression-returns-clause-reads t c =
     let none = rw (c.in_ok-part.ensures.text, c.parts.invariant.same) at c.in_default-take_mark.ensures.none.0 in
-    let tree = tree-Sequence c.push-in-parts.new.self (record { start = c.in_ok-first.first.start; end = c.last_end.result }) in
     rw (c.in_default-take_mark.ensures.none.1)
     (lists_end _ _ _ _ _ _ _ _ _ _ _ _ _ _ c.parts.invariant.lists (rw c.parts.invariant.same at c.in_ok-part.ensures.reads) none
-    (tree ∙ ap (λ x. several c.in_ok-first.first.start c.last_end.result (parts_from (map expression_tree x))) c.in_ok-push-2.ensures.items
-    ∙ ap (λ x. several c.in_ok-first.first.start x (parts_from (map expression_tree (c.parts.expressions.items ++ c.in_ok-part.part.expression ∷ [])))) (c.last_end.ensures ∙ ap (λ (x : LexicalToken). x.stop) c.in_default-take_mark.ensures.none.1))
+    (c.new.ensures ∙ rw (c.in_ok-push-2.ensures.pushed, c.last_end.ensures, c.in_default-take_mark.ensures.none.1) refl)
     (ap (λ x. x + 1) c.max-height.ensures) refl)
 
 pub group-returns-then-groups-eq0-clause-reads : goal.group-returns-then-groups-eq0-clause-reads
@@ -115,6 +111,17 @@ operators-returns-in_err-left-2-clause-reads t c =
     (λ e. climbs_high _ _ _ _ _ _ _ _ _ _ _ _ c.in-Some.token c.in-Some.sign c.operators.invariant.climbs sign right
     (c.in_err-left-2.ensures.deep e))
     c.in_err-left-2.ensures.only)
+
+pub operators-operators-requires : goal.operators-operators-requires
+operators-operators-requires t c =
+    let sign = rw c.operators.invariant.same at c.in-Some.ensures.some in
+    let before = c.operators.invariant.forward in
+    let begins = sign.ahead.begins in
+    let past = sign.ahead.goes_on (λ e. let k = sym sign.class ∙ e in cc) in
+    let inside = sign.ahead.stop_place.0 in
+    let same = ap length (c.advance.ensures.text ∙ c.operators.invariant.same) in
+    let stop = ap (λ (x : LexicalToken). x.stop) c.advance.ensures.last in
+    (omega (arith, c.decreases), (sign.right_above, sign.right_below))
 
 pub operators-operators-preserved : goal.operators-operators-preserved
 operators-operators-preserved t c =

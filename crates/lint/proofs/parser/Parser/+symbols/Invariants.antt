@@ -28,7 +28,7 @@ abbrev pub invariant-expression-parts : goal.invariant-expression-parts
 invariant-expression-parts l = record {
   same : l.self.cursor.text ≡ l.fn.self.cursor.text;
   forward : l.fn.self.cursor.last.stop < l.self.cursor.last.stop;
-  lists : Lists l.fn.self.cursor.text l.groups l.high l.fn.self.cursor.last l.self.cursor.last l.fn.self.pairs.items l.self.pairs.items l.expressions.items l.height l.start;
+  lists : Lists l.fn.self.cursor.text l.groups l.high l.fn.self.cursor.last l.self.cursor.last l.fn.self.pairs.items l.self.pairs.items l.items l.height l.start;
 }
 
 abbrev pub decreases-expression-parts : goal.decreases-expression-parts

@@ -5,7 +5,7 @@ use Rattle.lint.proofs.parser.Parser.statements.Goals as goal
 pub statements-init : goal.statements-init
 statements-init c = record {
   same = refl;
-  scripts = rw (c.requires.start, c.requires.none, c.new-statements.ensures.items) (scripts_start _);
+  scripts = rw (c.requires.start, c.requires.none, c.new-statements.ensures) (scripts_start _);
 }
 
 pub returns-in_err-part : goal.returns-in_err-part
@@ -25,9 +25,9 @@ statements-preserved c =
     let some = rw (c.in_ok-part.ensures.text, c.statements.invariant.same) at c.in-Some.ensures.some in
     rw (c.in-Some.ensures.some.3) (record {
       same = c.in-Some.ensures.text ∙ c.in_ok-part.ensures.text ∙ c.statements.invariant.same;
-      scripts = rw c.in_ok-push.ensures.items
+      scripts = rw c.in_ok-push.ensures.pushed
           (scripts_on _ _ _ _ _ _ _ c.in-Some.semicolon _ c.statements.invariant.scripts (rw c.statements.invariant.same at c.in_ok-part.ensures.reads)
-          some.0 some.1 some.2 refl);
+          some.0 some.1 some.2 (c.new.ensures ∙ rw c.in_ok-parts.ensures refl));
     })
 
 pub returns : goal.returns

@@ -5,7 +5,7 @@ use Rattle.lint.proofs.parser.Parser.statements.Given as goal
 abbrev pub invariant-statements : goal.invariant-statements
 invariant-statements l = record {
   same : l.self.cursor.text ≡ l.fn.self.cursor.text;
-  scripts : Scripts l.fn.self.cursor.text l.self.cursor.last l.self.pairs.items l.statements.items;
+  scripts : Scripts l.fn.self.cursor.text l.self.cursor.last l.self.pairs.items l.statements;
 }
 
 abbrev pub decreases-statements : goal.decreases-statements
