@@ -4,7 +4,7 @@ use crate::{EarlyError, first_early_error, number_of};
 use std::alloc::{AllocError, Global};
 use std::borrow::CowStr;
 use std::test::Fail;
-use tree::{Expression, Program, Span, Statement};
+use tree::{Flags, Kind, Parts, Program, Span, Syntax};
 
 #[test]
 fn numbers_follow_the_order(rt: HostRuntime) {
@@ -20,17 +20,18 @@ fn numbers_follow_the_order(rt: HostRuntime) {
 }
 
 /// A literal as a statement, at a place.
-fn statement(text: &str, start: u8) -> Statement<'_> {
+fn statement(alloc: Global, text: &str, start: u8) -> Result<Syntax<'_>, AllocError> {
     let start = usize::from(start);
     let span = Span {
         start,
         end: start + 5,
     };
     let raw = CowStr::Borrowed(text);
-    Statement::Expression {
-        expression: Expression::Literal { raw, span },
-        span,
-    }
+    let literal = Syntax::leaf(alloc, Kind::Literal, raw, span);
+    let kind = Kind::ExpressionStatement;
+    let no_text = CowStr::Borrowed("");
+    let parts = Parts::one(alloc, literal)?;
+    Ok(Syntax::new(kind, no_text, Flags::PLAIN, span, parts))
 }
 
 /// The script of two literals, each at its place.
@@ -39,10 +40,10 @@ fn script<'s>(
     first: (&'s str, u8),
     second: (&'s str, u8),
 ) -> Result<Program<'s>, AllocError> {
-    let mut body = Vec::new(alloc);
-    body.push(statement(first.0, first.1))?;
-    body.push(statement(second.0, second.1))?;
-    Ok(Program::new(body, Span { start: 0, end: 13 }))
+    let first = statement(alloc, first.0, first.1)?;
+    let second = statement(alloc, second.0, second.1)?;
+    let items = Parts::two(alloc, first, second)?;
+    Ok(Program::new(items, Span { start: 0, end: 13 }))
 }
 
 /// By place, in whatever order the statements stand.

@@ -1,7 +1,6 @@
 //! Small trees, built by hand, as JSON. The examples in `proofs/` have a row for each type of node.
 
 ghost use Rattle.std.specs.Prelude.{◌≡◌, IfOk, IfSome, false};
-ghost use Rattle.tree.specs.View.{expression_tree};
 ghost use Rattle.estree_json.specs.Strings.{HasStrings};
 ghost use Rattle.estree_json.specs.Texts.{is_quoted};
 
@@ -11,32 +10,30 @@ use std::alloc::{AllocError, Global};
 use std::borrow::CowStr;
 use std::test::Fail;
 use tokens::{Class, Goal, scan};
-use tree::{BinaryOperator, Expression, Program, Span, Statement};
+use tree::{Flags, Kind, Parts, Program, Span, Syntax};
 
 const WHOLE: Plan = Plan {
     per_call: 65536,
     fails_at: None,
 };
 
-fn name(text: CowStr, start: usize, end: usize) -> Expression
-    ensures { HasStrings (expression_tree result) }
+fn name(alloc: Global, text: CowStr, start: usize, end: usize) -> Syntax
+    ensures { HasStrings result }
 {
-    let span = Span { start, end };
-    Expression::Identifier { name: text, span }
+    Syntax::leaf(alloc, Kind::Identifier, text, Span { start, end })
 }
 
-fn number(text: &str, start: usize, end: usize) -> Expression<'_>
+fn number(alloc: Global, text: &str, start: usize, end: usize) -> Syntax<'_>
     requires { is_quoted text.now ≡ false }
-    ensures { HasStrings (expression_tree result) }
+    ensures { HasStrings result }
 {
-    let span = Span { start, end };
     let raw = CowStr::Borrowed(text);
-    Expression::Literal { raw, span }
+    Syntax::leaf(alloc, Kind::Literal, raw, Span { start, end })
 }
 
 /// The string that a source begins with, if it does.
-fn string<'s>(source: &Source<'s>) -> Option<Expression<'s>>
-    ensures { IfSome result (λ e. HasStrings (expression_tree e)) }
+fn string<'s>(alloc: Global, source: &Source<'s>) -> Option<Syntax<'s>>
+    ensures { IfSome result HasStrings }
 {
     if !source.text().is_char_boundary(0) {
         return None;
@@ -52,48 +49,44 @@ fn string<'s>(source: &Source<'s>) -> Option<Expression<'s>>
         end: token.end,
     };
     let raw = CowStr::Borrowed(token.text);
-    Some(Expression::Literal { raw, span })
+    Some(Syntax::leaf(alloc, Kind::Literal, raw, span))
 }
 
 fn sum<'s>(
     alloc: Global,
-    left: Expression<'s>,
-    right: Expression<'s>,
+    left: Syntax<'s>,
+    right: Syntax<'s>,
     end: usize,
-) -> Result<Expression<'s>, AllocError>
-    requires left { HasStrings (expression_tree left) }
-    requires right { HasStrings (expression_tree right) }
-    ensures { IfOk result (λ e. HasStrings (expression_tree e)) }
+) -> Result<Syntax<'s>, AllocError>
+    requires left { HasStrings left }
+    requires right { HasStrings right }
+    ensures { IfOk result HasStrings }
 {
     let span = Span { start: 0, end };
-    Ok(Expression::Binary {
-        operator: BinaryOperator::Add,
-        left: Box::new(alloc, left)?,
-        right: Box::new(alloc, right)?,
-        span,
-    })
+    let operator = CowStr::Borrowed("+");
+    let parts = Parts::two(alloc, left, right)?;
+    let kind = Kind::BinaryExpression;
+    Ok(Syntax::new(kind, operator, Flags::PLAIN, span, parts))
 }
 
 /// The script of one statement, which begins at 0 and ends where the script does.
-fn script<'s>(
-    alloc: Global,
-    expression: Expression<'s>,
-    end: usize,
-) -> Result<Program<'s>, AllocError>
-    requires { HasStrings (expression_tree expression) }
-    ensures { IfOk result (λ p. HasStrings p) }
+fn script<'s>(alloc: Global, expression: Syntax<'s>, end: usize) -> Result<Program<'s>, AllocError>
+    requires { HasStrings expression }
+    ensures { IfOk result HasStrings }
 {
     let span = Span { start: 0, end };
-    let mut body = Vec::new(alloc);
-    body.push(Statement::Expression { expression, span })?;
-    Ok(Program::new(body, span))
+    let text = CowStr::Borrowed("");
+    let kind = Kind::ExpressionStatement;
+    let parts = Parts::one(alloc, expression)?;
+    let statement = Syntax::new(kind, text, Flags::PLAIN, span, parts);
+    Ok(Program::new(Parts::one(alloc, statement)?, span))
 }
 
 fn empty_script(alloc: Global) -> Program<'static>
     ensures { HasStrings result }
 {
     let span = Span { start: 0, end: 0 };
-    Program::new(Vec::new(alloc), span)
+    Program::new(Parts::new(alloc), span)
 }
 
 /// The text that a writer is left with.
@@ -112,16 +105,16 @@ fn scripts_are_written(rt: HostRuntime) -> Result<(), Fail> {
     let empty = written(alloc, &empty_script(alloc), WHOLE)?;
     let text = r#"{"body":[],"end":0,"sourceType":"script","start":0,"type":"Program"}"#;
     assert_eq!(rt; empty.0.as_str(), text);
-    let a = script(alloc, name(CowStr::Borrowed("a"), 0, 1), 2)?;
+    let a = script(alloc, name(alloc, CowStr::Borrowed("a"), 0, 1), 2)?;
     let text =
         r#"{"body":[{"end":2,"expression":{"end":1,"name":"a","start":0,"type":"Identifier"},"start":0,"type":"ExpressionStatement"}],"end":2,"sourceType":"script","start":0,"type":"Program"}"#;
     assert_eq!(rt; written(alloc, &a, WHOLE)?.0.as_str(), text);
-    let big = script(alloc, number("1n", 1, 3), 4)?;
+    let big = script(alloc, number(alloc, "1n", 1, 3), 4)?;
     let text =
         r#"{"body":[{"end":4,"expression":{"end":3,"raw":"1n","start":1,"type":"Literal"},"start":0,"type":"ExpressionStatement"}],"end":4,"sourceType":"script","start":0,"type":"Program"}"#;
     assert_eq!(rt; written(alloc, &big, WHOLE)?.0.as_str(), text);
-    let left = name(CowStr::Borrowed("a"), 0, 1);
-    let both = sum(alloc, left, number("/b/g", 4, 8), 8)?;
+    let left = name(alloc, CowStr::Borrowed("a"), 0, 1);
+    let both = sum(alloc, left, number(alloc, "/b/g", 4, 8), 8)?;
     let both = script(alloc, both, 9)?;
     let text =
         r#"{"body":[{"end":9,"expression":{"end":8,"left":{"end":1,"name":"a","start":0,"type":"Identifier"},"operator":"+","right":{"end":8,"raw":"/b/g","regex":{"flags":"g","pattern":"b"},"start":4,"type":"Literal"},"start":0,"type":"BinaryExpression"},"start":0,"type":"ExpressionStatement"}],"end":9,"sourceType":"script","start":0,"type":"Program"}"#;
@@ -132,7 +125,7 @@ fn scripts_are_written(rt: HostRuntime) -> Result<(), Fail> {
 #[test]
 fn values_are_found(rt: HostRuntime) -> Result<(), Fail> {
     let alloc = rt.alloc();
-    let truth = script(alloc, number("true", 0, 4), 5)?;
+    let truth = script(alloc, number(alloc, "true", 0, 4), 5)?;
     let value = to_value(alloc, &truth)?;
     let found = value.pointer("/body/0/expression/value");
     assert_eq!(rt; found.and_then(|value| value.as_bool()), Some(true));
@@ -153,7 +146,7 @@ fn strings_have_values(rt: HostRuntime) -> Result<(), Fail> {
         let Ok(source) = Source::new(text.as_bytes()) else {
             panic!(rt; "{text}");
         };
-        let Some(literal) = string(&source) else {
+        let Some(literal) = string(alloc, &source) else {
             panic!(rt; "{text}");
         };
         let script = script(alloc, literal, text.len())?;
@@ -171,7 +164,11 @@ fn a_long_text_goes_byte_by_byte(rt: HostRuntime) -> Result<(), Fail> {
     for _ in 0..1_048_576 {
         text.push('a')?;
     }
-    let long = script(alloc, name(CowStr::Owned(text), 0, 1_048_576), 1_048_577)?;
+    let long = script(
+        alloc,
+        name(alloc, CowStr::Owned(text), 0, 1_048_576),
+        1_048_577,
+    )?;
     let plan = Plan {
         per_call: 1,
         fails_at: None,

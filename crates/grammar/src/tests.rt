@@ -5,7 +5,7 @@ use language::Rank;
 use std::alloc::{AllocError, Global};
 use std::borrow::CowStr;
 use std::test::Fail;
-use tree::{BinaryOperator, Expression, Node, Span};
+use tree::{Flags, Kind, Parts, Span, Syntax};
 
 const ANYWHERE: Span = Span { start: 0, end: 0 };
 
@@ -37,43 +37,35 @@ fn operators_bind_by_their_row(rt: HostRuntime) {
 fn ranks_follow_kinds(rt: HostRuntime) -> Result<(), Fail> {
     let alloc = rt.alloc();
     for (expression, rank) in [
-        (name("a"), Rank::Primary),
-        (operation(alloc, BinaryOperator::Add)?, Rank::Additive),
-        (
-            operation(alloc, BinaryOperator::Divide)?,
-            Rank::Multiplicative,
-        ),
+        (name(alloc, "a"), Rank::Primary),
+        (operation(alloc, "+")?, Rank::Additive),
+        (operation(alloc, "/")?, Rank::Multiplicative),
         (list(alloc)?, Rank::Expression),
     ] {
-        assert_eq!(rt; rank_of(Node::Expression(&expression)), rank);
+        assert_eq!(rt; rank_of(expression.node()), rank);
     }
     Ok(())
 }
 
-fn name(text: &str) -> Expression<'_> {
-    let name = CowStr::Borrowed(text);
-    let span = ANYWHERE;
-    Expression::Identifier { name, span }
+fn name(alloc: Global, text: &str) -> Syntax<'_> {
+    let text = CowStr::Borrowed(text);
+    Syntax::leaf(alloc, Kind::Identifier, text, ANYWHERE)
 }
 
-fn operation(alloc: Global, operator: BinaryOperator) -> Result<Expression<'static>, AllocError> {
-    let left = Box::new(alloc, name("a"))?;
-    let right = Box::new(alloc, name("b"))?;
-    let span = ANYWHERE;
-    Ok(Expression::Binary {
-        operator,
-        left,
-        right,
-        span,
-    })
+/// `a operator b`.
+fn operation(alloc: Global, operator: &str) -> Result<Syntax<'_>, AllocError> {
+    let parts = Parts::two(alloc, name(alloc, "a"), name(alloc, "b"))?;
+    let text = CowStr::Borrowed(operator);
+    let kind = Kind::BinaryExpression;
+    Ok(Syntax::new(kind, text, Flags::PLAIN, ANYWHERE, parts))
 }
 
-fn list(alloc: Global) -> Result<Expression<'static>, AllocError> {
-    let mut expressions = Vec::new(alloc);
-    expressions.push(name("a"))?;
-    expressions.push(name("b"))?;
-    let span = ANYWHERE;
-    Ok(Expression::Sequence { expressions, span })
+/// `a, b`.
+fn list(alloc: Global) -> Result<Syntax<'static>, AllocError> {
+    let parts = Parts::two(alloc, name(alloc, "a"), name(alloc, "b"))?;
+    let text = CowStr::Borrowed("");
+    let kind = Kind::SequenceExpression;
+    Ok(Syntax::new(kind, text, Flags::PLAIN, ANYWHERE, parts))
 }
 
 #[test]

@@ -5,27 +5,20 @@ use language::{Rank, Start};
 use std::alloc::{AllocError, Global};
 use std::borrow::CowStr;
 use std::test::Fail;
-use tree::{BinaryOperator, Expression, Node, Span};
+use tree::{Flags, Kind, Parts, Span, Syntax};
 
 const NOWHERE: Span = Span { start: 0, end: 0 };
 
-fn name(text: &str) -> Expression<'_> {
-    let name = CowStr::Borrowed(text);
-    Expression::Identifier {
-        name,
-        span: NOWHERE,
-    }
+fn name(alloc: Global, text: &str) -> Syntax<'_> {
+    let text = CowStr::Borrowed(text);
+    Syntax::leaf(alloc, Kind::Identifier, text, NOWHERE)
 }
 
-fn sum<'s>(alloc: Global, left: &'s str, right: &'s str) -> Result<Expression<'s>, AllocError> {
-    let left = Box::new(alloc, name(left))?;
-    let right = Box::new(alloc, name(right))?;
-    Ok(Expression::Binary {
-        operator: BinaryOperator::Add,
-        left,
-        right,
-        span: NOWHERE,
-    })
+fn sum<'s>(alloc: Global, left: &'s str, right: &'s str) -> Result<Syntax<'s>, AllocError> {
+    let parts = Parts::two(alloc, name(alloc, left), name(alloc, right))?;
+    let text = CowStr::Borrowed("+");
+    let kind = Kind::BinaryExpression;
+    Ok(Syntax::new(kind, text, Flags::PLAIN, NOWHERE, parts))
 }
 
 /// The symbol of the next position, if it is an expression's.
@@ -39,7 +32,7 @@ fn next_rank<'t, 's>(positions: Positions<'t, 's>) -> Option<(Rank, Positions<'t
 #[test]
 fn operands_of_a_sum(rt: HostRuntime) -> Result<(), Fail> {
     let expression = sum(rt.alloc(), "a", "b")?;
-    let node = Node::Expression(&expression);
+    let node = expression.node();
     let first = expression_positions(node, Rank::Expression, true, Start::Any).expect(
         &rt, "spelled",
     );
@@ -54,8 +47,8 @@ fn operands_of_a_sum(rt: HostRuntime) -> Result<(), Fail> {
 
 #[test]
 fn reserved_words_are_no_names(rt: HostRuntime) {
-    let (good, bad) = (name("a"), name("if"));
+    let (good, bad) = (name(rt.alloc(), "a"), name(rt.alloc(), "if"));
     let at = Rank::Primary;
-    assert!(rt; expression_positions(Node::Expression(&good), at, true, Start::Any).is_some());
-    assert!(rt; expression_positions(Node::Expression(&bad), at, true, Start::Any).is_none());
+    assert!(rt; expression_positions(good.node(), at, true, Start::Any).is_some());
+    assert!(rt; expression_positions(bad.node(), at, true, Start::Any).is_none());
 }

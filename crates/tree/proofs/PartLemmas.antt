@@ -1,5 +1,5 @@
 -- The parts that a list gives: how many, and which stands where.
-use Rattle.std.proofs.Common.{◌≡◌, ℕ, zero, suc, List, [], ◌∷◌, length, Option, Some, None, refl, arith, ap, slice_get, ◌<◌, ◌≤◌, get_or, ◌∙◌}
+use Rattle.std.proofs.Common.{◌≡◌, ℕ, zero, suc, List, [], ◌∷◌, length, Option, Some, None, refl, arith, ◌<◌, ◌≤◌, get_or}
 use Rattle.tree.specs.Tree.{Tree, part_count, part_at, parts_with_gaps}
 
 pub part_count-gaps : (os : List (Option Tree)) → part_count (parts_with_gaps os) ≡ length os

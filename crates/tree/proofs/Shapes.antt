@@ -1,6 +1,6 @@
 -- How parts grow at their end, and what is known of them then.
-use Rattle.std.proofs.Common.{◌≡◌, ◌+◌, max, List, Option, Some, None, [], ◌∷◌, ◌++◌, map, refl, ap, sym, ◌∙◌, arith}
-use Rattle.tree.specs.Tree.{Tree, node, Parts, none, part, gap, parts_from, parts_with_gaps, push, push_gap, join, height, parts_height, part_count, node_total, parts_total, bare, bare_parts}
+use Rattle.std.proofs.Common.{◌≡◌, ◌+◌, max, List, Option, Some, None, [], ◌∷◌, ◌++◌, map, refl, ap, ◌∙◌, arith}
+use Rattle.tree.specs.Tree.{Tree, Parts, none, part, gap, parts_from, parts_with_gaps, push, push_gap, join, height, parts_height, part_count, node_total, parts_total, bare, bare_parts}
 
 pub map-push : {X Y : Type 0} (f : X → Y) (xs : List X) (x : X) → map f (xs ++ x ∷ []) ≡ map f xs ++ f x ∷ []
 map-push f [] x = refl

@@ -46,7 +46,7 @@ impl<'s> Model for Syntax<'s> {
 }
 
 impl<'s> Syntax<'s> {
-    /// A node of this kind, with its text, its flags, its place and its parts.
+    /// A node of this kind, with its text, its place, its parts and its flags.
     pub fn new(
         kind: Kind,
         text: CowStr<'s>,
@@ -69,13 +69,7 @@ impl<'s> Syntax<'s> {
     pub fn leaf(alloc: Global, kind: Kind, text: CowStr<'s>, span: Span) -> Syntax<'s>
         ensures { result ≡ node kind (cow_str_bytes text.entry) plain span.start span.end none }
     {
-        Syntax {
-            kind,
-            text,
-            flags: Flags::PLAIN,
-            span,
-            parts: Vec::new(alloc),
-        }
+        Syntax::new(kind, text, Flags::PLAIN, span, Parts::new(alloc))
     }
 
     /// The node by reference.

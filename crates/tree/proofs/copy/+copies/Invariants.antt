@@ -1,4 +1,4 @@
-use Rattle.std.proofs.Common.{◌≡◌, ℕ, ◌+◌, ◌*◌, take}
+use Rattle.std.proofs.Common.{◌≡◌, ◌+◌, ◌*◌, take}
 use Rattle.tree.specs.Tree.{node_total, parts_total, parts_with_gaps}
 use Rattle.tree.proofs.copy.+copies.Given as goal
 

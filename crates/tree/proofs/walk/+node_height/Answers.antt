@@ -1,4 +1,4 @@
-use Rattle.std.proofs.Common.{◌≡◌, ◌+◌, ◌∙◌, ap, arith, max, min, None, ℕ, rules}
+use Rattle.std.proofs.Common.{◌≡◌, ◌+◌, ◌∙◌, arith, max, min, None, ℕ, rules}
 use Rattle.tree.specs.Tree.{height, parts_height, parts_of, part_at}
 use Rattle.tree.specs.Node.{node_tree}
 use Rattle.tree.proofs.PartWalk.{parts_drop, parts_height-some, parts_height-gap}
