@@ -102,6 +102,9 @@ pub mod HoleLists
 pub mod ParameterItems
 pub mod Dangling
 pub mod OptionalParts
+pub mod FunctionParts
+pub mod Declarators
+pub mod BoundTargets
 pub mod CoverElements
 pub mod CoverItems
 pub mod CoverSpreads
