@@ -105,6 +105,7 @@ pub mod OptionalParts
 pub mod FunctionParts
 pub mod Declarators
 pub mod BoundTargets
+pub mod DeclaratorLists
 pub mod CoverElements
 pub mod CoverItems
 pub mod CoverSpreads
