@@ -106,6 +106,7 @@ pub mod FunctionParts
 pub mod Declarators
 pub mod BoundTargets
 pub mod DeclaratorLists
+pub mod MemberLines
 pub mod CoverElements
 pub mod CoverItems
 pub mod CoverSpreads
