@@ -107,6 +107,7 @@ pub mod Declarators
 pub mod BoundTargets
 pub mod DeclaratorLists
 pub mod MemberLines
+pub mod Members
 pub mod CoverElements
 pub mod CoverItems
 pub mod CoverSpreads
