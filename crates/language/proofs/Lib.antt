@@ -108,6 +108,7 @@ pub mod BoundTargets
 pub mod DeclaratorLists
 pub mod MemberLines
 pub mod Members
+pub mod PatternStarts
 pub mod CoverElements
 pub mod CoverItems
 pub mod CoverSpreads
