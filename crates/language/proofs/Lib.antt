@@ -109,6 +109,7 @@ pub mod DeclaratorLists
 pub mod MemberLines
 pub mod Members
 pub mod PatternStarts
+pub mod ScriptFound
 pub mod CoverElements
 pub mod CoverItems
 pub mod CoverSpreads
