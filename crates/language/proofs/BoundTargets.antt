@@ -1,9 +1,9 @@
 -- What is bound where a name or a binding pattern may stand (ECMA-262 13.3): found of either kind, or absent.
-use Rattle.std.proofs.Common.{◌≡◌, ℕ, ◌≤◌, Bool, true, false, cond, List, refl, sym, ap, ◌∙◌, subst, ◌⊎◌, inl, inr}
-use Rattle.std.specs.Prelude.{Option, Some, None}
+use Rattle.std.proofs.Common.{◌≡◌, ℕ, Bool, true, false, cond, List, sym, ap, subst, ◌⊎◌, inl, inr}
+use Rattle.std.specs.Prelude.{Some, None}
 use Rattle.tree.specs.declared.kind.Kind.{Kind}
 use Rattle.tree.specs.declared.kind.Pair.{Pair}
-use Rattle.tree.specs.Tree.{Tree, kind_of, height}
+use Rattle.tree.specs.Tree.{Tree, kind_of}
 use Rattle.language.specs.declared.Start.TheVariants.{Any}
 use Rattle.language.specs.Words.{is_pattern, is_identifier}
 use Rattle.language.specs.Pieces.{Role, name, pattern, bound}

@@ -1,13 +1,12 @@
 -- Declarators with commas between them, as a loop reads them, and what stands behind the last (ECMA-262 13.3).
-use Rattle.std.proofs.Common.{◌≡◌, ℕ, ◌≤◌, Bool, true, false, List, [], ◌∷◌, ◌++◌, refl, sym, ap, ◌∙◌, subst, arith, ◌⊎◌, inl, inr}
+use Rattle.std.proofs.Common.{◌≡◌, ℕ, ◌≤◌, Bool, true, false, List, [], ◌∷◌, ◌++◌, refl, sym, ap, ◌∙◌, subst, arith}
 use Rattle.std.specs.Prelude.{IsTrue, codes}
 use Rattle.std.proofs.lemmas.Bool.{false≢true}
 use Rattle.tokens.specs.declared.token.Class.TheVariants.{Punctuator}
 use Rattle.tokens.specs.declared.token.Goal.{Goal}
-use Rattle.tokens.specs.declared.token.Goal.TheVariants.{Div}
 use Rattle.tokens.specs.Goals.{allows}
 use Rattle.tree.specs.declared.kind.Pair.{Pair}
-use Rattle.tree.specs.Tree.{Tree, Parts, none, part, gap, height, parts_height, bare, bare_parts}
+use Rattle.tree.specs.Tree.{Tree, Parts, none, part, gap, parts_height, bare_parts}
 use Rattle.language.specs.declared.Rank.TheVariants.{Expression, Assignment}
 use Rattle.language.specs.declared.Start.TheVariants.{Any}
 use Rattle.language.specs.declared.Edge.{Edge}
@@ -16,12 +15,12 @@ use Rattle.language.specs.Edges.{edge, last_edge}
 use Rattle.language.specs.Pieces.{Role, declarator, Piece, PieceOf, tok, lay, space, sub, never, ending}
 use Rattle.language.specs.Statements.{declarators, end_of}
 use Rattle.language.specs.Token.{Token}
-use Rattle.language.specs.Promises.{IsDetermined, ReadBy}
+use Rattle.language.specs.Promises.{IsDetermined}
 use Rattle.language.specs.Following.{IsAlike, Followed, may_follow, Declared, FoundWhere, AbsentWhere, AbsentWhereWithin, AbsentPartsWhere, AbsentPartsWhereWithin}
 use Rattle.language.specs.Grammar.{ways}
-use Rattle.language.specs.Derivation.{Reads, Spells, Runs, done, step, within, token, laid, Step, explicit, implicit}
+use Rattle.language.specs.Derivation.{Reads, Spells, Runs, step, within, token, laid, Step, explicit, implicit}
 use Rattle.language.proofs.Begins.{goes_to, retell}
-use Rattle.language.proofs.Running.{run_none, run_token, run_laid, run_never, run_the_part}
+use Rattle.language.proofs.Running.{run_token, run_laid, run_never, run_the_part}
 use Rattle.language.proofs.BareEdges.{edge_bare}
 use Rattle.language.proofs.Conditionals.{same_sign}
 use Rattle.language.proofs.HeadWays.{two_signs}

@@ -1,26 +1,24 @@
 -- A declarator (ECMA-262 13.3.1, 13.3.2): from its target and its value to the declarator; without a value, where none may follow.
 use Rattle.std.proofs.Common.{◌≡◌, ℕ, ◌-◌, ◌≤◌, Bool, true, false, cond, List, [], ◌∷◌, ◌++◌, refl, sym, ap, ◌∙◌, subst, arith}
-use Rattle.std.specs.Prelude.{IsTrue, Option, Some, None, codes, ◌&&◌}
+use Rattle.std.specs.Prelude.{IsTrue, Option, Some, codes, ◌&&◌}
 use Rattle.std.proofs.lemmas.Bool.{false≢true}
 use Rattle.std.proofs.lemmas.List.{append-nil}
-use Rattle.tokens.specs.declared.token.Class.TheVariants.{Name, Punctuator}
-use Rattle.tokens.specs.declared.token.Goal.TheVariants.{Div}
-use Rattle.tree.specs.declared.kind.Kind.{Kind}
+use Rattle.tokens.specs.declared.token.Class.TheVariants.{Punctuator}
 use Rattle.tree.specs.declared.kind.Kind.TheVariants.{VariableDeclarator}
 use Rattle.tree.specs.declared.kind.Pair.{Pair}
 use Rattle.tree.specs.Tree.{Tree, node, Parts, none, part, gap, kind_of, height, bare_parts, plain}
 use Rattle.language.specs.declared.Rank.TheVariants.{Expression, Assignment}
 use Rattle.language.specs.declared.Start.TheVariants.{Any}
-use Rattle.language.specs.Words.{is_pattern, is_identifier}
+use Rattle.language.specs.Words.{is_pattern}
 use Rattle.language.specs.Edges.{edge}
 use Rattle.language.specs.Follow.{stops}
-use Rattle.language.specs.Pieces.{Role, expr, name, pattern, declarator, bound, Piece, PieceOf, put, put_at, absent, sign, sp, nothing}
+use Rattle.language.specs.Pieces.{Role, expr, declarator, bound, put, put_at, absent, sign, sp, nothing}
 use Rattle.language.specs.Token.{Token}
 use Rattle.language.specs.Covers.{FoundItem, AbsentItem, AbsentItemWithin}
-use Rattle.language.specs.Promises.{IsDetermined, Stops, Found, FoundAt, Absent, AbsentWithin, AbsentAt}
+use Rattle.language.specs.Promises.{IsDetermined, Stops, Found, Absent, AbsentWithin}
 use Rattle.language.specs.Following.{Declared, FoundWhere, AbsentWhere, AbsentWhereWithin}
 use Rattle.language.specs.Grammar.{ways}
-use Rattle.language.specs.Derivation.{Reads, Spells, Runs, done, step, within, missing, token, laid, Placed, placed}
+use Rattle.language.specs.Derivation.{Reads, Spells, Runs, done, step, missing, token, laid, Placed}
 use Rattle.language.proofs.Begins.{goes_to, retell}
 use Rattle.language.proofs.Running.{run_none, run_token, run_laid, run_never, run_the_gap, run_part}
 use Rattle.language.proofs.TwoSides.{same_node}

@@ -1,24 +1,23 @@
 -- Behind `function` and `class`: a name or none, then parameters and a body, or a superclass and a class body (ECMA-262 14.1, 14.6).
-use Rattle.std.proofs.Common.{◌≡◌, ℕ, Bool, true, false, List, [], ◌∷◌, ◌++◌, refl, sym, ap, ◌∙◌, subst}
+use Rattle.std.proofs.Common.{◌≡◌, ℕ, true, List, [], ◌∷◌, ◌++◌, refl, sym, ap, ◌∙◌}
 use Rattle.std.specs.Prelude.{codes}
 use Rattle.std.proofs.lemmas.Bool.{false≢true}
 use Rattle.tokens.specs.declared.token.Class.TheVariants.{Name, Punctuator}
 use Rattle.tokens.specs.declared.token.Goal.TheVariants.{Div}
-use Rattle.tree.specs.declared.kind.Kind.TheVariants.{ClassBody}
 use Rattle.tree.specs.declared.kind.Pair.{Pair}
-use Rattle.tree.specs.Tree.{Tree, Parts, none, part, gap, bare_parts, plain}
+use Rattle.tree.specs.Tree.{Tree, Parts, none, part, gap, bare_parts}
 use Rattle.language.specs.declared.Rank.TheVariants.{Expression, LeftHandSide}
 use Rattle.language.specs.declared.Start.TheVariants.{Any}
 use Rattle.language.specs.FirstPart.{others}
-use Rattle.language.specs.Words.{is, is_reserved}
+use Rattle.language.specs.Words.{is_reserved}
 use Rattle.language.specs.Pieces.{Role, expr, name, body, class_body, Piece, PieceOf, tok, sub, lay, space, sign, term, sp, put, parameters}
 use Rattle.language.specs.Expressions.{given, named}
 use Rattle.language.specs.Token.{Token}
-use Rattle.language.specs.Promises.{IsDetermined, is_free, Found, FoundAt, AbsentAt, FoundParts, AbsentParts, AbsentPartsWithin}
-use Rattle.language.specs.Following.{FoundPartsWhere, AbsentPartsWhere}
+use Rattle.language.specs.Promises.{IsDetermined, is_free, FoundAt, AbsentAt}
+use Rattle.language.specs.Following.{AbsentPartsWhere}
 use Rattle.language.specs.Grammar.{ways}
 use Rattle.language.specs.Derivation.{Reads, Spells, Runs}
-use Rattle.language.proofs.Begins.{goes_to, retell}
+use Rattle.language.proofs.Begins.{goes_to}
 use Rattle.language.proofs.Running.{run_token, run_laid, run_part, run_never, run_no_part, run_gap_part, run_the_gap, run_the_part}
 use Rattle.language.proofs.Leaves.{name_form}
 use Rattle.language.proofs.ParameterLists.{parameters_and_body}

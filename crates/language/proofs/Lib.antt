@@ -110,6 +110,7 @@ pub mod MemberLines
 pub mod Members
 pub mod PatternStarts
 pub mod ScriptFound
+pub mod Templates
 pub mod CoverElements
 pub mod CoverItems
 pub mod CoverSpreads

@@ -1,6 +1,6 @@
 -- A member of a class (ECMA-262 14.6): from the words before its key, the key and the function to the node, and when there is none.
-use Rattle.std.proofs.Common.{◌≡◌, ℕ, ◌-◌, ◌≤◌, Bool, true, false, cond, List, [], ◌∷◌, ◌++◌, refl, sym, ap, ◌∙◌, subst, arith}
-use Rattle.std.specs.Prelude.{codes, not, ◌||◌}
+use Rattle.std.proofs.Common.{◌≡◌, ℕ, ◌-◌, Bool, true, false, List, [], ◌∷◌, ◌++◌, refl, sym, ap, ◌∙◌, subst, arith}
+use Rattle.std.specs.Prelude.{codes, not}
 use Rattle.std.proofs.lemmas.Bool.{false≢true}
 use Rattle.tokens.specs.declared.token.Class.TheVariants.{Name, Punctuator}
 use Rattle.tokens.specs.declared.token.Goal.TheVariants.{Div}
@@ -13,7 +13,7 @@ use Rattle.tree.specs.Uses.{is_lean}
 use Rattle.language.specs.declared.Rank.TheVariants.{Expression, Primary}
 use Rattle.language.specs.declared.Start.TheVariants.{Any}
 use Rattle.language.specs.Words.{is}
-use Rattle.language.specs.Pieces.{Role, member, method, Piece, PieceOf, Spelling, tok, term, sp, at, put}
+use Rattle.language.specs.Pieces.{member, method, Piece, Spelling, at, put}
 use Rattle.language.specs.Statements.{class_members}
 use Rattle.language.specs.Token.{Token}
 use Rattle.language.specs.Promises.{is_free, IsDetermined, FoundAt, AbsentAt, AbsentAtWithin}
@@ -22,7 +22,7 @@ use Rattle.language.specs.Derivation.{Among, first, Reads, Spells, direct, Runs,
 use Rattle.language.proofs.Domination.{settled}
 use Rattle.language.proofs.Productions.{way_from, in_true}
 use Rattle.language.proofs.Growing.{last_runs}
-use Rattle.language.proofs.Begins.{goes_to, retell}
+use Rattle.language.proofs.Begins.{goes_to}
 use Rattle.language.proofs.Running.{run_token, run_laid}
 use Rattle.language.proofs.Sides.{one_part}
 use Rattle.language.proofs.TwoSides.{same_node}

@@ -1,5 +1,5 @@
 -- A script from its items (ECMA-262 15.1): it spans the text from its start on.
-use Rattle.std.proofs.Common.{◌≡◌, ℕ, suc, ◌-◌, ◌≤◌, Bool, true, false, List, [], ◌∷◌, ◌++◌, refl, sym, ap, ◌∙◌, subst, arith}
+use Rattle.std.proofs.Common.{◌≡◌, ℕ, suc, ◌-◌, true, false, List, [], ◌∷◌, ◌++◌, refl, sym, ap, ◌∙◌, arith}
 use Rattle.tokens.specs.declared.token.Class.TheVariants.{End}
 use Rattle.tree.specs.declared.kind.Kind.TheVariants.{Program}
 use Rattle.tree.specs.declared.kind.Pair.{Pair}
@@ -7,10 +7,10 @@ use Rattle.tree.specs.Tree.{Tree, node, Parts, height, parts_height, bare, bare_
 use Rattle.tree.proofs.Lean.{lean_flags, lean_text}
 use Rattle.language.specs.declared.Rank.TheVariants.{Expression, Primary}
 use Rattle.language.specs.declared.Start.TheVariants.{Any}
-use Rattle.language.specs.Pieces.{script, Piece, PieceOf, Role, Spelling, tok, lay, feed, at}
+use Rattle.language.specs.Pieces.{script, PieceOf, Role, Spelling, tok, lay, feed, at}
 use Rattle.language.specs.Statements.{prologue}
 use Rattle.language.specs.Token.{Token}
-use Rattle.language.specs.Promises.{IsDetermined, FoundAt, AbsentAt, AbsentAtWithin, FoundParts, AbsentParts, AbsentPartsWithin}
+use Rattle.language.specs.Promises.{FoundAt, AbsentAt, AbsentAtWithin, FoundParts, AbsentParts, AbsentPartsWithin}
 use Rattle.language.specs.Grammar.{ways, spellings}
 use Rattle.language.specs.Derivation.{first, Spells, direct, Runs, placed}
 use Rattle.language.proofs.Domination.{settled}
