@@ -111,6 +111,7 @@ pub mod Members
 pub mod PatternStarts
 pub mod ScriptFound
 pub mod Templates
+pub mod ForHeads
 pub mod CoverElements
 pub mod CoverItems
 pub mod CoverSpreads
