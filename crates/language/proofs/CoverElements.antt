@@ -82,23 +82,23 @@ fixed_laid one_laid = one_more refl all_done
 
 module _ (S : Type 0) (Next : S → Token → S → Type 0) (behind : S → Token) (det : IsDetermined S Next behind) where
   -- a name or a member stands at a symbol for left sides as at that of an assignment
-  member_moves : {o : ℕ} {w : List ℕ} {g : Flags} {st en : ℕ} {ps : Parts} {s e : S} {P : List Pair} {x : Spelling} (y y' : Rank) → IsTrue (takes y' Member) → is_tight y ≡ is_tight y' → Made MemberExpression w g (bare_parts ps) x →
-      is_lean (bare (node MemberExpression w g st en ps)) ≡ true → Placed S Next behind (expr y true Any) (node MemberExpression w g st en ps) s e → Runs ways S Next behind o (settled (expr y true Any) x) ps s e P →
-      Spells ways S Next behind o (expr y' true Any) (node MemberExpression w g st en ps) s e P
-  member_moves {g = g} y y' tk tight (super_member op s) lean pl d =
+  member_moves : {o : ℕ} {w : List ℕ} {g : Flags} {st en : ℕ} {ps : Parts} {s e : S} {P : List Pair} {x : Spelling} {i i' : Bool} (y y' : Rank) → IsTrue (takes y' Member) → is_tight y ≡ is_tight y' → Made MemberExpression w g (bare_parts ps) x →
+      is_lean (bare (node MemberExpression w g st en ps)) ≡ true → Placed S Next behind (expr y i Any) (node MemberExpression w g st en ps) s e → Runs ways S Next behind o (settled (expr y i Any) x) ps s e P →
+      Spells ways S Next behind o (expr y' i' Any) (node MemberExpression w g st en ps) s e P
+  member_moves {g = g} {i = i} {i' = i'} y y' tk tight (super_member op s) lean pl d =
       spell S Next behind (at Member (Rattle.language.specs.Pieces.put Rattle.language.specs.Pieces.base ∷ selector g)) (super_member op s) lean tk refl refl (replaced S Next behind det pl)
-      (retell S Next behind (same_pieces y y' true true Any Any (one_more {p = Rattle.language.specs.Pieces.put Rattle.language.specs.Pieces.base} refl (fixed_selector g))) d)
-  member_moves {g = g} {ps = ps} y y' tk tight (member op s) lean pl d =
+      (retell S Next behind (same_pieces y y' i i' Any Any (one_more {p = Rattle.language.specs.Pieces.put Rattle.language.specs.Pieces.base} refl (fixed_selector g))) d)
+  member_moves {g = g} {ps = ps} {i = i} {i' = i'} y y' tk tight (member op s) lean pl d =
       spell S Next behind (at Member (sub callee ∷ after_number (bare_parts ps) g ++ selector g)) (member op s) lean tk refl refl (replaced S Next behind det pl)
-      (retell S Next behind (λ k. sub (expr (cond (tight k) Member Rattle.language.specs.declared.Rank.TheVariants.Call) true Any) ∷ same_pieces y y' true true Any Any (fixed_join (fixed_laid (number_laid (bare_parts ps) g)) (fixed_selector g)) k) d)
+      (retell S Next behind (λ k. sub (expr (cond (tight k) Member Rattle.language.specs.declared.Rank.TheVariants.Call) true Any) ∷ same_pieces y y' i i' Any Any (fixed_join (fixed_laid (number_laid (bare_parts ps) g)) (fixed_selector g)) k) d)
 
-  identifier_moves : {o : ℕ} {w : List ℕ} {g : Flags} {st en : ℕ} {ps : Parts} {s e : S} {P : List Pair} {x : Spelling} (y y' : Rank) → IsTrue (takes y' Primary) → Made Identifier w g (bare_parts ps) x →
-      is_lean (bare (node Identifier w g st en ps)) ≡ true → Placed S Next behind (expr y true Any) (node Identifier w g st en ps) s e → Runs ways S Next behind o (settled (expr y true Any) x) ps s e P →
-      Spells ways S Next behind o (expr y' true Any) (node Identifier w g st en ps) s e P
+  identifier_moves : {o : ℕ} {w : List ℕ} {g : Flags} {st en : ℕ} {ps : Parts} {s e : S} {P : List Pair} {x : Spelling} {i i' : Bool} (y y' : Rank) → IsTrue (takes y' Primary) → Made Identifier w g (bare_parts ps) x →
+      is_lean (bare (node Identifier w g st en ps)) ≡ true → Placed S Next behind (expr y i Any) (node Identifier w g st en ps) s e → Runs ways S Next behind o (settled (expr y i Any) x) ps s e P →
+      Spells ways S Next behind o (expr y' i' Any) (node Identifier w g st en ps) s e P
   identifier_moves {w = w} y y' tk (identifier h) lean pl d = spell S Next behind (at Primary (tok Name w ∷ [])) (identifier h) lean tk refl refl (replaced S Next behind det pl) d
 
-  pub target_moves : {o : ℕ} {n : Tree} {s e : S} {P : List Pair} (y y' : Rank) → IsTrue (takes y' Primary) → IsTrue (takes y' Member) → is_tight y ≡ is_tight y' → is_target (kind_of n) ≡ true →
-      Spells ways S Next behind o (expr y true Any) n s e P → Spells ways S Next behind o (expr y' true Any) n s e P
+  pub target_moves : {o : ℕ} {n : Tree} {s e : S} {P : List Pair} {i i' : Bool} (y y' : Rank) → IsTrue (takes y' Primary) → IsTrue (takes y' Member) → is_tight y ≡ is_tight y' → is_target (kind_of n) ≡ true →
+      Spells ways S Next behind o (expr y i Any) n s e P → Spells ways S Next behind o (expr y' i' Any) n s e P
   target_moves y y' tk tm tight h (grouped p d q) = grouped p d q
   target_moves {n = node Identifier w g st en ps} y y' tk tm tight h (direct qs way pl d) =
       let v = view_of st en way in identifier_moves y y' tk v.made (way_of way).lean pl (retell S Next behind v.is d)

@@ -1,5 +1,5 @@
 -- What stands between parentheses, read as one expression (ECMA-262 12.2.10): the items of a list without `...` and with no comma behind the last.
-use Rattle.std.proofs.Common.{◌≡◌, ℕ, ◌-◌, ◌≤◌, Bool, true, false, List, [], ◌∷◌, ◌++◌, refl, sym, ap, ◌∙◌, subst, append_assoc}
+use Rattle.std.proofs.Common.{◌≡◌, ℕ, ◌-◌, Bool, true, false, List, [], ◌++◌, refl, sym, ap, ◌∙◌, subst, append_assoc}
 use Rattle.std.specs.Prelude.{IsTrue, codes, ◌&&◌}
 use Rattle.std.proofs.lemmas.Bool.{false≢true}
 use Rattle.tokens.specs.declared.token.Class.TheVariants.{Punctuator}
@@ -19,7 +19,7 @@ use Rattle.language.specs.Follow.{operation}
 use Rattle.language.proofs.Onward.{makes}
 use Rattle.language.proofs.Signs.{reads_comma}
 use Rattle.language.proofs.Sequences.{Listing, listing_first, listing_more, listing_absent, listing_deep, listing_stop, later_absent, later_deep}
-use Rattle.language.proofs.Wholes.{whole_found, whole_absent, whole_deep, sequence_found, sequence_absent, sequence_deep}
+use Rattle.language.proofs.Wholes.{whole_found, whole_absent, sequence_found, sequence_absent, sequence_deep}
 use Rattle.language.proofs.CoverSpreads.{two_texts, no_plain_expression}
 use Rattle.language.proofs.CoverReadings.{ReadAs, read, not_read}
 use Rattle.language.proofs.CoverSigns.{Separates, no_expression_begins}

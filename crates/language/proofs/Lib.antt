@@ -102,6 +102,16 @@ pub mod HoleLists
 pub mod ParameterItems
 pub mod Dangling
 pub mod OptionalParts
+pub mod FunctionParts
+pub mod Declarators
+pub mod BoundTargets
+pub mod DeclaratorLists
+pub mod MemberLines
+pub mod Members
+pub mod PatternStarts
+pub mod ScriptFound
+pub mod Templates
+pub mod ForHeads
 pub mod CoverElements
 pub mod CoverItems
 pub mod CoverSpreads

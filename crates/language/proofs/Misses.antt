@@ -122,9 +122,9 @@ plain_allowed g c w h k =
     ap (λ x. if x then beq (is_regexp c) (reads_regexps g) else if begins_with (one_of "}") w then beq (is_template_part c) (reads_template_parts g) else true) h
     ∙ ap (λ x. if x then beq (is_template_part c) (reads_template_parts g) else true) k
 
-not_both : (w : List ℕ) → begins_with (one_of "/") w ≡ true → begins_with (one_of "}") w ≡ true → ⊥
-not_both [] h k = cc
-not_both (c ∷ cs) h k = grind (arith, nat_tests)
+pub slash_or_brace : (w : List ℕ) → begins_with (one_of "/") w ≡ true → begins_with (one_of "}") w ≡ true → ⊥
+slash_or_brace [] h k = cc
+slash_or_brace (c ∷ cs) h k = grind (arith, nat_tests)
 
 sum_begins : (w : List ℕ) → among w ("+" ∷ "-" ∷ []) ≡ true → begins_with (one_of "}") w ≡ false
 sum_begins w h = among_by (λ v. begins_with (one_of "}") v ≡ false) w ("+" ∷ "-" ∷ []) h (refl, (refl, tt))
@@ -316,13 +316,13 @@ module _ (S : Type 0) (Next : S → Token → S → Type 0) (behind : S → Toke
         of : Beside → ⊥
         of (is_same p) = not_true _ g (slash_goes t (ap (λ (v : Token). begins_with (one_of "/") v.text) p ∙ q)).0
         of (is_slash p) = not_true _ g (slash_goes t p).0
-        of (is_brace p) = not_both u.text q p
+        of (is_brace p) = slash_or_brace u.text q p
     held_slash Postfix q g e h = of beside
       where
         of : Beside → ⊥
         of (is_same p) = not_true _ g (slash_goes t (ap (λ (v : Token). begins_with (one_of "/") v.text) p ∙ q)).1
         of (is_slash p) = not_true _ g (slash_goes t p).1
-        of (is_brace p) = not_both u.text q p
+        of (is_brace p) = slash_or_brace u.text q p
 
     -- no symbol that the edge can hold follows where the `;` may be missing
     none_held : {b : Bool} {z : Rank} (y : Edge) → Followed S Next behind b e → ((is_end t || (is_sign t && is t.text "}")) ≡ true) ⊎ ((t.after_break && not (goes_on y t)) ≡ true) → symbol_of (operation u) u.after_break ≡ Some z → holds y z ≡ true → ⊥

@@ -68,12 +68,12 @@ module _ (S : Type 0) (Next : S → Token → S → Type 0) (behind : S → Toke
   made_node {k} {w} {g} {st} {en} {ps} texts flags lean = same_node refl (lean_text (bare (node k w g st en ps)) lean texts) (lean_flags (bare (node k w g st en ps)) lean ∙ flags) refl refl refl
 
   -- a pattern as it stands in a derivation
-  data PatternCore (o : ℕ) (b : Bool) (f : Start) (n : Tree) (s e : S) (P : List Pair) : Type 0 where
+  pub data PatternCore (o : ℕ) (b : Bool) (f : Start) (n : Tree) (s e : S) (P : List Pair) : Type 0 where
     as_array : {st en : ℕ} {ps : Parts} → n ≡ node ArrayPattern [] plain st en ps → Placed S Next behind (pattern b f) (node ArrayPattern [] plain st en ps) s e → Runs ways S Next behind o (array_pattern_parts b ps) ps s e P → PatternCore o b f n s e P
     as_object : {st en : ℕ} {ps : Parts} → n ≡ node ObjectPattern [] plain st en ps → IsTrue (starts f (sign "{" ∷ [])) → Placed S Next behind (pattern b f) (node ObjectPattern [] plain st en ps) s e → Runs ways S Next behind o (object_pattern_parts b ps) ps s e P →
         PatternCore o b f n s e P
 
-  pattern_core : {o : ℕ} {b : Bool} {f : Start} {n : Tree} {s e : S} {P : List Pair} → Spells ways S Next behind o (pattern b f) n s e P → PatternCore o b f n s e P
+  pub pattern_core : {o : ℕ} {b : Bool} {f : Start} {n : Tree} {s e : S} {P : List Pair} → Spells ways S Next behind o (pattern b f) n s e P → PatternCore o b f n s e P
   unfolding spellings
   pattern_core {b = b} {f = f} {n = node ArrayPattern w g st en ps} {s = s} {e = e} (direct qs h pl d) =
       let v = way_of h in
@@ -87,14 +87,14 @@ module _ (S : Type 0) (Next : S → Token → S → Type 0) (behind : S → Toke
       (retell S Next behind (v.is ∙ ap (settled (pattern b f)) (one v.listed) ∙ ap (λ c. goes_to Expression true f ((sign "{" ∷ c) ++ sign "}" ∷ [])) (object_pattern_pieces b (bare_parts ps)) ∙ same_pieces Expression Expression true true f Any (fixed_object b (bare_parts ps))) d)
   pattern_core {n = node _ w g st en ps} (direct qs h pl d) = elim ((way_of h).listed) [ ]
 
-  array_spells : {o : ℕ} {b : Bool} {f : Start} {st en : ℕ} {ps : Parts} {s e : S} {P : List Pair} → Placed S Next behind (pattern b f) (node ArrayPattern [] plain st en ps) s e → Runs ways S Next behind o (array_pattern_parts b ps) ps s e P → Spells ways S Next behind o (pattern b f) (node ArrayPattern [] plain st en ps) s e P
+  pub array_spells : {o : ℕ} {b : Bool} {f : Start} {st en : ℕ} {ps : Parts} {s e : S} {P : List Pair} → Placed S Next behind (pattern b f) (node ArrayPattern [] plain st en ps) s e → Runs ways S Next behind o (array_pattern_parts b ps) ps s e P → Spells ways S Next behind o (pattern b f) (node ArrayPattern [] plain st en ps) s e P
   unfolding spellings
   array_spells {b = b} {f = f} {st = st} {en = en} {ps = ps} pl d =
       let x : Spelling = at Primary ((sign "[" ∷ elements (pattern_element b) (bare_parts ps)) ++ sign "]" ∷ []) in
       let d' = retell S Next behind (same_pieces Expression Expression true true Any f (fixed_array b (bare_parts ps))) d in
       direct (settled (pattern b f) x) (way_from (pattern b f) (node ArrayPattern [] plain st en ps) x refl first (and_from _ _ (starts_bracket f (elements (pattern_element b) (bare_parts ps) ++ sign "]" ∷ [])) (runs_can S Next behind Expression true f x.pieces d'))) pl d'
 
-  object_spells : {o : ℕ} {b : Bool} {f : Start} {st en : ℕ} {ps : Parts} {s e : S} {P : List Pair} → IsTrue (starts f (sign "{" ∷ [])) → Placed S Next behind (pattern b f) (node ObjectPattern [] plain st en ps) s e → Runs ways S Next behind o (object_pattern_parts b ps) ps s e P →
+  pub object_spells : {o : ℕ} {b : Bool} {f : Start} {st en : ℕ} {ps : Parts} {s e : S} {P : List Pair} → IsTrue (starts f (sign "{" ∷ [])) → Placed S Next behind (pattern b f) (node ObjectPattern [] plain st en ps) s e → Runs ways S Next behind o (object_pattern_parts b ps) ps s e P →
       Spells ways S Next behind o (pattern b f) (node ObjectPattern [] plain st en ps) s e P
   unfolding spellings
   object_spells {b = b} {f = f} {st = st} {en = en} {ps = ps} begins pl d =

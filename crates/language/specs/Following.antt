@@ -1,19 +1,21 @@
 -- What a function promises that reads what ends where the next token says: a statement, a case, a declarator, an item of a list. `Fine`
 -- says what holds of such a node and of the place behind it, once something follows that may.
-use Rattle.std.specs.Prelude.{◌≡◌, ℕ, ◌≤◌, Bool, true, not, ◌&&◌, ◌||◌, List, [], ◌∷◌}
-use Rattle.tokens.specs.declared.token.Class.TheVariants.{Name}
-use Rattle.tokens.specs.declared.token.Goal.TheVariants.{RegExp}
+use Rattle.std.specs.Prelude.{◌≡◌, ℕ, ◌≤◌, Bool, true, not, ◌&&◌, ◌||◌, List, [], ◌∷◌, IsTrue, codes}
+use Rattle.tokens.specs.declared.token.Class.TheVariants.{Name, Punctuator}
+use Rattle.tokens.specs.declared.token.Goal.TheVariants.{Div, RegExp}
 use Rattle.tokens.specs.Alphabet.{one_of, begins_with}
 use Rattle.tree.specs.declared.kind.Pair.{Pair}
 use Rattle.tree.specs.Tree.{Tree, Parts, height, parts_height}
+use Rattle.language.specs.declared.Rank.TheVariants.{Assignment}
 use Rattle.language.specs.Words.{is, among}
 use Rattle.language.specs.Pieces.{Role, PieceOf}
 use Rattle.language.specs.Token.{Token, same_class}
-use Rattle.language.specs.Edges.{ends_in_if, is_sign, is_end}
+use Rattle.language.specs.Edges.{edge, ends_in_if, is_sign, is_end}
 use Rattle.language.specs.Beginning.{begins_item}
+use Rattle.language.specs.Follow.{stops}
 use Rattle.language.specs.Promises.{ReadBy}
 use Rattle.language.specs.Grammar.{ways}
-use Rattle.language.specs.Derivation.{Spells, Runs}
+use Rattle.language.specs.Derivation.{Reads, Spells, Runs}
 
 -- the token ends a list of statements: `}`, the end of the text, or the next case
 abbrev pub ends_list : Token → Bool
@@ -41,6 +43,11 @@ module _ (S : Type 0) (Next : S → Token → S → Type 0) (behind : S → Toke
     pub mid : S
     pub read : ReadBy S Next behind RegExp e token mid
     pub ends : ends_list token ≡ true
+
+  -- the declarator that ends here can't go on: neither its value, nor with one (13.3)
+  pub record Declared (i : Bool) (n : Tree) (e : S) : Type 0 where
+    pub stopped : (t : Token) (m : S) → ReadBy S Next behind Div e t m → IsTrue (stops Assignment i (edge n) (behind e) t)
+    pub no_value : (t : Token) (m : S) → Reads S Next behind Punctuator (codes "=") e t m → ⊥
 
   -- the only thing that the position spells here with what may follow; nothing; nothing within the limits
   pub record FoundWhere (Fine : Tree → S → Type 0) (o : ℕ) (a : Role) (s e : S) (n : Tree) (P : List Pair) : Type 0 where
