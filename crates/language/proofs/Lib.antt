@@ -112,6 +112,8 @@ pub mod PatternStarts
 pub mod ScriptFound
 pub mod Templates
 pub mod ForHeads
+pub mod ForLoops
+pub mod ForParts
 pub mod CoverElements
 pub mod CoverItems
 pub mod CoverSpreads
