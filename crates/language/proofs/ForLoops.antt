@@ -1,20 +1,19 @@
 -- A `for` from its head (ECMA-262 13.7): its `(`, its first part or none, its tests, and that the other kinds are absent.
-use Rattle.std.proofs.Common.{◌≡◌, ℕ, Bool, true, false, cond, List, [], ◌∷◌, ◌++◌, refl, sym, ap, ◌∙◌, subst}
+use Rattle.std.proofs.Common.{◌≡◌, ℕ, Bool, true, false, cond, List, [], ◌∷◌, ◌++◌, refl, sym, subst}
 use Rattle.std.specs.Prelude.{IsTrue, Option, Some, codes}
-use Rattle.tokens.specs.declared.token.Class.TheVariants.{Name, Punctuator}
+use Rattle.tokens.specs.declared.token.Class.TheVariants.{Punctuator}
 use Rattle.tokens.specs.declared.token.Goal.{Goal}
 use Rattle.tokens.specs.declared.token.Goal.TheVariants.{Div}
 use Rattle.tokens.specs.Goals.{allows}
 use Rattle.tree.specs.declared.kind.Kind.{Kind}
 use Rattle.tree.specs.declared.kind.Kind.TheVariants.{ForStatement, ForInStatement, ForOfStatement}
 use Rattle.tree.specs.declared.kind.Pair.{Pair}
-use Rattle.tree.specs.Tree.{Tree, node, Parts, none, part, gap, kind_of, bare_parts, plain}
+use Rattle.tree.specs.Tree.{Tree, node, Parts, none, part, gap, kind_of, bare_parts}
 use Rattle.language.specs.declared.Rank.TheVariants.{Expression, Assignment}
 use Rattle.language.specs.declared.Start.TheVariants.{Any}
 use Rattle.language.specs.FirstPart.{others}
-use Rattle.language.specs.Opening.{no_opening}
 use Rattle.language.specs.Beginning.{a_for}
-use Rattle.language.specs.Pieces.{Role, expr, head, statement, Piece, PieceOf, tok, sub, lay, space, put, sign, sp}
+use Rattle.language.specs.Pieces.{Role, expr, head, statement, Piece, PieceOf, sub, lay, space, put, sign, sp}
 use Rattle.language.specs.Statements.{is_declaration, whole}
 use Rattle.language.specs.Expressions.{given}
 use Rattle.language.specs.Token.{Token}
@@ -22,7 +21,7 @@ use Rattle.language.specs.Promises.{IsDetermined}
 use Rattle.language.specs.Following.{AbsentPartsWhere}
 use Rattle.language.specs.Grammar.{ways}
 use Rattle.language.specs.Derivation.{Reads, Spells, Runs}
-use Rattle.language.proofs.Begins.{goes_to, retell}
+use Rattle.language.proofs.Begins.{goes_to}
 use Rattle.language.proofs.Running.{run_token, run_laid, run_never, run_the_gap, run_the_part, run_no_part, run_gap_part}
 use Rattle.language.proofs.Headed.{opens}
 use Rattle.language.proofs.Supers.{none_begins}
@@ -30,7 +29,7 @@ use Rattle.language.proofs.HeadWays.{head_form}
 use Rattle.language.proofs.Stated.{begins_as, behind_own}
 use Rattle.language.proofs.CommaLists.{an_item}
 use Rattle.language.proofs.CoverReadings.{name_or_sign}
-use Rattle.language.proofs.ForHeads.{first_role, left_role, left_pieces, initial_pieces, behind_initial}
+use Rattle.language.proofs.ForHeads.{first_role, left_pieces, initial_pieces, behind_initial}
 use Rattle.language.proofs.Sofar.{Sofar, and_then, refused, lay_on, token_on, gap_is, retold_where}
 
 -- behind the `(`, by the kind of the loop

@@ -1,14 +1,12 @@
 -- The first part of the head of a `for` (ECMA-262 13.7), by what was read there: a declaration, an expression, a target or a pattern.
-use Rattle.std.proofs.Common.{◌≡◌, ℕ, ◌≤◌, Bool, true, false, cond, List, [], ◌∷◌, refl, sym, ap, ◌∙◌, subst}
-use Rattle.std.specs.Prelude.{IsTrue, Option, Some, None, codes}
+use Rattle.std.proofs.Common.{◌≡◌, ℕ, Bool, true, false, cond, List, [], ◌∷◌, refl, sym, ap, ◌∙◌, subst}
+use Rattle.std.specs.Prelude.{Option, Some, codes}
 use Rattle.std.proofs.lemmas.Bool.{false≢true}
-use Rattle.tokens.specs.declared.token.Class.TheVariants.{Name, Punctuator}
+use Rattle.tokens.specs.declared.token.Class.TheVariants.{Name}
 use Rattle.tokens.specs.declared.token.Goal.{Goal}
-use Rattle.tokens.specs.Goals.{allows}
-use Rattle.tree.specs.declared.kind.Kind.{Kind}
 use Rattle.tree.specs.declared.kind.Kind.TheVariants.{VariableDeclaration}
 use Rattle.tree.specs.declared.kind.Pair.{Pair}
-use Rattle.tree.specs.Tree.{Tree, node, kind_of, height}
+use Rattle.tree.specs.Tree.{Tree, node, kind_of}
 use Rattle.language.specs.declared.Rank.{Rank}
 use Rattle.language.specs.declared.Rank.TheVariants.{Expression, LeftHandSide}
 use Rattle.language.specs.declared.Start.{Start}
@@ -20,7 +18,7 @@ use Rattle.language.specs.Statements.{is_declaration}
 use Rattle.language.specs.Token.{Token}
 use Rattle.language.specs.Covers.{FoundItem, AbsentItem, AbsentItemWithin}
 use Rattle.language.specs.Promises.{is_free, IsDetermined, Stops, Found, Absent, AbsentWithin, FoundAt}
-use Rattle.language.specs.Following.{FoundWhere, AbsentWhere, AbsentWhereWithin}
+use Rattle.language.specs.Following.{FoundWhere, AbsentWhere}
 use Rattle.language.specs.Grammar.{ways, spellings}
 use Rattle.language.specs.Derivation.{Reads, Spells, direct, grouped}
 use Rattle.language.proofs.Viewed.{way_of}

@@ -114,6 +114,7 @@ pub mod Templates
 pub mod ForHeads
 pub mod ForLoops
 pub mod ForParts
+pub mod HeadLists
 pub mod CoverElements
 pub mod CoverItems
 pub mod CoverSpreads
