@@ -40,7 +40,7 @@ colon_bracket : codes ":" ≡ codes "[" → ⊥
 colon_bracket e = false≢true (sym (ap (λ w. is w ":") e))
 
 -- the word tells a getter from a setter
-word_tells : (f g : Form) → is_accessor f ≡ true → is_accessor g ≡ true → accessor_word g ≡ accessor_word f → g ≡ f
+pub word_tells : (f g : Form) → is_accessor f ≡ true → is_accessor g ≡ true → accessor_word g ≡ accessor_word f → g ≡ f
 word_tells Get Get h k e = refl
 word_tells Set Set h k e = refl
 word_tells Get Set h k e = absurd (false≢true (sym (ap (λ w. is w "set") e)))

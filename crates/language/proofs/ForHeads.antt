@@ -1,18 +1,15 @@
 -- The head of a `for` (ECMA-262 13.7): its first part, at the position that its kind has, by the token behind it.
 use Rattle.std.proofs.Common.{◌≡◌, ℕ, ◌≤◌, Bool, true, false, cond, List, [], ◌∷◌, ◌++◌, refl, sym, ap, ◌∙◌, subst, arith}
-use Rattle.std.specs.Prelude.{IsTrue, Option, Some, None, codes}
-use Rattle.std.proofs.lemmas.Bool.{false≢true}
+use Rattle.std.specs.Prelude.{Option, Some, codes}
 use Rattle.tokens.specs.declared.token.Class.TheVariants.{Name, Punctuator}
-use Rattle.tokens.specs.declared.token.Goal.TheVariants.{Div}
 use Rattle.tree.specs.declared.kind.Kind.{Kind}
 use Rattle.tree.specs.declared.kind.Flags.{Flags}
-use Rattle.tree.specs.declared.kind.Kind.TheVariants.{VariableDeclaration, ForStatement, ForInStatement, ForOfStatement}
 use Rattle.tree.specs.declared.kind.Pair.{Pair}
-use Rattle.tree.specs.Tree.{Tree, node, Parts, none, part, gap, kind_of, height, parts_height, bare_parts}
-use Rattle.language.specs.declared.Rank.TheVariants.{Expression, Assignment}
+use Rattle.tree.specs.Tree.{Tree, node, Parts, none, part, gap, kind_of, parts_height, bare_parts}
+use Rattle.language.specs.declared.Rank.TheVariants.{Expression}
 use Rattle.language.specs.declared.Start.TheVariants.{Any}
 use Rattle.language.specs.FirstPart.{others}
-use Rattle.language.specs.Pieces.{Role, expr, head, statement, Piece, PieceOf, settle_piece, tok, sub, lay, space, put, put_at, sign, sp, term, bound}
+use Rattle.language.specs.Pieces.{Role, expr, head, statement, Piece, PieceOf, settle_piece, tok, lay, space, put, put_at, sign, sp, bound}
 use Rattle.language.specs.Statements.{is_declaration, for_left, whole}
 use Rattle.language.specs.Expressions.{given}
 use Rattle.language.specs.Token.{Token}
@@ -22,11 +19,9 @@ use Rattle.language.specs.Following.{AbsentPartsWhere, AbsentPartsWhereWithin}
 use Rattle.language.specs.Grammar.{ways}
 use Rattle.language.specs.Derivation.{Reads, Spells, Runs}
 use Rattle.language.proofs.Begins.{goes_to, retell}
-use Rattle.language.proofs.Running.{run_token, run_laid, run_never, run_the_gap}
+use Rattle.language.proofs.Running.{run_token, run_laid, run_never}
 use Rattle.language.proofs.CommaLists.{an_item, item_runs}
-use Rattle.language.proofs.Stated.{behind_own}
-use Rattle.language.proofs.CoverReadings.{name_or_sign}
-use Rattle.language.proofs.Sofar.{Rest, Sofar, and_then, refused, lay_on, token_on, gap_is}
+use Rattle.language.proofs.Sofar.{Rest, Sofar}
 
 -- the position of the first part: of a `for` with `;`, and of one with `in` or `of`
 abbrev pub first_role : Kind → Option Role

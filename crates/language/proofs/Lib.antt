@@ -112,6 +112,9 @@ pub mod PatternStarts
 pub mod ScriptFound
 pub mod Templates
 pub mod ForHeads
+pub mod ForLoops
+pub mod ForParts
+pub mod HeadLists
 pub mod CoverElements
 pub mod CoverItems
 pub mod CoverSpreads

@@ -31,6 +31,7 @@ use Rattle.language.proofs.KeyWays.{is_accessor, name_key_found}
 use Rattle.language.proofs.Sole.{same_span}
 use Rattle.language.proofs.CoverReadings.{name_or_sign}
 use Rattle.language.proofs.CoverProperties.{key_pieces, accessor_word, KeyAt, run_key, key_runs, method_begins}
+use Rattle.language.proofs.CoverMethods.{word_tells}
 use Rattle.language.proofs.CoverKeys.{KeyFound, key_at_sign, plain_key_found}
 
 call_bracket : codes "(" ≡ codes "[" → ⊥
@@ -44,14 +45,6 @@ static_accessor Init e = false≢true (sym (ap (λ w. is w "static") e))
 static_accessor Method e = false≢true (sym (ap (λ w. is w "static") e))
 static_accessor Shorthand e = false≢true (sym (ap (λ w. is w "static") e))
 static_accessor Constructor e = false≢true (sym (ap (λ w. is w "static") e))
-
--- the word tells a getter from a setter
-word_tells : (f g : Form) → is_accessor f ≡ true → is_accessor g ≡ true → accessor_word g ≡ accessor_word f → g ≡ f
-word_tells Get Get h k e = refl
-word_tells Set Set h k e = refl
-word_tells Get Set h k e = absurd (false≢true (sym (ap (λ w. is w "set") e)))
-word_tells Set Get h k e = absurd (false≢true (sym (ap (λ w. is w "get") e)))
-word_tells _ _ h k e = cc
 
 -- without such a word the key tells a constructor from a method
 form_tells : (c s : Bool) (ps : Parts) (f g : Form) → is_accessor f ≡ false → is_accessor g ≡ false → form_fits c s f ps ≡ true → form_fits c s g ps ≡ true → g ≡ f
