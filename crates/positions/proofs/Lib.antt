@@ -10,4 +10,6 @@ pub mod ExpressionTable
 pub mod Bare
 pub mod Behind
 pub mod Given
+pub mod OtherTable
+pub mod StatementTable
 pub mod Ways

@@ -18,6 +18,8 @@ use Rattle.positions.proofs.Named.{named, is_some, runs-named, roles-named}
 use Rattle.positions.proofs.Outlined.{Describes, Outlined, no_way, never_runs, one_way, two_ways}
 use Rattle.positions.proofs.Bare.{around-bare, outline_slots-bare}
 use Rattle.positions.proofs.ExpressionTable.{expressions_outlined}
+use Rattle.positions.proofs.OtherTable.{Placed}
+use Rattle.positions.proofs.StatementTable.{items_placed}
 
 fits-described : {ps : Parts} {s : Spelling} {x : Outline} (a : Role) → Describes ps s x → fits_position a s ≡ fits_outline a x
 fits-described (expr y i f) d = rw (d.rank, d.needs_in, d.opens f) refl
