@@ -1,6 +1,6 @@
 -- The outlines of nodes that are no expressions are those of the table.
-use Rattle.std.proofs.Common.{◌≡◌, ℕ, Bool, true, false, cond, List, [], ◌∷◌, ◌++◌, refl, sym, ap, ap₂, ◌∙◌, subst}
-use Rattle.std.specs.Prelude.{Option, Some, None, ◌&&◌, ◌||◌, not, codes}
+use Rattle.std.proofs.Common.{◌≡◌, ◌⊎◌, inl, inr, ℕ, Bool, true, false, cond, List, [], ◌∷◌, ◌++◌, refl, sym, ap, ap₂, ◌∙◌, subst}
+use Rattle.std.specs.Prelude.{Option, Some, None, ◌&&◌, ◌||◌, not, codes, nat_eq, nat_le, slice_index_or}
 use Rattle.tokens.specs.declared.token.Class.{Class}
 use Rattle.tokens.specs.declared.token.Class.TheVariants as class
 use Rattle.tree.specs.declared.kind.Kind.{Kind}
@@ -8,7 +8,7 @@ use Rattle.tree.specs.declared.kind.Kind.TheVariants as kind
 use Rattle.tree.specs.declared.kind.Form.{Form}
 use Rattle.tree.specs.declared.kind.Form.TheVariants as form
 use Rattle.tree.specs.declared.kind.Flags.{Flags}
-use Rattle.tree.specs.Tree.{Tree, node, Parts, none, part, gap, kind_of}
+use Rattle.tree.specs.Tree.{Tree, node, Parts, none, part, gap, kind_of, text_of}
 use Rattle.language.specs.declared.Rank.TheVariants.{Call, Primary}
 use Rattle.language.specs.declared.Start.{Start}
 use Rattle.language.specs.FirstPart.{lead as lead_kind, others}
@@ -16,7 +16,7 @@ use Rattle.language.specs.Words.{is_reserved, is_string, literal_class, is_patte
 use Rattle.language.specs.Pieces as piece
 use Rattle.language.specs.Pieces.{Piece, Slot, Spelling, only, put, put_at, sub, tok, lay, fixed, lead, lead_spine, sign, term, sp, is_none, elements, listed, pattern_element, bound, with_default, many, only_at, parameters, absent}
 use Rattle.language.specs.Expressions.{spines, member_link, call_link, arguments, selector, in_brackets, first_chained, linked, properties, pattern_properties, keyed, object_pattern_part, shorthand_pattern, assignment, methods}
-use Rattle.language.specs.Statements.{braced, lines, prologue, member_lines}
+use Rattle.language.specs.Statements.{braced, lines, prologue, member_lines, members, class_members}
 use Rattle.language.specs.Grammar.{keys, names, words, echoes, bases, quotes, quasis, template_parts, patterns, elements_with_default, rests}
 use Rattle.positions.specs.declared.position.Position.{Position}
 use Rattle.positions.specs.declared.position.Position.TheVariants as position
@@ -27,7 +27,7 @@ use Rattle.positions.specs.declared.outline.Outline.{Outline}
 use Rattle.positions.specs.Outlines.{role_of, slot_of, before, front_before, tail_slots, outline_slots, assignment_at, whole_at, bound_at, default_at, leaf, fronted, lined}
 use Rattle.positions.specs.Entries.{entry_at, around}
 use Rattle.positions.specs.Expressions.{kind_at, selected}
-use Rattle.positions.specs.Others.{leaf_if, is_key_class, name_outline, set_at, form_method_outline, is_word, is_base, is_chunk, key_outline, quoted_outline, quasi_outline, spread_outline, keyed_outline, echo_outline, form_outline, property_outline, keyed_at, shorthand_outline, pattern_form_outline, pattern_property_outline, pattern_outline, defaulted, element_outline, one_at, rest_outline, spine_outline, class_body_outline, method_outline, member_outline}
+use Rattle.positions.specs.Others.{leaf_if, is_key_class, names_constructor, method_of, name_outline, set_at, form_method_outline, is_word, is_base, is_chunk, key_outline, quoted_outline, quasi_outline, spread_outline, keyed_outline, echo_outline, form_outline, property_outline, keyed_at, shorthand_outline, pattern_form_outline, pattern_property_outline, pattern_outline, defaulted, element_outline, one_at, rest_outline, spine_outline, class_body_outline, method_outline, member_outline}
 use Rattle.positions.proofs.Named.{named, named-append, named-closed, joined}
 use Rattle.positions.proofs.Lists.{piece_at, parameters-named, arguments-named, patterns-named, pattern-named, chunks-named, lines-named, members-named, prologue-named, bound_piece, default_piece}
 use Rattle.positions.proofs.Outlined.{nothing_slots, Outlined, no_way, one_way, lists, fronts}
@@ -96,7 +96,7 @@ module _ {ps : Parts} where
   properties_placed b form.Shorthand = echo_placed b position.Name
   properties_placed b form.Constructor = nowhere
 
-second_kind : (ps : Parts) → lead_kind (others ps) ≡ kind_at (entry_at ps 1)
+pub second_kind : (ps : Parts) → lead_kind (others ps) ≡ kind_at (entry_at ps 1)
 second_kind none = refl
 second_kind (part n none) = refl
 second_kind (part n (part m ps)) = refl
@@ -254,3 +254,79 @@ methods_placed form.Set ps = setters_placed ps
 methods_placed _ none = nowhere
 methods_placed _ (part n ps) = nowhere
 methods_placed _ (gap ps) = plain_placed ps
+
+-- keys
+key_by : {ps : Parts} (b c : Bool) (qs : List Piece) → named qs ≡ Some [] → not b ≡ c → Placed ps (cond b [] (only qs)) (leaf_if c)
+key_by {ps} b c qs h e = subst (λ v. Placed ps (cond b [] (only qs)) (leaf_if v)) e (unless_leaf b qs h)
+
+literal_classes : (w : List ℕ) → (literal_class w ≡ class.Text) ⊎ ((literal_class w ≡ class.RegExp) ⊎ ((literal_class w ≡ class.Number) ⊎ (literal_class w ≡ class.Name)))
+literal_classes w = of (nat_eq (slice_index_or w 0 0) 34 || nat_eq (slice_index_or w 0 0) 39) (nat_eq (slice_index_or w 0 0) 47) (nat_eq (slice_index_or w 0 0) 46 || (nat_le 48 (slice_index_or w 0 0) && nat_le (slice_index_or w 0 0) 57))
+  where
+    of : (a b c : Bool) → (cond a class.Text (cond b class.RegExp (cond c class.Number class.Name)) ≡ class.Text) ⊎ ((cond a class.Text (cond b class.RegExp (cond c class.Number class.Name)) ≡ class.RegExp) ⊎ ((cond a class.Text (cond b class.RegExp (cond c class.Number class.Name)) ≡ class.Number) ⊎ (cond a class.Text (cond b class.RegExp (cond c class.Number class.Name)) ≡ class.Name)))
+    of true b c = inl refl
+    of false true c = inr (inl refl)
+    of false false true = inr (inr (inl refl))
+    of false false false = inr (inr (inr refl))
+
+literal_key : {ps : Parts} (w : List ℕ) → (literal_class w ≡ class.Text) ⊎ ((literal_class w ≡ class.RegExp) ⊎ ((literal_class w ≡ class.Number) ⊎ (literal_class w ≡ class.Name))) → Placed ps (keys kind.Literal w) (leaf_if (is_key_class (literal_class w)))
+literal_key w (inl p) = key_by _ _ (tok (literal_class w) w ∷ []) refl (cc)
+literal_key w (inr (inl p)) = key_by _ _ (tok (literal_class w) w ∷ []) refl (cc)
+literal_key w (inr (inr (inl p))) = key_by _ _ (tok (literal_class w) w ∷ []) refl (cc)
+literal_key w (inr (inr (inr p))) = key_by _ _ (tok (literal_class w) w ∷ []) refl (cc)
+
+pub keys_placed : {ps : Parts} (k : Kind) (w : List ℕ) → Placed ps (keys k w) (key_outline k w)
+keys_placed kind.Identifier w = places Zero _ refl
+keys_placed kind.Literal w = literal_key w (literal_classes w)
+keys_placed _ w = nowhere
+
+-- members
+members_by_form : {ps : Parts} (x : List Piece) (b : Bool) (f : Form) → named x ≡ Some [] → named (x ++ term "get" ∷ sp ∷ []) ≡ Some [] → named (x ++ term "set" ∷ sp ∷ []) ≡ Some [] →
+    Placed ps (members x b f) (method_of b f)
+members_by_form x b form.Get h g s = keyed_placed b (x ++ term "get" ∷ sp ∷ []) _ (position.Method form.Get) g refl
+members_by_form x b form.Set h g s = keyed_placed b (x ++ term "set" ∷ sp ∷ []) _ (position.Method form.Set) s refl
+members_by_form x b _ h g s = keyed_placed b x _ (position.Method form.Method) h refl
+
+static_members : {ps : Parts} (s b : Bool) (f : Form) → Placed ps (cond s (members (term "static" ∷ sp ∷ []) b f) (members [] b f)) (method_of b f)
+static_members true b f = members_by_form (term "static" ∷ sp ∷ []) b f refl refl refl
+static_members false b f = members_by_form [] b f refl refl refl
+
+unless_not : {ps : Parts} {xs : List Spelling} {o : Option Outline} (b : Bool) → Placed ps xs o → Placed ps (cond (not b) xs []) (cond b None o)
+unless_not true h = nowhere
+unless_not false h = h
+
+pub when : {ps : Parts} {xs : List Spelling} {o : Option Outline} (b : Bool) → Placed ps xs o → Placed ps (cond b xs []) (cond b o None)
+when true h = h
+when false h = nowhere
+
+never_constructor : (c s : Bool) → false ≡ (not c && not s && false)
+never_constructor true s = refl
+never_constructor false true = refl
+never_constructor false false = refl
+
+abbrev flags_with : Bool → Bool → Bool → Bool → Bool → Bool → Form → Flags
+flags_with c o s p d e f = record { computed = c; optional = o; is_static = s; prefix = p; directive = d; expression = e; form = f }
+
+abbrev plain_members : Bool → Bool → List Spelling
+plain_members s b = cond s (members (term "static" ∷ sp ∷ []) b form.Method) (members [] b form.Method)
+
+members_with : (c o s p d e : Bool) (f : Form) (ps : Parts) → Placed ps (class_members kind.MethodDefinition (flags_with c o s p d e f) ps) (member_outline kind.MethodDefinition (flags_with c o s p d e f) (around ps))
+members_with c o s p d e form.Get ps = static_members s c form.Get
+members_with c o s p d e form.Set ps = static_members s c form.Set
+members_with c o s p d e form.Method none = subst (λ b. Placed none (plain_members s c) (cond b None (method_of c form.Method))) (never_constructor c s) (static_members s c form.Method)
+members_with c o s p d e form.Method (gap ps) = subst (λ b. Placed (gap ps) (plain_members s c) (cond b None (method_of c form.Method))) (never_constructor c s) (static_members s c form.Method)
+members_with c o s p d e form.Method (part n ps) = unless_not (not c && not s && names_constructor (kind_of n) (text_of n)) (static_members s c form.Method)
+members_with c o s p d e form.Constructor none = subst (λ b. Placed none [] (cond b (method_of c form.Method) None)) (never_constructor c s) nowhere
+members_with c o s p d e form.Constructor (gap ps) = subst (λ b. Placed (gap ps) [] (cond b (method_of c form.Method) None)) (never_constructor c s) nowhere
+members_with c o s p d e form.Constructor (part n ps) = when (not c && not s && names_constructor (kind_of n) (text_of n)) (static_members s c form.Constructor)
+members_with c o s p d e form.Init ps = nowhere
+members_with c o s p d e form.Shorthand ps = nowhere
+
+pub member_placed : (k : Kind) (g : Flags) (ps : Parts) → Placed ps (class_members k g ps) (member_outline k g (around ps))
+member_placed kind.MethodDefinition g ps = members_with g.computed g.optional g.is_static g.prefix g.directive g.expression g.form ps
+member_placed _ g ps = nowhere
+
+-- patterns
+pub patterns_outlined : (b : Bool) (k : Kind) (ps : Parts) → Outlined ps (patterns b k ps) (pattern_outline b k)
+patterns_outlined b kind.ArrayPattern ps = lists Primary Zero (tails.PatternElements b) 0 _ (named-closed (elements (pattern_element b) ps) (sign "]" ∷ []) refl ∙ patterns-named b ps) (λ f. bracket_starts ps f _)
+patterns_outlined b kind.ObjectPattern ps = one_way (record { rank = refl; needs_in = refl; opens = λ f. brace_opens f _; names = named-closed (listed (object_pattern_part b) ps) (sign "}" ∷ []) refl ∙ pattern-named b ps })
+patterns_outlined b _ ps = no_way

@@ -31,16 +31,12 @@ use Rattle.positions.proofs.Named.{named, named-append, named-closed, joined}
 use Rattle.positions.proofs.Lists.{piece_at, lines-named, prologue-named, declarators-named, bound_piece}
 use Rattle.positions.proofs.Outlined.{Describes, Outlined, never_runs, one_way}
 use Rattle.positions.proofs.ExpressionTable.{lead_entry, functions, classes}
-use Rattle.positions.proofs.OtherTable.{Placed, nowhere, unnamed, placed, places, unless, braced-named}
+use Rattle.positions.proofs.OtherTable.{Placed, nowhere, unnamed, placed, places, unless, when, braced-named}
 
 -- what is outlined is placed
 outlined_placed : {ps : Parts} {s : Spelling} {o : Option Outline} → Outlined ps (s ∷ []) o → Placed ps (s ∷ []) o
 outlined_placed (never_runs e) = unnamed e
 outlined_placed (one_way d) = placed d.names
-
-when : {ps : Parts} {xs : List Spelling} {o : Option Outline} (b : Bool) → Placed ps xs o → Placed ps (cond b xs []) (cond b o None)
-when true h = h
-when false h = nowhere
 
 pub items_placed : (r : Bool) (ps : Parts) → Placed ps (only (braced ps (lines (piece.item r) ps))) (items_outline r)
 items_placed r ps = placed (braced-named ps (lines (piece.item r) ps) ∙ lines-named (position.Item r) ps)

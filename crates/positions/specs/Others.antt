@@ -9,7 +9,8 @@ use Rattle.tree.specs.declared.kind.Kind.TheVariants as kind
 use Rattle.tree.specs.declared.kind.Form.{Form}
 use Rattle.tree.specs.declared.kind.Form.TheVariants as form
 use Rattle.tree.specs.declared.kind.Flags.{Flags}
-use Rattle.language.specs.Words.{is, is_reserved, is_string, literal_class, is_rest, is_pattern}
+use Rattle.language.specs.Words.{is, is_reserved, is_string, literal_class, is_rest, is_pattern, is_identifier}
+use Rattle.language.specs.Statements.{is_string_literal}
 use Rattle.language.specs.Strings.{literal_units}
 use Rattle.positions.specs.declared.position.Entry.{Entry}
 use Rattle.positions.specs.declared.position.Entry.TheVariants.{Past, Gap, Part}
@@ -172,18 +173,23 @@ method_outline x _ a = None
 
 -- the first part of a member is a key with the value `constructor`
 abbrev pub names_constructor : Kind → List ℕ → Bool
-names_constructor kind.Identifier w = is w "constructor"
-names_constructor kind.Literal w = is_string (literal_class w) && is (literal_units w) "constructor"
-names_constructor _ w = false
+names_constructor k w = (is_identifier k && is w "constructor") || (is_string_literal k w && is (literal_units w) "constructor")
 
 abbrev pub is_constructor : Flags → Kind → List ℕ → Bool
-is_constructor g k w = not g.computed && (not g.is_static && names_constructor k w)
+is_constructor g k w = not g.computed && not g.is_static && names_constructor k w
 
+-- a member's key and function
+abbrev pub method_of : Bool → Form → Option Outline
+method_of b form.Get = keyed_outline b (at.Method form.Get)
+method_of b form.Set = keyed_outline b (at.Method form.Set)
+method_of b _ = keyed_outline b (at.Method form.Method)
+
+-- by whether it is a constructor
 abbrev pub member_form_outline : Bool → Bool → Form → Option Outline
-member_form_outline c b form.Constructor = cond c (keyed_outline b (at.Method form.Method)) None
-member_form_outline c b form.Method = cond c None (keyed_outline b (at.Method form.Method))
-member_form_outline c b form.Get = keyed_outline b (at.Method form.Get)
-member_form_outline c b form.Set = keyed_outline b (at.Method form.Set)
+member_form_outline c b form.Constructor = cond c (method_of b form.Method) None
+member_form_outline c b form.Method = cond c None (method_of b form.Method)
+member_form_outline c b form.Get = method_of b form.Get
+member_form_outline c b form.Set = method_of b form.Set
 member_form_outline c b _ = None
 
 abbrev pub member_outline : Kind → Flags → Around → Option Outline
