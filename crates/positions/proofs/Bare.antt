@@ -101,6 +101,13 @@ twice-bare ps = ap (λ n. not (nat_le n 1)) (ap defaults (others-bare ps) ∙ de
 
 pub around-bare : (ps : Parts) → around (bare_parts ps) ≡ around ps
 around-bare ps = λ i. record {
-    first = entry-bare ps 0 i; second = entry-bare ps 1 i; third = entry-bare ps 2 i; fourth = entry-bare ps 3 i;
-    first_text = text-bare ps 0 i; second_text = text-bare ps 1 i;
-    chained = first_chained-bare ps i; dangling = dangles-bare ps 1 i; defaults_twice = twice-bare ps i }
+  first = entry-bare ps 0 i;
+  second = entry-bare ps 1 i;
+  third = entry-bare ps 2 i;
+  fourth = entry-bare ps 3 i;
+  first_text = text-bare ps 0 i;
+  second_text = text-bare ps 1 i;
+  chained = first_chained-bare ps i;
+  dangling = dangles-bare ps 1 i;
+  defaults_twice = twice-bare ps i;
+}

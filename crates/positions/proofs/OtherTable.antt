@@ -12,7 +12,7 @@ use Rattle.tree.specs.Tree.{Tree, node, Parts, none, part, gap, kind_of, text_of
 use Rattle.language.specs.declared.Rank.TheVariants.{Call, Primary}
 use Rattle.language.specs.declared.Start.{Start}
 use Rattle.language.specs.FirstPart.{lead as lead_kind, others}
-use Rattle.language.specs.Words.{is_reserved, is_string, literal_class, is_pattern, is_name, is_rest}
+use Rattle.language.specs.Words.{is_reserved, is_string, literal_class, is_pattern, is_name, is_rest, is_identifier, is_super}
 use Rattle.language.specs.Pieces as piece
 use Rattle.language.specs.Pieces.{Piece, Slot, Spelling, only, put, put_at, sub, tok, lay, fixed, lead, lead_spine, sign, term, sp, is_none, elements, listed, pattern_element, bound, with_default, many, only_at, parameters, absent}
 use Rattle.language.specs.Expressions.{spines, member_link, call_link, arguments, selector, in_brackets, first_chained, linked, properties, pattern_properties, keyed, object_pattern_part, shorthand_pattern, assignment, methods}
@@ -27,7 +27,7 @@ use Rattle.positions.specs.declared.outline.Outline.{Outline}
 use Rattle.positions.specs.Outlines.{role_of, slot_of, before, front_before, tail_slots, outline_slots, assignment_at, whole_at, bound_at, default_at, leaf, fronted, lined}
 use Rattle.positions.specs.Entries.{entry_at, around}
 use Rattle.positions.specs.Expressions.{kind_at, selected}
-use Rattle.positions.specs.Others.{leaf_if, is_key_class, names_constructor, method_of, name_outline, set_at, form_method_outline, is_word, is_base, is_chunk, key_outline, quoted_outline, quasi_outline, spread_outline, keyed_outline, echo_outline, form_outline, property_outline, keyed_at, shorthand_outline, pattern_form_outline, pattern_property_outline, pattern_outline, defaulted, element_outline, one_at, rest_outline, spine_outline, class_body_outline, method_outline, member_outline}
+use Rattle.positions.specs.Others.{leaf_if, is_key_class, names_constructor, method_of, name_outline, set_at, form_method_outline, is_chunk, key_outline, quoted_outline, quasi_outline, spread_outline, keyed_outline, echo_outline, form_outline, property_outline, keyed_at, shorthand_outline, pattern_form_outline, pattern_property_outline, pattern_outline, defaulted, element_outline, one_at, rest_outline, spine_outline, class_body_outline, method_outline, member_outline}
 use Rattle.positions.proofs.Named.{named, named-append, named-closed, joined}
 use Rattle.positions.proofs.Lists.{piece_at, parameters-named, arguments-named, patterns-named, pattern-named, chunks-named, lines-named, members-named, prologue-named, bound_piece, default_piece}
 use Rattle.positions.proofs.Outlined.{nothing_slots, Outlined, no_way, one_way, lists, fronts}
@@ -55,15 +55,15 @@ module _ {ps : Parts} where
   names_placed kind.Identifier w = unless_leaf (is_reserved w) (tok class.Name w ∷ []) refl
   names_placed _ w = nowhere
 
-  pub words_placed : (k : Kind) (w : List ℕ) → Placed ps (words k w) (leaf_if (is_word k))
+  pub words_placed : (k : Kind) (w : List ℕ) → Placed ps (words k w) (leaf_if (is_identifier k))
   words_placed kind.Identifier w = places Zero _ refl
   words_placed _ w = nowhere
 
-  pub echoes_placed : (k : Kind) (w : List ℕ) → Placed ps (echoes k w) (leaf_if (is_word k))
+  pub echoes_placed : (k : Kind) (w : List ℕ) → Placed ps (echoes k w) (leaf_if (is_identifier k))
   echoes_placed kind.Identifier w = places Zero _ refl
   echoes_placed _ w = nowhere
 
-  pub bases_placed : (k : Kind) → Placed ps (bases k) (leaf_if (is_base k))
+  pub bases_placed : (k : Kind) → Placed ps (bases k) (leaf_if (is_super k))
   bases_placed kind.Super = places Zero _ refl
   bases_placed _ = nowhere
 
@@ -290,10 +290,6 @@ static_members : {ps : Parts} (s b : Bool) (f : Form) → Placed ps (cond s (mem
 static_members true b f = members_by_form (term "static" ∷ sp ∷ []) b f refl refl refl
 static_members false b f = members_by_form [] b f refl refl refl
 
-unless_not : {ps : Parts} {xs : List Spelling} {o : Option Outline} (b : Bool) → Placed ps xs o → Placed ps (cond (not b) xs []) (cond b None o)
-unless_not true h = nowhere
-unless_not false h = h
-
 pub when : {ps : Parts} {xs : List Spelling} {o : Option Outline} (b : Bool) → Placed ps xs o → Placed ps (cond b xs []) (cond b o None)
 when true h = h
 when false h = nowhere
@@ -312,11 +308,11 @@ plain_members s b = cond s (members (term "static" ∷ sp ∷ []) b form.Method)
 members_with : (c o s p d e : Bool) (f : Form) (ps : Parts) → Placed ps (class_members kind.MethodDefinition (flags_with c o s p d e f) ps) (member_outline kind.MethodDefinition (flags_with c o s p d e f) (around ps))
 members_with c o s p d e form.Get ps = static_members s c form.Get
 members_with c o s p d e form.Set ps = static_members s c form.Set
-members_with c o s p d e form.Method none = subst (λ b. Placed none (plain_members s c) (cond b None (method_of c form.Method))) (never_constructor c s) (static_members s c form.Method)
-members_with c o s p d e form.Method (gap ps) = subst (λ b. Placed (gap ps) (plain_members s c) (cond b None (method_of c form.Method))) (never_constructor c s) (static_members s c form.Method)
-members_with c o s p d e form.Method (part n ps) = unless_not (not c && not s && names_constructor (kind_of n) (text_of n)) (static_members s c form.Method)
-members_with c o s p d e form.Constructor none = subst (λ b. Placed none [] (cond b (method_of c form.Method) None)) (never_constructor c s) nowhere
-members_with c o s p d e form.Constructor (gap ps) = subst (λ b. Placed (gap ps) [] (cond b (method_of c form.Method) None)) (never_constructor c s) nowhere
+members_with c o s p d e form.Method none = subst (λ b. Placed none (plain_members s c) (cond (not b) (method_of c form.Method) None)) (never_constructor c s) (static_members s c form.Method)
+members_with c o s p d e form.Method (gap ps) = subst (λ b. Placed (gap ps) (plain_members s c) (cond (not b) (method_of c form.Method) None)) (never_constructor c s) (static_members s c form.Method)
+members_with c o s p d e form.Method (part n ps) = when (not (not c && not s && names_constructor (kind_of n) (text_of n))) (static_members s c form.Method)
+members_with c o s p d e form.Constructor none = subst (λ b. Placed none [] (cond b (method_of c form.Constructor) None)) (never_constructor c s) nowhere
+members_with c o s p d e form.Constructor (gap ps) = subst (λ b. Placed (gap ps) [] (cond b (method_of c form.Constructor) None)) (never_constructor c s) nowhere
 members_with c o s p d e form.Constructor (part n ps) = when (not c && not s && names_constructor (kind_of n) (text_of n)) (static_members s c form.Constructor)
 members_with c o s p d e form.Init ps = nowhere
 members_with c o s p d e form.Shorthand ps = nowhere

@@ -36,14 +36,6 @@ abbrev pub name_outline : Kind → List ℕ → Option Outline
 name_outline kind.Identifier w = leaf_if (not (is_reserved w))
 name_outline _ w = None
 
-abbrev pub is_word : Kind → Bool
-is_word kind.Identifier = true
-is_word _ = false
-
-abbrev pub is_base : Kind → Bool
-is_base kind.Super = true
-is_base _ = false
-
 abbrev pub is_chunk : Kind → Bool
 is_chunk kind.TemplateElement = true
 is_chunk _ = false
@@ -184,13 +176,16 @@ method_of b form.Get = keyed_outline b (at.Method form.Get)
 method_of b form.Set = keyed_outline b (at.Method form.Set)
 method_of b _ = keyed_outline b (at.Method form.Method)
 
--- by whether it is a constructor
+-- a member may have this form, by whether its key makes it the constructor
+abbrev pub fits_form : Bool → Form → Bool
+fits_form c form.Constructor = c
+fits_form c form.Method = not c
+fits_form c form.Get = true
+fits_form c form.Set = true
+fits_form c _ = false
+
 abbrev pub member_form_outline : Bool → Bool → Form → Option Outline
-member_form_outline c b form.Constructor = cond c (method_of b form.Method) None
-member_form_outline c b form.Method = cond c None (method_of b form.Method)
-member_form_outline c b form.Get = method_of b form.Get
-member_form_outline c b form.Set = method_of b form.Set
-member_form_outline c b _ = None
+member_form_outline c b x = cond (fits_form c x) (method_of b x) None
 
 abbrev pub member_outline : Kind → Flags → Around → Option Outline
 member_outline kind.MethodDefinition g a = member_form_outline (is_constructor g (kind_at a.first) a.first_text) g.computed g.form

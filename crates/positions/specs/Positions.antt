@@ -3,22 +3,23 @@ use Rattle.std.specs.Prelude.{ℕ, List, Option}
 use Rattle.tree.specs.Tree.{Tree, kind_of, text_of, flags_of, parts_of}
 use Rattle.tree.specs.declared.kind.Kind.{Kind}
 use Rattle.tree.specs.declared.kind.Flags.{Flags}
+use Rattle.language.specs.Words.{is_identifier, is_super}
 use Rattle.positions.specs.declared.position.Position.{Position}
 use Rattle.positions.specs.declared.position.Position.TheVariants as at
 use Rattle.positions.specs.declared.outline.Outline.{Outline}
 use Rattle.positions.specs.Entries.{around}
 use Rattle.positions.specs.Expressions.{Around, kind_at, expression_outline}
-use Rattle.positions.specs.Others.{leaf_if, is_word, is_base, is_chunk, name_outline, key_outline, quoted_outline, quasi_outline, spread_outline, property_outline, pattern_outline, pattern_property_outline, element_outline, rest_outline, spine_outline, class_body_outline, method_outline, member_outline}
+use Rattle.positions.specs.Others.{leaf_if, is_chunk, name_outline, key_outline, quoted_outline, quasi_outline, spread_outline, property_outline, pattern_outline, pattern_property_outline, element_outline, rest_outline, spine_outline, class_body_outline, method_outline, member_outline}
 use Rattle.positions.specs.Statements.{statement_outline, item_outline, opening_outline, block_outline, body_outline, script_outline, head_outline, declarator_outline, case_outline, handler_outline}
 
 abbrev pub outline_by : Position → Kind → List ℕ → Flags → Around → Option Outline
 outline_by (at.Expression y i f) k w g a = expression_outline k w g a
 outline_by (at.Spine f) k w g a = spine_outline k g a.chained
 outline_by at.Name k w g a = name_outline k w
-outline_by at.Word k w g a = leaf_if (is_word k)
+outline_by at.Word k w g a = leaf_if (is_identifier k)
 outline_by at.Key k w g a = key_outline k w
-outline_by at.Echo k w g a = leaf_if (is_word k)
-outline_by at.Base k w g a = leaf_if (is_base k)
+outline_by at.Echo k w g a = leaf_if (is_identifier k)
+outline_by at.Base k w g a = leaf_if (is_super k)
 outline_by at.Quoted k w g a = quoted_outline k w
 outline_by at.Quasi k w g a = quasi_outline k
 outline_by (at.Chunk b c) k w g a = leaf_if (is_chunk k)
