@@ -192,36 +192,42 @@ fn parts_of_a_template(rt: HostRuntime) -> Result<(), Fail> {
     Ok(())
 }
 
+const BINDS: Position = Position::Pattern {
+    binds: true,
+    start: Start::Any,
+};
+
+fn rest_at(of_object: bool) -> Position {
+    Position::Rest {
+        binds: true,
+        of_object,
+    }
+}
+
 #[test]
 fn properties_and_patterns(rt: HostRuntime) -> Result<(), Fail> {
     let alloc = rt.alloc();
     let parts = Parts::two(alloc, name(alloc, "a"), name(alloc, "b"))?;
     let property = made(Kind::Property, parts);
-    let pattern = Position::PatternProperty { binds: true };
+    let of_pattern = Position::PatternProperty { binds: true };
     assert!(rt; gives(&property, Position::Property, &["key", "expression"]));
-    assert!(rt; gives(&property, pattern, &["key", "name"]));
+    assert!(rt; gives(&property, of_pattern, &["key", "name"]));
     let object = made(Kind::ObjectPattern, Parts::one(alloc, property)?);
-    let binds = Position::Pattern {
-        binds: true,
-        start: Start::Any,
-    };
     let first = Position::Pattern {
         binds: true,
         start: Start::NoBrace,
     };
-    assert!(rt; gives(&object, binds, &["pattern property"]));
+    assert!(rt; gives(&object, BINDS, &["pattern property"]));
     assert!(rt; refuses(&object, first));
     let rest = made(Kind::RestElement, Parts::one(alloc, object)?);
-    let of_array = Position::Rest {
-        binds: true,
-        of_object: false,
-    };
-    let of_object = Position::Rest {
-        binds: true,
-        of_object: true,
-    };
-    assert!(rt; gives(&rest, of_array, &["pattern"]));
-    assert!(rt; refuses(&rest, of_object));
+    assert!(rt; gives(&rest, rest_at(false), &["pattern"]));
+    assert!(rt; refuses(&rest, rest_at(true)));
+    Ok(())
+}
+
+#[test]
+fn defaults_and_spreads(rt: HostRuntime) -> Result<(), Fail> {
+    let alloc = rt.alloc();
     let parts = Parts::two(alloc, name(alloc, "a"), name(alloc, "b"))?;
     let given = made(Kind::AssignmentPattern, parts);
     assert!(rt;
@@ -231,7 +237,9 @@ fn properties_and_patterns(rt: HostRuntime) -> Result<(), Fail> {
             &["name", "expression"]
         )
     );
-    let spread = made(Kind::SpreadElement, Parts::one(alloc, given)?);
+    let list = made(Kind::ArrayPattern, Parts::one(alloc, given)?);
+    assert!(rt; gives(&list, BINDS, &["element"]));
+    let spread = made(Kind::SpreadElement, Parts::one(alloc, name(alloc, "c"))?);
     assert!(rt; gives(&spread, Position::Spread, &["expression"]));
     Ok(())
 }

@@ -1,14 +1,12 @@
 -- Units that are compared with a word's bytes, one by one.
-use Rattle.std.proofs.Common.{◌≡◌, ℕ, zero, suc, ◌+◌, ◌<◌, ◌≤◌, Bool, true, false, List, [], ◌∷◌, ◌++◌, length, get_or, take, unwrap_or, Option, Some, None, refl, sym, ap, ◌∙◌, subst, arith, append-nil, append_assoc}
+use Rattle.std.proofs.Common.{◌≡◌, ℕ, zero, suc, ◌+◌, ◌<◌, ◌≤◌, Bool, true, false, List, [], ◌∷◌, ◌++◌, length, get_or, take, unwrap_or, Option, Some, None, refl, sym, ap, ◌∙◌, arith, append-nil, append_assoc}
 use Rattle.std.specs.Prelude.{◌&&◌, ◌-◌, ◌/◌, ◌%◌, cond, nat_eq, nat_lt}
 use Rattle.std.specs.Str.{bytes_eq, chars}
 use Rattle.std.proofs.lemmas.Bool.Decides.{nat_tests}
-use Rattle.tokens.specs.Escapes.{piece, unescaped}
-use Rattle.tokens.specs.Escaped.{units_of, IsOther, IsPieceAt}
-use Rattle.tokens.specs.declared.escape.Escaped.{Escaped as Found}
+use Rattle.tokens.specs.Escapes.{unescaped}
+use Rattle.tokens.specs.Escaped.{units_of, IsOther}
 use Rattle.tokens.specs.Reading.{behind}
-use Rattle.tokens.specs.Scanned.{Passed}
-use Rattle.tokens.proofs.Valued.{InUnits, units_after, units_go_on}
+use Rattle.tokens.proofs.Valued.{InUnits, units_after}
 
 same : (c : ℕ) → nat_eq c c ≡ true
 same c = grind (arith, nat_tests)

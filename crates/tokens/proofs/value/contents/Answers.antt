@@ -1,13 +1,12 @@
-use Rattle.std.proofs.Common.{◌≡◌, ℕ, ◌-◌, List, [], ◌∷◌, ◌++◌, length, take, unwrap_or, Option, Some, None, refl, sym, subst, ap, ◌∙◌, arith, append-nil, length-append}
-use Rattle.std.specs.Prelude.{MatchOption, encode_utf8_all}
+use Rattle.std.proofs.Common.{◌≡◌, ℕ, ◌-◌, List, [], ◌∷◌, ◌++◌, length, take, Option, Some, None, refl, sym, subst, ap, ◌∙◌, arith, append-nil, length-append}
+use Rattle.std.specs.Prelude.{MatchOption}
 use Rattle.std.specs.Char.{encode_utf8}
 use Rattle.std.specs.Str.{chars, IsUtf8}
 use Rattle.std.specs.Str.Iter.{chars_rest}
 use Rattle.std.specs.declared.str.Chars.{Chars}
 use Rattle.std.proofs.lemmas.Str.{chars-nil, chars_from_encodes, chars_past_char, encodes-append, encodes-chars, IsUtf8-past_char}
 use Rattle.std.proofs.lemmas.List.{take_at}
-use Rattle.tokens.specs.Escapes.{unescaped}
-use Rattle.tokens.specs.Strings.{string_contents, string_units}
+use Rattle.tokens.specs.Strings.{string_contents}
 use Rattle.tokens.proofs.value.contents.Goals as goal
 
 empty : (xs : List ℕ) → length xs ≡ 0 → xs ≡ []

@@ -1,4 +1,4 @@
-use Rattle.std.proofs.Common.{◌≡◌, ◌∙◌, ap, sym, subst, arith, refl, take}
+use Rattle.std.proofs.Common.{sym, subst, arith, refl, take}
 use Rattle.tokens.specs.Escaped.{units_of}
 use Rattle.tokens.proofs.Valued.{InUnits, units_begin, units_go_on}
 use Rattle.tokens.proofs.Matched.{no_match, at_end}
