@@ -1,15 +1,17 @@
 -- Outlines and their positions don't depend on places.
-use Rattle.std.proofs.Common.{◌≡◌, ℕ, zero, suc, cond, List, [], refl, ap, ap₂, ◌∙◌}
-use Rattle.std.specs.Prelude.{Option, Some, None, ◌||◌, ◌&&◌}
+use Rattle.std.proofs.Common.{◌≡◌, ℕ, zero, suc, ◌+◌, false, cond, List, [], refl, ap, ap₂, ◌∙◌}
+use Rattle.std.specs.Prelude.{Option, Some, None, not, nat_le, ◌||◌, ◌&&◌}
 use Rattle.tree.specs.Tree.{Tree, node, Parts, none, part, gap, bare, bare_parts}
 use Rattle.language.specs.FirstPart.{others}
 use Rattle.language.specs.Pieces.{is_none}
+use Rattle.language.specs.Edges.{trails, ends_in_if, last_ends_in_if}
+use Rattle.language.specs.Statements.{defaults}
 use Rattle.language.specs.Expressions.{chained, first_chained, is_spine}
 use Rattle.positions.specs.declared.position.Slot.{Slot}
 use Rattle.positions.specs.declared.outline.Tail.{Tail}
 use Rattle.positions.specs.declared.outline.Outline.{Outline}
 use Rattle.positions.specs.Outlines.{tail_slots, tail_at, part_of_tail, is_before_last, going, is_over, skips_gap, parts_behind, front_before, outline_slots}
-use Rattle.positions.specs.Entries.{entry_at, text_at, around}
+use Rattle.positions.specs.Entries.{entry_at, text_at, dangles_at, around}
 
 pub none-bare : (ps : Parts) → is_none (bare_parts ps) ≡ is_none ps
 none-bare none = refl
@@ -69,5 +71,43 @@ mutual
   first_chained-bare (part n ps) = chained-bare n
   first_chained-bare (gap ps) = refl
 
+mutual
+  ends-bare : (n : Tree) → ends_in_if (bare n) ≡ ends_in_if n
+  ends-bare (node k w g s e ps) = ap (λ b. cond (trails k) b false) (last_ends-bare ps)
+
+  last_ends-bare : (ps : Parts) → last_ends_in_if (bare_parts ps) ≡ last_ends_in_if ps
+  last_ends-bare none = refl
+  last_ends-bare (part n none) = ends-bare n
+  last_ends-bare (part n (part m ps)) = last_ends-bare (part m ps)
+  last_ends-bare (part n (gap ps)) = last_ends-bare ps
+  last_ends-bare (gap ps) = last_ends-bare ps
+
+dangles-bare : (ps : Parts) (i : ℕ) → dangles_at (bare_parts ps) i ≡ dangles_at ps i
+dangles-bare none i = refl
+dangles-bare (part n ps) zero = ends-bare n
+dangles-bare (part n ps) (suc i) = dangles-bare ps i
+dangles-bare (gap ps) zero = refl
+dangles-bare (gap ps) (suc i) = dangles-bare ps i
+
+defaults-bare : (ps : Parts) → defaults (bare_parts ps) ≡ defaults ps
+defaults-bare none = refl
+defaults-bare (part (node k w g s e none) ps) = ap (λ n. 0 + n) (defaults-bare ps)
+defaults-bare (part (node k w g s e (part m us)) ps) = ap (λ n. 0 + n) (defaults-bare ps)
+defaults-bare (part (node k w g s e (gap us)) ps) = ap (λ n. 1 + n) (defaults-bare ps)
+defaults-bare (gap ps) = defaults-bare ps
+
+twice-bare : (ps : Parts) → not (nat_le (defaults (others (bare_parts ps))) 1) ≡ not (nat_le (defaults (others ps)) 1)
+twice-bare ps = ap (λ n. not (nat_le n 1)) (ap defaults (others-bare ps) ∙ defaults-bare (others ps))
+
 pub around-bare : (ps : Parts) → around (bare_parts ps) ≡ around ps
-around-bare ps = λ i. record { first = entry-bare ps 0 i; second = entry-bare ps 1 i; first_text = text-bare ps 0 i; second_text = text-bare ps 1 i; chained = first_chained-bare ps i }
+around-bare ps = λ i. record {
+  first = entry-bare ps 0 i;
+  second = entry-bare ps 1 i;
+  third = entry-bare ps 2 i;
+  fourth = entry-bare ps 3 i;
+  first_text = text-bare ps 0 i;
+  second_text = text-bare ps 1 i;
+  chained = first_chained-bare ps i;
+  dangling = dangles-bare ps 1 i;
+  defaults_twice = twice-bare ps i;
+}

@@ -13,14 +13,14 @@ behind-none : (i : ℕ) → parts_behind i none ≡ none
 behind-none zero = refl
 behind-none (suc i) = behind-none i
 
-some-suc : (ps : Parts) (i : ℕ) (u : Tree) → Some u ≡ part_at ps i → parts_behind i ps ≡ part u (parts_behind (suc i) ps)
+pub some-suc : (ps : Parts) (i : ℕ) (u : Tree) → Some u ≡ part_at ps i → parts_behind i ps ≡ part u (parts_behind (suc i) ps)
 some-suc none i u h = absurd (cc)
 some-suc (part t ps) zero u h = let same : t ≡ u = cc in ap (λ v. part v ps) same
 some-suc (part t ps) (suc i) u h = some-suc ps i u h
 some-suc (gap ps) zero u h = absurd (cc)
 some-suc (gap ps) (suc i) u h = some-suc ps i u h
 
-gap-suc : (ps : Parts) (i : ℕ) → None ≡ part_at ps i → i < part_count ps → parts_behind i ps ≡ gap (parts_behind (suc i) ps)
+pub gap-suc : (ps : Parts) (i : ℕ) → None ≡ part_at ps i → i < part_count ps → parts_behind i ps ≡ gap (parts_behind (suc i) ps)
 gap-suc none i h l = absurd (omega (arith, l))
 gap-suc (part t ps) zero h l = absurd (cc)
 gap-suc (part t ps) (suc i) h l = gap-suc ps i h (omega (arith, l))

@@ -31,7 +31,7 @@ use Rattle.positions.proofs.Lists.{arguments-named, object-named, elements-named
 use Rattle.positions.proofs.Outlined.{Describes, Outlined, no_way, never_runs, one_way, two_ways, by_case, lists, fronts, sub_starts, word_starts, sign_starts, nothing_slots}
 use Rattle.positions.proofs.FirstTokens.{name_starts, literal_starts, prefix_word, prefix_sign, step_sign}
 
-lead_entry : (ps : Parts) → lead_kind ps ≡ kind_at (entry_at ps 0)
+pub lead_entry : (ps : Parts) → lead_kind ps ≡ kind_at (entry_at ps 0)
 lead_entry none = refl
 lead_entry (part n ps) = refl
 lead_entry (gap ps) = refl
@@ -66,7 +66,7 @@ after (part (node kind.Literal w h s e us) ps) g qs = loose_free (not g.computed
 after (part (node _ w h s e us) ps) g qs = loose_free (not g.computed && false) qs
 
 -- arguments in their parentheses
-arguments_names : (ps : Parts) → named (arguments ps) ≡ tail_slots (tails.Arguments false) ps
+pub arguments_names : (ps : Parts) → named (arguments ps) ≡ tail_slots (tails.Arguments false) ps
 arguments_names ps = named-closed (listed argument ps) (sign ")" ∷ []) refl ∙ arguments-named ps
 
 -- the space behind a sign
@@ -93,7 +93,7 @@ module _ (ps : Parts) where
   unfolding expressions
   literal w = by_case (is_name (literal_class w) && not (among w ("true" ∷ "false" ∷ "null" ∷ []))) (λ e. no_way) (λ e. fronts Primary Zero (tok (literal_class w) w ∷ []) refl (literal_starts w e))
 
-  bracket_starts : (f : Start) (qs : List Piece) → starts f (sign "[" ∷ qs) ≡ true
+  pub bracket_starts : (f : Start) (qs : List Piece) → starts f (sign "[" ∷ qs) ≡ true
   bracket_starts f qs = sign_starts f (codes "[") qs refl
 
   member : (g : Flags) → (x : Slot) (y : Rattle.positions.specs.declared.position.Slot.Slot) → x ≡ slot_of y → (qs : List Piece) → named qs ≡ named (selector g) → Outlined ps (at Member (sub x ∷ qs) ∷ []) (Some (fronted Member (Two y (selected g))))
@@ -231,7 +231,7 @@ class_opens Any qs = refl
 class_opens NoBrace qs = refl
 class_opens Statement qs = refl
 
-brace_opens : (f : Start) (qs : List Piece) → starts f (sign "{" ∷ qs) ≡ opens_at f Rattle.positions.specs.declared.outline.Opens.TheVariants.WithBrace
+pub brace_opens : (f : Start) (qs : List Piece) → starts f (sign "{" ∷ qs) ≡ opens_at f Rattle.positions.specs.declared.outline.Opens.TheVariants.WithBrace
 brace_opens Any qs = refl
 brace_opens NoBrace qs = refl
 brace_opens Statement qs = refl

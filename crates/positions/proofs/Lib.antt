@@ -3,6 +3,7 @@ pub mod Chained
 pub mod Operations
 pub mod Tables
 pub mod Named
+pub mod Points
 pub mod Lists
 pub mod Outlined
 pub mod FirstTokens
@@ -10,4 +11,7 @@ pub mod ExpressionTable
 pub mod Bare
 pub mod Behind
 pub mod Given
+pub mod LastParts
+pub mod OtherTable
+pub mod StatementTable
 pub mod Ways

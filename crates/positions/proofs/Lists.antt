@@ -21,7 +21,7 @@ use Rattle.positions.specs.Outlines.{role_of, slot_of, listed_at, tail_slots, go
 use Rattle.positions.proofs.Named.{named, joined, named-append}
 
 -- the piece of a position that may be none
-abbrev piece_at : Option Position → Piece
+abbrev pub piece_at : Option Position → Piece
 piece_at None = never
 piece_at (Some a) = put (role_of a)
 

@@ -25,13 +25,18 @@ use Rattle.positions.specs.declared.words.Operation.TheVariants.{Binds, Powers}
 use Rattle.positions.specs.Operations.{operation_at}
 use Rattle.positions.specs.Outlines.{assignment_at, whole_at, leaf, fronted, lined}
 
--- what stands where among the parts; the texts of the first two; whether the first is part of a chain with a `?.`
+-- what stands where among the parts; the texts of the first two; whether the first is part of a chain with a `?.`; whether the
+-- second ends in an `if` without `else`; whether behind the first more than one is a case without test
 pub record Around : Type 0 where
   pub first : Entry
   pub second : Entry
+  pub third : Entry
+  pub fourth : Entry
   pub first_text : List ℕ
   pub second_text : List ℕ
   pub chained : Bool
+  pub dangling : Bool
+  pub defaults_twice : Bool
 
 -- the kind that stands there, that of the Program where none does
 abbrev pub kind_at : Entry → Kind

@@ -3,5 +3,8 @@ pub mod Expressions
 pub mod Outlines
 pub mod Operations
 pub mod Chains
+pub mod Others
+pub mod Statements
+pub mod Positions
 pub mod Spelled
 pub mod Remaining

@@ -2,10 +2,16 @@
 
 ghost use Rattle.std.specs.Prelude.{◌≡◌, option_map};
 ghost use Rattle.tree.specs.Node.{node_tree};
-ghost use Rattle.language.specs.Expressions.{is_spine};
+ghost use Rattle.tree.specs.Tree.{kind_of, flags_of, parts_of};
+ghost use Rattle.language.specs.Expressions.{is_spine, first_chained};
+ghost use Rattle.positions.specs.Others.{linked_by as outline_linked, member_link as outline_of_member_link, call_link as outline_of_call_link, spine_outline as outline_of_spine};
 ghost use Rattle.positions.specs.Chains.{is_chained_part};
 
-use tree::{Kind, Node};
+use crate::expressions::selected;
+use crate::outline::{Front, Outline, Tail};
+use crate::position::Slot;
+use language::Rank;
+use tree::{Flags, Kind, Node};
 
 /// Whether a `?.` stands in this part of a chain or in one below it.
 #[tactic(auto, using(tree::proofs::PartWalk::part_steps))]
@@ -29,4 +35,52 @@ pub(crate) fn is_link(kind: Kind) -> bool
     ensures { result ≡ is_spine kind }
 {
     matches!(kind, Kind::MemberExpression | Kind::CallExpression)
+}
+
+/// A part of a chain above its base.
+#[tactic(auto, using(crate::proofs::Chained::chained_first))]
+pub(crate) fn spine_outline(node: Node) -> Option<Outline>
+    ensures { result ≡ outline_of_spine (kind_of (node_tree node.entry)) (flags_of (node_tree node.entry)) (first_chained (parts_of (node_tree node.entry))) }
+{
+    let flags = node.flags();
+    let chained = is_chained(node.part(0));
+    let (spine, base) = (Slot::LeadSpine, Slot::Lead(Rank::Call));
+    match node.kind() {
+        Kind::MemberExpression => {
+            linked(
+                chained,
+                flags.optional,
+                member_link(spine, flags),
+                member_link(base, flags),
+            )
+        }
+        Kind::CallExpression => linked(chained, flags.optional, call_link(spine), call_link(base)),
+        _ => None,
+    }
+}
+
+/// A further part of a chain below, or its base.
+fn linked(chained: bool, optional: bool, above: Outline, lowest: Outline) -> Option<Outline>
+    ensures { result ≡ outline_linked chained optional above lowest }
+{
+    if chained {
+        return Some(above);
+    }
+    if optional {
+        return Some(lowest);
+    }
+    None
+}
+
+fn member_link(below: Slot, flags: Flags) -> Outline
+    ensures { result ≡ outline_of_member_link below flags }
+{
+    Outline::of_front(Rank::Primary, Front::Two(below, selected(flags)))
+}
+
+fn call_link(below: Slot) -> Outline
+    ensures { result ≡ outline_of_call_link below }
+{
+    let tail = Tail::Arguments { holes: false };
+    Outline::of_list(Rank::Primary, Front::One(below), tail, 1)
 }

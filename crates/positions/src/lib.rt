@@ -3,14 +3,22 @@
 //! The table's positions as Rust: where each part of a node stands, and whether a node can be spelled at a position.
 
 mod chain;
+mod dangling;
+mod declarations;
 mod expressions;
+mod leaves;
+mod members;
+mod nodes;
 mod outline;
 mod position;
+mod properties;
 mod spelling;
+mod statements;
 mod tail;
 mod walk;
 mod words;
 
+pub use nodes::node_positions;
 pub use position::Position;
 pub use spelling::{Positions, expression_positions};
 

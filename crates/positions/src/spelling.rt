@@ -206,7 +206,7 @@ fn is_init(form: Form) -> bool
 }
 
 /// The positions of a node's parts by the outline of its spelling, where that fits the node's position.
-fn positions_by<'t, 's>(
+pub(crate) fn positions_by<'t, 's>(
     node: Node<'t, 's>,
     position: Position,
     outline: Option<Outline>,

@@ -1,11 +1,14 @@
 //! What texts and kinds mean to the table.
 
 ghost use Rattle.std.specs.Prelude.{◌≡◌, [], ◌∷◌};
-ghost use Rattle.language.specs.Words.{is_prefix, is_step as is_step_text, is_assignment as is_assignment_text, is_target as is_target_kind, is_pattern as is_pattern_kind, is_identifier as is_identifier_kind, is_rest as is_rest_kind, literal_class as class_of_literal, operator_of, among};
+ghost use Rattle.language.specs.Words.{is_prefix, is_step as is_step_text, is_assignment as is_assignment_text, is_target as is_target_kind, is_pattern as is_pattern_kind, is_identifier as is_identifier_kind, is_rest as is_rest_kind, literal_class as class_of_literal, operator_of, among, is};
+ghost use Rattle.language.specs.Strings.{literal_units};
+ghost use Rattle.language.specs.Statements.{is_string_literal as is_string_of_kind};
+ghost use Rattle.positions.specs.Others.{names_constructor as names_constructor_key};
 ghost use Rattle.positions.specs.Operations.{operation_at, logical_operation, is_spelled_literal};
 
 use language::Rank;
-use tokens::Class;
+use tokens::{Class, string_is};
 use tree::Kind;
 
 /// What an operator between two operands makes.
@@ -140,4 +143,29 @@ pub(crate) fn is_rest(kind: Kind) -> bool
     ensures { result ≡ is_rest_kind kind }
 {
     matches!(kind, Kind::RestElement)
+}
+
+/// Whether such a node is a string literal, by its kind and text.
+pub(crate) fn is_string_literal(kind: Kind, text: &str) -> bool
+    ensures { result ≡ is_string_of_kind kind text.now }
+{
+    match kind {
+        Kind::Literal => matches!(literal_class(text), Class::Text),
+        _ => false,
+    }
+}
+
+/// Whether a key without brackets has the value `constructor`.
+pub(crate) fn names_constructor(kind: Kind, text: &str) -> bool
+    ensures { result ≡ names_constructor_key kind text.now }
+{
+    (is_identifier(kind) && text == "constructor")
+        || (is_string_literal(kind, text) && is_constructor_value(text))
+}
+
+/// Whether a string literal has the value `constructor`, by its raw text.
+fn is_constructor_value(raw: &str) -> bool
+    ensures { result ≡ is (literal_units raw.now) "constructor" }
+{
+    string_is(raw, "constructor")
 }

@@ -14,6 +14,7 @@ pub mod Parts
 pub mod Escaping
 pub mod Stringing
 pub mod Valued
+pub mod Matched
 pub mod Wellformed
 pub mod Punctuators
 pub mod Scanning

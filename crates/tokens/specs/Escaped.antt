@@ -1,5 +1,6 @@
 -- What the program's own calls say of escapes: how many characters are passed, and the value that they stand for.
-use Rattle.std.specs.Prelude.{◌≡◌, ℕ, ◌+◌, ◌<◌, List, [], ◌++◌, length, Option, Some, None, IfSome, IsTrue}
+use Rattle.std.specs.Prelude.{◌≡◌, ℕ, ◌+◌, ◌<◌, false, List, [], ◌++◌, length, take, Option, Some, None, IfSome, IsTrue}
+use Rattle.std.specs.Str.{bytes_eq}
 use Rattle.std.specs.Char.Escape.{encode_utf16}
 use Rattle.tokens.specs.declared.escape.Escaped.{Escaped as Found}
 use Rattle.tokens.specs.Escapes.{Piece}
@@ -28,3 +29,7 @@ pub record IsStringRest (quote : ℕ) (text : List ℕ) (at stop : ℕ) : Type 0
 -- no such rest stands at a place
 abbrev pub NoStringRest : ℕ → List ℕ → ℕ → Type 0
 NoStringRest quote text at = (word rest : List ℕ) → behind text at ≡ word ++ rest → IsTrue (closes_string quote 0 word) → ⊥
+
+-- no units that begin with so many bytes of a word and these behind them are its bytes
+abbrev pub IsOther : List ℕ → ℕ → List ℕ → Type 0
+IsOther word matched units = (more : List ℕ) → bytes_eq ((take matched word ++ units) ++ more) word ≡ false

@@ -1,4 +1,4 @@
-use crate::{Class, Goal, scan, string_units, template_value};
+use crate::{Class, Goal, scan, string_is, string_units, template_value};
 use source_text::Source;
 use std::alloc::{AllocError, Global};
 use std::process::Abort;
@@ -594,4 +594,14 @@ fn template_values(rt: HostRuntime) -> Result<(), Fail> {
         }
     }
     Ok(())
+}
+
+#[test]
+fn strings_that_are_a_word(rt: HostRuntime) {
+    assert!(rt; string_is("'get'", "get"));
+    assert!(rt; string_is("\"g\\u0065\\x74\"", "get"));
+    assert!(rt; string_is("'g\\\net'", "get"));
+    assert!(rt; !string_is("'gets'", "get"));
+    assert!(rt; !string_is("'ge'", "get"));
+    assert!(rt; !string_is("'\u{1F600}'", "get"));
 }

@@ -1,12 +1,12 @@
 //! The values of strings and templates (ECMA-262 11.8.4 and 11.8.6.1).
 
-ghost use Rattle.std.specs.Prelude.{◌≡◌, ◌<◌, ◌++◌, option_map, encode_utf8_all, IsTrue, IfOk, IfSome};
+ghost use Rattle.std.specs.Prelude.{◌≡◌, ◌<◌, ◌≤◌, ◌++◌, [], length, take, unwrap_or, option_map, encode_utf8_all, IsTrue, IfOk, IfSome, IfNone};
 ghost use Rattle.std.specs.Cow.{IsBorrowedStr, cow_str_bytes};
-ghost use Rattle.std.specs.Str.{chars};
+ghost use Rattle.std.specs.Str.{bytes_eq, chars};
 ghost use Rattle.std.specs.String.{string_bytes};
-ghost use Rattle.tokens.specs.Escaped.{units_of};
+ghost use Rattle.tokens.specs.Escaped.{units_of, IsOther};
 ghost use Rattle.tokens.specs.Escapes.{unescaped};
-ghost use Rattle.tokens.specs.Strings.{is_string, string_units};
+ghost use Rattle.tokens.specs.Strings.{is_string, string_contents, string_units};
 ghost use Rattle.tokens.specs.Templates.{IsSettled, cooked_value, line_end_turned, raw_value};
 
 use crate::escape::piece;
@@ -30,13 +30,67 @@ pub fn string_units(alloc: Global, text: &str) -> Result<Vec<u16>, AllocError>
 pub fn quoted_units(alloc: Global, text: &str) -> Result<Vec<u16>, AllocError>
     ensures { IfOk result (λ v. v.items ≡ string_units (chars text.now)) }
 {
-    let mut inner = text.chars();
-    inner.next();
-    inner.next_back();
-    let Some(value) = units(alloc, inner.as_str())? else {
+    let Some(value) = units(alloc, contents(text))? else {
         return Ok(Vec::new(alloc));
     };
     Ok(value)
+}
+
+/// Whether those units are the bytes of a word, which isn't empty; takes no memory.
+pub fn string_is(text: &str, word: &str) -> bool
+    requires { 0 < length word.now }
+    ensures { result ≡ bytes_eq (string_units (chars text.now)) word.now }
+{
+    units_are(contents(text), word)
+}
+
+// What stands between the first and the last character.
+fn contents(text: &str) -> &str
+    ensures { chars result.now ≡ string_contents (chars text.now) }
+{
+    let mut inner = text.chars();
+    inner.next();
+    inner.next_back();
+    inner.as_str()
+}
+
+// Whether the units of a text with escapes are the bytes of a word; they aren't where an escape is bad.
+fn units_are(text: &str, word: &str) -> bool
+    requires { 0 < length word.now }
+    ensures { result ≡ bytes_eq (unwrap_or (unescaped (chars text.now)) []) word.now }
+{
+    let mut at = 0;
+    let mut matched = 0;
+    while let Some(step) = step_at(text, at) {
+        let Some(piece) = piece(text, step.c, step.end) else {
+            return false;
+        };
+        let Some(more) = matched_by(word, matched, piece.value) else {
+            return false;
+        };
+        matched = more;
+        at = piece.end;
+    }
+    matched == word.len()
+}
+
+// How many bytes of a word match, with a further value behind those that do; none where it isn't the next byte.
+fn matched_by(word: &str, matched: usize, value: Option<u32>) -> Option<usize>
+    requires { matched ≤ length word.now }
+    ensures some { IfSome result (λ n. (n ≤ length word.now) × (take n word.now ≡ take matched word.now ++ units_of value)) }
+    ensures none { IfNone result (IsOther word.now matched (units_of value)) }
+{
+    let Some(value) = value else {
+        return Some(matched);
+    };
+    let bytes = word.as_bytes();
+    if matched == bytes.len() {
+        return None;
+    }
+    if u32::from(bytes[matched]) != value {
+        return None;
+    }
+    Some(matched + 1)
 }
 
 /// The raw value (TRV) of a part of a template, given without its delimiters, and the UTF-16 units of its cooked
