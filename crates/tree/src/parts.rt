@@ -25,7 +25,7 @@ impl<'s> Model for Parts<'s> {
 
 impl<'s> Parts<'s> {
     ghost use Rattle.std.specs.Prelude.{◌≡◌, IfOk, IfErr};
-    ghost use Rattle.tree.specs.Tree.{none, part, push, push_gap, part_count, parts_with_gaps};
+    ghost use Rattle.tree.specs.Tree.{none, part, push, push_gap, join, part_count, parts_with_gaps};
 
     /// No parts; no memory.
     pub fn new(alloc: Global) -> Parts<'s>
@@ -79,6 +79,16 @@ impl<'s> Parts<'s> {
         Ok(())
     }
 
+    /// Further parts, behind the others; as they were where memory is refused.
+    #[tactic(auto, using(crate::proofs::Shapes::gap_shapes))]
+    pub fn append(&mut self, further: Parts<'s>) -> Result<(), AllocError>
+        ensures joined { IfOk result (λ _. self.new ≡ join self.old further.entry) }
+        ensures kept { IfErr result (λ _. self.new ≡ self.old) }
+    {
+        let mut further = further;
+        self.items.append(&mut further.items)
+    }
+
     /// How many they are, gaps included.
     #[tactic(auto, using(crate::proofs::PartLemmas::part_lemmas))]
     pub fn len(&self) -> usize
@@ -87,9 +97,17 @@ impl<'s> Parts<'s> {
         self.items.len()
     }
 
-    pub(crate) fn into_items(self) -> Vec<Option<Syntax<'s>>>
+    /// Them one by one, none for a gap.
+    pub fn into_items(self) -> Vec<Option<Syntax<'s>>>
         ensures { parts_with_gaps result.items ≡ self.entry }
     {
         self.items
+    }
+
+    /// Parts from a list of them, none for a gap.
+    pub fn from_items(items: Vec<Option<Syntax<'s>>>) -> Parts<'s>
+        ensures { result ≡ parts_with_gaps items.entry.items }
+    {
+        Parts { items }
     }
 }

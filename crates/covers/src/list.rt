@@ -1,0 +1,255 @@
+//! Lists, item by item: arguments, elements, properties, parameters, what parentheses hold, templates, sequences,
+//! declarators, cases and members. `at` is the place that a syntax error names.
+
+ghost use Rattle.std.specs.Prelude.{◌≡◌, IfErr};
+ghost use Rattle.covers.specs.Refusals.{IsRefusedAt, IsMemory};
+
+use crate::cover::to_parameters;
+use crate::shape::Shape;
+use language::Edge;
+use productions::{Nodes, Tall};
+use source_text::Fault;
+use std::alloc::Global;
+use tree::Span;
+
+/// What is listed.
+#[derive(Clone, Copy, Debug, PartialEq, Eq)]
+pub enum Listed {
+    /// Of a call or of `new`, in parentheses (ECMA-262 12.3).
+    Arguments,
+    /// Of an array or its pattern, in brackets (12.2.5).
+    Elements,
+    /// Of an object or its pattern, in braces (12.2.6).
+    Properties,
+    /// What parentheses group, or an arrow's parameters (12.2.10, 14.2).
+    Covers,
+    /// Of a function or a method that is no getter and no setter, in parentheses (14.1).
+    Parameters,
+    /// Of a getter, in parentheses (14.3).
+    NoParameter,
+    /// Of a setter, in parentheses (14.3).
+    OneParameter,
+    /// The parts of a template: characters and, between them, substitutions (12.2.9).
+    Template,
+    /// The parts of a sequence (12.16), and whether `in` may be an operator in them.
+    Sequence { has_in: bool },
+    /// Of a declaration (13.3), and whether `in` may be an operator in them.
+    Declarators { has_in: bool },
+    /// Of a switch, in braces (13.12), and whether `return` may stand there.
+    Cases { returns: bool },
+    /// Of a class, in braces (14.6).
+    Members,
+}
+
+impl Listed {
+    /// The punctuator before the first item.
+    pub fn opening(self) -> Option<&'static str> {
+        match self {
+            Listed::Arguments | Listed::Covers => Some("("),
+            Listed::Parameters | Listed::NoParameter | Listed::OneParameter => Some("("),
+            Listed::Elements => Some("["),
+            Listed::Properties | Listed::Cases { .. } | Listed::Members => Some("{"),
+            Listed::Template | Listed::Sequence { .. } | Listed::Declarators { .. } => None,
+        }
+    }
+
+    /// The punctuator behind the last item.
+    pub fn closing(self) -> Option<&'static str> {
+        match self {
+            Listed::Arguments | Listed::Covers => Some(")"),
+            Listed::Parameters | Listed::NoParameter | Listed::OneParameter => Some(")"),
+            Listed::Elements => Some("]"),
+            Listed::Properties | Listed::Cases { .. } | Listed::Members => Some("}"),
+            Listed::Template | Listed::Sequence { .. } | Listed::Declarators { .. } => None,
+        }
+    }
+
+    // Whether items of this shape, taken together, have a reading here: as expressions, as what is assigned to, or as what is
+    // bound.
+    fn reads(self, shape: Shape) -> bool {
+        match self {
+            Listed::Elements | Listed::Properties => shape.is_either(),
+            Listed::Covers => shape.is_expression || shape.is_bound(),
+            Listed::Parameters | Listed::OneParameter => shape.is_bound(),
+            _ => shape.is_expression,
+        }
+    }
+}
+
+/// An item of a list, as it is read.
+#[derive(Drop)]
+pub struct Item<'s> {
+    pub node: Tall<'s>,
+    /// What it may be, without its `...`.
+    pub shape: Shape,
+    /// `...` stands before it.
+    pub spreads: bool,
+    /// A declarator of a pattern without a value; a case that is `default`; or the last part of a template.
+    pub is_marked: bool,
+    /// Its right edge.
+    pub edge: Edge,
+}
+
+impl<'s> Item<'s> {
+    /// A node that is an expression, or none at all, and no pattern.
+    pub fn plain(node: Tall<'s>) -> Item<'s>
+        ensures { result.node ≡ node.entry }
+    {
+        Item {
+            node,
+            shape: Shape::VALUE,
+            spreads: false,
+            is_marked: false,
+            edge: Edge::Closed,
+        }
+    }
+}
+
+/// What was seen of the items so far.
+#[derive(Clone, Copy)]
+pub struct Seen {
+    /// What they may be together, as elements of an array or properties of an object.
+    pub shape: Shape,
+    /// What the last may be.
+    pub last: Shape,
+    /// The last stands behind `...`.
+    pub is_rest: bool,
+    /// A comma follows the last.
+    pub has_comma: bool,
+    /// One of them is marked.
+    pub is_marked: bool,
+    /// The right edge of the last.
+    pub edge: Edge,
+}
+
+impl Seen {
+    // Of no items.
+    const NOTHING: Seen = Seen {
+        shape: Shape::EMPTY,
+        last: Shape::EMPTY,
+        is_rest: false,
+        has_comma: false,
+        is_marked: false,
+        edge: Edge::Closed,
+    };
+
+    // With one more item; behind `...`, what parentheses hold is no expression.
+    fn with(self, item: &Item<'_>, listed: Listed) -> Seen {
+        let shape = match item.spreads {
+            true if listed == Listed::Covers => self.shape.with_rest(item.shape).initialized(),
+            true => self.shape.with_rest(item.shape),
+            false => self.shape.with_element(item.shape),
+        };
+        Seen {
+            shape,
+            last: item.shape,
+            is_rest: item.spreads,
+            has_comma: false,
+            is_marked: self.is_marked || item.is_marked,
+            edge: item.edge,
+        }
+    }
+
+    // With a comma behind the last item, or without; a pattern has none behind its rest.
+    fn separated(self, has_comma: bool) -> Seen {
+        let mut seen = self;
+        seen.has_comma = has_comma;
+        if has_comma && self.is_rest {
+            seen.shape = self.shape.unassigned();
+        }
+        seen
+    }
+}
+
+/// A list, as far as it is read.
+#[derive(Drop)]
+pub struct List<'s> {
+    pub listed: Listed,
+    pub nodes: Nodes<'s>,
+    pub seen: Seen,
+    /// From the first item to the last.
+    pub inside: Span,
+    /// With the brackets round them.
+    pub span: Span,
+}
+
+impl<'s> List<'s> {
+    /// A list without items, from this place on.
+    pub fn new(alloc: Global, listed: Listed, start: usize) -> List<'s>
+        ensures listed { result.listed ≡ listed }
+    {
+        let span = Span { start, end: start };
+        List {
+            listed,
+            nodes: Nodes::new(alloc),
+            seen: Seen::NOTHING,
+            inside: span,
+            span,
+        }
+    }
+
+    /// The items so far were passed, with a comma or without; then the list goes on.
+    pub fn separate(&mut self, has_comma: bool)
+        ensures listed { self.new.listed ≡ self.old.listed }
+    {
+        self.seen = self.seen.separated(has_comma);
+    }
+
+    /// Whether nothing may follow the last item, no comma either.
+    pub fn is_ended(&self) -> bool {
+        match self.listed {
+            Listed::Covers | Listed::Parameters => self.seen.is_rest,
+            Listed::OneParameter => self.nodes.len() > 0,
+            Listed::NoParameter => true,
+            Listed::Template => self.seen.is_marked,
+            _ => false,
+        }
+    }
+
+    /// A hole of an array.
+    ///
+    /// # Errors
+    /// `OutOfMemory`.
+    pub fn push_hole(&mut self) -> Result<(), Fault>
+        ensures listed { self.new.listed ≡ self.old.listed }
+        ensures refused { IfErr result IsMemory }
+    {
+        self.seen.is_rest = false;
+        self.nodes.push_gap()
+    }
+
+    /// One more item.
+    ///
+    /// # Errors
+    /// `Syntax` where no reading of the items is left, or a case is the second `default` (13.12); `OutOfMemory`.
+    pub fn push(&mut self, item: Item<'s>, at: usize) -> Result<(), Fault>
+        ensures listed { self.new.listed ≡ self.old.listed }
+        ensures refused { IfErr result (IsRefusedAt at) }
+    {
+        let seen = self.seen.with(&item, self.listed);
+        if !self.listed.reads(seen.shape) || self.is_excess(&item) {
+            return Err(Fault::Syntax(at));
+        }
+        self.seen = seen;
+        self.nodes.push(item.node)
+    }
+
+    // Whether it can't be one more item: a second `default`, or the rest of a setter.
+    fn is_excess(&self, item: &Item<'_>) -> bool {
+        match self.listed {
+            Listed::Cases { .. } => self.seen.is_marked && item.is_marked,
+            Listed::OneParameter => item.spreads,
+            _ => false,
+        }
+    }
+
+    /// The parameters, of an arrow too (14.1, 14.2).
+    ///
+    /// # Errors
+    /// `Syntax` where one is no name and no pattern that is bound, with a default or without.
+    pub fn into_parameters(self, at: usize) -> Result<Nodes<'s>, Fault>
+        ensures { IfErr result (IsRefusedAt at) }
+    {
+        to_parameters(self.nodes, self.seen.shape, at)
+    }
+}

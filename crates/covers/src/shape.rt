@@ -1,0 +1,177 @@
+//! What a cover may be.
+
+ghost use Rattle.std.specs.Prelude.{◌≡◌, ◌&&◌};
+ghost use Rattle.covers.specs.Shapes.{is_element, is_pattern, is_target};
+
+use tree::{Kind, Node};
+
+/// What a cover may be.
+#[derive(Clone, Copy, Debug, PartialEq, Eq)]
+pub struct Shape {
+    /// An expression: no name in an object in it has a default, but for those in a pattern that is assigned to.
+    pub is_expression: bool,
+    /// What it may be as an element of a pattern.
+    pub assigned: Assigned,
+    /// Where it may be such an element: its targets are names alone, none of them in parentheses.
+    pub binds: bool,
+}
+
+/// What a cover may be as an element of a pattern.
+#[derive(Clone, Copy, Debug, PartialEq, Eq)]
+pub enum Assigned {
+    Nothing,
+    /// A simple target: a name, or a member outside an optional chain (ECMA-262 clause 12.15.1).
+    Target,
+    /// An array or object pattern.
+    Pattern,
+    /// Either of them with a default.
+    Defaulted,
+}
+
+impl Assigned {
+    /// Whether it is a target or a pattern, with a default or without.
+    pub fn is_element(self) -> bool
+        ensures { result ≡ is_element self }
+    {
+        !matches!(self, Assigned::Nothing)
+    }
+
+    /// Whether it is a target or a pattern.
+    pub fn is_pattern(self) -> bool
+        ensures { result ≡ is_pattern self }
+    {
+        matches!(self, Assigned::Target | Assigned::Pattern)
+    }
+
+    /// Whether it is a target.
+    pub fn is_target(self) -> bool
+        ensures { result ≡ is_target self }
+    {
+        matches!(self, Assigned::Target)
+    }
+}
+
+impl Shape {
+    /// Of an array or object with nothing in it.
+    pub const EMPTY: Shape = Shape {
+        is_expression: true,
+        assigned: Assigned::Pattern,
+        binds: true,
+    };
+
+    /// Of an expression that is no element of a pattern.
+    pub const VALUE: Shape = Shape {
+        is_expression: true,
+        assigned: Assigned::Nothing,
+        binds: false,
+    };
+
+    /// Of a member outside an optional chain.
+    pub const TARGET: Shape = Shape {
+        is_expression: true,
+        assigned: Assigned::Target,
+        binds: false,
+    };
+
+    /// Of a name.
+    pub const NAME: Shape = Shape {
+        is_expression: true,
+        assigned: Assigned::Target,
+        binds: true,
+    };
+
+    /// Of an expression that is no array, no object and no assignment: a name, a member outside an optional chain, or another.
+    pub fn of(expression: Node<'_, '_>) -> Shape {
+        match expression.kind() {
+            Kind::Identifier => Shape::NAME,
+            Kind::MemberExpression if !expression.flags().optional => Shape::TARGET,
+            _ => Shape::VALUE,
+        }
+    }
+
+    /// Of `target = value`, by the shape of the target.
+    pub fn defaulted(self) -> Shape {
+        Shape {
+            is_expression: true,
+            assigned: match self.assigned.is_pattern() {
+                true => Assigned::Defaulted,
+                false => Assigned::Nothing,
+            },
+            binds: self.binds,
+        }
+    }
+
+    /// The same, but assigned to only where it is a target: behind `...` among properties (12.15.5).
+    pub fn simple(self) -> Shape {
+        Shape {
+            is_expression: self.is_expression,
+            assigned: match self.assigned.is_target() {
+                true => Assigned::Target,
+                false => Assigned::Nothing,
+            },
+            binds: self.binds,
+        }
+    }
+
+    /// The same in parentheses (12.15.5): only a target may still be assigned to, and nothing bound.
+    pub fn grouped(self) -> Shape {
+        let simple = self.simple();
+        Shape {
+            is_expression: simple.is_expression,
+            assigned: simple.assigned,
+            binds: false,
+        }
+    }
+
+    /// The same, but no pattern.
+    pub fn unassigned(self) -> Shape {
+        Shape {
+            is_expression: self.is_expression,
+            assigned: Assigned::Nothing,
+            binds: false,
+        }
+    }
+
+    /// The same, but no expression: a name in it has a default (CoverInitializedName, 12.2.6).
+    pub fn initialized(self) -> Shape {
+        Shape {
+            is_expression: false,
+            assigned: self.assigned,
+            binds: self.binds,
+        }
+    }
+
+    // With a part that may be in a pattern or may not.
+    fn with(self, part: Shape, fits: bool) -> Shape {
+        Shape {
+            is_expression: self.is_expression && part.is_expression,
+            assigned: match fits {
+                true => self.assigned,
+                false => Assigned::Nothing,
+            },
+            binds: self.binds && part.binds,
+        }
+    }
+
+    /// With one more element, or the value of one more property.
+    pub fn with_element(self, element: Shape) -> Shape {
+        self.with(element, element.assigned.is_element())
+    }
+
+    /// With a last element behind `...` (12.15.5).
+    pub fn with_rest(self, argument: Shape) -> Shape {
+        self.with(argument, argument.assigned.is_pattern())
+    }
+
+    /// Whether it may be an element of a pattern whose names are bound, or a parameter.
+    pub fn is_bound(self) -> bool
+        ensures { result ≡ (self.binds && is_element self.assigned) }
+    {
+        self.binds && self.assigned.is_element()
+    }
+
+    /// Whether it may be an expression, or an element of a pattern that is assigned to.
+    pub fn is_either(self) -> bool {
+        self.is_expression || self.assigned.is_element()
+    }
+}

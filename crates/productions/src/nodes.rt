@@ -1,0 +1,159 @@
+//! The parts of a node that is being made, with their height.
+
+ghost use Rattle.std.specs.Prelude.{◌≡◌, IfOk, IfErr};
+
+use crate::tall::Tall;
+use source_text::Fault;
+use std::alloc::Global;
+use std::marker::Model;
+use tree::Parts;
+
+/// The parts of a node, in source order, with the height of the tallest; contracts see them as those of its tree.
+#[derive(Drop)]
+pub struct Nodes<'s> {
+    parts: Parts<'s>,
+    levels: u32,
+}
+
+impl<'s> Model for Nodes<'s> {
+    ghost use Rattle.std.specs.Prelude.{◌≡◌};
+    ghost use Rattle.tree.specs.Tree.{Parts, parts_height};
+    ghost use Rattle.tree.specs.TreeCode.{parts_code};
+
+    ghost Value = { Parts };
+
+    ghost coded = { parts_code };
+
+    ghost view = { λ n. n.parts };
+
+    ghost invariant = { λ n. n.levels ≡ parts_height n.parts };
+}
+
+impl<'s> Nodes<'s> {
+    ghost use Rattle.std.specs.Prelude.{◌≡◌, IfOk, IfErr, IfSome, IfNone};
+    ghost use Rattle.tree.specs.Tree.{Tree, none, part, push, push_gap, join, part_count, parts_height};
+
+    /// No parts; no memory.
+    pub fn new(alloc: Global) -> Nodes<'s>
+        ensures { result ≡ none }
+    {
+        Nodes {
+            parts: Parts::new(alloc),
+            levels: 0,
+        }
+    }
+
+    /// One part.
+    ///
+    /// # Errors
+    /// `OutOfMemory`.
+    pub fn one(alloc: Global, only: Tall<'s>) -> Result<Nodes<'s>, Fault>
+        ensures made { IfOk result (λ nodes. nodes ≡ part only.entry none) }
+        ensures refused { IfErr result (λ fault. fault ≡ Fault.OutOfMemory) }
+    {
+        let levels = only.height();
+        let parts = Parts::one(alloc, only.into_syntax())?;
+        Ok(Nodes { parts, levels })
+    }
+
+    /// Two parts.
+    ///
+    /// # Errors
+    /// `OutOfMemory`.
+    pub fn two(alloc: Global, first: Tall<'s>, second: Tall<'s>) -> Result<Nodes<'s>, Fault>
+        ensures made { IfOk result (λ nodes. nodes ≡ part first.entry (part second.entry none)) }
+        ensures refused { IfErr result (λ fault. fault ≡ Fault.OutOfMemory) }
+    {
+        let levels = first.height().max(second.height());
+        let parts = Parts::two(alloc, first.into_syntax(), second.into_syntax())?;
+        Ok(Nodes { parts, levels })
+    }
+
+    /// One more part, behind the others; as they were where memory is refused.
+    ///
+    /// # Errors
+    /// `OutOfMemory`.
+    #[tactic(auto, using(crate::proofs::Heights::heights))]
+    pub fn push(&mut self, part: Tall<'s>) -> Result<(), Fault>
+        ensures pushed { IfOk result (λ _. self.new ≡ push self.old part.entry) }
+        ensures kept { IfErr result (λ fault. (fault ≡ Fault.OutOfMemory) × (self.new ≡ self.old)) }
+    {
+        let levels = part.height();
+        self.parts.push(part.into_syntax())?;
+        self.levels = self.levels.max(levels);
+        Ok(())
+    }
+
+    /// A hole, or what is missing, behind the others; as they were where memory is refused.
+    ///
+    /// # Errors
+    /// `OutOfMemory`.
+    #[tactic(auto, using(crate::proofs::Heights::heights))]
+    pub fn push_gap(&mut self) -> Result<(), Fault>
+        ensures pushed { IfOk result (λ _. self.new ≡ push_gap self.old) }
+        ensures kept { IfErr result (λ fault. (fault ≡ Fault.OutOfMemory) × (self.new ≡ self.old)) }
+    {
+        self.parts.push_gap()?;
+        Ok(())
+    }
+
+    /// Further parts, behind the others; as they were where memory is refused.
+    ///
+    /// # Errors
+    /// `OutOfMemory`.
+    #[tactic(auto, using(crate::proofs::Heights::heights))]
+    pub fn append(&mut self, further: Nodes<'s>) -> Result<(), Fault>
+        ensures joined { IfOk result (λ _. self.new ≡ join self.old further.entry) }
+        ensures kept { IfErr result (λ fault. (fault ≡ Fault.OutOfMemory) × (self.new ≡ self.old)) }
+    {
+        let levels = further.levels;
+        self.parts.append(further.parts)?;
+        self.levels = self.levels.max(levels);
+        Ok(())
+    }
+
+    /// How many they are, gaps included.
+    pub fn len(&self) -> usize
+        ensures { result ≡ part_count self.now }
+    {
+        self.parts.len()
+    }
+
+    /// The height of the tallest; 0 where there is none.
+    pub fn height(&self) -> u32
+        ensures { result ≡ parts_height self.now }
+    {
+        self.levels
+    }
+
+    /// Parts whose height is known.
+    pub fn of_height(parts: Parts<'s>, levels: u32) -> Nodes<'s>
+        requires { levels ≡ parts_height parts }
+        ensures { result ≡ parts.entry }
+    {
+        Nodes { parts, levels }
+    }
+
+    /// The only part; none where there are others, or it is a gap.
+    pub fn into_only(self) -> Option<Tall<'s>>
+        ensures only { IfSome result (λ tall. self.entry ≡ part tall none) }
+        ensures none { IfNone result ((t : Tree) → self.entry ≡ part t none → ⊥) }
+    {
+        let levels = self.levels;
+        let mut items = self.parts.into_items();
+        if items.len() != 1 {
+            return None;
+        }
+        match items.pop() {
+            Some(Some(syntax)) => Some(Tall::of_height(syntax, levels)),
+            _ => None,
+        }
+    }
+
+    /// The parts without their height.
+    pub fn into_parts(self) -> Parts<'s>
+        ensures { result ≡ self.entry }
+    {
+        self.parts
+    }
+}
