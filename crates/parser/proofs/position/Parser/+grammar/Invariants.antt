@@ -1,0 +1,103 @@
+use Rattle.std.proofs.Common.{◌≡◌, ◌-◌, ◌+◌, ◌*◌, ◌≤◌, ◌<◌, length}
+use Rattle.parser.proofs.position.Parser.+grammar.Given as goal
+
+abbrev pub decreases-worded : goal.decreases-worded
+decreases-worded l = 9 * (length l.self.now.cursor.text - l.self.now.cursor.last.stop) + 8
+
+abbrev pub decreases-closure : goal.decreases-closure
+decreases-closure l = 9 * (length l.self.now.cursor.text - l.self.now.cursor.last.stop) + 7
+
+abbrev pub decreases-pieces : goal.decreases-pieces
+decreases-pieces l = 9 * (length l.self.now.cursor.text - l.self.now.cursor.last.stop) + 6
+
+abbrev pub decreases-list : goal.decreases-list
+decreases-list l = 9 * (length l.self.now.cursor.text - l.self.now.cursor.last.stop) + 5
+
+abbrev pub decreases-statements : goal.decreases-statements
+decreases-statements l = 9 * (length l.self.now.cursor.text - l.self.now.cursor.last.stop) + 5
+
+abbrev pub decreases-item : goal.decreases-item
+decreases-item l = 9 * (length l.self.now.cursor.text - l.self.now.cursor.last.stop) + 4
+
+abbrev pub decreases-statement : goal.decreases-statement
+decreases-statement l = 9 * (length l.self.now.cursor.text - l.self.now.cursor.last.stop) + 4
+
+abbrev pub decreases-turn : goal.decreases-turn
+decreases-turn l = 9 * (length l.self.now.cursor.text - l.self.now.cursor.last.stop) + 3
+
+abbrev pub decreases-expression : goal.decreases-expression
+decreases-expression l = 9 * (length l.self.now.cursor.text - l.self.now.cursor.last.stop) + 3
+
+abbrev pub decreases-declarator : goal.decreases-declarator
+decreases-declarator l = 9 * (length l.self.now.cursor.text - l.self.now.cursor.last.stop) + 3
+
+abbrev pub decreases-chain : goal.decreases-chain
+decreases-chain l = 9 * (length l.self.now.cursor.text - l.self.now.cursor.last.stop) + 2
+
+abbrev pub decreases-opening : goal.decreases-opening
+decreases-opening l = 9 * (length l.self.now.cursor.text - l.self.now.cursor.last.stop) + 2
+
+abbrev pub decreases-linked : goal.decreases-linked
+decreases-linked l = 9 * (length l.self.now.cursor.text - l.self.now.cursor.last.stop) + 1
+
+abbrev pub decreases-sided : goal.decreases-sided
+decreases-sided l = 9 * (length l.self.now.cursor.text - l.self.now.cursor.last.stop) + 1
+
+abbrev pub decreases-parenthesized : goal.decreases-parenthesized
+decreases-parenthesized l = 9 * (length l.self.now.cursor.text - l.self.now.cursor.last.stop) + 1
+
+abbrev pub decreases-arrow : goal.decreases-arrow
+decreases-arrow l = 9 * (length l.self.now.cursor.text - l.self.now.cursor.last.stop) + 1
+
+abbrev pub decreases-definition : goal.decreases-definition
+decreases-definition l = 9 * (length l.self.now.cursor.text - l.self.now.cursor.last.stop) + 1
+
+abbrev pub decreases-value_of : goal.decreases-value_of
+decreases-value_of l = 9 * (length l.self.now.cursor.text - l.self.now.cursor.last.stop) + 1
+
+abbrev pub decreases-arguments : goal.decreases-arguments
+decreases-arguments l = 9 * (length l.self.now.cursor.text - l.self.now.cursor.last.stop) + 0
+
+abbrev pub invariant-expression-turns : goal.invariant-expression-turns
+invariant-expression-turns l = record {
+  same : l.self.cursor.text ≡ l.fn.self.cursor.text;
+  forward : l.fn.self.cursor.last.stop < l.self.cursor.last.stop;
+  within : l.fn.self.cursor.last.stop < length l.fn.self.cursor.text;
+}
+
+abbrev pub decreases-expression-turns : goal.decreases-expression-turns
+decreases-expression-turns l = length l.self.cursor.text - l.self.cursor.last.stop
+
+abbrev pub invariant-chain-links : goal.invariant-chain-links
+invariant-chain-links l = record {
+  same : l.self.cursor.text ≡ l.fn.self.cursor.text;
+  forward : l.fn.self.cursor.last.stop < l.self.cursor.last.stop;
+  within : l.fn.self.cursor.last.stop < length l.fn.self.cursor.text;
+}
+
+abbrev pub decreases-chain-links : goal.decreases-chain-links
+decreases-chain-links l = length l.self.cursor.text - l.self.cursor.last.stop
+
+abbrev pub invariant-list-items : goal.invariant-list-items
+invariant-list-items l = record {
+  same : l.self.cursor.text ≡ l.fn.self.cursor.text;
+  forward : l.fn.self.cursor.last.stop ≤ l.self.cursor.last.stop;
+}
+
+abbrev pub decreases-list-items : goal.decreases-list-items
+decreases-list-items l = length l.self.cursor.text - l.self.cursor.last.stop
+
+abbrev pub invariant-pieces-pieces : goal.invariant-pieces-pieces
+invariant-pieces-pieces l = record {
+  same : l.self.cursor.text ≡ l.fn.self.cursor.text;
+  forward : l.fn.self.cursor.last.stop ≤ l.self.cursor.last.stop;
+}
+
+abbrev pub invariant-statements-statements : goal.invariant-statements-statements
+invariant-statements-statements l = record {
+  same : l.self.cursor.text ≡ l.fn.self.cursor.text;
+  forward : l.fn.self.cursor.last.stop ≤ l.self.cursor.last.stop;
+}
+
+abbrev pub decreases-statements-statements : goal.decreases-statements-statements
+decreases-statements-statements l = length l.self.cursor.text - l.self.cursor.last.stop

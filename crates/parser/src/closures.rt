@@ -1,0 +1,131 @@
+//! Functions, arrow functions and classes (ECMA-262 14.1 to 14.3, 14.6).
+#![tactic(auto, using(crate::proofs::Refused::refusals, crate::proofs::Moves::moves))]
+
+ghost use Rattle.std.specs.Prelude.{◌≡◌, ◌≤◌, IfOk, IfErr};
+ghost use Rattle.parser.specs.Moves.{Passes};
+ghost use Rattle.parser.specs.Refusals.{IsRefusal};
+
+use crate::part::Part;
+use crate::pieces::{Built, Piece, body_pieces, class_pieces, function_pieces};
+use crate::position::{Parser, Position};
+use crate::statements::Context;
+use covers::Listed;
+use language::{Edge, Rank};
+use productions::{Nodes, Tall, made, plain};
+use source_text::Fault;
+use tree::{Flags, Form, Kind};
+
+// An arrow function whose body is an expression.
+const CONCISE: Flags = Flags {
+    expression: true,
+    ..Flags::PLAIN
+};
+
+/// What has a body: by the word before it, or by what the method is.
+#[derive(Clone, Copy, PartialEq, Eq)]
+pub(crate) enum Closure {
+    /// Behind `function`, perhaps with a name.
+    Function,
+    /// Behind `function`, with a name.
+    FunctionDeclaration,
+    /// Of a method, getter or setter, from the `(` on.
+    Method(Form),
+    /// Behind `class`, perhaps with a name.
+    Class,
+    /// Behind `class`, with a name.
+    ClassDeclaration,
+}
+
+impl Closure {
+    // The kind of its node.
+    fn kind(self) -> Kind {
+        match self {
+            Closure::Function | Closure::Method(_) => Kind::FunctionExpression,
+            Closure::FunctionDeclaration => Kind::FunctionDeclaration,
+            Closure::Class => Kind::ClassExpression,
+            Closure::ClassDeclaration => Kind::ClassDeclaration,
+        }
+    }
+
+    // Its pieces behind its name.
+    fn pieces(self) -> &'static [Piece] {
+        match self {
+            Closure::Class | Closure::ClassDeclaration => class_pieces(),
+            Closure::Method(Form::Get) => function_pieces(Listed::NoParameter),
+            Closure::Method(Form::Set) => function_pieces(Listed::OneParameter),
+            _ => function_pieces(Listed::Parameters),
+        }
+    }
+}
+
+impl<'t, 's> Parser<'t, 's> {
+    // The name of a function or a class, which an expression may leave out, as its first part.
+    fn closure_name(&mut self, closure: Closure, high: u32) -> Result<Nodes<'s>, Fault>
+        ensures text { self.new.cursor.text ≡ self.old.cursor.text }
+        ensures forward { self.old.cursor.last.stop ≤ self.new.cursor.last.stop }
+        ensures refused { IfErr result (IsRefusal self.new.cursor.text) }
+    {
+        let has_name = match closure {
+            Closure::FunctionDeclaration | Closure::ClassDeclaration => true,
+            Closure::Function | Closure::Class => self.sees_identifier(),
+            Closure::Method(_) => false,
+        };
+        if has_name {
+            let name = self.identifier()?;
+            return Nodes::one(self.alloc, self.single(Kind::Identifier, name, high)?);
+        }
+        let mut nodes = Nodes::new(self.alloc);
+        nodes.push_gap()?;
+        Ok(nodes)
+    }
+
+    /// A function or a class from its name on, or from its parameters on.
+    #[cycle(grammar)]
+    pub(crate) fn closure(
+        &mut self,
+        closure: Closure,
+        start: usize,
+        high: u32,
+    ) -> Result<Tall<'s>, Fault>
+        ensures text { self.new.cursor.text ≡ self.old.cursor.text }
+        ensures forward { self.old.cursor.last.stop ≤ self.new.cursor.last.stop }
+        ensures refused { IfErr result (IsRefusal self.new.cursor.text) }
+    {
+        let inner = high.saturating_sub(1);
+        let mut built = Built::of(self.closure_name(closure, inner)?);
+        self.pieces(closure.pieces(), &mut built, Context::BODY, inner)?;
+        plain(closure.kind(), self.span_from(start), built.nodes, high)
+    }
+
+    /// An arrow function from its `=>` on (14.2).
+    #[cycle(grammar)]
+    pub(crate) fn arrow(
+        &mut self,
+        parameters: Nodes<'s>,
+        start: usize,
+        has_in: bool,
+        high: u32,
+    ) -> Result<Part<'s>, Fault>
+        ensures text { self.new.cursor.text ≡ self.old.cursor.text }
+        ensures forward { self.old.cursor.last.stop ≤ self.new.cursor.last.stop }
+        ensures passes { IfOk result (λ _. Passes self.old.cursor self.new.cursor) }
+        ensures refused { IfErr result (IsRefusal self.new.cursor.text) }
+    {
+        self.expect("=>")?;
+        let inner = high.saturating_sub(1);
+        let mut built = Built::of(parameters);
+        if self.sees("{") {
+            self.pieces(body_pieces(), &mut built, Context::BODY, inner)?;
+            let span = self.span_from(start);
+            let node = plain(Kind::ArrowFunctionExpression, span, built.nodes, high)?;
+            return Ok(Part::plain(node, Rank::Assignment, Edge::Arrow));
+        }
+        let body = self.expression(Position::concise(has_in), inner)?;
+        let edge = body.edge;
+        built.nodes.push(self.settle(body)?)?;
+        let span = self.span_from(start);
+        let kind = Kind::ArrowFunctionExpression;
+        let node = made(kind, "", CONCISE, span, built.nodes, high)?;
+        Ok(Part::plain(node, Rank::Assignment, edge))
+    }
+}

@@ -1,0 +1,265 @@
+//! Expressions (ECMA-262 12.3 to 12.16): what the first token begins, then turn by turn what goes on with it.
+#![tactic(auto, using(crate::proofs::Refused::refusals, crate::proofs::Moves::moves))]
+
+ghost use Rattle.std.specs.Prelude.{◌≡◌, ◌≢◌, ◌≤◌, IfOk, IfErr};
+ghost use Rattle.token_cursor.specs.Point.{IsAhead};
+ghost use Rattle.tokens.specs.Scanned.{token_of};
+ghost use Rattle.parser.specs.Moves.{Passes};
+ghost use Rattle.parser.specs.Refusals.{IsRefusal};
+
+use crate::operators::{Onward, Operator};
+use crate::part::Part;
+use crate::position::{Parser, Position};
+use covers::{Cover, Item, List, Listed, Shape};
+use language::{Edge, Rank, position_takes};
+use productions::{Nodes, Tall, made, plain};
+use source_text::Fault;
+use tokens::{Class, Goal};
+use tree::{Flags, Kind, Span};
+
+// `++` and `--` before an operand.
+const PREFIX: Flags = Flags {
+    prefix: true,
+    ..Flags::PLAIN
+};
+
+// The left side of an operator, with the kind and the symbol of the node, the symbol of its right side, and what it may be.
+#[derive(Drop)]
+struct Left<'s> {
+    node: Tall<'s>,
+    kind: Kind,
+    own: Rank,
+    right: Rank,
+    shape: Shape,
+}
+
+impl<'t, 's> Parser<'t, 's> {
+    /// What was read, as an expression.
+    pub(crate) fn settle(&self, part: Part<'s>) -> Result<Tall<'s>, Fault>
+        ensures { IfErr result (IsRefusal self.now.cursor.text) }
+    {
+        part.settle(self.cursor.place())
+    }
+
+    /// An expression at a position, up to where nothing goes on with it.
+    #[cycle(grammar)]
+    pub(crate) fn expression(&mut self, position: Position, high: u32) -> Result<Part<'s>, Fault>
+        ensures text { self.new.cursor.text ≡ self.old.cursor.text }
+        ensures forward { self.old.cursor.last.stop ≤ self.new.cursor.last.stop }
+        ensures passes { IfOk result (λ _. Passes self.old.cursor self.new.cursor) }
+        ensures refused { IfErr result (IsRefusal self.new.cursor.text) }
+    {
+        let mut part = self.opening(position, high)?;
+        'turns: while let Some(next) = self.onward(position, part.edge) {
+            part = self.turn(part, next, position, high)?;
+        }
+        Ok(part)
+    }
+
+    // What an operator that stands ahead makes of the expression before it.
+    #[cycle(grammar)]
+    fn turn(
+        &mut self,
+        left: Part<'s>,
+        next: Onward<'s>,
+        position: Position,
+        high: u32,
+    ) -> Result<Part<'s>, Fault>
+        requires ahead { IsAhead Goal.Div self.old.cursor.text self.old.cursor.last.stop (token_of next.token) }
+        requires real { next.token.class ≢ Class.End }
+        ensures text { self.new.cursor.text ≡ self.old.cursor.text }
+        ensures forward { self.old.cursor.last.stop ≤ self.new.cursor.last.stop }
+        ensures passes { IfOk result (λ _. Passes self.old.cursor self.new.cursor) }
+        ensures refused { IfErr result (IsRefusal self.new.cursor.text) }
+    {
+        let start = left.start;
+        match next.operator {
+            Operator::Joins(_) | Operator::Assigns { .. } | Operator::Asks => {
+                self.sided(left, next, position.has_in, high)
+            }
+            Operator::Steps => {
+                let operand = self.stepped(left)?;
+                self.pass(next.token);
+                let nodes = Nodes::one(self.alloc, operand)?;
+                let span = self.span_from(start);
+                let text = next.token.text;
+                let node = made(
+                    Kind::UpdateExpression,
+                    text,
+                    Flags::PLAIN,
+                    span,
+                    nodes,
+                    high,
+                )?;
+                Ok(Part::plain(node, Rank::Update, Edge::Postfix))
+            }
+            Operator::Sequences => {
+                let list = self.sequence(left, position.has_in)?;
+                self.pass(next.token);
+                let list = self.list(list, high.saturating_sub(1))?;
+                let edge = list.seen.edge;
+                let node = plain(Kind::SequenceExpression, list.inside, list.nodes, high)?;
+                Ok(Part::plain(node, Rank::Expression, edge))
+            }
+            Operator::Chains => self.chain(left, high),
+            Operator::Selects | Operator::Calls | Operator::Indexes | Operator::Tags => {
+                self.linked(left, high)
+            }
+            Operator::Arrows => Err(self.refusal()),
+        }
+    }
+
+    // What an operator with a right side makes: a binary or logical one, an assignment, a conditional.
+    #[cycle(grammar)]
+    fn sided(
+        &mut self,
+        left: Part<'s>,
+        next: Onward<'s>,
+        has_in: bool,
+        high: u32,
+    ) -> Result<Part<'s>, Fault>
+        requires ahead { IsAhead Goal.Div self.old.cursor.text self.old.cursor.last.stop (token_of next.token) }
+        requires real { next.token.class ≢ Class.End }
+        ensures text { self.new.cursor.text ≡ self.old.cursor.text }
+        ensures forward { self.old.cursor.last.stop ≤ self.new.cursor.last.stop }
+        ensures passes { IfOk result (λ _. Passes self.old.cursor self.new.cursor) }
+        ensures refused { IfErr result (IsRefusal self.new.cursor.text) }
+    {
+        let start = left.start;
+        let inner = high.saturating_sub(1);
+        let left = self.left_side(left, next.operator)?;
+        self.pass(next.token);
+        let mut nodes = Nodes::one(self.alloc, left.node)?;
+        if let Operator::Asks = next.operator {
+            let part = self.expression(Position::ASSIGNMENT, inner)?;
+            nodes.push(self.settle(part)?)?;
+            self.expect(":")?;
+        }
+        let right = self.expression(Position::at(left.right, has_in), inner)?;
+        let edge = right.edge;
+        nodes.push(self.settle(right)?)?;
+        let span = self.span_from(start);
+        let node = made(
+            left.kind,
+            sign_text(left.kind, next.token.text),
+            Flags::PLAIN,
+            span,
+            nodes,
+            high,
+        )?;
+        let cover = Cover {
+            node,
+            shape: left.shape,
+        };
+        Ok(Part {
+            cover,
+            start,
+            rank: left.own,
+            edge,
+        })
+    }
+
+    // What stands left of an operator, and what the operator makes of it.
+    fn left_side(&self, left: Part<'s>, operator: Operator) -> Result<Left<'s>, Fault>
+        ensures { IfErr result (IsRefusal self.now.cursor.text) }
+    {
+        let at = self.cursor.place();
+        let symbol = match operator {
+            Operator::Joins(sign) => sign.left,
+            Operator::Asks => Rank::ShortCircuit,
+            _ => Rank::LeftHandSide,
+        };
+        if !position_takes(symbol, left.rank) {
+            return Err(self.refusal());
+        }
+        let shape = left.cover.shape;
+        match operator {
+            Operator::Joins(sign) => Ok(Left {
+                node: left.settle(at)?,
+                kind: sign.kind,
+                own: sign.own,
+                right: sign.right,
+                shape: Shape::VALUE,
+            }),
+            Operator::Asks => Ok(Left {
+                node: left.settle(at)?,
+                kind: Kind::ConditionalExpression,
+                own: Rank::Conditional,
+                right: Rank::Assignment,
+                shape: Shape::VALUE,
+            }),
+            Operator::Assigns { is_plain: true } => Ok(Left {
+                node: left.cover.to_pattern(at)?,
+                kind: Kind::AssignmentExpression,
+                own: Rank::Assignment,
+                right: Rank::Assignment,
+                shape: shape.defaulted(),
+            }),
+            Operator::Assigns { is_plain: false } => Ok(Left {
+                node: left.cover.to_target(at)?,
+                kind: Kind::AssignmentExpression,
+                own: Rank::Assignment,
+                right: Rank::Assignment,
+                shape: Shape::VALUE,
+            }),
+            _ => Err(self.refusal()),
+        }
+    }
+
+    // The operand of `++` or `--` behind it.
+    fn stepped(&self, operand: Part<'s>) -> Result<Tall<'s>, Fault>
+        ensures { IfErr result (IsRefusal self.now.cursor.text) }
+    {
+        operand.cover.to_target(self.cursor.place())
+    }
+
+    /// What stands behind a prefix operator that was passed, with it (12.4, 12.5).
+    pub(crate) fn prefixed(
+        &self,
+        operand: Part<'s>,
+        text: &'s str,
+        start: usize,
+        high: u32,
+    ) -> Result<Part<'s>, Fault>
+        ensures { IfErr result (IsRefusal self.now.cursor.text) }
+    {
+        let at = self.cursor.place();
+        let span = self.span_from(start);
+        let edge = operand.edge;
+        if matches!(text, "++" | "--") {
+            let nodes = Nodes::one(self.alloc, operand.cover.to_target(at)?)?;
+            let node = made(Kind::UpdateExpression, text, PREFIX, span, nodes, high)?;
+            return Ok(Part::plain(node, Rank::Update, Edge::Other));
+        }
+        let nodes = Nodes::one(self.alloc, operand.settle(at)?)?;
+        let node = made(Kind::UnaryExpression, text, Flags::PLAIN, span, nodes, high)?;
+        Ok(Part::plain(node, Rank::Unary, edge))
+    }
+
+    // A sequence of what was read, before its first comma (12.16).
+    fn sequence(&self, first: Part<'s>, has_in: bool) -> Result<List<'s>, Fault>
+        ensures listed { IfOk result (λ list. list.listed ≡ Listed.Sequence has_in) }
+        ensures refused { IfErr result (IsRefusal self.now.cursor.text) }
+    {
+        let at = self.cursor.place();
+        let start = first.start;
+        let mut list = List::new(self.alloc, Listed::Sequence { has_in }, start);
+        let item = Item {
+            node: first.cover.node,
+            shape: first.cover.shape,
+            spreads: false,
+            is_marked: false,
+            edge: first.edge,
+        };
+        list.push(item, at)?;
+        Ok(list)
+    }
+}
+
+// The text of a node of an operator: a conditional has none.
+fn sign_text(kind: Kind, text: &str) -> &str {
+    match kind {
+        Kind::ConditionalExpression => "",
+        _ => text,
+    }
+}

@@ -1,0 +1,184 @@
+//! Members, calls, tagged templates and optional chains (ECMA-262 12.3.2 to 12.3.9).
+#![tactic(auto, using(crate::proofs::Refused::refusals, crate::proofs::Moves::moves))]
+
+ghost use Rattle.std.specs.Prelude.{◌≡◌, ◌≤◌, IfOk, IfErr};
+ghost use Rattle.parser.specs.Moves.{Passes};
+ghost use Rattle.parser.specs.Refusals.{IsRefusal};
+
+use crate::openings::listed;
+use crate::part::Part;
+use crate::position::{Parser, Position};
+use covers::Listed;
+use language::{Edge, Rank, position_takes};
+use productions::{Nodes, made, plain};
+use source_text::Fault;
+use tokens::{Class, Goal, Token};
+use tree::{Flags, Kind};
+
+// What follows the object of a member, a callee or a tag.
+#[derive(Clone, Copy)]
+enum Linked {
+    // A name behind a `.` or `?.` that was passed.
+    Name,
+    Index,
+    Arguments,
+    Quasi,
+}
+
+impl Linked {
+    // The kind of the node.
+    fn kind(self) -> Kind {
+        match self {
+            Linked::Arguments => Kind::CallExpression,
+            Linked::Quasi => Kind::TaggedTemplateExpression,
+            _ => Kind::MemberExpression,
+        }
+    }
+
+    // The flags of the node.
+    fn flags(self, optional: bool) -> Flags {
+        let mut flags = Flags::PLAIN;
+        flags.computed = matches!(self, Linked::Index);
+        flags.optional = optional;
+        flags
+    }
+
+    // The symbol of the node; of one that begins with a call (`is_call`) it is a call's too.
+    fn rank(self, is_call: bool) -> Rank {
+        match self {
+            Linked::Arguments => Rank::Call,
+            _ if is_call => Rank::Call,
+            _ => Rank::Member,
+        }
+    }
+}
+
+// What follows, by its first token.
+fn linked_of(token: &Token<'_>) -> Option<Linked> {
+    match token.class {
+        Class::Template => Some(Linked::Quasi),
+        Class::Punctuator => match token.text {
+            "[" => Some(Linked::Index),
+            "(" => Some(Linked::Arguments),
+            _ => None,
+        },
+        Class::Name => Some(Linked::Name),
+        _ => None,
+    }
+}
+
+impl<'t, 's> Parser<'t, 's> {
+    // Whether a part of a chain stands ahead.
+    fn sees_link(&self) -> bool {
+        match self.cursor.peek(Goal::Div) {
+            Some(token) => match token.class {
+                Class::Punctuator => matches!(token.text, "." | "?." | "[" | "("),
+                Class::Template => true,
+                _ => false,
+            },
+            None => false,
+        }
+    }
+
+    // What follows, and whether behind a `?.`; a `.` and `?.` are passed.
+    fn link(&mut self) -> Result<(Linked, bool), Fault>
+        ensures text { self.new.cursor.text ≡ self.old.cursor.text }
+        ensures forward { self.old.cursor.last.stop ≤ self.new.cursor.last.stop }
+        ensures refused { IfErr result (IsRefusal self.new.cursor.text) }
+    {
+        let optional = self.accept("?.");
+        if !optional && self.accept(".") {
+            return Ok((Linked::Name, false));
+        }
+        let Some(token) = self.cursor.peek(Goal::Div) else {
+            return Err(self.refusal());
+        };
+        match linked_of(&token) {
+            Some(Linked::Quasi) if optional => Err(self.refusal()),
+            Some(Linked::Name) if !optional => Err(self.refusal()),
+            Some(found) => Ok((found, optional)),
+            None => Err(self.refusal()),
+        }
+    }
+
+    /// What was read with a member, arguments or a template behind it, which stand ahead.
+    #[cycle(grammar)]
+    pub(crate) fn linked(&mut self, left: Part<'s>, high: u32) -> Result<Part<'s>, Fault>
+        ensures text { self.new.cursor.text ≡ self.old.cursor.text }
+        ensures forward { self.old.cursor.last.stop ≤ self.new.cursor.last.stop }
+        ensures passes { IfOk result (λ _. Passes self.old.cursor self.new.cursor) }
+        ensures refused { IfErr result (IsRefusal self.new.cursor.text) }
+    {
+        if !position_takes(Rank::Call, left.rank) {
+            return Err(self.refusal());
+        }
+        let start = left.start;
+        let is_call = matches!(left.rank, Rank::Call);
+        let mut nodes = Nodes::one(self.alloc, self.settle(left)?)?;
+        let inner = high.saturating_sub(1);
+        let (found, optional) = self.link()?;
+        match found {
+            Linked::Name => {
+                let name = self.word()?;
+                nodes.push(self.single(Kind::Identifier, name, inner)?)?;
+            }
+            Linked::Index => {
+                self.expect("[")?;
+                let index = self.expression(Position::EXPRESSION, inner)?;
+                nodes.push(self.settle(index)?)?;
+                self.expect("]")?;
+            }
+            Linked::Arguments => nodes.append(self.arguments(inner)?)?,
+            Linked::Quasi => {
+                let list = self.open(Listed::Template, inner.saturating_sub(1))?;
+                let list = self.list(list, inner.saturating_sub(1))?;
+                nodes.push(listed(list, inner)?.cover.node)?;
+            }
+        }
+        let span = self.span_from(start);
+        let node = made(found.kind(), "", found.flags(optional), span, nodes, high)?;
+        Ok(Part::plain(node, found.rank(is_call), Edge::Other))
+    }
+
+    /// Arguments in their parentheses, which stand ahead (12.3.6).
+    #[cycle(grammar)]
+    pub(crate) fn arguments(&mut self, high: u32) -> Result<Nodes<'s>, Fault>
+        ensures text { self.new.cursor.text ≡ self.old.cursor.text }
+        ensures forward { self.old.cursor.last.stop ≤ self.new.cursor.last.stop }
+        ensures passes { IfOk result (λ _. Passes self.old.cursor self.new.cursor) }
+        ensures refused { IfErr result (IsRefusal self.new.cursor.text) }
+    {
+        let list = self.open(Listed::Arguments, high)?;
+        Ok(self.list(list, high)?.nodes)
+    }
+
+    /// An optional chain (12.3.9) from what stands before its first `?.`, which stands ahead.
+    #[cycle(grammar)]
+    pub(crate) fn chain(&mut self, left: Part<'s>, high: u32) -> Result<Part<'s>, Fault>
+        ensures text { self.new.cursor.text ≡ self.old.cursor.text }
+        ensures forward { self.old.cursor.last.stop ≤ self.new.cursor.last.stop }
+        ensures passes { IfOk result (λ _. Passes self.old.cursor self.new.cursor) }
+        ensures refused { IfErr result (IsRefusal self.new.cursor.text) }
+    {
+        let start = left.start;
+        let inner = high.saturating_sub(1);
+        let mut part = self.linked(left, inner)?;
+        'links: while self.sees_link() {
+            if self.sees_template() {
+                return Err(self.refusal());
+            }
+            part = self.linked(part, inner)?;
+        }
+        let nodes = Nodes::one(self.alloc, self.settle(part)?)?;
+        let node = plain(Kind::ChainExpression, self.span_from(start), nodes, high)?;
+        Ok(Part::plain(node, Rank::LeftHandSide, Edge::Other))
+    }
+
+    // Whether a template begins ahead.
+    fn sees_template(&self) -> bool {
+        match self.cursor.peek(Goal::Div) {
+            Some(token) => token.class == Class::Template,
+            None => false,
+        }
+    }
+}

@@ -1,0 +1,253 @@
+//! Lists (ECMA-262 12.2 to 12.16, 13.3, 13.12, 14.1, 14.6): one loop for all of them, and what each of them lists.
+#![tactic(auto, using(crate::proofs::Refused::refusals, crate::proofs::Moves::moves))]
+
+ghost use Rattle.std.specs.Prelude.{◌≡◌, ◌≤◌, IfOk, IfErr};
+ghost use Rattle.std.specs.Bool.{OnTrue};
+ghost use Rattle.parser.specs.Moves.{Passes, IsOpened, IsUnseparated};
+ghost use Rattle.parser.specs.Refusals.{IsLimit, IsRefusal};
+
+use crate::chunks::chunk;
+use crate::part::Part;
+use crate::pieces::{Built, case_pieces};
+use crate::position::{Parser, Position};
+use crate::statements::Context;
+use covers::{Item, List, Listed};
+use language::{Edge, Rank};
+use productions::{Nodes, Tall, plain};
+use source_text::Fault;
+use tokens::{Class, Goal};
+use tree::Kind;
+
+impl<'t, 's> Parser<'t, 's> {
+    /// Goes past what stands before the first item, which is no higher than `high`.
+    pub(crate) fn open(&mut self, listed: Listed, high: u32) -> Result<List<'s>, Fault>
+        ensures text { self.new.cursor.text ≡ self.old.cursor.text }
+        ensures forward { self.old.cursor.last.stop ≤ self.new.cursor.last.stop }
+        ensures passes { IfOk result (λ _. IsOpened listed → Passes self.old.cursor self.new.cursor) }
+        ensures refused { IfErr result (IsRefusal self.new.cursor.text) }
+    {
+        let start = self.cursor.place();
+        let mut list = List::new(self.alloc, listed, start);
+        match listed.opening() {
+            Some(mark) => {
+                self.expect(mark)?;
+            }
+            None if matches!(listed, Listed::Template) => {
+                let token = self.cursor.take(Goal::Div)?;
+                list.push(chunk(self.alloc, token, high)?, start)?;
+            }
+            None => {}
+        }
+        Ok(list)
+    }
+
+    // Whether an item follows; in a class each `;` before it is passed.
+    fn has_item(&mut self, list: &List<'s>) -> bool
+        ensures text { self.new.cursor.text ≡ self.old.cursor.text }
+        ensures forward { self.old.cursor.last.stop ≤ self.new.cursor.last.stop }
+    {
+        if list.is_ended() {
+            return false;
+        }
+        match list.listed {
+            Listed::Members => {
+                'empty: while self.accept(";") {}
+                !self.sees("}")
+            }
+            Listed::OneParameter => true,
+            listed => match listed.closing() {
+                Some(mark) => !self.sees(mark),
+                None => true,
+            },
+        }
+    }
+
+    // Whether another item may follow the last; a comma is passed.
+    fn is_separated(&mut self, list: &mut List<'s>) -> bool
+        ensures text { self.new.cursor.text ≡ self.old.cursor.text }
+        ensures forward { self.old.cursor.last.stop ≤ self.new.cursor.last.stop }
+        ensures passes { OnTrue result ((IsUnseparated list.old.listed → ⊥) → Passes self.old.cursor self.new.cursor) }
+        ensures listed { list.new.listed ≡ list.old.listed }
+    {
+        if list.is_ended() {
+            return false;
+        }
+        match list.listed {
+            Listed::Members | Listed::Cases { .. } | Listed::Template => true,
+            _ => {
+                let has_comma = self.accept(",");
+                list.separate(has_comma);
+                has_comma
+            }
+        }
+    }
+
+    /// The items of a list, the first of which stands ahead, and what stands behind the last.
+    #[cycle(grammar)]
+    pub(crate) fn list(&mut self, list: List<'s>, high: u32) -> Result<List<'s>, Fault>
+        ensures text { self.new.cursor.text ≡ self.old.cursor.text }
+        ensures forward { self.old.cursor.last.stop ≤ self.new.cursor.last.stop }
+        ensures refused { IfErr result (IsRefusal self.new.cursor.text) }
+    {
+        let mut list = list;
+        if !matches!(list.listed, Listed::Sequence { .. }) {
+            list.inside = self.span_from(self.cursor.place());
+        }
+        'items: while self.has_item(&list) {
+            self.item(&mut list, high)?;
+            list.inside = self.span_from(list.inside.start);
+            if !self.is_separated(&mut list) {
+                break;
+            }
+        }
+        if let Some(mark) = list.listed.closing() {
+            self.expect(mark)?;
+        }
+        list.span = self.span_from(list.span.start);
+        Ok(list)
+    }
+
+    // One item of a list.
+    #[cycle(grammar)]
+    fn item(&mut self, list: &mut List<'s>, high: u32) -> Result<(), Fault>
+        ensures text { self.new.cursor.text ≡ self.old.cursor.text }
+        ensures forward { self.old.cursor.last.stop ≤ self.new.cursor.last.stop }
+        ensures passes { IfOk result (λ _. IsUnseparated list.old.listed → Passes self.old.cursor self.new.cursor) }
+        ensures listed { list.new.listed ≡ list.old.listed }
+        ensures refused { IfErr result (IsRefusal self.new.cursor.text) }
+    {
+        let start = self.cursor.place();
+        let inner = high.saturating_sub(1);
+        match list.listed {
+            Listed::Elements if self.sees(",") => list.push_hole(),
+            Listed::Properties | Listed::Members => {
+                let item = self.definition(list.listed == Listed::Members, high)?;
+                list.push(item, self.cursor.place())
+            }
+            Listed::Template => {
+                let part = self.expression(Position::EXPRESSION, high)?;
+                list.push(Item::plain(self.settle(part)?), start)?;
+                list.push(self.next_chunk(high)?, start)
+            }
+            Listed::Declarators { has_in } => {
+                let item = self.declarator(has_in, high)?;
+                list.push(item, self.cursor.place())
+            }
+            Listed::Cases { returns } => {
+                let is_default = self.is_default()?;
+                let mut built = Built::new(self.alloc);
+                if is_default {
+                    built.nodes.push_gap()?;
+                }
+                let context = Context::item(returns);
+                self.pieces(case_pieces(is_default), &mut built, context, inner)?;
+                let span = self.span_from(start);
+                let mut item = Item::plain(plain(Kind::SwitchCase, span, built.nodes, high)?);
+                item.is_marked = is_default;
+                list.push(item, start)
+            }
+            _ => {
+                let (position, spreads) = match list.listed {
+                    Listed::Sequence { has_in } => (Position::at(Rank::Assignment, has_in), false),
+                    _ => (Position::ASSIGNMENT, self.accept("...")),
+                };
+                let limit = if spreads { inner } else { high };
+                let part = self.expression(position, limit)?;
+                let item = self.element(part, spreads, start, high)?;
+                list.push(item, self.cursor.place())
+            }
+        }
+    }
+
+    // What stands between commas; `...` stands before it where it spreads.
+    pub(crate) fn element(
+        &self,
+        part: Part<'s>,
+        spreads: bool,
+        start: usize,
+        high: u32,
+    ) -> Result<Item<'s>, Fault>
+        ensures { IfErr result IsLimit }
+    {
+        let shape = part.cover.shape;
+        let edge = part.edge;
+        let mut node = part.cover.node;
+        if spreads {
+            let nodes = Nodes::one(self.alloc, node)?;
+            node = plain(Kind::SpreadElement, self.span_from(start), nodes, high)?;
+        }
+        Ok(Item {
+            node,
+            shape,
+            spreads,
+            is_marked: false,
+            edge,
+        })
+    }
+
+    // A declarator: what is bound, and its value where it has one (13.3).
+    #[cycle(grammar)]
+    fn declarator(&mut self, has_in: bool, high: u32) -> Result<Item<'s>, Fault>
+        ensures text { self.new.cursor.text ≡ self.old.cursor.text }
+        ensures forward { self.old.cursor.last.stop ≤ self.new.cursor.last.stop }
+        ensures passes { IfOk result (λ _. Passes self.old.cursor self.new.cursor) }
+        ensures refused { IfErr result (IsRefusal self.new.cursor.text) }
+    {
+        let start = self.cursor.place();
+        let inner = high.saturating_sub(1);
+        let part = self.opening(Position::at(Rank::Primary, true), inner)?;
+        let is_name = part.is_bare(Kind::Identifier);
+        let mut nodes = Nodes::one(self.alloc, self.bound(part)?)?;
+        let has_value = self.accept("=");
+        let mut edge = Edge::Closed;
+        if has_value {
+            let value = self.expression(Position::at(Rank::Assignment, has_in), inner)?;
+            edge = value.edge;
+            nodes.push(self.settle(value)?)?;
+        } else {
+            nodes.push_gap()?;
+        }
+        let node = plain(Kind::VariableDeclarator, self.span_from(start), nodes, high)?;
+        let mut item = Item::plain(node);
+        item.is_marked = !is_name && !has_value;
+        item.edge = edge;
+        Ok(item)
+    }
+
+    /// What was read, as what is bound.
+    pub(crate) fn bound(&self, part: Part<'s>) -> Result<Tall<'s>, Fault>
+        ensures { IfErr result (IsRefusal self.now.cursor.text) }
+    {
+        part.cover.to_binding(self.cursor.place())
+    }
+
+    // Goes past `default`, or past `case`.
+    fn is_default(&mut self) -> Result<bool, Fault>
+        ensures text { self.new.cursor.text ≡ self.old.cursor.text }
+        ensures forward { self.old.cursor.last.stop ≤ self.new.cursor.last.stop }
+        ensures passes { IfOk result (λ _. Passes self.old.cursor self.new.cursor) }
+        ensures refused { IfErr result (IsRefusal self.new.cursor.text) }
+    {
+        if self.accept_word("default") {
+            return Ok(true);
+        }
+        self.expect_word("case")?;
+        Ok(false)
+    }
+
+    // The next part of a template.
+    fn next_chunk(&mut self, high: u32) -> Result<Item<'s>, Fault>
+        ensures text { self.new.cursor.text ≡ self.old.cursor.text }
+        ensures forward { self.old.cursor.last.stop ≤ self.new.cursor.last.stop }
+        ensures refused { IfErr result (IsRefusal self.new.cursor.text) }
+    {
+        let Some(token) = self.cursor.peek(Goal::TemplateTail) else {
+            return Err(self.refusal());
+        };
+        if token.class != Class::Template || !token.text.starts_with("}") {
+            return Err(self.refusal());
+        }
+        self.pass(token);
+        chunk(self.alloc, token, high)
+    }
+}

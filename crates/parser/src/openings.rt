@@ -1,0 +1,361 @@
+//! What the first token of an expression begins (ECMA-262 12.2 to 12.5, 14.1, 14.2, 14.6).
+#![tactic(auto, using(crate::proofs::Refused::refusals, crate::proofs::Moves::moves))]
+
+ghost use Rattle.std.specs.Prelude.{◌≡◌, ◌≢◌, ◌≤◌, IfOk, IfErr, IfSome};
+ghost use Rattle.token_cursor.specs.Point.{IsAhead};
+ghost use Rattle.source_text.specs.Source.{IsPlace};
+ghost use Rattle.tokens.specs.Scanned.{token_of};
+ghost use Rattle.parser.specs.Moves.{Passes, BeginsList};
+ghost use Rattle.parser.specs.Refusals.{IsLimit, IsStop, IsRefusal};
+
+use crate::closures::Closure;
+use crate::part::Part;
+use crate::position::{Parser, Position};
+use crate::words::span_of;
+use covers::{Cover, List, Listed, Shape};
+use grammar::is_reserved;
+use language::{Edge, Rank, Start, position_takes};
+use productions::{Nodes, Tall, plain};
+use source_text::Fault;
+use std::borrow::CowStr;
+use tokens::{Class, Goal, Token};
+use tree::{Kind, Pair};
+
+// What an expression begins with.
+#[derive(Clone, Copy)]
+pub(crate) enum Opening {
+    // One token: a name, a literal or `this`.
+    Single(Kind),
+    // An array, an object or a template.
+    List(Listed),
+    Function,
+    Class,
+    Parenthesis,
+    Super,
+    New,
+    Import,
+    // An operator, by the symbols of its node and of its operand.
+    Prefix(Rank, Rank),
+}
+
+fn opening_word(word: &str) -> Option<Opening>
+    ensures { IfSome result BeginsList }
+{
+    Some(match word {
+        "true" | "false" | "null" => Opening::Single(Kind::Literal),
+        "this" => Opening::Single(Kind::ThisExpression),
+        "function" => Opening::Function,
+        "class" => Opening::Class,
+        "super" => Opening::Super,
+        "new" => Opening::New,
+        "import" => Opening::Import,
+        "delete" | "void" | "typeof" => Opening::Prefix(Rank::Unary, Rank::Unary),
+        _ if is_reserved(word) => return None,
+        _ => Opening::Single(Kind::Identifier),
+    })
+}
+
+fn opening_mark(mark: &str) -> Option<Opening>
+    ensures { IfSome result BeginsList }
+{
+    Some(match mark {
+        "[" => Opening::List(Listed::Elements),
+        "{" => Opening::List(Listed::Properties),
+        "(" => Opening::Parenthesis,
+        "++" | "--" => Opening::Prefix(Rank::Update, Rank::LeftHandSide),
+        "+" | "-" | "~" | "!" => Opening::Prefix(Rank::Unary, Rank::Unary),
+        _ => return None,
+    })
+}
+
+// What an expression begins with, by its first token.
+fn opening_of(token: &Token<'_>) -> Option<Opening>
+    ensures list { IfSome result BeginsList }
+    ensures real { IfSome result (λ _. token.now.class ≢ Class.End) }
+{
+    match token.class {
+        Class::Name => opening_word(token.text),
+        Class::Punctuator => opening_mark(token.text),
+        Class::Number | Class::Text | Class::RegExp => Some(Opening::Single(Kind::Literal)),
+        Class::Template => match token.text.starts_with("`") {
+            true => Some(Opening::List(Listed::Template)),
+            false => None,
+        },
+        Class::End => None,
+    }
+}
+
+// Whether it may stand at the position.
+fn stands(position: Position, opening: Opening) -> bool {
+    match opening {
+        Opening::List(Listed::Properties) => matches!(position.start, Start::Any),
+        Opening::Function | Opening::Class => !matches!(position.start, Start::Statement),
+        Opening::Prefix(own, _) => position_takes(position.rank, own),
+        Opening::Import => position_takes(position.rank, Rank::Call),
+        _ => true,
+    }
+}
+
+// The kind of what is listed.
+fn listed_kind(listed: Listed) -> Kind {
+    match listed {
+        Listed::Elements => Kind::ArrayExpression,
+        Listed::Properties => Kind::ObjectExpression,
+        _ => Kind::TemplateLiteral,
+    }
+}
+
+/// An array, an object or a template (12.2.5, 12.2.6, 12.2.9), or the pattern that it covers; `high` is the greatest height.
+pub(crate) fn listed<'s>(list: List<'s>, high: u32) -> Result<Part<'s>, Fault>
+    ensures { IfErr result IsLimit }
+{
+    let shape = match list.listed {
+        Listed::Template => Shape::VALUE,
+        _ => list.seen.shape,
+    };
+    let node = plain(listed_kind(list.listed), list.span, list.nodes, high)?;
+    Ok(Part::primary(node, shape))
+}
+
+impl<'t, 's> Parser<'t, 's> {
+    // The token with which an expression begins at the position, and what it begins.
+    fn opens(&self, position: Position) -> Option<(Token<'s>, Opening)>
+        ensures ahead { IfSome result (λ found. IsAhead Goal.RegExp self.now.cursor.text self.now.cursor.last.stop (token_of found.0)) }
+        ensures real { IfSome result (λ found. found.0.class ≢ Class.End) }
+        ensures list { IfSome result (λ found. BeginsList found.1) }
+    {
+        let Some(token) = self.cursor.peek(Goal::RegExp) else {
+            return None;
+        };
+        let Some(opening) = opening_of(&token) else {
+            return None;
+        };
+        match stands(position, opening) {
+            true => Some((token, opening)),
+            false => None,
+        }
+    }
+
+    /// What the first token begins at a position, up to where something may go on with it.
+    #[cycle(grammar)]
+    pub(crate) fn opening(&mut self, position: Position, high: u32) -> Result<Part<'s>, Fault>
+        ensures text { self.new.cursor.text ≡ self.old.cursor.text }
+        ensures forward { self.old.cursor.last.stop ≤ self.new.cursor.last.stop }
+        ensures passes { IfOk result (λ _. Passes self.old.cursor self.new.cursor) }
+        ensures refused { IfErr result (IsRefusal self.new.cursor.text) }
+    {
+        let Some((token, opening)) = self.opens(position) else {
+            return Err(self.refusal());
+        };
+        if high == 0 {
+            return Err(Fault::TooDeep);
+        }
+        match opening {
+            Opening::List(what) => {
+                let list = self.open(what, high.saturating_sub(1))?;
+                let list = self.list(list, high.saturating_sub(1))?;
+                listed(list, high)
+            }
+            Opening::Parenthesis => self.parenthesized(position, high),
+            Opening::Prefix(_, side) => {
+                self.pass(token);
+                let side = Position::at(side, true);
+                let operand = self.expression(side, high.saturating_sub(1))?;
+                self.prefixed(operand, token.text, token.start, high)
+            }
+            Opening::Single(kind) => {
+                self.pass(token);
+                let node = self.single(kind, token, high)?;
+                let is_name = matches!(kind, Kind::Identifier);
+                if is_name && self.sees_arrow() && position_takes(position.rank, Rank::Assignment) {
+                    let parameter = Nodes::one(self.alloc, node)?;
+                    return self.arrow(parameter, token.start, position.has_in, high);
+                }
+                Ok(Part::plain(node, Rank::Primary, Edge::Other))
+            }
+            _ => {
+                self.pass(token);
+                self.worded(token, opening, position, high)
+            }
+        }
+    }
+
+    /// A node that is one token; `this` has no text.
+    pub(crate) fn single(&self, kind: Kind, token: Token<'s>, high: u32) -> Result<Tall<'s>, Fault>
+        ensures { IfErr result IsLimit }
+    {
+        let text = match kind {
+            Kind::ThisExpression | Kind::Super => "",
+            _ => token.text,
+        };
+        Tall::leaf(
+            self.alloc,
+            kind,
+            CowStr::Borrowed(text),
+            span_of(&token),
+            high,
+        )
+    }
+
+    // Whether a member of `super` stands ahead, or where it may stand a call (12.3.5).
+    fn sees_base(&self, takes_call: bool) -> bool {
+        self.sees(".") || self.sees("[") || (takes_call && self.sees("("))
+    }
+
+    // What follows `function`, `class`, `super`, `new` or `import` (12.3, 14.1, 14.6).
+    #[cycle(grammar)]
+    fn worded(
+        &mut self,
+        token: Token<'s>,
+        opening: Opening,
+        position: Position,
+        high: u32,
+    ) -> Result<Part<'s>, Fault>
+        ensures text { self.new.cursor.text ≡ self.old.cursor.text }
+        ensures forward { self.old.cursor.last.stop ≤ self.new.cursor.last.stop }
+        ensures refused { IfErr result (IsRefusal self.new.cursor.text) }
+    {
+        let start = token.start;
+        let inner = high.saturating_sub(1);
+        let takes_call = position_takes(position.rank, Rank::Call);
+        match opening {
+            Opening::Function => {
+                let node = self.closure(Closure::Function, start, high)?;
+                Ok(Part::plain(node, Rank::Primary, Edge::Other))
+            }
+            Opening::Class => {
+                let node = self.closure(Closure::Class, start, high)?;
+                Ok(Part::plain(node, Rank::Primary, Edge::Other))
+            }
+            Opening::Super if self.sees_base(takes_call) => {
+                let node = self.single(Kind::Super, token, inner)?;
+                self.linked(Part::plain(node, Rank::Primary, Edge::Other), high)
+            }
+            Opening::New if self.accept(".") => self.new_target(token, high),
+            Opening::New => {
+                let callee = self.expression(Position::at(Rank::New, true), inner)?;
+                let mut nodes = Nodes::one(self.alloc, self.settle(callee)?)?;
+                let mut rank = Rank::New;
+                if self.sees("(") {
+                    nodes.append(self.arguments(inner)?)?;
+                    rank = Rank::Member;
+                }
+                let node = plain(Kind::NewExpression, self.span_from(start), nodes, high)?;
+                Ok(Part::plain(node, rank, Edge::Other))
+            }
+            Opening::Import => {
+                self.expect("(")?;
+                let source = self.expression(Position::ASSIGNMENT, inner)?;
+                let nodes = Nodes::one(self.alloc, self.settle(source)?)?;
+                self.expect(")")?;
+                let node = plain(Kind::ImportExpression, self.span_from(start), nodes, high)?;
+                Ok(Part::plain(node, Rank::Call, Edge::Other))
+            }
+            _ => Err(self.refusal()),
+        }
+    }
+
+    // `new.target`, behind its `.` (12.3.8).
+    fn new_target(&mut self, new: Token<'s>, high: u32) -> Result<Part<'s>, Fault>
+        ensures text { self.new.cursor.text ≡ self.old.cursor.text }
+        ensures forward { self.old.cursor.last.stop ≤ self.new.cursor.last.stop }
+        ensures refused { IfErr result (IsRefusal self.new.cursor.text) }
+    {
+        if !self.sees_word("target") {
+            return Err(self.refusal());
+        }
+        let inner = high.saturating_sub(1);
+        let meta = self.single(Kind::Identifier, new, inner)?;
+        let target = self.word()?;
+        let property = self.single(Kind::Identifier, target, inner)?;
+        let nodes = Nodes::two(self.alloc, meta, property)?;
+        let node = plain(Kind::MetaProperty, self.span_from(new.start), nodes, high)?;
+        Ok(Part::plain(node, Rank::Member, Edge::Other))
+    }
+
+    // What parentheses group, or an arrow function with its parameters in them (12.2.10, 14.2).
+    #[cycle(grammar)]
+    fn parenthesized(&mut self, position: Position, high: u32) -> Result<Part<'s>, Fault>
+        ensures text { self.new.cursor.text ≡ self.old.cursor.text }
+        ensures forward { self.old.cursor.last.stop ≤ self.new.cursor.last.stop }
+        ensures passes { IfOk result (λ _. Passes self.old.cursor self.new.cursor) }
+        ensures refused { IfErr result (IsRefusal self.new.cursor.text) }
+    {
+        let (place, start) = self.enter()?;
+        let list = self.open(Listed::Covers, high)?;
+        let list = self.list(list, high)?;
+        let at = self.leave();
+        let end = self.cursor.last_end().saturating_sub(1);
+        if self.sees_arrow() && position_takes(position.rank, Rank::Assignment) {
+            let parameters = list.into_parameters(at)?;
+            return self.arrow(parameters, start, position.has_in, high);
+        }
+        self.close(place, start, end);
+        grouped(list, at, high)
+    }
+
+    // Opens a parenthesis that stands ahead, with a pair that doesn't group yet: gives its place among the pairs, and in the text.
+    fn enter(&mut self) -> Result<(usize, usize), Fault>
+        ensures text { self.new.cursor.text ≡ self.old.cursor.text }
+        ensures last { self.new.cursor.last ≡ self.old.cursor.last }
+        ensures refused { IfErr result (IsRefusal self.new.cursor.text) }
+    {
+        self.cursor.enter()?;
+        let place = self.pairs.len();
+        let start = self.cursor.place();
+        self.pairs.push(Pair {
+            left: start,
+            right: start,
+        })?;
+        Ok((place, start))
+    }
+
+    // Closes the last parenthesis that counts: gives the place of what stands ahead.
+    fn leave(&mut self) -> usize
+        ensures text { self.new.cursor.text ≡ self.old.cursor.text }
+        ensures last { self.new.cursor.last ≡ self.old.cursor.last }
+        ensures place { IsPlace self.new.cursor.text result }
+    {
+        self.cursor.leave();
+        self.cursor.place()
+    }
+
+    // The pair at this place among them groups.
+    fn close(&mut self, place: usize, left: usize, right: usize)
+        ensures cursor { self.new.cursor ≡ self.old.cursor }
+    {
+        if place < self.pairs.len() {
+            self.pairs[place] = Pair { left, right };
+        }
+    }
+}
+
+// What parentheses group (12.2.10): an expression, or several with commas between them.
+fn grouped<'s>(list: List<'s>, at: usize, high: u32) -> Result<Part<'s>, Fault>
+    ensures { IfErr result (IsStop at) }
+{
+    let start = list.span.start;
+    let seen = list.seen;
+    let count = list.nodes.len();
+    if count == 0 || seen.has_comma || !seen.shape.is_expression {
+        return Err(Fault::Syntax(at));
+    }
+    if count > 1 {
+        let node = plain(Kind::SequenceExpression, list.inside, list.nodes, high)?;
+        return Ok(in_group(node, Shape::VALUE, start));
+    }
+    match list.nodes.into_only() {
+        Some(node) => Ok(in_group(node, seen.last.grouped(), start)),
+        None => Err(Fault::Syntax(at)),
+    }
+}
+
+// What stands in parentheses that begin at a place.
+fn in_group<'s>(node: Tall<'s>, shape: Shape, start: usize) -> Part<'s> {
+    Part {
+        cover: Cover { node, shape },
+        start,
+        rank: Rank::Grouped,
+        edge: Edge::Other,
+    }
+}

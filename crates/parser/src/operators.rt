@@ -1,0 +1,196 @@
+//! What a token makes of the expression before it, and whether it goes on with it (ECMA-262 12.3 to 12.16).
+#![tactic(auto, using(crate::proofs::Refused::refusals, crate::proofs::Moves::moves))]
+
+ghost use Rattle.std.specs.Prelude.{◌≢◌, IfSome};
+ghost use Rattle.token_cursor.specs.Point.{IsAhead};
+ghost use Rattle.tokens.specs.Scanned.{token_of};
+
+use crate::position::{Parser, Position};
+use language::{Edge, Rank, position_takes, tightness_of};
+use tokens::{Class, Goal, Token};
+use tree::Kind;
+
+/// An operator between two expressions: the kind of its node, and the symbols of that and of its two sides.
+#[derive(Clone, Copy)]
+pub(crate) struct Sign {
+    pub(crate) kind: Kind,
+    pub(crate) own: Rank,
+    pub(crate) left: Rank,
+    pub(crate) right: Rank,
+}
+
+/// What a token makes of the expression that it goes on with.
+#[derive(Clone, Copy)]
+pub(crate) enum Operator {
+    /// A binary or logical operator.
+    Joins(Sign),
+    /// `=`, or another operator of an assignment.
+    Assigns { is_plain: bool },
+    /// `++` or `--`.
+    Steps,
+    /// The `,` of a sequence.
+    Sequences,
+    /// The `?` of a conditional.
+    Asks,
+    /// `.`
+    Selects,
+    /// `(`
+    Calls,
+    /// `[`
+    Indexes,
+    /// `?.`
+    Chains,
+    /// `=>`
+    Arrows,
+    /// The first part of a template.
+    Tags,
+}
+
+impl Operator {
+    /// The symbol of the node that it makes; behind a line break (`after_break`) `++`, `--` and `=>` make none.
+    pub(crate) fn symbol(self, after_break: bool) -> Option<Rank> {
+        match self {
+            Operator::Joins(sign) => Some(sign.own),
+            Operator::Steps if after_break => None,
+            Operator::Arrows if after_break => None,
+            Operator::Steps => Some(Rank::Update),
+            Operator::Assigns { .. } | Operator::Arrows => Some(Rank::Assignment),
+            Operator::Sequences => Some(Rank::Expression),
+            Operator::Asks => Some(Rank::Conditional),
+            Operator::Calls => Some(Rank::Call),
+            Operator::Chains => Some(Rank::LeftHandSide),
+            Operator::Selects | Operator::Indexes | Operator::Tags => Some(Rank::Member),
+        }
+    }
+}
+
+fn binary(own: Rank, right: Rank) -> Option<Operator> {
+    Some(Operator::Joins(Sign {
+        kind: Kind::BinaryExpression,
+        own,
+        left: own,
+        right,
+    }))
+}
+
+fn logical(own: Rank, right: Rank) -> Option<Operator> {
+    Some(Operator::Joins(Sign {
+        kind: Kind::LogicalExpression,
+        own,
+        left: own,
+        right,
+    }))
+}
+
+// `**`: its left side is no unary node (12.6).
+fn power() -> Option<Operator> {
+    Some(Operator::Joins(Sign {
+        kind: Kind::BinaryExpression,
+        own: Rank::Exponentiation,
+        left: Rank::Update,
+        right: Rank::Exponentiation,
+    }))
+}
+
+/// The operator that a token is behind an expression.
+pub(crate) fn operator_of(token: &Token<'_>) -> Option<Operator>
+    ensures { IfSome result (λ _. token.now.class ≢ Class.End) }
+{
+    match token.class {
+        Class::Punctuator => match token.text.len() {
+            1 => operator_of_one(token.text),
+            _ => operator_of_more(token.text),
+        },
+        Class::Name => operator_of_name(token.text),
+        Class::Template => match token.text.starts_with("`") {
+            true => Some(Operator::Tags),
+            false => None,
+        },
+        _ => None,
+    }
+}
+
+fn operator_of_one(text: &str) -> Option<Operator> {
+    match text {
+        "|" => binary(Rank::BitwiseOr, Rank::BitwiseXor),
+        "^" => binary(Rank::BitwiseXor, Rank::BitwiseAnd),
+        "&" => binary(Rank::BitwiseAnd, Rank::Equality),
+        "<" | ">" => binary(Rank::Relational, Rank::Shift),
+        "+" | "-" => binary(Rank::Additive, Rank::Multiplicative),
+        "*" | "/" | "%" => binary(Rank::Multiplicative, Rank::Exponentiation),
+        "=" => Some(Operator::Assigns { is_plain: true }),
+        "," => Some(Operator::Sequences),
+        "?" => Some(Operator::Asks),
+        "." => Some(Operator::Selects),
+        "(" => Some(Operator::Calls),
+        "[" => Some(Operator::Indexes),
+        _ => None,
+    }
+}
+
+fn operator_of_more(text: &str) -> Option<Operator> {
+    match text {
+        "??" => logical(Rank::Coalesce, Rank::BitwiseOr),
+        "||" => logical(Rank::LogicalOr, Rank::LogicalAnd),
+        "&&" => logical(Rank::LogicalAnd, Rank::BitwiseOr),
+        "==" | "!=" | "===" | "!==" => binary(Rank::Equality, Rank::Relational),
+        "<=" | ">=" => binary(Rank::Relational, Rank::Shift),
+        "<<" | ">>" | ">>>" => binary(Rank::Shift, Rank::Additive),
+        "**" => power(),
+        "++" | "--" => Some(Operator::Steps),
+        "?." => Some(Operator::Chains),
+        "=>" => Some(Operator::Arrows),
+        "+=" | "-=" | "*=" | "/=" | "%=" | "**=" => Some(Operator::Assigns { is_plain: false }),
+        "<<=" | ">>=" | ">>>=" => Some(Operator::Assigns { is_plain: false }),
+        "&=" | "|=" | "^=" => Some(Operator::Assigns { is_plain: false }),
+        _ => None,
+    }
+}
+
+fn operator_of_name(text: &str) -> Option<Operator> {
+    match text {
+        "in" | "instanceof" => binary(Rank::Relational, Rank::Shift),
+        _ => None,
+    }
+}
+
+/// Whether what ends with this right edge can be the left part of a node at the symbol.
+pub(crate) fn holds(edge: Edge, symbol: Rank) -> bool {
+    let tightness = tightness_of(symbol);
+    match edge {
+        Edge::Arrow => tightness == 0,
+        Edge::Postfix => tightness <= 15 && tightness != 1,
+        Edge::Other => true,
+        Edge::Closed => false,
+    }
+}
+
+/// An operator that stands ahead.
+#[derive(Clone, Copy)]
+pub(crate) struct Onward<'s> {
+    pub(crate) token: Token<'s>,
+    pub(crate) operator: Operator,
+}
+
+impl<'t, 's> Parser<'t, 's> {
+    /// The token that goes on with what stands at the position, with its right edge, and what it makes.
+    pub(crate) fn onward(&self, position: Position, edge: Edge) -> Option<Onward<'s>>
+        ensures ahead { IfSome result (λ next. IsAhead Goal.Div self.now.cursor.text self.now.cursor.last.stop (token_of next.token)) }
+        ensures real { IfSome result (λ next. next.token.class ≢ Class.End) }
+    {
+        let Some(token) = self.cursor.peek(Goal::Div) else {
+            return None;
+        };
+        let Some(operator) = operator_of(&token) else {
+            return None;
+        };
+        let Some(symbol) = operator.symbol(token.after_break) else {
+            return None;
+        };
+        let is_shut = token.text == "in" && !position.has_in;
+        if is_shut || !position_takes(position.rank, symbol) || !holds(edge, symbol) {
+            return None;
+        }
+        Some(Onward { token, operator })
+    }
+}

@@ -1,0 +1,75 @@
+//! What was read where an expression may stand.
+
+ghost use Rattle.std.specs.Prelude.{◌≡◌, IfErr};
+ghost use Rattle.covers.specs.Shapes.{Becomes};
+
+use covers::{Cover, Shape};
+use language::{Edge, Rank};
+use productions::Tall;
+use source_text::Fault;
+use tree::Kind;
+
+/// What was read where an expression may stand.
+#[derive(Drop)]
+pub(crate) struct Part<'s> {
+    pub(crate) cover: Cover<'s>,
+    /// Where its first token begins, parentheses round it included.
+    pub(crate) start: usize,
+    /// The symbol at which it stands; `Grouped` in parentheses.
+    pub(crate) rank: Rank,
+    /// The right edge as it stands: in parentheses `Other`.
+    pub(crate) edge: Edge,
+}
+
+impl<'s> Part<'s> {
+    /// An expression that is no array, no object and no assignment.
+    pub(crate) fn plain(node: Tall<'s>, rank: Rank, edge: Edge) -> Part<'s>
+        ensures { result.cover.node ≡ node.entry }
+    {
+        let start = node.node().span().start;
+        let cover = Cover::plain(node);
+        Part {
+            cover,
+            start,
+            rank,
+            edge,
+        }
+    }
+
+    /// What stands at Primary, with its shape.
+    pub(crate) fn primary(node: Tall<'s>, shape: Shape) -> Part<'s>
+        ensures { result.cover.node ≡ node.entry }
+    {
+        let start = node.node().span().start;
+        Part {
+            cover: Cover { node, shape },
+            start,
+            rank: Rank::Primary,
+            edge: Edge::Other,
+        }
+    }
+
+    /// The expression; `at` is the place that a refusal names.
+    ///
+    /// # Errors
+    /// `Syntax` where it isn't one.
+    pub(crate) fn settle(self, at: usize) -> Result<Tall<'s>, Fault>
+        ensures { Becomes self.entry.cover.node self.entry.cover.shape.is_expression at result }
+    {
+        self.cover.to_expression(at)
+    }
+
+    /// Whether it is a node of this kind that stands in no parentheses.
+    pub(crate) fn is_bare(&self, kind: Kind) -> bool {
+        self.cover.node.node().kind() == kind && !matches!(self.rank, Rank::Grouped)
+    }
+
+    /// Whether it is one string token, without parentheses.
+    pub(crate) fn is_lone_string(&self) -> bool {
+        if !self.is_bare(Kind::Literal) {
+            return false;
+        }
+        let raw = self.cover.node.node().text();
+        raw.starts_with("'") || raw.starts_with("\"")
+    }
+}

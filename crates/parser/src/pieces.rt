@@ -1,0 +1,497 @@
+//! Statements, functions, classes and their parts as lists of pieces (ECMA-262 clauses 13 and 14).
+#![tactic(auto, using(crate::proofs::Refused::refusals, crate::proofs::Moves::moves))]
+
+ghost use Rattle.std.specs.Prelude.{◌≡◌, ◌≤◌, IfOk, IfErr};
+ghost use Rattle.parser.specs.Moves.{Passes, IfHandler};
+ghost use Rattle.parser.specs.Refusals.{IsRefusal};
+
+use crate::part::Part;
+use crate::position::{Parser, Position};
+use crate::statements::{Context, Headed, Until};
+use covers::{List, Listed};
+use language::{Edge, Rank};
+use productions::{Nodes, Tall, made, plain};
+use source_text::Fault;
+use std::alloc::Global;
+use token_cursor::Ending;
+use tokens::{Class, Goal, Token};
+use tree::{Flags, Kind};
+
+/// What was read of a statement, a case, a handler, a function or a class.
+#[derive(Drop)]
+pub(crate) struct Built<'s> {
+    pub(crate) nodes: Nodes<'s>,
+    /// The right edge of the last part.
+    pub(crate) edge: Edge,
+    /// The word that declares in the head of a `for`.
+    pub(crate) word: Option<Token<'s>>,
+}
+
+impl<'s> Built<'s> {
+    /// No parts.
+    pub(crate) fn new(alloc: Global) -> Built<'s> {
+        Built::of(Nodes::new(alloc))
+    }
+
+    /// These parts.
+    pub(crate) fn of(nodes: Nodes<'s>) -> Built<'s> {
+        Built {
+            nodes,
+            edge: Edge::Closed,
+            word: None,
+        }
+    }
+}
+
+/// A piece of a statement, a function or a class.
+#[derive(Clone, Copy, PartialEq, Eq)]
+pub(crate) enum Piece {
+    /// This punctuator.
+    Mark(&'static str),
+    /// This name.
+    Word(&'static str),
+    /// No line break stands here.
+    Unbroken,
+    /// A label on the same line, or nothing.
+    Label,
+    /// The `;` of a `do`, or where it may be missing.
+    EndOfDo,
+    /// The `;` behind the last part, or where it may be missing.
+    End,
+    /// An Expression, with In.
+    Expression,
+    /// An AssignmentExpression, with In.
+    Assignment,
+    /// The test of a `for`, or nothing before `;`.
+    Test,
+    /// What a `for` does behind each turn, or nothing before `)`.
+    Update,
+    /// An expression on the same line, or nothing where the statement ends.
+    Argument,
+    /// `extends` and a superclass, or nothing.
+    Heritage,
+    /// A name or pattern that is bound.
+    Binding,
+    Statement,
+    /// `else` and a statement, or nothing.
+    Else,
+    Block,
+    /// `finally` and a block, or nothing.
+    Finally,
+    /// The body of a function.
+    Body,
+    /// What is done with what was thrown, or nothing.
+    Catch,
+    /// The statements of a block, up to its `}`.
+    Items,
+    /// The statements of a case.
+    Consequent,
+    List(Listed),
+    /// What stands first in the parentheses of a `for`.
+    Head,
+    /// The parameter of a handler that has none.
+    Missing,
+}
+
+/// The pieces of a statement, behind its first token; `returns`: `return` may stand in it.
+pub(crate) fn pieces_of(headed: Headed, returns: bool) -> &'static [Piece] {
+    match headed {
+        Headed::Block => &[Piece::Items, Piece::Mark("}")],
+        Headed::Empty => &[],
+        Headed::Variable => &[
+            Piece::List(Listed::Declarators { has_in: true }),
+            Piece::End,
+        ],
+        Headed::If => &[
+            Piece::Mark("("),
+            Piece::Expression,
+            Piece::Mark(")"),
+            Piece::Statement,
+            Piece::Else,
+        ],
+        Headed::Continue | Headed::Break => &[Piece::Label, Piece::End],
+        Headed::Return => &[Piece::Argument, Piece::End],
+        Headed::Throw => &[Piece::Unbroken, Piece::Expression, Piece::End],
+        Headed::Switch => switch_pieces(returns),
+        Headed::Try => &[Piece::Block, Piece::Catch, Piece::Finally],
+        Headed::Debugger => &[Piece::End],
+        Headed::Label => &[Piece::Mark(":"), Piece::Statement],
+        _ => loop_pieces(headed),
+    }
+}
+
+// The pieces of a loop (13.7).
+fn loop_pieces(headed: Headed) -> &'static [Piece] {
+    match headed {
+        Headed::Do => &[
+            Piece::Statement,
+            Piece::Word("while"),
+            Piece::Mark("("),
+            Piece::Expression,
+            Piece::Mark(")"),
+            Piece::EndOfDo,
+        ],
+        Headed::For => &[Piece::Mark("("), Piece::Head],
+        Headed::ForLoop => &[
+            Piece::Mark(";"),
+            Piece::Test,
+            Piece::Mark(";"),
+            Piece::Update,
+            Piece::Mark(")"),
+            Piece::Statement,
+        ],
+        Headed::ForIn => &[
+            Piece::Word("in"),
+            Piece::Expression,
+            Piece::Mark(")"),
+            Piece::Statement,
+        ],
+        Headed::ForOf => &[
+            Piece::Word("of"),
+            Piece::Assignment,
+            Piece::Mark(")"),
+            Piece::Statement,
+        ],
+        _ => &[
+            Piece::Mark("("),
+            Piece::Expression,
+            Piece::Mark(")"),
+            Piece::Statement,
+        ],
+    }
+}
+
+// The pieces of a `switch` (13.12).
+fn switch_pieces(returns: bool) -> &'static [Piece] {
+    match returns {
+        true => &[
+            Piece::Mark("("),
+            Piece::Expression,
+            Piece::Mark(")"),
+            Piece::List(Listed::Cases { returns: true }),
+        ],
+        false => &[
+            Piece::Mark("("),
+            Piece::Expression,
+            Piece::Mark(")"),
+            Piece::List(Listed::Cases { returns: false }),
+        ],
+    }
+}
+
+/// The pieces of a case behind its word (13.12).
+pub(crate) fn case_pieces(is_default: bool) -> &'static [Piece] {
+    match is_default {
+        true => &[Piece::Mark(":"), Piece::Consequent],
+        false => &[Piece::Expression, Piece::Mark(":"), Piece::Consequent],
+    }
+}
+
+/// The pieces of a class behind its name (14.6).
+pub(crate) fn class_pieces() -> &'static [Piece] {
+    &[Piece::Heritage, Piece::List(Listed::Members)]
+}
+
+/// The pieces of a function from its parameters on (14.1, 14.3).
+pub(crate) fn function_pieces(parameters: Listed) -> &'static [Piece] {
+    match parameters {
+        Listed::NoParameter => &[Piece::List(Listed::NoParameter), Piece::Body],
+        Listed::OneParameter => &[Piece::List(Listed::OneParameter), Piece::Body],
+        _ => &[Piece::List(Listed::Parameters), Piece::Body],
+    }
+}
+
+/// The pieces of a body (14.1, 14.2).
+pub(crate) fn body_pieces() -> &'static [Piece] {
+    &[Piece::Body]
+}
+
+// What stands ahead where a piece does, once its own tokens were passed.
+#[derive(Clone, Copy)]
+enum Wanted {
+    Nothing,
+    // A part that is missing.
+    Gap,
+    Expression(Position),
+    Statement,
+    Block(Context),
+    Binding,
+    // What is done with what was thrown, from this place on.
+    Handler(usize),
+    Items(Until),
+    List(Listed),
+}
+
+// What an expression that may be missing is.
+fn wanted_where(is_there: bool, position: Position) -> Wanted
+    ensures { IfHandler result ⊥ }
+{
+    match is_there {
+        true => Wanted::Expression(position),
+        false => Wanted::Gap,
+    }
+}
+
+impl<'t, 's> Parser<'t, 's> {
+    // Whether an argument follows the word of a statement.
+    fn sees_argument(&self) -> bool {
+        match self.cursor.peek(Goal::RegExp) {
+            Some(token) => match token.class {
+                Class::End => false,
+                Class::Punctuator => !token.after_break && !matches!(token.text, ";" | "}"),
+                _ => !token.after_break,
+            },
+            None => true,
+        }
+    }
+
+    // Whether `in` or `of` stands ahead.
+    fn sees_each(&self) -> bool {
+        self.sees_word("in") || self.sees_word("of")
+    }
+
+    // A piece that is tokens alone.
+    fn token_piece(&mut self, piece: Piece, built: &mut Built<'s>, high: u32) -> Result<(), Fault>
+        ensures text { self.new.cursor.text ≡ self.old.cursor.text }
+        ensures forward { self.old.cursor.last.stop ≤ self.new.cursor.last.stop }
+        ensures refused { IfErr result (IsRefusal self.new.cursor.text) }
+    {
+        match piece {
+            Piece::Mark(mark) => {
+                self.expect(mark)?;
+            }
+            Piece::Word(word) => self.expect_word(word)?,
+            Piece::EndOfDo => self.cursor.semicolon(Ending::OfDo)?,
+            Piece::End => self.cursor.semicolon(Ending::Behind(built.edge))?,
+            Piece::Label if self.sees_identifier() && !self.sees_break() => {
+                let label = self.identifier()?;
+                built
+                    .nodes
+                    .push(self.single(Kind::Identifier, label, high)?)?;
+            }
+            Piece::Label => built.nodes.push_gap()?,
+            Piece::Unbroken if self.sees_break() => return Err(self.refusal()),
+            _ => {}
+        }
+        Ok(())
+    }
+
+    // What a piece with one of these words before it wants.
+    fn worded_piece(&mut self, piece: Piece, context: Context) -> Result<Wanted, Fault>
+        ensures text { self.new.cursor.text ≡ self.old.cursor.text }
+        ensures forward { self.old.cursor.last.stop ≤ self.new.cursor.last.stop }
+        ensures handler { IfOk result (λ want. IfHandler want (Passes self.old.cursor self.new.cursor)) }
+        ensures refused { IfErr result (IsRefusal self.new.cursor.text) }
+    {
+        let start = self.cursor.place();
+        let item = Context::item(context.returns);
+        Ok(match piece {
+            Piece::Else if self.accept_word("else") => Wanted::Statement,
+            Piece::Finally if self.accept_word("finally") => Wanted::Block(item),
+            Piece::Catch if self.accept_word("catch") => Wanted::Handler(start),
+            Piece::Catch if !self.sees_word("finally") => return Err(self.refusal()),
+            Piece::Heritage => {
+                let is_there = self.accept_word("extends");
+                wanted_where(is_there, Position::at(Rank::LeftHandSide, true))
+            }
+            _ => Wanted::Gap,
+        })
+    }
+
+    // What stands first in the parentheses of a `for`.
+    fn head_piece(&mut self, built: &mut Built<'s>) -> Wanted
+        ensures text { self.new.cursor.text ≡ self.old.cursor.text }
+        ensures forward { self.old.cursor.last.stop ≤ self.new.cursor.last.stop }
+        ensures handler { IfHandler result ⊥ }
+    {
+        if self.sees(";") {
+            return Wanted::Gap;
+        }
+        built.word = self.declaration_word();
+        match built.word.is_some() {
+            true => Wanted::List(Listed::Declarators { has_in: false }),
+            false => Wanted::Expression(Position::at(Rank::Expression, false)),
+        }
+    }
+
+    // What a piece wants behind its own tokens, which are passed.
+    fn wanted(
+        &mut self,
+        piece: Piece,
+        built: &mut Built<'s>,
+        context: Context,
+        high: u32,
+    ) -> Result<Wanted, Fault>
+        ensures text { self.new.cursor.text ≡ self.old.cursor.text }
+        ensures forward { self.old.cursor.last.stop ≤ self.new.cursor.last.stop }
+        ensures handler { IfOk result (λ want. IfHandler want (Passes self.old.cursor self.new.cursor)) }
+        ensures refused { IfErr result (IsRefusal self.new.cursor.text) }
+    {
+        Ok(match piece {
+            Piece::Expression => Wanted::Expression(Position::EXPRESSION),
+            Piece::Assignment => Wanted::Expression(Position::ASSIGNMENT),
+            Piece::Test => wanted_where(!self.sees(";"), Position::EXPRESSION),
+            Piece::Update => wanted_where(!self.sees(")"), Position::EXPRESSION),
+            Piece::Argument => wanted_where(self.sees_argument(), Position::EXPRESSION),
+            Piece::Binding => Wanted::Binding,
+            Piece::Statement => Wanted::Statement,
+            Piece::Block => Wanted::Block(Context::item(context.returns)),
+            Piece::Body => Wanted::Block(Context::BODY),
+            Piece::Items => Wanted::Items(Until::Brace),
+            Piece::Consequent => Wanted::Items(Until::Case),
+            Piece::List(listed) => Wanted::List(listed),
+            Piece::Head => self.head_piece(built),
+            Piece::Mark(_) | Piece::Word(_) | Piece::Unbroken | Piece::Label => {
+                self.token_piece(piece, built, high)?;
+                Wanted::Nothing
+            }
+            Piece::End | Piece::EndOfDo => {
+                self.token_piece(piece, built, high)?;
+                Wanted::Nothing
+            }
+            _ => self.worded_piece(piece, context)?,
+        })
+    }
+
+    // Adds an expression that a piece wanted.
+    fn put_expression(
+        &self,
+        built: &mut Built<'s>,
+        piece: Piece,
+        part: Part<'s>,
+    ) -> Result<(), Fault>
+        ensures { IfErr result (IsRefusal self.now.cursor.text) }
+    {
+        built.edge = part.edge;
+        let node = match piece {
+            Piece::Head if self.sees_each() => part.cover.to_pattern(self.cursor.place())?,
+            Piece::Binding => self.bound(part)?,
+            _ => self.settle(part)?,
+        };
+        built.nodes.push(node)
+    }
+
+    // Adds a list that a piece wanted; `high` is the greatest height of a part.
+    fn put_list(&self, built: &mut Built<'s>, list: List<'s>, high: u32) -> Result<(), Fault>
+        ensures { IfErr result (IsRefusal self.now.cursor.text) }
+    {
+        built.edge = list.seen.edge;
+        let at = self.cursor.place();
+        match list.listed {
+            Listed::Declarators { has_in: true } if list.seen.is_marked => Err(self.refusal()),
+            Listed::Declarators { has_in: false } => self.put_head(built, list, high),
+            Listed::Parameters | Listed::NoParameter | Listed::OneParameter => {
+                built.nodes.append(list.into_parameters(at)?)
+            }
+            Listed::Members => {
+                let body = plain(Kind::ClassBody, list.span, list.nodes, high)?;
+                built.nodes.push(body)
+            }
+            _ => built.nodes.append(list.nodes),
+        }
+    }
+
+    // Adds the head of a `for` that is a declaration (13.7.4, 13.7.5).
+    fn put_head(&self, built: &mut Built<'s>, list: List<'s>, high: u32) -> Result<(), Fault>
+        ensures { IfErr result (IsRefusal self.now.cursor.text) }
+    {
+        let is_bare = matches!(list.seen.edge, Edge::Closed);
+        let fits = match self.sees_each() {
+            true => list.nodes.len() == 1 && is_bare,
+            false => !list.seen.is_marked,
+        };
+        let Some(word) = built.word else {
+            return Err(self.refusal());
+        };
+        if !fits {
+            return Err(self.refusal());
+        }
+        let span = self.span_from(word.start);
+        let kind = Kind::VariableDeclaration;
+        let node = made(kind, word.text, Flags::PLAIN, span, list.nodes, high)?;
+        built.nodes.push(node)
+    }
+
+    // The pieces of a handler behind `catch`.
+    fn catch_pieces(&self) -> &'static [Piece] {
+        match self.sees("(") {
+            true => &[
+                Piece::Mark("("),
+                Piece::Binding,
+                Piece::Mark(")"),
+                Piece::Block,
+            ],
+            false => &[Piece::Missing, Piece::Block],
+        }
+    }
+
+    /// Pieces, one behind the other; `high` is the greatest height of a part.
+    #[cycle(grammar)]
+    pub(crate) fn pieces(
+        &mut self,
+        pieces: &[Piece],
+        built: &mut Built<'s>,
+        context: Context,
+        high: u32,
+    ) -> Result<(), Fault>
+        ensures text { self.new.cursor.text ≡ self.old.cursor.text }
+        ensures forward { self.old.cursor.last.stop ≤ self.new.cursor.last.stop }
+        ensures refused { IfErr result (IsRefusal self.new.cursor.text) }
+    {
+        let inner = high.saturating_sub(1);
+        'pieces: for piece in pieces {
+            match self.wanted(*piece, built, context, high)? {
+                Wanted::Nothing => {}
+                Wanted::Gap => built.nodes.push_gap()?,
+                Wanted::Expression(position) => {
+                    let part = self.expression(position, high)?;
+                    self.put_expression(built, *piece, part)?;
+                }
+                Wanted::Binding => {
+                    let part = self.opening(Position::at(Rank::Primary, true), high)?;
+                    self.put_expression(built, *piece, part)?;
+                }
+                Wanted::Statement => {
+                    built.nodes.push(self.statement(context.inside(), high)?)?;
+                }
+                Wanted::Block(context) => {
+                    let left = self.expect("{")?;
+                    let list = self.statements(Until::Brace, context, inner)?;
+                    self.expect("}")?;
+                    let span = self.span_from(left.start);
+                    built
+                        .nodes
+                        .push(plain(Kind::BlockStatement, span, list, high)?)?;
+                }
+                Wanted::Handler(start) => {
+                    let mut caught = Built::new(self.alloc);
+                    self.pieces(self.catch_pieces(), &mut caught, context, inner)?;
+                    let span = self.span_from(start);
+                    built
+                        .nodes
+                        .push(plain(Kind::CatchClause, span, caught.nodes, high)?)?;
+                }
+                Wanted::Items(until) => {
+                    let context = Context::item(context.returns);
+                    built.nodes.append(self.statements(until, context, high)?)?;
+                }
+                Wanted::List(listed) => {
+                    let limit = high.saturating_sub(depth_of(listed));
+                    let list = self.open(listed, limit)?;
+                    let list = self.list(list, limit)?;
+                    self.put_list(built, list, high)?;
+                }
+            }
+        }
+        Ok(())
+    }
+}
+
+// 1 where a node of its own holds the items, in what holds the list: the body of a class, a declaration in the head of a `for`;
+// else 0.
+fn depth_of(listed: Listed) -> u32 {
+    match listed {
+        Listed::Members | Listed::Declarators { has_in: false } => 1,
+        _ => 0,
+    }
+}

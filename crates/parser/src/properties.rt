@@ -1,0 +1,337 @@
+//! Properties of objects and members of classes (ECMA-262 12.2.6, 14.3, 14.6).
+#![tactic(auto, using(crate::proofs::Refused::refusals, crate::proofs::Moves::moves))]
+
+ghost use Rattle.std.specs.Prelude.{◌≡◌, ◌≤◌, IfOk, IfErr, IfSome, IfNone, IsTrue};
+ghost use Rattle.std.specs.Str.{chars};
+ghost use Rattle.tokens.specs.Strings.{is_string};
+ghost use Rattle.parser.specs.Moves.{Passes};
+ghost use Rattle.parser.specs.Refusals.{IsLimit, IsRefusal};
+
+use crate::closures::Closure;
+use crate::position::{Parser, Position};
+use crate::words::{is_identifier, is_mark, is_word};
+use covers::{Item, Shape};
+use language::Edge;
+use productions::{Nodes, Tall, made, plain};
+use source_text::Fault;
+use std::alloc::Global;
+use tokens::{Class, Goal, Token, string_units};
+use tree::{Flags, Form, Kind};
+
+// PropertyName (12.2.6).
+#[derive(Drop)]
+struct Key<'s> {
+    node: Tall<'s>,
+    // It stands in brackets.
+    computed: bool,
+    // The token that it is, if it is one.
+    token: Option<Token<'s>>,
+    // It isn't computed, and its value is `constructor`; looked for in a class alone.
+    is_constructor: bool,
+}
+
+// The flags of a property, or of a member.
+fn flags_of(computed: bool, is_static: bool, form: Form) -> Flags {
+    let mut flags = Flags::PLAIN;
+    flags.computed = computed;
+    flags.is_static = is_static;
+    flags.form = form;
+    flags
+}
+
+// A property of this shape.
+fn property<'s>(node: Tall<'s>, shape: Shape) -> Item<'s> {
+    Item {
+        node,
+        shape,
+        spreads: false,
+        is_marked: false,
+        edge: Edge::Closed,
+    }
+}
+
+// What stands before the name of a property; the name itself where it is `get`, `set` or `static`.
+#[derive(Clone, Copy)]
+struct Modifiers<'s> {
+    is_static: bool,
+    form: Form,
+    name: Option<Token<'s>>,
+}
+
+// The modifiers with `get` or `set`, unless that is the name itself.
+fn named(is_static: bool, form: Form, name: Option<Token<'_>>) -> Modifiers<'_>
+    ensures { result.name ≡ name.entry }
+{
+    let form = match name.is_some() {
+        true => Form::Method,
+        false => form,
+    };
+    Modifiers {
+        is_static,
+        form,
+        name,
+    }
+}
+
+// Whether the value of a name or a string as a key is `constructor` (14.6); a number's is none.
+fn is_constructor(alloc: Global, key: &Token<'_>) -> Result<bool, Fault>
+    requires string { key.now.class ≡ Class.Text → IsTrue (is_string (chars key.now.text.now)) }
+    ensures { IfErr result IsLimit }
+{
+    match key.class {
+        Class::Name => Ok(matches!(key.text, "constructor")),
+        Class::Text if key.text.contains("\\") => has_constructor_units(alloc, key.text),
+        Class::Text => Ok(matches!(key.text, "'constructor'" | "\"constructor\"")),
+        _ => Ok(false),
+    }
+}
+
+// Whether the value of a string is `constructor`.
+fn has_constructor_units(alloc: Global, text: &str) -> Result<bool, Fault>
+    requires { IsTrue (is_string (chars text.now)) }
+    ensures { IfErr result IsLimit }
+{
+    let units = string_units(alloc, text)?;
+    let word = b"constructor";
+    if units.len() != word.len() {
+        return Ok(false);
+    }
+    for (unit, byte) in units.iter().zip(word) {
+        if *unit != u16::from(*byte) {
+            return Ok(false);
+        }
+    }
+    Ok(true)
+}
+
+impl<'t, 's> Parser<'t, 's> {
+    // Whether a key of a property begins ahead (12.2.6).
+    fn sees_key(&self) -> bool {
+        match self.cursor.peek(Goal::Div) {
+            Some(token) => match token.class {
+                Class::Name | Class::Text | Class::Number => true,
+                _ => is_mark(&token, "["),
+            },
+            None => false,
+        }
+    }
+
+    // Goes past a word before a property's name: gives it where it is the name itself.
+    fn modifier(&mut self, word: &str) -> Option<Option<Token<'s>>>
+        ensures text { self.new.cursor.text ≡ self.old.cursor.text }
+        ensures forward { self.old.cursor.last.stop ≤ self.new.cursor.last.stop }
+        ensures passes { IfSome result (λ _. Passes self.old.cursor self.new.cursor) }
+    {
+        let Some(token) = self.cursor.peek(Goal::Div) else {
+            return None;
+        };
+        if !is_word(&token, word) {
+            return None;
+        }
+        self.pass(token);
+        match self.sees_key() {
+            true => Some(None),
+            false => Some(Some(token)),
+        }
+    }
+
+    // `static`, `get` and `set` before a name (14.3, 14.6).
+    fn modifiers(&mut self, in_class: bool) -> Modifiers<'s>
+        ensures text { self.new.cursor.text ≡ self.old.cursor.text }
+        ensures forward { self.old.cursor.last.stop ≤ self.new.cursor.last.stop }
+        ensures passes { IfSome result.name (λ _. Passes self.old.cursor self.new.cursor) }
+    {
+        let mut is_static = false;
+        if in_class {
+            if let Some(name) = self.modifier("static") {
+                if name.is_some() {
+                    return Modifiers {
+                        is_static,
+                        form: Form::Method,
+                        name,
+                    };
+                }
+                is_static = true;
+            }
+        }
+        if let Some(name) = self.modifier("get") {
+            return named(is_static, Form::Get, name);
+        }
+        if let Some(name) = self.modifier("set") {
+            return named(is_static, Form::Set, name);
+        }
+        named(is_static, Form::Method, None)
+    }
+
+    // The one token of a PropertyName (12.2.6) that stands ahead.
+    fn key_token(&mut self) -> Result<Token<'s>, Fault>
+        ensures text { self.new.cursor.text ≡ self.old.cursor.text }
+        ensures forward { self.old.cursor.last.stop ≤ self.new.cursor.last.stop }
+        ensures passes { IfOk result (λ _. Passes self.old.cursor self.new.cursor) }
+        ensures string { IfOk result (λ token. token.class ≡ Class.Text → IsTrue (is_string (chars token.text.now))) }
+        ensures refused { IfErr result (IsRefusal self.new.cursor.text) }
+    {
+        let Some(token) = self.cursor.peek(Goal::Div) else {
+            return Err(self.refusal());
+        };
+        match token.class {
+            Class::Name | Class::Text | Class::Number => {
+                self.pass(token);
+                Ok(token)
+            }
+            _ => Err(self.refusal()),
+        }
+    }
+
+    // PropertyName (12.2.6) that is no expression in brackets: the name that was passed, or the one ahead.
+    fn plain_key(
+        &mut self,
+        passed: Option<Token<'s>>,
+        in_class: bool,
+        high: u32,
+    ) -> Result<Key<'s>, Fault>
+        ensures text { self.new.cursor.text ≡ self.old.cursor.text }
+        ensures forward { self.old.cursor.last.stop ≤ self.new.cursor.last.stop }
+        ensures passes { IfOk result (λ _. IfNone passed.entry (Passes self.old.cursor self.new.cursor)) }
+        ensures refused { IfErr result (IsRefusal self.new.cursor.text) }
+    {
+        if let Some(token) = passed {
+            return self.key_of(token, false, high);
+        }
+        let token = self.key_token()?;
+        let is_constructor = in_class && is_constructor(self.alloc, &token)?;
+        self.key_of(token, is_constructor, high)
+    }
+
+    // The key that a name, a string or a number is.
+    fn key_of(&self, token: Token<'s>, is_constructor: bool, high: u32) -> Result<Key<'s>, Fault>
+        ensures { IfErr result IsLimit }
+    {
+        let kind = match token.class {
+            Class::Name => Kind::Identifier,
+            _ => Kind::Literal,
+        };
+        Ok(Key {
+            node: self.single(kind, token, high)?,
+            computed: false,
+            token: Some(token),
+            is_constructor,
+        })
+    }
+
+    /// A property of an object or its pattern, or a member of a class (12.2.6, 14.3, 14.6).
+    #[cycle(grammar)]
+    pub(crate) fn definition(&mut self, in_class: bool, high: u32) -> Result<Item<'s>, Fault>
+        ensures text { self.new.cursor.text ≡ self.old.cursor.text }
+        ensures forward { self.old.cursor.last.stop ≤ self.new.cursor.last.stop }
+        ensures passes { IfOk result (λ _. Passes self.old.cursor self.new.cursor) }
+        ensures refused { IfErr result (IsRefusal self.new.cursor.text) }
+    {
+        let start = self.cursor.place();
+        let inner = high.saturating_sub(1);
+        if !in_class && self.accept("...") {
+            let argument = self.expression(Position::ASSIGNMENT, inner)?;
+            let shape = argument.cover.shape.simple();
+            let mut item = self.element(argument, true, start, high)?;
+            item.shape = shape;
+            return Ok(item);
+        }
+        let modifiers = self.modifiers(in_class);
+        let key = if modifiers.name.is_none() && self.accept("[") {
+            let part = self.expression(Position::ASSIGNMENT, inner)?;
+            let node = self.settle(part)?;
+            self.expect("]")?;
+            Key {
+                node,
+                computed: true,
+                token: None,
+                is_constructor: false,
+            }
+        } else {
+            self.plain_key(modifiers.name, in_class, inner)?
+        };
+        let is_method = in_class || !matches!(modifiers.form, Form::Method) || self.sees("(");
+        if !is_method {
+            return self.value_of(key, start, high);
+        }
+        let from = self.cursor.place();
+        let function = self.closure(Closure::Method(modifiers.form), from, inner)?;
+        let (kind, flags) = method_of(in_class, &key, modifiers);
+        let nodes = Nodes::two(self.alloc, key.node, function)?;
+        let node = made(kind, "", flags, self.span_from(start), nodes, high)?;
+        Ok(Item::plain(node))
+    }
+
+    // What follows the key of a property of an object that is no method.
+    #[cycle(grammar)]
+    fn value_of(&mut self, key: Key<'s>, start: usize, high: u32) -> Result<Item<'s>, Fault>
+        ensures text { self.new.cursor.text ≡ self.old.cursor.text }
+        ensures forward { self.old.cursor.last.stop ≤ self.new.cursor.last.stop }
+        ensures refused { IfErr result (IsRefusal self.new.cursor.text) }
+    {
+        let inner = high.saturating_sub(1);
+        if self.accept(":") {
+            let value = self.expression(Position::ASSIGNMENT, inner)?;
+            let shape = value.cover.shape;
+            let flags = flags_of(key.computed, false, Form::Init);
+            let nodes = Nodes::two(self.alloc, key.node, value.cover.node)?;
+            let node = made(
+                Kind::Property,
+                "",
+                flags,
+                self.span_from(start),
+                nodes,
+                high,
+            )?;
+            return Ok(property(node, shape));
+        }
+        let Some(token) = key.token else {
+            return Err(self.refusal());
+        };
+        if !is_identifier(&token) {
+            return Err(self.refusal());
+        }
+        let mut shape = Shape::NAME;
+        let mut value = self.single(Kind::Identifier, token, inner)?;
+        if self.accept("=") {
+            let right = self.expression(Position::ASSIGNMENT, inner.saturating_sub(1))?;
+            let nodes = Nodes::two(self.alloc, value, self.settle(right)?)?;
+            let span = self.span_from(token.start);
+            value = made(
+                Kind::AssignmentExpression,
+                "=",
+                Flags::PLAIN,
+                span,
+                nodes,
+                inner,
+            )?;
+            shape = Shape::NAME.defaulted().initialized();
+        }
+        let flags = flags_of(false, false, Form::Shorthand);
+        let nodes = Nodes::two(self.alloc, key.node, value)?;
+        let node = made(
+            Kind::Property,
+            "",
+            flags,
+            self.span_from(start),
+            nodes,
+            high,
+        )?;
+        Ok(property(node, shape))
+    }
+}
+
+// The kind and the flags of a method, getter or setter; a method of a class whose name is `constructor` is the constructor (14.6).
+fn method_of(in_class: bool, key: &Key<'_>, modifiers: Modifiers<'_>) -> (Kind, Flags) {
+    let is_static = modifiers.is_static;
+    let is_plain = matches!(modifiers.form, Form::Method) && !is_static;
+    let form = match is_plain && key.is_constructor {
+        true => Form::Constructor,
+        false => modifiers.form,
+    };
+    let kind = match in_class {
+        true => Kind::MethodDefinition,
+        false => Kind::Property,
+    };
+    (kind, flags_of(key.computed, is_static, form))
+}

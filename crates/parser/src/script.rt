@@ -1,0 +1,62 @@
+//! Whole scripts (ECMA-262 15.1).
+#![tactic(auto, using(crate::proofs::Refused::refusals, crate::proofs::Moves::moves))]
+
+ghost use Rattle.std.specs.Prelude.{IfErr};
+ghost use Rattle.parser.specs.Refusals.{IsRefusal};
+
+use crate::position::Parser;
+use crate::statements::{Context, Until};
+use source_text::{Fault, Source};
+use std::alloc::Global;
+use token_cursor::Cursor;
+use tree::{Pair, Program, Span};
+
+/// The greatest height of a tree, the Program's own node counted.
+pub const MAX_HEIGHT: u32 = 500;
+
+/// A script with its grouping pairs.
+#[derive(Drop)]
+pub struct Parsed<'s> {
+    program: Program<'s>,
+    pairs: Vec<Pair>,
+}
+
+impl<'s> Parsed<'s> {
+    /// The tree.
+    pub fn program(&self) -> &Program<'s> {
+        &self.program
+    }
+
+    /// The pairs of parentheses that group, in order of their `(`.
+    pub fn grouping_pairs(&self) -> &[Pair] {
+        &self.pairs
+    }
+}
+
+/// The script that a text is.
+///
+/// # Errors
+/// `Syntax` where no derivation exists, `TooDeep` where none exists within the limits (a height of `MAX_HEIGHT`, and
+/// `MAX_OPEN` parentheses that are open at one point and group or hold an arrow's parameters), `OutOfMemory`.
+pub fn parse<'s>(alloc: Global, source: &Source<'s>) -> Result<Parsed<'s>, Fault>
+    ensures refused { IfErr result (IsRefusal source.now) }
+{
+    let mut parser = Parser {
+        cursor: Cursor::new(source),
+        pairs: Vec::new(alloc),
+        alloc,
+    };
+    let items = parser.statements(Until::End, Context::SCRIPT, MAX_HEIGHT - 1)?;
+    let Parser {
+        cursor: _,
+        mut pairs,
+        alloc: _,
+    } = parser;
+    pairs.retain(|pair| pair.left < pair.right);
+    let span = Span {
+        start: 0,
+        end: source.len(),
+    };
+    let program = Program::new(items.into_parts(), span);
+    Ok(Parsed { program, pairs })
+}

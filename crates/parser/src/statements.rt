@@ -1,0 +1,310 @@
+//! Statements and declarations (ECMA-262 clause 13, 14.1, 14.6), by the first token.
+#![tactic(auto, using(crate::proofs::Refused::refusals, crate::proofs::Moves::moves))]
+
+ghost use Rattle.std.specs.Prelude.{◌≡◌, ◌≢◌, ◌≤◌, IfOk, IfErr};
+ghost use Rattle.token_cursor.specs.Point.{IsAhead};
+ghost use Rattle.tokens.specs.Scanned.{token_of};
+ghost use Rattle.parser.specs.Moves.{Passes, IfHeaded};
+ghost use Rattle.parser.specs.Refusals.{IsRefusal};
+
+use crate::closures::Closure;
+use crate::part::Part;
+use crate::pieces::{Built, pieces_of};
+use crate::position::{Parser, Position};
+use crate::words::{is_mark, is_word};
+use productions::{Nodes, Tall, made};
+use source_text::Fault;
+use token_cursor::Ending;
+use tokens::{Class, Goal, Token};
+use tree::{Flags, Kind};
+
+/// What a statement is by its first token, or by what its head holds.
+#[derive(Clone, Copy, Debug, PartialEq, Eq)]
+pub(crate) enum Headed {
+    Block,
+    Empty,
+    Variable,
+    If,
+    Do,
+    While,
+    /// Of whatever kind, before that is known.
+    For,
+    ForLoop,
+    ForIn,
+    ForOf,
+    Continue,
+    Break,
+    Return,
+    Throw,
+    Switch,
+    Try,
+    Debugger,
+    Label,
+}
+
+impl Headed {
+    // The kind of its node.
+    fn kind(self) -> Kind {
+        match self {
+            Headed::Block => Kind::BlockStatement,
+            Headed::Empty => Kind::EmptyStatement,
+            Headed::Variable => Kind::VariableDeclaration,
+            Headed::If => Kind::IfStatement,
+            Headed::Do => Kind::DoWhileStatement,
+            Headed::While => Kind::WhileStatement,
+            Headed::For | Headed::ForLoop => Kind::ForStatement,
+            Headed::ForIn => Kind::ForInStatement,
+            Headed::ForOf => Kind::ForOfStatement,
+            Headed::Continue => Kind::ContinueStatement,
+            Headed::Break => Kind::BreakStatement,
+            Headed::Return => Kind::ReturnStatement,
+            Headed::Throw => Kind::ThrowStatement,
+            Headed::Switch => Kind::SwitchStatement,
+            Headed::Try => Kind::TryStatement,
+            Headed::Debugger => Kind::DebuggerStatement,
+            Headed::Label => Kind::LabeledStatement,
+        }
+    }
+}
+
+/// Where a statement stands.
+#[derive(Clone, Copy)]
+pub(crate) struct Context {
+    /// Declarations may stand there too.
+    pub(crate) is_item: bool,
+    /// All statements before it, from the beginning of the script or body, are directives.
+    pub(crate) is_prologue: bool,
+    /// `return` may stand there.
+    pub(crate) returns: bool,
+}
+
+impl Context {
+    /// Of the first item of a script.
+    pub(crate) const SCRIPT: Context = Context {
+        is_item: true,
+        is_prologue: true,
+        returns: false,
+    };
+
+    /// Of the first item of a function's body.
+    pub(crate) const BODY: Context = Context {
+        is_item: true,
+        is_prologue: true,
+        returns: true,
+    };
+
+    /// Of an item of a block or a case.
+    pub(crate) fn item(returns: bool) -> Context {
+        Context {
+            is_item: true,
+            is_prologue: false,
+            returns,
+        }
+    }
+
+    /// Of a statement in a statement there.
+    pub(crate) fn inside(self) -> Context {
+        Context {
+            is_item: false,
+            is_prologue: false,
+            returns: self.returns,
+        }
+    }
+}
+
+/// Where a list of statements ends.
+#[derive(Clone, Copy, PartialEq, Eq)]
+pub(crate) enum Until {
+    /// Before `}`.
+    Brace,
+    /// Before `case`, `default` or `}`.
+    Case,
+    /// At the end of the text.
+    End,
+}
+
+// What a statement begins with.
+#[derive(Clone, Copy)]
+enum Beginning {
+    Headed(Headed),
+    // A function or a class that is declared.
+    Closure(Closure),
+    Expression,
+}
+
+// What a word begins where an item may stand.
+fn beginning_item(word: &str, returns: bool) -> Beginning {
+    match word {
+        "function" => Beginning::Closure(Closure::FunctionDeclaration),
+        "class" => Beginning::Closure(Closure::ClassDeclaration),
+        "let" | "const" => Beginning::Headed(Headed::Variable),
+        _ => beginning_word(word, returns),
+    }
+}
+
+// What a word begins where a statement may stand.
+fn beginning_word(word: &str, returns: bool) -> Beginning {
+    Beginning::Headed(match word {
+        "var" => Headed::Variable,
+        "if" => Headed::If,
+        "do" => Headed::Do,
+        "while" => Headed::While,
+        "for" => Headed::For,
+        "continue" => Headed::Continue,
+        "break" => Headed::Break,
+        "return" if returns => Headed::Return,
+        "throw" => Headed::Throw,
+        "switch" => Headed::Switch,
+        "try" => Headed::Try,
+        "debugger" => Headed::Debugger,
+        _ => return Beginning::Expression,
+    })
+}
+
+// What a token begins where a statement may stand.
+fn beginning_of(token: &Token<'_>, context: Context) -> Beginning
+    ensures { IfHeaded result (token.now.class ≢ Class.End) }
+{
+    match token.class {
+        Class::Name if context.is_item => beginning_item(token.text, context.returns),
+        Class::Name => beginning_word(token.text, context.returns),
+        Class::Punctuator => match token.text {
+            "{" => Beginning::Headed(Headed::Block),
+            ";" => Beginning::Headed(Headed::Empty),
+            _ => Beginning::Expression,
+        },
+        _ => Beginning::Expression,
+    }
+}
+
+impl<'t, 's> Parser<'t, 's> {
+    // Whether a list of statements ends here.
+    fn sees_end(&self, until: Until) -> bool {
+        let Some(token) = self.cursor.peek(Goal::Div) else {
+            return false;
+        };
+        match until {
+            Until::Brace => is_mark(&token, "}"),
+            Until::Case => {
+                is_mark(&token, "}") || is_word(&token, "case") || is_word(&token, "default")
+            }
+            Until::End => token.class == Class::End,
+        }
+    }
+
+    /// StatementList (13.2), up to where it ends, with its directives (14.1.1).
+    #[cycle(grammar)]
+    pub(crate) fn statements(
+        &mut self,
+        until: Until,
+        context: Context,
+        high: u32,
+    ) -> Result<Nodes<'s>, Fault>
+        ensures text { self.new.cursor.text ≡ self.old.cursor.text }
+        ensures forward { self.old.cursor.last.stop ≤ self.new.cursor.last.stop }
+        ensures refused { IfErr result (IsRefusal self.new.cursor.text) }
+    {
+        let mut context = context;
+        let mut nodes = Nodes::new(self.alloc);
+        'statements: while !self.sees_end(until) {
+            let statement = self.statement(context, high)?;
+            context.is_prologue = context.is_prologue && statement.node().flags().directive;
+            nodes.push(statement)?;
+        }
+        Ok(nodes)
+    }
+
+    /// Statement or StatementListItem (13).
+    #[cycle(grammar)]
+    pub(crate) fn statement(&mut self, context: Context, high: u32) -> Result<Tall<'s>, Fault>
+        ensures text { self.new.cursor.text ≡ self.old.cursor.text }
+        ensures forward { self.old.cursor.last.stop ≤ self.new.cursor.last.stop }
+        ensures passes { IfOk result (λ _. Passes self.old.cursor self.new.cursor) }
+        ensures refused { IfErr result (IsRefusal self.new.cursor.text) }
+    {
+        let (token, beginning) = self.begins(context, high)?;
+        let inner = high.saturating_sub(1);
+        let mut built = Built::new(self.alloc);
+        let mut what = match beginning {
+            Beginning::Headed(what) => {
+                self.pass(token);
+                what
+            }
+            Beginning::Closure(closure) => {
+                self.pass(token);
+                return self.closure(closure, token.start, high);
+            }
+            Beginning::Expression => {
+                let part = self.expression(Position::STATEMENT, inner)?;
+                if !self.is_label(&part) {
+                    return self.evaluated(part, context, high);
+                }
+                built.nodes.push(part.cover.node)?;
+                Headed::Label
+            }
+        };
+        self.pieces(pieces_of(what, context.returns), &mut built, context, inner)?;
+        if what == Headed::For {
+            what = self.for_what()?;
+            self.pieces(pieces_of(what, context.returns), &mut built, context, inner)?;
+        }
+        let text = match what {
+            Headed::Variable => token.text,
+            _ => "",
+        };
+        let span = self.span_from(token.start);
+        made(what.kind(), text, Flags::PLAIN, span, built.nodes, high)
+    }
+
+    // The first token of a statement, and what it begins; a statement has at least this height.
+    fn begins(&self, context: Context, high: u32) -> Result<(Token<'s>, Beginning), Fault>
+        ensures ahead { IfOk result (λ found. IsAhead Goal.RegExp self.now.cursor.text self.now.cursor.last.stop (token_of found.0)) }
+        ensures real { IfOk result (λ found. IfHeaded found.1 (found.0.class ≢ Class.End)) }
+        ensures refused { IfErr result (IsRefusal self.now.cursor.text) }
+    {
+        let Some(token) = self.cursor.peek(Goal::RegExp) else {
+            return Err(self.refusal());
+        };
+        if high == 0 {
+            return Err(Fault::TooDeep);
+        }
+        Ok((token, beginning_of(&token, context)))
+    }
+
+    // Whether what was read is a label: a name alone with a `:` behind it (13.13).
+    fn is_label(&self, part: &Part<'s>) -> bool {
+        part.is_bare(Kind::Identifier) && self.sees(":")
+    }
+
+    // ExpressionStatement (13.5), a directive where it may be one (14.1.1), behind its expression.
+    fn evaluated(&mut self, part: Part<'s>, context: Context, high: u32) -> Result<Tall<'s>, Fault>
+        ensures text { self.new.cursor.text ≡ self.old.cursor.text }
+        ensures forward { self.old.cursor.last.stop ≤ self.new.cursor.last.stop }
+        ensures refused { IfErr result (IsRefusal self.new.cursor.text) }
+    {
+        let start = part.start;
+        let edge = part.edge;
+        let mut flags = Flags::PLAIN;
+        flags.directive = context.is_prologue && part.is_lone_string();
+        let nodes = Nodes::one(self.alloc, self.settle(part)?)?;
+        self.cursor.semicolon(Ending::Behind(edge))?;
+        let span = self.span_from(start);
+        made(Kind::ExpressionStatement, "", flags, span, nodes, high)
+    }
+
+    // What a `for` is, by what follows what stands first in its parentheses (13.7).
+    fn for_what(&self) -> Result<Headed, Fault>
+        ensures { IfErr result (IsRefusal self.now.cursor.text) }
+    {
+        if self.sees(";") {
+            return Ok(Headed::ForLoop);
+        }
+        if self.sees_word("in") {
+            return Ok(Headed::ForIn);
+        }
+        if self.sees_word("of") {
+            return Ok(Headed::ForOf);
+        }
+        Err(self.refusal())
+    }
+}

@@ -1,0 +1,179 @@
+'use strict';
+// Holds the parser against the plain model: acceptance, grouping pairs, and the tree with places, texts and flags.
+//
+//   node compare.js [--n COUNT] [--nested COUNT] [--seed S] [--show K] [--keep FOLDER] [--file TEXTS]
+//                   [--high H --open M]
+//
+// Makes COUNT texts of each kind (sentences of the declarative grammar, mutated programs, random token strings), copies
+// the crates that the parser stands on and the program dump/ to a temporary folder, runs the program there by `rt try`
+// (it needs no proof; the environment's RT may name another command) and compares its answers with parse.js.
+// --nested: that many texts in which constructs stand in each other, and no others.
+// --file: texts of one's own, with U+0000 between them. --high H --open M: with these limits in place of 500 and 1000, so
+// that small texts meet them; a text that derives nothing may then be too deep too. Exit status 1 where anything disagrees.
+
+const fs = require('node:fs');
+const os = require('node:os');
+const path = require('node:path');
+const { spawnSync } = require('node:child_process');
+const REFERENCE = path.join(__dirname, '..', 'reference');
+const CRATES = path.join(__dirname, '..', '..', 'crates');
+const { parseOnly } = require(path.join(REFERENCE, 'parse.js'));
+const { sample } = require(path.join(REFERENCE, 'brute.js'));
+const { PROGRAMS } = require(path.join(REFERENCE, 'fuzz-programs.js'));
+const { plainTree } = require(path.join(__dirname, '..', 'definitions', 'model.js'));
+
+const option = (name, otherwise) => {
+  const i = process.argv.indexOf('--' + name);
+  return i < 0 ? otherwise : process.argv[i + 1];
+};
+
+// ---------------------------------------------------------------- texts
+
+function randomSource(seed) { // mulberry32
+  let s = seed >>> 0;
+  const next = () => {
+    s = (s + 0x6d2b79f5) >>> 0;
+    let t = Math.imul(s ^ (s >>> 15), s | 1);
+    t ^= t + Math.imul(t ^ (t >>> 7), t | 61);
+    return ((t ^ (t >>> 14)) >>> 0) / 4294967296;
+  };
+  return { next, below: (n) => Math.floor(next() * n), pick: (list) => list[Math.floor(next() * list.length)] };
+}
+
+// The alphabets of the model's own comparison.
+function alphabets() {
+  const text = fs.readFileSync(path.join(REFERENCE, 'fuzz.js'), 'utf8');
+  const table = /const ALPHABETS = (\{[^]*?\n\});/.exec(text)[1];
+  const words = (s) => s.split(' ').map((w) => (w === 'LF' ? '\n' : w));
+  return Object.values(new Function('words', 'return ' + table)(words));
+}
+
+const pieces = (text) => text.match(/\s+|[$\w]+|'[^']*'|"[^"]*"|=>|\*\*|\+\+|--|\?\.|\?\?|\|\||&&|\.\.\.|\$\{|[^]/g) ?? [];
+
+function mutated(source, pool) {
+  const list = pieces(source.pick(PROGRAMS));
+  for (let m = source.below(3); m >= 0; m--) {
+    const i = source.below(list.length + 1);
+    switch (source.below(5)) {
+      case 0: list.splice(i, 1); break;
+      case 1: list.splice(i, 0, source.pick(pool)); break;
+      case 2: list[Math.min(i, list.length - 1)] = source.pick(pool); break;
+      case 3: list.splice(i, 0, source.pick(['\n', '(', ')', '(a)', '/', '+', '`x`', '{', '}', ',', '=>', '=', '...'])); break;
+      default: { // a group round a stretch
+        const j = Math.min(list.length, i + 1 + source.below(8));
+        list.splice(j, 0, ')');
+        list.splice(i, 0, '(');
+      }
+    }
+  }
+  return list.join('');
+}
+
+function makeTexts(count, seed) {
+  const source = randomSource(seed);
+  const pool = PROGRAMS.flatMap(pieces).filter((p) => p.trim() !== '');
+  const lists = alphabets();
+  const texts = [...PROGRAMS];
+  for (let k = 0; k < count; k++) {
+    texts.push(sample(source.next, 10 + source.below(80)).join(source.pick([' ', ' ', '\n'])));
+    texts.push(mutated(source, pool));
+    const list = source.pick(lists);
+    const glue = source.pick([' ', ' ', '']);
+    texts.push(Array.from({ length: 1 + source.below(9) }, () => source.pick(list)).join(glue));
+  }
+  return texts.filter((t) => t.isWellFormed() && !t.includes('\0'));
+}
+
+// What holds an expression at its `@`, as an expression or as a statement (`ended`), and what holds a statement, as an
+// expression (`valued`) or as a statement.
+const HOLDERS = {
+  expression: ['(@)', '[@]', '[...@]', '[, @]', '({a: @})', '({[@]: 1})', '({...@})', '-@', '!@', '@ + b', 'a * @', '(@) ** b', 'a ** @', '@ ? a : b', 'a ? @ : b', 'a ? b : @', 'a = @', '[a] = @', '[a = @] = b', '({a = @} = b)', '({a: [b = @]} = c)', 'f(@)', 'f(...@)', '(@)(b)', '(@).b', '(@)[b]', 'a[@]', '`${@}`', '(@)`x`', 'new (@)', 'new a(@)', '() => @', '(a = @) => b', '({a = @}) => b', '(...[a = @]) => b', 'x => (@)', 'a?.[@]', '(@)?.b.c', 'typeof @', 'a ?? @', '(a, @)', '(@, a)', 'function (a = @) {}', 'class extends (@) {}', 'class { [@]() {} }', 'import(@)', '({get a() { return @ }})', '({set a(b = @) {}})'],
+  ended: ['@;', 'if (@) ;', 'while (@) a;', 'throw @;', 'var a = @;', 'let [a = @] = b;', 'for (@;;) ;', 'for (;@;) ;', 'for (;;@) ;', 'for (a of @) ;', 'for (let a = @;;) ;', 'for ([a = @] of b) ;', 'switch (@) {}', 'switch (a) { case @: }', 'do ; while (@)', 'try {} catch ([a = @]) {}', 'function f(a = @) {}', 'class A extends (@) {}'],
+  valued: ['function () { @ }', '() => { @ }', '({m() { @ }})', '({set a(b) { @ }})', 'class { static m() { @ } }', 'class extends A { constructor() { @ } }'],
+  statement: ['{ @ }', 'if (a) @', 'if (a) b; else @', 'while (a) @', 'do @ while (a)', 'for (;;) @', 'for (a in b) @', 'for (const a of b) @', 'l: @', 'switch (a) { case b: @ }', 'switch (a) { default: @ }', 'try { @ } catch {}', 'try {} catch (a) { @ }', 'try {} finally { @ }', 'function f() { @ }', 'class A { m() { @ } }', 'a; @'],
+};
+function nested(source) {
+  let text = source.pick(['a', '1', "'x'", 'this', '({})', 'a.b']);
+  let isStatement = false;
+  const some = source.below(3) === 0 ? source.pick(HOLDERS.expression) : null; // one construct in itself, or any in any
+  for (let k = 1 + source.below(8); k > 0; k--) {
+    const crosses = source.below(4) === 0;
+    const list = isStatement ? (crosses ? HOLDERS.valued : HOLDERS.statement) : (crosses ? HOLDERS.ended : HOLDERS.expression);
+    const holder = !isStatement && !crosses && some !== null ? some : source.pick(list);
+    text = holder.split('@').join(text);
+    isStatement = isStatement !== crosses;
+  }
+  return text;
+}
+
+// ---------------------------------------------------------------- the model's answers
+
+const LETTERS = { computed: 'c', optional: 'o', is_static: 's', prefix: 'p', directive: 'd', expression: 'e' };
+function show(n) {
+  if (n === null) return '~';
+  const flags = Object.keys(LETTERS).map((f) => (n.flags[f] ? LETTERS[f] : '')).join('');
+  const form = n.flags.form === 'init' ? '' : ':' + n.flags.form;
+  return `(${n.kind} ${n.start} ${n.stop} [${n.text}] ${flags}${form}${n.parts.map(show).join('')})`;
+}
+const HIGH = Number(option('high', 500));
+const OPEN = Number(option('open', 1000));
+function answer(text) {
+  const result = parseOnly(text, { maxHeight: 1e6, maxParens: 1e6 });
+  if (!result.ok) return result.fault.kind;
+  if (result.height > HIGH || result.openParens > OPEN) return 'TooDeep';
+  return result.pairs.map((p) => `${p.left}-${p.right} `).join('') + show(plainTree(result.tree));
+}
+
+// ---------------------------------------------------------------- the parser's answers
+
+const STANDS_ON = ['source_text', 'tokens', 'tree', 'language', 'grammar', 'token_cursor', 'covers', 'productions', 'parser'];
+function run(texts) {
+  const folder = option('keep', null) ?? fs.mkdtempSync(path.join(os.tmpdir(), 'parser-'));
+  const lines = fs.readFileSync(path.join(CRATES, '..', 'crates.txt'), 'utf8').split('\n').filter((l) => STANDS_ON.includes(l.split(':')[0]));
+  fs.mkdirSync(path.join(folder, 'crates'), { recursive: true });
+  fs.writeFileSync(path.join(folder, 'crates.txt'), lines.join('\n') + '\ndump: source_text tree parser\n');
+  const copy = (from, to) => { for (const part of ['src', 'specs', 'proofs']) if (fs.existsSync(path.join(from, part))) fs.cpSync(path.join(from, part), path.join(to, part), { recursive: true }); };
+  for (const name of STANDS_ON) copy(path.join(CRATES, name), path.join(folder, 'crates', name));
+  copy(path.join(__dirname, 'dump'), path.join(folder, 'crates', 'dump'));
+  const limit = (file, name, value) => {
+    const at = path.join(folder, 'crates', file);
+    fs.writeFileSync(at, fs.readFileSync(at, 'utf8').replace(new RegExp(`(const ${name}: u32 = )\\d+`), '$1' + value));
+  };
+  limit('parser/src/script.rt', 'MAX_HEIGHT', HIGH);
+  limit('token_cursor/src/cursor.rt', 'MAX_OPEN', OPEN);
+  const answers = [];
+  const SIZE = 4000; // texts a run
+  for (let i = 0; i < texts.length; i += SIZE) {
+    const file = path.join(folder, 'texts');
+    fs.writeFileSync(file, texts.slice(i, i + SIZE).join('\0'));
+    const done = spawnSync(process.env.RT ?? 'rt', ['try', '--seconds', '600', '--data', 'texts=' + file], { cwd: path.join(folder, 'crates', 'dump'), maxBuffer: 1 << 30, encoding: 'utf8' });
+    const list = done.stdout.split('\0');
+    const rest = list.pop();
+    if (list.length !== Math.min(SIZE, texts.length - i)) { console.log(`stopped after ${list.length} texts:\n${rest}\n${done.stderr}`); process.exitCode = 1; }
+    answers.push(...list);
+    if (list.length < Math.min(SIZE, texts.length - i)) break;
+  }
+  return answers;
+}
+
+const file = option('file', null);
+const count = Number(option('nested', 0));
+const source = randomSource(Number(option('seed', 1)));
+const texts = file !== null ? fs.readFileSync(file, 'utf8').split('\0')
+  : count > 0 ? Array.from({ length: count }, () => nested(source)) : makeTexts(Number(option('n', 1000)), Number(option('seed', 1)));
+const answers = run(texts);
+let accepted = 0;
+let deep = 0;
+let differ = 0;
+for (let i = 0; i < answers.length; i++) {
+  const wanted = answer(texts[i]);
+  if (wanted.endsWith(')')) accepted += 1;
+  if (wanted === 'TooDeep') deep += 1;
+  if (wanted === answers[i]) continue;
+  if (wanted === 'Syntax' && answers[i] === 'TooDeep' && HIGH < 500) continue;
+  differ += 1;
+  if (differ > Number(option('show', 20))) continue;
+  console.log(JSON.stringify(texts[i]) + '\n  model:  ' + wanted + '\n  parser: ' + answers[i]);
+}
+console.log(`${answers.length} texts, ${accepted} accepted, ${deep} too deep, ${differ} disagreements`);
+if (differ > 0) process.exitCode = 1;
