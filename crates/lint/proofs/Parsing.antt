@@ -28,9 +28,9 @@ use Rattle.lint.specs.Cursor.{IsAhead}
 use Rattle.lint.specs.Starts.{StartsWith}
 use Rattle.lint.specs.Reads.{ReadsPart, IsTooDeep, Refuses, Reads as Answers, IsSign, AnswersLeaf}
 use Rattle.lint.proofs.Turns.{Climbs, Lists}
-use Rattle.lint.specs.declared.parser.Part.{Part}
-use Rattle.lint.specs.declared.parser.Sign.{Sign}
-use Rattle.lint.specs.declared.parser.Start.{Start}
+use Rattle.lint.specs.declared.sums.Part.{Part}
+use Rattle.lint.specs.declared.sums.Sign.{Sign}
+use Rattle.lint.specs.declared.sums.Start.{Start}
 use Rattle.grammar.proofs.HeightBytes.{height_bytes}
 use Rattle.grammar.proofs.ReadWords.{reading_text as reading}
 use Rattle.lint.proofs.Places.{token_at, ahead, same_ahead, comma_of}

@@ -20,7 +20,7 @@ use Rattle.lint.specs.Cursor.{IsAhead}
 use Rattle.lint.specs.Reads.{ReadsPart, Refuses}
 use Rattle.lint.proofs.Turns.{Scripts}
 use Rattle.lint.specs.Scripts.{IsOver, IsOnly, RefusesScript, ReadsStatements, Parses}
-use Rattle.lint.specs.declared.parser.Part.{Part}
+use Rattle.lint.specs.declared.sums.Part.{Part}
 use Rattle.lint.specs.declared.script.Parsed.{Parsed}
 use Rattle.grammar.proofs.ReadWords.{reading_text as reading, end_token}
 use Rattle.lint.proofs.Places.{token_at, ahead}

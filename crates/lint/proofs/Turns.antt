@@ -9,7 +9,7 @@ use Rattle.grammar.specs.Limits.{itself, front, max_height, max_open}
 use Rattle.grammar.proofs.Steps.{Climbing}
 use Rattle.grammar.proofs.Lists.{Listing}
 use Rattle.grammar.proofs.Scripts.{Scripting}
-use Rattle.lint.specs.declared.parser.Part.{Part}
+use Rattle.lint.specs.declared.sums.Part.{Part}
 
 -- before each turn of the loop over operators
 pub record Climbs (text : List ℕ) (o h : ℕ) (y : Rank) (from to : LexicalToken) (old new : List Pair) (part : Part) : Type 0 where

@@ -5,6 +5,7 @@ pub mod Scripts
 pub mod PartText
 pub mod Fix
 pub mod Streams
+pub mod ReadScripts
 pub mod Run
 pub mod Refusal
 pub mod CommandLine

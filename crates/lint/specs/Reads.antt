@@ -18,8 +18,8 @@ use Rattle.language.specs.Words.{tightness}
 use Rattle.language.specs.Words.{binds}
 use Rattle.grammar.specs.Sums.{sum_operator}
 use Rattle.lint.specs.Cursor.{IsAhead}
-use Rattle.lint.specs.declared.parser.Part.{Part}
-use Rattle.lint.specs.declared.parser.Sign.{Sign}
+use Rattle.lint.specs.declared.sums.Part.{Part}
+use Rattle.lint.specs.declared.sums.Sign.{Sign}
 
 -- the only thing that the symbol y spells at a place, as far as it goes
 pub record ReadsPart (text : List ℕ) (o h : ℕ) (y : Rank) (from to : LexicalToken) (old new : List Pair) (part : Part) : Type 0 where

@@ -1,16 +1,20 @@
 -- A run of a command: what was read, what was written, and what the answer says of both.
-use Rattle.std.specs.Prelude.{◌≡◌, ◌≤◌, ℕ, List, Bool, true, false, length, Option, IfSome, Result, Ok, Err, String, string_bytes}
+use Rattle.std.specs.Prelude.{◌≡◌, ◌≤◌, ℕ, List, [], ◌∷◌, ◌++◌, Bool, true, false, length, Option, None, IfSome, Result, Ok, Err, String, string_bytes}
 use Rattle.std.specs.Str.{IsUtf8}
 use Rattle.std.specs.declared.alloc.Global.{Global}
 use Rattle.std.specs.Io.KnownBytes.{Appends, Keeps}
 use Rattle.source_text.specs.Source.{IsPlace, IsRefusal, max_bytes}
 use Rattle.source_text.specs.Lines.{line_column}
 use Rattle.source_text.specs.declared.fault.Fault.{Fault}
-use Rattle.source_text.specs.declared.fault.Fault.TheVariants.{Syntax, TooDeep, Early, OutOfMemory, ReadFailed, WriteFailed}
+use Rattle.source_text.specs.declared.fault.Fault.TheVariants.{NotUtf8, TooLong, Syntax, Early, OutOfMemory, ReadFailed, WriteFailed}
 use Rattle.lint.specs.declared.run.Command.{Command}
-use Rattle.lint.specs.declared.run.Command.TheVariants.{Fix}
+use Rattle.lint.specs.declared.run.Command.TheVariants.{Fix, Tree}
 use Rattle.lint.specs.declared.run.Refused.{Refused}
-use Rattle.lint.specs.Scripts.{NothingDerives, NothingWithinLimits}
+use Rattle.tree.specs.Tree.{Tree as SyntaxTree}
+use Rattle.early_errors.specs.Early.{least_error}
+use Rattle.estree_json.specs.Json.{json_text}
+use Rattle.lint.specs.Scripts.{RefusesScript}
+use Rattle.lint.specs.ReadScripts.{RefusesReading}
 use Rattle.lint.specs.Fix.{IsFixed}
 use Rattle.lint.specs.Streams.{AppendsBeginning}
 
@@ -20,15 +24,25 @@ use Rattle.lint.specs.Streams.{AppendsBeginning}
 abbrev pub IsSource : List ℕ → Type 0
 IsSource text = IsUtf8 text × (length text ≤ max_bytes)
 
+-- the JSON of a tree without early errors, and a line feed
+abbrev pub IsJson : List ℕ → Type 0
+IsJson answer = (n : SyntaxTree) × (least_error n ≡ None) × (answer ≡ json_text n ++ 10 ∷ [])
+
 -- what the command is to write for a text
 abbrev pub IsAnswer : Command → List ℕ → List ℕ → Type 0
 IsAnswer Fix text answer = IsSource text × IsFixed text answer
+IsAnswer Tree text answer = IsSource text × IsJson answer
 
--- why a text is refused: it is source text but no script, or no script within the limits; else it is no source text
-abbrev pub RefusesText : List ℕ → Fault → Type 0
-RefusesText text (Syntax at) = IsSource text × NothingDerives text × IsPlace text at
-RefusesText text TooDeep = IsSource text × NothingWithinLimits text
-RefusesText text other = IsRefusal text other
+-- why the command refuses source text
+abbrev pub RefusesSource : Command → List ℕ → Fault → Type 0
+RefusesSource Fix text fault = RefusesScript text fault
+RefusesSource Tree text fault = RefusesReading text fault
+
+-- why the command refuses a text: it is source text that it refuses, or it is none
+abbrev pub RefusesText : Command → List ℕ → Fault → Type 0
+RefusesText command text (NotUtf8 at) = IsRefusal text (NotUtf8 at)
+RefusesText command text TooLong = IsRefusal text TooLong
+RefusesText command text fault = IsSource text × RefusesSource command text fault
 
 -- the line and the column of the place that a fault speaks of, both 0 where it speaks of none
 abbrev pub place_of : List ℕ → Fault → ℕ × ℕ
@@ -41,6 +55,10 @@ abbrev pub HasPlace : List ℕ → Fault → Type 0
 HasPlace text (Syntax at) = IsPlace text at
 HasPlace text (Early number at) = IsPlace text at
 HasPlace text other = Unit {0}
+
+-- the line and the column are those of the place, if it is one of the text
+abbrev pub IsPlacedAt : List ℕ → Fault → ℕ × ℕ → Type 0
+IsPlacedAt text fault place = HasPlace text fault → place ≡ place_of text fault
 
 -- ---- the devices
 
@@ -79,7 +97,7 @@ Refuses command seen ReadFailed place = (seen.reader_failed ≡ true) × (seen.w
 Refuses command seen WriteFailed place = (seen.reader_failed ≡ false) × (seen.writer_failed ≡ true) × BeginsAnswer command seen × (place ≡ (0, 0))
 Refuses command seen OutOfMemory place = NoneFailed seen × NothingWritten seen × (place ≡ (0, 0))
 Refuses command seen fault place = NoneFailed seen × NothingWritten seen
-    × ((text : List ℕ) × IsGiven seen.given text × RefusesText text fault × (place ≡ place_of text fault))
+    × ((text : List ℕ) × IsGiven seen.given text × RefusesText command text fault × IsPlacedAt text fault place)
 
 -- a run: status 0 and the whole answer, or a refusal
 abbrev pub Runs : Command → Seen → Result ℕ Refused → Type 0
@@ -88,10 +106,10 @@ Runs command seen (Err refused) = Refuses command seen refused.fault (refused.li
 
 -- ---- the middle step: from the bytes that were read to the answer
 
-abbrev pub RefusesBytes : List ℕ → Fault → ℕ × ℕ → Type 0
-RefusesBytes bytes OutOfMemory place = place ≡ (0, 0)
-RefusesBytes bytes fault place = RefusesText bytes fault × (place ≡ place_of bytes fault)
+abbrev pub RefusesBytes : Command → List ℕ → Fault → ℕ × ℕ → Type 0
+RefusesBytes command bytes OutOfMemory place = place ≡ (0, 0)
+RefusesBytes command bytes fault place = RefusesText command bytes fault × IsPlacedAt bytes fault place
 
 abbrev pub Answers : Command → List ℕ → Result (String Global) Refused → Type 0
 Answers command bytes (Ok answer) = IsAnswer command bytes (string_bytes answer)
-Answers command bytes (Err refused) = RefusesBytes bytes refused.fault (refused.line, refused.column)
+Answers command bytes (Err refused) = RefusesBytes command bytes refused.fault (refused.line, refused.column)

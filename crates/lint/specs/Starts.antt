@@ -5,8 +5,8 @@ use Rattle.tokens.specs.declared.token.Class.{Class as LexicalClass}
 use Rattle.tokens.specs.declared.token.Class.TheVariants.{Punctuator}
 use Rattle.language.specs.Words.{is_reserved}
 use Rattle.grammar.specs.Sums.{is_integer}
-use Rattle.lint.specs.declared.parser.Start.{Start}
-use Rattle.lint.specs.declared.parser.Start.TheVariants.{Name, Number, Group}
+use Rattle.lint.specs.declared.sums.Start.{Start}
+use Rattle.lint.specs.declared.sums.Start.TheVariants.{Name, Number, Group}
 
 abbrev pub StartsWith : Start → LexicalToken → Type 0
 StartsWith Name t = (t.class ≡ LexicalClass.Name) × (is_reserved t.text ≡ false)

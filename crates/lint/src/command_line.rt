@@ -3,7 +3,7 @@
 ghost use Rattle.std.specs.Prelude.{◌≡◌, IfErr, IfOk, IfSome, Some, false, map, true};
 ghost use Rattle.clap.specs.Words.{app_of, kind_of, subcommand_of, subcommand_rows_of, takes};
 ghost use Rattle.clap.specs.declared.builder.command.Command.TheViews.{out-Command};
-ghost use Rattle.lint.specs.CommandLine.{Chooses, fix_app, jslint_app};
+ghost use Rattle.lint.specs.CommandLine.{Chooses, file_app, jslint_app, word_of};
 
 use crate::run::Command;
 use clap::error::ErrorKind;
@@ -17,44 +17,62 @@ pub struct Line<'a> {
     pub file: &'a str,
 }
 
-/// The command `fix FILE`.
-fn fix_command<'a>(alloc: Global) -> Result<clap::Command<'a>, AllocError>
-    ensures shape { IfOk result (λ c. app_of c ≡ fix_app) }
+// What the help says of a command.
+fn about(command: Command) -> &'static str {
+    match command {
+        Command::Fix => {
+            "Write the script in one layout, with parentheses only where they are needed"
+        }
+        Command::Tree => "Write the tree of the script as JSON, in the form of ESTree",
+    }
+}
+
+/// A command with its FILE.
+fn file_command<'a>(alloc: Global, command: Command) -> Result<clap::Command<'a>, AllocError>
+    ensures shape { IfOk result (λ c. app_of c ≡ file_app (word_of command)) }
     ensures local { IfOk result (λ c. (out-Command c).has_globals ≡ false) }
 {
     let file = Arg::new(alloc, "file")
         .required(true)
         .value_name("FILE")
         .help("The script to read: UTF-8, at most 16777216 bytes");
-    let fix = clap::Command::new(alloc, "fix")
-        .about("Write the script in one layout, with parentheses only where they are needed")
-        .arg(file)?;
-    Ok(fix)
+    clap::Command::new(alloc, command.word())
+        .about(about(command))
+        .arg(file)
 }
 
 /// The whole command line.
 fn jslint_command<'a>(alloc: Global) -> Result<clap::Command<'a>, AllocError>
     ensures shape { IfOk result (λ c. app_of c ≡ jslint_app) }
 {
-    let fix = fix_command(alloc)?;
+    let fix = file_command(alloc, Command::Fix)?;
+    let tree = file_command(alloc, Command::Tree)?;
     let jslint = clap::Command::new(alloc, "jslint")
         .about("A linter for ECMAScript 2020 scripts")
         .after_help("Exit status: 0 where all is well, 1 for a finding, 2 for a refusal")
         .subcommand_required(true)
-        .subcommand(fix)?;
+        .subcommand(fix)?
+        .subcommand(tree)?;
     Ok(jslint)
+}
+
+/// This command, if it was met, with its file.
+fn line_of<'a>(matches: &ArgMatches<'a>, command: Command) -> Option<Line<'a>>
+    ensures { IfSome result (λ line. Chooses (subcommand_rows_of matches.now) line) }
+{
+    let met = matches.subcommand_matches(command.word())?;
+    let file = met.get_str("file")?;
+    Some(Line { command, file })
 }
 
 /// The command that was met, with its file.
 fn chosen_line<'a>(matches: &ArgMatches<'a>) -> Option<Line<'a>>
     ensures { IfSome result (λ line. Chooses (subcommand_rows_of matches.now) line) }
 {
-    let fix = matches.subcommand_matches("fix")?;
-    let file = fix.get_str("file")?;
-    Some(Line {
-        command: Command::Fix,
-        file,
-    })
+    match line_of(matches, Command::Fix) {
+        Some(line) => Some(line),
+        None => line_of(matches, Command::Tree),
+    }
 }
 
 /// Reads all words of a command line, the program's name first.

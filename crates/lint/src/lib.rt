@@ -5,9 +5,10 @@
 pub mod command_line;
 mod cursor;
 mod fixer;
-mod parser;
+mod sums;
 mod planner;
 mod printer;
+mod reading;
 pub mod refusal;
 pub mod run;
 mod script;
@@ -15,8 +16,11 @@ mod short_text;
 pub mod streams;
 
 pub use fixer::fix;
+pub use reading::read_script;
 
 #[cfg(test)]
 mod fixer_tests;
+#[cfg(test)]
+mod reading_tests;
 #[cfg(test)]
 mod tests;

@@ -1,10 +1,14 @@
 //! A run of a command: read all, answer, write all.
 
-ghost use Rattle.std.specs.Prelude.{IfErr, ◌≡◌, ◌≢◌, false};
-ghost use Rattle.lint.specs.Run.{Answers, HasPlace, Runs, place_of};
+ghost use Rattle.std.specs.Prelude.{IfErr, IfOk, ◌≡◌, ◌≢◌, false, string_bytes};
+ghost use Rattle.lint.specs.CommandLine.{word_of};
+ghost use Rattle.lint.specs.ReadScripts.{RefusesReading};
+ghost use Rattle.lint.specs.Run.{Answers, IsJson, IsPlacedAt, Runs};
 
 use crate::fixer::fix;
+use crate::reading::read_script;
 use crate::streams::{read_up_to, write_text};
+use estree_json::tree_text;
 use source_text::{DeviceFault, Fault, Feed, MAX_BYTES, Sink, Source};
 use std::alloc::Global;
 
@@ -13,6 +17,23 @@ use std::alloc::Global;
 pub enum Command {
     /// Write the fixed text of the script.
     Fix,
+    /// Write the tree of the script, as JSON, and a line feed.
+    Tree,
+}
+
+impl Command {
+    /// Each of them.
+    pub const ALL: [Command; 2] = [Command::Fix, Command::Tree];
+
+    /// The word for it on the command line.
+    pub fn word(self) -> &'static str
+        ensures { result.now ≡ word_of self }
+    {
+        match self {
+            Command::Fix => "fix",
+            Command::Tree => "tree",
+        }
+    }
 }
 
 /// A refusal, and the place that it speaks of: its line and its column from 1, both 0 where there is none.
@@ -35,14 +56,13 @@ impl Refused {
         }
     }
 
-    /// A refusal of a text, with the line and the column of its place.
+    /// A refusal of a text, with the line and the column of its place, where that is one of the text.
     pub fn of_text(source: &Source, fault: Fault) -> Refused
-        requires { HasPlace source.now fault }
         ensures fault { result.fault ≡ fault }
-        ensures place { (result.line, result.column) ≡ place_of source.now fault }
+        ensures place { IsPlacedAt source.now fault (result.line, result.column) }
     {
         match fault {
-            Fault::Syntax(at) | Fault::Early(_, at) => {
+            Fault::Syntax(at) | Fault::Early(_, at) if source.text().is_char_boundary(at) => {
                 let (line, column) = source.line_column(at);
                 Refused {
                     fault,
@@ -55,6 +75,17 @@ impl Refused {
     }
 }
 
+// The tree of a script as JSON, and a line feed.
+fn tree_line(alloc: Global, source: &Source<'_>) -> Result<String, Fault>
+    ensures json { IfOk result (λ line. IsJson (string_bytes line)) }
+    ensures refused { IfErr result (RefusesReading source.now) }
+{
+    let parsed = read_script(alloc, source)?;
+    let mut line = tree_text(alloc, parsed.program())?;
+    line.push('\n')?;
+    Ok(line)
+}
+
 /// What the command answers for the bytes of a file.
 fn answer(alloc: Global, command: Command, bytes: &[u8]) -> Result<String, Refused>
     ensures { Answers command bytes.now result }
@@ -65,6 +96,7 @@ fn answer(alloc: Global, command: Command, bytes: &[u8]) -> Result<String, Refus
     };
     let answered = match command {
         Command::Fix => fix(alloc, &source),
+        Command::Tree => tree_line(alloc, &source),
     };
     match answered {
         Ok(text) => Ok(text),
@@ -77,7 +109,7 @@ fn answer(alloc: Global, command: Command, bytes: &[u8]) -> Result<String, Refus
 /// # Errors
 ///
 /// `ReadFailed` and `WriteFailed` where that device fails; `TooLong` and `NotUtf8` where the file holds no source
-/// text; `Syntax`, with its line and column, and `TooDeep` where it is no script; `OutOfMemory`. Nothing is written
+/// text; `Syntax` and `Early`, with line and column, and `TooDeep` where it is no script; `OutOfMemory`. Nothing is written
 /// but where the writer fails: then a beginning of the answer.
 pub fn run<R: Feed, W: Sink>(
     alloc: Global,

@@ -9,7 +9,7 @@ ghost use Rattle.grammar.specs.Limits.{front};
 ghost use Rattle.lint.specs.Scripts.{IsOver, ReadsStatements, Parses};
 
 use crate::cursor::Cursor;
-use crate::parser::Parser;
+use crate::sums::Parser;
 use source_text::{Fault, Source};
 use std::alloc::Global;
 use std::borrow::CowStr;

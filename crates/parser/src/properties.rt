@@ -1,9 +1,7 @@
 //! Properties of objects and members of classes (ECMA-262 12.2.6, 14.3, 14.6).
 #![tactic(auto, using(crate::proofs::Refused::refusals, crate::proofs::Moves::moves))]
 
-ghost use Rattle.std.specs.Prelude.{◌≡◌, ◌≤◌, IfOk, IfErr, IfSome, IfNone, IsTrue};
-ghost use Rattle.std.specs.Str.{chars};
-ghost use Rattle.tokens.specs.Strings.{is_string};
+ghost use Rattle.std.specs.Prelude.{◌≡◌, ◌≤◌, IfOk, IfErr, IfSome};
 ghost use Rattle.parser.specs.Moves.{Passes};
 ghost use Rattle.parser.specs.Refusals.{IsLimit, IsRefusal};
 
@@ -14,8 +12,7 @@ use covers::{Item, Shape};
 use language::Edge;
 use productions::{Nodes, Tall, made, plain};
 use source_text::Fault;
-use std::alloc::Global;
-use tokens::{Class, Goal, Token, string_units};
+use tokens::{Class, Goal, Token, string_is};
 use tree::{Flags, Form, Kind};
 
 // PropertyName (12.2.6).
@@ -74,34 +71,12 @@ fn named(is_static: bool, form: Form, name: Option<Token<'_>>) -> Modifiers<'_>
 }
 
 // Whether the value of a name or a string as a key is `constructor` (14.6); a number's is none.
-fn is_constructor(alloc: Global, key: &Token<'_>) -> Result<bool, Fault>
-    requires string { key.now.class ≡ Class.Text → IsTrue (is_string (chars key.now.text.now)) }
-    ensures { IfErr result IsLimit }
-{
+fn is_constructor(key: &Token<'_>) -> bool {
     match key.class {
-        Class::Name => Ok(matches!(key.text, "constructor")),
-        Class::Text if key.text.contains("\\") => has_constructor_units(alloc, key.text),
-        Class::Text => Ok(matches!(key.text, "'constructor'" | "\"constructor\"")),
-        _ => Ok(false),
+        Class::Name => key.text == "constructor",
+        Class::Text => string_is(key.text, "constructor"),
+        _ => false,
     }
-}
-
-// Whether the value of a string is `constructor`.
-fn has_constructor_units(alloc: Global, text: &str) -> Result<bool, Fault>
-    requires { IsTrue (is_string (chars text.now)) }
-    ensures { IfErr result IsLimit }
-{
-    let units = string_units(alloc, text)?;
-    let word = b"constructor";
-    if units.len() != word.len() {
-        return Ok(false);
-    }
-    for (unit, byte) in units.iter().zip(word) {
-        if *unit != u16::from(*byte) {
-            return Ok(false);
-        }
-    }
-    Ok(true)
 }
 
 impl<'t, 's> Parser<'t, 's> {
@@ -168,7 +143,6 @@ impl<'t, 's> Parser<'t, 's> {
         ensures text { self.new.cursor.text ≡ self.old.cursor.text }
         ensures forward { self.old.cursor.last.stop ≤ self.new.cursor.last.stop }
         ensures passes { IfOk result (λ _. Passes self.old.cursor self.new.cursor) }
-        ensures string { IfOk result (λ token. token.class ≡ Class.Text → IsTrue (is_string (chars token.text.now))) }
         ensures refused { IfErr result (IsRefusal self.new.cursor.text) }
     {
         let Some(token) = self.cursor.peek(Goal::Div) else {
@@ -183,23 +157,15 @@ impl<'t, 's> Parser<'t, 's> {
         }
     }
 
-    // PropertyName (12.2.6) that is no expression in brackets: the name that was passed, or the one ahead.
-    fn plain_key(
-        &mut self,
-        passed: Option<Token<'s>>,
-        in_class: bool,
-        high: u32,
-    ) -> Result<Key<'s>, Fault>
+    // PropertyName (12.2.6) that is no expression in brackets.
+    fn plain_key(&mut self, in_class: bool, high: u32) -> Result<Key<'s>, Fault>
         ensures text { self.new.cursor.text ≡ self.old.cursor.text }
         ensures forward { self.old.cursor.last.stop ≤ self.new.cursor.last.stop }
-        ensures passes { IfOk result (λ _. IfNone passed.entry (Passes self.old.cursor self.new.cursor)) }
+        ensures passes { IfOk result (λ _. Passes self.old.cursor self.new.cursor) }
         ensures refused { IfErr result (IsRefusal self.new.cursor.text) }
     {
-        if let Some(token) = passed {
-            return self.key_of(token, false, high);
-        }
         let token = self.key_token()?;
-        let is_constructor = in_class && is_constructor(self.alloc, &token)?;
+        let is_constructor = in_class && is_constructor(&token);
         self.key_of(token, is_constructor, high)
     }
 
@@ -219,6 +185,39 @@ impl<'t, 's> Parser<'t, 's> {
         })
     }
 
+    // What stands before the name of a property or a member, and the name (12.2.6, 14.3, 14.6).
+    #[cycle(grammar)]
+    fn property_name(
+        &mut self,
+        in_class: bool,
+        high: u32,
+    ) -> Result<(Modifiers<'s>, Key<'s>), Fault>
+        ensures text { self.new.cursor.text ≡ self.old.cursor.text }
+        ensures forward { self.old.cursor.last.stop ≤ self.new.cursor.last.stop }
+        ensures passes { IfOk result (λ _. Passes self.old.cursor self.new.cursor) }
+        ensures refused { IfErr result (IsRefusal self.new.cursor.text) }
+    {
+        let modifiers = self.modifiers(in_class);
+        if let Some(token) = modifiers.name {
+            let key = self.key_of(token, false, high)?;
+            return Ok((modifiers, key));
+        }
+        if !self.accept("[") {
+            let key = self.plain_key(in_class, high)?;
+            return Ok((modifiers, key));
+        }
+        let part = self.expression(Position::ASSIGNMENT, high)?;
+        let node = self.settle(part)?;
+        self.expect("]")?;
+        let key = Key {
+            node,
+            computed: true,
+            token: None,
+            is_constructor: false,
+        };
+        Ok((modifiers, key))
+    }
+
     /// A property of an object or its pattern, or a member of a class (12.2.6, 14.3, 14.6).
     #[cycle(grammar)]
     pub(crate) fn definition(&mut self, in_class: bool, high: u32) -> Result<Item<'s>, Fault>
@@ -236,20 +235,7 @@ impl<'t, 's> Parser<'t, 's> {
             item.shape = shape;
             return Ok(item);
         }
-        let modifiers = self.modifiers(in_class);
-        let key = if modifiers.name.is_none() && self.accept("[") {
-            let part = self.expression(Position::ASSIGNMENT, inner)?;
-            let node = self.settle(part)?;
-            self.expect("]")?;
-            Key {
-                node,
-                computed: true,
-                token: None,
-                is_constructor: false,
-            }
-        } else {
-            self.plain_key(modifiers.name, in_class, inner)?
-        };
+        let (modifiers, key) = self.property_name(in_class, inner)?;
         let is_method = in_class || !matches!(modifiers.form, Form::Method) || self.sees("(");
         if !is_method {
             return self.value_of(key, start, high);

@@ -9,8 +9,8 @@ use Rattle.lint.proofs.run.run.Goals as goal
 pub returns-in-Err-answer-clause-answer : goal.returns-in-Err-answer-clause-answer
 returns-in-Err-answer-clause-answer g c =
     let place : ℕ × ℕ = (c.in-Err-answer.refused.line, c.in-Err-answer.refused.column) in
-    let refused : RefusesBytes c.in-Ok.bytes.items c.in-Err-answer.refused.fault place =
-    subst (λ (bytes : List ℕ). RefusesBytes bytes c.in-Err-answer.refused.fault place) c.deref.ensures.value c.in-Err-answer.ensures in
+    let refused : RefusesBytes c.args.command c.in-Ok.bytes.items c.in-Err-answer.refused.fault place =
+    subst (λ (bytes : List ℕ). RefusesBytes c.args.command bytes c.in-Err-answer.refused.fault place) c.deref.ensures.value c.in-Err-answer.ensures in
     refused_text c.args.command _ c.in-Ok.bytes.items _ _ c.in-Ok.ensures.0 (c.in-Ok.ensures.1, c.requires.writes) (Keeps-refl _) refused
 
 pub returns-in-Ok-write_text-clause-answer : goal.returns-in-Ok-write_text-clause-answer

@@ -55,6 +55,9 @@ decreases-definition l = 9 * (length l.self.now.cursor.text - l.self.now.cursor.
 abbrev pub decreases-value_of : goal.decreases-value_of
 decreases-value_of l = 9 * (length l.self.now.cursor.text - l.self.now.cursor.last.stop) + 1
 
+abbrev pub decreases-property_name : goal.decreases-property_name
+decreases-property_name l = 9 * (length l.self.now.cursor.text - l.self.now.cursor.last.stop) + 0
+
 abbrev pub decreases-arguments : goal.decreases-arguments
 decreases-arguments l = 9 * (length l.self.now.cursor.text - l.self.now.cursor.last.stop) + 0
 

@@ -1,6 +1,6 @@
 use Rattle.std.proofs.Common.{◌∙◌, refl}
 use Rattle.lint.proofs.Reading.{scripts_start, scripts_on, scripts_over, scripts_refused, scripts_unended, statements_passed_on}
-use Rattle.lint.proofs.parser.Parser.statements.Goals as goal
+use Rattle.lint.proofs.sums.Parser.statements.Goals as goal
 
 pub statements-init : goal.statements-init
 statements-init c = record {

@@ -1,7 +1,7 @@
 use Rattle.std.proofs.Common.{arith}
 use Rattle.tokens.specs.Scanned.{token_of}
 use Rattle.lint.proofs.Places.{stops_ahead, stops_nothing, not_punctuator, no_operator_low, own_binding}
-use Rattle.lint.proofs.parser.Parser.sign.Goals as goal
+use Rattle.lint.proofs.sums.Parser.sign.Goals as goal
 
 pub returns-in_default-clause-none : goal.returns-in_default-clause-none
 returns-in_default-clause-none c = stops_nothing _ _ _ c.in_default.ensures.none

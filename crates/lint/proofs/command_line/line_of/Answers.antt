@@ -4,7 +4,7 @@ use Rattle.std.specs.Option.{option_map}
 use Rattle.clap.specs.Words.{Row, Text, rows_of, found_of}
 use Rattle.clap.specs.declared.parser.matches.ArgMatches.TheViews.{out-ArgMatches}
 use Rattle.clap.proofs.WalkLemmas.{first_value-rows}
-use Rattle.lint.proofs.command_line.chosen_line.Goals as goal
+use Rattle.lint.proofs.command_line.line_of.Goals as goal
 
 abbrev pair_of : {X : Type 0} → (X → Text) → (X → List Row) → X → Text × List Row
 pair_of name rows x = (name x, rows x)
@@ -18,8 +18,8 @@ both_parts name rows (Some x) n r e f = cc
 
 pub returns : goal.returns
 returns c =
-    let fix = c.in_ok-fix.fix.now in (
-      rows_of (found_of fix),
-      both_parts _ _ (out-ArgMatches c.args.matches.now).subcommand _ _ (c.in_ok-fix.ensures.found.0 refl) c.in_ok-fix.ensures.rows,
-      sym (first_value-rows (found_of fix) (codes "file")) ∙ sym c.in_ok-file.ensures,
+    let met = c.in_ok-met.fix.now in (
+      rows_of (found_of met),
+      both_parts _ _ (out-ArgMatches c.args.matches.now).subcommand _ _ (c.in_ok-met.ensures.found.0 refl) c.in_ok-met.ensures.rows,
+      sym (first_value-rows (found_of met) (codes "file")) ∙ sym c.in_ok-file.ensures,
     )

@@ -5,7 +5,7 @@ use Rattle.tree.specs.Tree.{push}
 use Rattle.grammar.specs.Nodes.{several}
 use Rattle.std.specs.Prelude.{map}
 use Rattle.lint.proofs.Parsing.{passed_on, climbs_start, climbs_stop, climbs_on, climbs_high, climbs_refused, up_refused, group_limited, group_refused, group_unclosed, group_reads, expression_refused, single_reads, lists_high, lists_start, lists_refused, lists_on, lists_end, join_refused, nothing_ahead, nothing_begins, name_reads, number_reads}
-use Rattle.lint.proofs.parser.Parser.+symbols.Goals as goal
+use Rattle.lint.proofs.sums.Parser.+symbols.Goals as goal
 
 pub expression-returns-in_err-first-clause-reads : goal.expression-returns-in_err-first-clause-reads
 expression-returns-in_err-first-clause-reads t c =

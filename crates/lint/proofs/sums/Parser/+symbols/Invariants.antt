@@ -1,6 +1,6 @@
 use Rattle.std.proofs.Common.{◌≡◌, ◌-◌, ◌+◌, ◌*◌, ◌≤◌, ◌<◌, length}
 use Rattle.lint.proofs.Turns.{Climbs, Lists}
-use Rattle.lint.proofs.parser.Parser.+symbols.Given as goal
+use Rattle.lint.proofs.sums.Parser.+symbols.Given as goal
 
 abbrev pub decreases-group : goal.decreases-group
 decreases-group l = 4 * (length l.self.now.cursor.text - l.self.now.cursor.last.stop)

@@ -1,6 +1,6 @@
 use Rattle.std.proofs.Common.{◌≡◌, ◌-◌, length}
 use Rattle.lint.proofs.Turns.{Scripts}
-use Rattle.lint.proofs.parser.Parser.statements.Given as goal
+use Rattle.lint.proofs.sums.Parser.statements.Given as goal
 
 abbrev pub invariant-statements : goal.invariant-statements
 invariant-statements l = record {

@@ -1,7 +1,7 @@
 use Rattle.std.proofs.Common.{rules, sym, ap, ◌∙◌}
 use Rattle.tokens.specs.Tokens.{LexicalToken}
 use Rattle.lint.proofs.Places.{same_ahead}
-use Rattle.lint.proofs.parser.Parser.is_over.Goals as goal
+use Rattle.lint.proofs.sums.Parser.is_over.Goals as goal
 
 pub returns-clause-goes_on : goal.returns-clause-goes_on
 returns-clause-goes_on c t h class =

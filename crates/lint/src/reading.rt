@@ -1,0 +1,27 @@
+//! Reading a script: its tree, where no early error applies (ECMA-262 clause 16).
+
+ghost use Rattle.std.specs.Prelude.{◌≡◌, None, IfOk, IfErr};
+ghost use Rattle.early_errors.specs.Early.{least_error};
+ghost use Rattle.lint.specs.ReadScripts.{RefusesReading};
+
+use parser::{Parsed, parse};
+use early_errors::first_early_error;
+use source_text::{Fault, Source};
+use std::alloc::Global;
+
+/// The script that a text is, with its grouping pairs.
+///
+/// # Errors
+/// `Syntax` with a place, a byte offset, where the text is no script; `TooDeep` where it is none within the limits (height
+/// 500, and 1000 parentheses open at one point that group or hold an arrow's parameters); `Early` with the number and the
+/// place of the first early error; `OutOfMemory`.
+pub fn read_script<'s>(alloc: Global, source: &Source<'s>) -> Result<Parsed<'s>, Fault>
+    ensures lawful { IfOk result (λ parsed. least_error parsed.program ≡ None) }
+    ensures refused { IfErr result (RefusesReading source.now) }
+{
+    let parsed = parse(alloc, source)?;
+    match first_early_error(alloc, parsed.program())? {
+        Some((number, at)) => Err(Fault::Early(number, at)),
+        None => Ok(parsed),
+    }
+}
