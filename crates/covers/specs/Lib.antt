@@ -1,3 +1,4 @@
+pub mod Lists
 pub mod Patterns
 pub mod Refusals
 pub mod Shapes

@@ -3,7 +3,7 @@
 ghost use Rattle.std.specs.Prelude.{◌≡◌, ◌&&◌};
 ghost use Rattle.tree.specs.Tree.{parts_with_gaps};
 ghost use Rattle.covers.specs.Patterns.{pattern_tree, pattern_parts};
-ghost use Rattle.covers.specs.Shapes.{Becomes, is_element, is_pattern, is_target};
+ghost use Rattle.covers.specs.Shapes.{Becomes, is_bound, is_pattern, is_target, shape_of};
 
 use crate::conversions::{make_pattern, make_patterns};
 use crate::shape::Shape;
@@ -24,7 +24,8 @@ pub struct Cover<'s> {
 impl<'s> Cover<'s> {
     /// An expression that is no array, no object and no assignment.
     pub fn plain(node: Tall<'s>) -> Cover<'s>
-        ensures { result.node ≡ node.entry }
+        ensures same { result.node ≡ node.entry }
+        ensures shape { result.shape ≡ shape_of node.entry }
     {
         let shape = Shape::of(node.node());
         Cover { node, shape }
@@ -109,7 +110,7 @@ fn patterned_items<'s>(parts: Vec<Option<Syntax<'s>>>) -> Vec<Option<Syntax<'s>>
 /// # Errors
 /// `Syntax` where one is no name and no pattern that is bound, with a default or without.
 pub fn to_parameters<'s>(covers: Nodes<'s>, shape: Shape, at: usize) -> Result<Nodes<'s>, Fault>
-    ensures { Becomes (pattern_parts 0 covers.entry) (shape.binds && is_element shape.assigned) at result }
+    ensures { Becomes (pattern_parts 0 covers.entry) (is_bound shape) at result }
 {
     if !shape.is_bound() {
         return Err(Fault::Syntax(at));

@@ -1,8 +1,12 @@
 //! Lists, item by item: arguments, elements, properties, parameters, what parentheses hold, templates, sequences,
 //! declarators, cases and members. `at` is the place that a syntax error names.
 
-ghost use Rattle.std.specs.Prelude.{◌≡◌, IfErr};
-ghost use Rattle.covers.specs.Refusals.{IsRefusedAt, IsMemory};
+ghost use Rattle.std.specs.Prelude.{◌≡◌, false, IfOk, IfErr, option_map};
+ghost use Rattle.tree.specs.Tree.{none, push, push_gap, part_count};
+ghost use Rattle.covers.specs.Lists.{opening, closing, reads, nothing_seen, seen_with, with_hole, separated, is_ended, is_excess, takes};
+ghost use Rattle.covers.specs.Patterns.{pattern_parts};
+ghost use Rattle.covers.specs.Refusals.{IsRefusedAt, IsMemory, IsTaken};
+ghost use Rattle.covers.specs.Shapes.{Becomes, is_bound};
 
 use crate::cover::to_parameters;
 use crate::shape::Shape;
@@ -43,7 +47,9 @@ pub enum Listed {
 
 impl Listed {
     /// The punctuator before the first item.
-    pub fn opening(self) -> Option<&'static str> {
+    pub fn opening(self) -> Option<&'static str>
+        ensures { option_map (λ mark. mark.now) result ≡ opening self }
+    {
         match self {
             Listed::Arguments | Listed::Covers => Some("("),
             Listed::Parameters | Listed::NoParameter | Listed::OneParameter => Some("("),
@@ -54,7 +60,9 @@ impl Listed {
     }
 
     /// The punctuator behind the last item.
-    pub fn closing(self) -> Option<&'static str> {
+    pub fn closing(self) -> Option<&'static str>
+        ensures { option_map (λ mark. mark.now) result ≡ closing self }
+    {
         match self {
             Listed::Arguments | Listed::Covers => Some(")"),
             Listed::Parameters | Listed::NoParameter | Listed::OneParameter => Some(")"),
@@ -66,7 +74,9 @@ impl Listed {
 
     // Whether items of this shape, taken together, have a reading here: as expressions, as what is assigned to, or as what is
     // bound.
-    fn reads(self, shape: Shape) -> bool {
+    fn reads(self, shape: Shape) -> bool
+        ensures { result ≡ reads self shape }
+    {
         match self {
             Listed::Elements | Listed::Properties => shape.is_either(),
             Listed::Covers => shape.is_expression || shape.is_bound(),
@@ -93,7 +103,7 @@ pub struct Item<'s> {
 impl<'s> Item<'s> {
     /// A node that is an expression, or none at all, and no pattern.
     pub fn plain(node: Tall<'s>) -> Item<'s>
-        ensures { result.node ≡ node.entry }
+        ensures { result ≡ record { node = node.entry; shape = Shape.VALUE; spreads = false; is_marked = false; edge = Edge.Closed } }
     {
         Item {
             node,
@@ -134,11 +144,13 @@ impl Seen {
     };
 
     // With one more item; behind `...`, what parentheses hold is no expression.
-    fn with(self, item: &Item<'_>, listed: Listed) -> Seen {
-        let shape = match item.spreads {
-            true if listed == Listed::Covers => self.shape.with_rest(item.shape).initialized(),
-            true => self.shape.with_rest(item.shape),
-            false => self.shape.with_element(item.shape),
+    fn with(self, item: &Item<'_>, listed: Listed) -> Seen
+        ensures { result ≡ seen_with self item.now listed }
+    {
+        let shape = match (item.spreads, listed) {
+            (false, _) => self.shape.with_element(item.shape),
+            (true, Listed::Covers) => self.shape.with_rest(item.shape).initialized(),
+            (true, _) => self.shape.with_rest(item.shape),
         };
         Seen {
             shape,
@@ -151,13 +163,18 @@ impl Seen {
     }
 
     // With a comma behind the last item, or without; a pattern has none behind its rest.
-    fn separated(self, has_comma: bool) -> Seen {
-        let mut seen = self;
-        seen.has_comma = has_comma;
-        if has_comma && self.is_rest {
-            seen.shape = self.shape.unassigned();
+    fn separated(self, has_comma: bool) -> Seen
+        ensures { result ≡ separated self has_comma }
+    {
+        let shape = match has_comma && self.is_rest {
+            true => self.shape.unassigned(),
+            false => self.shape,
+        };
+        Seen {
+            shape,
+            has_comma,
+            ..self
         }
-        seen
     }
 }
 
@@ -177,6 +194,10 @@ impl<'s> List<'s> {
     /// A list without items, from this place on.
     pub fn new(alloc: Global, listed: Listed, start: usize) -> List<'s>
         ensures listed { result.listed ≡ listed }
+        ensures empty { result.nodes ≡ none }
+        ensures seen { result.seen ≡ nothing_seen }
+        ensures inside { result.inside ≡ record { start = start; end = start } }
+        ensures span { result.span ≡ record { start = start; end = start } }
     {
         let span = Span { start, end: start };
         List {
@@ -191,12 +212,15 @@ impl<'s> List<'s> {
     /// The items so far were passed, with a comma or without; then the list goes on.
     pub fn separate(&mut self, has_comma: bool)
         ensures listed { self.new.listed ≡ self.old.listed }
+        ensures separated { self.new ≡ record self.old { seen = separated self.old.seen has_comma } }
     {
         self.seen = self.seen.separated(has_comma);
     }
 
     /// Whether nothing may follow the last item, no comma either.
-    pub fn is_ended(&self) -> bool {
+    pub fn is_ended(&self) -> bool
+        ensures { result ≡ is_ended self.now.listed self.now.seen (part_count self.now.nodes) }
+    {
         match self.listed {
             Listed::Covers | Listed::Parameters => self.seen.is_rest,
             Listed::OneParameter => self.nodes.len() > 0,
@@ -206,36 +230,45 @@ impl<'s> List<'s> {
         }
     }
 
-    /// A hole of an array.
+    /// A hole of an array; as it was where memory is refused.
     ///
     /// # Errors
     /// `OutOfMemory`.
     pub fn push_hole(&mut self) -> Result<(), Fault>
         ensures listed { self.new.listed ≡ self.old.listed }
+        ensures pushed { IfOk result (λ _. self.new ≡ record self.old { nodes = push_gap self.old.nodes; seen = with_hole self.old.seen }) }
+        ensures kept { IfErr result (λ _. self.new ≡ self.old) }
         ensures refused { IfErr result IsMemory }
     {
+        self.nodes.push_gap()?;
         self.seen.is_rest = false;
-        self.nodes.push_gap()
+        Ok(())
     }
 
-    /// One more item.
+    /// One more item; as it was where it is refused.
     ///
     /// # Errors
     /// `Syntax` where no reading of the items is left, or a case is the second `default` (13.12); `OutOfMemory`.
     pub fn push(&mut self, item: Item<'s>, at: usize) -> Result<(), Fault>
         ensures listed { self.new.listed ≡ self.old.listed }
+        ensures pushed { IfOk result (λ _. self.new ≡ record self.old { nodes = push self.old.nodes item.entry.node; seen = seen_with self.old.seen item.entry self.old.listed }) }
+        ensures kept { IfErr result (λ _. self.new ≡ self.old) }
+        ensures taken { IsTaken (takes self.old.listed self.old.seen item.entry) at result }
         ensures refused { IfErr result (IsRefusedAt at) }
     {
         let seen = self.seen.with(&item, self.listed);
-        if !self.listed.reads(seen.shape) || self.is_excess(&item) {
+        if self.is_excess(&item) || !self.listed.reads(seen.shape) {
             return Err(Fault::Syntax(at));
         }
+        self.nodes.push(item.node)?;
         self.seen = seen;
-        self.nodes.push(item.node)
+        Ok(())
     }
 
     // Whether it can't be one more item: a second `default`, or the rest of a setter.
-    fn is_excess(&self, item: &Item<'_>) -> bool {
+    fn is_excess(&self, item: &Item<'_>) -> bool
+        ensures { result ≡ is_excess self.now.listed self.now.seen item.now }
+    {
         match self.listed {
             Listed::Cases { .. } => self.seen.is_marked && item.is_marked,
             Listed::OneParameter => item.spreads,
@@ -248,7 +281,8 @@ impl<'s> List<'s> {
     /// # Errors
     /// `Syntax` where one is no name and no pattern that is bound, with a default or without.
     pub fn into_parameters(self, at: usize) -> Result<Nodes<'s>, Fault>
-        ensures { IfErr result (IsRefusedAt at) }
+        ensures made { Becomes (pattern_parts 0 self.entry.nodes) (is_bound self.entry.seen.shape) at result }
+        ensures refused { IfErr result (IsRefusedAt at) }
     {
         to_parameters(self.nodes, self.seen.shape, at)
     }

@@ -1,7 +1,8 @@
 //! What a cover may be.
 
-ghost use Rattle.std.specs.Prelude.{◌≡◌, ◌&&◌};
-ghost use Rattle.covers.specs.Shapes.{is_element, is_pattern, is_target};
+ghost use Rattle.std.specs.Prelude.{◌≡◌};
+ghost use Rattle.tree.specs.Node.{node_tree};
+ghost use Rattle.covers.specs.Shapes.{is_element, is_pattern, is_target, is_bound, is_either, shape_of, defaulted, simple, grouped, unassigned, initialized, together, with_element, with_rest};
 
 use tree::{Kind, Node};
 
@@ -81,7 +82,9 @@ impl Shape {
     };
 
     /// Of an expression that is no array, no object and no assignment: a name, a member outside an optional chain, or another.
-    pub fn of(expression: Node<'_, '_>) -> Shape {
+    pub fn of(expression: Node<'_, '_>) -> Shape
+        ensures { result ≡ shape_of (node_tree expression.entry) }
+    {
         match expression.kind() {
             Kind::Identifier => Shape::NAME,
             Kind::MemberExpression if !expression.flags().optional => Shape::TARGET,
@@ -90,7 +93,9 @@ impl Shape {
     }
 
     /// Of `target = value`, by the shape of the target.
-    pub fn defaulted(self) -> Shape {
+    pub fn defaulted(self) -> Shape
+        ensures { result ≡ defaulted self }
+    {
         Shape {
             is_expression: true,
             assigned: match self.assigned.is_pattern() {
@@ -102,7 +107,9 @@ impl Shape {
     }
 
     /// The same, but assigned to only where it is a target: behind `...` among properties (12.15.5).
-    pub fn simple(self) -> Shape {
+    pub fn simple(self) -> Shape
+        ensures { result ≡ simple self }
+    {
         Shape {
             is_expression: self.is_expression,
             assigned: match self.assigned.is_target() {
@@ -114,7 +121,9 @@ impl Shape {
     }
 
     /// The same in parentheses (12.15.5): only a target may still be assigned to, and nothing bound.
-    pub fn grouped(self) -> Shape {
+    pub fn grouped(self) -> Shape
+        ensures { result ≡ grouped self }
+    {
         let simple = self.simple();
         Shape {
             is_expression: simple.is_expression,
@@ -124,7 +133,9 @@ impl Shape {
     }
 
     /// The same, but no pattern.
-    pub fn unassigned(self) -> Shape {
+    pub fn unassigned(self) -> Shape
+        ensures { result ≡ unassigned self }
+    {
         Shape {
             is_expression: self.is_expression,
             assigned: Assigned::Nothing,
@@ -133,7 +144,9 @@ impl Shape {
     }
 
     /// The same, but no expression: a name in it has a default (CoverInitializedName, 12.2.6).
-    pub fn initialized(self) -> Shape {
+    pub fn initialized(self) -> Shape
+        ensures { result ≡ initialized self }
+    {
         Shape {
             is_expression: false,
             assigned: self.assigned,
@@ -142,7 +155,9 @@ impl Shape {
     }
 
     // With a part that may be in a pattern or may not.
-    fn with(self, part: Shape, fits: bool) -> Shape {
+    fn with(self, part: Shape, fits: bool) -> Shape
+        ensures { result ≡ together self part fits }
+    {
         Shape {
             is_expression: self.is_expression && part.is_expression,
             assigned: match fits {
@@ -154,24 +169,30 @@ impl Shape {
     }
 
     /// With one more element, or the value of one more property.
-    pub fn with_element(self, element: Shape) -> Shape {
+    pub fn with_element(self, element: Shape) -> Shape
+        ensures { result ≡ with_element self element }
+    {
         self.with(element, element.assigned.is_element())
     }
 
     /// With a last element behind `...` (12.15.5).
-    pub fn with_rest(self, argument: Shape) -> Shape {
+    pub fn with_rest(self, argument: Shape) -> Shape
+        ensures { result ≡ with_rest self argument }
+    {
         self.with(argument, argument.assigned.is_pattern())
     }
 
     /// Whether it may be an element of a pattern whose names are bound, or a parameter.
     pub fn is_bound(self) -> bool
-        ensures { result ≡ (self.binds && is_element self.assigned) }
+        ensures { result ≡ is_bound self }
     {
         self.binds && self.assigned.is_element()
     }
 
     /// Whether it may be an expression, or an element of a pattern that is assigned to.
-    pub fn is_either(self) -> bool {
+    pub fn is_either(self) -> bool
+        ensures { result ≡ is_either self }
+    {
         self.is_expression || self.assigned.is_element()
     }
 }

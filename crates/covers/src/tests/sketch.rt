@@ -37,6 +37,16 @@ pub(super) enum Sketch {
     Initialized(&'static str),
 }
 
+/// `a.b`.
+pub(super) const MEMBER: Sketch = Sketch::Member { optional: false };
+
+/// `a?.b`.
+pub(super) const CHAINED: Sketch = Sketch::Member { optional: true };
+
+pub(super) const A: Sketch = Sketch::Name("a");
+
+pub(super) const B: Sketch = Sketch::Name("b");
+
 const SPAN: Span = Span { start: 3, end: 4 };
 
 const HIGH: u32 = 100;
@@ -221,8 +231,8 @@ pub(super) fn items(
 }
 
 /// What is sketched, as a cover.
-pub(super) fn cover_of(alloc: Global, sketch: Sketch) -> Result<Cover<'static>, Fault> {
-    Ok(cover(build(alloc, &sketch, Listed::Elements)?))
+pub(super) fn cover_of(alloc: Global, sketch: &Sketch) -> Result<Cover<'static>, Fault> {
+    Ok(cover(build(alloc, sketch, Listed::Elements)?))
 }
 
 /// Each node of a tree, its parts behind it: the kind, the text and the number of parts; `_` for a gap.
