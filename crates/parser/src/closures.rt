@@ -81,6 +81,7 @@ impl<'t, 's> Parser<'t, 's> {
 
     /// A function or a class from its name on, or from its parameters on.
     #[cycle(grammar)]
+    #[inline(never)]
     pub(crate) fn closure(
         &mut self,
         closure: Closure,
@@ -99,6 +100,7 @@ impl<'t, 's> Parser<'t, 's> {
 
     /// An arrow function from its `=>` on (14.2).
     #[cycle(grammar)]
+    #[inline(never)]
     pub(crate) fn arrow(
         &mut self,
         parameters: Nodes<'s>,

@@ -43,6 +43,7 @@ impl<'t, 's> Parser<'t, 's> {
 
     /// An expression at a position, up to where nothing goes on with it.
     #[cycle(grammar)]
+    #[inline(never)]
     pub(crate) fn expression(&mut self, position: Position, high: u32) -> Result<Part<'s>, Fault>
         ensures text { self.new.cursor.text ≡ self.old.cursor.text }
         ensures forward { self.old.cursor.last.stop ≤ self.new.cursor.last.stop }
@@ -58,6 +59,7 @@ impl<'t, 's> Parser<'t, 's> {
 
     // What an operator that stands ahead makes of the expression before it.
     #[cycle(grammar)]
+    #[inline(never)]
     fn turn(
         &mut self,
         left: Part<'s>,
@@ -111,6 +113,7 @@ impl<'t, 's> Parser<'t, 's> {
 
     // What an operator with a right side makes: a binary or logical one, an assignment, a conditional.
     #[cycle(grammar)]
+    #[inline(never)]
     fn sided(
         &mut self,
         left: Part<'s>,

@@ -103,6 +103,7 @@ impl<'t, 's> Parser<'t, 's> {
 
     /// What was read with a member, arguments or a template behind it, which stand ahead.
     #[cycle(grammar)]
+    #[inline(never)]
     pub(crate) fn linked(&mut self, left: Part<'s>, high: u32) -> Result<Part<'s>, Fault>
         ensures text { self.new.cursor.text ≡ self.old.cursor.text }
         ensures forward { self.old.cursor.last.stop ≤ self.new.cursor.last.stop }
@@ -142,6 +143,7 @@ impl<'t, 's> Parser<'t, 's> {
 
     /// Arguments in their parentheses, which stand ahead (12.3.6).
     #[cycle(grammar)]
+    #[inline(never)]
     pub(crate) fn arguments(&mut self, high: u32) -> Result<Nodes<'s>, Fault>
         ensures text { self.new.cursor.text ≡ self.old.cursor.text }
         ensures forward { self.old.cursor.last.stop ≤ self.new.cursor.last.stop }
@@ -154,6 +156,7 @@ impl<'t, 's> Parser<'t, 's> {
 
     /// An optional chain (12.3.9) from what stands before its first `?.`, which stands ahead.
     #[cycle(grammar)]
+    #[inline(never)]
     pub(crate) fn chain(&mut self, left: Part<'s>, high: u32) -> Result<Part<'s>, Fault>
         ensures text { self.new.cursor.text ≡ self.old.cursor.text }
         ensures forward { self.old.cursor.last.stop ≤ self.new.cursor.last.stop }

@@ -84,6 +84,7 @@ impl<'t, 's> Parser<'t, 's> {
 
     /// The items of a list, the first of which stands ahead, and what stands behind the last.
     #[cycle(grammar)]
+    #[inline(never)]
     pub(crate) fn list(&mut self, list: List<'s>, high: u32) -> Result<List<'s>, Fault>
         ensures text { self.new.cursor.text ≡ self.old.cursor.text }
         ensures forward { self.old.cursor.last.stop ≤ self.new.cursor.last.stop }
@@ -109,6 +110,7 @@ impl<'t, 's> Parser<'t, 's> {
 
     // One item of a list.
     #[cycle(grammar)]
+    #[inline(never)]
     fn item(&mut self, list: &mut List<'s>, high: u32) -> Result<(), Fault>
         ensures text { self.new.cursor.text ≡ self.old.cursor.text }
         ensures forward { self.old.cursor.last.stop ≤ self.new.cursor.last.stop }
@@ -187,6 +189,7 @@ impl<'t, 's> Parser<'t, 's> {
 
     // A declarator: what is bound, and its value where it has one (13.3).
     #[cycle(grammar)]
+    #[inline(never)]
     fn declarator(&mut self, has_in: bool, high: u32) -> Result<Item<'s>, Fault>
         ensures text { self.new.cursor.text ≡ self.old.cursor.text }
         ensures forward { self.old.cursor.last.stop ≤ self.new.cursor.last.stop }

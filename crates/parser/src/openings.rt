@@ -138,6 +138,7 @@ impl<'t, 's> Parser<'t, 's> {
 
     /// What the first token begins at a position, up to where something may go on with it.
     #[cycle(grammar)]
+    #[inline(never)]
     pub(crate) fn opening(&mut self, position: Position, high: u32) -> Result<Part<'s>, Fault>
         ensures text { self.new.cursor.text ≡ self.old.cursor.text }
         ensures forward { self.old.cursor.last.stop ≤ self.new.cursor.last.stop }
@@ -204,6 +205,7 @@ impl<'t, 's> Parser<'t, 's> {
 
     // What follows `function`, `class`, `super`, `new` or `import` (12.3, 14.1, 14.6).
     #[cycle(grammar)]
+    #[inline(never)]
     fn worded(
         &mut self,
         token: Token<'s>,
@@ -275,6 +277,7 @@ impl<'t, 's> Parser<'t, 's> {
 
     // What parentheses group, or an arrow function with its parameters in them (12.2.10, 14.2).
     #[cycle(grammar)]
+    #[inline(never)]
     fn parenthesized(&mut self, position: Position, high: u32) -> Result<Part<'s>, Fault>
         ensures text { self.new.cursor.text ≡ self.old.cursor.text }
         ensures forward { self.old.cursor.last.stop ≤ self.new.cursor.last.stop }

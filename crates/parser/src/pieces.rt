@@ -427,6 +427,7 @@ impl<'t, 's> Parser<'t, 's> {
 
     /// Pieces, one behind the other; `high` is the greatest height of a part.
     #[cycle(grammar)]
+    #[inline(never)]
     pub(crate) fn pieces(
         &mut self,
         pieces: &[Piece],

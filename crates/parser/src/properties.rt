@@ -187,6 +187,7 @@ impl<'t, 's> Parser<'t, 's> {
 
     // What stands before the name of a property or a member, and the name (12.2.6, 14.3, 14.6).
     #[cycle(grammar)]
+    #[inline(never)]
     fn property_name(
         &mut self,
         in_class: bool,
@@ -220,6 +221,7 @@ impl<'t, 's> Parser<'t, 's> {
 
     /// A property of an object or its pattern, or a member of a class (12.2.6, 14.3, 14.6).
     #[cycle(grammar)]
+    #[inline(never)]
     pub(crate) fn definition(&mut self, in_class: bool, high: u32) -> Result<Item<'s>, Fault>
         ensures text { self.new.cursor.text ≡ self.old.cursor.text }
         ensures forward { self.old.cursor.last.stop ≤ self.new.cursor.last.stop }
@@ -250,6 +252,7 @@ impl<'t, 's> Parser<'t, 's> {
 
     // What follows the key of a property of an object that is no method.
     #[cycle(grammar)]
+    #[inline(never)]
     fn value_of(&mut self, key: Key<'s>, start: usize, high: u32) -> Result<Item<'s>, Fault>
         ensures text { self.new.cursor.text ≡ self.old.cursor.text }
         ensures forward { self.old.cursor.last.stop ≤ self.new.cursor.last.stop }

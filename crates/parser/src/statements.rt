@@ -194,6 +194,7 @@ impl<'t, 's> Parser<'t, 's> {
 
     /// StatementList (13.2), up to where it ends, with its directives (14.1.1).
     #[cycle(grammar)]
+    #[inline(never)]
     pub(crate) fn statements(
         &mut self,
         until: Until,
@@ -216,6 +217,7 @@ impl<'t, 's> Parser<'t, 's> {
 
     /// Statement or StatementListItem (13).
     #[cycle(grammar)]
+    #[inline(never)]
     pub(crate) fn statement(&mut self, context: Context, high: u32) -> Result<Tall<'s>, Fault>
         ensures text { self.new.cursor.text ≡ self.old.cursor.text }
         ensures forward { self.old.cursor.last.stop ≤ self.new.cursor.last.stop }

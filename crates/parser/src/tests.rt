@@ -135,13 +135,13 @@ const DEEPEST: [(&str, usize, &str, &str); 23] = [
     ("a + ", 497, "a", ""),
     ("function f() {", 249, "", "}"),
     ("!{a(){", 83, "", "}}"),
-    ("{", 498, "", "}"),
+    ("{", 499, "", "}"),
     ("{", 498, ";", "}"),
     ("f(", 497, "a", ")"),
     ("!", 497, "a", ""),
     ("a => ", 497, "a", ""),
     ("({a: ", 248, "a", "})"),
-    ("(a = ", 249, "a", ") => b"),
+    ("(a = ", 248, "a", ") => b"),
     ("`${", 497, "a", "}`"),
     ("a ? b : ", 497, "c", ""),
     ("new ", 497, "a", ""),
@@ -149,7 +149,7 @@ const DEEPEST: [(&str, usize, &str, &str); 23] = [
     ("class A {a() {", 99, "", "}}"),
     ("if (a) ", 498, ";", ""),
     ("a: ", 498, ";", ""),
-    ("do ", 497, ";", " while (a)"),
+    ("do ", 498, ";", " while (a)"),
     ("try {", 249, "", "} finally {}"),
     ("a?.[", 248, "a", "]"),
     ("[...", 248, "a", "]"),
@@ -173,7 +173,7 @@ fn limits(rt: HostRuntime) {
     for (open, count, inner, close) in DEEPEST.iter() {
         let most = pairs_nested(alloc, open, *count, inner, close);
         assert!(&rt; most.is_ok(), "{open} {count}");
-        let more = pairs_nested(alloc, open, *count + 1, inner, close);
+        let more = pairs_nested(alloc, open, count.saturating_add(1), inner, close);
         assert_eq!(&rt; more, Err(Fault::TooDeep), "{open} {count}");
     }
 }
