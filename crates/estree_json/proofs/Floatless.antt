@@ -3,7 +3,7 @@ use Rattle.std.proofs.Common.{◌≡◌, ℕ, zero, suc, Bool, true, false, not,
 use Rattle.std.specs.Cmp.Lexicographic.{slice_cmp}
 use Rattle.std.specs.Ordering.{nat_cmp, match_ordering}
 use Rattle.std.specs.Char.Utf16.{has_unpaired_surrogate, utf16_lossy_chars}
-use Rattle.std.specs.Prelude.{encode_utf8_all, bytes_eq, codes, if◌then◌else◌}
+use Rattle.std.specs.Prelude.{encode_utf8_all, bytes_eq, codes, if◌then◌else◌, Result, Ok, Err, IfOk}
 use Rattle.std.specs.Str.{chars}
 use Rattle.serde_json.specs.Data.{Data, null, boolean, number, unsigned, string, array, Members, member, no_members, put}
 use Rattle.serde_json.specs.View.{items_of}
@@ -194,6 +194,8 @@ mutual
   parts_fine (part t ps) = both _ _ (node_fine (ends_parts ps) t) (parts_fine ps)
   parts_fine (gap ps) = both _ _ refl (parts_fine ps)
 
--- what is written of the value of a tree is the definition's text
-pub text_written : (text bytes : List ℕ) (d : Data) (t : Tree) → text ≡ bytes → d ≡ node_json true t → (has_float d ≡ false → bytes ≡ compact_text d) → text ≡ json_text t
-text_written text bytes d t e f h = e ∙ h (ap has_float f ∙ node_fine true t) ∙ ap compact_text f
+-- the text of the value of a tree is the definition's
+pub text_written : {A E : Type 0} (bytes_of : A → List ℕ) (r : Result A E) (d : Data) (t : Tree) → d ≡ node_json true t
+    → IfOk r (λ a. has_float d ≡ false → bytes_of a ≡ compact_text d) → IfOk r (λ a. bytes_of a ≡ json_text t)
+text_written bytes_of (Ok a) d t f h = h (ap has_float f ∙ node_fine true t) ∙ ap compact_text f
+text_written bytes_of (Err e) d t f h = tt

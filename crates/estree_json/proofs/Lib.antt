@@ -1,4 +1,3 @@
-pub mod Derived
 pub mod Steps
 pub mod Tables
 pub mod Quotes

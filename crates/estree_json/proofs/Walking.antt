@@ -1,5 +1,5 @@
 -- A walk over a node's parts: the values so far, and of the parts that are left.
-use Rattle.std.proofs.Common.{◌≡◌, ℕ, zero, suc, ◌+◌, ◌<◌, ◌≤◌, Bool, false, List, [], ◌∷◌, ◌++◌, map, Some, None, refl, sym, ap, ◌∙◌, subst, arith, append_assoc, append-nil, nat_eq, inl, inr}
+use Rattle.std.proofs.Common.{◌≡◌, ℕ, zero, suc, ◌+◌, ◌<◌, ◌≤◌, Bool, false, List, [], ◌∷◌, ◌++◌, map, Some, None, refl, sym, ap, ◌∙◌, arith, append_assoc, append-nil, nat_eq, inl, inr}
 use Rattle.std.proofs.lemmas.List.{map-append}
 use Rattle.std.proofs.lemmas.Bool.Decides.{eqb_tells}
 use Rattle.serde_json.specs.Data.{Data, null, object}
@@ -9,20 +9,6 @@ use Rattle.tree.specs.Tree.{Tree, node, Parts, none, part, gap, kind_of, start_o
 use Rattle.tree.proofs.PartWalk.{parts_drop, parts_drop-some, parts_drop-gap, parts_drop-past}
 use Rattle.estree_json.specs.Fields.{fields}
 use Rattle.estree_json.specs.Json.{Made, begun, with_fields, label_of, ends_parts, node_json, parts_json}
-use Rattle.estree_json.specs.Strings.{HasStrings, HaveStrings, IsStringOrOther}
-
-pub strings_own : (t : Tree) → HasStrings t → IsStringOrOther t
-strings_own (node k w g s e ps) h = h.0
-
-pub strings_within : (t : Tree) → HasStrings t → HaveStrings (parts_of t)
-strings_within (node k w g s e ps) h = h.1
-
-pub strings_at : (ps : Parts) (i : ℕ) (u : Tree) → HaveStrings ps → Some u ≡ part_at ps i → HasStrings u
-strings_at none i u h e = absurd (cc)
-strings_at (part t ps) zero u h e = let same : t ≡ u = cc in subst HasStrings same h.0
-strings_at (part t ps) (suc i) u h e = strings_at ps i u h.1 e
-strings_at (gap ps) zero u h e = absurd (cc)
-strings_at (gap ps) (suc i) u h e = strings_at ps i u h e
 
 more_left : (ps : Parts) (i : ℕ) → i < part_count ps → ends_parts (parts_drop i ps) ≡ false
 more_left none i l = absurd (omega (arith, l))

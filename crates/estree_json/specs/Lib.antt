@@ -1,8 +1,6 @@
 pub mod Types
 pub mod Texts
 pub mod Fields
-pub mod Strings
 pub mod Json
 pub mod View
 pub mod Writing
-pub mod Laws

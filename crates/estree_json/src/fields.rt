@@ -1,15 +1,12 @@
 //! The fields of each type of node (ESTree, es5 to es2020), parts in source order. Each function has the kinds of one table and goes on
 //! with the next.
 
-ghost use Rattle.std.specs.Prelude.{◌≡◌, IfOk, IsTrue, codes};
-ghost use Rattle.std.specs.Str.{chars};
+ghost use Rattle.std.specs.Prelude.{◌≡◌, IfOk, codes};
 ghost use Rattle.serde_json.specs.Data.{string};
-ghost use Rattle.tokens.specs.Strings.{is_string};
 ghost use Rattle.tree.specs.Node.{node_tree};
 ghost use Rattle.tree.specs.Tree.{kind_of, text_of, parts_of};
 ghost use Rattle.estree_json.specs.Fields.{fields as all_fields, function_fields, expression_fields, statement_fields, directive, first_text as text_of_first, property_kind as kind_of_property, method_kind as kind_of_method};
-ghost use Rattle.estree_json.specs.Texts.{is_quoted, literal_value as value_of_literal, literal_regex as regex_of_literal};
-ghost use Rattle.estree_json.specs.Strings.{IsStringOrOther};
+ghost use Rattle.estree_json.specs.Texts.{literal_value as value_of_literal, literal_regex as regex_of_literal};
 ghost use Rattle.estree_json.specs.Json.{with_fields, with_value, with_option, label_of};
 ghost use Rattle.estree_json.specs.View.{made};
 
@@ -25,7 +22,6 @@ pub fn with_all(
     node: Node,
     is_last: bool,
 ) -> Result<Object, AllocError>
-    requires { IsStringOrOther (node_tree node) }
     ensures { IfOk result (λ o. made o ≡ with_fields (all_fields is_last (kind_of (node_tree node.entry)) (label_of (node_tree node.entry))) (made object)) }
 {
     match node.kind() {
@@ -41,7 +37,6 @@ pub fn with_all(
 
 /// A literal.
 fn with_literal(alloc: Global, object: Object, raw: &str) -> Result<Object, AllocError>
-    requires { IsTrue (is_quoted raw.now) → IsTrue (is_string (chars raw.now)) }
     ensures { IfOk result (λ o. made o ≡ with_option (codes "regex") (regex_of_literal raw.now)
         (with_option (codes "value") (value_of_literal raw.now) (with_value (codes "raw") (string raw.now) (made object)))) }
 {

@@ -4,7 +4,6 @@ ghost use Rattle.std.specs.Prelude.{◌≡◌, IfOk, map};
 ghost use Rattle.serde_json.specs.View.{view};
 ghost use Rattle.tree.specs.Node.{node_tree};
 ghost use Rattle.tree.specs.Tree.{kind_of, start_of, stop_of};
-ghost use Rattle.estree_json.specs.Strings.{HasStrings};
 ghost use Rattle.estree_json.specs.Json.{begun as begun_of, node_json, json_of};
 ghost use Rattle.estree_json.specs.View.{made};
 
@@ -23,7 +22,6 @@ use tree::{Node, Program};
 ///
 /// `AllocError` where memory is refused.
 pub fn to_value(alloc: Global, program: &Program) -> Result<Value, AllocError>
-    requires { HasStrings program.now }
     ensures { IfOk result (λ v. view v ≡ json_of program.now) }
 {
     node_value(alloc, program.root(), true)
@@ -32,7 +30,6 @@ pub fn to_value(alloc: Global, program: &Program) -> Result<Value, AllocError>
 /// The value of a node; `is_last` says whether it is the last part of the node that it is in.
 #[tactic(auto, using(tree::proofs::PartWalk::part_steps))]
 fn node_value(alloc: Global, node: Node, is_last: bool) -> Result<Value, AllocError>
-    requires { HasStrings (node_tree node) }
     ensures { IfOk result (λ v. view v ≡ node_json is_last (node_tree node.entry)) }
 {
     let count = node.part_count();

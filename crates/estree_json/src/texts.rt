@@ -1,23 +1,21 @@
 //! What ESTree says of the texts of literals, directives and templates.
 
-ghost use Rattle.std.specs.Prelude.{◌≡◌, IsTrue, IfOk, option_map};
+ghost use Rattle.std.specs.Prelude.{◌≡◌, IfOk, option_map};
 ghost use Rattle.std.specs.Str.{chars};
 ghost use Rattle.serde_json.specs.View.{view};
-ghost use Rattle.tokens.specs.Strings.{is_string};
 ghost use Rattle.tokens.specs.Templates.{cooked_value};
 ghost use Rattle.estree_json.specs.Texts.{text_of_units, cooked_of_units, before_slash, behind_slash, regex_of, literal_value as value_of_literal, literal_regex as regex_of_literal, template_value as value_of_template, unquoted as contents_of, is_quoted as begins_with_quote, without_first as without_first_quote, without_last as without_last_quote};
 
 use serde_json::{Value, json};
 use std::alloc::{AllocError, Global};
-use tokens::string_units;
+use tokens::quoted_units;
 
 /// `value` of a literal: of strings in well-formed UTF-16, booleans and null.
 pub fn literal_value(alloc: Global, raw: &str) -> Result<Option<Value>, AllocError>
-    requires { IsTrue (begins_with_quote raw.now) → IsTrue (is_string (chars raw.now)) }
     ensures { IfOk result (λ o. option_map view o ≡ value_of_literal raw.now) }
 {
     if is_quoted(raw) {
-        let units = string_units(alloc, raw)?;
+        let units = quoted_units(alloc, raw)?;
         return text_value(alloc, &units);
     }
     if raw == "true" {

@@ -6,13 +6,12 @@ use Rattle.serde_json.specs.Data.{null}
 use Rattle.serde_json.specs.View.{view}
 use Rattle.estree_json.specs.Json.{parts_json, node_json, ends_parts}
 use Rattle.estree_json.proofs.Steps.{view_null}
-use Rattle.estree_json.proofs.Walking.{strings_within, strings_at, is_end, left_some, left_gap, left_none, one_more, all_found, node_made}
+use Rattle.estree_json.proofs.Walking.{is_end, left_some, left_gap, left_none, one_more, all_found, node_made}
 use Rattle.estree_json.proofs.node.+node_value.Goals as goal
 use Rattle.estree_json.proofs.node.+node_value.Goals.{in-Some+in_ok-value-in-Some, in-None}
 
 pub node_value-requires : goal.node_value-requires
-node_value-requires t c =
-    (search (rules, part_smaller), strings_at _ c.loop-index.index (node_tree c.in-Some.part) (strings_within (node_tree c.args.node) c.requires) c.in-Some.ensures)
+node_value-requires t c = search (rules, part_smaller)
 
 pub loop-index-preserved : goal.loop-index-preserved
 loop-index-preserved t c =
