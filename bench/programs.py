@@ -8,7 +8,7 @@ import time
 
 TOP = os.path.dirname(os.path.dirname(os.path.abspath(__file__)))
 PARTS = ("src", "specs", "proofs")
-PACKAGES = ("libjs-jquery", "libjs-d3", "libjs-three", "node-react-dom", "node-acorn", "esbuild")
+PACKAGES = ("libjs-jquery", "libjs-d3", "libjs-three", "node-react-dom", "node-acorn", "esbuild", "time")
 SCRIPTS = (
     "/usr/share/javascript/jquery/jquery.js",
     "/usr/share/javascript/jquery/jquery.min.js",
@@ -25,7 +25,7 @@ def scripts():
     """The files of the command line, or those of Debian's packages, which are installed where they are missing."""
     if sys.argv[1:]:
         return sys.argv[1:]
-    if not (all(os.path.exists(it) for it in SCRIPTS) and shutil.which("esbuild")):
+    if not (all(os.path.exists(it) for it in SCRIPTS) and shutil.which("esbuild") and os.path.exists("/usr/bin/time")):
         subprocess.run(["apt-get", "install", "-y", "--no-install-recommends", *PACKAGES], check=True, stdout=sys.stderr)
     return list(SCRIPTS)
 
@@ -72,15 +72,15 @@ def pinned(words):
 
 
 def process(words, runs=5):
-    """The least seconds of some runs of a process, and its greatest peak memory in KiB."""
+    """The least seconds of some runs of a process, and its peak memory in KiB, by GNU time; none where it refuses."""
     words = pinned(words)
-    best, peak = float("inf"), 0
+    best = float("inf")
     for _ in range(runs):
         start = time.perf_counter()
-        pid = os.posix_spawnp(words[0], words, os.environ, file_actions=[(os.POSIX_SPAWN_OPEN, 1, "/dev/null", os.O_WRONLY, 0)])
-        _, status, usage = os.wait4(pid, 0)
+        done = subprocess.run(words, stdout=subprocess.DEVNULL, stderr=subprocess.DEVNULL)
         best = min(best, time.perf_counter() - start)
-        peak = max(peak, usage.ru_maxrss)
-        if status != 0:
+        if done.returncode != 0:
             return None, None
-    return best, peak
+    with tempfile.NamedTemporaryFile("r") as said:
+        subprocess.run(["/usr/bin/time", "-f", "%M", "-o", said.name, *words], check=True, stdout=subprocess.DEVNULL)
+        return best, int(said.read())

@@ -9,8 +9,10 @@
 const fs = require('node:fs');
 const path = require('node:path');
 const { spawnSync } = require('node:child_process');
+const { parse } = require('../reference/parse.js');
+const { treeJson } = require('../reference/json.js');
+const { runInBigStack } = require('../reference/bigstack.js');
 const TOP = path.join(__dirname, '..', '..');
-const MODEL = path.join(__dirname, '..', 'reference', 'cli.js');
 const PACKAGES = ['libjs-jquery', 'libjs-d3', 'libjs-three', 'node-react-dom', 'node-react', 'node-acorn', 'libjs-underscore', 'libjs-highlight.js'];
 
 function files() {
@@ -27,25 +29,51 @@ function files() {
   return [...found].sort();
 }
 
-const run = (words) => {
-  const out = spawnSync(words[0], words.slice(1), { encoding: 'utf8', maxBuffer: 1 << 30 });
-  return { status: out.status, text: out.stdout, said: out.stderr };
-};
+// Line and column of a place in bytes, both from 1, the column in characters.
+function lineColumn(bytes, at) {
+  const before = bytes.subarray(0, at).toString('utf8');
+  const inside = before.endsWith('\r') && bytes[at] === 0x0a;
+  const lines = (inside ? before.slice(0, -1) : before).split(/\r\n|[\n\r\u2028\u2029]/);
+  return `${lines.length}:${[...lines[lines.length - 1]].length + 1 + (inside ? 1 : 0)}`;
+}
 
-spawnSync(path.join(TOP, 'jslint'), ['--help'], { stdio: ['ignore', 'ignore', 'inherit'] });
-let written = 0, refused = 0, apart = 0, bytes = 0;
-for (const file of files()) {
-  const ours = run([path.join(TOP, 'bin', 'jslint'), 'tree', file]);
-  const theirs = run(['node', '--stack-size=60000', MODEL, 'tree', file]);
-  if (ours.status !== theirs.status || ours.text !== theirs.text || ours.said !== theirs.said) {
-    apart += 1;
-    console.log(`${file}: status ${ours.status} and ${theirs.status}; ${ours.said.trim()} | ${theirs.said.trim().slice(0, 200)}`);
-  } else if (ours.status === 0) {
-    written += 1;
-    bytes += ours.text.length;
-  } else {
-    refused += 1;
+function words(fault, bytes) {
+  switch (fault.kind) {
+    case 'NotUtf8': return `not UTF-8 at byte ${fault.at}`;
+    case 'TooLong': return 'longer than 16777216 bytes';
+    case 'Syntax': return `syntax error at ${lineColumn(bytes, fault.at)}`;
+    case 'Early': return `early error E${fault.number} at ${lineColumn(bytes, fault.at)}`;
+    case 'TooDeep': return 'nested too deep';
+    default: return fault.kind;
   }
 }
-console.log(`${written} trees alike (${bytes} characters of JSON), ${refused} texts refused alike, ${apart} disagreements`);
-process.exit(apart === 0 ? 0 : 1);
+
+function model(file) {
+  const bytes = fs.readFileSync(file);
+  const parsed = parse(bytes, { edition2021: false, maxHeight: 500, maxParens: 1000 });
+  if (parsed.ok) return { status: 0, out: treeJson(parsed.tree) + '\n', err: '' };
+  return { status: 2, out: '', err: `jslint: ${words(parsed.fault, bytes)}\n` };
+}
+
+function main() {
+  spawnSync(path.join(TOP, 'jslint'), ['--help'], { stdio: ['ignore', 'ignore', 'inherit'] });
+  let written = 0, refused = 0, apart = 0, size = 0;
+  for (const file of files()) {
+    const ours = spawnSync(path.join(TOP, 'bin', 'jslint'), ['tree', file], { encoding: 'utf8', maxBuffer: 1 << 30 });
+    const theirs = runInBigStack(__filename, 'model', [file]);
+    if (ours.status !== theirs.status || ours.stdout !== theirs.out || ours.stderr !== theirs.err) {
+      apart += 1;
+      console.log(`${file}: status ${ours.status} and ${theirs.status}; ${ours.stderr.trim()} | ${theirs.err.trim()}`);
+    } else if (ours.status === 0) {
+      written += 1;
+      size += ours.stdout.length;
+    } else {
+      refused += 1;
+    }
+  }
+  console.log(`${written} trees alike (${size} characters of JSON), ${refused} texts refused alike, ${apart} disagreements`);
+  return apart === 0 ? 0 : 1;
+}
+
+module.exports = { model };
+if (require.main === module) process.exitCode = main();

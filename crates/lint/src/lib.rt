@@ -8,7 +8,7 @@ mod fixer;
 mod sums;
 mod planner;
 mod printer;
-mod reading;
+mod reader;
 pub mod refusal;
 pub mod run;
 mod script;
@@ -16,11 +16,9 @@ mod short_text;
 pub mod streams;
 
 pub use fixer::fix;
-pub use reading::read_script;
+pub use reader::read_script;
 
 #[cfg(test)]
 mod fixer_tests;
-#[cfg(test)]
-mod reading_tests;
 #[cfg(test)]
 mod tests;

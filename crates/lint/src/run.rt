@@ -6,7 +6,7 @@ ghost use Rattle.lint.specs.ReadScripts.{RefusesReading};
 ghost use Rattle.lint.specs.Run.{Answers, IsJson, IsPlacedAt, Runs};
 
 use crate::fixer::fix;
-use crate::reading::read_script;
+use crate::reader::read_script;
 use crate::streams::{read_up_to, write_text};
 use estree_json::tree_text;
 use source_text::{DeviceFault, Fault, Feed, MAX_BYTES, Sink, Source};

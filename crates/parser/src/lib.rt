@@ -19,6 +19,3 @@ mod statements;
 mod words;
 
 pub use script::{MAX_HEIGHT, Parsed, parse};
-
-#[cfg(test)]
-mod tests;

@@ -1,6 +1,6 @@
 //! Rows of texts with their first early error, and texts that have none.
 
-use crate::read_script;
+use lint::read_script;
 use source_text::{Fault, Source};
 use std::alloc::Global;
 use std::process::Abort;

@@ -1,6 +1,6 @@
 //! Each binary operator beside each other.
 
-use crate::parse;
+use parser::parse;
 use source_text::{Fault, Source};
 use std::alloc::Global;
 use std::process::Abort;

@@ -3,7 +3,7 @@
 mod operators;
 mod rows;
 
-use crate::parse;
+use parser::parse;
 use source_text::{Fault, Source};
 use std::alloc::{AllocError, Global};
 use std::process::Abort;
