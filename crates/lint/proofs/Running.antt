@@ -85,17 +85,17 @@ answered_text command given bytes answer W is_read is written =
 
 -- what a command refuses of source text is refused
 pub source_refused : (command : Command) (bytes : List ℕ) (fault : Fault) (place : ℕ × ℕ)
-    → IsSource bytes → RefusesSource command bytes fault → IsPlacedAt bytes fault place → (fault ≡ OutOfMemory → place ≡ (0, 0)) → RefusesBytes command bytes fault place
-source_refused command bytes (Syntax at) place source refused is none = ((source, refused), is)
-source_refused command bytes TooDeep place source refused is none = ((source, refused), is)
-source_refused command bytes OutOfMemory place source refused is none = none refl
-source_refused command bytes (Early number at) place source refused is none = ((source, refused), is)
-source_refused command bytes BadSettings place source refused is none = ((source, refused), is)
-source_refused command bytes (BadTable row reason) place source refused is none = ((source, refused), is)
-source_refused command bytes WriteFailed place source refused is none = ((source, refused), is)
-source_refused command bytes ReadFailed place source refused is none = ((source, refused), is)
-source_refused command bytes Usage place source refused is none = ((source, refused), is)
-source_refused Fix bytes (NotUtf8 at) place source refused is none = absurd refused
-source_refused Fix bytes TooLong place source refused is none = absurd refused
-source_refused Tree bytes (NotUtf8 at) place source refused is none = absurd refused
-source_refused Tree bytes TooLong place source refused is none = absurd refused
+    → IsSource bytes → RefusesSource command bytes fault → IsPlacedAt bytes fault place → RefusesBytes command bytes fault place
+source_refused command bytes (Syntax at) place source refused is = ((source, refused), is)
+source_refused command bytes TooDeep place source refused is = ((source, refused), is)
+source_refused command bytes OutOfMemory place source refused is = is tt
+source_refused command bytes (Early number at) place source refused is = ((source, refused), is)
+source_refused command bytes BadSettings place source refused is = ((source, refused), is)
+source_refused command bytes (BadTable row reason) place source refused is = ((source, refused), is)
+source_refused command bytes WriteFailed place source refused is = ((source, refused), is)
+source_refused command bytes ReadFailed place source refused is = ((source, refused), is)
+source_refused command bytes Usage place source refused is = ((source, refused), is)
+source_refused Fix bytes (NotUtf8 at) place source refused is = absurd refused
+source_refused Fix bytes TooLong place source refused is = absurd refused
+source_refused Tree bytes (NotUtf8 at) place source refused is = absurd refused
+source_refused Tree bytes TooLong place source refused is = absurd refused

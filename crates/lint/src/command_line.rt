@@ -3,7 +3,7 @@
 ghost use Rattle.std.specs.Prelude.{◌≡◌, IfErr, IfOk, IfSome, Some, false, map, true};
 ghost use Rattle.clap.specs.Words.{app_of, kind_of, subcommand_of, subcommand_rows_of, takes};
 ghost use Rattle.clap.specs.declared.builder.command.Command.TheViews.{out-Command};
-ghost use Rattle.lint.specs.CommandLine.{Chooses, file_app, jslint_app, word_of};
+ghost use Rattle.lint.specs.CommandLine.{Chooses, file_app, jslint_app};
 
 use crate::run::Command;
 use clap::error::ErrorKind;
@@ -17,36 +17,36 @@ pub struct Line<'a> {
     pub file: &'a str,
 }
 
-// What the help says of a command.
-fn about(command: Command) -> &'static str {
-    match command {
-        Command::Fix => {
-            "Write the script in one layout, with parentheses only where they are needed"
-        }
-        Command::Tree => "Write the tree of the script as JSON, in the form of ESTree",
-    }
-}
-
-/// A command with its FILE.
-fn file_command<'a>(alloc: Global, command: Command) -> Result<clap::Command<'a>, AllocError>
-    ensures shape { IfOk result (λ c. app_of c ≡ file_app (word_of command)) }
+/// A command by its word, with its FILE.
+fn file_command<'a>(
+    alloc: Global,
+    word: &'a str,
+    about: &'a str,
+) -> Result<clap::Command<'a>, AllocError>
+    ensures shape { IfOk result (λ c. app_of c ≡ file_app word.now) }
     ensures local { IfOk result (λ c. (out-Command c).has_globals ≡ false) }
 {
     let file = Arg::new(alloc, "file")
         .required(true)
         .value_name("FILE")
         .help("The script to read: UTF-8, at most 16777216 bytes");
-    clap::Command::new(alloc, command.word())
-        .about(about(command))
-        .arg(file)
+    clap::Command::new(alloc, word).about(about).arg(file)
 }
 
 /// The whole command line.
 fn jslint_command<'a>(alloc: Global) -> Result<clap::Command<'a>, AllocError>
     ensures shape { IfOk result (λ c. app_of c ≡ jslint_app) }
 {
-    let fix = file_command(alloc, Command::Fix)?;
-    let tree = file_command(alloc, Command::Tree)?;
+    let fix = file_command(
+        alloc,
+        "fix",
+        "Write the script in one layout, with parentheses only where they are needed",
+    )?;
+    let tree = file_command(
+        alloc,
+        "tree",
+        "Write the tree of the script as JSON, in the form of ESTree",
+    )?;
     let jslint = clap::Command::new(alloc, "jslint")
         .about("A linter for ECMAScript 2020 scripts")
         .after_help("Exit status: 0 where all is well, 1 for a finding, 2 for a refusal")

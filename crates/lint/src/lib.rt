@@ -5,7 +5,6 @@
 pub mod command_line;
 mod cursor;
 mod fixer;
-mod sums;
 mod planner;
 mod printer;
 mod reader;
@@ -14,6 +13,7 @@ pub mod run;
 mod script;
 mod short_text;
 pub mod streams;
+mod sums;
 
 pub use fixer::fix;
 pub use reader::read_script;

@@ -4,8 +4,8 @@ ghost use Rattle.std.specs.Prelude.{◌≡◌, None, IfOk, IfErr};
 ghost use Rattle.early_errors.specs.Early.{least_error};
 ghost use Rattle.lint.specs.ReadScripts.{RefusesReading};
 
-use parser::{Parsed, parse};
 use early_errors::first_early_error;
+use parser::{Parsed, parse};
 use source_text::{Fault, Source};
 use std::alloc::Global;
 

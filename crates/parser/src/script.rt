@@ -1,7 +1,7 @@
 //! Whole scripts (ECMA-262 15.1).
 #![tactic(auto, using(crate::proofs::Refused::refusals, crate::proofs::Moves::moves))]
 
-ghost use Rattle.std.specs.Prelude.{IfErr};
+ghost use Rattle.std.specs.Prelude.{◌≡◌, IfErr};
 ghost use Rattle.parser.specs.Refusals.{IsRefusal};
 
 use crate::position::Parser;
@@ -23,12 +23,16 @@ pub struct Parsed<'s> {
 
 impl<'s> Parsed<'s> {
     /// The tree.
-    pub fn program(&self) -> &Program<'s> {
+    pub fn program(&self) -> &Program<'s>
+        ensures { result.now ≡ self.now.program }
+    {
         &self.program
     }
 
     /// The pairs of parentheses that group, in order of their `(`.
-    pub fn grouping_pairs(&self) -> &[Pair] {
+    pub fn grouping_pairs(&self) -> &[Pair]
+        ensures { result.now ≡ self.now.pairs.items }
+    {
         &self.pairs
     }
 }

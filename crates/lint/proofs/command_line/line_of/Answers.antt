@@ -1,4 +1,4 @@
-use Rattle.std.proofs.Common.{◌≡◌, List, Some, None, refl, sym, ◌∙◌, codes}
+use Rattle.std.proofs.Common.{◌≡◌, List, Some, None, refl, sym, ap, ◌∙◌, codes}
 use Rattle.std.specs.declared.option.Option.{Option}
 use Rattle.std.specs.Option.{option_map}
 use Rattle.clap.specs.Words.{Row, Text, rows_of, found_of}
@@ -18,8 +18,8 @@ both_parts name rows (Some x) n r e f = cc
 
 pub returns : goal.returns
 returns c =
-    let met = c.in_ok-met.fix.now in (
+    let met = c.in_ok-met.met.now in (
       rows_of (found_of met),
-      both_parts _ _ (out-ArgMatches c.args.matches.now).subcommand _ _ (c.in_ok-met.ensures.found.0 refl) c.in_ok-met.ensures.rows,
+      both_parts _ _ (out-ArgMatches c.args.matches.now).subcommand _ _ (c.in_ok-met.ensures.found.0 refl) c.in_ok-met.ensures.rows ∙ ap (λ (w : Text). Some (w, rows_of (found_of met))) c.word.ensures,
       sym (first_value-rows (found_of met) (codes "file")) ∙ sym c.in_ok-file.ensures,
     )
