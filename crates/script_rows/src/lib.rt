@@ -7,3 +7,5 @@
 mod early;
 #[cfg(test)]
 mod parse;
+#[cfg(test)]
+mod trees;
