@@ -19,7 +19,7 @@ fn are_early(rt: &impl Abort, alloc: Global, rows: &[(&str, u8, usize)]) {
     for (text, number, column) in rows {
         assert_eq!(rt;
             refusal(alloc, text),
-            Err(Fault::Early(*number, *column - 1)),
+            Err(Fault::Early(*number, column.saturating_sub(1))),
             "{text}"
         );
     }
