@@ -5,7 +5,7 @@
 //                   [--high H --open M]
 //
 // Makes COUNT texts of each kind (sentences of the declarative grammar, mutated programs, random token strings), copies
-// the crates that the parser stands on and the program dump/ to a temporary folder, runs the program there by `rt try`
+// the crates that the parser stands on and the program dump.txt to a temporary folder, runs the program there by `rt try`
 // (it needs no proof; the environment's RT may name another command) and compares its answers with parse.js.
 // --nested: that many texts in which constructs stand in each other, and no others.
 // --file: texts of one's own, with U+0000 between them. --high H --open M: with these limits in place of 500 and 1000, so
@@ -134,7 +134,9 @@ function run(texts) {
   fs.writeFileSync(path.join(folder, 'crates.txt'), lines.join('\n') + '\ndump: source_text tree parser\n');
   const copy = (from, to) => { for (const part of ['src', 'specs', 'proofs']) if (fs.existsSync(path.join(from, part))) fs.cpSync(path.join(from, part), path.join(to, part), { recursive: true }); };
   for (const name of STANDS_ON) copy(path.join(CRATES, name), path.join(folder, 'crates', name));
-  copy(path.join(__dirname, 'dump'), path.join(folder, 'crates', 'dump'));
+  const program = path.join(folder, 'crates', 'dump', 'src');
+  fs.mkdirSync(program, { recursive: true });
+  fs.copyFileSync(path.join(__dirname, 'dump.txt'), path.join(program, 'main.rt'));
   const limit = (file, name, value) => {
     const at = path.join(folder, 'crates', file);
     fs.writeFileSync(at, fs.readFileSync(at, 'utf8').replace(new RegExp(`(const ${name}: u32 = )\\d+`), '$1' + value));

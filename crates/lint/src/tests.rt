@@ -325,7 +325,7 @@ static NO_COMMANDS: [(&[&str], ErrorKind); 7] = [
     (&["jslint", "help", "fix"], ErrorKind::DisplayHelp),
 ];
 
-fn expect_no_command(rt: &impl Abort, alloc: Global, words: &[&str], want: ErrorKind) {
+fn expect_no_command<'a>(rt: &impl Abort, alloc: Global, words: &'a [&'a str], want: ErrorKind) {
     match command_line(alloc, words) {
         Ok(_) => panic!(rt; "{words:?}"),
         Err(error) => assert_eq!(rt; error.kind(), want, "{words:?}"),

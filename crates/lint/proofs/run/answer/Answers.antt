@@ -20,8 +20,8 @@ pub returns-in-Err-answered : goal.returns-in-Err-answered
 returns-in-Err-answered c =
     let source = c.in-Ok.ensures.ok in
     let refused : RefusesSource c.args.command c.in-Ok.source c.in-Err-answered.fault = elim c.match-command.branch [
-      in-Fix w ↦ refuses c.in-Ok.source c.args.command Fix w.fix-answered.result c.match-command.answered c.in-Err-answered.fault w.in-Fix.is w.answered-is c.in-Err-answered.is w.fix-answered.ensures.refused
-    | in-Tree w ↦ refuses c.in-Ok.source c.args.command Tree w.tree_line-answered.result c.match-command.answered c.in-Err-answered.fault w.in-Tree.is w.answered-is c.in-Err-answered.is w.tree_line-answered.ensures.refused
+      | in-Fix w ↦ refuses c.in-Ok.source c.args.command Fix w.fix-answered.result c.match-command.answered c.in-Err-answered.fault w.in-Fix.is w.answered-is c.in-Err-answered.is w.fix-answered.ensures.refused
+      | in-Tree w ↦ refuses c.in-Ok.source c.args.command Tree w.tree_line-answered.result c.match-command.answered c.in-Err-answered.fault w.in-Tree.is w.answered-is c.in-Err-answered.is w.tree_line-answered.ensures.refused
     ] in
     rw c.of_text.ensures.fault
     (source_refused c.args.command _ c.in-Err-answered.fault _ (source.1, source.2) (rw source.0 at refused) (rw source.0 at c.of_text.ensures.place))

@@ -4,7 +4,7 @@
 //   node compare.js [--n COUNT] [--seed S] [--show K] [--keep FOLDER] [--file TEXTS]
 //
 // Makes COUNT scripts that are dense in names, labels, jumps, functions and classes, beside the model's own programs and
-// mutations of them, copies the crates to a temporary folder, runs the program dump/ there by `rt try` (no proof) and
+// mutations of them, copies the crates to a temporary folder, runs the program dump.txt there by `rt try` (no proof) and
 // compares its answers with early.js. Exit status 1 where anything disagrees.
 
 const fs = require('node:fs');
@@ -156,7 +156,9 @@ function run(texts) {
   fs.writeFileSync(path.join(folder, 'crates.txt'), lines.join('\n') + '\ndump: source_text parser early_errors\n');
   const copy = (from, to) => { for (const part of ['src', 'specs', 'proofs']) if (fs.existsSync(path.join(from, part))) fs.cpSync(path.join(from, part), path.join(to, part), { recursive: true }); };
   for (const name of STANDS_ON) copy(path.join(CRATES, name), path.join(folder, 'crates', name));
-  copy(path.join(__dirname, 'dump'), path.join(folder, 'crates', 'dump'));
+  const program = path.join(folder, 'crates', 'dump', 'src');
+  fs.mkdirSync(program, { recursive: true });
+  fs.copyFileSync(path.join(__dirname, 'dump.txt'), path.join(program, 'main.rt'));
   const answers = [];
   const SIZE = 8000; // texts a run
   for (let i = 0; i < texts.length; i += SIZE) {
