@@ -8,31 +8,13 @@
 // compares its answers with early.js. Exit status 1 where anything disagrees.
 
 const fs = require('node:fs');
-const os = require('node:os');
 const path = require('node:path');
-const { spawnSync } = require('node:child_process');
-const REFERENCE = path.join(__dirname, '..', 'reference');
-const CRATES = path.join(__dirname, '..', '..', 'crates');
-const { parseOnly } = require(path.join(REFERENCE, 'parse.js'));
-const { earlyErrors } = require(path.join(REFERENCE, 'early.js'));
-const { sample } = require(path.join(REFERENCE, 'brute.js'));
-const { PROGRAMS } = require(path.join(REFERENCE, 'fuzz-programs.js'));
-
-const option = (name, otherwise) => {
-  const i = process.argv.indexOf('--' + name);
-  return i < 0 ? otherwise : process.argv[i + 1];
-};
-
-function randomSource(seed) { // mulberry32
-  let s = seed >>> 0;
-  const next = () => {
-    s = (s + 0x6d2b79f5) >>> 0;
-    let t = Math.imul(s ^ (s >>> 15), s | 1);
-    t ^= t + Math.imul(t ^ (t >>> 7), t | 61);
-    return ((t ^ (t >>> 14)) >>> 0) / 4294967296;
-  };
-  return { next, below: (n) => Math.floor(next() * n), pick: (list) => list[Math.floor(next() * list.length)] };
-}
+const { answersOf, copied, option, pieces } = require('../dump.js');
+const { sample } = require('../reference/brute.js');
+const { earlyErrors } = require('../reference/early.js');
+const { PROGRAMS } = require('../reference/fuzz-programs.js');
+const { parseOnly } = require('../reference/parse.js');
+const { randomSource } = require('../reference/random.js');
 
 // ---------------------------------------------------------------- scripts dense in early errors
 
@@ -113,8 +95,6 @@ function makeScript(source) {
   return list(2 + source.below(5), false);
 }
 
-const pieces = (text) => text.match(/\s+|[$\w]+|'[^']*'|"[^"]*"|=>|\*\*|\+\+|--|\?\.|\?\?|\|\||&&|\.\.\.|\$\{|[^]/g) ?? [];
-
 function mutated(source, pool) {
   const list = pieces(source.pick(PROGRAMS));
   for (let m = source.below(3); m >= 0; m--) {
@@ -148,35 +128,9 @@ function answer(text) {
   return first === undefined ? 'none' : `E${first.number} ${first.at}`;
 }
 
-const STANDS_ON = ['source_text', 'tokens', 'tree', 'language', 'grammar', 'token_cursor', 'covers', 'productions', 'parser', 'early_errors'];
-function run(texts) {
-  const folder = option('keep', null) ?? fs.mkdtempSync(path.join(os.tmpdir(), 'early-'));
-  const lines = fs.readFileSync(path.join(CRATES, '..', 'crates.txt'), 'utf8').split('\n').filter((l) => STANDS_ON.includes(l.split(':')[0]));
-  fs.mkdirSync(path.join(folder, 'crates'), { recursive: true });
-  fs.writeFileSync(path.join(folder, 'crates.txt'), lines.join('\n') + '\ndump: source_text parser early_errors\n');
-  const copy = (from, to) => { for (const part of ['src', 'specs', 'proofs']) if (fs.existsSync(path.join(from, part))) fs.cpSync(path.join(from, part), path.join(to, part), { recursive: true }); };
-  for (const name of STANDS_ON) copy(path.join(CRATES, name), path.join(folder, 'crates', name));
-  const program = path.join(folder, 'crates', 'dump', 'src');
-  fs.mkdirSync(program, { recursive: true });
-  fs.copyFileSync(path.join(__dirname, 'dump.txt'), path.join(program, 'main.rt'));
-  const answers = [];
-  const SIZE = 8000; // texts a run
-  for (let i = 0; i < texts.length; i += SIZE) {
-    const file = path.join(folder, 'texts');
-    fs.writeFileSync(file, texts.slice(i, i + SIZE).join('\0'));
-    const done = spawnSync(process.env.RT ?? 'rt', ['try', '--seconds', '600', '--data', 'texts=' + file], { cwd: path.join(folder, 'crates', 'dump'), maxBuffer: 1 << 30, encoding: 'utf8' });
-    const list = done.stdout.split('\0');
-    const rest = list.pop();
-    if (list.length !== Math.min(SIZE, texts.length - i)) { console.log(`stopped after ${list.length} texts:\n${rest}\n${done.stderr}`); process.exitCode = 1; }
-    answers.push(...list);
-    if (list.length < Math.min(SIZE, texts.length - i)) break;
-  }
-  return answers;
-}
-
 const file = option('file', null);
 const texts = file !== null ? fs.readFileSync(file, 'utf8').split('\0') : makeTexts(Number(option('n', 1000)), Number(option('seed', 1)));
-const answers = run(texts);
+const answers = answersOf(copied(path.join(__dirname, 'dump.txt'), ['source_text', 'parser', 'early_errors']), texts, 8000);
 const seen = {};
 let differ = 0;
 for (let i = 0; i < answers.length; i++) {

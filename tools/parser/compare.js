@@ -12,43 +12,23 @@
 // that small texts meet them; a text that derives nothing may then be too deep too. Exit status 1 where anything disagrees.
 
 const fs = require('node:fs');
-const os = require('node:os');
 const path = require('node:path');
-const { spawnSync } = require('node:child_process');
-const REFERENCE = path.join(__dirname, '..', 'reference');
-const CRATES = path.join(__dirname, '..', '..', 'crates');
-const { parseOnly } = require(path.join(REFERENCE, 'parse.js'));
-const { sample } = require(path.join(REFERENCE, 'brute.js'));
-const { PROGRAMS } = require(path.join(REFERENCE, 'fuzz-programs.js'));
-const { plainTree } = require(path.join(__dirname, '..', 'definitions', 'model.js'));
-
-const option = (name, otherwise) => {
-  const i = process.argv.indexOf('--' + name);
-  return i < 0 ? otherwise : process.argv[i + 1];
-};
+const { answersOf, copied, option, pieces } = require('../dump.js');
+const { sample } = require('../reference/brute.js');
+const { PROGRAMS } = require('../reference/fuzz-programs.js');
+const { parseOnly } = require('../reference/parse.js');
+const { randomSource } = require('../reference/random.js');
+const { plainTree } = require('../definitions/model.js');
 
 // ---------------------------------------------------------------- texts
 
-function randomSource(seed) { // mulberry32
-  let s = seed >>> 0;
-  const next = () => {
-    s = (s + 0x6d2b79f5) >>> 0;
-    let t = Math.imul(s ^ (s >>> 15), s | 1);
-    t ^= t + Math.imul(t ^ (t >>> 7), t | 61);
-    return ((t ^ (t >>> 14)) >>> 0) / 4294967296;
-  };
-  return { next, below: (n) => Math.floor(next() * n), pick: (list) => list[Math.floor(next() * list.length)] };
-}
-
 // The alphabets of the model's own comparison.
 function alphabets() {
-  const text = fs.readFileSync(path.join(REFERENCE, 'fuzz.js'), 'utf8');
+  const text = fs.readFileSync(path.join(__dirname, '..', 'reference', 'fuzz.js'), 'utf8');
   const table = /const ALPHABETS = (\{[^]*?\n\});/.exec(text)[1];
   const words = (s) => s.split(' ').map((w) => (w === 'LF' ? '\n' : w));
   return Object.values(new Function('words', 'return ' + table)(words));
 }
-
-const pieces = (text) => text.match(/\s+|[$\w]+|'[^']*'|"[^"]*"|=>|\*\*|\+\+|--|\?\.|\?\?|\|\||&&|\.\.\.|\$\{|[^]/g) ?? [];
 
 function mutated(source, pool) {
   const list = pieces(source.pick(PROGRAMS));
@@ -126,36 +106,15 @@ function answer(text) {
 
 // ---------------------------------------------------------------- the parser's answers
 
-const STANDS_ON = ['source_text', 'tokens', 'tree', 'language', 'grammar', 'token_cursor', 'covers', 'productions', 'parser'];
 function run(texts) {
-  const folder = option('keep', null) ?? fs.mkdtempSync(path.join(os.tmpdir(), 'parser-'));
-  const lines = fs.readFileSync(path.join(CRATES, '..', 'crates.txt'), 'utf8').split('\n').filter((l) => STANDS_ON.includes(l.split(':')[0]));
-  fs.mkdirSync(path.join(folder, 'crates'), { recursive: true });
-  fs.writeFileSync(path.join(folder, 'crates.txt'), lines.join('\n') + '\ndump: source_text tree parser\n');
-  const copy = (from, to) => { for (const part of ['src', 'specs', 'proofs']) if (fs.existsSync(path.join(from, part))) fs.cpSync(path.join(from, part), path.join(to, part), { recursive: true }); };
-  for (const name of STANDS_ON) copy(path.join(CRATES, name), path.join(folder, 'crates', name));
-  const program = path.join(folder, 'crates', 'dump', 'src');
-  fs.mkdirSync(program, { recursive: true });
-  fs.copyFileSync(path.join(__dirname, 'dump.txt'), path.join(program, 'main.rt'));
+  const folder = copied(path.join(__dirname, 'dump.txt'), ['source_text', 'tree', 'parser']);
   const limit = (file, name, value) => {
     const at = path.join(folder, 'crates', file);
     fs.writeFileSync(at, fs.readFileSync(at, 'utf8').replace(new RegExp(`(const ${name}: u32 = )\\d+`), '$1' + value));
   };
   limit('parser/src/script.rt', 'MAX_HEIGHT', HIGH);
   limit('token_cursor/src/cursor.rt', 'MAX_OPEN', OPEN);
-  const answers = [];
-  const SIZE = 4000; // texts a run
-  for (let i = 0; i < texts.length; i += SIZE) {
-    const file = path.join(folder, 'texts');
-    fs.writeFileSync(file, texts.slice(i, i + SIZE).join('\0'));
-    const done = spawnSync(process.env.RT ?? 'rt', ['try', '--seconds', '600', '--data', 'texts=' + file], { cwd: path.join(folder, 'crates', 'dump'), maxBuffer: 1 << 30, encoding: 'utf8' });
-    const list = done.stdout.split('\0');
-    const rest = list.pop();
-    if (list.length !== Math.min(SIZE, texts.length - i)) { console.log(`stopped after ${list.length} texts:\n${rest}\n${done.stderr}`); process.exitCode = 1; }
-    answers.push(...list);
-    if (list.length < Math.min(SIZE, texts.length - i)) break;
-  }
-  return answers;
+  return answersOf(folder, texts, 4000);
 }
 
 const file = option('file', null);

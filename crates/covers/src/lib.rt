@@ -11,6 +11,3 @@ mod shape;
 pub use cover::{Cover, to_parameters};
 pub use list::{Item, List, Listed, Seen};
 pub use shape::{Assigned, Shape};
-
-#[cfg(test)]
-mod tests;

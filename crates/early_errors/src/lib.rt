@@ -113,6 +113,3 @@ pub fn first_early_error(
     walk_node(program.root(), Around::OUTSIDE, &mut walk)?;
     Ok(walk.found)
 }
-
-#[cfg(test)]
-mod tests;

@@ -11,6 +11,3 @@ mod write;
 
 pub use node::to_value;
 pub use write::{tree_text, write_tree};
-
-#[cfg(test)]
-mod tests;

@@ -6,6 +6,3 @@ pub mod laws;
 mod words;
 
 pub use words::{Binding, binary_rank, is_integer, is_reserved, rank_of};
-
-#[cfg(test)]
-mod tests;

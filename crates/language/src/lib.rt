@@ -92,6 +92,3 @@ pub fn position_takes(position: Rank, symbol: Rank) -> bool
     let z = tightness_of(symbol);
     y <= z && !(y == 4 && (z == 5 || z == 6)) && !(y == 19 && z == 20)
 }
-
-#[cfg(test)]
-mod tests;

@@ -1,10 +1,3 @@
-pub mod Turns
-pub mod Places
-pub mod Parsing
-pub mod Reading
-pub mod Shapes
-pub mod Written
-pub mod Fixed
 pub mod Pieces
 pub mod Running
 pub mod Decimal

@@ -2,12 +2,12 @@
 use Rattle.std.proofs.Common.{◌≡◌, ◌≢◌, ◌<◌, ◌≤◌, ◌+◌, ℕ, List, length, take, arith, refl, ap, subst, ◌∙◌, Some, None, IfSome}
 use Rattle.std.proofs.lemmas.List.{length-take, take_all}
 use Rattle.std.specs.declared.option.Option.{Option}
-use Rattle.source_text.specs.Source.{max_bytes}
+use Rattle.source_text.specs.Source.{IsPlace, max_bytes}
 use Rattle.source_text.specs.declared.fault.Fault.{Fault}
 use Rattle.source_text.specs.declared.fault.Fault.TheVariants.{NotUtf8, TooLong, Syntax, TooDeep, Early, OutOfMemory, BadSettings, BadTable, WriteFailed, ReadFailed, Usage}
 use Rattle.lint.specs.declared.run.Command.{Command}
 use Rattle.lint.specs.declared.run.Command.TheVariants.{Fix, Tree}
-use Rattle.lint.specs.Run.{IsSource, IsAnswer, IsPlacedAt, RefusesSource, RefusesBytes, Seen, NoneFailed, NothingWritten, IsGiven, Refuses}
+use Rattle.lint.specs.Run.{HasPlace, IsSource, IsAnswer, RefusesSource, RefusesBytes, Seen, NoneFailed, NothingWritten, IsGiven, Refuses, place_of}
 
 -- bytes that were read up to one byte past the longest text
 abbrev pub IsRead : Option (List ℕ) → List ℕ → Type 0
@@ -83,18 +83,24 @@ pub answered_text : (command : Command) (given : Option (List ℕ)) (bytes answe
 answered_text command given bytes answer W is_read is written =
     (bytes, answer, all_read given bytes is_read (answer_length command bytes answer is), is, written)
 
+-- the place of a syntax error is one of the text
+pub has_place : (command : Command) (bytes : List ℕ) (at : ℕ) → RefusesSource command bytes (Syntax at) → IsPlace bytes at
+has_place Fix bytes at refused = refused.1
+has_place Tree bytes at refused = refused
+
 -- what a command refuses of source text is refused
 pub source_refused : (command : Command) (bytes : List ℕ) (fault : Fault) (place : ℕ × ℕ)
-    → IsSource bytes → RefusesSource command bytes fault → IsPlacedAt bytes fault place → RefusesBytes command bytes fault place
-source_refused command bytes (Syntax at) place source refused is = ((source, refused), is)
-source_refused command bytes TooDeep place source refused is = ((source, refused), is)
+    → IsSource bytes → RefusesSource command bytes fault → (HasPlace bytes fault → place ≡ place_of bytes fault)
+    → RefusesBytes command bytes fault place
+source_refused command bytes (Syntax at) place source refused is = ((source, refused), is (has_place command bytes at refused))
+source_refused command bytes TooDeep place source refused is = ((source, refused), is tt)
 source_refused command bytes OutOfMemory place source refused is = is tt
 source_refused command bytes (Early number at) place source refused is = ((source, refused), is)
-source_refused command bytes BadSettings place source refused is = ((source, refused), is)
-source_refused command bytes (BadTable row reason) place source refused is = ((source, refused), is)
-source_refused command bytes WriteFailed place source refused is = ((source, refused), is)
-source_refused command bytes ReadFailed place source refused is = ((source, refused), is)
-source_refused command bytes Usage place source refused is = ((source, refused), is)
+source_refused command bytes BadSettings place source refused is = ((source, refused), is tt)
+source_refused command bytes (BadTable row reason) place source refused is = ((source, refused), is tt)
+source_refused command bytes WriteFailed place source refused is = ((source, refused), is tt)
+source_refused command bytes ReadFailed place source refused is = ((source, refused), is tt)
+source_refused command bytes Usage place source refused is = ((source, refused), is tt)
 source_refused Fix bytes (NotUtf8 at) place source refused is = absurd refused
 source_refused Fix bytes TooLong place source refused is = absurd refused
 source_refused Tree bytes (NotUtf8 at) place source refused is = absurd refused

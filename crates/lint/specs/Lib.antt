@@ -1,9 +1,3 @@
-pub mod Cursor
-pub mod Starts
-pub mod Reads
-pub mod Scripts
-pub mod PartText
-pub mod Fix
 pub mod Streams
 pub mod ReadScripts
 pub mod Run

@@ -13,9 +13,9 @@ use Rattle.lint.specs.declared.run.Refused.{Refused}
 use Rattle.tree.specs.Tree.{Tree as SyntaxTree}
 use Rattle.early_errors.specs.Early.{least_error}
 use Rattle.estree_json.specs.Json.{json_text}
-use Rattle.lint.specs.Scripts.{RefusesScript}
+use Rattle.sum_fixer.specs.Scripts.{RefusesScript}
 use Rattle.lint.specs.ReadScripts.{RefusesReading}
-use Rattle.lint.specs.Fix.{IsFixed}
+use Rattle.sum_fixer.specs.Fix.{IsFixed}
 use Rattle.lint.specs.Streams.{AppendsBeginning}
 
 -- ---- a text and its answer
@@ -56,9 +56,10 @@ HasPlace text (Syntax at) = IsPlace text at
 HasPlace text (Early number at) = IsPlace text at
 HasPlace text other = Unit {0}
 
--- the line and the column are those of the place, if it is one of the text
+-- the line and the column are those of the place; of an early error: if that is a place of the text
 abbrev pub IsPlacedAt : List ℕ → Fault → ℕ × ℕ → Type 0
-IsPlacedAt text fault place = HasPlace text fault → place ≡ place_of text fault
+IsPlacedAt text (Early number at) place = IsPlace text at → place ≡ line_column text at
+IsPlacedAt text fault place = place ≡ place_of text fault
 
 -- ---- the devices
 

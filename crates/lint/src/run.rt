@@ -3,14 +3,14 @@
 ghost use Rattle.std.specs.Prelude.{IfErr, IfOk, ◌≡◌, ◌≢◌, false, string_bytes};
 ghost use Rattle.lint.specs.CommandLine.{word_of};
 ghost use Rattle.lint.specs.ReadScripts.{RefusesReading};
-ghost use Rattle.lint.specs.Run.{Answers, IsJson, IsPlacedAt, Runs};
+ghost use Rattle.lint.specs.Run.{Answers, HasPlace, IsJson, Runs, place_of};
 
-use crate::fixer::fix;
 use crate::reader::read_script;
 use crate::streams::{read_up_to, write_text};
 use estree_json::tree_text;
 use source_text::{DeviceFault, Fault, Feed, MAX_BYTES, Sink, Source};
 use std::alloc::Global;
+use sum_fixer::fix;
 
 /// What the program is asked to do with a file.
 #[derive(Clone, Copy, Debug, PartialEq, Eq)]
@@ -59,7 +59,7 @@ impl Refused {
     /// A refusal of a text, with the line and the column of its place, where that is one of the text.
     pub fn of_text(source: &Source, fault: Fault) -> Refused
         ensures fault { result.fault ≡ fault }
-        ensures place { IsPlacedAt source.now fault (result.line, result.column) }
+        ensures place { HasPlace source.now fault → (result.line, result.column) ≡ place_of source.now fault }
     {
         match fault {
             Fault::Syntax(at) | Fault::Early(_, at) if source.text().is_char_boundary(at) => {

@@ -21,6 +21,3 @@ mod words;
 pub use nodes::node_positions;
 pub use position::Position;
 pub use spelling::{Positions, expression_positions};
-
-#[cfg(test)]
-mod tests;

@@ -8,6 +8,3 @@ mod tall;
 
 pub use nodes::Nodes;
 pub use tall::{Tall, made, plain};
-
-#[cfg(test)]
-mod tests;

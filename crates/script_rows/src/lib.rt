@@ -6,6 +6,14 @@
 #[cfg(test)]
 mod early;
 #[cfg(test)]
+mod edge;
+#[cfg(test)]
+mod fixer;
+#[cfg(test)]
+mod json;
+#[cfg(test)]
+mod numbers;
+#[cfg(test)]
 mod parse;
 #[cfg(test)]
 mod trees;

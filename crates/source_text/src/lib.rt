@@ -15,6 +15,3 @@ pub use fault::{Fault, Reason};
 pub use memory::{MemoryFeed, MemorySink, Plan};
 pub use sink::{DeviceFault, Feed, Sink};
 pub use source::{MAX_BYTES, Source};
-
-#[cfg(test)]
-mod tests;

@@ -7,6 +7,3 @@ mod semicolon;
 
 pub use cursor::{Cursor, MAX_OPEN};
 pub use semicolon::{Ending, goes_on};
-
-#[cfg(test)]
-mod tests;

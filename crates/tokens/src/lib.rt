@@ -21,6 +21,3 @@ pub use laws::{at_most_one_token, readings_take_tokens};
 pub use scanner::{ScanFault, scan};
 pub use token::{Class, Goal, Token};
 pub use value::{quoted_units, string_is, string_units, template_value};
-
-#[cfg(test)]
-mod tests;

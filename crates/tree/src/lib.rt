@@ -8,8 +8,6 @@ mod node;
 mod parts;
 mod program;
 mod syntax;
-#[cfg(test)]
-mod tests;
 mod walk;
 
 pub use copy::try_copy;
