@@ -1,2 +1,4 @@
+pub mod Grouping
 pub mod Moves
 pub mod Refused
+pub mod Yielding

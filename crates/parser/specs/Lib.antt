@@ -1,2 +1,10 @@
+pub mod Items
+pub mod Links
+pub mod Members
 pub mod Moves
+pub mod Outcomes
+pub mod Parts
 pub mod Refusals
+pub mod Sides
+pub mod Stated
+pub mod Tokens

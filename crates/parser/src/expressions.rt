@@ -1,11 +1,17 @@
 //! Expressions (ECMA-262 12.3 to 12.16): what the first token begins, then turn by turn what goes on with it.
 #![tactic(auto, using(crate::proofs::Refused::refusals, crate::proofs::Moves::moves))]
 
-ghost use Rattle.std.specs.Prelude.{◌≡◌, ◌≢◌, ◌≤◌, IfOk, IfErr};
+ghost use Rattle.std.specs.Prelude.{◌≡◌, ◌≢◌, ◌≤◌, true, false, IfOk, IfErr};
+ghost use Rattle.tree.specs.Tree.{height};
+ghost use Rattle.covers.specs.Patterns.{pattern_tree};
+ghost use Rattle.covers.specs.Shapes.{is_target};
 ghost use Rattle.token_cursor.specs.Point.{IsAhead};
 ghost use Rattle.tokens.specs.Scanned.{token_of};
 ghost use Rattle.parser.specs.Moves.{Passes};
+ghost use Rattle.parser.specs.Items.{item_from, list_from, with_item};
+ghost use Rattle.parser.specs.Outcomes.{BecomesHere, IsPlaceHere, RefusedUnless, YieldsWhere};
 ghost use Rattle.parser.specs.Refusals.{IsRefusal};
+ghost use Rattle.parser.specs.Sides.{left_of, left_symbol, takes_left, sign_of, steps_before, takes_operand, prefixed_node, prefixed_part};
 
 use crate::operators::{Onward, Operator};
 use crate::part::Part;
@@ -36,7 +42,8 @@ struct Left<'s> {
 impl<'t, 's> Parser<'t, 's> {
     /// What was read, as an expression.
     pub(crate) fn settle(&self, part: Part<'s>) -> Result<Tall<'s>, Fault>
-        ensures { IfErr result (IsRefusal self.now.cursor.text) }
+        ensures settled { BecomesHere part.entry.cover.node part.entry.cover.shape.is_expression self.now.cursor result }
+        ensures refused { IfErr result (IsRefusal self.now.cursor.text) }
     {
         part.settle(self.cursor.place())
     }
@@ -164,15 +171,11 @@ impl<'t, 's> Parser<'t, 's> {
 
     // What stands left of an operator, and what the operator makes of it.
     fn left_side(&self, left: Part<'s>, operator: Operator) -> Result<Left<'s>, Fault>
-        ensures { IfErr result (IsRefusal self.now.cursor.text) }
+        ensures taken { BecomesHere (left_of operator left.entry) (takes_left operator left.entry) self.now.cursor result }
+        ensures refused { IfErr result (IsRefusal self.now.cursor.text) }
     {
         let at = self.cursor.place();
-        let symbol = match operator {
-            Operator::Joins(sign) => sign.left,
-            Operator::Asks => Rank::ShortCircuit,
-            _ => Rank::LeftHandSide,
-        };
-        if !position_takes(symbol, left.rank) {
+        if !position_takes(left_symbol(operator), left.rank) {
             return Err(self.refusal());
         }
         let shape = left.cover.shape;
@@ -211,7 +214,8 @@ impl<'t, 's> Parser<'t, 's> {
 
     // The operand of `++` or `--` behind it.
     fn stepped(&self, operand: Part<'s>) -> Result<Tall<'s>, Fault>
-        ensures { IfErr result (IsRefusal self.now.cursor.text) }
+        ensures target { BecomesHere (pattern_tree operand.entry.cover.node) (is_target operand.entry.cover.shape.assigned) self.now.cursor result }
+        ensures refused { IfErr result (IsRefusal self.now.cursor.text) }
     {
         operand.cover.to_target(self.cursor.place())
     }
@@ -224,7 +228,10 @@ impl<'t, 's> Parser<'t, 's> {
         start: usize,
         high: u32,
     ) -> Result<Part<'s>, Fault>
-        ensures { IfErr result (IsRefusal self.now.cursor.text) }
+        ensures made { let steps = steps_before text.now in
+            let end = self.now.cursor.last.stop in
+            YieldsWhere (prefixed_part steps text.now start end operand.entry) (IsPlaceHere self.now.cursor) (takes_operand steps operand.entry.cover.shape) (height (prefixed_node steps text.now start end operand.entry.cover.node)) high result }
+        ensures refused { IfErr result (IsRefusal self.now.cursor.text) }
     {
         let at = self.cursor.place();
         let span = self.span_from(start);
@@ -240,8 +247,11 @@ impl<'t, 's> Parser<'t, 's> {
     }
 
     // A sequence of what was read, before its first comma (12.16).
+    #[tactic(auto, using(crate::proofs::Refused::refusals, crate::proofs::Moves::moves, crate::proofs::Yielding::unless_taken))]
     fn sequence(&self, first: Part<'s>, has_in: bool) -> Result<List<'s>, Fault>
         ensures listed { IfOk result (λ list. list.listed ≡ Listed.Sequence has_in) }
+        ensures begun { IfOk result (λ list. (list ≡ with_item (list_from (Listed.Sequence has_in) first.entry.start) (item_from first.entry.cover.node first.entry.cover.shape false first.entry.edge)) × (first.entry.cover.shape.is_expression ≡ true)) }
+        ensures failed { IfErr result (RefusedUnless (IsPlaceHere self.now.cursor) first.entry.cover.shape.is_expression) }
         ensures refused { IfErr result (IsRefusal self.now.cursor.text) }
     {
         let at = self.cursor.place();
@@ -259,8 +269,21 @@ impl<'t, 's> Parser<'t, 's> {
     }
 }
 
+// The symbol of its left side.
+fn left_symbol(operator: Operator) -> Rank
+    ensures { result ≡ left_symbol operator }
+{
+    match operator {
+        Operator::Joins(sign) => sign.left,
+        Operator::Asks => Rank::ShortCircuit,
+        _ => Rank::LeftHandSide,
+    }
+}
+
 // The text of a node of an operator: a conditional has none.
-fn sign_text(kind: Kind, text: &str) -> &str {
+fn sign_text(kind: Kind, text: &str) -> &str
+    ensures { result.now ≡ sign_of kind text.now }
+{
     match kind {
         Kind::ConditionalExpression => "",
         _ => text,

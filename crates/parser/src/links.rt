@@ -3,6 +3,7 @@
 
 ghost use Rattle.std.specs.Prelude.{◌≡◌, ◌≤◌, IfOk, IfErr};
 ghost use Rattle.parser.specs.Moves.{Passes};
+ghost use Rattle.parser.specs.Links.{link_kind, link_flags, link_rank, link_by};
 ghost use Rattle.parser.specs.Refusals.{IsRefusal};
 
 use crate::openings::listed;
@@ -27,7 +28,9 @@ enum Linked {
 
 impl Linked {
     // The kind of the node.
-    fn kind(self) -> Kind {
+    fn kind(self) -> Kind
+        ensures { result ≡ link_kind self }
+    {
         match self {
             Linked::Arguments => Kind::CallExpression,
             Linked::Quasi => Kind::TaggedTemplateExpression,
@@ -36,7 +39,9 @@ impl Linked {
     }
 
     // The flags of the node.
-    fn flags(self, optional: bool) -> Flags {
+    fn flags(self, optional: bool) -> Flags
+        ensures { result ≡ link_flags self optional }
+    {
         let mut flags = Flags::PLAIN;
         flags.computed = matches!(self, Linked::Index);
         flags.optional = optional;
@@ -44,7 +49,9 @@ impl Linked {
     }
 
     // The symbol of the node; of one that begins with a call (`is_call`) it is a call's too.
-    fn rank(self, is_call: bool) -> Rank {
+    fn rank(self, is_call: bool) -> Rank
+        ensures { result ≡ link_rank self is_call }
+    {
         match self {
             Linked::Arguments => Rank::Call,
             _ if is_call => Rank::Call,
@@ -54,7 +61,9 @@ impl Linked {
 }
 
 // What follows, by its first token.
-fn linked_of(token: &Token<'_>) -> Option<Linked> {
+fn linked_of(token: &Token<'_>) -> Option<Linked>
+    ensures { result ≡ link_by token.now.class token.now.text.now }
+{
     match token.class {
         Class::Template => Some(Linked::Quasi),
         Class::Punctuator => match token.text {

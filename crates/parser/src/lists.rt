@@ -1,10 +1,14 @@
 //! Lists (ECMA-262 12.2 to 12.16, 13.3, 13.12, 14.1, 14.6): one loop for all of them, and what each of them lists.
 #![tactic(auto, using(crate::proofs::Refused::refusals, crate::proofs::Moves::moves))]
 
-ghost use Rattle.std.specs.Prelude.{◌≡◌, ◌≤◌, IfOk, IfErr};
+ghost use Rattle.std.specs.Prelude.{◌≡◌, ◌≤◌, ◌&&◌, IfOk, IfErr};
 ghost use Rattle.std.specs.Bool.{OnTrue};
 ghost use Rattle.parser.specs.Moves.{Passes, IsOpened, IsUnseparated};
+ghost use Rattle.parser.specs.Items.{after_item, element_item, element_levels};
+ghost use Rattle.parser.specs.Outcomes.{BecomesHere, Yields};
 ghost use Rattle.parser.specs.Refusals.{IsLimit, IsRefusal};
+ghost use Rattle.covers.specs.Patterns.{pattern_tree};
+ghost use Rattle.covers.specs.Shapes.{is_pattern};
 
 use crate::chunks::chunk;
 use crate::part::Part;
@@ -68,6 +72,7 @@ impl<'t, 's> Parser<'t, 's> {
         ensures forward { self.old.cursor.last.stop ≤ self.new.cursor.last.stop }
         ensures passes { OnTrue result ((IsUnseparated list.old.listed → ⊥) → Passes self.old.cursor self.new.cursor) }
         ensures listed { list.new.listed ≡ list.old.listed }
+        ensures separated { list.new ≡ after_item list.old result }
     {
         if list.is_ended() {
             return false;
@@ -169,7 +174,8 @@ impl<'t, 's> Parser<'t, 's> {
         start: usize,
         high: u32,
     ) -> Result<Item<'s>, Fault>
-        ensures { IfErr result IsLimit }
+        ensures made { Yields (element_item spreads start self.now.cursor.last.stop part.entry) (element_levels spreads part.entry.cover.node) high result }
+        ensures refused { IfErr result IsLimit }
     {
         let shape = part.cover.shape;
         let edge = part.edge;
@@ -219,7 +225,8 @@ impl<'t, 's> Parser<'t, 's> {
 
     /// What was read, as what is bound.
     pub(crate) fn bound(&self, part: Part<'s>) -> Result<Tall<'s>, Fault>
-        ensures { IfErr result (IsRefusal self.now.cursor.text) }
+        ensures bound { BecomesHere (pattern_tree part.entry.cover.node) (part.entry.cover.shape.binds && is_pattern part.entry.cover.shape.assigned) self.now.cursor result }
+        ensures refused { IfErr result (IsRefusal self.now.cursor.text) }
     {
         part.cover.to_binding(self.cursor.place())
     }

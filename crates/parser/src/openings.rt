@@ -1,12 +1,18 @@
 //! What the first token of an expression begins (ECMA-262 12.2 to 12.5, 14.1, 14.2, 14.6).
 #![tactic(auto, using(crate::proofs::Refused::refusals, crate::proofs::Moves::moves))]
 
-ghost use Rattle.std.specs.Prelude.{◌≡◌, ◌≢◌, ◌≤◌, IfOk, IfErr, IfSome};
+ghost use Rattle.std.specs.Prelude.{◌≡◌, ◌≢◌, ◌≤◌, ◌<◌, ◌+◌, ◌-◌, [], ◌∷◌, ◌++◌, vec_len, set, IfOk, IfErr, IfSome};
 ghost use Rattle.token_cursor.specs.Point.{IsAhead};
 ghost use Rattle.source_text.specs.Source.{IsPlace};
 ghost use Rattle.tokens.specs.Scanned.{token_of};
 ghost use Rattle.parser.specs.Moves.{Passes, BeginsList};
+ghost use Rattle.parser.specs.Items.{listed_kind, listed_node, listed_part, is_grouped, group_levels, list_group};
+ghost use Rattle.parser.specs.Outcomes.{IsPlaceHere, MakesAs, YieldsWhere, RefusedUnder};
+ghost use Rattle.parser.specs.Parts.{group_part};
 ghost use Rattle.parser.specs.Refusals.{IsLimit, IsStop, IsRefusal};
+ghost use Rattle.parser.specs.Tokens.{single_node, single_text};
+ghost use Rattle.productions.specs.Made.{Makes};
+ghost use Rattle.tree.specs.Tree.{height};
 
 use crate::closures::Closure;
 use crate::part::Part;
@@ -97,7 +103,9 @@ fn stands(position: Position, opening: Opening) -> bool {
 }
 
 // The kind of what is listed.
-fn listed_kind(listed: Listed) -> Kind {
+fn listed_kind(listed: Listed) -> Kind
+    ensures { result ≡ listed_kind listed }
+{
     match listed {
         Listed::Elements => Kind::ArrayExpression,
         Listed::Properties => Kind::ObjectExpression,
@@ -107,7 +115,8 @@ fn listed_kind(listed: Listed) -> Kind {
 
 /// An array, an object or a template (12.2.5, 12.2.6, 12.2.9), or the pattern that it covers; `high` is the greatest height.
 pub(crate) fn listed<'s>(list: List<'s>, high: u32) -> Result<Part<'s>, Fault>
-    ensures { IfErr result IsLimit }
+    ensures made { MakesAs (listed_part list.entry) (height (listed_node list.entry)) high result }
+    ensures refused { IfErr result IsLimit }
 {
     let shape = match list.listed {
         Listed::Template => Shape::VALUE,
@@ -183,16 +192,13 @@ impl<'t, 's> Parser<'t, 's> {
 
     /// A node that is one token; `this` has no text.
     pub(crate) fn single(&self, kind: Kind, token: Token<'s>, high: u32) -> Result<Tall<'s>, Fault>
-        ensures { IfErr result IsLimit }
+        ensures made { Makes (single_node kind (token_of token.entry)) high result }
+        ensures refused { IfErr result IsLimit }
     {
-        let text = match kind {
-            Kind::ThisExpression | Kind::Super => "",
-            _ => token.text,
-        };
         Tall::leaf(
             self.alloc,
             kind,
-            CowStr::Borrowed(text),
+            CowStr::Borrowed(single_text(kind, token.text)),
             span_of(&token),
             high,
         )
@@ -301,6 +307,10 @@ impl<'t, 's> Parser<'t, 's> {
     fn enter(&mut self) -> Result<(usize, usize), Fault>
         ensures text { self.new.cursor.text ≡ self.old.cursor.text }
         ensures last { self.new.cursor.last ≡ self.old.cursor.last }
+        ensures opened { IfOk result (λ _. (self.old.cursor.opened < 1000) × (self.new.cursor.opened ≡ self.old.cursor.opened + 1)) }
+        ensures place { IfOk result (λ places. (places.0 ≡ vec_len self.old.pairs) × IsPlaceHere self.old.cursor places.1) }
+        ensures pairs { IfOk result (λ places. self.new.pairs.items ≡ self.old.pairs.items ++ (record { left = places.1; right = places.1 }) ∷ []) }
+        ensures too_deep { IfErr result (RefusedUnder self.old.cursor.opened) }
         ensures refused { IfErr result (IsRefusal self.new.cursor.text) }
     {
         self.cursor.enter()?;
@@ -318,6 +328,9 @@ impl<'t, 's> Parser<'t, 's> {
         ensures text { self.new.cursor.text ≡ self.old.cursor.text }
         ensures last { self.new.cursor.last ≡ self.old.cursor.last }
         ensures place { IsPlace self.new.cursor.text result }
+        ensures here { IsPlaceHere self.new.cursor result }
+        ensures closed { self.new.cursor.opened ≡ self.old.cursor.opened - 1 }
+        ensures same_pairs { self.new.pairs.items ≡ self.old.pairs.items }
     {
         self.cursor.leave();
         self.cursor.place()
@@ -326,6 +339,7 @@ impl<'t, 's> Parser<'t, 's> {
     // The pair at this place among them groups.
     fn close(&mut self, place: usize, left: usize, right: usize)
         ensures cursor { self.new.cursor ≡ self.old.cursor }
+        ensures pairs { place < vec_len self.old.pairs → self.new.pairs.items ≡ set self.old.pairs.items place (record { left = left; right = right }) }
     {
         if place < self.pairs.len() {
             self.pairs[place] = Pair { left, right };
@@ -333,9 +347,20 @@ impl<'t, 's> Parser<'t, 's> {
     }
 }
 
+// The text of a node that is one token: `this` and `super` have none.
+fn single_text(kind: Kind, text: &str) -> &str
+    ensures { result.now ≡ single_text kind text.now }
+{
+    match kind {
+        Kind::ThisExpression | Kind::Super => "",
+        _ => text,
+    }
+}
+
 // What parentheses group (12.2.10): an expression, or several with commas between them.
 fn grouped<'s>(list: List<'s>, at: usize, high: u32) -> Result<Part<'s>, Fault>
-    ensures { IfErr result (IsStop at) }
+    ensures made { YieldsWhere (list_group list.entry) (λ place. place ≡ at) (is_grouped list.entry) (group_levels list.entry.nodes) high result }
+    ensures refused { IfErr result (IsStop at) }
 {
     let start = list.span.start;
     let seen = list.seen;
@@ -354,7 +379,9 @@ fn grouped<'s>(list: List<'s>, at: usize, high: u32) -> Result<Part<'s>, Fault>
 }
 
 // What stands in parentheses that begin at a place.
-fn in_group<'s>(node: Tall<'s>, shape: Shape, start: usize) -> Part<'s> {
+fn in_group<'s>(node: Tall<'s>, shape: Shape, start: usize) -> Part<'s>
+    ensures { result ≡ group_part node.entry shape start }
+{
     Part {
         cover: Cover { node, shape },
         start,

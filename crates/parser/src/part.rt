@@ -1,7 +1,10 @@
 //! What was read where an expression may stand.
 
-ghost use Rattle.std.specs.Prelude.{◌≡◌, IfErr};
+ghost use Rattle.std.specs.Prelude.{◌≡◌, true, false};
+ghost use Rattle.std.specs.Bool.{OnTrue, OnFalse};
+ghost use Rattle.tree.specs.Tree.{kind_of};
 ghost use Rattle.covers.specs.Shapes.{Becomes};
+ghost use Rattle.parser.specs.Parts.{plain_part, primary_part, is_group, is_lone_string};
 
 use covers::{Cover, Shape};
 use language::{Edge, Rank};
@@ -24,7 +27,7 @@ pub(crate) struct Part<'s> {
 impl<'s> Part<'s> {
     /// An expression that is no array, no object and no assignment.
     pub(crate) fn plain(node: Tall<'s>, rank: Rank, edge: Edge) -> Part<'s>
-        ensures { result.cover.node ≡ node.entry }
+        ensures { result ≡ plain_part node.entry rank edge }
     {
         let start = node.node().span().start;
         let cover = Cover::plain(node);
@@ -38,7 +41,7 @@ impl<'s> Part<'s> {
 
     /// What stands at Primary, with its shape.
     pub(crate) fn primary(node: Tall<'s>, shape: Shape) -> Part<'s>
-        ensures { result.cover.node ≡ node.entry }
+        ensures { result ≡ primary_part node.entry shape }
     {
         let start = node.node().span().start;
         Part {
@@ -60,16 +63,37 @@ impl<'s> Part<'s> {
     }
 
     /// Whether it is a node of this kind that stands in no parentheses.
-    pub(crate) fn is_bare(&self, kind: Kind) -> bool {
-        self.cover.node.node().kind() == kind && !matches!(self.rank, Rank::Grouped)
+    pub(crate) fn is_bare(&self, kind: Kind) -> bool
+        ensures bare { OnTrue result ((kind_of self.now.cover.node ≡ kind) × (is_group self.now.rank ≡ false)) }
+        ensures other { OnFalse result (kind_of self.now.cover.node ≡ kind → is_group self.now.rank ≡ true) }
+    {
+        if is_group(self.rank) {
+            return false;
+        }
+        if self.cover.node.node().kind() == kind {
+            return true;
+        }
+        false
     }
 
     /// Whether it is one string token, without parentheses.
-    pub(crate) fn is_lone_string(&self) -> bool {
+    pub(crate) fn is_lone_string(&self) -> bool
+        ensures { result ≡ is_lone_string self.now }
+    {
         if !self.is_bare(Kind::Literal) {
             return false;
         }
         let raw = self.cover.node.node().text();
-        raw.starts_with("'") || raw.starts_with("\"")
+        match raw.as_bytes().first() {
+            Some(quote) => *quote == b'\'' || *quote == b'"',
+            None => false,
+        }
     }
+}
+
+// Whether it is a symbol of what stands in parentheses.
+fn is_group(rank: Rank) -> bool
+    ensures { result ≡ is_group rank }
+{
+    matches!(rank, Rank::Grouped)
 }

@@ -1,9 +1,12 @@
 //! Statements, functions, classes and their parts as lists of pieces (ECMA-262 clauses 13 and 14).
 #![tactic(auto, using(crate::proofs::Refused::refusals, crate::proofs::Moves::moves))]
 
-ghost use Rattle.std.specs.Prelude.{◌≡◌, ◌≤◌, IfOk, IfErr};
+ghost use Rattle.std.specs.Prelude.{◌≡◌, ◌≤◌, true, IfOk, IfErr};
 ghost use Rattle.parser.specs.Moves.{Passes, IfHandler};
 ghost use Rattle.parser.specs.Refusals.{IsRefusal};
+ghost use Rattle.parser.specs.Outcomes.{BecomesHere, IsPlaceHere, RefusedUnless, RefusedWhere};
+ghost use Rattle.parser.specs.Stated.{built_of, listed_depth, fits_head, head_levels, head_node, list_levels, put_node, takes_head, takes_list, takes_put, with_list, with_part};
+ghost use Rattle.tree.specs.Tree.{none};
 
 use crate::part::Part;
 use crate::position::{Parser, Position};
@@ -29,12 +32,16 @@ pub(crate) struct Built<'s> {
 
 impl<'s> Built<'s> {
     /// No parts.
-    pub(crate) fn new(alloc: Global) -> Built<'s> {
+    pub(crate) fn new(alloc: Global) -> Built<'s>
+        ensures { result ≡ built_of none }
+    {
         Built::of(Nodes::new(alloc))
     }
 
     /// These parts.
-    pub(crate) fn of(nodes: Nodes<'s>) -> Built<'s> {
+    pub(crate) fn of(nodes: Nodes<'s>) -> Built<'s>
+        ensures { result ≡ built_of nodes.entry }
+    {
         Built {
             nodes,
             edge: Edge::Closed,
@@ -353,33 +360,54 @@ impl<'t, 's> Parser<'t, 's> {
         })
     }
 
+    // What a piece makes of the expression that it wanted; `each`: `in` or `of` stands ahead.
+    fn put_node(&self, piece: Piece, each: bool, part: Part<'s>) -> Result<Tall<'s>, Fault>
+        ensures made { BecomesHere (put_node piece each part.entry.cover.node) (takes_put piece each part.entry.cover.shape) self.now.cursor result }
+        ensures refused { IfErr result (IsRefusal self.now.cursor.text) }
+    {
+        match piece {
+            Piece::Head if each => part.cover.to_pattern(self.cursor.place()),
+            Piece::Binding => self.bound(part),
+            _ => self.settle(part),
+        }
+    }
+
     // Adds an expression that a piece wanted.
     fn put_expression(
         &self,
         built: &mut Built<'s>,
         piece: Piece,
+        each: bool,
         part: Part<'s>,
     ) -> Result<(), Fault>
-        ensures { IfErr result (IsRefusal self.now.cursor.text) }
+        ensures put { IfOk result (λ _. built.new ≡ with_part built.old (put_node piece each part.entry.cover.node) part.entry.edge) }
+        ensures fits { IfOk result (λ _. takes_put piece each part.entry.cover.shape ≡ true) }
+        ensures failed { IfErr result (RefusedUnless (IsPlaceHere self.now.cursor) (takes_put piece each part.entry.cover.shape)) }
+        ensures refused { IfErr result (IsRefusal self.now.cursor.text) }
     {
         built.edge = part.edge;
-        let node = match piece {
-            Piece::Head if self.sees_each() => part.cover.to_pattern(self.cursor.place())?,
-            Piece::Binding => self.bound(part)?,
-            _ => self.settle(part)?,
-        };
+        let node = self.put_node(piece, each, part)?;
         built.nodes.push(node)
     }
 
     // Adds a list that a piece wanted; `high` is the greatest height of a part.
-    fn put_list(&self, built: &mut Built<'s>, list: List<'s>, high: u32) -> Result<(), Fault>
-        ensures { IfErr result (IsRefusal self.now.cursor.text) }
+    fn put_list(
+        &self,
+        built: &mut Built<'s>,
+        list: List<'s>,
+        each: bool,
+        high: u32,
+    ) -> Result<(), Fault>
+        ensures put { IfOk result (λ _. built.new ≡ with_list built.old list.entry self.now.cursor.last.stop) }
+        ensures fits { IfOk result (λ _. (takes_list built.old.word each list.entry ≡ true) × (list_levels list.entry ≤ high)) }
+        ensures failed { IfErr result (RefusedWhere (IsPlaceHere self.now.cursor) (takes_list built.old.word each list.entry) (list_levels list.entry) high) }
+        ensures refused { IfErr result (IsRefusal self.now.cursor.text) }
     {
         built.edge = list.seen.edge;
         let at = self.cursor.place();
         match list.listed {
             Listed::Declarators { has_in: true } if list.seen.is_marked => Err(self.refusal()),
-            Listed::Declarators { has_in: false } => self.put_head(built, list, high),
+            Listed::Declarators { has_in: false } => self.put_head(built, list, each, high),
             Listed::Parameters | Listed::NoParameter | Listed::OneParameter => {
                 built.nodes.append(list.into_parameters(at)?)
             }
@@ -392,18 +420,22 @@ impl<'t, 's> Parser<'t, 's> {
     }
 
     // Adds the head of a `for` that is a declaration (13.7.4, 13.7.5).
-    fn put_head(&self, built: &mut Built<'s>, list: List<'s>, high: u32) -> Result<(), Fault>
-        ensures { IfErr result (IsRefusal self.now.cursor.text) }
+    fn put_head(
+        &self,
+        built: &mut Built<'s>,
+        list: List<'s>,
+        each: bool,
+        high: u32,
+    ) -> Result<(), Fault>
+        ensures put { IfOk result (λ _. built.new ≡ with_part built.old (head_node built.old.word self.now.cursor.last.stop list.entry.nodes) built.old.edge) }
+        ensures fits { IfOk result (λ _. (takes_head built.old.word each list.entry ≡ true) × (head_levels list.entry.nodes ≤ high)) }
+        ensures failed { IfErr result (RefusedWhere (IsPlaceHere self.now.cursor) (takes_head built.old.word each list.entry) (head_levels list.entry.nodes) high) }
+        ensures refused { IfErr result (IsRefusal self.now.cursor.text) }
     {
-        let is_bare = matches!(list.seen.edge, Edge::Closed);
-        let fits = match self.sees_each() {
-            true => list.nodes.len() == 1 && is_bare,
-            false => !list.seen.is_marked,
-        };
         let Some(word) = built.word else {
             return Err(self.refusal());
         };
-        if !fits {
+        if !fits_head(each, &list) {
             return Err(self.refusal());
         }
         let span = self.span_from(word.start);
@@ -446,11 +478,12 @@ impl<'t, 's> Parser<'t, 's> {
                 Wanted::Gap => built.nodes.push_gap()?,
                 Wanted::Expression(position) => {
                     let part = self.expression(position, high)?;
-                    self.put_expression(built, *piece, part)?;
+                    let each = self.sees_each();
+                    self.put_expression(built, *piece, each, part)?;
                 }
                 Wanted::Binding => {
                     let part = self.opening(Position::at(Rank::Primary, true), high)?;
-                    self.put_expression(built, *piece, part)?;
+                    self.put_expression(built, *piece, false, part)?;
                 }
                 Wanted::Statement => {
                     built.nodes.push(self.statement(context.inside(), high)?)?;
@@ -480,7 +513,8 @@ impl<'t, 's> Parser<'t, 's> {
                     let limit = high.saturating_sub(depth_of(listed));
                     let list = self.open(listed, limit)?;
                     let list = self.list(list, limit)?;
-                    self.put_list(built, list, high)?;
+                    let each = self.sees_each();
+                    self.put_list(built, list, each, high)?;
                 }
             }
         }
@@ -488,9 +522,22 @@ impl<'t, 's> Parser<'t, 's> {
     }
 }
 
+// Whether the declarators may stand in the head of a `for`: before `in` or `of` (`each`) one without a value, before `;` none that is a pattern
+// without one.
+fn fits_head(each: bool, list: &List<'_>) -> bool
+    ensures { result ≡ fits_head each list.now }
+{
+    match each {
+        true => list.nodes.len() == 1 && matches!(list.seen.edge, Edge::Closed),
+        false => !list.seen.is_marked,
+    }
+}
+
 // 1 where a node of its own holds the items, in what holds the list: the body of a class, a declaration in the head of a `for`;
 // else 0.
-fn depth_of(listed: Listed) -> u32 {
+fn depth_of(listed: Listed) -> u32
+    ensures { result ≡ listed_depth listed }
+{
     match listed {
         Listed::Members | Listed::Declarators { has_in: false } => 1,
         _ => 0,

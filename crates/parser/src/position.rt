@@ -1,5 +1,7 @@
 //! Positions in an expression, and the parser itself.
 
+ghost use Rattle.std.specs.Prelude.{◌≡◌};
+
 use language::{Rank, Start};
 use std::alloc::Global;
 use token_cursor::Cursor;
@@ -45,7 +47,9 @@ impl Position {
     };
 
     /// A symbol, with this In.
-    pub(crate) fn at(rank: Rank, has_in: bool) -> Position {
+    pub(crate) fn at(rank: Rank, has_in: bool) -> Position
+        ensures { result ≡ record { rank = rank; has_in = has_in; start = Start.Any } }
+    {
         let start = Start::Any;
         Position {
             rank,
@@ -55,7 +59,9 @@ impl Position {
     }
 
     /// AssignmentExpression as the body of an arrow, with this In.
-    pub(crate) fn concise(has_in: bool) -> Position {
+    pub(crate) fn concise(has_in: bool) -> Position
+        ensures { result ≡ record { rank = Rank.Assignment; has_in = has_in; start = Start.NoBrace } }
+    {
         Position {
             rank: Rank::Assignment,
             has_in,

@@ -1,9 +1,15 @@
 //! Properties of objects and members of classes (ECMA-262 12.2.6, 14.3, 14.6).
 #![tactic(auto, using(crate::proofs::Refused::refusals, crate::proofs::Moves::moves))]
 
-ghost use Rattle.std.specs.Prelude.{◌≡◌, ◌≤◌, IfOk, IfErr, IfSome};
+ghost use Rattle.std.specs.Prelude.{◌≡◌, ◌≤◌, false, is_some, Some, IfOk, IfErr, IfSome};
 ghost use Rattle.parser.specs.Moves.{Passes};
+ghost use Rattle.parser.specs.Items.{property_item};
+ghost use Rattle.parser.specs.Members.{member_flags, named_form, method_form, member_kind};
+ghost use Rattle.parser.specs.Outcomes.{MakesAs};
 ghost use Rattle.parser.specs.Refusals.{IsLimit, IsRefusal};
+ghost use Rattle.parser.specs.Tokens.{single_node, key_kind};
+ghost use Rattle.tokens.specs.Scanned.{token_of};
+ghost use Rattle.tree.specs.Tree.{height};
 
 use crate::closures::Closure;
 use crate::position::{Parser, Position};
@@ -28,7 +34,9 @@ struct Key<'s> {
 }
 
 // The flags of a property, or of a member.
-fn flags_of(computed: bool, is_static: bool, form: Form) -> Flags {
+fn flags_of(computed: bool, is_static: bool, form: Form) -> Flags
+    ensures { result ≡ member_flags computed is_static form }
+{
     let mut flags = Flags::PLAIN;
     flags.computed = computed;
     flags.is_static = is_static;
@@ -37,7 +45,9 @@ fn flags_of(computed: bool, is_static: bool, form: Form) -> Flags {
 }
 
 // A property of this shape.
-fn property<'s>(node: Tall<'s>, shape: Shape) -> Item<'s> {
+fn property<'s>(node: Tall<'s>, shape: Shape) -> Item<'s>
+    ensures { result ≡ property_item node.entry shape }
+{
     Item {
         node,
         shape,
@@ -57,7 +67,8 @@ struct Modifiers<'s> {
 
 // The modifiers with `get` or `set`, unless that is the name itself.
 fn named(is_static: bool, form: Form, name: Option<Token<'_>>) -> Modifiers<'_>
-    ensures { result.name ≡ name.entry }
+    ensures name { result.name ≡ name.entry }
+    ensures modifiers { result ≡ record { is_static = is_static; form = named_form (is_some name.entry) form; name = name.entry } }
 {
     let form = match name.is_some() {
         true => Form::Method,
@@ -171,7 +182,9 @@ impl<'t, 's> Parser<'t, 's> {
 
     // The key that a name, a string or a number is.
     fn key_of(&self, token: Token<'s>, is_constructor: bool, high: u32) -> Result<Key<'s>, Fault>
-        ensures { IfErr result IsLimit }
+        ensures made { let node = single_node (key_kind token.entry.class) (token_of token.entry) in
+            MakesAs (record { node = node; computed = false; token = Some token.entry; is_constructor = is_constructor }) (height node) high result }
+        ensures refused { IfErr result IsLimit }
     {
         let kind = match token.class {
             Class::Name => Kind::Identifier,
@@ -311,7 +324,10 @@ impl<'t, 's> Parser<'t, 's> {
 }
 
 // The kind and the flags of a method, getter or setter; a method of a class whose name is `constructor` is the constructor (14.6).
-fn method_of(in_class: bool, key: &Key<'_>, modifiers: Modifiers<'_>) -> (Kind, Flags) {
+fn method_of(in_class: bool, key: &Key<'_>, modifiers: Modifiers<'_>) -> (Kind, Flags)
+    ensures kind { result.0 ≡ member_kind in_class }
+    ensures flags { result.1 ≡ member_flags key.now.computed modifiers.entry.is_static (method_form modifiers.entry.is_static modifiers.entry.form key.now.is_constructor) }
+{
     let is_static = modifiers.is_static;
     let is_plain = matches!(modifiers.form, Form::Method) && !is_static;
     let form = match is_plain && key.is_constructor {

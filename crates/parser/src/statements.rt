@@ -1,11 +1,14 @@
 //! Statements and declarations (ECMA-262 clause 13, 14.1, 14.6), by the first token.
 #![tactic(auto, using(crate::proofs::Refused::refusals, crate::proofs::Moves::moves))]
 
-ghost use Rattle.std.specs.Prelude.{◌≡◌, ◌≢◌, ◌≤◌, IfOk, IfErr};
+ghost use Rattle.std.specs.Prelude.{◌≡◌, ◌≢◌, ◌≤◌, ◌&&◌, true, IfOk, IfErr};
 ghost use Rattle.token_cursor.specs.Point.{IsAhead};
 ghost use Rattle.tokens.specs.Scanned.{token_of};
 ghost use Rattle.parser.specs.Moves.{Passes, IfHeaded};
 ghost use Rattle.parser.specs.Refusals.{IsRefusal};
+ghost use Rattle.parser.specs.Parts.{is_lone_string};
+ghost use Rattle.parser.specs.Stated.{headed_kind, item_context, inner_context, evaluated_node, evaluated_height, NotEvaluated};
+ghost use Rattle.token_cursor.specs.Ends.{IsEnd};
 
 use crate::closures::Closure;
 use crate::part::Part;
@@ -44,7 +47,9 @@ pub(crate) enum Headed {
 
 impl Headed {
     // The kind of its node.
-    fn kind(self) -> Kind {
+    fn kind(self) -> Kind
+        ensures { result ≡ headed_kind self }
+    {
         match self {
             Headed::Block => Kind::BlockStatement,
             Headed::Empty => Kind::EmptyStatement,
@@ -94,7 +99,9 @@ impl Context {
     };
 
     /// Of an item of a block or a case.
-    pub(crate) fn item(returns: bool) -> Context {
+    pub(crate) fn item(returns: bool) -> Context
+        ensures { result ≡ item_context returns }
+    {
         Context {
             is_item: true,
             is_prologue: false,
@@ -103,7 +110,9 @@ impl Context {
     }
 
     /// Of a statement in a statement there.
-    pub(crate) fn inside(self) -> Context {
+    pub(crate) fn inside(self) -> Context
+        ensures { result ≡ inner_context self.returns }
+    {
         Context {
             is_item: false,
             is_prologue: false,
@@ -282,6 +291,12 @@ impl<'t, 's> Parser<'t, 's> {
     fn evaluated(&mut self, part: Part<'s>, context: Context, high: u32) -> Result<Tall<'s>, Fault>
         ensures text { self.new.cursor.text ≡ self.old.cursor.text }
         ensures forward { self.old.cursor.last.stop ≤ self.new.cursor.last.stop }
+        ensures same_open { self.new.cursor.opened ≡ self.old.cursor.opened }
+        ensures same_pairs { self.new.pairs.items ≡ self.old.pairs.items }
+        ensures made { IfOk result (λ n. n ≡ evaluated_node (context.is_prologue && is_lone_string part.entry) part.entry.start self.new.cursor.last.stop part.entry.cover.node) }
+        ensures fits { IfOk result (λ n. (part.entry.cover.shape.is_expression ≡ true) × (evaluated_height part.entry ≤ high)) }
+        ensures ends { IfOk result (λ _. IsEnd self.old.cursor.text (Ending.Behind part.entry.edge) self.old.cursor.last self.new.cursor.last) }
+        ensures failed { IfErr result (NotEvaluated self.old.cursor part.entry high) }
         ensures refused { IfErr result (IsRefusal self.new.cursor.text) }
     {
         let start = part.start;

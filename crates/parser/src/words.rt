@@ -7,6 +7,7 @@ ghost use Rattle.tokens.specs.Scanned.{token_of};
 ghost use Rattle.language.specs.Token.{as_read};
 ghost use Rattle.token_cursor.specs.Point.{IsAheadBySome};
 ghost use Rattle.parser.specs.Moves.{Passes};
+ghost use Rattle.parser.specs.Outcomes.{IsSyntaxHere};
 ghost use Rattle.parser.specs.Refusals.{IsRefusal};
 
 use crate::position::Parser;
@@ -16,7 +17,9 @@ use tokens::{Class, Goal, Token};
 use tree::Span;
 
 /// The place of a token.
-pub(crate) fn span_of(token: &Token<'_>) -> Span {
+pub(crate) fn span_of(token: &Token<'_>) -> Span
+    ensures { result ≡ record { start = token.now.start; end = token.now.end } }
+{
     Span {
         start: token.start,
         end: token.end,
@@ -52,7 +55,8 @@ pub(crate) fn declares(word: &str) -> bool {
 impl<'t, 's> Parser<'t, 's> {
     /// The refusal at what stands ahead.
     pub(crate) fn refusal(&self) -> Fault
-        ensures { IsRefusal self.now.cursor.text result }
+        ensures refused { IsRefusal self.now.cursor.text result }
+        ensures here { IsSyntaxHere self.now.cursor result }
     {
         Fault::Syntax(self.cursor.place())
     }
@@ -224,7 +228,7 @@ impl<'t, 's> Parser<'t, 's> {
 
     /// From a place to the end of the last token.
     pub(crate) fn span_from(&self, start: usize) -> Span
-        ensures { result.start ≡ start }
+        ensures { result ≡ record { start = start; end = self.now.cursor.last.stop } }
     {
         Span {
             start,

@@ -1,0 +1,29 @@
+-- Properties and members, by what stands before their name, and their keys.
+use Rattle.std.specs.Prelude.{ℕ, Bool, true, false, not, cond, ◌&&◌, Option, Some, None}
+use Rattle.tree.specs.declared.kind.Kind.{Kind}
+use Rattle.tree.specs.declared.kind.Kind.TheVariants.{MethodDefinition, Property}
+use Rattle.tree.specs.declared.kind.Flags.{Flags}
+use Rattle.tree.specs.declared.kind.Form.{Form}
+use Rattle.tree.specs.declared.kind.Form.TheVariants.{Constructor, Method}
+use Rattle.tree.specs.Tree.{plain}
+
+-- the flags of a property, or of a member
+abbrev pub member_flags : Bool → Bool → Form → Flags
+member_flags computed is_static form = record plain { computed = computed; is_static = is_static; form = form }
+
+-- behind `get` or `set`, unless that is the name itself
+abbrev pub named_form : Bool → Form → Form
+named_form true form = Method
+named_form false form = form
+
+abbrev pub is_method : Form → Bool
+is_method Method = true
+is_method _ = false
+
+-- a method that isn't static, and whose key is `constructor`, is the constructor (14.6)
+abbrev pub method_form : Bool → Form → Bool → Form
+method_form is_static form names_constructor = cond (is_method form && not is_static && names_constructor) Constructor form
+
+abbrev pub member_kind : Bool → Kind
+member_kind true = MethodDefinition
+member_kind false = Property
