@@ -1,0 +1,101 @@
+-- What stands between the parts of a node, and how: bits of its own, and marks, where its own text is known.
+use Rattle.std.specs.Prelude.{ℕ, zero, suc, Bool, true, false, cond, List, [], ◌∷◌, ◌++◌, codes, map}
+use Rattle.language.specs.Pieces.{PieceOf, tok, may, many, ahead, unbroken, ending, open_parameters, close_parameters, sub, absent, never, lay}
+use Rattle.language.specs.Pieces as piece
+use Rattle.printer.specs.declared.pieces.Piece.{Piece}
+use Rattle.printer.specs.declared.pieces.Piece.TheVariants as own
+use Rattle.printer.specs.declared.pieces.Series as serieses
+use Rattle.printer.specs.declared.pieces.Series.TheVariants as series
+use Rattle.printer.specs.declared.pieces.Frame.{Frame}
+
+-- the next part or gap is `here`
+pub data Mark : Type 0 where
+  text : List ℕ → Mark
+  line feed deeper shallower loose here : Mark
+  apart : ℕ → Mark
+
+-- the marks of a spelling
+abbrev pub marks_of : {R : Type 0} → List (PieceOf R) → List Mark
+marks_of [] = []
+marks_of (tok c w ∷ qs) = text w ∷ marks_of qs
+marks_of (may w ∷ qs) = marks_of qs
+marks_of (many w ∷ qs) = marks_of qs
+marks_of (ahead w ∷ qs) = marks_of qs
+marks_of (unbroken ∷ qs) = marks_of qs
+marks_of (ending e ∷ qs) = text (codes ";") ∷ marks_of qs
+marks_of (open_parameters ∷ qs) = text (codes "(") ∷ marks_of qs
+marks_of (close_parameters ∷ qs) = text (codes ")") ∷ marks_of qs
+marks_of (sub a ∷ qs) = here ∷ marks_of qs
+marks_of (absent ∷ qs) = here ∷ marks_of qs
+marks_of (never ∷ qs) = marks_of qs
+marks_of (lay piece.space ∷ qs) = text (codes " ") ∷ marks_of qs
+marks_of (lay piece.line ∷ qs) = line ∷ marks_of qs
+marks_of (lay piece.feed ∷ qs) = feed ∷ marks_of qs
+marks_of (lay piece.deeper ∷ qs) = deeper ∷ marks_of qs
+marks_of (lay piece.shallower ∷ qs) = shallower ∷ marks_of qs
+marks_of (lay (piece.apart c) ∷ qs) = apart c ∷ marks_of qs
+marks_of (lay piece.loose ∷ qs) = loose ∷ marks_of qs
+
+-- a bit of a node, before its own text is known
+pub data Bit : Type 0 where
+  token : List ℕ → Bit
+  own_text newline feeding loosely : Bit
+  chunk : Bool → Bool → Bit
+
+abbrev pub bit_of : Piece → Bit
+bit_of (own.Token s) = token s.now
+bit_of own.Own = own_text
+bit_of (own.Chunk a b) = chunk a b
+bit_of own.Space = token (codes " ")
+bit_of own.Line = newline
+bit_of own.Feed = feeding
+bit_of own.Loose = loosely
+
+abbrev pub bits_of : List Piece → List Bit
+bits_of [] = []
+bits_of (p ∷ ps) = bit_of p ∷ bits_of ps
+
+-- how the parts behind the first ones stand
+pub data Chain : Type 0 where
+  nothing joined commas lines feeds : Chain
+  parameters : List Bit → Chain
+
+abbrev pub chain_of : serieses.Series → Chain
+chain_of series.Nothing = nothing
+chain_of series.Joined = joined
+chain_of series.Commas = commas
+chain_of (series.Parameters ps) = parameters (bits_of ps.now)
+chain_of series.Lines = lines
+chain_of series.Feeds = feeds
+
+-- what stands round the parts of a node
+pub record Shape : Type 0 where
+  pub front : List (List Bit)
+  pub opener : List Bit
+  pub chain : Chain
+  pub closer : List Bit
+
+abbrev pub shape_of : Frame → Shape
+shape_of f = record { front = map (λ p. bits_of p.now) f.front.now; opener = bits_of f.opener.now; chain = chain_of f.series; closer = bits_of f.closer.now }
+
+abbrev pub listed : List Bit → Chain → List Bit → Shape
+listed o t c = record { front = []; opener = o; chain = t; closer = c }
+
+abbrev pub fronted : List (List Bit) → List Bit → Shape
+fronted fs close = record { front = fs; opener = []; chain = nothing; closer = close }
+
+-- what stands before a part of a list, by whether it is the last
+abbrev pub before_bits : Chain → Bool → List Bit
+before_bits (parameters xs) true = xs
+before_bits lines b = newline ∷ []
+before_bits _ b = []
+
+-- what stands behind a part, or a gap; whether none and whether one is behind it
+abbrev pub after_bits : Chain → Bool → Bool → Bool → List Bit
+after_bits commas g true b = cond g (token (codes ",") ∷ []) []
+after_bits commas g false b = token (codes ",") ∷ token (codes " ") ∷ []
+after_bits (parameters xs) g true b = []
+after_bits (parameters xs) g false true = []
+after_bits (parameters xs) g false false = token (codes ",") ∷ token (codes " ") ∷ []
+after_bits feeds g a b = feeding ∷ []
+after_bits _ g a b = []

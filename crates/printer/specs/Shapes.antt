@@ -1,0 +1,281 @@
+-- What stands round the parts of a node, by its kind.
+use Rattle.std.specs.Prelude.{ℕ, suc, Option, Some, None, Bool, true, false, not, cond, List, [], ◌∷◌, codes, is_some}
+use Prim.Native.String.{String}
+use Rattle.tree.specs.declared.kind.Kind.{Kind}
+use Rattle.tree.specs.declared.kind.Kind.TheVariants as kind
+use Rattle.tree.specs.declared.kind.Form.{Form}
+use Rattle.tree.specs.declared.kind.Form.TheVariants as form
+use Rattle.tree.specs.declared.kind.Flags.{Flags}
+use Rattle.tree.specs.Tree.{Parts, none, part, gap, kind_of, text_of, part_at}
+use Rattle.language.specs.Words.{literal_class, is_open_number, is_identifier, is_word_operator, among}
+use Rattle.printer.specs.declared.pieces.Sign.{Sign}
+use Rattle.printer.specs.declared.pieces.Sign.TheVariants.{Plus, Minus}
+use Rattle.language.specs.Pieces.{is_none}
+use Rattle.positions.specs.Outlines.{parts_behind}
+use Rattle.positions.specs.declared.position.Position.{Position}
+use Rattle.positions.specs.declared.position.Position.TheVariants as at
+use Rattle.printer.specs.Bits.{Bit, token, own_text, newline, feeding, loosely, chunk, Chain, nothing, joined, commas, lines, feeds, parameters, Shape, fronted, listed}
+
+abbrev pub spelled : String → Bit
+spelled s = token (codes s)
+
+abbrev pub gapped : Bit
+gapped = token (codes " ")
+
+abbrev pub close_space : List Bit
+close_space = spelled ")" ∷ gapped ∷ []
+
+abbrev pub colon_space : List Bit
+colon_space = spelled ":" ∷ gapped ∷ []
+
+abbrev pub infix_bits : List Bit
+infix_bits = gapped ∷ own_text ∷ gapped ∷ []
+
+abbrev pub between : String → List Bit
+between s = gapped ∷ spelled s ∷ gapped ∷ []
+
+abbrev pub behind_word : String → List Bit
+behind_word s = spelled s ∷ gapped ∷ []
+
+abbrev pub headed : String → List Bit
+headed s = spelled s ∷ gapped ∷ spelled "(" ∷ []
+
+abbrev pub statement_end : List Bit
+statement_end = spelled ";" ∷ []
+
+abbrev pub function_list_shape : List (List Bit) → Shape
+function_list_shape fs = record { front = fs; opener = spelled "(" ∷ []; chain = parameters close_space; closer = [] }
+
+abbrev pub call_list_shape : List (List Bit) → List Bit → Shape
+call_list_shape fs o = record { front = fs; opener = o; chain = commas; closer = spelled ")" ∷ [] }
+
+-- a part stands at this place
+abbrev pub has_part : Parts → ℕ → Bool
+has_part ps i = is_some (part_at ps i)
+
+-- Statements
+
+abbrev pub for_shape : Bool → Bool → Shape
+for_shape t u = fronted (headed "for" ∷ cond t (spelled ";" ∷ gapped ∷ []) statement_end ∷ cond u (spelled ";" ∷ gapped ∷ []) statement_end ∷ close_space ∷ []) []
+
+abbrev pub do_shape : Shape
+do_shape = fronted (behind_word "do" ∷ (gapped ∷ spelled "while" ∷ gapped ∷ spelled "(" ∷ []) ∷ []) (spelled ")" ∷ spelled ";" ∷ [])
+
+abbrev pub loop_shape : Kind → Parts → Shape
+loop_shape kind.WhileStatement ps = fronted (headed "while" ∷ close_space ∷ []) []
+loop_shape kind.DoWhileStatement ps = do_shape
+loop_shape kind.ForInStatement ps = fronted (headed "for" ∷ between "in" ∷ close_space ∷ []) []
+loop_shape kind.ForOfStatement ps = fronted (headed "for" ∷ between "of" ∷ close_space ∷ []) []
+loop_shape k ps = for_shape (has_part ps 1) (has_part ps 2)
+
+abbrev pub if_shape : Bool → Shape
+if_shape b = fronted (headed "if" ∷ close_space ∷ cond b (between "else") [] ∷ []) []
+
+abbrev pub try_shape : Bool → Bool → Shape
+try_shape true true = fronted (behind_word "try" ∷ (gapped ∷ []) ∷ between "finally" ∷ []) []
+try_shape true false = fronted (behind_word "try" ∷ (gapped ∷ []) ∷ [] ∷ []) []
+try_shape false b = fronted (behind_word "try" ∷ [] ∷ between "finally" ∷ []) []
+
+abbrev pub branch_shape : Kind → Parts → Shape
+branch_shape kind.IfStatement ps = if_shape (has_part ps 2)
+branch_shape kind.LabeledStatement ps = fronted ([] ∷ colon_space ∷ []) []
+branch_shape kind.TryStatement ps = try_shape (has_part ps 1) (has_part ps 2)
+branch_shape k ps = loop_shape k ps
+
+-- a word, with a part behind it or none
+abbrev pub word_shape : String → Bool → Shape
+word_shape s b = fronted (cond b (behind_word s) (spelled s ∷ []) ∷ []) statement_end
+
+abbrev pub declarator_shape : Bool → Shape
+declarator_shape b = fronted ([] ∷ cond b (between "=") [] ∷ []) []
+
+abbrev pub head_shape : Shape
+head_shape = listed (own_text ∷ gapped ∷ []) commas []
+
+abbrev pub statement_shape : Kind → Parts → Shape
+statement_shape kind.VariableDeclaration ps = listed (own_text ∷ gapped ∷ []) commas statement_end
+statement_shape kind.VariableDeclarator ps = declarator_shape (has_part ps 1)
+statement_shape kind.ExpressionStatement ps = fronted ([] ∷ []) statement_end
+statement_shape kind.EmptyStatement ps = fronted [] statement_end
+statement_shape kind.DebuggerStatement ps = fronted [] (spelled "debugger" ∷ spelled ";" ∷ [])
+statement_shape kind.ReturnStatement ps = word_shape "return" (has_part ps 0)
+statement_shape kind.BreakStatement ps = word_shape "break" (has_part ps 0)
+statement_shape kind.ContinueStatement ps = word_shape "continue" (has_part ps 0)
+statement_shape kind.ThrowStatement ps = fronted (behind_word "throw" ∷ []) statement_end
+statement_shape k ps = branch_shape k ps
+
+-- Lists of statements
+
+-- parts on lines of their own, in braces; `filled` says that there is one
+abbrev pub braced_shape : List (List Bit) → List Bit → Bool → Shape
+braced_shape fs o true = record { front = fs; opener = o; chain = lines; closer = newline ∷ spelled "}" ∷ [] }
+braced_shape fs o false = record { front = fs; opener = o; chain = nothing; closer = spelled "}" ∷ [] }
+
+abbrev pub case_shape : Bool → Shape
+case_shape true = record { front = behind_word "case" ∷ []; opener = spelled ":" ∷ []; chain = lines; closer = [] }
+case_shape false = record { front = [] ∷ []; opener = spelled "default" ∷ spelled ":" ∷ []; chain = lines; closer = [] }
+
+abbrev pub catch_shape : Bool → Shape
+catch_shape true = fronted (headed "catch" ∷ close_space ∷ []) []
+catch_shape false = fronted ([] ∷ behind_word "catch" ∷ []) []
+
+abbrev pub block_shape : Kind → Parts → Shape
+block_shape kind.Program ps = listed [] feeds (token [] ∷ [])
+block_shape kind.BlockStatement ps = braced_shape [] (spelled "{" ∷ []) (not (is_none (parts_behind 0 ps)))
+block_shape kind.ClassBody ps = braced_shape [] (spelled "{" ∷ []) (not (is_none (parts_behind 0 ps)))
+block_shape kind.SwitchStatement ps = braced_shape (headed "switch" ∷ []) (spelled ")" ∷ gapped ∷ spelled "{" ∷ []) (not (is_none (parts_behind 1 ps)))
+block_shape kind.SwitchCase ps = case_shape (has_part ps 0)
+block_shape kind.CatchClause ps = catch_shape (has_part ps 0)
+block_shape k ps = statement_shape k ps
+
+-- Functions, classes, properties and members
+
+abbrev pub method_shape : Shape
+method_shape = function_list_shape ([] ∷ [])
+
+-- an arrow with one parameter, which is a name
+abbrev pub is_single : Parts → Bool
+is_single (part n (part b none)) = is_identifier (kind_of n)
+is_single _ = false
+
+abbrev pub arrow_shape : Bool → Shape
+arrow_shape true = fronted ([] ∷ between "=>" ∷ []) []
+arrow_shape false = listed (spelled "(" ∷ []) (parameters (spelled ")" ∷ between "=>")) []
+
+abbrev pub class_shape : Bool → Bool → Shape
+class_shape true true = fronted (behind_word "class" ∷ between "extends" ∷ (gapped ∷ []) ∷ []) []
+class_shape true false = fronted (behind_word "class" ∷ (gapped ∷ []) ∷ [] ∷ []) []
+class_shape false true = fronted (behind_word "class" ∷ behind_word "extends" ∷ (gapped ∷ []) ∷ []) []
+class_shape false false = fronted (behind_word "class" ∷ [] ∷ [] ∷ []) []
+
+-- the key of a method, computed or not
+abbrev pub method_key : List Bit → List Bit → Bool → Shape
+method_key plain bracketed b = fronted (cond b (bracketed ∷ (spelled "]" ∷ []) ∷ []) (plain ∷ [] ∷ [])) []
+
+abbrev pub value_shape : Bool → Shape
+value_shape b = fronted (cond b ((spelled "[" ∷ []) ∷ (spelled "]" ∷ colon_space) ∷ []) ([] ∷ colon_space ∷ [])) []
+
+abbrev pub getter_shape : Bool → Shape
+getter_shape b = method_key (behind_word "get") (spelled "get" ∷ gapped ∷ spelled "[" ∷ []) b
+
+abbrev pub setter_shape : Bool → Shape
+setter_shape b = method_key (behind_word "set") (spelled "set" ∷ gapped ∷ spelled "[" ∷ []) b
+
+abbrev pub plain_shape : Bool → Shape
+plain_shape b = method_key [] (spelled "[" ∷ []) b
+
+abbrev pub static_shape : Form → Bool → Shape
+static_shape form.Get b = method_key (spelled "static" ∷ gapped ∷ behind_word "get") (spelled "static" ∷ gapped ∷ spelled "get" ∷ gapped ∷ spelled "[" ∷ []) b
+static_shape form.Set b = method_key (spelled "static" ∷ gapped ∷ behind_word "set") (spelled "static" ∷ gapped ∷ spelled "set" ∷ gapped ∷ spelled "[" ∷ []) b
+static_shape _ b = method_key (behind_word "static") (spelled "static" ∷ gapped ∷ spelled "[" ∷ []) b
+
+abbrev pub property_shape : Form → Bool → Shape
+property_shape form.Get b = getter_shape b
+property_shape form.Set b = setter_shape b
+property_shape form.Method b = plain_shape b
+property_shape form.Constructor b = plain_shape b
+property_shape form.Shorthand b = fronted ([] ∷ [] ∷ []) []
+property_shape form.Init b = value_shape b
+
+abbrev pub own_member_shape : Form → Bool → Shape
+own_member_shape form.Get b = getter_shape b
+own_member_shape form.Set b = setter_shape b
+own_member_shape _ b = plain_shape b
+
+abbrev pub class_member_shape : Bool → Form → Bool → Shape
+class_member_shape true x b = static_shape x b
+class_member_shape false x b = own_member_shape x b
+
+abbrev pub definition_shape : Kind → Flags → Parts → Shape
+definition_shape kind.FunctionExpression g ps = function_list_shape (behind_word "function" ∷ [])
+definition_shape kind.FunctionDeclaration g ps = function_list_shape (behind_word "function" ∷ [])
+definition_shape kind.ArrowFunctionExpression g ps = arrow_shape (is_single ps)
+definition_shape kind.ClassExpression g ps = class_shape (has_part ps 0) (has_part ps 1)
+definition_shape kind.ClassDeclaration g ps = class_shape (has_part ps 0) (has_part ps 1)
+definition_shape kind.Property g ps = property_shape g.form g.computed
+definition_shape kind.MethodDefinition g ps = class_member_shape g.is_static g.form g.computed
+definition_shape k g ps = block_shape k ps
+
+-- Expressions
+
+abbrev pub update_shape : Bool → Shape
+update_shape true = fronted ((own_text ∷ []) ∷ []) []
+update_shape false = fronted ([] ∷ []) (own_text ∷ [])
+
+abbrev pub unary_shape : List ℕ → Shape
+unary_shape w = fronted (cond (is_word_operator w) (own_text ∷ gapped ∷ []) (own_text ∷ []) ∷ []) []
+
+abbrev pub is_open_literal : Kind → List ℕ → Bool
+is_open_literal kind.Literal w = is_open_number (literal_class w) w
+is_open_literal _ w = false
+
+abbrev pub after_open_number : Parts → Bool
+after_open_number none = false
+after_open_number (part n ps) = is_open_literal (kind_of n) (text_of n)
+after_open_number (gap ps) = false
+
+-- by whether it is optional, computed, and stands behind such a number
+abbrev pub member_shape : Bool → Bool → Bool → Shape
+member_shape false true b = fronted ([] ∷ (spelled "[" ∷ []) ∷ []) (spelled "]" ∷ [])
+member_shape true true b = fronted ([] ∷ (spelled "?." ∷ spelled "[" ∷ []) ∷ []) (spelled "]" ∷ [])
+member_shape true false b = fronted ([] ∷ (spelled "?." ∷ []) ∷ []) []
+member_shape false false true = fronted ([] ∷ (loosely ∷ spelled "." ∷ []) ∷ []) []
+member_shape false false false = fronted ([] ∷ (spelled "." ∷ []) ∷ []) []
+
+abbrev pub call_shape : Bool → Shape
+call_shape true = call_list_shape ([] ∷ []) (spelled "?." ∷ spelled "(" ∷ [])
+call_shape false = call_list_shape ([] ∷ []) (spelled "(" ∷ [])
+
+abbrev pub operation_shape : Kind → List ℕ → Flags → Parts → Shape
+operation_shape kind.UpdateExpression w g ps = update_shape g.prefix
+operation_shape kind.UnaryExpression w g ps = unary_shape w
+operation_shape kind.BinaryExpression w g ps = fronted ([] ∷ infix_bits ∷ []) []
+operation_shape kind.LogicalExpression w g ps = fronted ([] ∷ infix_bits ∷ []) []
+operation_shape kind.AssignmentExpression w g ps = fronted ([] ∷ infix_bits ∷ []) []
+operation_shape kind.ConditionalExpression w g ps = fronted ([] ∷ between "?" ∷ between ":" ∷ []) []
+operation_shape kind.SequenceExpression w g ps = listed [] commas []
+operation_shape kind.MemberExpression w g ps = member_shape g.optional g.computed (after_open_number ps)
+operation_shape kind.CallExpression w g ps = call_shape g.optional
+operation_shape kind.NewExpression w g ps = call_list_shape (behind_word "new" ∷ []) (spelled "(" ∷ [])
+operation_shape k w g ps = definition_shape k g ps
+
+abbrev pub expression_shape : Kind → List ℕ → Flags → Parts → Shape
+expression_shape kind.Identifier w g ps = fronted [] (own_text ∷ [])
+expression_shape kind.Literal w g ps = fronted [] (own_text ∷ [])
+expression_shape kind.ThisExpression w g ps = fronted [] (spelled "this" ∷ [])
+expression_shape kind.Super w g ps = fronted [] (spelled "super" ∷ [])
+expression_shape kind.ArrayExpression w g ps = listed (spelled "[" ∷ []) commas (spelled "]" ∷ [])
+expression_shape kind.ArrayPattern w g ps = listed (spelled "[" ∷ []) commas (spelled "]" ∷ [])
+expression_shape kind.ObjectExpression w g ps = listed (spelled "{" ∷ []) commas (spelled "}" ∷ [])
+expression_shape kind.ObjectPattern w g ps = listed (spelled "{" ∷ []) commas (spelled "}" ∷ [])
+expression_shape kind.TemplateLiteral w g ps = listed [] joined []
+expression_shape kind.SpreadElement w g ps = fronted ((spelled "..." ∷ []) ∷ []) []
+expression_shape kind.RestElement w g ps = fronted ((spelled "..." ∷ []) ∷ []) []
+expression_shape kind.AssignmentPattern w g ps = fronted ([] ∷ between "=" ∷ []) []
+expression_shape kind.TaggedTemplateExpression w g ps = fronted ([] ∷ [] ∷ []) []
+expression_shape kind.ChainExpression w g ps = fronted ([] ∷ []) []
+expression_shape kind.ImportExpression w g ps = fronted ((spelled "import" ∷ spelled "(" ∷ []) ∷ []) (spelled ")" ∷ [])
+expression_shape kind.MetaProperty w g ps = fronted ([] ∷ (spelled "." ∷ []) ∷ []) []
+expression_shape k w g ps = operation_shape k w g ps
+
+-- at a position
+abbrev pub shape_by : Position → Kind → List ℕ → Flags → Parts → Shape
+shape_by at.Echo k w g ps = fronted [] []
+shape_by (at.Chunk a b) k w g ps = fronted [] (chunk a b ∷ [])
+shape_by (at.Method x) k w g ps = method_shape
+shape_by (at.Head b) k w g ps = head_shape
+shape_by _ k w g ps = expression_shape k w g ps
+
+-- a prefix that may not touch its own sign
+abbrev pub sign_of_text : List ℕ → Option Sign
+sign_of_text w = cond (among w ("+" ∷ "++" ∷ [])) (Some Plus) (cond (among w ("-" ∷ "--" ∷ [])) (Some Minus) None)
+
+abbrev pub sign_at : Kind → List ℕ → Flags → Option Sign
+sign_at kind.UnaryExpression w g = sign_of_text w
+sign_at kind.UpdateExpression w g = cond g.prefix (sign_of_text w) None
+sign_at _ w g = None
+
+-- how deep the parts of a list stand
+abbrev pub inner : Chain → ℕ → ℕ
+inner lines d = suc d
+inner _ d = d

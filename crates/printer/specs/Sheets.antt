@@ -1,0 +1,52 @@
+-- Sheets
+use Rattle.std.specs.Prelude.{◌≡◌, ℕ, zero, suc, ◌+◌, Bool, true, false, cond, nat_eq, slice_index_or, List, [], ◌∷◌, ◌++◌, codes, Option, Some, None}
+use Rattle.std.specs.String.{string_bytes}
+use Rattle.language.specs.Layout.{indent}
+use Rattle.printer.specs.declared.pieces.Sign.{Sign}
+use Rattle.printer.specs.declared.pieces.Sign.TheVariants.{Plus, Minus}
+use Rattle.printer.specs.declared.pieces.Piece.{Piece}
+use Rattle.printer.specs.declared.pieces.Piece.TheVariants as own
+use Rattle.printer.specs.declared.sheet.Sheet.{Sheet}
+
+abbrev pub sign_code : Sign → ℕ
+sign_code Plus = 43
+sign_code Minus = 45
+
+-- with a space first, where it begins with this sign
+abbrev pub held : Option Sign → List ℕ → List ℕ
+held None t = t
+held (Some s) t = cond (nat_eq (slice_index_or t 0 0) (sign_code s)) (32 ∷ t) t
+
+-- what is written once this follows
+abbrev pub shown : Sheet → List ℕ → List ℕ
+shown s next = string_bytes s.out ++ held s.apart next
+
+abbrev pub flag_at : List Bool → ℕ → Bool
+flag_at [] i = false
+flag_at (b ∷ bs) zero = b
+flag_at (b ∷ bs) (suc i) = flag_at bs i
+
+abbrev pub other_flags : List Bool → List Bool
+other_flags [] = []
+other_flags (b ∷ bs) = bs
+
+-- this was written, and nothing else is changed
+pub record Writes (old new : Sheet) (t : List ℕ) : Type 0 where
+  pub follows : (next : List ℕ) → shown new next ≡ shown old (t ++ next)
+  pub flags : new.wraps.now ≡ old.wraps.now
+
+abbrev pub chunk_text : Bool → Bool → List ℕ → List ℕ
+chunk_text a b w = codes (cond a "`" "}") ++ w ++ codes (cond b "`" "${")
+
+abbrev pub piece_text : List ℕ → ℕ → Bool → Piece → List ℕ
+piece_text w d b (own.Token s) = s.now
+piece_text w d b own.Own = w
+piece_text w d b (own.Chunk x y) = chunk_text x y w
+piece_text w d b own.Space = codes " "
+piece_text w d b own.Line = 10 ∷ indent d
+piece_text w d b own.Feed = codes "\n"
+piece_text w d b own.Loose = cond b (codes " ") []
+
+abbrev pub pieces_text : List ℕ → ℕ → Bool → List Piece → List ℕ
+pieces_text w d b [] = []
+pieces_text w d b (p ∷ ps) = piece_text w d b p ++ pieces_text w d b ps

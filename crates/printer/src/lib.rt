@@ -1,0 +1,15 @@
+#![tactic(auto)]
+
+//! The text of a tree in its one layout, with parentheses round the nodes that are wrapped.
+
+mod blocks;
+mod definitions;
+mod expressions;
+mod frame;
+mod lists;
+mod pieces;
+mod printer;
+mod sheet;
+mod statements;
+
+pub use printer::print_text;

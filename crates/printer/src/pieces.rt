@@ -1,0 +1,127 @@
+//! Pieces of a node's text.
+
+ghost use Rattle.std.specs.Prelude.{◌≡◌, [], map, nat_eq};
+ghost use Rattle.printer.specs.Bits.{bits_of, chain_of, shape_of, fronted, listed, before_bits, after_bits};
+
+/// What stands between the parts of a node.
+#[derive(Clone, Copy)]
+pub enum Piece {
+    /// These characters.
+    Token(&'static str),
+    /// The node's own text.
+    Own,
+    /// The node's own text as a part of a template, with what opens and closes it.
+    Chunk { is_first: bool, is_last: bool },
+    /// A space.
+    Space,
+    /// A line feed, and two spaces for each level.
+    Line,
+    /// A line feed.
+    Feed,
+    /// A space behind a part that isn't wrapped.
+    Loose,
+}
+
+/// How the parts behind a node's first ones stand.
+#[derive(Clone, Copy)]
+pub enum Series {
+    /// There are none.
+    Nothing,
+    /// With nothing between them.
+    Joined,
+    /// With commas between them; behind a hole stands a comma of its own.
+    Commas,
+    /// Parameters with commas between them; then these pieces, and the body.
+    Parameters(&'static [Piece]),
+    /// Each on a line of its own, a level deeper.
+    Lines,
+    /// Each with a line feed behind it.
+    Feeds,
+}
+
+/// What stands round the parts of a node.
+#[derive(Clone, Copy)]
+pub struct Frame {
+    /// What stands before each of the first parts.
+    pub front: &'static [&'static [Piece]],
+    /// What stands behind them.
+    pub opener: &'static [Piece],
+    /// How the other parts stand.
+    pub series: Series,
+    /// What stands behind these.
+    pub closer: &'static [Piece],
+}
+
+/// A prefix that may not touch itself.
+#[derive(Clone, Copy)]
+pub enum Sign {
+    Plus,
+    Minus,
+}
+
+const NO_PIECES: &[Piece] = &[];
+
+const COMMA: &[Piece] = &[Piece::Token(",")];
+
+const SEPARATOR: &[Piece] = &[Piece::Token(","), Piece::Space];
+
+const LINE: &[Piece] = &[Piece::Line];
+
+const FEED: &[Piece] = &[Piece::Feed];
+
+impl Frame {
+    /// A node with no parts but these.
+    pub fn of_front(front: &'static [&'static [Piece]], closer: &'static [Piece]) -> Frame
+        ensures { shape_of result ≡ fronted (map (λ p. bits_of p.now) front.now) (bits_of closer.now) }
+    {
+        Frame {
+            front,
+            opener: NO_PIECES,
+            series: Series::Nothing,
+            closer,
+        }
+    }
+
+    /// A node with no parts.
+    pub fn leaf(closer: &'static [Piece]) -> Frame
+        ensures { shape_of result ≡ fronted [] (bits_of closer.now) }
+    {
+        Frame::of_front(&[], closer)
+    }
+
+    /// A node that is a list.
+    pub fn of_list(opener: &'static [Piece], series: Series, closer: &'static [Piece]) -> Frame
+        ensures { shape_of result ≡ listed (bits_of opener.now) (chain_of series) (bits_of closer.now) }
+    {
+        Frame {
+            front: &[],
+            opener,
+            series,
+            closer,
+        }
+    }
+}
+
+/// What stands before a part of a list.
+pub fn before(series: Series, is_last: bool) -> &'static [Piece]
+    ensures { bits_of result.now ≡ before_bits (chain_of series) is_last }
+{
+    match series {
+        Series::Parameters(close) if is_last => close,
+        Series::Lines => LINE,
+        _ => NO_PIECES,
+    }
+}
+
+/// What stands behind a part of a list, or a gap.
+pub fn after(series: Series, is_gap: bool, behind: usize) -> &'static [Piece]
+    ensures { bits_of result.now ≡ after_bits (chain_of series) is_gap (nat_eq behind 0) (nat_eq behind 1) }
+{
+    match series {
+        Series::Commas if behind > 0 => SEPARATOR,
+        Series::Commas if is_gap => COMMA,
+        Series::Parameters(_) if behind > 1 => SEPARATOR,
+        Series::Feeds => FEED,
+        _ => NO_PIECES,
+    }
+}

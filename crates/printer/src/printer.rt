@@ -1,0 +1,242 @@
+//! The text of a tree.
+
+ghost use Rattle.std.specs.Prelude.{◌≡◌, ◌<◌, nat_eq, IfOk};
+ghost use Rattle.tree.specs.Node.{node_tree};
+ghost use Rattle.tree.specs.Tree.{kind_of, text_of, flags_of, parts_of, part_count};
+ghost use Rattle.language.specs.Positions.{has_row as row_of};
+ghost use Rattle.positions.specs.Outlines.{role_of};
+ghost use Rattle.printer.specs.Bits.{chain_of};
+ghost use Rattle.printer.specs.Shapes.{sign_at, sign_of_text, inner};
+
+use crate::frame::frame_of;
+use crate::pieces::{Frame, Piece, Series, Sign, after, before};
+use crate::sheet::Sheet;
+use language::{Rank, Start};
+use positions::{Position, Positions, node_positions};
+use std::alloc::{AllocError, Global};
+use tree::{Kind, Node, Program};
+
+/// Expression with In, where a wrapped node stands.
+const WHOLE: Position = Position::Expression {
+    rank: Rank::Expression,
+    with_in: true,
+    start: Start::Any,
+};
+
+/// What is left of a node.
+#[derive(Clone, Copy)]
+pub struct Walk<'t, 's> {
+    /// The positions of the parts that are left.
+    positions: Positions<'t, 's>,
+    /// The part before has no parentheses.
+    alone: bool,
+}
+
+/// The text of a script in its layout, with parentheses round the wrapped nodes. The flags say of the nodes at an
+/// expression's position, each before those in it, in source order, whether they are wrapped; those behind the last flag
+/// aren't.
+///
+/// # Errors
+/// Memory was refused.
+pub fn print_text(
+    alloc: Global,
+    program: &Program<'_>,
+    wraps: &[bool],
+) -> Result<String, AllocError> {
+    let root = program.root();
+    let mut sheet = Sheet::new(alloc, root.span().end, wraps)?;
+    print_node(root, Position::Script, 0, &mut sheet)?;
+    Ok(sheet.into_text())
+}
+
+#[cycle(print)]
+fn print_node(
+    node: Node,
+    position: Position,
+    depth: usize,
+    sheet: &mut Sheet,
+) -> Result<(), AllocError> {
+    if has_row(position) {
+        if sheet.next_row() {
+            sheet.push("(")?;
+            print_direct(node, WHOLE, depth, sheet)?;
+            return sheet.push(")");
+        }
+    }
+    print_direct(node, position, depth, sheet)
+}
+
+/// Whether a node at a position has a row.
+fn has_row(position: Position) -> bool
+    ensures { result ≡ nat_eq (row_of (role_of position)) 1 }
+{
+    matches!(position, Position::Expression { .. })
+}
+
+/// A node without parentheses of its own.
+#[cycle(print)]
+fn print_direct(
+    node: Node,
+    position: Position,
+    depth: usize,
+    sheet: &mut Sheet,
+) -> Result<(), AllocError> {
+    let Some(positions) = node_positions(node, position) else {
+        return Ok(());
+    };
+    let walk = Walk {
+        positions,
+        alone: false,
+    };
+    match sign_of(node) {
+        Some(sign) => print_signed(node, sign, walk, depth, sheet),
+        None => print_framed(node, frame_of(node, position), walk, depth, sheet),
+    }
+}
+
+/// The sign of a prefix that may not touch itself.
+fn sign_of(node: Node) -> Option<Sign>
+    ensures { result ≡ sign_at (kind_of (node_tree node.entry)) (text_of (node_tree node.entry)) (flags_of (node_tree node.entry)) }
+{
+    match node.kind() {
+        Kind::UnaryExpression => sign_in(node.text()),
+        Kind::UpdateExpression if node.flags().prefix => sign_in(node.text()),
+        _ => None,
+    }
+}
+
+fn sign_in(text: &str) -> Option<Sign>
+    ensures { result ≡ sign_of_text text.now }
+{
+    match text {
+        "+" | "++" => Some(Sign::Plus),
+        "-" | "--" => Some(Sign::Minus),
+        _ => None,
+    }
+}
+
+/// A prefix with its operand.
+#[cycle(print)]
+fn print_signed<'t, 's>(
+    node: Node<'t, 's>,
+    sign: Sign,
+    walk: Walk<'t, 's>,
+    depth: usize,
+    sheet: &mut Sheet,
+) -> Result<(), AllocError> {
+    sheet.push(node.text())?;
+    sheet.set_apart(sign);
+    let _walk = print_part(node, 0, walk, depth, sheet)?;
+    sheet.join();
+    Ok(())
+}
+
+/// A node's parts, with what stands round them.
+#[cycle(print)]
+fn print_framed<'t, 's>(
+    node: Node<'t, 's>,
+    frame: Frame,
+    walk: Walk<'t, 's>,
+    depth: usize,
+    sheet: &mut Sheet,
+) -> Result<(), AllocError> {
+    let text = node.text();
+    let walk = print_front(node, frame.front, walk, depth, sheet)?;
+    sheet.push_all(frame.opener, text, depth, walk.alone)?;
+    let inside = inner_depth(frame.series, depth)?;
+    let walk = print_list(node, frame.series, frame.front.len(), walk, inside, sheet)?;
+    sheet.push_all(frame.closer, text, depth, walk.alone)
+}
+
+/// The first parts, with what stands before each.
+#[cycle(print)]
+fn print_front<'t, 's>(
+    node: Node<'t, 's>,
+    front: &[&[Piece]],
+    walk: Walk<'t, 's>,
+    depth: usize,
+    sheet: &mut Sheet,
+) -> Result<Walk<'t, 's>, AllocError> {
+    let mut rest = walk;
+    for index in 0..front.len() {
+        sheet.push_all(front[index], node.text(), depth, rest.alone)?;
+        rest = print_part(node, index, rest, depth, sheet)?;
+    }
+    Ok(rest)
+}
+
+/// The other parts.
+#[cycle(print)]
+fn print_list<'t, 's>(
+    node: Node<'t, 's>,
+    series: Series,
+    from: usize,
+    walk: Walk<'t, 's>,
+    depth: usize,
+    sheet: &mut Sheet,
+) -> Result<Walk<'t, 's>, AllocError> {
+    let mut rest = walk;
+    let count = node.part_count();
+    for index in from..count {
+        rest = print_item(node, series, index, rest, depth, sheet)?;
+    }
+    Ok(rest)
+}
+
+/// One of them, with what stands before it and behind it.
+#[cycle(print)]
+fn print_item<'t, 's>(
+    node: Node<'t, 's>,
+    series: Series,
+    index: usize,
+    walk: Walk<'t, 's>,
+    depth: usize,
+    sheet: &mut Sheet,
+) -> Result<Walk<'t, 's>, AllocError>
+    requires { index < part_count (parts_of (node_tree node)) }
+{
+    let text = node.text();
+    let behind = node.part_count() - index - 1;
+    sheet.push_all(before(series, behind == 0), text, depth, walk.alone)?;
+    let walk = print_part(node, index, walk, depth, sheet)?;
+    let is_gap = node.part(index).is_none();
+    sheet.push_all(after(series, is_gap, behind), text, depth, walk.alone)?;
+    Ok(walk)
+}
+
+/// How deep the parts of a list stand.
+fn inner_depth(series: Series, depth: usize) -> Result<usize, AllocError>
+    ensures { IfOk result (λ inside. inside ≡ inner (chain_of series) depth) }
+{
+    match series {
+        Series::Lines => match depth.checked_add(1) {
+            Some(inside) => Ok(inside),
+            None => Err(AllocError),
+        },
+        _ => Ok(depth),
+    }
+}
+
+/// The part at a place, if none is missing there.
+#[cycle(print)]
+#[tactic(auto, using(tree::proofs::PartWalk::part_steps))]
+fn print_part<'t, 's>(
+    node: Node<'t, 's>,
+    index: usize,
+    walk: Walk<'t, 's>,
+    depth: usize,
+    sheet: &mut Sheet,
+) -> Result<Walk<'t, 's>, AllocError> {
+    let Some(part) = node.part(index) else {
+        return Ok(Walk {
+            alone: false,
+            ..walk
+        });
+    };
+    let Some((position, positions)) = walk.positions.next() else {
+        return Ok(walk);
+    };
+    let alone = !sheet.is_wrapped();
+    print_node(part, position, depth, sheet)?;
+    Ok(Walk { positions, alone })
+}
