@@ -1,5 +1,5 @@
 -- What parentheses group, by how many parts stand there.
-use Rattle.std.proofs.Common.{◌≡◌, ℕ, ◌≤◌, Bool, false, refl, arith}
+use Rattle.std.proofs.Common.{◌≡◌, ◌≤◌, false, refl, arith}
 use Rattle.tree.specs.Tree.{Tree, Parts, none, part, gap, part_count}
 use Rattle.parser.specs.Items.{are_some}
 

@@ -1,4 +1,11 @@
+pub mod Begun
+pub mod Breaks
+pub mod Delimited
 pub mod Grouping
+pub mod Modified
 pub mod Moves
+pub mod Opened
+pub mod Operating
 pub mod Refused
+pub mod Seeing
 pub mod Yielding

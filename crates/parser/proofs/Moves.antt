@@ -1,5 +1,5 @@
 -- A token that is passed, as how far reading went.
-use Rattle.std.proofs.Common.{◌≡◌, ◌≢◌, ℕ, ◌<◌, List, length, refl, arith}
+use Rattle.std.proofs.Common.{◌≢◌, ℕ, ◌<◌, List, length, arith}
 use Rattle.tokens.specs.Tokens.{LexicalToken}
 use Rattle.tokens.specs.declared.token.Class.TheVariants.{End}
 use Rattle.tokens.specs.declared.token.Goal.{Goal}

@@ -1,5 +1,5 @@
 -- What a list refuses, as what becomes of what was read.
-use Rattle.std.proofs.Common.{◌≡◌, ℕ, Bool, true, false, Result, Ok, Err, sym, subst, ◌∙◌}
+use Rattle.std.proofs.Common.{◌≡◌, ℕ, Bool, Result, Ok, Err, sym, subst, ◌∙◌}
 use Rattle.source_text.specs.declared.fault.Fault.{Fault}
 use Rattle.source_text.specs.declared.fault.Fault.TheVariants.{Syntax, OutOfMemory}
 use Rattle.covers.specs.Refusals.{IsTaken}

@@ -1,5 +1,5 @@
 -- Lists and their items, from what was read.
-use Rattle.std.specs.Prelude.{ℕ, Bool, true, false, not, ◌&&◌, ◌||◌, if◌then◌else◌, List, []}
+use Rattle.std.specs.Prelude.{ℕ, Bool, true, false, not, ◌&&◌, ◌||◌, if◌then◌else◌, []}
 use Rattle.language.specs.declared.Edge.{Edge}
 use Rattle.language.specs.declared.Edge.TheVariants.{Closed}
 use Rattle.tree.specs.declared.kind.Kind.{Kind}

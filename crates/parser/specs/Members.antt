@@ -1,5 +1,5 @@
 -- Properties and members, by what stands before their name, and their keys.
-use Rattle.std.specs.Prelude.{ℕ, Bool, true, false, not, cond, ◌&&◌, Option, Some, None}
+use Rattle.std.specs.Prelude.{Bool, true, false, not, cond, ◌&&◌}
 use Rattle.tree.specs.declared.kind.Kind.{Kind}
 use Rattle.tree.specs.declared.kind.Kind.TheVariants.{MethodDefinition, Property}
 use Rattle.tree.specs.declared.kind.Flags.{Flags}
@@ -10,11 +10,6 @@ use Rattle.tree.specs.Tree.{plain}
 -- the flags of a property, or of a member
 abbrev pub member_flags : Bool → Bool → Form → Flags
 member_flags computed is_static form = record plain { computed = computed; is_static = is_static; form = form }
-
--- behind `get` or `set`, unless that is the name itself
-abbrev pub named_form : Bool → Form → Form
-named_form true form = Method
-named_form false form = form
 
 abbrev pub is_method : Form → Bool
 is_method Method = true

@@ -1,5 +1,5 @@
 -- How far reading went.
-use Rattle.std.specs.Prelude.{ℕ, ◌<◌, length, Option, Some, None}
+use Rattle.std.specs.Prelude.{◌<◌, length}
 use Rattle.token_cursor.specs.Point.{Point}
 use Rattle.covers.specs.declared.list.Listed.{Listed}
 use Rattle.covers.specs.declared.list.Listed.TheVariants as listed

@@ -2,7 +2,6 @@
 use Rattle.std.specs.Prelude.{ℕ, Bool, true, false, ◌&&◌, List, [], ◌∷◌}
 use Rattle.language.specs.declared.Rank.{Rank}
 use Rattle.language.specs.declared.Rank.TheVariants.{Assignment, Conditional, ShortCircuit, LeftHandSide, Unary, Update}
-use Rattle.language.specs.declared.Edge.{Edge}
 use Rattle.language.specs.declared.Edge.TheVariants.{Other}
 use Rattle.language.specs.Words.{among, takes}
 use Rattle.tree.specs.declared.kind.Kind.{Kind}

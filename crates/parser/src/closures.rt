@@ -1,7 +1,8 @@
 //! Functions, arrow functions and classes (ECMA-262 14.1 to 14.3, 14.6).
 #![tactic(auto, using(crate::proofs::Refused::refusals, crate::proofs::Moves::moves))]
 
-ghost use Rattle.std.specs.Prelude.{◌≡◌, ◌≤◌, IfOk, IfErr};
+ghost use Rattle.std.specs.Prelude.{◌≡◌, ◌≤◌, IfOk, IfErr, map};
+ghost use Rattle.parser.specs.Pieces.{piece_of, closure_kind, closure_parts};
 ghost use Rattle.parser.specs.Moves.{Passes};
 ghost use Rattle.parser.specs.Refusals.{IsRefusal};
 
@@ -38,7 +39,9 @@ pub(crate) enum Closure {
 
 impl Closure {
     // The kind of its node.
-    fn kind(self) -> Kind {
+    fn kind(self) -> Kind
+        ensures { result ≡ closure_kind self }
+    {
         match self {
             Closure::Function | Closure::Method(_) => Kind::FunctionExpression,
             Closure::FunctionDeclaration => Kind::FunctionDeclaration,
@@ -48,7 +51,9 @@ impl Closure {
     }
 
     // Its pieces behind its name.
-    fn pieces(self) -> &'static [Piece] {
+    fn pieces(self) -> &'static [Piece]
+        ensures { map piece_of result.now ≡ closure_parts self }
+    {
         match self {
             Closure::Class | Closure::ClassDeclaration => class_pieces(),
             Closure::Method(Form::Get) => function_pieces(Listed::NoParameter),

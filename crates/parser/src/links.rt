@@ -2,11 +2,18 @@
 #![tactic(auto, using(crate::proofs::Refused::refusals, crate::proofs::Moves::moves))]
 
 ghost use Rattle.std.specs.Prelude.{◌≡◌, ◌≤◌, IfOk, IfErr};
+ghost use Rattle.std.specs.Bool.{OnTrue, OnFalse};
+ghost use Rattle.tokens.specs.Scanned.{token_of};
+ghost use Rattle.tokens.specs.declared.token.Goal.TheVariants.{Div};
+ghost use Rattle.language.specs.Token.{as_read};
 ghost use Rattle.parser.specs.Moves.{Passes};
 ghost use Rattle.parser.specs.Links.{link_kind, link_flags, link_rank, link_by};
+ghost use Rattle.parser.specs.Seen.{SeesBy, MissesBy};
+ghost use Rattle.parser.specs.Tests.{is_link, is_template};
 ghost use Rattle.parser.specs.Refusals.{IsRefusal};
 
 use crate::openings::listed;
+use crate::operators::{Operator, operator_of};
 use crate::part::Part;
 use crate::position::{Parser, Position};
 use covers::Listed;
@@ -76,15 +83,34 @@ fn linked_of(token: &Token<'_>) -> Option<Linked>
     }
 }
 
+// Whether the token goes on with a part of a chain.
+fn is_link(token: &Token<'_>) -> bool
+    ensures { result ≡ is_link (as_read (token_of token.now)) }
+{
+    match operator_of(token) {
+        Some(operator) => operator.is_link(),
+        None => false,
+    }
+}
+
+// Whether the token is a part of a template.
+fn is_template(token: &Token<'_>) -> bool
+    ensures { result ≡ is_template (as_read (token_of token.now)) }
+{
+    match token.class {
+        Class::Template => true,
+        _ => false,
+    }
+}
+
 impl<'t, 's> Parser<'t, 's> {
     // Whether a part of a chain stands ahead.
-    fn sees_link(&self) -> bool {
+    fn sees_link(&self) -> bool
+        ensures seen { OnTrue result (SeesBy self.now.cursor.text Div is_link self.now.cursor.last) }
+        ensures missed { OnFalse result (MissesBy self.now.cursor.text Div is_link self.now.cursor.last) }
+    {
         match self.cursor.peek(Goal::Div) {
-            Some(token) => match token.class {
-                Class::Punctuator => matches!(token.text, "." | "?." | "[" | "("),
-                Class::Template => true,
-                _ => false,
-            },
+            Some(token) => is_link(&token),
             None => false,
         }
     }
@@ -187,9 +213,12 @@ impl<'t, 's> Parser<'t, 's> {
     }
 
     // Whether a template begins ahead.
-    fn sees_template(&self) -> bool {
+    fn sees_template(&self) -> bool
+        ensures seen { OnTrue result (SeesBy self.now.cursor.text Div is_template self.now.cursor.last) }
+        ensures missed { OnFalse result (MissesBy self.now.cursor.text Div is_template self.now.cursor.last) }
+    {
         match self.cursor.peek(Goal::Div) {
-            Some(token) => token.class == Class::Template,
+            Some(token) => is_template(&token),
             None => false,
         }
     }

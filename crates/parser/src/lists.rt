@@ -1,11 +1,13 @@
 //! Lists (ECMA-262 12.2 to 12.16, 13.3, 13.12, 14.1, 14.6): one loop for all of them, and what each of them lists.
 #![tactic(auto, using(crate::proofs::Refused::refusals, crate::proofs::Moves::moves))]
 
-ghost use Rattle.std.specs.Prelude.{◌≡◌, ◌≤◌, ◌&&◌, IfOk, IfErr};
+ghost use Rattle.std.specs.Prelude.{◌≡◌, ◌≤◌, ◌&&◌, IfOk, IfErr, true, false};
 ghost use Rattle.std.specs.Bool.{OnTrue};
 ghost use Rattle.parser.specs.Moves.{Passes, IsOpened, IsUnseparated};
 ghost use Rattle.parser.specs.Items.{after_item, element_item, element_levels};
 ghost use Rattle.parser.specs.Outcomes.{BecomesHere, Yields};
+ghost use Rattle.parser.specs.Seen.{ReadsHere, Misses};
+ghost use Rattle.parser.specs.Beginnings.{case_word};
 ghost use Rattle.parser.specs.Refusals.{IsLimit, IsRefusal};
 ghost use Rattle.covers.specs.Patterns.{pattern_tree};
 ghost use Rattle.covers.specs.Shapes.{is_pattern};
@@ -237,6 +239,10 @@ impl<'t, 's> Parser<'t, 's> {
         ensures forward { self.old.cursor.last.stop ≤ self.new.cursor.last.stop }
         ensures passes { IfOk result (λ _. Passes self.old.cursor self.new.cursor) }
         ensures refused { IfErr result (IsRefusal self.new.cursor.text) }
+        ensures same_open { self.new.cursor.opened ≡ self.old.cursor.opened }
+        ensures same_pairs { self.new.pairs.items ≡ self.old.pairs.items }
+        ensures accepted { IfOk result (λ default. ReadsHere self.old.cursor.text Class.Name (case_word default) self.old.cursor.last self.new.cursor.last) }
+        ensures missed { IfErr result (λ _. Misses self.old.cursor.text Class.Name (case_word true) self.old.cursor.last × Misses self.old.cursor.text Class.Name (case_word false) self.old.cursor.last × (self.new.cursor.last ≡ self.old.cursor.last)) }
     {
         if self.accept_word("default") {
             return Ok(true);

@@ -1,23 +1,30 @@
 //! What the first token of an expression begins (ECMA-262 12.2 to 12.5, 14.1, 14.2, 14.6).
 #![tactic(auto, using(crate::proofs::Refused::refusals, crate::proofs::Moves::moves))]
 
-ghost use Rattle.std.specs.Prelude.{◌≡◌, ◌≢◌, ◌≤◌, ◌<◌, ◌+◌, ◌-◌, [], ◌∷◌, ◌++◌, vec_len, set, IfOk, IfErr, IfSome};
+ghost use Rattle.std.specs.Prelude.{◌≡◌, ◌≢◌, ◌≤◌, ◌<◌, ◌+◌, ◌-◌, [], ◌∷◌, ◌++◌, vec_len, set, IfOk, IfErr, IfSome, IfNone, true};
 ghost use Rattle.token_cursor.specs.Point.{IsAhead};
 ghost use Rattle.source_text.specs.Source.{IsPlace};
+ghost use Rattle.language.specs.Token.{as_read};
+ghost use Rattle.language.specs.Opening.{opening_by, opening_of};
+ghost use Rattle.parser.specs.Openings.{coded_opening, stood, opens_at, OpensNothing};
+ghost use Rattle.std.specs.Bool.{OnTrue, OnFalse};
 ghost use Rattle.tokens.specs.Scanned.{token_of};
+ghost use Rattle.tokens.specs.declared.token.Goal.TheVariants.{Div};
+ghost use Rattle.tree.specs.Tree.{height};
+ghost use Rattle.productions.specs.Made.{Makes};
+ghost use Rattle.parser.specs.Seen.{SeesBy, MissesBy};
+ghost use Rattle.parser.specs.Tests.{goes_behind_super};
 ghost use Rattle.parser.specs.Moves.{Passes, BeginsList};
 ghost use Rattle.parser.specs.Items.{listed_kind, listed_node, listed_part, is_grouped, group_levels, list_group};
 ghost use Rattle.parser.specs.Outcomes.{IsPlaceHere, MakesAs, YieldsWhere, RefusedUnder};
 ghost use Rattle.parser.specs.Parts.{group_part};
 ghost use Rattle.parser.specs.Refusals.{IsLimit, IsStop, IsRefusal};
 ghost use Rattle.parser.specs.Tokens.{single_node, single_text};
-ghost use Rattle.productions.specs.Made.{Makes};
-ghost use Rattle.tree.specs.Tree.{height};
 
 use crate::closures::Closure;
 use crate::part::Part;
 use crate::position::{Parser, Position};
-use crate::words::span_of;
+use crate::words::{is_head, is_mark, span_of};
 use covers::{Cover, List, Listed, Shape};
 use grammar::is_reserved;
 use language::{Edge, Rank, Start, position_takes};
@@ -45,7 +52,8 @@ pub(crate) enum Opening {
 }
 
 fn opening_word(word: &str) -> Option<Opening>
-    ensures { IfSome result BeginsList }
+    ensures list { IfSome result BeginsList }
+    ensures coded { result ≡ coded_opening (opening_by Class.Name word.now) }
 {
     Some(match word {
         "true" | "false" | "null" => Opening::Single(Kind::Literal),
@@ -62,7 +70,8 @@ fn opening_word(word: &str) -> Option<Opening>
 }
 
 fn opening_mark(mark: &str) -> Option<Opening>
-    ensures { IfSome result BeginsList }
+    ensures list { IfSome result BeginsList }
+    ensures coded { result ≡ coded_opening (opening_by Class.Punctuator mark.now) }
 {
     Some(match mark {
         "[" => Opening::List(Listed::Elements),
@@ -78,12 +87,13 @@ fn opening_mark(mark: &str) -> Option<Opening>
 fn opening_of(token: &Token<'_>) -> Option<Opening>
     ensures list { IfSome result BeginsList }
     ensures real { IfSome result (λ _. token.now.class ≢ Class.End) }
+    ensures coded { result ≡ coded_opening (opening_of (as_read (token_of token.now))) }
 {
     match token.class {
         Class::Name => opening_word(token.text),
         Class::Punctuator => opening_mark(token.text),
         Class::Number | Class::Text | Class::RegExp => Some(Opening::Single(Kind::Literal)),
-        Class::Template => match token.text.starts_with("`") {
+        Class::Template => match is_head(token) {
             true => Some(Opening::List(Listed::Template)),
             false => None,
         },
@@ -92,7 +102,9 @@ fn opening_of(token: &Token<'_>) -> Option<Opening>
 }
 
 // Whether it may stand at the position.
-fn stands(position: Position, opening: Opening) -> bool {
+fn stands(position: Position, opening: Opening) -> bool
+    ensures { result ≡ stood position.rank position.start opening }
+{
     match opening {
         Opening::List(Listed::Properties) => matches!(position.start, Start::Any),
         Opening::Function | Opening::Class => !matches!(position.start, Start::Statement),
@@ -100,6 +112,13 @@ fn stands(position: Position, opening: Opening) -> bool {
         Opening::Import => position_takes(position.rank, Rank::Call),
         _ => true,
     }
+}
+
+// Whether the token goes on with `super`, where that may be a call or may not.
+fn goes_behind_super(token: &Token<'_>, takes_call: bool) -> bool
+    ensures { result ≡ goes_behind_super takes_call (as_read (token_of token.now)) }
+{
+    is_mark(token, ".") || is_mark(token, "[") || (takes_call && is_mark(token, "("))
 }
 
 // The kind of what is listed.
@@ -132,6 +151,9 @@ impl<'t, 's> Parser<'t, 's> {
         ensures ahead { IfSome result (λ found. IsAhead Goal.RegExp self.now.cursor.text self.now.cursor.last.stop (token_of found.0)) }
         ensures real { IfSome result (λ found. found.0.class ≢ Class.End) }
         ensures list { IfSome result (λ found. BeginsList found.1) }
+        ensures coded { IfSome result (λ found. coded_opening (opening_of (as_read (token_of found.0))) ≡ Some found.1) }
+        ensures stands { IfSome result (λ found. opens_at position (as_read (token_of found.0)) ≡ true) }
+        ensures none { IfNone result (OpensNothing self.now.cursor.text position self.now.cursor.last) }
     {
         let Some(token) = self.cursor.peek(Goal::RegExp) else {
             return None;
@@ -205,8 +227,14 @@ impl<'t, 's> Parser<'t, 's> {
     }
 
     // Whether a member of `super` stands ahead, or where it may stand a call (12.3.5).
-    fn sees_base(&self, takes_call: bool) -> bool {
-        self.sees(".") || self.sees("[") || (takes_call && self.sees("("))
+    fn sees_base(&self, takes_call: bool) -> bool
+        ensures seen { OnTrue result (SeesBy self.now.cursor.text Div (goes_behind_super takes_call) self.now.cursor.last) }
+        ensures missed { OnFalse result (MissesBy self.now.cursor.text Div (goes_behind_super takes_call) self.now.cursor.last) }
+    {
+        match self.cursor.peek(Goal::Div) {
+            Some(token) => goes_behind_super(&token, takes_call),
+            None => false,
+        }
     }
 
     // What follows `function`, `class`, `super`, `new` or `import` (12.3, 14.1, 14.6).

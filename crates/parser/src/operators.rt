@@ -1,11 +1,17 @@
 //! What a token makes of the expression before it, and whether it goes on with it (ECMA-262 12.3 to 12.16).
 #![tactic(auto, using(crate::proofs::Refused::refusals, crate::proofs::Moves::moves))]
 
-ghost use Rattle.std.specs.Prelude.{◌≢◌, IfSome};
+ghost use Rattle.std.specs.Prelude.{◌≡◌, ◌≢◌, ◌&&◌, ◌||◌, not, true, false, codes, [], IfSome, IfNone};
 ghost use Rattle.token_cursor.specs.Point.{IsAhead};
 ghost use Rattle.tokens.specs.Scanned.{token_of};
+ghost use Rattle.language.specs.Token.{as_read, is_token};
+ghost use Rattle.language.specs.Words.{takes, binds, powers, operator_among};
+ghost use Rattle.language.specs.Follow.{operation, symbol_of, holds};
+ghost use Rattle.parser.specs.Tests.{links};
+ghost use Rattle.parser.specs.Operators.{coded_operator, meant, short_operators, long_operators, word_operators, stops_by, StopsHere};
 
 use crate::position::{Parser, Position};
+use crate::words::{is_head, is_word};
 use language::{Edge, Rank, position_takes, tightness_of};
 use tokens::{Class, Goal, Token};
 use tree::Kind;
@@ -48,7 +54,9 @@ pub(crate) enum Operator {
 
 impl Operator {
     /// The symbol of the node that it makes; behind a line break (`after_break`) `++`, `--` and `=>` make none.
-    pub(crate) fn symbol(self, after_break: bool) -> Option<Rank> {
+    pub(crate) fn symbol(self, after_break: bool) -> Option<Rank>
+        ensures { result ≡ symbol_of (meant self) after_break }
+    {
         match self {
             Operator::Joins(sign) => Some(sign.own),
             Operator::Steps if after_break => None,
@@ -62,9 +70,22 @@ impl Operator {
             Operator::Selects | Operator::Indexes | Operator::Tags => Some(Rank::Member),
         }
     }
+
+    /// Whether it goes on with a part of a chain (12.3.9), or would, if it were no template.
+    pub(crate) fn is_link(self) -> bool
+        ensures { result ≡ links (meant self) }
+    {
+        match self {
+            Operator::Selects | Operator::Calls | Operator::Indexes => true,
+            Operator::Chains | Operator::Tags => true,
+            _ => false,
+        }
+    }
 }
 
-fn binary(own: Rank, right: Rank) -> Option<Operator> {
+fn binary(own: Rank, right: Rank) -> Option<Operator>
+    ensures { result ≡ coded_operator (binds false own right) [] }
+{
     Some(Operator::Joins(Sign {
         kind: Kind::BinaryExpression,
         own,
@@ -73,7 +94,9 @@ fn binary(own: Rank, right: Rank) -> Option<Operator> {
     }))
 }
 
-fn logical(own: Rank, right: Rank) -> Option<Operator> {
+fn logical(own: Rank, right: Rank) -> Option<Operator>
+    ensures { result ≡ coded_operator (binds true own right) [] }
+{
     Some(Operator::Joins(Sign {
         kind: Kind::LogicalExpression,
         own,
@@ -83,7 +106,9 @@ fn logical(own: Rank, right: Rank) -> Option<Operator> {
 }
 
 // `**`: its left side is no unary node (12.6).
-fn power() -> Option<Operator> {
+fn power() -> Option<Operator>
+    ensures { result ≡ coded_operator powers [] }
+{
     Some(Operator::Joins(Sign {
         kind: Kind::BinaryExpression,
         own: Rank::Exponentiation,
@@ -94,7 +119,8 @@ fn power() -> Option<Operator> {
 
 /// The operator that a token is behind an expression.
 pub(crate) fn operator_of(token: &Token<'_>) -> Option<Operator>
-    ensures { IfSome result (λ _. token.now.class ≢ Class.End) }
+    ensures real { IfSome result (λ _. token.now.class ≢ Class.End) }
+    ensures coded { result ≡ coded_operator (operation (as_read (token_of token.now))) token.now.text.now }
 {
     match token.class {
         Class::Punctuator => match token.text.len() {
@@ -102,7 +128,7 @@ pub(crate) fn operator_of(token: &Token<'_>) -> Option<Operator>
             _ => operator_of_more(token.text),
         },
         Class::Name => operator_of_name(token.text),
-        Class::Template => match token.text.starts_with("`") {
+        Class::Template => match is_head(token) {
             true => Some(Operator::Tags),
             false => None,
         },
@@ -110,7 +136,9 @@ pub(crate) fn operator_of(token: &Token<'_>) -> Option<Operator>
     }
 }
 
-fn operator_of_one(text: &str) -> Option<Operator> {
+fn operator_of_one(text: &str) -> Option<Operator>
+    ensures { result ≡ coded_operator (operator_among text.now short_operators) text.now }
+{
     match text {
         "|" => binary(Rank::BitwiseOr, Rank::BitwiseXor),
         "^" => binary(Rank::BitwiseXor, Rank::BitwiseAnd),
@@ -128,7 +156,9 @@ fn operator_of_one(text: &str) -> Option<Operator> {
     }
 }
 
-fn operator_of_more(text: &str) -> Option<Operator> {
+fn operator_of_more(text: &str) -> Option<Operator>
+    ensures { result ≡ coded_operator (operator_among text.now long_operators) text.now }
+{
     match text {
         "??" => logical(Rank::Coalesce, Rank::BitwiseOr),
         "||" => logical(Rank::LogicalOr, Rank::LogicalAnd),
@@ -147,7 +177,9 @@ fn operator_of_more(text: &str) -> Option<Operator> {
     }
 }
 
-fn operator_of_name(text: &str) -> Option<Operator> {
+fn operator_of_name(text: &str) -> Option<Operator>
+    ensures { result ≡ coded_operator (operator_among text.now word_operators) text.now }
+{
     match text {
         "in" | "instanceof" => binary(Rank::Relational, Rank::Shift),
         _ => None,
@@ -155,7 +187,9 @@ fn operator_of_name(text: &str) -> Option<Operator> {
 }
 
 /// Whether what ends with this right edge can be the left part of a node at the symbol.
-pub(crate) fn holds(edge: Edge, symbol: Rank) -> bool {
+pub(crate) fn holds(edge: Edge, symbol: Rank) -> bool
+    ensures { result ≡ holds edge symbol }
+{
     let tightness = tightness_of(symbol);
     match edge {
         Edge::Arrow => tightness == 0,
@@ -163,6 +197,14 @@ pub(crate) fn holds(edge: Edge, symbol: Rank) -> bool {
         Edge::Other => true,
         Edge::Closed => false,
     }
+}
+
+// Whether the token can't go on with what stands at the position with this right edge, where it would make a node at the symbol.
+fn is_refused(position: Position, edge: Edge, token: &Token<'_>, symbol: Rank) -> bool
+    ensures { result ≡ ((is_token Class.Name (codes "in") (as_read (token_of token.now)) && not position.has_in) || (not (takes position.rank symbol) || not (holds edge symbol))) }
+{
+    let is_shut = is_word(token, "in") && !position.has_in;
+    is_shut || !position_takes(position.rank, symbol) || !holds(edge, symbol)
 }
 
 /// An operator that stands ahead.
@@ -177,6 +219,9 @@ impl<'t, 's> Parser<'t, 's> {
     pub(crate) fn onward(&self, position: Position, edge: Edge) -> Option<Onward<'s>>
         ensures ahead { IfSome result (λ next. IsAhead Goal.Div self.now.cursor.text self.now.cursor.last.stop (token_of next.token)) }
         ensures real { IfSome result (λ next. next.token.class ≢ Class.End) }
+        ensures coded { IfSome result (λ next. coded_operator (operation (as_read (token_of next.token))) next.token.text.now ≡ Some next.operator) }
+        ensures goes { IfSome result (λ next. stops_by position edge (as_read (token_of next.token)) ≡ false) }
+        ensures none { IfNone result (StopsHere self.now.cursor.text position edge self.now.cursor.last) }
     {
         let Some(token) = self.cursor.peek(Goal::Div) else {
             return None;
@@ -187,8 +232,7 @@ impl<'t, 's> Parser<'t, 's> {
         let Some(symbol) = operator.symbol(token.after_break) else {
             return None;
         };
-        let is_shut = token.text == "in" && !position.has_in;
-        if is_shut || !position_takes(position.rank, symbol) || !holds(edge, symbol) {
+        if is_refused(position, edge, &token, symbol) {
             return None;
         }
         Some(Onward { token, operator })

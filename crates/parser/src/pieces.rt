@@ -1,8 +1,15 @@
 //! Statements, functions, classes and their parts as lists of pieces (ECMA-262 clauses 13 and 14).
 #![tactic(auto, using(crate::proofs::Refused::refusals, crate::proofs::Moves::moves))]
 
-ghost use Rattle.std.specs.Prelude.{◌≡◌, ◌≤◌, true, IfOk, IfErr};
+ghost use Rattle.std.specs.Prelude.{◌≡◌, ◌≤◌, true, IfOk, IfErr, map};
+ghost use Rattle.std.specs.Bool.{OnTrue, OnFalse};
+ghost use Rattle.tokens.specs.Scanned.{token_of};
+ghost use Rattle.tokens.specs.declared.token.Goal.TheVariants.{Div, RegExp};
+ghost use Rattle.language.specs.Token.{as_read};
 ghost use Rattle.parser.specs.Moves.{Passes, IfHandler};
+ghost use Rattle.parser.specs.Seen.{SeesBy, MissesBy};
+ghost use Rattle.parser.specs.Tests.{ends_word, is_each};
+ghost use Rattle.parser.specs.Pieces.{piece_of, statement_parts, loop_parts, switch_parts, case_parts, class_parts, parameters_and_body, body_parts, CatchParts};
 ghost use Rattle.parser.specs.Refusals.{IsRefusal};
 ghost use Rattle.parser.specs.Outcomes.{BecomesHere, IsPlaceHere, RefusedUnless, RefusedWhere};
 ghost use Rattle.parser.specs.Stated.{built_of, listed_depth, fits_head, head_levels, head_node, list_levels, put_node, takes_head, takes_list, takes_put, with_list, with_part};
@@ -11,6 +18,7 @@ ghost use Rattle.tree.specs.Tree.{none};
 use crate::part::Part;
 use crate::position::{Parser, Position};
 use crate::statements::{Context, Headed, Until};
+use crate::words::is_mark;
 use covers::{List, Listed};
 use language::{Edge, Rank};
 use productions::{Nodes, Tall, made, plain};
@@ -101,7 +109,9 @@ pub(crate) enum Piece {
 }
 
 /// The pieces of a statement, behind its first token; `returns`: `return` may stand in it.
-pub(crate) fn pieces_of(headed: Headed, returns: bool) -> &'static [Piece] {
+pub(crate) fn pieces_of(headed: Headed, returns: bool) -> &'static [Piece]
+    ensures { map piece_of result.now ≡ statement_parts headed returns }
+{
     match headed {
         Headed::Block => &[Piece::Items, Piece::Mark("}")],
         Headed::Empty => &[],
@@ -123,12 +133,15 @@ pub(crate) fn pieces_of(headed: Headed, returns: bool) -> &'static [Piece] {
         Headed::Try => &[Piece::Block, Piece::Catch, Piece::Finally],
         Headed::Debugger => &[Piece::End],
         Headed::Label => &[Piece::Mark(":"), Piece::Statement],
-        _ => loop_pieces(headed),
+        Headed::Do | Headed::While | Headed::For => loop_pieces(headed),
+        Headed::ForLoop | Headed::ForIn | Headed::ForOf => loop_pieces(headed),
     }
 }
 
 // The pieces of a loop (13.7).
-fn loop_pieces(headed: Headed) -> &'static [Piece] {
+fn loop_pieces(headed: Headed) -> &'static [Piece]
+    ensures { map piece_of result.now ≡ loop_parts headed }
+{
     match headed {
         Headed::Do => &[
             Piece::Statement,
@@ -169,7 +182,9 @@ fn loop_pieces(headed: Headed) -> &'static [Piece] {
 }
 
 // The pieces of a `switch` (13.12).
-fn switch_pieces(returns: bool) -> &'static [Piece] {
+fn switch_pieces(returns: bool) -> &'static [Piece]
+    ensures { map piece_of result.now ≡ switch_parts returns }
+{
     match returns {
         true => &[
             Piece::Mark("("),
@@ -187,7 +202,9 @@ fn switch_pieces(returns: bool) -> &'static [Piece] {
 }
 
 /// The pieces of a case behind its word (13.12).
-pub(crate) fn case_pieces(is_default: bool) -> &'static [Piece] {
+pub(crate) fn case_pieces(is_default: bool) -> &'static [Piece]
+    ensures { map piece_of result.now ≡ case_parts is_default }
+{
     match is_default {
         true => &[Piece::Mark(":"), Piece::Consequent],
         false => &[Piece::Expression, Piece::Mark(":"), Piece::Consequent],
@@ -195,12 +212,16 @@ pub(crate) fn case_pieces(is_default: bool) -> &'static [Piece] {
 }
 
 /// The pieces of a class behind its name (14.6).
-pub(crate) fn class_pieces() -> &'static [Piece] {
+pub(crate) fn class_pieces() -> &'static [Piece]
+    ensures { map piece_of result.now ≡ class_parts }
+{
     &[Piece::Heritage, Piece::List(Listed::Members)]
 }
 
 /// The pieces of a function from its parameters on (14.1, 14.3).
-pub(crate) fn function_pieces(parameters: Listed) -> &'static [Piece] {
+pub(crate) fn function_pieces(parameters: Listed) -> &'static [Piece]
+    ensures { map piece_of result.now ≡ parameters_and_body parameters }
+{
     match parameters {
         Listed::NoParameter => &[Piece::List(Listed::NoParameter), Piece::Body],
         Listed::OneParameter => &[Piece::List(Listed::OneParameter), Piece::Body],
@@ -209,7 +230,9 @@ pub(crate) fn function_pieces(parameters: Listed) -> &'static [Piece] {
 }
 
 /// The pieces of a body (14.1, 14.2).
-pub(crate) fn body_pieces() -> &'static [Piece] {
+pub(crate) fn body_pieces() -> &'static [Piece]
+    ensures { map piece_of result.now ≡ body_parts }
+{
     &[Piece::Body]
 }
 
@@ -239,22 +262,41 @@ fn wanted_where(is_there: bool, position: Position) -> Wanted
     }
 }
 
+// Whether behind a word no argument begins with the token.
+fn ends_word(token: &Token<'_>) -> bool
+    ensures { result ≡ ends_word (as_read (token_of token.now)) }
+{
+    token.after_break || token.class == Class::End || is_mark(token, ";") || is_mark(token, "}")
+}
+
+// Whether the token is `in` or `of`.
+fn is_each(token: &Token<'_>) -> bool
+    ensures { result ≡ is_each (as_read (token_of token.now)) }
+{
+    token.class == Class::Name && matches!(token.text, "in" | "of")
+}
+
 impl<'t, 's> Parser<'t, 's> {
-    // Whether an argument follows the word of a statement.
-    fn sees_argument(&self) -> bool {
+    // Whether an argument follows the word of a statement, if anything does.
+    fn sees_argument(&self) -> bool
+        ensures given { OnTrue result (MissesBy self.now.cursor.text RegExp ends_word self.now.cursor.last) }
+        ensures missing { OnFalse result (SeesBy self.now.cursor.text RegExp ends_word self.now.cursor.last) }
+    {
         match self.cursor.peek(Goal::RegExp) {
-            Some(token) => match token.class {
-                Class::End => false,
-                Class::Punctuator => !token.after_break && !matches!(token.text, ";" | "}"),
-                _ => !token.after_break,
-            },
+            Some(token) => !ends_word(&token),
             None => true,
         }
     }
 
     // Whether `in` or `of` stands ahead.
-    fn sees_each(&self) -> bool {
-        self.sees_word("in") || self.sees_word("of")
+    fn sees_each(&self) -> bool
+        ensures seen { OnTrue result (SeesBy self.now.cursor.text Div is_each self.now.cursor.last) }
+        ensures missed { OnFalse result (MissesBy self.now.cursor.text Div is_each self.now.cursor.last) }
+    {
+        match self.cursor.peek(Goal::Div) {
+            Some(token) => is_each(&token),
+            None => false,
+        }
     }
 
     // A piece that is tokens alone.
@@ -445,7 +487,9 @@ impl<'t, 's> Parser<'t, 's> {
     }
 
     // The pieces of a handler behind `catch`.
-    fn catch_pieces(&self) -> &'static [Piece] {
+    fn catch_pieces(&self) -> &'static [Piece]
+        ensures { CatchParts self.now.cursor.text self.now.cursor.last (map piece_of result.now) }
+    {
         match self.sees("(") {
             true => &[
                 Piece::Mark("("),

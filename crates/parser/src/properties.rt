@@ -4,11 +4,17 @@
 ghost use Rattle.std.specs.Prelude.{◌≡◌, ◌≤◌, false, is_some, Some, IfOk, IfErr, IfSome};
 ghost use Rattle.parser.specs.Moves.{Passes};
 ghost use Rattle.parser.specs.Items.{property_item};
-ghost use Rattle.parser.specs.Members.{member_flags, named_form, method_form, member_kind};
+ghost use Rattle.parser.specs.Members.{member_flags, method_form, member_kind};
 ghost use Rattle.parser.specs.Outcomes.{MakesAs};
+ghost use Rattle.std.specs.Bool.{OnTrue, OnFalse};
+ghost use Rattle.tokens.specs.Scanned.{token_of};
+ghost use Rattle.tokens.specs.declared.token.Goal.TheVariants.{Div};
+ghost use Rattle.language.specs.Token.{as_read};
+ghost use Rattle.parser.specs.Seen.{SeesBy, MissesBy, TokenHere};
+ghost use Rattle.parser.specs.Tests.{is_key_class, is_key, begins_key};
+ghost use Rattle.parser.specs.Modifiers.{Modified, Accessed, Modifying, form_with};
 ghost use Rattle.parser.specs.Refusals.{IsLimit, IsRefusal};
 ghost use Rattle.parser.specs.Tokens.{single_node, key_kind};
-ghost use Rattle.tokens.specs.Scanned.{token_of};
 ghost use Rattle.tree.specs.Tree.{height};
 
 use crate::closures::Closure;
@@ -67,8 +73,9 @@ struct Modifiers<'s> {
 
 // The modifiers with `get` or `set`, unless that is the name itself.
 fn named(is_static: bool, form: Form, name: Option<Token<'_>>) -> Modifiers<'_>
+    ensures handed { result.is_static ≡ is_static }
+    ensures form { result.form ≡ form_with name.entry form }
     ensures name { result.name ≡ name.entry }
-    ensures modifiers { result ≡ record { is_static = is_static; form = named_form (is_some name.entry) form; name = name.entry } }
 {
     let form = match name.is_some() {
         true => Form::Method,
@@ -90,14 +97,28 @@ fn is_constructor(key: &Token<'_>) -> bool {
     }
 }
 
+// Whether a token of this class is a key.
+fn is_key_class(class: Class) -> bool
+    ensures { result ≡ is_key_class class }
+{
+    matches!(class, Class::Name | Class::Text | Class::Number)
+}
+
+// Whether a key begins with the token.
+fn begins_key(token: &Token<'_>) -> bool
+    ensures { result ≡ begins_key (as_read (token_of token.now)) }
+{
+    is_key_class(token.class) || is_mark(token, "[")
+}
+
 impl<'t, 's> Parser<'t, 's> {
     // Whether a key of a property begins ahead (12.2.6).
-    fn sees_key(&self) -> bool {
+    fn sees_key(&self) -> bool
+        ensures seen { OnTrue result (SeesBy self.now.cursor.text Div begins_key self.now.cursor.last) }
+        ensures missed { OnFalse result (MissesBy self.now.cursor.text Div begins_key self.now.cursor.last) }
+    {
         match self.cursor.peek(Goal::Div) {
-            Some(token) => match token.class {
-                Class::Name | Class::Text | Class::Number => true,
-                _ => is_mark(&token, "["),
-            },
+            Some(token) => begins_key(&token),
             None => false,
         }
     }
@@ -106,6 +127,9 @@ impl<'t, 's> Parser<'t, 's> {
     fn modifier(&mut self, word: &str) -> Option<Option<Token<'s>>>
         ensures text { self.new.cursor.text ≡ self.old.cursor.text }
         ensures forward { self.old.cursor.last.stop ≤ self.new.cursor.last.stop }
+        ensures same_open { self.new.cursor.opened ≡ self.old.cursor.opened }
+        ensures same_pairs { self.new.pairs.items ≡ self.old.pairs.items }
+        ensures modified { Modified self.old.cursor.text word.now self.old.cursor.last self.new.cursor.last result }
         ensures passes { IfSome result (λ _. Passes self.old.cursor self.new.cursor) }
     {
         let Some(token) = self.cursor.peek(Goal::Div) else {
@@ -121,25 +145,16 @@ impl<'t, 's> Parser<'t, 's> {
         }
     }
 
-    // `static`, `get` and `set` before a name (14.3, 14.6).
-    fn modifiers(&mut self, in_class: bool) -> Modifiers<'s>
+    // `get` and `set` before a name (14.3), with `static` before them or without.
+    fn accessor(&mut self, is_static: bool) -> Modifiers<'s>
         ensures text { self.new.cursor.text ≡ self.old.cursor.text }
         ensures forward { self.old.cursor.last.stop ≤ self.new.cursor.last.stop }
+        ensures same_open { self.new.cursor.opened ≡ self.old.cursor.opened }
+        ensures same_pairs { self.new.pairs.items ≡ self.old.pairs.items }
+        ensures handed { result.is_static ≡ is_static }
+        ensures accessed { Accessed self.old.cursor.text self.old.cursor.last self.new.cursor.last result.form result.name }
         ensures passes { IfSome result.name (λ _. Passes self.old.cursor self.new.cursor) }
     {
-        let mut is_static = false;
-        if in_class {
-            if let Some(name) = self.modifier("static") {
-                if name.is_some() {
-                    return Modifiers {
-                        is_static,
-                        form: Form::Method,
-                        name,
-                    };
-                }
-                is_static = true;
-            }
-        }
         if let Some(name) = self.modifier("get") {
             return named(is_static, Form::Get, name);
         }
@@ -149,23 +164,44 @@ impl<'t, 's> Parser<'t, 's> {
         named(is_static, Form::Method, None)
     }
 
+    // `static`, `get` and `set` before a name (14.3, 14.6).
+    fn modifiers(&mut self, in_class: bool) -> Modifiers<'s>
+        ensures text { self.new.cursor.text ≡ self.old.cursor.text }
+        ensures forward { self.old.cursor.last.stop ≤ self.new.cursor.last.stop }
+        ensures same_open { self.new.cursor.opened ≡ self.old.cursor.opened }
+        ensures same_pairs { self.new.pairs.items ≡ self.old.pairs.items }
+        ensures modified { Modifying self.old.cursor.text self.old.cursor.last self.new.cursor.last in_class result.is_static result.form result.name }
+        ensures passes { IfSome result.name (λ _. Passes self.old.cursor self.new.cursor) }
+    {
+        if !in_class {
+            return self.accessor(false);
+        }
+        match self.modifier("static") {
+            None => self.accessor(false),
+            Some(None) => self.accessor(true),
+            Some(Some(name)) => named(false, Form::Method, Some(name)),
+        }
+    }
+
     // The one token of a PropertyName (12.2.6) that stands ahead.
     fn key_token(&mut self) -> Result<Token<'s>, Fault>
         ensures text { self.new.cursor.text ≡ self.old.cursor.text }
         ensures forward { self.old.cursor.last.stop ≤ self.new.cursor.last.stop }
         ensures passes { IfOk result (λ _. Passes self.old.cursor self.new.cursor) }
         ensures refused { IfErr result (IsRefusal self.new.cursor.text) }
+        ensures same_open { self.new.cursor.opened ≡ self.old.cursor.opened }
+        ensures same_pairs { self.new.pairs.items ≡ self.old.pairs.items }
+        ensures accepted { IfOk result (λ token. TokenHere self.old.cursor.text Div is_key self.old.cursor.last self.new.cursor.last × (self.new.cursor.last ≡ as_read (token_of token))) }
+        ensures missed { IfErr result (λ _. MissesBy self.old.cursor.text Div is_key self.old.cursor.last × (self.new.cursor.last ≡ self.old.cursor.last)) }
     {
         let Some(token) = self.cursor.peek(Goal::Div) else {
             return Err(self.refusal());
         };
-        match token.class {
-            Class::Name | Class::Text | Class::Number => {
-                self.pass(token);
-                Ok(token)
-            }
-            _ => Err(self.refusal()),
+        if !is_key_class(token.class) {
+            return Err(self.refusal());
         }
+        self.pass(token);
+        Ok(token)
     }
 
     // PropertyName (12.2.6) that is no expression in brackets.

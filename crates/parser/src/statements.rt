@@ -1,8 +1,15 @@
 //! Statements and declarations (ECMA-262 clause 13, 14.1, 14.6), by the first token.
 #![tactic(auto, using(crate::proofs::Refused::refusals, crate::proofs::Moves::moves))]
 
-ghost use Rattle.std.specs.Prelude.{◌≡◌, ◌≢◌, ◌≤◌, ◌&&◌, true, IfOk, IfErr};
+ghost use Rattle.std.specs.Prelude.{◌≡◌, ◌≢◌, ◌≤◌, ◌&&◌, true, IfOk, IfErr, ◌<◌, ◌⊎◌, Bool, false};
+ghost use Rattle.std.specs.Bool.{OnTrue, OnFalse};
 ghost use Rattle.token_cursor.specs.Point.{IsAhead};
+ghost use Rattle.tokens.specs.declared.token.Goal.TheVariants.{Div};
+ghost use Rattle.language.specs.Token.{as_read};
+ghost use Rattle.language.specs.Beginning.{beginning_of, beginning_by};
+ghost use Rattle.parser.specs.Seen.{SeesBy, MissesBy};
+ghost use Rattle.parser.specs.Tests.{ends};
+ghost use Rattle.parser.specs.Beginnings.{coded_beginning, NothingBegins, HeadFollowed, HeadUnfollowed};
 ghost use Rattle.tokens.specs.Scanned.{token_of};
 ghost use Rattle.parser.specs.Moves.{Passes, IfHeaded};
 ghost use Rattle.parser.specs.Refusals.{IsRefusal};
@@ -142,7 +149,9 @@ enum Beginning {
 }
 
 // What a word begins where an item may stand.
-fn beginning_item(word: &str, returns: bool) -> Beginning {
+fn beginning_item(word: &str, returns: bool) -> Beginning
+    ensures { result ≡ coded_beginning (beginning_by true returns Class.Name word.now) }
+{
     match word {
         "function" => Beginning::Closure(Closure::FunctionDeclaration),
         "class" => Beginning::Closure(Closure::ClassDeclaration),
@@ -152,7 +161,9 @@ fn beginning_item(word: &str, returns: bool) -> Beginning {
 }
 
 // What a word begins where a statement may stand.
-fn beginning_word(word: &str, returns: bool) -> Beginning {
+fn beginning_word(word: &str, returns: bool) -> Beginning
+    ensures { result ≡ coded_beginning (beginning_by false returns Class.Name word.now) }
+{
     Beginning::Headed(match word {
         "var" => Headed::Variable,
         "if" => Headed::If,
@@ -170,34 +181,59 @@ fn beginning_word(word: &str, returns: bool) -> Beginning {
     })
 }
 
+// What a word begins there.
+fn beginning_name(word: &str, context: Context) -> Beginning
+    ensures { result ≡ coded_beginning (beginning_by context.is_item context.returns Class.Name word.now) }
+{
+    match context.is_item {
+        true => beginning_item(word, context.returns),
+        false => beginning_word(word, context.returns),
+    }
+}
+
+// What a punctuator begins where a statement may stand.
+fn beginning_mark(mark: &str) -> Beginning
+    ensures { (item returns : Bool) → result ≡ coded_beginning (beginning_by item returns Class.Punctuator mark.now) }
+{
+    match mark {
+        "{" => Beginning::Headed(Headed::Block),
+        ";" => Beginning::Headed(Headed::Empty),
+        _ => Beginning::Expression,
+    }
+}
+
 // What a token begins where a statement may stand.
 fn beginning_of(token: &Token<'_>, context: Context) -> Beginning
-    ensures { IfHeaded result (token.now.class ≢ Class.End) }
+    ensures real { IfHeaded result (token.now.class ≢ Class.End) }
+    ensures coded { result ≡ coded_beginning (beginning_of context.is_item context.returns (as_read (token_of token.now))) }
 {
     match token.class {
-        Class::Name if context.is_item => beginning_item(token.text, context.returns),
-        Class::Name => beginning_word(token.text, context.returns),
-        Class::Punctuator => match token.text {
-            "{" => Beginning::Headed(Headed::Block),
-            ";" => Beginning::Headed(Headed::Empty),
-            _ => Beginning::Expression,
-        },
+        Class::Name => beginning_name(token.text, context),
+        Class::Punctuator => beginning_mark(token.text),
         _ => Beginning::Expression,
+    }
+}
+
+// Whether a list of statements ends before the token.
+fn ends(until: Until, token: &Token<'_>) -> bool
+    ensures { result ≡ ends until (as_read (token_of token.now)) }
+{
+    match until {
+        Until::Brace => is_mark(token, "}"),
+        Until::Case => is_mark(token, "}") || is_word(token, "case") || is_word(token, "default"),
+        Until::End => token.class == Class::End,
     }
 }
 
 impl<'t, 's> Parser<'t, 's> {
     // Whether a list of statements ends here.
-    fn sees_end(&self, until: Until) -> bool {
-        let Some(token) = self.cursor.peek(Goal::Div) else {
-            return false;
-        };
-        match until {
-            Until::Brace => is_mark(&token, "}"),
-            Until::Case => {
-                is_mark(&token, "}") || is_word(&token, "case") || is_word(&token, "default")
-            }
-            Until::End => token.class == Class::End,
+    fn sees_end(&self, until: Until) -> bool
+        ensures seen { OnTrue result (SeesBy self.now.cursor.text Div (ends until) self.now.cursor.last) }
+        ensures missed { OnFalse result (MissesBy self.now.cursor.text Div (ends until) self.now.cursor.last) }
+    {
+        match self.cursor.peek(Goal::Div) {
+            Some(token) => ends(until, &token),
+            None => false,
         }
     }
 
@@ -271,6 +307,9 @@ impl<'t, 's> Parser<'t, 's> {
     fn begins(&self, context: Context, high: u32) -> Result<(Token<'s>, Beginning), Fault>
         ensures ahead { IfOk result (λ found. IsAhead Goal.RegExp self.now.cursor.text self.now.cursor.last.stop (token_of found.0)) }
         ensures real { IfOk result (λ found. IfHeaded found.1 (found.0.class ≢ Class.End)) }
+        ensures coded { IfOk result (λ found. found.1 ≡ coded_beginning (beginning_of context.is_item context.returns (as_read (token_of found.0)))) }
+        ensures room { IfOk result (λ _. 0 < high) }
+        ensures none { IfErr result (λ _. (high ≡ 0) ⊎ NothingBegins self.now.cursor.text self.now.cursor.last) }
         ensures refused { IfErr result (IsRefusal self.now.cursor.text) }
     {
         let Some(token) = self.cursor.peek(Goal::RegExp) else {
@@ -311,7 +350,9 @@ impl<'t, 's> Parser<'t, 's> {
 
     // What a `for` is, by what follows what stands first in its parentheses (13.7).
     fn for_what(&self) -> Result<Headed, Fault>
-        ensures { IfErr result (IsRefusal self.now.cursor.text) }
+        ensures followed { IfOk result (HeadFollowed self.now.cursor.text self.now.cursor.last) }
+        ensures unfollowed { IfErr result (λ _. HeadUnfollowed self.now.cursor.text self.now.cursor.last) }
+        ensures refused { IfErr result (IsRefusal self.now.cursor.text) }
     {
         if self.sees(";") {
             return Ok(Headed::ForLoop);

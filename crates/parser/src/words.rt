@@ -1,14 +1,21 @@
 //! Single tokens.
 #![tactic(auto, using(crate::proofs::Refused::refusals, crate::proofs::Moves::moves))]
 
-ghost use Rattle.std.specs.Prelude.{◌≡◌, ◌≢◌, ◌≤◌, IfOk, IfErr};
-ghost use Rattle.std.specs.Bool.{OnTrue};
+ghost use Rattle.std.specs.Prelude.{◌≡◌, ◌≢◌, ◌≤◌, ◌&&◌, not, true, false, nat_eq, slice_index_or, codes, [], ◌∷◌, IfOk, IfErr, IfSome, IfNone};
+ghost use Rattle.std.specs.Bool.{OnTrue, OnFalse};
 ghost use Rattle.tokens.specs.Scanned.{token_of};
-ghost use Rattle.language.specs.Token.{as_read};
+ghost use Rattle.tokens.specs.Reading.{any_goal};
+ghost use Rattle.tokens.specs.declared.token.Goal.TheVariants.{RegExp};
+ghost use Rattle.language.specs.Token.{Token as Read, as_read, same_class, is_token, is_mark};
+ghost use Rattle.language.specs.Words.{among, is_reserved};
+ghost use Rattle.language.specs.Places.{NextIn, itself};
+ghost use Rattle.language.specs.Derivation.{Reads};
+ghost use Rattle.language.specs.Promises.{ReadBy};
 ghost use Rattle.token_cursor.specs.Point.{IsAheadBySome};
 ghost use Rattle.parser.specs.Moves.{Passes};
 ghost use Rattle.parser.specs.Outcomes.{IsSyntaxHere};
 ghost use Rattle.parser.specs.Refusals.{IsRefusal};
+ghost use Rattle.parser.specs.Seen.{ReadsHere, Sees, Misses, NameHere, NoName, is_any, is_free_name, declares};
 
 use crate::position::Parser;
 use grammar::is_reserved;
@@ -28,28 +35,62 @@ pub(crate) fn span_of(token: &Token<'_>) -> Span
 
 /// Whether the token is this punctuator.
 pub(crate) fn is_mark(token: &Token<'_>, mark: &str) -> bool
-    ensures { OnTrue result (token.now.class ≡ Class.Punctuator) }
+    ensures class { OnTrue result (token.now.class ≡ Class.Punctuator) }
+    ensures is { result ≡ is_mark mark.now (as_read (token_of token.now)) }
 {
     token.class == Class::Punctuator && token.text == mark
 }
 
 /// Whether the token is this name.
 pub(crate) fn is_word(token: &Token<'_>, word: &str) -> bool
-    ensures { OnTrue result (token.now.class ≡ Class.Name) }
+    ensures class { OnTrue result (token.now.class ≡ Class.Name) }
+    ensures is { result ≡ is_token Class.Name word.now (as_read (token_of token.now)) }
 {
     token.class == Class::Name && token.text == word
 }
 
 /// Whether the token is an Identifier (ECMA-262 12.1).
 pub(crate) fn is_identifier(token: &Token<'_>) -> bool
-    ensures { OnTrue result (token.now.class ≡ Class.Name) }
+    ensures class { OnTrue result (token.now.class ≡ Class.Name) }
+    ensures is { result ≡ (same_class Class.Name token.now.class && is_free_name token.now.text.now) }
 {
     token.class == Class::Name && !is_reserved(token.text)
 }
 
+// Whether the token is an IdentifierName (11.6).
+fn is_name(token: &Token<'_>) -> bool
+    ensures class { OnTrue result (token.now.class ≡ Class.Name) }
+    ensures is { result ≡ (same_class Class.Name token.now.class && is_any token.now.text.now) }
+{
+    match token.class {
+        Class::Name => true,
+        _ => false,
+    }
+}
+
+// Whether the token declares variables.
+fn is_declaration(token: &Token<'_>) -> bool
+    ensures class { OnTrue result (token.now.class ≡ Class.Name) }
+    ensures is { result ≡ (same_class Class.Name token.now.class && declares token.now.text.now) }
+{
+    token.class == Class::Name && declares(token.text)
+}
+
 /// Whether the word declares variables: `var`, `let` or `const`.
-pub(crate) fn declares(word: &str) -> bool {
+pub(crate) fn declares(word: &str) -> bool
+    ensures { result ≡ declares word.now }
+{
     matches!(word, "var" | "let" | "const")
+}
+
+/// Whether the token begins with a grave accent: then it is the first part of a template, where it is one of a template.
+pub(crate) fn is_head(token: &Token<'_>) -> bool
+    ensures { result ≡ nat_eq (slice_index_or (as_read (token_of token.now)).text 0 0) 96 }
+{
+    match token.text.as_bytes().first() {
+        Some(first) => *first == b'`',
+        None => false,
+    }
 }
 
 impl<'t, 's> Parser<'t, 's> {
@@ -67,13 +108,19 @@ impl<'t, 's> Parser<'t, 's> {
         requires real { token.class ≢ Class.End }
         ensures text { self.new.cursor.text ≡ self.old.cursor.text }
         ensures last { self.new.cursor.last ≡ as_read (token_of token.entry) }
+        ensures same_open { self.new.cursor.opened ≡ self.old.cursor.opened }
+        ensures same_pairs { self.new.pairs.items ≡ self.old.pairs.items }
+        ensures reads { NextIn self.old.cursor.text any_goal self.old.cursor.last self.new.cursor.last self.new.cursor.last }
         ensures passes { Passes self.old.cursor self.new.cursor }
     {
         self.cursor.advance(token);
     }
 
     /// Whether this punctuator stands ahead; not to be asked for a `/`.
-    pub(crate) fn sees(&self, mark: &str) -> bool {
+    pub(crate) fn sees(&self, mark: &str) -> bool
+        ensures seen { OnTrue result (Sees self.now.cursor.text Class.Punctuator mark.now self.now.cursor.last) }
+        ensures missed { OnFalse result (Misses self.now.cursor.text Class.Punctuator mark.now self.now.cursor.last) }
+    {
         match self.cursor.peek(Goal::Div) {
             Some(token) => is_mark(&token, mark),
             None => false,
@@ -81,7 +128,10 @@ impl<'t, 's> Parser<'t, 's> {
     }
 
     /// Whether this name stands ahead.
-    pub(crate) fn sees_word(&self, word: &str) -> bool {
+    pub(crate) fn sees_word(&self, word: &str) -> bool
+        ensures seen { OnTrue result (Sees self.now.cursor.text Class.Name word.now self.now.cursor.last) }
+        ensures missed { OnFalse result (Misses self.now.cursor.text Class.Name word.now self.now.cursor.last) }
+    {
         match self.cursor.peek(Goal::Div) {
             Some(token) => is_word(&token, word),
             None => false,
@@ -89,7 +139,10 @@ impl<'t, 's> Parser<'t, 's> {
     }
 
     /// Whether an Identifier stands ahead.
-    pub(crate) fn sees_identifier(&self) -> bool {
+    pub(crate) fn sees_identifier(&self) -> bool
+        ensures seen { OnTrue result ((t : Read) × NameHere self.now.cursor.text is_free_name self.now.cursor.last t) }
+        ensures missed { OnFalse result (NoName self.now.cursor.text is_free_name self.now.cursor.last) }
+    {
         match self.cursor.peek(Goal::Div) {
             Some(token) => is_identifier(&token),
             None => false,
@@ -97,7 +150,10 @@ impl<'t, 's> Parser<'t, 's> {
     }
 
     /// Whether `=>` stands ahead on the same line (14.2).
-    pub(crate) fn sees_arrow(&self) -> bool {
+    pub(crate) fn sees_arrow(&self) -> bool
+        ensures seen { OnTrue result ((t : Read) × (ReadsHere self.now.cursor.text Class.Punctuator (codes "=>") self.now.cursor.last t) × (t.after_break ≡ false)) }
+        ensures missed { OnFalse result ((t e : Read) → Reads Read (NextIn self.now.cursor.text any_goal) itself Class.Punctuator (codes "=>") self.now.cursor.last t e → t.after_break ≡ true) }
+    {
         match self.cursor.peek(Goal::Div) {
             Some(token) => is_mark(&token, "=>") && !token.after_break,
             None => false,
@@ -105,7 +161,10 @@ impl<'t, 's> Parser<'t, 's> {
     }
 
     /// Whether a line break stands before what is ahead.
-    pub(crate) fn sees_break(&self) -> bool {
+    pub(crate) fn sees_break(&self) -> bool
+        ensures seen { OnTrue result ((t e : Read) → NextIn self.now.cursor.text any_goal self.now.cursor.last t e → t.after_break ≡ true) }
+        ensures missed { OnFalse result ((t e : Read) → ReadBy Read (NextIn self.now.cursor.text any_goal) itself RegExp self.now.cursor.last t e → t.after_break ≡ false) }
+    {
         match self.cursor.peek(Goal::RegExp) {
             Some(token) => token.after_break,
             None => false,
@@ -117,6 +176,10 @@ impl<'t, 's> Parser<'t, 's> {
         ensures text { self.new.cursor.text ≡ self.old.cursor.text }
         ensures forward { self.old.cursor.last.stop ≤ self.new.cursor.last.stop }
         ensures passes { OnTrue result (Passes self.old.cursor self.new.cursor) }
+        ensures same_open { self.new.cursor.opened ≡ self.old.cursor.opened }
+        ensures same_pairs { self.new.pairs.items ≡ self.old.pairs.items }
+        ensures accepted { OnTrue result (ReadsHere self.old.cursor.text Class.Punctuator mark.now self.old.cursor.last self.new.cursor.last) }
+        ensures missed { OnFalse result (Misses self.old.cursor.text Class.Punctuator mark.now self.old.cursor.last × (self.new.cursor.last ≡ self.old.cursor.last)) }
     {
         let Some(token) = self.cursor.peek(Goal::Div) else {
             return false;
@@ -133,6 +196,10 @@ impl<'t, 's> Parser<'t, 's> {
         ensures text { self.new.cursor.text ≡ self.old.cursor.text }
         ensures forward { self.old.cursor.last.stop ≤ self.new.cursor.last.stop }
         ensures passes { OnTrue result (Passes self.old.cursor self.new.cursor) }
+        ensures same_open { self.new.cursor.opened ≡ self.old.cursor.opened }
+        ensures same_pairs { self.new.pairs.items ≡ self.old.pairs.items }
+        ensures accepted { OnTrue result (ReadsHere self.old.cursor.text Class.Name word.now self.old.cursor.last self.new.cursor.last) }
+        ensures missed { OnFalse result (Misses self.old.cursor.text Class.Name word.now self.old.cursor.last × (self.new.cursor.last ≡ self.old.cursor.last)) }
     {
         let Some(token) = self.cursor.peek(Goal::Div) else {
             return false;
@@ -150,6 +217,10 @@ impl<'t, 's> Parser<'t, 's> {
         ensures forward { self.old.cursor.last.stop ≤ self.new.cursor.last.stop }
         ensures passes { IfOk result (λ _. Passes self.old.cursor self.new.cursor) }
         ensures refused { IfErr result (IsRefusal self.new.cursor.text) }
+        ensures same_open { self.new.cursor.opened ≡ self.old.cursor.opened }
+        ensures same_pairs { self.new.pairs.items ≡ self.old.pairs.items }
+        ensures accepted { IfOk result (λ token. ReadsHere self.old.cursor.text Class.Punctuator mark.now self.old.cursor.last self.new.cursor.last × (self.new.cursor.last ≡ as_read (token_of token))) }
+        ensures missed { IfErr result (λ _. Misses self.old.cursor.text Class.Punctuator mark.now self.old.cursor.last × (self.new.cursor.last ≡ self.old.cursor.last)) }
     {
         let Some(token) = self.cursor.peek(Goal::Div) else {
             return Err(self.refusal());
@@ -167,6 +238,10 @@ impl<'t, 's> Parser<'t, 's> {
         ensures forward { self.old.cursor.last.stop ≤ self.new.cursor.last.stop }
         ensures passes { IfOk result (λ _. Passes self.old.cursor self.new.cursor) }
         ensures refused { IfErr result (IsRefusal self.new.cursor.text) }
+        ensures same_open { self.new.cursor.opened ≡ self.old.cursor.opened }
+        ensures same_pairs { self.new.pairs.items ≡ self.old.pairs.items }
+        ensures accepted { IfOk result (λ _. ReadsHere self.old.cursor.text Class.Name word.now self.old.cursor.last self.new.cursor.last) }
+        ensures missed { IfErr result (λ _. Misses self.old.cursor.text Class.Name word.now self.old.cursor.last × (self.new.cursor.last ≡ self.old.cursor.last)) }
     {
         match self.accept_word(word) {
             true => Ok(()),
@@ -180,11 +255,15 @@ impl<'t, 's> Parser<'t, 's> {
         ensures forward { self.old.cursor.last.stop ≤ self.new.cursor.last.stop }
         ensures passes { IfOk result (λ _. Passes self.old.cursor self.new.cursor) }
         ensures refused { IfErr result (IsRefusal self.new.cursor.text) }
+        ensures same_open { self.new.cursor.opened ≡ self.old.cursor.opened }
+        ensures same_pairs { self.new.pairs.items ≡ self.old.pairs.items }
+        ensures accepted { IfOk result (λ token. NameHere self.old.cursor.text is_any self.old.cursor.last self.new.cursor.last × (self.new.cursor.last ≡ as_read (token_of token))) }
+        ensures missed { IfErr result (λ _. NoName self.old.cursor.text is_any self.old.cursor.last × (self.new.cursor.last ≡ self.old.cursor.last)) }
     {
         let Some(token) = self.cursor.peek(Goal::Div) else {
             return Err(self.refusal());
         };
-        if token.class != Class::Name {
+        if !is_name(&token) {
             return Err(self.refusal());
         }
         self.pass(token);
@@ -197,6 +276,10 @@ impl<'t, 's> Parser<'t, 's> {
         ensures forward { self.old.cursor.last.stop ≤ self.new.cursor.last.stop }
         ensures passes { IfOk result (λ _. Passes self.old.cursor self.new.cursor) }
         ensures refused { IfErr result (IsRefusal self.new.cursor.text) }
+        ensures same_open { self.new.cursor.opened ≡ self.old.cursor.opened }
+        ensures same_pairs { self.new.pairs.items ≡ self.old.pairs.items }
+        ensures accepted { IfOk result (λ token. NameHere self.old.cursor.text is_free_name self.old.cursor.last self.new.cursor.last × (self.new.cursor.last ≡ as_read (token_of token))) }
+        ensures missed { IfErr result (λ _. NoName self.old.cursor.text is_free_name self.old.cursor.last × (self.new.cursor.last ≡ self.old.cursor.last)) }
     {
         let Some(token) = self.cursor.peek(Goal::Div) else {
             return Err(self.refusal());
@@ -212,14 +295,15 @@ impl<'t, 's> Parser<'t, 's> {
     pub(crate) fn declaration_word(&mut self) -> Option<Token<'s>>
         ensures text { self.new.cursor.text ≡ self.old.cursor.text }
         ensures forward { self.old.cursor.last.stop ≤ self.new.cursor.last.stop }
+        ensures same_open { self.new.cursor.opened ≡ self.old.cursor.opened }
+        ensures same_pairs { self.new.pairs.items ≡ self.old.pairs.items }
+        ensures accepted { IfSome result (λ token. NameHere self.old.cursor.text declares self.old.cursor.last self.new.cursor.last × (self.new.cursor.last ≡ as_read (token_of token))) }
+        ensures missed { IfNone result (NoName self.old.cursor.text declares self.old.cursor.last × (self.new.cursor.last ≡ self.old.cursor.last)) }
     {
         let Some(token) = self.cursor.peek(Goal::Div) else {
             return None;
         };
-        if token.class != Class::Name {
-            return None;
-        }
-        if !declares(token.text) {
+        if !is_declaration(&token) {
             return None;
         }
         self.pass(token);
