@@ -1,8 +1,8 @@
 -- Ends of parts and of texts.
-use Rattle.std.proofs.Common.{◌≡◌, ℕ, zero, suc, ◌+◌, ◌-◌, Bool, true, false, not, nat_lt, nat_eq, List, [], ◌∷◌, length, refl, sym, ap, ◌∙◌, arith, add-one}
-use Rattle.std.specs.Prelude.{Option, Some, None, slice_get}
+use Rattle.std.proofs.Common.{◌≡◌, ℕ, zero, suc, ◌+◌, ◌-◌, Bool, true, false, not, nat_lt, nat_eq, List, [], ◌∷◌, length, refl, ap, ◌∙◌, arith}
+use Rattle.std.specs.Prelude.{Some, None, slice_get}
 use Rattle.std.proofs.lemmas.Bool.Decides.{nat_tests}
-use Rattle.tree.specs.Tree.{Tree, Parts, none, part, gap, part_count}
+use Rattle.tree.specs.Tree.{Parts, none, part, gap, part_count}
 use Rattle.tokens.specs.declared.token.Class.TheVariants.{Number}
 use Rattle.language.specs.Pieces.{is_none}
 use Rattle.language.specs.Words.{is_open_number}

@@ -1,3 +1,14 @@
 pub mod Defaults
 pub mod Ends
+pub mod Items
+pub mod Layouts
+pub mod ListMarks
+pub mod Nodes
+pub mod OtherMarks
+pub mod Passing
+pub mod PlaceMarks
+pub mod Rows
+pub mod Shaped
+pub mod TableMarks
+pub mod Whole
 pub mod Writing

@@ -1,8 +1,7 @@
 -- What is written, one text behind the other.
 use Rattle.std.proofs.Common.{◌≡◌, ℕ, ◌+◌, List, [], ◌∷◌, ◌++◌, refl, sym, ap, ◌∙◌, subst, append_assoc, append-nil, arith, replicate, take, take-suc, get_or, length, ◌<◌, add-one}
-use Rattle.std.specs.Prelude.{OnOk, Result, Ok, Err, codes, Bool}
+use Rattle.std.specs.Prelude.{codes, Bool}
 use Rattle.std.proofs.lemmas.List.{replicate-append-replicate}
-use Rattle.std.proofs.lemmas.Result.{on_ok_weaker}
 use Rattle.printer.specs.declared.sheet.Sheet.{Sheet}
 use Rattle.printer.specs.declared.pieces.Piece.{Piece}
 use Rattle.printer.specs.Sheets.{Writes, shown, piece_text, pieces_text}

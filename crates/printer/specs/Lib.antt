@@ -1,3 +1,5 @@
 pub mod Bits
+pub mod Fits
 pub mod Shapes
 pub mod Sheets
+pub mod Printed

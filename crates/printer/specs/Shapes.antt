@@ -14,7 +14,7 @@ use Rattle.language.specs.Pieces.{is_none}
 use Rattle.positions.specs.Outlines.{parts_behind}
 use Rattle.positions.specs.declared.position.Position.{Position}
 use Rattle.positions.specs.declared.position.Position.TheVariants as at
-use Rattle.printer.specs.Bits.{Bit, token, own_text, newline, feeding, loosely, chunk, Chain, nothing, joined, commas, lines, feeds, parameters, Shape, fronted, listed}
+use Rattle.printer.specs.Bits.{Bit, token, own_text, newline, loosely, chunk, Chain, nothing, joined, commas, lines, feeds, parameters, Shape, fronted, listed}
 
 abbrev pub spelled : String → Bit
 spelled s = token (codes s)

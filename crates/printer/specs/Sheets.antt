@@ -1,5 +1,5 @@
 -- Sheets
-use Rattle.std.specs.Prelude.{◌≡◌, ℕ, zero, suc, ◌+◌, Bool, true, false, cond, nat_eq, slice_index_or, List, [], ◌∷◌, ◌++◌, codes, Option, Some, None}
+use Rattle.std.specs.Prelude.{◌≡◌, ℕ, zero, suc, Bool, false, cond, nat_eq, slice_index_or, List, [], ◌∷◌, ◌++◌, codes, Option, Some, None}
 use Rattle.std.specs.String.{string_bytes}
 use Rattle.language.specs.Layout.{indent}
 use Rattle.printer.specs.declared.pieces.Sign.{Sign}

@@ -35,6 +35,40 @@ const SET: &[Piece] = &[Piece::Token("set"), Piece::Space];
 
 const STATIC: &[Piece] = &[Piece::Token("static"), Piece::Space];
 
+const STATIC_BRACKET: &[Piece] = &[Piece::Token("static"), Piece::Space, Piece::Token("[")];
+
+const STATIC_GET: &[Piece] = &[
+    Piece::Token("static"),
+    Piece::Space,
+    Piece::Token("get"),
+    Piece::Space,
+];
+
+const STATIC_GET_BRACKET: &[Piece] = &[
+    Piece::Token("static"),
+    Piece::Space,
+    Piece::Token("get"),
+    Piece::Space,
+    Piece::Token("["),
+];
+
+const STATIC_SET: &[Piece] = &[
+    Piece::Token("static"),
+    Piece::Space,
+    Piece::Token("set"),
+    Piece::Space,
+];
+
+const STATIC_SET_BRACKET: &[Piece] = &[
+    Piece::Token("static"),
+    Piece::Space,
+    Piece::Token("set"),
+    Piece::Space,
+    Piece::Token("["),
+];
+
+const END_BRACKET: &[Piece] = &[Piece::Token("]")];
+
 /// Functions, classes, properties and members.
 pub fn definition_frame(node: Node) -> Frame
     ensures { shape_of result ≡ definition_shape (kind_of (node_tree node.entry)) (flags_of (node_tree node.entry)) (parts_of (node_tree node.entry)) }
@@ -122,7 +156,7 @@ fn getter_frame(computed: bool) -> Frame
         &[GET, &[]],
         &[
             &[Piece::Token("get"), Piece::Space, Piece::Token("[")],
-            &[Piece::Token("]")],
+            END_BRACKET,
         ],
         computed,
     )
@@ -135,7 +169,7 @@ fn setter_frame(computed: bool) -> Frame
         &[SET, &[]],
         &[
             &[Piece::Token("set"), Piece::Space, Piece::Token("[")],
-            &[Piece::Token("]")],
+            END_BRACKET,
         ],
         computed,
     )
@@ -144,11 +178,7 @@ fn setter_frame(computed: bool) -> Frame
 fn plain_frame(computed: bool) -> Frame
     ensures { shape_of result ≡ plain_shape computed }
 {
-    keyed(
-        &[&[], &[]],
-        &[&[Piece::Token("[")], &[Piece::Token("]")]],
-        computed,
-    )
+    keyed(&[&[], &[]], &[&[Piece::Token("[")], END_BRACKET], computed)
 }
 
 fn static_frame(form: Form, computed: bool) -> Frame
@@ -157,61 +187,18 @@ fn static_frame(form: Form, computed: bool) -> Frame
     match form {
         Form::Get => {
             keyed(
-                &[
-                    &[
-                        Piece::Token("static"),
-                        Piece::Space,
-                        Piece::Token("get"),
-                        Piece::Space,
-                    ],
-                    &[],
-                ],
-                &[
-                    &[
-                        Piece::Token("static"),
-                        Piece::Space,
-                        Piece::Token("get"),
-                        Piece::Space,
-                        Piece::Token("["),
-                    ],
-                    &[Piece::Token("]")],
-                ],
+                &[STATIC_GET, &[]],
+                &[STATIC_GET_BRACKET, END_BRACKET],
                 computed,
             )
         }
         Form::Set => {
             keyed(
-                &[
-                    &[
-                        Piece::Token("static"),
-                        Piece::Space,
-                        Piece::Token("set"),
-                        Piece::Space,
-                    ],
-                    &[],
-                ],
-                &[
-                    &[
-                        Piece::Token("static"),
-                        Piece::Space,
-                        Piece::Token("set"),
-                        Piece::Space,
-                        Piece::Token("["),
-                    ],
-                    &[Piece::Token("]")],
-                ],
+                &[STATIC_SET, &[]],
+                &[STATIC_SET_BRACKET, END_BRACKET],
                 computed,
             )
         }
-        _ => {
-            keyed(
-                &[STATIC, &[]],
-                &[
-                    &[Piece::Token("static"), Piece::Space, Piece::Token("[")],
-                    &[Piece::Token("]")],
-                ],
-                computed,
-            )
-        }
+        _ => keyed(&[STATIC, &[]], &[STATIC_BRACKET, END_BRACKET], computed),
     }
 }

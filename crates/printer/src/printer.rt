@@ -1,12 +1,20 @@
 //! The text of a tree.
 
-ghost use Rattle.std.specs.Prelude.{◌≡◌, ◌<◌, nat_eq, IfOk};
+ghost use Rattle.std.specs.Prelude.{◌≡◌, ℕ, suc, ◌<◌, ◌+◌, Bool, true, nat_eq, cond, List, ◌∷◌, ◌++◌, length, map, None, Some, IfOk, OnOk};
+ghost use Rattle.std.specs.String.{string_bytes};
 ghost use Rattle.tree.specs.Node.{node_tree};
-ghost use Rattle.tree.specs.Tree.{kind_of, text_of, flags_of, parts_of, part_count};
+ghost use Rattle.tree.specs.Tree.{kind_of, text_of, flags_of, parts_of, part_count, none};
+ghost use Rattle.language.specs.Pieces.{script, is_none};
+ghost use Rattle.language.specs.Grammar.{ways};
 ghost use Rattle.language.specs.Positions.{has_row as row_of};
-ghost use Rattle.positions.specs.Outlines.{role_of};
-ghost use Rattle.printer.specs.Bits.{chain_of};
+ghost use Rattle.language.specs.Layout.{layout};
+ghost use Rattle.positions.specs.Outlines.{role_of, parts_behind, whole_at};
+ghost use Rattle.positions.specs.Remaining.{remaining};
+ghost use Rattle.printer.specs.Bits.{Mark, here, bits_of, chain_of, shape_of};
 ghost use Rattle.printer.specs.Shapes.{sign_at, sign_of_text, inner};
+ghost use Rattle.printer.specs.Sheets.{flag_at};
+ghost use Rattle.printer.specs.Fits.{wrapped_by, fits, parts_fit, lines_up};
+ghost use Rattle.printer.specs.Printed.{Reads, Printed, Direct, Passed, Written, spelled_so, front_marks, chain_marks, deep, shape_marks, marks_in, signed_marks};
 
 use crate::frame::frame_of;
 use crate::pieces::{Frame, Piece, Series, Sign, after, before};
@@ -34,7 +42,7 @@ pub struct Walk<'t, 's> {
 
 /// The text of a script in its layout, with parentheses round the wrapped nodes. The flags say of the nodes at an
 /// expression's position, each before those in it, in source order, whether they are wrapped; those behind the last flag
-/// aren't.
+/// aren't. Where, with these parentheses, some node can't be spelled where it stands, the text is no layout.
 ///
 /// # Errors
 /// Memory was refused.
@@ -42,28 +50,47 @@ pub fn print_text(
     alloc: Global,
     program: &Program<'_>,
     wraps: &[bool],
-) -> Result<String, AllocError> {
+) -> Result<String, AllocError>
+    ensures { IfOk result (λ text. fits (wrapped_by wraps.now) program.now script 1 ≡ true → string_bytes text ≡ layout (wrapped_by wraps.now) program.now script 1 0) }
+{
     let root = program.root();
     let mut sheet = Sheet::new(alloc, root.span().end, wraps)?;
     print_node(root, Position::Script, 0, &mut sheet)?;
     Ok(sheet.into_text())
 }
 
+/// A node at its position.
 #[cycle(print)]
 fn print_node(
     node: Node,
     position: Position,
     depth: usize,
     sheet: &mut Sheet,
-) -> Result<(), AllocError> {
+) -> Result<(), AllocError>
+    ensures { OnOk result ((W : ℕ → Bool) → (r : ℕ) → Reads W r sheet.old.wraps.now → fits W (node_tree node.entry) (role_of position) r ≡ true → Printed W sheet.old sheet.new (node_tree node.entry) (role_of position) r depth) }
+{
     if has_row(position) {
-        if sheet.next_row() {
-            sheet.push("(")?;
-            print_direct(node, WHOLE, depth, sheet)?;
-            return sheet.push(")");
-        }
+        return print_row(node, position, depth, sheet);
     }
     print_direct(node, position, depth, sheet)
+}
+
+/// A node that has a row, in parentheses where it is wrapped.
+#[cycle(print)]
+fn print_row(
+    node: Node,
+    position: Position,
+    depth: usize,
+    sheet: &mut Sheet,
+) -> Result<(), AllocError>
+    ensures { OnOk result ((W : ℕ → Bool) → (r : ℕ) → Reads W r sheet.old.wraps.now → nat_eq (row_of (role_of position)) 1 ≡ true → fits W (node_tree node.entry) (role_of position) r ≡ true → Printed W sheet.old sheet.new (node_tree node.entry) (role_of position) r depth) }
+{
+    if !sheet.next_row() {
+        return print_direct(node, position, depth, sheet);
+    }
+    sheet.push("(")?;
+    print_direct(node, WHOLE, depth, sheet)?;
+    sheet.push(")")
 }
 
 /// Whether a node at a position has a row.
@@ -80,7 +107,9 @@ fn print_direct(
     position: Position,
     depth: usize,
     sheet: &mut Sheet,
-) -> Result<(), AllocError> {
+) -> Result<(), AllocError>
+    ensures { OnOk result ((W : ℕ → Bool) → (r : ℕ) → Reads W r sheet.old.wraps.now → spelled_so W (parts_of (node_tree node.entry)) (ways (role_of position) (node_tree node.entry)) r ≡ true → Direct W sheet.old sheet.new (parts_of (node_tree node.entry)) (ways (role_of position) (node_tree node.entry)) r depth) }
+{
     let Some(positions) = node_positions(node, position) else {
         return Ok(());
     };
@@ -123,7 +152,9 @@ fn print_signed<'t, 's>(
     walk: Walk<'t, 's>,
     depth: usize,
     sheet: &mut Sheet,
-) -> Result<(), AllocError> {
+) -> Result<(), AllocError>
+    ensures { OnOk result ((W : ℕ → Bool) → (r : ℕ) → Reads W r sheet.old.wraps.now → parts_fit W (parts_of (node_tree node.entry)) (remaining walk.entry.positions) r ≡ true → sign_of_text (text_of (node_tree node.entry)) ≡ Some sign → is_none (parts_behind 1 (parts_of (node_tree node.entry))) ≡ true → Written W sheet.old sheet.new (signed_marks (text_of (node_tree node.entry)) sign) (parts_of (node_tree node.entry)) (remaining walk.entry.positions) walk.entry.alone depth r) }
+{
     sheet.push(node.text())?;
     sheet.set_apart(sign);
     let _walk = print_part(node, 0, walk, depth, sheet)?;
@@ -139,7 +170,9 @@ fn print_framed<'t, 's>(
     walk: Walk<'t, 's>,
     depth: usize,
     sheet: &mut Sheet,
-) -> Result<(), AllocError> {
+) -> Result<(), AllocError>
+    ensures { OnOk result ((W : ℕ → Bool) → (r : ℕ) → Reads W r sheet.old.wraps.now → parts_fit W (parts_of (node_tree node.entry)) (remaining walk.entry.positions) r ≡ true → Written W sheet.old sheet.new (shape_marks (text_of (node_tree node.entry)) (shape_of frame) (parts_of (node_tree node.entry))) (parts_of (node_tree node.entry)) (remaining walk.entry.positions) walk.entry.alone depth r) }
+{
     let text = node.text();
     let walk = print_front(node, frame.front, walk, depth, sheet)?;
     sheet.push_all(frame.opener, text, depth, walk.alone)?;
@@ -156,7 +189,9 @@ fn print_front<'t, 's>(
     walk: Walk<'t, 's>,
     depth: usize,
     sheet: &mut Sheet,
-) -> Result<Walk<'t, 's>, AllocError> {
+) -> Result<Walk<'t, 's>, AllocError>
+    ensures { IfOk result (λ v. (W : ℕ → Bool) → (ms : List Mark) → (r : ℕ) → Reads W r sheet.old.wraps.now → parts_fit W (parts_of (node_tree node.entry)) (remaining walk.entry.positions) r ≡ true → Passed W sheet.old sheet.new (front_marks (text_of (node_tree node.entry)) (map (λ p. bits_of p.now) front.now) ms) ms (parts_of (node_tree node.entry)) (parts_behind (length front.now) (parts_of (node_tree node.entry))) (remaining walk.entry.positions) (remaining v.positions) walk.entry.alone v.alone depth r) }
+{
     let mut rest = walk;
     for index in 0..front.len() {
         sheet.push_all(front[index], node.text(), depth, rest.alone)?;
@@ -174,7 +209,9 @@ fn print_list<'t, 's>(
     walk: Walk<'t, 's>,
     depth: usize,
     sheet: &mut Sheet,
-) -> Result<Walk<'t, 's>, AllocError> {
+) -> Result<Walk<'t, 's>, AllocError>
+    ensures { IfOk result (λ v. (W : ℕ → Bool) → (ms : List Mark) → (r : ℕ) → Reads W r sheet.old.wraps.now → parts_fit W (parts_behind from (parts_of (node_tree node.entry))) (remaining walk.entry.positions) r ≡ true → Passed W sheet.old sheet.new (chain_marks (text_of (node_tree node.entry)) (chain_of series) (parts_behind from (parts_of (node_tree node.entry))) ++ ms) ms (parts_behind from (parts_of (node_tree node.entry))) none (remaining walk.entry.positions) (remaining v.positions) walk.entry.alone v.alone depth r) }
+{
     let mut rest = walk;
     let count = node.part_count();
     for index in from..count {
@@ -194,6 +231,7 @@ fn print_item<'t, 's>(
     sheet: &mut Sheet,
 ) -> Result<Walk<'t, 's>, AllocError>
     requires { index < part_count (parts_of (node_tree node)) }
+    ensures { IfOk result (λ v. (W : ℕ → Bool) → (ms : List Mark) → (r : ℕ) → Reads W r sheet.old.wraps.now → parts_fit W (parts_behind index (parts_of (node_tree node.entry))) (remaining walk.entry.positions) r ≡ true → Passed W sheet.old sheet.new (chain_marks (text_of (node_tree node.entry)) (chain_of series) (parts_behind index (parts_of (node_tree node.entry))) ++ ms) (chain_marks (text_of (node_tree node.entry)) (chain_of series) (parts_behind (suc index) (parts_of (node_tree node.entry))) ++ ms) (parts_behind index (parts_of (node_tree node.entry))) (parts_behind (suc index) (parts_of (node_tree node.entry))) (remaining walk.entry.positions) (remaining v.positions) walk.entry.alone v.alone depth r) }
 {
     let text = node.text();
     let behind = node.part_count() - index - 1;
@@ -226,7 +264,9 @@ fn print_part<'t, 's>(
     walk: Walk<'t, 's>,
     depth: usize,
     sheet: &mut Sheet,
-) -> Result<Walk<'t, 's>, AllocError> {
+) -> Result<Walk<'t, 's>, AllocError>
+    ensures { IfOk result (λ v. (W : ℕ → Bool) → (ms : List Mark) → (r : ℕ) → Reads W r sheet.old.wraps.now → parts_fit W (parts_behind index (parts_of (node_tree node.entry))) (remaining walk.entry.positions) r ≡ true → Passed W sheet.old sheet.new (here ∷ ms) ms (parts_behind index (parts_of (node_tree node.entry))) (parts_behind (suc index) (parts_of (node_tree node.entry))) (remaining walk.entry.positions) (remaining v.positions) walk.entry.alone v.alone depth r) }
+{
     let Some(part) = node.part(index) else {
         return Ok(Walk {
             alone: false,

@@ -41,7 +41,8 @@ impl<'w> Sheet<'w> {
 
     /// Writes some characters.
     pub fn push(&mut self, text: &str) -> Result<(), AllocError>
-        ensures { OnOk result (Writes self.old self.new text.now) }
+        ensures written { OnOk result (Writes self.old self.new text.now) }
+        ensures parted { OnOk result (¬ (text.now ≡ []) → self.new.apart ≡ None) }
     {
         if let Some(sign) = self.apart {
             let Some(first) = text.as_bytes().first() else {

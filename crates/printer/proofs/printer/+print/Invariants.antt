@@ -1,7 +1,26 @@
-use Rattle.std.proofs.Common.{◌+◌, ◌*◌}
-use Rattle.tree.specs.Tree.{node_total}
+use Rattle.std.proofs.Common.{true, ◌≡◌, ℕ, ◌+◌, ◌*◌, ◌++◌, Bool, List, drop, map}
+use Rattle.tree.specs.Tree.{parts_of, text_of, node_total}
 use Rattle.tree.specs.Node.{node_tree}
+use Rattle.positions.specs.Outlines.{parts_behind}
+use Rattle.positions.specs.Remaining.{remaining}
+use Rattle.printer.specs.Bits.{Mark, bits_of, chain_of}
+use Rattle.printer.specs.Fits.{parts_fit}
+use Rattle.printer.specs.Printed.{Reads, Passed, front_marks, chain_marks}
 use Rattle.printer.proofs.printer.+print.Given as goal
+
+-- what was passed of the first parts, and what is left of them
+abbrev pub invariant-print_front-loop-index : goal.invariant-print_front-loop-index
+invariant-print_front-loop-index l =
+    (W : ℕ → Bool) → (ms : List Mark) → (r : ℕ) → Reads W r l.fn.sheet.wraps.now → parts_fit W (parts_of (node_tree l.fn.node)) (remaining l.fn.walk.positions) r ≡ true →
+    Passed W l.fn.sheet l.sheet (front_marks (text_of (node_tree l.fn.node)) (map (λ p. bits_of p.now) l.fn.front) ms) (front_marks (text_of (node_tree l.fn.node)) (map (λ p. bits_of p.now) (drop l.index l.fn.front)) ms)
+    (parts_of (node_tree l.fn.node)) (parts_behind l.index (parts_of (node_tree l.fn.node))) (remaining l.fn.walk.positions) (remaining l.rest.positions) l.fn.walk.alone l.rest.alone l.fn.depth r
+
+-- the same of the others
+abbrev pub invariant-print_list-loop-index : goal.invariant-print_list-loop-index
+invariant-print_list-loop-index l =
+    (W : ℕ → Bool) → (ms : List Mark) → (r : ℕ) → Reads W r l.fn.sheet.wraps.now → parts_fit W (parts_behind l.fn.from (parts_of (node_tree l.fn.node))) (remaining l.fn.walk.positions) r ≡ true →
+    Passed W l.fn.sheet l.sheet (chain_marks (text_of (node_tree l.fn.node)) (chain_of l.fn.series) (parts_behind l.fn.from (parts_of (node_tree l.fn.node))) ++ ms) (chain_marks (text_of (node_tree l.fn.node)) (chain_of l.fn.series) (parts_behind l.index (parts_of (node_tree l.fn.node))) ++ ms)
+    (parts_behind l.fn.from (parts_of (node_tree l.fn.node))) (parts_behind l.index (parts_of (node_tree l.fn.node))) (remaining l.fn.walk.positions) (remaining l.rest.positions) l.fn.walk.alone l.rest.alone l.fn.depth r
 
 abbrev pub decreases-print_part : goal.decreases-print_part
 decreases-print_part l = 8 * node_total (node_tree l.node)
@@ -25,4 +44,7 @@ abbrev pub decreases-print_direct : goal.decreases-print_direct
 decreases-print_direct l = 8 * node_total (node_tree l.node) + 4
 
 abbrev pub decreases-print_node : goal.decreases-print_node
-decreases-print_node l = 8 * node_total (node_tree l.node) + 5
+decreases-print_node l = 8 * node_total (node_tree l.node) + 6
+
+abbrev pub decreases-print_row : goal.decreases-print_row
+decreases-print_row l = 8 * node_total (node_tree l.node) + 5

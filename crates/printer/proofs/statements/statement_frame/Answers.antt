@@ -1,6 +1,6 @@
 use Rattle.std.proofs.Common.{◌∙◌, sym}
 use Rattle.tree.specs.Node.{node_tree}
-use Rattle.tree.specs.Tree.{kind_of, text_of, flags_of, parts_of}
+use Rattle.tree.specs.Tree.{kind_of, parts_of}
 use Rattle.printer.proofs.Defaults.{statement_default}
 use Rattle.printer.proofs.statements.statement_frame.Goals as goal
 

@@ -1,4 +1,4 @@
-use Rattle.std.proofs.Common.{◌≡◌, ◌∷◌}
+use Rattle.std.proofs.Common.{◌∷◌}
 use Rattle.printer.specs.Sheets.{Writes}
 use Rattle.language.specs.Layout.{indent}
 use Rattle.printer.proofs.sheet.Sheet.push_line.Given as goal

@@ -1,0 +1,173 @@
+-- A node with its parentheses, a sign with its operand, and the whole text.
+use Rattle.std.proofs.Common.{◌≡◌, ℕ, suc, ◌+◌, Bool, true, false, nat_eq, cond, List, [], ◌∷◌, ◌++◌, refl, sym, ap, ap₂, ◌∙◌, subst, append_assoc, append-nil, arith, add-zero}
+use Rattle.std.specs.Prelude.{◌&&◌, codes, Option, Some, None, slice_index_or}
+use Rattle.std.specs.String.{string_bytes}
+use Rattle.tree.specs.Tree.{Tree, node, Parts, none, part, gap, parts_of}
+use Rattle.language.specs.declared.Rank.TheVariants.{Expression}
+use Rattle.language.specs.declared.Start.TheVariants.{Any}
+use Rattle.language.specs.Pieces.{Role, expr, script, is_none}
+use Rattle.language.specs.Grammar.{ways}
+use Rattle.language.specs.Positions.{has_row, rows, parts_rows}
+use Rattle.language.specs.Layout.{inside, layout}
+use Rattle.positions.specs.declared.position.Position.{Position}
+use Rattle.positions.specs.declared.position.Position.TheVariants as at
+use Rattle.positions.specs.Outlines.{role_of, parts_behind}
+use Rattle.printer.specs.declared.sheet.Sheet.{Sheet}
+use Rattle.printer.specs.declared.pieces.Sign.{Sign}
+use Rattle.printer.specs.declared.pieces.Sign.TheVariants.{Plus, Minus}
+use Rattle.printer.specs.Bits.{here}
+use Rattle.printer.specs.Shapes.{sign_of_text}
+use Rattle.printer.specs.Sheets.{Writes, shown, held, sign_code, flag_at, other_flags}
+use Rattle.printer.specs.Fits.{fits, parts_fit, wrapped_by}
+use Rattle.printer.specs.Printed.{spelled_so, marks_text, signed_marks, Reads, Printed, Direct, Passed, Written}
+use Rattle.printer.proofs.Whole.{spelled_parts, printed_direct, printed_wrapped}
+
+-- what goes on to the next row
+pub record NextRow (a b : Sheet) (v : Bool) : Type 0 where
+  pub flag : v ≡ flag_at a.wraps.now 0
+  pub others : b.wraps.now ≡ other_flags a.wraps.now
+  pub out : string_bytes b.out ≡ string_bytes a.out
+  pub apart : b.apart ≡ a.apart
+
+module _ (W : ℕ → Bool) where
+  fits_spelled : (n : Tree) (a : Role) (r : ℕ) → fits W n a r ≡ spelled_so W (parts_of n) (ways (inside (nat_eq (has_row a) 1 && W r) a) n) (has_row a + r)
+  unfolding fits parts_fit
+  fits_spelled (node k w g s e ps) a r = refl
+
+  spelled_at : (n : Tree) (a : Role) (r : ℕ) (v : Bool) → (nat_eq (has_row a) 1 && W r) ≡ v → fits W n a r ≡ true → spelled_so W (parts_of n) (ways (inside v a) n) (has_row a + r) ≡ true
+  spelled_at n a r v e h = subst (λ u. spelled_so W (parts_of n) (ways (inside u a) n) (has_row a + r) ≡ true) e (sym (fits_spelled n a r) ∙ h)
+
+  -- what a call without parentheses promises
+  abbrev Directly : Sheet → Sheet → Tree → Role → ℕ → Type 0
+  Directly a b n y d = (r : ℕ) → Reads W r a.wraps.now → spelled_so W (parts_of n) (ways y n) r ≡ true → Direct W a b (parts_of n) (ways y n) r d
+
+  -- a node that isn't wrapped
+  alone : {a b : Sheet} (p : Position) (n : Tree) (r d : ℕ) → (nat_eq (has_row (role_of p)) 1 && W r) ≡ false → Reads W (has_row (role_of p) + r) a.wraps.now → fits W n (role_of p) r ≡ true →
+      Directly a b n (role_of p) d → Printed W a b n (role_of p) r d
+  alone p n r d e h k f =
+      let s = spelled_at n (role_of p) r false e k in
+      printed_direct W p n r d e (spelled_parts W (parts_of n) (ways (role_of p) n) (has_row (role_of p) + r) s).0 (f (has_row (role_of p) + r) h s)
+
+  rowless : (a : Role) → nat_eq (has_row a) 1 ≡ false → has_row a ≡ 0
+  rowless (expr y i f) h = absurd (cc)
+  rowless _ h = refl
+
+  with_row : (a : Role) → nat_eq (has_row a) 1 ≡ true → has_row a ≡ 1
+  with_row (expr y i f) h = refl
+  with_row _ h = absurd (cc)
+
+  -- a node without a row
+  pub printed_rowless : {a b : Sheet} (p : Position) (n : Tree) (r d : ℕ) → nat_eq (has_row (role_of p)) 1 ≡ false → Reads W r a.wraps.now → fits W n (role_of p) r ≡ true →
+      Directly a b n (role_of p) d → Printed W a b n (role_of p) r d
+  printed_rowless {a} {b} p n r d e h k f =
+      let z = rowless (role_of p) e in
+      let m : r ≡ has_row (role_of p) + r = omega (arith, z) in
+      alone p n r d (ap (λ u. u && W r) e) (subst (λ i. Reads W i a.wraps.now) m h) k f
+
+  -- Rows
+
+  first_flag : (r : ℕ) (bs : List Bool) → Reads W r bs → flag_at bs 0 ≡ W r
+  first_flag r bs h = sym (h 0) ∙ ap W (add-zero r)
+
+  later : (bs : List Bool) (i : ℕ) → flag_at bs (suc i) ≡ flag_at (other_flags bs) i
+  later [] i = refl
+  later (b ∷ bs) i = refl
+
+  next_reads : (r : ℕ) (bs : List Bool) → Reads W r bs → Reads W (suc r) (other_flags bs)
+  next_reads r bs h i = let e : suc r + i ≡ r + suc i = omega arith in ap W e ∙ h (suc i) ∙ later bs i
+
+  -- the sheet behind the next row shows the same
+  same_shown : (a b : Sheet) → string_bytes b.out ≡ string_bytes a.out → b.apart ≡ a.apart → (next : List ℕ) → shown b next ≡ shown a next
+  same_shown a b e f next = ap₂ (λ x y. x ++ held y next) e f
+
+  printed_from : {a b c : Sheet} (n : Tree) (y : Role) (r d : ℕ) → string_bytes b.out ≡ string_bytes a.out → b.apart ≡ a.apart → Printed W b c n y r d → Printed W a c n y r d
+  printed_from {a} {b} {c} n y r d e f p = record { reads = p.reads; shows = λ next. p.shows next ∙ same_shown a b e f _ }
+
+  reads_on : {a b : Sheet} {v : Bool} (r : ℕ) → NextRow a b v → Reads W r a.wraps.now → Reads W (1 + r) b.wraps.now
+  reads_on {a} {b} r x h = let e : suc r ≡ 1 + r = omega arith in subst (λ m. Reads W m b.wraps.now) e (subst (Reads W (suc r)) (sym x.others) (next_reads r a.wraps.now h))
+
+  -- a node with a row that isn't wrapped
+  pub printed_row : {a b c : Sheet} (p : Position) (n : Tree) (r d : ℕ) → NextRow a b false → Reads W r a.wraps.now → nat_eq (has_row (role_of p)) 1 ≡ true → fits W n (role_of p) r ≡ true →
+      Directly b c n (role_of p) d → Printed W a c n (role_of p) r d
+  printed_row {a} {b} {c} p n r d x h e k f =
+      let w : W r ≡ false = sym (first_flag r a.wraps.now h) ∙ sym x.flag in
+      printed_from n (role_of p) r d x.out x.apart
+      (alone p n r d (ap₂ (λ u v. u && v) e w) (subst (λ m. Reads W (m + r) b.wraps.now) (sym (with_row (role_of p) e)) (reads_on r x h)) k f)
+
+  wrapped_at : {a s t b : Sheet} (p : Position) (n : Tree) (r d : ℕ) → nat_eq (has_row (role_of p)) 1 ≡ true → W r ≡ true → Reads W (1 + r) a.wraps.now → fits W n (role_of p) r ≡ true →
+      Writes a s (codes "(") → Directly s t n (expr Expression true Any) d → Writes t b (codes ")") → Printed W a b n (role_of p) r d
+  wrapped_at {a} {s} {t} {b} (at.Expression y i f) n r d e w h k u v x =
+      let z = spelled_at n (expr y i f) r true w k in
+      let o : 1 + r ≡ suc r = omega arith in
+      printed_wrapped W y i f n r d w (spelled_parts W (parts_of n) (ways (expr Expression true Any) n) (1 + r) z).0 u
+      (subst (λ m. Direct W s t (parts_of n) (ways (expr Expression true Any) n) m d) o (v (1 + r) (subst (Reads W (1 + r)) (sym u.flags) h) z)) x
+  wrapped_at _ n r d e w h k u v x = absurd (cc)
+
+  -- a wrapped node
+  pub printed_inside : {a b s t c : Sheet} (p : Position) (n : Tree) (r d : ℕ) → NextRow a b true → Reads W r a.wraps.now → nat_eq (has_row (role_of p)) 1 ≡ true → fits W n (role_of p) r ≡ true →
+      Writes b s (codes "(") → Directly s t n (expr Expression true Any) d → Writes t c (codes ")") → Printed W a c n (role_of p) r d
+  printed_inside {a} {b} p n r d x h e k u v y =
+      let w : W r ≡ true = sym (first_flag r a.wraps.now h) ∙ sym x.flag in
+      printed_from n (role_of p) r d x.out x.apart (wrapped_at p n r d e w (reads_on r x h) k u v y)
+
+  -- Signs
+
+  abbrev apart_text : Sign → List ℕ → List ℕ
+  apart_text s t = cond (nat_eq (slice_index_or t 0 0) (sign_code s)) (32 ∷ t) t
+
+  nothing_held : (o : Option Sign) → held o [] ≡ []
+  nothing_held None = refl
+  nothing_held (Some Plus) = refl
+  nothing_held (Some Minus) = refl
+
+  -- behind the last part nothing has a row
+  last_rows : (ps : Parts) (xs : List Role) → is_none ps ≡ true → parts_rows ps xs ≡ 0
+  unfolding rows parts_rows
+  last_rows none xs h = refl
+  last_rows (part n ps) xs h = absurd (cc)
+  last_rows (gap ps) xs h = absurd (cc)
+
+  sign_has_text : (w : List ℕ) (s : Sign) → sign_of_text w ≡ Some s → ¬ (w ≡ [])
+  sign_has_text w s h e = let k : sign_of_text [] ≡ Some s = ap sign_of_text (sym e) ∙ h in cc
+
+  -- the sign's text, the sign that is pending, the operand, and nothing pending
+  pub printed_signed : {a b c e g : Sheet} (w : List ℕ) (s : Sign) (P : Parts) {xs ys : List Role} {x y : Bool} {d : ℕ} (r : ℕ) → sign_of_text w ≡ Some s → is_none (parts_behind 1 P) ≡ true →
+      Writes a b w → (¬ (w ≡ []) → b.apart ≡ None) →
+      string_bytes c.out ≡ string_bytes b.out → c.apart ≡ Some s → c.wraps.now ≡ b.wraps.now →
+      Reads W r a.wraps.now → (Reads W r c.wraps.now → Passed W c e (here ∷ []) [] P (parts_behind 1 P) xs ys x y d r) →
+      string_bytes g.out ≡ string_bytes e.out → g.apart ≡ None → g.wraps.now ≡ e.wraps.now →
+      Written W a g (signed_marks w s) P xs x d r
+  printed_signed {a} {b} {c} {e} {g} w s P {xs} {ys} {x} {y} {d} r t one p q co ca cw h f go ga gw =
+      let z = f (subst (Reads W r) (sym (cw ∙ p.flags)) h) in
+      let counted : z.row ≡ r + parts_rows P xs = let n = last_rows (parts_behind 1 P) ys one in let m = z.counts in omega (arith, n, m) in
+      record {
+        reads = subst (λ m. Reads W m g.wraps.now) counted (subst (Reads W z.row) (sym gw) z.reads);
+        shows = λ next. shown_then z next;
+      }
+    where
+      T : List ℕ
+      T = marks_text W (here ∷ []) P xs r d x
+
+      before : (next : List ℕ) → string_bytes b.out ++ next ≡ shown a (w ++ next)
+      before next = ap (λ o. string_bytes b.out ++ held o next) (sym (q (sign_has_text w s t))) ∙ p.follows next
+
+      whole : (z : Passed W c e (here ∷ []) [] P (parts_behind 1 P) xs ys x y d r) → string_bytes e.out ≡ string_bytes b.out ++ apart_text s T
+      whole z =
+          sym (append-nil (string_bytes e.out)) ∙ ap (λ u. string_bytes e.out ++ u) (sym (nothing_held e.apart)) ∙ z.shows []
+          ∙ ap₂ (λ u o. u ++ held o (T ++ [])) co ca ∙ ap (λ u. string_bytes b.out ++ apart_text s u) (append-nil T)
+
+      shown_then : (z : Passed W c e (here ∷ []) [] P (parts_behind 1 P) xs ys x y d r) (next : List ℕ) → shown g next ≡ shown a ((w ++ apart_text s T) ++ next)
+      shown_then z next =
+          ap₂ (λ u o. u ++ held o next) (go ∙ whole z) ga ∙ append_assoc (string_bytes b.out) (apart_text s T) next ∙ before (apart_text s T ++ next)
+          ∙ ap (shown a) (sym (append_assoc w (apart_text s T) next))
+
+-- The whole text
+
+flags_read : (bs : List Bool) → Reads (wrapped_by bs) 1 bs
+flags_read bs i = let e : 1 + i ≡ suc i = omega arith in ap (wrapped_by bs) e
+
+pub whole_text : {a b : Sheet} (bs : List Bool) (n : Tree) → string_bytes a.out ≡ [] → a.apart ≡ None → a.wraps.now ≡ bs →
+    ((W : ℕ → Bool) (r : ℕ) → Reads W r a.wraps.now → fits W n script r ≡ true → Printed W a b n script r 0) → fits (wrapped_by bs) n script 1 ≡ true → string_bytes b.out ≡ layout (wrapped_by bs) n script 1 0
+whole_text {a} {b} bs n e f h p k =
+    let z = p (wrapped_by bs) 1 (subst (Reads (wrapped_by bs) 1) (sym h) (flags_read bs)) k in
+    sym (append-nil (string_bytes b.out)) ∙ ap (λ u. string_bytes b.out ++ u) (sym (nothing_held (λ r. false) b.apart)) ∙ z.shows [] ∙ ap₂ (λ u o. u ++ held o (layout (wrapped_by bs) n script 1 0 ++ [])) e f ∙ append-nil (layout (wrapped_by bs) n script 1 0)

@@ -1,0 +1,347 @@
+-- The shapes of expressions are those of the table.
+use Rattle.std.proofs.Common.{◌≡◌, ℕ, Bool, true, false, not, cond, List, [], ◌∷◌, ◌++◌, refl, sym, ap, ap₂, ◌∙◌, append-nil}
+use Rattle.std.specs.Prelude.{Some, None, ◌&&◌, ◌||◌, codes, length}
+use Rattle.tree.specs.declared.kind.Kind.{Kind}
+use Rattle.tree.specs.declared.kind.Kind.TheVariants as kind
+use Rattle.tree.specs.declared.kind.Flags.{Flags}
+use Rattle.tree.specs.Tree.{Tree, node, Parts, none, part, gap}
+use Rattle.tokens.specs.declared.token.Class.TheVariants as class
+use Rattle.language.specs.declared.Rank.{Rank}
+use Rattle.language.specs.declared.Start.TheVariants.{Any, NoBrace}
+use Rattle.language.specs.declared.Rank.TheVariants.{Assignment, Conditional, Coalesce, LogicalOr, LogicalAnd, BitwiseOr, BitwiseXor, BitwiseAnd, Equality, Relational, Shift, Additive, Multiplicative, Exponentiation, Unary, Update, LeftHandSide, Call, Member, Primary}
+use Rattle.language.specs.FirstPart.{lead, others}
+use Rattle.language.specs.Words.{is, among, Operator, binds, powers, steps, assigns, sequences as makes_sequence, asks, selects, calls as calls_on, indexes, chains, arrows as makes_arrow, does_step, operator_among, operator_of, is_assignment, is_step, is_prefix, is_reserved, literal_class, is_name, is_target, is_pattern, is_super, is_word_operator, is_open_number}
+use Rattle.language.specs.Pieces as piece
+use Rattle.language.specs.Pieces.{Piece, Slot, Spelling, at, only, put, sub, tok, lay, sign, term, sp, is_none, listed, elements, argument, parameters, unbroken, open_parameters, close_parameters}
+use Rattle.language.specs.Expressions.{expressions, arguments, selector, after_number, in_brackets, chunks, object_part, function_pieces, class_pieces, arrow_end, arrows, joined as joined_spelling, sequence, first_chained, binary_ways, logical_ways, infix_pieces}
+use Rattle.language.specs.Grammar.{can_run}
+use Rattle.language.proofs.Looser.{same}
+use Rattle.language.proofs.TidyTable.{new-fits, arrow-fits}
+use Rattle.positions.specs.Outlines.{parts_behind}
+use Rattle.printer.specs.Bits.{Mark, text, here, loose, apart, marks_of, Bit, own_text, Chain, nothing, commas, joined, Shape, fronted}
+use Rattle.printer.specs.Shapes.{expression_shape, sign_of_text, sign_at, spelled, gapped, close_space, between, infix_bits, is_single, after_open_number}
+use Rattle.printer.specs.declared.pieces.Sign.TheVariants.{Plus, Minus}
+use Rattle.printer.specs.Printed.{marks_in, front_marks, chain_marks, deep, shape_marks}
+use Rattle.printer.proofs.ListMarks.{listed-marks, elements-marks, parameters-marks, sequence-marks, chunks-marks, argument_standing, object_standing}
+use Rattle.printer.proofs.Shaped.{Means, counts_up, Shaped, nowhere, one, two, shaped_if}
+
+-- behind a list nothing is left
+pub closed : (ms ns : List Mark) → ms ≡ ns → ms ≡ ns ++ []
+closed ms ns e = e ∙ sym (append-nil ns)
+
+module _ (w : List ℕ) where
+  pub arguments-marks : (ps : Parts) → can_run (arguments ps) ≡ true → marks_of (arguments ps) ≡ text (codes "(") ∷ (chain_marks w commas ps ++ text (codes ")") ∷ [])
+  arguments-marks ps r = ap (λ t. text (codes "(") ∷ t) (listed-marks w argument argument_standing ps (sign ")" ∷ []) r)
+
+  pub parameters_of : (ps : Parts) → can_run (parameters (sign ")" ∷ sp ∷ put piece.body ∷ []) ps) ≡ true → marks_of (parameters (sign ")" ∷ sp ∷ put piece.body ∷ []) ps) ≡ chain_marks w (Rattle.printer.specs.Bits.parameters close_space) ps ++ []
+  parameters_of ps r = closed _ _ (parameters-marks w close_space (sign ")" ∷ sp ∷ put piece.body ∷ []) refl ps r)
+
+  ended : (ps : Parts) → is_none ps ≡ true → chain_marks w nothing ps ≡ []
+  ended none h = refl
+  ended (part n ps) h = absurd (cc)
+  ended (gap ps) h = absurd (cc)
+
+  -- a node with no parts but its first ones
+  pub fixed_shape : (s : Shape) (ps : Parts) (qs : List Piece) → s.chain ≡ nothing → s.opener ≡ [] → marks_of qs ≡ front_marks w s.front (marks_in w s.closer) → is_none (parts_behind (length s.front) ps) ≡ true →
+      marks_of qs ≡ shape_marks w s ps
+  fixed_shape s ps qs e f h c =
+      h ∙ ap (λ t. front_marks w s.front (t ++ marks_in w s.closer)) (sym (ended (parts_behind (length s.front) ps) c))
+      ∙ sym (ap₂ (λ o t. front_marks w s.front (marks_in w o ++ deep t (chain_marks w t (parts_behind (length s.front) ps)) (marks_in w s.closer))) f e)
+
+  abbrev pub Of : Kind → Flags → Parts → List Mark
+  Of k g ps = shape_marks w (expression_shape k w g ps) ps
+
+  -- such a node, spelled so
+  pub fixed_means : (k : Kind) (g : Flags) (ps : Parts) (z : Rank) (qs : List Piece) → (expression_shape k w g ps).chain ≡ nothing → (expression_shape k w g ps).opener ≡ [] →
+      marks_of qs ≡ front_marks w (expression_shape k w g ps).front (marks_in w (expression_shape k w g ps).closer) →
+      (counts_up (marks_of qs) ps ≡ true → is_none (parts_behind (length (expression_shape k w g ps).front) ps) ≡ true) → Means ps (Of k g ps) (at z qs)
+  fixed_means k g ps z qs e f h c r u = fixed_shape (expression_shape k w g ps) ps qs e f h (c u)
+
+  abbrev pub same_count : {b : Bool} → b ≡ true → b ≡ true
+  same_count h = h
+
+  fixed_one : (k : Kind) (g : Flags) (ps : Parts) (z : Rank) (qs : List Piece) → (expression_shape k w g ps).chain ≡ nothing → (expression_shape k w g ps).opener ≡ [] →
+      marks_of qs ≡ front_marks w (expression_shape k w g ps).front (marks_in w (expression_shape k w g ps).closer) →
+      (counts_up (marks_of qs) ps ≡ true → is_none (parts_behind (length (expression_shape k w g ps).front) ps) ≡ true) → Shaped ps (Of k g ps) (at z qs ∷ [])
+  fixed_one k g ps z qs e f h c = one (fixed_means k g ps z qs e f h c)
+
+  -- functions and classes, as expressions and as declarations
+  pub function_means : (g : Flags) (ps : Parts) → Means ps (Of kind.FunctionExpression g ps) (at Primary (function_pieces ps))
+  function_means g none r c = absurd (cc)
+  function_means g (gap ps) r c = ap (λ t. text (codes "function") ∷ text (codes " ") ∷ here ∷ text (codes "(") ∷ t) (parameters_of ps r)
+  function_means g (part n ps) r c = ap (λ t. text (codes "function") ∷ text (codes " ") ∷ here ∷ text (codes "(") ∷ t) (parameters_of ps r)
+
+  pub class_means : (g : Flags) (ps : Parts) → Means ps (Of kind.ClassExpression g ps) (at Primary (class_pieces ps))
+  class_means g none r c = absurd (cc)
+  class_means g (gap none) r c = absurd (cc)
+  class_means g (part n none) r c = absurd (cc)
+  class_means g (gap (gap ps)) r c = fixed_means kind.ClassExpression g (gap (gap ps)) Primary (class_pieces (gap (gap ps))) refl refl refl same_count r c
+  class_means g (gap (part m ps)) r c = fixed_means kind.ClassExpression g (gap (part m ps)) Primary (class_pieces (gap (part m ps))) refl refl refl same_count r c
+  class_means g (part n (gap ps)) r c = fixed_means kind.ClassExpression g (part n (gap ps)) Primary (class_pieces (part n (gap ps))) refl refl refl same_count r c
+  class_means g (part n (part m ps)) r c = fixed_means kind.ClassExpression g (part n (part m ps)) Primary (class_pieces (part n (part m ps))) refl refl refl same_count r c
+
+  -- Words, lists and templates
+
+  named_space : (b : Bool) (qs : List Piece) → marks_of (cond b (lay piece.loose ∷ []) [] ++ qs) ≡ cond b (loose ∷ []) [] ++ marks_of qs
+  named_space true qs = refl
+  named_space false qs = refl
+
+  pub array_means : (g : Flags) (ps : Parts) → Means ps (Of kind.ArrayExpression g ps) (at Primary ((sign "[" ∷ elements argument ps) ++ sign "]" ∷ []))
+  array_means g ps r c = ap (λ t. text (codes "[") ∷ t) (elements-marks w argument argument_standing ps (sign "]" ∷ []) r)
+
+  pub object_means : (g : Flags) (ps : Parts) → Means ps (Of kind.ObjectExpression g ps) (at Primary ((sign "{" ∷ listed object_part ps) ++ sign "}" ∷ []))
+  object_means g ps r c = ap (λ t. text (codes "{") ∷ t) (listed-marks w object_part object_standing ps (sign "}" ∷ []) r)
+
+  pub template_means : (g : Flags) (ps : Parts) → Means ps (Of kind.TemplateLiteral g ps) (at Primary (chunks true ps))
+  template_means g ps r c = closed _ _ (chunks-marks w true ps r)
+
+  -- Members and calls
+
+  call_means : (z : Rank) (s : Slot) (g : Flags) (ps : Parts) → g.optional ≡ false → Means ps (Of kind.CallExpression g ps) (at z (sub s ∷ arguments (others ps)))
+  call_means z s g ps o r c = ap (λ t. here ∷ t) (arguments-marks (others ps) r) ∙ ap (λ b. shape_marks w (Rattle.printer.specs.Shapes.call_shape b) ps) (sym o)
+
+  calls : (g : Flags) (ps : Parts) → Shaped ps (Of kind.CallExpression g ps) (expressions kind.CallExpression w g ps)
+  unfolding expressions
+  calls g ps = shaped_if g.optional (λ e. nowhere) (λ e. shaped_if (is_super (lead ps)) (λ u. one (call_means Call (piece.fixed piece.base) g ps e)) (λ u. one (call_means Call (piece.lead Call) g ps e)))
+
+  new_means : (g : Flags) (ps : Parts) → Means ps (Of kind.NewExpression g ps) (at Member (term "new" ∷ sp ∷ put (piece.expr Member true Any) ∷ arguments (others ps)))
+  new_means g ps r c = ap (λ t. text (codes "new") ∷ text (codes " ") ∷ here ∷ t) (arguments-marks (others ps) r)
+
+  news : (g : Flags) (ps : Parts) → Shaped ps (Of kind.NewExpression g ps) (expressions kind.NewExpression w g ps)
+  unfolding expressions
+  news g none = two (new_means g none) (λ a h. new-fits {a = a} {c = a} same h)
+  news g (gap none) = two (new_means g (gap none)) (λ a h. new-fits {a = a} {c = a} same h)
+  news g (part n none) = two (new_means g (part n none)) (λ a h. new-fits {a = a} {c = a} same h)
+  news g (gap (gap ps)) = one (new_means g (gap (gap ps)))
+  news g (gap (part m ps)) = one (new_means g (gap (part m ps)))
+  news g (part n (gap ps)) = one (new_means g (part n (gap ps)))
+  news g (part n (part m ps)) = one (new_means g (part n (part m ps)))
+
+  -- Arrows
+
+  arrow_after : (g : Flags) → marks_of (close_parameters ∷ arrow_end g) ≡ marks_in w (spelled ")" ∷ between "=>") ++ here ∷ []
+  arrow_after g = of g.expression
+    where
+      of : (b : Bool) → marks_of (close_parameters ∷ unbroken ∷ sp ∷ sign "=>" ∷ sp ∷ cond b (sub (piece.tail Assignment NoBrace)) (put piece.body) ∷ []) ≡ marks_in w (spelled ")" ∷ between "=>") ++ here ∷ []
+      of true = refl
+      of false = refl
+
+  parenthesised : (g : Flags) (ps : Parts) → is_single ps ≡ false → Means ps (Of kind.ArrowFunctionExpression g ps) (at Assignment (open_parameters ∷ parameters (close_parameters ∷ arrow_end g) ps))
+  parenthesised g ps e r c =
+      ap (λ t. text (codes "(") ∷ t) (closed _ _ (parameters-marks w (spelled ")" ∷ between "=>") (close_parameters ∷ arrow_end g) (arrow_after g) ps r))
+      ∙ ap (λ b. shape_marks w (Rattle.printer.specs.Shapes.arrow_shape b) ps) (sym e)
+
+  single_means : (g : Flags) (ps : Parts) → is_single ps ≡ true → (counts_up (marks_of (put piece.name ∷ arrow_end g)) ps ≡ true → is_none (parts_behind 2 ps) ≡ true) → Means ps (Of kind.ArrowFunctionExpression g ps) (at Assignment (put piece.name ∷ arrow_end g))
+  single_means g ps e k r c = fixed_shape (Rattle.printer.specs.Shapes.arrow_shape true) ps (put piece.name ∷ arrow_end g) refl refl (of g.expression) (k c) ∙ ap (λ b. shape_marks w (Rattle.printer.specs.Shapes.arrow_shape b) ps) (sym e)
+    where
+      of : (b : Bool) → marks_of (put piece.name ∷ unbroken ∷ sp ∷ sign "=>" ∷ sp ∷ cond b (sub (piece.tail Assignment NoBrace)) (put piece.body) ∷ []) ≡ front_marks w (Rattle.printer.specs.Shapes.arrow_shape true).front []
+      of true = refl
+      of false = refl
+
+  arrow_ways : (g : Flags) (ps : Parts) → Shaped ps (Of kind.ArrowFunctionExpression g ps) (arrows g ps)
+  arrow_ways g none = one (parenthesised g none refl)
+  arrow_ways g (gap ps) = one (parenthesised g (gap ps) refl)
+  arrow_ways g (part n none) = one (parenthesised g (part n none) refl)
+  arrow_ways g (part n (gap ps)) = one (parenthesised g (part n (gap ps)) refl)
+  arrow_ways g (part n (part b (part m ps))) = one (parenthesised g (part n (part b (part m ps))) refl)
+  arrow_ways g (part n (part b (gap ps))) = one (parenthesised g (part n (part b (gap ps))) refl)
+  arrow_ways g (part (node kind.Identifier v h s e qs) (part b none)) = two (single_means g (part (node kind.Identifier v h s e qs) (part b none)) refl (λ c. refl)) (λ a x. arrow-fits a g x)
+  arrow_ways g (part (node k v h s e qs) (part b none)) = one (parenthesised g (part (node k v h s e qs) (part b none)) refl)
+
+  -- Members
+
+  lead_open : (n : Tree) (us : Parts) (g : Flags) (qs : List Piece) → marks_of (after_number (part n us) g ++ qs) ≡ cond (not g.computed && after_open_number (part n us)) (loose ∷ []) [] ++ marks_of qs
+  lead_open (node kind.Literal v h s e ps) us g qs = named_space (not g.computed && is_open_number (literal_class v) v) qs
+  lead_open (node _ v h s e ps) us g qs = named_space (not g.computed && false) qs
+
+  dropped : (b : Bool) (ms : List Mark) → ms ≡ cond (not b && false) (loose ∷ []) [] ++ ms
+  dropped true ms = refl
+  dropped false ms = refl
+
+  after_marks : (ps : Parts) (g : Flags) (qs : List Piece) → marks_of (after_number ps g ++ qs) ≡ cond (not g.computed && after_open_number ps) (loose ∷ []) [] ++ marks_of qs
+  after_marks none g qs = dropped g.computed (marks_of qs)
+  after_marks (gap ps) g qs = dropped g.computed (marks_of qs)
+  after_marks (part n ps) g qs = lead_open n ps g qs
+
+  super_open : (ps : Parts) → is_super (lead ps) ≡ true → after_open_number ps ≡ false
+  super_open none h = refl
+  super_open (gap ps) h = refl
+  super_open (part (node kind.Super v h s e us) ps) x = refl
+  super_open (part (node kind.Literal v h s e us) ps) x = absurd (cc)
+  super_open (part (node _ v h s e us) ps) x = refl
+
+  member_fits : (s : Slot) (g : Flags) (ps : Parts) (z : Rank) (qs : List Piece) → g.optional ≡ false → marks_of qs ≡ cond (not g.computed && after_open_number ps) (loose ∷ []) [] ++ marks_of (selector g) → Means ps (Of kind.MemberExpression g ps) (at z (sub s ∷ qs))
+  member_fits s g ps z qs o h r c =
+      ap (λ t. here ∷ t) h ∙ of g.computed (after_open_number ps) (sym (ap (λ t. counts_up t (others ps)) h) ∙ c)
+      ∙ ap (λ b. shape_marks w (Rattle.printer.specs.Shapes.member_shape b g.computed (after_open_number ps)) ps) (sym o)
+    where
+      of : (u v : Bool) → counts_up (cond (not u && v) (loose ∷ []) [] ++ marks_of (cond u in_brackets (sign "." ∷ put piece.word ∷ []))) (others ps) ≡ true →
+          here ∷ (cond (not u && v) (loose ∷ []) [] ++ marks_of (cond u in_brackets (sign "." ∷ put piece.word ∷ []))) ≡ shape_marks w (Rattle.printer.specs.Shapes.member_shape false u v) ps
+      of true true k = fixed_shape (Rattle.printer.specs.Shapes.member_shape false true true) ps (sub s ∷ in_brackets) refl refl refl k
+      of true false k = fixed_shape (Rattle.printer.specs.Shapes.member_shape false true false) ps (sub s ∷ in_brackets) refl refl refl k
+      of false true k = fixed_shape (Rattle.printer.specs.Shapes.member_shape false false true) ps (sub s ∷ lay piece.loose ∷ sign "." ∷ put piece.word ∷ []) refl refl refl k
+      of false false k = fixed_shape (Rattle.printer.specs.Shapes.member_shape false false false) ps (sub s ∷ sign "." ∷ put piece.word ∷ []) refl refl refl k
+
+  members : (g : Flags) (ps : Parts) → Shaped ps (Of kind.MemberExpression g ps) (expressions kind.MemberExpression w g ps)
+  unfolding expressions
+  members g ps = shaped_if g.optional (λ e. nowhere) (λ e. shaped_if (is_super (lead ps))
+      (λ u. one (member_fits (piece.fixed piece.base) g ps Member (selector g) e (sym (ap (λ b. cond b (loose ∷ []) [] ++ marks_of (selector g)) (none_behind u)))))
+      (λ u. one (member_fits piece.callee g ps Member (after_number ps g ++ selector g) e (after_marks ps g (selector g)))))
+    where
+      never : (b : Bool) → (not b && false) ≡ false
+      never true = refl
+      never false = refl
+
+      none_behind : is_super (lead ps) ≡ true → (not g.computed && after_open_number ps) ≡ false
+      none_behind u = ap (λ b. not g.computed && b) (super_open ps u) ∙ never g.computed
+
+  -- Operations
+
+  no_signs : sign_of_text w ≡ None → (is w "+" ≡ false) × (is w "++" ≡ false) × (is w "-" ≡ false) × (is w "--" ≡ false)
+  no_signs h = of (is w "+") (is w "++") (is w "-") (is w "--") h
+    where
+      of : (a b c d : Bool) → cond (a || (b || false)) (Some Plus) (cond (c || (d || false)) (Some Minus) None) ≡ None → (a ≡ false) × (b ≡ false) × (c ≡ false) × (d ≡ false)
+      of true b c d k = absurd (cc)
+      of false true c d k = absurd (cc)
+      of false false true d k = absurd (cc)
+      of false false false true k = absurd (cc)
+      of false false false false k = (refl, refl, refl, refl)
+
+  abbrev Rows : Type 0
+  Rows = List (List Prim.Native.String.String × Operator)
+
+  abbrev before_steps : Rows
+  before_steps = ("|" ∷ [], binds false BitwiseOr BitwiseXor) ∷ ("^" ∷ [], binds false BitwiseXor BitwiseAnd) ∷ ("&" ∷ [], binds false BitwiseAnd Equality) ∷ ("==" ∷ "!=" ∷ "===" ∷ "!==" ∷ [], binds false Equality Relational) ∷ ("<" ∷ ">" ∷ "<=" ∷ ">=" ∷ "instanceof" ∷ "in" ∷ [], binds false Relational Shift) ∷ ("<<" ∷ ">>" ∷ ">>>" ∷ [], binds false Shift Additive) ∷ ("+" ∷ "-" ∷ [], binds false Additive Multiplicative) ∷ ("*" ∷ "/" ∷ "%" ∷ [], binds false Multiplicative Exponentiation) ∷ ("??" ∷ [], binds true Coalesce BitwiseOr) ∷ ("||" ∷ [], binds true LogicalOr LogicalAnd) ∷ ("&&" ∷ [], binds true LogicalAnd BitwiseOr) ∷ ("**" ∷ [], powers) ∷ []
+
+  abbrev behind_steps : Rows
+  behind_steps = ("=" ∷ "+=" ∷ "-=" ∷ "*=" ∷ "/=" ∷ "%=" ∷ "**=" ∷ "<<=" ∷ ">>=" ∷ ">>>=" ∷ "&=" ∷ "|=" ∷ "^=" ∷ [], assigns) ∷ ("," ∷ [], makes_sequence) ∷ ("?" ∷ [], asks) ∷ ("." ∷ [], selects) ∷ ("(" ∷ [], calls_on) ∷ ("[" ∷ [], indexes) ∷ ("?." ∷ [], chains) ∷ ("=>" ∷ [], makes_arrow) ∷ []
+
+  abbrev no_steps : Rows → Bool
+  no_steps [] = true
+  no_steps (row ∷ rows) = not (does_step row.1) && no_steps rows
+
+  by_row : (b : Bool) (o : Operator) (r : Operator) → not (does_step o) ≡ true → does_step (cond b o r) ≡ true → does_step r ≡ true
+  by_row false o r e h = h
+  by_row true o r e h = let i : not true ≡ true = sym (ap not h) ∙ e in absurd (cc)
+
+  halves : (u v : Bool) → (u && v) ≡ true → (u ≡ true) × (v ≡ true)
+  halves true v h = (refl, h)
+  halves false v h = absurd (cc)
+
+  none_steps : (rows : Rows) → no_steps rows ≡ true → does_step (operator_among w rows) ≡ true → ⊥
+  none_steps [] e h = cc
+  none_steps (row ∷ rows) e h = let q = halves (not (does_step row.1)) (no_steps rows) e in none_steps rows q.1 (by_row (among w row.0) row.1 (operator_among w rows) q.0 h)
+
+  row_found : (b : Bool) (r : Operator) → (does_step r ≡ true → ⊥) → does_step (cond b steps r) ≡ true → b ≡ true
+  row_found true r n h = refl
+  row_found false r n h = absurd (n h)
+
+  found_step : (xs : Rows) (ss : List Prim.Native.String.String) (ys : Rows) → no_steps xs ≡ true → no_steps ys ≡ true → does_step (operator_among w (xs ++ (ss, steps) ∷ ys)) ≡ true → among w ss ≡ true
+  found_step [] ss ys e f h = row_found (among w ss) (operator_among w ys) (none_steps ys f) h
+  found_step (row ∷ xs) ss ys e f h =
+      let q = halves (not (does_step row.1)) (no_steps xs) e in
+      found_step xs ss ys q.1 f (by_row (among w row.0) row.1 (operator_among w (xs ++ (ss, steps) ∷ ys)) q.0 h)
+
+  only_steps : is_step w ≡ true → among w ("++" ∷ "--" ∷ []) ≡ true
+  only_steps h = found_step before_steps ("++" ∷ "--" ∷ []) behind_steps refl refl h
+
+  first_true : (a b : Bool) → not (a && b) ≡ false → a ≡ true
+  first_true true b h = refl
+  first_true false b h = absurd (cc)
+
+  no_step_sign : is_step w ≡ true → sign_of_text w ≡ None → ⊥
+  no_step_sign h n =
+      let q = no_signs n in
+      let i : false ≡ true = sym (ap₂ (λ a b. a || (b || false)) q.1 q.3) ∙ only_steps h in
+      cc
+
+  updates : (g : Flags) (ps : Parts) → sign_at kind.UpdateExpression w g ≡ None → Shaped ps (Of kind.UpdateExpression g ps) (expressions kind.UpdateExpression w g ps)
+  unfolding expressions
+  updates g ps n = shaped_if (not (is_step w && is_target (lead ps))) (λ e. nowhere) (λ e. shaped_if g.prefix
+      (λ u. absurd (no_step_sign (first_true (is_step w) (is_target (lead ps)) e) (sym (ap (λ b. cond b (sign_of_text w) None) u) ∙ n)))
+      (λ u. one (λ r c. fixed_shape (Rattle.printer.specs.Shapes.update_shape false) ps (sub (piece.lead LeftHandSide) ∷ unbroken ∷ tok class.Punctuator w ∷ []) refl refl refl c ∙ ap (λ b. shape_marks w (Rattle.printer.specs.Shapes.update_shape b) ps) (sym u))))
+
+  sign_spaces : (a b : Bool) → a ≡ false → b ≡ false → (qs : List Piece) → marks_of (cond a (lay (piece.apart 43) ∷ []) (cond b (lay (piece.apart 45) ∷ []) []) ++ qs) ≡ marks_of qs
+  sign_spaces true b e f qs = absurd (cc)
+  sign_spaces false true e f qs = absurd (cc)
+  sign_spaces false false e f qs = refl
+
+  abbrev word_shape_by : Bool → Shape
+  word_shape_by b = fronted (cond b (own_text ∷ gapped ∷ []) (own_text ∷ []) ∷ []) []
+
+  unaries : (g : Flags) (ps : Parts) → sign_at kind.UnaryExpression w g ≡ None → Shaped ps (Of kind.UnaryExpression g ps) (expressions kind.UnaryExpression w g ps)
+  unfolding expressions
+  unaries g ps n = shaped_if (not (is_prefix w)) (λ e. nowhere) (λ e. shaped_if (is_word_operator w)
+      (λ u. one (λ r c. fixed_shape (word_shape_by true) ps (tok class.Name w ∷ sp ∷ put (piece.expr Unary true Any) ∷ []) refl refl refl c ∙ ap (λ b. shape_marks w (word_shape_by b) ps) (sym u)))
+      (λ u. one (λ r c.
+      ap (λ t. text w ∷ t) (sign_spaces (is w "+") (is w "-") (no_signs n).0 (no_signs n).2 (put (piece.expr Unary true Any) ∷ []))
+      ∙ fixed_shape (word_shape_by false) ps (tok class.Punctuator w ∷ put (piece.expr Unary true Any) ∷ []) refl refl refl
+      (sym (ap (λ t. counts_up t ps) (sign_spaces (is w "+") (is w "-") (no_signs n).0 (no_signs n).2 (put (piece.expr Unary true Any) ∷ []))) ∙ c)
+      ∙ ap (λ b. shape_marks w (word_shape_by b) ps) (sym u))))
+
+  infix_fixed : (k : Kind) (g : Flags) (ps : Parts) (z : Rank) (x y : Slot) → expression_shape k w g ps ≡ fronted ([] ∷ infix_bits ∷ []) [] → Means ps (Of k g ps) (record { rank = z; needs_in = false; pieces = sub x ∷ infix_pieces w ++ sub y ∷ [] })
+  infix_fixed k g ps z x y e r c = fixed_shape (fronted ([] ∷ infix_bits ∷ []) []) ps (sub x ∷ infix_pieces w ++ sub y ∷ []) refl refl refl c ∙ ap (λ s. shape_marks w s ps) (sym e)
+
+  joins : (k : Kind) (g : Flags) (ps : Parts) (z q : Rank) → expression_shape k w g ps ≡ fronted ([] ∷ infix_bits ∷ []) [] → Means ps (Of k g ps) (joined_spelling w z q)
+  joins k g ps z q e r c = infix_fixed k g ps z (piece.left z) (piece.tail q Any) e r c
+
+  binaries : (g : Flags) (ps : Parts) (o : Operator) → Shaped ps (Of kind.BinaryExpression g ps) (binary_ways w o)
+  binaries g ps (binds false z q) = one (joins kind.BinaryExpression g ps z q refl)
+  binaries g ps (binds true z q) = nowhere
+  binaries g ps powers = one (infix_fixed kind.BinaryExpression g ps Exponentiation (piece.lead Update) (piece.fixed (piece.expr Exponentiation true Any)) refl)
+  binaries g ps _ = nowhere
+
+  logicals : (g : Flags) (ps : Parts) (o : Operator) → Shaped ps (Of kind.LogicalExpression g ps) (logical_ways w o)
+  logicals g ps (binds true z q) = one (joins kind.LogicalExpression g ps z q refl)
+  logicals g ps (binds false z q) = nowhere
+  logicals g ps _ = nowhere
+
+  assignments : (g : Flags) (ps : Parts) → Shaped ps (Of kind.AssignmentExpression g ps) (expressions kind.AssignmentExpression w g ps)
+  unfolding expressions
+  assignments g ps = shaped_if (not (is_assignment w)) (λ e. nowhere) (λ e. shaped_if (is_target (lead ps)) (λ u. one (infix_fixed kind.AssignmentExpression g ps Assignment (piece.lead LeftHandSide) (piece.tail Assignment Any) refl))
+      (λ u. shaped_if (is w "=" && is_pattern (lead ps)) (λ v. one (infix_fixed kind.AssignmentExpression g ps Assignment piece.lead_pattern (piece.tail Assignment Any) refl)) (λ v. nowhere)))
+
+  sequences : (g : Flags) (ps : Parts) → Shaped ps (Of kind.SequenceExpression g ps) (expressions kind.SequenceExpression w g ps)
+  unfolding expressions
+  sequences g none = nowhere
+  sequences g (part n none) = nowhere
+  sequences g (gap none) = nowhere
+  sequences g (part n (part m ps)) = one (λ r c. closed _ _ (sequence-marks w (part m ps) n r))
+  sequences g (part n (gap ps)) = one (λ r c. absurd (cc))
+  sequences g (gap (part m ps)) = one (λ r c. closed _ _ (sequence-marks w (part m ps) m r))
+  sequences g (gap (gap ps)) = one (λ r c. absurd (cc))
+
+  tagged_fixed : (g : Flags) (ps : Parts) → Means ps (Of kind.TaggedTemplateExpression g ps) (at Member (sub piece.callee ∷ put piece.quasi ∷ []))
+  tagged_fixed g ps = fixed_means kind.TaggedTemplateExpression g ps Member (sub piece.callee ∷ put piece.quasi ∷ []) refl refl refl same_count
+
+  literals : (g : Flags) (ps : Parts) → Shaped ps (Of kind.Literal g ps) (expressions kind.Literal w g ps)
+  unfolding expressions
+  literals g ps = shaped_if (is_name (literal_class w) && not (among w ("true" ∷ "false" ∷ "null" ∷ []))) (λ e. nowhere) (λ e. fixed_one kind.Literal g ps Primary _ refl refl refl same_count)
+
+  -- every expression, but for the signs that may not touch themselves
+  pub expressions_shaped : (k : Kind) (g : Flags) (ps : Parts) → sign_at k w g ≡ None → Shaped ps (Of k g ps) (expressions k w g ps)
+  unfolding expressions
+  expressions_shaped kind.Identifier g ps n = shaped_if (is_reserved w) (λ e. nowhere) (λ e. fixed_one kind.Identifier g ps Primary _ refl refl refl same_count)
+  expressions_shaped kind.Literal g ps n = literals g ps
+  expressions_shaped kind.ThisExpression g ps n = fixed_one kind.ThisExpression g ps Primary _ refl refl refl same_count
+  expressions_shaped kind.ArrayExpression g ps n = one (array_means g ps)
+  expressions_shaped kind.ObjectExpression g ps n = one (object_means g ps)
+  expressions_shaped kind.FunctionExpression g ps n = one (function_means g ps)
+  expressions_shaped kind.ClassExpression g ps n = one (class_means g ps)
+  expressions_shaped kind.TemplateLiteral g ps n = one (template_means g ps)
+  expressions_shaped kind.ArrowFunctionExpression g ps n = arrow_ways g ps
+  expressions_shaped kind.TaggedTemplateExpression g ps n = one (tagged_fixed g ps)
+  expressions_shaped kind.MemberExpression g ps n = members g ps
+  expressions_shaped kind.CallExpression g ps n = calls g ps
+  expressions_shaped kind.NewExpression g ps n = news g ps
+  expressions_shaped kind.MetaProperty g ps n = shaped_if (Rattle.language.specs.Expressions.lead_is ps "new" && Rattle.language.specs.Expressions.lead_is (others ps) "target") (λ e. fixed_one kind.MetaProperty g ps Member _ refl refl refl same_count) (λ e. nowhere)
+  expressions_shaped kind.ImportExpression g ps n = fixed_one kind.ImportExpression g ps Call _ refl refl refl same_count
+  expressions_shaped kind.ChainExpression g ps n = shaped_if (first_chained ps) (λ e. fixed_one kind.ChainExpression g ps LeftHandSide _ refl refl refl same_count) (λ e. nowhere)
+  expressions_shaped kind.UpdateExpression g ps n = updates g ps n
+  expressions_shaped kind.UnaryExpression g ps n = unaries g ps n
+  expressions_shaped kind.BinaryExpression g ps n = binaries g ps (operator_of w)
+  expressions_shaped kind.LogicalExpression g ps n = logicals g ps (operator_of w)
+  expressions_shaped kind.ConditionalExpression g ps n = fixed_one kind.ConditionalExpression g ps Conditional _ refl refl refl same_count
+  expressions_shaped kind.AssignmentExpression g ps n = assignments g ps
+  expressions_shaped kind.SequenceExpression g ps n = sequences g ps
+  expressions_shaped _ g ps n = nowhere

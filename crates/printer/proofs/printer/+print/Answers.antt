@@ -1,0 +1,140 @@
+use Rattle.std.proofs.Common.{◌≡◌, ◌≤◌, suc, ◌+◌, ◌-◌, true, false, not, nat_eq, [], ◌∷◌, ◌++◌, length, drop, map, refl, sym, ap, ap₂, ◌∙◌, subst, arith}
+use Rattle.std.specs.Prelude.{option_map, is_none as is_missing}
+use Rattle.std.proofs.lemmas.Result.{on_ok_weaker}
+use Rattle.std.proofs.lemmas.List.{length-map}
+use Rattle.tree.specs.Tree.{parts_of, text_of, part_count}
+use Rattle.tree.specs.Node.{node_tree}
+use Rattle.language.specs.Grammar.{ways}
+use Rattle.positions.specs.Outlines.{role_of, parts_behind}
+use Rattle.positions.specs.Remaining.{remaining}
+use Rattle.printer.specs.Bits.{here, bits_of, chain_of, shape_of, before_bits, after_bits}
+use Rattle.printer.specs.Fits.{parts_fit}
+use Rattle.printer.specs.Printed.{marks_in, front_marks, chain_marks, shape_marks, signed_marks}
+use Rattle.printer.proofs.Passing.{passed_nothing, passed_then, passed_missing}
+use Rattle.printer.proofs.Items.{missing_part, stepped, stepped_chain, fronts_done, chain_done, fronts-next, chain-next, turn, trail, framed, part_turn, part_lost}
+use Rattle.language.specs.Layout.{first_way}
+use Rattle.printer.specs.Sheets.{Writes}
+use Rattle.printer.proofs.Nodes.{NextRow, printed_rowless, printed_row, printed_inside, printed_signed}
+use Rattle.printer.proofs.Whole.{one_part, marks_framed, marks_signed, direct_by, spelled_parts, sign_text}
+use Rattle.printer.proofs.printer.+print.Goals as goal
+
+pub print_direct-returns-in-Some-sign_of : goal.print_direct-returns-in-Some-sign_of
+print_direct-returns-in-Some-sign_of t c =
+    let n = node_tree c.args.node in
+    let sign = c.in-Some-sign_of.sign in
+    on_ok_weaker c.print_signed.result (λ h W r g k.
+    let q = spelled_parts W (parts_of n) (ways (role_of c.args.position) n) r k in
+    let e = marks_signed W c.args.position n sign c.in-Some-sign_of.ensures q.0 q.1 in
+    direct_by W (signed_marks (text_of n) sign) e c.in-Some.ensures.1 q.1
+    (h W r g (ap (λ xs. parts_fit W (parts_of n) xs r) c.in-Some.ensures.1 ∙ q.2) (sign_text n sign c.in-Some-sign_of.ensures) (one_part (first_way (ways (role_of c.args.position) n)) (parts_of n) (text_of n) sign q.1 e)))
+    c.print_signed.ensures
+
+pub print_direct-returns-in-None : goal.print_direct-returns-in-None
+print_direct-returns-in-None t c =
+    let n = node_tree c.args.node in
+    on_ok_weaker c.print_framed.result (λ h W r g k.
+    let q = spelled_parts W (parts_of n) (ways (role_of c.args.position) n) r k in
+    direct_by W (shape_marks (text_of n) (shape_of c.frame_of.result) (parts_of n))
+    (marks_framed W c.args.position n r c.in-None.ensures q.0 q.1 ∙ ap (λ s. shape_marks (text_of n) s (parts_of n)) (sym c.frame_of.ensures)) c.in-Some.ensures.1 q.1
+    (h W r g (ap (λ xs. parts_fit W (parts_of n) xs r) c.in-Some.ensures.1 ∙ q.2)))
+    c.print_framed.ensures
+
+pub print_framed-returns : goal.print_framed-returns
+print_framed-returns t c =
+    let n = node_tree c.args.node in
+    on_ok_weaker c.push_all-2.result (λ o W r h k.
+    framed W (text_of n) c.text-text.result.now c.text-text.ensures (map (λ p. bits_of p.now) c.args.frame.front.now) c.args.frame.opener.now c.args.frame.closer.now (chain_of c.args.frame.series) (parts_of n)
+    (length c.args.frame.front.now) c.in_ok-inside.inside (sym (length-map c.args.frame.front.now (λ p. bits_of p.now))) c.in_ok-inside.ensures h k
+    (λ ms q a b. c.in_ok-walk.ensures W ms q a b) c.in_ok-push_all.ensures (λ ms q a b. c.in_ok-walk-2.ensures W ms q a b) o)
+    c.push_all-2.ensures
+
+pub print_front-loop-index-preserved : goal.print_front-loop-index-preserved
+print_front-loop-index-preserved t c = λ W ms r h k.
+    let n = node_tree c.args.node in
+    let fs = c.args.front.now in
+    let i = c.loop-index.index in
+    let ns = front_marks (text_of n) (map (λ p. bits_of p.now) (drop (i + 1) fs)) ms in
+    stepped W (parts_of n) i
+    (turn W _ c.text.result.now c.text.ensures (fronts-next (text_of n) (λ p. bits_of p.now) fs i _ ms c.loop-index-test.true) (c.loop-index.invariant W ms r h k) c.in_ok-push_all.ensures (λ q u v. c.in_ok-rest.ensures W ns q u v))
+
+pub print_front-returns : goal.print_front-returns
+print_front-returns t c = λ W ms r h k.
+    let n = node_tree c.args.node in
+    let fs = c.args.front.now in
+    let i = c.loop-index.index in
+    let e : i ≡ length fs = omega (arith, c.loop-index.auto.index-end, c.loop-index-test.false) in
+    fronts_done W (text_of n) (λ p. bits_of p.now) fs (parts_of n) i ms e (c.loop-index.invariant W ms r h k)
+
+pub print_item-returns : goal.print_item-returns
+print_item-returns t c = λ W ms r h k.
+    let P = parts_of (node_tree c.args.node) in
+    let w = text_of (node_tree c.args.node) in
+    let s = chain_of c.args.series in
+    let i = c.args.index in
+    let rest = chain_marks w s (parts_behind (suc i) P) ++ ms in
+    let o = option_map node_tree c.part.result in
+    let here_before : bits_of c.before-2.result.now ≡ before_bits s (nat_eq ((part_count P - i) - 1) 0) = c.before-2.ensures ∙ ap (λ m. before_bits s (nat_eq ((m - i) - 1) 0)) c.part_count.ensures in
+    let here_after : bits_of c.after.result.now ≡ after_bits s (is_missing o) (nat_eq ((part_count P - i) - 1) 0) (nat_eq ((part_count P - i) - 1) 1) =
+    c.after.ensures ∙ (λ j. after_bits s (missing_part node_tree c.part.result c.is_none-is_gap.result c.is_none-is_gap.ensures j) (nat_eq ((c.part_count.ensures j - i) - 1) 0) (nat_eq ((c.part_count.ensures j - i) - 1) 1)) in
+    trail W c.after.result.now c.text-text.result.now c.text-text.ensures refl
+    (turn W c.before-2.result.now c.text-text.result.now c.text-text.ensures
+    (chain-next w s P i o ms c.part.ensures c.requires ∙ ap₂ (λ x y. marks_in w x ++ here ∷ (marks_in w y ++ rest)) (sym here_before) (sym here_after))
+    (passed_nothing W r h k) c.in_ok-push_all.ensures (λ q u z. c.in_ok-walk.ensures W (marks_in w (bits_of c.after.result.now) ++ rest) q u z))
+    c.in_ok-push_all-2.ensures
+
+pub print_list-loop-index-preserved : goal.print_list-loop-index-preserved
+print_list-loop-index-preserved t c = λ W ms r h k.
+    let P = parts_of (node_tree c.args.node) in
+    let w = text_of (node_tree c.args.node) in
+    let s = chain_of c.args.series in
+    let p = c.loop-index.invariant W ms r h k in
+    stepped_chain W w s P c.loop-index.index ms (passed_then W p (c.in_ok-rest.ensures W ms p.row p.reads p.fit))
+
+pub print_list-returns : goal.print_list-returns
+print_list-returns t c = λ W ms r h k.
+    let P = parts_of (node_tree c.args.node) in
+    let w = text_of (node_tree c.args.node) in
+    let s = chain_of c.args.series in
+    let past : part_count P ≤ c.loop-index.index = omega (arith, c.part_count-count.ensures, c.loop-index-test.false) in
+    chain_done W w s P c.loop-index.index ms past (c.loop-index.invariant W ms r h k)
+
+pub print_part-returns-in_default : goal.print_part-returns-in_default
+print_part-returns-in_default t c = λ W ms r h k. passed_missing W (parts_of (node_tree c.args.node)) c.args.index r c.in_default.ensures h k
+
+pub print_part-returns-in_default-next : goal.print_part-returns-in_default-next
+print_part-returns-in_default-next t c = λ W ms r h k. absurd (part_lost W (parts_of (node_tree c.args.node)) c.args.index r (node_tree c.in-Some.part) (remaining c.args.walk.positions) c.in-Some.ensures c.in_default-next.ensures k)
+
+pub print_part-returns : goal.print_part-returns
+print_part-returns t c = λ W ms r h k.
+    part_turn W (parts_of (node_tree c.args.node)) c.args.index r (node_tree c.in-Some.part) (remaining c.args.walk.positions) (c.in-Some-next.position, c.in-Some-next.positions) _ c.in-Some.ensures c.in-Some-next.ensures h
+    (ap not (sym c.is_wrapped-alone.ensures)) k (λ f. c.in_ok-print_node.ensures W r h f)
+
+pub print_node-returns : goal.print_node-returns
+print_node-returns t c =
+    on_ok_weaker c.print_direct.result (λ h W r g k.
+    printed_rowless W c.args.position (node_tree c.args.node) r c.args.depth (sym c.has_row.ensures ∙ c.if-has_row.false) g k (λ q u v. h W q u v))
+    c.print_direct.ensures
+
+pub print_row-returns-then-not-next_row : goal.print_row-returns-then-not-next_row
+print_row-returns-then-not-next_row t c =
+    let x : NextRow c.args.sheet.now c.next_row.new.self false = record { flag = sym c.if-not-next_row.true ∙ c.next_row.ensures.flag; others = c.next_row.ensures.others; out = c.next_row.ensures.out; apart = c.next_row.ensures.apart } in
+    on_ok_weaker c.print_direct.result (λ h W r g e k.
+    printed_row W c.args.position (node_tree c.args.node) r c.args.depth x g e k (λ q u v. h W q u v))
+    c.print_direct.ensures
+
+pub print_row-returns : goal.print_row-returns
+print_row-returns t c =
+    let x : NextRow c.args.sheet.now c.next_row.new.self true = record { flag = sym c.if-not-next_row.false ∙ c.next_row.ensures.flag; others = c.next_row.ensures.others; out = c.next_row.ensures.out; apart = c.next_row.ensures.apart } in
+    on_ok_weaker c.push-2.result (λ h W r g e k.
+    printed_inside W c.args.position (node_tree c.args.node) r c.args.depth x g e k c.in_ok-push.ensures.written (λ q u v. c.in_ok-print_direct.ensures W q u v) h)
+    c.push-2.ensures.written
+
+pub print_signed-returns : goal.print_signed-returns
+print_signed-returns t c = λ W r h k u v.
+    let n = node_tree c.args.node in
+    printed_signed W (text_of n) c.args.sign (parts_of n) r u v
+    (subst (λ w. Writes c.args.sheet.now c.push.new.self w) c.text.ensures c.in_ok-push.ensures.written)
+    (λ z. c.in_ok-push.ensures.parted (λ y. z (sym c.text.ensures ∙ y)))
+    c.set_apart.ensures.out c.set_apart.ensures.apart c.set_apart.ensures.wraps h
+    (λ q. c.in_ok-_walk.ensures W [] r q k)
+    c.join.ensures.out c.join.ensures.apart c.join.ensures.wraps

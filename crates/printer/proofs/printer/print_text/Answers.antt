@@ -1,0 +1,14 @@
+use Rattle.std.proofs.Common.{◌≡◌, ◌∙◌, true, subst}
+use Rattle.std.specs.String.{string_bytes}
+use Rattle.tree.specs.Node.{node_tree}
+use Rattle.language.specs.Pieces.{script}
+use Rattle.language.specs.Layout.{layout}
+use Rattle.printer.specs.Fits.{wrapped_by, fits}
+use Rattle.printer.proofs.Nodes.{whole_text}
+use Rattle.printer.proofs.printer.print_text.Goals as goal
+
+pub returns : goal.returns
+returns c =
+    let W = wrapped_by c.args.wraps.now in
+    subst (λ n. fits W n script 1 ≡ true → string_bytes c.into_text.result ≡ layout W n script 1 0) c.root-root.ensures
+    (λ k. c.into_text.ensures ∙ whole_text {a = c.in_ok-sheet.sheet} {b = c.print_node.new.sheet} c.args.wraps.now (node_tree c.root-root.result) c.in_ok-sheet.ensures.out c.in_ok-sheet.ensures.apart c.in_ok-sheet.ensures.wraps (λ V r g f. c.in_ok-print_node.ensures V r g f) k)

@@ -1,0 +1,100 @@
+-- What is written of a tree, mark by mark.
+use Rattle.std.specs.Prelude.{◌≡◌, ℕ, zero, suc, ◌+◌, Bool, true, false, not, cond, ◌&&◌, nat_eq, slice_index_or, List, [], ◌∷◌, ◌++◌, length}
+use Rattle.tree.specs.Tree.{Tree, Parts, none, part, gap}
+use Rattle.language.specs.Pieces.{Role, PieceOf, is_none}
+use Rattle.language.specs.Positions.{rows, parts_rows, first_roles}
+use Rattle.language.specs.Layout.{some_way, indent, first_way, next_role, layout, parts_layout}
+use Rattle.positions.specs.Outlines.{parts_behind, is_before_last}
+use Rattle.printer.specs.declared.sheet.Sheet.{Sheet}
+use Rattle.printer.specs.Bits.{Mark, text, line, feed, deeper, shallower, loose, here, apart, Bit, token, own_text, newline, feeding, loosely, chunk, Chain, lines, Shape, before_bits, after_bits}
+use Rattle.printer.specs.Fits.{lines_up, parts_fit}
+use Rattle.printer.specs.Sheets.{shown, flag_at, chunk_text, sign_code}
+use Rattle.printer.specs.declared.pieces.Sign.{Sign}
+
+-- Marks of a shape, at a node of this text
+
+abbrev pub mark_of : List ℕ → Bit → Mark
+mark_of w (token v) = text v
+mark_of w own_text = text w
+mark_of w newline = line
+mark_of w feeding = feed
+mark_of w loosely = loose
+mark_of w (chunk a b) = text (chunk_text a b w)
+
+abbrev pub marks_in : List ℕ → List Bit → List Mark
+marks_in w [] = []
+marks_in w (b ∷ bs) = mark_of w b ∷ marks_in w bs
+
+abbrev pub front_marks : List ℕ → List (List Bit) → List Mark → List Mark
+front_marks w [] ms = ms
+front_marks w (f ∷ fs) ms = marks_in w f ++ here ∷ front_marks w fs ms
+
+abbrev pub chain_marks : List ℕ → Chain → Parts → List Mark
+chain_marks w t none = []
+chain_marks w t (part n ps) = marks_in w (before_bits t (is_none ps)) ++ here ∷ (marks_in w (after_bits t false (is_none ps) (is_before_last ps)) ++ chain_marks w t ps)
+chain_marks w t (gap ps) = marks_in w (before_bits t (is_none ps)) ++ here ∷ (marks_in w (after_bits t true (is_none ps) (is_before_last ps)) ++ chain_marks w t ps)
+
+-- the parts of lines stand a level deeper
+abbrev pub deep : Chain → List Mark → List Mark → List Mark
+deep lines ms rest = deeper ∷ (ms ++ shallower ∷ rest)
+deep _ ms rest = ms ++ rest
+
+abbrev pub shape_marks : List ℕ → Shape → Parts → List Mark
+shape_marks w s ps = front_marks w s.front (marks_in w s.opener ++ deep s.chain (chain_marks w s.chain (parts_behind (length s.front) ps)) (marks_in w s.closer))
+
+-- The text of marks
+
+abbrev pub other_roles : List Role → List Role
+other_roles [] = []
+other_roles (a ∷ xs) = xs
+
+-- of marks over these parts, which stand at these positions, from a row on, at a depth
+abbrev pub marks_text : (ℕ → Bool) → List Mark → Parts → List Role → ℕ → ℕ → Bool → List ℕ
+marks_text W [] ps xs r d b = []
+marks_text W (text w ∷ ms) ps xs r d b = w ++ marks_text W ms ps xs r d b
+marks_text W (line ∷ ms) ps xs r d b = 10 ∷ (indent d ++ marks_text W ms ps xs r d b)
+marks_text W (feed ∷ ms) ps xs r d b = 10 ∷ marks_text W ms ps xs r d b
+marks_text W (deeper ∷ ms) ps xs r d b = marks_text W ms ps xs r (suc d) b
+marks_text W (shallower ∷ ms) ps xs r zero b = marks_text W ms ps xs r zero b
+marks_text W (shallower ∷ ms) ps xs r (suc d) b = marks_text W ms ps xs r d b
+marks_text W (apart c ∷ ms) ps xs r d b = let rest = marks_text W ms ps xs r d b in cond (nat_eq (slice_index_or rest 0 0) c) (32 ∷ rest) rest
+marks_text W (loose ∷ ms) ps xs r d b = let rest = marks_text W ms ps xs r d b in cond b (32 ∷ rest) rest
+marks_text W (here ∷ ms) none xs r d b = marks_text W ms none xs r d false
+marks_text W (here ∷ ms) (gap ps) xs r d b = marks_text W ms ps xs r d false
+marks_text W (here ∷ ms) (part n ps) xs r d b = layout W n (next_role xs) r d ++ marks_text W ms ps (other_roles xs) (r + rows n (next_role xs)) d (not (W r))
+
+-- What calls write
+
+-- the flags are those of the rows from this one on
+abbrev pub Reads : (ℕ → Bool) → ℕ → List Bool → Type 0
+Reads W r bs = (i : ℕ) → W (r + i) ≡ flag_at bs i
+
+-- a node was written, and its rows were passed
+pub record Printed (W : ℕ → Bool) (old new : Sheet) (n : Tree) (a : Role) (r d : ℕ) : Type 0 where
+  pub reads : Reads W (r + rows n a) new.wraps.now
+  pub shows : (next : List ℕ) → shown new next ≡ shown old (layout W n a r d ++ next)
+
+-- the same without parentheses
+pub record Direct (W : ℕ → Bool) (old new : Sheet) (ps : Parts) (qss : List (List (PieceOf Role))) (r d : ℕ) : Type 0 where
+  pub reads : Reads W (r + parts_rows ps (first_roles qss)) new.wraps.now
+  pub shows : (next : List ℕ) → shown new next ≡ shown old (parts_layout W ps (first_way qss) r d false ++ next)
+
+abbrev pub spelled_so : (ℕ → Bool) → Parts → List (List (PieceOf Role)) → ℕ → Bool
+spelled_so W ps qss r = some_way qss && (lines_up (first_way qss) ps && parts_fit W ps (first_roles qss) r)
+
+-- the first marks were written, and their parts and rows were passed
+pub record Passed (W : ℕ → Bool) (old new : Sheet) (ms ms' : List Mark) (ps ps' : Parts) (xs xs' : List Role) (b b' : Bool) (d r : ℕ) : Type 0 where
+  pub row : ℕ
+  pub reads : Reads W row new.wraps.now
+  pub counts : row + parts_rows ps' xs' ≡ r + parts_rows ps xs
+  pub fit : parts_fit W ps' xs' row ≡ true
+  pub shows : (next : List ℕ) → shown new (marks_text W ms' ps' xs' row d b' ++ next) ≡ shown old (marks_text W ms ps xs r d b ++ next)
+
+-- all marks were written, with their parts and rows
+pub record Written (W : ℕ → Bool) (old new : Sheet) (ms : List Mark) (ps : Parts) (xs : List Role) (b : Bool) (d r : ℕ) : Type 0 where
+  pub reads : Reads W (r + parts_rows ps xs) new.wraps.now
+  pub shows : (next : List ℕ) → shown new next ≡ shown old (marks_text W ms ps xs r d b ++ next)
+
+-- a sign, and its operand
+abbrev pub signed_marks : List ℕ → Sign → List Mark
+signed_marks w s = text w ∷ apart (sign_code s) ∷ here ∷ []
