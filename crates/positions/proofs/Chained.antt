@@ -1,5 +1,6 @@
 -- A part of a chain, from its first part.
-use Rattle.std.proofs.Common.{◌≡◌, true, false, Option, refl, ap, ◌∙◌}
+use Rattle.std.proofs.Common.{◌≡◌, Bool, true, false, Option, refl, sym, ap, ◌∙◌}
+use Rattle.std.specs.Prelude.{◌&&◌}
 use Rattle.tree.specs.Tree.{Tree, node, Parts, none, part, gap, kind_of, flags_of, parts_of, part_at}
 use Rattle.language.specs.Expressions.{chained, first_chained, is_spine}
 use Rattle.positions.specs.Chains.{is_chained_part}
@@ -20,3 +21,10 @@ chained_below (node k w g s e ps) o h f p = rw (h, f) (chained_first ps o p)
 
 pub chained_never : (n : Tree) → is_spine (kind_of n) ≡ false → false ≡ chained n
 chained_never (node k w g s e ps) h = rw h refl
+
+pub chained_inside : (n : Tree) → chained n ≡ true → (flags_of n).optional ≡ false → true ≡ first_chained (parts_of n)
+chained_inside (node k w g s e ps) h f = of (is_spine k) (first_chained ps) (rw f at h)
+  where
+    of : (a b : Bool) → (a && b) ≡ true → true ≡ b
+    of true b h = sym h
+    of false b h = absurd (cc)

@@ -15,3 +15,4 @@ pub mod LastParts
 pub mod OtherTable
 pub mod StatementTable
 pub mod Ways
+pub mod Wherever

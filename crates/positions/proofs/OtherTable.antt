@@ -1,22 +1,20 @@
 -- The outlines of nodes that are no expressions are those of the table.
 use Rattle.std.proofs.Common.{◌≡◌, ◌⊎◌, inl, inr, ℕ, Bool, true, false, cond, List, [], ◌∷◌, ◌++◌, refl, sym, ap, ap₂, ◌∙◌, subst}
 use Rattle.std.specs.Prelude.{Option, Some, None, ◌&&◌, ◌||◌, not, codes, nat_eq, nat_le, slice_index_or}
-use Rattle.tokens.specs.declared.token.Class.{Class}
 use Rattle.tokens.specs.declared.token.Class.TheVariants as class
 use Rattle.tree.specs.declared.kind.Kind.{Kind}
 use Rattle.tree.specs.declared.kind.Kind.TheVariants as kind
 use Rattle.tree.specs.declared.kind.Form.{Form}
 use Rattle.tree.specs.declared.kind.Form.TheVariants as form
 use Rattle.tree.specs.declared.kind.Flags.{Flags}
-use Rattle.tree.specs.Tree.{Tree, node, Parts, none, part, gap, kind_of, text_of}
+use Rattle.tree.specs.Tree.{node, Parts, none, part, gap, kind_of, text_of}
 use Rattle.language.specs.declared.Rank.TheVariants.{Call, Primary}
-use Rattle.language.specs.declared.Start.{Start}
 use Rattle.language.specs.FirstPart.{lead as lead_kind, others}
-use Rattle.language.specs.Words.{is_reserved, is_string, literal_class, is_pattern, is_name, is_rest, is_identifier, is_super}
+use Rattle.language.specs.Words.{is_reserved, is_string, literal_class, is_rest, is_identifier, is_super}
 use Rattle.language.specs.Pieces as piece
 use Rattle.language.specs.Pieces.{Piece, Slot, Spelling, only, put, put_at, sub, tok, lay, fixed, lead, lead_spine, sign, term, sp, is_none, elements, listed, pattern_element, bound, with_default, many, only_at, parameters, absent}
-use Rattle.language.specs.Expressions.{spines, member_link, call_link, arguments, selector, in_brackets, first_chained, linked, properties, pattern_properties, keyed, object_pattern_part, shorthand_pattern, assignment, methods}
-use Rattle.language.specs.Statements.{braced, lines, prologue, member_lines, members, class_members}
+use Rattle.language.specs.Expressions.{spines, member_link, call_link, arguments, selector, in_brackets, first_chained, properties, pattern_properties, keyed, object_pattern_part, shorthand_pattern, assignment, methods}
+use Rattle.language.specs.Statements.{braced, member_lines, members, class_members}
 use Rattle.language.specs.Grammar.{keys, names, words, echoes, bases, quotes, quasis, template_parts, patterns, elements_with_default, rests}
 use Rattle.positions.specs.declared.position.Position.{Position}
 use Rattle.positions.specs.declared.position.Position.TheVariants as position
@@ -24,13 +22,13 @@ use Rattle.positions.specs.declared.position.Slot.TheVariants as own
 use Rattle.positions.specs.declared.outline.Front.TheVariants.{Zero, One, Two}
 use Rattle.positions.specs.declared.outline.Tail.TheVariants as tails
 use Rattle.positions.specs.declared.outline.Outline.{Outline}
-use Rattle.positions.specs.Outlines.{role_of, slot_of, before, front_before, tail_slots, outline_slots, assignment_at, whole_at, bound_at, default_at, leaf, fronted, lined}
+use Rattle.positions.specs.Outlines.{role_of, slot_of, before, front_before, tail_slots, outline_slots, assignment_at, whole_at, bound_at, default_at, fronted, lined}
 use Rattle.positions.specs.Entries.{entry_at, around}
 use Rattle.positions.specs.Expressions.{kind_at, selected}
-use Rattle.positions.specs.Others.{leaf_if, is_key_class, names_constructor, method_of, name_outline, set_at, form_method_outline, is_chunk, key_outline, quoted_outline, quasi_outline, spread_outline, keyed_outline, echo_outline, form_outline, property_outline, keyed_at, shorthand_outline, pattern_form_outline, pattern_property_outline, pattern_outline, defaulted, element_outline, one_at, rest_outline, spine_outline, class_body_outline, method_outline, member_outline}
+use Rattle.positions.specs.Others.{leaf_if, is_key_class, names_constructor, method_of, name_outline, set_at, form_method_outline, is_chunk, key_outline, quoted_outline, quasi_outline, keyed_outline, echo_outline, form_outline, keyed_at, shorthand_outline, pattern_form_outline, pattern_outline, defaulted, element_outline, one_at, rest_outline, spine_outline, member_outline}
 use Rattle.positions.proofs.Named.{named, named-append, named-closed, joined}
-use Rattle.positions.proofs.Lists.{piece_at, parameters-named, arguments-named, patterns-named, pattern-named, chunks-named, lines-named, members-named, prologue-named, bound_piece, default_piece}
-use Rattle.positions.proofs.Outlined.{nothing_slots, Outlined, no_way, one_way, lists, fronts}
+use Rattle.positions.proofs.Lists.{piece_at, parameters-named, patterns-named, pattern-named, chunks-named, members-named, bound_piece, default_piece}
+use Rattle.positions.proofs.Outlined.{nothing_slots, Outlined, no_way, one_way, lists}
 use Rattle.positions.proofs.ExpressionTable.{arguments_names, lead_entry, brace_opens, bracket_starts}
 
 -- of a position at which a start asks nothing: what the outline says of the only way

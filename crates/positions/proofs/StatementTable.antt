@@ -1,20 +1,20 @@
 -- The outlines of statements, items, declarations, cases, handlers and bodies are those of the table.
-use Rattle.std.proofs.Common.{◌≡◌, ℕ, Bool, true, false, cond, List, [], ◌∷◌, ◌++◌, refl, sym, ap, ap₂, ◌∙◌, subst}
+use Rattle.std.proofs.Common.{◌≡◌, ℕ, Bool, true, false, cond, List, [], ◌∷◌, ◌++◌, refl, ap, ◌∙◌, subst}
 use Rattle.std.specs.Prelude.{Option, Some, None, ◌&&◌, ◌||◌, not, nat_le, codes}
 use Rattle.tokens.specs.declared.token.Class.TheVariants as class
 use Rattle.tree.specs.declared.kind.Kind.{Kind}
 use Rattle.tree.specs.declared.kind.Kind.TheVariants as kind
 use Rattle.tree.specs.declared.kind.Flags.{Flags}
-use Rattle.tree.specs.Tree.{Tree, node, Parts, none, part, gap, kind_of, text_of, plain}
-use Rattle.language.specs.declared.Rank.TheVariants.{Expression, Assignment, Grouped, Primary}
+use Rattle.tree.specs.Tree.{Parts, none, part, gap, kind_of, plain}
+use Rattle.language.specs.declared.Rank.TheVariants.{Expression, Assignment, Grouped}
 use Rattle.language.specs.declared.Start.TheVariants.{Any, Statement}
 use Rattle.language.specs.FirstPart.{lead as lead_kind, others}
-use Rattle.language.specs.Words.{is, among, is_pattern}
+use Rattle.language.specs.Words.{is, is_pattern}
 use Rattle.language.specs.Edges.{last_edge, ends_in_if}
 use Rattle.language.specs.declared.Edge.TheVariants.{Closed, Other}
 use Rattle.language.specs.Pieces as piece
 use Rattle.language.specs.Pieces.{Piece, Slot, Spelling, only, only_at, put, put_at, sub, tok, lay, fixed, sign, term, sp, is_none, bound, absent, unbroken, ending, nothing}
-use Rattle.language.specs.Expressions.{given, function_pieces, class_pieces}
+use Rattle.language.specs.Expressions.{given}
 use Rattle.language.specs.Statements.{statements, items, openings, heads, declarator_ways, cases, handlers, braced, lines, prologue, declaration, declarators, end_of, for_left, behind_word, whole, is_one, is_declaration, is_string_literal, first_is_string, defaults}
 use Rattle.positions.specs.declared.position.Position.{Position}
 use Rattle.positions.specs.declared.position.Position.TheVariants as position
@@ -23,13 +23,13 @@ use Rattle.positions.specs.declared.position.Slot.TheVariants as own
 use Rattle.positions.specs.declared.outline.Front.TheVariants.{Zero, One, Two, Three, Four}
 use Rattle.positions.specs.declared.outline.Tail.TheVariants as tails
 use Rattle.positions.specs.declared.outline.Outline.{Outline}
-use Rattle.positions.specs.Outlines.{role_of, slot_of, before, tail_slots, outline_slots, assignment_at, whole_at, bound_at, leaf, fronted, lined}
+use Rattle.positions.specs.Outlines.{role_of, slot_of, before, tail_slots, assignment_at, whole_at, bound_at}
 use Rattle.positions.specs.Entries.{entry_at, text_at, around}
-use Rattle.positions.specs.Expressions.{kind_at, is_past, function_outline, class_outline}
+use Rattle.positions.specs.Expressions.{kind_at}
 use Rattle.positions.specs.Statements.{statement_outline, item_outline, opening_outline, opened_outline, head_outline, declarator_outline, case_outline, handler_outline, items_outline, prologue_outline, declarators_outline, declaration_outline, initialised, bare_name, caught, left_at, each_outline, body_at, evaluated, is_declaring, is_one_part, init_at, of_front, given_before, one, two}
-use Rattle.positions.proofs.Named.{named, named-append, named-closed, joined}
+use Rattle.positions.proofs.Named.{named, named-closed}
 use Rattle.positions.proofs.Lists.{piece_at, lines-named, prologue-named, declarators-named, bound_piece}
-use Rattle.positions.proofs.Outlined.{Describes, Outlined, never_runs, one_way}
+use Rattle.positions.proofs.Outlined.{Outlined, never_runs, one_way}
 use Rattle.positions.proofs.ExpressionTable.{lead_entry, functions, classes}
 use Rattle.positions.proofs.OtherTable.{Placed, nowhere, unnamed, placed, places, unless, when, braced-named}
 

@@ -8,3 +8,4 @@ pub mod Statements
 pub mod Positions
 pub mod Spelled
 pub mod Remaining
+pub mod Wherever

@@ -1,6 +1,6 @@
 -- The outlines of nodes that are no expressions and no statements: names, keys, templates, properties, patterns, chains, members,
 -- functions of methods.
-use Rattle.std.specs.Prelude.{ℕ, Bool, true, false, not, cond, ◌&&◌, ◌||◌, List, [], ◌∷◌, Option, Some, None}
+use Rattle.std.specs.Prelude.{ℕ, Bool, true, false, not, cond, ◌&&◌, ◌||◌, List, Option, Some, None}
 use Rattle.tokens.specs.declared.token.Class.{Class}
 use Rattle.tokens.specs.declared.token.Class.TheVariants as class
 use Rattle.language.specs.declared.Rank.TheVariants.{Call, Primary}

@@ -1,11 +1,11 @@
 -- The outlines of statements, items, declarations, cases, handlers, bodies and the script.
-use Rattle.std.specs.Prelude.{ℕ, Bool, true, false, not, cond, ◌&&◌, ◌||◌, List, [], ◌∷◌, Option, Some, None}
+use Rattle.std.specs.Prelude.{ℕ, Bool, true, false, cond, ◌&&◌, ◌||◌, List, [], ◌∷◌, Option, Some, None}
 use Rattle.language.specs.declared.Rank.TheVariants.{Expression, Assignment, Grouped, Primary}
 use Rattle.language.specs.declared.Start.TheVariants.{Any, Statement}
 use Rattle.tree.specs.declared.kind.Kind.{Kind}
 use Rattle.tree.specs.declared.kind.Kind.TheVariants as kind
 use Rattle.tree.specs.declared.kind.Flags.{Flags}
-use Rattle.language.specs.Words.{is, among, is_string, literal_class, is_pattern}
+use Rattle.language.specs.Words.{is, among, is_pattern}
 use Rattle.language.specs.Statements.{is_declaration, is_string_literal}
 use Rattle.positions.specs.declared.position.Entry.{Entry}
 use Rattle.positions.specs.declared.position.Entry.TheVariants.{Past, Gap, Part}

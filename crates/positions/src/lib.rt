@@ -12,6 +12,7 @@ mod nodes;
 mod outline;
 mod position;
 mod properties;
+mod spelled;
 mod spelling;
 mod statements;
 mod tail;
@@ -19,5 +20,7 @@ mod walk;
 mod words;
 
 pub use nodes::node_positions;
-pub use position::Position;
-pub use spelling::{Positions, expression_positions};
+pub use outline::Outline;
+pub use position::{Position, Slot};
+pub use spelled::{Spelled, node_spelling};
+pub use spelling::{Positions, expression_positions, fits, settled};

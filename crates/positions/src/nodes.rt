@@ -1,9 +1,10 @@
 //! The positions of any node's parts.
 
-ghost use Rattle.std.specs.Prelude.{◌≡◌};
+ghost use Rattle.std.specs.Prelude.{◌≡◌, true};
 ghost use Rattle.tree.specs.Node.{node_tree};
 ghost use Rattle.tree.specs.Tree.{kind_of, flags_of, parts_of};
 ghost use Rattle.language.specs.Grammar.{ways};
+ghost use Rattle.language.specs.Expressions.{chained as is_chained_tree};
 ghost use Rattle.positions.specs.Outlines.{role_of};
 ghost use Rattle.positions.specs.Positions.{outline_at as outline_at_position};
 ghost use Rattle.positions.specs.Entries.{entry_at};
@@ -36,17 +37,19 @@ use tree::Node;
 pub fn node_positions<'t, 's>(node: Node<'t, 's>, position: Position) -> Option<Positions<'t, 's>>
     ensures { IsSpelled (ways (role_of position) (node_tree node.entry)) result }
 {
-    positions_by(node, position, outline_at(node, position))
+    positions_by(node, position, outline_at(node, position, false))
 }
 
-/// The outline of a node at a position; none where the table has no way to spell it there.
-fn outline_at(node: Node, position: Position) -> Option<Outline>
+/// The outline of a node at a position; none where the table has no way to spell it there. `in_chain`: the node is known to be part
+/// of a chain, with a `?.` in it or below it.
+pub(crate) fn outline_at(node: Node, position: Position, in_chain: bool) -> Option<Outline>
+    requires { in_chain ≡ true → is_chained_tree (node_tree node) ≡ true }
     ensures { result ≡ outline_at_position position (node_tree node.entry) }
 {
     let kind = node.kind();
     match position {
         Position::Expression { .. } => expression_outline(node),
-        Position::Spine { .. } => spine_outline(node),
+        Position::Spine { .. } => spine_outline(node, in_chain),
         Position::Name => name_outline(kind, node.text()),
         Position::Word | Position::Echo => leaf_if(is_identifier(kind)),
         Position::Key => key_outline(kind, node.text()),

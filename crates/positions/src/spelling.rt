@@ -21,15 +21,15 @@ use tree::{Flags, Form, Kind, Node};
 /// What is left of the positions of a node's parts, in source order.
 #[derive(Clone, Copy)]
 pub struct Positions<'t, 's> {
-    node: Node<'t, 's>,
-    position: Position,
-    front: Front,
-    tail: Tail,
-    from: usize,
+    pub(crate) node: Node<'t, 's>,
+    pub(crate) position: Position,
+    pub(crate) front: Front,
+    pub(crate) tail: Tail,
+    pub(crate) from: usize,
 }
 
-/// A slot at a node's own position.
-pub(crate) fn settled(own: Position, slot: Slot) -> Position
+/// The position that a slot is at a node's own position.
+pub fn settled(own: Position, slot: Slot) -> Position
     ensures { role_of result ≡ settle (own_rank (role_of own)) (own_in (role_of own)) (own_start (role_of own)) (slot_of slot) }
 {
     let (own_rank, own_in, own_start) = context(own);
@@ -83,8 +83,8 @@ fn callee_rank(own: Rank) -> Rank
     Rank::Member
 }
 
-/// Whether a spelling may stand at a position.
-pub(crate) fn fits(position: Position, outline: Outline) -> bool
+/// Whether a spelling may stand at a position: by its symbol, In and start.
+pub fn fits(position: Position, outline: Outline) -> bool
     ensures { result ≡ fits_outline (role_of position) outline }
 {
     match position {
@@ -113,7 +113,7 @@ fn may_open(start: Start, opens: Opens) -> bool
 }
 
 /// Whether a node has no text and no flags but those of its kind.
-fn is_lean_node(node: Node) -> bool
+pub(crate) fn is_lean_node(node: Node) -> bool
     ensures { result ≡ is_lean (node_tree node.entry) }
 {
     is_lean_label(node.kind(), node.text(), node.flags())
@@ -250,7 +250,8 @@ impl<'t, 's> Positions<'t, 's> {
         Some((settled(self.position, slot), others))
     }
 
-    fn next_slot(self) -> Option<(Slot, Positions<'t, 's>)>
+    /// The next slot, whatever the node's own symbol, In and start are, and those behind it.
+    pub fn next_slot(self) -> Option<(Slot, Positions<'t, 's>)>
         ensures { Taken (left self.entry) self.entry result }
     {
         let (slot, front) = match self.front {

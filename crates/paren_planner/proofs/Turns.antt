@@ -1,0 +1,314 @@
+-- The turns of the walk that wraps.
+use Rattle.std.proofs.Common.{◌≡◌, ℕ, zero, suc, ◌+◌, ◌≤◌, ◌<◌, Bool, true, false, cond, List, [], ◌∷◌, ◌++◌, length, drop, get_or, Option, Some, None, refl, sym, ap, ap₂, ◌∙◌, subst, append_assoc, append-nil, arith}
+use Rattle.std.specs.Prelude.{◌&&◌, IsSome}
+use Rattle.std.proofs.lemmas.List.{length-replicate, length-append, drop-drop, drop_at, replicate-append-replicate}
+use Rattle.tree.specs.Tree.{Tree, node, Parts, none, part, gap, parts_of}
+use Rattle.language.specs.declared.Rank.TheVariants.{Expression}
+use Rattle.language.specs.declared.Start.TheVariants.{Any}
+use Rattle.language.specs.Pieces.{Role, expr, script, Slot}
+use Rattle.language.specs.Grammar.{ways, own_rank, own_in, own_start}
+use Rattle.language.specs.Positions.{first_roles, widest, has_row, rows, parts_rows}
+use Rattle.language.specs.Layout.{some_way, exceeds, wants_pair, inside}
+use Rattle.language.specs.Cost.{add_cost, least, cell, cell_position}
+use Rattle.positions.specs.declared.spelled.Spelled.{Spelled}
+use Rattle.positions.specs.Spelled.{fits_outline, settled_roles, Verdict}
+use Rattle.positions.specs.Remaining.{left}
+use Rattle.positions.specs.Wherever.{spelled_roles, IsSpelledWherever}
+use Rattle.paren_planner.specs.declared.costs.Costs as own
+use Rattle.paren_planner.specs.declared.table.Row.{Row}
+use Rattle.paren_planner.specs.Costs.{capped, capped_sum, cells_at}
+use Rattle.paren_planner.specs.Weighed.{settled_at, cost_of, fits_spelled}
+use Rattle.paren_planner.specs.Rows.{row_of, is_expression, own_row, table_rows, parts_table}
+use Rattle.paren_planner.specs.Wrapped.{unwrapped, flags, parts_flags, inner_flags, HasRows}
+use Rattle.paren_planner.proofs.Known.{own_again, fits_widest, counted}
+use Rattle.paren_planner.proofs.Filled.{way_when, rows_inside}
+use Rattle.paren_planner.proofs.Bounds.{Below, below_more, cell_below, least_below, widest-cell, capped_below, sum_below, rows_inner}
+use Rattle.paren_planner.proofs.Wrapping.{parts-rows, parts-table, widest_own, flags-length, rows-empty}
+
+-- Rows from a place on
+
+head_in : (xs : List Row) (k : ℕ) (y : Row) (ys : List Row) → drop k xs ≡ y ∷ ys → k < length xs
+head_in [] zero y ys h = absurd (cc)
+head_in [] (suc k) y ys h = absurd (cc)
+head_in (x ∷ xs) zero y ys h = omega arith
+head_in (x ∷ xs) (suc k) y ys h = omega (arith, head_in xs k y ys h)
+
+head_is : (xs : List Row) (k : ℕ) (d y : Row) (ys : List Row) → drop k xs ≡ y ∷ ys → get_or xs k d ≡ y
+head_is [] zero d y ys h = absurd (cc)
+head_is [] (suc k) d y ys h = absurd (cc)
+head_is (x ∷ xs) zero d y ys h = cc
+head_is (x ∷ xs) (suc k) d y ys h = head_is xs k d y ys h
+
+head_behind : (xs : List Row) (k : ℕ) (y : Row) (ys : List Row) → drop k xs ≡ y ∷ ys → drop (suc k) xs ≡ ys
+head_behind [] zero y ys h = absurd (cc)
+head_behind [] (suc k) y ys h = absurd (cc)
+head_behind (x ∷ xs) zero y ys h = cc
+head_behind (x ∷ xs) (suc k) y ys h = head_behind xs k y ys h
+
+pub front_rows : (t : List Row) (k : ℕ) (xs ys : List Row) → HasRows t k (xs ++ ys) → HasRows t k xs
+front_rows t k xs ys h = record { rest = ys ++ h.rest; stand = h.stand ∙ append_assoc xs ys h.rest }
+
+rows_behind : (t : List Row) (k m : ℕ) (xs ys : List Row) → m ≡ k + length xs → HasRows t k (xs ++ ys) → HasRows t m ys
+rows_behind t k m xs ys e h = record {
+  rest = h.rest;
+  stand = ap (λ i. drop i t) e ∙ sym (drop-drop (length xs) k t) ∙ ap (drop (length xs)) (h.stand ∙ append_assoc xs ys h.rest) ∙ drop_at xs (ys ++ h.rest) (length xs) refl;
+}
+
+own-row-length : (a : Role) (r : Row) → length (own_row a r) ≡ has_row a
+own-row-length (expr y i f) r = refl
+own-row-length _ r = refl
+
+mutual
+  unfolding table_rows parts_table rows parts_rows
+
+  pub table-length : (n : Tree) (a : Role) → length (table_rows n a) ≡ rows n a
+  table-length (node k w g s e ps) a = length-append (own_row a (row_of (node k w g s e ps))) _ ∙ ap₂ (λ u v. u + v) (own-row-length a (row_of (node k w g s e ps))) (parts-table-length ps (first_roles (ways (widest a) (node k w g s e ps))))
+
+  pub parts-table-length : (ps : Parts) (xs : List Role) → length (parts_table ps xs) ≡ parts_rows ps xs
+  parts-table-length none xs = refl
+  parts-table-length (gap ps) xs = parts-table-length ps xs
+  parts-table-length (part n ps) [] = refl
+  parts-table-length (part n ps) (a ∷ xs) = length-append (table_rows n a) (parts_table ps xs) ∙ ap₂ (λ u v. u + v) (table-length n a) (parts-table-length ps xs)
+
+given-length : (lives : Bool) (n : Tree) (a : Role) → length (cond lives (flags n a) (unwrapped (rows n a))) ≡ rows n a
+given-length true n a = flags-length n a
+given-length false n a = length-replicate (rows n a) false
+
+-- behind a part
+pub table_turn : (t : List Row) (ws vs : List Bool) (lives : Bool) (n : Tree) (a : Role) (ys : List Row) → vs ≡ ws ++ cond lives (flags n a) (unwrapped (rows n a)) → HasRows t (length ws) (table_rows n a ++ ys) → HasRows t (length vs) ys
+table_turn t ws vs lives n a ys e h = rows_behind t (length ws) (length vs) (table_rows n a) ys (ap length e ∙ length-append ws _ ∙ ap (λ m. length ws + m) (given-length lives n a ∙ sym (table-length n a))) h
+
+pub flags_turn : (ws vs : List Bool) (lives : Bool) (n : Tree) (a : Role) (ps : Parts) (xs : List Role) → vs ≡ ws ++ cond lives (flags n a) (unwrapped (rows n a)) →
+    vs ++ cond lives (parts_flags ps xs) (unwrapped (parts_rows ps xs)) ≡ ws ++ cond lives (parts_flags (part n ps) (a ∷ xs)) (unwrapped (parts_rows (part n ps) (a ∷ xs)))
+unfolding parts_flags parts_rows
+flags_turn ws vs true n a ps xs e = ap (λ u. u ++ parts_flags ps xs) e ∙ append_assoc ws (flags n a) (parts_flags ps xs)
+flags_turn ws vs false n a ps xs e = ap (λ u. u ++ unwrapped (parts_rows ps xs)) e ∙ append_assoc ws (unwrapped (rows n a)) (unwrapped (parts_rows ps xs)) ∙ ap (λ u. ws ++ u) (replicate-append-replicate (rows n a) (parts_rows ps xs) false)
+
+pub rows_of_part : (n : Tree) (a : Role) (ps : Parts) (xs : List Role) → parts_rows (part n ps) (a ∷ xs) ≡ rows n a + parts_rows ps xs
+unfolding parts_rows
+rows_of_part n a ps xs = refl
+
+-- The turns of the loop over parts
+
+abbrev pub given : Bool → Parts → List Role → List Bool
+given lives ps xs = cond lives (parts_flags ps xs) (unwrapped (parts_rows ps xs))
+
+given-gap : (lives : Bool) (ps : Parts) (xs : List Role) → given lives (gap ps) xs ≡ given lives ps xs
+unfolding parts_flags parts_rows
+given-gap true ps xs = refl
+given-gap false ps xs = refl
+
+given-none : (lives : Bool) (xs : List Role) → given lives none xs ≡ []
+unfolding parts_flags parts_rows
+given-none true xs = refl
+given-none false xs = refl
+
+given-stop : (lives : Bool) (n : Tree) (ps : Parts) → given lives (part n ps) [] ≡ []
+unfolding parts_flags parts_rows
+given-stop true n ps = refl
+given-stop false n ps = refl
+
+pub flags_skip : (ws R : List Bool) (lives : Bool) (P Q : Parts) (xs : List Role) → ws ++ given lives P xs ≡ R → P ≡ gap Q → ws ++ given lives Q xs ≡ R
+flags_skip ws R lives P Q xs h p = ap (λ u. ws ++ u) (sym (given-gap lives Q xs) ∙ (λ j. given lives (sym p j) xs)) ∙ h
+
+pub flags_stop : (ws R : List Bool) (lives : Bool) (P Q : Parts) (n : Tree) (a : Role) (xs : List Slot) → ws ++ given lives P (settled_roles a xs) ≡ R → P ≡ part n Q → xs ≡ [] → ws ≡ R
+flags_stop ws R lives P Q n a xs h p e = sym (append-nil ws) ∙ ap (λ u. ws ++ u) (sym (given-stop lives n Q) ∙ (λ j. given lives (sym p j) (settled_roles a (sym e j)))) ∙ h
+
+pub flags_finish : (ws R : List Bool) (lives : Bool) (P : Parts) (xs : List Role) → ws ++ given lives P xs ≡ R → P ≡ none → ws ≡ R
+flags_finish ws R lives P xs h p = sym (append-nil ws) ∙ ap (λ u. ws ++ u) (sym (given-none lives xs) ∙ (λ j. given lives (sym p j) xs)) ∙ h
+
+pub flags_next : (ws vs R : List Bool) (lives : Bool) (P Q : Parts) (n : Tree) (a : Role) (x : Slot) (xs ys : List Slot) → ws ++ given lives P (settled_roles a xs) ≡ R → P ≡ part n Q → xs ≡ x ∷ ys →
+    vs ≡ ws ++ cond lives (flags n (settled_at a x)) (unwrapped (rows n (settled_at a x))) → vs ++ given lives Q (settled_roles a ys) ≡ R
+flags_next ws vs R lives P Q n a x xs ys h p e k =
+    flags_turn ws vs lives n (settled_at a x) Q (settled_roles a ys) k ∙ ap (λ u. ws ++ u) (λ j. given lives (sym p j) (settled_roles a (sym e j))) ∙ h
+
+pub table_skip : (t : List Row) (k : ℕ) (P Q : Parts) (xs : List Role) → HasRows t k (parts_table P xs) → P ≡ gap Q → HasRows t k (parts_table Q xs)
+unfolding parts_table
+table_skip t k P Q xs h p = subst (λ u. HasRows t k (parts_table u xs)) p h
+
+pub table_here : (t : List Row) (k : ℕ) (P Q : Parts) (n : Tree) (a : Role) (x : Slot) (xs ys : List Slot) → HasRows t k (parts_table P (settled_roles a xs)) → P ≡ part n Q → xs ≡ x ∷ ys →
+    HasRows t k (table_rows n (settled_at a x) ++ parts_table Q (settled_roles a ys))
+unfolding parts_table
+table_here t k P Q n a x xs ys h p e = let E : parts_table P (settled_roles a xs) ≡ parts_table (part n Q) (settled_roles a (x ∷ ys)) = λ j. parts_table (p j) (settled_roles a (e j)) in subst (HasRows t k) E h
+
+pub few_skip : (P Q : Parts) (xs : List Role) (m : ℕ) → parts_rows P xs ≤ m → P ≡ gap Q → parts_rows Q xs ≤ m
+unfolding parts_rows
+few_skip P Q xs m h p = subst (λ u. parts_rows u xs ≤ m) p h
+
+pub few_here : (P Q : Parts) (n : Tree) (a : Role) (x : Slot) (xs ys : List Slot) (m : ℕ) → parts_rows P (settled_roles a xs) ≤ m → P ≡ part n Q → xs ≡ x ∷ ys → (rows n (settled_at a x) ≤ m) × (parts_rows Q (settled_roles a ys) ≤ m)
+unfolding parts_rows
+few_here P Q n a x xs ys m h p e =
+    let E : parts_rows P (settled_roles a xs) ≡ rows n (settled_at a x) + parts_rows Q (settled_roles a ys) = λ j. parts_rows (p j) (settled_roles a (e j)) in
+    (omega (arith, E, h), omega (arith, E, h))
+
+-- Below a node
+
+widely_known : (b : Role) (n : Tree) (x : Spelled) → IsSpelledWherever b n (Some x) → first_roles (ways (widest b) n) ≡ settled_roles (widest b) (left x.slots)
+widely_known b n x h =
+    let v : Verdict (ways (widest b) n) (spelled_roles (widest b) (Some x)) = subst (λ u. Verdict (ways u n) (spelled_roles u (Some x))) (widest_own b) (h Expression true Any) in
+    let w : Verdict (ways (widest b) n) (Some (settled_roles (widest b) (left x.slots))) = subst (λ u. Verdict (ways (widest b) n) (cond u (Some (settled_roles (widest b) (left x.slots))) None)) (fits_widest b x.outline) v in
+    w.1
+
+pub table_below : (b : Role) (n : Tree) (x : Spelled) → IsSpelledWherever b n (Some x) → parts_table (parts_of n) (first_roles (ways (widest b) n)) ≡ parts_table (parts_of n) (settled_roles b (left x.slots))
+table_below b n x h = ap (parts_table (parts_of n)) (widely_known b n x h) ∙ parts-table (parts_of n) (widest b) b (left x.slots)
+
+pub rows_below : (b : Role) (n : Tree) (x : Spelled) → IsSpelledWherever b n (Some x) → parts_rows (parts_of n) (first_roles (ways (widest b) n)) ≡ parts_rows (parts_of n) (settled_roles b (left x.slots))
+rows_below b n x h = ap (parts_rows (parts_of n)) (widely_known b n x h) ∙ parts-rows (parts_of n) (widest b) b (left x.slots)
+
+here : (b : Role) (n : Tree) (r : Option Spelled) → IsSpelledWherever b n r → Verdict (ways b n) (spelled_roles b r)
+here b n r h = subst (λ u. Verdict (ways u n) (spelled_roles u r)) (own_again b) (h (own_rank b) (own_in b) (own_start b))
+
+pub inner_some : (b : Role) (n : Tree) (x : Spelled) (lives : Bool) → IsSpelledWherever b n (Some x) →
+    cond (lives && fits_outline b x.outline) (parts_flags (parts_of n) (settled_roles b (left x.slots))) (unwrapped (parts_rows (parts_of n) (settled_roles b (left x.slots))))
+    ≡ cond lives (inner_flags n b) (unwrapped (parts_rows (parts_of n) (first_roles (ways (widest b) n))))
+unfolding inner_flags
+inner_some b n x false h = ap unwrapped (sym (rows_below b n x h))
+inner_some b n x true h = of (fits_outline b x.outline) (here b n (Some x) h)
+  where
+    of : (v : Bool) → Verdict (ways b n) (cond v (Some (settled_roles b (left x.slots))) None) →
+        cond v (parts_flags (parts_of n) (settled_roles b (left x.slots))) (unwrapped (parts_rows (parts_of n) (settled_roles b (left x.slots))))
+        ≡ cond (some_way (ways b n)) (parts_flags (parts_of n) (first_roles (ways b n))) (unwrapped (parts_rows (parts_of n) (first_roles (ways (widest b) n))))
+    of true k = sym (ap (λ v. cond v (parts_flags (parts_of n) (first_roles (ways b n))) (unwrapped (parts_rows (parts_of n) (first_roles (ways (widest b) n))))) k.0 ∙ ap (parts_flags (parts_of n)) k.1)
+    of false k = ap unwrapped (sym (rows_below b n x h)) ∙ sym (ap (λ u. cond (some_way u) (parts_flags (parts_of n) (first_roles u)) (unwrapped (parts_rows (parts_of n) (first_roles (ways (widest b) n))))) k)
+
+pub inner_none : (b : Role) (n : Tree) (lives : Bool) → IsSpelledWherever b n None → [] ≡ cond lives (inner_flags n b) (unwrapped (parts_rows (parts_of n) (first_roles (ways (widest b) n))))
+unfolding inner_flags
+inner_none b n lives h = of lives
+  where
+    widely : ways (widest b) n ≡ []
+    widely = subst (λ u. ways u n ≡ []) (widest_own b) (h Expression true Any)
+
+    empty : unwrapped (parts_rows (parts_of n) (first_roles (ways (widest b) n))) ≡ []
+    empty = ap (λ u. unwrapped (parts_rows (parts_of n) (first_roles u))) widely ∙ ap unwrapped (rows-empty (parts_of n))
+
+    of : (l : Bool) → [] ≡ cond l (cond (some_way (ways b n)) (parts_flags (parts_of n) (first_roles (ways b n))) (unwrapped (parts_rows (parts_of n) (first_roles (ways (widest b) n))))) (unwrapped (parts_rows (parts_of n) (first_roles (ways (widest b) n))))
+    of false = sym empty
+    of true = sym (ap (λ u. cond (some_way u) (parts_flags (parts_of n) (first_roles u)) (unwrapped (parts_rows (parts_of n) (first_roles (ways (widest b) n))))) (here b n None h) ∙ empty)
+
+-- A node
+
+pub plain_flags : (n : Tree) (a : Role) (lives : Bool) → is_expression a ≡ false →
+    cond lives (inner_flags n a) (unwrapped (parts_rows (parts_of n) (first_roles (ways (widest a) n)))) ≡ cond lives (flags n a) (unwrapped (rows n a))
+unfolding inner_flags flags rows
+plain_flags (node k w g s e ps) (expr y i f) lives h = absurd (cc)
+plain_flags (node k w g s e ps) _ true h = refl
+plain_flags (node k w g s e ps) _ false h = ap unwrapped (let m : (m : ℕ) → m ≡ 0 + m = λ m. omega arith in m _)
+
+pub plain_rows : (n : Tree) (a : Role) → is_expression a ≡ false → rows n a ≡ parts_rows (parts_of n) (first_roles (ways (widest a) n))
+unfolding rows
+plain_rows (node k w g s e ps) (expr y i f) h = absurd (cc)
+plain_rows (node k w g s e ps) _ h = let m : (m : ℕ) → 0 + m ≡ m = λ m. omega arith in m _
+
+-- an expression's row stands first
+pub first_row : (t : List Row) (m : ℕ) (n : Tree) (a : Role) → is_expression a ≡ true → HasRows t m (table_rows n a) → (m < length t) × ((d : Row) → get_or t m d ≡ row_of n) × HasRows t (suc m) (parts_table (parts_of n) (first_roles (ways (expr Expression true Any) n)))
+unfolding table_rows
+first_row t m (node k w g s e ps) (expr y i f) h r = (head_in t m _ _ r.stand, λ d. head_is t m d _ _ r.stand, record { rest = r.rest; stand = head_behind t m _ _ r.stand })
+first_row t m n _ h r = absurd (cc)
+
+pub wanted : (n : Tree) (a : Role) (r : Option Spelled) (c : own.Costs) → is_expression a ≡ true → IsSpelledWherever a n r → rows n a ≤ 16777216 → c ≡ cells_at n (expr Expression true Any) →
+    exceeds (cond (fits_spelled a r) (cost_of c a) None) (capped_sum (Some 1) c.with_in.any) ≡ wants_pair n a
+unfolding cells_at
+wanted n (expr y i f) r c h s l e =
+    let inner : parts_rows (parts_of n) (first_roles (ways (expr Expression true Any) n)) ≤ 16777216 = omega (arith, rows_inner n y i f, l) in
+    let direct : cost_of c (expr y i f) ≡ cell n (cell_position (expr y i f)) =
+    counted c n Expression true Any e y i f
+    ∙ capped_below (below_more (subst (λ b. Below (cell n (cell_position (expr y i f))) (parts_rows (parts_of n) (first_roles (ways b n)))) (widest-cell y i f) (cell_below n (cell_position (expr y i f)))) inner) in
+    let whole : Below (cell n (expr Expression true Any)) 16777216 = below_more (cell_below n (expr Expression true Any)) inner in
+    let around : capped_sum (Some 1) c.with_in.any ≡ add_cost (Some 1) (cell n (expr Expression true Any)) =
+    ap (λ d. capped_sum (Some 1) d.with_in.any) e ∙ ap (capped_sum (Some 1)) (capped_below whole) ∙ sum_below whole in
+    let fit : fits_spelled (expr y i f) r ≡ some_way (ways (expr y i f) n) = sym (way_spelled (expr y i f) n r s) in
+    (λ j. exceeds (cond (fit j) (direct j) None) (around j))
+  where
+    way_spelled : (b : Role) (n : Tree) (r : Option Spelled) → IsSpelledWherever b n r → some_way (ways b n) ≡ fits_spelled b r
+    way_spelled b n None k = ap some_way (here b n None k)
+    way_spelled b n (Some x) k = way_when (ways b n) (spelled_roles b (Some x)) (here b n (Some x) k) (fits_outline b x.outline) (settled_roles b (left x.slots)) refl
+wanted n _ r c h s l e = absurd (cc)
+
+pub spelled_inside : (n : Tree) (a : Role) (b : Bool) (r : Option Spelled) → is_expression a ≡ true → IsSpelledWherever a n r → IsSpelledWherever (inside b a) n r
+spelled_inside n (expr y i f) true r h s = s
+spelled_inside n (expr y i f) false r h s = s
+spelled_inside n _ b r h s = absurd (cc)
+
+pub widest_whole : (a : Role) (b : Bool) → is_expression a ≡ true → widest (inside b a) ≡ expr Expression true Any
+widest_whole (expr y i f) true h = refl
+widest_whole (expr y i f) false h = refl
+widest_whole _ b h = absurd (cc)
+
+one_more : (m : ℕ) → unwrapped (1 + m) ≡ false ∷ unwrapped m
+one_more m = let e : 1 + m ≡ suc m = omega arith in ap unwrapped e
+
+-- an expression's flag stands before those below it
+pub own_flags : (n : Tree) (a : Role) (lives : Bool) (ws vs : List Bool) → is_expression a ≡ true →
+    vs ≡ (ws ++ (lives && wants_pair n a) ∷ []) ++ cond lives (inner_flags n (inside (lives && wants_pair n a) a)) (unwrapped (parts_rows (parts_of n) (first_roles (ways (widest (inside (lives && wants_pair n a) a)) n)))) →
+    vs ≡ ws ++ cond lives (flags n a) (unwrapped (rows n a))
+unfolding inner_flags flags
+own_flags (node k w g s e ps) (expr y i f) true ws vs h q =
+    q ∙ append_assoc ws (wants_pair (node k w g s e ps) (expr y i f) ∷ []) _
+    ∙ ap (λ b. ws ++ wants_pair (node k w g s e ps) (expr y i f) ∷ cond (some_way (ways (inside (wants_pair (node k w g s e ps) (expr y i f)) (expr y i f)) (node k w g s e ps))) (parts_flags ps (first_roles (ways (inside (wants_pair (node k w g s e ps) (expr y i f)) (expr y i f)) (node k w g s e ps)))) (unwrapped (parts_rows ps (first_roles (ways b (node k w g s e ps)))))) (widest_whole (expr y i f) (wants_pair (node k w g s e ps) (expr y i f)) refl)
+own_flags (node k w g s e ps) (expr y i f) false ws vs h q =
+    q ∙ append_assoc ws (false ∷ []) _ ∙ ap (λ u. ws ++ u) (sym (ap unwrapped (rows_inner (node k w g s e ps) y i f) ∙ one_more _))
+own_flags n _ lives ws vs h q = absurd (cc)
+
+-- A script
+
+pub all_rows : (t rows : List Row) → t ≡ rows → HasRows t 0 rows
+all_rows t rows h = record { rest = []; stand = h ∙ sym (append-nil rows) }
+
+cell_script : (n : Tree) → cell n script ≡ least n script
+unfolding cell least
+cell_script (node k w g s e ps) = refl
+
+pub script_cost : (n : Tree) (c : own.Costs) → c ≡ cells_at n script → c.with_in.any ≡ capped (least n script)
+unfolding cells_at
+script_cost n c e = ap (λ d. d.with_in.any) e ∙ ap capped (cell_script n)
+
+pub script_least : (n : Tree) (c : own.Costs) → c ≡ cells_at n script → rows n script ≤ 16777216 → c.with_in.any ≡ least n script
+script_least n c e l = script_cost n c e ∙ capped_below (below_more (least_below n script) l)
+
+pub total_is : (o l : Option ℕ) (t : ℕ) → IsSome l → o ≡ l → ((s : ℕ) → o ≡ Some s → t ≡ s) → Some t ≡ l
+total_is o None t h e k = absurd (cc)
+total_is o (Some s) t h e k = ap (λ m. Some m) (k s e)
+
+-- An expression, step by step
+
+pub own_cost : (t : List Row) (ws : List Bool) (n : Tree) (a : Role) (i : ℕ) (c : own.Costs) → is_expression a ≡ true → HasRows t (length ws) (table_rows n a) → i ≡ length ws → ((r : Row) → c ≡ (get_or t i r).costs) → c ≡ cells_at n (expr Expression true Any)
+unfolding row_of
+own_cost t ws n a i c h s e k =
+    let found : get_or t (length ws) (row_of n) ≡ row_of n = (first_row t (length ws) n a h s).1 (row_of n) in
+    k (row_of n) ∙ ap (λ m. (get_or t m (row_of n)).costs) e ∙ ap (λ r. r.costs) found
+
+pub own_index : (t : List Row) (ws : List Bool) (n : Tree) (a : Role) (i : ℕ) → is_expression a ≡ true → HasRows t (length ws) (table_rows n a) → i ≡ length ws → i < length t
+own_index t ws n a i h s e = let found : length ws < length t = (first_row t (length ws) n a h s).0 in omega (arith, found, e)
+
+pub own_standing : (t : List Row) (ws vs : List Bool) (n : Tree) (a o : Role) (b : Bool) → is_expression a ≡ true → o ≡ inside b a → vs ≡ ws ++ b ∷ [] → HasRows t (length ws) (table_rows n a) →
+    HasRows t (length vs) (parts_table (parts_of n) (first_roles (ways (widest o) n)))
+own_standing t ws vs n a o b h q e s =
+    let here : length vs ≡ suc (length ws) = ap length e ∙ length-append ws (b ∷ []) ∙ (let m : length ws + 1 ≡ suc (length ws) = omega arith in m) in
+    let wide : widest o ≡ expr Expression true Any = ap widest q ∙ widest_whole a b h in
+    subst (λ m. HasRows t m (parts_table (parts_of n) (first_roles (ways (widest o) n)))) (sym here)
+    (subst (λ r. HasRows t (suc (length ws)) (parts_table (parts_of n) (first_roles (ways r n)))) (sym wide) (first_row t (length ws) n a h s).2)
+
+own_rows : (n : Tree) (a : Role) → is_expression a ≡ true → rows n a ≡ 1 + parts_rows (parts_of n) (first_roles (ways (expr Expression true Any) n))
+own_rows n (expr y i f) h = rows_inner n y i f
+own_rows n _ h = absurd (cc)
+
+pub own_few : (n : Tree) (a o : Role) (b : Bool) (m : ℕ) → is_expression a ≡ true → o ≡ inside b a → rows n a ≤ m → parts_rows (parts_of n) (first_roles (ways (widest o) n)) ≤ m
+own_few n a o b m h q l =
+    let wide : widest o ≡ expr Expression true Any = ap widest q ∙ widest_whole a b h in
+    let inner : parts_rows (parts_of n) (first_roles (ways (expr Expression true Any) n)) ≤ m = omega (arith, own_rows n a h, l) in
+    subst (λ r. parts_rows (parts_of n) (first_roles (ways r n)) ≤ m) (sym wide) inner
+
+pub own_result : (n : Tree) (a o : Role) (lives b : Bool) (ws us vs : List Bool) → is_expression a ≡ true → o ≡ inside b a → b ≡ (lives && wants_pair n a) → us ≡ ws ++ b ∷ [] →
+    vs ≡ us ++ cond lives (inner_flags n o) (unwrapped (parts_rows (parts_of n) (first_roles (ways (widest o) n)))) → vs ≡ ws ++ cond lives (flags n a) (unwrapped (rows n a))
+own_result n a o lives b ws us vs h q e u k =
+    let r : o ≡ inside (lives && wants_pair n a) a = q ∙ ap (λ v. inside v a) e in
+    own_flags n a lives ws vs h
+    (k ∙ ap (λ w. w ++ cond lives (inner_flags n o) (unwrapped (parts_rows (parts_of n) (first_roles (ways (widest o) n))))) (u ∙ ap (λ v. ws ++ v ∷ []) e)
+    ∙ (λ j. (ws ++ (lives && wants_pair n a) ∷ []) ++ cond lives (inner_flags n (r j)) (unwrapped (parts_rows (parts_of n) (first_roles (ways (widest (r j)) n))))))
+
+-- below a node that has no row
+pub plain_standing : (t : List Row) (m : ℕ) (n : Tree) (a : Role) → is_expression a ≡ false → HasRows t m (table_rows n a) → HasRows t m (parts_table (parts_of n) (first_roles (ways (widest a) n)))
+plain_standing t m n a h s = subst (HasRows t m) (rows_inside n a h) s
+
+pub plain_few : (n : Tree) (a : Role) (m : ℕ) → is_expression a ≡ false → rows n a ≤ m → parts_rows (parts_of n) (first_roles (ways (widest a) n)) ≤ m
+plain_few n a m h l = subst (λ k. k ≤ m) (plain_rows n a h) l

@@ -1,0 +1,4 @@
+pub mod Costs
+pub mod Weighed
+pub mod Rows
+pub mod Wrapped

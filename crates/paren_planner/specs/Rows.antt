@@ -1,0 +1,38 @@
+-- The rows of a cost table: one for each node at an expression's position, a node before its parts.
+use Rattle.std.specs.Prelude.{Bool, true, false, List, [], ◌∷◌, ◌++◌}
+use Rattle.language.specs.declared.Rank.TheVariants.{Expression}
+use Rattle.language.specs.declared.Start.TheVariants.{Any}
+use Rattle.tree.specs.Tree.{Tree, node, Parts, none, part, gap, kind_of}
+use Rattle.language.specs.Pieces.{Role, expr}
+use Rattle.language.specs.Grammar.{ways}
+use Rattle.language.specs.Positions.{first_roles, widest}
+use Rattle.tree.specs.declared.kind.Kind.{Kind}
+use Rattle.paren_planner.specs.declared.costs.Costs.{Costs}
+use Rattle.paren_planner.specs.declared.table.Row.{Row}
+use Rattle.paren_planner.specs.Costs.{cells_at}
+
+abbrev pub row_with : Kind → Costs → Row
+row_with k c = record { kind = k; costs = c }
+
+-- the row of a node: its kind and its cells
+unfoldable pub row_of : Tree → Row
+row_of n = row_with (kind_of n) (cells_at n (expr Expression true Any))
+
+abbrev pub is_expression : Role → Bool
+is_expression (expr y i f) = true
+is_expression _ = false
+
+-- at an expression's position
+abbrev pub own_row : Role → Row → List Row
+own_row (expr y i f) r = r ∷ []
+own_row _ r = []
+
+unfoldable mutual
+  pub table_rows : Tree → Role → List Row
+  table_rows (node k w g s e ps) a = own_row a (row_of (node k w g s e ps)) ++ parts_table ps (first_roles (ways (widest a) (node k w g s e ps)))
+
+  pub parts_table : Parts → List Role → List Row
+  parts_table none xs = []
+  parts_table (gap ps) xs = parts_table ps xs
+  parts_table (part n ps) [] = []
+  parts_table (part n ps) (a ∷ xs) = table_rows n a ++ parts_table ps xs

@@ -1,0 +1,132 @@
+//! What a node costs, at each symbol, In and start that matters.
+
+ghost use Rattle.std.specs.Prelude.{◌≡◌, Option};
+ghost use Rattle.paren_planner.specs.Costs.{cost_at, started_at, each_start, sums, same_everywhere, capped_sum, eight, of_cells};
+
+use crate::amount::sum;
+use language::{Rank, Start, tightness_of};
+
+/// The numbers at the three starts.
+#[derive(Clone, Copy)]
+pub(crate) struct Starts {
+    pub any: Option<u32>,
+    pub no_brace: Option<u32>,
+    pub statement: Option<u32>,
+}
+
+impl Starts {
+    /// The same number at each.
+    fn same(number: Option<u32>) -> Starts
+        ensures { result ≡ each_start (λ f. number) }
+    {
+        Starts {
+            any: number,
+            no_brace: number,
+            statement: number,
+        }
+    }
+
+    fn at(self, start: Start) -> Option<u32>
+        ensures { result ≡ started_at self start }
+    {
+        match start {
+            Start::Any => self.any,
+            Start::NoBrace => self.no_brace,
+            Start::Statement => self.statement,
+        }
+    }
+
+    fn plus(self, other: Starts) -> Starts
+        ensures { result ≡ each_start (λ f. capped_sum (started_at self f) (started_at other f)) }
+    {
+        Starts {
+            any: sum(self.any, other.any),
+            no_brace: sum(self.no_brace, other.no_brace),
+            statement: sum(self.statement, other.statement),
+        }
+    }
+}
+
+/// The pairs inside a node, spelled directly: with In, without In, and where only what is at Member may stand; none where it can't be.
+#[derive(Clone, Copy)]
+pub(crate) struct Costs {
+    pub with_in: Starts,
+    pub without_in: Starts,
+    pub at_member: Starts,
+}
+
+impl Costs {
+    /// The same number everywhere.
+    pub(crate) fn same(number: Option<u32>) -> Costs
+        ensures { result ≡ same_everywhere number }
+    {
+        Costs {
+            with_in: Starts::same(number),
+            without_in: Starts::same(number),
+            at_member: Starts::same(number),
+        }
+    }
+
+    /// The number that counts at a symbol, In and start.
+    pub(crate) fn at(self, rank: Rank, with_in: bool, start: Start) -> Option<u32>
+        ensures { result ≡ cost_at self rank with_in start }
+    {
+        if tightness_of(rank) >= 21 {
+            return self.at_member.at(start);
+        }
+        if with_in {
+            return self.with_in.at(start);
+        }
+        self.without_in.at(start)
+    }
+
+    /// The sums, one by one.
+    pub(crate) fn plus(self, other: Costs) -> Costs
+        ensures { result ≡ sums self other }
+    {
+        Costs {
+            with_in: self.with_in.plus(other.with_in),
+            without_in: self.without_in.plus(other.without_in),
+            at_member: self.at_member.plus(other.at_member),
+        }
+    }
+
+    /// The eight numbers of a row.
+    pub(crate) fn cells(self) -> [Option<u32>; 8]
+        ensures { result ≡ eight self }
+    {
+        [
+            self.with_in.any,
+            self.with_in.no_brace,
+            self.with_in.statement,
+            self.without_in.any,
+            self.without_in.no_brace,
+            self.at_member.any,
+            self.at_member.no_brace,
+            self.at_member.statement,
+        ]
+    }
+
+    /// The numbers of a row's eight cells; none for a statement without In, where no row has one.
+    pub(crate) fn from_cells(cells: [Option<u32>; 8]) -> Costs
+        ensures { result ≡ of_cells cells }
+    {
+        Costs {
+            with_in: Starts {
+                any: cells[0],
+                no_brace: cells[1],
+                statement: cells[2],
+            },
+            without_in: Starts {
+                any: cells[3],
+                no_brace: cells[4],
+                statement: None,
+            },
+            at_member: Starts {
+                any: cells[5],
+                no_brace: cells[6],
+                statement: cells[7],
+            },
+        }
+    }
+}

@@ -1,0 +1,16 @@
+#![tactic(auto)]
+
+//! The planner: which expressions are wrapped in a pair of parentheses, and what each costs.
+
+mod amount;
+mod costs;
+mod fill;
+mod planned;
+mod planner;
+mod table;
+mod weighed;
+mod wrap;
+
+pub use planned::Plan;
+pub use planner::{has_plan, plan};
+pub use table::CostTable;

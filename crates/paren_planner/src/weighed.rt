@@ -1,0 +1,164 @@
+//! A node that is weighed: what it costs at any position.
+
+ghost use Rattle.std.specs.Prelude.{◌≡◌, None, cond};
+ghost use Rattle.language.specs.Positions.{widest as widest_role};
+ghost use Rattle.positions.specs.Outlines.{role_of, slot_of};
+ghost use Rattle.positions.specs.Spelled.{fits_outline};
+ghost use Rattle.positions.specs.Wherever.{with_own as role_with_own};
+ghost use Rattle.paren_planner.specs.Costs.{each_start, started_at};
+ghost use Rattle.paren_planner.specs.Weighed.{cost_of, direct_cost, least_of, settled_at, uses as uses_of, fitting as fitting_costs};
+
+use crate::amount::{lesser, sum};
+use crate::costs::{Costs, Starts};
+use language::{Rank, Start};
+use positions::{Outline, Position, Slot, fits, settled};
+
+/// A node's outline, none where it can't be spelled, and what it costs.
+#[derive(Clone, Copy)]
+pub(crate) struct Weighed {
+    pub outline: Option<Outline>,
+    pub costs: Costs,
+}
+
+/// The position with another symbol, In and start, where it has them.
+pub(crate) fn with_own(position: Position, rank: Rank, with_in: bool, start: Start) -> Position
+    ensures { role_of result ≡ role_with_own rank with_in start (role_of position) }
+{
+    match position {
+        Position::Expression { .. } => Position::Expression {
+            rank,
+            with_in,
+            start,
+        },
+        Position::Spine { .. } => Position::Spine { start },
+        Position::Pattern { binds, .. } => Position::Pattern { binds, start },
+        _ => position,
+    }
+}
+
+/// The position with all that a spelling may depend on left open.
+pub(crate) fn widest(position: Position) -> Position
+    ensures { role_of result ≡ widest_role (role_of position) }
+{
+    with_own(position, Rank::Expression, true, Start::Any)
+}
+
+/// The number that counts for a node at a position.
+pub(crate) fn cost_at(costs: Costs, position: Position) -> Option<u32>
+    ensures { result ≡ cost_of costs (role_of position) }
+{
+    match position {
+        Position::Expression {
+            rank,
+            with_in,
+            start,
+        } => costs.at(rank, with_in, start),
+        Position::Spine { start } | Position::Pattern { start, .. } => {
+            costs.at(Rank::Expression, true, start)
+        }
+        _ => costs.at(Rank::Expression, true, Start::Any),
+    }
+}
+
+/// The least number of pairs of a node at a position, with a pair round it or without.
+fn least(part: Weighed, position: Position) -> Option<u32>
+    ensures { result ≡ least_of part (role_of position) }
+{
+    let direct = direct_cost(part, position);
+    match position {
+        Position::Expression { .. } => {
+            lesser(
+                direct,
+                sum(
+                    Some(1u32),
+                    part.costs.at(Rank::Expression, true, Start::Any),
+                ),
+            )
+        }
+        _ => direct,
+    }
+}
+
+/// The number of pairs of a node at a position without a pair round it.
+fn direct_cost(part: Weighed, position: Position) -> Option<u32>
+    ensures { result ≡ direct_cost part (role_of position) }
+{
+    match part.outline {
+        Some(outline) if fits(position, outline) => cost_at(part.costs, position),
+        _ => None,
+    }
+}
+
+/// What a part costs in a node, wherever that stands.
+pub(crate) fn uses(own: Position, slot: Slot, part: Weighed) -> Costs
+    ensures { result ≡ uses_of (role_of own) (slot_of slot) part }
+{
+    if let Slot::Fixed(position) = slot {
+        return Costs::same(least(part, position));
+    }
+    Costs {
+        with_in: started_uses(own, Rank::Expression, true, slot, part),
+        without_in: started_uses(own, Rank::Expression, false, slot, part),
+        at_member: started_uses(own, Rank::Member, true, slot, part),
+    }
+}
+
+fn started_uses(own: Position, rank: Rank, with_in: bool, slot: Slot, part: Weighed) -> Starts
+    ensures { result ≡ each_start (λ f. least_of part (settled_at (role_with_own rank with_in f (role_of own)) (slot_of slot))) }
+{
+    Starts {
+        any: use_at(with_own(own, rank, with_in, Start::Any), slot, part),
+        no_brace: use_at(with_own(own, rank, with_in, Start::NoBrace), slot, part),
+        statement: use_at(with_own(own, rank, with_in, Start::Statement), slot, part),
+    }
+}
+
+fn use_at(own: Position, slot: Slot, part: Weighed) -> Option<u32>
+    ensures { result ≡ least_of part (settled_at (role_of own) (slot_of slot)) }
+{
+    least(part, settled(own, slot))
+}
+
+/// What a node costs, of the sums over its parts: none where its spelling doesn't fit.
+pub(crate) fn fitting(own: Position, outline: Outline, costs: Costs) -> Costs
+    ensures { result ≡ fitting_costs (role_of own) outline costs }
+{
+    Costs {
+        with_in: started_fitting(own, Rank::Expression, true, outline, costs.with_in),
+        without_in: started_fitting(own, Rank::Expression, false, outline, costs.without_in),
+        at_member: started_fitting(own, Rank::Member, true, outline, costs.at_member),
+    }
+}
+
+fn started_fitting(
+    own: Position,
+    rank: Rank,
+    with_in: bool,
+    outline: Outline,
+    costs: Starts,
+) -> Starts
+    ensures { result ≡ each_start (λ f. cond (fits_outline (role_with_own rank with_in f (role_of own)) outline) (started_at costs f) None) }
+{
+    Starts {
+        any: fitted(with_own(own, rank, with_in, Start::Any), outline, costs.any),
+        no_brace: fitted(
+            with_own(own, rank, with_in, Start::NoBrace),
+            outline,
+            costs.no_brace,
+        ),
+        statement: fitted(
+            with_own(own, rank, with_in, Start::Statement),
+            outline,
+            costs.statement,
+        ),
+    }
+}
+
+fn fitted(position: Position, outline: Outline, cost: Option<u32>) -> Option<u32>
+    ensures { result ≡ cond (fits_outline (role_of position) outline) cost None }
+{
+    if fits(position, outline) {
+        return cost;
+    }
+    None
+}
