@@ -8,7 +8,7 @@ import time
 
 TOP = os.path.dirname(os.path.dirname(os.path.abspath(__file__)))
 PARTS = ("src", "specs", "proofs")
-PACKAGES = ("libjs-jquery", "libjs-d3", "libjs-three", "node-react-dom", "node-acorn", "esbuild", "time")
+PACKAGES = ("libjs-jquery", "libjs-d3", "libjs-three", "node-react-dom", "node-acorn", "node-escodegen", "esbuild", "terser", "time")
 SCRIPTS = (
     "/usr/share/javascript/jquery/jquery.js",
     "/usr/share/javascript/jquery/jquery.min.js",
@@ -25,7 +25,7 @@ def scripts():
     """The files of the command line, or those of Debian's packages, which are installed where they are missing."""
     if sys.argv[1:]:
         return sys.argv[1:]
-    if not (all(os.path.exists(it) for it in SCRIPTS) and shutil.which("esbuild") and os.path.exists("/usr/bin/time")):
+    if not (all(os.path.exists(it) for it in SCRIPTS) and shutil.which("esbuild") and shutil.which("terser") and os.path.exists("/usr/bin/time")):
         subprocess.run(["apt-get", "install", "-y", "--no-install-recommends", *PACKAGES], check=True, stdout=sys.stderr)
     return list(SCRIPTS)
 

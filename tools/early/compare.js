@@ -128,20 +128,25 @@ function answer(text) {
   return first === undefined ? 'none' : `E${first.number} ${first.at}`;
 }
 
-const file = option('file', null);
-const texts = file !== null ? fs.readFileSync(file, 'utf8').split('\0') : makeTexts(Number(option('n', 1000)), Number(option('seed', 1)));
-const answers = answersOf(copied(path.join(__dirname, 'dump.txt'), ['source_text', 'parser', 'early_errors']), texts, 8000);
-const seen = {};
-let differ = 0;
-for (let i = 0; i < answers.length; i++) {
-  const wanted = answer(texts[i]);
-  const what = wanted.split(' ')[0];
-  seen[what] = (seen[what] ?? 0) + 1;
-  if (wanted === answers[i]) continue;
-  differ += 1;
-  if (differ > Number(option('show', 20))) continue;
-  console.log(JSON.stringify(texts[i]) + '\n  model: ' + wanted + '\n  crate: ' + answers[i]);
+function main() {
+  const file = option('file', null);
+  const texts = file !== null ? fs.readFileSync(file, 'utf8').split('\0') : makeTexts(Number(option('n', 1000)), Number(option('seed', 1)));
+  const answers = answersOf(copied(path.join(__dirname, 'dump.txt'), ['source_text', 'parser', 'early_errors']), texts, 8000);
+  const seen = {};
+  let differ = 0;
+  for (let i = 0; i < answers.length; i++) {
+    const wanted = answer(texts[i]);
+    const what = wanted.split(' ')[0];
+    seen[what] = (seen[what] ?? 0) + 1;
+    if (wanted === answers[i]) continue;
+    differ += 1;
+    if (differ > Number(option('show', 20))) continue;
+    console.log(JSON.stringify(texts[i]) + '\n  model: ' + wanted + '\n  crate: ' + answers[i]);
+  }
+  console.log(JSON.stringify(seen));
+  console.log(`${answers.length} texts, ${differ} disagreements`);
+  if (differ > 0) process.exitCode = 1;
 }
-console.log(JSON.stringify(seen));
-console.log(`${answers.length} texts, ${differ} disagreements`);
-if (differ > 0) process.exitCode = 1;
+
+module.exports = { makeScript };
+if (require.main === module) main();

@@ -117,24 +117,29 @@ function run(texts) {
   return answersOf(folder, texts, 4000);
 }
 
-const file = option('file', null);
-const count = Number(option('nested', 0));
-const source = randomSource(Number(option('seed', 1)));
-const texts = file !== null ? fs.readFileSync(file, 'utf8').split('\0')
-  : count > 0 ? Array.from({ length: count }, () => nested(source)) : makeTexts(Number(option('n', 1000)), Number(option('seed', 1)));
-const answers = run(texts);
-let accepted = 0;
-let deep = 0;
-let differ = 0;
-for (let i = 0; i < answers.length; i++) {
-  const wanted = answer(texts[i]);
-  if (wanted.endsWith(')')) accepted += 1;
-  if (wanted === 'TooDeep') deep += 1;
-  if (wanted === answers[i]) continue;
-  if (wanted === 'Syntax' && answers[i] === 'TooDeep' && HIGH < 500) continue;
-  differ += 1;
-  if (differ > Number(option('show', 20))) continue;
-  console.log(JSON.stringify(texts[i]) + '\n  model:  ' + wanted + '\n  parser: ' + answers[i]);
+function main() {
+  const file = option('file', null);
+  const count = Number(option('nested', 0));
+  const source = randomSource(Number(option('seed', 1)));
+  const texts = file !== null ? fs.readFileSync(file, 'utf8').split('\0')
+    : count > 0 ? Array.from({ length: count }, () => nested(source)) : makeTexts(Number(option('n', 1000)), Number(option('seed', 1)));
+  const answers = run(texts);
+  let accepted = 0;
+  let deep = 0;
+  let differ = 0;
+  for (let i = 0; i < answers.length; i++) {
+    const wanted = answer(texts[i]);
+    if (wanted.endsWith(')')) accepted += 1;
+    if (wanted === 'TooDeep') deep += 1;
+    if (wanted === answers[i]) continue;
+    if (wanted === 'Syntax' && answers[i] === 'TooDeep' && HIGH < 500) continue;
+    differ += 1;
+    if (differ > Number(option('show', 20))) continue;
+    console.log(JSON.stringify(texts[i]) + '\n  model:  ' + wanted + '\n  parser: ' + answers[i]);
+  }
+  console.log(`${answers.length} texts, ${accepted} accepted, ${deep} too deep, ${differ} disagreements`);
+  if (differ > 0) process.exitCode = 1;
 }
-console.log(`${answers.length} texts, ${accepted} accepted, ${deep} too deep, ${differ} disagreements`);
-if (differ > 0) process.exitCode = 1;
+
+module.exports = { makeTexts, nested };
+if (require.main === module) main();

@@ -35,9 +35,9 @@ IsNever Usage = Unit {0}
 IsNever _ = ⊥
 
 pub never_refused : (command : Command) (text : List ℕ) (fault : Fault) → IsNever fault → RefusesSource command text fault → ⊥
-never_refused Fix text WriteFailed n refused = refused
-never_refused Fix text ReadFailed n refused = refused
-never_refused Fix text Usage n refused = refused
+never_refused Fix text WriteFailed n refused = refused.1
+never_refused Fix text ReadFailed n refused = refused.1
+never_refused Fix text Usage n refused = refused.1
 never_refused Tree text WriteFailed n refused = refused
 never_refused Tree text ReadFailed n refused = refused
 never_refused Tree text Usage n refused = refused
@@ -101,7 +101,7 @@ source_refused command bytes (BadTable row reason) place source refused is = ((s
 source_refused command bytes WriteFailed place source refused is = ((source, refused), is tt)
 source_refused command bytes ReadFailed place source refused is = ((source, refused), is tt)
 source_refused command bytes Usage place source refused is = ((source, refused), is tt)
-source_refused Fix bytes (NotUtf8 at) place source refused is = absurd refused
-source_refused Fix bytes TooLong place source refused is = absurd refused
+source_refused Fix bytes (NotUtf8 at) place source refused is = absurd refused.1
+source_refused Fix bytes TooLong place source refused is = absurd refused.1
 source_refused Tree bytes (NotUtf8 at) place source refused is = absurd refused
 source_refused Tree bytes TooLong place source refused is = absurd refused

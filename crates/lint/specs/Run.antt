@@ -13,9 +13,8 @@ use Rattle.lint.specs.declared.run.Refused.{Refused}
 use Rattle.tree.specs.Tree.{Tree as SyntaxTree}
 use Rattle.early_errors.specs.Early.{least_error}
 use Rattle.estree_json.specs.Json.{json_text}
-use Rattle.sum_fixer.specs.Scripts.{RefusesScript}
 use Rattle.lint.specs.ReadScripts.{RefusesReading}
-use Rattle.sum_fixer.specs.Fix.{IsFixed}
+use Rattle.lint.specs.Fixes.{FixesScript, RefusesFixing}
 use Rattle.lint.specs.Streams.{AppendsBeginning}
 
 -- ---- a text and its answer
@@ -30,12 +29,12 @@ IsJson answer = (n : SyntaxTree) × (least_error n ≡ None) × (answer ≡ json
 
 -- what the command is to write for a text
 abbrev pub IsAnswer : Command → List ℕ → List ℕ → Type 0
-IsAnswer Fix text answer = IsSource text × IsFixed text answer
+IsAnswer Fix text answer = IsSource text × FixesScript text answer
 IsAnswer Tree text answer = IsSource text × IsJson answer
 
 -- why the command refuses source text
 abbrev pub RefusesSource : Command → List ℕ → Fault → Type 0
-RefusesSource Fix text fault = RefusesScript text fault
+RefusesSource Fix text fault = RefusesFixing text fault
 RefusesSource Tree text fault = RefusesReading text fault
 
 -- why the command refuses a text: it is source text that it refuses, or it is none

@@ -5,12 +5,12 @@ ghost use Rattle.lint.specs.CommandLine.{word_of};
 ghost use Rattle.lint.specs.ReadScripts.{RefusesReading};
 ghost use Rattle.lint.specs.Run.{Answers, HasPlace, IsJson, Runs, place_of};
 
+use crate::fixer::fix;
 use crate::reader::read_script;
 use crate::streams::{read_up_to, write_text};
 use estree_json::tree_text;
 use source_text::{DeviceFault, Fault, Feed, MAX_BYTES, Sink, Source};
 use std::alloc::Global;
-use sum_fixer::fix;
 
 /// What the program is asked to do with a file.
 #[derive(Clone, Copy, Debug, PartialEq, Eq)]

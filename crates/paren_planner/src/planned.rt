@@ -26,6 +26,13 @@ impl Plan {
         }
     }
 
+    /// For each row, in the order of the rows, whether its node is wrapped.
+    pub fn flags(&self) -> &[bool]
+        ensures { result.now ≡ self.now.wrapped.items }
+    {
+        &self.wrapped
+    }
+
     /// The number of wrapped nodes.
     pub fn total(&self) -> u32
         ensures { result ≡ self.now.table.total }

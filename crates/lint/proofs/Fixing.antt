@@ -1,0 +1,70 @@
+-- From what the planner and the printer promise to the layout of a tree; from what sums are refused for to what `fix` promises.
+use Rattle.std.proofs.Common.{◌≡◌, ℕ, zero, suc, Bool, true, false, List, [], ◌∷◌, refl, ap, ◌∙◌, get_or, Result, Ok, Err, String, string_bytes, IfOk, IfErr, inr}
+use Rattle.std.specs.declared.alloc.Global.{Global}
+use Rattle.source_text.specs.declared.fault.Fault.{Fault}
+use Rattle.source_text.specs.declared.fault.Fault.TheVariants.{NotUtf8, TooLong, Syntax, TooDeep, Early, OutOfMemory, BadSettings, BadTable, WriteFailed, ReadFailed, Usage}
+use Rattle.tree.specs.Tree.{Tree}
+use Rattle.language.specs.Pieces.{script}
+use Rattle.language.specs.Layout.{has_number, wrapped_rows, layout, fixed_text}
+use Rattle.paren_planner.specs.Wrapped.{is_flagged}
+use Rattle.printer.specs.Sheets.{flag_at}
+use Rattle.printer.specs.Fits.{wrapped_by, fits}
+use Rattle.sum_fixer.specs.Scripts.{RefusesScript}
+use Rattle.lint.specs.ReadScripts.{RefusesReading}
+use Rattle.lint.specs.Fixes.{NoSums, LaysOut, FixesScript, RefusesFixing, refuses_sums}
+
+-- ---- the layout
+
+flag_is : (bs : List Bool) (i : ℕ) → flag_at bs i ≡ get_or bs i false
+flag_is [] i = refl
+flag_is (b ∷ bs) zero = refl
+flag_is (b ∷ bs) (suc i) = flag_is bs i
+
+wrapped_is : (bs : List Bool) (r : ℕ) → wrapped_by bs r ≡ is_flagged bs r
+wrapped_is bs zero = refl
+wrapped_is bs (suc r) = flag_is bs r
+
+-- what is printed with the planner's flags is the fixed text
+pub laid_out : (n : Tree) (flags : List Bool) (fixed : List ℕ)
+    → ((x : ℕ) → is_flagged flags x ≡ has_number (wrapped_rows n script 1) x)
+    → (fits (wrapped_by flags) n script 1 ≡ true → fixed ≡ layout (wrapped_by flags) n script 1 0)
+    → fits (has_number (wrapped_rows n script 1)) n script 1 ≡ true → fixed ≡ fixed_text n
+unfolding fixed_text
+laid_out n flags fixed same printed fit =
+    let rows : wrapped_by flags ≡ has_number (wrapped_rows n script 1) = λ i x. (wrapped_is flags x ∙ same x) i in
+    printed (ap (λ (W : ℕ → Bool). fits W n script 1) rows ∙ fit) ∙ ap (λ (W : ℕ → Bool). layout W n script 1 0) rows
+
+-- ---- refusals
+
+pub no_sums : (text : List ℕ) (fault : Fault) → refuses_sums fault ≡ true → RefusesScript text fault → NoSums text
+no_sums text (Syntax at) is refused = λ n P d. refused.0 n P (record { groups = _; end = d.end; spelled = d.spelled })
+no_sums text TooDeep is refused = refused.0
+no_sums text _ is refused = cc
+
+pub kept_fault : (text : List ℕ) (fault : Fault) → refuses_sums fault ≡ false → RefusesScript text fault → RefusesFixing text fault
+kept_fault text (Syntax at) is refused = cc
+kept_fault text TooDeep is refused = cc
+kept_fault text OutOfMemory is refused = tt
+kept_fault text _ is refused = absurd refused
+
+refused_fault : (text : List ℕ) (fault : Fault) → NoSums text → RefusesReading text fault → RefusesFixing text fault
+refused_fault text OutOfMemory none refused = tt
+refused_fault text (NotUtf8 at) none refused = (none, refused)
+refused_fault text TooLong none refused = (none, refused)
+refused_fault text (Syntax at) none refused = (none, refused)
+refused_fault text TooDeep none refused = (none, refused)
+refused_fault text (Early number at) none refused = (none, refused)
+refused_fault text BadSettings none refused = (none, refused)
+refused_fault text (BadTable row reason) none refused = (none, refused)
+refused_fault text WriteFailed none refused = (none, refused)
+refused_fault text ReadFailed none refused = (none, refused)
+refused_fault text Usage none refused = (none, refused)
+
+-- of a text that is no script of sums
+pub other_fixed : (text : List ℕ) (r : Result (String Global) Fault) → NoSums text → IfOk r (λ fixed. LaysOut (string_bytes fixed)) → IfOk r (λ fixed. FixesScript text (string_bytes fixed))
+other_fixed text (Ok fixed) none is = inr (none, is)
+other_fixed text (Err fault) none is = tt
+
+pub other_refused : (text : List ℕ) (r : Result (String Global) Fault) → NoSums text → IfErr r (RefusesReading text) → IfErr r (RefusesFixing text)
+other_refused text (Ok fixed) none is = tt
+other_refused text (Err fault) none is = refused_fault text fault none is
