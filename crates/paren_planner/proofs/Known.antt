@@ -82,7 +82,7 @@ fits_widest (pattern b f) x = refl
 fits_widest _ x = refl
 
 -- what fits a position fits that of the cell that counts there
-fits_cell : (y : Rank) (i : Bool) (f : Start) (o : Option Outline) → fits_any (expr y i f) o ≡ true → fits_any (cell_position (expr y i f)) o ≡ true
+pub fits_cell : (y : Rank) (i : Bool) (f : Start) (o : Option Outline) → fits_any (expr y i f) o ≡ true → fits_any (cell_position (expr y i f)) o ≡ true
 fits_cell y i f None h = absurd (false≢true h)
 fits_cell y i f (Some x) h = of (nat_le 21 (tightness y)) refl
   where

@@ -5,3 +5,5 @@ pub mod Filled
 pub mod Wrapping
 pub mod Bounds
 pub mod Turns
+pub mod Totals
+pub mod Celled

@@ -1,5 +1,5 @@
 -- The rows of a cost table: one for each node at an expression's position, a node before its parts.
-use Rattle.std.specs.Prelude.{Bool, true, false, List, [], ◌∷◌, ◌++◌}
+use Rattle.std.specs.Prelude.{ℕ, Bool, true, false, List, [], ◌∷◌, ◌++◌, Option, map}
 use Rattle.language.specs.declared.Rank.TheVariants.{Expression}
 use Rattle.language.specs.declared.Start.TheVariants.{Any}
 use Rattle.tree.specs.Tree.{Tree, node, Parts, none, part, gap, kind_of}
@@ -9,12 +9,27 @@ use Rattle.language.specs.Positions.{first_roles, widest}
 use Rattle.tree.specs.declared.kind.Kind.{Kind}
 use Rattle.paren_planner.specs.declared.costs.Costs.{Costs}
 use Rattle.paren_planner.specs.declared.table.Row.{Row}
-use Rattle.paren_planner.specs.Costs.{cells_at}
+use Rattle.language.specs.Pieces.{script}
+use Rattle.language.specs.Cost.{cells}
+use Rattle.language.specs.Claims.{row_nodes}
+use Rattle.paren_planner.specs.Costs.{cells_at, eight}
 
 abbrev pub row_with : Kind → Costs → Row
 row_with k c = record { kind = k; costs = c }
 
--- the row of a node: its kind and its cells
+-- a row as its kind and its eight numbers
+abbrev pub shown : Row → Kind × List (Option ℕ)
+shown r = (r.kind, eight r.costs)
+
+-- a node's kind and its cells
+abbrev pub celled : Tree → Kind × List (Option ℕ)
+celled n = (kind_of n, cells n)
+
+-- the rows of a script's cost table
+abbrev pub cell_rows : Tree → List (Kind × List (Option ℕ))
+cell_rows n = map celled (row_nodes n script)
+
+-- the row of a node: its kind and its cells, with the ninth
 unfoldable pub row_of : Tree → Row
 row_of n = row_with (kind_of n) (cells_at n (expr Expression true Any))
 

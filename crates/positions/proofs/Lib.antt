@@ -16,3 +16,4 @@ pub mod OtherTable
 pub mod StatementTable
 pub mod Ways
 pub mod Wherever
+pub mod Slots

@@ -139,7 +139,7 @@ roles-found b true (Some x) ps = of (outline_slots x ps)
     of None = cond_none (fits_outline b x) None refl
     of (Some xs) = refl
 
-abbrev position_of : Role → Position
+abbrev pub position_of : Role → Position
 position_of (role.expr y i f) = at.Expression y i f
 position_of (role.spine f) = at.Spine f
 position_of role.name = at.Name
@@ -170,7 +170,7 @@ position_of role.class_body = at.ClassBody
 position_of role.member = at.Member
 position_of role.script = at.Script
 
-role-position : (a : Role) → role_of (position_of a) ≡ a
+pub role-position : (a : Role) → role_of (position_of a) ≡ a
 role-position (role.expr y i f) = refl
 role-position (role.spine f) = refl
 role-position (role.pattern b f) = refl
