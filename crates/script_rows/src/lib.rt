@@ -10,6 +10,8 @@ mod edge;
 #[cfg(test)]
 mod fixer;
 #[cfg(test)]
+mod fixes;
+#[cfg(test)]
 mod json;
 #[cfg(test)]
 mod numbers;
