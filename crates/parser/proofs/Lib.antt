@@ -1,6 +1,7 @@
 pub mod Begun
 pub mod Breaks
 pub mod Delimited
+pub mod Following
 pub mod Grouping
 pub mod Modified
 pub mod Moves

@@ -1,5 +1,6 @@
 pub mod Beginnings
 pub mod Chunks
+pub mod Follows
 pub mod Items
 pub mod Links
 pub mod Members

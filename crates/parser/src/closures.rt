@@ -4,6 +4,7 @@
 ghost use Rattle.std.specs.Prelude.{◌≡◌, ◌≤◌, IfOk, IfErr, map};
 ghost use Rattle.parser.specs.Pieces.{piece_of, closure_kind, closure_parts};
 ghost use Rattle.parser.specs.Moves.{Passes};
+ghost use Rattle.parser.specs.Follows.{NamedAt, NotNamed};
 ghost use Rattle.parser.specs.Refusals.{IsRefusal};
 
 use crate::part::Part;
@@ -68,6 +69,10 @@ impl<'t, 's> Parser<'t, 's> {
     fn closure_name(&mut self, closure: Closure, high: u32) -> Result<Nodes<'s>, Fault>
         ensures text { self.new.cursor.text ≡ self.old.cursor.text }
         ensures forward { self.old.cursor.last.stop ≤ self.new.cursor.last.stop }
+        ensures same_open { self.new.cursor.opened ≡ self.old.cursor.opened }
+        ensures same_pairs { self.new.pairs.items ≡ self.old.pairs.items }
+        ensures named { IfOk result (NamedAt closure self.old.cursor self.new.cursor high) }
+        ensures unnamed { IfErr result (NotNamed closure self.old.cursor high) }
         ensures refused { IfErr result (IsRefusal self.new.cursor.text) }
     {
         let has_name = match closure {

@@ -7,6 +7,7 @@ ghost use Rattle.tokens.specs.Scanned.{token_of};
 ghost use Rattle.tokens.specs.declared.token.Goal.TheVariants.{Div};
 ghost use Rattle.language.specs.Token.{as_read};
 ghost use Rattle.parser.specs.Moves.{Passes};
+ghost use Rattle.parser.specs.Follows.{LinkedAt};
 ghost use Rattle.parser.specs.Links.{link_kind, link_flags, link_rank, link_by};
 ghost use Rattle.parser.specs.Seen.{SeesBy, MissesBy};
 ghost use Rattle.parser.specs.Tests.{is_link, is_template};
@@ -119,6 +120,9 @@ impl<'t, 's> Parser<'t, 's> {
     fn link(&mut self) -> Result<(Linked, bool), Fault>
         ensures text { self.new.cursor.text ≡ self.old.cursor.text }
         ensures forward { self.old.cursor.last.stop ≤ self.new.cursor.last.stop }
+        ensures same_open { self.new.cursor.opened ≡ self.old.cursor.opened }
+        ensures same_pairs { self.new.pairs.items ≡ self.old.pairs.items }
+        ensures linked { IfOk result (λ found. LinkedAt self.old.cursor self.new.cursor found.0 found.1) }
         ensures refused { IfErr result (IsRefusal self.new.cursor.text) }
     {
         let optional = self.accept("?.");

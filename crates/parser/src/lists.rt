@@ -8,6 +8,7 @@ ghost use Rattle.parser.specs.Items.{after_item, element_item, element_levels};
 ghost use Rattle.parser.specs.Outcomes.{BecomesHere, Yields};
 ghost use Rattle.parser.specs.Seen.{ReadsHere, Misses};
 ghost use Rattle.parser.specs.Beginnings.{case_word};
+ghost use Rattle.parser.specs.Follows.{BegunAt, NotBegun, CommaAt};
 ghost use Rattle.parser.specs.Refusals.{IsLimit, IsRefusal};
 ghost use Rattle.covers.specs.Patterns.{pattern_tree};
 ghost use Rattle.covers.specs.Shapes.{is_pattern};
@@ -30,6 +31,11 @@ impl<'t, 's> Parser<'t, 's> {
         ensures text { self.new.cursor.text ≡ self.old.cursor.text }
         ensures forward { self.old.cursor.last.stop ≤ self.new.cursor.last.stop }
         ensures passes { IfOk result (λ _. IsOpened listed → Passes self.old.cursor self.new.cursor) }
+        ensures same_open { self.new.cursor.opened ≡ self.old.cursor.opened }
+        ensures same_pairs { self.new.pairs.items ≡ self.old.pairs.items }
+        ensures listed { IfOk result (λ list. list.listed ≡ listed) }
+        ensures begun { IfOk result (BegunAt self.old.cursor self.new.cursor) }
+        ensures not_begun { IfErr result (NotBegun listed self.old.cursor high) }
         ensures refused { IfErr result (IsRefusal self.new.cursor.text) }
     {
         let start = self.cursor.place();
@@ -75,6 +81,9 @@ impl<'t, 's> Parser<'t, 's> {
         ensures passes { OnTrue result ((IsUnseparated list.old.listed → ⊥) → Passes self.old.cursor self.new.cursor) }
         ensures listed { list.new.listed ≡ list.old.listed }
         ensures separated { list.new ≡ after_item list.old result }
+        ensures same_open { self.new.cursor.opened ≡ self.old.cursor.opened }
+        ensures same_pairs { self.new.pairs.items ≡ self.old.pairs.items }
+        ensures comma { CommaAt self.old.cursor self.new.cursor list.old result }
     {
         if list.is_ended() {
             return false;

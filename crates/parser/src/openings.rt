@@ -1,7 +1,7 @@
 //! What the first token of an expression begins (ECMA-262 12.2 to 12.5, 14.1, 14.2, 14.6).
 #![tactic(auto, using(crate::proofs::Refused::refusals, crate::proofs::Moves::moves))]
 
-ghost use Rattle.std.specs.Prelude.{◌≡◌, ◌≢◌, ◌≤◌, ◌<◌, ◌+◌, ◌-◌, [], ◌∷◌, ◌++◌, vec_len, set, IfOk, IfErr, IfSome, IfNone, true};
+ghost use Rattle.std.specs.Prelude.{◌≡◌, ◌≢◌, ◌≤◌, ◌<◌, ◌+◌, ◌-◌, [], ◌∷◌, ◌++◌, vec_len, set, IfOk, IfErr, IfSome, IfNone, true, codes};
 ghost use Rattle.token_cursor.specs.Point.{IsAhead};
 ghost use Rattle.source_text.specs.Source.{IsPlace};
 ghost use Rattle.language.specs.Token.{as_read};
@@ -15,9 +15,11 @@ ghost use Rattle.productions.specs.Made.{Makes};
 ghost use Rattle.parser.specs.Seen.{SeesBy, MissesBy};
 ghost use Rattle.parser.specs.Tests.{goes_behind_super};
 ghost use Rattle.parser.specs.Moves.{Passes, BeginsList};
+ghost use Rattle.parser.specs.Follows.{target_node, NotTarget};
+ghost use Rattle.parser.specs.Seen.{ReadsHere};
 ghost use Rattle.parser.specs.Items.{listed_kind, listed_node, listed_part, is_grouped, group_levels, list_group};
 ghost use Rattle.parser.specs.Outcomes.{IsPlaceHere, MakesAs, YieldsWhere, RefusedUnder};
-ghost use Rattle.parser.specs.Parts.{group_part};
+ghost use Rattle.parser.specs.Parts.{group_part, plain_part};
 ghost use Rattle.parser.specs.Refusals.{IsLimit, IsStop, IsRefusal};
 ghost use Rattle.parser.specs.Tokens.{single_node, single_text};
 
@@ -295,14 +297,15 @@ impl<'t, 's> Parser<'t, 's> {
     fn new_target(&mut self, new: Token<'s>, high: u32) -> Result<Part<'s>, Fault>
         ensures text { self.new.cursor.text ≡ self.old.cursor.text }
         ensures forward { self.old.cursor.last.stop ≤ self.new.cursor.last.stop }
+        ensures same_open { self.new.cursor.opened ≡ self.old.cursor.opened }
+        ensures same_pairs { self.new.pairs.items ≡ self.old.pairs.items }
+        ensures target { IfOk result (λ part. ReadsHere self.old.cursor.text Class.Name (codes "target") self.old.cursor.last self.new.cursor.last × (part ≡ plain_part (target_node (token_of new.entry) self.new.cursor.last) Rank.Member Edge.Other) × (2 ≤ high)) }
+        ensures no_target { IfErr result (NotTarget self.old.cursor high) }
         ensures refused { IfErr result (IsRefusal self.new.cursor.text) }
     {
-        if !self.sees_word("target") {
-            return Err(self.refusal());
-        }
+        let target = self.expect_word("target")?;
         let inner = high.saturating_sub(1);
         let meta = self.single(Kind::Identifier, new, inner)?;
-        let target = self.word()?;
         let property = self.single(Kind::Identifier, target, inner)?;
         let nodes = Nodes::two(self.alloc, meta, property)?;
         let node = plain(Kind::MetaProperty, self.span_from(new.start), nodes, high)?;

@@ -309,7 +309,9 @@ impl<'t, 's> Parser<'t, 's> {
             Piece::Mark(mark) => {
                 self.expect(mark)?;
             }
-            Piece::Word(word) => self.expect_word(word)?,
+            Piece::Word(word) => {
+                self.expect_word(word)?;
+            }
             Piece::EndOfDo => self.cursor.semicolon(Ending::OfDo)?,
             Piece::End => self.cursor.semicolon(Ending::Behind(built.edge))?,
             Piece::Label if self.sees_identifier() && !self.sees_break() => {

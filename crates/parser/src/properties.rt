@@ -5,7 +5,7 @@ ghost use Rattle.std.specs.Prelude.{◌≡◌, ◌≤◌, false, is_some, Some, 
 ghost use Rattle.parser.specs.Moves.{Passes};
 ghost use Rattle.parser.specs.Items.{property_item};
 ghost use Rattle.parser.specs.Members.{member_flags, method_form, member_kind};
-ghost use Rattle.parser.specs.Outcomes.{MakesAs};
+ghost use Rattle.parser.specs.Outcomes.{IsSyntaxHere, MakesAs};
 ghost use Rattle.std.specs.Bool.{OnTrue, OnFalse};
 ghost use Rattle.tokens.specs.Scanned.{token_of};
 ghost use Rattle.tokens.specs.declared.token.Goal.TheVariants.{Div};
@@ -193,6 +193,7 @@ impl<'t, 's> Parser<'t, 's> {
         ensures same_pairs { self.new.pairs.items ≡ self.old.pairs.items }
         ensures accepted { IfOk result (λ token. TokenHere self.old.cursor.text Div is_key self.old.cursor.last self.new.cursor.last × (self.new.cursor.last ≡ as_read (token_of token))) }
         ensures missed { IfErr result (λ _. MissesBy self.old.cursor.text Div is_key self.old.cursor.last × (self.new.cursor.last ≡ self.old.cursor.last)) }
+        ensures here { IfErr result (IsSyntaxHere self.new.cursor) }
     {
         let Some(token) = self.cursor.peek(Goal::Div) else {
             return Err(self.refusal());

@@ -221,6 +221,7 @@ impl<'t, 's> Parser<'t, 's> {
         ensures same_pairs { self.new.pairs.items ≡ self.old.pairs.items }
         ensures accepted { IfOk result (λ token. ReadsHere self.old.cursor.text Class.Punctuator mark.now self.old.cursor.last self.new.cursor.last × (self.new.cursor.last ≡ as_read (token_of token))) }
         ensures missed { IfErr result (λ _. Misses self.old.cursor.text Class.Punctuator mark.now self.old.cursor.last × (self.new.cursor.last ≡ self.old.cursor.last)) }
+        ensures here { IfErr result (IsSyntaxHere self.new.cursor) }
     {
         let Some(token) = self.cursor.peek(Goal::Div) else {
             return Err(self.refusal());
@@ -233,20 +234,25 @@ impl<'t, 's> Parser<'t, 's> {
     }
 
     /// Goes past this name.
-    pub(crate) fn expect_word(&mut self, word: &str) -> Result<(), Fault>
+    pub(crate) fn expect_word(&mut self, word: &str) -> Result<Token<'s>, Fault>
         ensures text { self.new.cursor.text ≡ self.old.cursor.text }
         ensures forward { self.old.cursor.last.stop ≤ self.new.cursor.last.stop }
         ensures passes { IfOk result (λ _. Passes self.old.cursor self.new.cursor) }
         ensures refused { IfErr result (IsRefusal self.new.cursor.text) }
         ensures same_open { self.new.cursor.opened ≡ self.old.cursor.opened }
         ensures same_pairs { self.new.pairs.items ≡ self.old.pairs.items }
-        ensures accepted { IfOk result (λ _. ReadsHere self.old.cursor.text Class.Name word.now self.old.cursor.last self.new.cursor.last) }
+        ensures accepted { IfOk result (λ token. ReadsHere self.old.cursor.text Class.Name word.now self.old.cursor.last self.new.cursor.last × (self.new.cursor.last ≡ as_read (token_of token))) }
         ensures missed { IfErr result (λ _. Misses self.old.cursor.text Class.Name word.now self.old.cursor.last × (self.new.cursor.last ≡ self.old.cursor.last)) }
+        ensures here { IfErr result (IsSyntaxHere self.new.cursor) }
     {
-        match self.accept_word(word) {
-            true => Ok(()),
-            false => Err(self.refusal()),
+        let Some(token) = self.cursor.peek(Goal::Div) else {
+            return Err(self.refusal());
+        };
+        if !is_word(&token, word) {
+            return Err(self.refusal());
         }
+        self.pass(token);
+        Ok(token)
     }
 
     /// An IdentifierName (11.6).
@@ -259,6 +265,7 @@ impl<'t, 's> Parser<'t, 's> {
         ensures same_pairs { self.new.pairs.items ≡ self.old.pairs.items }
         ensures accepted { IfOk result (λ token. NameHere self.old.cursor.text is_any self.old.cursor.last self.new.cursor.last × (self.new.cursor.last ≡ as_read (token_of token))) }
         ensures missed { IfErr result (λ _. NoName self.old.cursor.text is_any self.old.cursor.last × (self.new.cursor.last ≡ self.old.cursor.last)) }
+        ensures here { IfErr result (IsSyntaxHere self.new.cursor) }
     {
         let Some(token) = self.cursor.peek(Goal::Div) else {
             return Err(self.refusal());
@@ -280,6 +287,7 @@ impl<'t, 's> Parser<'t, 's> {
         ensures same_pairs { self.new.pairs.items ≡ self.old.pairs.items }
         ensures accepted { IfOk result (λ token. NameHere self.old.cursor.text is_free_name self.old.cursor.last self.new.cursor.last × (self.new.cursor.last ≡ as_read (token_of token))) }
         ensures missed { IfErr result (λ _. NoName self.old.cursor.text is_free_name self.old.cursor.last × (self.new.cursor.last ≡ self.old.cursor.last)) }
+        ensures here { IfErr result (IsSyntaxHere self.new.cursor) }
     {
         let Some(token) = self.cursor.peek(Goal::Div) else {
             return Err(self.refusal());

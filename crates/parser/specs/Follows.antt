@@ -1,0 +1,88 @@
+-- What functions that read tokens and make nodes of them leave behind.
+use Rattle.std.specs.Prelude.{◌≡◌, ℕ, ◌≤◌, ◌<◌, ◌⊎◌, Bool, true, false, ◌&&◌, List, [], Some, None, codes}
+use Rattle.source_text.specs.declared.fault.Fault.{Fault}
+use Rattle.source_text.specs.declared.fault.Fault.TheVariants.{Syntax, TooDeep, OutOfMemory}
+use Rattle.tokens.specs.declared.token.Class.TheVariants.{Name, Punctuator}
+use Rattle.tokens.specs.declared.token.Goal.TheVariants.{Div}
+use Rattle.tokens.specs.Tokens.{LexicalToken}
+use Rattle.token_cursor.specs.Point.{Point, IsAhead}
+use Rattle.tree.specs.declared.kind.Kind.TheVariants.{Identifier, MetaProperty}
+use Rattle.tree.specs.Tree.{Tree, node, Parts, part, gap, none, plain, part_count}
+use Rattle.covers.specs.declared.list.Listed.{Listed}
+use Rattle.covers.specs.declared.list.List.{List as ListOf}
+use Rattle.covers.specs.Lists.{opening, is_ended}
+use Rattle.parser.specs.declared.closures.Closure.{Closure}
+use Rattle.parser.specs.declared.closures.Closure.TheVariants as closure
+use Rattle.parser.specs.declared.links.Linked.{Linked}
+use Rattle.parser.specs.declared.links.Linked.TheVariants as link
+use Rattle.parser.specs.Items.{is_unseparated, list_from}
+use Rattle.parser.specs.Links.{link_by}
+use Rattle.parser.specs.Outcomes.{IsPlaceHere}
+use Rattle.parser.specs.Seen.{ReadsHere, Misses, NameHere, NoName, is_free_name}
+use Rattle.parser.specs.Tokens.{single_node}
+
+-- a declaration has a name; a method has none
+abbrev pub asks_name : Closure → Bool
+asks_name closure.FunctionDeclaration = true
+asks_name closure.ClassDeclaration = true
+asks_name _ = false
+
+abbrev pub may_name : Closure → Bool
+may_name (closure.Method form) = false
+may_name _ = true
+
+-- the name as the first part, or a gap where there is none
+abbrev pub NamedAt : Closure → Point → Point → ℕ → Parts → Type 0
+NamedAt c s e high ps =
+    (NameHere s.text is_free_name s.last e.last × (ps ≡ part (single_node Identifier e.last) none) × (1 ≤ high))
+    ⊎ ((asks_name c ≡ false) × (may_name c ≡ true → NoName s.text is_free_name s.last) × (ps ≡ gap none) × (e.last ≡ s.last))
+
+abbrev pub NotNamed : Closure → Point → ℕ → Fault → Type 0
+NotNamed c s high (Syntax at) = (asks_name c ≡ true) × NoName s.text is_free_name s.last
+NotNamed c s high TooDeep = high < 1
+NotNamed c s high OutOfMemory = Unit {0}
+NotNamed c s high _ = ⊥
+
+-- what stands before the first item was passed; a template is begun by its first part, which `chunk` reads
+abbrev pub BegunAt : Point → Point → ListOf → Type 0
+BegunAt s e l =
+    IsPlaceHere s l.span.start
+    × ((w : List ℕ) → opening l.listed ≡ Some w → ReadsHere s.text Punctuator w s.last e.last × (l ≡ list_from l.listed l.span.start))
+    × (opening l.listed ≡ None → is_unseparated l.listed ≡ false → (e.last ≡ s.last) × (l ≡ list_from l.listed l.span.start))
+
+-- no punctuator stands there that the list begins with
+abbrev pub NotBegun : Listed → Point → ℕ → Fault → Type 0
+NotBegun l s high (Syntax at) = (w : List ℕ) → opening l ≡ Some w → Misses s.text Punctuator w s.last
+NotBegun l s high TooDeep = (is_unseparated l ≡ true) × (high < 1)
+NotBegun l s high OutOfMemory = Unit {0}
+NotBegun l s high _ = ⊥
+
+-- a comma was passed behind the last item; nothing was, where it ends the list, or where nothing stands between items
+abbrev pub CommaAt : Point → Point → ListOf → Bool → Type 0
+CommaAt s e l true = (is_ended l.listed l.seen (part_count l.nodes) ≡ false) × ((is_unseparated l.listed ≡ true → e.last ≡ s.last) × (is_unseparated l.listed ≡ false → ReadsHere s.text Punctuator (codes ",") s.last e.last))
+CommaAt s e l false = (e.last ≡ s.last) × ((is_ended l.listed l.seen (part_count l.nodes) ≡ true) ⊎ ((is_unseparated l.listed ≡ false) × Misses s.text Punctuator (codes ",") s.last))
+
+-- behind what was read: a `.`, a `?.`, or neither, and then what follows by its first token
+abbrev pub PassedSign : Point → Point → Linked → Bool → Type 0
+PassedSign s e link.Name false = ReadsHere s.text Punctuator (codes ".") s.last e.last
+PassedSign s e l true = ReadsHere s.text Punctuator (codes "?.") s.last e.last
+PassedSign s e l false = (e.last ≡ s.last) × Misses s.text Punctuator (codes "?.") s.last × Misses s.text Punctuator (codes ".") s.last
+
+abbrev pub is_quasi : Linked → Bool
+is_quasi link.Quasi = true
+is_quasi _ = false
+
+abbrev pub LinkedAt : Point → Point → Linked → Bool → Type 0
+LinkedAt s e link.Name false = PassedSign s e link.Name false
+LinkedAt s e l optional = PassedSign s e l optional × ((is_quasi l && optional) ≡ false) × ((t : LexicalToken) × IsAhead Div e.text e.last.stop t × (link_by t.class t.text ≡ Some l))
+
+-- `new.target`, whose words are these tokens
+abbrev pub target_node : LexicalToken → LexicalToken → Tree
+target_node new target = node MetaProperty [] plain new.start target.stop (part (single_node Identifier new) (part (single_node Identifier target) none))
+
+-- the word isn't there, or there is no room for the two levels
+abbrev pub NotTarget : Point → ℕ → Fault → Type 0
+NotTarget s high (Syntax at) = Misses s.text Name (codes "target") s.last
+NotTarget s high TooDeep = high < 2
+NotTarget s high OutOfMemory = Unit {0}
+NotTarget s high _ = ⊥
