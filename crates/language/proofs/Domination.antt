@@ -17,6 +17,7 @@ use Rattle.language.specs.Positions.{roles, first_roles}
 use Rattle.language.specs.Cost.{AtMost, if_any, cell_position, parts_least}
 use Rattle.language.specs.Laws.{has_two_ways}
 use Rattle.language.proofs.Ranks.{looser_rank, looser_start, looser_takes, looser_refl, looser_all, looser_member, looser_callee, implies_trans, looser_start_refl}
+use Rattle.language.proofs.Alike.{AlikeAnywhere}
 use Rattle.language.proofs.Looser.{Looser, same, looser, looser_spine, looser_pattern, AllLooser, end, next, Dominated}
 
 -- a spelling's pieces at a position
@@ -116,14 +117,14 @@ cell-looser (looser_spine w) = looser_spine w
 cell-looser (looser_pattern w) = looser_pattern w
 
 -- the ways to spell a node: none; one; or, where there may be two, two, of which the first stands wherever the second does,
--- and is looser there
+-- is looser there, and names the same parts
 abbrev pub Covers : Spelling → Spelling → Type 0
 Covers x y = (a c : Role) → Looser a c → IsTrue (fits a y) → IsTrue (fits c x) × AllLooser (roles (settled a y)) (roles (settled c x))
 
 pub data Tidy : Bool → List Spelling → Type 0 where
   none_at_all : {t : Bool} → Tidy t []
   one_way : {t : Bool} {x : Spelling} → NotNew x → Tidy t (x ∷ [])
-  two_ways : {x y : Spelling} → NotNew x → Covers x y → Tidy true (x ∷ y ∷ [])
+  two_ways : {x y : Spelling} → NotNew x → Covers x y → AlikeAnywhere x y → Tidy true (x ∷ y ∷ [])
 
 pub Covers-self : (x : Spelling) → NotNew x → Covers x x
 Covers-self x n a c l h = (fits-looser x n l h, roles-looser x.pieces l)
@@ -163,7 +164,7 @@ module _ (cost : List Role → Option ℕ) (m : ℕ) (b c : Role) where
       let p = Among-one a x (fits a x) refl h in
       finish (fits b x) (fits c x) x [] [] [] [] (fits-looser x n l p.0) (fits-looser x n k p.0)
       (f _ (subst (λ ys. AllLooser (roles ys) (roles (settled c x))) (sym p.1) (roles-looser x.pieces k)))
-  dominated-list _ (two_ways {x = x} {y = y} n covers) a qs l k h f = choose (Among-two a x y (fits a x) (fits a y) refl refl h)
+  dominated-list _ (two_ways {x = x} {y = y} n covers alike) a qs l k h f = choose (Among-two a x y (fits a x) (fits a y) refl refl h)
     where
       choose : (IsTrue (fits a x) × (qs ≡ settled a x)) ⊎ (IsTrue (fits a y) × (qs ≡ settled a y)) → AtMost (if_any (ways_of b (x ∷ y ∷ [])) (cost (first_roles (ways_of c (x ∷ y ∷ []))))) m
       choose (inl p) =

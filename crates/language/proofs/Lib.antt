@@ -1,3 +1,4 @@
+pub mod Alike
 pub mod Looser
 pub mod LowerBound
 pub mod Frame
@@ -7,6 +8,8 @@ pub mod Domination
 pub mod TidyTable
 pub mod OneWay
 pub mod Least
+pub mod DerivedFits
+pub mod Marked
 pub mod Viewed
 pub mod Spine
 pub mod Begins
@@ -65,6 +68,7 @@ pub mod StatementExamples
 pub mod FunctionExamples
 pub mod ClassExamples
 pub mod LayoutExamples
+pub mod FitExamples
 pub mod Tables
 pub mod TableExamples
 pub mod Judged

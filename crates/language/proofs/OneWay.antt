@@ -14,7 +14,7 @@ use Rattle.language.proofs.TidyTable.{tidy_table}
 one_of_tidy : {t : Bool} (a : Role) {xs : List Spelling} {qs rs : List (PieceOf Role)} → Tidy t xs → t ≡ false → Among qs (ways_of a xs) → Among rs (ways_of a xs) → qs ≡ rs
 one_of_tidy a none_at_all f h k = elim h [ ]
 one_of_tidy a (one_way {x = x} n) f h k = (Among-one a x (fits a x) refl h).1 ∙ sym (Among-one a x (fits a x) refl k).1
-one_of_tidy a (two_ways n c) f h k = cc f
+one_of_tidy a (two_ways n c l) f h k = cc f
 
 two_ways_parts : (k : Kind) (ps : Parts) → two_ways_at k (bare_parts ps) ≡ two_ways_at k ps
 two_ways_parts ArrowFunctionExpression none = refl

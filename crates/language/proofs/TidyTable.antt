@@ -21,6 +21,10 @@ use Rattle.language.specs.Grammar.{spellings, starts}
 use Rattle.language.specs.Laws.{two_ways_at, has_two_ways}
 use Rattle.language.proofs.Operators.{binding}
 use Rattle.language.proofs.Ranks.{looser_new, looser_refl}
+use Rattle.language.specs.Positions.{roles}
+use Rattle.language.specs.Fits.{lines_up}
+use Rattle.language.proofs.Alike.{AllLike, at_expressions, AlikeAnywhere, standing_at, lines_alike}
+use Rattle.language.proofs.Alike.{same as same_like, end as end_like, next as next_like}
 use Rattle.language.proofs.Looser.{Looser, same, looser, looser_spine, looser_pattern, end, next}
 use Rattle.language.proofs.Domination.{Tidy, none_at_all, one_way, two_ways, Covers, fits, fits-looser, roles-looser, slot-looser}
 
@@ -55,8 +59,16 @@ new-fits (looser_pattern {g = g} w) h = and_from _ _ (new-starts g) refl
 pub new-covers : Covers (at Member new_with) (at New new_without)
 new-covers a c l h = (new-fits l h, next (looser refl refl refl) end)
 
+pub new-alike : AlikeAnywhere (at Member new_with) (at New new_without)
+new-alike b a c = record { roles = next_like at_expressions end_like; lines = lines }
+  where
+    lines : (ps : Parts) → lines_up (standing_at a new_with) ps ≡ lines_up (standing_at c new_without) ps
+    lines none = refl
+    lines (gap ps) = refl
+    lines (part n ps) = refl
+
 pub Tidy-new : (ps : Parts) → Tidy (is_none ps) (at Member (term "new" ∷ sp ∷ put (expr Member true Any) ∷ arguments ps) ∷ cond (is_none ps) (at New new_without ∷ []) [])
-Tidy-new none = two_ways (λ e. omega arith) new-covers
+Tidy-new none = two_ways (λ e. omega arith) new-covers new-alike
 Tidy-new (part n ps) = one_way (λ e. omega arith)
 Tidy-new (gap ps) = one_way (λ e. omega arith)
 
@@ -90,6 +102,18 @@ arrow-fits _ g h = h
 pub arrow-covers : (g : Flags) → Covers (at Assignment (bare_arrow g)) (at Assignment (closed_arrow g comma))
 arrow-covers g a c l h = (arrow-fits c g (fits-looser (at Assignment (closed_arrow g comma)) (λ e. omega arith) l h), next (slot-looser (Slot.fixed name) l) (roles-looser (arrow_end g) l))
 
+pub arrow-alike : (g : Flags) → AlikeAnywhere (at Assignment (bare_arrow g)) (at Assignment (closed_arrow g comma))
+arrow-alike g b a c = record { roles = next_like same_like (ends g.expression); lines = lines }
+  where
+    ends : (t : Bool) → AllLike b (roles (standing_at a (arrow_end (record g { expression = t })))) (roles (standing_at c (arrow_end (record g { expression = t }))))
+    ends true = next_like at_expressions end_like
+    ends false = next_like same_like end_like
+
+    lines : (ps : Parts) → lines_up (standing_at a (bare_arrow g)) ps ≡ lines_up (standing_at c (closed_arrow g comma)) ps
+    lines none = refl
+    lines (gap ps) = refl
+    lines (part n ps) = lines_alike a c (arrow_end g) ps
+
 pub Tidy-arrow : (g : Flags) (ps : Parts) → Tidy (two_ways_at ArrowFunctionExpression ps) (Rattle.language.specs.Expressions.arrows g ps)
 Tidy-arrow g none = one_way (λ e. omega arith)
 Tidy-arrow g (gap ps) = one_way (λ e. omega arith)
@@ -97,7 +121,7 @@ Tidy-arrow g (part n none) = one_way (λ e. omega arith)
 Tidy-arrow g (part n (gap ps)) = one_way (λ e. omega arith)
 Tidy-arrow g (part n (part b (part m ps))) = one_way (λ e. omega arith)
 Tidy-arrow g (part n (part b (gap ps))) = one_way (λ e. omega arith)
-Tidy-arrow g (part (node Identifier w h s e qs) (part b none)) = two_ways (λ x. omega arith) (arrow-covers g)
+Tidy-arrow g (part (node Identifier w h s e qs) (part b none)) = two_ways (λ x. omega arith) (arrow-covers g) (arrow-alike g)
 Tidy-arrow g (part (node _ w h s e qs) (part b none)) = one_way (λ x. omega arith)
 
 -- the symbol of an operator isn't `New`

@@ -1,5 +1,5 @@
 -- What is proved of the definitions.
-use Rattle.std.specs.Prelude.{◌≡◌, ◌↔◌, ℕ, Bool, false, List, ◌++◌, length, map, ◌∷◌, []}
+use Rattle.std.specs.Prelude.{◌≡◌, ◌↔◌, ℕ, Bool, true, false, List, ◌++◌, length, map, ◌∷◌, []}
 use Rattle.tree.specs.declared.kind.Kind.{Kind}
 use Rattle.tree.specs.declared.kind.Kind.TheVariants.{ArrowFunctionExpression, NewExpression}
 use Rattle.tree.specs.declared.kind.Pair.{Pair}
@@ -13,6 +13,8 @@ use Rattle.language.specs.Cursor.{beginning, Next, behind}
 use Rattle.language.specs.Derivation.{Among, Spells}
 use Rattle.language.specs.Search.{spelled}
 use Rattle.language.specs.Cost.{AtMost, least}
+use Rattle.language.specs.Layout.{wrapped_rows, has_number}
+use Rattle.language.specs.Fits.{fits}
 use Rattle.language.specs.Claims.{Derives, DerivesOpen}
 use Rattle.tokens.specs.Tokens.{LexicalToken, IsReading}
 use Rattle.std.specs.Str.{chars, IsUtf8}
@@ -59,3 +61,7 @@ abbrev pub ReadingsAreDerived : Type 0
 ReadingsAreDerived =
     (o : ℕ) (text : List ℕ) (n : Tree) (P : List Pair) (tokens : List LexicalToken) (final : Token) → IsUtf8 text → IsReading 0 (chars text) tokens →
     Spells ways (List Token) Next behind o script n (beginning ∷ map as_read tokens) (final ∷ []) P → DerivesOpen o text n P
+
+-- what a text derives can be laid out: each node can be spelled where it stands, or in a pair where it is wrapped
+abbrev pub DerivedFits : Type 0
+DerivedFits = (text : List ℕ) (n : Tree) (P : List Pair) → Derives text n P → fits (has_number (wrapped_rows n script 1)) n script 1 ≡ true

@@ -21,5 +21,6 @@ pub mod Covers
 pub mod Cost
 pub mod Search
 pub mod Layout
+pub mod Fits
 pub mod Claims
 pub mod Laws

@@ -1,6 +1,6 @@
 //! What is proved of the definitions: each contract is a theorem, and the body does nothing.
 
-ghost use Rattle.language.specs.Laws.{AtMostOneWay, FindsDerivations, NoFewerPairs, NoFewerPairsOfTokens, PlacesChangeNoWay, ReadingsAreDerived, StaysWithMoreTokens};
+ghost use Rattle.language.specs.Laws.{AtMostOneWay, DerivedFits, FindsDerivations, NoFewerPairs, NoFewerPairsOfTokens, PlacesChangeNoWay, ReadingsAreDerived, StaysWithMoreTokens};
 
 /// A node has at most one way at a position, but for an arrow with one plain parameter and a `new` without arguments.
 pub fn at_most_one_way()
@@ -35,4 +35,9 @@ pub fn places_change_no_way()
 /// What the tokens of a reading of a text spell, the text derives at its own places.
 pub fn readings_are_derived()
     ensures { ReadingsAreDerived }
+{}
+
+/// What a text derives can be laid out: each node can be spelled where it stands, or in a pair where it is wrapped.
+pub fn derived_fits()
+    ensures { DerivedFits }
 {}

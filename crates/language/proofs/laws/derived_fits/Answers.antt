@@ -1,0 +1,5 @@
+use Rattle.language.proofs.Marked.{text_fits}
+use Rattle.language.proofs.laws.derived_fits.Goals as goal
+
+pub returns : goal.returns
+returns c = λ text n P d. text_fits text n P d
