@@ -8,7 +8,8 @@ use Rattle.language.specs.Pieces.{script}
 use Rattle.language.specs.Layout.{has_number, wrapped_rows, layout, fixed_text}
 use Rattle.paren_planner.specs.Wrapped.{is_flagged}
 use Rattle.printer.specs.Sheets.{flag_at}
-use Rattle.printer.specs.Fits.{wrapped_by, fits}
+use Rattle.language.specs.Fits.{fits}
+use Rattle.printer.specs.Fits.{wrapped_by}
 use Rattle.sum_fixer.specs.Scripts.{RefusesScript}
 use Rattle.lint.specs.ReadScripts.{RefusesReading}
 use Rattle.lint.specs.Fixes.{NoSums, LaysOut, FixesScript, RefusesFixing, refuses_sums}

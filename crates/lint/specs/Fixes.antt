@@ -6,10 +6,10 @@ use Rattle.tree.specs.Tree.{Tree}
 use Rattle.tree.specs.declared.kind.Pair.{Pair}
 use Rattle.language.specs.Pieces.{script}
 use Rattle.language.specs.Cost.{least}
-use Rattle.language.specs.Layout.{has_number, wrapped_rows, fixed_text}
+use Rattle.language.specs.Layout.{fixed_text}
 use Rattle.grammar.specs.Limits.{DerivesWithin}
 use Rattle.early_errors.specs.Early.{least_error}
-use Rattle.printer.specs.Fits.{fits}
+use Rattle.language.specs.Claims.{Derives}
 use Rattle.sum_fixer.specs.Fix.{IsFixed}
 use Rattle.lint.specs.ReadScripts.{RefusesReading}
 
@@ -28,13 +28,13 @@ pub record FixesSums (text fixed : List ℕ) : Type 0 where
   pub is_fixed : IsFixed text fixed
   pub stable : (again : List ℕ) → IsFixed fixed again → again ≡ fixed
 
--- The layout of a tree without early errors, with parentheses round its wrapped nodes, where the table spells each of its nodes where
--- it stands.
+-- A tree without early errors that some number of pairs spells. If a text derives it, this is its layout, with parentheses round its
+-- wrapped nodes.
 pub record LaysOut (fixed : List ℕ) : Type 0 where
   pub tree : Tree
   pub lawful : least_error tree ≡ None
   pub spelled : IsSome (least tree script)
-  pub laid_out : fits (has_number (wrapped_rows tree script 1)) tree script 1 ≡ true → fixed ≡ fixed_text tree
+  pub laid_out : (source : List ℕ) (P : List Pair) → Derives source tree P → fixed ≡ fixed_text tree
 
 abbrev pub FixesScript : List ℕ → List ℕ → Type 0
 FixesScript text fixed = FixesSums text fixed ⊎ (NoSums text × LaysOut fixed)

@@ -10,7 +10,7 @@ use Rattle.printer.specs.declared.sheet.Sheet.{Sheet}
 use Rattle.printer.specs.Bits.{Mark, here, Bit, bits_of, Chain, before_bits, after_bits}
 use Rattle.printer.specs.Sheets.{Writes, pieces_text, flag_at}
 use Rattle.printer.specs.Shapes.{inner}
-use Rattle.printer.specs.Fits.{fits, parts_fit}
+use Rattle.language.specs.Fits.{fits, parts_fit}
 use Rattle.printer.specs.Printed.{marks_in, front_marks, chain_marks, deep, shape_marks, Reads, Passed, Written, Printed}
 use Rattle.positions.specs.declared.position.Position.{Position}
 use Rattle.positions.specs.declared.spelling.Positions.{Positions}

@@ -7,7 +7,7 @@ use Rattle.language.specs.Pieces as piece
 use Rattle.language.specs.Positions.{rows, roles}
 use Rattle.language.specs.Layout.{layout, parts_layout, indent}
 use Rattle.printer.specs.Bits.{marks_of}
-use Rattle.printer.specs.Fits.{lines_up}
+use Rattle.language.specs.Fits.{lines_up}
 use Rattle.printer.specs.Printed.{marks_text}
 
 abbrev pub apart_from : ℕ → List ℕ → List ℕ

@@ -18,7 +18,8 @@ use Rattle.printer.specs.declared.pieces.Sign.TheVariants.{Plus, Minus}
 use Rattle.printer.specs.Bits.{here}
 use Rattle.printer.specs.Shapes.{sign_of_text}
 use Rattle.printer.specs.Sheets.{Writes, shown, held, sign_code, flag_at, other_flags}
-use Rattle.printer.specs.Fits.{fits, parts_fit, wrapped_by}
+use Rattle.language.specs.Fits.{fits, parts_fit}
+use Rattle.printer.specs.Fits.{wrapped_by}
 use Rattle.printer.specs.Printed.{spelled_so, marks_text, signed_marks, Reads, Printed, Direct, Passed, Written}
 use Rattle.printer.proofs.Whole.{spelled_parts, printed_direct, printed_wrapped}
 

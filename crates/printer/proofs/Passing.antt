@@ -13,7 +13,7 @@ use Rattle.printer.specs.declared.pieces.Piece.TheVariants as own
 use Rattle.printer.specs.Bits.{Mark, here, shallower, bit_of, bits_of, Chain, nothing, joined, commas, lines, feeds, parameters}
 use Rattle.printer.specs.Shapes.{inner}
 use Rattle.printer.specs.Sheets.{Writes, shown, flag_at, piece_text, pieces_text}
-use Rattle.printer.specs.Fits.{fits, parts_fit}
+use Rattle.language.specs.Fits.{fits, parts_fit}
 use Rattle.printer.specs.Printed.{mark_of, marks_in, marks_text, deep, Reads, Printed, Passed, Written}
 
 module _ (W : ℕ → Bool) where

@@ -31,7 +31,7 @@ use Rattle.printer.specs.declared.pieces.Sign.TheVariants.{Plus, Minus}
 use Rattle.printer.specs.Bits.{Mark, here, marks_of, Chain, Shape, before_bits, after_bits}
 use Rattle.printer.specs.Shapes.{expression_shape, shape_by, sign_of_text, sign_at, has_part, is_single, after_open_number, if_shape, try_shape, for_shape, declarator_shape, word_shape, braced_shape, case_shape, catch_shape, arrow_shape, class_shape, member_shape}
 use Rattle.printer.specs.Sheets.{Writes, shown}
-use Rattle.printer.specs.Fits.{lines_up, parts_fit}
+use Rattle.language.specs.Fits.{lines_up, parts_fit}
 use Rattle.printer.specs.Printed.{marks_in, chain_marks, front_marks, deep, shape_marks, marks_text, Reads, Printed, Direct, Written, spelled_so, signed_marks}
 use Rattle.printer.proofs.Layouts.{layout_marks}
 use Rattle.printer.proofs.Rows.{rows-widest, rows_inside}

@@ -1,38 +1,8 @@
--- Trees that can be spelled with these nodes wrapped: what the layout asks for.
-use Rattle.std.specs.Prelude.{ℕ, zero, suc, ◌+◌, Bool, true, false, ◌&&◌, nat_eq, List, [], ◌∷◌}
-use Rattle.tree.specs.Tree.{Tree, node, Parts, none, part, gap}
-use Rattle.language.specs.Pieces.{Role, PieceOf, sub, absent, is_none}
-use Rattle.language.specs.Grammar.{ways}
-use Rattle.language.specs.Positions.{has_row, rows, first_roles}
-use Rattle.language.specs.Layout.{some_way, inside, first_way}
+-- The rows that are wrapped, by the printer's flags.
+use Rattle.std.specs.Prelude.{ℕ, zero, suc, Bool, false, List}
 use Rattle.printer.specs.Sheets.{flag_at}
 
 -- the wrapped rows by their flags: the first flag is that of row 1
 abbrev pub wrapped_by : List Bool → ℕ → Bool
 wrapped_by bs zero = false
 wrapped_by bs (suc r) = flag_at bs r
-
--- the pieces name these parts, and their gaps
-abbrev pub lines_up : List (PieceOf Role) → Parts → Bool
-lines_up [] ps = is_none ps
-lines_up (sub a ∷ qs) none = false
-lines_up (sub a ∷ qs) (gap ps) = false
-lines_up (sub a ∷ qs) (part n ps) = lines_up qs ps
-lines_up (absent ∷ qs) none = false
-lines_up (absent ∷ qs) (gap ps) = lines_up qs ps
-lines_up (absent ∷ qs) (part n ps) = false
-lines_up (_ ∷ qs) ps = lines_up qs ps
-
-unfoldable mutual
-  -- each node can be spelled where it stands, with these nodes wrapped
-  pub fits : (ℕ → Bool) → Tree → Role → ℕ → Bool
-  fits W (node k w g s e ps) a r =
-      let b = nat_eq (has_row a) 1 && W r in
-      let qss = ways (inside b a) (node k w g s e ps) in
-      some_way qss && (lines_up (first_way qss) ps && parts_fit W ps (first_roles qss) (has_row a + r))
-
-  pub parts_fit : (ℕ → Bool) → Parts → List Role → ℕ → Bool
-  parts_fit W none xs r = true
-  parts_fit W (gap ps) xs r = parts_fit W ps xs r
-  parts_fit W (part n ps) [] r = false
-  parts_fit W (part n ps) (a ∷ xs) r = fits W n a r && parts_fit W ps xs (r + rows n a)

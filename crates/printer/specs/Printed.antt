@@ -7,7 +7,7 @@ use Rattle.language.specs.Layout.{some_way, indent, first_way, next_role, layout
 use Rattle.positions.specs.Outlines.{parts_behind, is_before_last}
 use Rattle.printer.specs.declared.sheet.Sheet.{Sheet}
 use Rattle.printer.specs.Bits.{Mark, text, line, feed, deeper, shallower, loose, here, apart, Bit, token, own_text, newline, feeding, loosely, chunk, Chain, lines, Shape, before_bits, after_bits}
-use Rattle.printer.specs.Fits.{lines_up, parts_fit}
+use Rattle.language.specs.Fits.{lines_up, parts_fit}
 use Rattle.printer.specs.Sheets.{shown, flag_at, chunk_text, sign_code}
 use Rattle.printer.specs.declared.pieces.Sign.{Sign}
 

@@ -13,7 +13,8 @@ ghost use Rattle.positions.specs.Remaining.{remaining};
 ghost use Rattle.printer.specs.Bits.{Mark, here, bits_of, chain_of, shape_of};
 ghost use Rattle.printer.specs.Shapes.{sign_at, sign_of_text, inner};
 ghost use Rattle.printer.specs.Sheets.{flag_at};
-ghost use Rattle.printer.specs.Fits.{wrapped_by, fits, parts_fit, lines_up};
+ghost use Rattle.language.specs.Fits.{fits, parts_fit, lines_up};
+ghost use Rattle.printer.specs.Fits.{wrapped_by};
 ghost use Rattle.printer.specs.Printed.{Reads, Printed, Direct, Passed, Written, spelled_so, front_marks, chain_marks, deep, shape_marks, marks_in, signed_marks};
 
 use crate::frame::frame_of;

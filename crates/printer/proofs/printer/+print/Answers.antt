@@ -8,7 +8,7 @@ use Rattle.language.specs.Grammar.{ways}
 use Rattle.positions.specs.Outlines.{role_of, parts_behind}
 use Rattle.positions.specs.Remaining.{remaining}
 use Rattle.printer.specs.Bits.{here, bits_of, chain_of, shape_of, before_bits, after_bits}
-use Rattle.printer.specs.Fits.{parts_fit}
+use Rattle.language.specs.Fits.{parts_fit}
 use Rattle.printer.specs.Printed.{marks_in, front_marks, chain_marks, shape_marks, signed_marks}
 use Rattle.printer.proofs.Passing.{passed_nothing, passed_then, passed_missing}
 use Rattle.printer.proofs.Items.{missing_part, stepped, stepped_chain, fronts_done, chain_done, fronts-next, chain-next, turn, trail, framed, part_turn, part_lost}

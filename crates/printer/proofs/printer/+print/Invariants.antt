@@ -4,7 +4,7 @@ use Rattle.tree.specs.Node.{node_tree}
 use Rattle.positions.specs.Outlines.{parts_behind}
 use Rattle.positions.specs.Remaining.{remaining}
 use Rattle.printer.specs.Bits.{Mark, bits_of, chain_of}
-use Rattle.printer.specs.Fits.{parts_fit}
+use Rattle.language.specs.Fits.{parts_fit}
 use Rattle.printer.specs.Printed.{Reads, Passed, front_marks, chain_marks}
 use Rattle.printer.proofs.printer.+print.Given as goal
 

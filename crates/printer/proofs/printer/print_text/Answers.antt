@@ -3,7 +3,8 @@ use Rattle.std.specs.String.{string_bytes}
 use Rattle.tree.specs.Node.{node_tree}
 use Rattle.language.specs.Pieces.{script}
 use Rattle.language.specs.Layout.{layout}
-use Rattle.printer.specs.Fits.{wrapped_by, fits}
+use Rattle.language.specs.Fits.{fits}
+use Rattle.printer.specs.Fits.{wrapped_by}
 use Rattle.printer.proofs.Nodes.{whole_text}
 use Rattle.printer.proofs.printer.print_text.Goals as goal
 
