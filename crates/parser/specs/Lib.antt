@@ -17,3 +17,4 @@ pub mod Sides
 pub mod Stated
 pub mod Tests
 pub mod Tokens
+pub mod Wants

@@ -1,7 +1,7 @@
 //! Statements, functions, classes and their parts as lists of pieces (ECMA-262 clauses 13 and 14).
 #![tactic(auto, using(crate::proofs::Refused::refusals, crate::proofs::Moves::moves))]
 
-ghost use Rattle.std.specs.Prelude.{◌≡◌, ◌≤◌, true, IfOk, IfErr, map};
+ghost use Rattle.std.specs.Prelude.{◌≡◌, ◌≤◌, true, IfOk, IfErr, IfSome, map};
 ghost use Rattle.std.specs.Bool.{OnTrue, OnFalse};
 ghost use Rattle.tokens.specs.Scanned.{token_of};
 ghost use Rattle.tokens.specs.declared.token.Goal.TheVariants.{Div, RegExp};
@@ -13,6 +13,7 @@ ghost use Rattle.parser.specs.Pieces.{piece_of, statement_parts, loop_parts, swi
 ghost use Rattle.parser.specs.Refusals.{IsRefusal};
 ghost use Rattle.parser.specs.Outcomes.{BecomesHere, IsPlaceHere, RefusedUnless, RefusedWhere};
 ghost use Rattle.parser.specs.Stated.{built_of, listed_depth, fits_head, head_levels, head_node, list_levels, put_node, takes_head, takes_list, takes_put, with_list, with_part};
+ghost use Rattle.parser.specs.Wants.{wanted_if, wanted_always, WantedAt, NotWanted, LabelAt, NotLabel, TokensAt, NotTokens, WordedAt, NotWorded, ElseAt, FinallyAt, CatchAt, NoCatch, HeritageAt, HeadAt};
 ghost use Rattle.tree.specs.Tree.{none};
 
 use crate::part::Part;
@@ -254,11 +255,31 @@ enum Wanted {
 
 // What an expression that may be missing is.
 fn wanted_where(is_there: bool, position: Position) -> Wanted
-    ensures { IfHandler result ⊥ }
+    ensures handler { IfHandler result ⊥ }
+    ensures is { result ≡ wanted_if is_there position }
 {
     match is_there {
         true => Wanted::Expression(position),
         false => Wanted::Gap,
+    }
+}
+
+// What a piece wants whatever stands ahead.
+fn wanted_always(piece: Piece, context: Context) -> Option<Wanted>
+    ensures handler { IfSome result (λ want. IfHandler want ⊥) }
+    ensures is { result ≡ wanted_always piece context.returns }
+{
+    match piece {
+        Piece::Expression => Some(Wanted::Expression(Position::EXPRESSION)),
+        Piece::Assignment => Some(Wanted::Expression(Position::ASSIGNMENT)),
+        Piece::Binding => Some(Wanted::Binding),
+        Piece::Statement => Some(Wanted::Statement),
+        Piece::Block => Some(Wanted::Block(Context::item(context.returns))),
+        Piece::Body => Some(Wanted::Block(Context::BODY)),
+        Piece::Items => Some(Wanted::Items(Until::Brace)),
+        Piece::Consequent => Some(Wanted::Items(Until::Case)),
+        Piece::List(listed) => Some(Wanted::List(listed)),
+        _ => None,
     }
 }
 
@@ -299,32 +320,119 @@ impl<'t, 's> Parser<'t, 's> {
         }
     }
 
+    // A label on the same line, or nothing.
+    fn label_piece(&mut self, built: &mut Built<'s>, high: u32) -> Result<(), Fault>
+        ensures text { self.new.cursor.text ≡ self.old.cursor.text }
+        ensures forward { self.old.cursor.last.stop ≤ self.new.cursor.last.stop }
+        ensures same_open { self.new.cursor.opened ≡ self.old.cursor.opened }
+        ensures same_pairs { self.new.pairs.items ≡ self.old.pairs.items }
+        ensures read { IfOk result (λ _. LabelAt self.old.cursor self.new.cursor built.old built.new high) }
+        ensures failed { IfErr result (NotLabel high) }
+        ensures refused { IfErr result (IsRefusal self.new.cursor.text) }
+    {
+        if !self.sees_identifier() || self.sees_break() {
+            return built.nodes.push_gap();
+        }
+        let label = self.identifier()?;
+        built
+            .nodes
+            .push(self.single(Kind::Identifier, label, high)?)
+    }
+
     // A piece that is tokens alone.
     fn token_piece(&mut self, piece: Piece, built: &mut Built<'s>, high: u32) -> Result<(), Fault>
         ensures text { self.new.cursor.text ≡ self.old.cursor.text }
         ensures forward { self.old.cursor.last.stop ≤ self.new.cursor.last.stop }
+        ensures same_open { self.new.cursor.opened ≡ self.old.cursor.opened }
+        ensures same_pairs { self.new.pairs.items ≡ self.old.pairs.items }
+        ensures read { IfOk result (λ _. TokensAt piece self.old.cursor self.new.cursor built.old built.new high) }
+        ensures failed { IfErr result (NotTokens piece self.old.cursor built.old.edge high) }
         ensures refused { IfErr result (IsRefusal self.new.cursor.text) }
     {
         match piece {
             Piece::Mark(mark) => {
                 self.expect(mark)?;
+                Ok(())
             }
             Piece::Word(word) => {
                 self.expect_word(word)?;
+                Ok(())
             }
-            Piece::EndOfDo => self.cursor.semicolon(Ending::OfDo)?,
-            Piece::End => self.cursor.semicolon(Ending::Behind(built.edge))?,
-            Piece::Label if self.sees_identifier() && !self.sees_break() => {
-                let label = self.identifier()?;
-                built
-                    .nodes
-                    .push(self.single(Kind::Identifier, label, high)?)?;
-            }
-            Piece::Label => built.nodes.push_gap()?,
-            Piece::Unbroken if self.sees_break() => return Err(self.refusal()),
-            _ => {}
+            Piece::EndOfDo => self.cursor.semicolon(Ending::OfDo),
+            Piece::End => self.cursor.semicolon(Ending::Behind(built.edge)),
+            Piece::Label => self.label_piece(built, high),
+            Piece::Unbroken => match self.sees_break() {
+                true => Err(self.refusal()),
+                false => Ok(()),
+            },
+            _ => Ok(()),
         }
-        Ok(())
+    }
+
+    // `else` and a statement, or nothing.
+    fn else_piece(&mut self) -> Wanted
+        ensures text { self.new.cursor.text ≡ self.old.cursor.text }
+        ensures forward { self.old.cursor.last.stop ≤ self.new.cursor.last.stop }
+        ensures same_open { self.new.cursor.opened ≡ self.old.cursor.opened }
+        ensures same_pairs { self.new.pairs.items ≡ self.old.pairs.items }
+        ensures handler { IfHandler result ⊥ }
+        ensures read { ElseAt self.old.cursor self.new.cursor result }
+    {
+        match self.accept_word("else") {
+            true => Wanted::Statement,
+            false => Wanted::Gap,
+        }
+    }
+
+    // `finally` and a block, or nothing.
+    fn finally_piece(&mut self, context: Context) -> Wanted
+        ensures text { self.new.cursor.text ≡ self.old.cursor.text }
+        ensures forward { self.old.cursor.last.stop ≤ self.new.cursor.last.stop }
+        ensures same_open { self.new.cursor.opened ≡ self.old.cursor.opened }
+        ensures same_pairs { self.new.pairs.items ≡ self.old.pairs.items }
+        ensures handler { IfHandler result ⊥ }
+        ensures read { FinallyAt context.returns self.old.cursor self.new.cursor result }
+    {
+        match self.accept_word("finally") {
+            true => Wanted::Block(Context::item(context.returns)),
+            false => Wanted::Gap,
+        }
+    }
+
+    // `catch` and a handler, or nothing before `finally`.
+    fn catch_piece(&mut self) -> Result<Wanted, Fault>
+        ensures text { self.new.cursor.text ≡ self.old.cursor.text }
+        ensures forward { self.old.cursor.last.stop ≤ self.new.cursor.last.stop }
+        ensures same_open { self.new.cursor.opened ≡ self.old.cursor.opened }
+        ensures same_pairs { self.new.pairs.items ≡ self.old.pairs.items }
+        ensures handler { IfOk result (λ want. IfHandler want (Passes self.old.cursor self.new.cursor)) }
+        ensures read { IfOk result (CatchAt self.old.cursor self.new.cursor) }
+        ensures missed { IfErr result (NoCatch self.old.cursor) }
+        ensures refused { IfErr result (IsRefusal self.new.cursor.text) }
+    {
+        let start = self.cursor.place();
+        if self.accept_word("catch") {
+            return Ok(Wanted::Handler(start));
+        }
+        match self.sees_word("finally") {
+            true => Ok(Wanted::Gap),
+            false => Err(self.refusal()),
+        }
+    }
+
+    // `extends` and a superclass, or nothing.
+    fn heritage_piece(&mut self) -> Wanted
+        ensures text { self.new.cursor.text ≡ self.old.cursor.text }
+        ensures forward { self.old.cursor.last.stop ≤ self.new.cursor.last.stop }
+        ensures same_open { self.new.cursor.opened ≡ self.old.cursor.opened }
+        ensures same_pairs { self.new.pairs.items ≡ self.old.pairs.items }
+        ensures handler { IfHandler result ⊥ }
+        ensures read { HeritageAt self.old.cursor self.new.cursor result }
+    {
+        match self.accept_word("extends") {
+            true => Wanted::Expression(Position::at(Rank::LeftHandSide, true)),
+            false => Wanted::Gap,
+        }
     }
 
     // What a piece with one of these words before it wants.
@@ -332,21 +440,19 @@ impl<'t, 's> Parser<'t, 's> {
         ensures text { self.new.cursor.text ≡ self.old.cursor.text }
         ensures forward { self.old.cursor.last.stop ≤ self.new.cursor.last.stop }
         ensures handler { IfOk result (λ want. IfHandler want (Passes self.old.cursor self.new.cursor)) }
+        ensures same_open { self.new.cursor.opened ≡ self.old.cursor.opened }
+        ensures same_pairs { self.new.pairs.items ≡ self.old.pairs.items }
+        ensures read { IfOk result (WordedAt piece context.returns self.old.cursor self.new.cursor) }
+        ensures missed { IfErr result (NotWorded piece self.old.cursor) }
         ensures refused { IfErr result (IsRefusal self.new.cursor.text) }
     {
-        let start = self.cursor.place();
-        let item = Context::item(context.returns);
-        Ok(match piece {
-            Piece::Else if self.accept_word("else") => Wanted::Statement,
-            Piece::Finally if self.accept_word("finally") => Wanted::Block(item),
-            Piece::Catch if self.accept_word("catch") => Wanted::Handler(start),
-            Piece::Catch if !self.sees_word("finally") => return Err(self.refusal()),
-            Piece::Heritage => {
-                let is_there = self.accept_word("extends");
-                wanted_where(is_there, Position::at(Rank::LeftHandSide, true))
-            }
-            _ => Wanted::Gap,
-        })
+        match piece {
+            Piece::Else => Ok(self.else_piece()),
+            Piece::Finally => Ok(self.finally_piece(context)),
+            Piece::Catch => self.catch_piece(),
+            Piece::Heritage => Ok(self.heritage_piece()),
+            _ => Ok(Wanted::Gap),
+        }
     }
 
     // What stands first in the parentheses of a `for`.
@@ -354,6 +460,10 @@ impl<'t, 's> Parser<'t, 's> {
         ensures text { self.new.cursor.text ≡ self.old.cursor.text }
         ensures forward { self.old.cursor.last.stop ≤ self.new.cursor.last.stop }
         ensures handler { IfHandler result ⊥ }
+        ensures same_open { self.new.cursor.opened ≡ self.old.cursor.opened }
+        ensures same_pairs { self.new.pairs.items ≡ self.old.pairs.items }
+        ensures read { HeadAt self.old.cursor self.new.cursor result built.new.word }
+        ensures built { built.new ≡ record built.old { word = built.new.word } }
     {
         if self.sees(";") {
             return Wanted::Gap;
@@ -375,33 +485,31 @@ impl<'t, 's> Parser<'t, 's> {
     ) -> Result<Wanted, Fault>
         ensures text { self.new.cursor.text ≡ self.old.cursor.text }
         ensures forward { self.old.cursor.last.stop ≤ self.new.cursor.last.stop }
+        ensures same_open { self.new.cursor.opened ≡ self.old.cursor.opened }
+        ensures same_pairs { self.new.pairs.items ≡ self.old.pairs.items }
         ensures handler { IfOk result (λ want. IfHandler want (Passes self.old.cursor self.new.cursor)) }
+        ensures read { IfOk result (WantedAt piece context.returns self.old.cursor self.new.cursor built.old built.new high) }
+        ensures failed { IfErr result (NotWanted piece self.old.cursor built.old.edge high) }
         ensures refused { IfErr result (IsRefusal self.new.cursor.text) }
     {
-        Ok(match piece {
-            Piece::Expression => Wanted::Expression(Position::EXPRESSION),
-            Piece::Assignment => Wanted::Expression(Position::ASSIGNMENT),
-            Piece::Test => wanted_where(!self.sees(";"), Position::EXPRESSION),
-            Piece::Update => wanted_where(!self.sees(")"), Position::EXPRESSION),
-            Piece::Argument => wanted_where(self.sees_argument(), Position::EXPRESSION),
-            Piece::Binding => Wanted::Binding,
-            Piece::Statement => Wanted::Statement,
-            Piece::Block => Wanted::Block(Context::item(context.returns)),
-            Piece::Body => Wanted::Block(Context::BODY),
-            Piece::Items => Wanted::Items(Until::Brace),
-            Piece::Consequent => Wanted::Items(Until::Case),
-            Piece::List(listed) => Wanted::List(listed),
-            Piece::Head => self.head_piece(built),
+        if let Some(want) = wanted_always(piece, context) {
+            return Ok(want);
+        }
+        match piece {
+            Piece::Test => Ok(wanted_where(!self.sees(";"), Position::EXPRESSION)),
+            Piece::Update => Ok(wanted_where(!self.sees(")"), Position::EXPRESSION)),
+            Piece::Argument => Ok(wanted_where(self.sees_argument(), Position::EXPRESSION)),
+            Piece::Head => Ok(self.head_piece(built)),
             Piece::Mark(_) | Piece::Word(_) | Piece::Unbroken | Piece::Label => {
                 self.token_piece(piece, built, high)?;
-                Wanted::Nothing
+                Ok(Wanted::Nothing)
             }
             Piece::End | Piece::EndOfDo => {
                 self.token_piece(piece, built, high)?;
-                Wanted::Nothing
+                Ok(Wanted::Nothing)
             }
-            _ => self.worded_piece(piece, context)?,
-        })
+            _ => self.worded_piece(piece, context),
+        }
     }
 
     // What a piece makes of the expression that it wanted; `each`: `in` or `of` stands ahead.

@@ -4,7 +4,7 @@
 ghost use Rattle.std.specs.Prelude.{◌≡◌, ◌≤◌, false, is_some, Some, IfOk, IfErr, IfSome};
 ghost use Rattle.parser.specs.Moves.{Passes};
 ghost use Rattle.parser.specs.Items.{property_item};
-ghost use Rattle.parser.specs.Members.{member_flags, method_form, member_kind};
+ghost use Rattle.parser.specs.Members.{member_flags, method_form, member_kind, is_constructor, KeyRead, NoKey};
 ghost use Rattle.parser.specs.Outcomes.{IsSyntaxHere, MakesAs};
 ghost use Rattle.std.specs.Bool.{OnTrue, OnFalse};
 ghost use Rattle.tokens.specs.Scanned.{token_of};
@@ -89,7 +89,9 @@ fn named(is_static: bool, form: Form, name: Option<Token<'_>>) -> Modifiers<'_>
 }
 
 // Whether the value of a name or a string as a key is `constructor` (14.6); a number's is none.
-fn is_constructor(key: &Token<'_>) -> bool {
+fn is_constructor(key: &Token<'_>) -> bool
+    ensures { result ≡ is_constructor key.now.class key.now.text.now }
+{
     match key.class {
         Class::Name => key.text == "constructor",
         Class::Text => string_is(key.text, "constructor"),
@@ -211,6 +213,10 @@ impl<'t, 's> Parser<'t, 's> {
         ensures forward { self.old.cursor.last.stop ≤ self.new.cursor.last.stop }
         ensures passes { IfOk result (λ _. Passes self.old.cursor self.new.cursor) }
         ensures refused { IfErr result (IsRefusal self.new.cursor.text) }
+        ensures same_open { self.new.cursor.opened ≡ self.old.cursor.opened }
+        ensures same_pairs { self.new.pairs.items ≡ self.old.pairs.items }
+        ensures read { IfOk result (λ key. TokenHere self.old.cursor.text Div is_key self.old.cursor.last self.new.cursor.last × KeyRead in_class self.new.cursor.last key key.token) }
+        ensures no_key { IfErr result (NoKey self.old.cursor high) }
     {
         let token = self.key_token()?;
         let is_constructor = in_class && is_constructor(&token);

@@ -1,21 +1,22 @@
 //! Statements and declarations (ECMA-262 clause 13, 14.1, 14.6), by the first token.
 #![tactic(auto, using(crate::proofs::Refused::refusals, crate::proofs::Moves::moves))]
 
-ghost use Rattle.std.specs.Prelude.{◌≡◌, ◌≢◌, ◌≤◌, ◌&&◌, true, IfOk, IfErr, ◌<◌, ◌⊎◌, Bool, false};
+ghost use Rattle.std.specs.Prelude.{◌≡◌, ◌≢◌, ◌≤◌, ◌&&◌, true, IfOk, IfErr, ◌<◌, ◌⊎◌, Bool, false, codes};
 ghost use Rattle.std.specs.Bool.{OnTrue, OnFalse};
 ghost use Rattle.token_cursor.specs.Point.{IsAhead};
 ghost use Rattle.tokens.specs.declared.token.Goal.TheVariants.{Div};
 ghost use Rattle.language.specs.Token.{as_read};
 ghost use Rattle.language.specs.Beginning.{beginning_of, beginning_by};
-ghost use Rattle.parser.specs.Seen.{SeesBy, MissesBy};
+ghost use Rattle.parser.specs.Seen.{Sees, Misses, SeesBy, MissesBy};
 ghost use Rattle.parser.specs.Tests.{ends};
 ghost use Rattle.parser.specs.Beginnings.{coded_beginning, NothingBegins, HeadFollowed, HeadUnfollowed};
 ghost use Rattle.tokens.specs.Scanned.{token_of};
 ghost use Rattle.parser.specs.Moves.{Passes, IfHeaded};
 ghost use Rattle.parser.specs.Refusals.{IsRefusal};
-ghost use Rattle.parser.specs.Parts.{is_lone_string};
+ghost use Rattle.parser.specs.Parts.{is_group, is_lone_string};
 ghost use Rattle.parser.specs.Stated.{headed_kind, item_context, inner_context, evaluated_node, evaluated_height, NotEvaluated};
 ghost use Rattle.token_cursor.specs.Ends.{IsEnd};
+ghost use Rattle.tree.specs.Tree.{kind_of};
 
 use crate::closures::Closure;
 use crate::part::Part;
@@ -322,8 +323,14 @@ impl<'t, 's> Parser<'t, 's> {
     }
 
     // Whether what was read is a label: a name alone with a `:` behind it (13.13).
-    fn is_label(&self, part: &Part<'s>) -> bool {
-        part.is_bare(Kind::Identifier) && self.sees(":")
+    fn is_label(&self, part: &Part<'s>) -> bool
+        ensures label { OnTrue result ((kind_of part.now.cover.node ≡ Kind.Identifier) × (is_group part.now.rank ≡ false) × Sees self.now.cursor.text Class.Punctuator (codes ":") self.now.cursor.last) }
+        ensures no_label { OnFalse result (kind_of part.now.cover.node ≡ Kind.Identifier → is_group part.now.rank ≡ false → Misses self.now.cursor.text Class.Punctuator (codes ":") self.now.cursor.last) }
+    {
+        if !part.is_bare(Kind::Identifier) {
+            return false;
+        }
+        self.sees(":")
     }
 
     // ExpressionStatement (13.5), a directive where it may be one (14.1.1), behind its expression.
