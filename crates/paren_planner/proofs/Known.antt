@@ -54,7 +54,7 @@ implies_true : (a : Bool) → implies a true ≡ true
 implies_true true = refl
 implies_true false = refl
 
-takes_all : (z : Rank) → takes Expression z ≡ true
+pub takes_all : (z : Rank) → takes Expression z ≡ true
 takes_all Member = refl
 takes_all _ = refl
 

@@ -7,3 +7,5 @@ pub mod Bounds
 pub mod Turns
 pub mod Totals
 pub mod Celled
+pub mod Heavy
+pub mod Bytes

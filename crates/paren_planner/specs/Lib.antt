@@ -2,3 +2,4 @@ pub mod Costs
 pub mod Weighed
 pub mod Rows
 pub mod Wrapped
+pub mod Laws

@@ -5,6 +5,7 @@
 mod amount;
 mod costs;
 mod fill;
+pub mod laws;
 mod planned;
 mod planner;
 mod table;
