@@ -1,20 +1,19 @@
--- From what the planner and the printer promise to the layout of a tree; from what sums are refused for to what `fix` promises.
+-- From the planner's flags to the printer's; from what sums are refused for to what `fix` promises.
 use Rattle.std.proofs.Common.{◌≡◌, ℕ, zero, suc, Bool, true, false, List, [], ◌∷◌, refl, ap, ◌∙◌, get_or, Result, Ok, Err, String, string_bytes, IfOk, IfErr, inr}
 use Rattle.std.specs.declared.alloc.Global.{Global}
 use Rattle.source_text.specs.declared.fault.Fault.{Fault}
 use Rattle.source_text.specs.declared.fault.Fault.TheVariants.{NotUtf8, TooLong, Syntax, TooDeep, Early, OutOfMemory, BadSettings, BadTable, WriteFailed, ReadFailed, Usage}
 use Rattle.tree.specs.Tree.{Tree}
 use Rattle.language.specs.Pieces.{script}
-use Rattle.language.specs.Layout.{has_number, wrapped_rows, layout, fixed_text}
+use Rattle.language.specs.Layout.{has_number, wrapped_rows}
 use Rattle.paren_planner.specs.Wrapped.{is_flagged}
 use Rattle.printer.specs.Sheets.{flag_at}
-use Rattle.language.specs.Fits.{fits}
-use Rattle.printer.specs.Fits.{wrapped_by}
+use Rattle.printer.specs.Fits.{wrapped_by, IsPlanned}
 use Rattle.sum_fixer.specs.Scripts.{RefusesScript}
 use Rattle.lint.specs.ReadScripts.{RefusesReading}
 use Rattle.lint.specs.Fixes.{NoSums, LaysOut, FixesScript, RefusesFixing, refuses_sums}
 
--- ---- the layout
+-- ---- flags
 
 flag_is : (bs : List Bool) (i : ℕ) → flag_at bs i ≡ get_or bs i false
 flag_is [] i = refl
@@ -25,15 +24,9 @@ wrapped_is : (bs : List Bool) (r : ℕ) → wrapped_by bs r ≡ is_flagged bs r
 wrapped_is bs zero = refl
 wrapped_is bs (suc r) = flag_is bs r
 
--- what is printed with the planner's flags is the fixed text
-pub laid_out : (n : Tree) (flags : List Bool) (fixed : List ℕ)
-    → ((x : ℕ) → is_flagged flags x ≡ has_number (wrapped_rows n script 1) x)
-    → (fits (wrapped_by flags) n script 1 ≡ true → fixed ≡ layout (wrapped_by flags) n script 1 0)
-    → fits (has_number (wrapped_rows n script 1)) n script 1 ≡ true → fixed ≡ fixed_text n
-unfolding fixed_text
-laid_out n flags fixed same printed fit =
-    let rows : wrapped_by flags ≡ has_number (wrapped_rows n script 1) = λ i x. (wrapped_is flags x ∙ same x) i in
-    printed (ap (λ (W : ℕ → Bool). fits W n script 1) rows ∙ fit) ∙ ap (λ (W : ℕ → Bool). layout W n script 1 0) rows
+-- the planner's flags are a plan for the printer
+pub is_planned : (n : Tree) (bs : List Bool) → ((x : ℕ) → is_flagged bs x ≡ has_number (wrapped_rows n script 1) x) → IsPlanned bs n
+is_planned n bs same r = wrapped_is bs r ∙ same r
 
 -- ---- refusals
 
