@@ -21,7 +21,7 @@ use Rattle.paren_planner.proofs.Bounds.{below_more, cell_below, capped_below}
 held : (n : Tree) (b : Role) → widest b ≡ expr Expression true Any → parts_rows (parts_of n) (first_roles (ways (expr Expression true Any) n)) ≤ 16777216 → capped (cell n b) ≡ cell n b
 held n b w l = capped_below (below_more (cell_below n b) (subst (λ u. parts_rows (parts_of n) (first_roles (ways u n)) ≤ 16777216) (sym w) l))
 
-row_shown : (n : Tree) → parts_rows (parts_of n) (first_roles (ways (expr Expression true Any) n)) ≤ 16777216 → shown (row_of n) ≡ celled n
+pub row_shown : (n : Tree) → parts_rows (parts_of n) (first_roles (ways (expr Expression true Any) n)) ≤ 16777216 → shown (row_of n) ≡ celled n
 unfolding row_of cells_at cells
 row_shown n l = λ j. (
   kind_of n,
@@ -40,13 +40,13 @@ any_pattern b Any h = refl
 any_pattern b NoBrace h = absurd (cc)
 any_pattern b Statement h = absurd (cc)
 
-wide_itself : (a : Role) → is_wide a ≡ true → has_row a ≡ 0 → widest a ≡ a
+pub wide_itself : (a : Role) → is_wide a ≡ true → has_row a ≡ 0 → widest a ≡ a
 wide_itself (expr y i f) h e = absurd (cc)
 wide_itself (spine f) h e = any_spine f h
 wide_itself (pattern b f) h e = any_pattern b f h
 wide_itself _ h e = refl
 
-wide_start : (a : Role) → own_start (widest a) ≡ Any
+pub wide_start : (a : Role) → own_start (widest a) ≡ Any
 wide_start (expr y i f) = refl
 wide_start (spine f) = refl
 wide_start (pattern b f) = refl

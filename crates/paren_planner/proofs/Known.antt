@@ -50,7 +50,7 @@ both : (a b : Bool) → a ≡ true → b ≡ true → (a && b) ≡ true
 both true b h k = k
 both false b h k = absurd (cc)
 
-implies_true : (a : Bool) → implies a true ≡ true
+pub implies_true : (a : Bool) → implies a true ≡ true
 implies_true true = refl
 implies_true false = refl
 
@@ -68,7 +68,7 @@ tightest : (z : Rank) → takes Grouped z ≡ true → takes Member z ≡ true
 tightest Grouped k = refl
 tightest _ k = absurd (cc)
 
-takes_tight : (y z : Rank) → nat_le 21 (tightness y) ≡ true → takes y z ≡ true → takes Member z ≡ true
+pub takes_tight : (y z : Rank) → nat_le 21 (tightness y) ≡ true → takes y z ≡ true → takes Member z ≡ true
 takes_tight Member z h k = k
 takes_tight Primary z h k = tighter z k
 takes_tight Grouped z h k = tightest z k
@@ -150,7 +150,7 @@ expr_lesser true xs ys D A c u h k e g =
     ap₂ lesser (e ∙ ap capped (some_is ys D (k refl))) g ∙ capped-lesser D A ∙ ap (λ w. capped (lesser w A)) (sym (some_is xs D h))
 expr_lesser false xs ys D A c u h k e g = g ∙ ap (λ w. capped (lesser w A)) (sym (none_is xs D h))
 
-least_expr : (n : Tree) (y : Rank) (i : Bool) (f : Start) →
+pub least_expr : (n : Tree) (y : Rank) (i : Bool) (f : Start) →
     least n (expr y i f) ≡ lesser (if_any (ways (expr y i f) n) (parts_least (parts_of n) (first_roles (ways (cell_position (expr y i f)) n)))) (add_cost (Some 1) (cell n (expr Expression true Any)))
 unfolding least cell
 least_expr (node k w g s e ps) y i f = refl

@@ -7,5 +7,6 @@ pub mod Bounds
 pub mod Turns
 pub mod Totals
 pub mod Celled
+pub mod Bounded
 pub mod Heavy
 pub mod Bytes

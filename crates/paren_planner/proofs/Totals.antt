@@ -53,7 +53,7 @@ same_map : (f g : Slot → Role) → ((s : Slot) → f s ≡ g s) → (xs : List
 same_map f g h [] = refl
 same_map f g h (s ∷ xs) = λ j. h s j ∷ same_map f g h xs j
 
-cell_known : (n : Tree) (y : Rank) (i : Bool) (f : Start) → (x : AnySpelling (expr y i f) n) → Verdict (ways (cell_position (expr y i f)) n) (found_roles (cell_position (expr y i f)) x.found)
+pub cell_known : (n : Tree) (y : Rank) (i : Bool) (f : Start) → (x : AnySpelling (expr y i f) n) → Verdict (ways (cell_position (expr y i f)) n) (found_roles (cell_position (expr y i f)) x.found)
 cell_known n y i f x = of (nat_le 21 (tightness y))
   where
     of : (b : Bool) → Verdict (ways (cond b (expr Member true f) (expr Expression i f)) n) (found_roles (cond b (expr Member true f) (expr Expression i f)) x.found)

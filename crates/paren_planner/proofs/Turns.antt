@@ -48,7 +48,7 @@ head_behind (x ∷ xs) (suc k) y ys h = head_behind xs k y ys h
 pub front_rows : (t : List Row) (k : ℕ) (xs ys : List Row) → HasRows t k (xs ++ ys) → HasRows t k xs
 front_rows t k xs ys h = record { rest = ys ++ h.rest; stand = h.stand ∙ append_assoc xs ys h.rest }
 
-rows_behind : (t : List Row) (k m : ℕ) (xs ys : List Row) → m ≡ k + length xs → HasRows t k (xs ++ ys) → HasRows t m ys
+pub rows_behind : (t : List Row) (k m : ℕ) (xs ys : List Row) → m ≡ k + length xs → HasRows t k (xs ++ ys) → HasRows t m ys
 rows_behind t k m xs ys e h = record {
   rest = h.rest;
   stand = ap (λ i. drop i t) e ∙ sym (drop-drop (length xs) k t) ∙ ap (drop (length xs)) (h.stand ∙ append_assoc xs ys h.rest) ∙ drop_at xs (ys ++ h.rest) (length xs) refl;

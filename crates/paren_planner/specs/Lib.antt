@@ -3,3 +3,4 @@ pub mod Weighed
 pub mod Rows
 pub mod Wrapped
 pub mod Laws
+pub mod Tables

@@ -6,6 +6,7 @@ ghost use Rattle.language.specs.Cost.{least};
 ghost use Rattle.language.specs.Layout.{has_number, wrapped_rows};
 ghost use Rattle.language.specs.Positions.{rows};
 ghost use Rattle.paren_planner.specs.Rows.{cell_rows, shown};
+ghost use Rattle.paren_planner.specs.Tables.{MeetsBounds, table_of};
 ghost use Rattle.paren_planner.specs.Wrapped.{is_flagged};
 
 use crate::fill::weigh_node;
@@ -26,6 +27,7 @@ pub fn plan(alloc: Global, program: &Program) -> Result<Plan, AllocError>
     requires spelled { IsSome (least program.now script) }
     requires few { rows program.now script ≤ 16777216 }
     ensures cells { IfOk result (λ p. map shown p.table.rows.items ≡ cell_rows program.now) }
+    ensures bounds { IfOk result (λ p. MeetsBounds (table_of p.table.rows.items p.table.total) program.now) }
     ensures total { IfOk result (λ p. Some p.table.total ≡ least program.now script) }
     ensures count { IfOk result (λ p. p.table.total ≡ length (wrapped_rows program.now script 1)) }
     ensures wrapped { IfOk result (λ p. (x : _) → is_flagged p.wrapped.items x ≡ has_number (wrapped_rows program.now script 1) x) }

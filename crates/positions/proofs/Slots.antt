@@ -12,11 +12,12 @@ use Rattle.tree.specs.declared.kind.Flags.{Flags}
 use Rattle.tree.specs.declared.kind.Form.{Form}
 use Rattle.tree.specs.declared.kind.Form.TheVariants as form
 use Rattle.language.specs.declared.Rank.{Rank}
-use Rattle.language.specs.declared.Rank.TheVariants.{Call}
+use Rattle.language.specs.declared.Rank.TheVariants.{Expression, Assignment, LeftHandSide, Call, Member}
 use Rattle.language.specs.declared.Start.{Start}
-use Rattle.language.specs.declared.Start.TheVariants.{Any}
+use Rattle.language.specs.declared.Start.TheVariants.{Any, NoBrace, Statement}
 use Rattle.language.specs.Words.{tightness, is, is_assignment, is_rest, is_spread, is_pattern, is_identifier, is_target, is_super, Operator, binds, operator_of}
 use Rattle.language.specs.Pieces.{Role, expr, spine, pattern, PieceOf, Slot, fixed, left, lead, tail, callee, lead_spine, lead_pattern, settle, is_tight}
+use Rattle.language.specs.Statements.{is_declaration}
 use Rattle.language.specs.Grammar.{ways, own_rank, own_in, own_start}
 use Rattle.language.specs.Positions.{first_roles}
 use Rattle.language.proofs.Operators.{Binding, binding}
@@ -34,7 +35,7 @@ use Rattle.positions.specs.declared.outline.Outline.{Outline}
 use Rattle.positions.specs.declared.words.Operation.{Operation}
 use Rattle.positions.specs.declared.words.Operation.TheVariants.{Binds, Powers}
 use Rattle.positions.specs.Operations.{operation, operation_at}
-use Rattle.positions.specs.Outlines.{role_of, slot_of, bound_at, default_at, element_at, argument_at, object_part_at, pattern_part_at, listed_at, tail_at, tail_slots, before, going, part_of_tail, is_before_last, front_before, parts_behind, outline_slots, is_over, skips_gap, may_end}
+use Rattle.positions.specs.Outlines.{assignment_at, whole_at, slot_of, bound_at, default_at, element_at, argument_at, object_part_at, pattern_part_at, listed_at, tail_at, tail_slots, before, going, part_of_tail, is_before_last, front_before, parts_behind, outline_slots, is_over, skips_gap, may_end}
 use Rattle.positions.specs.Entries.{around}
 use Rattle.positions.specs.Expressions as expressions
 use Rattle.positions.specs.Expressions.{Around, kind_at}
@@ -63,11 +64,20 @@ is_wide (spine f) = is_any f
 is_wide (pattern b f) = is_any f
 is_wide _ = true
 
+abbrev is_no_statement : Start → Bool
+is_no_statement Statement = false
+is_no_statement _ = true
+
+-- no expression stands at a statement's start without In
+abbrev pub is_lawful : Role → Bool
+is_lawful (expr y i f) = i || is_no_statement f
+is_lawful _ = true
+
 abbrev good : Slot → Bool
-good (fixed a) = is_plain a && is_wide a
+good (fixed a) = is_plain a && (is_wide a && is_lawful a)
 good (left y) = is_loose y
 good (lead y) = not (nat_eq (tightness y) 19)
-good (tail y f) = is_loose y
+good (tail y f) = is_loose y && is_no_statement f
 good _ = true
 
 abbrev all_good : List Slot → Bool
@@ -117,7 +127,7 @@ bound_good true k = of (is_pattern k) (is_identifier k)
     of false false = refl
 bound_good false k = of (is_pattern k) (is_target k)
   where
-    of : (u v : Bool) → good_role (cond u (Some (at.Pattern false Any)) (cond v (Some (at.Expression Rattle.language.specs.declared.Rank.TheVariants.LeftHandSide true Any)) None)) ≡ true
+    of : (u v : Bool) → good_role (cond u (Some (at.Pattern false Any)) (cond v (Some (at.Expression LeftHandSide true Any)) None)) ≡ true
     of true v = refl
     of false true = refl
     of false false = refl
@@ -136,7 +146,7 @@ element_good b k = of (is_rest k) (default_at b k) (default_good b k)
 argument_good : (k : Kind) → good_role (Some (argument_at k)) ≡ true
 argument_good k = of (is_spread k)
   where
-    of : (u : Bool) → good_role (Some (cond u at.Spread Rattle.positions.specs.Outlines.assignment_at)) ≡ true
+    of : (u : Bool) → good_role (Some (cond u at.Spread assignment_at)) ≡ true
     of true = refl
     of false = refl
 
@@ -248,14 +258,14 @@ class_good (Part j) Past = nothing
 class_good (Part j) Gap = outlined refl refl
 class_good (Part j) (Part k) = outlined refl refl
 
-arrow_good : (u : Bool) → good_at (cond u (slot.Tail Rattle.language.specs.declared.Rank.TheVariants.Assignment Rattle.language.specs.declared.Start.TheVariants.NoBrace) (slot.Fixed at.Body)) ≡ true
+arrow_good : (u : Bool) → good_at (cond u (slot.Tail Assignment NoBrace) (slot.Fixed at.Body)) ≡ true
 arrow_good true = refl
 arrow_good false = refl
 
 selected_good : (g : Flags) → good_at (expressions.selected g) ≡ true
 selected_good g = of g.computed
   where
-    of : (u : Bool) → good_at (slot.Fixed (cond u Rattle.positions.specs.Outlines.whole_at at.Word)) ≡ true
+    of : (u : Bool) → good_at (slot.Fixed (cond u whole_at at.Word)) ≡ true
     of true = refl
     of false = refl
 
@@ -273,7 +283,7 @@ member_good g k = unless g.optional _ (outlined (and_from _ _ (object_good (is_s
 call_good : (g : Flags) (k : Kind) → Good (expressions.call_outline g k)
 call_good g k = unless g.optional _ (outlined (called_good (is_super k)) refl)
 
-updated_good : (u : Bool) → good_at (cond u (slot.Fixed (at.Expression Rattle.language.specs.declared.Rank.TheVariants.LeftHandSide true Any)) (slot.Lead Rattle.language.specs.declared.Rank.TheVariants.LeftHandSide)) ≡ true
+updated_good : (u : Bool) → good_at (cond u (slot.Fixed (at.Expression LeftHandSide true Any)) (slot.Lead LeftHandSide)) ≡ true
 updated_good true = refl
 updated_good false = refl
 
@@ -292,7 +302,7 @@ joined_good w l z q h =
     let rises = b.rises.0 in
     let loose : nat_le (tightness z) 18 ≡ true = grind (arith, nat_tests) in
     let looser : nat_le (tightness q) 18 ≡ true = grind (arith, nat_tests) in
-    outlined (and_from _ _ loose looser) refl
+    outlined (and_from _ _ loose (and_from _ _ looser refl)) refl
 
 binary_good : (w : List ℕ) (o : Operation) → operation_at w ≡ o → Good (expressions.binary_outline w o)
 binary_good w (Binds false z q) h = joined_good w false z q h
@@ -305,7 +315,7 @@ logical_good w (Binds true z q) h = joined_good w true z q h
 logical_good w (Binds false z q) h = nothing
 logical_good w _ h = nothing
 
-assignment_good : (u v w : Bool) → Good (cond u (cond v (expressions.assigned (slot.Lead Rattle.language.specs.declared.Rank.TheVariants.LeftHandSide)) (cond w (expressions.assigned slot.LeadPattern) None)) None)
+assignment_good : (u v w : Bool) → Good (cond u (cond v (expressions.assigned (slot.Lead LeftHandSide)) (cond w (expressions.assigned slot.LeadPattern) None)) None)
 assignment_good true true w = outlined refl refl
 assignment_good true false true = outlined refl refl
 assignment_good true false false = nothing
@@ -502,9 +512,9 @@ given_before_good (Part k) x None h e = refl
 given_before_good (Part k) x (Some f) h e = placed_good x f h e
 
 init_good : (k : Kind) → good_at (statements.init_at k) ≡ true
-init_good k = of (Rattle.language.specs.Statements.is_declaration k)
+init_good k = of (is_declaration k)
   where
-    of : (u : Bool) → good_at (slot.Fixed (cond u (at.Head true) (at.Expression Rattle.language.specs.declared.Rank.TheVariants.Expression false Any))) ≡ true
+    of : (u : Bool) → good_at (slot.Fixed (cond u (at.Head true) (at.Expression Expression false Any))) ≡ true
     of true = refl
     of false = refl
 
@@ -512,7 +522,7 @@ for_good : (r : Bool) (a b c : Entry) → Good (statements.for_outline r a b c)
 for_good r a b c = of_front_good _ (given_before_good a _ _ (init_good (kind_at a)) (given_before_good b _ _ refl (given_before_good c _ _ refl refl)))
 
 left_good : (k : Kind) → good_role (statements.left_at k) ≡ true
-left_good k = of (Rattle.language.specs.Statements.is_declaration k)
+left_good k = of (is_declaration k)
   where
     of : (u : Bool) → good_role (cond u (Some (at.Head false)) (bound_at false k)) ≡ true
     of true = refl
@@ -594,8 +604,9 @@ head_good : (b : Bool) (k : Kind) (w : List ℕ) (a : Around) → Good (statemen
 head_good b kind.VariableDeclaration w a = given _ _ (outlined refl refl)
 head_good b _ w a = nothing
 
-assigned_good : (i : Bool) → good_at (slot.Fixed (at.Expression Rattle.language.specs.declared.Rank.TheVariants.Assignment i Any)) ≡ true
-assigned_good i = refl
+assigned_good : (i : Bool) → good_at (slot.Fixed (at.Expression Assignment i Any)) ≡ true
+assigned_good true = refl
+assigned_good false = refl
 
 initialised_good : (i : Bool) (o : Option Position) → good_role o ≡ true → Good (statements.initialised i o)
 initialised_good i None h = nothing
@@ -669,34 +680,39 @@ outline_good at.Script k w g a = script_good k
 
 -- Of a node's parts
 
+loosely : (u v : Bool) → u ≡ true → (u || v) ≡ true
+loosely true v e = refl
+loosely false v e = absurd (false≢true e)
+
+anyway : (u v : Bool) → v ≡ true → (u || v) ≡ true
+anyway true v e = refl
+anyway false v e = e
+
 settled_plain : (z : Rank) (i : Bool) (f : Start) (s : Slot) → good s ≡ true → is_plain (settle z i f s) ≡ true
 settled_plain z i f (fixed a) h = (and_parts _ _ h).0
 settled_plain z i f (left y) h = loosely (is_loose y) _ h
-  where
-    loosely : (u v : Bool) → u ≡ true → (u || v) ≡ true
-    loosely true v e = refl
-    loosely false v e = absurd (false≢true e)
-settled_plain z i f (lead y) h = behind (is_loose y) _ h
-  where
-    behind : (u v : Bool) → v ≡ true → (u || v) ≡ true
-    behind true v e = refl
-    behind false v e = e
-settled_plain z i f (tail y x) h = loosely (is_loose y) _ h
-  where
-    loosely : (u v : Bool) → u ≡ true → (u || v) ≡ true
-    loosely true v e = refl
-    loosely false v e = absurd (false≢true e)
+settled_plain z i f (lead y) h = anyway (is_loose y) _ h
+settled_plain z i f (tail y x) h = loosely (is_loose y) _ (and_parts _ _ h).0
 settled_plain z i f callee h = of (is_tight z)
   where
-    of : (u : Bool) → is_plain (expr (cond u Rattle.language.specs.declared.Rank.TheVariants.Member Call) true f) ≡ true
+    of : (u : Bool) → is_plain (expr (cond u Member Call) true f) ≡ true
     of true = refl
     of false = refl
 settled_plain z i f lead_spine h = refl
 settled_plain z i f lead_pattern h = refl
 
 settled_wide : (z : Rank) (i : Bool) (s : Slot) → good s ≡ true → is_wide (settle z i Any s) ≡ true
-settled_wide z i (fixed a) h = (and_parts _ _ h).1
+settled_wide z i (fixed a) h = (and_parts (is_wide a) (is_lawful a) (and_parts (is_plain a) (is_wide a && is_lawful a) h).1).0
 settled_wide z i _ h = refl
+
+settled_lawful : (z : Rank) (i : Bool) (f : Start) (s : Slot) → (i || is_no_statement f) ≡ true → good s ≡ true → is_lawful (settle z i f s) ≡ true
+settled_lawful z i f (fixed a) l h = (and_parts (is_wide a) (is_lawful a) (and_parts (is_plain a) (is_wide a && is_lawful a) h).1).1
+settled_lawful z i f (left y) l h = l
+settled_lawful z i f (lead y) l h = refl
+settled_lawful z i f (tail y x) l h = anyway i _ (and_parts _ _ h).1
+settled_lawful z i f callee l h = refl
+settled_lawful z i f lead_spine l h = refl
+settled_lawful z i f lead_pattern l h = refl
 
 -- all of them pass the test
 abbrev pub all_pass : (Role → Bool) → List Role → Bool
@@ -744,3 +760,11 @@ parts_plain a n = parts_pass is_plain a n (settled_plain (own_rank a) (own_in a)
 -- patterns and parts of chains may begin with anything
 pub parts_wide : (a : Role) (n : Tree) → own_start a ≡ Any → all_pass is_wide (first_roles (ways a n)) ≡ true
 parts_wide a n e = parts_pass is_wide a n (λ s h. subst (λ f. is_wide (settle (own_rank a) (own_in a) f s) ≡ true) (sym e) (settled_wide (own_rank a) (own_in a) s h))
+
+own_lawful : (a : Role) → is_lawful a ≡ true → (own_in a || is_no_statement (own_start a)) ≡ true
+own_lawful (expr y i f) h = h
+own_lawful _ h = refl
+
+-- at a position where In is given or no statement starts, parts stand at such
+pub parts_lawful : (a : Role) (n : Tree) → is_lawful a ≡ true → all_pass is_lawful (first_roles (ways a n)) ≡ true
+parts_lawful a n h = parts_pass is_lawful a n (λ s e. settled_lawful (own_rank a) (own_in a) (own_start a) s (own_lawful a h) e)

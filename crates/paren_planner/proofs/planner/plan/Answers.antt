@@ -9,6 +9,7 @@ use Rattle.paren_planner.proofs.Turns.{all_rows, script_least, total_is}
 use Rattle.paren_planner.proofs.Wrapping.{flagged_wrapped}
 use Rattle.paren_planner.proofs.Totals.{wrapped_count}
 use Rattle.paren_planner.proofs.Celled.{script_shown}
+use Rattle.paren_planner.proofs.Bounded.{plan_bounds}
 use Rattle.std.specs.Prelude.{map}
 use Rattle.paren_planner.proofs.planner.plan.Goals as goal
 
@@ -30,6 +31,11 @@ returns-clause-total c =
     ∙ total_is c.at-total.result (least c.args.program.now script) c.number.result c.requires.spelled
     (c.at-total.ensures ∙ script_least (node_tree c.root-root.result) c.in_ok-weighed.weighed.costs c.in_ok-weighed.ensures.weighed.costs (subst (λ u. rows u script ≤ 16777216) (sym c.root-root.ensures) c.requires.few) ∙ ap (λ u. least u script) c.root-root.ensures)
     c.number.ensures
+
+pub returns-clause-bounds : goal.returns-clause-bounds
+returns-clause-bounds c =
+    plan_bounds c.set_total.new.self.rows.items c.set_total.new.self.total c.args.program.now
+    (c.set_total.ensures.rows ∙ c.in_ok-weighed.ensures.rows ∙ (λ j. c.new-table.ensures.rows j ++ table_rows (c.root-root.ensures j) script)) c.requires.few (returns-clause-total c)
 
 pub returns-clause-count : goal.returns-clause-count
 returns-clause-count c = sym (wrapped_count c.args.program.now c.set_total.new.self.total (sym (returns-clause-total c)))
