@@ -10,6 +10,9 @@ pub mod OneWay
 pub mod Least
 pub mod DerivedFits
 pub mod Marked
+pub mod LaidItems
+pub mod PrintedSpells
+pub mod Counted
 pub mod Viewed
 pub mod Spine
 pub mod Begins

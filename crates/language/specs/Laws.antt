@@ -1,5 +1,5 @@
 -- What is proved of the definitions.
-use Rattle.std.specs.Prelude.{◌≡◌, ◌↔◌, ℕ, Bool, true, false, List, ◌++◌, length, map, ◌∷◌, []}
+use Rattle.std.specs.Prelude.{◌≡◌, ◌↔◌, ◌≤◌, ℕ, Bool, true, false, List, ◌++◌, length, map, ◌∷◌, []}
 use Rattle.tree.specs.declared.kind.Kind.{Kind}
 use Rattle.tree.specs.declared.kind.Kind.TheVariants.{ArrowFunctionExpression, NewExpression}
 use Rattle.tree.specs.declared.kind.Pair.{Pair}
@@ -13,8 +13,11 @@ use Rattle.language.specs.Cursor.{beginning, Next, behind}
 use Rattle.language.specs.Derivation.{Among, Spells}
 use Rattle.language.specs.Search.{spelled}
 use Rattle.language.specs.Cost.{AtMost, least}
-use Rattle.language.specs.Layout.{wrapped_rows, has_number}
+use Rattle.language.specs.Layout.{wrapped_rows, has_number, fixed_text}
 use Rattle.language.specs.Fits.{fits}
+use Rattle.language.specs.Printed.{items_text, printed, open_in, pair_count, Follows, GoesOn}
+use Rattle.language.specs.Places.{NextIn, itself}
+use Rattle.tokens.specs.Reading.{any_goal}
 use Rattle.language.specs.Claims.{Derives, DerivesOpen}
 use Rattle.tokens.specs.Tokens.{LexicalToken, IsReading}
 use Rattle.std.specs.Str.{chars, IsUtf8}
@@ -65,3 +68,22 @@ ReadingsAreDerived =
 -- what a text derives can be laid out: each node can be spelled where it stands, or in a pair where it is wrapped
 abbrev pub DerivedFits : Type 0
 DerivedFits = (text : List ℕ) (n : Tree) (P : List Pair) → Derives text n P → fits (has_number (wrapped_rows n script 1)) n script 1 ≡ true
+
+-- the layout's text is that of its items
+abbrev pub LayoutIsItems : Type 0
+LayoutIsItems = (n : Tree) → items_text (printed (has_number (wrapped_rows n script 1)) n script 1 0) ≡ fixed_text n
+
+-- what reads the items of a layout spells the same tree, with a pair for each node in parentheses
+abbrev pub LayoutIsSpelled : Type 0
+LayoutIsSpelled =
+    (W : ℕ → Bool) (n : Tree) (a : Role) (r d o : ℕ) (ts us : List Token) → fits W n a r ≡ true → open_in W n a r ≤ o →
+    Follows (List Token) Next behind (printed W n a r d) ts us → GoesOn (List Token) Next behind us →
+    (m : Tree) × (P : List Pair) × SameTree m n × Spells ways (List Token) Next behind o a m ts us P × (length P ≡ pair_count W n a r)
+
+-- where a text is read as the layout of a tree that some text derives, it derives the same tree, with a pair for each wrapped node
+abbrev pub LayoutDerives : Type 0
+LayoutDerives =
+    (other : List ℕ) (n : Tree) (P : List Pair) → Derives other n P → (text : List ℕ) (last : Token) (o : ℕ) →
+    Follows Token (NextIn text any_goal) itself (printed (has_number (wrapped_rows n script 1)) n script 1 0) beginning last → GoesOn Token (NextIn text any_goal) itself last →
+    open_in (has_number (wrapped_rows n script 1)) n script 1 ≤ o →
+    (m : Tree) × (Q : List Pair) × SameTree m n × DerivesOpen o text m Q × (length Q ≡ length (wrapped_rows n script 1))

@@ -22,5 +22,6 @@ pub mod Cost
 pub mod Search
 pub mod Layout
 pub mod Fits
+pub mod Printed
 pub mod Claims
 pub mod Laws

@@ -1,6 +1,6 @@
 //! What is proved of the definitions: each contract is a theorem, and the body does nothing.
 
-ghost use Rattle.language.specs.Laws.{AtMostOneWay, DerivedFits, FindsDerivations, NoFewerPairs, NoFewerPairsOfTokens, PlacesChangeNoWay, ReadingsAreDerived, StaysWithMoreTokens};
+ghost use Rattle.language.specs.Laws.{AtMostOneWay, DerivedFits, FindsDerivations, LayoutDerives, LayoutIsItems, LayoutIsSpelled, NoFewerPairs, NoFewerPairsOfTokens, PlacesChangeNoWay, ReadingsAreDerived, StaysWithMoreTokens};
 
 /// A node has at most one way at a position, but for an arrow with one plain parameter and a `new` without arguments.
 pub fn at_most_one_way()
@@ -40,4 +40,19 @@ pub fn readings_are_derived()
 /// What a text derives can be laid out: each node can be spelled where it stands, or in a pair where it is wrapped.
 pub fn derived_fits()
     ensures { DerivedFits }
+{}
+
+/// The text of a tree's layout is that of its items: tokens, and what stands between them.
+pub fn layout_is_items()
+    ensures { LayoutIsItems }
+{}
+
+/// Tokens that follow the items of a layout spell the same tree, with a pair for each node in parentheses.
+pub fn layout_is_spelled()
+    ensures { LayoutIsSpelled }
+{}
+
+/// A text that is read as the layout of a tree which some text derives, derives the same tree, with a pair for each wrapped node.
+pub fn layout_derives()
+    ensures { LayoutDerives }
 {}

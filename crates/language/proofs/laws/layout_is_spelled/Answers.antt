@@ -1,0 +1,5 @@
+use Rattle.language.proofs.Counted.{layout_spelled}
+use Rattle.language.proofs.laws.layout_is_spelled.Goals as goal
+
+pub returns : goal.returns
+returns c = λ W n a r d o ts us h k f g. layout_spelled W n a r d o ts us h k f g
