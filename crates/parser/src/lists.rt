@@ -3,6 +3,7 @@
 
 ghost use Rattle.std.specs.Prelude.{◌⊎◌, codes, ◌≡◌, ◌≤◌, ◌&&◌, IfOk, IfErr, true, false};
 ghost use Rattle.std.specs.Bool.{OnTrue, OnFalse};
+ghost use Rattle.token_cursor.specs.Point.{IsAhead};
 ghost use Rattle.parser.specs.Moves.{Passes, IsOpened, IsUnseparated};
 ghost use Rattle.parser.specs.Items.{after_item, element_item, element_levels};
 ghost use Rattle.parser.specs.Outcomes.{BecomesHere, IsSyntaxHere, Yields};
@@ -14,7 +15,7 @@ ghost use Rattle.covers.specs.Lists.{is_ended};
 ghost use Rattle.parser.specs.Tests.{is_later_part};
 ghost use Rattle.parser.specs.Seen.{ReadsHere, Misses, MissesBy, TokenHere};
 ghost use Rattle.parser.specs.Beginnings.{case_word};
-ghost use Rattle.parser.specs.Follows.{Semicolons, PassedBefore, MissesEnd, SeesEnd, end_before, NoChunk, BegunAt, NotBegun, CommaAt};
+ghost use Rattle.parser.specs.Follows.{Semicolons, PassedBefore, MissesEnd, SeesEnd, end_before, NoChunk, ChunkAt, BegunAt, NotBegun, CommaAt};
 ghost use Rattle.parser.specs.Refusals.{IsLimit, IsRefusal};
 ghost use Rattle.covers.specs.Patterns.{pattern_tree};
 ghost use Rattle.covers.specs.Shapes.{is_pattern};
@@ -289,6 +290,7 @@ impl<'t, 's> Parser<'t, 's> {
         ensures forward { self.old.cursor.last.stop ≤ self.new.cursor.last.stop }
         ensures same_open { self.new.cursor.opened ≡ self.old.cursor.opened }
         ensures same_pairs { self.new.pairs.items ≡ self.old.pairs.items }
+        ensures ahead { IfOk result (λ token. IsAhead Goal.TemplateTail self.old.cursor.text self.old.cursor.last.stop (token_of token)) }
         ensures accepted { IfOk result (λ token. TokenHere self.old.cursor.text TemplateTail is_later_part self.old.cursor.last self.new.cursor.last × (self.new.cursor.last ≡ as_read (token_of token))) }
         ensures missed { IfErr result (λ _. MissesBy self.old.cursor.text TemplateTail is_later_part self.old.cursor.last × (self.new.cursor.last ≡ self.old.cursor.last)) }
         ensures here { IfErr result (IsSyntaxHere self.new.cursor) }
@@ -310,7 +312,7 @@ impl<'t, 's> Parser<'t, 's> {
         ensures forward { self.old.cursor.last.stop ≤ self.new.cursor.last.stop }
         ensures same_open { self.new.cursor.opened ≡ self.old.cursor.opened }
         ensures same_pairs { self.new.pairs.items ≡ self.old.pairs.items }
-        ensures read { IfOk result (λ _. TokenHere self.old.cursor.text TemplateTail is_later_part self.old.cursor.last self.new.cursor.last) }
+        ensures read { IfOk result (λ item. ChunkAt self.old.cursor.text self.old.cursor.last self.new.cursor.last item.node item.is_marked) }
         ensures no_chunk { IfErr result (NoChunk self.old.cursor high) }
         ensures refused { IfErr result (IsRefusal self.new.cursor.text) }
     {
