@@ -7,6 +7,7 @@ pub mod Modified
 pub mod Moves
 pub mod Opened
 pub mod Operating
+pub mod Parted
 pub mod Refused
 pub mod Seeing
 pub mod Yielding

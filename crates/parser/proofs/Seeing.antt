@@ -113,7 +113,7 @@ module _ (text : List ℕ) where
   name_by : {w : List ℕ} {s t e : Token} → Reads Token (NextIn text any_goal) itself Name w s t e → By goal.Div s t e
   name_by {t = t} r = record { next = r.next; allowed = subst (λ c. IsTrue (allows goal.Div c t.text)) (sym r.class) (div_allows true t.text) }
 
-  class_of : (c d : Class) (b : Bool) → (same_class c d && b) ≡ true → (d ≡ c) × (b ≡ true)
+  pub class_of : (c d : Class) (b : Bool) → (same_class c d && b) ≡ true → (d ≡ c) × (b ≡ true)
   class_of Name Name b h = (refl, h)
   class_of Punctuator Punctuator b h = (refl, h)
   class_of Number Number b h = (refl, h)

@@ -1,24 +1,28 @@
 -- What functions that read tokens and make nodes of them leave behind.
-use Rattle.std.specs.Prelude.{◌≡◌, ℕ, ◌≤◌, ◌<◌, ◌⊎◌, Bool, true, false, ◌&&◌, List, [], Some, None, codes}
+use Rattle.std.specs.Prelude.{◌+◌, ◌-◌, ◌++◌, length, ◌≡◌, ℕ, ◌≤◌, ◌<◌, ◌⊎◌, Bool, true, false, ◌&&◌, List, [], Option, Some, None, codes}
 use Rattle.source_text.specs.declared.fault.Fault.{Fault}
 use Rattle.source_text.specs.declared.fault.Fault.TheVariants.{Syntax, TooDeep, OutOfMemory}
-use Rattle.tokens.specs.declared.token.Class.TheVariants.{Name, Punctuator}
-use Rattle.tokens.specs.declared.token.Goal.TheVariants.{Div}
+use Rattle.tokens.specs.declared.token.Class.TheVariants.{Name, Punctuator, Template}
+use Rattle.tokens.specs.declared.token.Goal.TheVariants.{Div, TemplateTail}
 use Rattle.tokens.specs.Tokens.{LexicalToken}
 use Rattle.token_cursor.specs.Point.{Point, IsAhead}
-use Rattle.tree.specs.declared.kind.Kind.TheVariants.{Identifier, MetaProperty}
+use Rattle.tree.specs.declared.kind.Kind.TheVariants.{Identifier, MetaProperty, TemplateElement}
 use Rattle.tree.specs.Tree.{Tree, node, Parts, part, gap, none, plain, part_count}
 use Rattle.covers.specs.declared.list.Listed.{Listed}
 use Rattle.covers.specs.declared.list.List.{List as ListOf}
-use Rattle.covers.specs.Lists.{opening, is_ended}
+use Rattle.covers.specs.Lists.{opening, closing, is_ended}
 use Rattle.parser.specs.declared.closures.Closure.{Closure}
 use Rattle.parser.specs.declared.closures.Closure.TheVariants as closure
 use Rattle.parser.specs.declared.links.Linked.{Linked}
 use Rattle.parser.specs.declared.links.Linked.TheVariants as link
 use Rattle.parser.specs.Items.{is_unseparated, list_from}
+use Rattle.covers.specs.declared.list.Listed.TheVariants as listed
+use Rattle.language.specs.Token.{Token}
+use Rattle.parser.specs.Chunks.{front, back}
 use Rattle.parser.specs.Links.{link_by}
 use Rattle.parser.specs.Outcomes.{IsPlaceHere}
-use Rattle.parser.specs.Seen.{ReadsHere, Misses, NameHere, NoName, is_free_name}
+use Rattle.parser.specs.Seen.{MissesBy, Sees, ReadsHere, Misses, NameHere, NoName, is_free_name}
+use Rattle.parser.specs.Tests.{is_later_part}
 use Rattle.parser.specs.Tokens.{single_node}
 
 -- a declaration has a name; a method has none
@@ -86,3 +90,40 @@ NotTarget s high (Syntax at) = Misses s.text Name (codes "target") s.last
 NotTarget s high TooDeep = high < 2
 NotTarget s high OutOfMemory = Unit {0}
 NotTarget s high _ = ⊥
+
+-- no part of a template stands there but a first one, or there is no room for it
+abbrev pub NoChunk : Point → ℕ → Fault → Type 0
+NoChunk s high (Syntax at) = MissesBy s.text TemplateTail is_later_part s.last
+NoChunk s high TooDeep = high < 1
+NoChunk s high OutOfMemory = Unit {0}
+NoChunk s high _ = ⊥
+
+-- a part of a template that isn't the first: its characters stand between `}` and what is behind them
+abbrev pub chunk_node : List ℕ → Bool → Token → Tree
+chunk_node w last t = node TemplateElement w plain (t.start + 1) (t.stop - length (back last)) none
+
+abbrev pub ChunkAt : List ℕ → Token → Token → Tree → Bool → Type 0
+ChunkAt text s e n last = (w : List ℕ) × ReadsHere text Template (front false ++ (w ++ back last)) s e × (n ≡ chunk_node w last e)
+
+-- semicolons that were passed, one by one
+pub data Semicolons (text : List ℕ) (s : Token) : Token → Type 0 where
+  none_passed : Semicolons text s s
+  one_more : {t e : Token} → Semicolons text s t → ReadsHere text Punctuator (codes ";") t e → Semicolons text s e
+
+-- between members they stand for nothing (14.6)
+abbrev pub PassedBefore : Listed → Point → Point → Type 0
+PassedBefore listed.Members s e = Semicolons s.text s.last e.last
+PassedBefore _ s e = e.last ≡ s.last
+
+-- the punctuator before which no item stands; a setter's parameter always does
+abbrev pub end_before : Listed → Option (List ℕ)
+end_before listed.OneParameter = None
+end_before l = closing l
+
+abbrev pub MissesEnd : Option (List ℕ) → Point → Type 0
+MissesEnd None e = Unit {0}
+MissesEnd (Some w) e = Misses e.text Punctuator w e.last
+
+abbrev pub SeesEnd : Option (List ℕ) → Point → Type 0
+SeesEnd None e = ⊥
+SeesEnd (Some w) e = Sees e.text Punctuator w e.last

@@ -1,5 +1,5 @@
 -- Tests on the token that stands ahead.
-use Rattle.std.specs.Prelude.{Bool, true, false, ◌&&◌, ◌||◌, [], ◌∷◌, codes}
+use Rattle.std.specs.Prelude.{nat_eq, slice_index_or, Bool, true, false, ◌&&◌, ◌||◌, [], ◌∷◌, codes}
 use Rattle.tokens.specs.declared.token.Class.{Class}
 use Rattle.tokens.specs.declared.token.Class.TheVariants.{Name, Number, Text, Template}
 use Rattle.language.specs.Words.{Operator, selects, calls, indexes, chains, tags, among}
@@ -54,3 +54,7 @@ ends until.End t = is_end t
 -- what goes on with `super` (12.3.5): a member, or where it may stand a call
 abbrev pub goes_behind_super : Bool → Token → Bool
 goes_behind_super takes_call t = is_mark (codes ".") t || (is_mark (codes "[") t || (takes_call && is_mark (codes "(") t))
+
+-- a part of a template that isn't the first (11.8.6)
+abbrev pub is_later_part : Token → Bool
+is_later_part t = same_class Template t.class && nat_eq (slice_index_or t.text 0 0) 125

@@ -1,8 +1,11 @@
 //! The characters of templates (ECMA-262 clause 12.2.9).
 
-ghost use Rattle.std.specs.Prelude.{◌≡◌, ℕ, ◌+◌, ◌<◌, ◌≤◌, Bool, List, [], ◌∷◌, ◌++◌, length, IfOk, IfErr, true, false};
+ghost use Rattle.std.specs.Prelude.{nat_eq, slice_index_or, ◌≡◌, ℕ, ◌+◌, ◌<◌, ◌≤◌, Bool, List, [], ◌∷◌, ◌++◌, length, IfOk, IfErr, true, false};
 ghost use Rattle.std.specs.Cow.{cow_str_bytes};
 ghost use Rattle.tokens.specs.Templates.{raw_value};
+ghost use Rattle.tokens.specs.Scanned.{token_of};
+ghost use Rattle.language.specs.Token.{as_read};
+ghost use Rattle.parser.specs.Tests.{is_later_part};
 ghost use Rattle.parser.specs.Chunks.{front, back, Holds, part_node};
 ghost use Rattle.parser.specs.Refusals.{IsLimit};
 
@@ -11,8 +14,25 @@ use productions::Tall;
 use source_text::Fault;
 use std::alloc::Global;
 use std::borrow::CowStr;
-use tokens::{Token, template_value};
+use tokens::{Class, Token, template_value};
 use tree::{Kind, Span};
+
+// Whether the token begins with a brace that closes.
+fn is_behind_brace(token: &Token<'_>) -> bool
+    ensures { result ≡ nat_eq (slice_index_or (as_read (token_of token.now)).text 0 0) 125 }
+{
+    match token.text.as_bytes().first() {
+        Some(first) => *first == b'}',
+        None => false,
+    }
+}
+
+/// Whether it is a part of a template that isn't the first.
+pub(crate) fn is_later_part(token: &Token<'_>) -> bool
+    ensures { result ≡ is_later_part (as_read (token_of token.now)) }
+{
+    token.class == Class::Template && is_behind_brace(token)
+}
 
 // What stands behind an ASCII character.
 fn behind(text: &str, first: char) -> &str

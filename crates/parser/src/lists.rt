@@ -1,19 +1,26 @@
 //! Lists (ECMA-262 12.2 to 12.16, 13.3, 13.12, 14.1, 14.6): one loop for all of them, and what each of them lists.
 #![tactic(auto, using(crate::proofs::Refused::refusals, crate::proofs::Moves::moves))]
 
-ghost use Rattle.std.specs.Prelude.{◌≡◌, ◌≤◌, ◌&&◌, IfOk, IfErr, true, false};
-ghost use Rattle.std.specs.Bool.{OnTrue};
+ghost use Rattle.std.specs.Prelude.{◌⊎◌, codes, ◌≡◌, ◌≤◌, ◌&&◌, IfOk, IfErr, true, false};
+ghost use Rattle.std.specs.Bool.{OnTrue, OnFalse};
+ghost use Rattle.token_cursor.specs.Point.{IsAhead};
 ghost use Rattle.parser.specs.Moves.{Passes, IsOpened, IsUnseparated};
 ghost use Rattle.parser.specs.Items.{after_item, element_item, element_levels};
-ghost use Rattle.parser.specs.Outcomes.{BecomesHere, Yields};
-ghost use Rattle.parser.specs.Seen.{ReadsHere, Misses};
+ghost use Rattle.parser.specs.Outcomes.{BecomesHere, IsSyntaxHere, Yields};
+ghost use Rattle.tokens.specs.declared.token.Goal.TheVariants.{TemplateTail};
+ghost use Rattle.tokens.specs.Scanned.{token_of};
+ghost use Rattle.language.specs.Token.{as_read};
+ghost use Rattle.tree.specs.Tree.{part_count};
+ghost use Rattle.covers.specs.Lists.{is_ended};
+ghost use Rattle.parser.specs.Tests.{is_later_part};
+ghost use Rattle.parser.specs.Seen.{ReadsHere, Misses, MissesBy, TokenHere};
 ghost use Rattle.parser.specs.Beginnings.{case_word};
-ghost use Rattle.parser.specs.Follows.{BegunAt, NotBegun, CommaAt};
+ghost use Rattle.parser.specs.Follows.{Semicolons, PassedBefore, MissesEnd, SeesEnd, end_before, NoChunk, ChunkAt, BegunAt, NotBegun, CommaAt};
 ghost use Rattle.parser.specs.Refusals.{IsLimit, IsRefusal};
 ghost use Rattle.covers.specs.Patterns.{pattern_tree};
 ghost use Rattle.covers.specs.Shapes.{is_pattern};
 
-use crate::chunks::chunk;
+use crate::chunks::{chunk, is_later_part};
 use crate::part::Part;
 use crate::pieces::{Built, case_pieces};
 use crate::position::{Parser, Position};
@@ -22,7 +29,7 @@ use covers::{Item, List, Listed};
 use language::{Edge, Rank};
 use productions::{Nodes, Tall, plain};
 use source_text::Fault;
-use tokens::{Class, Goal};
+use tokens::{Class, Goal, Token};
 use tree::Kind;
 
 impl<'t, 's> Parser<'t, 's> {
@@ -53,17 +60,34 @@ impl<'t, 's> Parser<'t, 's> {
         Ok(list)
     }
 
+    // Goes past any number of `;`.
+    fn pass_semicolons(&mut self)
+        ensures text { self.new.cursor.text ≡ self.old.cursor.text }
+        ensures forward { self.old.cursor.last.stop ≤ self.new.cursor.last.stop }
+        ensures same_open { self.new.cursor.opened ≡ self.old.cursor.opened }
+        ensures same_pairs { self.new.pairs.items ≡ self.old.pairs.items }
+        ensures passed { Semicolons self.old.cursor.text self.old.cursor.last self.new.cursor.last }
+        ensures missed { Misses self.new.cursor.text Class.Punctuator (codes ";") self.new.cursor.last }
+    {
+        'empty: while self.accept(";") {}
+    }
+
     // Whether an item follows; in a class each `;` before it is passed.
     fn has_item(&mut self, list: &List<'s>) -> bool
         ensures text { self.new.cursor.text ≡ self.old.cursor.text }
         ensures forward { self.old.cursor.last.stop ≤ self.new.cursor.last.stop }
+        ensures same_open { self.new.cursor.opened ≡ self.old.cursor.opened }
+        ensures same_pairs { self.new.pairs.items ≡ self.old.pairs.items }
+        ensures passed { PassedBefore list.now.listed self.old.cursor self.new.cursor }
+        ensures item { OnTrue result ((is_ended list.now.listed list.now.seen (part_count list.now.nodes) ≡ false) × MissesEnd (end_before list.now.listed) self.new.cursor) }
+        ensures no_item { OnFalse result ((is_ended list.now.listed list.now.seen (part_count list.now.nodes) ≡ true) ⊎ SeesEnd (end_before list.now.listed) self.new.cursor) }
     {
         if list.is_ended() {
             return false;
         }
         match list.listed {
             Listed::Members => {
-                'empty: while self.accept(";") {}
+                self.pass_semicolons();
                 !self.sees("}")
             }
             Listed::OneParameter => true,
@@ -260,19 +284,39 @@ impl<'t, 's> Parser<'t, 's> {
         Ok(false)
     }
 
-    // The next part of a template.
-    fn next_chunk(&mut self, high: u32) -> Result<Item<'s>, Fault>
+    // The token of the next part of a template.
+    fn chunk_token(&mut self) -> Result<Token<'s>, Fault>
         ensures text { self.new.cursor.text ≡ self.old.cursor.text }
         ensures forward { self.old.cursor.last.stop ≤ self.new.cursor.last.stop }
+        ensures same_open { self.new.cursor.opened ≡ self.old.cursor.opened }
+        ensures same_pairs { self.new.pairs.items ≡ self.old.pairs.items }
+        ensures ahead { IfOk result (λ token. IsAhead Goal.TemplateTail self.old.cursor.text self.old.cursor.last.stop (token_of token)) }
+        ensures accepted { IfOk result (λ token. TokenHere self.old.cursor.text TemplateTail is_later_part self.old.cursor.last self.new.cursor.last × (self.new.cursor.last ≡ as_read (token_of token))) }
+        ensures missed { IfErr result (λ _. MissesBy self.old.cursor.text TemplateTail is_later_part self.old.cursor.last × (self.new.cursor.last ≡ self.old.cursor.last)) }
+        ensures here { IfErr result (IsSyntaxHere self.new.cursor) }
         ensures refused { IfErr result (IsRefusal self.new.cursor.text) }
     {
         let Some(token) = self.cursor.peek(Goal::TemplateTail) else {
             return Err(self.refusal());
         };
-        if token.class != Class::Template || !token.text.starts_with("}") {
+        if !is_later_part(&token) {
             return Err(self.refusal());
         }
         self.pass(token);
+        Ok(token)
+    }
+
+    // The next part of a template.
+    fn next_chunk(&mut self, high: u32) -> Result<Item<'s>, Fault>
+        ensures text { self.new.cursor.text ≡ self.old.cursor.text }
+        ensures forward { self.old.cursor.last.stop ≤ self.new.cursor.last.stop }
+        ensures same_open { self.new.cursor.opened ≡ self.old.cursor.opened }
+        ensures same_pairs { self.new.pairs.items ≡ self.old.pairs.items }
+        ensures read { IfOk result (λ item. ChunkAt self.old.cursor.text self.old.cursor.last self.new.cursor.last item.node item.is_marked) }
+        ensures no_chunk { IfErr result (NoChunk self.old.cursor high) }
+        ensures refused { IfErr result (IsRefusal self.new.cursor.text) }
+    {
+        let token = self.chunk_token()?;
         chunk(self.alloc, token, high)
     }
 }
