@@ -92,7 +92,7 @@ spelled-rows ps a _ qs none_at_all h = elim h [ ]
 spelled-rows ps a _ qs (one_way {x = x} n) h =
     let p = Among-one a x (fits a x) refl h in
     ap (parts_rows ps) (first_fits (widest a) x (fits (widest a) x) [] [] (fits-widest a x p.0)) ∙ settled-rows ps (widest a) a x ∙ ap (λ u. parts_rows ps (roles u)) (sym p.1)
-spelled-rows ps a _ qs (two_ways {x = x} {y = y} n covers) h = of (Among-two a x y (fits a x) (fits a y) refl refl h)
+spelled-rows ps a _ qs (two_ways {x = x} {y = y} n covers alike) h = of (Among-two a x y (fits a x) (fits a y) refl refl h)
   where
     whole : IsTrue (fits a x) → parts_rows ps (first_roles (ways_of (widest a) (x ∷ y ∷ []))) ≡ parts_rows ps (roles (settled a x))
     whole p = ap (parts_rows ps) (first_fits (widest a) x (fits (widest a) x) (filter (fits (widest a)) (y ∷ [])) (filter (fits (widest a)) (y ∷ [])) (fits-widest a x p)) ∙ settled-rows ps (widest a) a x
