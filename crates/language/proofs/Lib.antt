@@ -13,6 +13,7 @@ pub mod Marked
 pub mod LaidItems
 pub mod PrintedSpells
 pub mod Counted
+pub mod ReadItems
 pub mod Viewed
 pub mod Spine
 pub mod Begins
