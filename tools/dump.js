@@ -58,7 +58,7 @@ function answersOf(folder, texts, size) {
     const given = texts.slice(i, i + size);
     const file = path.join(folder, 'texts');
     fs.writeFileSync(file, given.join('\0'));
-    const done = spawnSync(process.env.RT ?? 'rt', ['try', '--seconds', '600', '--data', 'texts=' + file], { cwd: path.join(folder, 'crates', 'dump'), maxBuffer: 1 << 30, encoding: 'utf8' });
+    const done = spawnSync(process.env.RT ?? 'rt', ['try', '--steps', '1000000000000', '--seconds', '600', '--data', 'texts=' + file], { cwd: path.join(folder, 'crates', 'dump'), maxBuffer: 1 << 30, encoding: 'utf8' });
     const list = done.stdout.split('\0');
     const rest = list.pop();
     answers.push(...list);

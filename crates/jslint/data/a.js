@@ -1,1 +1,3 @@
-a * (b + c);
+for (x = (a in b) && (c in d);;); // two pairs
+(a?.b).c; ("use strict"); (1).toString()
+a ?? (b ?? c)
