@@ -1,5 +1,5 @@
 -- From the planner's flags to the printer's; from what sums are refused for to what `fix` promises.
-use Rattle.std.proofs.Common.{◌≡◌, ℕ, zero, suc, Bool, true, false, List, [], ◌∷◌, refl, ap, ◌∙◌, get_or, Result, Ok, Err, String, string_bytes, IfOk, IfErr, inr}
+use Rattle.std.proofs.Common.{◌≡◌, ℕ, zero, suc, Bool, true, false, List, [], ◌∷◌, refl, ◌∙◌, get_or, Result, Ok, Err, String, string_bytes, IfOk, IfErr, inr}
 use Rattle.std.specs.declared.alloc.Global.{Global}
 use Rattle.source_text.specs.declared.fault.Fault.{Fault}
 use Rattle.source_text.specs.declared.fault.Fault.TheVariants.{NotUtf8, TooLong, Syntax, TooDeep, Early, OutOfMemory, BadSettings, BadTable, WriteFailed, ReadFailed, Usage}

@@ -10,3 +10,4 @@ pub mod Celled
 pub mod Bounded
 pub mod Heavy
 pub mod Bytes
+pub mod Plans

@@ -4,3 +4,4 @@ pub mod Rows
 pub mod Wrapped
 pub mod Laws
 pub mod Tables
+pub mod Plans

@@ -13,5 +13,5 @@ mod weighed;
 mod wrap;
 
 pub use planned::Plan;
-pub use planner::{has_plan, plan};
+pub use planner::{plan, plan_if_any};
 pub use table::CostTable;

@@ -1,13 +1,12 @@
 //! The plan of a script.
 
-ghost use Rattle.std.specs.Prelude.{◌≡◌, ◌≤◌, ◌↔◌, Option, Some, length, map, IfOk, IsSome, IsTrue};
+ghost use Rattle.std.specs.Prelude.{◌≡◌, ◌≤◌, ◌↔◌, Option, Some, IfOk, IfSome, IfNone, IsSome, IsTrue};
 ghost use Rattle.language.specs.Pieces.{script};
 ghost use Rattle.language.specs.Cost.{least};
-ghost use Rattle.language.specs.Layout.{has_number, wrapped_rows};
 ghost use Rattle.language.specs.Positions.{rows};
-ghost use Rattle.paren_planner.specs.Rows.{cell_rows, shown};
-ghost use Rattle.paren_planner.specs.Tables.{MeetsBounds, table_of};
-ghost use Rattle.paren_planner.specs.Wrapped.{is_flagged};
+ghost use Rattle.paren_planner.specs.Costs.{capped};
+ghost use Rattle.paren_planner.specs.Plans.{HasPlan, IsPlan};
+ghost use Rattle.paren_planner.specs.Rows.{table_rows};
 
 use crate::fill::weigh_node;
 use crate::planned::Plan;
@@ -18,6 +17,51 @@ use positions::Position;
 use std::alloc::{AllocError, Global};
 use tree::Program;
 
+/// What the nodes of a script cost.
+#[derive(Drop)]
+struct Weights {
+    /// A row for each node that has one.
+    table: CostTable,
+    /// The number of pairs of the whole, where some number spells it.
+    total: Option<u32>,
+}
+
+fn weigh(alloc: Global, program: &Program) -> Result<Weights, AllocError>
+    ensures rows { IfOk result (λ w. w.table.rows.items ≡ table_rows program.now script) }
+    ensures total { IfOk result (λ w. w.total ≡ capped (least program.now script)) }
+{
+    let mut table = CostTable::new(alloc);
+    let weighed = weigh_node(program.root(), Position::Script, false, &mut table)?;
+    let total = weighed.costs.at(Rank::Expression, true, Start::Any);
+    Ok(Weights { table, total })
+}
+
+/// The plan of a script, from its rows and its total.
+fn planned(
+    alloc: Global,
+    program: &Program,
+    table: CostTable,
+    total: u32,
+) -> Result<Plan, AllocError>
+    requires rows { table.rows.items ≡ table_rows program.now script }
+    requires few { rows program.now script ≤ 16777216 }
+    requires total { Some total ≡ least program.now script }
+    ensures { IfOk result (IsPlan program.now) }
+{
+    let mut table = table;
+    table.set_total(total);
+    let mut wrapped = Vec::with_capacity(alloc, table.row_count())?;
+    wrap_node(
+        program.root(),
+        Position::Script,
+        false,
+        true,
+        &table,
+        &mut wrapped,
+    )?;
+    Ok(Plan { table, wrapped })
+}
+
 /// The plan of a script. Steps and memory grow with the tree.
 ///
 /// # Errors
@@ -26,35 +70,30 @@ use tree::Program;
 pub fn plan(alloc: Global, program: &Program) -> Result<Plan, AllocError>
     requires spelled { IsSome (least program.now script) }
     requires few { rows program.now script ≤ 16777216 }
-    ensures cells { IfOk result (λ p. map shown p.table.rows.items ≡ cell_rows program.now) }
-    ensures bounds { IfOk result (λ p. MeetsBounds (table_of p.table.rows.items p.table.total) program.now) }
-    ensures total { IfOk result (λ p. Some p.table.total ≡ least program.now script) }
-    ensures count { IfOk result (λ p. p.table.total ≡ length (wrapped_rows program.now script 1)) }
-    ensures wrapped { IfOk result (λ p. (x : _) → is_flagged p.wrapped.items x ≡ has_number (wrapped_rows program.now script 1) x) }
+    ensures { IfOk result (IsPlan program.now) }
 {
-    let root = program.root();
-    let mut table = CostTable::new(alloc);
-    let weighed = weigh_node(root, Position::Script, false, &mut table)?;
-    let total = weighed.costs.at(Rank::Expression, true, Start::Any);
-    table.set_total(number(total));
-    let mut wrapped = Vec::with_capacity(alloc, table.row_count())?;
-    wrap_node(root, Position::Script, false, true, &table, &mut wrapped)?;
-    Ok(Plan { table, wrapped })
+    let weights = weigh(alloc, program)?;
+    let total = number(weights.total);
+    planned(alloc, program, weights.table, total)
 }
 
-/// Whether a script has a plan: whether some number of pairs spells it, and it has at most 16,777,216 rows. It costs as much as half
-/// of the plan; who has parsed the script needn't ask.
+/// The plan of a script that has one: that some number of pairs spells, and that has at most 16,777,216 rows; none of another. Who
+/// has a derivation of the script needn't ask.
 ///
 /// # Errors
 ///
 /// `AllocError` where memory is refused.
-pub fn has_plan(alloc: Global, program: &Program) -> Result<bool, AllocError>
-    ensures { IfOk result (λ b. IsTrue b ↔ (IsSome (least program.now script) × (rows program.now script ≤ 16777216))) }
+pub fn plan_if_any(alloc: Global, program: &Program) -> Result<Option<Plan>, AllocError>
+    ensures plan { IfOk result (λ made. IfSome made (λ p. HasPlan program.now × IsPlan program.now p)) }
+    ensures none { IfOk result (λ made. IfNone made (HasPlan program.now → ⊥)) }
 {
-    let mut table = CostTable::new(alloc);
-    let weighed = weigh_node(program.root(), Position::Script, false, &mut table)?;
-    let total = weighed.costs.at(Rank::Expression, true, Start::Any);
-    Ok(is_plannable(total, table.row_count()))
+    let weights = weigh(alloc, program)?;
+    if !is_plannable(weights.total, weights.table.row_count()) {
+        return Ok(None);
+    }
+    let total = number(weights.total);
+    let plan = planned(alloc, program, weights.table, total)?;
+    Ok(Some(plan))
 }
 
 fn is_plannable(total: Option<u32>, row_count: usize) -> bool

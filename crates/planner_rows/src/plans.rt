@@ -1,7 +1,7 @@
 //! Plans of small scripts: the cells of each row, the wrapped nodes and their number.
 
 use crate::scripts::{BODIES, CHAINS, EXPRESSIONS, KEYS, Planned};
-use paren_planner::{CostTable, Plan, has_plan, plan};
+use paren_planner::{CostTable, Plan, plan_if_any};
 use parser::parse;
 use source_text::{Fault, Source};
 use std::alloc::{AllocError, Global};
@@ -61,11 +61,10 @@ fn has_rows(alloc: Global, plan: &Plan, rows: &[&str]) -> Result<bool, AllocErro
 fn is_planned(alloc: Global, text: &str, rows: &[&str]) -> Result<bool, Fault> {
     let source = Source::new(text.as_bytes())?;
     let parsed = parse(alloc, &source)?;
-    if !has_plan(alloc, parsed.program())? {
-        return Ok(false);
+    match plan_if_any(alloc, parsed.program())? {
+        Some(plan) => Ok(has_rows(alloc, &plan, rows)?),
+        None => Ok(false),
     }
-    let plan = plan(alloc, parsed.program())?;
-    Ok(has_rows(alloc, &plan, rows)?)
 }
 
 fn are_planned(rt: &impl Abort, alloc: Global, scripts: &[Planned]) {

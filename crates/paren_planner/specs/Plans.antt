@@ -1,0 +1,24 @@
+-- Which scripts have a plan, and what a plan says.
+use Rattle.std.specs.Prelude.{◌≡◌, ℕ, ◌≤◌, Some, map, length, IsSome}
+use Rattle.tree.specs.Tree.{Tree}
+use Rattle.language.specs.Pieces.{script}
+use Rattle.language.specs.Cost.{least}
+use Rattle.language.specs.Layout.{has_number, wrapped_rows}
+use Rattle.language.specs.Positions.{rows}
+use Rattle.paren_planner.specs.declared.planned.Plan.{Plan}
+use Rattle.paren_planner.specs.Rows.{cell_rows, shown}
+use Rattle.paren_planner.specs.Tables.{MeetsBounds, table_of}
+use Rattle.paren_planner.specs.Wrapped.{is_flagged}
+
+-- some number of pairs spells the script, and it has no more rows than a text may have bytes
+abbrev pub HasPlan : Tree → Type 0
+HasPlan n = IsSome (least n script) × (rows n script ≤ 16777216)
+
+-- The table's rows have the definition's cells, each cell meets its bound, the total is the script's least cost and the number of its
+-- wrapped nodes, and the flags are those of these nodes.
+pub record IsPlan (n : Tree) (p : Plan) : Type 0 where
+  pub cells : map shown p.table.rows.items ≡ cell_rows n
+  pub bounds : MeetsBounds (table_of p.table.rows.items p.table.total) n
+  pub total : Some p.table.total ≡ least n script
+  pub count : p.table.total ≡ length (wrapped_rows n script 1)
+  pub wrapped : (r : ℕ) → is_flagged p.wrapped.items r ≡ has_number (wrapped_rows n script 1) r
