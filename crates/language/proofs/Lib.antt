@@ -14,6 +14,8 @@ pub mod LaidItems
 pub mod PrintedSpells
 pub mod Counted
 pub mod ReadItems
+pub mod StandsApart
+pub mod LiteralsApart
 pub mod Viewed
 pub mod Spine
 pub mod Begins
