@@ -16,6 +16,7 @@ pub mod Counted
 pub mod ReadItems
 pub mod StandsApart
 pub mod LiteralsApart
+pub mod SignsApart
 pub mod Viewed
 pub mod Spine
 pub mod Begins
