@@ -14,6 +14,9 @@ pub mod LaidItems
 pub mod PrintedSpells
 pub mod Counted
 pub mod ReadItems
+pub mod StandsApart
+pub mod LiteralsApart
+pub mod SignsApart
 pub mod Viewed
 pub mod Spine
 pub mod Begins

@@ -1,9 +1,9 @@
 -- Items that stand apart are read, one after the other.
 use Rattle.std.proofs.Common.{◌≡◌, ℕ, ◌+◌, ◌≤◌, Bool, true, false, not, ◌&&◌, ◌||◌, List, [], ◌∷◌, ◌++◌, length, drop, refl, sym, ap, ◌∙◌, subst, arith, IsTrue, append_assoc, append-nil, length-append, length-drop}
 use Rattle.std.specs.List.{list_any, list_all}
-use Rattle.tokens.specs.Alphabet.{is_white_space}
-use Rattle.std.specs.Str.{chars, IsUtf8}
-use Rattle.std.proofs.lemmas.Str.{chars-append, chars-nil, encodes-chars, IsUtf8-nil, IsUtf8-append}
+use Rattle.std.specs.Str.{chars, IsUtf8, is_utf8}
+use Rattle.std.proofs.lemmas.Slice.Eq.{bytes_eq-Decides}
+use Rattle.std.proofs.lemmas.Str.{IsUtf8-from_is_utf8, chars-append, chars-nil, encodes-chars, IsUtf8-nil, IsUtf8-append}
 use Rattle.std.proofs.lemmas.List.{drop_at, drop-drop}
 use Rattle.std.proofs.lemmas.Bool.{and_parts, and_from, false≢true}
 use Rattle.source_text.specs.Lines.{is_line_terminator}
@@ -20,6 +20,7 @@ use Rattle.language.specs.Token.{Token, as_read, table_text}
 use Rattle.language.specs.Derivation.{Reads}
 use Rattle.language.specs.Cursor.{beginning}
 use Rattle.language.specs.Places.{NextIn, next_in, itself}
+use Rattle.language.specs.Readable.{is_blank, breaks, on_this_line, joins_none, may_precede, goal_of, stands, is_name_next, stand_apart}
 use Rattle.language.specs.Printed.{Item, word, blank, name_ahead, joined, items_text, Follows, over, reads, passes, sees, stays, GoesOn}
 
 -- a word of a class in front of a rest, with which it makes no longer token
@@ -30,9 +31,6 @@ pub record Apart (class : Class) (w rest : List ℕ) : Type 0 where
   pub goal : Goal
   pub allowed : IsTrue (allows goal class (chars w))
   pub kept : table_text class w ≡ w
-
-abbrev pub is_blank : ℕ → Bool
-is_blank c = is_white_space c || is_line_terminator c
 
 -- what may stand between words
 pub record IsGap (gap : List ℕ) : Type 0 where
@@ -52,26 +50,6 @@ gap_join {xs} {ys} h k = record { utf8 = IsUtf8-append xs ys h.utf8 k.utf8; blan
     both : (cs : List ℕ) → list_all is_blank cs ≡ true → list_all is_blank (cs ++ chars ys) ≡ true
     both [] h = k.blank
     both (c ∷ cs) h = let u = and_parts (is_blank c) _ h in and_from _ _ u.0 (both cs u.1)
-
--- no line break stands before the next word
-abbrev pub breaks : List ℕ → Bool
-breaks gap = list_any is_line_terminator (chars gap)
-
-abbrev pub on_this_line : List Item → Bool
-on_this_line [] = false
-on_this_line (word c w ∷ is) = true
-on_this_line (blank w ∷ is) = not (breaks w) && on_this_line is
-on_this_line (_ ∷ is) = on_this_line is
-
--- no next word is to stand on the same line
-abbrev pub joins_none : List Item → Bool
-joins_none [] = true
-joins_none (word c w ∷ is) = true
-joins_none (joined ∷ is) = false
-joins_none (_ ∷ is) = joins_none is
-
-abbrev pub may_precede : List ℕ → List Item → Bool
-may_precede gap is = not (breaks gap) || joins_none is
 
 -- each word stands apart from what follows, and what is looked for is there
 pub data Readable : List Item → Type 0 where
@@ -243,3 +221,32 @@ text_is_read is r =
     let y = read_word (items_text is) End [] x.place x.gap [] x.is_gap end_apart (before_same (sym (append-nil x.gap)) x.before) in
     let z = y.reads in
     record { last = x.place; follows = x.follows; goes_on = record { token = y.token; place = y.token; next = z.next } }
+
+-- What the test says
+
+stands_apart : (c : Class) (w rest : List ℕ) → stands c w rest ≡ true → Apart c w rest
+stands_apart c w rest h =
+    let a = and_parts (is_utf8 w) _ h in
+    let b = and_parts (is_token c (chars w) (chars rest)) _ a.1 in
+    let d = and_parts (not (begins_comment (chars w ++ chars rest))) _ b.1 in
+    let e = and_parts (allows (goal_of c) c (chars w)) _ d.1 in
+    record { utf8 = IsUtf8-from_is_utf8 w a.0; longest = b.0; no_comment = d.0; goal = goal_of c; allowed = e.0; kept = (bytes_eq-Decides (table_text c w) w).0 e.1 }
+
+name_next : (w : List ℕ) (is : List Item) → is_name_next w is ≡ true → Readable is → Readable (name_ahead w ∷ is)
+name_next w (word Name v ∷ is) h r = subst (λ x. Readable (name_ahead x ∷ word Name v ∷ is)) ((bytes_eq-Decides v w).0 h) (a_name r)
+name_next w [] h r = absurd (false≢true h)
+name_next w (word _ v ∷ is) h r = absurd (false≢true h)
+name_next w (blank v ∷ is) h r = absurd (false≢true h)
+name_next w (name_ahead v ∷ is) h r = absurd (false≢true h)
+name_next w (joined ∷ is) h r = absurd (false≢true h)
+
+pub tested_readable : (is : List Item) → stand_apart is ≡ true → Readable is
+tested_readable [] h = ends
+tested_readable (word c w ∷ is) h = let a = and_parts (stands c w (items_text is)) _ h in a_word (stands_apart c w (items_text is) a.0) (tested_readable is a.1)
+tested_readable (blank w ∷ is) h =
+    let a = and_parts (is_utf8 w && (list_all is_blank (chars w) && may_precede w is)) _ h in
+    let b = and_parts (is_utf8 w) _ a.0 in
+    let d = and_parts (list_all is_blank (chars w)) _ b.1 in
+    a_gap (record { utf8 = IsUtf8-from_is_utf8 w b.0; blank = d.0 }) d.1 (tested_readable is a.1)
+tested_readable (name_ahead w ∷ is) h = let a = and_parts (is_name_next w is) _ h in name_next w is a.0 (tested_readable is a.1)
+tested_readable (joined ∷ is) h = let a = and_parts (on_this_line is) _ h in a_line a.0 (tested_readable is a.1)

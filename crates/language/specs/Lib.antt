@@ -23,5 +23,6 @@ pub mod Search
 pub mod Layout
 pub mod Fits
 pub mod Printed
+pub mod Readable
 pub mod Claims
 pub mod Laws

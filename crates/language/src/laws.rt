@@ -1,6 +1,6 @@
 //! What is proved of the definitions: each contract is a theorem, and the body does nothing.
 
-ghost use Rattle.language.specs.Laws.{AtMostOneWay, DerivedFits, FindsDerivations, LayoutDerives, LayoutIsItems, LayoutIsSpelled, NoFewerPairs, NoFewerPairsOfTokens, PlacesChangeNoWay, ReadingsAreDerived, StaysWithMoreTokens};
+ghost use Rattle.language.specs.Laws.{AtMostOneWay, DerivedFits, FindsDerivations, FixedTextDerives, LayoutDerives, LayoutIsItems, LayoutIsSpelled, NoFewerPairs, NoFewerPairsOfTokens, PlacesChangeNoWay, ReadingsAreDerived, StaysWithMoreTokens};
 
 /// A node has at most one way at a position, but for an arrow with one plain parameter and a `new` without arguments.
 pub fn at_most_one_way()
@@ -55,4 +55,9 @@ pub fn layout_is_spelled()
 /// A text that is read as the layout of a tree which some text derives, derives the same tree, with a pair for each wrapped node.
 pub fn layout_derives()
     ensures { LayoutDerives }
+{}
+
+/// Where the items of a script's layout stand apart, its fixed text derives the script, with a pair for each wrapped node.
+pub fn fixed_text_derives()
+    ensures { FixedTextDerives }
 {}
