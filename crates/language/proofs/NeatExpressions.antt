@@ -9,12 +9,12 @@ use Rattle.tree.specs.declared.kind.Flags.{Flags}
 use Rattle.tree.specs.Tree.{node, Parts, none, part, gap, kind_of, text_of}
 use Rattle.language.specs.FirstPart.{lead as lead_kind, others}
 use Rattle.language.specs.declared.Rank.{Rank}
-use Rattle.language.specs.declared.Rank.TheVariants.{Assignment, Unary, Update, LeftHandSide, Call, Member, Exponentiation}
+use Rattle.language.specs.declared.Rank.TheVariants.{Assignment, Unary, Update, LeftHandSide, Call, Member, Exponentiation, New}
 use Rattle.language.specs.declared.Start.TheVariants.{Any, NoBrace}
 use Rattle.language.specs.Words.{is, is_reserved, is_name, literal_class, is_open_number, is_super, is_step, is_target, is_prefix, is_word_operator, is_pattern, is_assignment, is_identifier, among, tightness, Operator, binds, powers, operator_of}
 use Rattle.language.specs.Pieces.{expr, name, word, quasi, body, left, lead, tail, callee, Piece, tok, unbroken, open_parameters, close_parameters, sub, lay, apart, loose, put, sign, term, sp, Spelling, at, is_none, argument, parameters}
 use Rattle.language.specs.Expressions.{expressions, arguments, in_brackets, selector, after_number, first_chained, member_link, call_link, linked, spines, function_pieces, class_pieces, arrow_end, arrows, infix_pieces, binary_ways, logical_ways, object_part, lead_is}
-use Rattle.language.proofs.NeatPieces.{Touch, fresh, apart_from, solid, named, valued, closed, dotted, signed, echoed, Sort, rank_sort, takes_space, behind_part, behind_sign, neat, is_item_touch, NeatBehind}
+use Rattle.language.proofs.NeatPieces.{Touch, fresh, apart_from, solid, named, valued, closed, dotted, signed, echoed, Sort, rank_sort, takes_space, behind_part, behind_sign, neat, is_begun, sign_begun, token_begun, is_item_touch, NeatBehind}
 use Rattle.language.specs.Words.{does_step, operators}
 use Rattle.language.proofs.Begins.{among_by}
 use Rattle.language.proofs.Operators.{text_among}
@@ -183,8 +183,15 @@ space_behind_rank b y = of b (nat_le 18 (tightness y))
     of true false = refl
     of false false = refl
 
+rank_end : (q : Rank) → neat true false apart_from (sub (tail q Any) ∷ []) ≡ true
+rank_end q = of (nat_le 18 (tightness q))
+  where
+    of : (t : Bool) → is_begun (behind_part true (cond t Sort.a_tight Sort.an_operand)) && true ≡ true
+    of true = refl
+    of false = refl
+
 neat_joined : (b : Bool) (w : List ℕ) (z q : Rank) → neat b false fresh (sub (left z) ∷ infix_pieces w ++ sub (tail q Any) ∷ []) ≡ true
-neat_joined b w z q = neat_infix true false (behind_part b (rank_sort z)) w (sub (tail q Any) ∷ []) (space_behind_rank b z) refl
+neat_joined b w z q = neat_infix true false (behind_part b (rank_sort z)) w (sub (tail q Any) ∷ []) (space_behind_rank b z) (rank_end q)
 
 pub neat_binary : (b : Bool) (w : List ℕ) (o : Operator) → Neat b (binary_ways w o)
 neat_binary b w (binds false z q) = one (neat_joined b w z q)
@@ -242,6 +249,10 @@ neat_postfix : (b : Bool) (w : List ℕ) → is_step w ≡ true → b ≡ false 
 neat_postfix true w h k = absurd (true≢false k)
 neat_postfix false w h k = among_by (λ v. neat false false fresh (sub (lead LeftHandSide) ∷ unbroken ∷ tok Punctuator v ∷ []) ≡ true) w ("++" ∷ "--" ∷ []) (text_among does_step w operators refl h) (refl, (refl, tt))
 
+neat_prefix : (b : Bool) (w : List ℕ) → neat b false fresh (tok Punctuator w ∷ lay (apart (cond (is w "++") 43 45)) ∷ put (expr LeftHandSide true Any) ∷ []) ≡ true
+neat_prefix true w = ap (λ t. t && true) (sign_begun w)
+neat_prefix false w = ap (λ t. t && true) (sign_begun w)
+
 neat_sign : (b : Bool) (w : List ℕ) → is_prefix w ≡ true → is_word_operator w ≡ false →
     neat b false fresh (tok Punctuator w ∷ cond (is w "+") (lay (apart 43) ∷ []) (cond (is w "-") (lay (apart 45) ∷ []) []) ++ put (expr Unary true Any) ∷ []) ≡ true
 neat_sign b w h k =
@@ -266,6 +277,10 @@ neat_tagged : (b : Bool) → neat b false fresh (sub callee ∷ put quasi ∷ []
 neat_tagged true = refl
 neat_tagged false = refl
 
+tight_end : (b : Bool) → neat b false fresh (term "new" ∷ sp ∷ put (expr New true Any) ∷ []) ≡ true
+tight_end true = refl
+tight_end false = refl
+
 neat_call : (b : Bool) (ps : Parts) → neat b false fresh (sub (lead Call) ∷ arguments ps) ≡ true
 neat_call b ps = neat_arguments true (cond b valued closed) ps (tight_item b)
 
@@ -275,7 +290,7 @@ neat_new b ps = neat_arguments true (cond b valued closed) ps (tight_item b)
 pub neat_expressions : (k : Kind) (w : List ℕ) (g : Flags) (ps : Parts) → Neat (first_is_open ps) (expressions k w g ps)
 unfolding expressions
 neat_expressions kind.Identifier w g ps = neat_cond (is_reserved w) (λ e. no_spelling) (λ e. one refl)
-neat_expressions kind.Literal w g ps = neat_cond (is_name (literal_class w) && not (among w ("true" ∷ "false" ∷ "null" ∷ []))) (λ e. no_spelling) (λ e. one refl)
+neat_expressions kind.Literal w g ps = neat_cond (is_name (literal_class w) && not (among w ("true" ∷ "false" ∷ "null" ∷ []))) (λ e. no_spelling) (λ e. one (ap (λ t. t && true) (token_begun (literal_class w) w)))
 neat_expressions kind.ThisExpression w g ps = one refl
 neat_expressions kind.ArrayExpression w g ps = one (neat_elements argument neat_argument ps (first_is_open ps) false solid (sign "]" ∷ []) refl bracket_end)
 neat_expressions kind.ObjectExpression w g ps = one (neat_listed object_part neat_object_part ps (first_is_open ps) false solid (sign "}" ∷ []) refl list_brace_end)
@@ -287,13 +302,13 @@ neat_expressions kind.TaggedTemplateExpression w g ps = one (neat_tagged (first_
 neat_expressions kind.MemberExpression w g ps = neat_cond g.optional (λ e. no_spelling) (λ e. neat_cond (is_super (lead_kind ps)) (λ h. one (neat_selector true true named g refl refl)) (λ h. one (neat_member ps g)))
 neat_expressions kind.CallExpression w g ps =
     neat_cond g.optional (λ e. no_spelling) (λ e. neat_cond (is_super (lead_kind ps)) (λ h. one (neat_arguments true named (others ps) refl)) (λ h. one (neat_call (first_is_open ps) (others ps))))
-neat_expressions kind.NewExpression w g ps = a_spelling (neat_new (first_is_open ps) (others ps)) (neat_cond (is_none (others ps)) (λ e. one refl) (λ e. no_spelling))
+neat_expressions kind.NewExpression w g ps = a_spelling (neat_new (first_is_open ps) (others ps)) (neat_cond (is_none (others ps)) (λ e. one (tight_end (first_is_open ps))) (λ e. no_spelling))
 neat_expressions kind.MetaProperty w g ps = neat_cond (lead_is ps "new" && lead_is (others ps) "target") (λ e. one refl) (λ e. no_spelling)
 neat_expressions kind.ImportExpression w g ps = one refl
 neat_expressions kind.ChainExpression w g ps = neat_cond (first_chained ps) (λ e. one refl) (λ e. no_spelling)
 neat_expressions kind.UpdateExpression w g ps =
     neat_cond (not (is_step w && is_target (lead_kind ps))) (λ e. no_spelling)
-    (λ e. let u = not_step (is_step w) (is_target (lead_kind ps)) e in neat_cond g.prefix (λ h. one refl) (λ h. one (neat_postfix (first_is_open ps) w u.0 (target_plain ps u.1))))
+    (λ e. let u = not_step (is_step w) (is_target (lead_kind ps)) e in neat_cond g.prefix (λ h. one (neat_prefix (first_is_open ps) w)) (λ h. one (neat_postfix (first_is_open ps) w u.0 (target_plain ps u.1))))
 neat_expressions kind.UnaryExpression w g ps =
     neat_cond (not (is_prefix w)) (λ e. no_spelling) (λ e. neat_cond (is_word_operator w) (λ h. one refl) (λ h. one (neat_sign (first_is_open ps) w (not_prefix (is_prefix w) e) h)))
 neat_expressions kind.BinaryExpression w g ps = neat_binary (first_is_open ps) w (operator_of w)

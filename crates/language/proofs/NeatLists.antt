@@ -11,7 +11,7 @@ use Rattle.language.specs.Words.{is_rest, is_spread, is_pattern, is_identifier, 
 use Rattle.language.specs.Pieces.{Role, expr, opening, item, member, Piece, tok, may, many, absent, never, lay, line, feed, deeper, shallower, put, put_at, sign, sp, is_none, separator, listed, elements, argument, bound, with_default, pattern_element, parameters, rest, spread, pattern, name}
 use Rattle.language.specs.Expressions.{object_part, object_pattern_part, chunks, sequence}
 use Rattle.language.specs.Statements.{lines, prologue, declarators, member_lines, is_directive, braced}
-use Rattle.language.proofs.NeatPieces.{Touch, fresh, apart_from, solid, named, valued, closed, dotted, signed, echoed, a_chunk, sort_of, takes_part, is_loose, takes_line, neat, is_item_touch, NeatBehind, is_free, is_item_sort, is_item_piece, neat_item, token_comma}
+use Rattle.language.proofs.NeatPieces.{Touch, fresh, apart_from, solid, named, valued, closed, dotted, signed, echoed, a_chunk, sort_of, takes_part, is_loose, takes_line, neat, is_item_touch, NeatBehind, is_free, is_item_sort, is_item_piece, neat_item, nothing_behind, token_comma}
 
 free_touch : (s : Touch) → is_free s ≡ true → is_item_touch s ≡ true
 free_touch apart_from h = refl
@@ -142,7 +142,7 @@ neat_parameters (part n (part m (gap ps))) b o s after h k =
 
 -- the second and later parts of a sequence
 pub neat_sequence : (ps : Parts) → NeatBehind false (sequence ps)
-neat_sequence none b s h = refl
+neat_sequence none b s h = nothing_behind b s h
 neat_sequence (gap ps) b s h = refl
 neat_sequence (part n ps) b s h = ap (λ t. t && neat true false valued (sequence ps)) (token_comma s h) ∙ neat_sequence ps true valued refl
 

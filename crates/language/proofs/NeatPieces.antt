@@ -130,6 +130,11 @@ takes_space fresh = false
 takes_space echoed = false
 takes_space _ = true
 
+-- something of this node stands before
+abbrev pub is_begun : Touch → Bool
+is_begun fresh = false
+is_begun _ = true
+
 -- what stands on the same line follows
 abbrev pub goes_on_here : List Piece → Bool
 goes_on_here (tok c w ∷ qs) = true
@@ -139,11 +144,11 @@ goes_on_here _ = false
 
 -- the flags say that the first part may be a number that `.` would join, and that parameters stand open
 abbrev pub neat : Bool → Bool → Touch → List Piece → Bool
-neat b o s [] = not o
+neat b o s [] = is_begun s && not o
 neat b o s (tok c w ∷ qs) = takes_token s c w && neat b o (behind_token c w) qs
 neat b o s (may w ∷ qs) = neat b o s qs
 neat b o s (many w ∷ qs) = neat b o s qs
-neat b o s (ahead w ∷ qs) = neat b o s qs
+neat b o s (ahead w ∷ qs) = neat b o echoed qs
 neat b o s (unbroken ∷ qs) = goes_on_here qs && neat b o s qs
 neat b o s (ending e ∷ qs) = takes_sign s (codes ";") && neat b o solid qs
 neat b o s (open_parameters ∷ qs) = not o && (is_loose s && neat b true solid qs)
@@ -154,8 +159,8 @@ neat b o s (never ∷ qs) = true
 neat b o s (lay space ∷ qs) = takes_space s && neat b o apart_from qs
 neat b o s (lay line ∷ qs) = takes_line s && neat b o apart_from qs
 neat b o s (lay feed ∷ qs) = takes_line s && neat b o apart_from qs
-neat b o s (lay (apart c) ∷ qs) = neat b o signed qs
-neat b o s (lay loose ∷ qs) = neat b o closed qs
+neat b o s (lay (apart c) ∷ qs) = is_begun s && neat b o signed qs
+neat b o s (lay loose ∷ qs) = is_begun s && neat b o closed qs
 neat b o s (lay h ∷ qs) = neat b o s qs
 
 -- behind an item of a list
@@ -170,6 +175,38 @@ is_item_touch _ = false
 -- what stands behind a list is neat behind any item of it, and behind the sign before it
 abbrev pub NeatBehind : Bool → List Piece → Type 0
 NeatBehind o ys = (b : Bool) (s : Touch) → is_item_touch s ≡ true → neat b o s ys ≡ true
+
+pub item_begun : (s : Touch) → is_item_touch s ≡ true → is_begun s ≡ true
+item_begun apart_from h = refl
+item_begun solid h = refl
+item_begun named h = refl
+item_begun valued h = refl
+item_begun closed h = refl
+item_begun fresh h = h
+item_begun dotted h = refl
+item_begun signed h = refl
+item_begun echoed h = refl
+
+-- nothing more is neat behind an item
+pub nothing_behind : NeatBehind false []
+nothing_behind b s h = ap (λ t. t && true) (item_begun s h)
+
+pub sign_begun : (w : List ℕ) → is_begun (behind_sign w) ≡ true
+sign_begun w = of (is_one_of_words closed_signs w) (is_one_of_words ("." ∷ "?." ∷ []) w)
+  where
+    of : (x y : Bool) → is_begun (cond x solid (cond y dotted signed)) ≡ true
+    of true y = refl
+    of false true = refl
+    of false false = refl
+
+pub token_begun : (c : Class) (w : List ℕ) → is_begun (behind_token c w) ≡ true
+token_begun Punctuator w = sign_begun w
+token_begun Name w = refl
+token_begun Template w = refl
+token_begun Class.Number w = refl
+token_begun Class.Text w = refl
+token_begun Class.RegExp w = refl
+token_begun Class.End w = refl
 
 -- before an item
 abbrev pub is_free : Touch → Bool

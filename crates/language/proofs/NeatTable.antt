@@ -17,7 +17,7 @@ use Rattle.language.specs.Expressions.{keyed, properties, pattern_properties, sh
 use Rattle.language.specs.Statements.{statements, items, openings, cases, handlers, members, lines, prologue, member_lines, declarators, declaration, end_of, behind_word, whole, for_left, is_declaration, first_is_string, is_one, defaults}
 use Rattle.language.specs.Edges.{last_edge, ends_in_if}
 use Rattle.language.specs.Grammar.{spellings}
-use Rattle.language.proofs.NeatPieces.{Touch, fresh, apart_from, solid, named, valued, closed, dotted, signed, echoed, Sort, an_operand, sort_of, neat, is_item_touch, NeatBehind, is_item_sort, is_item_piece, neat_item, behind_part, slot_sort}
+use Rattle.language.proofs.NeatPieces.{Touch, fresh, apart_from, solid, named, valued, closed, dotted, signed, echoed, Sort, an_operand, sort_of, neat, is_item_touch, NeatBehind, is_item_sort, is_item_piece, neat_item, nothing_behind, token_begun, behind_token, behind_part, slot_sort}
 use Rattle.language.proofs.NeatLists.{neat_listed, neat_elements, neat_parameters, neat_pattern_element, neat_pattern_part, neat_bound, neat_default, neat_lines, neat_body, neat_members, neat_script, neat_declarators, neat_braced, neat_chunks}
 use Rattle.language.proofs.NeatExpressions.{Neat, no_spelling, one, neat_cond, bracket_end, list_brace_end, body_end, neat_function, neat_class, first_is_open, neat_expressions, neat_spines}
 
@@ -36,9 +36,6 @@ statement_end e b fresh h = cc h
 statement_end e b dotted h = cc h
 statement_end e b signed h = cc h
 statement_end e b echoed h = cc h
-
-nothing_behind : NeatBehind false []
-nothing_behind b s h = refl
 
 neat_declaration : (b : Bool) (w : List ℕ) (a : Role) → is_item_sort (sort_of a) ≡ true → (ps : Parts) (ys : List Piece) → NeatBehind false ys → neat b false fresh (declaration w a ps ++ ys) ≡ true
 neat_declaration b w a h ps ys k = neat_declarators false a h ps b apart_from ys refl k
@@ -258,7 +255,7 @@ neat_methods b _ (gap ps) = one (neat_parameters ps b false solid (sign ")" ∷ 
 neat_methods b _ _ = no_spelling
 
 case_end : NeatBehind false (lay shallower ∷ [])
-case_end b s h = refl
+case_end b s h = nothing_behind b s h
 
 neat_cases : (b r : Bool) (k : Kind) (ps : Parts) → Neat b (cases r k ps)
 neat_cases b r kind.SwitchCase (part t ps) = one (neat_lines false (item r) refl ps (lay shallower ∷ []) case_end true solid refl)
@@ -290,7 +287,7 @@ table_neat name (node _ w g s e ps) = no_spelling
 table_neat word (node kind.Identifier w g s e ps) = one refl
 table_neat word (node _ w g s e ps) = no_spelling
 table_neat key (node kind.Identifier w g s e ps) = one refl
-table_neat key (node kind.Literal w g s e ps) = neat_unless _ _ refl
+table_neat key (node kind.Literal w g s e ps) = neat_unless _ (tok (literal_class w) w ∷ []) (ap (λ t. t && true) (token_begun (literal_class w) w))
 table_neat key (node _ w g s e ps) = no_spelling
 table_neat echo (node kind.Identifier w g s e ps) = one refl
 table_neat echo (node _ w g s e ps) = no_spelling
@@ -327,7 +324,7 @@ table_neat (block r) (node _ w g s e ps) = no_spelling
 table_neat (head b) (node kind.VariableDeclaration w g s e ps) = neat_cond (among w ("var" ∷ "let" ∷ "const" ∷ []) && (b || is_one ps)) (λ e. one (neat_head (first_is_open ps) w (declarator false b) refl ps)) (λ e. no_spelling)
 table_neat (head b) (node _ w g s e ps) = no_spelling
 table_neat (declarator i b) (node kind.VariableDeclarator w g s e (part n (part x none))) = neat_cond b (λ h. neat_only_at (first_is_open (part n (part x none))) (bound true (kind_of n)) (sp ∷ sign "=" ∷ sp ∷ put (expr Assignment i Any) ∷ []) (neat_bound true (kind_of n)) (before_value i)) (λ h. no_spelling)
-table_neat (declarator i b) (node kind.VariableDeclarator w g s e (part n (gap none))) = neat_cond (b && is_pattern (kind_of n)) (λ h. no_spelling) (λ h. neat_only_at (first_is_open (part n (gap none))) (bound true (kind_of n)) (absent ∷ []) (neat_bound true (kind_of n)) (λ c t u. refl))
+table_neat (declarator i b) (node kind.VariableDeclarator w g s e (part n (gap none))) = neat_cond (b && is_pattern (kind_of n)) (λ h. no_spelling) (λ h. neat_only_at (first_is_open (part n (gap none))) (bound true (kind_of n)) (absent ∷ []) (neat_bound true (kind_of n)) (λ c t u. nothing_behind c t u))
 table_neat (declarator i b) (node _ w g s e ps) = no_spelling
 table_neat (switch_case r) (node k w g s e ps) = neat_cases (first_is_open ps) r k ps
 table_neat (handler r) (node k w g s e ps) = neat_handlers (first_is_open ps) r k ps

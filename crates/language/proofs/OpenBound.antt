@@ -15,7 +15,7 @@ use Rattle.language.proofs.Domination.{ways_of, settled}
 use Rattle.language.proofs.Domination.{fits as fits_at}
 use Rattle.language.proofs.Alike.{standing_at}
 use Rattle.language.proofs.PrintedSpells.{has_no_never, way_runs}
-use Rattle.language.proofs.NeatPieces.{Touch, fresh, neat, takes_token, behind_token, takes_part, behind_part as touch_behind, slot_sort, takes_sign, is_loose, takes_space, takes_line, goes_on_here, solid, apart_from, signed, closed}
+use Rattle.language.proofs.NeatPieces.{Touch, fresh, neat, takes_token, behind_token, takes_part, behind_part as touch_behind, slot_sort, takes_sign, is_loose, takes_space, takes_line, goes_on_here, solid, apart_from, signed, closed, echoed, is_begun}
 use Rattle.language.proofs.NeatExpressions.{Neat, no_spelling, a_spelling}
 use Rattle.language.proofs.NeatTable.{table_neat}
 
@@ -28,11 +28,11 @@ nested o (never ∷ qs) = true
 nested o (q ∷ qs) = nested o qs
 
 neat_nested : (a : Role) (b o : Bool) (s : Touch) (qs : List Piece) → neat b o s qs ≡ true → nested o (standing_at a qs) ≡ true
-neat_nested a b o s [] h = h
+neat_nested a b o s [] h = (and_parts (is_begun s) (not o) h).1
 neat_nested a b o s (tok c w ∷ qs) h = neat_nested a b o (behind_token c w) qs (and_parts (takes_token s c w) _ h).1
 neat_nested a b o s (may w ∷ qs) h = neat_nested a b o s qs h
 neat_nested a b o s (many w ∷ qs) h = neat_nested a b o s qs h
-neat_nested a b o s (ahead w ∷ qs) h = neat_nested a b o s qs h
+neat_nested a b o s (ahead w ∷ qs) h = neat_nested a b o echoed qs h
 neat_nested a b o s (unbroken ∷ qs) h = neat_nested a b o s qs (and_parts (goes_on_here qs) _ h).1
 neat_nested a b o s (ending e ∷ qs) h = neat_nested a b o solid qs (and_parts (takes_sign s _) _ h).1
 neat_nested a b true s (open_parameters ∷ qs) h = absurd (false≢true h)
@@ -45,8 +45,8 @@ neat_nested a b o s (never ∷ qs) h = refl
 neat_nested a b o s (lay space ∷ qs) h = neat_nested a b o apart_from qs (and_parts (takes_space s) _ h).1
 neat_nested a b o s (lay line ∷ qs) h = neat_nested a b o apart_from qs (and_parts (takes_line s) _ h).1
 neat_nested a b o s (lay feed ∷ qs) h = neat_nested a b o apart_from qs (and_parts (takes_line s) _ h).1
-neat_nested a b o s (lay (apart c) ∷ qs) h = neat_nested a b o signed qs h
-neat_nested a b o s (lay loose ∷ qs) h = neat_nested a b o closed qs h
+neat_nested a b o s (lay (apart c) ∷ qs) h = neat_nested a b o signed qs (and_parts (is_begun s) _ h).1
+neat_nested a b o s (lay loose ∷ qs) h = neat_nested a b o closed qs (and_parts (is_begun s) _ h).1
 neat_nested a b o s (lay deeper ∷ qs) h = neat_nested a b o s qs h
 neat_nested a b o s (lay shallower ∷ qs) h = neat_nested a b o s qs h
 
