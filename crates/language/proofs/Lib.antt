@@ -17,6 +17,12 @@ pub mod ReadItems
 pub mod StandsApart
 pub mod LiteralsApart
 pub mod SignsApart
+pub mod NeatPieces
+pub mod NeatLists
+pub mod NeatExpressions
+pub mod NeatTable
+pub mod OpenBound
+pub mod WithinLimits
 pub mod Viewed
 pub mod Spine
 pub mod Begins

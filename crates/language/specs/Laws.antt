@@ -19,7 +19,7 @@ use Rattle.language.specs.Printed.{items_text, printed, open_in, pair_count, Fol
 use Rattle.language.specs.Readable.{stand_apart}
 use Rattle.language.specs.Places.{NextIn, itself}
 use Rattle.tokens.specs.Reading.{any_goal}
-use Rattle.language.specs.Claims.{Derives, DerivesOpen}
+use Rattle.language.specs.Claims.{Derives, DerivesOpen, WithinLimits}
 use Rattle.tokens.specs.Tokens.{LexicalToken, IsReading}
 use Rattle.std.specs.Str.{chars, IsUtf8}
 
@@ -94,3 +94,9 @@ abbrev pub FixedTextDerives : Type 0
 FixedTextDerives =
     (other : List ℕ) (n : Tree) (P : List Pair) → Derives other n P → stand_apart (printed (has_number (wrapped_rows n script 1)) n script 1 0) ≡ true →
     (m : Tree) × (Q : List Pair) × SameTree m n × DerivesOpen (open_in (has_number (wrapped_rows n script 1)) n script 1) (fixed_text n) m Q × (length Q ≡ length (wrapped_rows n script 1))
+
+-- the same within the limits
+abbrev pub FixedTextWithinLimits : Type 0
+FixedTextWithinLimits =
+    (other : List ℕ) (n : Tree) (P : List Pair) → WithinLimits other n P → stand_apart (printed (has_number (wrapped_rows n script 1)) n script 1 0) ≡ true →
+    (m : Tree) × (Q : List Pair) × SameTree m n × WithinLimits (fixed_text n) m Q × (length Q ≡ length (wrapped_rows n script 1))

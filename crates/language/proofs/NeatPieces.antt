@@ -1,0 +1,309 @@
+-- What touches what in a spelling: a test of pieces, from left to right, and that lists of parts pass it.
+use Rattle.std.proofs.Common.{◌≡◌, ℕ, Bool, true, false, cond, not, ◌&&◌, ◌||◌, List, [], ◌∷◌, ◌++◌, refl, ap, ◌∙◌}
+use Rattle.std.specs.Prelude.{nat_le, slice_index_or, codes}
+use Rattle.tokens.specs.declared.token.Class.{Class}
+use Rattle.tokens.specs.declared.token.Class.TheVariants.{Name, Punctuator, Template}
+use Rattle.tokens.specs.Lexical.{is_one_of_words}
+use Rattle.tree.specs.declared.kind.Kind.{Kind}
+use Rattle.language.specs.declared.Rank.{Rank}
+use Rattle.language.specs.Words.{tightness, is_rest}
+use Rattle.language.specs.Pieces.{Role, expr, spine, name, word, echo, base, quasi, chunk, pattern, method, body, block, class_body, Slot, fixed, left, lead, tail, callee, lead_spine, lead_pattern, Piece, tok, may, many, ahead, unbroken, ending, open_parameters, close_parameters, sub, absent, never, lay, space, line, feed, apart, loose, separator}
+use Rattle.language.proofs.SignsApart.{closed_signs}
+use Rattle.language.proofs.StandsApart.{is_closer, is_sign_closer}
+
+-- what stands before, without a space
+pub data Touch : Type 0 where
+  -- nothing of this node; a space or a line break
+  fresh apart_from : Touch
+  -- what nothing goes on from; a name; a part that may end in a number; one that ends in none; `.` or `?.`; another sign
+  solid named valued closed dotted signed : Touch
+  -- a shorthand key
+  echoed : Touch
+
+-- what a part begins with and ends in, as far as its position tells
+pub data Sort : Type 0 where
+  -- an expression; one at LeftHandSide or tighter; a name; what ends in a bracket or a name
+  an_operand a_tight a_name an_ended : Sort
+  -- a template behind a tag, a method's function, a template's part, a shorthand key, anything else
+  a_quasi a_method a_chunk an_echo another : Sort
+
+abbrev pub sort_of : Role → Sort
+sort_of (expr y i f) = cond (nat_le 18 (tightness y)) a_tight an_operand
+sort_of (spine f) = an_ended
+sort_of name = a_name
+sort_of word = a_name
+sort_of base = a_name
+sort_of quasi = a_quasi
+sort_of (method x) = a_method
+sort_of (chunk a b) = a_chunk
+sort_of echo = an_echo
+sort_of (pattern b f) = an_ended
+sort_of body = an_ended
+sort_of class_body = an_ended
+sort_of (block r) = an_ended
+sort_of _ = another
+
+abbrev pub rank_sort : Rank → Sort
+rank_sort y = cond (nat_le 18 (tightness y)) a_tight an_operand
+
+abbrev pub slot_sort : Slot → Sort
+slot_sort (fixed a) = sort_of a
+slot_sort (left y) = rank_sort y
+slot_sort (lead y) = rank_sort y
+slot_sort (tail y x) = rank_sort y
+slot_sort callee = a_tight
+slot_sort lead_spine = an_ended
+slot_sort lead_pattern = an_ended
+
+-- a part of this sort may touch what stands before
+abbrev pub takes_part : Touch → Sort → Bool
+takes_part fresh x = true
+takes_part apart_from x = true
+takes_part solid x = true
+takes_part signed an_operand = true
+takes_part signed a_tight = true
+takes_part signed x = false
+takes_part dotted a_name = true
+takes_part dotted x = false
+takes_part echoed a_name = true
+takes_part echoed another = true
+takes_part echoed x = false
+takes_part s a_quasi = true
+takes_part s a_method = true
+takes_part s a_chunk = true
+takes_part s x = false
+
+-- b says that a first part may be a number that `.` would join
+abbrev pub behind_part : Bool → Sort → Touch
+behind_part b an_operand = valued
+behind_part b a_tight = cond b valued closed
+behind_part b a_name = named
+behind_part b an_ended = closed
+behind_part b a_quasi = closed
+behind_part b a_method = closed
+behind_part b a_chunk = solid
+behind_part b an_echo = echoed
+behind_part b another = valued
+
+abbrev pub first_code : List ℕ → ℕ
+first_code w = slice_index_or w 0 0
+
+abbrev pub takes_sign : Touch → List ℕ → Bool
+takes_sign fresh w = true
+takes_sign apart_from w = true
+takes_sign solid w = true
+takes_sign named w = is_closer (first_code w) || is_sign_closer (first_code w)
+takes_sign closed w = is_closer (first_code w) || is_sign_closer (first_code w)
+takes_sign valued w = is_closer (first_code w)
+takes_sign dotted w = is_one_of_words ("[" ∷ "(" ∷ []) w
+takes_sign _ w = false
+
+abbrev pub behind_sign : List ℕ → Touch
+behind_sign w = cond (is_one_of_words closed_signs w) solid (cond (is_one_of_words ("." ∷ "?." ∷ []) w) dotted signed)
+
+abbrev pub is_loose : Touch → Bool
+is_loose fresh = true
+is_loose apart_from = true
+is_loose _ = false
+
+abbrev pub takes_token : Touch → Class → List ℕ → Bool
+takes_token fresh c w = true
+takes_token apart_from c w = true
+takes_token s Punctuator w = takes_sign s w
+takes_token s c w = false
+
+abbrev pub behind_token : Class → List ℕ → Touch
+behind_token Punctuator w = behind_sign w
+behind_token Name w = named
+behind_token Template w = solid
+behind_token _ w = valued
+
+-- a line break may stand behind it
+abbrev pub takes_line : Touch → Bool
+takes_line fresh = false
+takes_line signed = false
+takes_line echoed = false
+takes_line _ = true
+
+abbrev pub takes_space : Touch → Bool
+takes_space fresh = false
+takes_space echoed = false
+takes_space _ = true
+
+-- something of this node stands before
+abbrev pub is_begun : Touch → Bool
+is_begun fresh = false
+is_begun _ = true
+
+-- what stands on the same line follows
+abbrev pub goes_on_here : List Piece → Bool
+goes_on_here (tok c w ∷ qs) = true
+goes_on_here (sub s ∷ qs) = true
+goes_on_here (lay space ∷ qs) = true
+goes_on_here _ = false
+
+-- the flags say that the first part may be a number that `.` would join, and that parameters stand open
+abbrev pub neat : Bool → Bool → Touch → List Piece → Bool
+neat b o s [] = is_begun s && not o
+neat b o s (tok c w ∷ qs) = takes_token s c w && neat b o (behind_token c w) qs
+neat b o s (may w ∷ qs) = neat b o s qs
+neat b o s (many w ∷ qs) = neat b o s qs
+neat b o s (ahead w ∷ qs) = neat b o echoed qs
+neat b o s (unbroken ∷ qs) = goes_on_here qs && neat b o s qs
+neat b o s (ending e ∷ qs) = takes_sign s (codes ";") && neat b o solid qs
+neat b o s (open_parameters ∷ qs) = not o && (is_loose s && neat b true solid qs)
+neat b o s (close_parameters ∷ qs) = o && (takes_sign s (codes ")") && neat b false solid qs)
+neat b o s (sub x ∷ qs) = takes_part s (slot_sort x) && neat true o (behind_part b (slot_sort x)) qs
+neat b o s (absent ∷ qs) = neat b o s qs
+neat b o s (never ∷ qs) = true
+neat b o s (lay space ∷ qs) = takes_space s && neat b o apart_from qs
+neat b o s (lay line ∷ qs) = takes_line s && neat b o apart_from qs
+neat b o s (lay feed ∷ qs) = takes_line s && neat b o apart_from qs
+neat b o s (lay (apart c) ∷ qs) = is_begun s && neat b o signed qs
+neat b o s (lay loose ∷ qs) = is_begun s && neat b o closed qs
+neat b o s (lay h ∷ qs) = neat b o s qs
+
+-- behind an item of a list
+abbrev pub is_item_touch : Touch → Bool
+is_item_touch apart_from = true
+is_item_touch solid = true
+is_item_touch named = true
+is_item_touch valued = true
+is_item_touch closed = true
+is_item_touch _ = false
+
+-- what stands behind a list is neat behind any item of it, and behind the sign before it
+abbrev pub NeatBehind : Bool → List Piece → Type 0
+NeatBehind o ys = (b : Bool) (s : Touch) → is_item_touch s ≡ true → neat b o s ys ≡ true
+
+pub item_begun : (s : Touch) → is_item_touch s ≡ true → is_begun s ≡ true
+item_begun apart_from h = refl
+item_begun solid h = refl
+item_begun named h = refl
+item_begun valued h = refl
+item_begun closed h = refl
+item_begun fresh h = h
+item_begun dotted h = refl
+item_begun signed h = refl
+item_begun echoed h = refl
+
+-- nothing more is neat behind an item
+pub nothing_behind : NeatBehind false []
+nothing_behind b s h = ap (λ t. t && true) (item_begun s h)
+
+pub sign_begun : (w : List ℕ) → is_begun (behind_sign w) ≡ true
+sign_begun w = of (is_one_of_words closed_signs w) (is_one_of_words ("." ∷ "?." ∷ []) w)
+  where
+    of : (x y : Bool) → is_begun (cond x solid (cond y dotted signed)) ≡ true
+    of true y = refl
+    of false true = refl
+    of false false = refl
+
+pub token_begun : (c : Class) (w : List ℕ) → is_begun (behind_token c w) ≡ true
+token_begun Punctuator w = sign_begun w
+token_begun Name w = refl
+token_begun Template w = refl
+token_begun Class.Number w = refl
+token_begun Class.Text w = refl
+token_begun Class.RegExp w = refl
+token_begun Class.End w = refl
+
+-- before an item
+abbrev pub is_free : Touch → Bool
+is_free apart_from = true
+is_free solid = true
+is_free _ = false
+
+free_item : (s : Touch) → is_free s ≡ true → is_item_touch s ≡ true
+free_item apart_from h = refl
+free_item solid h = refl
+free_item fresh h = h
+free_item named h = refl
+free_item valued h = refl
+free_item closed h = refl
+free_item dotted h = h
+free_item signed h = h
+free_item echoed h = h
+
+-- a part that is an item
+abbrev pub is_item_sort : Sort → Bool
+is_item_sort an_echo = false
+is_item_sort _ = true
+
+abbrev pub is_item_piece : Piece → Bool
+is_item_piece (sub x) = is_item_sort (slot_sort x)
+is_item_piece never = true
+is_item_piece _ = false
+
+pub behind_item : (b : Bool) (x : Sort) → is_item_sort x ≡ true → is_item_touch (behind_part b x) ≡ true
+behind_item b an_operand h = refl
+behind_item true a_tight h = refl
+behind_item false a_tight h = refl
+behind_item b a_name h = refl
+behind_item b an_ended h = refl
+behind_item b a_quasi h = refl
+behind_item b a_method h = refl
+behind_item b a_chunk h = refl
+behind_item b an_echo h = h
+behind_item b another h = refl
+
+free_takes : (s : Touch) (x : Sort) → is_free s ≡ true → takes_part s x ≡ true
+free_takes apart_from x h = refl
+free_takes solid x h = refl
+free_takes fresh x h = refl
+free_takes named x h = cc h
+free_takes valued x h = cc h
+free_takes closed x h = cc h
+free_takes dotted x h = cc h
+free_takes signed x h = cc h
+free_takes echoed x h = cc h
+
+-- an item, before what is neat behind it
+pub neat_item : (b o : Bool) (s : Touch) (q : Piece) (ys : List Piece) → is_free s ≡ true → is_item_piece q ≡ true → NeatBehind o ys → neat b o s (q ∷ ys) ≡ true
+neat_item b o s (sub x) ys h k f = ap (λ t. t && neat true o (behind_part b (slot_sort x)) ys) (free_takes s (slot_sort x) h) ∙ f true (behind_part b (slot_sort x)) (behind_item b (slot_sort x) k)
+neat_item b o s never ys h k f = refl
+neat_item b o s (tok c w) ys h k f = cc k
+neat_item b o s (may w) ys h k f = cc k
+neat_item b o s (many w) ys h k f = cc k
+neat_item b o s (ahead w) ys h k f = cc k
+neat_item b o s unbroken ys h k f = cc k
+neat_item b o s (ending e) ys h k f = cc k
+neat_item b o s open_parameters ys h k f = cc k
+neat_item b o s close_parameters ys h k f = cc k
+neat_item b o s absent ys h k f = cc k
+neat_item b o s (lay x) ys h k f = cc k
+
+pub item_comma : (s : Touch) → is_item_touch s ≡ true → takes_sign s (codes ",") ≡ true
+item_comma apart_from h = refl
+item_comma solid h = refl
+item_comma named h = refl
+item_comma valued h = refl
+item_comma closed h = refl
+item_comma fresh h = refl
+item_comma dotted h = cc h
+item_comma signed h = cc h
+item_comma echoed h = cc h
+
+pub token_comma : (s : Touch) → is_item_touch s ≡ true → takes_token s Punctuator (codes ",") ≡ true
+token_comma apart_from h = refl
+token_comma fresh h = refl
+token_comma solid h = refl
+token_comma named h = refl
+token_comma valued h = refl
+token_comma closed h = refl
+token_comma dotted h = cc h
+token_comma signed h = cc h
+token_comma echoed h = cc h
+
+-- a separator, before what is neat at an item and behind one
+pub neat_separator : (o : Bool) (k : Kind) (t : Bool) (ys : List Piece) → NeatBehind o ys → NeatBehind o (separator k t ++ ys)
+neat_separator o k true ys f b s h = of (is_rest k)
+  where
+    of : (c : Bool) → neat b o s (cond c [] (may (codes ",") ∷ []) ++ ys) ≡ true
+    of true = f b s h
+    of false = f b s h
+neat_separator o k false ys f b s h = of (is_rest k)
+  where
+    of : (c : Bool) → neat b o s (cond c (never ∷ []) (tok Punctuator (codes ",") ∷ lay space ∷ []) ++ ys) ≡ true
+    of true = refl
+    of false = ap (λ t. t && neat b o apart_from ys) (token_comma s h) ∙ f b apart_from refl
