@@ -1,9 +1,15 @@
 -- From the planner's flags to the printer's; from what sums are refused for to what `fix` promises.
-use Rattle.std.proofs.Common.{◌≡◌, ℕ, zero, suc, Bool, true, false, List, [], ◌∷◌, refl, ◌∙◌, get_or, Result, Ok, Err, String, string_bytes, IfOk, IfErr, inr}
+use Rattle.std.proofs.Common.{◌≡◌, ℕ, zero, suc, Bool, true, false, List, [], ◌∷◌, refl, ◌∙◌, get_or, Result, Ok, Err, String, string_bytes, IfOk, IfErr, inr, ◌≤◌, length, Option, Some, None, arith}
 use Rattle.std.specs.declared.alloc.Global.{Global}
 use Rattle.source_text.specs.declared.fault.Fault.{Fault}
 use Rattle.source_text.specs.declared.fault.Fault.TheVariants.{NotUtf8, TooLong, Syntax, TooDeep, Early, OutOfMemory, BadSettings, BadTable, WriteFailed, ReadFailed, Usage}
-use Rattle.tree.specs.Tree.{Tree}
+use Rattle.tree.specs.Tree.{Tree, SameTree}
+use Rattle.tree.specs.declared.kind.Pair.{Pair}
+use Rattle.language.specs.Claims.{Derives}
+use Rattle.language.specs.Cost.{AtMost, at_most, least}
+use Rattle.language.proofs.Least.{derived_at_least}
+use Rattle.paren_planner.specs.declared.planned.Plan.{Plan}
+use Rattle.paren_planner.specs.Plans.{IsPlan}
 use Rattle.language.specs.Pieces.{script}
 use Rattle.language.specs.Layout.{has_number, wrapped_rows}
 use Rattle.paren_planner.specs.Wrapped.{is_flagged}
@@ -27,6 +33,19 @@ wrapped_is bs (suc r) = flag_is bs r
 -- the planner's flags are a plan for the printer
 pub is_planned : (n : Tree) (bs : List Bool) → ((x : ℕ) → is_flagged bs x ≡ has_number (wrapped_rows n script 1) x) → IsPlanned bs n
 is_planned n bs same r = wrapped_is bs r ∙ same r
+
+-- ---- costs
+
+below : (l : Option ℕ) (c k : ℕ) → Some c ≡ l → AtMost l k → c ≤ k
+below None c k is most = absurd (cc)
+below (Some m) c k is (at_most h) = let same : c ≡ m = cc in omega arith
+
+-- no derivation of the same tree has fewer pairs than a plan wraps nodes
+pub fewest : (n m : Tree) (p : Plan) (source : List ℕ) (P : List Pair) → IsPlan n p → SameTree m n → Derives source m P → length (wrapped_rows n script 1) ≤ length P
+fewest n m p source P is same derived =
+    let most : p.table.total ≤ length P = below (least n script) p.table.total (length P) is.total (derived_at_least n m source P same derived) in
+    let count : p.table.total ≡ length (wrapped_rows n script 1) = is.count in
+    omega arith
 
 -- ---- refusals
 
