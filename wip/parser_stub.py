@@ -1,0 +1,54 @@
+"""One function of the parser's cycle alone: writes a copy of the crate in which each other function of the cycle only refuses, so that
+its contract is taken as it stands. A check of it takes 10 to 30 processor seconds, where one of the whole cycle takes minutes.
+
+    parser_stub.py CRATE COPY FUNCTION..
+
+CRATE is crates/parser, COPY the same folder of a copy of the repository (with the other crates' out/). Its answers and invariants are
+taken from proofs/position/Parser/+grammar of CRATE, by their names. In COPY: rt check --only position::Parser::FUNCTION --allow-holes
+"""
+import re,glob,sys,shutil,os
+src,base=(it.rstrip('/')+'/' for it in sys.argv[1:3])
+keep=set(sys.argv[3:])
+for d in ('specs','proofs'):
+    shutil.rmtree(base+d,ignore_errors=True); shutil.copytree(src+d,base+d)
+G=base+'proofs/position/Parser/+grammar/'
+def split(path):
+    # header and entries by 'pub NAME : goal...' or 'abbrev pub NAME'
+    if not os.path.exists(path): return '',[]
+    t=open(path).read()
+    parts=re.split(r'\n\n(?=(?:abbrev pub|pub|--|[a-z_]+[-\w]* :))',t)
+    return parts[0],parts[1:]
+for k in keep:
+    for f in ('Answers','Invariants'):
+        h,es=split(G+f+'.antt')
+        mine=[]
+        for e in es:
+            m=re.search(r'(?:^|\n)(?:abbrev )?pub ([\w\-\+]+) :',e)
+            if m is None: mine.append(e); continue
+            nm=m.group(1)
+            if nm.startswith(k+'-') or nm=='invariant-'+k or nm.startswith('invariant-'+k+'-') or nm.startswith('decreases-'+k+'-'):
+                new=nm[len(k)+1:] if nm.startswith(k+'-') else nm.replace('-'+k+'-','-',1)
+                e=e.replace(nm,new)
+                mine.append(e)
+        if any('pub ' in e for e in mine):
+            d=base+'proofs/position/Parser/'+k; os.makedirs(d,exist_ok=True)
+            h2='\n'.join(x for x in h.split('\n') if not ('Goals.{' in x and k!='statements'))
+            open(d+'/'+f+'.antt','w').write((h2+'\n\n'+'\n\n'.join(mine)).replace('.+grammar.','.'+k+'.')+'\n')
+shutil.rmtree(G,ignore_errors=True)
+for f in glob.glob(src+'src/*.rt'):
+    s=open(f).read()
+    out='';pos=0
+    while True:
+        i=s.find('#[cycle(grammar)]',pos)
+        if i<0: out+=s[pos:];break
+        out+=s[pos:i]
+        m=re.compile(r'\n(\s*)\{\n').search(s,i)
+        ind=m.group(1)
+        e=s.index('\n'+ind+'}\n',m.end()-1)
+        head=s[i+len('#[cycle(grammar)]'):m.start()]
+        fn=re.search(r'fn (\w+)',head).group(1)
+        body=s[m.start():e+len('\n'+ind+'}\n')]
+        if fn in keep: out+=head.replace('#[inline(never)]','').lstrip()+body
+        else: out+=head.replace('#[inline(never)]','').lstrip()+'\n'+ind+'{\n'+ind+'    Err(self.refusal())\n'+ind+'}\n'
+        pos=e+len('\n'+ind+'}\n')
+    open(base+'src/'+os.path.basename(f),'w').write(out)
