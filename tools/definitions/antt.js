@@ -114,6 +114,7 @@ const LIBRARY = {
   digit_value: [1, (c) => { const v = parseInt(String.fromCodePoint(c), 36); return Number.isNaN(v) ? 36 : v; }],
   take_while: [2, (f, l) => { const out = []; for (; l !== null && f(l.h); l = l.t) out.push(l.h); return fromArray(out); }],
   slice_range: [3, (l, s, e) => fromArray(toArray(l).slice(s, e))], chars: [1, (l) => codes(text(l))],
+  is_utf8: [1, (l) => { const b = Buffer.from(toArray(l)); return Buffer.from(b.toString('utf8'), 'utf8').equals(b); }],
   unwrap_or: [2, (o, d) => (o.$ === OPTION.Some ? o.a[0] : d)], is_some: [1, (o) => o.$ === OPTION.Some], is_none: [1, (o) => o.$ === OPTION.None],
   option_map: [2, (f, o) => (o.$ === OPTION.Some ? OPTION.Some.make(f(o.a[0])) : o)],
   option_to_list: [1, (o) => fromArray(o.a)],

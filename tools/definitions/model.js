@@ -22,6 +22,7 @@ const NAMES = {
   spelled: ['spelled', 'Search', 'language'],
   // costs and layout
   least: ['least', 'Cost', 'language'], cells: ['cells', 'Cost', 'language'], fixed_text: ['fixed_text', 'Layout', 'language'], layout: ['layout', 'Layout', 'language'],
+  fits: ['fits', 'Fits', 'language'], printed: ['printed', 'Printed', 'language'], items_text: ['items_text', 'Printed', 'language'], stand_apart: ['stand_apart', 'Readable', 'language'],
   wrapped_rows: ['wrapped_rows', 'Layout', 'language'], row_nodes: ['row_nodes', 'Claims', 'language'], cell_bound: ['cell_bound', 'Claims', 'language'],
   total_bound: ['total_bound', 'Claims', 'language'], contexts: ['contexts', 'Claims', 'language'],
   // early errors
