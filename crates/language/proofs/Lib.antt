@@ -86,6 +86,7 @@ pub mod Tables
 pub mod TableExamples
 pub mod Judged
 pub mod SoundTables
+pub mod SameLayouts
 pub mod SameTrees
 pub mod WordExamples
 pub mod FollowExamples

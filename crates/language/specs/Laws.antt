@@ -100,3 +100,7 @@ abbrev pub FixedTextWithinLimits : Type 0
 FixedTextWithinLimits =
     (other : List ℕ) (n : Tree) (P : List Pair) → WithinLimits other n P → stand_apart (printed (has_number (wrapped_rows n script 1)) n script 1 0) ≡ true →
     (m : Tree) × (Q : List Pair) × SameTree m n × WithinLimits (fixed_text n) m Q × (length Q ≡ length (wrapped_rows n script 1))
+
+-- places change neither the wrapped nodes nor the fixed text
+abbrev pub PlacesChangeNoLayout : Type 0
+PlacesChangeNoLayout = (m n : Tree) → SameTree m n → (wrapped_rows m script 1 ≡ wrapped_rows n script 1) × (fixed_text m ≡ fixed_text n)

@@ -1,6 +1,6 @@
 //! What is proved of the definitions: each contract is a theorem, and the body does nothing.
 
-ghost use Rattle.language.specs.Laws.{AtMostOneWay, DerivedFits, FindsDerivations, FixedTextDerives, FixedTextWithinLimits, LayoutDerives, LayoutIsItems, LayoutIsSpelled, NoFewerPairs, NoFewerPairsOfTokens, PlacesChangeNoWay, ReadingsAreDerived, StaysWithMoreTokens};
+ghost use Rattle.language.specs.Laws.{AtMostOneWay, DerivedFits, FindsDerivations, FixedTextDerives, FixedTextWithinLimits, LayoutDerives, LayoutIsItems, LayoutIsSpelled, NoFewerPairs, NoFewerPairsOfTokens, PlacesChangeNoLayout, PlacesChangeNoWay, ReadingsAreDerived, StaysWithMoreTokens};
 
 /// A node has at most one way at a position, but for an arrow with one plain parameter and a `new` without arguments.
 pub fn at_most_one_way()
@@ -65,4 +65,9 @@ pub fn fixed_text_derives()
 /// The same within the limits: a fixed text is refused neither for height nor for open parentheses.
 pub fn fixed_text_within_limits()
     ensures { FixedTextWithinLimits }
+{}
+
+/// The same tree, wherever its nodes stand, has the same wrapped nodes and the same fixed text.
+pub fn places_change_no_layout()
+    ensures { PlacesChangeNoLayout }
 {}
