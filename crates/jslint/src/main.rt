@@ -8,9 +8,8 @@ ghost use Rattle.clap.specs.Words.{kind_of};
 ghost use Rattle.jslint.specs.Program.{RunsOnFile};
 
 use clap::error::ErrorKind;
-use lint::command_line::{Line, command_line};
-use lint::refusal::write_refusal;
-use lint::run::{Refused, run};
+use command_line::{Line, Refused, command_line, write_refusal};
+use lint::run;
 use source_text::{Device, Fault, Sink};
 use std::process::ExitCode;
 use std::rt::{Env, Files};

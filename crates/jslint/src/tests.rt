@@ -1,8 +1,7 @@
 ghost use Rattle.std.specs.Prelude.{◌≡◌, IfOk, false};
 
 use super::{obey, open_and_run};
-use lint::command_line::Line;
-use lint::run::{Command, Refused};
+use command_line::{Command, Line, Refused};
 use source_text::{Fault, MemorySink, Plan};
 use std::alloc::{AllocError, Global};
 use std::test::Fail;

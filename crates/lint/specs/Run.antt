@@ -7,15 +7,16 @@ use Rattle.source_text.specs.Source.{IsPlace, IsRefusal, max_bytes}
 use Rattle.source_text.specs.Lines.{line_column}
 use Rattle.source_text.specs.declared.fault.Fault.{Fault}
 use Rattle.source_text.specs.declared.fault.Fault.TheVariants.{NotUtf8, TooLong, Syntax, Early, OutOfMemory, ReadFailed, WriteFailed}
-use Rattle.lint.specs.declared.run.Command.{Command}
-use Rattle.lint.specs.declared.run.Command.TheVariants.{Fix, Tree}
-use Rattle.lint.specs.declared.run.Refused.{Refused}
+use Rattle.command_line.specs.declared.command.Command.{Command}
+use Rattle.command_line.specs.declared.command.Command.TheVariants.{Fix, Tree}
+use Rattle.command_line.specs.declared.refused.Refused.{Refused}
 use Rattle.tree.specs.Tree.{Tree as SyntaxTree}
 use Rattle.early_errors.specs.Early.{least_error}
 use Rattle.estree_json.specs.Json.{json_text}
 use Rattle.lint.specs.ReadScripts.{RefusesReading}
 use Rattle.lint.specs.Fixes.{FixesScript, RefusesFixing}
-use Rattle.lint.specs.Streams.{AppendsBeginning}
+use Rattle.command_line.specs.Streams.{AppendsBeginning}
+use Rattle.command_line.specs.Refused.{place_of}
 
 -- ---- a text and its answer
 
@@ -42,18 +43,6 @@ abbrev pub RefusesText : Command → List ℕ → Fault → Type 0
 RefusesText command text (NotUtf8 at) = IsRefusal text (NotUtf8 at)
 RefusesText command text TooLong = IsRefusal text TooLong
 RefusesText command text fault = IsSource text × RefusesSource command text fault
-
--- the line and the column of the place that a fault speaks of, both 0 where it speaks of none
-abbrev pub place_of : List ℕ → Fault → ℕ × ℕ
-place_of text (Syntax at) = line_column text at
-place_of text (Early number at) = line_column text at
-place_of text other = (0, 0)
-
--- where a fault speaks of a place, it is one of the text
-abbrev pub HasPlace : List ℕ → Fault → Type 0
-HasPlace text (Syntax at) = IsPlace text at
-HasPlace text (Early number at) = IsPlace text at
-HasPlace text other = Unit {0}
 
 -- the line and the column are those of the place; of an early error: if that is a place of the text
 abbrev pub IsPlacedAt : List ℕ → Fault → ℕ × ℕ → Type 0

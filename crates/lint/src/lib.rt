@@ -1,14 +1,11 @@
 #![tactic(auto)]
 
-//! Whole calls over a script: reading it, a run of a command over a reader and a writer, the command line, and refusals.
+//! Whole calls over a script: reading it, fixing it, and a run of a command over a reader and a writer.
 
-pub mod command_line;
 mod fixer;
 mod reader;
-pub mod refusal;
-pub mod run;
-mod short_text;
-pub mod streams;
+mod run;
 
 pub use fixer::fix;
 pub use reader::read_script;
+pub use run::run;

@@ -1,79 +1,15 @@
 //! A run of a command: read all, answer, write all.
 
 ghost use Rattle.std.specs.Prelude.{IfErr, IfOk, ◌≡◌, ◌≢◌, false, string_bytes};
-ghost use Rattle.lint.specs.CommandLine.{word_of};
 ghost use Rattle.lint.specs.ReadScripts.{RefusesReading};
-ghost use Rattle.lint.specs.Run.{Answers, HasPlace, IsJson, Runs, place_of};
+ghost use Rattle.lint.specs.Run.{Answers, IsJson, Runs};
 
 use crate::fixer::fix;
 use crate::reader::read_script;
-use crate::streams::{read_up_to, write_text};
+use command_line::{Command, Refused, read_up_to, write_text};
 use estree_json::tree_text;
 use source_text::{DeviceFault, Fault, Feed, MAX_BYTES, Sink, Source};
 use std::alloc::Global;
-
-/// What the program is asked to do with a file.
-#[derive(Clone, Copy, Debug, PartialEq, Eq)]
-pub enum Command {
-    /// Write the fixed text of the script.
-    Fix,
-    /// Write the tree of the script, as JSON, and a line feed.
-    Tree,
-}
-
-impl Command {
-    /// Each of them.
-    pub const ALL: [Command; 2] = [Command::Fix, Command::Tree];
-
-    /// The word for it on the command line.
-    pub fn word(self) -> &'static str
-        ensures { result.now ≡ word_of self }
-    {
-        match self {
-            Command::Fix => "fix",
-            Command::Tree => "tree",
-        }
-    }
-}
-
-/// A refusal, and the place that it speaks of: its line and its column from 1, both 0 where there is none.
-#[derive(Clone, Copy, Debug, PartialEq, Eq)]
-pub struct Refused {
-    pub fault: Fault,
-    pub line: u32,
-    pub column: u32,
-}
-
-impl Refused {
-    /// A refusal that speaks of no place.
-    pub fn at_no_place(fault: Fault) -> Refused
-        ensures { result ≡ record { fault = fault; line = 0; column = 0 } }
-    {
-        Refused {
-            fault,
-            line: 0,
-            column: 0,
-        }
-    }
-
-    /// A refusal of a text, with the line and the column of its place, where that is one of the text.
-    pub fn of_text(source: &Source, fault: Fault) -> Refused
-        ensures fault { result.fault ≡ fault }
-        ensures place { HasPlace source.now fault → (result.line, result.column) ≡ place_of source.now fault }
-    {
-        match fault {
-            Fault::Syntax(at) | Fault::Early(_, at) if source.text().is_char_boundary(at) => {
-                let (line, column) = source.line_column(at);
-                Refused {
-                    fault,
-                    line,
-                    column,
-                }
-            }
-            _ => Refused::at_no_place(fault),
-        }
-    }
-}
 
 // The tree of a script as JSON, and a line feed.
 fn tree_line(alloc: Global, source: &Source<'_>) -> Result<String, Fault>

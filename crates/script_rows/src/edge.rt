@@ -1,10 +1,8 @@
 //! The program's edge, with devices that take or give little, or fail.
 
 use clap::error::ErrorKind;
-use lint::command_line::command_line;
-use lint::refusal::write_refusal;
-use lint::run::{Command, Refused, run};
-use lint::streams::{read_up_to, write_text};
+use command_line::{Command, Refused, command_line, read_up_to, write_refusal, write_text};
+use lint::run;
 use source_text::{Device, Fault, MemoryFeed, MemorySink, Plan, Reason};
 use std::alloc::{AllocError, Global};
 use std::process::Abort;

@@ -1,0 +1,4 @@
+pub mod Streams
+pub mod Refused
+pub mod Refusal
+pub mod CommandLine

@@ -1,0 +1,95 @@
+//! The words of the command line.
+
+ghost use Rattle.std.specs.Prelude.{◌≡◌, IfErr, IfOk, IfSome, Some, false, map, true};
+ghost use Rattle.clap.specs.Words.{app_of, kind_of, subcommand_of, subcommand_rows_of, takes};
+ghost use Rattle.clap.specs.declared.builder.command.Command.TheViews.{out-Command};
+ghost use Rattle.command_line.specs.CommandLine.{Chooses, file_app, jslint_app};
+
+use crate::command::Command;
+use clap::error::ErrorKind;
+use clap::{Arg, ArgMatches, Error};
+use std::alloc::{AllocError, Global};
+
+/// What a command line asks for: a command, and the file that it is to read.
+#[derive(Clone, Copy, Debug, PartialEq, Eq)]
+pub struct Line<'a> {
+    pub command: Command,
+    pub file: &'a str,
+}
+
+/// A command by its word, with its FILE.
+fn file_command<'a>(
+    alloc: Global,
+    word: &'a str,
+    about: &'a str,
+) -> Result<clap::Command<'a>, AllocError>
+    ensures shape { IfOk result (λ c. app_of c ≡ file_app word.now) }
+    ensures local { IfOk result (λ c. (out-Command c).has_globals ≡ false) }
+{
+    let file = Arg::new(alloc, "file")
+        .required(true)
+        .value_name("FILE")
+        .help("The script to read: UTF-8, at most 16777216 bytes");
+    clap::Command::new(alloc, word).about(about).arg(file)
+}
+
+/// The whole command line.
+fn jslint_command<'a>(alloc: Global) -> Result<clap::Command<'a>, AllocError>
+    ensures shape { IfOk result (λ c. app_of c ≡ jslint_app) }
+{
+    let fix = file_command(
+        alloc,
+        "fix",
+        "Write the script in one layout, with parentheses only where they are needed",
+    )?;
+    let tree = file_command(
+        alloc,
+        "tree",
+        "Write the tree of the script as JSON, in the form of ESTree",
+    )?;
+    let jslint = clap::Command::new(alloc, "jslint")
+        .about("A linter for ECMAScript 2020 scripts")
+        .after_help("Exit status: 0 where all is well, 1 for a finding, 2 for a refusal")
+        .subcommand_required(true)
+        .subcommand(fix)?
+        .subcommand(tree)?;
+    Ok(jslint)
+}
+
+/// This command, if it was met, with its file.
+fn line_of<'a>(matches: &ArgMatches<'a>, command: Command) -> Option<Line<'a>>
+    ensures { IfSome result (λ line. Chooses (subcommand_rows_of matches.now) line) }
+{
+    let met = matches.subcommand_matches(command.word())?;
+    let file = met.get_str("file")?;
+    Some(Line { command, file })
+}
+
+/// The command that was met, with its file.
+fn chosen_line<'a>(matches: &ArgMatches<'a>) -> Option<Line<'a>>
+    ensures { IfSome result (λ line. Chooses (subcommand_rows_of matches.now) line) }
+{
+    match line_of(matches, Command::Fix) {
+        Some(line) => Some(line),
+        None => line_of(matches, Command::Tree),
+    }
+}
+
+/// Reads all words of a command line, the program's name first.
+///
+/// # Errors
+///
+/// Help that was asked for, a command line that is not understood, or no memory: `kind()` says which, and the
+/// error's text is for the user.
+pub fn command_line<'a>(alloc: Global, words: &'a [&'a str]) -> Result<Line<'a>, Error>
+    ensures ok { IfOk result (λ line. Chooses (subcommand_of jslint_app (map (λ w. w.now) words.entry.now)) line) }
+    ensures passes { IfErr result (λ e. takes jslint_app (map (λ w. w.now) words.entry.now) ≡ true → kind_of e ≡ ErrorKind.OutOfMemory) }
+{
+    let jslint = jslint_command(alloc)?;
+    let matches = jslint.try_get_matches_from(words)?;
+    // A parse that succeeds has met a command with its file; clap's clauses do not say so of a subcommand.
+    match chosen_line(&matches) {
+        Some(line) => Ok(line),
+        None => Err(Error::from(AllocError)),
+    }
+}
