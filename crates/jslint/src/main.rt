@@ -9,7 +9,7 @@ ghost use Rattle.jslint.specs.Program.{RunsOnFile};
 
 use clap::error::ErrorKind;
 use command_line::{Line, Refused, command_line, write_refusal};
-use lint::run;
+use lint::run::run;
 use source_text::{Device, Fault, Sink};
 use std::process::ExitCode;
 use std::rt::{Env, Files};

@@ -4,8 +4,7 @@
 
 mod fixer;
 mod reader;
-mod run;
+pub mod run;
 
 pub use fixer::fix;
 pub use reader::read_script;
-pub use run::run;

@@ -2,7 +2,7 @@
 
 use clap::error::ErrorKind;
 use command_line::{Command, Refused, command_line, read_up_to, write_refusal, write_text};
-use lint::run;
+use lint::run::run;
 use source_text::{Device, Fault, MemoryFeed, MemorySink, Plan, Reason};
 use std::alloc::{AllocError, Global};
 use std::process::Abort;

@@ -1,7 +1,7 @@
 //! Runs of the command `tree`: what is written, or the refusal.
 
 use command_line::{Command, Refused};
-use lint::run;
+use lint::run::run;
 use source_text::{Fault, MemoryFeed, MemorySink, Plan};
 use std::alloc::Global;
 use std::process::Abort;
