@@ -157,3 +157,4 @@ pub mod CoverGroups
 pub mod CoverRests
 pub mod CoverEnds
 pub mod CoverExamples
+pub mod Shorthands
