@@ -158,3 +158,6 @@ pub mod CoverRests
 pub mod CoverEnds
 pub mod CoverExamples
 pub mod Shorthands
+pub mod EchoPieces
+pub mod EchoTable
+pub mod TextWorded
