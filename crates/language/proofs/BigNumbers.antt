@@ -1,13 +1,13 @@
 -- A number that ends in `n` stands apart from `.`, `+` and `-` too.
-use Rattle.std.proofs.Common.{◌≡◌, ℕ, ◌<◌, ◌≤◌, Bool, true, false, not, ◌&&◌, ◌||◌, List, [], ◌∷◌, ◌++◌, length, get_or, refl, sym, ap, ◌∙◌, subst, arith, IsTrue, IsFalse, append-nil, length-append, inl, inr, ◌⊎◌}
+use Rattle.std.proofs.Common.{◌≡◌, ℕ, ◌<◌, ◌≤◌, Bool, true, false, not, ◌||◌, List, [], ◌∷◌, ◌++◌, length, refl, sym, ap, ◌∙◌, subst, arith, IsTrue, length-append, inl, inr, ◌⊎◌}
 use Rattle.std.specs.Prelude.{encode_utf8_all, ◌==◌, if◌then◌else◌}
-use Rattle.std.specs.Char.{encode_utf8}
+use Rattle.std.specs.Char.{encode_utf8, is_ascii_alphabetic}
 use Rattle.std.specs.Str.{chars}
 use Rattle.std.proofs.lemmas.Bool.{cases_lt, false≢true, true≢false}
 use Rattle.std.proofs.lemmas.Bool.Decides.{nat_tests}
 use Rattle.std.proofs.lemmas.Str.{encode_ascii, encodes-chars, length-encode, len_utf8_bounds}
 use Rattle.tokens.specs.Alphabet.{one_of, is_identifier_start, is_decimal_digit, is_non_zero_digit, is_hex_digit}
-use Rattle.tokens.specs.Numbers.{Numeral, Base, unread, nought, integer, leading_point, point, fraction, exponent_mark, exponent_sign, exponent, prefix, digits, suffix, no_numeral, binary, octal, hexadecimal, is_digit_of, behind_integer, behind_nought, next_numeral, numeral_behind, is_complete}
+use Rattle.tokens.specs.Numbers.{Numeral, Base, unread, nought, integer, leading_point, point, fraction, exponent_mark, exponent_sign, exponent, prefix, digits, suffix, no_numeral, binary, octal, hexadecimal, is_digit_of, behind_integer, next_numeral, numeral_behind, is_complete}
 use Rattle.tokens.specs.declared.token.Class.TheVariants.{Number}
 use Rattle.tokens.specs.declared.token.Goal.TheVariants.{Div}
 use Rattle.tokens.specs.Lexical.{is_of, is_token}
@@ -135,7 +135,7 @@ big_ends w (c ∷ cs) k e h = ends_at_suffix unread c cs k (ap (is_open_number N
 closer_start : (c : ℕ) → (is_closer c || is_sign_closer c) ≡ true → is_identifier_start c ≡ false
 closer_start c h = sym (ascii_start c (let l = closer_low c h in grind (arith, nat_tests))) ∙ plain c h
   where
-    plain : (c : ℕ) → (is_closer c || is_sign_closer c) ≡ true → (one_of "$_" c || Rattle.std.specs.Char.is_ascii_alphabetic c) ≡ false
+    plain : (c : ℕ) → (is_closer c || is_sign_closer c) ≡ true → (one_of "$_" c || is_ascii_alphabetic c) ≡ false
     plain c h = grind (arith, nat_tests)
 
 closer_digit : (c : ℕ) → (is_closer c || is_sign_closer c) ≡ true → is_decimal_digit c ≡ false

@@ -1,7 +1,9 @@
 -- Pieces without a shorthand key, and that lists of parts have none.
-use Rattle.std.proofs.Common.{◌≡◌, ℕ, Bool, true, false, cond, not, ◌&&◌, ◌||◌, List, [], ◌∷◌, ◌++◌, refl, sym, ap, ◌∙◌}
-use Rattle.std.specs.Prelude.{Option, Some, None, codes}
-use Rattle.std.proofs.lemmas.Bool.{and_parts, and_from, false≢true}
+use Rattle.std.proofs.Common.{◌≡◌, Bool, true, false, cond, not, ◌&&◌, ◌||◌, List, [], ◌∷◌, ◌++◌, refl, sym, ap, ◌∙◌}
+use Rattle.language.specs.declared.Start.TheVariants.{Any, NoBrace}
+use Rattle.language.specs.declared.Rank.TheVariants.{Assignment, LeftHandSide}
+use Rattle.std.specs.Prelude.{Some, None, codes}
+use Rattle.std.proofs.lemmas.Bool.{and_parts, and_from}
 use Rattle.tree.specs.declared.kind.Kind.{Kind}
 use Rattle.tree.specs.declared.kind.Kind.TheVariants as kind
 use Rattle.tree.specs.declared.kind.Flags.{Flags}
@@ -9,10 +11,10 @@ use Rattle.tree.specs.Tree.{Tree, node, Parts, none, part, gap, kind_of}
 use Rattle.language.specs.declared.Rank.{Rank}
 use Rattle.language.specs.declared.Start.{Start}
 use Rattle.language.specs.FirstPart.{others}
-use Rattle.language.specs.Words.{is_rest, is_spread, is_pattern, is_identifier, is_target, is_word_operator}
-use Rattle.language.specs.Pieces.{Role, echo, name, element, Slot, fixed, left, lead, tail, callee, lead_spine, lead_pattern, PieceOf, Piece, tok, may, many, ahead, unbroken, ending, open_parameters, close_parameters, sub, absent, never, lay, put, put_at, deeper, shallower, line, sign, term, sp, is_none, separator, listed, elements, argument, with_default, bound, pattern_element, parameters, settle, body}
-use Rattle.language.specs.Expressions.{arguments, in_brackets, selector, after_number, member_link, call_link, chunks, object_part, object_pattern_part, function_pieces, class_pieces, arrow_end, infix_pieces, sequence, given}
-use Rattle.language.specs.Statements.{lines, braced, prologue, declarators, member_lines, is_directive, behind_word}
+use Rattle.language.specs.Words.{is_rest, is_spread, is_pattern, is_identifier, is_target}
+use Rattle.language.specs.Pieces.{Role, echo, name, element, Slot, fixed, left, lead, tail, callee, lead_spine, lead_pattern, PieceOf, Piece, tok, may, many, ahead, unbroken, ending, open_parameters, close_parameters, sub, absent, never, lay, put, put_at, deeper, shallower, line, sign, term, sp, is_none, separator, listed, elements, argument, with_default, bound, pattern_element, parameters, settle, body, spread, expr, pattern, rest, word, loose, opening, item}
+use Rattle.language.specs.Expressions.{arguments, in_brackets, selector, after_number, member_link, call_link, chunks, object_part, object_pattern_part, function_pieces, class_pieces, arrow_end, sequence, given}
+use Rattle.language.specs.Statements.{lines, braced, prologue, declarators, member_lines, is_directive}
 use Rattle.language.specs.Positions.{roles}
 use Rattle.language.proofs.Alike.{standing_at}
 use Rattle.language.specs.Grammar.{own_rank, own_in, own_start}
@@ -38,8 +40,8 @@ quiet (_ ∷ qs) = quiet qs
 -- none, or one before a name or before a name with a default
 pub data PieceShape : List Piece → Type 0 where
   is_quiet : {qs : List Piece} → quiet qs ≡ true → PieceShape qs
-  names : PieceShape (put echo ∷ put name ∷ [])
-  defaults : PieceShape (put echo ∷ put (element true) ∷ [])
+  short_name : PieceShape (put echo ∷ put name ∷ [])
+  short_default : PieceShape (put echo ∷ put (element true) ∷ [])
 
 pub data EchoShape : List (PieceOf Role) → Type 0 where
   no_echo : {qs : List (PieceOf Role)} → has_echo (roles qs) ≡ false → EchoShape qs
@@ -76,8 +78,8 @@ quiet_roles a (lay x ∷ qs) h = quiet_roles a qs h
 
 pub shape_at : (a : Role) {qs : List Piece} → PieceShape qs → EchoShape (standing_at a qs)
 shape_at a {qs} (is_quiet h) = no_echo (quiet_roles a qs h)
-shape_at a names = before_name
-shape_at a defaults = before_default
+shape_at a short_name = before_name
+shape_at a short_default = before_default
 
 -- Lists of pieces
 
@@ -123,7 +125,7 @@ quiet_elements f h (part n ps) = quiet_join (f n ∷ separator (kind_of n) (is_n
 pub quiet_argument : QuietPart argument
 quiet_argument n = of (is_spread (kind_of n))
   where
-    of : (c : Bool) → quiet (put (cond c Rattle.language.specs.Pieces.spread (Rattle.language.specs.Pieces.expr Rattle.language.specs.declared.Rank.TheVariants.Assignment true Rattle.language.specs.declared.Start.TheVariants.Any)) ∷ []) ≡ true
+    of : (c : Bool) → quiet (put (cond c spread (expr Assignment true Any)) ∷ []) ≡ true
     of true = refl
     of false = refl
 
@@ -140,14 +142,14 @@ quiet_object_pattern_part b (node _ w g s e ps) = refl
 pub quiet_bound : (b : Bool) (k : Kind) → quiet (put_at (bound b k) ∷ []) ≡ true
 quiet_bound true k = of (is_pattern k) (is_identifier k)
   where
-    of : (x y : Bool) → quiet (put_at (cond x (Some (Rattle.language.specs.Pieces.pattern true Rattle.language.specs.declared.Start.TheVariants.Any)) (cond y (Some name) None)) ∷ []) ≡ true
+    of : (x y : Bool) → quiet (put_at (cond x (Some (pattern true Any)) (cond y (Some name) None)) ∷ []) ≡ true
     of true y = refl
     of false true = refl
     of false false = refl
 quiet_bound false k = of (is_pattern k) (is_target k)
   where
     of : (x y : Bool) →
-        quiet (put_at (cond x (Some (Rattle.language.specs.Pieces.pattern false Rattle.language.specs.declared.Start.TheVariants.Any)) (cond y (Some (Rattle.language.specs.Pieces.expr Rattle.language.specs.declared.Rank.TheVariants.LeftHandSide true Rattle.language.specs.declared.Start.TheVariants.Any)) None)) ∷ []) ≡ true
+        quiet (put_at (cond x (Some (pattern false Any)) (cond y (Some (expr LeftHandSide true Any)) None)) ∷ []) ≡ true
     of true y = refl
     of false true = refl
     of false false = refl
@@ -159,7 +161,7 @@ quiet_default b k = quiet_bound b k
 pub quiet_pattern_element : (b : Bool) → QuietPart (pattern_element b)
 quiet_pattern_element b n = of (is_rest (kind_of n))
   where
-    of : (c : Bool) → quiet (put_at (cond c (Some (Rattle.language.specs.Pieces.rest b false)) (with_default b (kind_of n))) ∷ []) ≡ true
+    of : (c : Bool) → quiet (put_at (cond c (Some (rest b false)) (with_default b (kind_of n))) ∷ []) ≡ true
     of true = refl
     of false = quiet_default b (kind_of n)
 
@@ -183,7 +185,7 @@ pub quiet_selector : (g : Flags) → quiet (selector g) ≡ true
 quiet_selector g = quiet_cond g.computed in_brackets _ refl refl
 
 pub quiet_member_link : (g : Flags) → quiet (member_link g) ≡ true
-quiet_member_link g = quiet_cond g.optional (sign "?." ∷ cond g.computed in_brackets (put Rattle.language.specs.Pieces.word ∷ [])) (selector g) (quiet_cond g.computed in_brackets (put Rattle.language.specs.Pieces.word ∷ []) refl refl) (quiet_selector g)
+quiet_member_link g = quiet_cond g.optional (sign "?." ∷ cond g.computed in_brackets (put word ∷ [])) (selector g) (quiet_cond g.computed in_brackets (put word ∷ []) refl refl) (quiet_selector g)
 
 pub quiet_call_link : (g : Flags) (ps : Parts) → quiet (call_link g ps) ≡ true
 quiet_call_link g ps = quiet_join (cond g.optional (sign "?." ∷ []) []) (arguments (others ps)) (quiet_cond g.optional (sign "?." ∷ []) [] refl refl) (quiet_arguments (others ps))
@@ -191,7 +193,7 @@ quiet_call_link g ps = quiet_join (cond g.optional (sign "?." ∷ []) []) (argum
 pub quiet_after_number : (ps : Parts) (g : Flags) → quiet (after_number ps g) ≡ true
 quiet_after_number none g = refl
 quiet_after_number (gap ps) g = refl
-quiet_after_number (part n ps) g = quiet_cond _ (lay Rattle.language.specs.Pieces.loose ∷ []) [] refl refl
+quiet_after_number (part n ps) g = quiet_cond _ (lay loose ∷ []) [] refl refl
 
 pub quiet_chunks : (b : Bool) (ps : Parts) → quiet (chunks b ps) ≡ true
 quiet_chunks b none = refl
@@ -220,7 +222,7 @@ quiet_class (gap (gap ps)) = refl
 pub quiet_arrow_end : (g : Flags) → quiet (arrow_end g) ≡ true
 quiet_arrow_end g = of g.expression
   where
-    of : (t : Bool) → quiet (cond t (sub (tail Rattle.language.specs.declared.Rank.TheVariants.Assignment Rattle.language.specs.declared.Start.TheVariants.NoBrace)) (put body) ∷ []) ≡ true
+    of : (t : Bool) → quiet (cond t (sub (tail Assignment NoBrace)) (put body) ∷ []) ≡ true
     of true = refl
     of false = refl
 
@@ -242,10 +244,10 @@ pub quiet_prologue : (r b : Bool) (before after : List Piece) (ps : Parts) → q
 quiet_prologue r b before after none h k = refl
 quiet_prologue r b before after (gap ps) h k = refl
 quiet_prologue r b before after (part n ps) h k =
-    quiet_join (before ++ put (cond b (Rattle.language.specs.Pieces.opening r) (Rattle.language.specs.Pieces.item r)) ∷ after) (prologue r (b && is_directive n) before after ps)
-    (quiet_join before (put (cond b (Rattle.language.specs.Pieces.opening r) (Rattle.language.specs.Pieces.item r)) ∷ after) h (quiet_next (put (cond b (Rattle.language.specs.Pieces.opening r) (Rattle.language.specs.Pieces.item r))) after (one b) k)) (quiet_prologue r (b && is_directive n) before after ps h k)
+    quiet_join (before ++ put (cond b (opening r) (item r)) ∷ after) (prologue r (b && is_directive n) before after ps)
+    (quiet_join before (put (cond b (opening r) (item r)) ∷ after) h (quiet_next (put (cond b (opening r) (item r))) after (one b) k)) (quiet_prologue r (b && is_directive n) before after ps h k)
   where
-    one : (b : Bool) → quiet (put (cond b (Rattle.language.specs.Pieces.opening r) (Rattle.language.specs.Pieces.item r)) ∷ []) ≡ true
+    one : (b : Bool) → quiet (put (cond b (opening r) (item r)) ∷ []) ≡ true
     one true = refl
     one false = refl
 

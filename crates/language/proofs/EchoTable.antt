@@ -1,5 +1,6 @@
 -- Where a way has a shorthand key, a name stands behind it, or a name with a default; nothing else stands there.
-use Rattle.std.proofs.Common.{◌≡◌, ℕ, Bool, true, false, cond, not, ◌&&◌, ◌||◌, List, [], ◌∷◌, ◌++◌, refl, sym, ap, subst}
+use Rattle.std.proofs.Common.{◌≡◌, ℕ, Bool, true, false, cond, not, ◌&&◌, ◌||◌, List, [], ◌∷◌, ◌++◌, refl, sym, subst}
+use Rattle.language.specs.declared.Edge.TheVariants.{Closed}
 use Rattle.std.specs.Prelude.{Option, Some, None, nat_le}
 use Rattle.tokens.specs.declared.token.Class.TheVariants as class
 use Rattle.tree.specs.declared.kind.Kind.{Kind}
@@ -7,21 +8,19 @@ use Rattle.tree.specs.declared.kind.Kind.TheVariants as kind
 use Rattle.tree.specs.declared.kind.Form.{Form}
 use Rattle.tree.specs.declared.kind.Form.TheVariants as form
 use Rattle.tree.specs.declared.kind.Flags.{Flags}
-use Rattle.tree.specs.Tree.{Tree, node, Parts, none, part, gap, kind_of, text_of, bare}
-use Rattle.language.specs.declared.Rank.{Rank}
-use Rattle.language.specs.declared.Rank.TheVariants.{Expression, Assignment, Grouped, Call, LeftHandSide, Member}
-use Rattle.language.specs.declared.Start.TheVariants.{Any, Statement}
+use Rattle.tree.specs.Tree.{Tree, node, Parts, none, part, gap, kind_of, bare}
+use Rattle.language.specs.declared.Rank.TheVariants.{Expression, Assignment}
+use Rattle.language.specs.declared.Start.TheVariants.{Any}
 use Rattle.language.specs.FirstPart.{lead as lead_kind, others}
 use Rattle.language.specs.Edges.{last_edge, ends_in_if}
 use Rattle.language.specs.Words.{is, among, is_reserved, is_rest, is_string, is_name, literal_class, is_super, is_identifier, is_pattern, is_step, is_prefix, is_target, is_word_operator, is_assignment, Operator, binds, powers, operator_of}
-use Rattle.language.specs.Pieces.{Role, expr, spine, name, word, key, echo, base, quoted, quasi, chunk, spread, property, pattern, pattern_property, element, rest, method, body, statement, item, opening, block, head, declarator, switch_case, handler, class_body, member, script, PieceOf, Piece, tok, many, ending, unbroken, open_parameters, close_parameters, sub, absent, never, lay, deeper, shallower, line, feed, put, put_at, sign, term, sp, Spelling, at, is_none, only, only_at, bound, with_default, pattern_element, listed, elements, argument, parameters, callee, lead, left, tail, lead_spine, lead_pattern}
-use Rattle.language.specs.Expressions.{expressions, spines, chunks, properties, shorthand_pattern, pattern_properties, object_part, object_pattern_part, methods, assignment, keyed, arguments, selector, after_number, member_link, call_link, linked, first_chained, arrows, arrow_end, infix_pieces, binary_ways, logical_ways, sequence, function_pieces, class_pieces, lead_is}
-use Rattle.language.specs.Statements.{statements, items, openings, lines, braced, prologue, declaration, declarators, end_of, whole, behind_word, for_left, first_is_string, is_declaration, is_one, members, class_members, member_lines, defaults}
+use Rattle.language.specs.Pieces.{Role, expr, spine, name, word, key, echo, base, quoted, quasi, chunk, spread, property, pattern, pattern_property, element, rest, method, body, statement, item, opening, block, head, declarator, switch_case, handler, class_body, member, script, PieceOf, Piece, tok, many, unbroken, open_parameters, close_parameters, absent, lay, shallower, line, feed, put, put_at, sign, term, sp, Spelling, at, is_none, only_at, bound, with_default, pattern_element, listed, elements, argument, parameters, apart}
+use Rattle.language.specs.Expressions.{expressions, spines, properties, shorthand_pattern, pattern_properties, object_part, object_pattern_part, methods, assignment, keyed, selector, after_number, member_link, call_link, linked, first_chained, arrows, arrow_end, binary_ways, logical_ways, lead_is, given}
+use Rattle.language.specs.Statements.{statements, items, openings, lines, prologue, declaration, declarators, end_of, whole, behind_word, for_left, first_is_string, is_declaration, is_one, members, member_lines, defaults}
 use Rattle.language.specs.Grammar.{ways, spellings}
 use Rattle.language.specs.Derivation.{Among, first, later}
 use Rattle.language.proofs.Viewed.{way_of}
-use Rattle.language.proofs.EchoPieces.{quiet, PieceShape, is_quiet, names, EchoShape, shape_at, quiet_join, quiet_next, quiet_cond, quiet_listed, quiet_elements, quiet_argument, quiet_object_part, quiet_object_pattern_part, quiet_bound, quiet_default, quiet_pattern_element, quiet_parameters, quiet_given, quiet_arguments, quiet_selector, quiet_member_link, quiet_call_link, quiet_after_number, quiet_chunks, quiet_sequence, quiet_function, quiet_class, quiet_arrow_end, quiet_lines, quiet_braced, quiet_prologue, quiet_declarators, quiet_member_lines}
-use Rattle.language.proofs.EchoPieces as pieces
+use Rattle.language.proofs.EchoPieces.{is_echo, quiet, PieceShape, is_quiet, short_name, short_default, EchoShape, shape_at, quiet_join, quiet_next, quiet_cond, quiet_listed, quiet_elements, quiet_argument, quiet_object_part, quiet_object_pattern_part, quiet_bound, quiet_default, quiet_pattern_element, quiet_parameters, quiet_given, quiet_arguments, quiet_selector, quiet_member_link, quiet_call_link, quiet_after_number, quiet_chunks, quiet_sequence, quiet_function, quiet_class, quiet_arrow_end, quiet_lines, quiet_braced, quiet_prologue, quiet_declarators, quiet_member_lines}
 
 -- each spelling's pieces have such a shape
 data Shaped : List Spelling → Type 0 where
@@ -46,9 +45,6 @@ shaped_at (Some a) qs h k = one (quiet_next (put a) qs h k)
 shaped_at None qs h k = no_spelling
 
 -- expressions
-
-shaped_infix : (w : List ℕ) (x y : Piece) → quiet (x ∷ []) ≡ true → quiet (y ∷ []) ≡ true → quiet (x ∷ infix_pieces w ++ y ∷ []) ≡ true
-shaped_infix w x y h k = quiet_next x (infix_pieces w ++ y ∷ []) h k
 
 shaped_binary : (w : List ℕ) (o : Operator) → Shaped (binary_ways w o)
 shaped_binary w (binds false z q) = one refl
@@ -98,8 +94,8 @@ shaped_expressions kind.ImportExpression w g ps = one refl
 shaped_expressions kind.ChainExpression w g ps = by_if (first_chained ps) (one refl)
 shaped_expressions kind.UpdateExpression w g ps = by_unless (not (is_step w && is_target (lead_kind ps))) (by_cond g.prefix (one refl) (one refl))
 shaped_expressions kind.UnaryExpression w g ps =
-    by_unless (not (is_prefix w)) (by_cond (is_word_operator w) (one refl) (one (quiet_join (cond (is w "+") (lay (Rattle.language.specs.Pieces.apart 43) ∷ []) (cond (is w "-") (lay (Rattle.language.specs.Pieces.apart 45) ∷ []) [])) _
-    (quiet_cond (is w "+") (lay (Rattle.language.specs.Pieces.apart 43) ∷ []) (cond (is w "-") (lay (Rattle.language.specs.Pieces.apart 45) ∷ []) []) refl (quiet_cond (is w "-") (lay (Rattle.language.specs.Pieces.apart 45) ∷ []) [] refl refl)) refl)))
+    by_unless (not (is_prefix w)) (by_cond (is_word_operator w) (one refl) (one (quiet_join (cond (is w "+") (lay (apart 43) ∷ []) (cond (is w "-") (lay (apart 45) ∷ []) [])) _
+    (quiet_cond (is w "+") (lay (apart 43) ∷ []) (cond (is w "-") (lay (apart 45) ∷ []) []) refl (quiet_cond (is w "-") (lay (apart 45) ∷ []) [] refl refl)) refl)))
 shaped_expressions kind.BinaryExpression w g ps = shaped_binary w (operator_of w)
 shaped_expressions kind.LogicalExpression w g ps = shaped_logical w (operator_of w)
 shaped_expressions kind.ConditionalExpression w g ps = one refl
@@ -128,14 +124,14 @@ quiet_for_left ps = of (is_declaration (lead_kind ps))
     of false = quiet_bound false (lead_kind ps)
 
 quiet_for : (r : Bool) (ps : Parts) → quiet
-    ((term "for" ∷ sp ∷ sign "(" ∷ Rattle.language.specs.Expressions.given ps (put (cond (is_declaration (lead_kind ps)) (head true) (expr Expression false Any)) ∷ []))
-    ++ sign ";" ∷ Rattle.language.specs.Expressions.given (others ps) (sp ∷ whole ∷ [])
-    ++ sign ";" ∷ Rattle.language.specs.Expressions.given (others (others ps)) (sp ∷ whole ∷ [])
+    ((term "for" ∷ sp ∷ sign "(" ∷ given ps (put (cond (is_declaration (lead_kind ps)) (head true) (expr Expression false Any)) ∷ []))
+    ++ sign ";" ∷ given (others ps) (sp ∷ whole ∷ [])
+    ++ sign ";" ∷ given (others (others ps)) (sp ∷ whole ∷ [])
     ++ sign ")" ∷ sp ∷ put (statement r) ∷ []) ≡ true
 quiet_for r ps =
-    let x : List Piece = Rattle.language.specs.Expressions.given ps (put (cond (is_declaration (lead_kind ps)) (head true) (expr Expression false Any)) ∷ []) in
-    let y : List Piece = Rattle.language.specs.Expressions.given (others ps) (sp ∷ whole ∷ []) in
-    let z : List Piece = Rattle.language.specs.Expressions.given (others (others ps)) (sp ∷ whole ∷ []) in
+    let x : List Piece = given ps (put (cond (is_declaration (lead_kind ps)) (head true) (expr Expression false Any)) ∷ []) in
+    let y : List Piece = given (others ps) (sp ∷ whole ∷ []) in
+    let z : List Piece = given (others (others ps)) (sp ∷ whole ∷ []) in
     quiet_join ((x ++ sign ";" ∷ y) ++ sign ";" ∷ z) (sign ")" ∷ sp ∷ put (statement r) ∷ [])
     (quiet_join (x ++ sign ";" ∷ y) (sign ";" ∷ z) (quiet_join x (sign ";" ∷ y) (quiet_given ps _ (one_head (is_declaration (lead_kind ps)))) (quiet_given (others ps) (sp ∷ whole ∷ []) refl)) (quiet_given (others (others ps)) (sp ∷ whole ∷ []) refl)) refl
   where
@@ -143,7 +139,7 @@ quiet_for r ps =
     one_head true = refl
     one_head false = refl
 
-quiet_declaration : (w : List ℕ) (a : Role) (ps : Parts) (ys : List Piece) → pieces.is_echo a ≡ false → quiet ys ≡ true → quiet (declaration w a ps ++ ys) ≡ true
+quiet_declaration : (w : List ℕ) (a : Role) (ps : Parts) (ys : List Piece) → is_echo a ≡ false → quiet ys ≡ true → quiet (declaration w a ps ++ ys) ≡ true
 quiet_declaration w a ps ys h k = quiet_join (declarators a ps) ys (quiet_declarators a ps h) k
 
 shaped_statements : (r : Bool) (k : Kind) (w : List ℕ) (g : Flags) (ps : Parts) → Shaped (statements r k w g ps)
@@ -168,8 +164,8 @@ shaped_statements r kind.WhileStatement w g ps = one refl
 shaped_statements r kind.ForStatement w g ps = one (quiet_for r ps)
 shaped_statements r kind.ForInStatement w g ps = one (quiet_next (for_left ps) _ (quiet_for_left ps) refl)
 shaped_statements r kind.ForOfStatement w g ps = one (quiet_next (for_left ps) _ (quiet_for_left ps) refl)
-shaped_statements r kind.ContinueStatement w g ps = one (quiet_behind_word ps (put name) (end_of Rattle.language.specs.declared.Edge.TheVariants.Closed) refl refl)
-shaped_statements r kind.BreakStatement w g ps = one (quiet_behind_word ps (put name) (end_of Rattle.language.specs.declared.Edge.TheVariants.Closed) refl refl)
+shaped_statements r kind.ContinueStatement w g ps = one (quiet_behind_word ps (put name) (end_of Closed) refl refl)
+shaped_statements r kind.BreakStatement w g ps = one (quiet_behind_word ps (put name) (end_of Closed) refl refl)
 shaped_statements r kind.ReturnStatement w g ps = by_if r (one (quiet_behind_word ps whole (end_of (last_edge ps)) refl refl))
 shaped_statements r kind.ThrowStatement w g ps = one refl
 shaped_statements r kind.LabeledStatement w g ps = one refl
@@ -205,12 +201,12 @@ shaped_properties c form.Init = shaped_keyed [] c (sign ":" ∷ sp ∷ assignmen
 shaped_properties c form.Method = shaped_keyed [] c (put (method form.Method) ∷ []) refl refl
 shaped_properties c form.Get = shaped_keyed (term "get" ∷ sp ∷ []) c (put (method form.Get) ∷ []) refl refl
 shaped_properties c form.Set = shaped_keyed (term "set" ∷ sp ∷ []) c (put (method form.Set) ∷ []) refl refl
-shaped_properties c form.Shorthand = by_unless c (a_spelling names no_spelling)
+shaped_properties c form.Shorthand = by_unless c (a_spelling short_name no_spelling)
 shaped_properties c form.Constructor = no_spelling
 
 shaped_shorthand : (k : Kind) → Shaped (shorthand_pattern k)
-shaped_shorthand kind.Identifier = a_spelling names no_spelling
-shaped_shorthand kind.AssignmentPattern = a_spelling pieces.defaults no_spelling
+shaped_shorthand kind.Identifier = a_spelling short_name no_spelling
+shaped_shorthand kind.AssignmentPattern = a_spelling short_default no_spelling
 shaped_shorthand _ = no_spelling
 
 shaped_pattern_properties : (b c : Bool) (x : Form) (k : Kind) → Shaped (pattern_properties b c x k)

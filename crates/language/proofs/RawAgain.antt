@@ -6,7 +6,7 @@ use Rattle.std.specs.Str.{chars, IsUtf8, all_scalars}
 use Rattle.std.proofs.lemmas.Bool.{cases_lt, false≢true, and_parts, and_from}
 use Rattle.std.proofs.lemmas.Bool.Decides.{nat_tests}
 use Rattle.std.proofs.lemmas.List.{append-nil}
-use Rattle.std.proofs.lemmas.Str.{encode_ascii, encodes-append, encodes-chars, length-encode, len_utf8_bounds, inside_one, chars_from_encodes, scalars-chars, chars-encodes}
+use Rattle.std.proofs.lemmas.Str.{encode_ascii, encodes-append, encodes-chars, length-encode, len_utf8_bounds, inside_one, chars_from_encodes, scalars-chars}
 use Rattle.tokens.specs.declared.token.Class.TheVariants.{Template}
 use Rattle.tokens.specs.Alphabet.{one_of, is_empty, carriage_return, line_feed}
 use Rattle.tokens.specs.Closing.{ends_part}

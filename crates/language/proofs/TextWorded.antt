@@ -1,5 +1,5 @@
 -- What a text derives is spelled by words at the first ways of its nodes, each shorthand key before a name of its text.
-use Rattle.std.proofs.Common.{◌≡◌, ℕ, ◌+◌, Bool, true, false, cond, List, [], ◌∷◌, ◌++◌, refl, sym, ap, ap₂, ◌∙◌, subst}
+use Rattle.std.proofs.Common.{◌≡◌, ℕ, ◌+◌, Bool, true, false, List, [], ◌∷◌, refl, sym, ap, ap₂, ◌∙◌, subst}
 use Rattle.std.specs.Prelude.{◌&&◌, ◌||◌, nat_eq}
 use Rattle.std.specs.Str.{IsUtf8}
 use Rattle.std.proofs.lemmas.Bool.{and_parts, false≢true, true≢false}
@@ -10,13 +10,13 @@ use Rattle.tree.specs.declared.kind.Pair.{Pair}
 use Rattle.tree.specs.Tree.{Tree, node, Parts, none, part, gap, parts_of, text_of}
 use Rattle.language.specs.declared.Rank.TheVariants.{Expression}
 use Rattle.language.specs.declared.Start.TheVariants.{Any}
-use Rattle.language.specs.Pieces.{Role, expr, name, echo, element, script, PieceOf, tok, sub}
+use Rattle.language.specs.Pieces.{Role, expr, name, echo, element, script, PieceOf}
 use Rattle.language.specs.Token.{Token}
 use Rattle.language.specs.Places.{NextIn, itself}
 use Rattle.language.specs.Claims.{Derives}
 use Rattle.language.specs.Grammar.{ways}
 use Rattle.language.specs.Positions.{has_row, rows, roles, first_roles}
-use Rattle.language.specs.Layout.{inside, first_way, some_way, wrapped_rows, has_number}
+use Rattle.language.specs.Layout.{inside, some_way, wrapped_rows, has_number}
 use Rattle.language.specs.Fits.{fits, parts_fit}
 use Rattle.language.specs.Printed.{printed}
 use Rattle.language.specs.Derivation.{Among, Reads, Spells, direct, grouped, Runs, done, step, opened, closed, within, missing, Step, token, with_mark, without_mark, one_more, no_more, seen, same_line, explicit, implicit, laid}
@@ -183,7 +183,7 @@ module _ (text : List ℕ) (u : IsUtf8 text) where
         let e = echo_form Token (NextIn text any_goal) itself (text_determined text) f.spelled in
         subst (λ zs. AllEchoed W ps zs r) (sym (key_list (λ y k. like_element k) l)) (subst (λ c. AllEchoed W c (echo ∷ element true ∷ []) r) (sym (f.parts ∙ ap (part f.item) (g.parts ∙ ap (part g.item) z.parts)))
         (pair_echoed W f.item g.item (element true) r refl (λ q k. short_echoed f.spelled (default_named Token (NextIn text any_goal) itself (text_determined text)
-            (subst (λ c. Reads Token (NextIn text any_goal) itself Name e.text c e.sign e.mid) e.place e.reads) g.spelled) q k)))
+        (subst (λ c. Reads Token (NextIn text any_goal) itself Name e.text c e.sign e.mid) e.place e.reads) g.spelled) q k)))
 
     mutual
       unfolding PartsWorded parts_fit AllEchoed

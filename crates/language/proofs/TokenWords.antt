@@ -1,5 +1,5 @@
 -- A token of a text, as the table has it, is a word, and reading goes on at a place of the text.
-use Rattle.std.proofs.Common.{◌≡◌, ℕ, Bool, true, false, List, [], refl, sym, ap, ◌∙◌, subst}
+use Rattle.std.proofs.Common.{◌≡◌, ℕ, true, List, [], refl, sym, ap, ◌∙◌, subst}
 use Rattle.std.specs.Prelude.{IsTrue}
 use Rattle.std.specs.Str.{chars, IsUtf8}
 use Rattle.std.proofs.lemmas.Str.{chars_from_encodes}
@@ -11,15 +11,14 @@ use Rattle.tokens.specs.Lexical.{is_of}
 use Rattle.tokens.specs.Tokens.{LexicalToken}
 use Rattle.tokens.specs.Reading.{behind, any_goal}
 use Rattle.tokens.specs.Reading as reading
-use Rattle.tokens.specs.Scanned.{Passed}
-use Rattle.tokens.proofs.Bounds.{token_places, pass_word}
+use Rattle.tokens.proofs.Bounds.{token_places}
 use Rattle.tokens.proofs.Classes.{token_is}
-use Rattle.language.specs.Token.{Token, table_text, as_read}
+use Rattle.language.specs.Token.{Token, table_text}
 use Rattle.language.specs.Derivation.{Reads}
 use Rattle.language.specs.Places.{NextIn, next_in, itself}
 use Rattle.language.proofs.StandsApart.{Word}
 use Rattle.language.proofs.RawAgain.{raw_word}
-use Rattle.std.specs.Prelude.{encode_utf8_all, ◌&&◌, ◌++◌, ◌∷◌, drop}
+use Rattle.std.specs.Prelude.{◌++◌, ◌∷◌, drop}
 use Rattle.std.specs.Str.{all_scalars}
 use Rattle.std.proofs.lemmas.Bool.{and_parts, and_from}
 use Rattle.std.proofs.lemmas.Str.{scalars-chars, IsUtf8-drop}
