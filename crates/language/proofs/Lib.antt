@@ -161,3 +161,4 @@ pub mod Shorthands
 pub mod EchoPieces
 pub mod EchoTable
 pub mod TextWorded
+pub mod FixedReads
