@@ -22,6 +22,10 @@ pub mod NeatLists
 pub mod NeatExpressions
 pub mod NeatTable
 pub mod OpenBound
+pub mod Worded
+pub mod BigNumbers
+pub mod RawAgain
+pub mod TokenWords
 pub mod WithinLimits
 pub mod Viewed
 pub mod Spine
@@ -154,3 +158,8 @@ pub mod CoverGroups
 pub mod CoverRests
 pub mod CoverEnds
 pub mod CoverExamples
+pub mod Shorthands
+pub mod EchoPieces
+pub mod EchoTable
+pub mod TextWorded
+pub mod FixedReads
