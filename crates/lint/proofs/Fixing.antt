@@ -1,23 +1,28 @@
 -- From the planner's flags to the printer's; from what sums are refused for to what `fix` promises.
-use Rattle.std.proofs.Common.{◌≡◌, ℕ, zero, suc, Bool, true, false, List, [], ◌∷◌, refl, ◌∙◌, get_or, Result, Ok, Err, String, string_bytes, IfOk, IfErr, inr, ◌≤◌, length, Option, Some, None, arith}
+use Rattle.std.proofs.Common.{◌≡◌, ℕ, zero, suc, Bool, true, false, List, [], ◌∷◌, refl, sym, subst, ◌∙◌, get_or, Result, Ok, Err, String, string_bytes, IfOk, IfErr, inr, ◌≤◌, length, Option, Some, None, arith}
 use Rattle.std.specs.declared.alloc.Global.{Global}
 use Rattle.source_text.specs.declared.fault.Fault.{Fault}
 use Rattle.source_text.specs.declared.fault.Fault.TheVariants.{NotUtf8, TooLong, Syntax, TooDeep, Early, OutOfMemory, BadSettings, BadTable, WriteFailed, ReadFailed, Usage}
 use Rattle.tree.specs.Tree.{Tree, SameTree}
 use Rattle.tree.specs.declared.kind.Pair.{Pair}
-use Rattle.language.specs.Claims.{Derives}
+use Rattle.std.specs.Str.{IsUtf8}
+use Rattle.early_errors.specs.Accepted.{Accepted}
+use Rattle.early_errors.proofs.Placeless.{none_either}
+use Rattle.language.specs.Claims.{Derives, WithinLimits}
+use Rattle.language.proofs.SameLayouts.{same_layout}
+use Rattle.language.proofs.FixedReads.{within_always as fixed_within}
 use Rattle.language.specs.Cost.{AtMost, at_most, least}
 use Rattle.language.proofs.Least.{derived_at_least}
 use Rattle.paren_planner.specs.declared.planned.Plan.{Plan}
 use Rattle.paren_planner.specs.Plans.{IsPlan}
 use Rattle.language.specs.Pieces.{script}
-use Rattle.language.specs.Layout.{has_number, wrapped_rows}
+use Rattle.language.specs.Layout.{fixed_text, has_number, wrapped_rows}
 use Rattle.paren_planner.specs.Wrapped.{is_flagged}
 use Rattle.printer.specs.Sheets.{flag_at}
 use Rattle.printer.specs.Fits.{wrapped_by, IsPlanned}
 use Rattle.sum_fixer.specs.Scripts.{RefusesScript}
 use Rattle.lint.specs.ReadScripts.{RefusesReading}
-use Rattle.lint.specs.Fixes.{NoSums, LaysOut, FixesScript, RefusesFixing, refuses_sums}
+use Rattle.lint.specs.Fixes.{NoSums, Fixes, FixesScript, RefusesFixing, refuses_sums}
 
 -- ---- flags
 
@@ -41,11 +46,34 @@ below None c k is most = absurd (cc)
 below (Some m) c k is (at_most h) = let same : c ≡ m = cc in omega arith
 
 -- no derivation of the same tree has fewer pairs than a plan wraps nodes
-pub fewest : (n m : Tree) (p : Plan) (source : List ℕ) (P : List Pair) → IsPlan n p → SameTree m n → Derives source m P → length (wrapped_rows n script 1) ≤ length P
+fewest : (n m : Tree) (p : Plan) (source : List ℕ) (P : List Pair) → IsPlan n p → SameTree m n → Derives source m P → length (wrapped_rows n script 1) ≤ length P
 fewest n m p source P is same derived =
     let most : p.table.total ≤ length P = below (least n script) p.table.total (length P) is.total (derived_at_least n m source P same derived) in
     let count : p.table.total ≡ length (wrapped_rows n script 1) = is.count in
     omega arith
+
+-- ---- the fixed text
+
+-- the fixed text of an accepted tree that has a plan
+pub fixes : (text fixed : List ℕ) (n : Tree) (P : List Pair) (p : Plan) → IsUtf8 fixed → Accepted text n P → IsPlan n p → fixed ≡ fixed_text n → Fixes text fixed
+fixes text fixed n P p utf8 is plan laid = from (fixed_within text n P is.source is.derived)
+  where
+    from : (m : Tree) × (Q : List Pair) × SameTree m n × WithinLimits (fixed_text n) m Q × (length Q ≡ length (wrapped_rows n script 1)) → Fixes text fixed
+    from (m, Q, same, within, count) = record {
+      tree = n;
+      pairs = P;
+      accepted = is;
+      is_fixed = laid;
+      again = m;
+      pairs_again = Q;
+      same = same;
+      accepted_again = record { source = utf8; derived = subst (λ t. WithinLimits t m Q) (sym laid) within; lawful = none_either n m (sym same) is.lawful };
+      fewest = record {
+        attained = (fixed_text n, m, Q, same, (1000, within.1), refl);
+        least = λ source k R alike d. subst (λ x. x ≤ length R) (sym count) (fewest n k p source R plan alike d);
+      };
+      stable = same_layout m n same ∙ sym laid;
+    }
 
 -- ---- refusals
 
@@ -74,7 +102,7 @@ refused_fault text ReadFailed none refused = (none, refused)
 refused_fault text Usage none refused = (none, refused)
 
 -- of a text that is no script of sums
-pub other_fixed : (text : List ℕ) (r : Result (String Global) Fault) → NoSums text → IfOk r (λ fixed. LaysOut (string_bytes fixed)) → IfOk r (λ fixed. FixesScript text (string_bytes fixed))
+pub other_fixed : (text : List ℕ) (r : Result (String Global) Fault) → NoSums text → IfOk r (λ fixed. Fixes text (string_bytes fixed)) → IfOk r (λ fixed. FixesScript text (string_bytes fixed))
 other_fixed text (Ok fixed) none is = inr (none, is)
 other_fixed text (Err fault) none is = tt
 

@@ -1,15 +1,13 @@
--- What fixing a script promises: all of it for a script of sums; for any other the layout of a tree without early errors.
-use Rattle.std.specs.Prelude.{◌≡◌, ◌≤◌, ℕ, Bool, true, false, List, length, None, ◌⊎◌, IsSome}
+-- What fixing a script promises.
+use Rattle.std.specs.Prelude.{◌≡◌, ℕ, Bool, true, false, List, length, ◌⊎◌}
 use Rattle.source_text.specs.declared.fault.Fault.{Fault}
 use Rattle.source_text.specs.declared.fault.Fault.TheVariants.{Syntax, TooDeep, OutOfMemory}
 use Rattle.tree.specs.Tree.{Tree, SameTree}
 use Rattle.tree.specs.declared.kind.Pair.{Pair}
-use Rattle.language.specs.Pieces.{script}
-use Rattle.language.specs.Cost.{least}
-use Rattle.language.specs.Layout.{fixed_text, wrapped_rows}
+use Rattle.language.specs.Claims.{Fewest}
+use Rattle.language.specs.Layout.{fixed_text}
 use Rattle.grammar.specs.Limits.{DerivesWithin}
-use Rattle.early_errors.specs.Early.{least_error}
-use Rattle.language.specs.Claims.{Derives}
+use Rattle.early_errors.specs.Accepted.{Accepted}
 use Rattle.sum_fixer.specs.Fix.{IsFixed}
 use Rattle.lint.specs.ReadScripts.{RefusesReading}
 
@@ -28,17 +26,22 @@ pub record FixesSums (text fixed : List ℕ) : Type 0 where
   pub is_fixed : IsFixed text fixed
   pub stable : (again : List ℕ) → IsFixed fixed again → again ≡ fixed
 
--- A tree without early errors that some number of pairs spells. If a text derives it, this is its layout, with parentheses round its
--- wrapped nodes; and no text that derives the same tree, places aside, has fewer grouping pairs than that.
-pub record LaysOut (fixed : List ℕ) : Type 0 where
+-- The text is accepted with a tree whose fixed text this is. The fixed text is accepted with the same tree, places aside; no text that
+-- derives that tree has fewer grouping pairs; and the tree that it is accepted with has the same fixed text.
+pub record Fixes (text fixed : List ℕ) : Type 0 where
   pub tree : Tree
-  pub lawful : least_error tree ≡ None
-  pub spelled : IsSome (least tree script)
-  pub laid_out : (source : List ℕ) (P : List Pair) → Derives source tree P → fixed ≡ fixed_text tree
-  pub fewest : (source : List ℕ) (m : Tree) (P : List Pair) → SameTree m tree → Derives source m P → length (wrapped_rows tree script 1) ≤ length P
+  pub pairs : List Pair
+  pub accepted : Accepted text tree pairs
+  pub is_fixed : fixed ≡ fixed_text tree
+  pub again : Tree
+  pub pairs_again : List Pair
+  pub same : SameTree again tree
+  pub accepted_again : Accepted fixed again pairs_again
+  pub fewest : Fewest tree (length pairs_again)
+  pub stable : fixed_text again ≡ fixed
 
 abbrev pub FixesScript : List ℕ → List ℕ → Type 0
-FixesScript text fixed = FixesSums text fixed ⊎ (NoSums text × LaysOut fixed)
+FixesScript text fixed = FixesSums text fixed ⊎ (NoSums text × Fixes text fixed)
 
 -- what is refused is no script of sums
 abbrev pub RefusesFixing : List ℕ → Fault → Type 0

@@ -11,7 +11,8 @@ use Rattle.command_line.specs.declared.command.Command.{Command}
 use Rattle.command_line.specs.declared.command.Command.TheVariants.{Fix, Tree}
 use Rattle.command_line.specs.declared.refused.Refused.{Refused}
 use Rattle.tree.specs.Tree.{Tree as SyntaxTree}
-use Rattle.early_errors.specs.Early.{least_error}
+use Rattle.tree.specs.declared.kind.Pair.{Pair}
+use Rattle.early_errors.specs.Accepted.{Accepted}
 use Rattle.estree_json.specs.Json.{json_text}
 use Rattle.lint.specs.ReadScripts.{RefusesReading}
 use Rattle.lint.specs.Fixes.{FixesScript, RefusesFixing}
@@ -24,14 +25,14 @@ use Rattle.command_line.specs.Refused.{place_of}
 abbrev pub IsSource : List ℕ → Type 0
 IsSource text = IsUtf8 text × (length text ≤ max_bytes)
 
--- the JSON of a tree without early errors, and a line feed
-abbrev pub IsJson : List ℕ → Type 0
-IsJson answer = (n : SyntaxTree) × (least_error n ≡ None) × (answer ≡ json_text n ++ 10 ∷ [])
+-- the JSON of a tree that the text is accepted with, and a line feed
+abbrev pub IsJson : List ℕ → List ℕ → Type 0
+IsJson text answer = (n : SyntaxTree) × (P : List Pair) × Accepted text n P × (answer ≡ json_text n ++ 10 ∷ [])
 
 -- what the command is to write for a text
 abbrev pub IsAnswer : Command → List ℕ → List ℕ → Type 0
 IsAnswer Fix text answer = IsSource text × FixesScript text answer
-IsAnswer Tree text answer = IsSource text × IsJson answer
+IsAnswer Tree text answer = IsSource text × IsJson text answer
 
 -- why the command refuses source text
 abbrev pub RefusesSource : Command → List ℕ → Fault → Type 0

@@ -1,7 +1,7 @@
 //! Fixing a script: the same tree, in one layout, with pairs only where the grammar wants them.
 
 ghost use Rattle.std.specs.Prelude.{IfErr, IfOk, ◌≡◌, string_bytes};
-ghost use Rattle.lint.specs.Fixes.{FixesScript, LaysOut, RefusesFixing, refuses_sums};
+ghost use Rattle.lint.specs.Fixes.{Fixes, FixesScript, RefusesFixing, refuses_sums};
 ghost use Rattle.lint.specs.ReadScripts.{RefusesReading};
 
 use crate::reader::read_script;
@@ -22,7 +22,7 @@ fn is_no_sum(fault: Fault) -> bool
 
 // The layout of a script's tree, with parentheses round its wrapped nodes.
 fn fix_tree(alloc: Global, source: &Source<'_>) -> Result<String, Fault>
-    ensures fixed { IfOk result (λ text. LaysOut (string_bytes text)) }
+    ensures fixed { IfOk result (λ text. Fixes source.now (string_bytes text)) }
     ensures refused { IfErr result (RefusesReading source.now) }
 {
     let parsed = read_script(alloc, source)?;

@@ -1,7 +1,7 @@
 //! Reading a script: its tree, where no early error applies (ECMA-262 clause 16).
 
-ghost use Rattle.std.specs.Prelude.{◌≡◌, None, IfOk, IfErr};
-ghost use Rattle.early_errors.specs.Early.{least_error};
+ghost use Rattle.std.specs.Prelude.{IfOk, IfErr};
+ghost use Rattle.early_errors.specs.Accepted.{Accepted};
 ghost use Rattle.lint.specs.ReadScripts.{RefusesReading};
 
 use early_errors::first_early_error;
@@ -16,7 +16,7 @@ use std::alloc::Global;
 /// 500, and 1000 parentheses open at one point that group or hold an arrow's parameters); `Early` with the number and the
 /// place of the first early error; `OutOfMemory`.
 pub fn read_script<'s>(alloc: Global, source: &Source<'s>) -> Result<Parsed<'s>, Fault>
-    ensures lawful { IfOk result (λ parsed. least_error parsed.program ≡ None) }
+    ensures accepted { IfOk result (λ parsed. Accepted source.now parsed.program parsed.pairs.items) }
     ensures refused { IfErr result (RefusesReading source.now) }
 {
     let parsed = parse(alloc, source)?;

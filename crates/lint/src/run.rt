@@ -13,7 +13,7 @@ use std::alloc::Global;
 
 // The tree of a script as JSON, and a line feed.
 fn tree_line(alloc: Global, source: &Source<'_>) -> Result<String, Fault>
-    ensures json { IfOk result (λ line. IsJson (string_bytes line)) }
+    ensures json { IfOk result (λ line. IsJson source.now (string_bytes line)) }
     ensures refused { IfErr result (RefusesReading source.now) }
 {
     let parsed = read_script(alloc, source)?;

@@ -1,6 +1,11 @@
 use Rattle.std.proofs.Common.{◌∙◌, ap, sym}
-use Rattle.early_errors.specs.Early.{least_error}
+use Rattle.early_errors.specs.Early.{errors, least_error}
+use Rattle.early_errors.proofs.FirstError.{least_none}
 use Rattle.lint.proofs.reader.read_script.Goals as goal
 
-pub returns-clause-lawful : goal.returns-clause-lawful
-returns-clause-lawful c = ap least_error (sym c.program.ensures) ∙ sym c.in_ok-number.ensures ∙ c.in-None.is
+pub returns-clause-accepted : goal.returns-clause-accepted
+returns-clause-accepted c = record {
+  source = c.in_ok-parsed.ensures.source;
+  derived = c.in_ok-parsed.ensures.derived;
+  lawful = least_none (errors c.in_ok-parsed.parsed.program) (ap least_error (sym c.program.ensures) ∙ sym c.in_ok-number.ensures ∙ c.in-None.is);
+}

@@ -19,7 +19,7 @@ refuses text command which made answered fault c m e r =
 
 abbrev given_by : Command → List ℕ → List ℕ → Type 0
 given_by Fix text answer = FixesScript text answer
-given_by Tree text answer = IsJson answer
+given_by Tree text answer = IsJson text answer
 
 answered_by : (which : Command) (text answer : List ℕ) → IsSource text → given_by which text answer → IsAnswer which text answer
 answered_by Fix text answer source given = (source, given)
