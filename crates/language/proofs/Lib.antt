@@ -22,6 +22,7 @@ pub mod NeatLists
 pub mod NeatExpressions
 pub mod NeatTable
 pub mod OpenBound
+pub mod Worded
 pub mod WithinLimits
 pub mod Viewed
 pub mod Spine
