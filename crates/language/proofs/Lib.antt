@@ -23,6 +23,9 @@ pub mod NeatExpressions
 pub mod NeatTable
 pub mod OpenBound
 pub mod Worded
+pub mod FirstWords
+pub mod WayPieces
+pub mod BeginsNodes
 pub mod WithinLimits
 pub mod Viewed
 pub mod Spine

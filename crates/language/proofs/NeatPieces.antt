@@ -8,7 +8,7 @@ use Rattle.tokens.specs.Lexical.{is_one_of_words}
 use Rattle.tree.specs.declared.kind.Kind.{Kind}
 use Rattle.language.specs.declared.Rank.{Rank}
 use Rattle.language.specs.Words.{tightness, is_rest}
-use Rattle.language.specs.Pieces.{Role, expr, spine, name, word, echo, base, quasi, chunk, pattern, method, body, block, class_body, Slot, fixed, left, lead, tail, callee, lead_spine, lead_pattern, Piece, PieceOf, tok, may, many, ahead, unbroken, ending, open_parameters, close_parameters, sub, absent, never, lay, space, line, feed, deeper, shallower, apart, loose, separator}
+use Rattle.language.specs.Pieces.{Role, expr, spine, name, word, echo, base, quasi, chunk, pattern, method, body, block, class_body, script, Slot, fixed, left, lead, tail, callee, lead_spine, lead_pattern, Piece, PieceOf, tok, may, many, ahead, unbroken, ending, open_parameters, close_parameters, sub, absent, never, lay, space, line, feed, deeper, shallower, apart, loose, separator}
 use Rattle.language.proofs.SignsApart.{closed_signs}
 use Rattle.language.proofs.StandsApart.{is_closer, is_sign_closer}
 
@@ -27,8 +27,8 @@ pub data Touch : Type 0 where
 pub data Sort : Type 0 where
   -- an expression; one at LeftHandSide or tighter; a name; what ends in a bracket or a name
   an_operand a_tight a_name an_ended : Sort
-  -- a template behind a tag, a method's function, a template's part, a shorthand key, anything else
-  a_quasi a_method a_chunk an_echo another : Sort
+  -- a template behind a tag, a method's function, a template's part, a shorthand key, a script, anything else
+  a_quasi a_method a_chunk an_echo a_script another : Sort
 
 abbrev pub sort_of : Role → Sort
 sort_of (expr y i f) = cond (nat_le 18 (tightness y)) a_tight an_operand
@@ -40,6 +40,7 @@ sort_of quasi = a_quasi
 sort_of (method x) = a_method
 sort_of (chunk a b) = a_chunk
 sort_of echo = an_echo
+sort_of script = a_script
 sort_of (pattern b f) = an_ended
 sort_of body = an_ended
 sort_of class_body = an_ended
@@ -87,6 +88,7 @@ behind_part b a_quasi = closed
 behind_part b a_method = closed
 behind_part b a_chunk = solid
 behind_part b an_echo = echoed
+behind_part b a_script = stated
 behind_part b another = stated
 
 abbrev pub first_code : List ℕ → ℕ
@@ -213,9 +215,10 @@ goes_behind Template w qs = true
 goes_behind Class.End w qs = false
 goes_behind c w qs = no_pieces qs
 
--- a shorthand key's value follows it
+-- a shorthand key's value follows it; no part is a script
 abbrev pub echo_followed : {R : Type 0} → Sort → List (PieceOf R) → Bool
 echo_followed an_echo qs = leads_part qs
+echo_followed a_script qs = false
 echo_followed x qs = true
 
 -- behind an item of a list, and at the end of a node
@@ -309,6 +312,7 @@ free_item broken h = h
 -- a part that is an item
 abbrev pub is_item_sort : Sort → Bool
 is_item_sort an_echo = false
+is_item_sort a_script = false
 is_item_sort _ = true
 
 abbrev pub is_item_piece : Piece → Bool
@@ -326,6 +330,7 @@ behind_item b a_quasi h = refl
 behind_item b a_method h = refl
 behind_item b a_chunk h = refl
 behind_item b an_echo h = h
+behind_item b a_script h = refl
 behind_item b another h = refl
 
 free_takes : (s : Touch) (x : Sort) → is_free s ≡ true → takes_part s x ≡ true
@@ -343,6 +348,7 @@ free_takes broken x h = cc h
 
 pub item_followed : (x : Sort) (ys : List Piece) → is_item_sort x ≡ true → echo_followed x ys ≡ true
 item_followed an_echo ys h = cc h
+item_followed a_script ys h = cc h
 item_followed an_operand ys h = refl
 item_followed a_tight ys h = refl
 item_followed a_name ys h = refl
