@@ -26,6 +26,10 @@ pub mod Worded
 pub mod FirstWords
 pub mod WayPieces
 pub mod BeginsNodes
+pub mod TextBehind
+pub mod EndsOf
+pub mod WalkPieces
+pub mod WalkLead
 pub mod WithinLimits
 pub mod Viewed
 pub mod Spine
