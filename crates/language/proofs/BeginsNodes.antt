@@ -75,7 +75,7 @@ echo_starts : {w : List ℕ} {is : List Item} → NameFirst w is → Starts is �
 echo_starts name_first (a_word_first h f) = a_name_seen h f
 
 -- behind a shorthand key stands a plain position
-echo_value : (e : Role) (qs : List Piece) → takes_part echoed (sort_of e) ≡ true → echo_followed (sort_of e) qs ≡ true → is_plain e ≡ true
+pub echo_value : (e : Role) (qs : List Piece) → takes_part echoed (sort_of e) ≡ true → echo_followed (sort_of e) qs ≡ true → is_plain e ≡ true
 echo_value echo qs h k = absurd (false≢true h)
 echo_value script qs h k = absurd (false≢true h)
 echo_value _ qs h k = refl
@@ -94,7 +94,7 @@ no_part e h = false≢true (sym h ∙ ap is_part e)
 head_part : {n v : Tree} {ps qs : Parts} → part n ps ≡ part v qs → n ≡ v
 head_part {n} e = ap (first_part n) e
 
-none_left : (a : Role) (b o : Bool) (rs : List Piece) → is_tail rs ≡ true → neat b o fresh rs ≡ true → lines_up (standing_at a rs) none ≡ true → ⊥
+pub none_left : (a : Role) (b o : Bool) (rs : List Piece) → is_tail rs ≡ true → neat b o fresh rs ≡ true → lines_up (standing_at a rs) none ≡ true → ⊥
 none_left a b o [] t h l = false≢true h
 none_left a b o (sub x ∷ qs) t h l = false≢true l
 none_left a b o (absent ∷ qs) t h l = false≢true l
@@ -188,7 +188,7 @@ module _ (W : ℕ → Bool) where
       (λ f k x y z u. after_echo n ps a qs r d t o next f k lines x y z u) followed ok fit others words.1.0 words.1.1
 
   -- a first part
-  part_starts : (n : Tree) (ps : Parts) (a : Role) (rs : List Piece) (r d : ℕ) (t b o : Bool) → NodeStarts n → ((v : Tree) (qs' : Parts) → ps ≡ part v qs' → NodeStarts v) → is_tail rs ≡ true →
+  pub part_starts : (n : Tree) (ps : Parts) (a : Role) (rs : List Piece) (r d : ℕ) (t b o : Bool) → NodeStarts n → ((v : Tree) (qs' : Parts) → ps ≡ part v qs' → NodeStarts v) → is_tail rs ≡ true →
       neat b o fresh rs ≡ true → lines_up (standing_at a rs) (part n ps) ≡ true → parts_fit W (part n ps) (roles (standing_at a rs)) r ≡ true → PartsWorded W (part n ps) (roles (standing_at a rs)) r →
       Starts (printed W n (next_role (roles (standing_at a rs))) r d ++ parts_printed W ps (behind_part (standing_at a rs)) (r + rows n (next_role (roles (standing_at a rs)))) d t)
   unfolding parts_fit PartsWorded

@@ -30,6 +30,7 @@ pub mod TextBehind
 pub mod EndsOf
 pub mod WalkPieces
 pub mod WalkLead
+pub mod WalkNodes
 pub mod WithinLimits
 pub mod Viewed
 pub mod Spine
