@@ -11,6 +11,7 @@ use Rattle.language.specs.Grammar.{spellings, own_rank, own_in, own_start}
 use Rattle.language.specs.Positions.{roles}
 use Rattle.language.specs.Cost.{cell_position}
 use Rattle.language.specs.Fits.{lines_up}
+use Rattle.language.proofs.Worded.{PieceWords}
 
 -- both at an expression, or one position; or, with false, but for the start both at a chain's part or both at a pattern
 pub data Like : Bool → Role → Role → Type 0 where
@@ -82,16 +83,33 @@ lines_alike a c (absent ∷ qs) (part n ps) = refl
 lines_alike a c (never ∷ qs) ps = lines_alike a c qs ps
 lines_alike a c (lay x ∷ qs) ps = lines_alike a c qs ps
 
--- pieces that name the same parts, at positions of one sort
+pub words_alike : (a c : Role) (qs : List Piece) → PieceWords (standing_at a qs) → PieceWords (standing_at c qs)
+words_alike a c [] h = h
+words_alike a c (tok x w ∷ qs) h = (h.0, words_alike a c qs h.1)
+words_alike a c (may w ∷ qs) h = words_alike a c qs h
+words_alike a c (many w ∷ qs) h = words_alike a c qs h
+words_alike a c (ahead w ∷ qs) h = words_alike a c qs h
+words_alike a c (unbroken ∷ qs) h = words_alike a c qs h
+words_alike a c (ending e ∷ qs) h = words_alike a c qs h
+words_alike a c (open_parameters ∷ qs) h = words_alike a c qs h
+words_alike a c (close_parameters ∷ qs) h = words_alike a c qs h
+words_alike a c (sub s ∷ qs) h = words_alike a c qs h
+words_alike a c (absent ∷ qs) h = words_alike a c qs h
+words_alike a c (never ∷ qs) h = words_alike a c qs h
+words_alike a c (lay x ∷ qs) h = words_alike a c qs h
+
+-- pieces that name the same parts, at positions of one sort; the tokens of either are words where those of the other are
 pub record NamesAlike (b : Bool) (qs rs : List (PieceOf Role)) : Type 0 where
   pub roles : AllLike b (Rattle.language.specs.Positions.roles qs) (Rattle.language.specs.Positions.roles rs)
   pub lines : (ps : Parts) → lines_up qs ps ≡ lines_up rs ps
+  pub words : PieceWords qs → PieceWords rs
+  pub words_back : PieceWords rs → PieceWords qs
 
 pub names_back : {b : Bool} {qs rs : List (PieceOf Role)} → NamesAlike b qs rs → NamesAlike b rs qs
-names_back h = record { roles = all_back h.roles; lines = λ ps. sym (h.lines ps) }
+names_back h = record { roles = all_back h.roles; lines = λ ps. sym (h.lines ps); words = h.words_back; words_back = h.words }
 
 pub itself_alike : (b : Bool) (a c : Role) (qs : List Piece) → (b ≡ true → own_start a ≡ own_start c) → NamesAlike b (standing_at a qs) (standing_at c qs)
-itself_alike b a c qs h = record { roles = roles_like b a c qs h; lines = lines_alike a c qs }
+itself_alike b a c qs h = record { roles = roles_like b a c qs h; lines = lines_alike a c qs; words = words_alike a c qs; words_back = words_alike c a qs }
 
 -- the pieces of both spellings do, wherever they stand
 abbrev pub AlikeAnywhere : Spelling → Spelling → Type 0

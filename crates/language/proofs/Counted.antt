@@ -18,7 +18,7 @@ use Rattle.language.proofs.Marked.{wrapped_marks, text_fits}
 use Rattle.language.specs.Readable.{stand_apart}
 use Rattle.language.proofs.PrintedSpells.{printed_spells}
 use Rattle.language.proofs.LaidItems.{fixed_items}
-use Rattle.language.proofs.ReadItems.{text_is_read, tested_readable}
+use Rattle.language.proofs.ReadItems.{Readable, text_is_read, tested_readable}
 
 module _ (W : ℕ → Bool) where
   own_pair : (t b : Bool) (r : ℕ) (below : List ℕ) (x : ℕ) → t ≡ b → x ≡ length below → cond t 1 0 + x ≡ length (cond b (r ∷ []) [] ++ below)
@@ -56,13 +56,18 @@ pub layout_spelled : (W : ℕ → Bool) (n : Tree) (a : Role) (r d o : ℕ) (ts 
 layout_spelled W n a r d o ts us h k f g =
     let x = printed_spells (List Token) Next behind W n a r d o h k f g in (x.tree, x.pairs, x.same, x.spells, x.counted)
 
--- where the items of a script's layout stand apart, its fixed text derives the script, with a pair for each wrapped node
-pub fixed_derives : (other : List ℕ) (n : Tree) (P : List Pair) → Derives other n P → stand_apart (printed (has_number (wrapped_rows n script 1)) n script 1 0) ≡ true →
+-- where the items of a script's layout are readable, its fixed text derives the script, with a pair for each wrapped node
+pub fixed_read : (other : List ℕ) (n : Tree) (P : List Pair) → Derives other n P → Readable (printed (has_number (wrapped_rows n script 1)) n script 1 0) →
     (m : Tree) × (Q : List Pair) × SameTree m n × DerivesOpen (open_in (has_number (wrapped_rows n script 1)) n script 1) (fixed_text n) m Q × (length Q ≡ length (wrapped_rows n script 1))
-fixed_derives other n P d h =
+fixed_read other n P d h =
     let W = has_number (wrapped_rows n script 1) in
     let is = printed W n script 1 0 in
     let o = open_in W n script 1 in
-    let r = text_is_read is (tested_readable is h) in
+    let r = text_is_read is h in
     subst (λ t. (m : Tree) × (Q : List Pair) × SameTree m n × DerivesOpen o t m Q × (length Q ≡ length (wrapped_rows n script 1))) (fixed_items n)
     (layout_derives other n P d (items_text is) r.last o r.follows r.goes_on (omega arith))
+
+-- the test says that they are
+pub fixed_derives : (other : List ℕ) (n : Tree) (P : List Pair) → Derives other n P → stand_apart (printed (has_number (wrapped_rows n script 1)) n script 1 0) ≡ true →
+    (m : Tree) × (Q : List Pair) × SameTree m n × DerivesOpen (open_in (has_number (wrapped_rows n script 1)) n script 1) (fixed_text n) m Q × (length Q ≡ length (wrapped_rows n script 1))
+fixed_derives other n P d h = fixed_read other n P d (tested_readable (printed (has_number (wrapped_rows n script 1)) n script 1 0) h)

@@ -70,7 +70,7 @@ module _ (S : Type 0) (Next : S → Token → S → Type 0) (behind : S → Toke
       allowed u p q = subst (λ x. IsTrue (allows h x u.text)) (sym p) (subst (λ x. IsTrue (allows h c x)) (sym q) al)
 
   -- one name isn't another
-  two_names : {v w : List ℕ} {s m k : S} {t u : Token} → Reads S Next behind Name v s t m → Reads S Next behind Name w s u k → v ≡ w
+  pub two_names : {v w : List ℕ} {s m k : S} {t u : Token} → Reads S Next behind Name v s t m → Reads S Next behind Name w s u k → v ≡ w
   two_names {s = s} {m = m} {k = k} {t = t} {u = u} a b = sym a.text ∙ ap (λ (x : Token). x.text) (det.same Div s t u m k a.next b.next (det.free Div s t m a.next (ap is_free a.class)) (det.free Div s u k b.next (ap is_free b.class))).0 ∙ b.text
 
   -- a gap before a token, and behind it

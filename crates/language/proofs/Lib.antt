@@ -31,6 +31,9 @@ pub mod EndsOf
 pub mod WalkPieces
 pub mod WalkLead
 pub mod WalkNodes
+pub mod BigNumbers
+pub mod RawAgain
+pub mod TokenWords
 pub mod WithinLimits
 pub mod Viewed
 pub mod Spine
@@ -162,3 +165,8 @@ pub mod CoverGroups
 pub mod CoverRests
 pub mod CoverEnds
 pub mod CoverExamples
+pub mod Shorthands
+pub mod EchoPieces
+pub mod EchoTable
+pub mod TextWorded
+pub mod FixedReads

@@ -98,7 +98,7 @@ no_start c h = sym (ascii_start c (let l = closer_plain c h in grind (arith, nat
     plain : (c : ℕ) → is_closer c ≡ true → (one_of "$_" c || Rattle.std.specs.Char.is_ascii_alphabetic c) ≡ false
     plain c h = grind (arith, nat_tests)
 
-number_longest : (w : List ℕ) (c : ℕ) (cs : List ℕ) → IsTrue (is_of Number w) → next_numeral (numeral_behind unread w) c ≡ no_numeral → is_identifier_start c ≡ false → is_decimal_digit c ≡ false →
+pub number_longest : (w : List ℕ) (c : ℕ) (cs : List ℕ) → IsTrue (is_of Number w) → next_numeral (numeral_behind unread w) c ≡ no_numeral → is_identifier_start c ≡ false → is_decimal_digit c ≡ false →
     IsTrue (is_token Number w (c ∷ cs))
 number_longest w c cs h stops start digit =
     whole (is_of Number w) (none_longer Number w (c ∷ cs)) (is_identifier_start c) (is_decimal_digit c) h
@@ -113,7 +113,7 @@ number_longest w c cs h stops start digit =
     at_more : (a : Bool) → a ≡ false → IsFalse (a && true)
     at_more a h = grind (arith, nat_tests)
 
-number_no_comment : (w rest : List ℕ) → IsTrue (is_of Number w) → IsTrue (not (begins_comment (w ++ rest)))
+pub number_no_comment : (w rest : List ℕ) → IsTrue (is_of Number w) → IsTrue (not (begins_comment (w ++ rest)))
 number_no_comment [] rest h = absurd (true_false _ h refl)
 number_no_comment (c ∷ cs) rest h = slash c (begins_with is_decimal_digit cs) (begins_with (one_of "/*") (cs ++ rest)) (number_begins c cs h)
   where

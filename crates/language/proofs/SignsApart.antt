@@ -169,3 +169,10 @@ dot_apart rest c cs e h k = before_front (one_sign 46 (omega arith) refl) rest c
 
 pub chain_apart : (rest : List ℕ) (c : ℕ) (cs : List ℕ) → chars rest ≡ c ∷ cs → is_decimal_digit c ≡ false → Apart Punctuator (codes "?.") rest
 chain_apart rest c cs e k = before_front (two_signs 63 46 (omega arith) (omega arith) refl) rest c cs e refl (ap not k) refl
+
+-- the two parentheses
+pub open_word : Word Punctuator (codes "(")
+open_word = word_of (one_sign 40 (omega arith) refl)
+
+pub close_word : Word Punctuator (codes ")")
+close_word = word_of (one_sign 41 (omega arith) refl)

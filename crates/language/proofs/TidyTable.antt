@@ -23,7 +23,8 @@ use Rattle.language.proofs.Operators.{binding}
 use Rattle.language.proofs.Ranks.{looser_new, looser_refl}
 use Rattle.language.specs.Positions.{roles}
 use Rattle.language.specs.Fits.{lines_up}
-use Rattle.language.proofs.Alike.{AllLike, at_expressions, AlikeAnywhere, standing_at, lines_alike}
+use Rattle.language.proofs.Alike.{AllLike, at_expressions, AlikeAnywhere, standing_at, lines_alike, words_alike}
+use Rattle.language.proofs.SignsApart.{open_word, close_word}
 use Rattle.language.proofs.Alike.{same as same_like, end as end_like, next as next_like}
 use Rattle.language.proofs.Looser.{Looser, same, looser, looser_spine, looser_pattern, end, next}
 use Rattle.language.proofs.Domination.{Tidy, none_at_all, one_way, two_ways, Covers, fits, fits-looser, roles-looser, slot-looser}
@@ -60,7 +61,7 @@ pub new-covers : Covers (at Member new_with) (at New new_without)
 new-covers a c l h = (new-fits l h, next (looser refl refl refl) end)
 
 pub new-alike : AlikeAnywhere (at Member new_with) (at New new_without)
-new-alike b a c = record { roles = next_like at_expressions end_like; lines = lines }
+new-alike b a c = record { roles = next_like at_expressions end_like; lines = lines; words = λ h. (h.0, tt); words_back = λ h. (h.0, (open_word, (close_word, tt))) }
   where
     lines : (ps : Parts) → lines_up (standing_at a new_with) ps ≡ lines_up (standing_at c new_without) ps
     lines none = refl
@@ -103,7 +104,7 @@ pub arrow-covers : (g : Flags) → Covers (at Assignment (bare_arrow g)) (at Ass
 arrow-covers g a c l h = (arrow-fits c g (fits-looser (at Assignment (closed_arrow g comma)) (λ e. omega arith) l h), next (slot-looser (Slot.fixed name) l) (roles-looser (arrow_end g) l))
 
 pub arrow-alike : (g : Flags) → AlikeAnywhere (at Assignment (bare_arrow g)) (at Assignment (closed_arrow g comma))
-arrow-alike g b a c = record { roles = next_like same_like (ends g.expression); lines = lines }
+arrow-alike g b a c = record { roles = next_like same_like (ends g.expression); lines = lines; words = λ h. words_alike a c (arrow_end g) h; words_back = λ h. words_alike c a (arrow_end g) h }
   where
     ends : (t : Bool) → AllLike b (roles (standing_at a (arrow_end (record g { expression = t })))) (roles (standing_at c (arrow_end (record g { expression = t }))))
     ends true = next_like at_expressions end_like

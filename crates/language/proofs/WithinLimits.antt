@@ -8,7 +8,7 @@ use Rattle.language.specs.Layout.{wrapped_rows, has_number, fixed_text}
 use Rattle.language.specs.Printed.{items_text, printed}
 use Rattle.language.specs.Readable.{stand_apart}
 use Rattle.language.proofs.LaidItems.{fixed_items}
-use Rattle.language.proofs.ReadItems.{text_is_read, tested_readable}
+use Rattle.language.proofs.ReadItems.{Readable, text_is_read, tested_readable}
 use Rattle.language.proofs.Counted.{layout_derives}
 use Rattle.language.proofs.OpenBound.{open_bound}
 
@@ -25,20 +25,24 @@ same_height : (m n : Tree) → SameTree m n → height m ≡ height n
 same_height m n h = sym (height_bare m) ∙ ap height h ∙ height_bare n
 
 -- with as many parentheses open as twice the height
-pub fixed_derives_within : (o : ℕ) (other : List ℕ) (n : Tree) (P : List Pair) → DerivesOpen o other n P → stand_apart (printed (has_number (wrapped_rows n script 1)) n script 1 0) ≡ true → (l : ℕ) → height n + height n ≤ l →
+fixed_read_within : (o : ℕ) (other : List ℕ) (n : Tree) (P : List Pair) → DerivesOpen o other n P → Readable (printed (has_number (wrapped_rows n script 1)) n script 1 0) → (l : ℕ) → height n + height n ≤ l →
     (m : Tree) × (Q : List Pair) × SameTree m n × DerivesOpen l (fixed_text n) m Q × (length Q ≡ length (wrapped_rows n script 1))
-fixed_derives_within o other n P d h l low =
+fixed_read_within o other n P d h l low =
     let W = has_number (wrapped_rows n script 1) in
     let is = printed W n script 1 0 in
-    let r = text_is_read is (tested_readable is h) in
+    let r = text_is_read is h in
     let b = open_bound W n script 1 in
     subst (λ t. (m : Tree) × (Q : List Pair) × SameTree m n × DerivesOpen l t m Q × (length Q ≡ length (wrapped_rows n script 1))) (fixed_items n)
     (layout_derives other n P (o, d) (items_text is) r.last l r.follows r.goes_on (omega (arith, b, low)))
 
-pub fixed_within : (other : List ℕ) (n : Tree) (P : List Pair) → WithinLimits other n P → stand_apart (printed (has_number (wrapped_rows n script 1)) n script 1 0) ≡ true →
+pub read_within : (other : List ℕ) (n : Tree) (P : List Pair) → WithinLimits other n P → Readable (printed (has_number (wrapped_rows n script 1)) n script 1 0) →
     (m : Tree) × (Q : List Pair) × SameTree m n × WithinLimits (fixed_text n) m Q × (length Q ≡ length (wrapped_rows n script 1))
-fixed_within other n P d h = limited (fixed_derives_within 1000 other n P d.1 h 1000 (let low = d.0 in omega (arith, low)))
+read_within other n P d h = limited (fixed_read_within 1000 other n P d.1 h 1000 (let low = d.0 in omega (arith, low)))
   where
     limited : (m : Tree) × (Q : List Pair) × SameTree m n × DerivesOpen 1000 (fixed_text n) m Q × (length Q ≡ length (wrapped_rows n script 1)) →
         (m : Tree) × (Q : List Pair) × SameTree m n × WithinLimits (fixed_text n) m Q × (length Q ≡ length (wrapped_rows n script 1))
     limited (m, Q, same, x, counted) = (m, Q, same, (subst (λ k. k ≤ 500) (sym (same_height m n same)) d.0, x), counted)
+
+pub fixed_within : (other : List ℕ) (n : Tree) (P : List Pair) → WithinLimits other n P → stand_apart (printed (has_number (wrapped_rows n script 1)) n script 1 0) ≡ true →
+    (m : Tree) × (Q : List Pair) × SameTree m n × WithinLimits (fixed_text n) m Q × (length Q ≡ length (wrapped_rows n script 1))
+fixed_within other n P d h = read_within other n P d (tested_readable (printed (has_number (wrapped_rows n script 1)) n script 1 0) h)
