@@ -257,7 +257,7 @@ module _ (W : ℕ → Bool) where
         (part_starts n ps a rs r (lead_depth d (standing_at a qs)) (not (W r)) b o (λ c q e i j l. node_starts n c q e i j l) (λ v qs' e. next_start ps v qs' e) tail k (sym (u.lines (part n ps)) ∙ lines)
         (subst (λ xs. parts_fit W (part n ps) xs r ≡ true) u.roles fit) (subst (λ xs. PartsWorded W (part n ps) xs r) u.roles parts))))
 
-    next_start : (ps : Parts) (v : Tree) (qs : Parts) → ps ≡ part v qs → NodeStarts v
+    pub next_start : (ps : Parts) (v : Tree) (qs : Parts) → ps ≡ part v qs → NodeStarts v
     next_start none v qs e = absurd (no_part e refl)
     next_start (gap ps) v qs e = absurd (no_part e refl)
     next_start (part n ps) v qs e = subst NodeStarts (head_part e) (λ c q d i j l. node_starts n c q d i j l)

@@ -30,6 +30,7 @@ pub mod TextBehind
 pub mod EndsOf
 pub mod WalkPieces
 pub mod WalkLead
+pub mod NextFresh
 pub mod WalkNodes
 pub mod BigNumbers
 pub mod RawAgain

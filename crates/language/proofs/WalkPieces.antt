@@ -248,12 +248,8 @@ lead_line a (never ∷ qs) d t is xs h st = absurd (false≢true h)
 lead_line a (lay _ ∷ qs) d t is xs h st = absurd (false≢true h)
 
 -- what is known at the next part
-pub record AtTail (a : Role) (qs : List Piece) (is xs : List Item) : Type 0 where
+pub record AtTail (a : Role) (b : Bool) (qs : List Piece) (is xs : List Item) : Type 0 where
   pub starts : (rs : List Piece) → TailOf a qs rs → leads_part rs ≡ true → Starts is
   pub empty : TailOf a qs [] → is ≡ []
   pub end : Readable xs
-  pub go : (s : Touch) (b o : Bool) (rs : List Piece) → TailOf a qs rs → is_tail rs ≡ true → neat b o s rs ≡ true → can_run rs ≡ true → PieceWords (standing_at a rs) → EndsOk s b rs xs → Readable (is ++ xs) × Behind s rs (is ++ xs)
-
--- at the next part, a sign sees how it begins
-tail_front : (a : Role) (qs : List Piece) (is xs : List Item) → AtTail a qs is xs → leads_part qs ≡ true → Starts is
-tail_front a qs is xs x h = x.starts qs (whole_tail a qs) h
+  pub go : (s : Touch) (o : Bool) (rs : List Piece) → TailOf a qs rs → is_tail rs ≡ true → neat b o s rs ≡ true → can_run rs ≡ true → PieceWords (standing_at a rs) → EndsOk s b rs xs → Readable (is ++ xs) × Behind s rs (is ++ xs)
