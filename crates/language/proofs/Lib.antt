@@ -32,6 +32,9 @@ pub mod WalkPieces
 pub mod WalkLead
 pub mod NextFresh
 pub mod WalkNodes
+pub mod EndTable
+pub mod NodeEnds
+pub mod NodeFronts
 pub mod BigNumbers
 pub mod RawAgain
 pub mod TokenWords

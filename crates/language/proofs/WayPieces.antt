@@ -59,6 +59,7 @@ pub record FirstWay (a : Role) (n : Tree) : Type 0 where
   pub is : first_way (ways a n) ≡ standing_at a spelling.pieces
   pub neat : Rattle.language.proofs.NeatPieces.neat (first_is_open (parts_of n)) false fresh spelling.pieces ≡ true
   pub runs : can_run spelling.pieces ≡ true
+  pub some : some_way (ways a n) ≡ true
 
 record FirstOf (a : Role) (b : Bool) (xs : List Spelling) : Type 0 where
   spelling : Spelling
@@ -91,6 +92,7 @@ first_is_neat a n p s = go (is_lean (bare n)) refl s
           is = subst (λ t. first_way (cond t (ways_of a (spellings a (bare n))) []) ≡ standing_at a u.spelling.pieces) (sym e) u.is;
           neat = subst (λ b. neat b false fresh u.spelling.pieces ≡ true) (open_below n) u.neat;
           runs = u.runs;
+          some = subst (λ t. some_way (cond t (ways_of a (spellings a (bare n))) []) ≡ true) (sym e) s;
         }
 
 -- Pieces from the next part on
