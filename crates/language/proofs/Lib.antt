@@ -35,6 +35,7 @@ pub mod WalkNodes
 pub mod EndTable
 pub mod NodeEnds
 pub mod NodeFronts
+pub mod ReadableScript
 pub mod BigNumbers
 pub mod RawAgain
 pub mod TokenWords
