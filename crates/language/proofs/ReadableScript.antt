@@ -41,10 +41,51 @@ module _ (W : ℕ → Bool) where
     free = starts_free (starts_on (blank (10 ∷ []) ∷ rest) (node_starts W n a r d p f w));
   }
 
-  statements : (b : Bool) (ps qs : Parts) (r d : ℕ) (t : Bool) → qs ≡ bare_parts ps → can_run (statements_then_end b qs) ≡ true → lines_up (standing_at script (statements_then_end b qs)) ps ≡ true →
+  feed_first : (ps : Parts) (qs : List (PieceOf Role)) (r d : ℕ) (t : Bool) → parts_printed W ps (lay feed ∷ qs) r d t ≡ blank (10 ∷ []) ∷ parts_printed W ps qs r d t
+  unfolding parts_printed
+  feed_first none qs r d t = refl
+  feed_first (gap ps) qs r d t = refl
+  feed_first (part n ps) qs r d t = refl
+
+  -- a statement, and those behind it
+  next_statement : (n : Tree) (ps : Parts) (a : Role) (qs : List Piece) (r d : ℕ) (t : Bool) → is_plain a ≡ true → Rattle.language.proofs.NeatPieces.sort_of a ≡ Rattle.language.proofs.NeatPieces.another → fits W n a r ≡ true → Worded W n a r →
+      Lines (parts_printed W ps (standing_at script qs) (r + rows n a) d t) → Lines (printed W n a r d ++ parts_printed W ps (lay feed ∷ standing_at script qs) (r + rows n a) d t)
+  next_statement n ps a qs r d t p sort f w x = subst (λ is. Lines (printed W n a r d ++ is)) (sym (feed_first ps (standing_at script qs) (r + rows n a) d t)) (a_statement n a r d _ p sort f w x)
+
+  statements : (b : Bool) (ps qs : Parts) (r d : ℕ) (t : Bool) → can_run (statements_then_end b qs) ≡ true → lines_up (standing_at script (statements_then_end b qs)) ps ≡ true →
       parts_fit W ps (roles (standing_at script (statements_then_end b qs))) r ≡ true → PartsWorded W ps (roles (standing_at script (statements_then_end b qs))) r →
       Lines (parts_printed W ps (standing_at script (statements_then_end b qs)) r d t)
   unfolding parts_fit PartsWorded parts_printed
-  statements b none none r d t e k l f w = record { readable = a_word end_apart ends; free = refl }
-  statements b (part n ps) (part m qs) r d t e k l f w = ?
-  statements b ps qs r d t e k l f w = ?
+  statements b none none r d t k l f w = record { readable = a_word end_apart ends; free = refl }
+  statements true (part n ps) (part m qs) r d t k l f w =
+      let u = and_parts (fits W n (opening false) r) _ f in
+      next_statement n ps (opening false) (statements_then_end (is_directive m) qs) r d (not (W r)) refl refl u.0 w.0 (statements (is_directive m) ps qs (r + rows n (opening false)) d (not (W r)) k l u.1 w.1.1)
+  statements false (part n ps) (part m qs) r d t k l f w =
+      let u = and_parts (fits W n (item false) r) _ f in
+      next_statement n ps (item false) (statements_then_end false qs) r d (not (W r)) refl refl u.0 w.0 (statements false ps qs (r + rows n (item false)) d (not (W r)) k l u.1 w.1.1)
+  statements b none (part m qs) r d t k l f w = absurd (false≢true l)
+  statements b none (gap qs) r d t k l f w = absurd (false≢true k)
+  statements b (part n ps) none r d t k l f w = absurd (false≢true l)
+  statements b (part n ps) (gap qs) r d t k l f w = absurd (false≢true k)
+  statements b (gap ps) none r d t k l f w = absurd (false≢true l)
+  statements b (gap ps) (part m qs) r d t k l f w = absurd (false≢true l)
+  statements b (gap ps) (gap qs) r d t k l f w = absurd (false≢true k)
+
+abbrev script_ways : Bool → Bool → Parts → List (List (PieceOf Role))
+script_ways t c ps = cond t (Rattle.std.proofs.Common.map (Rattle.language.proofs.Domination.settled script) (cond c (Rattle.language.specs.Pieces.at Rattle.language.specs.declared.Rank.TheVariants.Primary (statements_then_end true (bare_parts ps)) ∷ []) [])) []
+
+-- the items of a script that can be laid out, with words as its tokens
+pub script_readable : (W : ℕ → Bool) (n : Tree) → fits W n script 1 ≡ true → Worded W n script 1 → Readable (printed W n script 1 0)
+unfolding fits Worded printed ways ways_bare spellings
+script_readable W (node kind.Program w g s e ps) f x = lean (is_lean (bare (node kind.Program w g s e ps))) (can_run (statements_then_end true (bare_parts ps))) refl f x
+  where
+    lean : (t c : Bool) → can_run (statements_then_end true (bare_parts ps)) ≡ c → (some_way (script_ways t c ps) && (lines_up (first_way (script_ways t c ps)) ps && parts_fit W ps (first_roles (script_ways t c ps)) 1)) ≡ true →
+        PieceWords (first_way (script_ways t c ps)) × PartsWorded W ps (first_roles (script_ways t c ps)) 1 → Readable (parts_printed W ps (first_way (script_ways t c ps)) 1 0 false)
+    lean true true k f x = let u = and_parts (lines_up (standing_at script (statements_then_end true (bare_parts ps))) ps) _ f in (statements W true ps (bare_parts ps) 1 0 false k u.0 u.1 x.1).readable
+    lean true false k f x = absurd (false≢true f)
+    lean false c k f x = absurd (false≢true f)
+script_readable W (node _ w g s e ps) f x = absurd (no_way _ _ f)
+  where
+    no_way : (t y : Bool) → (some_way (cond {A = List (List (PieceOf Role))} t [] []) && y) ≡ true → ⊥
+    no_way true y h = false≢true h
+    no_way false y h = false≢true h
