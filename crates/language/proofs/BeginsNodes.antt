@@ -1,30 +1,30 @@
 -- The layout of a node begins with a word.
 use Rattle.std.proofs.Common.{◌≡◌, ℕ, zero, suc, ◌+◌, Bool, true, false, cond, not, ◌&&◌, nat_eq, List, [], ◌∷◌, ◌++◌, refl, sym, ap, ◌∙◌, subst, inl, inr, ◌⊎◌}
 use Rattle.std.specs.Prelude.{codes}
-use Rattle.std.proofs.lemmas.Bool.{and_parts, false≢true, true≢false}
+use Rattle.std.proofs.lemmas.Bool.{and_parts, false≢true}
 use Rattle.tokens.specs.declared.token.Class.{Class}
-use Rattle.tokens.specs.declared.token.Class.TheVariants.{Name, Punctuator, End}
+use Rattle.tokens.specs.declared.token.Class.TheVariants.{Punctuator, End}
 use Rattle.tree.specs.Tree.{Tree, node, Parts, none, part, gap, parts_of, text_of, bare}
 use Rattle.tree.specs.Uses.{is_lean}
 use Rattle.tree.specs.declared.kind.Kind.TheVariants as kind
 use Rattle.language.specs.declared.Rank.TheVariants.{Expression}
 use Rattle.language.specs.declared.Start.TheVariants.{Any}
-use Rattle.language.specs.Pieces.{Role, expr, echo, script, Slot, PieceOf, Piece, tok, may, many, ahead, unbroken, ending, open_parameters, close_parameters, sub, absent, never, lay, space, line, feed, deeper, shallower, apart, loose, is_none}
+use Rattle.language.specs.Pieces.{Role, expr, echo, script, PieceOf, Piece, tok, may, many, ahead, unbroken, ending, open_parameters, close_parameters, sub, absent, never, lay, space, line, feed, deeper, shallower, apart, loose}
 use Rattle.language.specs.Grammar.{ways, ways_bare, spellings, can_run, own_rank, own_in, own_start}
 use Rattle.language.specs.Positions.{has_row, rows, roles, first_roles}
 use Rattle.language.specs.Layout.{some_way, inside, lead_depth, behind_part, first_way, next_role}
 use Rattle.language.specs.Fits.{lines_up, fits, parts_fit}
-use Rattle.language.specs.Printed.{Item, word, blank, name_ahead, joined, sign_item, lead_items, printed, parts_printed}
+use Rattle.language.specs.Printed.{Item, word, name_ahead, sign_item, lead_items, printed, parts_printed}
 use Rattle.language.proofs.DerivedFits.{first_roles_are}
 use Rattle.language.proofs.Alike.{standing_at}
-use Rattle.language.proofs.NeatPieces.{Touch, fresh, echoed, neat, first_code, takes_token, takes_part, takes_space, takes_line, takes_joined, takes_apart, takes_loose, takes_sign, is_loose, goes_behind, goes_on_here, echo_followed, leads_part, loose_first, slot_sort, sort_of, behind_token}
+use Rattle.language.proofs.NeatPieces.{fresh, echoed, neat, first_code, takes_token, takes_part, goes_behind, echo_followed, leads_part, loose_first, slot_sort, sort_of}
 use Rattle.language.proofs.NeatPieces.{behind_part as touch_behind}
 use Rattle.language.proofs.NeatExpressions.{first_is_open}
 use Rattle.language.proofs.NeatTable.{is_plain}
 use Rattle.language.proofs.Worded.{PieceWords, NameFirst, name_first, Worded, PartsWorded, Echoed}
 use Rattle.language.proofs.FirstWords.{Starts, a_word_first, a_name_seen, starts_on, word_front, sign_starts, not_end}
 use Rattle.language.proofs.StandsApart.{Word}
-use Rattle.language.proofs.WayPieces.{settled_sort, placed, part_position, FirstWay, first_is_neat, TailOf, whole_tail, is_tail}
+use Rattle.language.proofs.WayPieces.{settled_sort, placed, part_position, first_is_neat, TailOf, whole_tail, is_tail}
 
 not_true : (b : Bool) → not b ≡ true → b ≡ false
 not_true true h = absurd (false≢true h)
@@ -228,6 +228,7 @@ module _ (W : ℕ → Bool) where
   gap_starts ps a (close_parameters ∷ qs) r d b o go tail ok runs lines words fit parts = absurd (false≢true tail)
   gap_starts ps a (never ∷ qs) r d b o go tail ok runs lines words fit parts = absurd (false≢true tail)
   gap_starts ps a (lay w ∷ qs) r d b o go tail ok runs lines words fit parts = absurd (false≢true tail)
+
   mutual
     unfolding fits parts_fit printed parts_printed Worded PartsWorded Echoed
 

@@ -1,9 +1,8 @@
 -- Which spellings of the table end in no number: those of chains, patterns, blocks and names, and of what stands at LeftHandSide or tighter.
-use Rattle.std.proofs.Common.{◌≡◌, ℕ, Bool, true, false, cond, not, ◌&&◌, ◌||◌, List, [], ◌∷◌, ◌++◌, refl, sym, ap, ◌∙◌, subst, map, filter, arith}
+use Rattle.std.proofs.Common.{◌≡◌, ℕ, Bool, true, false, cond, not, ◌&&◌, List, [], ◌∷◌, ◌++◌, refl, sym, ap, ◌∙◌, map, filter, arith}
 use Rattle.std.specs.Prelude.{nat_le, codes}
 use Rattle.std.proofs.lemmas.Bool.{and_parts, and_from, false≢true, true≢false}
 use Rattle.std.proofs.lemmas.Bool.Decides.{nat_tests}
-use Rattle.tokens.specs.declared.token.Class.TheVariants.{Name, Punctuator}
 use Rattle.tree.specs.declared.kind.Kind.{Kind}
 use Rattle.tree.specs.declared.kind.Kind.TheVariants as kind
 use Rattle.tree.specs.declared.kind.Flags.{Flags}
@@ -12,8 +11,7 @@ use Rattle.tree.specs.declared.kind.Form.TheVariants as form
 use Rattle.tree.specs.Tree.{Tree, node, Parts, none, part, gap, kind_of, bare}
 use Rattle.tree.specs.Uses.{is_lean}
 use Rattle.language.specs.FirstPart.{lead as lead_kind, others}
-use Rattle.language.specs.declared.Rank.{Rank}
-use Rattle.language.specs.declared.Rank.TheVariants.{Expression, Member, New, Call, Exponentiation, Assignment}
+use Rattle.language.specs.declared.Rank.TheVariants.{Expression, Member, New, Call, Assignment}
 use Rattle.language.specs.declared.Start.TheVariants.{Any, NoBrace}
 use Rattle.language.specs.Words.{tightness, takes_number, Operator, binds, powers, operators, operator_of, is_reserved, is_super, is_rest, is_word_operator, is_step, is_target, is_prefix, is_assignment, is_pattern, is_identifier, is}
 use Rattle.language.specs.Pieces.{Role, expr, spine, name, word, base, quasi, chunk, pattern, method, body, block, class_body, left, tail, callee, lead_spine, lead, PieceOf, Piece, tok, may, many, ahead, unbroken, ending, open_parameters, close_parameters, sub, absent, never, lay, put, sign, term, sp, Spelling, settle_piece, is_none, argument, listed, elements, parameters, pattern_element, put_at, with_default}
@@ -25,7 +23,7 @@ use Rattle.language.proofs.Domination.{ways_of, settled}
 use Rattle.language.proofs.Domination.{fits as fits_at}
 use Rattle.language.proofs.Alike.{standing_at}
 use Rattle.language.proofs.Operators.{operator_meets}
-use Rattle.language.proofs.NeatPieces.{Sort, sort_of, slot_sort}
+use Rattle.language.proofs.NeatPieces.{Sort, sort_of}
 use Rattle.language.proofs.WayPieces.{settled_sort}
 use Rattle.language.proofs.EndsOf.{shut_class, shut_sort, shut_piece, ends_shut}
 

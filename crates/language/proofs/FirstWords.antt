@@ -1,19 +1,19 @@
 -- The first item of a node's layout is a word, but for a shorthand key, which stands before a name of its text.
-use Rattle.std.proofs.Common.{◌≡◌, ℕ, zero, suc, ◌+◌, ◌<◌, Bool, true, false, cond, not, ◌&&◌, ◌||◌, nat_eq, List, [], ◌∷◌, ◌++◌, refl, sym, ap, ◌∙◌, subst, arith, IsTrue, append_assoc}
+use Rattle.std.proofs.Common.{◌≡◌, ℕ, ◌<◌, Bool, true, false, cond, ◌&&◌, ◌||◌, nat_eq, List, [], ◌∷◌, ◌++◌, refl, sym, ap, ◌∙◌, subst, arith, IsTrue}
 use Rattle.std.specs.Prelude.{◌==◌, codes, slice_index_or}
 use Rattle.std.specs.Str.{chars, IsUtf8}
 use Rattle.std.proofs.Math.Utf8.{encode, encodes}
-use Rattle.std.proofs.lemmas.Str.{chars-append, chars-nil, encodes-chars}
+use Rattle.std.proofs.lemmas.Str.{chars-append, encodes-chars}
 use Rattle.std.proofs.lemmas.Bool.Decides.{nat_tests}
 use Rattle.std.proofs.lemmas.Bool.{and_parts, false≢true, true≢false}
-use Rattle.tokens.specs.Alphabet.{one_of, begins_with, is_identifier_start, is_decimal_digit}
+use Rattle.tokens.specs.Alphabet.{one_of, begins_with, is_decimal_digit}
 use Rattle.tokens.specs.declared.token.Class.{Class}
 use Rattle.tokens.specs.declared.token.Class.TheVariants.{Name, Punctuator, Number, Text, Template, RegExp, End}
 use Rattle.tokens.specs.Lexical.{is_of}
 use Rattle.tokens.proofs.Beginnings.{true_false}
 use Rattle.tokens.proofs.Classes.{number_begins, start_plain, is_special, token_is}
 use Rattle.language.specs.Readable.{on_this_line, joins_none}
-use Rattle.language.specs.Printed.{Item, word, blank, name_ahead, joined, items_text, sign_item}
+use Rattle.language.specs.Printed.{Item, word, name_ahead, items_text}
 use Rattle.language.proofs.ReadItems.{Apart}
 use Rattle.language.proofs.StandsApart.{Word}
 use Rattle.language.proofs.SignsApart.{closed_sign_apart}

@@ -1,14 +1,14 @@
 -- Lists of parts are neat.
 use Rattle.std.proofs.Common.{◌≡◌, Bool, true, false, cond, ◌&&◌, List, [], ◌∷◌, ◌++◌, refl, sym, ap, ◌∙◌, subst, append_assoc}
 use Rattle.std.specs.Prelude.{codes, Some, None}
-use Rattle.tokens.specs.declared.token.Class.TheVariants.{Punctuator, End}
+use Rattle.tokens.specs.declared.token.Class.TheVariants.{Punctuator}
 use Rattle.tree.specs.declared.kind.Kind.{Kind}
 use Rattle.tree.specs.declared.kind.Kind.TheVariants as kind
 use Rattle.tree.specs.Tree.{Tree, node, Parts, none, part, gap, kind_of}
 use Rattle.language.specs.declared.Rank.TheVariants.{Expression, Assignment}
 use Rattle.language.specs.declared.Start.TheVariants.{Any}
 use Rattle.language.specs.Words.{is_rest, is_spread, is_pattern, is_identifier, is_target}
-use Rattle.language.specs.Pieces.{Role, expr, opening, item, member, Piece, tok, may, many, absent, never, lay, line, feed, deeper, shallower, put, put_at, sign, sp, is_none, separator, listed, elements, argument, bound, with_default, pattern_element, parameters, rest, spread, pattern, name}
+use Rattle.language.specs.Pieces.{Role, expr, opening, item, member, Piece, tok, may, many, absent, never, lay, line, deeper, shallower, put, put_at, sign, sp, is_none, separator, listed, elements, argument, bound, with_default, pattern_element, parameters, rest, spread, pattern, name}
 use Rattle.language.specs.Expressions.{object_part, object_pattern_part, chunks, sequence}
 use Rattle.language.specs.Statements.{lines, prologue, declarators, member_lines, is_directive, braced}
 use Rattle.language.proofs.NeatPieces.{Touch, fresh, apart_from, broken, solid, named, valued, closed, stated, dotted, signed, echoed, a_chunk, sort_of, takes_part, is_loose, takes_line, neat, is_item_touch, NeatBehind, is_free, is_item_sort, is_item_piece, neat_item, line_item, nothing_behind, token_comma}

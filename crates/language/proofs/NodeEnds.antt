@@ -1,32 +1,31 @@
 -- What closes a node, by what may stand behind it.
-use Rattle.std.proofs.Common.{◌≡◌, ℕ, Bool, true, false, cond, not, ◌&&◌, ◌||◌, List, [], ◌∷◌, ◌++◌, refl, sym, ap, ◌∙◌, subst}
+use Rattle.std.proofs.Common.{◌≡◌, ℕ, Bool, true, false, cond, List, [], ◌∷◌, refl, sym, ap, ◌∙◌}
 use Rattle.std.specs.Prelude.{nat_le}
-use Rattle.std.proofs.lemmas.Bool.{and_parts, and_from, false≢true, true≢false}
+use Rattle.std.proofs.lemmas.Bool.{and_parts, false≢true, true≢false}
 use Rattle.tokens.specs.declared.token.Class.{Class}
 use Rattle.tokens.specs.declared.token.Class.TheVariants.{Name, Punctuator, Number, Text, Template, RegExp, End}
 use Rattle.tree.specs.declared.kind.Kind.{Kind}
 use Rattle.tree.specs.declared.kind.Kind.TheVariants as kind
-use Rattle.tree.specs.Tree.{Tree, node, Parts, parts_of, kind_of, text_of, bare}
-use Rattle.language.specs.Words.{tightness, is_open_number, literal_class, is_name, among}
+use Rattle.tree.specs.Tree.{Tree, node, parts_of}
+use Rattle.language.specs.Words.{tightness, is_open_number, literal_class}
 use Rattle.language.specs.Pieces.{Role, expr, chunk, spine, name, word, base, quasi, method, pattern, body, class_body, block, echo, script, Slot, Piece, tok, Spelling}
-use Rattle.language.specs.Grammar.{ways, spellings, can_run, template_parts}
+use Rattle.language.specs.Grammar.{ways, spellings, template_parts}
 use Rattle.language.specs.Expressions.{expressions}
 use Rattle.language.specs.Derivation.{Among, first}
-use Rattle.language.specs.Layout.{some_way, first_way}
+use Rattle.language.specs.Layout.{first_way}
 use Rattle.language.specs.Printed.{Item, items_text}
 use Rattle.language.proofs.ReadItems.{Apart}
 use Rattle.language.proofs.StandsApart.{Word, closes, closes_word}
 use Rattle.language.proofs.LiteralsApart.{template_apart}
 use Rattle.language.proofs.BigNumbers.{big_number_apart}
 use Rattle.language.proofs.Alike.{standing_at}
-use Rattle.language.proofs.NeatPieces.{Sort, an_operand, a_tight, a_name, an_ended, a_quasi, a_method, a_chunk, an_echo, a_script, another, fresh, sort_of, neat, goes_behind, behind_token, is_item_touch, takes_token}
-use Rattle.language.proofs.NeatExpressions.{first_is_open, is_open_literal}
-use Rattle.language.proofs.NeatTable.{is_plain}
+use Rattle.language.proofs.NeatPieces.{an_operand, a_tight, fresh, neat, goes_behind, behind_token, is_item_touch, takes_token}
+use Rattle.language.proofs.NeatExpressions.{first_is_open}
 use Rattle.language.proofs.Worded.{PieceWords}
 use Rattle.language.proofs.WayPieces.{FirstWay}
 use Rattle.language.proofs.TextBehind.{last_apart}
-use Rattle.language.proofs.EndsOf.{EndsOk, ends_closes, shut_closes, ends_shut, shut_sort, shut_class}
-use Rattle.language.proofs.EndTable.{way_shut, tight_shut, shut_standing, ends_shut_at, tight_role, is_literal}
+use Rattle.language.proofs.EndsOf.{EndsOk, ends_closes, shut_closes, shut_class}
+use Rattle.language.proofs.EndTable.{way_shut, tight_shut, shut_standing, ends_shut_at}
 use Rattle.language.proofs.WalkNodes.{NodeEnds, After, is_open_node}
 
 -- a literal that `.` doesn't join

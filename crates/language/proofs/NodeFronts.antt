@@ -1,11 +1,11 @@
 -- What a part begins with that may touch what stands before: a template's part, arguments' parenthesis, a name.
-use Rattle.std.proofs.Common.{◌≡◌, ℕ, ◌+◌, ◌<◌, Bool, true, false, cond, not, ◌&&◌, ◌||◌, nat_eq, List, [], ◌∷◌, ◌++◌, refl, sym, ap, ◌∙◌, subst, inl, inr, ◌⊎◌, IsTrue, IsFalse, arith, append_assoc}
+use Rattle.std.proofs.Common.{◌≡◌, ℕ, ◌+◌, Bool, true, false, cond, not, ◌&&◌, nat_eq, List, [], ◌∷◌, ◌++◌, refl, sym, ap, ◌∙◌, subst, inl, inr, ◌⊎◌, IsTrue, arith, append_assoc}
 use Rattle.std.specs.Prelude.{◌==◌, codes}
 use Rattle.std.specs.Str.{chars}
 use Rattle.std.proofs.lemmas.Str.{chars-append}
 use Rattle.std.proofs.lemmas.Bool.Decides.{nat_tests}
-use Rattle.std.proofs.lemmas.Bool.{and_parts, false≢true, true≢false}
-use Rattle.tokens.specs.Alphabet.{one_of, is_decimal_digit}
+use Rattle.std.proofs.lemmas.Bool.{and_parts, false≢true}
+use Rattle.tokens.specs.Alphabet.{is_decimal_digit}
 use Rattle.tokens.specs.Lexical.{is_of}
 use Rattle.tokens.specs.declared.token.Class.{Class}
 use Rattle.tokens.specs.declared.token.Class.TheVariants.{Name, Punctuator, Template}
@@ -13,8 +13,8 @@ use Rattle.tokens.proofs.Beginnings.{true_false}
 use Rattle.tokens.proofs.Classes.{start_plain, is_special}
 use Rattle.tree.specs.declared.kind.Kind.{Kind}
 use Rattle.tree.specs.declared.kind.Kind.TheVariants as kind
-use Rattle.tree.specs.Tree.{Tree, node, Parts, none, part, gap, parts_of, kind_of, bare, bare_parts}
-use Rattle.language.specs.Pieces.{Role, PieceOf, Piece, tok, sub, absent, name, word, base, quasi, method, chunk, expr, Spelling, only, put, sign}
+use Rattle.tree.specs.Tree.{Tree, node, Parts, none, part, gap, kind_of, bare_parts}
+use Rattle.language.specs.Pieces.{Role, PieceOf, Piece, tok, absent, name, word, base, quasi, method, chunk, expr, Spelling, only, put, sign}
 use Rattle.language.specs.declared.Rank.TheVariants.{Expression}
 use Rattle.language.specs.declared.Start.TheVariants.{Any}
 use Rattle.tree.specs.declared.kind.Form.{Form}
@@ -30,14 +30,13 @@ use Rattle.language.specs.Printed.{Item, items_text, printed, parts_printed}
 use Rattle.language.specs.Fits.{fits, lines_up, parts_fit}
 use Rattle.language.proofs.StandsApart.{Word, closes}
 use Rattle.language.proofs.Alike.{standing_at}
-use Rattle.language.proofs.NeatTable.{is_plain}
 use Rattle.language.proofs.NeatPieces.{Sort, a_tight, an_operand, a_name, a_quasi, a_method, a_chunk, sort_of}
 use Rattle.language.proofs.Worded.{PieceWords, Worded}
-use Rattle.language.proofs.WayPieces.{FirstWay, first_is_neat}
-use Rattle.language.proofs.FirstWords.{Starts, starts_on}
+use Rattle.language.proofs.WayPieces.{first_is_neat}
+use Rattle.language.proofs.FirstWords.{starts_on}
 use Rattle.language.proofs.BeginsNodes.{node_starts}
 use Rattle.language.proofs.TextBehind.{Undotted}
-use Rattle.language.proofs.WalkNodes.{Fronts, NodeFronts}
+use Rattle.language.proofs.WalkNodes.{NodeFronts}
 
 -- the first piece is such a token
 data TokenFirst (c : Class) (w : List ℕ) : List Item → Type 0 where

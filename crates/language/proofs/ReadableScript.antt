@@ -6,18 +6,17 @@ use Rattle.tree.specs.declared.kind.Kind.TheVariants as kind
 use Rattle.tree.specs.Tree.{Tree, node, Parts, none, part, gap, bare, bare_parts}
 use Rattle.tree.specs.Uses.{is_lean}
 use Rattle.language.specs.Pieces.{Role, script, item, opening, PieceOf, Piece, tok, lay, feed, never, sub, put, Spelling}
-use Rattle.language.specs.Grammar.{ways, ways_bare, spellings, can_run, own_rank, own_in, own_start}
+use Rattle.language.specs.Grammar.{ways, ways_bare, spellings, can_run}
 use Rattle.language.specs.Statements.{prologue, is_directive}
-use Rattle.language.specs.Positions.{has_row, rows, roles, first_roles}
+use Rattle.language.specs.Positions.{rows, roles, first_roles}
 use Rattle.language.specs.Layout.{some_way, first_way}
 use Rattle.language.specs.Fits.{lines_up, fits, parts_fit}
 use Rattle.language.specs.Readable.{joins_none}
-use Rattle.language.specs.Printed.{Item, word, blank, items_text, printed, parts_printed}
-use Rattle.language.proofs.DerivedFits.{first_roles_are}
+use Rattle.language.specs.Printed.{Item, blank, items_text, printed, parts_printed}
 use Rattle.language.proofs.ReadItems.{Readable, ends, a_word, a_gap, end_apart}
 use Rattle.language.proofs.Alike.{standing_at}
 use Rattle.language.proofs.NeatTable.{is_plain}
-use Rattle.language.proofs.Worded.{PieceWords, Worded, PartsWorded, Echoed}
+use Rattle.language.proofs.Worded.{PieceWords, Worded, PartsWorded}
 use Rattle.language.proofs.FirstWords.{starts_on, starts_free}
 use Rattle.language.proofs.BeginsNodes.{node_starts}
 use Rattle.language.proofs.WalkPieces.{line_gap, line_precedes}

@@ -1,20 +1,19 @@
 -- The items of a node are readable, where those behind are and may stand there.
-use Rattle.std.proofs.Common.{◌≡◌, ℕ, zero, suc, ◌+◌, Bool, true, false, cond, not, ◌&&◌, ◌||◌, nat_eq, List, [], ◌∷◌, ◌++◌, refl, sym, ap, ◌∙◌, subst, arith, append_assoc, inl, inr, ◌⊎◌}
+use Rattle.std.proofs.Common.{◌≡◌, ℕ, suc, ◌+◌, Bool, true, false, cond, not, ◌&&◌, nat_eq, List, [], ◌∷◌, ◌++◌, refl, sym, ap, ◌∙◌, subst, arith, append_assoc, inl, inr, ◌⊎◌}
 use Rattle.std.specs.Prelude.{codes}
-use Rattle.std.proofs.lemmas.Bool.{and_parts, and_from, false≢true, true≢false}
-use Rattle.tokens.specs.declared.token.Class.TheVariants.{Name, Punctuator}
+use Rattle.std.proofs.lemmas.Bool.{and_parts, false≢true, true≢false}
+use Rattle.tokens.specs.declared.token.Class.TheVariants.{Name}
 use Rattle.tree.specs.Tree.{Tree, node, Parts, none, part, gap, parts_of, text_of, kind_of}
 use Rattle.language.specs.declared.Rank.TheVariants.{Expression}
 use Rattle.language.specs.declared.Start.TheVariants.{Any}
-use Rattle.language.specs.Pieces.{Role, expr, echo, script, Slot, PieceOf, Piece, tok, may, many, ahead, unbroken, ending, open_parameters, close_parameters, sub, absent, never, lay}
+use Rattle.language.specs.Pieces.{Role, expr, echo, Slot, Piece, tok, may, many, ahead, unbroken, ending, open_parameters, close_parameters, sub, absent, never, lay}
 use Rattle.language.specs.Grammar.{ways, can_run, own_rank, own_in, own_start}
 use Rattle.language.specs.Positions.{has_row, rows, roles, first_roles}
 use Rattle.language.specs.Layout.{some_way, inside, lead_depth, behind_part, first_way, next_role}
 use Rattle.language.specs.Fits.{lines_up, fits, parts_fit}
-use Rattle.language.specs.Printed.{Item, word, blank, name_ahead, joined, items_text, sign_item, lead_items, printed, parts_printed}
-use Rattle.language.specs.Readable.{joins_none}
+use Rattle.language.specs.Printed.{Item, word, name_ahead, items_text, sign_item, printed, parts_printed}
 use Rattle.language.proofs.DerivedFits.{first_roles_are}
-use Rattle.language.proofs.ReadItems.{Readable, ends, a_word, a_name}
+use Rattle.language.proofs.ReadItems.{Readable, a_word, a_name}
 use Rattle.language.proofs.StandsApart.{closes, closes_word}
 use Rattle.language.proofs.SignsApart.{closed_sign_apart}
 use Rattle.language.proofs.Alike.{standing_at}
@@ -23,12 +22,12 @@ use Rattle.language.proofs.NeatPieces.{behind_part as touch_behind}
 use Rattle.language.proofs.NeatExpressions.{first_is_open, is_open_literal}
 use Rattle.language.proofs.NeatTable.{is_plain}
 use Rattle.language.proofs.Worded.{PieceWords, NameFirst, name_first, Worded, PartsWorded, Echoed}
-use Rattle.language.proofs.FirstWords.{Starts, starts_on, starts_free, starts_front}
-use Rattle.language.proofs.WayPieces.{settled_sort, placed, part_position, FirstWay, first_is_neat, TailOf, whole_tail, is_tail}
+use Rattle.language.proofs.FirstWords.{Starts, starts_free, starts_front}
+use Rattle.language.proofs.WayPieces.{settled_sort, placed, part_position, FirstWay, first_is_neat, is_tail}
 use Rattle.language.proofs.BeginsNodes.{echo_items, node_starts, part_starts, next_start}
 use Rattle.language.proofs.TextBehind.{Behind, Undotted, closes_any}
 use Rattle.language.proofs.EndsOf.{EndsOk, ends_closes}
-use Rattle.language.proofs.WalkPieces.{Seen, AtTail, skip_behind}
+use Rattle.language.proofs.WalkPieces.{Seen, skip_behind}
 use Rattle.language.proofs.WalkLead.{walk_lead}
 use Rattle.language.proofs.NextFresh.{next_fresh}
 
@@ -225,7 +224,7 @@ module _ (W : ℕ → Bool) (node_ends : NodeEnds) (node_fronts : NodeFronts W) 
       let close = sign_item (codes ")") ∷ xs in
       let r' : Readable close = a_word (closed_sign_apart (codes ")") (items_text xs) refl) reads in
       let m : Readable (X ++ close) = bare_walk n E (suc r) d close refl go some lines (subst (λ q. parts_fit W (parts_of n) (first_roles (ways E n)) q ≡ true) z fit) words (subst (λ q. PartsWorded W (parts_of n) (first_roles (ways E n)) q) z parts) r'
-          (λ x w. ends_closes E fresh (first_is_open (parts_of n)) false x.spelling.pieces close x.neat x.runs w refl) in
+      (λ x w. ends_closes E fresh (first_is_open (parts_of n)) false x.spelling.pieces close x.neat x.runs w refl) in
       subst (λ is. Readable (sign_item (codes "(") ∷ is)) (sym (append_assoc X (sign_item (codes ")") ∷ []) xs)) (a_word (closed_sign_apart (codes "(") (items_text (X ++ close)) refl) m)
   a_node n _ r d true xs is p go some lines fit words parts reads after = absurd (false≢true is)
 
@@ -263,9 +262,10 @@ module _ (W : ℕ → Bool) (node_ends : NodeEnds) (node_fronts : NodeFronts W) 
   at_position n ps a x qs e r d b o s xs walk (inl p) takes followed ok lines fit others words flag seen =
       let rest = parts_printed W ps (standing_at a qs) (r + rows n e) d (not (W r)) in
       let j = append_assoc (printed W n e r d) rest xs in
-      subst (λ is. Readable is × Behind s (sub x ∷ qs) is) (sym j)
-      (walk e r d (rest ++ xs) p fit words.0 seen.readable (λ h. after_of b (sort_of e) (is_open_node n) qs (rest ++ xs) flag (seen.behind (λ l v. unwrapped_loose e b (W r) h v))),
-      part_behind s e x qs (printed W n e r d ++ (rest ++ xs)) takes (node_fronts n e r d (rest ++ xs) p fit words.0))
+      subst (λ is. Readable is × Behind s (sub x ∷ qs) is) (sym j) (
+        walk e r d (rest ++ xs) p fit words.0 seen.readable (λ h. after_of b (sort_of e) (is_open_node n) qs (rest ++ xs) flag (seen.behind (λ l v. unwrapped_loose e b (W r) h v))),
+        part_behind s e x qs (printed W n e r d ++ (rest ++ xs)) takes (node_fronts n e r d (rest ++ xs) p fit words.0),
+      )
   at_position n ps a x qs e r d b o s xs walk (inr p) takes followed ok lines fit others words flag seen =
       subst (λ e. takes_part s (sort_of e) ≡ true → echo_followed (sort_of e) qs ≡ true → fits W n e r ≡ true → Echoed W e n ps (roles (standing_at a qs)) (r + rows n e) →
       Readable (parts_printed W ps (standing_at a qs) (r + rows n e) d (not (W r)) ++ xs) →

@@ -1,28 +1,24 @@
 -- The items of pieces up to the next part are readable, where those behind are.
-use Rattle.std.proofs.Common.{◌≡◌, ℕ, zero, suc, ◌+◌, ◌<◌, Bool, true, false, cond, not, ◌&&◌, ◌||◌, nat_eq, List, [], ◌∷◌, ◌++◌, refl, sym, ap, ◌∙◌, subst, arith}
-use Rattle.std.specs.Prelude.{codes, slice_index_or, replicate}
+use Rattle.std.proofs.Common.{◌≡◌, ℕ, zero, suc, Bool, true, false, cond, not, ◌||◌, nat_eq, List, [], ◌∷◌, ◌++◌, refl, sym, ap, ◌∙◌, arith}
+use Rattle.std.specs.Prelude.{slice_index_or, replicate}
 use Rattle.std.specs.List.{list_any, list_all}
-use Rattle.std.specs.Str.{chars, IsAscii}
+use Rattle.std.specs.Str.{IsAscii}
 use Rattle.std.proofs.lemmas.Str.{chars-IsAscii, chars-nil, IsUtf8-from_ascii}
-use Rattle.std.proofs.lemmas.Bool.{and_parts, and_from, false≢true, true≢false}
+use Rattle.std.proofs.lemmas.Bool.{and_from, false≢true, true≢false}
 use Rattle.std.proofs.lemmas.Bool.Decides.{nat_tests}
-use Rattle.tokens.specs.declared.token.Class.{Class}
-use Rattle.tokens.specs.declared.token.Class.TheVariants.{Name, Punctuator}
-use Rattle.tree.specs.Tree.{Parts, none}
 use Rattle.language.specs.Pieces.{Role, Slot, PieceOf, Piece, tok, may, many, ahead, unbroken, ending, open_parameters, close_parameters, sub, absent, never, lay, space, line, feed, deeper, shallower, apart, loose}
 use Rattle.language.specs.Grammar.{can_run}
-use Rattle.language.specs.Layout.{indent}
 use Rattle.language.specs.Readable.{is_blank, breaks, on_this_line, joins_none, may_precede}
-use Rattle.language.specs.Printed.{Item, word, blank, name_ahead, joined, items_text, sign_item, lead_items}
-use Rattle.language.proofs.ReadItems.{Apart, IsGap, Readable, ends, a_word, a_gap, a_line, readable_utf8}
-use Rattle.language.proofs.StandsApart.{closes, closes_word}
+use Rattle.language.specs.Printed.{Item, blank, joined, items_text, sign_item, lead_items}
+use Rattle.language.proofs.ReadItems.{IsGap, Readable, a_word, a_gap}
+use Rattle.language.proofs.StandsApart.{closes_word}
 use Rattle.language.proofs.SignsApart.{closed_sign_apart}
 use Rattle.language.proofs.Alike.{standing_at}
-use Rattle.language.proofs.NeatPieces.{Touch, fresh, apart_from, broken, solid, named, valued, closed, stated, dotted, signed, echoed, slot_sort, behind_part, takes_token, takes_part, takes_sign, takes_space, takes_line, takes_joined, takes_apart, takes_loose, is_loose, is_valued, goes_on_here, loose_first, leads_part, echo_followed, goes_behind, behind_token, is_item_touch, neat}
+use Rattle.language.proofs.NeatPieces.{Touch, fresh, apart_from, broken, solid, named, valued, closed, stated, dotted, signed, echoed, takes_space, takes_line, takes_joined, takes_apart, takes_loose, is_loose, is_valued, goes_on_here, loose_first, leads_part, neat}
 use Rattle.language.proofs.Worded.{PieceWords}
 use Rattle.language.proofs.FirstWords.{FrontIs, Starts, starts_on, starts_line, a_word_first, a_name_seen}
 use Rattle.language.proofs.WayPieces.{TailOf, whole_tail, is_tail}
-use Rattle.language.proofs.TextBehind.{Behind, BehindSign, SpaceFirst, space_first, SpaceOr, a_space, another_front, Undotted, undotted_code, token_apart, token_unvalued, token_behind, sign_behind}
+use Rattle.language.proofs.TextBehind.{Behind, space_first, a_space, another_front, undotted_code}
 use Rattle.language.proofs.EndsOf.{EndsOk}
 
 -- Blanks

@@ -1,13 +1,11 @@
 -- The first way of a node as pieces of the table that are neat, and its pieces from the next part on.
-use Rattle.std.proofs.Common.{◌≡◌, ℕ, Bool, true, false, cond, not, ◌&&◌, List, [], ◌∷◌, refl, sym, ap, ◌∙◌, subst, map, filter, ◌⊎◌, inl, inr}
-use Rattle.std.specs.Prelude.{nat_le}
-use Rattle.std.proofs.lemmas.Bool.{and_parts, and_from, false≢true}
+use Rattle.std.proofs.Common.{◌≡◌, Bool, true, false, cond, List, [], ◌∷◌, refl, sym, subst, map, filter, ◌⊎◌, inl, inr}
+use Rattle.std.proofs.lemmas.Bool.{and_parts, false≢true}
 use Rattle.tree.specs.Tree.{Tree, node, Parts, none, part, gap, parts_of, bare}
 use Rattle.tree.specs.Uses.{is_lean}
 use Rattle.language.specs.declared.Rank.{Rank}
 use Rattle.language.specs.declared.Start.{Start}
-use Rattle.language.specs.Words.{tightness}
-use Rattle.language.specs.Pieces.{Role, expr, echo, script, Slot, fixed, left, lead, tail, callee, lead_spine, lead_pattern, settle, is_tight, PieceOf, Piece, tok, may, many, ahead, unbroken, ending, open_parameters, close_parameters, sub, absent, never, lay, Spelling}
+use Rattle.language.specs.Pieces.{Role, expr, echo, script, Slot, fixed, left, lead, tail, callee, lead_spine, lead_pattern, settle, is_tight, Piece, sub, absent, Spelling}
 use Rattle.language.specs.Grammar.{ways, ways_bare, spellings, can_run, fits_position, own_rank, own_in, own_start}
 use Rattle.language.specs.Positions.{roles}
 use Rattle.language.specs.Derivation.{Among, first, later}
