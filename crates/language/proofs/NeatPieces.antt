@@ -165,11 +165,6 @@ abbrev pub is_valued : Touch → Bool
 is_valued valued = true
 is_valued _ = false
 
--- something of this node stands before
-abbrev pub is_begun : Touch → Bool
-is_begun fresh = false
-is_begun _ = true
-
 -- what stands on the same line follows
 abbrev pub goes_on_here : {R : Type 0} → List (PieceOf R) → Bool
 goes_on_here (tok c w ∷ qs) = true
@@ -256,39 +251,9 @@ neat b o s (lay h ∷ qs) = neat b o s qs
 abbrev pub NeatBehind : Bool → List Piece → Type 0
 NeatBehind o ys = (b : Bool) (s : Touch) → is_item_touch s ≡ true → neat b o s ys ≡ true
 
-pub item_begun : (s : Touch) → is_item_touch s ≡ true → is_begun s ≡ true
-item_begun apart_from h = refl
-item_begun solid h = refl
-item_begun named h = refl
-item_begun valued h = refl
-item_begun stated h = refl
-item_begun closed h = refl
-item_begun fresh h = h
-item_begun dotted h = refl
-item_begun signed h = refl
-item_begun echoed h = refl
-item_begun broken h = refl
-
 -- nothing more is neat behind an item
 pub nothing_behind : NeatBehind false []
 nothing_behind b s h = ap (λ t. t && true) h
-
-pub sign_begun : (w : List ℕ) → is_begun (behind_sign w) ≡ true
-sign_begun w = of (is_one_of_words closed_signs w) (is_one_of_words ("." ∷ "?." ∷ []) w)
-  where
-    of : (x y : Bool) → is_begun (cond x solid (cond y dotted signed)) ≡ true
-    of true y = refl
-    of false true = refl
-    of false false = refl
-
-pub token_begun : (c : Class) (w : List ℕ) → is_begun (behind_token c w) ≡ true
-token_begun Punctuator w = sign_begun w
-token_begun Name w = refl
-token_begun Template w = refl
-token_begun Class.Number w = refl
-token_begun Class.Text w = refl
-token_begun Class.RegExp w = refl
-token_begun Class.End w = refl
 
 -- before an item
 abbrev pub is_free : Touch → Bool
