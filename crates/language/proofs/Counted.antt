@@ -15,10 +15,9 @@ use Rattle.language.specs.Layout.{wants_pair, inside, wrapped_rows, parts_wrappe
 use Rattle.language.specs.Fits.{fits, Marks, PartsMark}
 use Rattle.language.specs.Printed.{items_text, printed, open_in, pair_count, parts_pair_count, Follows, GoesOn}
 use Rattle.language.proofs.Marked.{wrapped_marks, text_fits}
-use Rattle.language.specs.Readable.{stand_apart}
 use Rattle.language.proofs.PrintedSpells.{printed_spells}
 use Rattle.language.proofs.LaidItems.{fixed_items}
-use Rattle.language.proofs.ReadItems.{Readable, text_is_read, tested_readable}
+use Rattle.language.proofs.ReadItems.{Readable, text_is_read}
 
 module _ (W : ℕ → Bool) where
   own_pair : (t b : Bool) (r : ℕ) (below : List ℕ) (x : ℕ) → t ≡ b → x ≡ length below → cond t 1 0 + x ≡ length (cond b (r ∷ []) [] ++ below)
@@ -66,8 +65,3 @@ fixed_read other n P d h =
     let r = text_is_read is h in
     subst (λ t. (m : Tree) × (Q : List Pair) × SameTree m n × DerivesOpen o t m Q × (length Q ≡ length (wrapped_rows n script 1))) (fixed_items n)
     (layout_derives other n P d (items_text is) r.last o r.follows r.goes_on (omega arith))
-
--- the test says that they are
-pub fixed_derives : (other : List ℕ) (n : Tree) (P : List Pair) → Derives other n P → stand_apart (printed (has_number (wrapped_rows n script 1)) n script 1 0) ≡ true →
-    (m : Tree) × (Q : List Pair) × SameTree m n × DerivesOpen (open_in (has_number (wrapped_rows n script 1)) n script 1) (fixed_text n) m Q × (length Q ≡ length (wrapped_rows n script 1))
-fixed_derives other n P d h = fixed_read other n P d (tested_readable (printed (has_number (wrapped_rows n script 1)) n script 1 0) h)

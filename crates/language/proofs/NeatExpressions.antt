@@ -1,7 +1,9 @@
 -- Spellings of expressions are neat.
-use Rattle.std.proofs.Common.{◌≡◌, ℕ, Bool, true, false, cond, not, ◌&&◌, List, [], ◌∷◌, ◌++◌, refl, sym, ap, ◌∙◌, subst}
+use Rattle.std.proofs.Common.{◌≡◌, ℕ, Bool, true, false, cond, not, ◌&&◌, ◌||◌, nat_eq, List, [], ◌∷◌, ◌++◌, refl, sym, ap, ◌∙◌, subst}
 use Rattle.std.specs.Prelude.{nat_le}
 use Rattle.std.proofs.lemmas.Bool.{false≢true, true≢false}
+use Rattle.std.proofs.lemmas.Bool.{and_from}
+use Rattle.tokens.specs.declared.token.Class.{Class}
 use Rattle.tokens.specs.declared.token.Class.TheVariants.{Name, Punctuator}
 use Rattle.tree.specs.declared.kind.Kind.{Kind}
 use Rattle.tree.specs.declared.kind.Kind.TheVariants as kind
@@ -12,9 +14,9 @@ use Rattle.language.specs.declared.Rank.{Rank}
 use Rattle.language.specs.declared.Rank.TheVariants.{Assignment, Unary, Update, LeftHandSide, Call, Member, Exponentiation, New}
 use Rattle.language.specs.declared.Start.TheVariants.{Any, NoBrace}
 use Rattle.language.specs.Words.{is, is_reserved, is_name, literal_class, is_open_number, is_super, is_step, is_target, is_prefix, is_word_operator, is_pattern, is_assignment, is_identifier, among, tightness, Operator, binds, powers, operator_of}
-use Rattle.language.specs.Pieces.{expr, name, word, quasi, body, left, lead, tail, callee, Piece, tok, unbroken, open_parameters, close_parameters, sub, lay, apart, loose, put, sign, term, sp, Spelling, at, is_none, argument, parameters}
+use Rattle.language.specs.Pieces.{Slot, expr, name, word, quasi, body, left, lead, tail, callee, Piece, tok, unbroken, open_parameters, close_parameters, sub, lay, apart, loose, put, sign, term, sp, Spelling, at, is_none, argument, parameters}
 use Rattle.language.specs.Expressions.{expressions, arguments, in_brackets, selector, after_number, first_chained, member_link, call_link, linked, spines, function_pieces, class_pieces, arrow_end, arrows, infix_pieces, binary_ways, logical_ways, object_part, lead_is}
-use Rattle.language.proofs.NeatPieces.{Touch, fresh, apart_from, solid, named, valued, closed, dotted, signed, echoed, Sort, rank_sort, takes_space, behind_part, behind_sign, neat, is_begun, sign_begun, token_begun, is_item_touch, NeatBehind}
+use Rattle.language.proofs.NeatPieces.{Touch, fresh, apart_from, broken, solid, named, valued, closed, stated, dotted, signed, echoed, Sort, rank_sort, takes_space, behind_part, behind_sign, neat, is_signed, echo_followed, is_item_touch, NeatBehind}
 use Rattle.language.specs.Words.{does_step, operators}
 use Rattle.language.proofs.Begins.{among_by}
 use Rattle.language.proofs.Operators.{text_among}
@@ -38,33 +40,39 @@ bracket_end b apart_from h = refl
 bracket_end b solid h = refl
 bracket_end b named h = refl
 bracket_end b valued h = refl
+bracket_end b stated h = refl
 bracket_end b closed h = refl
 bracket_end b fresh h = cc h
 bracket_end b dotted h = cc h
 bracket_end b signed h = cc h
 bracket_end b echoed h = cc h
+bracket_end b broken h = cc h
 
 pub list_brace_end : NeatBehind false (sign "}" ∷ [])
 list_brace_end b apart_from h = refl
 list_brace_end b solid h = refl
 list_brace_end b named h = refl
 list_brace_end b valued h = refl
+list_brace_end b stated h = refl
 list_brace_end b closed h = refl
 list_brace_end b fresh h = cc h
 list_brace_end b dotted h = cc h
 list_brace_end b signed h = cc h
 list_brace_end b echoed h = cc h
+list_brace_end b broken h = cc h
 
 pub close_end : NeatBehind false (sign ")" ∷ [])
 close_end b apart_from h = refl
 close_end b solid h = refl
 close_end b named h = refl
 close_end b valued h = refl
+close_end b stated h = refl
 close_end b closed h = refl
 close_end b fresh h = cc h
 close_end b dotted h = cc h
 close_end b signed h = cc h
 close_end b echoed h = cc h
+close_end b broken h = cc h
 
 -- behind parameters: the body
 pub body_end : NeatBehind false (sign ")" ∷ sp ∷ put body ∷ [])
@@ -72,11 +80,13 @@ body_end b apart_from h = refl
 body_end b solid h = refl
 body_end b named h = refl
 body_end b valued h = refl
+body_end b stated h = refl
 body_end b closed h = refl
 body_end b fresh h = cc h
 body_end b dotted h = cc h
 body_end b signed h = cc h
 body_end b echoed h = cc h
+body_end b broken h = cc h
 
 -- arguments behind a part
 pub neat_arguments : (b : Bool) (s : Touch) (ps : Parts) → is_item_touch s ≡ true → neat b false s (arguments ps) ≡ true
@@ -84,11 +94,13 @@ neat_arguments b apart_from ps h = neat_listed argument neat_argument ps b false
 neat_arguments b solid ps h = neat_listed argument neat_argument ps b false solid (sign ")" ∷ []) refl close_end
 neat_arguments b named ps h = neat_listed argument neat_argument ps b false solid (sign ")" ∷ []) refl close_end
 neat_arguments b valued ps h = neat_listed argument neat_argument ps b false solid (sign ")" ∷ []) refl close_end
+neat_arguments b stated ps h = neat_listed argument neat_argument ps b false solid (sign ")" ∷ []) refl close_end
 neat_arguments b closed ps h = neat_listed argument neat_argument ps b false solid (sign ")" ∷ []) refl close_end
 neat_arguments b fresh ps h = cc h
 neat_arguments b dotted ps h = cc h
 neat_arguments b signed ps h = cc h
 neat_arguments b echoed ps h = cc h
+neat_arguments b broken ps h = cc h
 
 pub tight_item : (b : Bool) → is_item_touch (cond b valued closed) ≡ true
 tight_item true = refl
@@ -97,7 +109,7 @@ tight_item false = refl
 pub neat_function : (b : Bool) (ps : Parts) → neat b false fresh (function_pieces ps) ≡ true
 neat_function b none = refl
 neat_function b (part n ps) = neat_parameters ps true false solid (sign ")" ∷ sp ∷ put body ∷ []) refl body_end
-neat_function b (gap ps) = neat_parameters ps b false solid (sign ")" ∷ sp ∷ put body ∷ []) refl body_end
+neat_function b (gap ps) = neat_parameters ps true false solid (sign ")" ∷ sp ∷ put body ∷ []) refl body_end
 
 pub neat_class : (b : Bool) (ps : Parts) → neat b false fresh (class_pieces ps) ≡ true
 neat_class b none = refl
@@ -122,24 +134,29 @@ neat_arrow_end o b s g h = of s g.expression h
     of named true h = refl
     of named false h = refl
     of valued true h = refl
+    of stated true h = refl
     of valued false h = refl
+    of stated false h = refl
     of closed true h = refl
     of closed false h = refl
     of fresh t h = cc h
     of dotted t h = cc h
     of signed t h = cc h
     of echoed t h = cc h
+    of broken t h = cc h
 
 arrow_closed : (g : Flags) → NeatBehind true (close_parameters ∷ arrow_end g)
 arrow_closed g b apart_from h = neat_arrow_end true b solid g refl
 arrow_closed g b solid h = neat_arrow_end true b solid g refl
 arrow_closed g b named h = neat_arrow_end true b solid g refl
 arrow_closed g b valued h = neat_arrow_end true b solid g refl
+arrow_closed g b stated h = neat_arrow_end true b solid g refl
 arrow_closed g b closed h = neat_arrow_end true b solid g refl
 arrow_closed g b fresh h = cc h
 arrow_closed g b dotted h = cc h
 arrow_closed g b signed h = cc h
 arrow_closed g b echoed h = cc h
+arrow_closed g b broken h = cc h
 
 open_arrow : (b : Bool) (g : Flags) (ps : Parts) → neat b false fresh (open_parameters ∷ parameters (close_parameters ∷ arrow_end g) ps) ≡ true
 open_arrow b g ps = neat_parameters ps b true solid (close_parameters ∷ arrow_end g) refl (arrow_closed g)
@@ -170,9 +187,13 @@ space_behind_sign w = of (Rattle.tokens.specs.Lexical.is_one_of_words Rattle.lan
 neat_infix : (b o : Bool) (s : Touch) (w : List ℕ) (qs : List Piece) → takes_space s ≡ true → neat b o apart_from qs ≡ true → neat b o s (infix_pieces w ++ qs) ≡ true
 neat_infix b o s w qs h k = ap (λ t. t && neat b o apart_from (tok (cond (is_word_operator w) Name Punctuator) w ∷ sp ∷ qs)) h ∙ of (is_word_operator w)
   where
+    any : (x : Bool) → (x || true) ≡ true
+    any true = refl
+    any false = refl
+
     of : (t : Bool) → neat b o apart_from (tok (cond t Name Punctuator) w ∷ sp ∷ qs) ≡ true
     of true = k
-    of false = ap (λ t. t && neat b o apart_from qs) (space_behind_sign w) ∙ k
+    of false = and_from _ _ (any (not (is_signed (behind_sign w)))) (and_from _ _ (space_behind_sign w) k)
 
 space_behind_rank : (b : Bool) (y : Rank) → takes_space (behind_part b (rank_sort y)) ≡ true
 space_behind_rank b y = of b (nat_le 18 (tightness y))
@@ -186,12 +207,19 @@ space_behind_rank b y = of b (nat_le 18 (tightness y))
 rank_end : (q : Rank) → neat true false apart_from (sub (tail q Any) ∷ []) ≡ true
 rank_end q = of (nat_le 18 (tightness q))
   where
-    of : (t : Bool) → is_begun (behind_part true (cond t Sort.a_tight Sort.an_operand)) && true ≡ true
+    of : (t : Bool) → (echo_followed {R = Slot} (cond t Sort.a_tight Sort.an_operand) [] && (is_item_touch (behind_part true (cond t Sort.a_tight Sort.an_operand)) && true)) ≡ true
+    of true = refl
+    of false = refl
+
+rank_followed : (y : Rank) (qs : List Piece) → echo_followed (rank_sort y) qs ≡ true
+rank_followed y qs = of (nat_le 18 (tightness y))
+  where
+    of : (t : Bool) → echo_followed (cond t Sort.a_tight Sort.an_operand) qs ≡ true
     of true = refl
     of false = refl
 
 neat_joined : (b : Bool) (w : List ℕ) (z q : Rank) → neat b false fresh (sub (left z) ∷ infix_pieces w ++ sub (tail q Any) ∷ []) ≡ true
-neat_joined b w z q = neat_infix true false (behind_part b (rank_sort z)) w (sub (tail q Any) ∷ []) (space_behind_rank b z) (rank_end q)
+neat_joined b w z q = and_from (echo_followed (rank_sort z) (infix_pieces w ++ sub (tail q Any) ∷ [])) _ (rank_followed z (infix_pieces w ++ sub (tail q Any) ∷ [])) (neat_infix true false (behind_part b (rank_sort z)) w (sub (tail q Any) ∷ []) (space_behind_rank b z) (rank_end q))
 
 pub neat_binary : (b : Bool) (w : List ℕ) (o : Operator) → Neat b (binary_ways w o)
 neat_binary b w (binds false z q) = one (neat_joined b w z q)
@@ -249,9 +277,12 @@ neat_postfix : (b : Bool) (w : List ℕ) → is_step w ≡ true → b ≡ false 
 neat_postfix true w h k = absurd (true≢false k)
 neat_postfix false w h k = among_by (λ v. neat false false fresh (sub (lead LeftHandSide) ∷ unbroken ∷ tok Punctuator v ∷ []) ≡ true) w ("++" ∷ "--" ∷ []) (text_among does_step w operators refl h) (refl, (refl, tt))
 
-neat_prefix : (b : Bool) (w : List ℕ) → neat b false fresh (tok Punctuator w ∷ lay (apart (cond (is w "++") 43 45)) ∷ put (expr LeftHandSide true Any) ∷ []) ≡ true
-neat_prefix true w = ap (λ t. t && true) (sign_begun w)
-neat_prefix false w = ap (λ t. t && true) (sign_begun w)
+neat_prefix : (b : Bool) (w : List ℕ) → is_step w ≡ true → neat b false fresh (tok Punctuator w ∷ lay (apart (cond (is w "++") 43 45)) ∷ put (expr LeftHandSide true Any) ∷ []) ≡ true
+neat_prefix b w h = among_by (λ v. neat b false fresh (tok Punctuator v ∷ lay (apart (cond (is v "++") 43 45)) ∷ put (expr LeftHandSide true Any) ∷ []) ≡ true) w ("++" ∷ "--" ∷ []) (text_among does_step w operators refl h) (of b, (of b, tt))
+  where
+    of : (b : Bool) → is_item_touch (cond b valued closed) && true ≡ true
+    of true = refl
+    of false = refl
 
 neat_sign : (b : Bool) (w : List ℕ) → is_prefix w ≡ true → is_word_operator w ≡ false →
     neat b false fresh (tok Punctuator w ∷ cond (is w "+") (lay (apart 43) ∷ []) (cond (is w "-") (lay (apart 45) ∷ []) []) ++ put (expr Unary true Any) ∷ []) ≡ true
@@ -287,10 +318,19 @@ neat_call b ps = neat_arguments true (cond b valued closed) ps (tight_item b)
 neat_new : (b : Bool) (ps : Parts) → neat b false fresh (term "new" ∷ sp ∷ put (expr Member true Any) ∷ arguments ps) ≡ true
 neat_new b ps = neat_arguments true (cond b valued closed) ps (tight_item b)
 
+pub neat_literal : (b : Bool) (w : List ℕ) → neat b false fresh (tok (literal_class w) w ∷ []) ≡ true
+neat_literal b w = let c = Rattle.std.specs.Prelude.slice_index_or w 0 0 in of (nat_eq c 34 || nat_eq c 39) (nat_eq c 47) (nat_eq c 46 || (nat_le 48 c && nat_le c 57))
+  where
+    of : (x y z : Bool) → neat b false fresh (tok (cond x Class.Text (cond y Class.RegExp (cond z Class.Number Name))) w ∷ []) ≡ true
+    of true y z = refl
+    of false true z = refl
+    of false false true = refl
+    of false false false = refl
+
 pub neat_expressions : (k : Kind) (w : List ℕ) (g : Flags) (ps : Parts) → Neat (first_is_open ps) (expressions k w g ps)
 unfolding expressions
 neat_expressions kind.Identifier w g ps = neat_cond (is_reserved w) (λ e. no_spelling) (λ e. one refl)
-neat_expressions kind.Literal w g ps = neat_cond (is_name (literal_class w) && not (among w ("true" ∷ "false" ∷ "null" ∷ []))) (λ e. no_spelling) (λ e. one (ap (λ t. t && true) (token_begun (literal_class w) w)))
+neat_expressions kind.Literal w g ps = neat_cond (is_name (literal_class w) && not (among w ("true" ∷ "false" ∷ "null" ∷ []))) (λ e. no_spelling) (λ e. one (neat_literal (first_is_open ps) w))
 neat_expressions kind.ThisExpression w g ps = one refl
 neat_expressions kind.ArrayExpression w g ps = one (neat_elements argument neat_argument ps (first_is_open ps) false solid (sign "]" ∷ []) refl bracket_end)
 neat_expressions kind.ObjectExpression w g ps = one (neat_listed object_part neat_object_part ps (first_is_open ps) false solid (sign "}" ∷ []) refl list_brace_end)
@@ -308,7 +348,7 @@ neat_expressions kind.ImportExpression w g ps = one refl
 neat_expressions kind.ChainExpression w g ps = neat_cond (first_chained ps) (λ e. one refl) (λ e. no_spelling)
 neat_expressions kind.UpdateExpression w g ps =
     neat_cond (not (is_step w && is_target (lead_kind ps))) (λ e. no_spelling)
-    (λ e. let u = not_step (is_step w) (is_target (lead_kind ps)) e in neat_cond g.prefix (λ h. one (neat_prefix (first_is_open ps) w)) (λ h. one (neat_postfix (first_is_open ps) w u.0 (target_plain ps u.1))))
+    (λ e. let u = not_step (is_step w) (is_target (lead_kind ps)) e in neat_cond g.prefix (λ h. one (neat_prefix (first_is_open ps) w u.0)) (λ h. one (neat_postfix (first_is_open ps) w u.0 (target_plain ps u.1))))
 neat_expressions kind.UnaryExpression w g ps =
     neat_cond (not (is_prefix w)) (λ e. no_spelling) (λ e. neat_cond (is_word_operator w) (λ h. one refl) (λ h. one (neat_sign (first_is_open ps) w (not_prefix (is_prefix w) e) h)))
 neat_expressions kind.BinaryExpression w g ps = neat_binary (first_is_open ps) w (operator_of w)
@@ -336,13 +376,16 @@ neat_member_link b s g h k = of s g.optional g.computed h k
     of named true true h k = refl
     of named true false h k = refl
     of valued true true h k = refl
+    of stated true true h k = refl
     of valued true false h k = refl
+    of stated true false h k = refl
     of closed true true h k = refl
     of closed true false h k = refl
     of fresh true c h k = cc h
     of dotted true c h k = cc h
     of signed true c h k = cc h
     of echoed true c h k = cc h
+    of broken true c h k = cc h
 
 dotted_call : (ps : Parts) → neat true false dotted (arguments ps) ≡ true
 dotted_call ps = neat_listed argument neat_argument ps true false solid (sign ")" ∷ []) refl close_end
@@ -356,11 +399,13 @@ neat_call_link s g ps h = of s g.optional h
     of solid true h = dotted_call (others ps)
     of named true h = dotted_call (others ps)
     of valued true h = dotted_call (others ps)
+    of stated true h = dotted_call (others ps)
     of closed true h = dotted_call (others ps)
     of fresh true h = cc h
     of dotted true h = cc h
     of signed true h = cc h
     of echoed true h = cc h
+    of broken true h = cc h
 
 neat_linked : (b c : Bool) (ps : Parts) (qs : List Piece) → neat true false closed qs ≡ true → (c ≡ true → (d : Bool) → neat true false (cond d valued closed) qs ≡ true) → Neat b (linked c ps qs)
 neat_linked b c ps qs h k = neat_cond (first_chained ps) (λ e. one h) (λ e. neat_cond c (λ f. one (k f b)) (λ f. no_spelling))

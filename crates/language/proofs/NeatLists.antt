@@ -1,17 +1,17 @@
 -- Lists of parts are neat.
 use Rattle.std.proofs.Common.{◌≡◌, Bool, true, false, cond, ◌&&◌, List, [], ◌∷◌, ◌++◌, refl, sym, ap, ◌∙◌, subst, append_assoc}
 use Rattle.std.specs.Prelude.{codes, Some, None}
-use Rattle.tokens.specs.declared.token.Class.TheVariants.{Punctuator, End}
+use Rattle.tokens.specs.declared.token.Class.TheVariants.{Punctuator}
 use Rattle.tree.specs.declared.kind.Kind.{Kind}
 use Rattle.tree.specs.declared.kind.Kind.TheVariants as kind
 use Rattle.tree.specs.Tree.{Tree, node, Parts, none, part, gap, kind_of}
 use Rattle.language.specs.declared.Rank.TheVariants.{Expression, Assignment}
 use Rattle.language.specs.declared.Start.TheVariants.{Any}
 use Rattle.language.specs.Words.{is_rest, is_spread, is_pattern, is_identifier, is_target}
-use Rattle.language.specs.Pieces.{Role, expr, opening, item, member, Piece, tok, may, many, absent, never, lay, line, feed, deeper, shallower, put, put_at, sign, sp, is_none, separator, listed, elements, argument, bound, with_default, pattern_element, parameters, rest, spread, pattern, name}
+use Rattle.language.specs.Pieces.{Role, expr, opening, item, member, Piece, tok, may, many, absent, never, lay, line, deeper, shallower, put, put_at, sign, sp, is_none, separator, listed, elements, argument, bound, with_default, pattern_element, parameters, rest, spread, pattern, name}
 use Rattle.language.specs.Expressions.{object_part, object_pattern_part, chunks, sequence}
 use Rattle.language.specs.Statements.{lines, prologue, declarators, member_lines, is_directive, braced}
-use Rattle.language.proofs.NeatPieces.{Touch, fresh, apart_from, solid, named, valued, closed, dotted, signed, echoed, a_chunk, sort_of, takes_part, is_loose, takes_line, neat, is_item_touch, NeatBehind, is_free, is_item_sort, is_item_piece, neat_item, nothing_behind, token_comma}
+use Rattle.language.proofs.NeatPieces.{Touch, fresh, apart_from, broken, solid, named, valued, closed, stated, dotted, signed, echoed, a_chunk, sort_of, takes_part, is_loose, takes_line, neat, is_item_touch, NeatBehind, is_free, is_item_sort, is_item_piece, neat_item, line_item, nothing_behind, token_comma}
 
 free_touch : (s : Touch) → is_free s ≡ true → is_item_touch s ≡ true
 free_touch apart_from h = refl
@@ -19,10 +19,12 @@ free_touch solid h = refl
 free_touch fresh h = cc h
 free_touch named h = refl
 free_touch valued h = refl
+free_touch stated h = refl
 free_touch closed h = refl
 free_touch dotted h = cc h
 free_touch signed h = cc h
 free_touch echoed h = cc h
+free_touch broken h = cc h
 
 -- a separator between items, and behind the last
 comma_between : (o : Bool) (k : Kind) (ys : List Piece) → ((b : Bool) → neat b o apart_from ys ≡ true) → NeatBehind o (separator k false ++ ys)
@@ -59,10 +61,10 @@ neat_listed f g (part n (gap ps)) b o s ys h k =
     subst (λ t. neat b o s t ≡ true) (sym (joined_list f n (separator (kind_of n) false) (listed f (gap ps)) ys))
     (neat_item b o s (f n) _ h (g n) (comma_between o (kind_of n) (listed f (gap ps) ++ ys) (λ c. neat_listed f g (gap ps) c o apart_from ys refl k)))
 
-hole : (o : Bool) (t : Bool) (ys : List Piece) (b : Bool) (s : Touch) → is_free s ≡ true → neat b o solid ys ≡ true → neat b o apart_from ys ≡ true →
+hole : (o : Bool) (t : Bool) (ys : List Piece) (b : Bool) (s : Touch) → is_free s ≡ true → neat true o solid ys ≡ true → neat true o apart_from ys ≡ true →
     neat b o s ((absent ∷ sign "," ∷ cond t [] (sp ∷ [])) ++ ys) ≡ true
-hole o true ys b s h k l = ap (λ t. t && neat b o solid ys) (token_comma s (free_touch s h)) ∙ k
-hole o false ys b s h k l = ap (λ t. t && neat b o apart_from ys) (token_comma s (free_touch s h)) ∙ l
+hole o true ys b s h k l = ap (λ t. t && neat true o solid ys) (token_comma s (free_touch s h)) ∙ k
+hole o false ys b s h k l = ap (λ t. t && neat true o apart_from ys) (token_comma s (free_touch s h)) ∙ l
 
 hole_list : (t : Bool) (zs ys : List Piece) → ((absent ∷ sign "," ∷ cond t [] (sp ∷ [])) ++ zs) ++ ys ≡ (absent ∷ sign "," ∷ cond t [] (sp ∷ [])) ++ (zs ++ ys)
 hole_list t zs ys = append_assoc (absent ∷ sign "," ∷ cond t [] (sp ∷ [])) zs ys
@@ -71,7 +73,7 @@ pub neat_elements : (f : Tree → Piece) → NeatItems f → (ps : Parts) (b o :
 neat_elements f g none b o s ys h k = k b s (free_touch s h)
 neat_elements f g (gap ps) b o s ys h k =
     subst (λ t. neat b o s t ≡ true) (sym (hole_list (is_none ps) (elements f ps) ys))
-    (hole o (is_none ps) (elements f ps ++ ys) b s h (neat_elements f g ps b o solid ys refl k) (neat_elements f g ps b o apart_from ys refl k))
+    (hole o (is_none ps) (elements f ps ++ ys) b s h (neat_elements f g ps true o solid ys refl k) (neat_elements f g ps true o apart_from ys refl k))
 neat_elements f g (part n none) b o s ys h k =
     subst (λ t. neat b o s t ≡ true) (sym (joined_list f n (separator (kind_of n) true) [] ys)) (neat_item b o s (f n) _ h (g n) (comma_behind o (kind_of n) ys k))
 neat_elements f g (part n (part m ps)) b o s ys h k =
@@ -161,15 +163,17 @@ touch_line apart_from h = refl
 touch_line solid h = refl
 touch_line named h = refl
 touch_line valued h = refl
+touch_line stated h = refl
 touch_line closed h = refl
 touch_line dotted h = refl
 touch_line fresh h = h
 touch_line signed h = h
 touch_line echoed h = h
+touch_line broken h = h
 
 -- a line break, before what is neat there
-pub a_line : (o : Bool) (ys : List Piece) → ((b : Bool) → neat b o apart_from ys ≡ true) → NeatBehind o (lay line ∷ ys)
-a_line o ys f b s h = ap (λ t. t && neat b o apart_from ys) (touch_line s h) ∙ f b
+pub a_line : (o : Bool) (ys : List Piece) → ((b : Bool) → neat b o broken ys ≡ true) → NeatBehind o (lay line ∷ ys)
+a_line o ys f b s h = ap (λ t. t && neat b o broken ys) (touch_line s h) ∙ f b
 
 -- lists that are neat behind an item, and leave one
 abbrev pub NeatLines : Bool → List Piece → Type 0
@@ -178,7 +182,7 @@ NeatLines o qs = (ys : List Piece) → NeatBehind o ys → NeatBehind o (qs ++ y
 pub neat_lines : (o : Bool) (a : Role) → is_item_sort (sort_of a) ≡ true → (ps : Parts) → NeatLines o (lines a ps)
 neat_lines o a h none ys k b s t = k b s t
 neat_lines o a h (gap ps) ys k b s t = refl
-neat_lines o a h (part n ps) ys k b s t = a_line o (put a ∷ (lines a ps ++ ys)) (λ b. neat_item b o apart_from (put a) (lines a ps ++ ys) refl h (λ c u v. neat_lines o a h ps ys k c u v)) b s t
+neat_lines o a h (part n ps) ys k b s t = a_line o (put a ∷ (lines a ps ++ ys)) (λ b. line_item b o (put a) (lines a ps ++ ys) h (λ c u v. neat_lines o a h ps ys k c u v)) b s t
 
 item_sort : (r b : Bool) → is_item_piece (put (cond b (opening r) (item r))) ≡ true
 item_sort r true = refl
@@ -190,49 +194,12 @@ neat_body o r b none ys k c s t = k c s t
 neat_body o r b (gap ps) ys k c s t = refl
 neat_body o r b (part n ps) ys k c s t =
     a_line o (put (cond b (opening r) (item r)) ∷ (prologue r (b && is_directive n) (lay line ∷ []) [] ps ++ ys))
-    (λ c. neat_item c o apart_from (put (cond b (opening r) (item r))) (prologue r (b && is_directive n) (lay line ∷ []) [] ps ++ ys) refl (item_sort r b) (λ d u v. neat_body o r (b && is_directive n) ps ys k d u v)) c s t
+    (λ c. line_item c o (put (cond b (opening r) (item r))) (prologue r (b && is_directive n) (lay line ∷ []) [] ps ++ ys) (item_sort r b) (λ d u v. neat_body o r (b && is_directive n) ps ys k d u v)) c s t
 
 pub neat_members : (o : Bool) (ps : Parts) → NeatLines o (member_lines ps)
 neat_members o none ys k b s t = k b s t
 neat_members o (gap ps) ys k b s t = refl
-neat_members o (part n ps) ys k b s t = a_line o (put member ∷ many (codes ";") ∷ (member_lines ps ++ ys)) (λ b. neat_item b o apart_from (put member) (many (codes ";") ∷ (member_lines ps ++ ys)) refl refl (λ c u v. neat_members o ps ys k c u v)) b s t
-
--- items of a script, each before a line break
-pub neat_script : (b : Bool) (ps : Parts) (c : Bool) (s : Touch) → is_loose s ≡ true → neat c false s (prologue false b [] (lay feed ∷ []) ps ++ tok End [] ∷ []) ≡ true
-neat_script b none c fresh h = refl
-neat_script b none c apart_from h = refl
-neat_script b none c solid h = cc h
-neat_script b none c named h = cc h
-neat_script b none c valued h = cc h
-neat_script b none c closed h = cc h
-neat_script b none c dotted h = cc h
-neat_script b none c signed h = cc h
-neat_script b none c echoed h = cc h
-neat_script b (gap ps) c s h = refl
-neat_script true (part n ps) c s h = ap (λ t. t && neat true false apart_from (prologue false (is_directive n) [] (lay feed ∷ []) ps ++ tok End [] ∷ [])) (loose_takes s h) ∙ neat_script (is_directive n) ps true apart_from refl
-  where
-    loose_takes : (s : Touch) → is_loose s ≡ true → takes_part s (sort_of (opening false)) ≡ true
-    loose_takes fresh h = refl
-    loose_takes apart_from h = refl
-    loose_takes solid h = cc h
-    loose_takes named h = cc h
-    loose_takes valued h = cc h
-    loose_takes closed h = cc h
-    loose_takes dotted h = cc h
-    loose_takes signed h = cc h
-    loose_takes echoed h = cc h
-neat_script false (part n ps) c s h = ap (λ t. t && neat true false apart_from (prologue false false [] (lay feed ∷ []) ps ++ tok End [] ∷ [])) (loose_takes s h) ∙ neat_script false ps true apart_from refl
-  where
-    loose_takes : (s : Touch) → is_loose s ≡ true → takes_part s (sort_of (item false)) ≡ true
-    loose_takes fresh h = refl
-    loose_takes apart_from h = refl
-    loose_takes solid h = cc h
-    loose_takes named h = cc h
-    loose_takes valued h = cc h
-    loose_takes closed h = cc h
-    loose_takes dotted h = cc h
-    loose_takes signed h = cc h
-    loose_takes echoed h = cc h
+neat_members o (part n ps) ys k b s t = a_line o (put member ∷ many (codes ";") ∷ (member_lines ps ++ ys)) (λ b. line_item b o (put member) (many (codes ";") ∷ (member_lines ps ++ ys)) refl (λ c u v. neat_members o ps ys k c u v)) b s t
 
 -- a list of declarators
 pub neat_declarators : (o : Bool) (a : Role) → is_item_sort (sort_of a) ≡ true → (ps : Parts) (b : Bool) (s : Touch) (ys : List Piece) → is_free s ≡ true → NeatBehind o ys → neat b o s (declarators a ps ++ ys) ≡ true
@@ -250,11 +217,13 @@ brace_end b apart_from h = refl
 brace_end b solid h = refl
 brace_end b named h = refl
 brace_end b valued h = refl
+brace_end b stated h = refl
 brace_end b closed h = refl
 brace_end b fresh h = cc h
 brace_end b dotted h = cc h
 brace_end b signed h = cc h
 brace_end b echoed h = cc h
+brace_end b broken h = cc h
 
 pub neat_braced : (ps : Parts) (qs : List Piece) → NeatLines false qs → (b : Bool) (s : Touch) → is_loose s ≡ true → neat b false s (braced ps qs) ≡ true
 neat_braced ps qs f b s h = of (is_none ps) s h
@@ -271,7 +240,9 @@ neat_braced ps qs f b s h = of (is_none ps) s h
     of t solid h = cc h
     of t named h = cc h
     of t valued h = cc h
+    of t stated h = cc h
     of t closed h = cc h
     of t dotted h = cc h
     of t signed h = cc h
     of t echoed h = cc h
+    of t broken h = cc h

@@ -1,11 +1,15 @@
 -- A layout has at most two parentheses open at one point for each node on a path: a pair, and an arrow's parameters.
-use Rattle.std.proofs.Common.{◌≡◌, ℕ, zero, suc, pred, ◌+◌, ◌≤◌, max, Bool, true, false, cond, not, ◌&&◌, nat_eq, List, [], ◌∷◌, refl, arith, map, filter}
+use Rattle.std.proofs.Common.{◌≡◌, ℕ, zero, suc, pred, ◌+◌, ◌≤◌, max, Bool, true, false, cond, not, ◌&&◌, nat_eq, List, [], ◌∷◌, ◌++◌, refl, arith, map, filter}
 use Rattle.std.proofs.lemmas.Bool.{and_parts, false≢true}
 use Rattle.tree.specs.Tree.{Tree, node, Parts, none, part, gap, bare, height, parts_height}
 use Rattle.tree.specs.Uses.{is_lean}
 use Rattle.language.specs.declared.Rank.TheVariants.{Expression}
 use Rattle.language.specs.declared.Start.TheVariants.{Any}
-use Rattle.language.specs.Pieces.{Role, expr, PieceOf, Piece, tok, may, many, ahead, unbroken, ending, open_parameters, close_parameters, sub, absent, never, lay, space, line, feed, deeper, shallower, apart, loose, Spelling}
+use Rattle.tree.specs.declared.kind.Kind.TheVariants as kind
+use Rattle.tokens.specs.declared.token.Class.TheVariants.{End}
+use Rattle.language.specs.declared.Rank.TheVariants.{Primary}
+use Rattle.language.specs.Statements.{prologue, is_directive}
+use Rattle.language.specs.Pieces.{at, echo, script, Role, expr, PieceOf, Piece, tok, may, many, ahead, unbroken, ending, open_parameters, close_parameters, sub, absent, never, lay, space, line, feed, deeper, shallower, apart, loose, Spelling}
 use Rattle.language.specs.Grammar.{ways, ways_bare, spellings}
 use Rattle.language.specs.Positions.{has_row, rows, roles}
 use Rattle.language.specs.Derivation.{Among, first}
@@ -15,7 +19,7 @@ use Rattle.language.proofs.Domination.{ways_of, settled}
 use Rattle.language.proofs.Domination.{fits as fits_at}
 use Rattle.language.proofs.Alike.{standing_at}
 use Rattle.language.proofs.PrintedSpells.{has_no_never, way_runs}
-use Rattle.language.proofs.NeatPieces.{Touch, fresh, neat, takes_token, behind_token, takes_part, behind_part as touch_behind, slot_sort, takes_sign, is_loose, takes_space, takes_line, goes_on_here, solid, apart_from, signed, closed, echoed, is_begun}
+use Rattle.language.proofs.NeatPieces.{Touch, fresh, neat, takes_token, behind_token, takes_part, behind_part as touch_behind, slot_sort, takes_sign, is_loose, takes_space, takes_line, goes_on_here, solid, apart_from, signed, closed, is_item_touch, goes_behind, takes_joined, echo_followed, loose_first, broken, takes_apart, takes_loose}
 use Rattle.language.proofs.NeatExpressions.{Neat, no_spelling, a_spelling}
 use Rattle.language.proofs.NeatTable.{table_neat}
 
@@ -28,25 +32,25 @@ nested o (never ∷ qs) = true
 nested o (q ∷ qs) = nested o qs
 
 neat_nested : (a : Role) (b o : Bool) (s : Touch) (qs : List Piece) → neat b o s qs ≡ true → nested o (standing_at a qs) ≡ true
-neat_nested a b o s [] h = (and_parts (is_begun s) (not o) h).1
-neat_nested a b o s (tok c w ∷ qs) h = neat_nested a b o (behind_token c w) qs (and_parts (takes_token s c w) _ h).1
+neat_nested a b o s [] h = (and_parts (is_item_touch s) (not o) h).1
+neat_nested a b o s (tok c w ∷ qs) h = neat_nested a b o (behind_token c w) qs (and_parts (goes_behind c w qs) _ (and_parts (takes_token s c w) _ h).1).1
 neat_nested a b o s (may w ∷ qs) h = neat_nested a b o s qs h
 neat_nested a b o s (many w ∷ qs) h = neat_nested a b o s qs h
-neat_nested a b o s (ahead w ∷ qs) h = neat_nested a b o echoed qs h
-neat_nested a b o s (unbroken ∷ qs) h = neat_nested a b o s qs (and_parts (goes_on_here qs) _ h).1
+neat_nested a b o s (ahead w ∷ qs) h = absurd (false≢true h)
+neat_nested a b o s (unbroken ∷ qs) h = neat_nested a b o s qs (and_parts (goes_on_here qs) _ (and_parts (takes_joined s) _ h).1).1
 neat_nested a b o s (ending e ∷ qs) h = neat_nested a b o solid qs (and_parts (takes_sign s _) _ h).1
 neat_nested a b true s (open_parameters ∷ qs) h = absurd (false≢true h)
 neat_nested a b false s (open_parameters ∷ qs) h = neat_nested a b true solid qs (and_parts (is_loose s) _ h).1
 neat_nested a b true s (close_parameters ∷ qs) h = neat_nested a b false solid qs (and_parts (takes_sign s _) _ h).1
 neat_nested a b false s (close_parameters ∷ qs) h = absurd (false≢true h)
-neat_nested a b o s (sub x ∷ qs) h = neat_nested a true o (touch_behind b (slot_sort x)) qs (and_parts (takes_part s (slot_sort x)) _ h).1
-neat_nested a b o s (absent ∷ qs) h = neat_nested a b o s qs h
+neat_nested a b o s (sub x ∷ qs) h = neat_nested a true o (touch_behind b (slot_sort x)) qs (and_parts (echo_followed (slot_sort x) qs) _ (and_parts (takes_part s (slot_sort x)) _ h).1).1
+neat_nested a b o s (absent ∷ qs) h = neat_nested a true o s qs (and_parts (not (loose_first qs)) _ h).1
 neat_nested a b o s (never ∷ qs) h = refl
 neat_nested a b o s (lay space ∷ qs) h = neat_nested a b o apart_from qs (and_parts (takes_space s) _ h).1
-neat_nested a b o s (lay line ∷ qs) h = neat_nested a b o apart_from qs (and_parts (takes_line s) _ h).1
-neat_nested a b o s (lay feed ∷ qs) h = neat_nested a b o apart_from qs (and_parts (takes_line s) _ h).1
-neat_nested a b o s (lay (apart c) ∷ qs) h = neat_nested a b o signed qs (and_parts (is_begun s) _ h).1
-neat_nested a b o s (lay loose ∷ qs) h = neat_nested a b o closed qs (and_parts (is_begun s) _ h).1
+neat_nested a b o s (lay line ∷ qs) h = neat_nested a b o broken qs (and_parts (takes_line s) _ h).1
+neat_nested a b o s (lay feed ∷ qs) h = neat_nested a b o broken qs (and_parts (takes_line s) _ h).1
+neat_nested a b o s (lay (apart c) ∷ qs) h = neat_nested a b o signed qs (and_parts (takes_apart s) _ h).1
+neat_nested a b o s (lay loose ∷ qs) h = neat_nested a b o closed qs (and_parts (takes_loose s) _ h).1
 neat_nested a b o s (lay deeper ∷ qs) h = neat_nested a b o s qs h
 neat_nested a b o s (lay shallower ∷ qs) h = neat_nested a b o s qs h
 
@@ -59,12 +63,29 @@ first_of_neat a {b} (a_spelling {x = x} {xs = xs} h k) = go (fits_at a x) (first
     go false others = others
 
 pub way_nested : (a : Role) (n : Tree) → nested false (first_way (ways a n)) ≡ true
-unfolding ways ways_bare
+unfolding ways ways_bare spellings
 way_nested a n = go (is_lean (bare n))
   where
+    -- a script's statements, and the end
+    script_nested : (b : Bool) (ps : Parts) → nested false (standing_at script (prologue false b [] (lay feed ∷ []) ps ++ tok End [] ∷ [])) ≡ true
+    script_nested b none = refl
+    script_nested b (gap ps) = refl
+    script_nested b (part m ps) = script_nested (b && is_directive m) ps
+
+    of : (a : Role) (m : Tree) → nested false (first_way (ways_of a (spellings a m))) ≡ true
+    of echo (node kind.Identifier w g s e ps) = refl
+    of echo (node _ w g s e ps) = refl
+    of script (node kind.Program w g s e ps) = of_script (Rattle.language.specs.Grammar.can_run (prologue false true [] (lay feed ∷ []) ps ++ tok End [] ∷ []))
+      where
+        of_script : (t : Bool) → nested false (first_way (map (settled script) (cond t (at Primary (prologue false true [] (lay feed ∷ []) ps ++ tok End [] ∷ []) ∷ []) []))) ≡ true
+        of_script true = script_nested true ps
+        of_script false = refl
+    of script (node _ w g s e ps) = refl
+    of a m = first_of_neat a (table_neat a m refl)
+
     go : (t : Bool) → nested false (first_way (cond t (ways_of a (spellings a (bare n))) [])) ≡ true
     go false = refl
-    go true = first_of_neat a (table_neat a (bare n))
+    go true = of a (bare n)
 
 first_runs : (a : Role) (n : Tree) → has_no_never (first_way (ways a n)) ≡ true
 first_runs a n = go (ways a n) (λ qs h. way_runs a n h)

@@ -199,7 +199,7 @@ read_items text s gap (a_line {is = is} h r) g p b =
     let y = read_items text s gap r g (ap (λ x. not x || joins_none is) (line_kept (breaks gap) p)) b in
     record { place = y.place; gap = y.gap; is_gap = y.is_gap; follows = stays n.next n.same y.follows; before = y.before }
 
-end_apart : Apart End [] []
+pub end_apart : Apart End [] []
 end_apart = record {
   utf8 = IsUtf8-nil;
   longest = subst (λ x. IsTrue (is_token End x x)) (sym chars-nil) refl;

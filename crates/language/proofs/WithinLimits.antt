@@ -1,14 +1,13 @@
 -- The fixed text of a script within the limits derives it within the limits, where the items of its layout stand apart.
-use Rattle.std.proofs.Common.{◌≡◌, ℕ, suc, ◌+◌, ◌≤◌, max, true, List, length, refl, sym, ap, ap₂, ◌∙◌, subst, arith}
+use Rattle.std.proofs.Common.{◌≡◌, ℕ, suc, ◌+◌, ◌≤◌, max, List, length, refl, sym, ap, ap₂, ◌∙◌, subst, arith}
 use Rattle.tree.specs.declared.kind.Pair.{Pair}
 use Rattle.tree.specs.Tree.{Tree, node, Parts, none, part, gap, bare, bare_parts, height, parts_height, SameTree}
 use Rattle.language.specs.Pieces.{script}
 use Rattle.language.specs.Claims.{DerivesOpen, WithinLimits}
 use Rattle.language.specs.Layout.{wrapped_rows, has_number, fixed_text}
 use Rattle.language.specs.Printed.{items_text, printed}
-use Rattle.language.specs.Readable.{stand_apart}
 use Rattle.language.proofs.LaidItems.{fixed_items}
-use Rattle.language.proofs.ReadItems.{Readable, text_is_read, tested_readable}
+use Rattle.language.proofs.ReadItems.{Readable, text_is_read}
 use Rattle.language.proofs.Counted.{layout_derives}
 use Rattle.language.proofs.OpenBound.{open_bound}
 
@@ -42,7 +41,3 @@ read_within other n P d h = limited (fixed_read_within 1000 other n P d.1 h 1000
     limited : (m : Tree) × (Q : List Pair) × SameTree m n × DerivesOpen 1000 (fixed_text n) m Q × (length Q ≡ length (wrapped_rows n script 1)) →
         (m : Tree) × (Q : List Pair) × SameTree m n × WithinLimits (fixed_text n) m Q × (length Q ≡ length (wrapped_rows n script 1))
     limited (m, Q, same, x, counted) = (m, Q, same, (subst (λ k. k ≤ 500) (sym (same_height m n same)) d.0, x), counted)
-
-pub fixed_within : (other : List ℕ) (n : Tree) (P : List Pair) → WithinLimits other n P → stand_apart (printed (has_number (wrapped_rows n script 1)) n script 1 0) ≡ true →
-    (m : Tree) × (Q : List Pair) × SameTree m n × WithinLimits (fixed_text n) m Q × (length Q ≡ length (wrapped_rows n script 1))
-fixed_within other n P d h = read_within other n P d (tested_readable (printed (has_number (wrapped_rows n script 1)) n script 1 0) h)

@@ -1,5 +1,5 @@
 -- Trees whose first ways have words as their tokens, each shorthand key before a name of its text.
-use Rattle.std.proofs.Common.{◌≡◌, ℕ, ◌+◌, Bool, true, ◌&&◌, nat_eq, List, [], ◌∷◌}
+use Rattle.std.proofs.Common.{ℕ, ◌+◌, Bool, ◌&&◌, nat_eq, List, [], ◌∷◌}
 use Rattle.tokens.specs.declared.token.Class.TheVariants.{Name}
 use Rattle.tree.specs.Tree.{Tree, node, Parts, none, part, gap, text_of}
 use Rattle.language.specs.Pieces.{Role, echo, PieceOf, tok}

@@ -16,7 +16,7 @@ use Rattle.language.specs.Cost.{AtMost, least}
 use Rattle.language.specs.Layout.{wrapped_rows, has_number, fixed_text}
 use Rattle.language.specs.Fits.{fits}
 use Rattle.language.specs.Printed.{items_text, printed, open_in, pair_count, Follows, GoesOn}
-use Rattle.language.specs.Readable.{stand_apart}
+use Rattle.std.specs.Str.{IsUtf8}
 use Rattle.language.specs.Places.{NextIn, itself}
 use Rattle.tokens.specs.Reading.{any_goal}
 use Rattle.language.specs.Claims.{Derives, DerivesOpen, WithinLimits}
@@ -89,16 +89,16 @@ LayoutDerives =
     open_in (has_number (wrapped_rows n script 1)) n script 1 ≤ o →
     (m : Tree) × (Q : List Pair) × SameTree m n × DerivesOpen o text m Q × (length Q ≡ length (wrapped_rows n script 1))
 
--- where the items of a script's layout stand apart, its fixed text derives the script, with a pair for each wrapped node
+-- the fixed text of a script that some text derives derives the script, with a pair for each wrapped node
 abbrev pub FixedTextDerives : Type 0
 FixedTextDerives =
-    (other : List ℕ) (n : Tree) (P : List Pair) → Derives other n P → stand_apart (printed (has_number (wrapped_rows n script 1)) n script 1 0) ≡ true →
+    (other : List ℕ) (n : Tree) (P : List Pair) → IsUtf8 other → Derives other n P →
     (m : Tree) × (Q : List Pair) × SameTree m n × DerivesOpen (open_in (has_number (wrapped_rows n script 1)) n script 1) (fixed_text n) m Q × (length Q ≡ length (wrapped_rows n script 1))
 
 -- the same within the limits
 abbrev pub FixedTextWithinLimits : Type 0
 FixedTextWithinLimits =
-    (other : List ℕ) (n : Tree) (P : List Pair) → WithinLimits other n P → stand_apart (printed (has_number (wrapped_rows n script 1)) n script 1 0) ≡ true →
+    (other : List ℕ) (n : Tree) (P : List Pair) → IsUtf8 other → WithinLimits other n P →
     (m : Tree) × (Q : List Pair) × SameTree m n × WithinLimits (fixed_text n) m Q × (length Q ≡ length (wrapped_rows n script 1))
 
 -- places change neither the wrapped nodes nor the fixed text

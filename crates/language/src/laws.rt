@@ -57,7 +57,7 @@ pub fn layout_derives()
     ensures { LayoutDerives }
 {}
 
-/// Where the items of a script's layout stand apart, its fixed text derives the script, with a pair for each wrapped node.
+/// The fixed text of a script that some text derives derives the script, with a pair for each wrapped node.
 pub fn fixed_text_derives()
     ensures { FixedTextDerives }
 {}

@@ -1,5 +1,6 @@
-use Rattle.language.proofs.WithinLimits.{fixed_within}
+use Rattle.language.proofs.FixedReads.{within_always}
+use Rattle.language.proofs.ReadableScript.{script_readable}
 use Rattle.language.proofs.laws.fixed_text_within_limits.Goals as goal
 
 pub returns : goal.returns
-returns c = λ other n P d h. fixed_within other n P d h
+returns c = λ other n P u d. within_always script_readable other n P u d
