@@ -10,7 +10,8 @@ use Rattle.early_errors.specs.Accepted.{Accepted}
 use Rattle.early_errors.proofs.Placeless.{none_either}
 use Rattle.language.specs.Claims.{Derives, WithinLimits}
 use Rattle.language.proofs.SameLayouts.{same_layout}
-use Rattle.language.proofs.FixedReads.{within_always as fixed_within}
+use Rattle.language.proofs.FixedReads.{within_always}
+use Rattle.language.proofs.ReadableScript.{script_readable}
 use Rattle.language.specs.Cost.{AtMost, at_most, least}
 use Rattle.language.proofs.Least.{derived_at_least}
 use Rattle.paren_planner.specs.declared.planned.Plan.{Plan}
@@ -56,7 +57,7 @@ fewest n m p source P is same derived =
 
 -- the fixed text of an accepted tree that has a plan
 pub fixes : (text fixed : List ℕ) (n : Tree) (P : List Pair) (p : Plan) → IsUtf8 fixed → Accepted text n P → IsPlan n p → fixed ≡ fixed_text n → Fixes text fixed
-fixes text fixed n P p utf8 is plan laid = from (fixed_within text n P is.source is.derived)
+fixes text fixed n P p utf8 is plan laid = from (within_always script_readable text n P is.source is.derived)
   where
     from : (m : Tree) × (Q : List Pair) × SameTree m n × WithinLimits (fixed_text n) m Q × (length Q ≡ length (wrapped_rows n script 1)) → Fixes text fixed
     from (m, Q, same, within, count) = record {

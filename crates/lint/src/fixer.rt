@@ -5,7 +5,7 @@ ghost use Rattle.lint.specs.Fixes.{Fixes, FixesScript, RefusesFixing, refuses_su
 ghost use Rattle.lint.specs.ReadScripts.{RefusesReading};
 
 use crate::reader::read_script;
-use paren_planner::plan_if_any;
+use paren_planner::plan;
 use printer::print_text;
 use source_text::{Fault, Source};
 use std::alloc::Global;
@@ -27,9 +27,7 @@ fn fix_tree(alloc: Global, source: &Source<'_>) -> Result<String, Fault>
 {
     let parsed = read_script(alloc, source)?;
     let program = parsed.program();
-    let Some(plan) = plan_if_any(alloc, program)? else {
-        return Err(Fault::OutOfMemory);
-    };
+    let plan = plan(alloc, program)?;
     let text = print_text(alloc, program, plan.flags())?;
     Ok(text)
 }

@@ -1,6 +1,6 @@
 //! Reading a script: its tree, where no early error applies (ECMA-262 clause 16).
 
-ghost use Rattle.std.specs.Prelude.{IfOk, IfErr};
+ghost use Rattle.std.specs.Prelude.{◌≤◌, length, IfOk, IfErr};
 ghost use Rattle.early_errors.specs.Accepted.{Accepted};
 ghost use Rattle.lint.specs.ReadScripts.{RefusesReading};
 
@@ -16,6 +16,7 @@ use std::alloc::Global;
 /// 500, and 1000 parentheses open at one point that group or hold an arrow's parameters); `Early` with the number and the
 /// place of the first early error; `OutOfMemory`.
 pub fn read_script<'s>(alloc: Global, source: &Source<'s>) -> Result<Parsed<'s>, Fault>
+    ensures short { IfOk result (λ _. length source.now ≤ 16777216) }
     ensures accepted { IfOk result (λ parsed. Accepted source.now parsed.program parsed.pairs.items) }
     ensures refused { IfErr result (RefusesReading source.now) }
 {

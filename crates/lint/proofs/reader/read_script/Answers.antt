@@ -5,7 +5,7 @@ use Rattle.lint.proofs.reader.read_script.Goals as goal
 
 pub returns-clause-accepted : goal.returns-clause-accepted
 returns-clause-accepted c = record {
-  source = c.in_ok-parsed.ensures.source;
+  source = c.in_ok-parsed.ensures.source.0;
   derived = c.in_ok-parsed.ensures.derived;
   lawful = least_none (errors c.in_ok-parsed.parsed.program) (ap least_error (sym c.program.ensures) ∙ sym c.in_ok-number.ensures ∙ c.in-None.is);
 }
