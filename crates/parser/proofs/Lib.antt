@@ -1,6 +1,8 @@
 pub mod Begun
 pub mod Breaks
+pub mod Chaining
 pub mod Delimited
+pub mod Deriving
 pub mod Following
 pub mod Grouping
 pub mod Modified
@@ -10,4 +12,6 @@ pub mod Operating
 pub mod Parted
 pub mod Refused
 pub mod Seeing
+pub mod Spelled
+pub mod Stating
 pub mod Yielding

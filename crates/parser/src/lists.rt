@@ -1,7 +1,7 @@
 //! Lists (ECMA-262 12.2 to 12.16, 13.3, 13.12, 14.1, 14.6): one loop for all of them, and what each of them lists.
 #![tactic(auto, using(crate::proofs::Refused::refusals, crate::proofs::Moves::moves))]
 
-ghost use Rattle.std.specs.Prelude.{◌⊎◌, codes, ◌≡◌, ◌≤◌, ◌&&◌, IfOk, IfErr, true, false};
+ghost use Rattle.std.specs.Prelude.{◌⊎◌, codes, ◌≡◌, ◌≤◌, ◌&&◌, IfOk, IfErr, true, false, ◌++◌, List as ListOf};
 ghost use Rattle.std.specs.Bool.{OnTrue, OnFalse};
 ghost use Rattle.token_cursor.specs.Point.{IsAhead};
 ghost use Rattle.parser.specs.Moves.{Passes, IsOpened, IsUnseparated};
@@ -9,13 +9,17 @@ ghost use Rattle.parser.specs.Items.{after_item, element_item, element_levels};
 ghost use Rattle.parser.specs.Outcomes.{BecomesHere, IsSyntaxHere, Yields};
 ghost use Rattle.tokens.specs.declared.token.Goal.TheVariants.{TemplateTail};
 ghost use Rattle.tokens.specs.Scanned.{token_of};
-ghost use Rattle.language.specs.Token.{as_read};
-ghost use Rattle.tree.specs.Tree.{part_count};
+ghost use Rattle.language.specs.Token.{as_read, Token as Read};
+ghost use Rattle.tree.specs.Tree.{part_count, height, parts_height};
 ghost use Rattle.covers.specs.Lists.{is_ended};
 ghost use Rattle.parser.specs.Tests.{is_later_part};
 ghost use Rattle.parser.specs.Seen.{ReadsHere, Misses, MissesBy, TokenHere};
 ghost use Rattle.parser.specs.Beginnings.{case_word};
 ghost use Rattle.parser.specs.Follows.{Semicolons, PassedBefore, MissesEnd, SeesEnd, end_before, NoChunk, ChunkAt, BegunAt, NotBegun, CommaAt};
+ghost use Rattle.parser.specs.Derived.{Adds};
+ghost use Rattle.parser.specs.DerivedLists.{SoFarAt, ListAt, ItemAt, ItemReads};
+ghost use Rattle.language.specs.declared.Start.{Start};
+ghost use Rattle.tree.specs.declared.kind.Pair.{Pair};
 ghost use Rattle.parser.specs.Refusals.{IsLimit, IsRefusal};
 ghost use Rattle.covers.specs.Patterns.{pattern_tree};
 ghost use Rattle.covers.specs.Shapes.{is_pattern};
@@ -128,6 +132,9 @@ impl<'t, 's> Parser<'t, 's> {
     pub(crate) fn list(&mut self, list: List<'s>, high: u32) -> Result<List<'s>, Fault>
         ensures text { self.new.cursor.text ≡ self.old.cursor.text }
         ensures forward { self.old.cursor.last.stop ≤ self.new.cursor.last.stop }
+        ensures derived { IfOk result (λ whole. Adds self.old.cursor self.new.cursor self.old.pairs.items self.new.pairs.items (λ o m e Q. (f : Start) (s : Read) (P : ListOf Pair) → SoFarAt self.old.cursor.text f list.entry o s m P → ListAt self.old.cursor.text f whole o s e (P ++ Q))) }
+        ensures same { IfOk result (λ whole. (whole.listed ≡ list.entry.listed) × (whole.span.start ≡ list.entry.span.start)) }
+        ensures low { IfOk result (λ whole. parts_height list.entry.nodes ≤ high → parts_height whole.nodes ≤ high) }
         ensures refused { IfErr result (IsRefusal self.new.cursor.text) }
     {
         let mut list = list;
@@ -156,6 +163,8 @@ impl<'t, 's> Parser<'t, 's> {
         ensures forward { self.old.cursor.last.stop ≤ self.new.cursor.last.stop }
         ensures passes { IfOk result (λ _. IsUnseparated list.old.listed → Passes self.old.cursor self.new.cursor) }
         ensures listed { list.new.listed ≡ list.old.listed }
+        ensures derived { IfOk result (λ _. Adds self.old.cursor self.new.cursor self.old.pairs.items self.new.pairs.items (ItemAt self.old.cursor.text list.old list.new)) }
+        ensures low { IfOk result (λ _. parts_height list.old.nodes ≤ high → parts_height list.new.nodes ≤ high) }
         ensures refused { IfErr result (IsRefusal self.new.cursor.text) }
     {
         let start = self.cursor.place();
@@ -235,6 +244,8 @@ impl<'t, 's> Parser<'t, 's> {
         ensures text { self.new.cursor.text ≡ self.old.cursor.text }
         ensures forward { self.old.cursor.last.stop ≤ self.new.cursor.last.stop }
         ensures passes { IfOk result (λ _. Passes self.old.cursor self.new.cursor) }
+        ensures derived { IfOk result (λ item. Adds self.old.cursor self.new.cursor self.old.pairs.items self.new.pairs.items (ItemReads self.old.cursor.text (Listed.Declarators has_in) item)) }
+        ensures low { IfOk result (λ item. height item.node ≤ high) }
         ensures refused { IfErr result (IsRefusal self.new.cursor.text) }
     {
         let start = self.cursor.place();

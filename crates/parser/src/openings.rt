@@ -20,6 +20,7 @@ ghost use Rattle.parser.specs.Seen.{ReadsHere};
 ghost use Rattle.parser.specs.Items.{listed_kind, listed_node, listed_part, is_grouped, group_levels, list_group};
 ghost use Rattle.parser.specs.Outcomes.{IsPlaceHere, MakesAs, YieldsWhere, RefusedUnder};
 ghost use Rattle.parser.specs.Parts.{group_part, plain_part};
+ghost use Rattle.parser.specs.Derived.{Adds, ReadAt, WordedAt};
 ghost use Rattle.parser.specs.Refusals.{IsLimit, IsStop, IsRefusal};
 ghost use Rattle.parser.specs.Tokens.{single_node, single_text};
 
@@ -176,6 +177,8 @@ impl<'t, 's> Parser<'t, 's> {
         ensures text { self.new.cursor.text ≡ self.old.cursor.text }
         ensures forward { self.old.cursor.last.stop ≤ self.new.cursor.last.stop }
         ensures passes { IfOk result (λ _. Passes self.old.cursor self.new.cursor) }
+        ensures derived { IfOk result (λ part. Adds self.old.cursor self.new.cursor self.old.pairs.items self.new.pairs.items (ReadAt self.old.cursor.text position part)) }
+        ensures low { IfOk result (λ part. height part.cover.node ≤ high) }
         ensures refused { IfErr result (IsRefusal self.new.cursor.text) }
     {
         let Some((token, opening)) = self.opens(position) else {
@@ -251,6 +254,8 @@ impl<'t, 's> Parser<'t, 's> {
     ) -> Result<Part<'s>, Fault>
         ensures text { self.new.cursor.text ≡ self.old.cursor.text }
         ensures forward { self.old.cursor.last.stop ≤ self.new.cursor.last.stop }
+        ensures derived { IfOk result (λ part. Adds self.old.cursor self.new.cursor self.old.pairs.items self.new.pairs.items (WordedAt self.old.cursor.text position token.entry opening part)) }
+        ensures low { IfOk result (λ part. height part.cover.node ≤ high) }
         ensures refused { IfErr result (IsRefusal self.new.cursor.text) }
     {
         let start = token.start;
@@ -319,6 +324,8 @@ impl<'t, 's> Parser<'t, 's> {
         ensures text { self.new.cursor.text ≡ self.old.cursor.text }
         ensures forward { self.old.cursor.last.stop ≤ self.new.cursor.last.stop }
         ensures passes { IfOk result (λ _. Passes self.old.cursor self.new.cursor) }
+        ensures derived { IfOk result (λ part. Adds self.old.cursor self.new.cursor self.old.pairs.items self.new.pairs.items (ReadAt self.old.cursor.text position part)) }
+        ensures low { IfOk result (λ part. height part.cover.node ≤ high) }
         ensures refused { IfErr result (IsRefusal self.new.cursor.text) }
     {
         let (place, start) = self.enter()?;

@@ -1,4 +1,10 @@
 use Rattle.std.proofs.Common.{◌≡◌, ◌-◌, ◌+◌, ◌*◌, ◌≤◌, ◌<◌, length}
+use Rattle.std.specs.Prelude.{◌&&◌}
+use Rattle.tree.specs.Tree.{height, parts_height}
+use Rattle.parser.specs.Derived.{Adds, ReadAt}
+use Rattle.parser.specs.DerivedPieces.{StatementsAt}
+use Rattle.parser.proofs.Chaining.{ChainedOn}
+use Rattle.parser.proofs.Stating.{all_directive}
 use Rattle.parser.proofs.position.Parser.+grammar.Given as goal
 
 abbrev pub decreases-worded : goal.decreases-worded
@@ -66,6 +72,8 @@ invariant-expression-turns l = record {
   same : l.self.cursor.text ≡ l.fn.self.cursor.text;
   forward : l.fn.self.cursor.last.stop < l.self.cursor.last.stop;
   within : l.fn.self.cursor.last.stop < length l.fn.self.cursor.text;
+  derived : Adds l.fn.self.cursor l.self.cursor l.fn.self.pairs.items l.self.pairs.items (ReadAt l.fn.self.cursor.text l.fn.position l.part);
+  low : height l.part.cover.node ≤ l.fn.high;
 }
 
 abbrev pub decreases-expression-turns : goal.decreases-expression-turns
@@ -76,6 +84,7 @@ invariant-chain-links l = record {
   same : l.self.cursor.text ≡ l.fn.self.cursor.text;
   forward : l.fn.self.cursor.last.stop < l.self.cursor.last.stop;
   within : l.fn.self.cursor.last.stop < length l.fn.self.cursor.text;
+  derived : Adds l.fn.self.cursor l.self.cursor l.fn.self.pairs.items l.self.pairs.items (ChainedOn l.fn.self.cursor.text l.fn.left l.part);
 }
 
 abbrev pub decreases-chain-links : goal.decreases-chain-links
@@ -100,6 +109,11 @@ abbrev pub invariant-statements-statements : goal.invariant-statements-statement
 invariant-statements-statements l = record {
   same : l.self.cursor.text ≡ l.fn.self.cursor.text;
   forward : l.fn.self.cursor.last.stop ≤ l.self.cursor.last.stop;
+  derived : Adds l.fn.self.cursor l.self.cursor l.fn.self.pairs.items l.self.pairs.items (StatementsAt l.fn.self.cursor.text l.fn.context l.nodes);
+  items : l.context.is_item ≡ l.fn.context.is_item;
+  returns : l.context.returns ≡ l.fn.context.returns;
+  before : l.context.is_prologue ≡ (l.fn.context.is_prologue && all_directive l.nodes);
+  low : parts_height l.nodes ≤ l.fn.high;
 }
 
 abbrev pub decreases-statements-statements : goal.decreases-statements-statements
