@@ -1,10 +1,15 @@
 pub mod Begun
 pub mod Breaks
+pub mod CaseOf
 pub mod Chaining
 pub mod Delimited
 pub mod Deriving
+pub mod Extending
 pub mod Following
 pub mod Grouping
+pub mod ItemsOf
+pub mod Listing
+pub mod Looping
 pub mod Modified
 pub mod Moves
 pub mod Opened
@@ -15,3 +20,4 @@ pub mod Seeing
 pub mod Spelled
 pub mod Stating
 pub mod Yielding
+pub mod Wholly

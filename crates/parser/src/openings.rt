@@ -18,7 +18,7 @@ ghost use Rattle.parser.specs.Moves.{Passes, BeginsList};
 ghost use Rattle.parser.specs.Follows.{target_node, NotTarget};
 ghost use Rattle.parser.specs.Seen.{ReadsHere};
 ghost use Rattle.parser.specs.Items.{listed_kind, listed_node, listed_part, is_grouped, group_levels, list_group};
-ghost use Rattle.parser.specs.Outcomes.{IsPlaceHere, MakesAs, YieldsWhere, RefusedUnder};
+ghost use Rattle.parser.specs.Outcomes.{BeginsBy, IsPlaceHere, MakesAs, YieldsWhere, RefusedUnder};
 ghost use Rattle.parser.specs.Parts.{group_part, plain_part};
 ghost use Rattle.parser.specs.Derived.{Adds, ReadAt, WordedAt};
 ghost use Rattle.parser.specs.Refusals.{IsLimit, IsStop, IsRefusal};
@@ -315,6 +315,16 @@ impl<'t, 's> Parser<'t, 's> {
         let nodes = Nodes::two(self.alloc, meta, property)?;
         let node = plain(Kind::MetaProperty, self.span_from(new.start), nodes, high)?;
         Ok(Part::plain(node, Rank::Member, Edge::Other))
+    }
+
+    /// Where what stands ahead begins, where an operand may: by its goal.
+    pub(crate) fn operand_place(&self) -> usize
+        ensures { BeginsBy self.now.cursor result }
+    {
+        match self.cursor.peek(Goal::RegExp) {
+            Some(token) => token.start,
+            None => self.cursor.place(),
+        }
     }
 
     // What parentheses group, or an arrow function with its parameters in them (12.2.10, 14.2).

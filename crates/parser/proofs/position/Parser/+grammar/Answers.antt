@@ -1,20 +1,31 @@
 -- What the functions of the cycle derive.
-use Rattle.std.proofs.Common.{◌≡◌, ◌≤◌, sym, refl, ap, subst, ◌∙◌, arith}
-use Rattle.std.specs.Prelude.{◌&&◌, []}
-use Rattle.tree.specs.declared.kind.Kind.TheVariants.{ChainExpression}
-use Rattle.tree.specs.Tree.{Tree, node, plain, part, none, height, parts_height, flags_of}
+use Rattle.std.proofs.Common.{◌≡◌, ◌≤◌, true, false, sym, refl, ap, subst, ◌∙◌, arith}
+use Rattle.std.specs.Prelude.{◌&&◌, not, []}
+use Rattle.tree.specs.declared.kind.Kind.TheVariants.{ChainExpression, SwitchCase, VariableDeclarator}
+use Rattle.tree.specs.Tree.{Tree, node, plain, kind_of, part, gap, none, push, push_gap, height, parts_height, flags_of}
 use Rattle.language.specs.Statements.{is_directive}
 use Rattle.language.specs.declared.Rank.TheVariants.{LeftHandSide}
-use Rattle.language.specs.declared.Edge.TheVariants.{Other}
+use Rattle.language.specs.declared.Edge.TheVariants.{Other, Closed}
+use Rattle.covers.specs.declared.list.Item.{Item}
+use Rattle.covers.specs.declared.list.Listed.TheVariants.{Cases, Declarators, Elements, Members, Properties, Sequence}
+use Rattle.covers.specs.Patterns.{pattern_tree}
+use Rattle.covers.specs.Shapes.{is_target, value}
+use Rattle.language.specs.Words.{is_target as is_simple}
 use Rattle.parser.specs.Derived.{Adds, GoesOn}
 use Rattle.parser.specs.Parts.{plain_part}
+use Rattle.parser.specs.DerivedLists.{ItemReads, asks_edge, is_chunked}
 use Rattle.parser.specs.DerivedPieces.{StatementsAt}
+use Rattle.parser.specs.Follows.{ChunkAt}
+use Rattle.parser.specs.Items.{item_from, with_item}
+use Rattle.parser.proofs.CaseOf.{case_nodes, case_taken}
 use Rattle.parser.proofs.Chaining.{chain_first, chain_on, chain_returned, chain_whole}
 use Rattle.parser.proofs.Deriving.{arguments_read}
+use Rattle.parser.proofs.ItemsOf.{alone_item, chunk_item, element_low, is_an_element, low_chunk, low_hole, low_item, alone_behind, default_kind, elements_only, lists_elements, never_spreads, not_covers, of_text, simple_part, spread_item, taken_item}
+use Rattle.parser.proofs.Listing.{declared_valued, declared_valueless, named_where}
 use Rattle.parser.proofs.Spelled.{turn_on}
 use Rattle.parser.proofs.Stating.{all_directive, and_true, still, push_low, statements_first, statements_on}
 use Rattle.parser.proofs.position.Parser.+grammar.Goals as goal
-use Rattle.parser.proofs.position.Parser.+grammar.Goals.{then-context, else-context}
+use Rattle.parser.proofs.position.Parser.+grammar.Goals.{then-context, else-context, then-has_value+in_ok-value+in_ok-settle+in_ok-push, else-has_value+in_ok-push_gap, then-not-is_name, else-not-is_name, in_default-via-in-Elements+else-sees, in_default-via-in_default, then-is_default+in_ok-push_gap-in-Cases, else-is_default}
 
 pub arguments-returns-clause-derived : goal.arguments-returns-clause-derived
 arguments-returns-clause-derived c = arguments_read c.in_ok-list.list c.in_ok-list-2.field-0 c.open.ensures.text c.open.ensures.same_open c.open.ensures.same_pairs c.in_ok-list.ensures.listed c.in_ok-list.ensures.begun c.in_ok-list-2.ensures.same.0 c.in_ok-list-2.ensures.derived
@@ -93,3 +104,143 @@ chain-returns-clause-derived c =
     let tree : c.in_ok-node.node ≡ node ChainExpression [] plain c.args.left.start c.links.self.cursor.last.stop (part c.links.part.cover.node none) = c.in_ok-node.ensures.0 ∙ (λ i. node ChainExpression [] plain (span i).start (span i).end (parts i)) in
     let result : c.plain-2.result ≡ plain_part (node ChainExpression [] plain c.args.left.start c.links.self.cursor.last.stop (part c.links.part.cover.node none)) LeftHandSide Other = c.plain-2.ensures ∙ ap (λ n. plain_part n LeftHandSide Other) tree in
     chain_returned c.links.part result (chain_whole c.links.invariant.derived)
+
+pub declarator-returns-clause-derived : goal.declarator-returns-clause-derived
+declarator-returns-clause-derived c =
+    let starts = c.place-start.ensures.starts in
+    let fits = c.in_ok-bound.ensures.bound.1 in
+    let target : c.in_ok-nodes.nodes ≡ part (pattern_tree c.in_ok-part.part.cover.node) none = c.in_ok-nodes.ensures.made ∙ ap (λ n. part n none) c.in_ok-bound.ensures.bound.0 in
+    let tree : c.plain-item.result.node ≡ node VariableDeclarator [] plain c.place-start.result c.if-has_value.self.cursor.last.stop c.if-has_value.nodes = ap (λ x. x.node) c.plain-item.ensures ∙ c.in_ok-node.ensures.0 ∙ (λ i. node VariableDeclarator [] plain (c.span_from.ensures i).start (c.span_from.ensures i).end c.if-has_value.nodes) in
+    let it : Item = record { node = c.plain-item.result.node; shape = c.plain-item.result.shape; spreads = c.plain-item.result.spreads; is_marked = c.if-not-is_name.item; edge = c.if-has_value.edge } in
+    let shape = ap (λ x. x.shape) c.plain-item.ensures in
+    let spreads = ap (λ x. x.spreads) c.plain-item.ensures in
+    let here = c.accept-has_value.ensures in
+    elim c.if-has_value.branch [
+      | then-has_value+in_ok-value+in_ok-settle+in_ok-push w ↦
+          let e = w.expression.new.self.cursor in
+          let parts : c.if-has_value.nodes ≡ part (pattern_tree c.in_ok-part.part.cover.node) (part w.in_ok-value.value.cover.node none) = w.nodes-is ∙ w.in_ok-push.ensures.pushed ∙ (λ i. push (target i) (w.in_ok-settle.ensures.settled.0 i)) in
+          let unmarked : c.if-not-is_name.item ≡ false = elim c.if-not-is_name.branch [
+            | then-not-is_name u ↦ u.item-is ∙ ap not w.if-has_value.true
+            | else-not-is_name u ↦ u.item-is ∙ ap not u.if-not-is_name.false
+          ] in
+          let is : it ≡ record { node = node VariableDeclarator [] plain c.place-start.result e.last.stop (part (pattern_tree c.in_ok-part.part.cover.node) (part w.in_ok-value.value.cover.node none)); shape = value; spreads = false; is_marked = false; edge = w.in_ok-value.value.edge } =
+          (λ i. record { node = (tree ∙ (λ j. node VariableDeclarator [] plain c.place-start.result (w.self-is j).cursor.last.stop (parts j))) i; shape = shape i; spreads = spreads i; is_marked = unmarked i; edge = w.edge-is i }) in
+          subst (λ z. Adds c.args.self.now.cursor z.cursor c.args.self.now.pairs.items z.pairs.items (ItemReads c.args.self.now.cursor.text (Declarators c.args.has_in) it)) (sym w.self-is)
+          (declared_valued it starts c.at.ensures w.at-then-has_value.ensures c.in_ok-part.ensures.derived fits c.opening.ensures.text (here.text ∙ c.opening.ensures.text) here.same_open here.same_pairs w.if-has_value.ensures.accepted w.in_ok-value.ensures.derived w.in_ok-settle.ensures.settled.1 is)
+      | else-has_value+in_ok-push_gap w ↦
+          let e = c.accept-has_value.new.self.cursor in
+          let parts : c.if-has_value.nodes ≡ part (pattern_tree c.in_ok-part.part.cover.node) (gap none) = w.nodes-is ∙ w.in_ok-push_gap.ensures.pushed ∙ ap push_gap target in
+          let named = named_where c.if-not-is_name.item c.is_bare-is_name.result (elim c.if-not-is_name.branch [
+            | then-not-is_name u ↦ u.item-is ∙ ap not w.if-has_value.false ∙ sym (ap not u.if-not-is_name.true)
+            | else-not-is_name u ↦ u.item-is
+          ]) c.is_bare-is_name.ensures.bare in
+          let is : it ≡ record { node = node VariableDeclarator [] plain c.place-start.result e.last.stop (part (pattern_tree c.in_ok-part.part.cover.node) (gap none)); shape = value; spreads = false; is_marked = c.if-not-is_name.item; edge = Closed } =
+          (λ i. record { node = (tree ∙ (λ j. node VariableDeclarator [] plain c.place-start.result (w.self-is j).cursor.last.stop (parts j))) i; shape = shape i; spreads = spreads i; is_marked = c.if-not-is_name.item; edge = w.edge-is i }) in
+          subst (λ z. Adds c.args.self.now.cursor z.cursor c.args.self.now.pairs.items z.pairs.items (ItemReads c.args.self.now.cursor.text (Declarators c.args.has_in) it)) (sym w.self-is)
+          (declared_valueless it starts c.at.ensures c.in_ok-part.ensures.derived fits here.same_open here.same_pairs w.if-has_value.ensures.missed.1 (λ k. (named k).0) is)
+    ]
+
+pub item-returns-in-Elements-clause-low : goal.item-returns-in-Elements-clause-low
+item-returns-in-Elements-clause-low c = low_hole c.args.list.now _ c.args.high c.push_hole.result c.push_hole.ensures.pushed
+
+pub item-returns-in_ok-item-in-Properties-clause-low : goal.item-returns-in_ok-item-in-Properties-clause-low
+item-returns-in_ok-item-in-Properties-clause-low c = low_item c.args.list.now _ c.in_ok-item-in-Properties.item c.args.high c.push.result c.push.ensures.pushed c.in_ok-item-in-Properties.ensures.low
+
+pub item-returns-in_ok-item-in-Properties-clause-derived : goal.item-returns-in_ok-item-in-Properties-clause-derived
+item-returns-in_ok-item-in-Properties-clause-derived c = taken_item c.args.list.now _ c.in_ok-item-in-Properties.item _ c.push.result (ap is_chunked c.in-Properties.is) c.push.ensures.pushed c.push.ensures.taken (not_covers c.args.list.now.listed Properties c.in-Properties.is refl) (of_text c.in_ok-item-in-Properties.item c.in-Properties.is c.in_ok-item-in-Properties.ensures.derived)
+
+pub item-returns-in_ok-item-in-Members-clause-low : goal.item-returns-in_ok-item-in-Members-clause-low
+item-returns-in_ok-item-in-Members-clause-low c = low_item c.args.list.now _ c.in_ok-item-in-Members.item c.args.high c.push-in-Members.result c.push-in-Members.ensures.pushed c.in_ok-item-in-Members.ensures.low
+
+pub item-returns-in_ok-item-in-Members-clause-derived : goal.item-returns-in_ok-item-in-Members-clause-derived
+item-returns-in_ok-item-in-Members-clause-derived c = taken_item c.args.list.now _ c.in_ok-item-in-Members.item _ c.push-in-Members.result (ap is_chunked c.in-Members.is) c.push-in-Members.ensures.pushed c.push-in-Members.ensures.taken (not_covers c.args.list.now.listed Members c.in-Members.is refl) (of_text c.in_ok-item-in-Members.item c.in-Members.is c.in_ok-item-in-Members.ensures.derived)
+
+pub item-returns-in_ok-item-in-Declarators-clause-low : goal.item-returns-in_ok-item-in-Declarators-clause-low
+item-returns-in_ok-item-in-Declarators-clause-low c = low_item c.args.list.now _ c.in_ok-item-in-Declarators.item c.args.high c.push-in-Declarators.result c.push-in-Declarators.ensures.pushed c.in_ok-item-in-Declarators.ensures.low
+
+pub item-returns-in_ok-item-in-Declarators-clause-derived : goal.item-returns-in_ok-item-in-Declarators-clause-derived
+item-returns-in_ok-item-in-Declarators-clause-derived c = taken_item c.args.list.now _ c.in_ok-item-in-Declarators.item _ c.push-in-Declarators.result (ap is_chunked c.in-Declarators.is) c.push-in-Declarators.ensures.pushed c.push-in-Declarators.ensures.taken
+    (not_covers c.args.list.now.listed (Declarators c.in-Declarators.has_in) c.in-Declarators.is refl) (of_text c.in_ok-item-in-Declarators.item c.in-Declarators.is c.in_ok-item-in-Declarators.ensures.derived)
+
+pub item-returns-in_ok-next_chunk-in-Template-clause-low : goal.item-returns-in_ok-next_chunk-in-Template-clause-low
+item-returns-in_ok-next_chunk-in-Template-clause-low c =
+    let settled = c.in_ok-settle-in-Template.ensures.settled in
+    let first = c.in_ok-push-in-Template.ensures.pushed ∙ ap (with_item c.args.list.now) (c.plain.ensures ∙ ap (λ n. item_from n value false Closed) settled.0) in
+    low_chunk c.next_chunk.new.self.cursor.text _ c.next_chunk.new.self.cursor.last c.args.list.now c.push-in-Template.new.self _ c.in_ok-part-in-Template.part c.in_ok-next_chunk-in-Template.field-0 c.args.high c.push-in-Template-2.result first c.push-in-Template-2.ensures.pushed c.in_ok-part-in-Template.ensures.low
+    (subst (λ t. ChunkAt t c.expression.new.self.cursor.last c.next_chunk.new.self.cursor.last c.in_ok-next_chunk-in-Template.field-0.node c.in_ok-next_chunk-in-Template.field-0.is_marked) (sym c.next_chunk.ensures.text) c.in_ok-next_chunk-in-Template.ensures.read)
+
+pub item-returns-in_ok-next_chunk-in-Template-clause-derived : goal.item-returns-in_ok-next_chunk-in-Template-clause-derived
+item-returns-in_ok-next_chunk-in-Template-clause-derived c =
+    let settled = c.in_ok-settle-in-Template.ensures.settled in
+    let first = c.in_ok-push-in-Template.ensures.pushed ∙ ap (with_item c.args.list.now) (c.plain.ensures ∙ ap (λ n. item_from n value false Closed) settled.0) in
+    chunk_item _ c.args.list.now c.push-in-Template.new.self _ c.in_ok-part-in-Template.part c.in_ok-next_chunk-in-Template.field-0 c.push-in-Template-2.result refl c.in-Template.is first c.push-in-Template-2.ensures.pushed c.expression.ensures.text c.in_ok-part-in-Template.ensures.derived settled.1 c.next_chunk.ensures.same_open c.next_chunk.ensures.same_pairs c.in_ok-next_chunk-in-Template.ensures.read
+
+pub item-returns-in_ok-item-in-Sequence-clause-low : goal.item-returns-in_ok-item-in-Sequence-clause-low
+item-returns-in_ok-item-in-Sequence-clause-low c =
+    low_item c.args.list.now _ c.in_ok-item-in-Sequence.item c.args.high c.push-in-Sequence.result c.push-in-Sequence.ensures.pushed
+    (element_low false c.place-start.result c.expression-in-Sequence.new.self.cursor.last.stop c.in_ok-part-in-Sequence.part c.in_ok-item-in-Sequence.item c.args.high c.in_ok-item-in-Sequence.ensures.made.0 c.in_ok-item-in-Sequence.ensures.made.1 (λ h. c.in_ok-part-in-Sequence.ensures.low))
+
+pub item-returns-in_ok-item-in-Sequence-clause-derived : goal.item-returns-in_ok-item-in-Sequence-clause-derived
+item-returns-in_ok-item-in-Sequence-clause-derived c =
+    taken_item c.args.list.now _ c.in_ok-item-in-Sequence.item _ c.push-in-Sequence.result (ap is_chunked c.in-Sequence.is) c.push-in-Sequence.ensures.pushed c.push-in-Sequence.ensures.taken
+    (not_covers c.args.list.now.listed (Sequence c.in-Sequence.has_in) c.in-Sequence.is refl)
+    (of_text c.in_ok-item-in-Sequence.item c.in-Sequence.is (alone_item (Sequence c.in-Sequence.has_in) c.place-start.result c.in_ok-part-in-Sequence.part c.in_ok-item-in-Sequence.item c.at.ensures refl c.in_ok-item-in-Sequence.ensures.made.0 c.in_ok-part-in-Sequence.ensures.derived))
+
+pub item-returns-then-accept-clause-derived : goal.item-returns-then-accept-clause-derived
+item-returns-then-accept-clause-derived c =
+    let kind : (lists_elements c.args.list.now.listed && not (asks_edge c.args.list.now.listed)) ≡ true = elim c.in_default.branch [
+      | in_default-via-in-Elements+else-sees w ↦ is_an_element c.args.list.now.listed Elements w.in-Elements.is refl
+      | in_default-via-in_default w ↦ default_kind c.args.list.now.listed w.in_default.not-Properties w.in_default.not-Members w.in_default.not-Template w.in_default.not-Sequence w.in_default.not-Declarators w.in_default.not-Cases
+    ] in
+    let part = c.in_ok-part-in_default.part in
+    let item = c.in_ok-item-in_default.item in
+    let made = c.in_ok-item-in_default.ensures.made.0 in
+    let is = elements_only c.args.list.now.listed kind in
+    taken_item c.args.list.now _ item _ c.push-then-accept.result is.2 c.push-then-accept.ensures.pushed c.push-then-accept.ensures.taken
+    (λ covers alone. never_spreads _ _ part item made alone)
+    (spread_item c.args.list.now.listed c.place-start.result part item refl is.0 is.1 made c.place-start.ensures.starts c.if-accept.ensures.accepted c.accept.ensures.text c.accept.ensures.same_open c.accept.ensures.same_pairs c.in_ok-part-in_default.ensures.derived)
+
+pub item-returns-then-accept-clause-low : goal.item-returns-then-accept-clause-low
+item-returns-then-accept-clause-low c =
+    low_item c.args.list.now _ c.in_ok-item-in_default.item c.args.high c.push-then-accept.result c.push-then-accept.ensures.pushed
+    (element_low true c.place-start.result c.expression-then-accept.new.self.cursor.last.stop c.in_ok-part-in_default.part c.in_ok-item-in_default.item c.args.high c.in_ok-item-in_default.ensures.made.0 c.in_ok-item-in_default.ensures.made.1 (λ h. cc))
+
+pub item-returns-in_ok-item-in_default-2-clause-low : goal.item-returns-in_ok-item-in_default-2-clause-low
+item-returns-in_ok-item-in_default-2-clause-low c =
+    low_item c.args.list.now _ c.in_ok-item-in_default-2.item c.args.high c.push-in_default.result c.push-in_default.ensures.pushed
+    (element_low false c.place-start.result c.expression-in_default.new.self.cursor.last.stop c.in_ok-part-in_default-2.part c.in_ok-item-in_default-2.item c.args.high c.in_ok-item-in_default-2.ensures.made.0 c.in_ok-item-in_default-2.ensures.made.1 (λ h. c.in_ok-part-in_default-2.ensures.low))
+
+pub item-returns-in_ok-item-in_default-2-clause-derived : goal.item-returns-in_ok-item-in_default-2-clause-derived
+item-returns-in_ok-item-in_default-2-clause-derived c =
+    let kind : (lists_elements c.args.list.now.listed && not (asks_edge c.args.list.now.listed)) ≡ true = elim c.in_default.branch [
+      | in_default-via-in-Elements+else-sees w ↦ is_an_element c.args.list.now.listed Elements w.in-Elements.is refl
+      | in_default-via-in_default w ↦ default_kind c.args.list.now.listed w.in_default.not-Properties w.in_default.not-Members w.in_default.not-Template w.in_default.not-Sequence w.in_default.not-Declarators w.in_default.not-Cases
+    ] in
+    let is = elements_only c.args.list.now.listed kind in
+    let part = c.in_ok-part-in_default-2.part in
+    let item = c.in_ok-item-in_default-2.item in
+    let made = c.in_ok-item-in_default-2.ensures.made.0 in
+    taken_item c.args.list.now _ item _ c.push-in_default.result is.2 c.push-in_default.ensures.pushed c.push-in_default.ensures.taken
+    (λ covers alone target. subst (λ x. is_simple (kind_of x) ≡ true) (sym (ap (λ (x : Item). x.node) made)) (simple_part part refl c.in_ok-part-in_default-2.ensures.derived (sym (ap (λ (x : Item). is_target x.shape.assigned) made) ∙ target)))
+    (alone_behind c.args.list.now.listed c.place-start.result part item refl is.0 is.1 made c.if-accept.ensures.missed.1 c.accept.ensures.text c.accept.ensures.same_open c.accept.ensures.same_pairs c.in_ok-part-in_default-2.ensures.derived)
+
+pub item-returns-in_ok-plain-in-Cases-clause-low : goal.item-returns-in_ok-plain-in-Cases-clause-low
+item-returns-in_ok-plain-in-Cases-clause-low c =
+    let d = c.in_ok-is_default-in-Cases.is_default in
+    let it : Item = record { node = c.plain-item.result.node; shape = c.plain-item.result.shape; spreads = c.plain-item.result.spreads; is_marked = d; edge = c.plain-item.result.edge } in
+    let tree : c.plain-item.result.node ≡ c.in_ok-plain-in-Cases.field-0 = ap (λ (x : Item). x.node) c.plain-item.ensures in
+    low_item c.args.list.now _ it c.args.high c.push-in-Cases.result c.push-in-Cases.ensures.pushed (subst (λ x. height x ≤ c.args.high) (sym (tree ∙ c.in_ok-plain-in-Cases.ensures.0)) c.in_ok-plain-in-Cases.ensures.1)
+
+pub item-returns-in_ok-plain-in-Cases-clause-derived : goal.item-returns-in_ok-plain-in-Cases-clause-derived
+item-returns-in_ok-plain-in-Cases-clause-derived c =
+    let d = c.in_ok-is_default-in-Cases.is_default in
+    let it : Item = record { node = c.plain-item.result.node; shape = c.plain-item.result.shape; spreads = c.plain-item.result.spreads; is_marked = d; edge = c.plain-item.result.edge } in
+    let tree : c.plain-item.result.node ≡ node SwitchCase [] plain c.place-start.result c.pieces.new.self.cursor.last.stop c.pieces.new.built.nodes = ap (λ (x : Item). x.node) c.plain-item.ensures ∙ c.in_ok-plain-in-Cases.ensures.0 ∙ (λ i. node SwitchCase [] plain (c.span_from-span.ensures i).start (c.span_from-span.ensures i).end c.pieces.new.built.nodes) in
+    let item : it ≡ record { node = node SwitchCase [] plain c.place-start.result c.pieces.new.self.cursor.last.stop c.pieces.new.built.nodes; shape = value; spreads = false; is_marked = d; edge = Closed } =
+    (λ i. record { node = tree i; shape = (c.plain-item.ensures i).shape; spreads = (c.plain-item.ensures i).spreads; is_marked = d; edge = (c.plain-item.ensures i).edge }) in
+    let empty : c.if-is_default.built.nodes ≡ case_nodes d none = elim c.if-is_default.branch [
+      | then-is_default+in_ok-push_gap-in-Cases w ↦ ap (λ x. x.nodes) w.built-is ∙ w.in_ok-push_gap-in-Cases.ensures.pushed ∙ ap push_gap (ap (λ x. x.nodes) c.new-built.ensures) ∙ ap (λ b. case_nodes b none) (sym w.if-is_default.true)
+      | else-is_default w ↦ ap (λ x. x.nodes) w.built-is ∙ ap (λ x. x.nodes) c.new-built.ensures ∙ ap (λ b. case_nodes b none) (sym w.if-is_default.false)
+    ] in
+    taken_item c.args.list.now _ it _ c.push-in-Cases.result (ap is_chunked c.in-Cases.is) c.push-in-Cases.ensures.pushed c.push-in-Cases.ensures.taken (not_covers c.args.list.now.listed (Cases c.in-Cases.returns) c.in-Cases.is refl)
+    (of_text it c.in-Cases.is (case_taken c.in-Cases.returns d c.place-start.result c.if-is_default.built c.pieces.new.built c.item-context.result _ it c.item-context.ensures c.case_pieces.ensures c.place-start.ensures.starts c.in_ok-is_default-in-Cases.ensures.accepted c.is_default.ensures.text c.is_default.ensures.same_open c.is_default.ensures.same_pairs empty c.in_ok-pieces-in-Cases.ensures.derived item))

@@ -2,9 +2,13 @@ use Rattle.std.proofs.Common.{◌≡◌, ◌-◌, ◌+◌, ◌*◌, ◌≤◌, �
 use Rattle.std.specs.Prelude.{◌&&◌}
 use Rattle.tree.specs.Tree.{height, parts_height}
 use Rattle.parser.specs.Derived.{Adds, ReadAt}
+use Rattle.covers.specs.declared.list.Listed.TheVariants.{Covers}
+use Rattle.parser.specs.DerivedLists.{SeenRight}
 use Rattle.parser.specs.DerivedPieces.{StatementsAt}
+use Rattle.parser.specs.Outcomes.{BeginsBy}
 use Rattle.parser.proofs.Chaining.{ChainedOn}
 use Rattle.parser.proofs.Stating.{all_directive}
+use Rattle.parser.proofs.Wholly.{FurtherOn}
 use Rattle.parser.proofs.position.Parser.+grammar.Given as goal
 
 abbrev pub decreases-worded : goal.decreases-worded
@@ -94,6 +98,12 @@ abbrev pub invariant-list-items : goal.invariant-list-items
 invariant-list-items l = record {
   same : l.self.cursor.text ≡ l.fn.self.cursor.text;
   forward : l.fn.self.cursor.last.stop ≤ l.self.cursor.last.stop;
+  derived : Adds l.fn.self.cursor l.self.cursor l.fn.self.pairs.items l.self.pairs.items (FurtherOn l.fn.self.cursor.text l.fn.list l.list);
+  listed : l.list.listed ≡ l.fn.list.listed;
+  start : l.list.span.start ≡ l.fn.list.span.start;
+  low : parts_height l.fn.list.nodes ≤ l.fn.high → parts_height l.list.nodes ≤ l.fn.high;
+  seen : SeenRight l.fn.list → SeenRight l.list;
+  begins : l.fn.list.listed ≡ Covers → BeginsBy l.fn.self.cursor l.list.inside.start;
 }
 
 abbrev pub decreases-list-items : goal.decreases-list-items
