@@ -12,6 +12,7 @@ use Rattle.covers.specs.Patterns.{pattern_tree}
 use Rattle.covers.specs.Shapes.{is_target, value}
 use Rattle.language.specs.Words.{is_target as is_simple}
 use Rattle.parser.specs.Derived.{Adds, GoesOn}
+use Rattle.parser.specs.Outcomes.{BeginsBy}
 use Rattle.parser.specs.Parts.{plain_part}
 use Rattle.parser.specs.DerivedLists.{ItemReads, asks_edge, is_chunked}
 use Rattle.parser.specs.DerivedPieces.{StatementsAt}
@@ -19,13 +20,14 @@ use Rattle.parser.specs.Follows.{ChunkAt}
 use Rattle.parser.specs.Items.{item_from, with_item}
 use Rattle.parser.proofs.CaseOf.{case_nodes, case_taken}
 use Rattle.parser.proofs.Chaining.{chain_first, chain_on, chain_returned, chain_whole}
-use Rattle.parser.proofs.Deriving.{arguments_read}
+use Rattle.parser.proofs.Deriving.{adds_none, arguments_read}
 use Rattle.parser.proofs.ItemsOf.{alone_item, chunk_item, element_low, is_an_element, low_chunk, low_hole, low_item, alone_behind, default_kind, elements_only, lists_elements, never_spreads, not_covers, of_text, simple_part, spread_item, taken_item}
 use Rattle.parser.proofs.Listing.{declared_valued, declared_valueless, named_where}
 use Rattle.parser.proofs.Spelled.{turn_on}
 use Rattle.parser.proofs.Stating.{all_directive, and_true, still, push_low, statements_first, statements_on}
+use Rattle.parser.proofs.Wholly.{further_first, not_a_sequence, same_right}
 use Rattle.parser.proofs.position.Parser.+grammar.Goals as goal
-use Rattle.parser.proofs.position.Parser.+grammar.Goals.{then-context, else-context, then-has_value+in_ok-value+in_ok-settle+in_ok-push, else-has_value+in_ok-push_gap, then-not-is_name, else-not-is_name, in_default-via-in-Elements+else-sees, in_default-via-in_default, then-is_default+in_ok-push_gap-in-Cases, else-is_default}
+use Rattle.parser.proofs.position.Parser.+grammar.Goals.{then-context, else-context, then-has_value+in_ok-value+in_ok-settle+in_ok-push, else-has_value+in_ok-push_gap, then-not-is_name, else-not-is_name, in_default-via-in-Elements+else-sees, in_default-via-in_default, then-is_default+in_ok-push_gap-in-Cases, else-is_default, then-not-matches, else-not-matches, in-Sequence, in_default, else-items-test, then-items-test+in_ok-item+then-not-is_separated, in-Some+in_ok-expect, in_default-closing}
 
 pub arguments-returns-clause-derived : goal.arguments-returns-clause-derived
 arguments-returns-clause-derived c = arguments_read c.in_ok-list.list c.in_ok-list-2.field-0 c.open.ensures.text c.open.ensures.same_open c.open.ensures.same_pairs c.in_ok-list.ensures.listed c.in_ok-list.ensures.begun c.in_ok-list-2.ensures.same.0 c.in_ok-list-2.ensures.derived
@@ -244,3 +246,41 @@ item-returns-in_ok-plain-in-Cases-clause-derived c =
     ] in
     taken_item c.args.list.now _ it _ c.push-in-Cases.result (ap is_chunked c.in-Cases.is) c.push-in-Cases.ensures.pushed c.push-in-Cases.ensures.taken (not_covers c.args.list.now.listed (Cases c.in-Cases.returns) c.in-Cases.is refl)
     (of_text it c.in-Cases.is (case_taken c.in-Cases.returns d c.place-start.result c.if-is_default.built c.pieces.new.built c.item-context.result _ it c.item-context.ensures c.case_pieces.ensures c.place-start.ensures.starts c.in_ok-is_default-in-Cases.ensures.accepted c.is_default.ensures.text c.is_default.ensures.same_open c.is_default.ensures.same_pairs empty c.in_ok-pieces-in-Cases.ensures.derived item))
+
+pub list-items-init : goal.list-items-init
+list-items-init c =
+    let listed : c.if-not-matches.list.listed ≡ c.args.list.listed = elim c.if-not-matches.branch [
+      | then-not-matches w ↦ ap (λ x. x.listed) w.list-is
+      | else-not-matches w ↦ ap (λ x. x.listed) w.list-is
+    ] in
+    let nodes : c.if-not-matches.list.nodes ≡ c.args.list.nodes = elim c.if-not-matches.branch [
+      | then-not-matches w ↦ ap (λ x. x.nodes) w.list-is
+      | else-not-matches w ↦ ap (λ x. x.nodes) w.list-is
+    ] in
+    let seen : c.if-not-matches.list.seen ≡ c.args.list.seen = elim c.if-not-matches.branch [
+      | then-not-matches w ↦ ap (λ x. x.seen) w.list-is
+      | else-not-matches w ↦ ap (λ x. x.seen) w.list-is
+    ] in
+    let span : c.if-not-matches.list.span ≡ c.args.list.span = elim c.if-not-matches.branch [
+      | then-not-matches w ↦ ap (λ x. x.span) w.list-is
+      | else-not-matches w ↦ ap (λ x. x.span) w.list-is
+    ] in
+    record {
+      same = refl;
+      forward = omega arith;
+      derived = adds_none refl refl (λ o. further_first c.args.self.now.cursor.text c.args.list c.if-not-matches.list o c.args.self.now.cursor.last listed nodes seen);
+      listed = listed;
+      start = ap (λ x. x.start) span;
+      low = λ h. subst (λ x. parts_height x ≤ c.args.high) (sym nodes) h;
+      seen = same_right c.args.list c.if-not-matches.list listed nodes seen;
+      begins = λ covers. elim c.if-not-matches.branch [
+        | then-not-matches w ↦ subst (BeginsBy c.args.self.now.cursor) (sym (ap (λ x. x.inside.start) w.list-is ∙ ap (λ x. x.start) w.span_from-list.ensures)) w.operand_place.ensures
+        | else-not-matches w ↦ elim c.match-matches.branch [
+          | in-Sequence u ↦ not_a_sequence c.args.list.listed u.in-Sequence.has_in u.in-Sequence.is covers
+          | in_default u ↦ ?
+        ]
+      ];
+    }
+
+pub list-items-preserved : goal.list-items-preserved
+list-items-preserved c = ?
