@@ -16,6 +16,7 @@ pub mod Opened
 pub mod Operating
 pub mod Parted
 pub mod Refused
+pub mod Righted
 pub mod Seeing
 pub mod Spelled
 pub mod Stating

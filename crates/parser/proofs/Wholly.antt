@@ -354,3 +354,26 @@ further_item {s} {m} {t} {e} {x} l0 l k1 k2 k before here passed there open_same
     } in
     adds_both before (adds_behind {B = λ o _ z Q. ItemAt s.text l k1 o t.last e.last Q} open_same same more (λ o P h. h)) (λ o P Q u v f z R h.
     subst (λ y. SoFarAt s.text f k o z x.last y) (append_assoc R P Q) (further s.text f l k1 k2 k z m.last t.last e x (R ++ P) Q (u f z R h) passed' goes v (further_on ∙ text) a b c comma is))
+
+-- the places of a list stay
+item_kept : {text : List ℕ} (l k : ListOf) {o : ℕ} {s e : Token} {P : List Pair} → ItemAt text l k o s e P → (k.span.start ≡ l.span.start) × (k.inside.start ≡ l.inside.start)
+item_kept l k (an_item it plain pushed took item target) = (ap (λ y. y.span.start) pushed, ap (λ y. y.inside.start) pushed)
+item_kept l k (a_hole elements pushed still none_added comma) = (ap (λ y. y.span.start) pushed, ap (λ y. y.inside.start) pushed)
+item_kept l k (a_chunk template n c mid pushed expression part_read) = (ap (λ y. y.span.start) pushed, ap (λ y. y.inside.start) pushed)
+
+pub item_places : {s e : Point} {old new : List Pair} {text : List ℕ} {l k : ListOf} → Adds s e old new (ItemAt text l k) → (k.span.start ≡ l.span.start) × (k.inside.start ≡ l.inside.start)
+item_places {l = l} {k = k} a = item_kept l k a.is
+
+pub after_start : (k : ListOf) (b : Bool) → (after_item k b).span.start ≡ k.span.start
+after_start k b = of (is_ended k.listed k.seen (part_count k.nodes) || is_unseparated k.listed)
+  where
+    of : (c : Bool) → (if c then k else record k { seen = separated k.seen b }).span.start ≡ k.span.start
+    of true = refl
+    of false = refl
+
+pub after_inside : (k : ListOf) (b : Bool) → (after_item k b).inside.start ≡ k.inside.start
+after_inside k b = of (is_ended k.listed k.seen (part_count k.nodes) || is_unseparated k.listed)
+  where
+    of : (c : Bool) → (if c then k else record k { seen = separated k.seen b }).inside.start ≡ k.inside.start
+    of true = refl
+    of false = refl

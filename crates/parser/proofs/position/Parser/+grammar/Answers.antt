@@ -1,6 +1,7 @@
 -- What the functions of the cycle derive.
 use Rattle.std.proofs.Common.{◌≡◌, ◌≤◌, true, false, sym, refl, ap, subst, ◌∙◌, arith}
 use Rattle.std.specs.Prelude.{◌&&◌, not, []}
+use Rattle.std.proofs.lemmas.Bool.{false≢true}
 use Rattle.tree.specs.declared.kind.Kind.TheVariants.{ChainExpression, SwitchCase, VariableDeclarator}
 use Rattle.tree.specs.Tree.{Tree, node, plain, kind_of, part, gap, none, push, push_gap, height, parts_height, flags_of}
 use Rattle.language.specs.Statements.{is_directive}
@@ -17,7 +18,8 @@ use Rattle.parser.specs.Parts.{plain_part}
 use Rattle.parser.specs.DerivedLists.{ItemReads, asks_edge, is_chunked}
 use Rattle.parser.specs.DerivedPieces.{StatementsAt}
 use Rattle.parser.specs.Follows.{ChunkAt}
-use Rattle.parser.specs.Items.{item_from, with_item}
+use Rattle.covers.specs.declared.list.List.{List}
+use Rattle.parser.specs.Items.{after_item, item_from, with_item}
 use Rattle.parser.proofs.CaseOf.{case_nodes, case_taken}
 use Rattle.parser.proofs.Chaining.{chain_first, chain_on, chain_returned, chain_whole}
 use Rattle.parser.proofs.Deriving.{adds_none, arguments_read}
@@ -25,7 +27,7 @@ use Rattle.parser.proofs.ItemsOf.{alone_item, chunk_item, element_low, is_an_ele
 use Rattle.parser.proofs.Listing.{declared_valued, declared_valueless, named_where}
 use Rattle.parser.proofs.Spelled.{turn_on}
 use Rattle.parser.proofs.Stating.{all_directive, and_true, still, push_low, statements_first, statements_on}
-use Rattle.parser.proofs.Wholly.{further_first, not_a_sequence, same_right}
+use Rattle.parser.proofs.Wholly.{after_inside, after_nodes, after_start, further_first, further_item, item_places, not_a_sequence, same_right}
 use Rattle.parser.proofs.position.Parser.+grammar.Goals as goal
 use Rattle.parser.proofs.position.Parser.+grammar.Goals.{then-context, else-context, then-has_value+in_ok-value+in_ok-settle+in_ok-push, else-has_value+in_ok-push_gap, then-not-is_name, else-not-is_name, in_default-via-in-Elements+else-sees, in_default-via-in_default, then-is_default+in_ok-push_gap-in-Cases, else-is_default, then-not-matches, else-not-matches, in-Sequence, in_default, else-items-test, then-items-test+in_ok-item+then-not-is_separated, in-Some+in_ok-expect, in_default-closing}
 
@@ -277,10 +279,28 @@ list-items-init c =
         | then-not-matches w ↦ subst (BeginsBy c.args.self.now.cursor) (sym (ap (λ x. x.inside.start) w.list-is ∙ ap (λ x. x.start) w.span_from-list.ensures)) w.operand_place.ensures
         | else-not-matches w ↦ elim c.match-matches.branch [
           | in-Sequence u ↦ not_a_sequence c.args.list.listed u.in-Sequence.has_in u.in-Sequence.is covers
-          | in_default u ↦ ?
+          | in_default u ↦ absurd (false≢true (sym u.matches-is ∙ w.if-not-matches.false))
         ]
       ];
     }
 
 pub list-items-preserved : goal.list-items-preserved
-list-items-preserved c = ?
+list-items-preserved c =
+    let v = c.items.invariant in
+    let on = v.forward in
+    let passed = c.has_item.ensures.forward in
+    let further = c.item.ensures.forward in
+    let after = c.is_separated.ensures.forward in
+    let separated = c.is_separated.ensures.separated in
+    let places = item_places c.in_ok-item.ensures.derived in
+    let k2 : List = record c.item.new.list { inside = c.span_from-list-in-items.result } in
+    record {
+      same = c.is_separated.ensures.text ∙ c.item.ensures.text ∙ c.has_item.ensures.text ∙ v.same;
+      forward = omega arith;
+      derived = further_item c.args.list c.items.list c.item.new.list k2 c.is_separated.new.list v.derived v.same c.items-test.ensures.passed c.has_item.ensures.text c.has_item.ensures.same_open c.has_item.ensures.same_pairs c.items-test.ensures.item.0 c.in_ok-item.ensures.derived c.item.ensures.text refl refl refl c.is_separated.ensures.same_open c.is_separated.ensures.same_pairs c.if-not-is_separated.ensures.comma (separated ∙ ap (after_item k2) c.if-not-is_separated.false);
+      listed = c.is_separated.ensures.listed ∙ c.item.ensures.listed ∙ v.listed;
+      start = ap (λ x. x.span.start) separated ∙ after_start k2 c.is_separated.result ∙ places.0 ∙ v.start;
+      low = λ h. subst (λ x. parts_height x ≤ c.args.high) (sym (ap (λ x. x.nodes) separated ∙ after_nodes k2 c.is_separated.result)) (c.in_ok-item.ensures.low (v.low h));
+      seen = λ h. ?;
+      begins = λ covers. subst (BeginsBy c.args.self.now.cursor) (sym (ap (λ x. x.inside.start) separated ∙ after_inside k2 c.is_separated.result ∙ ap (λ x. x.start) c.span_from-list-in-items.ensures ∙ places.1)) (v.begins covers);
+    }
