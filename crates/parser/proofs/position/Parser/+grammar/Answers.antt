@@ -15,7 +15,7 @@ use Rattle.language.specs.Words.{is_target as is_simple}
 use Rattle.parser.specs.Derived.{Adds, GoesOn}
 use Rattle.parser.specs.Outcomes.{BeginsBy}
 use Rattle.parser.specs.Parts.{plain_part}
-use Rattle.parser.specs.DerivedLists.{ItemReads, asks_edge, is_chunked}
+use Rattle.parser.specs.DerivedLists.{ItemReads, SeenRight, asks_edge, is_chunked}
 use Rattle.parser.specs.DerivedPieces.{StatementsAt}
 use Rattle.parser.specs.Follows.{ChunkAt}
 use Rattle.covers.specs.declared.list.List.{List}
@@ -25,6 +25,7 @@ use Rattle.parser.proofs.Chaining.{chain_first, chain_on, chain_returned, chain_
 use Rattle.parser.proofs.Deriving.{adds_none, arguments_read}
 use Rattle.parser.proofs.ItemsOf.{alone_item, chunk_item, element_low, is_an_element, low_chunk, low_hole, low_item, alone_behind, default_kind, elements_only, lists_elements, never_spreads, not_covers, of_text, simple_part, spread_item, taken_item}
 use Rattle.parser.proofs.Listing.{declared_valued, declared_valueless, named_where}
+use Rattle.parser.proofs.Righted.{right_after, right_items}
 use Rattle.parser.proofs.Spelled.{turn_on}
 use Rattle.parser.proofs.Stating.{all_directive, and_true, still, push_low, statements_first, statements_on}
 use Rattle.parser.proofs.Wholly.{after_inside, after_nodes, after_start, further_first, further_item, item_places, not_a_sequence, same_right}
@@ -301,6 +302,14 @@ list-items-preserved c =
       listed = c.is_separated.ensures.listed ∙ c.item.ensures.listed ∙ v.listed;
       start = ap (λ x. x.span.start) separated ∙ after_start k2 c.is_separated.result ∙ places.0 ∙ v.start;
       low = λ h. subst (λ x. parts_height x ≤ c.args.high) (sym (ap (λ x. x.nodes) separated ∙ after_nodes k2 c.is_separated.result)) (c.in_ok-item.ensures.low (v.low h));
-      seen = λ h. ?;
+      seen = λ h. subst SeenRight (sym separated) (right_after k2 c.is_separated.result (same_right c.item.new.list k2 refl refl refl (right_items c.items.list c.item.new.list c.in_ok-item.ensures.derived (v.seen h))));
       begins = λ covers. subst (BeginsBy c.args.self.now.cursor) (sym (ap (λ x. x.inside.start) separated ∙ after_inside k2 c.is_separated.result ∙ ap (λ x. x.start) c.span_from-list-in-items.ensures ∙ places.1)) (v.begins covers);
     }
+
+pub list-returns-clause-seen : goal.list-returns-clause-seen
+list-returns-clause-seen c = λ h. same_right c.items-test.list _ refl refl refl (elim c.items-test.branch [
+  | else-items-test w ↦ subst SeenRight (sym w.list-is) (c.items.invariant.seen h)
+  | then-items-test+in_ok-item+then-not-is_separated w ↦
+      let k2 : List = record w.item.new.list { inside = w.span_from-list-in-items.result } in
+      subst SeenRight (sym (w.list-is ∙ w.is_separated.ensures.separated)) (right_after k2 w.is_separated.result (same_right w.item.new.list k2 refl refl refl (right_items c.items.list w.item.new.list w.in_ok-item.ensures.derived (c.items.invariant.seen h))))
+])
