@@ -1,3 +1,4 @@
+pub mod Arrowed
 pub mod Begun
 pub mod Breaks
 pub mod CaseOf

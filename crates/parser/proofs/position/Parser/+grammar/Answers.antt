@@ -2,7 +2,7 @@
 use Rattle.std.proofs.Common.{◌≡◌, ◌≤◌, true, false, sym, refl, ap, subst, ◌∙◌, arith}
 use Rattle.std.specs.Prelude.{◌&&◌, not, []}
 use Rattle.std.proofs.lemmas.Bool.{false≢true}
-use Rattle.tree.specs.declared.kind.Kind.TheVariants.{ChainExpression, SwitchCase, VariableDeclarator}
+use Rattle.tree.specs.declared.kind.Kind.TheVariants.{ChainExpression, SwitchCase, VariableDeclarator, ArrowFunctionExpression}
 use Rattle.tree.specs.Tree.{Tree, node, plain, kind_of, part, gap, none, push, push_gap, height, parts_height, flags_of}
 use Rattle.language.specs.Statements.{is_directive}
 use Rattle.language.specs.declared.Rank.TheVariants.{LeftHandSide}
@@ -21,6 +21,7 @@ use Rattle.parser.specs.Follows.{ChunkAt}
 use Rattle.covers.specs.declared.list.List.{List}
 use Rattle.parser.specs.Items.{after_item, item_from, with_item}
 use Rattle.parser.proofs.CaseOf.{case_nodes, case_taken}
+use Rattle.parser.proofs.Arrowed.{concise, arrow_block, arrow_concise}
 use Rattle.parser.proofs.Chaining.{chain_first, chain_on, chain_returned, chain_whole}
 use Rattle.parser.proofs.Deriving.{adds_none, arguments_read}
 use Rattle.parser.proofs.ItemsOf.{alone_item, chunk_item, element_low, is_an_element, low_chunk, low_hole, low_item, alone_behind, default_kind, elements_only, lists_elements, never_spreads, not_covers, of_text, simple_part, spread_item, taken_item}
@@ -313,3 +314,17 @@ list-returns-clause-seen c = λ h. same_right c.items-test.list _ refl refl refl
       let k2 : List = record w.item.new.list { inside = w.span_from-list-in-items.result } in
       subst SeenRight (sym (w.list-is ∙ w.is_separated.ensures.separated)) (right_after k2 w.is_separated.result (same_right w.item.new.list k2 refl refl refl (right_items c.items.list w.item.new.list w.in_ok-item.ensures.derived (c.items.invariant.seen h))))
 ])
+
+
+pub arrow-returns-then-sees-clause-derived : goal.arrow-returns-then-sees-clause-derived
+arrow-returns-then-sees-clause-derived c =
+    let span = c.span_from-span.ensures in
+    let tree : c.in_ok-node.node ≡ node ArrowFunctionExpression [] plain c.args.start c.pieces.new.self.cursor.last.stop c.pieces.new.built.nodes = c.in_ok-node.ensures.0 ∙ (λ i. node ArrowFunctionExpression [] plain (span i).start (span i).end c.pieces.new.built.nodes) in
+    arrow_block c.of-built.result c.pieces.new.built c.in_ok-node.node c.plain-then-sees.result c.expect.ensures.text c.expect.ensures.same_open c.expect.ensures.same_pairs c.in_ok-expect.ensures.accepted.0 c.of-built.ensures c.body_pieces.ensures c.in_ok-pieces.ensures.derived tree c.plain-then-sees.ensures
+
+pub arrow-returns-clause-derived : goal.arrow-returns-clause-derived
+arrow-returns-clause-derived c =
+    let span = c.span_from-span-2.ensures in
+    let parts : c.push.new.self ≡ push c.args.parameters c.in_ok-settle.field-0 = c.in_ok-push.ensures.pushed ∙ ap (λ b. push b.nodes c.in_ok-settle.field-0) c.of-built.ensures in
+    let tree : c.in_ok-node-2.node ≡ node ArrowFunctionExpression [] concise c.args.start c.expression.new.self.cursor.last.stop c.push.new.self = c.in_ok-node-2.ensures.0 ∙ (λ i. node ArrowFunctionExpression [] concise (span i).start (span i).end c.push.new.self) in
+    arrow_concise c.in_ok-body.body c.in_ok-node-2.node c.in_ok-settle.field-0 c.plain-2.result c.expect.ensures.text c.expect.ensures.same_open c.expect.ensures.same_pairs c.in_ok-expect.ensures.accepted.0 c.concise.ensures c.in_ok-body.ensures.derived c.in_ok-settle.ensures.settled.0 c.in_ok-settle.ensures.settled.1 parts tree c.plain-2.ensures
