@@ -59,6 +59,7 @@ module _ (text : List ℕ) where
       ArrowAt text i ps from (plain_part (node ArrowFunctionExpression [] plain from e.stop (push ps u)) Assignment Arrow) o s e P
   block_at {i} {ps} {from} {o} {s} {m} {e} {P} {u} sign d close = record {
     flags = plain;
+    lean = refl;
     body = u;
     tree = refl;
     start = refl;
@@ -74,6 +75,7 @@ module _ (text : List ℕ) where
       ArrowAt text i ps from (plain_part (node ArrowFunctionExpression [] concise from e.stop (push ps u)) Assignment right) o s e P
   concise_at {i} {ps} {from} {o} {s} {m} {e} {P} {u} sign d edge_is open_edge = record {
     flags = concise;
+    lean = refl;
     body = u;
     tree = refl;
     start = refl;

@@ -7,6 +7,8 @@ pub mod Delimited
 pub mod Deriving
 pub mod Extending
 pub mod Following
+pub mod Forward
+pub mod Grouped
 pub mod Grouping
 pub mod ItemsOf
 pub mod Listing
@@ -15,6 +17,7 @@ pub mod Modified
 pub mod Moves
 pub mod Opened
 pub mod Operating
+pub mod Parenthesized
 pub mod Parted
 pub mod Refused
 pub mod Righted

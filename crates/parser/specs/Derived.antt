@@ -10,7 +10,7 @@ use Rattle.tree.specs.declared.kind.Kind.{Kind}
 use Rattle.tree.specs.declared.kind.Kind.TheVariants.{Identifier, Super, AssignmentPattern, ArrowFunctionExpression}
 use Rattle.tree.specs.declared.kind.Flags.{Flags}
 use Rattle.tree.specs.declared.kind.Pair.{Pair}
-use Rattle.tree.specs.Tree.{Tree, node, Parts, part, none, push, kind_of, text_of, flags_of}
+use Rattle.tree.specs.Tree.{Tree, node, plain, Parts, part, none, push, kind_of, text_of, flags_of}
 use Rattle.language.specs.declared.Rank.{Rank}
 use Rattle.language.specs.declared.Rank.TheVariants.{Expression, Assignment, LeftHandSide, New}
 use Rattle.language.specs.declared.Start.{Start}
@@ -171,6 +171,7 @@ ArgumentsAt text ps o s e P = RunsIn text o (anywhere (arguments ps)) ps s e P
 -- An arrow function (14.2) from its `=>` on, which stands on the same line, behind its parameters, which begin here.
 pub record ArrowAt (text : List ℕ) (i : Bool) (parameters : Parts) (from : ℕ) (r : Part) (o : ℕ) (m e : Token) (Q : List Pair) : Type 0 where
   pub flags : Flags
+  pub lean : flags ≡ record plain { expression = flags.expression }
   pub body : Tree
   pub tree : r.cover.node ≡ node ArrowFunctionExpression [] flags from e.stop (push parameters body)
   pub start : r.start ≡ from

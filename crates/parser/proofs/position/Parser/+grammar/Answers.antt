@@ -1,5 +1,5 @@
 -- What the functions of the cycle derive.
-use Rattle.std.proofs.Common.{◌≡◌, ◌≤◌, true, false, sym, refl, ap, subst, ◌∙◌, arith}
+use Rattle.std.proofs.Common.{◌≡◌, ◌≤◌, true, false, sym, refl, ap, subst, ◌∙◌, arith, ◌+◌, ◌-◌, ◌<◌, length, set}
 use Rattle.std.specs.Prelude.{◌&&◌, not, []}
 use Rattle.std.proofs.lemmas.Bool.{false≢true}
 use Rattle.tree.specs.declared.kind.Kind.TheVariants.{ChainExpression, SwitchCase, VariableDeclarator, ArrowFunctionExpression}
@@ -12,14 +12,16 @@ use Rattle.covers.specs.declared.list.Listed.TheVariants.{Cases, Declarators, El
 use Rattle.covers.specs.Patterns.{pattern_tree}
 use Rattle.covers.specs.Shapes.{is_target, value}
 use Rattle.language.specs.Words.{is_target as is_simple}
-use Rattle.parser.specs.Derived.{Adds, GoesOn}
+use Rattle.parser.specs.Derived.{Adds, GoesOn, ReadAt, ArrowAt}
 use Rattle.parser.specs.Outcomes.{BeginsBy}
+use Rattle.parser.specs.Items.{group_levels, is_grouped, list_group, after_item, item_from, with_item}
+use Rattle.token_cursor.specs.Point.{Point}
+use Rattle.language.specs.Token.{Token}
 use Rattle.parser.specs.Parts.{plain_part}
 use Rattle.parser.specs.DerivedLists.{ItemReads, SeenRight, asks_edge, is_chunked}
 use Rattle.parser.specs.DerivedPieces.{StatementsAt}
 use Rattle.parser.specs.Follows.{ChunkAt}
 use Rattle.covers.specs.declared.list.List.{List}
-use Rattle.parser.specs.Items.{after_item, item_from, with_item}
 use Rattle.parser.proofs.CaseOf.{case_nodes, case_taken}
 use Rattle.parser.proofs.Arrowed.{concise, arrow_block, arrow_concise}
 use Rattle.parser.proofs.Chaining.{chain_first, chain_on, chain_returned, chain_whole}
@@ -27,6 +29,7 @@ use Rattle.parser.proofs.Deriving.{adds_none, arguments_read}
 use Rattle.parser.proofs.ItemsOf.{alone_item, chunk_item, element_low, is_an_element, low_chunk, low_hole, low_item, alone_behind, default_kind, elements_only, lists_elements, never_spreads, not_covers, of_text, simple_part, spread_item, taken_item}
 use Rattle.parser.proofs.Listing.{declared_valued, declared_valueless, named_where}
 use Rattle.parser.proofs.Righted.{right_after, right_items}
+use Rattle.parser.proofs.Parenthesized.{InParens, yields_ok, ok_map, in_parens, pair_place, group_read, group_low, first_low, arrow_read}
 use Rattle.parser.proofs.Spelled.{turn_on}
 use Rattle.parser.proofs.Stating.{all_directive, and_true, still, push_low, statements_first, statements_on}
 use Rattle.parser.proofs.Wholly.{after_inside, after_nodes, after_start, further_first, further_item, item_places, not_a_sequence, same_right}
@@ -328,3 +331,46 @@ arrow-returns-clause-derived c =
     let parts : c.push.new.self ≡ push c.args.parameters c.in_ok-settle.field-0 = c.in_ok-push.ensures.pushed ∙ ap (λ b. push b.nodes c.in_ok-settle.field-0) c.of-built.ensures in
     let tree : c.in_ok-node-2.node ≡ node ArrowFunctionExpression [] concise c.args.start c.expression.new.self.cursor.last.stop c.push.new.self = c.in_ok-node-2.ensures.0 ∙ (λ i. node ArrowFunctionExpression [] concise (span i).start (span i).end c.push.new.self) in
     arrow_concise c.in_ok-body.body c.in_ok-node-2.node c.in_ok-settle.field-0 c.plain-2.result c.expect.ensures.text c.expect.ensures.same_open c.expect.ensures.same_pairs c.in_ok-expect.ensures.accepted.0 c.concise.ensures c.in_ok-body.ensures.derived c.in_ok-settle.ensures.settled.0 c.in_ok-settle.ensures.settled.1 parts tree c.plain-2.ensures
+
+pub parenthesized-returns-clause-derived : goal.parenthesized-returns-clause-derived
+parenthesized-returns-clause-derived c =
+    let w = in_parens c.args.self.now.cursor c.enter.new.self.cursor c.open.new.self.cursor c.list.new.self.cursor c.in_ok-list.list c.in_ok-list-2.list c.enter.ensures.text c.enter.ensures.last c.open.ensures.text c.open.ensures.same_open c.open.ensures.same_pairs c.in_ok-list.ensures.listed c.in_ok-list.ensures.begun c.in_ok-list-2.ensures.derived c.in_ok-list-2.ensures.same c.in_ok-list-2.ensures.seen c.in_ok-list-2.ensures.inside in
+    let l = c.in_ok-list-2.list in
+    let s = c.args.self.now.cursor in
+    let room : s.opened < 1000 = c.in_ok-place.ensures.opened.0 in
+    let more_open : c.enter.new.self.cursor.opened ≡ s.opened + 1 = c.in_ok-place.ensures.opened.1 in
+    let less_open = ap (λ (p : Point). p.opened) c.close.ensures.cursor ∙ c.leave-at.ensures.closed in
+    let inner_open : c.list.new.self.cursor.opened ≡ c.enter.new.self.cursor.opened = w.1 in
+    let same_open : c.close.new.self.cursor.opened ≡ s.opened = omega arith in
+    let last : c.close.new.self.cursor.last ≡ c.list.new.self.cursor.last = ap (λ (p : Point). p.last) c.close.ensures.cursor ∙ c.leave-at.ensures.last in
+    let end : c.saturating_sub-end.result ≡ c.list.new.self.cursor.last.stop - 1 = c.saturating_sub-end.ensures ∙ ap (λ x. x - 1) (c.last_end.ensures ∙ ap (λ (t : Token). t.stop) c.leave-at.ensures.last) in
+    let long : length c.args.self.now.pairs.items ≡ c.in_ok-place.place = sym (c.in_ok-place.ensures.place.0 ∙ c.args.self.now.pairs.ok.0) in
+    let kept : c.leave-at.new.self.pairs.items ≡ c.list.new.self.pairs.items = c.leave-at.ensures.same_pairs in
+    let inside = pair_place c.args.self.now.pairs.items w.0.more c.enter.new.self.pairs.items c.list.new.self.pairs.items (record { left = c.in_ok-place.start; right = c.in_ok-place.start }) c.in_ok-place.place w.0.pairs c.in_ok-place.ensures.pairs (sym long) in
+    let within = subst (λ x. c.in_ok-place.place < x) (sym (c.leave-at.new.self.pairs.ok.0 ∙ ap length kept)) inside in
+    let closed = c.close.ensures.pairs within ∙ ap (λ x. set x c.in_ok-place.place (record { left = c.in_ok-place.start; right = c.saturating_sub-end.result })) kept in
+    yields_ok (list_group l) (λ place. place ≡ c.leave-at.result) (is_grouped l) (group_levels l.nodes) c.args.high (λ part. Adds s c.close.new.self.cursor c.args.self.now.pairs.items c.close.new.self.pairs.items (ReadAt s.text c.args.position part)) c.grouped.result c.grouped.ensures.made (λ fits low.
+    group_read s c.enter.new.self.cursor c.close.new.self.cursor l c.args.position c.in_ok-place.place c.in_ok-place.start c.saturating_sub-end.result room more_open c.in_ok-place.ensures.place.1 c.in_ok-place.ensures.pairs w.0 last same_open end long closed fits)
+
+pub parenthesized-returns-clause-low : goal.parenthesized-returns-clause-low
+parenthesized-returns-clause-low c =
+    let l = c.in_ok-list-2.list in
+    yields_ok (list_group l) (λ place. place ≡ c.leave-at.result) (is_grouped l) (group_levels l.nodes) c.args.high (λ part. height part.cover.node ≤ c.args.high) c.grouped.result c.grouped.ensures.made (λ fits low.
+    group_low l.nodes l.inside.start l.inside.end c.args.high (c.in_ok-list-2.ensures.low (first_low c.enter.new.self.cursor c.open.new.self.cursor c.in_ok-list.list c.args.high c.in_ok-list.ensures.listed c.in_ok-list.ensures.begun)) low)
+
+pub parenthesized-returns-then-position_takes-clause-derived : goal.parenthesized-returns-then-position_takes-clause-derived
+parenthesized-returns-then-position_takes-clause-derived c =
+    let w = in_parens c.args.self.now.cursor c.enter.new.self.cursor c.open.new.self.cursor c.list.new.self.cursor c.in_ok-list.list c.in_ok-list-2.list c.enter.ensures.text c.enter.ensures.last c.open.ensures.text c.open.ensures.same_open c.open.ensures.same_pairs c.in_ok-list.ensures.listed c.in_ok-list.ensures.begun c.in_ok-list-2.ensures.derived c.in_ok-list-2.ensures.same c.in_ok-list-2.ensures.seen c.in_ok-list-2.ensures.inside in
+    let l = c.in_ok-list-2.list in
+    let s = c.args.self.now.cursor in
+    let k = c.leave-at.new.self.cursor in
+    let room : s.opened < 1000 = c.in_ok-place.ensures.opened.0 in
+    let more_open : c.enter.new.self.cursor.opened ≡ s.opened + 1 = c.in_ok-place.ensures.opened.1 in
+    let less_open = c.leave-at.ensures.closed in
+    let inner_open : c.list.new.self.cursor.opened ≡ c.enter.new.self.cursor.opened = w.1 in
+    let same_open : k.opened ≡ s.opened = omega arith in
+    let texts : k.text ≡ s.text = c.leave-at.ensures.text ∙ c.list.ensures.text ∙ c.open.ensures.text ∙ c.enter.ensures.text in
+    let whole = subst (λ x. InParens s.text s.last c.open.new.self.cursor.last x (1000 - c.enter.new.self.cursor.opened) l c.enter.new.self.pairs.items c.list.new.self.pairs.items) (sym c.leave-at.ensures.last) w.0 in
+    let sign = c.if-sees_arrow.ensures.seen in
+    ok_map (λ part. Adds k c.arrow.new.self.cursor c.leave-at.new.self.pairs.items c.arrow.new.self.pairs.items (ArrowAt k.text c.args.position.has_in c.in_ok-parameters.parameters c.in_ok-place.start part)) (λ part. Adds s c.arrow.new.self.cursor c.args.self.now.pairs.items c.arrow.new.self.pairs.items (ReadAt s.text c.args.position part)) c.arrow.result c.arrow.ensures.derived (λ part a.
+    arrow_read s c.enter.new.self.cursor k c.arrow.new.self.cursor l c.args.position c.in_ok-parameters.parameters c.in_ok-place.start part sign.0 room more_open c.in_ok-place.ensures.place.1 c.in_ok-place.ensures.pairs whole texts same_open c.leave-at.ensures.same_pairs c.in_ok-parameters.ensures.made.0 c.in_ok-parameters.ensures.made.1 sign.1 sign.2 (sym c.position_takes.ensures ∙ c.if-position_takes.true) a)
