@@ -18,6 +18,7 @@ use Rattle.language.proofs.Begins.{div_allows}
 use Rattle.parser.specs.Derived.{RunsIn, Begins}
 use Rattle.parser.specs.Outcomes.{IsPlaceHere}
 use Rattle.parser.specs.Seen.{ReadsHere}
+use Rattle.parser.proofs.Seeing.{read_allows}
 
 -- the same token, by another goal that allows it
 by_goal : {at : ℕ} {cs : List ℕ} {g : Goal} {t : LexicalToken} {rest : List ℕ} (h : Goal) (x : IsTokenAt g at cs t rest) → IsTrue (allows h t.class x.word) → IsTokenAt h at cs t rest
@@ -100,3 +101,10 @@ module _ (text : List ℕ) where
 
 pub place_mark : (p : Point) {w : List ℕ} {m : Token} {at : ℕ} → IsPlaceHere p at → ReadsHere p.text Punctuator w p.last m → at ≡ m.start
 place_mark p here r = mark_place p.text here.1 r
+
+-- and that of each token that the goal behind operands allows
+pub place_token : (p : Point) {t m : Token} {at : ℕ} → IsPlaceHere p at → Rattle.language.specs.Promises.ReadBy Token (NextIn p.text any_goal) itself goal.Div p.last t m → at ≡ t.start
+place_token p {at = at} here r = of r.next r.allowed here.1
+  where
+    of : {s t e : Token} → NextIn p.text any_goal s t e → IsTrue (allows goal.Div t.class t.text) → ((u : LexicalToken) → IsTokenAt goal.Div s.stop (Rattle.tokens.specs.Reading.behind p.text s.stop) u (Rattle.tokens.specs.Reading.behind p.text u.stop) → at ≡ u.start) → at ≡ t.start
+    of (next_in {t = u} g any x) al here = here u (by_goal goal.Div x (sym (read_allows goal.Div u x.word x.text) ∙ al))

@@ -1,5 +1,6 @@
 pub mod Arrowed
 pub mod Begun
+pub mod Bracketed
 pub mod Breaks
 pub mod CaseOf
 pub mod Chaining
@@ -13,12 +14,17 @@ pub mod Grouping
 pub mod ItemsOf
 pub mod Listing
 pub mod Looping
+pub mod Literals
 pub mod Modified
 pub mod Moves
+pub mod OneToken
 pub mod Opened
+pub mod OpenedBy
+pub mod Opens
 pub mod Operating
 pub mod Parenthesized
 pub mod Parted
+pub mod Prefixing
 pub mod Refused
 pub mod Righted
 pub mod Seeing

@@ -5,6 +5,7 @@ ghost use Rattle.std.specs.Prelude.{◌≡◌, ◌≢◌, ◌≤◌, ◌<◌, �
 ghost use Rattle.token_cursor.specs.Point.{IsAhead};
 ghost use Rattle.source_text.specs.Source.{IsPlace};
 ghost use Rattle.language.specs.Token.{as_read};
+ghost use Rattle.language.specs.Words.{is_identifier};
 ghost use Rattle.language.specs.Opening.{opening_by, opening_of};
 ghost use Rattle.parser.specs.Openings.{coded_opening, stood, opens_at, OpensNothing};
 ghost use Rattle.std.specs.Bool.{OnTrue, OnFalse};
@@ -203,8 +204,7 @@ impl<'t, 's> Parser<'t, 's> {
             Opening::Single(kind) => {
                 self.pass(token);
                 let node = self.single(kind, token, high)?;
-                let is_name = matches!(kind, Kind::Identifier);
-                if is_name && self.sees_arrow() && position_takes(position.rank, Rank::Assignment) {
+                if is_name(kind) && self.sees_arrow() && position_takes(position.rank, Rank::Assignment) {
                     let parameter = Nodes::one(self.alloc, node)?;
                     return self.arrow(parameter, token.start, position.has_in, high);
                 }
@@ -403,6 +403,13 @@ fn single_text(kind: Kind, text: &str) -> &str
         Kind::ThisExpression | Kind::Super => "",
         _ => text,
     }
+}
+
+// Whether it is the kind of a name.
+fn is_name(kind: Kind) -> bool
+    ensures { result ≡ is_identifier kind }
+{
+    matches!(kind, Kind::Identifier)
 }
 
 // What parentheses group (12.2.10): an expression, or several with commas between them.

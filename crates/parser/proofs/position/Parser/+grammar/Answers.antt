@@ -1,11 +1,11 @@
 -- What the functions of the cycle derive.
 use Rattle.std.proofs.Common.{◌≡◌, ◌≤◌, true, false, sym, refl, ap, subst, ◌∙◌, arith, ◌+◌, ◌-◌, ◌<◌, length, set}
-use Rattle.std.specs.Prelude.{◌&&◌, not, []}
+use Rattle.std.specs.Prelude.{◌&&◌, not, [], Some}
 use Rattle.std.proofs.lemmas.Bool.{false≢true}
 use Rattle.tree.specs.declared.kind.Kind.TheVariants.{ChainExpression, SwitchCase, VariableDeclarator, ArrowFunctionExpression}
 use Rattle.tree.specs.Tree.{Tree, node, plain, kind_of, part, gap, none, push, push_gap, height, parts_height, flags_of}
 use Rattle.language.specs.Statements.{is_directive}
-use Rattle.language.specs.declared.Rank.TheVariants.{LeftHandSide}
+use Rattle.language.specs.declared.Rank.TheVariants.{LeftHandSide, Primary}
 use Rattle.language.specs.declared.Edge.TheVariants.{Other, Closed}
 use Rattle.covers.specs.declared.list.Item.{Item}
 use Rattle.covers.specs.declared.list.Listed.TheVariants.{Cases, Declarators, Elements, Members, Properties, Sequence}
@@ -13,8 +13,8 @@ use Rattle.covers.specs.Patterns.{pattern_tree}
 use Rattle.covers.specs.Shapes.{is_target, value}
 use Rattle.language.specs.Words.{is_target as is_simple}
 use Rattle.parser.specs.Derived.{Adds, GoesOn, ReadAt, ArrowAt}
-use Rattle.parser.specs.Outcomes.{BeginsBy}
-use Rattle.parser.specs.Items.{group_levels, is_grouped, list_group, after_item, item_from, with_item}
+use Rattle.parser.specs.Outcomes.{BeginsBy, IsPlaceHere}
+use Rattle.parser.specs.Items.{group_levels, is_grouped, list_group, after_item, item_from, with_item, listed_node, listed_part}
 use Rattle.token_cursor.specs.Point.{Point}
 use Rattle.language.specs.Token.{Token}
 use Rattle.parser.specs.Parts.{plain_part}
@@ -29,6 +29,12 @@ use Rattle.parser.proofs.Deriving.{adds_none, arguments_read}
 use Rattle.parser.proofs.ItemsOf.{alone_item, chunk_item, element_low, is_an_element, low_chunk, low_hole, low_item, alone_behind, default_kind, elements_only, lists_elements, never_spreads, not_covers, of_text, simple_part, spread_item, taken_item}
 use Rattle.parser.proofs.Listing.{declared_valued, declared_valueless, named_where}
 use Rattle.parser.proofs.Righted.{right_after, right_items}
+use Rattle.parser.proofs.Bracketed.{makes_ok}
+use Rattle.parser.proofs.OneToken.{name_arrow, name_kind, single_read}
+use Rattle.parser.proofs.Opens.{list_read}
+use Rattle.parser.proofs.Prefixing.{prefix_low, prefix_read}
+use Rattle.parser.specs.Sides.{steps_before, takes_operand, prefixed_node, prefixed_part}
+use Rattle.tokens.specs.Scanned.{token_of}
 use Rattle.parser.proofs.Parenthesized.{InParens, yields_ok, ok_map, in_parens, pair_place, group_read, group_low, first_low, arrow_read}
 use Rattle.parser.proofs.Spelled.{turn_on}
 use Rattle.parser.proofs.Stating.{all_directive, and_true, still, push_low, statements_first, statements_on}
@@ -374,3 +380,51 @@ parenthesized-returns-then-position_takes-clause-derived c =
     let sign = c.if-sees_arrow.ensures.seen in
     ok_map (λ part. Adds k c.arrow.new.self.cursor c.leave-at.new.self.pairs.items c.arrow.new.self.pairs.items (ArrowAt k.text c.args.position.has_in c.in_ok-parameters.parameters c.in_ok-place.start part)) (λ part. Adds s c.arrow.new.self.cursor c.args.self.now.pairs.items c.arrow.new.self.pairs.items (ReadAt s.text c.args.position part)) c.arrow.result c.arrow.ensures.derived (λ part a.
     arrow_read s c.enter.new.self.cursor k c.arrow.new.self.cursor l c.args.position c.in_ok-parameters.parameters c.in_ok-place.start part sign.0 room more_open c.in_ok-place.ensures.place.1 c.in_ok-place.ensures.pairs whole texts same_open c.leave-at.ensures.same_pairs c.in_ok-parameters.ensures.made.0 c.in_ok-parameters.ensures.made.1 sign.1 sign.2 (sym c.position_takes.ensures ∙ c.if-position_takes.true) a)
+
+pub opening-returns-in_ok-list-in-List-2-clause-derived : goal.opening-returns-in_ok-list-in-List-2-clause-derived
+opening-returns-in_ok-list-in-List-2-clause-derived c =
+    let s = c.args.self.now.cursor in
+    let l0 = c.in_ok-list-in-List.list in
+    let l = c.in_ok-list-in-List-2.list in
+    let coded = c.in-Some.ensures.coded ∙ ap Some c.in-List.is in
+    makes_ok (listed_part l) (height (listed_node l)) c.args.high (λ part. Adds s c.list.new.self.cursor c.args.self.now.pairs.items c.list.new.self.pairs.items (ReadAt s.text c.args.position part)) c.listed.result c.listed.ensures.made (λ low.
+    list_read s c.open.new.self.cursor c.list.new.self.cursor l0 l c.args.position (token_of c.in-Some.token) c.in-List.what c.open.ensures.text c.open.ensures.same_open c.open.ensures.same_pairs c.in-Some.ensures.ahead coded c.in-Some.ensures.stands c.in_ok-list-in-List.ensures.listed c.in_ok-list-in-List.ensures.begun c.in_ok-list-in-List.ensures.template
+    c.in_ok-list-in-List-2.ensures.derived c.in_ok-list-in-List-2.ensures.same c.in_ok-list-in-List-2.ensures.seen)
+
+pub opening-returns-in_ok-operand-in-Prefix-clause-derived : goal.opening-returns-in_ok-operand-in-Prefix-clause-derived
+opening-returns-in_ok-operand-in-Prefix-clause-derived c =
+    let s = c.args.self.now.cursor in
+    let e = c.expression.new.self.cursor in
+    let t = token_of c.in-Some.token in
+    let r = c.in_ok-operand-in-Prefix.operand in
+    let coded = c.in-Some.ensures.coded ∙ ap Some c.in-Prefix.is in
+    yields_ok (prefixed_part (steps_before t.text) t.text t.start e.last.stop r) (IsPlaceHere e) (takes_operand (steps_before t.text) r.cover.shape) (height (prefixed_node (steps_before t.text) t.text t.start e.last.stop r.cover.node)) c.args.high (λ part. Adds s e c.args.self.now.pairs.items c.expression.new.self.pairs.items (ReadAt s.text c.args.position part)) c.prefixed.result c.prefixed.ensures.made (λ fits low.
+    prefix_read s c.pass.new.self.cursor e c.args.position c.at-side.result r t c.in-Prefix.field-0 c.in-Prefix.side c.pass.ensures.text c.pass.ensures.same_open c.pass.ensures.same_pairs c.pass.ensures.reads c.pass.ensures.last coded c.in-Some.ensures.stands c.at-side.ensures c.in_ok-operand-in-Prefix.ensures.derived fits)
+
+pub opening-returns-in_ok-operand-in-Prefix-clause-low : goal.opening-returns-in_ok-operand-in-Prefix-clause-low
+opening-returns-in_ok-operand-in-Prefix-clause-low c =
+    let e = c.expression.new.self.cursor in
+    let t = token_of c.in-Some.token in
+    let r = c.in_ok-operand-in-Prefix.operand in
+    yields_ok (prefixed_part (steps_before t.text) t.text t.start e.last.stop r) (IsPlaceHere e) (takes_operand (steps_before t.text) r.cover.shape) (height (prefixed_node (steps_before t.text) t.text t.start e.last.stop r.cover.node)) c.args.high (λ part. height part.cover.node ≤ c.args.high) c.prefixed.result c.prefixed.ensures.made (λ fits low.
+    prefix_low (steps_before t.text) t.text t.start e.last.stop r c.args.high low)
+
+pub opening-returns-else-is_name-clause-derived : goal.opening-returns-else-is_name-clause-derived
+opening-returns-else-is_name-clause-derived c =
+    let s = c.args.self.now.cursor in
+    let m = c.pass-in-Single.new.self.cursor in
+    let coded = c.in-Some.ensures.coded ∙ ap Some c.in-Single.is in
+    let result = c.plain.ensures ∙ ap (λ n. plain_part n Primary Other) c.in_ok-node-in-Single.ensures.made.0 in
+    subst (λ part. Adds s m c.args.self.now.pairs.items c.pass-in-Single.new.self.pairs.items (ReadAt s.text c.args.position part)) (sym result)
+    (single_read s m c.args.position (token_of c.in-Some.token) c.in-Single.kind c.pass-in-Single.ensures.same_open c.pass-in-Single.ensures.same_pairs c.pass-in-Single.ensures.reads c.pass-in-Single.ensures.last coded)
+
+pub opening-returns-then-position_takes-clause-derived : goal.opening-returns-then-position_takes-clause-derived
+opening-returns-then-position_takes-clause-derived c =
+    let s = c.args.self.now.cursor in
+    let m = c.pass-in-Single.new.self.cursor in
+    let coded = c.in-Some.ensures.coded ∙ ap Some c.in-Single.is in
+    let kind = name_kind c.in-Single.kind (sym c.is_name.ensures ∙ c.if-is_name.true) in
+    let parameter = c.in_ok-parameter-in-Single.ensures.made ∙ ap (λ n. part n none) c.in_ok-node-in-Single.ensures.made.0 in
+    let sign = c.if-sees_arrow.ensures.seen in
+    ok_map (λ r. Adds m c.arrow.new.self.cursor c.pass-in-Single.new.self.pairs.items c.arrow.new.self.pairs.items (ArrowAt m.text c.args.position.has_in c.in_ok-parameter-in-Single.parameter c.in-Some.token.start r)) (λ r. Adds s c.arrow.new.self.cursor c.args.self.now.pairs.items c.arrow.new.self.pairs.items (ReadAt s.text c.args.position r)) c.arrow.result c.arrow.ensures.derived (λ r a.
+    name_arrow s m c.arrow.new.self.cursor c.args.position (token_of c.in-Some.token) c.in-Single.kind c.in_ok-parameter-in-Single.parameter c.in-Some.token.start r sign.0 c.pass-in-Single.ensures.text c.pass-in-Single.ensures.same_open c.pass-in-Single.ensures.same_pairs c.pass-in-Single.ensures.reads c.pass-in-Single.ensures.last coded kind parameter refl sign.1 sign.2 (sym c.position_takes.ensures ∙ c.if-position_takes.true) a)
