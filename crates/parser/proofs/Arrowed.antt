@@ -1,6 +1,6 @@
 -- Arrow functions from their `=>` on (ECMA-262 14.2).
 use Rattle.std.proofs.Common.{◌≡◌, ℕ, Bool, true, false, cond, List, [], ◌∷◌, ◌++◌, refl, sym, ap, ◌∙◌, subst}
-use Rattle.std.specs.Prelude.{IsTrue, codes, map}
+use Rattle.std.specs.Prelude.{codes}
 use Rattle.tokens.specs.Reading.{any_goal}
 use Rattle.tokens.specs.declared.token.Class.TheVariants.{Punctuator}
 use Rattle.token_cursor.specs.Point.{Point}
@@ -10,12 +10,11 @@ use Rattle.tree.specs.declared.kind.Pair.{Pair}
 use Rattle.tree.specs.Tree.{Tree, node, plain, Parts, none, part, gap, push, join}
 use Rattle.language.specs.Words.{is}
 use Rattle.language.specs.declared.Rank.TheVariants.{Assignment}
-use Rattle.language.specs.declared.Start.TheVariants.{Any, NoBrace}
+use Rattle.language.specs.declared.Start.TheVariants.{NoBrace}
 use Rattle.language.specs.declared.Edge.{Edge}
 use Rattle.language.specs.declared.Edge.TheVariants.{Arrow, Other}
 use Rattle.language.specs.Edges.{edge, last_edge, standing}
-use Rattle.language.specs.Expressions.{arrow_end}
-use Rattle.language.specs.Pieces.{Role, expr, body, settle_piece}
+use Rattle.language.specs.Pieces.{expr, body}
 use Rattle.language.specs.Token.{Token}
 use Rattle.language.specs.Places.{NextIn, itself, SpellsIn}
 use Rattle.language.specs.Derivation.{step, token, laid, same_line}
@@ -23,8 +22,8 @@ use Rattle.language.proofs.Growing.{last_runs}
 use Rattle.parser.specs.declared.part.Part.{Part}
 use Rattle.parser.specs.declared.pieces.Built.{Built}
 use Rattle.parser.specs.declared.position.Position.{Position}
-use Rattle.parser.specs.Derived.{RunsIn, Adds, ArrowAt, ReadAt}
-use Rattle.parser.specs.DerivedPieces.{BuiltAt, PiecesAt}
+use Rattle.parser.specs.Derived.{Adds, ArrowAt, ReadAt}
+use Rattle.parser.specs.DerivedPieces.{BuiltAt}
 use Rattle.parser.specs.Parts.{plain_part}
 use Rattle.parser.specs.Pieces as Piece
 use Rattle.parser.specs.Seen.{ReadsHere}

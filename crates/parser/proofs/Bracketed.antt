@@ -1,11 +1,11 @@
 -- Arrays, objects and templates as leftmost parts, and the patterns that they cover (ECMA-262 12.2.5, 12.2.6, 12.2.9, 12.15.5).
-use Rattle.std.proofs.Common.{◌≡◌, ℕ, ◌-◌, ◌≤◌, Bool, true, false, cond, List, [], ◌∷◌, ◌++◌, refl, sym, ap, ◌∙◌, subst, Result, Ok, Err}
-use Rattle.std.specs.Prelude.{IsTrue, Option, Some, None, codes, map, not, ◌&&◌}
+use Rattle.std.proofs.Common.{◌≡◌, ℕ, ◌≤◌, Bool, true, false, List, [], ◌∷◌, ◌++◌, refl, sym, ap, ◌∙◌, subst, Result, Ok, Err}
+use Rattle.std.specs.Prelude.{IsTrue, Some, None, codes, ◌&&◌}
 use Rattle.std.specs.Result.{IfOk}
 use Rattle.std.proofs.lemmas.Bool.{false≢true}
 use Rattle.source_text.specs.declared.fault.Fault.{Fault}
 use Rattle.tokens.specs.Reading.{any_goal}
-use Rattle.tokens.specs.declared.token.Class.TheVariants.{Punctuator, Template}
+use Rattle.tokens.specs.declared.token.Class.TheVariants.{Punctuator}
 use Rattle.token_cursor.specs.Point.{Point}
 use Rattle.tree.specs.declared.kind.Kind.{Kind}
 use Rattle.tree.specs.declared.kind.Kind.TheVariants.{ArrayExpression, ObjectExpression, ArrayPattern, ObjectPattern, TemplateLiteral}
@@ -15,10 +15,8 @@ use Rattle.covers.specs.declared.shape.Shape.{Shape}
 use Rattle.covers.specs.declared.shape.Assigned.{Assigned}
 use Rattle.covers.specs.declared.shape.Assigned.TheVariants as assigned
 use Rattle.covers.specs.declared.list.Item.{Item}
-use Rattle.covers.specs.declared.list.Listed.{Listed}
 use Rattle.covers.specs.declared.list.Listed.TheVariants as listed
 use Rattle.covers.specs.declared.list.List.{List as ListOf}
-use Rattle.covers.specs.Lists.{opening, closing}
 use Rattle.covers.specs.Patterns.{pattern_tree, pattern_parts}
 use Rattle.covers.specs.Shapes.{value, is_element}
 use Rattle.language.specs.declared.Rank.{Rank}
@@ -28,26 +26,25 @@ use Rattle.language.specs.declared.Start.TheVariants.{Any, NoBrace, Statement}
 use Rattle.language.specs.declared.Edge.TheVariants.{Other}
 use Rattle.language.specs.Words.{takes}
 use Rattle.language.specs.Covers.{Reading, as_expression, as_pattern}
-use Rattle.language.specs.Pieces.{Role, expr, pattern, chunk, Piece, PieceOf, at, tok, put, sign, listed as listing, elements, argument, pattern_element, settle_piece}
+use Rattle.language.specs.Pieces.{Role, expr, pattern, chunk, Piece, at, tok, put, sign, listed as listing, elements, argument, pattern_element}
 use Rattle.language.specs.Token.{Token}
 use Rattle.language.specs.Expressions.{object_part, object_pattern_part, chunks}
-use Rattle.language.specs.Grammar.{starts, ways}
+use Rattle.language.specs.Grammar.{starts}
 use Rattle.language.specs.Places.{NextIn, itself, SpellsIn}
 use Rattle.language.specs.Derivation.{Placed, placed, step, token, within, done}
 use Rattle.language.specs.View.{array, object, template}
 use Rattle.language.proofs.Begins.{goes_to}
 use Rattle.language.proofs.Fixed.{Fixed, all_done, one_more, same_pieces, fixed_join, fixed_listed, fixed_elements, fixed_put}
-use Rattle.language.proofs.Lists.{item_piece, element_role, object_role, object_pattern_role, object_pieces, object_pattern_pieces}
+use Rattle.language.proofs.Lists.{item_piece, object_role, object_pattern_role, object_pieces, object_pattern_pieces}
 use Rattle.language.proofs.Openers.{fixed_chunks}
-use Rattle.language.proofs.Patterned.{array_spells, object_spells, array_pattern_parts, object_pattern_parts}
+use Rattle.language.proofs.Patterned.{array_spells, object_spells}
 use Rattle.language.proofs.Productions.{spell}
 use Rattle.language.proofs.Running.{run_never}
 use Rattle.language.proofs.Templates.{chunk_found}
 use Rattle.language.proofs.TextPlaces.{text_determined}
-use Rattle.parser.specs.declared.part.Part.{Part}
 use Rattle.parser.specs.Derived.{RunsIn, Begins, SpelledAs, assigned_at, pattern_at, fits_as, PartAt}
-use Rattle.parser.specs.DerivedLists.{ListAt, SoFarAt, SeenRight, ClosedBy, is_list_shape, is_whole, whole_of, stood_in, item_pieces, left_of}
-use Rattle.parser.specs.Follows.{BegunAt, BegunTemplate, FirstChunkAt}
+use Rattle.parser.specs.DerivedLists.{ListAt, SoFarAt, is_list_shape, left_of}
+use Rattle.parser.specs.Follows.{BegunTemplate, FirstChunkAt}
 use Rattle.parser.specs.Items.{list_from, with_item, listed_node, listed_part, listed_shape}
 use Rattle.parser.specs.Outcomes.{MakesAs}
 use Rattle.parser.specs.Seen.{ReadsHere}

@@ -1,5 +1,5 @@
 -- Where tokens stand: what is read goes forward, a punctuator is as long as its text, and where a place begins.
-use Rattle.std.proofs.Common.{◌≡◌, ℕ, ◌+◌, ◌<◌, ◌≤◌, Bool, true, false, List, length, refl, sym, ap, ◌∙◌, subst, arith}
+use Rattle.std.proofs.Common.{◌≡◌, ℕ, ◌+◌, ◌≤◌, false, List, length, refl, sym, ap, ◌∙◌, subst, arith}
 use Rattle.std.specs.Prelude.{IsTrue}
 use Rattle.tokens.specs.declared.token.Class.TheVariants.{Punctuator}
 use Rattle.tokens.specs.declared.token.Goal.{Goal}
@@ -10,7 +10,7 @@ use Rattle.tokens.specs.Reading.{any_goal}
 use Rattle.token_cursor.specs.Point.{Point}
 use Rattle.tree.specs.declared.kind.Pair.{Pair}
 use Rattle.tree.specs.Tree.{Tree, Parts}
-use Rattle.language.specs.Token.{Token, table_text, as_read}
+use Rattle.language.specs.Token.{Token, table_text}
 use Rattle.language.specs.Pieces.{Role, PieceOf}
 use Rattle.language.specs.Places.{NextIn, next_in, itself, SpellsIn}
 use Rattle.language.specs.Derivation.{Reads, Step, token, with_mark, without_mark, one_more, no_more, seen, same_line, explicit, implicit, laid, direct, grouped, done, step, opened, closed, within, missing}

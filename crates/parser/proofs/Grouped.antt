@@ -1,32 +1,25 @@
 -- What stands in parentheses: what they group, and arrow functions with their parameters in them (ECMA-262 12.2.10, 14.2).
-use Rattle.std.proofs.Common.{◌≡◌, ℕ, suc, ◌+◌, ◌-◌, ◌<◌, ◌≤◌, arith, Bool, true, false, cond, List, [], ◌∷◌, ◌++◌, length, refl, sym, ap, ◌∙◌, subst, append_assoc}
-use Rattle.std.specs.Prelude.{IsTrue, Option, Some, None, codes, map, not, ◌&&◌, if◌then◌else◌, nat_le, nat_lt}
+use Rattle.std.proofs.Common.{◌≡◌, ℕ, suc, arith, Bool, true, false, cond, List, [], ◌∷◌, ◌++◌, refl, sym, ap, ◌∙◌, subst}
+use Rattle.std.specs.Prelude.{IsTrue, Some, None, codes, not, ◌&&◌, if◌then◌else◌, nat_le}
 use Rattle.std.proofs.lemmas.Bool.{false≢true}
 use Rattle.std.proofs.lemmas.List.{append-nil}
 use Rattle.std.proofs.lemmas.Bool.Decides.{nat_tests}
 use Rattle.tokens.specs.Reading.{any_goal}
 use Rattle.tokens.specs.declared.token.Class.TheVariants.{Punctuator}
 use Rattle.tokens.specs.declared.token.Goal.TheVariants.{RegExp}
-use Rattle.token_cursor.specs.Point.{Point}
-use Rattle.tree.specs.declared.kind.Kind.{Kind}
-use Rattle.tree.specs.declared.kind.Kind.TheVariants.{Identifier, MemberExpression, ArrowFunctionExpression, SequenceExpression}
-use Rattle.tree.specs.declared.kind.Flags.{Flags}
+use Rattle.tree.specs.declared.kind.Kind.TheVariants.{Identifier, MemberExpression, SequenceExpression}
 use Rattle.tree.specs.declared.kind.Pair.{Pair}
-use Rattle.tree.specs.Tree.{Tree, node, plain, Parts, none, part, gap, push, join, kind_of, bare, bare_parts}
-use Rattle.tree.specs.Uses.{is_lean}
-use Rattle.covers.specs.declared.shape.Shape.{Shape}
-use Rattle.covers.specs.declared.shape.Assigned.{Assigned}
+use Rattle.tree.specs.Tree.{Tree, node, plain, Parts, none, part, gap, kind_of, bare, bare_parts}
 use Rattle.covers.specs.declared.shape.Assigned.TheVariants as assigned
 use Rattle.covers.specs.declared.list.Listed.TheVariants as listed
 use Rattle.covers.specs.declared.list.List.{List as ListOf}
 use Rattle.covers.specs.Lists.{closing}
-use Rattle.covers.specs.Patterns.{pattern_tree, pattern_parts}
-use Rattle.covers.specs.Shapes.{is_bound, is_element, is_target, value} 
-use Rattle.covers.specs.Shapes as shapes
+use Rattle.covers.specs.Patterns.{pattern_tree}
+use Rattle.covers.specs.Shapes.{is_target}
 use Rattle.language.specs.declared.Rank.{Rank}
-use Rattle.language.specs.declared.Rank.TheVariants.{Expression, Assignment, LeftHandSide, New, Grouped}
+use Rattle.language.specs.declared.Rank.TheVariants.{Expression, Assignment, LeftHandSide, Grouped}
 use Rattle.language.specs.declared.Start.{Start}
-use Rattle.language.specs.declared.Start.TheVariants.{Any, NoBrace, Statement}
+use Rattle.language.specs.declared.Start.TheVariants.{Any}
 use Rattle.language.specs.declared.Edge.{Edge}
 use Rattle.language.specs.declared.Edge.TheVariants.{Arrow, Postfix, Other, Closed}
 use Rattle.language.specs.Words.{is, takes, takes_number, tightness}
@@ -37,32 +30,21 @@ use Rattle.language.specs.Pieces as pieces
 use Rattle.language.specs.Token.{Token}
 use Rattle.language.specs.Edges.{edge, standing}
 use Rattle.language.specs.Expressions.{arrow_end, sequence}
-use Rattle.language.specs.Grammar.{starts, ways}
 use Rattle.language.specs.Places.{NextIn, itself, SpellsIn}
-use Rattle.language.specs.Derivation.{Reads, Placed, placed, pair_of, grouped, opened, closed, token}
-use Rattle.language.specs.View.{arrow}
-use Rattle.language.proofs.Arrows.{arrow_flags}
+use Rattle.language.specs.Derivation.{Placed, placed, pair_of, grouped}
 use Rattle.language.proofs.Begins.{goes_to}
 use Rattle.language.proofs.Cores.{operand_begins}
 use Rattle.language.proofs.Growing.{sequence_grows, kind_bare, none_bare}
-use Rattle.language.proofs.ParameterLists.{parameter_list, Closer, parameters_join}
-use Rattle.language.proofs.Productions.{spell}
 use Rattle.language.proofs.RightEdges.{edged}
-use Rattle.language.proofs.Running.{run_closed, run_never, run_the_part, run_none}
+use Rattle.language.proofs.Running.{run_never, run_the_part, run_none}
 use Rattle.language.proofs.TextPlaces.{text_determined}
 use Rattle.language.proofs.Wholes.{spells_expression}
-use Rattle.parser.specs.declared.part.Part.{Part}
-use Rattle.parser.specs.declared.position.Position.{Position}
-use Rattle.parser.specs.Derived.{RunsIn, Adds, Begins, SpelledAs, assigned_at, target_at, fits_as, minds_in, bare_role, takes_new, PartAt, ReadAt, ArrowAt, grouping, groups}
+use Rattle.parser.specs.Derived.{RunsIn, SpelledAs, assigned_at, target_at, fits_as, minds_in, PartAt}
 use Rattle.parser.specs.DerivedLists.{ListAt, SoFarAt, SeenRight, ClosedBy, is_whole, whole_of, stood_in, item_pieces, several}
-use Rattle.parser.specs.Items.{group_node, group_shape, is_grouped, are_some, list_group, list_from}
-use Rattle.parser.specs.Parts.{group_part, is_group}
+use Rattle.parser.specs.Items.{group_node, group_shape, is_grouped, are_some, list_group}
+use Rattle.parser.specs.Parts.{group_part}
 use Rattle.parser.specs.Seen.{ReadsHere}
-use Rattle.parser.specs.Stated.{is_closed}
-use Rattle.parser.proofs.Arrowed.{join_one}
-use Rattle.parser.proofs.Deriving.{runs_on, adds_behind, adds_both}
-use Rattle.parser.proofs.Forward.{begins_mark, mark_long, next_forward, runs_forward, spells_forward}
-use Rattle.parser.proofs.Spelled.{placed_at}
+use Rattle.parser.proofs.Forward.{begins_mark}
 
 some_none : {A X : Type 0} {x : X} → Some x ≡ None → A
 some_none e = cc

@@ -1,11 +1,11 @@
 -- What begins with one token: a name, a literal or `this`, and an arrow function with a name for its parameter (ECMA-262 12.1, 12.2, 14.2).
-use Rattle.std.proofs.Common.{◌≡◌, ℕ, ◌≤◌, Bool, true, false, cond, List, [], ◌∷◌, ◌++◌, refl, sym, ap, ◌∙◌, subst}
-use Rattle.std.specs.Prelude.{IsTrue, Option, Some, None, codes, map, not, ◌&&◌, ◌||◌, nat_eq, nat_le, slice_index_or}
+use Rattle.std.proofs.Common.{◌≡◌, ℕ, Bool, true, false, cond, List, [], ◌∷◌, refl, sym, ap, ◌∙◌, subst}
+use Rattle.std.specs.Prelude.{IsTrue, Some, None, codes, not, ◌&&◌}
 use Rattle.std.proofs.lemmas.Bool.{false≢true}
 use Rattle.tokens.specs.Reading.{any_goal}
 use Rattle.tokens.specs.Tokens.{LexicalToken}
 use Rattle.tokens.specs.declared.token.Class.{Class}
-use Rattle.tokens.specs.declared.token.Class.TheVariants.{Name, Punctuator, Number, Text, Template, RegExp, End}
+use Rattle.tokens.specs.declared.token.Class.TheVariants.{Name, Punctuator, Number, Text, RegExp}
 use Rattle.token_cursor.specs.Point.{Point}
 use Rattle.tree.specs.declared.kind.Kind.{Kind}
 use Rattle.tree.specs.declared.kind.Kind.TheVariants.{Identifier, Literal, ThisExpression, ArrowFunctionExpression}
@@ -26,9 +26,9 @@ use Rattle.language.specs.Pieces.{Role, expr, name, quoted, tok, put, at, fixed,
 use Rattle.language.specs.Token.{Token, as_read, table_text}
 use Rattle.language.specs.Opening.{Opening, with_name, with_literal, with_this, with_bracket, with_brace, with_function, with_class, with_template, with_parenthesis, with_super, with_new, with_import, with_step, with_word, with_sign, no_opening, opening_of}
 use Rattle.language.specs.Expressions.{arrow_end}
-use Rattle.language.specs.Grammar.{starts, ways, spellings}
+use Rattle.language.specs.Grammar.{starts, spellings}
 use Rattle.language.specs.Places.{NextIn, itself, SpellsIn}
-use Rattle.language.specs.Derivation.{direct, step, token, done, within, Placed, placed, first}
+use Rattle.language.specs.Derivation.{direct, step, token, done, within, placed, first}
 use Rattle.language.specs.View.{identifier, literal, this, short_arrow}
 use Rattle.language.proofs.Begins.{among_by}
 use Rattle.language.proofs.Domination.{settled}
@@ -39,7 +39,7 @@ use Rattle.parser.specs.declared.part.Part.{Part}
 use Rattle.parser.specs.declared.position.Position.{Position}
 use Rattle.parser.specs.declared.openings.Opening.TheVariants as code
 use Rattle.parser.specs.Openings.{coded_opening}
-use Rattle.parser.specs.Derived.{RunsIn, Adds, Begins, SpelledAs, assigned_at, fits_as, bare_role, PartAt, ReadAt, ArrowAt}
+use Rattle.parser.specs.Derived.{RunsIn, Adds, Begins, SpelledAs, assigned_at, fits_as, PartAt, ReadAt, ArrowAt}
 use Rattle.parser.specs.Parts.{plain_part}
 use Rattle.parser.specs.Seen.{ReadsHere}
 use Rattle.parser.specs.Tokens.{single_node}

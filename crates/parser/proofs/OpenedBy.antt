@@ -1,6 +1,6 @@
 -- What a token opens, from its class and its text (ECMA-262 12.2 to 12.5).
 use Rattle.std.proofs.Common.{◌≡◌, ℕ, Bool, true, false, cond, List, [], ◌∷◌, ◌++◌, refl, sym, ap, ◌∙◌, subst, arith}
-use Rattle.std.specs.Prelude.{IsTrue, not, ◌&&◌, ◌||◌, codes, nat_eq, slice_index_or}
+use Rattle.std.specs.Prelude.{IsTrue, ◌||◌, nat_eq, slice_index_or}
 use Prim.Native.String.{String}
 use Rattle.std.proofs.lemmas.Bool.{false≢true}
 use Rattle.std.proofs.lemmas.Bool.Decides.{nat_tests}
@@ -9,7 +9,7 @@ use Rattle.tokens.specs.declared.token.Class.TheVariants.{Name, Punctuator, Numb
 use Rattle.tokens.specs.declared.token.Goal.TheVariants as goal
 use Rattle.tokens.specs.Goals.{allows}
 use Rattle.language.specs.Words.{is, among, is_reserved}
-use Rattle.language.specs.Opening.{Opening, with_name, with_literal, with_this, with_bracket, with_brace, with_function, with_class, with_template, with_parenthesis, with_super, with_new, with_import, with_step, with_word, with_sign, no_opening, opening_by, opening_among, opening_words, opening_signs}
+use Rattle.language.specs.Opening.{Opening, with_name, with_literal, with_this, with_template, with_step, with_word, with_sign, no_opening, opening_by, opening_among, opening_words, opening_signs}
 use Rattle.parser.proofs.Literals.{is_literal_class}
 
 -- the texts of the rows that pass a test

@@ -1,10 +1,10 @@
 -- What an expression begins with (ECMA-262 12.2 to 12.5, 14.2).
-use Rattle.std.proofs.Common.{◌≡◌, ℕ, ◌-◌, ◌≤◌, Bool, true, false, cond, List, [], ◌∷◌, ◌++◌, refl, sym, ap, ◌∙◌, subst, arith}
+use Rattle.std.proofs.Common.{◌≡◌, ℕ, true, List, [], ◌++◌, refl, sym, ap, ◌∙◌, subst, arith}
 use Rattle.std.proofs.lemmas.Bool.Decides.{nat_tests}
-use Rattle.std.specs.Prelude.{IsTrue, Option, Some, None, codes, map, ◌&&◌}
+use Rattle.std.specs.Prelude.{IsTrue, Some, codes}
 use Rattle.tokens.specs.Reading.{any_goal}
 use Rattle.tokens.specs.Tokens.{LexicalToken}
-use Rattle.tokens.specs.declared.token.Class.TheVariants.{Name, Punctuator, Template}
+use Rattle.tokens.specs.declared.token.Class.TheVariants.{Template}
 use Rattle.tokens.specs.declared.token.Goal.TheVariants.{Div, RegExp}
 use Rattle.tokens.specs.Goals.{allows}
 use Rattle.token_cursor.specs.Point.{Point, IsAhead}
@@ -18,23 +18,18 @@ use Rattle.language.specs.declared.Rank.TheVariants.{Primary}
 use Rattle.language.specs.declared.Start.{Start}
 use Rattle.language.specs.declared.Start.TheVariants as start
 use Rattle.language.specs.Words.{takes, takes_number, tightness}
-use Rattle.language.specs.Covers.{Reading, as_expression, as_pattern}
+use Rattle.language.specs.Covers.{as_expression, as_pattern}
 use Rattle.language.specs.Token.{Token, as_read, same_class}
 use Rattle.language.specs.Opening.{Opening, with_name, with_literal, with_this, with_bracket, with_brace, with_function, with_class, with_template, with_parenthesis, with_super, with_new, with_import, with_step, with_word, with_sign, no_opening, opening_of}
 use Rattle.language.specs.Places.{NextIn, itself}
 use Rattle.language.specs.Promises.{ReadBy}
-use Rattle.parser.specs.declared.part.Part.{Part}
 use Rattle.parser.specs.declared.position.Position.{Position}
-use Rattle.parser.specs.declared.openings.Opening.{Opening as Coded}
 use Rattle.parser.specs.declared.openings.Opening.TheVariants as code
 use Rattle.parser.specs.Openings.{coded_opening, stands_at, takes_brace, opens_at}
 use Rattle.parser.specs.Derived.{Adds, Begins, PartAt, ReadAt, takes_new}
-use Rattle.parser.specs.DerivedLists.{ListAt, SoFarAt, SeenRight, so_far_fits, is_list_shape}
-use Rattle.parser.specs.Follows.{BegunAt, BegunTemplate, TemplateAt}
+use Rattle.parser.specs.DerivedLists.{ListAt, SoFarAt, SeenRight}
+use Rattle.parser.specs.Follows.{BegunAt, TemplateAt}
 use Rattle.parser.specs.Items.{list_from, listed_part}
-use Rattle.parser.specs.Outcomes.{IsPlaceHere}
-use Rattle.parser.specs.Seen.{ReadsHere, SeesBy}
-use Rattle.parser.specs.Tests.{is_template}
 use Rattle.parser.proofs.Bracketed.{array_part, object_read, template_part, begun_so_far}
 use Rattle.parser.proofs.Deriving.{adds_behind}
 use Rattle.parser.proofs.Forward.{place_mark, place_token}

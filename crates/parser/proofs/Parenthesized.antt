@@ -1,6 +1,6 @@
 -- Parentheses, from the one that opens them to what is made of them (ECMA-262 12.2.10, 14.2).
 use Rattle.std.proofs.Common.{◌≡◌, ℕ, suc, ◌+◌, ◌-◌, ◌<◌, ◌≤◌, arith, Bool, true, false, cond, List, [], ◌∷◌, ◌++◌, length, refl, sym, ap, ◌∙◌, subst, append_assoc, Result, Ok, Err}
-use Rattle.std.specs.Prelude.{IsTrue, Option, Some, None, codes, map, set, not, ◌&&◌, nat_lt}
+use Rattle.std.specs.Prelude.{IsTrue, Some, None, codes, map, set, not, ◌&&◌, nat_lt}
 use Rattle.std.specs.Result.{IfOk}
 use Rattle.std.proofs.lemmas.Bool.{false≢true}
 use Rattle.std.proofs.lemmas.Bool.Decides.{nat_tests}
@@ -15,7 +15,6 @@ use Rattle.tree.specs.declared.kind.Flags.{Flags}
 use Rattle.tree.specs.declared.kind.Pair.{Pair}
 use Rattle.tree.specs.Tree.{Tree, node, plain, Parts, none, part, gap, push, join, bare, bare_parts, height, parts_height}
 use Rattle.tree.specs.Uses.{is_lean}
-use Rattle.covers.specs.declared.shape.Assigned.TheVariants as assigned
 use Rattle.covers.specs.declared.list.Listed.TheVariants as listed
 use Rattle.covers.specs.declared.list.List.{List as ListOf}
 use Rattle.covers.specs.Lists.{opening, closing}
@@ -26,14 +25,14 @@ use Rattle.language.specs.declared.Rank.TheVariants.{Expression, Assignment, New
 use Rattle.language.specs.declared.Start.{Start}
 use Rattle.language.specs.declared.Start.TheVariants.{Any, NoBrace, Statement}
 use Rattle.language.specs.Words.{takes}
-use Rattle.language.specs.Covers.{Reading, as_expression, as_pattern}
-use Rattle.language.specs.Pieces.{Role, expr, Piece, PieceOf, at, tok, sub, settle_piece, sign, listed as listing, open_parameters, close_parameters, parameters, pattern_element}
+use Rattle.language.specs.Covers.{as_expression, as_pattern}
+use Rattle.language.specs.Pieces.{Role, expr, Piece, at, settle_piece, sign, listed as listing, open_parameters, close_parameters, parameters, pattern_element}
 use Rattle.language.specs.Token.{Token}
 use Rattle.language.specs.Expressions.{arrow_end}
-use Rattle.language.specs.Grammar.{starts, ways}
+use Rattle.language.specs.Grammar.{starts}
 use Rattle.language.specs.Places.{NextIn, itself, SpellsIn}
 use Rattle.language.specs.Promises.{ReadBy}
-use Rattle.language.specs.Derivation.{Placed, opened, closed, token, pair_of}
+use Rattle.language.specs.Derivation.{opened, closed, token, pair_of}
 use Rattle.language.specs.View.{arrow}
 use Rattle.language.proofs.Begins.{goes_to}
 use Rattle.language.proofs.ParameterLists.{parameter_list, Closer, parameters_join}
@@ -42,7 +41,7 @@ use Rattle.language.proofs.Running.{run_closed}
 use Rattle.language.proofs.TextPlaces.{text_determined}
 use Rattle.parser.specs.declared.part.Part.{Part}
 use Rattle.parser.specs.declared.position.Position.{Position}
-use Rattle.parser.specs.Derived.{RunsIn, Adds, Begins, fits_as, assigned_at, SpelledAs, bare_role, takes_new, PartAt, ReadAt, ArrowAt, grouping, groups}
+use Rattle.parser.specs.Derived.{RunsIn, Adds, Begins, fits_as, bare_role, PartAt, ReadAt, ArrowAt, grouping}
 use Rattle.parser.specs.DerivedLists.{ListAt, SoFarAt, SeenRight, ClosedBy, is_whole, whole_of, stood_in, item_pieces}
 use Rattle.parser.specs.Follows.{BegunAt}
 use Rattle.parser.specs.Items.{group_node, group_levels, is_grouped, are_some, list_group, list_from}
@@ -89,17 +88,19 @@ in_parens s0 s1 s2 s3 l0 l text last text2 opened2 same is begun a kept seen inn
     let here = begun.1 (codes "(") (ap opening is) in
     let empty : l0 ≡ list_from listed.Covers l0.span.start = here.1 ∙ ap (λ x. list_from x l0.span.start) is in
     let texts : s2.text ≡ s0.text = text2 ∙ text in
-    let d : ListAt s2.text Any l (1000 - s2.opened) s2.last s3.last (grouping a.more) = a.is Any s2.last [] (subst (λ k. SoFarAt s2.text Any k (1000 - s2.opened) s2.last s2.last []) (sym empty) (covers_so_far s2.text l0.span.start (1000 - s2.opened) s2.last)) in
-    (record {
-       more = a.more;
-       pairs = a.pairs ∙ ap (λ x. x ++ a.more) same;
-       left = subst (λ x. ReadsHere x Punctuator (codes "(") s0.last s2.last) text (subst (λ x. ReadsHere s1.text Punctuator (codes "(") x s2.last) last here.0);
-       span = kept.1 ∙ place_mark s1 begun.0 here.0;
-       is = kept.0 ∙ is;
-       right = seen (subst SeenRight (sym empty) (covers_seen l0.span.start));
-       inner = subst (λ x. (t k : Token) → ReadBy Token (NextIn x any_goal) itself RegExp s2.last t k → l.inside.start ≡ t.start) texts (inner is);
-       list = subst (λ x. ListAt x Any l (1000 - s1.opened) s2.last s3.last (grouping a.more)) texts (subst (λ x. ListAt s2.text Any l (1000 - x) s2.last s3.last (grouping a.more)) opened2 d);
-     }, a.same_open ∙ opened2)
+    let d : ListAt s2.text Any l (1000 - s2.opened) s2.last s3.last (grouping a.more) = a.is Any s2.last [] (subst (λ k. SoFarAt s2.text Any k (1000 - s2.opened) s2.last s2.last []) (sym empty) (covers_so_far s2.text l0.span.start (1000 - s2.opened) s2.last)) in (
+      record {
+        more = a.more;
+        pairs = a.pairs ∙ ap (λ x. x ++ a.more) same;
+        left = subst (λ x. ReadsHere x Punctuator (codes "(") s0.last s2.last) text (subst (λ x. ReadsHere s1.text Punctuator (codes "(") x s2.last) last here.0);
+        span = kept.1 ∙ place_mark s1 begun.0 here.0;
+        is = kept.0 ∙ is;
+        right = seen (subst SeenRight (sym empty) (covers_seen l0.span.start));
+        inner = subst (λ x. (t k : Token) → ReadBy Token (NextIn x any_goal) itself RegExp s2.last t k → l.inside.start ≡ t.start) texts (inner is);
+        list = subst (λ x. ListAt x Any l (1000 - s1.opened) s2.last s3.last (grouping a.more)) texts (subst (λ x. ListAt s2.text Any l (1000 - x) s2.last s3.last (grouping a.more)) opened2 d);
+      },
+      a.same_open ∙ opened2,
+    )
 
 none_groups : (x : ℕ) (ps : List Pair) → grouping (record { left = x; right = x } ∷ ps) ≡ grouping ps
 none_groups x ps = let h : nat_lt x x ≡ false = grind (arith, nat_tests) in ap (λ b. cond b (record { left = x; right = x } ∷ grouping ps) (grouping ps)) h
@@ -243,7 +244,7 @@ arrow_read s0 s1 k e {old} {p1} {p3} {p4} {new} {m} l p ps start r t room more_o
     let close : ReadsHere text Punctuator (codes ")") w.list.mid k.last = subst (λ x. ClosedBy text (closing x) w.list.mid k.last) w.is w.list.closes in
     let d : RunsIn text (1000 - s1.opened) (parameter_list ps) ps m k.last (grouping w.more) = subst (λ x. RunsIn text (1000 - s1.opened) (parameter_list x) x m k.last (grouping w.more)) (sym given) (parameters_at text (pattern_parts 0 l.nodes) runs close) in
     let v : ArrowAt text p.has_in ps start r (suc (1000 - s1.opened)) k.last e.last (grouping a.more) = subst (λ x. ArrowAt x p.has_in ps start r (suc (1000 - s1.opened)) k.last e.last (grouping a.more)) texts
-        (subst (λ x. ArrowAt k.text p.has_in ps start r x k.last e.last (grouping a.more)) levels (subst (λ x. ArrowAt k.text p.has_in ps start r (1000 - x) k.last e.last (grouping a.more)) open_same a.is)) in
+    (subst (λ x. ArrowAt k.text p.has_in ps start r x k.last e.last (grouping a.more)) levels (subst (λ x. ArrowAt k.text p.has_in ps start r (1000 - x) k.last e.last (grouping a.more)) open_same a.is)) in
     let here_sign : ReadsHere text Punctuator (codes "=>") k.last t = subst (λ x. ReadsHere x Punctuator (codes "=>") k.last t) texts sign in
     let on_line : (u x : Token) → NextIn text any_goal k.last u x → u.after_break ≡ false = λ u x n. (text_determined text).break k.last u t x t n here_sign.next ∙ line in
     let read : PartAt text p.has_in p.start r (suc (1000 - s1.opened)) s0.last e.last (grouping w.more ++ grouping a.more) = paren_arrow text ps begin w.left d v on_line in

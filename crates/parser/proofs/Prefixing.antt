@@ -1,7 +1,6 @@
 -- Operators before their operand (ECMA-262 12.4, 12.5).
 use Rattle.std.proofs.Common.{◌≡◌, ℕ, ◌≤◌, Bool, true, false, cond, List, [], ◌∷◌, ◌++◌, refl, sym, ap, ◌∙◌, subst}
-use Rattle.std.specs.Prelude.{IsTrue, Option, Some, None, codes, not, ◌&&◌}
-use Rattle.std.proofs.lemmas.Bool.{false≢true}
+use Rattle.std.specs.Prelude.{IsTrue, Some, None, not}
 use Rattle.tokens.specs.Reading.{any_goal}
 use Rattle.tokens.specs.Tokens.{LexicalToken}
 use Rattle.tokens.specs.declared.token.Class.{Class}
@@ -15,16 +14,14 @@ use Rattle.covers.specs.declared.shape.Assigned.TheVariants as assigned
 use Rattle.covers.specs.Patterns.{pattern_tree}
 use Rattle.covers.specs.Shapes.{is_target, is_element}
 use Rattle.language.specs.declared.Rank.{Rank}
-use Rattle.language.specs.declared.Rank.TheVariants.{Unary, Update, LeftHandSide, New}
+use Rattle.language.specs.declared.Rank.TheVariants.{Unary, Update, LeftHandSide}
 use Rattle.language.specs.declared.Start.{Start}
 use Rattle.language.specs.declared.Start.TheVariants.{Any, NoBrace, Statement}
-use Rattle.language.specs.declared.Edge.TheVariants.{Other}
 use Rattle.language.specs.Words as words
 use Rattle.language.specs.Words.{is, among, takes, is_prefix, is_word_operator, operator_of, steps}
 use Rattle.language.specs.Pieces.{Role, expr, Piece, at, apart, tok, lay, put, sp}
 use Rattle.language.specs.Token.{Token, as_read, table_text}
 use Rattle.language.specs.Opening.{Opening, with_name, with_literal, with_this, with_bracket, with_brace, with_function, with_class, with_template, with_parenthesis, with_super, with_new, with_import, with_step, with_word, with_sign, no_opening, opening_of}
-use Rattle.language.specs.Edges.{edge, standing}
 use Rattle.language.specs.Grammar.{starts}
 use Rattle.language.specs.Places.{NextIn, itself, SpellsIn}
 use Rattle.language.specs.Derivation.{step, token, laid, Placed}
@@ -37,10 +34,9 @@ use Rattle.parser.specs.declared.part.Part.{Part}
 use Rattle.parser.specs.declared.position.Position.{Position}
 use Rattle.parser.specs.declared.openings.Opening.TheVariants as code
 use Rattle.parser.specs.Openings.{coded_opening, stands_at, opens_at}
-use Rattle.parser.specs.Derived.{Adds, Begins, SpelledAs, assigned_at, target_at, fits_as, PartAt, ReadAt, takes_new}
+use Rattle.parser.specs.Derived.{Adds, Begins, SpelledAs, assigned_at, target_at, PartAt, ReadAt}
 use Rattle.parser.specs.Seen.{ReadsHere}
 use Rattle.parser.specs.Sides.{before, steps_before, takes_operand, prefixed_node, prefixed_part}
-use Rattle.parser.specs.Stated.{is_closed}
 use Rattle.parser.proofs.Deriving.{adds_behind}
 use Rattle.parser.proofs.OpenedBy.{word_of, sign_of, step_of}
 use Rattle.parser.proofs.Spelled.{placed_at, value_part}

@@ -204,7 +204,10 @@ impl<'t, 's> Parser<'t, 's> {
             Opening::Single(kind) => {
                 self.pass(token);
                 let node = self.single(kind, token, high)?;
-                if is_name(kind) && self.sees_arrow() && position_takes(position.rank, Rank::Assignment) {
+                if is_name(kind)
+                    && self.sees_arrow()
+                    && position_takes(position.rank, Rank::Assignment)
+                {
                     let parameter = Nodes::one(self.alloc, node)?;
                     return self.arrow(parameter, token.start, position.has_in, high);
                 }
