@@ -29,6 +29,7 @@ use Rattle.parser.specs.Pieces as Piece
 use Rattle.parser.specs.Seen.{ReadsHere}
 use Rattle.parser.specs.Stated.{built_of, is_closed}
 use Rattle.parser.proofs.Deriving.{adds_behind}
+use Rattle.std.proofs.lemmas.List.{append-nil}
 
 -- the flags of an arrow whose body is an expression
 abbrev pub concise : Flags
@@ -97,7 +98,7 @@ module _ (text : List ℕ) where
       let u = w.read in
       let v = u.first.0 in
       let end : e ≡ u.mid = u.others.0 in
-      let pairs : P ≡ u.put_pairs = u.pairs ∙ ap (λ x. u.put_pairs ++ x) u.others.3 ∙ Rattle.std.proofs.lemmas.List.append-nil u.put_pairs in
+      let pairs : P ≡ u.put_pairs = u.pairs ∙ ap (λ x. u.put_pairs ++ x) u.others.3 ∙ append-nil u.put_pairs in
       let added : w.added ≡ part v.put none = u.parts ∙ (λ k. join (v.parts k) (u.others.2 k)) in
       record {
         put = v.put;

@@ -10,7 +10,7 @@ use Rattle.token_cursor.specs.Point.{Point}
 use Rattle.tree.specs.declared.kind.Kind.{Kind}
 use Rattle.tree.specs.declared.kind.Kind.TheVariants.{ArrayExpression, ObjectExpression, ArrayPattern, ObjectPattern, TemplateLiteral}
 use Rattle.tree.specs.declared.kind.Pair.{Pair}
-use Rattle.tree.specs.Tree.{Tree, node, plain, Parts, none, part, gap, bare, bare_parts, height}
+use Rattle.tree.specs.Tree.{Tree, node, plain, Parts, none, part, gap, bare, bare_parts, height, kind_of}
 use Rattle.covers.specs.declared.shape.Shape.{Shape}
 use Rattle.covers.specs.declared.shape.Assigned.{Assigned}
 use Rattle.covers.specs.declared.shape.Assigned.TheVariants as assigned
@@ -42,7 +42,7 @@ use Rattle.language.proofs.Productions.{spell}
 use Rattle.language.proofs.Running.{run_never}
 use Rattle.language.proofs.Templates.{chunk_found}
 use Rattle.language.proofs.TextPlaces.{text_determined}
-use Rattle.parser.specs.Derived.{RunsIn, Begins, SpelledAs, assigned_at, pattern_at, fits_as, PartAt}
+use Rattle.parser.specs.Derived.{RunsIn, Begins, SpelledAs, assigned_at, pattern_at, fits_as, PartAt, bare_role}
 use Rattle.parser.specs.DerivedLists.{ListAt, SoFarAt, is_list_shape, left_of}
 use Rattle.parser.specs.Follows.{BegunTemplate, FirstChunkAt}
 use Rattle.parser.specs.Items.{list_from, with_item, listed_node, listed_part, listed_shape}
@@ -52,6 +52,7 @@ use Rattle.parser.proofs.Deriving.{runs_on}
 use Rattle.parser.proofs.Forward.{begins_mark}
 use Rattle.parser.proofs.Spelled.{placed_at}
 use Rattle.parser.proofs.Grouped.{listed_bare, elements_bare, element_bare, goes_on}
+use Rattle.language.specs.Edges.{edge, standing}
 
 -- what is made, where there is room
 pub makes_ok : {X : Type 0} (x : X) (levels high : ℕ) (B : X → Type 0) (r : Result X Fault) → MakesAs x levels high r → (levels ≤ high → B x) → IfOk r B
@@ -78,7 +79,7 @@ fixed_array : (ps : Parts) → Fixed ((sign "[" ∷ elements argument ps) ++ sig
 fixed_array ps = one_more refl (fixed_join (fixed_elements argument (λ n. refl) ps) (one_more refl all_done))
 
 fixed_object : (ps : Parts) → Fixed ((sign "{" ∷ listing (item_piece object_role) ps) ++ sign "}" ∷ [])
-fixed_object ps = one_more refl (fixed_join (fixed_listed (item_piece object_role) (λ n. fixed_put (object_role (Rattle.tree.specs.Tree.kind_of n))) ps) (one_more refl all_done))
+fixed_object ps = one_more refl (fixed_join (fixed_listed (item_piece object_role) (λ n. fixed_put (object_role (kind_of n))) ps) (one_more refl all_done))
 
 starts_bracket : (f : Start) (qs : List Piece) → IsTrue (starts f (sign "[" ∷ qs))
 starts_bracket Any qs = refl
@@ -144,11 +145,11 @@ module _ (text : List ℕ) where
   pattern_placed {e = e} b = placed b.next (ap (λ (x : ℕ). (x, e.stop)) b.start)
 
   -- the part, from how it is spelled in each reading
-  bracket_part : {i : Bool} {f : Start} (l : ListOf) {o : ℕ} {s e : Token} {P : List Pair} → Begins text l.span.start s → Rattle.language.specs.Edges.edge (listed_node l) ≡ Other → ((b : Bool) → fits_as (listed_shape l.listed l.seen.shape) (as_pattern b) ≡ true → SpelledAs (assigned_at (listed_shape l.listed l.seen.shape).assigned f b) text o (pattern_tree (listed_node l)) s e P) →
-      ((a : Role) → Rattle.parser.specs.Derived.bare_role (listed_node l) ≡ Some a → ⊥) → ((listed_shape l.listed l.seen.shape).is_expression ≡ true → (h : Rank) (j : Bool) → IsTrue (takes h Primary) → SpellsIn text o (expr h j f) (listed_node l) s e P) → PartAt text i f (listed_part l) o s e P
+  bracket_part : {i : Bool} {f : Start} (l : ListOf) {o : ℕ} {s e : Token} {P : List Pair} → Begins text l.span.start s → edge (listed_node l) ≡ Other → ((b : Bool) → fits_as (listed_shape l.listed l.seen.shape) (as_pattern b) ≡ true → SpelledAs (assigned_at (listed_shape l.listed l.seen.shape).assigned f b) text o (pattern_tree (listed_node l)) s e P) →
+      ((a : Role) → bare_role (listed_node l) ≡ Some a → ⊥) → ((listed_shape l.listed l.seen.shape).is_expression ≡ true → (h : Rank) (j : Bool) → IsTrue (takes h Primary) → SpellsIn text o (expr h j f) (listed_node l) s e P) → PartAt text i f (listed_part l) o s e P
   bracket_part l {e = e} begins right pattern_is no_name st = record {
     begins = begins;
-    edge = sym (ap (λ x. Rattle.language.specs.Edges.standing x e) right);
+    edge = sym (ap (λ x. standing x e) right);
     goes_on = refl;
     stands = λ v h j tk lo. st v h j tk;
     assigned = λ b fits d. pattern_is b fits;

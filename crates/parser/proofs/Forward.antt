@@ -1,12 +1,12 @@
 -- Where tokens stand: what is read goes forward, a punctuator is as long as its text, and where a place begins.
 use Rattle.std.proofs.Common.{◌≡◌, ℕ, ◌+◌, ◌≤◌, false, List, length, refl, sym, ap, ◌∙◌, subst, arith}
-use Rattle.std.specs.Prelude.{IsTrue}
+use Rattle.std.specs.Prelude.{IsTrue, encode_utf8_all}
 use Rattle.tokens.specs.declared.token.Class.TheVariants.{Punctuator}
 use Rattle.tokens.specs.declared.token.Goal.{Goal}
 use Rattle.tokens.specs.declared.token.Goal.TheVariants as goal
 use Rattle.tokens.specs.Goals.{allows}
 use Rattle.tokens.specs.Tokens.{LexicalToken, IsTokenAt}
-use Rattle.tokens.specs.Reading.{any_goal}
+use Rattle.tokens.specs.Reading.{any_goal, behind}
 use Rattle.token_cursor.specs.Point.{Point}
 use Rattle.tree.specs.declared.kind.Pair.{Pair}
 use Rattle.tree.specs.Tree.{Tree, Parts}
@@ -19,6 +19,7 @@ use Rattle.parser.specs.Derived.{RunsIn, Begins}
 use Rattle.parser.specs.Outcomes.{IsPlaceHere}
 use Rattle.parser.specs.Seen.{ReadsHere}
 use Rattle.parser.proofs.Seeing.{read_allows}
+use Rattle.language.specs.Promises.{ReadBy}
 
 -- the same token, by another goal that allows it
 by_goal : {at : ℕ} {cs : List ℕ} {g : Goal} {t : LexicalToken} {rest : List ℕ} (h : Goal) (x : IsTokenAt g at cs t rest) → IsTrue (allows h t.class x.word) → IsTokenAt h at cs t rest
@@ -85,15 +86,15 @@ module _ (text : List ℕ) where
       of : {s t e : Token} → NextIn text any_goal s t e → t.class ≡ Punctuator → t.text ≡ w → t.stop ≡ t.start + length w
       of (next_in {t = u} g any x) class is =
           let long : length w ≡ length u.text = ap length (sym is ∙ ap (λ c. table_text c u.text) class) in
-          let word : length u.text ≡ length (Rattle.std.specs.Prelude.encode_utf8_all x.word) = ap length x.text in
+          let word : length u.text ≡ length (encode_utf8_all x.word) = ap length x.text in
           let stop = x.stop in
           omega arith
 
   -- the place of what stands ahead is that of a punctuator there
-  pub mark_place : {w : List ℕ} {s t e : Token} {at : ℕ} → ((u : LexicalToken) → IsTokenAt goal.Div s.stop (Rattle.tokens.specs.Reading.behind text s.stop) u (Rattle.tokens.specs.Reading.behind text u.stop) → at ≡ u.start) → Reads Token (NextIn text any_goal) itself Punctuator w s t e → at ≡ t.start
+  pub mark_place : {w : List ℕ} {s t e : Token} {at : ℕ} → ((u : LexicalToken) → IsTokenAt goal.Div s.stop (behind text s.stop) u (behind text u.stop) → at ≡ u.start) → Reads Token (NextIn text any_goal) itself Punctuator w s t e → at ≡ t.start
   mark_place {w} {at = at} here r = of r.next r.class here
     where
-      of : {s t e : Token} → NextIn text any_goal s t e → t.class ≡ Punctuator → ((u : LexicalToken) → IsTokenAt goal.Div s.stop (Rattle.tokens.specs.Reading.behind text s.stop) u (Rattle.tokens.specs.Reading.behind text u.stop) → at ≡ u.start) → at ≡ t.start
+      of : {s t e : Token} → NextIn text any_goal s t e → t.class ≡ Punctuator → ((u : LexicalToken) → IsTokenAt goal.Div s.stop (behind text s.stop) u (behind text u.stop) → at ≡ u.start) → at ≡ t.start
       of (next_in {t = u} g any x) class here = here u (by_goal goal.Div x (subst (λ c. IsTrue (allows goal.Div c x.word)) (sym class) (div_allows false x.word)))
 
   pub begins_mark : {w : List ℕ} {s m : Token} {at : ℕ} → at ≡ m.start → ReadsHere text Punctuator w s m → Begins text at s
@@ -103,8 +104,8 @@ pub place_mark : (p : Point) {w : List ℕ} {m : Token} {at : ℕ} → IsPlaceHe
 place_mark p here r = mark_place p.text here.1 r
 
 -- and that of each token that the goal behind operands allows
-pub place_token : (p : Point) {t m : Token} {at : ℕ} → IsPlaceHere p at → Rattle.language.specs.Promises.ReadBy Token (NextIn p.text any_goal) itself goal.Div p.last t m → at ≡ t.start
+pub place_token : (p : Point) {t m : Token} {at : ℕ} → IsPlaceHere p at → ReadBy Token (NextIn p.text any_goal) itself goal.Div p.last t m → at ≡ t.start
 place_token p {at = at} here r = of r.next r.allowed here.1
   where
-    of : {s t e : Token} → NextIn p.text any_goal s t e → IsTrue (allows goal.Div t.class t.text) → ((u : LexicalToken) → IsTokenAt goal.Div s.stop (Rattle.tokens.specs.Reading.behind p.text s.stop) u (Rattle.tokens.specs.Reading.behind p.text u.stop) → at ≡ u.start) → at ≡ t.start
+    of : {s t e : Token} → NextIn p.text any_goal s t e → IsTrue (allows goal.Div t.class t.text) → ((u : LexicalToken) → IsTokenAt goal.Div s.stop (behind p.text s.stop) u (behind p.text u.stop) → at ≡ u.start) → at ≡ t.start
     of (next_in {t = u} g any x) al here = here u (by_goal goal.Div x (sym (read_allows goal.Div u x.word x.text) ∙ al))

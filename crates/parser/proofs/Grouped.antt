@@ -29,7 +29,7 @@ use Rattle.language.specs.Pieces.{Role, expr, Piece, PieceOf, at, tok, sub, sett
 use Rattle.language.specs.Pieces as pieces
 use Rattle.language.specs.Token.{Token}
 use Rattle.language.specs.Edges.{edge, standing}
-use Rattle.language.specs.Expressions.{arrow_end, sequence}
+use Rattle.language.specs.Expressions.{arrow_end, sequence, assignment}
 use Rattle.language.specs.Places.{NextIn, itself, SpellsIn}
 use Rattle.language.specs.Derivation.{Placed, placed, pair_of, grouped}
 use Rattle.language.proofs.Begins.{goes_to}
@@ -40,11 +40,12 @@ use Rattle.language.proofs.Running.{run_never, run_the_part, run_none}
 use Rattle.language.proofs.TextPlaces.{text_determined}
 use Rattle.language.proofs.Wholes.{spells_expression}
 use Rattle.parser.specs.Derived.{RunsIn, SpelledAs, assigned_at, target_at, fits_as, minds_in, PartAt}
-use Rattle.parser.specs.DerivedLists.{ListAt, SoFarAt, SeenRight, ClosedBy, is_whole, whole_of, stood_in, item_pieces, several}
+use Rattle.parser.specs.DerivedLists.{ListAt, SoFarAt, SeenRight, ClosedBy, is_whole, whole_of, stood_in, item_pieces, several, asks_last}
 use Rattle.parser.specs.Items.{group_node, group_shape, is_grouped, are_some, list_group}
 use Rattle.parser.specs.Parts.{group_part}
 use Rattle.parser.specs.Seen.{ReadsHere}
 use Rattle.parser.proofs.Forward.{begins_mark}
+use Rattle.language.specs.Promises.{ReadBy}
 
 some_none : {A X : Type 0} {x : X} → Some x ≡ None → A
 some_none e = cc
@@ -84,9 +85,6 @@ pub simple_pattern : (n : Tree) → words.is_target (kind_of n) ≡ true → pat
 simple_pattern (node Identifier w g s e ps) h = refl
 simple_pattern (node MemberExpression w g s e ps) h = refl
 simple_pattern (node k w g s e ps) h = cc
-
-pub takes_group : (y : Rank) → IsTrue (takes y Grouped)
-takes_group y = Rattle.language.proofs.Groups.takes_group y
 
 pub and_three : (a b c : Bool) → (a && (b && c)) ≡ true → ((true && c) && (a && b)) ≡ true
 and_three true true true h = refl
@@ -138,7 +136,7 @@ module _ (text : List ℕ) where
       as_target false simple false h w = cc
 
   -- the expression in parentheses
-  inner_at : {o : ℕ} {m k : Token} {P : List Pair} (start end : ℕ) (ps : Parts) → are_some ps ≡ true → end ≡ k.stop → ((t e : Token) → Rattle.language.specs.Promises.ReadBy Token (NextIn text any_goal) itself RegExp m t e → start ≡ t.start) → RunsIn text o (stood_in Any listed.Covers (several Rattle.language.specs.Expressions.assignment ps)) ps m k P →
+  inner_at : {o : ℕ} {m k : Token} {P : List Pair} (start end : ℕ) (ps : Parts) → are_some ps ≡ true → end ≡ k.stop → ((t e : Token) → ReadBy Token (NextIn text any_goal) itself RegExp m t e → start ≡ t.start) → RunsIn text o (stood_in Any listed.Covers (several assignment ps)) ps m k P →
       SpellsIn text o (expr Expression true Any) (group_node ps start end) m k P
   inner_at start end none some ends begins d = cc
   inner_at start end (gap ps) some ends begins d = absurd (run_never Token (NextIn text any_goal) itself d)
@@ -158,13 +156,13 @@ module _ (text : List ℕ) where
       (sequence_grows Token (NextIn text any_goal) itself refl refl a.spelled (subst (λ x. RunsIn text o (goes_to Expression true Any x) (part l ps) a.mid k a.more) (sym (sequence_bare (part l ps))) a.runs) whole)
 
   -- what is said of parentheses that hold a list
-  pub group_list : {i : Bool} {f : Start} (l : ListOf) {o : ℕ} {s m e : Token} {P : List Pair} → l.listed ≡ listed.Covers → is_grouped l ≡ true → SeenRight l → l.span.start ≡ m.start → ((t k : Token) → Rattle.language.specs.Promises.ReadBy Token (NextIn text any_goal) itself RegExp m t k → l.inside.start ≡ t.start) →
+  pub group_list : {i : Bool} {f : Start} (l : ListOf) {o : ℕ} {s m e : Token} {P : List Pair} → l.listed ≡ listed.Covers → is_grouped l ≡ true → SeenRight l → l.span.start ≡ m.start → ((t k : Token) → ReadBy Token (NextIn text any_goal) itself RegExp m t k → l.inside.start ≡ t.start) →
       ReadsHere text Punctuator (codes "(") s m → (w : ListAt text Any l o m e P) → PartAt text i f (list_group l) (suc o) s e (pair_of m e ∷ P)
   group_list {i} {f} l {o} {s} {m} {e} {P} is fits right begin inner left w =
       let value : l.seen.shape.is_expression ≡ true = last_true (are_some l.nodes) (not l.seen.has_comma) l.seen.shape.is_expression fits in
       let whole : is_whole l as_expression ≡ true = ap (λ x. whole_of x l as_expression) is ∙ and_three (are_some l.nodes) (not l.seen.has_comma) l.seen.shape.is_expression fits in
-      let end : l.inside.end ≡ w.mid.stop = w.inside (ap (λ x. Rattle.parser.specs.DerivedLists.asks_last x as_expression) is) whole in
-      let runs : RunsIn text o (stood_in Any listed.Covers (several Rattle.language.specs.Expressions.assignment l.nodes)) l.nodes m w.mid P = subst (λ x. RunsIn text o (stood_in Any x (item_pieces x as_expression l.nodes)) l.nodes m w.mid P) is (w.runs as_expression whole) in
+      let end : l.inside.end ≡ w.mid.stop = w.inside (ap (λ x. asks_last x as_expression) is) whole in
+      let runs : RunsIn text o (stood_in Any listed.Covers (several assignment l.nodes)) l.nodes m w.mid P = subst (λ x. RunsIn text o (stood_in Any x (item_pieces x as_expression l.nodes)) l.nodes m w.mid P) is (w.runs as_expression whole) in
       let close : ReadsHere text Punctuator (codes ")") w.mid e = subst (λ x. ClosedBy text (closing x) w.mid e) is w.closes in
       let d = inner_at l.inside.start l.inside.end l.nodes (first_true (are_some l.nodes) (not l.seen.has_comma && l.seen.shape.is_expression) fits) end inner runs in
       of l.nodes (λ n h b. right.target n is h value b) d close

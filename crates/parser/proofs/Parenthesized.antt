@@ -35,6 +35,7 @@ use Rattle.language.specs.Promises.{ReadBy}
 use Rattle.language.specs.Derivation.{opened, closed, token, pair_of}
 use Rattle.language.specs.View.{arrow}
 use Rattle.language.proofs.Begins.{goes_to}
+use Rattle.language.proofs.Groups.{takes_group}
 use Rattle.language.proofs.ParameterLists.{parameter_list, Closer, parameters_join}
 use Rattle.language.proofs.Productions.{spell}
 use Rattle.language.proofs.Running.{run_closed}
@@ -50,7 +51,7 @@ use Rattle.parser.specs.Seen.{ReadsHere}
 use Rattle.parser.proofs.Arrowed.{join_one}
 use Rattle.parser.proofs.Deriving.{runs_on, grouping_both}
 use Rattle.parser.proofs.Forward.{begins_mark, mark_long, next_forward, runs_forward, place_mark}
-use Rattle.parser.proofs.Grouped.{group_list, listed_bare, element_bare, goes_on, takes_group, assignment_minds, and_three}
+use Rattle.parser.proofs.Grouped.{group_list, listed_bare, element_bare, goes_on, assignment_minds, and_three}
 use Rattle.parser.proofs.Spelled.{placed_at}
 
 -- what is made, where it fits
