@@ -4,6 +4,7 @@ use Rattle.std.specs.Prelude.{IsTrue, codes, ◌&&◌, ◌||◌}
 use Rattle.std.proofs.lemmas.List.{append-nil}
 use Rattle.tokens.specs.Reading.{any_goal}
 use Rattle.tokens.specs.declared.token.Class.TheVariants.{Punctuator}
+use Rattle.tokens.specs.declared.token.Goal.TheVariants.{Div}
 use Rattle.token_cursor.specs.Point.{Point}
 use Rattle.tree.specs.declared.kind.Kind.TheVariants.{ChainExpression}
 use Rattle.tree.specs.declared.kind.Pair.{Pair}
@@ -19,12 +20,13 @@ use Rattle.language.proofs.Growing.{chain_grows}
 use Rattle.parser.specs.declared.part.Part.{Part}
 use Rattle.parser.specs.Derived.{Adds, Begins, PartAt, LinkAt, Links, GoesOn}
 use Rattle.parser.specs.Parts.{plain_part}
-use Rattle.parser.specs.Seen.{Sees, Misses}
+use Rattle.parser.specs.Seen.{Sees, Misses, MissesBy}
+use Rattle.parser.specs.Tests.{is_template}
 use Rattle.parser.proofs.Deriving.{adds_behind, adds_both}
 use Rattle.parser.proofs.Spelled.{placed_at, value_part}
 
 mutual
-  chained_bare : (n : Tree) → chained (bare n) ≡ chained n
+  pub chained_bare : (n : Tree) → chained (bare n) ≡ chained n
   chained_bare (node k w g s e ps) = ap (λ b. is_spine k && (g.optional || b)) (first_bare ps)
 
   first_bare : (ps : Parts) → first_chained (bare_parts ps) ≡ first_chained ps
@@ -51,9 +53,9 @@ pub chain_first : {m e : Point} {mid new : List Pair} {l r : Part} → Sees m.te
 chain_first {m} sees a = adds_behind refl refl a (λ o Q v i f s P h. v.begun (begun_by m.text _ v.optional sees) i f s P h)
 
 -- a further one
-pub chain_on : {s m e : Point} {old mid new : List Pair} {text : List ℕ} {l p r : Part} → text ≡ s.text → Adds s m old mid (ChainedOn s.text l p) → Adds m e mid new (Links text p r) → Adds s e old new (ChainedOn s.text l r)
-chain_on {s} {m} {e} {p = p} {r = r} same a b =
-    adds_both a b (λ o P Q u v i f z R h. subst (λ x. LinkAt s.text f r o z e.last x) (append_assoc R P Q) ((subst (λ t. Links t p r o m.last e.last Q) same v).further f z (R ++ P) (u i f z R h)))
+pub chain_on : {s m e : Point} {old mid new : List Pair} {text : List ℕ} {l p r : Part} → text ≡ s.text → Adds s m old mid (ChainedOn s.text l p) → MissesBy text Div is_template m.last → Adds m e mid new (Links text p r) → Adds s e old new (ChainedOn s.text l r)
+chain_on {s} {m} {e} {p = p} {r = r} same a no_template b =
+    adds_both a b (λ o P Q u v i f z R h. subst (λ x. LinkAt s.text f r o z e.last x) (append_assoc R P Q) ((subst (λ t. Links t p r o m.last e.last Q) same v).further (subst (λ t. MissesBy t Div is_template m.last) same no_template) f z (R ++ P) (u i f z R h)))
 
 -- the whole
 pub chain_whole : {s e : Point} {old new : List Pair} {l p : Part} → Adds s e old new (ChainedOn s.text l p) → Adds s e old new (λ o m e' Q. (i : Bool) → GoesOn s.text i l (plain_part (node ChainExpression [] plain l.start e'.stop (part p.cover.node none)) LeftHandSide Other) o m e' Q)

@@ -15,6 +15,8 @@ pub mod ItemsOf
 pub mod Listing
 pub mod Looping
 pub mod Literals
+pub mod LinkReads
+pub mod Linking
 pub mod Modified
 pub mod Moves
 pub mod OneToken

@@ -40,8 +40,9 @@ use Rattle.parser.specs.declared.position.Position.{Position}
 use Rattle.parser.specs.declared.openings.Opening.{Opening}
 use Rattle.parser.specs.Openings.{coded_opening, opens_at}
 use Rattle.parser.specs.Parts.{is_group}
-use Rattle.parser.specs.Seen.{ReadsHere, Sees, Misses}
+use Rattle.parser.specs.Seen.{ReadsHere, Sees, Misses, MissesBy}
 use Rattle.parser.specs.Stated.{is_closed}
+use Rattle.parser.specs.Tests.{is_template}
 
 -- from one place of a text to another the parts run over the pieces
 abbrev pub RunsIn : List ℕ → ℕ → List (PieceOf Role) → Parts → Token → Token → List Pair → Type 0
@@ -154,15 +155,15 @@ pub record SuperAt (text : List ℕ) (p : Part) (o : ℕ) (s e : Token) (P : Lis
   pub kind : kind_of p.cover.node ≡ Super
   pub spelled : SpellsIn text o base p.cover.node s e P
 
--- A member, arguments or a template behind what was read: behind an expression an expression, or with a `?.` the first part of a chain; behind a part of a
--- chain the next; behind `super` an expression.
+-- A member, arguments or a template behind what was read: behind an expression an expression, or with a `?.` the first part of a chain; where no template
+-- follows, behind a part of a chain the next, and behind `super` an expression.
 pub record Links (text : List ℕ) (l r : Part) (o : ℕ) (m e : Token) (Q : List Pair) : Type 0 where
   pub optional : cond (flags_of r.cover.node).optional (Sees text Punctuator (codes "?.") m) (Misses text Punctuator (codes "?.") m)
   pub onward : (flags_of r.cover.node).optional ≡ false → (i : Bool) → GoesOn text i l r o m e Q
   pub taken : (flags_of r.cover.node).optional ≡ false → (t : Token) (y z : Rank) → ReadBy Token (NextIn text any_goal) itself Div m t t → symbol_of (operation t) t.after_break ≡ Some z → IsTrue (takes y l.rank) → IsTrue (takes y z) → IsTrue (takes y r.rank)
   pub begun : (flags_of r.cover.node).optional ≡ true → (i : Bool) (f : Start) (s : Token) (P : List Pair) → PartAt text i f l o s m P → LinkAt text f r o s e (P ++ Q)
-  pub further : (f : Start) (s : Token) (P : List Pair) → LinkAt text f l o s m P → LinkAt text f r o s e (P ++ Q)
-  pub super : (flags_of r.cover.node).optional ≡ false → (i : Bool) (f : Start) (s : Token) (P : List Pair) → SuperAt text l o s m P → PartAt text i f r o s e (P ++ Q)
+  pub further : MissesBy text Div is_template m → (f : Start) (s : Token) (P : List Pair) → LinkAt text f l o s m P → LinkAt text f r o s e (P ++ Q)
+  pub super : MissesBy text Div is_template m → (flags_of r.cover.node).optional ≡ false → (i : Bool) (f : Start) (s : Token) (P : List Pair) → SuperAt text l o s m P → PartAt text i f r o s e (P ++ Q)
 
 -- arguments with their parentheses (12.3.6)
 abbrev pub ArgumentsAt : List ℕ → Parts → ℕ → Token → Token → List Pair → Type 0

@@ -1,24 +1,28 @@
 -- What the functions of the cycle derive.
 use Rattle.std.proofs.Common.{◌≡◌, ◌≤◌, true, false, sym, refl, ap, subst, ◌∙◌, arith, ◌+◌, ◌-◌, ◌<◌, length, set}
-use Rattle.std.specs.Prelude.{◌&&◌, not, [], Some}
+use Rattle.std.specs.Prelude.{◌&&◌, not, [], Some, true}
 use Rattle.std.proofs.lemmas.Bool.{false≢true}
-use Rattle.tree.specs.declared.kind.Kind.TheVariants.{ChainExpression, SwitchCase, VariableDeclarator, ArrowFunctionExpression}
-use Rattle.tree.specs.Tree.{Tree, node, plain, kind_of, part, gap, none, push, push_gap, height, parts_height, flags_of}
+use Rattle.tree.specs.declared.kind.Kind.TheVariants.{ChainExpression, SwitchCase, VariableDeclarator, ArrowFunctionExpression, Identifier}
+use Rattle.tree.specs.Tree.{Tree, node, plain, kind_of, part, gap, none, push, push_gap, height, parts_height, flags_of, join}
+use Rattle.tokens.specs.Scanned.{token_of}
 use Rattle.language.specs.Statements.{is_directive}
-use Rattle.language.specs.declared.Rank.TheVariants.{LeftHandSide, Primary}
+use Rattle.language.specs.declared.Rank.TheVariants.{LeftHandSide, Primary, Call}
 use Rattle.language.specs.declared.Edge.TheVariants.{Other, Closed}
 use Rattle.covers.specs.declared.list.Item.{Item}
 use Rattle.covers.specs.declared.list.Listed.TheVariants.{Cases, Declarators, Elements, Members, Properties, Sequence}
 use Rattle.covers.specs.Patterns.{pattern_tree}
 use Rattle.covers.specs.Shapes.{is_target, value}
-use Rattle.language.specs.Words.{is_target as is_simple}
+use Rattle.language.specs.Words.{is_target as is_simple, takes}
 use Rattle.parser.specs.Derived.{Adds, GoesOn, ReadAt, ArrowAt}
 use Rattle.parser.specs.Outcomes.{BeginsBy, IsPlaceHere}
 use Rattle.parser.specs.Items.{group_levels, is_grouped, list_group, after_item, item_from, with_item, listed_node, listed_part}
 use Rattle.token_cursor.specs.Point.{Point}
 use Rattle.language.specs.Token.{Token}
+use Rattle.parser.specs.declared.part.Part.{Part}
+use Rattle.parser.specs.Links.{link_kind, link_flags, link_rank}
 use Rattle.parser.specs.Parts.{plain_part}
 use Rattle.parser.specs.DerivedLists.{ItemReads, SeenRight, asks_edge, is_chunked}
+use Rattle.parser.specs.Tokens.{single_node}
 use Rattle.parser.specs.DerivedPieces.{StatementsAt}
 use Rattle.parser.specs.Follows.{ChunkAt}
 use Rattle.covers.specs.declared.list.List.{List}
@@ -34,8 +38,9 @@ use Rattle.parser.proofs.OneToken.{name_arrow, name_kind, single_read}
 use Rattle.parser.proofs.Opens.{list_read}
 use Rattle.parser.proofs.Prefixing.{prefix_low, prefix_read}
 use Rattle.parser.specs.Sides.{steps_before, takes_operand, prefixed_node, prefixed_part}
-use Rattle.tokens.specs.Scanned.{token_of}
 use Rattle.parser.proofs.Parenthesized.{InParens, yields_ok, ok_map, in_parens, pair_place, group_read, group_low, first_low, arrow_read}
+use Rattle.parser.proofs.Linking.{is_call}
+use Rattle.parser.proofs.LinkReads.{BehindOn, name_read, index_read, arguments_read_behind, template_read, call_is, call_is_not, links_read}
 use Rattle.parser.proofs.Spelled.{turn_on}
 use Rattle.parser.proofs.Stating.{all_directive, and_true, still, push_low, statements_first, statements_on}
 use Rattle.parser.proofs.Wholly.{after_inside, after_nodes, after_start, further_first, further_item, item_places, not_a_sequence, same_right}
@@ -109,7 +114,7 @@ chain-links-preserved c =
       same = c.linked-in-links.ensures.text ∙ c.links.invariant.same;
       forward = omega arith;
       within = c.links.invariant.within;
-      derived = chain_on c.links.invariant.same c.links.invariant.derived c.in_ok-part-2.ensures.derived;
+      derived = chain_on c.links.invariant.same c.links.invariant.derived c.if-sees_template.ensures.missed c.in_ok-part-2.ensures.derived;
     }
 
 pub chain-returns-clause-derived : goal.chain-returns-clause-derived
@@ -428,3 +433,48 @@ opening-returns-then-position_takes-clause-derived c =
     let sign = c.if-sees_arrow.ensures.seen in
     ok_map (λ r. Adds m c.arrow.new.self.cursor c.pass-in-Single.new.self.pairs.items c.arrow.new.self.pairs.items (ArrowAt m.text c.args.position.has_in c.in_ok-parameter-in-Single.parameter c.in-Some.token.start r)) (λ r. Adds s c.arrow.new.self.cursor c.args.self.now.pairs.items c.arrow.new.self.pairs.items (ReadAt s.text c.args.position r)) c.arrow.result c.arrow.ensures.derived (λ r a.
     name_arrow s m c.arrow.new.self.cursor c.args.position (token_of c.in-Some.token) c.in-Single.kind c.in_ok-parameter-in-Single.parameter c.in-Some.token.start r sign.0 c.pass-in-Single.ensures.text c.pass-in-Single.ensures.same_open c.pass-in-Single.ensures.same_pairs c.pass-in-Single.ensures.reads c.pass-in-Single.ensures.last coded kind parameter refl sign.1 sign.2 (sym c.position_takes.ensures ∙ c.if-position_takes.true) a)
+
+
+pub linked-returns-clause-derived : goal.linked-returns-clause-derived
+linked-returns-clause-derived c =
+    let text = c.link.ensures.text in
+    let opened = c.link.ensures.same_open in
+    let same = c.link.ensures.same_pairs in
+    let found = c.in_ok-found.found in
+    let optional = c.in_ok-found.optional in
+    let passed = c.in_ok-found.ensures.linked in
+    let value = c.in_ok-settle.ensures.settled.1 in
+    let object : takes Call c.args.left.rank ≡ true = sym c.position_takes.ensures ∙ c.if-not-position_takes.false in
+    let called : c.match-matches.matches ≡ is_call c.args.left.rank = elim c.match-matches.branch [ in-Call w ↦ w.matches-is ∙ call_is c.args.left.rank w.in-Call.is | in_default w ↦ w.matches-is ∙ call_is_not c.args.left.rank w.in_default.not-Call ] in
+    let one : c.in_ok-nodes.nodes ≡ part c.args.left.cover.node none = c.in_ok-nodes.ensures.made ∙ ap (λ n. part n none) c.in_ok-settle.ensures.settled.0 in
+    let span = c.span_from-span.ensures in
+    let tree : c.in_ok-node.node ≡ node (link_kind found) [] (link_flags found optional) c.args.left.start c.match-found.self.cursor.last.stop c.match-found.nodes = c.in_ok-node.ensures.0 ∙ (λ i. node (c.kind.ensures i) [] (c.flags.ensures i) (span i).start (span i).end c.match-found.nodes) in
+    let made : c.plain.result ≡ plain_part (node (link_kind found) [] (link_flags found optional) c.args.left.start c.match-found.self.cursor.last.stop c.match-found.nodes) (link_rank found c.match-matches.matches) Other = c.plain.ensures ∙ (λ i. plain_part (tree i) (c.rank.ensures i) Other) in
+    elim c.match-found.branch [
+      | in-Name+in_ok-name-in-Name+in_ok-single-in-Name+in_ok-push-in-Name w ↦
+        let name = w.in_ok-name-in-Name.ensures.accepted in
+        let nodes : c.match-found.nodes ≡ part c.args.left.cover.node (part (single_node Identifier (token_of w.in_ok-name-in-Name.name)) none) = w.nodes-is ∙ w.in_ok-push-in-Name.ensures.pushed ∙ (λ i. push (one i) (w.in_ok-single-in-Name.ensures.made.0 i)) in
+        links_read found optional c.match-matches.matches value object called nodes made
+        (subst (λ v. Adds c.args.self.now.cursor v.cursor c.args.self.now.pairs.items v.pairs.items (BehindOn c.args.self.now.cursor.text found optional (part (single_node Identifier (token_of w.in_ok-name-in-Name.name)) none))) (sym w.self-is)
+        (name_read found optional (token_of w.in_ok-name-in-Name.name) text opened same w.in-Name.is passed w.word.ensures.same_open w.word.ensures.same_pairs name.0.0 name.1))
+      | in-Index+in_ok-expect-in-Index+in_ok-index-in-Index+in_ok-settle-in-Index+in_ok-push-in-Index+in_ok-expect-in-Index-2 w ↦
+        let index = w.in_ok-index-in-Index.index in
+        let nodes : c.match-found.nodes ≡ part c.args.left.cover.node (part index.cover.node none) = w.nodes-is ∙ w.in_ok-push-in-Index.ensures.pushed ∙ (λ i. push (one i) (w.in_ok-settle-in-Index.ensures.settled.0 i)) in
+        links_read found optional c.match-matches.matches value object called nodes made
+        (subst (λ v. Adds c.args.self.now.cursor v.cursor c.args.self.now.pairs.items v.pairs.items (BehindOn c.args.self.now.cursor.text found optional (part index.cover.node none))) (sym w.self-is)
+        (index_read found optional text opened same w.in-Index.is passed w.expect.ensures.text w.expect.ensures.same_open w.expect.ensures.same_pairs w.in_ok-expect-in-Index.ensures.accepted.0 refl refl refl w.expression.ensures.text w.in_ok-index-in-Index.ensures.derived w.in_ok-settle-in-Index.ensures.settled.1
+        w.expect-in-Index.ensures.same_open w.expect-in-Index.ensures.same_pairs w.in_ok-expect-in-Index-2.ensures.accepted.0))
+      | in-Arguments+in_ok-arguments-in-Arguments+in_ok-append-in-Arguments w ↦
+        let nodes : c.match-found.nodes ≡ part c.args.left.cover.node w.in_ok-arguments-in-Arguments.field-0 = w.nodes-is ∙ w.in_ok-append-in-Arguments.ensures.joined ∙ (λ i. join (one i) w.in_ok-arguments-in-Arguments.field-0) in
+        links_read found optional c.match-matches.matches value object called nodes made
+        (subst (λ v. Adds c.args.self.now.cursor v.cursor c.args.self.now.pairs.items v.pairs.items (BehindOn c.args.self.now.cursor.text found optional w.in_ok-arguments-in-Arguments.field-0)) (sym w.self-is)
+        (arguments_read_behind found optional text opened same w.in-Arguments.is passed w.in_ok-arguments-in-Arguments.ensures.derived))
+      | in-Quasi+in_ok-list-in-Quasi+in_ok-list-in-Quasi-2+in_ok-listed-in-Quasi+in_ok-push-in-Quasi w ↦
+        let template = w.in_ok-listed-in-Quasi.field-0.cover.node in
+        let nodes : c.match-found.nodes ≡ part c.args.left.cover.node (part template none) = w.nodes-is ∙ w.in_ok-push-in-Quasi.ensures.pushed ∙ (λ i. push (one i) template) in
+        let list = w.in_ok-list-in-Quasi-2.ensures in
+        links_read found optional c.match-matches.matches value object called nodes made
+        (subst (λ v. Adds c.args.self.now.cursor v.cursor c.args.self.now.pairs.items v.pairs.items (BehindOn c.args.self.now.cursor.text found optional (part template none))) (sym w.self-is)
+        (template_read found optional w.in_ok-list-in-Quasi.list w.in_ok-list-in-Quasi-2.list template text opened same w.in-Quasi.is passed w.open.ensures.text w.open.ensures.same_open w.open.ensures.same_pairs w.in_ok-list-in-Quasi.ensures.listed w.in_ok-list-in-Quasi.ensures.begun w.in_ok-list-in-Quasi.ensures.template
+        list.same.0 list.same.1 (ap (λ (p : Part). p.cover.node) w.in_ok-listed-in-Quasi.ensures.made.0) list.derived))
+    ]
