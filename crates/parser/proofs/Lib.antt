@@ -16,6 +16,7 @@ pub mod Listing
 pub mod Looping
 pub mod Literals
 pub mod LinkReads
+pub mod Keying
 pub mod Linking
 pub mod Modified
 pub mod Moves
@@ -27,6 +28,7 @@ pub mod Operating
 pub mod Parenthesized
 pub mod Parted
 pub mod Prefixing
+pub mod Points
 pub mod Refused
 pub mod Righted
 pub mod Seeing

@@ -69,7 +69,7 @@ pub spelled_at : {text : List ℕ} {p : Position} {r : Part} {o : ℕ} {s e : To
 spelled_at {p = p} loose value read = read.part.stands value p.rank p.has_in (read.taken loose) (λ k. refl)
 
 -- a token that is no template stands in a node as it is read
-no_template_text : (c : Class) (w : List ℕ) → same_class Template c ≡ false → table_text c w ≡ w
+pub no_template_text : (c : Class) (w : List ℕ) → same_class Template c ≡ false → table_text c w ≡ w
 no_template_text Name w h = refl
 no_template_text Punctuator w h = refl
 no_template_text Number w h = refl

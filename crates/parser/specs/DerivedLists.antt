@@ -9,18 +9,19 @@ use Rattle.tree.specs.declared.kind.Kind.{Kind}
 use Rattle.tree.specs.declared.kind.Form.{Form}
 use Rattle.tree.specs.declared.kind.Form.TheVariants as form
 use Rattle.tree.specs.declared.kind.Pair.{Pair}
-use Rattle.tree.specs.Tree.{Tree, Parts, none, part, gap, join, kind_of, push_gap, part_count}
+use Rattle.tree.specs.Tree.{Tree, Parts, none, part, gap, join, kind_of, push_gap, part_count, text_of}
 use Rattle.language.specs.declared.Rank.TheVariants.{Expression, Assignment}
 use Rattle.language.specs.declared.Start.{Start}
 use Rattle.language.specs.declared.Start.TheVariants.{Any}
 use Rattle.language.specs.declared.Edge.{Edge}
 use Rattle.language.specs.declared.Edge.TheVariants.{Closed}
 use Rattle.language.specs.Token.{Token, as_read}
-use Rattle.language.specs.Words.{is_target as is_simple, is_rest}
+use Rattle.language.specs.Words.{is, is_identifier, is_target as is_simple, is_rest}
+use Rattle.language.specs.Strings.{literal_units}
 use Rattle.language.specs.Pieces.{Role, expr, key, declarator, switch_case, member, Piece, PieceOf, settle_piece, tail, left, put, put_at, with_default, sub, many, sign, term, listed, elements, argument, pattern_element, nothing, is_none}
 use Rattle.language.specs.Edges.{edge, last_edge, standing}
 use Rattle.language.specs.Expressions.{assignment, chunks, sequence, object_part, object_pattern_part}
-use Rattle.language.specs.Statements.{lines, declarators, defaults, member_lines}
+use Rattle.language.specs.Statements.{lines, declarators, defaults, member_lines, is_string_literal}
 use Rattle.language.specs.Covers.{Reading, as_expression, as_pattern, element_as, property_as}
 use Rattle.language.specs.Places.{NextIn, SpellsIn}
 use Rattle.covers.specs.declared.shape.Assigned.{Assigned}
@@ -37,7 +38,6 @@ use Rattle.parser.specs.declared.properties.Modifiers.{Modifiers}
 use Rattle.parser.specs.Derived.{RunsIn, anywhere, Begins, SpelledAs, fits_as, read_as, all_read_as}
 use Rattle.parser.specs.Follows.{ChunkAt}
 use Rattle.parser.specs.Items.{with_item, item_from, are_some}
-use Rattle.parser.specs.Members.{is_constructor}
 use Rattle.parser.specs.Seen.{ReadsHere, Sees}
 use Rattle.parser.specs.Stated.{is_closed}
 use Rattle.parser.specs.Tokens.{single_node, key_kind}
@@ -264,11 +264,16 @@ abbrev pub defined : Bool → Listed
 defined true = listed.Members
 defined false = listed.Properties
 
+-- a key that isn't computed has the value `constructor` (14.6)
+abbrev pub names_constructor : Bool → Tree → Bool
+names_constructor c n = not c && ((is_identifier (kind_of n) && is (text_of n) "constructor") || (is_string_literal (kind_of n) (text_of n) && is (literal_units (text_of n)) "constructor"))
+
 -- A property's name (12.2.6): an expression in brackets, or one token, which is the last.
 pub record KeyAt (text : List ℕ) (in_class : Bool) (k : Key) (o : ℕ) (s e : Token) (P : List Pair) : Type 0 where
   pub computed : k.computed ≡ true → (k.token ≡ None) × RunsIn text o (anywhere (sign "[" ∷ assignment ∷ sign "]" ∷ [])) (part k.node none) s e P
   pub plain : k.computed ≡ false → SpellsIn text o key k.node s e P
-  pub token : IfSome k.token (λ t. (k.computed ≡ false) × NextIn text any_goal s e e × (e ≡ as_read (token_of t)) × (P ≡ []) × (k.node ≡ single_node (key_kind t.class) (token_of t)) × (in_class ≡ true → k.is_constructor ≡ is_constructor t.class t.text.now))
+  pub token : IfSome k.token (λ t. (k.computed ≡ false) × NextIn text any_goal s e e × (e ≡ as_read (token_of t)) × (P ≡ []) × (k.node ≡ single_node (key_kind t.class) (token_of t)))
+  pub constructor : k.is_constructor ≡ (in_class && names_constructor k.computed k.node)
 
 -- the words before it
 abbrev pub form_pieces : Form → List Piece

@@ -218,6 +218,7 @@ impl<'t, 's> Parser<'t, 's> {
         ensures same_open { self.new.cursor.opened ≡ self.old.cursor.opened }
         ensures same_pairs { self.new.pairs.items ≡ self.old.pairs.items }
         ensures read { IfOk result (λ key. TokenHere self.old.cursor.text Div is_key self.old.cursor.last self.new.cursor.last × KeyRead in_class self.new.cursor.last key key.token) }
+        ensures low { IfOk result (λ key. height key.node ≤ high) }
         ensures no_key { IfErr result (NoKey self.old.cursor high) }
     {
         let token = self.key_token()?;

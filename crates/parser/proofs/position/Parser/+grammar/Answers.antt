@@ -39,6 +39,7 @@ use Rattle.parser.proofs.Opens.{list_read}
 use Rattle.parser.proofs.Prefixing.{prefix_low, prefix_read}
 use Rattle.parser.specs.Sides.{steps_before, takes_operand, prefixed_node, prefixed_part}
 use Rattle.parser.proofs.Parenthesized.{InParens, yields_ok, ok_map, in_parens, pair_place, group_read, group_low, first_low, arrow_read}
+use Rattle.parser.proofs.Keying.{named_alone, named_plain, named_computed}
 use Rattle.parser.proofs.Linking.{is_call}
 use Rattle.parser.proofs.LinkReads.{BehindOn, name_read, index_read, arguments_read_behind, template_read, call_is, call_is_not, links_read}
 use Rattle.parser.proofs.Spelled.{turn_on}
@@ -478,3 +479,19 @@ linked-returns-clause-derived c =
         (template_read found optional w.in_ok-list-in-Quasi.list w.in_ok-list-in-Quasi-2.list template text opened same w.in-Quasi.is passed w.open.ensures.text w.open.ensures.same_open w.open.ensures.same_pairs w.in_ok-list-in-Quasi.ensures.listed w.in_ok-list-in-Quasi.ensures.begun w.in_ok-list-in-Quasi.ensures.template
         list.same.0 list.same.1 (ap (λ (p : Part). p.cover.node) w.in_ok-listed-in-Quasi.ensures.made.0) list.derived))
     ]
+
+pub property_name-returns-in-Some-clause-derived : goal.property_name-returns-in-Some-clause-derived
+property_name-returns-in-Some-clause-derived c =
+    let m = c.modifiers-modifiers.ensures in
+    named_alone c.args.in_class c.modifiers-modifiers.result m.same_open m.same_pairs m.modified c.in_ok-key.key c.in-Some.token c.in-Some.is c.in_ok-key.ensures.made.0
+
+pub property_name-returns-then-not-accept-clause-derived : goal.property_name-returns-then-not-accept-clause-derived
+property_name-returns-then-not-accept-clause-derived c =
+    let m = c.modifiers-modifiers.ensures in
+    named_plain c.args.in_class c.modifiers-modifiers.result m.same_open m.same_pairs m.modified m.text c.in_default.is c.in_ok-key-2.key c.accept.ensures.text c.accept.ensures.same_open c.accept.ensures.same_pairs c.if-not-accept.ensures.missed.1 c.plain_key.ensures.same_open c.plain_key.ensures.same_pairs c.in_ok-key-2.ensures.read.0 c.in_ok-key-2.ensures.read.1
+
+pub property_name-returns-clause-derived : goal.property_name-returns-clause-derived
+property_name-returns-clause-derived c =
+    let m = c.modifiers-modifiers.ensures in
+    named_computed c.args.in_class c.modifiers-modifiers.result m.same_open m.same_pairs m.modified m.text c.in_default.is c.in_ok-node.node c.accept.ensures.text c.accept.ensures.same_open c.accept.ensures.same_pairs c.if-not-accept.ensures.accepted refl refl refl c.expression.ensures.text c.in_ok-part.ensures.derived c.in_ok-node.ensures.settled.0
+    c.in_ok-node.ensures.settled.1 c.expect.ensures.same_open c.expect.ensures.same_pairs c.in_ok-expect.ensures.accepted.0
