@@ -34,5 +34,6 @@ pub mod Righted
 pub mod Seeing
 pub mod Spelled
 pub mod Stating
+pub mod Valuing
 pub mod Yielding
 pub mod Wholly

@@ -1,27 +1,31 @@
 -- What the functions of the cycle derive.
 use Rattle.std.proofs.Common.{◌≡◌, ◌≤◌, true, false, sym, refl, ap, subst, ◌∙◌, arith, ◌+◌, ◌-◌, ◌<◌, length, set}
-use Rattle.std.specs.Prelude.{◌&&◌, not, [], Some, true}
+use Rattle.std.specs.Prelude.{◌&&◌, not, [], Some, true, false, codes}
 use Rattle.std.proofs.lemmas.Bool.{false≢true}
-use Rattle.tree.specs.declared.kind.Kind.TheVariants.{ChainExpression, SwitchCase, VariableDeclarator, ArrowFunctionExpression, Identifier}
+use Rattle.tree.specs.declared.kind.Kind.TheVariants.{ChainExpression, SwitchCase, VariableDeclarator, ArrowFunctionExpression, Identifier, Property, AssignmentExpression}
 use Rattle.tree.specs.Tree.{Tree, node, plain, kind_of, part, gap, none, push, push_gap, height, parts_height, flags_of, join}
 use Rattle.tokens.specs.Scanned.{token_of}
+use Rattle.tokens.specs.declared.token.Class.TheVariants.{Name}
+use Rattle.covers.specs.Shapes.{initialized, is_target, value}
+use Rattle.language.specs.Token.{same_class, Token}
+use Rattle.parser.specs.Seen.{is_free_name}
+use Rattle.parser.specs.DerivedLists.{ValueAt, ItemReads, SeenRight, asks_edge, is_chunked}
+use Rattle.tree.specs.declared.kind.Form.TheVariants.{Init, Shorthand}
 use Rattle.language.specs.Statements.{is_directive}
 use Rattle.language.specs.declared.Rank.TheVariants.{LeftHandSide, Primary, Call}
 use Rattle.language.specs.declared.Edge.TheVariants.{Other, Closed}
 use Rattle.covers.specs.declared.list.Item.{Item}
 use Rattle.covers.specs.declared.list.Listed.TheVariants.{Cases, Declarators, Elements, Members, Properties, Sequence}
 use Rattle.covers.specs.Patterns.{pattern_tree}
-use Rattle.covers.specs.Shapes.{is_target, value}
 use Rattle.language.specs.Words.{is_target as is_simple, takes}
 use Rattle.parser.specs.Derived.{Adds, GoesOn, ReadAt, ArrowAt}
 use Rattle.parser.specs.Outcomes.{BeginsBy, IsPlaceHere}
-use Rattle.parser.specs.Items.{group_levels, is_grouped, list_group, after_item, item_from, with_item, listed_node, listed_part}
+use Rattle.parser.specs.Items.{group_levels, is_grouped, list_group, after_item, item_from, with_item, listed_node, listed_part, property_item}
 use Rattle.token_cursor.specs.Point.{Point}
-use Rattle.language.specs.Token.{Token}
 use Rattle.parser.specs.declared.part.Part.{Part}
+use Rattle.parser.specs.Members.{member_flags}
 use Rattle.parser.specs.Links.{link_kind, link_flags, link_rank}
 use Rattle.parser.specs.Parts.{plain_part}
-use Rattle.parser.specs.DerivedLists.{ItemReads, SeenRight, asks_edge, is_chunked}
 use Rattle.parser.specs.Tokens.{single_node}
 use Rattle.parser.specs.DerivedPieces.{StatementsAt}
 use Rattle.parser.specs.Follows.{ChunkAt}
@@ -43,6 +47,7 @@ use Rattle.parser.proofs.Keying.{named_alone, named_plain, named_computed}
 use Rattle.parser.proofs.Linking.{is_call}
 use Rattle.parser.proofs.LinkReads.{BehindOn, name_read, index_read, arguments_read_behind, template_read, call_is, call_is_not, links_read}
 use Rattle.parser.proofs.Spelled.{turn_on}
+use Rattle.parser.proofs.Valuing.{is_free, pair_value, lone_value, default_value}
 use Rattle.parser.proofs.Stating.{all_directive, and_true, still, push_low, statements_first, statements_on}
 use Rattle.parser.proofs.Wholly.{after_inside, after_nodes, after_start, further_first, further_item, item_places, not_a_sequence, same_right}
 use Rattle.parser.proofs.position.Parser.+grammar.Goals as goal
@@ -495,3 +500,37 @@ property_name-returns-clause-derived c =
     let m = c.modifiers-modifiers.ensures in
     named_computed c.args.in_class c.modifiers-modifiers.result m.same_open m.same_pairs m.modified m.text c.in_default.is c.in_ok-node.node c.accept.ensures.text c.accept.ensures.same_open c.accept.ensures.same_pairs c.if-not-accept.ensures.accepted refl refl refl c.expression.ensures.text c.in_ok-part.ensures.derived c.in_ok-node.ensures.settled.0
     c.in_ok-node.ensures.settled.1 c.expect.ensures.same_open c.expect.ensures.same_pairs c.in_ok-expect.ensures.accepted.0
+
+pub value_of-returns-then-accept-clause-derived : goal.value_of-returns-then-accept-clause-derived
+value_of-returns-then-accept-clause-derived c =
+    let span = c.span_from.ensures in
+    let value = c.in_ok-value.value in
+    let tree : c.in_ok-node.node ≡ node Property [] (member_flags c.args.key.computed false Init) c.args.start c.expression.new.self.cursor.last.stop (part c.args.key.node (part value.cover.node none)) = c.in_ok-node.ensures.0 ∙ (λ i. node Property [] (c.flags_of-flags.ensures i) (span i).start (span i).end (c.in_ok-nodes.ensures.made i)) in
+    pair_value c.args.key c.args.start value c.property.result c.accept.ensures.text c.accept.ensures.same_open c.accept.ensures.same_pairs c.if-accept.ensures.accepted c.in_ok-value.ensures.derived (c.property.ensures ∙ ap (λ n. property_item n value.cover.shape) tree)
+
+pub value_of-returns-clause-derived : goal.value_of-returns-clause-derived
+value_of-returns-clause-derived c =
+    let key = c.args.key in
+    let t = c.in-Some.token in
+    let span = c.span_from-2.ensures in
+    let class : t.class ≡ Name = c.if-not-is_identifier.ensures.class in
+    let free : is_free_name t.text.now ≡ true = is_free (same_class Name t.class) (is_free_name t.text.now) c.if-not-is_identifier.false c.is_identifier.ensures.is in
+    let stays = c.if-accept.ensures.missed.1 in
+    let tree : c.in_ok-node-2.node ≡ node Property [] (member_flags false false Shorthand) c.args.start c.if-accept-2.self.cursor.last.stop (part key.node (part c.if-accept-2.value none)) = c.in_ok-node-2.ensures.0 ∙ (λ i. node Property [] (c.flags_of-flags-2.ensures i) (span i).start (span i).end (c.in_ok-nodes-3.ensures.made i)) in
+    let it : c.property-2.result ≡ property_item (node Property [] (member_flags false false Shorthand) c.args.start c.if-accept-2.self.cursor.last.stop (part key.node (part c.if-accept-2.value none))) c.if-accept-2.shape = c.property-2.ensures ∙ ap (λ n. property_item n c.if-accept-2.shape) tree in
+    elim c.if-accept-2.branch [
+      | then-accept-2+in_ok-right+in_ok-settle+in_ok-nodes-2+in_ok-value-3 w ↦
+        let own = w.span_from-span.ensures in
+        let one = c.in_ok-value-2.ensures.made.0 in
+        let value : c.if-accept-2.value ≡ node AssignmentExpression (codes "=") plain t.start w.expression-then-accept-2.new.self.cursor.last.stop (part (single_node Identifier (token_of t)) (part w.in_ok-settle.field-0 none)) = w.value-is ∙ w.in_ok-value-3.ensures.0 ∙ (λ i. node AssignmentExpression (codes "=") plain (own i).start (own i).end ((w.in_ok-nodes-2.ensures.made ∙ ap (λ n. part n (part w.in_ok-settle.field-0 none)) (w.value.view_is ∙ one)) i)) in
+        let shape = w.shape-is ∙ w.initialized-shape.ensures ∙ ap initialized w.defaulted.ensures in
+        let last : c.if-accept-2.self.cursor.last.stop ≡ w.expression-then-accept-2.new.self.cursor.last.stop = ap (λ s. s.cursor.last.stop) w.self-is in
+        subst (λ v. Adds c.args.self.now.cursor v.cursor c.args.self.now.pairs.items v.pairs.items (ValueAt c.args.self.now.cursor.text key c.args.start c.property-2.result)) (sym w.self-is)
+        (default_value key c.args.start t w.in_ok-right.right w.in_ok-settle.field-0 c.if-accept-2.value c.if-accept-2.shape c.property-2.result c.accept.ensures.text c.accept.ensures.same_open c.accept.ensures.same_pairs stays c.accept-2.ensures.text c.accept-2.ensures.same_open c.accept-2.ensures.same_pairs w.if-accept-2.ensures.accepted
+        w.in_ok-right.ensures.derived w.in_ok-settle.ensures.settled.0 w.in_ok-settle.ensures.settled.1 c.in-Some.is class free value shape (it ∙ ap (λ x. property_item (node Property [] (member_flags false false Shorthand) c.args.start x (part key.node (part c.if-accept-2.value none))) c.if-accept-2.shape) last))
+      | else-accept-2 w ↦
+        let last : c.if-accept-2.self.cursor.last.stop ≡ c.accept-2.new.self.cursor.last.stop = ap (λ s. s.cursor.last.stop) w.self-is in
+        subst (λ v. Adds c.args.self.now.cursor v.cursor c.args.self.now.pairs.items v.pairs.items (ValueAt c.args.self.now.cursor.text key c.args.start c.property-2.result)) (sym w.self-is)
+        (lone_value key c.args.start t c.if-accept-2.value c.if-accept-2.shape c.property-2.result (c.accept-2.ensures.same_open ∙ c.accept.ensures.same_open) (c.accept-2.ensures.same_pairs ∙ c.accept.ensures.same_pairs) (w.if-accept-2.ensures.missed.1 ∙ stays) c.in-Some.is class free
+        (w.value-is ∙ c.in_ok-value-2.ensures.made.0) w.shape-is (it ∙ ap (λ x. property_item (node Property [] (member_flags false false Shorthand) c.args.start x (part key.node (part c.if-accept-2.value none))) c.if-accept-2.shape) last))
+    ]
