@@ -5,6 +5,7 @@ pub mod Breaks
 pub mod CaseOf
 pub mod Chaining
 pub mod Delimited
+pub mod Defining
 pub mod Deriving
 pub mod Extending
 pub mod Following
@@ -18,6 +19,7 @@ pub mod Literals
 pub mod LinkReads
 pub mod Keying
 pub mod Linking
+pub mod MemberSpelled
 pub mod Modified
 pub mod Moves
 pub mod OneToken

@@ -10,7 +10,7 @@ use Rattle.covers.specs.Shapes.{initialized, is_target, value}
 use Rattle.language.specs.Token.{same_class, Token}
 use Rattle.parser.specs.Seen.{is_free_name}
 use Rattle.parser.specs.DerivedLists.{ValueAt, ItemReads, SeenRight, asks_edge, is_chunked}
-use Rattle.tree.specs.declared.kind.Form.TheVariants.{Init, Shorthand}
+use Rattle.tree.specs.declared.kind.Form.TheVariants.{Init, Shorthand, Method}
 use Rattle.language.specs.Statements.{is_directive}
 use Rattle.language.specs.declared.Rank.TheVariants.{LeftHandSide, Primary, Call}
 use Rattle.language.specs.declared.Edge.TheVariants.{Other, Closed}
@@ -47,6 +47,7 @@ use Rattle.parser.proofs.Keying.{named_alone, named_plain, named_computed}
 use Rattle.parser.proofs.Linking.{is_call}
 use Rattle.parser.proofs.LinkReads.{BehindOn, name_read, index_read, arguments_read_behind, template_read, call_is, call_is_not, links_read}
 use Rattle.parser.proofs.Spelled.{turn_on}
+use Rattle.parser.proofs.Defining.{spread_item, value_item, map_ok}
 use Rattle.parser.proofs.Valuing.{is_free, pair_value, lone_value, default_value}
 use Rattle.parser.proofs.Stating.{all_directive, and_true, still, push_low, statements_first, statements_on}
 use Rattle.parser.proofs.Wholly.{after_inside, after_nodes, after_start, further_first, further_item, item_places, not_a_sequence, same_right}
@@ -534,3 +535,31 @@ value_of-returns-clause-derived c =
         (lone_value key c.args.start t c.if-accept-2.value c.if-accept-2.shape c.property-2.result (c.accept-2.ensures.same_open ∙ c.accept.ensures.same_open) (c.accept-2.ensures.same_pairs ∙ c.accept.ensures.same_pairs) (w.if-accept-2.ensures.missed.1 ∙ stays) c.in-Some.is class free
         (w.value-is ∙ c.in_ok-value-2.ensures.made.0) w.shape-is (it ∙ ap (λ x. property_item (node Property [] (member_flags false false Shorthand) c.args.start x (part key.node (part c.if-accept-2.value none))) c.if-accept-2.shape) last))
     ]
+
+pub definition-returns-then-accept-clause-derived : goal.definition-returns-then-accept-clause-derived
+definition-returns-then-accept-clause-derived c =
+    let r = c.in_ok-argument.argument in
+    let made = c.in_ok-item.ensures.made.0 in
+    let shape = c.simple-shape.ensures in
+    spread_item c.args.in_class r c.place-start.result _ c.if-not-in_class.true c.place-start.ensures.starts c.accept.ensures.text c.accept.ensures.same_open c.accept.ensures.same_pairs c.if-accept.ensures.accepted c.in_ok-argument.ensures.derived (λ i. record { node = (made i).node; shape = shape i; spreads = (made i).spreads; is_marked = (made i).is_marked; edge = (made i).edge })
+
+pub definition-returns-then-not-is_method-clause-derived : goal.definition-returns-then-not-is_method-clause-derived
+definition-returns-then-not-is_method-clause-derived c =
+    let form = c.in_ok-modifiers.modifiers.form in
+    let start = c.args.self.now.cursor in
+    let here = c.else-not-in_class.self.cursor in
+    let plain : (c.args.in_class ≡ false) × (form ≡ Method) = elim c.if-not-matches.branch [
+      | then-not-matches w ↦ let e : false ≡ true = cc (c.if-not-is_method.true, w.is_method-is) in absurd (false≢true e)
+      | else-not-matches w ↦ elim c.if-in_class.branch [
+        | then-in_class v ↦ let e : false ≡ true = cc (w.if-not-matches.false, v.value-is, v.if-in_class.true) in absurd (false≢true e)
+        | else-in_class v ↦ elim v.match-matches.branch [
+          | in-Method u ↦ (v.if-in_class.false, u.in-Method.is)
+          | in_default u ↦ let e : false ≡ true = cc (w.if-not-matches.false, v.value-is, ap not u.matches-is) in absurd (false≢true e)
+        ]
+      ]
+    ] in
+    let text : here.text ≡ start.text = elim c.else-not-in_class.branch [ else-not-in_class-via-then-not-in_class+else-accept w ↦ ap (λ v. v.cursor.text) w.self-is ∙ w.accept.ensures.text | else-not-in_class-via-else-not-in_class w ↦ ap (λ v. v.cursor.text) w.self-is ] in
+    let opened : here.opened ≡ start.opened = elim c.else-not-in_class.branch [ else-not-in_class-via-then-not-in_class+else-accept w ↦ ap (λ v. v.cursor.opened) w.self-is ∙ w.accept.ensures.same_open | else-not-in_class-via-else-not-in_class w ↦ ap (λ v. v.cursor.opened) w.self-is ] in
+    let same : c.else-not-in_class.self.pairs.items ≡ c.args.self.now.pairs.items = elim c.else-not-in_class.branch [ else-not-in_class-via-then-not-in_class+else-accept w ↦ ap (λ v. v.pairs.items) w.self-is ∙ w.accept.ensures.same_pairs | else-not-in_class-via-else-not-in_class w ↦ ap (λ v. v.pairs.items) w.self-is ] in
+    let stays : here.last ≡ start.last = elim c.else-not-in_class.branch [ else-not-in_class-via-then-not-in_class+else-accept w ↦ ap (λ v. v.cursor.last) w.self-is ∙ w.if-accept.ensures.missed.1 | else-not-in_class-via-else-not-in_class w ↦ ap (λ v. v.cursor.last) w.self-is ] in
+    map_ok c.value_of.result (λ item d. value_item c.args.in_class c.in_ok-modifiers.modifiers c.in_ok-modifiers.key c.place-start.result item plain.0 plain.1 c.place-start.ensures.starts text opened same stays c.property_name.ensures.text c.in_ok-modifiers.ensures.derived d) c.value_of.ensures.derived
