@@ -125,7 +125,7 @@ module _ (text : List ℕ) where
   named_begins {m = m} here d = let h = words_first m.is_static m.form d.words (key_first d.key) in place_begins here h.read
 
   -- a mark's place
-  mark_starts : {w : List ℕ} {s x : Token} {at : ℕ} → ((u : LexicalToken) → Scans text Div s.stop u → at ≡ u.start) → ReadsHere text Punctuator w s x → at ≡ x.start
+  pub mark_starts : {w : List ℕ} {s x : Token} {at : ℕ} → ((u : LexicalToken) → Scans text Div s.stop u → at ≡ u.start) → ReadsHere text Punctuator w s x → at ≡ x.start
   mark_starts {at = at} here r = of r.next r.class here
     where
       of : {s t e : Token} → NextIn text any_goal s t e → t.class ≡ Punctuator → ((u : LexicalToken) → Scans text Div s.stop u → at ≡ u.start) → at ≡ t.start

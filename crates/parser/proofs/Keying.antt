@@ -34,7 +34,7 @@ use Rattle.parser.specs.declared.position.Position.{Position}
 use Rattle.parser.specs.declared.properties.Key.{Key}
 use Rattle.parser.specs.declared.properties.Modifiers.{Modifiers}
 use Rattle.parser.specs.Derived.{RunsIn, anywhere, Adds, ReadAt, takes_new}
-use Rattle.parser.specs.DerivedLists.{KeyAt, NamedSo, names_constructor, form_pieces, modifier_pieces}
+use Rattle.parser.specs.DerivedLists.{KeyAt, NamedSo, is_called, names_constructor, form_pieces, modifier_pieces}
 use Rattle.parser.specs.Members.{is_constructor, KeyRead}
 use Rattle.parser.specs.Modifiers.{Named, Accessed, gets, sets, get_named, set_named, neither, Modifying, in_object, not_static, static_named, static}
 use Rattle.parser.specs.Seen.{ReadsHere, TokenHere}
@@ -120,25 +120,27 @@ module _ (text : List ℕ) where
     mid : Token
     runs : (o : ℕ) → RunsIn text o (anywhere (form_pieces f)) none s mid []
     rest : Rest name mid e
+    called : is_called f ≡ true
 
   accessor_read : {s e : Token} {f : Form} {name : Option Scanned} → Accessed text s e f name → WordsRead f name s e
-  accessor_read {e = e} (gets h) = record { mid = e; runs = λ o. step (token h.read) done; rest = refl }
-  accessor_read {e = e} (sets h) = record { mid = e; runs = λ o. step (token h.read) done; rest = refl }
-  accessor_read {s} (get_named h) = record { mid = s; runs = λ o. done; rest = (codes "get", h.read, h.is, refl) }
-  accessor_read {s} (set_named h) = record { mid = s; runs = λ o. done; rest = (codes "set", h.read, h.is, refl) }
-  accessor_read {s} (neither p q h) = record { mid = s; runs = λ o. done; rest = h }
+  accessor_read {e = e} (gets h) = record { mid = e; runs = λ o. step (token h.read) done; rest = refl; called = refl }
+  accessor_read {e = e} (sets h) = record { mid = e; runs = λ o. step (token h.read) done; rest = refl; called = refl }
+  accessor_read {s} (get_named h) = record { mid = s; runs = λ o. done; rest = (codes "get", h.read, h.is, refl); called = refl }
+  accessor_read {s} (set_named h) = record { mid = s; runs = λ o. done; rest = (codes "set", h.read, h.is, refl); called = refl }
+  accessor_read {s} (neither p q h) = record { mid = s; runs = λ o. done; rest = h; called = refl }
 
   record ModifiersRead (in_class is_static : Bool) (f : Form) (name : Option Scanned) (s e : Token) : Type 0 where
     mid : Token
     runs : (o : ℕ) → RunsIn text o (anywhere (modifier_pieces is_static f)) none s mid []
     no_static : in_class ≡ false → is_static ≡ false
     rest : Rest name mid e
+    called : is_called f ≡ true
 
   modifiers_read : {s e : Token} {in_class is_static : Bool} {f : Form} {name : Option Scanned} → Modifying text s e in_class is_static f name → ModifiersRead in_class is_static f name s e
-  modifiers_read (in_object a) = let w = accessor_read a in record { mid = w.mid; runs = w.runs; no_static = λ h. refl; rest = w.rest }
-  modifiers_read (not_static h a) = let w = accessor_read a in record { mid = w.mid; runs = w.runs; no_static = λ h. refl; rest = w.rest }
-  modifiers_read {s} (static_named h) = record { mid = s; runs = λ o. done; no_static = λ h. refl; rest = (codes "static", h.read, h.is, refl) }
-  modifiers_read (static h a) = let w = accessor_read a in record { mid = w.mid; runs = λ o. step (token h.read) (w.runs o); no_static = λ h. absurd (false≢true (sym h)); rest = w.rest }
+  modifiers_read (in_object a) = let w = accessor_read a in record { mid = w.mid; runs = w.runs; no_static = λ h. refl; rest = w.rest; called = w.called }
+  modifiers_read (not_static h a) = let w = accessor_read a in record { mid = w.mid; runs = w.runs; no_static = λ h. refl; rest = w.rest; called = w.called }
+  modifiers_read {s} (static_named h) = record { mid = s; runs = λ o. done; no_static = λ h. refl; rest = (codes "static", h.read, h.is, refl); called = refl }
+  modifiers_read (static h a) = let w = accessor_read a in record { mid = w.mid; runs = λ o. step (token h.read) (w.runs o); no_static = λ h. absurd (false≢true (sym h)); rest = w.rest; called = w.called }
 
   no_constructor : (in_class : Bool) (b : Bool) → b ≡ false → false ≡ (in_class && (b || false))
   no_constructor true true h = cc
@@ -174,16 +176,16 @@ module _ {s x : Point} {old mid : List Pair} (in_class : Bool) (m : Modifiers) (
   pub named_alone : (k : Key) (t : Scanned) → m.name ≡ Some t → k ≡ record { node = single_node (key_kind t.class) (token_of t); computed = false; token = Some t; is_constructor = false } → Adds s x old mid (NamedSo s.text in_class m k)
   named_alone k t name is_k = adds_none opened same (λ o.
       let w = modifiers_read s.text words in
-      record { mid = w.mid; words = w.runs o; no_static = w.no_static; key = word_key s.text in_class k t (subst (λ v. Rest s.text v w.mid x.last) name w.rest) is_k })
+      record { mid = w.mid; words = w.runs o; no_static = w.no_static; key = word_key s.text in_class k t (subst (λ v. Rest s.text v w.mid x.last) name w.rest) is_k; called = w.called })
 
   module _ (text1 : x.text ≡ s.text) (unnamed : m.name ≡ None) where
-    behind_words : (o : ℕ) → (w : Token) × (x.last ≡ w) × RunsIn s.text o (anywhere (modifier_pieces m.is_static m.form)) none s.last w [] × (in_class ≡ false → m.is_static ≡ false)
+    behind_words : (o : ℕ) → (w : Token) × (x.last ≡ w) × RunsIn s.text o (anywhere (modifier_pieces m.is_static m.form)) none s.last w [] × (in_class ≡ false → m.is_static ≡ false) × (is_called m.form ≡ true)
     behind_words o =
         let w = modifiers_read s.text words in
-        (w.mid, subst (λ v. Rest s.text v w.mid x.last) unnamed w.rest, w.runs o, w.no_static)
+        (w.mid, subst (λ v. Rest s.text v w.mid x.last) unnamed w.rest, w.runs o, w.no_static, w.called)
 
     named_by_key : {k : Key} {o : ℕ} {e : Token} {P : List Pair} → KeyAt s.text in_class k o x.last e P → NamedSo s.text in_class m k o s.last e P
-    named_by_key {k} {o} {e} {P} d = let w = behind_words o in record { mid = w.0; words = w.2; no_static = w.3; key = subst (λ v. KeyAt s.text in_class k o v e P) w.1 d }
+    named_by_key {k} {o} {e} {P} d = let w = behind_words o in record { mid = w.0; words = w.2; no_static = w.3; key = subst (λ v. KeyAt s.text in_class k o v e P) w.1 d; called = w.4 }
 
     -- the name is one token
     pub named_plain : {y e : Point} {b1 new : List Pair} (k : Key) → y.text ≡ x.text → y.opened ≡ x.opened → b1 ≡ mid → y.last ≡ x.last → e.opened ≡ y.opened → new ≡ b1 → TokenHere y.text Div is_key y.last e.last → KeyRead in_class e.last k k.token → Adds s e old new (NamedSo s.text in_class m k)

@@ -20,6 +20,7 @@ pub mod LinkReads
 pub mod Keying
 pub mod Linking
 pub mod MemberSpelled
+pub mod Methods
 pub mod Modified
 pub mod Moves
 pub mod OneToken

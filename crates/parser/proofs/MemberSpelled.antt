@@ -109,7 +109,7 @@ member_can false false Constructor = refl
 
 module _ (S : Type 0) (Next : S → Token → S → Type 0) (behind : S → Token) (det : IsDetermined S Next behind) where
   -- and back
-  member_runs : {o : ℕ} {s z e : S} {ps : Parts} {P : List Pair} (c : Bool) {b : Bool} {f : Form} → Prefix s b f z → Runs ways S Next behind o (goes_to Expression true Any (key_pieces c (put (method (function_form f)) ∷ []))) ps z e P → Runs ways S Next behind o (goes_to Expression true Any (member_pieces c b f)) ps s e P
+  member_runs : {o : ℕ} {s z e : S} {ps : Parts} {P : List Pair} (c : Bool) {b : Bool} {f : Form} → Prefix S Next behind det s b f z → Runs ways S Next behind o (goes_to Expression true Any (key_pieces c (put (method (function_form f)) ∷ []))) ps z e P → Runs ways S Next behind o (goes_to Expression true Any (member_pieces c b f)) ps s e P
   member_runs c (no_word {f = Get} h) d = cc
   member_runs c (no_word {f = Set} h) d = cc
   member_runs true (no_word {f = _} h) d = d
@@ -129,7 +129,7 @@ module _ (S : Type 0) (Next : S → Token → S → Type 0) (behind : S → Toke
   member_runs false (both_words {f = Set} h q r) d = step (token q) (step laid (step (token r) (step laid d)))
   member_runs c (both_words {f = _} h q r) d = cc
 
-  pub member_spells : {o : ℕ} {s z k e : S} {c b : Bool} {f : Form} {nk u : Tree} {A P : List Pair} {st en : ℕ} → Prefix s b f z → KeyAt S Next behind det o nk z k A c → Spells ways S Next behind o (method (function_form f)) u k e P → form_fits c b f (bare_parts (part nk (part u none))) ≡ true →
+  pub member_spells : {o : ℕ} {s z k e : S} {c b : Bool} {f : Form} {nk u : Tree} {A P : List Pair} {st en : ℕ} → Prefix S Next behind det s b f z → KeyAt S Next behind det o nk z k A c → Spells ways S Next behind o (method (function_form f)) u k e P → form_fits c b f (bare_parts (part nk (part u none))) ≡ true →
       Placed S Next behind member (node MethodDefinition [] (member_flags c b f) st en (part nk (part u none))) s e → Spells ways S Next behind o member (node MethodDefinition [] (member_flags c b f) st en (part nk (part u none))) s e (A ++ P)
   unfolding spellings
   member_spells {c = c} {b} {f} {nk} {u} {st = st} {en = en} words key d fits pl =

@@ -284,11 +284,19 @@ form_pieces _ = []
 abbrev pub modifier_pieces : Bool → Form → List Piece
 modifier_pieces is_static f = cond is_static (term "static" ∷ []) [] ++ form_pieces f
 
+-- the forms that words before a name leave
+abbrev pub is_called : Form → Bool
+is_called form.Get = true
+is_called form.Set = true
+is_called form.Method = true
+is_called _ = false
+
 pub record NamedSo (text : List ℕ) (in_class : Bool) (m : Modifiers) (k : Key) (o : ℕ) (s e : Token) (P : List Pair) : Type 0 where
   pub mid : Token
   pub words : RunsIn text o (anywhere (modifier_pieces m.is_static m.form)) none s mid []
   pub no_static : in_class ≡ false → m.is_static ≡ false
   pub key : KeyAt text in_class k o mid e P
+  pub called : is_called m.form ≡ true
 
 -- what follows the key of a property that is no method, from where the key begins
 abbrev pub ValueAt : List ℕ → Key → ℕ → Item → ℕ → Token → Token → List Pair → Type 0

@@ -48,6 +48,8 @@ use Rattle.parser.proofs.Linking.{is_call}
 use Rattle.parser.proofs.LinkReads.{BehindOn, name_read, index_read, arguments_read_behind, template_read, call_is, call_is_not, links_read}
 use Rattle.parser.proofs.Spelled.{turn_on}
 use Rattle.parser.proofs.Defining.{spread_item, value_item, map_ok}
+use Rattle.parser.proofs.Methods.{function_spelled}
+use Rattle.parser.proofs.MemberSpelled.{member_spells}
 use Rattle.parser.proofs.Valuing.{is_free, pair_value, lone_value, default_value}
 use Rattle.parser.proofs.Stating.{all_directive, and_true, still, push_low, statements_first, statements_on}
 use Rattle.parser.proofs.Wholly.{after_inside, after_nodes, after_start, further_first, further_item, item_places, not_a_sequence, same_right}
@@ -563,3 +565,6 @@ definition-returns-then-not-is_method-clause-derived c =
     let same : c.else-not-in_class.self.pairs.items ≡ c.args.self.now.pairs.items = elim c.else-not-in_class.branch [ else-not-in_class-via-then-not-in_class+else-accept w ↦ ap (λ v. v.pairs.items) w.self-is ∙ w.accept.ensures.same_pairs | else-not-in_class-via-else-not-in_class w ↦ ap (λ v. v.pairs.items) w.self-is ] in
     let stays : here.last ≡ start.last = elim c.else-not-in_class.branch [ else-not-in_class-via-then-not-in_class+else-accept w ↦ ap (λ v. v.cursor.last) w.self-is ∙ w.if-accept.ensures.missed.1 | else-not-in_class-via-else-not-in_class w ↦ ap (λ v. v.cursor.last) w.self-is ] in
     map_ok c.value_of.result (λ item d. value_item c.args.in_class c.in_ok-modifiers.modifiers c.in_ok-modifiers.key c.place-start.result item plain.0 plain.1 c.place-start.ensures.starts text opened same stays c.property_name.ensures.text c.in_ok-modifiers.ensures.derived d) c.value_of.ensures.derived
+
+pub definition-returns-clause-derived : goal.definition-returns-clause-derived
+definition-returns-clause-derived c = let f = function_spelled in let g = member_spells in ?
