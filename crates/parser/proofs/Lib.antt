@@ -20,6 +20,7 @@ pub mod LinkReads
 pub mod Keying
 pub mod Linking
 pub mod MemberSpelled
+pub mod Membering
 pub mod Methods
 pub mod Modified
 pub mod Moves

@@ -48,13 +48,11 @@ use Rattle.parser.proofs.Linking.{is_call}
 use Rattle.parser.proofs.LinkReads.{BehindOn, name_read, index_read, arguments_read_behind, template_read, call_is, call_is_not, links_read}
 use Rattle.parser.proofs.Spelled.{turn_on}
 use Rattle.parser.proofs.Defining.{spread_item, value_item, map_ok}
-use Rattle.parser.proofs.Methods.{function_spelled}
-use Rattle.parser.proofs.MemberSpelled.{member_spells}
 use Rattle.parser.proofs.Valuing.{is_free, pair_value, lone_value, default_value}
 use Rattle.parser.proofs.Stating.{all_directive, and_true, still, push_low, statements_first, statements_on}
 use Rattle.parser.proofs.Wholly.{after_inside, after_nodes, after_start, further_first, further_item, item_places, not_a_sequence, same_right}
 use Rattle.parser.proofs.position.Parser.+grammar.Goals as goal
-use Rattle.parser.proofs.position.Parser.+grammar.Goals.{then-context, else-context, then-has_value+in_ok-value+in_ok-settle+in_ok-push, else-has_value+in_ok-push_gap, then-not-is_name, else-not-is_name, in_default-via-in-Elements+else-sees, in_default-via-in_default, then-is_default+in_ok-push_gap-in-Cases, else-is_default, then-not-matches, else-not-matches, in-Sequence, in_default, else-items-test, then-items-test+in_ok-item+then-not-is_separated, in-Some+in_ok-expect, in_default-closing}
+use Rattle.parser.proofs.position.Parser.+grammar.Goals.{then-context, else-context, then-has_value+in_ok-value+in_ok-settle+in_ok-push, else-has_value+in_ok-push_gap, then-not-is_name, else-not-is_name, in_default-via-in-Elements+else-sees, in_default-via-in_default, then-is_default+in_ok-push_gap-in-Cases, else-is_default, then-not-matches, else-not-matches, in-Sequence, in_default, else-items-test, then-items-test+in_ok-item+then-not-is_separated, in-Some+in_ok-expect, in_default-closing, in-Call, in-Name+in_ok-name-in-Name+in_ok-single-in-Name+in_ok-push-in-Name, in-Index+in_ok-expect-in-Index+in_ok-index-in-Index+in_ok-settle-in-Index+in_ok-push-in-Index+in_ok-expect-in-Index-2, in-Arguments+in_ok-arguments-in-Arguments+in_ok-append-in-Arguments, in-Quasi+in_ok-list-in-Quasi+in_ok-list-in-Quasi-2+in_ok-listed-in-Quasi+in_ok-push-in-Quasi, then-accept-2+in_ok-right+in_ok-settle+in_ok-nodes-2+in_ok-value-3, else-accept-2, then-in_class, else-in_class, in-Method, else-not-in_class-via-then-not-in_class+else-accept, else-not-in_class-via-else-not-in_class}
 
 pub arguments-returns-clause-derived : goal.arguments-returns-clause-derived
 arguments-returns-clause-derived c = arguments_read c.in_ok-list.list c.in_ok-list-2.field-0 c.open.ensures.text c.open.ensures.same_open c.open.ensures.same_pairs c.in_ok-list.ensures.listed c.in_ok-list.ensures.begun c.in_ok-list-2.ensures.same.0 c.in_ok-list-2.ensures.derived
@@ -565,6 +563,3 @@ definition-returns-then-not-is_method-clause-derived c =
     let same : c.else-not-in_class.self.pairs.items ≡ c.args.self.now.pairs.items = elim c.else-not-in_class.branch [ else-not-in_class-via-then-not-in_class+else-accept w ↦ ap (λ v. v.pairs.items) w.self-is ∙ w.accept.ensures.same_pairs | else-not-in_class-via-else-not-in_class w ↦ ap (λ v. v.pairs.items) w.self-is ] in
     let stays : here.last ≡ start.last = elim c.else-not-in_class.branch [ else-not-in_class-via-then-not-in_class+else-accept w ↦ ap (λ v. v.cursor.last) w.self-is ∙ w.if-accept.ensures.missed.1 | else-not-in_class-via-else-not-in_class w ↦ ap (λ v. v.cursor.last) w.self-is ] in
     map_ok c.value_of.result (λ item d. value_item c.args.in_class c.in_ok-modifiers.modifiers c.in_ok-modifiers.key c.place-start.result item plain.0 plain.1 c.place-start.ensures.starts text opened same stays c.property_name.ensures.text c.in_ok-modifiers.ensures.derived d) c.value_of.ensures.derived
-
-pub definition-returns-clause-derived : goal.definition-returns-clause-derived
-definition-returns-clause-derived c = let f = function_spelled in let g = member_spells in ?
