@@ -459,31 +459,31 @@ linked-returns-clause-derived c =
     let made : c.plain.result ≡ plain_part (node (link_kind found) [] (link_flags found optional) c.args.left.start c.match-found.self.cursor.last.stop c.match-found.nodes) (link_rank found c.match-matches.matches) Other = c.plain.ensures ∙ (λ i. plain_part (tree i) (c.rank.ensures i) Other) in
     elim c.match-found.branch [
       | in-Name+in_ok-name-in-Name+in_ok-single-in-Name+in_ok-push-in-Name w ↦
-        let name = w.in_ok-name-in-Name.ensures.accepted in
-        let nodes : c.match-found.nodes ≡ part c.args.left.cover.node (part (single_node Identifier (token_of w.in_ok-name-in-Name.name)) none) = w.nodes-is ∙ w.in_ok-push-in-Name.ensures.pushed ∙ (λ i. push (one i) (w.in_ok-single-in-Name.ensures.made.0 i)) in
-        links_read found optional c.match-matches.matches value object called nodes made
-        (subst (λ v. Adds c.args.self.now.cursor v.cursor c.args.self.now.pairs.items v.pairs.items (BehindOn c.args.self.now.cursor.text found optional (part (single_node Identifier (token_of w.in_ok-name-in-Name.name)) none))) (sym w.self-is)
-        (name_read found optional (token_of w.in_ok-name-in-Name.name) text opened same w.in-Name.is passed w.word.ensures.same_open w.word.ensures.same_pairs name.0.0 name.1))
+          let name = w.in_ok-name-in-Name.ensures.accepted in
+          let nodes : c.match-found.nodes ≡ part c.args.left.cover.node (part (single_node Identifier (token_of w.in_ok-name-in-Name.name)) none) = w.nodes-is ∙ w.in_ok-push-in-Name.ensures.pushed ∙ (λ i. push (one i) (w.in_ok-single-in-Name.ensures.made.0 i)) in
+          links_read found optional c.match-matches.matches value object called nodes made
+          (subst (λ v. Adds c.args.self.now.cursor v.cursor c.args.self.now.pairs.items v.pairs.items (BehindOn c.args.self.now.cursor.text found optional (part (single_node Identifier (token_of w.in_ok-name-in-Name.name)) none))) (sym w.self-is)
+          (name_read found optional (token_of w.in_ok-name-in-Name.name) text opened same w.in-Name.is passed w.word.ensures.same_open w.word.ensures.same_pairs name.0.0 name.1))
       | in-Index+in_ok-expect-in-Index+in_ok-index-in-Index+in_ok-settle-in-Index+in_ok-push-in-Index+in_ok-expect-in-Index-2 w ↦
-        let index = w.in_ok-index-in-Index.index in
-        let nodes : c.match-found.nodes ≡ part c.args.left.cover.node (part index.cover.node none) = w.nodes-is ∙ w.in_ok-push-in-Index.ensures.pushed ∙ (λ i. push (one i) (w.in_ok-settle-in-Index.ensures.settled.0 i)) in
-        links_read found optional c.match-matches.matches value object called nodes made
-        (subst (λ v. Adds c.args.self.now.cursor v.cursor c.args.self.now.pairs.items v.pairs.items (BehindOn c.args.self.now.cursor.text found optional (part index.cover.node none))) (sym w.self-is)
-        (index_read found optional text opened same w.in-Index.is passed w.expect.ensures.text w.expect.ensures.same_open w.expect.ensures.same_pairs w.in_ok-expect-in-Index.ensures.accepted.0 refl refl refl w.expression.ensures.text w.in_ok-index-in-Index.ensures.derived w.in_ok-settle-in-Index.ensures.settled.1
-        w.expect-in-Index.ensures.same_open w.expect-in-Index.ensures.same_pairs w.in_ok-expect-in-Index-2.ensures.accepted.0))
+          let index = w.in_ok-index-in-Index.index in
+          let nodes : c.match-found.nodes ≡ part c.args.left.cover.node (part index.cover.node none) = w.nodes-is ∙ w.in_ok-push-in-Index.ensures.pushed ∙ (λ i. push (one i) (w.in_ok-settle-in-Index.ensures.settled.0 i)) in
+          links_read found optional c.match-matches.matches value object called nodes made
+          (subst (λ v. Adds c.args.self.now.cursor v.cursor c.args.self.now.pairs.items v.pairs.items (BehindOn c.args.self.now.cursor.text found optional (part index.cover.node none))) (sym w.self-is)
+          (index_read found optional text opened same w.in-Index.is passed w.expect.ensures.text w.expect.ensures.same_open w.expect.ensures.same_pairs w.in_ok-expect-in-Index.ensures.accepted.0 refl refl refl w.expression.ensures.text w.in_ok-index-in-Index.ensures.derived w.in_ok-settle-in-Index.ensures.settled.1
+          w.expect-in-Index.ensures.same_open w.expect-in-Index.ensures.same_pairs w.in_ok-expect-in-Index-2.ensures.accepted.0))
       | in-Arguments+in_ok-arguments-in-Arguments+in_ok-append-in-Arguments w ↦
-        let nodes : c.match-found.nodes ≡ part c.args.left.cover.node w.in_ok-arguments-in-Arguments.field-0 = w.nodes-is ∙ w.in_ok-append-in-Arguments.ensures.joined ∙ (λ i. join (one i) w.in_ok-arguments-in-Arguments.field-0) in
-        links_read found optional c.match-matches.matches value object called nodes made
-        (subst (λ v. Adds c.args.self.now.cursor v.cursor c.args.self.now.pairs.items v.pairs.items (BehindOn c.args.self.now.cursor.text found optional w.in_ok-arguments-in-Arguments.field-0)) (sym w.self-is)
-        (arguments_read_behind found optional text opened same w.in-Arguments.is passed w.in_ok-arguments-in-Arguments.ensures.derived))
+          let nodes : c.match-found.nodes ≡ part c.args.left.cover.node w.in_ok-arguments-in-Arguments.field-0 = w.nodes-is ∙ w.in_ok-append-in-Arguments.ensures.joined ∙ (λ i. join (one i) w.in_ok-arguments-in-Arguments.field-0) in
+          links_read found optional c.match-matches.matches value object called nodes made
+          (subst (λ v. Adds c.args.self.now.cursor v.cursor c.args.self.now.pairs.items v.pairs.items (BehindOn c.args.self.now.cursor.text found optional w.in_ok-arguments-in-Arguments.field-0)) (sym w.self-is)
+          (arguments_read_behind found optional text opened same w.in-Arguments.is passed w.in_ok-arguments-in-Arguments.ensures.derived))
       | in-Quasi+in_ok-list-in-Quasi+in_ok-list-in-Quasi-2+in_ok-listed-in-Quasi+in_ok-push-in-Quasi w ↦
-        let template = w.in_ok-listed-in-Quasi.field-0.cover.node in
-        let nodes : c.match-found.nodes ≡ part c.args.left.cover.node (part template none) = w.nodes-is ∙ w.in_ok-push-in-Quasi.ensures.pushed ∙ (λ i. push (one i) template) in
-        let list = w.in_ok-list-in-Quasi-2.ensures in
-        links_read found optional c.match-matches.matches value object called nodes made
-        (subst (λ v. Adds c.args.self.now.cursor v.cursor c.args.self.now.pairs.items v.pairs.items (BehindOn c.args.self.now.cursor.text found optional (part template none))) (sym w.self-is)
-        (template_read found optional w.in_ok-list-in-Quasi.list w.in_ok-list-in-Quasi-2.list template text opened same w.in-Quasi.is passed w.open.ensures.text w.open.ensures.same_open w.open.ensures.same_pairs w.in_ok-list-in-Quasi.ensures.listed w.in_ok-list-in-Quasi.ensures.begun w.in_ok-list-in-Quasi.ensures.template
-        list.same.0 list.same.1 (ap (λ (p : Part). p.cover.node) w.in_ok-listed-in-Quasi.ensures.made.0) list.derived))
+          let template = w.in_ok-listed-in-Quasi.field-0.cover.node in
+          let nodes : c.match-found.nodes ≡ part c.args.left.cover.node (part template none) = w.nodes-is ∙ w.in_ok-push-in-Quasi.ensures.pushed ∙ (λ i. push (one i) template) in
+          let list = w.in_ok-list-in-Quasi-2.ensures in
+          links_read found optional c.match-matches.matches value object called nodes made
+          (subst (λ v. Adds c.args.self.now.cursor v.cursor c.args.self.now.pairs.items v.pairs.items (BehindOn c.args.self.now.cursor.text found optional (part template none))) (sym w.self-is)
+          (template_read found optional w.in_ok-list-in-Quasi.list w.in_ok-list-in-Quasi-2.list template text opened same w.in-Quasi.is passed w.open.ensures.text w.open.ensures.same_open w.open.ensures.same_pairs w.in_ok-list-in-Quasi.ensures.listed w.in_ok-list-in-Quasi.ensures.begun w.in_ok-list-in-Quasi.ensures.template
+          list.same.0 list.same.1 (ap (λ (p : Part). p.cover.node) w.in_ok-listed-in-Quasi.ensures.made.0) list.derived))
     ]
 
 pub property_name-returns-in-Some-clause-derived : goal.property_name-returns-in-Some-clause-derived
@@ -521,19 +521,19 @@ value_of-returns-clause-derived c =
     let it : c.property-2.result ≡ property_item (node Property [] (member_flags false false Shorthand) c.args.start c.if-accept-2.self.cursor.last.stop (part key.node (part c.if-accept-2.value none))) c.if-accept-2.shape = c.property-2.ensures ∙ ap (λ n. property_item n c.if-accept-2.shape) tree in
     elim c.if-accept-2.branch [
       | then-accept-2+in_ok-right+in_ok-settle+in_ok-nodes-2+in_ok-value-3 w ↦
-        let own = w.span_from-span.ensures in
-        let one = c.in_ok-value-2.ensures.made.0 in
-        let value : c.if-accept-2.value ≡ node AssignmentExpression (codes "=") plain t.start w.expression-then-accept-2.new.self.cursor.last.stop (part (single_node Identifier (token_of t)) (part w.in_ok-settle.field-0 none)) = w.value-is ∙ w.in_ok-value-3.ensures.0 ∙ (λ i. node AssignmentExpression (codes "=") plain (own i).start (own i).end ((w.in_ok-nodes-2.ensures.made ∙ ap (λ n. part n (part w.in_ok-settle.field-0 none)) (w.value.view_is ∙ one)) i)) in
-        let shape = w.shape-is ∙ w.initialized-shape.ensures ∙ ap initialized w.defaulted.ensures in
-        let last : c.if-accept-2.self.cursor.last.stop ≡ w.expression-then-accept-2.new.self.cursor.last.stop = ap (λ s. s.cursor.last.stop) w.self-is in
-        subst (λ v. Adds c.args.self.now.cursor v.cursor c.args.self.now.pairs.items v.pairs.items (ValueAt c.args.self.now.cursor.text key c.args.start c.property-2.result)) (sym w.self-is)
-        (default_value key c.args.start t w.in_ok-right.right w.in_ok-settle.field-0 c.if-accept-2.value c.if-accept-2.shape c.property-2.result c.accept.ensures.text c.accept.ensures.same_open c.accept.ensures.same_pairs stays c.accept-2.ensures.text c.accept-2.ensures.same_open c.accept-2.ensures.same_pairs w.if-accept-2.ensures.accepted
-        w.in_ok-right.ensures.derived w.in_ok-settle.ensures.settled.0 w.in_ok-settle.ensures.settled.1 c.in-Some.is class free value shape (it ∙ ap (λ x. property_item (node Property [] (member_flags false false Shorthand) c.args.start x (part key.node (part c.if-accept-2.value none))) c.if-accept-2.shape) last))
+          let own = w.span_from-span.ensures in
+          let one = c.in_ok-value-2.ensures.made.0 in
+          let value : c.if-accept-2.value ≡ node AssignmentExpression (codes "=") plain t.start w.expression-then-accept-2.new.self.cursor.last.stop (part (single_node Identifier (token_of t)) (part w.in_ok-settle.field-0 none)) = w.value-is ∙ w.in_ok-value-3.ensures.0 ∙ (λ i. node AssignmentExpression (codes "=") plain (own i).start (own i).end ((w.in_ok-nodes-2.ensures.made ∙ ap (λ n. part n (part w.in_ok-settle.field-0 none)) (w.value.view_is ∙ one)) i)) in
+          let shape = w.shape-is ∙ w.initialized-shape.ensures ∙ ap initialized w.defaulted.ensures in
+          let last : c.if-accept-2.self.cursor.last.stop ≡ w.expression-then-accept-2.new.self.cursor.last.stop = ap (λ s. s.cursor.last.stop) w.self-is in
+          subst (λ v. Adds c.args.self.now.cursor v.cursor c.args.self.now.pairs.items v.pairs.items (ValueAt c.args.self.now.cursor.text key c.args.start c.property-2.result)) (sym w.self-is)
+          (default_value key c.args.start t w.in_ok-right.right w.in_ok-settle.field-0 c.if-accept-2.value c.if-accept-2.shape c.property-2.result c.accept.ensures.text c.accept.ensures.same_open c.accept.ensures.same_pairs stays c.accept-2.ensures.text c.accept-2.ensures.same_open c.accept-2.ensures.same_pairs w.if-accept-2.ensures.accepted
+          w.in_ok-right.ensures.derived w.in_ok-settle.ensures.settled.0 w.in_ok-settle.ensures.settled.1 c.in-Some.is class free value shape (it ∙ ap (λ x. property_item (node Property [] (member_flags false false Shorthand) c.args.start x (part key.node (part c.if-accept-2.value none))) c.if-accept-2.shape) last))
       | else-accept-2 w ↦
-        let last : c.if-accept-2.self.cursor.last.stop ≡ c.accept-2.new.self.cursor.last.stop = ap (λ s. s.cursor.last.stop) w.self-is in
-        subst (λ v. Adds c.args.self.now.cursor v.cursor c.args.self.now.pairs.items v.pairs.items (ValueAt c.args.self.now.cursor.text key c.args.start c.property-2.result)) (sym w.self-is)
-        (lone_value key c.args.start t c.if-accept-2.value c.if-accept-2.shape c.property-2.result (c.accept-2.ensures.same_open ∙ c.accept.ensures.same_open) (c.accept-2.ensures.same_pairs ∙ c.accept.ensures.same_pairs) (w.if-accept-2.ensures.missed.1 ∙ stays) c.in-Some.is class free
-        (w.value-is ∙ c.in_ok-value-2.ensures.made.0) w.shape-is (it ∙ ap (λ x. property_item (node Property [] (member_flags false false Shorthand) c.args.start x (part key.node (part c.if-accept-2.value none))) c.if-accept-2.shape) last))
+          let last : c.if-accept-2.self.cursor.last.stop ≡ c.accept-2.new.self.cursor.last.stop = ap (λ s. s.cursor.last.stop) w.self-is in
+          subst (λ v. Adds c.args.self.now.cursor v.cursor c.args.self.now.pairs.items v.pairs.items (ValueAt c.args.self.now.cursor.text key c.args.start c.property-2.result)) (sym w.self-is)
+          (lone_value key c.args.start t c.if-accept-2.value c.if-accept-2.shape c.property-2.result (c.accept-2.ensures.same_open ∙ c.accept.ensures.same_open) (c.accept-2.ensures.same_pairs ∙ c.accept.ensures.same_pairs) (w.if-accept-2.ensures.missed.1 ∙ stays) c.in-Some.is class free
+          (w.value-is ∙ c.in_ok-value-2.ensures.made.0) w.shape-is (it ∙ ap (λ x. property_item (node Property [] (member_flags false false Shorthand) c.args.start x (part key.node (part c.if-accept-2.value none))) c.if-accept-2.shape) last))
     ]
 
 pub definition-returns-then-accept-clause-derived : goal.definition-returns-then-accept-clause-derived
