@@ -36,6 +36,7 @@ pub mod Points
 pub mod Refused
 pub mod Righted
 pub mod Seeing
+pub mod SidedBy
 pub mod Spelled
 pub mod Stating
 pub mod Valuing

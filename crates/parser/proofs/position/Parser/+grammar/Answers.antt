@@ -1,5 +1,5 @@
 -- What the functions of the cycle derive.
-use Rattle.std.proofs.Common.{◌≡◌, ◌≤◌, true, false, sym, refl, ap, subst, ◌∙◌, arith, ◌+◌, ◌-◌, ◌<◌, length, set}
+use Rattle.std.proofs.Common.{◌≡◌, ◌≤◌, true, false, sym, refl, ap, subst, ◌∙◌, arith, ◌+◌, ◌-◌, ◌<◌, length, set, Some}
 use Rattle.std.specs.Prelude.{◌&&◌, not, [], Some, true, false, codes}
 use Rattle.std.proofs.lemmas.Bool.{false≢true}
 use Rattle.tree.specs.declared.kind.Kind.TheVariants.{ChainExpression, SwitchCase, VariableDeclarator, ArrowFunctionExpression, Identifier, Property, AssignmentExpression}
@@ -25,7 +25,7 @@ use Rattle.token_cursor.specs.Point.{Point}
 use Rattle.parser.specs.declared.part.Part.{Part}
 use Rattle.parser.specs.Members.{member_flags}
 use Rattle.parser.specs.Links.{link_kind, link_flags, link_rank}
-use Rattle.parser.specs.Parts.{plain_part}
+use Rattle.parser.specs.Parts.{plain_part, part_from}
 use Rattle.parser.specs.Tokens.{single_node}
 use Rattle.parser.specs.DerivedPieces.{StatementsAt}
 use Rattle.parser.specs.Follows.{ChunkAt}
@@ -46,13 +46,14 @@ use Rattle.parser.proofs.Parenthesized.{InParens, yields_ok, ok_map, in_parens, 
 use Rattle.parser.proofs.Keying.{named_alone, named_plain, named_computed}
 use Rattle.parser.proofs.Linking.{is_call}
 use Rattle.parser.proofs.LinkReads.{BehindOn, name_read, index_read, arguments_read_behind, template_read, call_is, call_is_not, links_read}
+use Rattle.parser.proofs.SidedBy.{rank_of, SidedFrom, sided_one, sided_two, sided_whole}
 use Rattle.parser.proofs.Spelled.{turn_on}
 use Rattle.parser.proofs.Defining.{spread_item, value_item, map_ok}
 use Rattle.parser.proofs.Valuing.{is_free, pair_value, lone_value, default_value}
 use Rattle.parser.proofs.Stating.{all_directive, and_true, still, push_low, statements_first, statements_on}
 use Rattle.parser.proofs.Wholly.{after_inside, after_nodes, after_start, further_first, further_item, item_places, not_a_sequence, same_right}
 use Rattle.parser.proofs.position.Parser.+grammar.Goals as goal
-use Rattle.parser.proofs.position.Parser.+grammar.Goals.{then-context, else-context, then-has_value+in_ok-value+in_ok-settle+in_ok-push, else-has_value+in_ok-push_gap, then-not-is_name, else-not-is_name, in_default-via-in-Elements+else-sees, in_default-via-in_default, then-is_default+in_ok-push_gap-in-Cases, else-is_default, then-not-matches, else-not-matches, in-Sequence, in_default, else-items-test, then-items-test+in_ok-item+then-not-is_separated, in-Some+in_ok-expect, in_default-closing, in-Call, in-Name+in_ok-name-in-Name+in_ok-single-in-Name+in_ok-push-in-Name, in-Index+in_ok-expect-in-Index+in_ok-index-in-Index+in_ok-settle-in-Index+in_ok-push-in-Index+in_ok-expect-in-Index-2, in-Arguments+in_ok-arguments-in-Arguments+in_ok-append-in-Arguments, in-Quasi+in_ok-list-in-Quasi+in_ok-list-in-Quasi-2+in_ok-listed-in-Quasi+in_ok-push-in-Quasi, then-accept-2+in_ok-right+in_ok-settle+in_ok-nodes-2+in_ok-value-3, else-accept-2, then-in_class, else-in_class, in-Method, else-not-in_class-via-then-not-in_class+else-accept, else-not-in_class-via-else-not-in_class}
+use Rattle.parser.proofs.position.Parser.+grammar.Goals.{then-context, else-context, then-has_value+in_ok-value+in_ok-settle+in_ok-push, else-has_value+in_ok-push_gap, then-not-is_name, else-not-is_name, in_default-via-in-Elements+else-sees, in_default-via-in_default, then-is_default+in_ok-push_gap-in-Cases, else-is_default, then-not-matches, else-not-matches, in-Sequence, in_default, else-items-test, then-items-test+in_ok-item+then-not-is_separated, in-Some+in_ok-expect, in_default-closing, in-Call, in-Name+in_ok-name-in-Name+in_ok-single-in-Name+in_ok-push-in-Name, in-Index+in_ok-expect-in-Index+in_ok-index-in-Index+in_ok-settle-in-Index+in_ok-push-in-Index+in_ok-expect-in-Index-2, in-Arguments+in_ok-arguments-in-Arguments+in_ok-append-in-Arguments, in-Quasi+in_ok-list-in-Quasi+in_ok-list-in-Quasi-2+in_ok-listed-in-Quasi+in_ok-push-in-Quasi, then-accept-2+in_ok-right+in_ok-settle+in_ok-nodes-2+in_ok-value-3, else-accept-2, then-in_class, else-in_class, in-Method, else-not-in_class-via-then-not-in_class+else-accept, else-not-in_class-via-else-not-in_class, in-Asks+in_ok-part+in_ok-settle+in_ok-push+in_ok-expect}
 
 pub arguments-returns-clause-derived : goal.arguments-returns-clause-derived
 arguments-returns-clause-derived c = arguments_read c.in_ok-list.list c.in_ok-list-2.field-0 c.open.ensures.text c.open.ensures.same_open c.open.ensures.same_pairs c.in_ok-list.ensures.listed c.in_ok-list.ensures.begun c.in_ok-list-2.ensures.same.0 c.in_ok-list-2.ensures.derived
@@ -563,3 +564,32 @@ definition-returns-then-not-is_method-clause-derived c =
     let same : c.else-not-in_class.self.pairs.items ≡ c.args.self.now.pairs.items = elim c.else-not-in_class.branch [ else-not-in_class-via-then-not-in_class+else-accept w ↦ ap (λ v. v.pairs.items) w.self-is ∙ w.accept.ensures.same_pairs | else-not-in_class-via-else-not-in_class w ↦ ap (λ v. v.pairs.items) w.self-is ] in
     let stays : here.last ≡ start.last = elim c.else-not-in_class.branch [ else-not-in_class-via-then-not-in_class+else-accept w ↦ ap (λ v. v.cursor.last) w.self-is ∙ w.if-accept.ensures.missed.1 | else-not-in_class-via-else-not-in_class w ↦ ap (λ v. v.cursor.last) w.self-is ] in
     map_ok c.value_of.result (λ item d. value_item c.args.in_class c.in_ok-modifiers.modifiers c.in_ok-modifiers.key c.place-start.result item plain.0 plain.1 c.place-start.ensures.starts text opened same stays c.property_name.ensures.text c.in_ok-modifiers.ensures.derived d) c.value_of.ensures.derived
+
+
+pub sided-returns-clause-rank : goal.sided-returns-clause-rank
+sided-returns-clause-rank c = rank_of c.args.next.operator c.args.left c.args.next.token.after_break c.in_ok-left.ensures.taken.1 ∙ ap (λ x. Some x.own) (sym c.in_ok-left.ensures.taken.0)
+
+pub sided-returns-clause-derived : goal.sided-returns-clause-derived
+sided-returns-clause-derived c =
+    let left = c.in_ok-left.ensures.taken in
+    let one = c.in_ok-nodes.ensures.made in
+    let op = c.args.next.operator in
+    let t = token_of c.args.next.token in
+    let before : SidedFrom c.args.self.now.cursor c.match-next.self.cursor c.args.self.now.pairs.items c.match-next.self.pairs.items c.args.has_in c.args.left c.in_ok-left.left c.args.next.token.text.now c.match-next.nodes =
+    elim c.match-next.branch [
+      | in-Asks+in_ok-part+in_ok-settle+in_ok-push+in_ok-expect w ↦
+          let part = w.in_ok-part.part in
+          let parts = w.nodes-is ∙ w.in_ok-push.ensures.pushed ∙ (λ k. push (one k) (w.in_ok-settle.ensures.settled.0 k)) in
+          subst (λ k. SidedFrom c.args.self.now.cursor k.cursor c.args.self.now.pairs.items k.pairs.items c.args.has_in c.args.left c.in_ok-left.left c.args.next.token.text.now c.match-next.nodes) (sym w.self-is)
+              (sided_two c.args.has_in c.args.left op t part c.pass.ensures.text c.pass.ensures.same_open c.pass.ensures.same_pairs c.pass.ensures.reads c.pass.ensures.last c.requires.coded left.1 left.0 parts w.in-Asks.is
+              w.expression.ensures.text w.in_ok-part.ensures.derived w.in_ok-settle.ensures.settled.1 w.expect.ensures.text w.expect.ensures.same_open w.expect.ensures.same_pairs w.in_ok-expect.ensures.accepted.0)
+      | in_default w ↦
+          subst (λ k. SidedFrom c.args.self.now.cursor k.cursor c.args.self.now.pairs.items k.pairs.items c.args.has_in c.args.left c.in_ok-left.left c.args.next.token.text.now c.match-next.nodes) (sym w.self-is)
+              (sided_one c.args.has_in c.args.left op t c.pass.ensures.text c.pass.ensures.same_open c.pass.ensures.same_pairs c.pass.ensures.reads c.pass.ensures.last c.requires.coded c.requires.has_in left.1 left.0 (w.nodes-is ∙ one) w.in_default.not-Asks)
+    ] in
+    let span = c.span_from-span.ensures in
+    let sign = c.sign_text.ensures in
+    let parts = c.in_ok-push-2.ensures.pushed ∙ ap (λ n. push c.match-next.nodes n) c.in_ok-settle-2.ensures.settled.0 in
+    let tree = c.in_ok-node.ensures.0 ∙ (λ k. node c.in_ok-left.left.kind (sign k) plain (span k).start (span k).end (parts k)) in
+    let right = c.in_ok-right.right in
+    sided_whole right _ before c.at.ensures c.in_ok-right.ensures.derived c.in_ok-settle-2.ensures.settled.1 (ap (λ n. part_from n c.in_ok-left.left.shape c.args.left.start c.in_ok-left.left.own right.edge) tree)
