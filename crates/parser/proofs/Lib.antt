@@ -40,5 +40,6 @@ pub mod SidedBy
 pub mod Spelled
 pub mod Stating
 pub mod Valuing
+pub mod Turning
 pub mod Yielding
 pub mod Wholly

@@ -95,7 +95,7 @@ asks_by asks w h = refl
 asks_by _ w h = cc
 
 -- a word or a sign is read with its own characters
-own_text : (b : Bool) (c : Class) (w : List ℕ) → c ≡ cond b Name Punctuator → table_text c w ≡ w
+pub own_text : (b : Bool) (c : Class) (w : List ℕ) → c ≡ cond b Name Punctuator → table_text c w ≡ w
 own_text true c w h = ap (λ k. table_text k w) h
 own_text false c w h = ap (λ k. table_text k w) h
 
@@ -167,6 +167,10 @@ with_default s = record { is_expression = true; assigned = assigned.Defaulted; b
 defaulted_is : (s : Shape) → shapes.is_pattern s.assigned ≡ true → defaulted s ≡ with_default s
 defaulted_is s h = ap (λ v. let r : Shape = record { is_expression = true; assigned = if v then assigned.Defaulted else assigned.Nothing; binds = s.binds } in r) h
 
+no_target : (f : Start) (a : Assigned) (k : Kind) {r : Role} → shapes.is_target a ≡ true → assigned_at a f false k ≡ Some r → is_pattern k ≡ true → ⊥
+no_target f assigned.Target k t h p = false≢true (sym (target_no_pattern k (chosen h).0) ∙ p)
+no_target f _ k t h p = cc
+
 module _ (text : List ℕ) where
   -- a target or a pattern, where one is assigned to
   data AssignedTo (f : Start) (o : ℕ) (n : Tree) (s m : Token) (P : List Pair) : Type 0 where
@@ -184,6 +188,14 @@ module _ (text : List ℕ) where
 
     left_to : AssignedTo f o (pattern_tree l.cover.node) s m P
     left_to = assigned_to l.cover.shape.assigned is_left (left_as false refl)
+
+  -- a target
+  pub target_spelled : {i : Bool} {f : Start} {l : Part} {o : ℕ} {s m : Token} {P : List Pair} → PartAt text i f l o s m P → shapes.is_target l.cover.shape.assigned ≡ true → (is_target (kind_of (pattern_tree l.cover.node)) ≡ true) × SpellsIn text o (expr LeftHandSide true f) (pattern_tree l.cover.node) s m P
+  target_spelled {f = f} {l = l} {o = o} {s = s} {m = m} {P = P} left is = of (left_to left (target_is_pattern l.cover.shape.assigned is))
+    where
+      of : AssignedTo f o (pattern_tree l.cover.node) s m P → (is_target (kind_of (pattern_tree l.cover.node)) ≡ true) × SpellsIn text o (expr LeftHandSide true f) (pattern_tree l.cover.node) s m P
+      of (a_target is_target_kind d) = (is_target_kind, d)
+      of (a_pattern is_pattern_kind d) = absurd (no_target f l.cover.shape.assigned (kind_of (pattern_tree l.cover.node)) is (left_as left (target_is_pattern l.cover.shape.assigned is) false refl).it_is is_pattern_kind)
 
   -- `**`
   pub power_part : {i : Bool} {f : Start} {l : Part} {o : ℕ} {s m x e : Token} {P Q : List Pair} {w : List ℕ} {u : Tree} {right : Edge} → PartAt text i f l o s m P → l.cover.shape.is_expression ≡ true → IsTrue (takes Update l.rank) → operator_of w ≡ powers →
@@ -220,15 +232,7 @@ module _ (text : List ℕ) where
       value_part text refl left.begins edge_is open_edge (λ h. cc)
       (λ h j t lo. let same : j ≡ i = lo (assignment_minds h t) in
       subst (λ c. SpellsIn text o (expr h c f) (node AssignmentExpression w plain l.start e.stop (part (pattern_tree l.cover.node) (part u none))) s e (P ++ Q)) (sym same)
-      (of (left_to left (target_is_pattern l.cover.shape.assigned is)) h t))
-    where
-      no_target : (a : Assigned) (k : Kind) {r : Role} → shapes.is_target a ≡ true → assigned_at a f false k ≡ Some r → is_pattern k ≡ true → ⊥
-      no_target assigned.Target k t h p = false≢true (sym (target_no_pattern k (chosen h).0) ∙ p)
-      no_target _ k t h p = cc
-
-      of : AssignedTo f o (pattern_tree l.cover.node) s m P → (h : Rank) → IsTrue (takes h Assignment) → SpellsIn text o (expr h i f) (node AssignmentExpression w plain l.start e.stop (part (pattern_tree l.cover.node) (part u none))) s e (P ++ Q)
-      of (a_target is_target_kind d) h t = assign_spelled left.begins is_target_kind d op sign side h t
-      of (a_pattern is_pattern_kind d) h t = absurd (no_target l.cover.shape.assigned (kind_of (pattern_tree l.cover.node)) is (left_as left (target_is_pattern l.cover.shape.assigned is) false refl).it_is is_pattern_kind)
+      (let d = target_spelled left is in assign_spelled left.begins d.0 d.1 op sign side h t))
 
   -- an assignment by `=`, which may be a default too
   default_part : {i : Bool} {f : Start} {l : Part} {o : ℕ} {s m x e : Token} {P Q : List Pair} {u : Tree} {right : Edge} → PartAt text i f l o s m P → shapes.is_pattern l.cover.shape.assigned ≡ true →
@@ -273,7 +277,7 @@ module _ (text : List ℕ) where
   right_spelled {q} value read new j lo = read.part.stands value q j (read.taken new) lo
 
   -- the token of an operator is read with its own characters
-  sign_here : {s t : Token} (v : LexicalToken) {op : Operator} → NextIn text any_goal s t t → t ≡ as_read v → operation (as_read v) ≡ op → (op ≡ no_operator → ⊥) → (op ≡ tags → ⊥) →
+  pub sign_here : {s t : Token} (v : LexicalToken) {op : Operator} → NextIn text any_goal s t t → t ≡ as_read v → operation (as_read v) ≡ op → (op ≡ no_operator → ⊥) → (op ≡ tags → ⊥) →
       ReadsHere text (cond (is_word_operator v.text) Name Punctuator) v.text s t × (operator_of v.text ≡ op)
   sign_here v next is op n m =
       let r = op_reads (as_read v) op n m in

@@ -13,7 +13,7 @@ ghost use Rattle.parser.specs.Outcomes.{BecomesHere, IsPlaceHere, RefusedUnless,
 ghost use Rattle.parser.specs.Derived.{Adds, ReadAt, ReadsOn, GoesOn};
 ghost use Rattle.language.specs.Follow.{operation, symbol_of};
 ghost use Rattle.language.specs.Token.{as_read};
-ghost use Rattle.language.specs.Words.{is};
+ghost use Rattle.language.specs.Words.{is, takes};
 ghost use Rattle.parser.specs.Operators.{coded_operator, meant, stops_by};
 ghost use Rattle.parser.specs.Refusals.{IsRefusal};
 ghost use Rattle.parser.specs.Sides.{left_of, left_symbol, takes_left, sign_of, steps_before, takes_operand, prefixed_node, prefixed_part};
@@ -118,7 +118,8 @@ impl<'t, 's> Parser<'t, 's> {
                 self.pass(next.token);
                 let list = self.list(list, high.saturating_sub(1))?;
                 let edge = list.seen.edge;
-                let node = plain(Kind::SequenceExpression, list.inside, list.nodes, high)?;
+                let span = self.span_from(start);
+                let node = plain(Kind::SequenceExpression, span, list.nodes, high)?;
                 Ok(Part::plain(node, Rank::Expression, edge))
             }
             Operator::Chains => self.chain(left, high),
@@ -266,11 +267,14 @@ impl<'t, 's> Parser<'t, 's> {
     #[tactic(auto, using(crate::proofs::Refused::refusals, crate::proofs::Moves::moves, crate::proofs::Yielding::unless_taken))]
     fn sequence(&self, first: Part<'s>, has_in: bool) -> Result<List<'s>, Fault>
         ensures listed { IfOk result (λ list. list.listed ≡ Listed.Sequence has_in) }
-        ensures begun { IfOk result (λ list. (list ≡ with_item (list_from (Listed.Sequence has_in) first.entry.start) (item_from first.entry.cover.node first.entry.cover.shape false first.entry.edge)) × (first.entry.cover.shape.is_expression ≡ true)) }
-        ensures failed { IfErr result (RefusedUnless (IsPlaceHere self.now.cursor) first.entry.cover.shape.is_expression) }
+        ensures begun { IfOk result (λ list. (list ≡ with_item (list_from (Listed.Sequence has_in) first.entry.start) (item_from first.entry.cover.node first.entry.cover.shape false first.entry.edge)) × ((takes Rank.Assignment first.entry.rank && first.entry.cover.shape.is_expression) ≡ true)) }
+        ensures failed { IfErr result (RefusedUnless (IsPlaceHere self.now.cursor) (takes Rank.Assignment first.entry.rank && first.entry.cover.shape.is_expression)) }
         ensures refused { IfErr result (IsRefusal self.now.cursor.text) }
     {
         let at = self.cursor.place();
+        if !position_takes(Rank::Assignment, first.rank) {
+            return Err(self.refusal());
+        }
         let start = first.start;
         let mut list = List::new(self.alloc, Listed::Sequence { has_in }, start);
         let item = Item {

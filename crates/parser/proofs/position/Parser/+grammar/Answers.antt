@@ -2,7 +2,7 @@
 use Rattle.std.proofs.Common.{◌≡◌, ◌≤◌, true, false, sym, refl, ap, subst, ◌∙◌, arith, ◌+◌, ◌-◌, ◌<◌, length, set, Some}
 use Rattle.std.specs.Prelude.{◌&&◌, not, [], Some, true, false, codes}
 use Rattle.std.proofs.lemmas.Bool.{false≢true}
-use Rattle.tree.specs.declared.kind.Kind.TheVariants.{ChainExpression, SwitchCase, VariableDeclarator, ArrowFunctionExpression, Identifier, Property, AssignmentExpression}
+use Rattle.tree.specs.declared.kind.Kind.TheVariants.{ChainExpression, SwitchCase, VariableDeclarator, ArrowFunctionExpression, Identifier, Property, AssignmentExpression, UpdateExpression, SequenceExpression}
 use Rattle.tree.specs.Tree.{Tree, node, plain, kind_of, part, gap, none, push, push_gap, height, parts_height, flags_of, join}
 use Rattle.tokens.specs.Scanned.{token_of}
 use Rattle.tokens.specs.declared.token.Class.TheVariants.{Name}
@@ -12,8 +12,8 @@ use Rattle.parser.specs.Seen.{is_free_name}
 use Rattle.parser.specs.DerivedLists.{ValueAt, ItemReads, SeenRight, asks_edge, is_chunked}
 use Rattle.tree.specs.declared.kind.Form.TheVariants.{Init, Shorthand, Method}
 use Rattle.language.specs.Statements.{is_directive}
-use Rattle.language.specs.declared.Rank.TheVariants.{LeftHandSide, Primary, Call}
-use Rattle.language.specs.declared.Edge.TheVariants.{Other, Closed}
+use Rattle.language.specs.declared.Rank.TheVariants.{LeftHandSide, Primary, Call, Expression, Update}
+use Rattle.language.specs.declared.Edge.TheVariants.{Other, Closed, Postfix}
 use Rattle.covers.specs.declared.list.Item.{Item}
 use Rattle.covers.specs.declared.list.Listed.TheVariants.{Cases, Declarators, Elements, Members, Properties, Sequence}
 use Rattle.covers.specs.Patterns.{pattern_tree}
@@ -50,6 +50,7 @@ use Rattle.parser.proofs.SidedBy.{rank_of, SidedFrom, sided_one, sided_two, side
 use Rattle.parser.proofs.Spelled.{turn_on}
 use Rattle.parser.proofs.Defining.{spread_item, value_item, map_ok}
 use Rattle.parser.proofs.Valuing.{is_free, pair_value, lone_value, default_value}
+use Rattle.parser.proofs.Turning.{step_reads, sequence_reads, no_tag_there, in_there, sided_on, chain_there, chain_reads, no_chain_there, linked_reads}
 use Rattle.parser.proofs.Stating.{all_directive, and_true, still, push_low, statements_first, statements_on}
 use Rattle.parser.proofs.Wholly.{after_inside, after_nodes, after_start, further_first, further_item, item_places, not_a_sequence, same_right}
 use Rattle.parser.proofs.position.Parser.+grammar.Goals as goal
@@ -593,3 +594,37 @@ sided-returns-clause-derived c =
     let tree = c.in_ok-node.ensures.0 ∙ (λ k. node c.in_ok-left.left.kind (sign k) plain (span k).start (span k).end (parts k)) in
     let right = c.in_ok-right.right in
     sided_whole right _ before c.at.ensures c.in_ok-right.ensures.derived c.in_ok-settle-2.ensures.settled.1 (ap (λ n. part_from n c.in_ok-left.left.shape c.args.left.start c.in_ok-left.left.own right.edge) tree)
+
+pub turn-sided-requires-clause-has_in : goal.turn-sided-requires-clause-has_in
+turn-sided-requires-clause-has_in c = in_there c.args.position c.args.left.edge (token_of c.args.next.token) c.requires.coded (no_tag_there c.in-Joins.is) c.requires.goes
+
+pub turn-returns-in-Joins-clause-derived : goal.turn-returns-in-Joins-clause-derived
+turn-returns-in-Joins-clause-derived c = sided_on c.args.self.now.cursor c.sided.new.self.cursor c.args.self.now.pairs.items c.sided.new.self.pairs.items c.args.position c.args.left (token_of c.args.next.token) c.sided.result c.requires.coded c.requires.goes c.sided.ensures.derived c.sided.ensures.rank
+
+pub turn-chain-requires : goal.turn-chain-requires
+turn-chain-requires c = record { chains = chain_there c.args.self.now.cursor (token_of c.args.next.token) c.requires.ahead c.requires.coded c.in-Chains.is }
+
+pub turn-returns-in-Chains-clause-derived : goal.turn-returns-in-Chains-clause-derived
+turn-returns-in-Chains-clause-derived c = chain_reads c.args.self.now.cursor c.chain.new.self.cursor c.args.self.now.pairs.items c.chain.new.self.pairs.items c.args.position c.args.left (token_of c.args.next.token) c.chain.result c.requires.coded c.in-Chains.is c.requires.goes c.chain.ensures.derived c.chain.ensures.rank
+
+pub turn-returns-in-Selects-clause-derived : goal.turn-returns-in-Selects-clause-derived
+turn-returns-in-Selects-clause-derived c = linked_reads c.args.self.now.cursor c.linked.new.self.cursor c.args.self.now.pairs.items c.linked.new.self.pairs.items c.args.position c.args.left (token_of c.args.next.token) c.linked.result c.requires.ahead c.requires.coded (no_chain_there c.in-Selects.is) c.requires.goes c.linked.ensures.derived
+
+pub turn-returns-in-Steps-clause-derived : goal.turn-returns-in-Steps-clause-derived
+turn-returns-in-Steps-clause-derived c =
+    let parts = c.in_ok-nodes-in-Steps.ensures.made ∙ ap (λ n. part n none) c.in_ok-operand-in-Steps.ensures.target.0 in
+    let span = c.span_from-span.ensures in
+    let tree = c.in_ok-node-in-Steps.ensures.0 ∙ (λ k. node UpdateExpression c.args.next.token.text.now plain (span k).start (span k).end (parts k)) in
+    step_reads c.args.self.now.cursor c.pass.new.self.cursor c.args.self.now.pairs.items c.pass.new.self.pairs.items c.args.position c.args.left (token_of c.args.next.token) c.plain.result c.requires.coded c.in-Steps.is c.requires.goes c.in_ok-operand-in-Steps.ensures.target.1
+    c.pass.ensures.reads c.pass.ensures.last c.pass.ensures.same_open c.pass.ensures.same_pairs (c.plain.ensures ∙ ap (λ n. plain_part n Update Postfix) tree)
+
+pub turn-returns-in-Sequences-clause-derived : goal.turn-returns-in-Sequences-clause-derived
+turn-returns-in-Sequences-clause-derived c =
+    let begun = c.in_ok-list-in-Sequences.ensures.begun in
+    let list = c.in_ok-list-in-Sequences-2.list in
+    let pass = c.pass-in-Sequences in
+    let span = c.span_from-span-in-Sequences.ensures in
+    let tree = c.in_ok-node-in-Sequences.ensures.0 ∙ (λ k. node SequenceExpression [] plain (span k).start (span k).end list.nodes) in
+    sequence_reads c.args.self.now.cursor pass.new.self.cursor c.list.new.self.cursor c.args.self.now.pairs.items pass.new.self.pairs.items c.list.new.self.pairs.items c.args.position c.args.left (token_of c.args.next.token) c.plain-in-Sequences-2.result c.in_ok-list-in-Sequences.list list
+    c.requires.coded c.in-Sequences.is c.requires.goes begun.0 begun.1 c.in_ok-list-in-Sequences.ensures.listed c.in_ok-list-in-Sequences-2.ensures.same.0 pass.ensures.text pass.ensures.same_open pass.ensures.same_pairs pass.ensures.reads pass.ensures.last
+    c.in_ok-list-in-Sequences-2.ensures.derived (c.plain-in-Sequences-2.ensures ∙ ap (λ n. plain_part n Expression list.seen.edge) tree)
