@@ -1,6 +1,6 @@
 -- What an operator with a right side makes: a binary or logical node, an assignment, a conditional (ECMA-262 12.5 to 12.15).
-use Rattle.std.proofs.Common.{◌≡◌, ℕ, ◌≤◌, arith, Bool, true, false, cond, List, [], ◌∷◌, ◌++◌, refl, sym, ap, ◌∙◌, subst, append_assoc}
-use Rattle.std.specs.Prelude.{IsTrue, Option, Some, None, codes, not, ◌&&◌, nat_le, if◌then◌else◌}
+use Rattle.std.proofs.Common.{◌≡◌, ℕ, ◌≤◌, arith, Bool, true, false, cond, List, [], ◌∷◌, ◌++◌, refl, sym, ap, ◌∙◌, subst}
+use Rattle.std.specs.Prelude.{IsTrue, Some, None, codes, not, ◌&&◌, nat_le, if◌then◌else◌}
 use Rattle.std.proofs.lemmas.Bool.{and_parts, false≢true}
 use Rattle.std.proofs.lemmas.Bool.Decides.{nat_tests}
 use Rattle.std.proofs.lemmas.List.{append-nil}
@@ -8,9 +8,9 @@ use Rattle.std.proofs.lemmas.Slice.Eq.{bytes_eq-Decides}
 use Rattle.tokens.specs.Reading.{any_goal}
 use Rattle.tokens.specs.Tokens.{LexicalToken}
 use Rattle.tokens.specs.declared.token.Class.{Class}
-use Rattle.tokens.specs.declared.token.Class.TheVariants.{Name, Punctuator, Number, Text, Template, RegExp, End}
+use Rattle.tokens.specs.declared.token.Class.TheVariants.{Name, Punctuator}
 use Rattle.tree.specs.declared.kind.Kind.{Kind}
-use Rattle.tree.specs.declared.kind.Kind.TheVariants.{Identifier, BinaryExpression, LogicalExpression, ConditionalExpression, AssignmentExpression, AssignmentPattern, MemberExpression}
+use Rattle.tree.specs.declared.kind.Kind.TheVariants.{Identifier, BinaryExpression, LogicalExpression, AssignmentExpression, AssignmentPattern, MemberExpression}
 use Rattle.tree.specs.declared.kind.Pair.{Pair}
 use Rattle.tree.specs.Tree.{Tree, node, plain, Parts, none, part, kind_of, push}
 use Rattle.covers.specs.declared.shape.Shape.{Shape}
@@ -20,11 +20,11 @@ use Rattle.covers.specs.Patterns.{pattern_tree}
 use Rattle.covers.specs.Shapes.{is_element, is_bound, value, defaulted}
 use Rattle.covers.specs.Shapes as shapes
 use Rattle.language.specs.declared.Rank.{Rank}
-use Rattle.language.specs.declared.Rank.TheVariants.{Assignment, Conditional, ShortCircuit, Exponentiation, Update, LeftHandSide, New}
+use Rattle.language.specs.declared.Rank.TheVariants.{Assignment, Exponentiation, Update, LeftHandSide}
 use Rattle.language.specs.declared.Start.{Start}
 use Rattle.language.specs.declared.Start.TheVariants.{Any}
 use Rattle.language.specs.declared.Edge.{Edge}
-use Rattle.language.specs.Words.{is, takes, takes_number, tightness, is_word_operator, is_target, is_pattern, is_identifier, operator_of, Operator, binds, powers, assigns, steps, sequences, asks, selects, calls, indexes, chains, arrows, tags, no_operator}
+use Rattle.language.specs.Words.{is, takes, takes_number, tightness, is_word_operator, is_target, is_pattern, is_identifier, operator_of, Operator, binds, powers, assigns, asks, tags, no_operator}
 use Rattle.language.specs.Covers.{as_pattern}
 use Rattle.language.specs.Pieces.{Role, expr, name, pattern, element, bound, sub, at, tail, lead_pattern}
 use Rattle.language.specs.Token.{Token, as_read, table_text}
@@ -32,7 +32,7 @@ use Rattle.language.specs.Edges.{edge, standing}
 use Rattle.language.specs.Expressions.{infix_pieces}
 use Rattle.language.specs.Follow.{operation, symbol_of}
 use Rattle.language.specs.Places.{NextIn, itself, SpellsIn}
-use Rattle.language.specs.Derivation.{Placed, placed, step, within, token, laid}
+use Rattle.language.specs.Derivation.{placed, step, within, token, laid}
 use Rattle.language.specs.View.{assign_pattern}
 use Rattle.language.proofs.Operators.{binding}
 use Rattle.language.proofs.Signs.{op_reads, reads_question}
@@ -46,11 +46,11 @@ use Rattle.parser.specs.declared.expressions.Left.{Left}
 use Rattle.parser.specs.declared.operators.Sign.{Sign}
 use Rattle.parser.specs.declared.operators.Operator.{Operator as Coded}
 use Rattle.parser.specs.declared.operators.Operator.TheVariants as code
-use Rattle.parser.specs.Derived.{Begins, SpelledAs, assigned_at, target_at, pattern_at, fits_as, minds_in, bare_role, takes_new, PartAt, ReadAt, GoesOn, Adds}
+use Rattle.parser.specs.Derived.{Begins, SpelledAs, assigned_at, fits_as, minds_in, takes_new, PartAt, ReadAt, GoesOn, Adds}
 use Rattle.parser.specs.Operators.{coded_operator, meant}
 use Rattle.parser.specs.Parts.{part_from}
 use Rattle.parser.specs.Seen.{ReadsHere}
-use Rattle.parser.specs.Sides.{left_of, left_symbol, takes_shape, takes_left, sign_of}
+use Rattle.parser.specs.Sides.{left_of, takes_left, sign_of}
 use Rattle.parser.specs.Stated.{is_closed}
 use Rattle.token_cursor.specs.Point.{Point}
 use Rattle.parser.proofs.Deriving.{adds_both, adds_behind, adds_none}

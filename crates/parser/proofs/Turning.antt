@@ -1,8 +1,7 @@
 -- What goes on with an expression, turn by turn (ECMA-262 12.3, 12.4, 12.16).
 use Rattle.std.proofs.Common.{◌≡◌, ℕ, Bool, true, false, cond, List, [], ◌∷◌, ◌++◌, refl, sym, ap, ◌∙◌, subst, ◌⊎◌, inl, inr, Result, Ok, Err}
 use Rattle.std.specs.Prelude.{IsTrue, IfOk, Option, Some, None, codes, not, ◌&&◌, ◌||◌}
-use Rattle.std.proofs.lemmas.Bool.{and_parts, false≢true}
-use Rattle.std.proofs.lemmas.List.{append-nil}
+use Rattle.std.proofs.lemmas.Bool.{and_parts}
 use Rattle.std.proofs.lemmas.Slice.Eq.{bytes_eq-Decides}
 use Rattle.source_text.specs.declared.fault.Fault.{Fault}
 use Rattle.tokens.specs.Reading.{any_goal}
@@ -25,10 +24,10 @@ use Rattle.language.specs.declared.Start.TheVariants.{Any}
 use Rattle.language.specs.declared.Edge.{Edge}
 use Rattle.language.specs.declared.Edge.TheVariants.{Arrow, Postfix, Other, Closed}
 use Rattle.language.specs.Words.{is, takes, is_word_operator, operator_of, Operator, binds, powers, assigns, steps, sequences, asks, selects, calls, indexes, chains, arrows, tags, no_operator}
-use Rattle.language.specs.Covers.{Reading, as_expression, as_pattern}
-use Rattle.language.specs.Pieces.{Role, expr, Piece, sub, left, tail, sign, sp}
+use Rattle.language.specs.Covers.{as_expression, as_pattern}
+use Rattle.language.specs.Pieces.{expr, Piece, sub, left, tail, sign, sp}
 use Rattle.language.specs.Token.{Token, as_read, table_text, is_token}
-use Rattle.language.specs.Edges.{edge, last_edge, standing}
+use Rattle.language.specs.Edges.{last_edge, standing}
 use Rattle.language.specs.Expressions.{sequence}
 use Rattle.language.specs.Follow.{operation, symbol_of, holds}
 use Rattle.language.specs.Places.{NextIn, next_in, itself, SpellsIn}
@@ -45,7 +44,7 @@ use Rattle.parser.specs.declared.position.Position.{Position}
 use Rattle.parser.specs.declared.operators.Sign.{Sign}
 use Rattle.parser.specs.declared.operators.Operator.{Operator as Coded}
 use Rattle.parser.specs.declared.operators.Operator.TheVariants as code
-use Rattle.parser.specs.Derived.{RunsIn, Begins, takes_new, minds_in, PartAt, ReadAt, ReadsOn, GoesOn, Links, Adds}
+use Rattle.parser.specs.Derived.{RunsIn, Begins, minds_in, PartAt, ReadsOn, GoesOn, Links, Adds}
 use Rattle.parser.specs.DerivedLists.{several, two_or_more, stood_in, item_pieces, is_whole, whole_of, asks_edge, SoFarAt, ListAt, ClosedBy}
 use Rattle.parser.specs.Items.{list_from, with_item, item_from}
 use Rattle.parser.specs.Operators.{coded_operator, meant, stops_by}

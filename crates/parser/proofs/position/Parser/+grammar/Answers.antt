@@ -582,11 +582,11 @@ sided-returns-clause-derived c =
           let part = w.in_ok-part.part in
           let parts = w.nodes-is ∙ w.in_ok-push.ensures.pushed ∙ (λ k. push (one k) (w.in_ok-settle.ensures.settled.0 k)) in
           subst (λ k. SidedFrom c.args.self.now.cursor k.cursor c.args.self.now.pairs.items k.pairs.items c.args.has_in c.args.left c.in_ok-left.left c.args.next.token.text.now c.match-next.nodes) (sym w.self-is)
-              (sided_two c.args.has_in c.args.left op t part c.pass.ensures.text c.pass.ensures.same_open c.pass.ensures.same_pairs c.pass.ensures.reads c.pass.ensures.last c.requires.coded left.1 left.0 parts w.in-Asks.is
-              w.expression.ensures.text w.in_ok-part.ensures.derived w.in_ok-settle.ensures.settled.1 w.expect.ensures.text w.expect.ensures.same_open w.expect.ensures.same_pairs w.in_ok-expect.ensures.accepted.0)
+          (sided_two c.args.has_in c.args.left op t part c.pass.ensures.text c.pass.ensures.same_open c.pass.ensures.same_pairs c.pass.ensures.reads c.pass.ensures.last c.requires.coded left.1 left.0 parts w.in-Asks.is
+          w.expression.ensures.text w.in_ok-part.ensures.derived w.in_ok-settle.ensures.settled.1 w.expect.ensures.text w.expect.ensures.same_open w.expect.ensures.same_pairs w.in_ok-expect.ensures.accepted.0)
       | in_default w ↦
           subst (λ k. SidedFrom c.args.self.now.cursor k.cursor c.args.self.now.pairs.items k.pairs.items c.args.has_in c.args.left c.in_ok-left.left c.args.next.token.text.now c.match-next.nodes) (sym w.self-is)
-              (sided_one c.args.has_in c.args.left op t c.pass.ensures.text c.pass.ensures.same_open c.pass.ensures.same_pairs c.pass.ensures.reads c.pass.ensures.last c.requires.coded c.requires.has_in left.1 left.0 (w.nodes-is ∙ one) w.in_default.not-Asks)
+          (sided_one c.args.has_in c.args.left op t c.pass.ensures.text c.pass.ensures.same_open c.pass.ensures.same_pairs c.pass.ensures.reads c.pass.ensures.last c.requires.coded c.requires.has_in left.1 left.0 (w.nodes-is ∙ one) w.in_default.not-Asks)
     ] in
     let span = c.span_from-span.ensures in
     let sign = c.sign_text.ensures in
