@@ -33,6 +33,9 @@ pub mod Parenthesized
 pub mod Parted
 pub mod Prefixing
 pub mod Points
+pub mod PieceBy
+pub mod PieceParts
+pub mod PieceTokens
 pub mod Refused
 pub mod Righted
 pub mod Seeing

@@ -9,16 +9,14 @@ use Rattle.token_cursor.specs.declared.semicolon.Ending.TheVariants.{OfDo, Behin
 use Rattle.tree.specs.declared.kind.Form.{Form}
 use Rattle.tree.specs.declared.kind.Form.TheVariants as form
 use Rattle.tree.specs.declared.kind.Pair.{Pair}
-use Rattle.tree.specs.Tree.{Tree, node, Parts, none, part, gap, join, plain, kind_of, part_count}
+use Rattle.tree.specs.Tree.{Tree, node, Parts, none, part, gap, join, plain, kind_of}
 use Rattle.language.specs.declared.Rank.{Rank}
 use Rattle.language.specs.declared.Rank.TheVariants.{Expression, Assignment, LeftHandSide}
 use Rattle.language.specs.declared.Start.TheVariants.{Any}
 use Rattle.language.specs.declared.Edge.{Edge}
 use Rattle.language.specs.Token.{Token}
-use Rattle.language.specs.Words.{is_rest}
 use Rattle.language.specs.Pieces.{Role, expr, name, statement, item, opening, block, body, handler, head, switch_case, declarator, class_body, bound, Spelling, nothing, listed, pattern_element, sign, Piece}
 use Rattle.language.specs.Edges.{edge, last_edge, standing, ends_in_if}
-use Rattle.language.specs.FirstPart.{lead}
 use Rattle.language.specs.Expressions.{function_pieces, class_pieces, methods}
 use Rattle.language.specs.Statements.{prologue, lines, declarators, defaults}
 use Rattle.language.specs.Places.{NextIn, itself, SpellsIn}
@@ -31,6 +29,7 @@ use Rattle.parser.specs.declared.pieces.Built.{Built}
 use Rattle.parser.specs.declared.statements.Context.{Context}
 use Rattle.parser.specs.declared.statements.Until.{Until}
 use Rattle.parser.specs.Derived.{RunsIn, anywhere, SpelledAs}
+use Rattle.parser.specs.DerivedLists.{part_alone}
 use Rattle.parser.specs.Pieces as Piece
 use Rattle.parser.specs.Pieces.{closure_kind}
 use Rattle.parser.specs.Seen.{ReadsHere, NameHere, Sees, Misses, SeesBy, MissesBy, declares, is_free_name}
@@ -122,14 +121,15 @@ pub record StatementPut (text : List ℕ) (r : Bool) (o : ℕ) (s e : Token) (ps
 abbrev pub BehindWord : List ℕ → List ℕ → Token → (Token → Type 0) → Type 0
 BehindWord text w s Is = (m : Token) × ReadsHere text Name w s m × Is m
 
--- a list that is a piece, with its brackets
+-- A list that is a piece, with its brackets. No other list is one, and declarators without In stand in a head alone.
 abbrev pub ListPut : List ℕ → ℕ → Listed → Token → Token → Edge → Parts → List Pair → Type 0
-ListPut text o (listed.Declarators i) s e y ps P = RunsIn text o (anywhere (declarators (declarator i true) ps)) ps s e P × (y ≡ standing (last_edge ps) e)
+ListPut text o (listed.Declarators true) s e y ps P = RunsIn text o (anywhere (declarators (declarator true true) ps)) ps s e P × (y ≡ standing (last_edge ps) e)
 ListPut text o (listed.Cases r) s e y ps P = RunsIn text o (anywhere (sign "{" ∷ lines (switch_case r) ps ++ sign "}" ∷ [])) ps s e P × (nat_le (defaults ps) 1 ≡ true)
 ListPut text o listed.Members s e y ps P = PutAt text o class_body s e ps P
 ListPut text o listed.NoParameter s e y ps P = RunsIn text o (anywhere (sign "(" ∷ sign ")" ∷ [])) none s e P × (ps ≡ none)
-ListPut text o listed.OneParameter s e y ps P = RunsIn text o (anywhere (sign "(" ∷ listed (pattern_element true) ps ++ sign ")" ∷ [])) ps s e P × (part_count ps ≡ 1) × (is_rest (lead ps) ≡ false)
-ListPut text o _ s e y ps P = RunsIn text o (anywhere (sign "(" ∷ listed (pattern_element true) ps ++ sign ")" ∷ [])) ps s e P
+ListPut text o listed.OneParameter s e y ps P = RunsIn text o (anywhere (sign "(" ∷ part_alone ps ++ sign ")" ∷ [])) ps s e P
+ListPut text o listed.Parameters s e y ps P = RunsIn text o (anywhere (sign "(" ∷ listed (pattern_element true) ps ++ sign ")" ∷ [])) ps s e P
+ListPut text o _ s e y ps P = Unit {0}
 
 -- whether `in` or `of` stands ahead
 abbrev pub EachAt : List ℕ → Bool → Token → Type 0

@@ -630,7 +630,7 @@ impl<'t, 's> Parser<'t, 's> {
         ensures refused { IfErr result (IsRefusal self.new.cursor.text) }
     {
         let inner = high.saturating_sub(1);
-        'pieces: for piece in pieces {
+        'each: for piece in pieces {
             match self.wanted(*piece, built, context, high)? {
                 Wanted::Nothing => {}
                 Wanted::Gap => built.nodes.push_gap()?,

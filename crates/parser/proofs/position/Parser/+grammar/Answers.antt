@@ -53,6 +53,9 @@ use Rattle.parser.proofs.Valuing.{is_free, pair_value, lone_value, default_value
 use Rattle.parser.proofs.Turning.{step_reads, sequence_reads, no_tag_there, in_there, sided_on, chain_there, chain_reads, no_chain_there, linked_reads}
 use Rattle.parser.proofs.Stating.{all_directive, and_true, still, push_low, statements_first, statements_on}
 use Rattle.parser.proofs.Wholly.{after_inside, after_nodes, after_start, further_first, further_item, item_places, not_a_sequence, same_right}
+use Rattle.parser.proofs.PieceBy.{built_first, piece_on, piece_low, pieces_taken}
+use Rattle.parser.proofs.PieceParts.{expression_piece, binding_piece}
+use Rattle.parser.proofs.PieceTokens.{passed_piece, nothing_passed, gap_wanted}
 use Rattle.parser.proofs.position.Parser.+grammar.Goals as goal
 use Rattle.parser.proofs.position.Parser.+grammar.Goals.{then-context, else-context, then-has_value+in_ok-value+in_ok-settle+in_ok-push, else-has_value+in_ok-push_gap, then-not-is_name, else-not-is_name, in_default-via-in-Elements+else-sees, in_default-via-in_default, then-is_default+in_ok-push_gap-in-Cases, else-is_default, then-not-matches, else-not-matches, in-Sequence, in_default, else-items-test, then-items-test+in_ok-item+then-not-is_separated, in-Some+in_ok-expect, in_default-closing, in-Call, in-Name+in_ok-name-in-Name+in_ok-single-in-Name+in_ok-push-in-Name, in-Index+in_ok-expect-in-Index+in_ok-index-in-Index+in_ok-settle-in-Index+in_ok-push-in-Index+in_ok-expect-in-Index-2, in-Arguments+in_ok-arguments-in-Arguments+in_ok-append-in-Arguments, in-Quasi+in_ok-list-in-Quasi+in_ok-list-in-Quasi-2+in_ok-listed-in-Quasi+in_ok-push-in-Quasi, then-accept-2+in_ok-right+in_ok-settle+in_ok-nodes-2+in_ok-value-3, else-accept-2, then-in_class, else-in_class, in-Method, else-not-in_class-via-then-not-in_class+else-accept, else-not-in_class-via-else-not-in_class, in-Asks+in_ok-part+in_ok-settle+in_ok-push+in_ok-expect}
 
@@ -628,3 +631,40 @@ turn-returns-in-Sequences-clause-derived c =
     sequence_reads c.args.self.now.cursor pass.new.self.cursor c.list.new.self.cursor c.args.self.now.pairs.items pass.new.self.pairs.items c.list.new.self.pairs.items c.args.position c.args.left (token_of c.args.next.token) c.plain-in-Sequences-2.result c.in_ok-list-in-Sequences.list list
     c.requires.coded c.in-Sequences.is c.requires.goes begun.0 begun.1 c.in_ok-list-in-Sequences.ensures.listed c.in_ok-list-in-Sequences-2.ensures.same.0 pass.ensures.text pass.ensures.same_open pass.ensures.same_pairs pass.ensures.reads pass.ensures.last
     c.in_ok-list-in-Sequences-2.ensures.derived (c.plain-in-Sequences-2.ensures ∙ ap (λ n. plain_part n Expression list.seen.edge) tree)
+
+
+pub pieces-each-init : goal.pieces-each-init
+pieces-each-init t c = record { same = refl; forward = omega arith; derived = built_first; low = λ h. h }
+
+pub pieces-each-preserved : goal.pieces-each-preserved
+pieces-each-preserved t c =
+    let v = c.each.invariant in
+    let on = v.forward in
+    let read = c.in_ok-wanted.ensures.read in
+    elim c.match-branch-2.branch [
+      | in-Nothing w ↦ rw (w.self-is, w.built-is) (
+        let p = passed_piece c.wanted.ensures.same_open c.wanted.ensures.same_pairs (nothing_passed _ (rw w.in-Nothing.is at read)) in
+        let further = c.wanted.ensures.forward in
+        record { same = c.wanted.ensures.text ∙ v.same; forward = omega arith; derived = piece_on c.args.pieces.now _ c.each.piece-index v.same c.each-test.true v.derived p; low = λ h. piece_low p (v.low h) })
+      | in-Gap+in_ok-push_gap-in-Gap w ↦ rw (w.self-is, w.built-is) (
+        let p = passed_piece c.wanted.ensures.same_open c.wanted.ensures.same_pairs (gap_wanted _ c.wanted.new.built (rw w.in-Gap.is at read) (ap (λ ps. record c.wanted.new.built { nodes = ps }) w.in_ok-push_gap-in-Gap.ensures.pushed)) in
+        let further = c.wanted.ensures.forward in
+        record { same = c.wanted.ensures.text ∙ v.same; forward = omega arith; derived = piece_on c.args.pieces.now _ c.each.piece-index v.same c.each-test.true v.derived p; low = λ h. piece_low p (v.low h) })
+      | in-Expression+in_ok-part-in-Expression+in_ok-put_expression-in-Expression w ↦ rw (w.self-is, w.built-is) (
+        let q = c.wanted.ensures in
+        let p = expression_piece _ c.wanted.new.built w.sees_each-each.result q.text w.expression.ensures.text q.same_open q.same_pairs (rw w.in-Expression.is at read) w.in_ok-part-in-Expression.ensures.derived w.sees_each-each.ensures.seen w.sees_each-each.ensures.missed w.in_ok-put_expression-in-Expression.ensures.fits w.in_ok-put_expression-in-Expression.ensures.put w.in_ok-part-in-Expression.ensures.low in
+        let further = c.wanted.ensures.forward in
+        let behind = w.expression.ensures.forward in
+        record { same = w.expression.ensures.text ∙ q.text ∙ v.same; forward = omega arith; derived = piece_on c.args.pieces.now _ c.each.piece-index v.same c.each-test.true v.derived p; low = λ h. piece_low p (v.low h) })
+      | in-Binding+in_ok-part-in-Binding+in_ok-put_expression-in-Binding w ↦ rw (w.self-is, w.built-is) (
+        let q = c.wanted.ensures in
+        let p = binding_piece _ c.wanted.new.built q.text q.same_open q.same_pairs (rw w.in-Binding.is at read) w.at.ensures w.in_ok-part-in-Binding.ensures.derived w.in_ok-put_expression-in-Binding.ensures.fits w.in_ok-put_expression-in-Binding.ensures.put w.in_ok-part-in-Binding.ensures.low in
+        let further = c.wanted.ensures.forward in
+        let behind = w.opening.ensures.forward in
+        record { same = w.opening.ensures.text ∙ q.text ∙ v.same; forward = omega arith; derived = piece_on c.args.pieces.now _ c.each.piece-index v.same c.each-test.true v.derived p; low = λ h. piece_low p (v.low h) })
+      | in-Statement+in_ok-statement-in-Statement+in_ok-push-in-Statement w ↦ rw (w.self-is, w.built-is) ?
+      | in-Block+in_ok-left-in-Block+in_ok-list-in-Block+in_ok-expect-in-Block+in_ok-plain-in-Block+in_ok-push-in-Block w ↦ rw (w.self-is, w.built-is) ?
+      | in-Handler+in_ok-pieces-in-Handler+in_ok-plain-in-Handler+in_ok-push-in-Handler w ↦ rw (w.self-is, w.built-is) ?
+      | in-Items+in_ok-statements-in-Items+in_ok-append-in-Items w ↦ rw (w.self-is, w.built-is) ?
+      | in-List+in_ok-list-in-List+in_ok-list-in-List-2+in_ok-put_list-in-List w ↦ rw (w.self-is, w.built-is) ?
+    ]

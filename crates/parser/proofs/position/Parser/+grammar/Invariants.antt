@@ -1,11 +1,12 @@
 use Rattle.std.proofs.Common.{◌≡◌, ◌-◌, ◌+◌, ◌*◌, ◌≤◌, ◌<◌, length}
-use Rattle.std.specs.Prelude.{◌&&◌}
+use Rattle.std.specs.Prelude.{◌&&◌, map, take}
 use Rattle.tree.specs.Tree.{height, parts_height}
 use Rattle.parser.specs.Derived.{Adds, ReadAt}
 use Rattle.covers.specs.declared.list.Listed.TheVariants.{Covers}
 use Rattle.parser.specs.DerivedLists.{SeenRight}
-use Rattle.parser.specs.DerivedPieces.{StatementsAt}
+use Rattle.parser.specs.DerivedPieces.{StatementsAt, BuiltAt}
 use Rattle.parser.specs.Outcomes.{BeginsBy}
+use Rattle.parser.specs.Pieces.{piece_of}
 use Rattle.parser.proofs.Chaining.{ChainedOn}
 use Rattle.parser.proofs.Stating.{all_directive}
 use Rattle.parser.proofs.Wholly.{FurtherOn}
@@ -109,10 +110,12 @@ invariant-list-items l = record {
 abbrev pub decreases-list-items : goal.decreases-list-items
 decreases-list-items l = length l.self.cursor.text - l.self.cursor.last.stop
 
-abbrev pub invariant-pieces-pieces : goal.invariant-pieces-pieces
-invariant-pieces-pieces l = record {
+abbrev pub invariant-pieces-each : goal.invariant-pieces-each
+invariant-pieces-each l = record {
   same : l.self.cursor.text ≡ l.fn.self.cursor.text;
   forward : l.fn.self.cursor.last.stop ≤ l.self.cursor.last.stop;
+  derived : Adds l.fn.self.cursor l.self.cursor l.fn.self.pairs.items l.self.pairs.items (BuiltAt l.fn.self.cursor.text l.fn.context.returns (map piece_of (take l.piece-index l.pieces)) l.fn.built l.built);
+  low : parts_height l.fn.built.nodes ≤ l.fn.high → parts_height l.built.nodes ≤ l.fn.high;
 }
 
 abbrev pub invariant-statements-statements : goal.invariant-statements-statements
