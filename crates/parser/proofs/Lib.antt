@@ -8,6 +8,7 @@ pub mod Delimited
 pub mod Defining
 pub mod Deriving
 pub mod Extending
+pub mod Enclosed
 pub mod Following
 pub mod Forward
 pub mod Grouped
@@ -33,6 +34,7 @@ pub mod Parenthesized
 pub mod Parted
 pub mod Prefixing
 pub mod Points
+pub mod PieceBlocks
 pub mod PieceBy
 pub mod PieceParts
 pub mod PieceTokens

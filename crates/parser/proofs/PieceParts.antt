@@ -163,7 +163,7 @@ module _ (text : List ℕ) (r : Bool) (s m : Point) (b c : Built) (high : ℕ) (
   binding_put _ h is fits = cc
 
 -- what a piece leaves of the parts before it
-wanted_nodes : (p : Coded) (r : Bool) (s m : Point) (b c : Built) (high : ℕ) (want : Wanted) → (want ≡ wanted.Nothing → ⊥) → WantedAt p r s m b c high want → c.nodes ≡ b.nodes
+pub wanted_nodes : (p : Coded) (r : Bool) (s m : Point) (b c : Built) (high : ℕ) (want : Wanted) → (want ≡ wanted.Nothing → ⊥) → WantedAt p r s m b c high want → c.nodes ≡ b.nodes
 wanted_nodes (code.Mark w) r s m b c high want other h = absurd (other h.1)
 wanted_nodes (code.Word w) r s m b c high want other h = absurd (other h.1)
 wanted_nodes code.Unbroken r s m b c high want other h = absurd (other h.1)
@@ -177,7 +177,7 @@ wanted_nodes code.Catch r s m b c high want other h = nodes_of h.1
 wanted_nodes code.Heritage r s m b c high want other h = nodes_of h.1
 wanted_nodes _ r s m b c high want other h = nodes_of h.1.1
 
-wanted_edge : (p : Coded) (r : Bool) (s m : Point) (b c : Built) (high : ℕ) (want : Wanted) → (want ≡ wanted.Nothing → ⊥) → WantedAt p r s m b c high want → c.edge ≡ b.edge
+pub wanted_edge : (p : Coded) (r : Bool) (s m : Point) (b c : Built) (high : ℕ) (want : Wanted) → (want ≡ wanted.Nothing → ⊥) → WantedAt p r s m b c high want → c.edge ≡ b.edge
 wanted_edge (code.Mark w) r s m b c high want other h = absurd (other h.1)
 wanted_edge (code.Word w) r s m b c high want other h = absurd (other h.1)
 wanted_edge code.Unbroken r s m b c high want other h = absurd (other h.1)
@@ -219,3 +219,45 @@ pub binding_piece : {s m e : Point} {old mid new : List Pair} {r : Bool} (p : Co
 binding_piece {s} {m} {e} {r = r} p {b} c {d} {high} {pos} {k} same open_same same_pairs h at a fits is low =
     one_part p c (put_node p false k.cover.node) k.edge open_same same_pairs (λ u. cc) h is (subst (λ x. x ≤ high) (sym (put_height p false k.cover.node)) low)
     (λ edges. adds_behind refl refl a (λ o P v. binding_put s.text r s m b c high pos k o e.last P refl (subst (λ x. ReadAt x pos k o m.last e.last P) same v) p h at fits))
+
+-- a statement
+statement_put : (text : List ℕ) (p : Coded) (r : Bool) (s m : Point) (b c : Built) (high : ℕ) (n : Tree) (o : ℕ) (e : Token) (P : List Pair) (x : Edge) → text ≡ s.text → WantedAt p r s m b c high wanted.Statement → StatementAt text (statement r) n o m.last e P → PieceAt text r o (piece_of p) s.last e b.edge x (part n none) P
+statement_put text code.Statement r s m b c high n o e P x same h d = record { put = n; parts = refl; statement = subst (λ y. StatementAt text (statement r) n o y e P) h.1.0 d }
+statement_put text code.Else r s m b c high n o e P x same h d = inl (m.last, subst (λ y. ReadsHere y Name (codes "else") s.last m.last) (sym same) h.0, record { put = n; parts = refl; statement = d })
+statement_put text code.Test r s m b c high n o e P x same h d = absurd h.0
+statement_put text code.Update r s m b c high n o e P x same h d = absurd h.0
+statement_put text code.Argument r s m b c high n o e P x same h d = absurd h.0
+statement_put text code.Head r s m b c high n o e P x same h d = absurd h.0
+statement_put text code.Finally r s m b c high n o e P x same h d = absurd h.0
+statement_put text code.Catch r s m b c high n o e P x same h d = absurd h.0
+statement_put text code.Heritage r s m b c high n o e P x same h d = absurd h.0
+statement_put text _ r s m b c high n o e P x same h d = cc
+
+pub statement_piece : {s m e : Point} {old mid new : List Pair} {r : Bool} (p : Coded) {b : Built} (c : Built) {d : Built} {high : ℕ} {n : Tree} {context : Context} → m.text ≡ s.text → m.opened ≡ s.opened → mid ≡ old → WantedAt p r s m b c high wanted.Statement → context ≡ inner_context r → Adds m e mid new (StatementAt m.text (context_role context) n) →
+    d ≡ with_part c n c.edge → height n ≤ high → OnePiece s e old new r (piece_of p) b d high
+statement_piece {s} {m} {e} {r = r} p {b} c {d} {high} {n} {context} same open_same same_pairs h at a is low =
+    one_part p c n c.edge open_same same_pairs (λ u. cc) h is low
+    (λ edges. adds_behind refl refl a (λ o P v. statement_put s.text p r s m b c high n o e.last P c.edge refl h (subst (λ x. StatementAt s.text (context_role x) n o m.last e.last P) at (subst (λ x. StatementAt x (context_role context) n o m.last e.last P) same v))))
+
+-- statements
+items_put : (text : List ℕ) (p : Coded) (r : Bool) (s m : Point) (b c : Built) (high : ℕ) (until : Until) (ps : Parts) (o : ℕ) (e : Token) (P : List Pair) (x : Edge) → WantedAt p r s m b c high (wanted.Items until) → RunsIn text o (anywhere (prologue r false [] [] ps)) ps m.last e P → PieceAt text r o (piece_of p) s.last e b.edge x ps P
+items_put text code.Items r s m b c high until ps o e P x h d = subst (λ y. RunsIn text o (anywhere (prologue r false [] [] ps)) ps y e P) h.1.0 d
+items_put text code.Consequent r s m b c high until ps o e P x h d = subst (λ y. RunsIn text o (anywhere (prologue r false [] [] ps)) ps y e P) h.1.0 d
+items_put text code.Test r s m b c high until ps o e P x h d = absurd h.0
+items_put text code.Update r s m b c high until ps o e P x h d = absurd h.0
+items_put text code.Argument r s m b c high until ps o e P x h d = absurd h.0
+items_put text code.Head r s m b c high until ps o e P x h d = absurd h.0
+items_put text code.Else r s m b c high until ps o e P x h d = absurd h.0
+items_put text code.Finally r s m b c high until ps o e P x h d = absurd h.0
+items_put text code.Catch r s m b c high until ps o e P x h d = absurd h.0
+items_put text code.Heritage r s m b c high until ps o e P x h d = absurd h.0
+items_put text _ r s m b c high until ps o e P x h d = cc
+
+pub items_piece : {s m e : Point} {old mid new : List Pair} {r : Bool} (p : Coded) {b : Built} (c : Built) {d : Built} {high : ℕ} {ps : Parts} (until : Until) {context : Context} → m.text ≡ s.text → m.opened ≡ s.opened → mid ≡ old → WantedAt p r s m b c high (wanted.Items until) → context ≡ item_context r → Adds m e mid new (StatementsAt m.text context ps) →
+    d.nodes ≡ join c.nodes ps → d.edge ≡ c.edge → parts_height ps ≤ high → OnePiece s e old new r (piece_of p) b d high
+items_piece {s} {m} {e} {r = r} p {b} c {d} {high} {ps} until {context} same open_same same_pairs h at a is right low = record {
+  put = ps;
+  nodes = is ∙ ap (λ qs. join qs ps) (wanted_nodes p r s m b c high (wanted.Items until) (λ u. cc) h);
+  low = low;
+  adds = adds_behind open_same same_pairs a (λ o P v. items_put s.text p r s m b c high until ps o e.last P d.edge h ((subst (λ x. StatementsAt s.text x ps o m.last e.last P) at (subst (λ x. StatementsAt x context ps o m.last e.last P) same v)) refl));
+}

@@ -2,7 +2,7 @@
 use Rattle.std.proofs.Common.{◌≡◌, ◌≤◌, true, false, sym, refl, ap, subst, ◌∙◌, arith, ◌+◌, ◌-◌, ◌<◌, length, set, Some}
 use Rattle.std.specs.Prelude.{◌&&◌, not, [], Some, true, false, codes}
 use Rattle.std.proofs.lemmas.Bool.{false≢true}
-use Rattle.tree.specs.declared.kind.Kind.TheVariants.{ChainExpression, SwitchCase, VariableDeclarator, ArrowFunctionExpression, Identifier, Property, AssignmentExpression, UpdateExpression, SequenceExpression}
+use Rattle.tree.specs.declared.kind.Kind.TheVariants.{ChainExpression, SwitchCase, VariableDeclarator, ArrowFunctionExpression, Identifier, Property, AssignmentExpression, UpdateExpression, SequenceExpression, BlockStatement, CatchClause}
 use Rattle.tree.specs.Tree.{Tree, node, plain, kind_of, part, gap, none, push, push_gap, height, parts_height, flags_of, join}
 use Rattle.tokens.specs.Scanned.{token_of}
 use Rattle.tokens.specs.declared.token.Class.TheVariants.{Name}
@@ -53,8 +53,9 @@ use Rattle.parser.proofs.Valuing.{is_free, pair_value, lone_value, default_value
 use Rattle.parser.proofs.Turning.{step_reads, sequence_reads, no_tag_there, in_there, sided_on, chain_there, chain_reads, no_chain_there, linked_reads}
 use Rattle.parser.proofs.Stating.{all_directive, and_true, still, push_low, statements_first, statements_on}
 use Rattle.parser.proofs.Wholly.{after_inside, after_nodes, after_start, further_first, further_item, item_places, not_a_sequence, same_right}
+use Rattle.parser.proofs.PieceBlocks.{block_piece, handler_piece}
 use Rattle.parser.proofs.PieceBy.{built_first, piece_on, piece_low, pieces_taken}
-use Rattle.parser.proofs.PieceParts.{expression_piece, binding_piece}
+use Rattle.parser.proofs.PieceParts.{expression_piece, binding_piece, statement_piece, items_piece}
 use Rattle.parser.proofs.PieceTokens.{passed_piece, nothing_passed, gap_wanted}
 use Rattle.parser.proofs.position.Parser.+grammar.Goals as goal
 use Rattle.parser.proofs.position.Parser.+grammar.Goals.{then-context, else-context, then-has_value+in_ok-value+in_ok-settle+in_ok-push, else-has_value+in_ok-push_gap, then-not-is_name, else-not-is_name, in_default-via-in-Elements+else-sees, in_default-via-in_default, then-is_default+in_ok-push_gap-in-Cases, else-is_default, then-not-matches, else-not-matches, in-Sequence, in_default, else-items-test, then-items-test+in_ok-item+then-not-is_separated, in-Some+in_ok-expect, in_default-closing, in-Call, in-Name+in_ok-name-in-Name+in_ok-single-in-Name+in_ok-push-in-Name, in-Index+in_ok-expect-in-Index+in_ok-index-in-Index+in_ok-settle-in-Index+in_ok-push-in-Index+in_ok-expect-in-Index-2, in-Arguments+in_ok-arguments-in-Arguments+in_ok-append-in-Arguments, in-Quasi+in_ok-list-in-Quasi+in_ok-list-in-Quasi-2+in_ok-listed-in-Quasi+in_ok-push-in-Quasi, then-accept-2+in_ok-right+in_ok-settle+in_ok-nodes-2+in_ok-value-3, else-accept-2, then-in_class, else-in_class, in-Method, else-not-in_class-via-then-not-in_class+else-accept, else-not-in_class-via-else-not-in_class, in-Asks+in_ok-part+in_ok-settle+in_ok-push+in_ok-expect}
@@ -662,9 +663,38 @@ pieces-each-preserved t c =
         let further = c.wanted.ensures.forward in
         let behind = w.opening.ensures.forward in
         record { same = w.opening.ensures.text ∙ q.text ∙ v.same; forward = omega arith; derived = piece_on c.args.pieces.now _ c.each.piece-index v.same c.each-test.true v.derived p; low = λ h. piece_low p (v.low h) })
-      | in-Statement+in_ok-statement-in-Statement+in_ok-push-in-Statement w ↦ rw (w.self-is, w.built-is) ?
-      | in-Block+in_ok-left-in-Block+in_ok-list-in-Block+in_ok-expect-in-Block+in_ok-plain-in-Block+in_ok-push-in-Block w ↦ rw (w.self-is, w.built-is) ?
-      | in-Handler+in_ok-pieces-in-Handler+in_ok-plain-in-Handler+in_ok-push-in-Handler w ↦ rw (w.self-is, w.built-is) ?
-      | in-Items+in_ok-statements-in-Items+in_ok-append-in-Items w ↦ rw (w.self-is, w.built-is) ?
+      | in-Statement+in_ok-statement-in-Statement+in_ok-push-in-Statement w ↦ rw (w.self-is, w.built-is) (
+        let q = c.wanted.ensures in
+        let p = statement_piece _ c.wanted.new.built q.text q.same_open q.same_pairs (rw w.in-Statement.is at read) w.inside.ensures w.in_ok-statement-in-Statement.ensures.derived (ap (λ ps. record c.wanted.new.built { nodes = ps }) w.in_ok-push-in-Statement.ensures.pushed) w.in_ok-statement-in-Statement.ensures.low in
+        let further = c.wanted.ensures.forward in
+        let behind = w.statement.ensures.forward in
+        record { same = w.statement.ensures.text ∙ q.text ∙ v.same; forward = omega arith; derived = piece_on c.args.pieces.now _ c.each.piece-index v.same c.each-test.true v.derived p; low = λ h. piece_low p (v.low h) })
+      | in-Block+in_ok-left-in-Block+in_ok-list-in-Block+in_ok-expect-in-Block+in_ok-plain-in-Block+in_ok-push-in-Block w ↦ rw (w.self-is, w.built-is) (
+        let q = c.wanted.ensures in
+        let span = w.span_from-span.ensures in
+        let made = w.in_ok-plain-in-Block.ensures.0 ∙ (λ i. node BlockStatement [] plain (span i).start (span i).end w.in_ok-list-in-Block.list) in
+        let low = w.in_ok-plain-in-Block.ensures.1 in
+        let p = block_piece _ c.wanted.new.built w.in-Block.context q.text w.expect.ensures.text w.statements.ensures.text q.same_open q.same_pairs w.expect.ensures.same_open w.expect.ensures.same_pairs w.expect-in-Block.ensures.same_open w.expect-in-Block.ensures.same_pairs (rw w.in-Block.is at read)
+            w.in_ok-left-in-Block.ensures.accepted.0 (ap (λ (x : Token). x.start) w.in_ok-left-in-Block.ensures.accepted.1) w.in_ok-list-in-Block.ensures.derived w.in_ok-expect-in-Block.ensures.accepted.0 made (ap (λ ps. record c.wanted.new.built { nodes = ps }) w.in_ok-push-in-Block.ensures.pushed) low in
+        let further = c.wanted.ensures.forward in
+        let behind = w.expect.ensures.forward in
+        let later = w.statements.ensures.forward in
+        let last = w.expect-in-Block.ensures.forward in
+        record { same = w.expect-in-Block.ensures.text ∙ w.statements.ensures.text ∙ w.expect.ensures.text ∙ q.text ∙ v.same; forward = omega arith; derived = piece_on c.args.pieces.now _ c.each.piece-index v.same c.each-test.true v.derived p; low = λ h. piece_low p (v.low h) })
+      | in-Handler+in_ok-pieces-in-Handler+in_ok-plain-in-Handler+in_ok-push-in-Handler w ↦ rw (w.self-is, w.built-is) (
+        let q = c.wanted.ensures in
+        let span = w.span_from-span-in-Handler.ensures in
+        let made = w.in_ok-plain-in-Handler.ensures.0 ∙ (λ i. node CatchClause [] plain (span i).start (span i).end w.pieces.new.built.nodes) in
+        let low = w.in_ok-plain-in-Handler.ensures.1 in
+        let p = handler_piece _ c.wanted.new.built w.in-Handler.start w.new-caught.result w.pieces.new.built q.text q.same_open q.same_pairs (rw w.in-Handler.is at read) w.catch_pieces.ensures w.new-caught.ensures w.in_ok-pieces-in-Handler.ensures.derived made (ap (λ ps. record c.wanted.new.built { nodes = ps }) w.in_ok-push-in-Handler.ensures.pushed) low in
+        let further = c.wanted.ensures.forward in
+        let behind = w.pieces.ensures.forward in
+        record { same = w.pieces.ensures.text ∙ q.text ∙ v.same; forward = omega arith; derived = piece_on c.args.pieces.now _ c.each.piece-index v.same c.each-test.true v.derived p; low = λ h. piece_low p (v.low h) })
+      | in-Items+in_ok-statements-in-Items+in_ok-append-in-Items w ↦ rw (w.self-is, w.built-is) (
+        let q = c.wanted.ensures in
+        let p = items_piece _ c.wanted.new.built {d = record c.wanted.new.built { nodes = w.append.new.self }} w.in-Items.until q.text q.same_open q.same_pairs (rw w.in-Items.is at read) w.item-context.ensures w.in_ok-statements-in-Items.ensures.derived w.in_ok-append-in-Items.ensures.joined refl w.in_ok-statements-in-Items.ensures.low in
+        let further = c.wanted.ensures.forward in
+        let behind = w.statements-in-Items.ensures.forward in
+        record { same = w.statements-in-Items.ensures.text ∙ q.text ∙ v.same; forward = omega arith; derived = piece_on c.args.pieces.now _ c.each.piece-index v.same c.each-test.true v.derived p; low = λ h. piece_low p (v.low h) })
       | in-List+in_ok-list-in-List+in_ok-list-in-List-2+in_ok-put_list-in-List w ↦ rw (w.self-is, w.built-is) ?
     ]
