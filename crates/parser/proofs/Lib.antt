@@ -36,6 +36,7 @@ pub mod Prefixing
 pub mod Points
 pub mod PieceBlocks
 pub mod PieceBy
+pub mod PieceLists
 pub mod PieceParts
 pub mod PieceTokens
 pub mod Refused

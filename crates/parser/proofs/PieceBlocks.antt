@@ -101,6 +101,12 @@ place_name p {at = at} here r = of r.next r.class here.1
     of : {s t e : Token} → NextIn p.text any_goal s t e → t.class ≡ Name → ((u : LexicalToken) → Reads p.text goal.Div s.stop u → at ≡ u.start) → at ≡ t.start
     of (next_in {t = u} g any x) class here = here u (by_goal goal.Div x (subst (λ c. IsTrue (allows goal.Div c x.word)) (sym class) (div_allows true x.word)))
 
+pub place_mark : (p : Point) {w : List ℕ} {m : Token} {at : ℕ} → IsPlaceHere p at → ReadsHere p.text Punctuator w p.last m → at ≡ m.start
+place_mark p {at = at} here r = of r.next r.class here.1
+  where
+    of : {s t e : Token} → NextIn p.text any_goal s t e → t.class ≡ Punctuator → ((u : LexicalToken) → Reads p.text goal.Div s.stop u → at ≡ u.start) → at ≡ t.start
+    of (next_in {t = u} g any x) class here = here u (by_goal goal.Div x (subst (λ c. IsTrue (allows goal.Div c x.word)) (sym class) (div_allows false x.word)))
+
 -- a handler
 handler_put : (text : List ℕ) (r : Bool) (s m : Point) (b c : Built) (high at : ℕ) (ps : Parts) (o : ℕ) (e : Token) (P : List Pair) (z y : Edge) {pieces : List Piece} (p : Coded) → text ≡ s.text → WantedAt p r s m b c high (wanted.Handler at) → CatchParts text m.last pieces → Rattle.parser.specs.DerivedPieces.PiecesAt text r o pieces m.last e Rattle.language.specs.declared.Edge.TheVariants.Closed z ps P →
     PieceAt text r o (piece_of p) s.last e b.edge y (part (node CatchClause [] plain at e.stop ps) none) P

@@ -569,7 +569,8 @@ impl<'t, 's> Parser<'t, 's> {
                 let body = plain(Kind::ClassBody, list.span, list.nodes, high)?;
                 built.nodes.push(body)
             }
-            _ => built.nodes.append(list.nodes),
+            Listed::Declarators { .. } | Listed::Cases { .. } => built.nodes.append(list.nodes),
+            _ => Err(self.refusal()),
         }
     }
 

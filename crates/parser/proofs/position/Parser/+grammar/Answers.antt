@@ -55,6 +55,7 @@ use Rattle.parser.proofs.Stating.{all_directive, and_true, still, push_low, stat
 use Rattle.parser.proofs.Wholly.{after_inside, after_nodes, after_start, further_first, further_item, item_places, not_a_sequence, same_right}
 use Rattle.parser.proofs.PieceBlocks.{block_piece, handler_piece}
 use Rattle.parser.proofs.PieceBy.{built_first, piece_on, piece_low, pieces_taken}
+use Rattle.parser.proofs.PieceLists.{list_piece}
 use Rattle.parser.proofs.PieceParts.{expression_piece, binding_piece, statement_piece, items_piece}
 use Rattle.parser.proofs.PieceTokens.{passed_piece, nothing_passed, gap_wanted}
 use Rattle.parser.proofs.position.Parser.+grammar.Goals as goal
@@ -671,30 +672,40 @@ pieces-each-preserved t c =
         record { same = w.statement.ensures.text ∙ q.text ∙ v.same; forward = omega arith; derived = piece_on c.args.pieces.now _ c.each.piece-index v.same c.each-test.true v.derived p; low = λ h. piece_low p (v.low h) })
       | in-Block+in_ok-left-in-Block+in_ok-list-in-Block+in_ok-expect-in-Block+in_ok-plain-in-Block+in_ok-push-in-Block w ↦ rw (w.self-is, w.built-is) (
         let q = c.wanted.ensures in
-        let span = w.span_from-span.ensures in
-        let made = w.in_ok-plain-in-Block.ensures.0 ∙ (λ i. node BlockStatement [] plain (span i).start (span i).end w.in_ok-list-in-Block.list) in
-        let low = w.in_ok-plain-in-Block.ensures.1 in
-        let p = block_piece _ c.wanted.new.built w.in-Block.context q.text w.expect.ensures.text w.statements.ensures.text q.same_open q.same_pairs w.expect.ensures.same_open w.expect.ensures.same_pairs w.expect-in-Block.ensures.same_open w.expect-in-Block.ensures.same_pairs (rw w.in-Block.is at read)
-            w.in_ok-left-in-Block.ensures.accepted.0 (ap (λ (x : Token). x.start) w.in_ok-left-in-Block.ensures.accepted.1) w.in_ok-list-in-Block.ensures.derived w.in_ok-expect-in-Block.ensures.accepted.0 made (ap (λ ps. record c.wanted.new.built { nodes = ps }) w.in_ok-push-in-Block.ensures.pushed) low in
         let further = c.wanted.ensures.forward in
         let behind = w.expect.ensures.forward in
         let later = w.statements.ensures.forward in
         let last = w.expect-in-Block.ensures.forward in
-        record { same = w.expect-in-Block.ensures.text ∙ w.statements.ensures.text ∙ w.expect.ensures.text ∙ q.text ∙ v.same; forward = omega arith; derived = piece_on c.args.pieces.now _ c.each.piece-index v.same c.each-test.true v.derived p; low = λ h. piece_low p (v.low h) })
+        let ahead : c.args.self.now.cursor.last.stop ≤ w.expect-in-Block.new.self.cursor.last.stop = omega arith in
+        let span = w.span_from-span.ensures in
+        let made = w.in_ok-plain-in-Block.ensures.0 ∙ (λ i. node BlockStatement [] plain (span i).start (span i).end w.in_ok-list-in-Block.list) in
+        let low : height w.in_ok-plain-in-Block.field-0 ≤ c.args.high = subst (λ n. height n ≤ c.args.high) (sym w.in_ok-plain-in-Block.ensures.0) w.in_ok-plain-in-Block.ensures.1 in
+        let p = block_piece _ c.wanted.new.built w.in-Block.context q.text w.expect.ensures.text w.statements.ensures.text q.same_open q.same_pairs w.expect.ensures.same_open w.expect.ensures.same_pairs w.expect-in-Block.ensures.same_open w.expect-in-Block.ensures.same_pairs (rw w.in-Block.is at read)
+            w.in_ok-left-in-Block.ensures.accepted.0 (ap (λ (x : Token). x.start) w.in_ok-left-in-Block.ensures.accepted.1) w.in_ok-list-in-Block.ensures.derived w.in_ok-expect-in-Block.ensures.accepted.0 made (ap (λ ps. record c.wanted.new.built { nodes = ps }) w.in_ok-push-in-Block.ensures.pushed) low in
+        record { same = w.expect-in-Block.ensures.text ∙ w.statements.ensures.text ∙ w.expect.ensures.text ∙ q.text ∙ v.same; forward = ahead; derived = piece_on c.args.pieces.now _ c.each.piece-index v.same c.each-test.true v.derived p; low = λ h. piece_low p (v.low h) })
       | in-Handler+in_ok-pieces-in-Handler+in_ok-plain-in-Handler+in_ok-push-in-Handler w ↦ rw (w.self-is, w.built-is) (
         let q = c.wanted.ensures in
         let span = w.span_from-span-in-Handler.ensures in
         let made = w.in_ok-plain-in-Handler.ensures.0 ∙ (λ i. node CatchClause [] plain (span i).start (span i).end w.pieces.new.built.nodes) in
-        let low = w.in_ok-plain-in-Handler.ensures.1 in
+        let low : height w.in_ok-plain-in-Handler.field-0 ≤ c.args.high = subst (λ n. height n ≤ c.args.high) (sym w.in_ok-plain-in-Handler.ensures.0) w.in_ok-plain-in-Handler.ensures.1 in
         let p = handler_piece _ c.wanted.new.built w.in-Handler.start w.new-caught.result w.pieces.new.built q.text q.same_open q.same_pairs (rw w.in-Handler.is at read) w.catch_pieces.ensures w.new-caught.ensures w.in_ok-pieces-in-Handler.ensures.derived made (ap (λ ps. record c.wanted.new.built { nodes = ps }) w.in_ok-push-in-Handler.ensures.pushed) low in
         let further = c.wanted.ensures.forward in
         let behind = w.pieces.ensures.forward in
         record { same = w.pieces.ensures.text ∙ q.text ∙ v.same; forward = omega arith; derived = piece_on c.args.pieces.now _ c.each.piece-index v.same c.each-test.true v.derived p; low = λ h. piece_low p (v.low h) })
       | in-Items+in_ok-statements-in-Items+in_ok-append-in-Items w ↦ rw (w.self-is, w.built-is) (
         let q = c.wanted.ensures in
-        let p = items_piece _ c.wanted.new.built {d = record c.wanted.new.built { nodes = w.append.new.self }} w.in-Items.until q.text q.same_open q.same_pairs (rw w.in-Items.is at read) w.item-context.ensures w.in_ok-statements-in-Items.ensures.derived w.in_ok-append-in-Items.ensures.joined refl w.in_ok-statements-in-Items.ensures.low in
         let further = c.wanted.ensures.forward in
         let behind = w.statements-in-Items.ensures.forward in
-        record { same = w.statements-in-Items.ensures.text ∙ q.text ∙ v.same; forward = omega arith; derived = piece_on c.args.pieces.now _ c.each.piece-index v.same c.each-test.true v.derived p; low = λ h. piece_low p (v.low h) })
-      | in-List+in_ok-list-in-List+in_ok-list-in-List-2+in_ok-put_list-in-List w ↦ rw (w.self-is, w.built-is) ?
+        let ahead : c.args.self.now.cursor.last.stop ≤ w.statements-in-Items.new.self.cursor.last.stop = omega arith in
+        let p = items_piece _ c.wanted.new.built {d = record c.wanted.new.built { nodes = w.append.new.self }} w.in-Items.until q.text q.same_open q.same_pairs (rw w.in-Items.is at read) w.item-context.ensures w.in_ok-statements-in-Items.ensures.derived w.in_ok-append-in-Items.ensures.joined refl w.in_ok-statements-in-Items.ensures.low in
+        record { same = w.statements-in-Items.ensures.text ∙ q.text ∙ v.same; forward = ahead; derived = piece_on c.args.pieces.now _ c.each.piece-index v.same c.each-test.true v.derived p; low = λ h. piece_low p (v.low h) })
+      | in-List+in_ok-list-in-List+in_ok-list-in-List-2+in_ok-put_list-in-List w ↦ rw (w.self-is, w.built-is) (
+        let q = c.wanted.ensures in
+        let whole = w.in_ok-list-in-List-2.ensures in
+        let p = list_piece _ c.wanted.new.built w.in_ok-list-in-List.list w.in_ok-list-in-List-2.list w.in-List.listed w.sees_each-each-in-List.result w.saturating_sub-limit.result q.text w.open.ensures.text w.list-in-List.ensures.text q.same_open q.same_pairs w.open.ensures.same_open w.open.ensures.same_pairs (rw w.in-List.is at read)
+            w.in_ok-list-in-List.ensures.listed w.in_ok-list-in-List.ensures.begun whole.same whole.seen whole.derived w.sees_each-each-in-List.ensures.seen w.sees_each-each-in-List.ensures.missed w.in_ok-put_list-in-List.ensures.put w.in_ok-put_list-in-List.ensures.fits whole.low (w.saturating_sub-limit.ensures ∙ ap (λ n. c.args.high - n) w.depth_of.ensures) in
+        let further = c.wanted.ensures.forward in
+        let behind = w.open.ensures.forward in
+        let later = w.list-in-List.ensures.forward in
+        record { same = w.list-in-List.ensures.text ∙ w.open.ensures.text ∙ q.text ∙ v.same; forward = omega arith; derived = piece_on c.args.pieces.now _ c.each.piece-index v.same c.each-test.true v.derived p; low = λ h. piece_low p (v.low h) })
     ]
