@@ -49,23 +49,23 @@ context_of h = cc
 module _ (text : List ℕ) (r : Bool) (s m : Point) (b c : Built) (high : ℕ) (context : Context) (o : ℕ) (x k e : Token) (at : ℕ) (ps : Parts) (P : List Pair) (y : Edge)
     (same : text ≡ s.text) (left : ReadsHere text Punctuator (codes "{") m.last x) (start : x.start ≡ at) (items : StatementsAt text context ps o x k P) (right : ReadsHere text Punctuator (codes "}") k e)
   where
-  whole_block : context ≡ item_context r → SpellsIn text o (block r) (node BlockStatement [] plain at e.stop ps) m.last e P
-  whole_block is = block_spelled text r ps left start (subst (λ z. StatementsAt text z ps o x k P) is items refl) right
+    whole_block : context ≡ item_context r → SpellsIn text o (block r) (node BlockStatement [] plain at e.stop ps) m.last e P
+    whole_block is = block_spelled text r ps left start (subst (λ z. StatementsAt text z ps o x k P) is items refl) right
 
-  block_put : (p : Coded) → WantedAt p r s m b c high (wanted.Block context) → PieceAt text r o (piece_of p) s.last e b.edge y (part (node BlockStatement [] plain at e.stop ps) none) P
-  block_put code.Block h = record { put = node BlockStatement [] plain at e.stop ps; parts = refl; spelled = subst (λ z. SpellsIn text o (block r) (node BlockStatement [] plain at e.stop ps) z e P) h.1.0 (whole_block (context_of h.0)) }
-  block_put code.Body h =
-      let whole = body_spelled text ps left start (subst (λ z. StatementsAt text z ps o x k P) (context_of h.0) items refl) right in
-      (record { put = node BlockStatement [] plain at e.stop ps; parts = refl; spelled = subst (λ z. SpellsIn text o body (node BlockStatement [] plain at e.stop ps) z e P) h.1.0 whole }, right.text)
-  block_put code.Finally h = inl (m.last, subst (λ z. ReadsHere z Name (codes "finally") s.last m.last) (sym same) h.0.0, record { put = node BlockStatement [] plain at e.stop ps; parts = refl; spelled = whole_block h.0.1 })
-  block_put code.Test h = absurd h.0
-  block_put code.Update h = absurd h.0
-  block_put code.Argument h = absurd h.0
-  block_put code.Head h = absurd h.0
-  block_put code.Else h = absurd h.0
-  block_put code.Catch h = absurd h.0
-  block_put code.Heritage h = absurd h.0
-  block_put _ h = cc
+    block_put : (p : Coded) → WantedAt p r s m b c high (wanted.Block context) → PieceAt text r o (piece_of p) s.last e b.edge y (part (node BlockStatement [] plain at e.stop ps) none) P
+    block_put code.Block h = record { put = node BlockStatement [] plain at e.stop ps; parts = refl; spelled = subst (λ z. SpellsIn text o (block r) (node BlockStatement [] plain at e.stop ps) z e P) h.1.0 (whole_block (context_of h.0)) }
+    block_put code.Body h =
+        let whole = body_spelled text ps left start (subst (λ z. StatementsAt text z ps o x k P) (context_of h.0) items refl) right in
+        (record { put = node BlockStatement [] plain at e.stop ps; parts = refl; spelled = subst (λ z. SpellsIn text o body (node BlockStatement [] plain at e.stop ps) z e P) h.1.0 whole }, right.text)
+    block_put code.Finally h = inl (m.last, subst (λ z. ReadsHere z Name (codes "finally") s.last m.last) (sym same) h.0.0, record { put = node BlockStatement [] plain at e.stop ps; parts = refl; spelled = whole_block h.0.1 })
+    block_put code.Test h = absurd h.0
+    block_put code.Update h = absurd h.0
+    block_put code.Argument h = absurd h.0
+    block_put code.Head h = absurd h.0
+    block_put code.Else h = absurd h.0
+    block_put code.Catch h = absurd h.0
+    block_put code.Heritage h = absurd h.0
+    block_put _ h = cc
 
 pub block_piece : {s m x k e : Point} {old q0 q1 q2 new : List Pair} {r : Bool} (p : Coded) {b : Built} (c : Built) {d : Built} {high at : ℕ} {n : Tree} {ps : Parts} (context : Context) → m.text ≡ s.text → x.text ≡ m.text → k.text ≡ x.text → m.opened ≡ s.opened → q0 ≡ old → x.opened ≡ m.opened → q1 ≡ q0 → e.opened ≡ k.opened → new ≡ q2 →
     WantedAt p r s m b c high (wanted.Block context) → ReadsHere m.text Punctuator (codes "{") m.last x.last → x.last.start ≡ at → Adds x k q1 q2 (StatementsAt x.text context ps) → ReadsHere k.text Punctuator (codes "}") k.last e.last →
@@ -75,8 +75,8 @@ block_piece {s} {m} {x} {k} {e} {q0 = q0} {new = new} {r = r} p {b} c {d} {high}
     let right' = subst (λ z. ReadsHere z Punctuator (codes "}") k.last e.last) (t2 ∙ t1 ∙ t0) right in
     one_part p c n c.edge o0 p0 (λ u. cc) h is low
     (λ edges. adds_within o1 p1 a o2 p2 (λ o P v.
-        subst (λ z. PieceAt s.text r o (piece_of p) s.last e.last b.edge c.edge (part z none) P) (sym made)
-        (block_put s.text r s m b c high context o x.last k.last e.last at ps P c.edge refl left' start (subst (λ z. StatementsAt z context ps o x.last k.last P) (t1 ∙ t0) v) right' p h)))
+    subst (λ z. PieceAt s.text r o (piece_of p) s.last e.last b.edge c.edge (part z none) P) (sym made)
+    (block_put s.text r s m b c high context o x.last k.last e.last at ps P c.edge refl left' start (subst (λ z. StatementsAt z context ps o x.last k.last P) (t1 ∙ t0) v) right' p h)))
 
 -- the same token, by another goal that allows it
 by_goal : {at : ℕ} {cs : List ℕ} {g : Goal} {t : LexicalToken} {rest : List ℕ} (h : Goal) (x : IsTokenAt g at cs t rest) → IsTrue (allows h t.class x.word) → IsTokenAt h at cs t rest
@@ -127,7 +127,7 @@ pub handler_piece : {s m e : Point} {old mid new : List Pair} {r : Bool} (p : Co
 handler_piece {s} {m} {e} {r = r} p {b} c {d} {high} {n} at first caught {pieces} t0 o0 p0 h parts is_first a made is low =
     one_part p c n c.edge o0 p0 (λ u. cc) h is low
     (λ edges. adds_behind refl refl a (λ o P v.
-        let u = subst (λ z. BuiltAt z r pieces (built_of none) caught o m.last e.last P) t0 (subst (λ z. BuiltAt m.text r pieces z caught o m.last e.last P) is_first v) in
-        let tree : n ≡ node CatchClause [] plain at e.last.stop u.added = made ∙ ap (λ qs. node CatchClause [] plain at e.last.stop qs) u.nodes in
-        subst (λ z. PieceAt s.text r o (piece_of p) s.last e.last b.edge c.edge (part z none) P) (sym tree)
-        (handler_put s.text r s m b c high at u.added o e.last P caught.edge c.edge p refl h (subst (λ z. CatchParts z m.last pieces) t0 parts) u.read)))
+    let u = subst (λ z. BuiltAt z r pieces (built_of none) caught o m.last e.last P) t0 (subst (λ z. BuiltAt m.text r pieces z caught o m.last e.last P) is_first v) in
+    let tree : n ≡ node CatchClause [] plain at e.last.stop u.added = made ∙ ap (λ qs. node CatchClause [] plain at e.last.stop qs) u.nodes in
+    subst (λ z. PieceAt s.text r o (piece_of p) s.last e.last b.edge c.edge (part z none) P) (sym tree)
+    (handler_put s.text r s m b c high at u.added o e.last P caught.edge c.edge p refl h (subst (λ z. CatchParts z m.last pieces) t0 parts) u.read)))

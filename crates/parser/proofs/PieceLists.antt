@@ -161,9 +161,10 @@ module _ (text : List ℕ) (l : ListOf) (o : ℕ) (s x e : Token) (P : List Pair
       (subst (λ z. RunsIn text o (anywhere (declarators (declarator true true) l.nodes)) l.nodes s z P) (sym ended) there, w.edge (ap asks_edge is) ∙ ap (λ z. standing (last_edge l.nodes) z) (sym ended))
   put_listed (listed.Declarators false) word each is fits seen open_sign stays start = tt
   put_listed (listed.Cases r) word each is fits seen open_sign stays start =
-      let b = in_brackets (listed.Cases r) as_expression (codes "{") (codes "}") is refl refl (open_sign (codes "{") refl) in
-      (step (token (open_sign (codes "{") refl)) (subst (λ zs. RunsIn text o zs l.nodes x e P) (sym (both_mapped (lines (switch_case r) l.nodes) (sign "}"))) (runs_on text b.0 (token b.1))),
-      one_most (defaults l.nodes) l.seen.is_marked (subst (λ z. nat_le (case_count z l.nodes) (cond l.seen.is_marked 1 0) ≡ true) is seen.one_default))
+      let b = in_brackets (listed.Cases r) as_expression (codes "{") (codes "}") is refl refl (open_sign (codes "{") refl) in (
+        step (token (open_sign (codes "{") refl)) (subst (λ zs. RunsIn text o zs l.nodes x e P) (sym (both_mapped (lines (switch_case r) l.nodes) (sign "}"))) (runs_on text b.0 (token b.1))),
+        one_most (defaults l.nodes) l.seen.is_marked (subst (λ z. nat_le (case_count z l.nodes) (cond l.seen.is_marked 1 0) ≡ true) is seen.one_default),
+      )
   put_listed listed.Members word each is fits seen open_sign stays start =
       let b = in_brackets listed.Members as_expression (codes "{") (codes "}") is refl refl (open_sign (codes "{") refl) in
       let whole = class_body_spelled text l.nodes (open_sign (codes "{") refl) (start (codes "{") refl) b.0 b.1 in
@@ -323,49 +324,49 @@ module _ (text : List ℕ) (r : Bool) (s m x : Point) (b c : Built) (high o : �
     (is : l0.listed ≡ which) (begun : BegunAt m x l0) (kept : l.listed ≡ l0.listed) (from : l.span.start ≡ l0.span.start) (seen : SeenRight l0 → SeenRight l) (at : EachAt text each e) (fits : takes_list c.word each l ≡ true)
     (whole : SoFarAt text Any l0 o x.last x.last [] → ListAt text Any l o x.last e P)
   where
-  taken : takes_listed which c.word each l ≡ true
-  taken = ap (λ z. takes_listed z c.word each l) (sym (kept ∙ is)) ∙ fits
+    taken : takes_listed which c.word each l ≡ true
+    taken = ap (λ z. takes_listed z c.word each l) (sym (kept ∙ is)) ∙ fits
 
-  is_first : l0 ≡ list_from which l0.span.start
-  is_first = begun_list which m x {l = l0} (taken_put which c.word each l taken) is begun
+    is_first : l0 ≡ list_from which l0.span.start
+    is_first = begun_list which m x {l = l0} (taken_put which c.word each l taken) is begun
 
-  whole_list : ListAt text Any l o x.last e P
-  whole_list = whole (subst (λ z. SoFarAt text Any z o x.last x.last []) (sym is_first) (empty_list text l0.span.start o x.last which (taken_put which c.word each l taken)))
+    whole_list : ListAt text Any l o x.last e P
+    whole_list = whole (subst (λ z. SoFarAt text Any z o x.last x.last []) (sym is_first) (empty_list text l0.span.start o x.last which (taken_put which c.word each l taken)))
 
-  seen_whole : SeenRight l
-  seen_whole = seen (subst SeenRight (sym is_first) (seen_first which l0.span.start))
+    seen_whole : SeenRight l
+    seen_whole = seen (subst SeenRight (sym is_first) (seen_first which l0.span.start))
 
-  sign_there : (v : List ℕ) → opening which ≡ Some v → ReadsHere text Punctuator v m.last x.last
-  sign_there v h = subst (λ z. ReadsHere z Punctuator v m.last x.last) here (begun.1 v (ap opening is ∙ h)).0
+    sign_there : (v : List ℕ) → opening which ≡ Some v → ReadsHere text Punctuator v m.last x.last
+    sign_there v h = subst (λ z. ReadsHere z Punctuator v m.last x.last) here (begun.1 v (ap opening is ∙ h)).0
 
-  start_there : (v : List ℕ) → opening which ≡ Some v → x.last.start ≡ l.span.start
-  start_there v h = sym (from ∙ place_mark m begun.0 (begun.1 v (ap opening is ∙ h)).0)
+    start_there : (v : List ℕ) → opening which ≡ Some v → x.last.start ≡ l.span.start
+    start_there v h = sym (from ∙ place_mark m begun.0 (begun.1 v (ap opening is ∙ h)).0)
 
-  head_list : (word : Option Scanned) (which' : Listed) → which ≡ which' → word ≡ c.word → HeadAt s m (wanted.List which') word → HeadPut text o s.last e (list_added which' word e.stop l.span l.nodes) P
-  head_list (Some t) (listed.Declarators false) is' there h =
-      let head_fits : fits_head each l ≡ true = (λ i. takes_listed (sym is' i) (there i) each l) ∙ taken in
-      let word = subst (λ z. NameHere z declares s.last m.last) (sym same) h.0 in
-      let stays : x.last ≡ m.last = stays_before which m x {l = l0} (taken_put which c.word each l taken) is begun (ap opening is') in
-      declared_head text l o s.last x.last e P t whole_list (kept ∙ is ∙ is') (subst (λ z. NameHere text declares s.last z) (sym stays) word) (stays ∙ h.1) each head_fits at
-  head_list None (listed.Declarators false) is' there h = absurd h
-  head_list None (listed.Declarators true) is' there h = absurd h
-  head_list (Some t) (listed.Declarators true) is' there h = absurd h
-  head_list None _ is' there h = absurd h
-  head_list (Some t) _ is' there h = absurd h
+    head_list : (word : Option Scanned) (which' : Listed) → which ≡ which' → word ≡ c.word → HeadAt s m (wanted.List which') word → HeadPut text o s.last e (list_added which' word e.stop l.span l.nodes) P
+    head_list (Some t) (listed.Declarators false) is' there h =
+        let head_fits : fits_head each l ≡ true = (λ i. takes_listed (sym is' i) (there i) each l) ∙ taken in
+        let word = subst (λ z. NameHere z declares s.last m.last) (sym same) h.0 in
+        let stays : x.last ≡ m.last = stays_before which m x {l = l0} (taken_put which c.word each l taken) is begun (ap opening is') in
+        declared_head text l o s.last x.last e P t whole_list (kept ∙ is ∙ is') (subst (λ z. NameHere text declares s.last z) (sym stays) word) (stays ∙ h.1) each head_fits at
+    head_list None (listed.Declarators false) is' there h = absurd h
+    head_list None (listed.Declarators true) is' there h = absurd h
+    head_list (Some t) (listed.Declarators true) is' there h = absurd h
+    head_list None _ is' there h = absurd h
+    head_list (Some t) _ is' there h = absurd h
 
-  list_put : (p : Coded) → WantedAt p r s m b c high (wanted.List which) → PieceAt text r o (piece_of p) s.last e b.edge l.seen.edge (list_added which c.word e.stop l.span l.nodes) P
-  list_put (code.List k) h =
-      let put = put_listed text l o m.last x.last e P whole_list which c.word each (kept ∙ is) taken seen_whole sign_there (stays_before which m x {l = l0} (taken_put which c.word each l taken) is begun) start_there in
-      subst (λ z. ListPut text o z s.last e l.seen.edge (list_added which c.word e.stop l.span l.nodes) P) (list_of h.0) (subst (λ z. ListPut text o which z e l.seen.edge (list_added which c.word e.stop l.span l.nodes) P) h.1.0 put)
-  list_put code.Head h = inl (head_list c.word which refl refl h.0)
-  list_put code.Test h = absurd h.0
-  list_put code.Update h = absurd h.0
-  list_put code.Argument h = absurd h.0
-  list_put code.Else h = absurd h.0
-  list_put code.Finally h = absurd h.0
-  list_put code.Catch h = absurd h.0
-  list_put code.Heritage h = absurd h.0
-  list_put _ h = cc
+    list_put : (p : Coded) → WantedAt p r s m b c high (wanted.List which) → PieceAt text r o (piece_of p) s.last e b.edge l.seen.edge (list_added which c.word e.stop l.span l.nodes) P
+    list_put (code.List k) h =
+        let put = put_listed text l o m.last x.last e P whole_list which c.word each (kept ∙ is) taken seen_whole sign_there (stays_before which m x {l = l0} (taken_put which c.word each l taken) is begun) start_there in
+        subst (λ z. ListPut text o z s.last e l.seen.edge (list_added which c.word e.stop l.span l.nodes) P) (list_of h.0) (subst (λ z. ListPut text o which z e l.seen.edge (list_added which c.word e.stop l.span l.nodes) P) h.1.0 put)
+    list_put code.Head h = inl (head_list c.word which refl refl h.0)
+    list_put code.Test h = absurd h.0
+    list_put code.Update h = absurd h.0
+    list_put code.Argument h = absurd h.0
+    list_put code.Else h = absurd h.0
+    list_put code.Finally h = absurd h.0
+    list_put code.Catch h = absurd h.0
+    list_put code.Heritage h = absurd h.0
+    list_put _ h = cc
 
 pub list_piece : {s m x e : Point} {old q0 q1 new : List Pair} {r : Bool} (p : Coded) {b : Built} (c : Built) {d : Built} {high : ℕ} (l0 l : ListOf) (which : Listed) (each : Bool) (limit : ℕ) → m.text ≡ s.text → x.text ≡ m.text → e.text ≡ x.text → m.opened ≡ s.opened → q0 ≡ old → x.opened ≡ m.opened → q1 ≡ q0 →
     WantedAt p r s m b c high (wanted.List which) → l0.listed ≡ which → BegunAt m x l0 → (l.listed ≡ l0.listed) × (l.span.start ≡ l0.span.start) → (SeenRight l0 → SeenRight l) →
@@ -387,5 +388,5 @@ list_piece {s} {m} {x} {e} {r = r} p {b} c {d} {high} l0 l which each limit t0 t
           let right : d.edge ≡ l.seen.edge = ap (λ (z : Built). z.edge) put in
           subst (λ z. PieceAt s.text r o (piece_of p) s.last e.last b.edge z (list_added which c.word e.last.stop l.span l.nodes) Q) (sym right)
           (list_put s.text r s m x b c high o e.last Q l0 l which each refl t0 is begun kept.0 kept.1 seen at fits.0
-            (λ so_far. subst (λ z. ListAt z Any l o x.last e.last Q) (t1 ∙ t0) (v Any x.last [] (subst (λ z. SoFarAt z Any l0 o x.last x.last []) (sym (t1 ∙ t0)) so_far))) p h));
+          (λ so_far. subst (λ z. ListAt z Any l o x.last e.last Q) (t1 ∙ t0) (v Any x.last [] (subst (λ z. SoFarAt z Any l0 o x.last x.last []) (sym (t1 ∙ t0)) so_far))) p h));
     }

@@ -645,67 +645,67 @@ pieces-each-preserved t c =
     let read = c.in_ok-wanted.ensures.read in
     elim c.match-branch-2.branch [
       | in-Nothing w ↦ rw (w.self-is, w.built-is) (
-        let p = passed_piece c.wanted.ensures.same_open c.wanted.ensures.same_pairs (nothing_passed _ (rw w.in-Nothing.is at read)) in
-        let further = c.wanted.ensures.forward in
-        record { same = c.wanted.ensures.text ∙ v.same; forward = omega arith; derived = piece_on c.args.pieces.now _ c.each.piece-index v.same c.each-test.true v.derived p; low = λ h. piece_low p (v.low h) })
+          let p = passed_piece c.wanted.ensures.same_open c.wanted.ensures.same_pairs (nothing_passed _ (rw w.in-Nothing.is at read)) in
+          let further = c.wanted.ensures.forward in
+          record { same = c.wanted.ensures.text ∙ v.same; forward = omega arith; derived = piece_on c.args.pieces.now _ c.each.piece-index v.same c.each-test.true v.derived p; low = λ h. piece_low p (v.low h) })
       | in-Gap+in_ok-push_gap-in-Gap w ↦ rw (w.self-is, w.built-is) (
-        let p = passed_piece c.wanted.ensures.same_open c.wanted.ensures.same_pairs (gap_wanted _ c.wanted.new.built (rw w.in-Gap.is at read) (ap (λ ps. record c.wanted.new.built { nodes = ps }) w.in_ok-push_gap-in-Gap.ensures.pushed)) in
-        let further = c.wanted.ensures.forward in
-        record { same = c.wanted.ensures.text ∙ v.same; forward = omega arith; derived = piece_on c.args.pieces.now _ c.each.piece-index v.same c.each-test.true v.derived p; low = λ h. piece_low p (v.low h) })
+          let p = passed_piece c.wanted.ensures.same_open c.wanted.ensures.same_pairs (gap_wanted _ c.wanted.new.built (rw w.in-Gap.is at read) (ap (λ ps. record c.wanted.new.built { nodes = ps }) w.in_ok-push_gap-in-Gap.ensures.pushed)) in
+          let further = c.wanted.ensures.forward in
+          record { same = c.wanted.ensures.text ∙ v.same; forward = omega arith; derived = piece_on c.args.pieces.now _ c.each.piece-index v.same c.each-test.true v.derived p; low = λ h. piece_low p (v.low h) })
       | in-Expression+in_ok-part-in-Expression+in_ok-put_expression-in-Expression w ↦ rw (w.self-is, w.built-is) (
-        let q = c.wanted.ensures in
-        let p = expression_piece _ c.wanted.new.built w.sees_each-each.result q.text w.expression.ensures.text q.same_open q.same_pairs (rw w.in-Expression.is at read) w.in_ok-part-in-Expression.ensures.derived w.sees_each-each.ensures.seen w.sees_each-each.ensures.missed w.in_ok-put_expression-in-Expression.ensures.fits w.in_ok-put_expression-in-Expression.ensures.put w.in_ok-part-in-Expression.ensures.low in
-        let further = c.wanted.ensures.forward in
-        let behind = w.expression.ensures.forward in
-        record { same = w.expression.ensures.text ∙ q.text ∙ v.same; forward = omega arith; derived = piece_on c.args.pieces.now _ c.each.piece-index v.same c.each-test.true v.derived p; low = λ h. piece_low p (v.low h) })
+          let q = c.wanted.ensures in
+          let p = expression_piece _ c.wanted.new.built w.sees_each-each.result q.text w.expression.ensures.text q.same_open q.same_pairs (rw w.in-Expression.is at read) w.in_ok-part-in-Expression.ensures.derived w.sees_each-each.ensures.seen w.sees_each-each.ensures.missed w.in_ok-put_expression-in-Expression.ensures.fits w.in_ok-put_expression-in-Expression.ensures.put w.in_ok-part-in-Expression.ensures.low in
+          let further = c.wanted.ensures.forward in
+          let behind = w.expression.ensures.forward in
+          record { same = w.expression.ensures.text ∙ q.text ∙ v.same; forward = omega arith; derived = piece_on c.args.pieces.now _ c.each.piece-index v.same c.each-test.true v.derived p; low = λ h. piece_low p (v.low h) })
       | in-Binding+in_ok-part-in-Binding+in_ok-put_expression-in-Binding w ↦ rw (w.self-is, w.built-is) (
-        let q = c.wanted.ensures in
-        let p = binding_piece _ c.wanted.new.built q.text q.same_open q.same_pairs (rw w.in-Binding.is at read) w.at.ensures w.in_ok-part-in-Binding.ensures.derived w.in_ok-put_expression-in-Binding.ensures.fits w.in_ok-put_expression-in-Binding.ensures.put w.in_ok-part-in-Binding.ensures.low in
-        let further = c.wanted.ensures.forward in
-        let behind = w.opening.ensures.forward in
-        record { same = w.opening.ensures.text ∙ q.text ∙ v.same; forward = omega arith; derived = piece_on c.args.pieces.now _ c.each.piece-index v.same c.each-test.true v.derived p; low = λ h. piece_low p (v.low h) })
+          let q = c.wanted.ensures in
+          let p = binding_piece _ c.wanted.new.built q.text q.same_open q.same_pairs (rw w.in-Binding.is at read) w.at.ensures w.in_ok-part-in-Binding.ensures.derived w.in_ok-put_expression-in-Binding.ensures.fits w.in_ok-put_expression-in-Binding.ensures.put w.in_ok-part-in-Binding.ensures.low in
+          let further = c.wanted.ensures.forward in
+          let behind = w.opening.ensures.forward in
+          record { same = w.opening.ensures.text ∙ q.text ∙ v.same; forward = omega arith; derived = piece_on c.args.pieces.now _ c.each.piece-index v.same c.each-test.true v.derived p; low = λ h. piece_low p (v.low h) })
       | in-Statement+in_ok-statement-in-Statement+in_ok-push-in-Statement w ↦ rw (w.self-is, w.built-is) (
-        let q = c.wanted.ensures in
-        let p = statement_piece _ c.wanted.new.built q.text q.same_open q.same_pairs (rw w.in-Statement.is at read) w.inside.ensures w.in_ok-statement-in-Statement.ensures.derived (ap (λ ps. record c.wanted.new.built { nodes = ps }) w.in_ok-push-in-Statement.ensures.pushed) w.in_ok-statement-in-Statement.ensures.low in
-        let further = c.wanted.ensures.forward in
-        let behind = w.statement.ensures.forward in
-        record { same = w.statement.ensures.text ∙ q.text ∙ v.same; forward = omega arith; derived = piece_on c.args.pieces.now _ c.each.piece-index v.same c.each-test.true v.derived p; low = λ h. piece_low p (v.low h) })
+          let q = c.wanted.ensures in
+          let p = statement_piece _ c.wanted.new.built q.text q.same_open q.same_pairs (rw w.in-Statement.is at read) w.inside.ensures w.in_ok-statement-in-Statement.ensures.derived (ap (λ ps. record c.wanted.new.built { nodes = ps }) w.in_ok-push-in-Statement.ensures.pushed) w.in_ok-statement-in-Statement.ensures.low in
+          let further = c.wanted.ensures.forward in
+          let behind = w.statement.ensures.forward in
+          record { same = w.statement.ensures.text ∙ q.text ∙ v.same; forward = omega arith; derived = piece_on c.args.pieces.now _ c.each.piece-index v.same c.each-test.true v.derived p; low = λ h. piece_low p (v.low h) })
       | in-Block+in_ok-left-in-Block+in_ok-list-in-Block+in_ok-expect-in-Block+in_ok-plain-in-Block+in_ok-push-in-Block w ↦ rw (w.self-is, w.built-is) (
-        let q = c.wanted.ensures in
-        let further = c.wanted.ensures.forward in
-        let behind = w.expect.ensures.forward in
-        let later = w.statements.ensures.forward in
-        let last = w.expect-in-Block.ensures.forward in
-        let ahead : c.args.self.now.cursor.last.stop ≤ w.expect-in-Block.new.self.cursor.last.stop = omega arith in
-        let span = w.span_from-span.ensures in
-        let made = w.in_ok-plain-in-Block.ensures.0 ∙ (λ i. node BlockStatement [] plain (span i).start (span i).end w.in_ok-list-in-Block.list) in
-        let low : height w.in_ok-plain-in-Block.field-0 ≤ c.args.high = subst (λ n. height n ≤ c.args.high) (sym w.in_ok-plain-in-Block.ensures.0) w.in_ok-plain-in-Block.ensures.1 in
-        let p = block_piece _ c.wanted.new.built w.in-Block.context q.text w.expect.ensures.text w.statements.ensures.text q.same_open q.same_pairs w.expect.ensures.same_open w.expect.ensures.same_pairs w.expect-in-Block.ensures.same_open w.expect-in-Block.ensures.same_pairs (rw w.in-Block.is at read)
-            w.in_ok-left-in-Block.ensures.accepted.0 (ap (λ (x : Token). x.start) w.in_ok-left-in-Block.ensures.accepted.1) w.in_ok-list-in-Block.ensures.derived w.in_ok-expect-in-Block.ensures.accepted.0 made (ap (λ ps. record c.wanted.new.built { nodes = ps }) w.in_ok-push-in-Block.ensures.pushed) low in
-        record { same = w.expect-in-Block.ensures.text ∙ w.statements.ensures.text ∙ w.expect.ensures.text ∙ q.text ∙ v.same; forward = ahead; derived = piece_on c.args.pieces.now _ c.each.piece-index v.same c.each-test.true v.derived p; low = λ h. piece_low p (v.low h) })
+          let q = c.wanted.ensures in
+          let further = c.wanted.ensures.forward in
+          let behind = w.expect.ensures.forward in
+          let later = w.statements.ensures.forward in
+          let last = w.expect-in-Block.ensures.forward in
+          let ahead : c.args.self.now.cursor.last.stop ≤ w.expect-in-Block.new.self.cursor.last.stop = omega arith in
+          let span = w.span_from-span.ensures in
+          let made = w.in_ok-plain-in-Block.ensures.0 ∙ (λ i. node BlockStatement [] plain (span i).start (span i).end w.in_ok-list-in-Block.list) in
+          let low : height w.in_ok-plain-in-Block.field-0 ≤ c.args.high = subst (λ n. height n ≤ c.args.high) (sym w.in_ok-plain-in-Block.ensures.0) w.in_ok-plain-in-Block.ensures.1 in
+          let p = block_piece _ c.wanted.new.built w.in-Block.context q.text w.expect.ensures.text w.statements.ensures.text q.same_open q.same_pairs w.expect.ensures.same_open w.expect.ensures.same_pairs w.expect-in-Block.ensures.same_open w.expect-in-Block.ensures.same_pairs (rw w.in-Block.is at read)
+          w.in_ok-left-in-Block.ensures.accepted.0 (ap (λ (x : Token). x.start) w.in_ok-left-in-Block.ensures.accepted.1) w.in_ok-list-in-Block.ensures.derived w.in_ok-expect-in-Block.ensures.accepted.0 made (ap (λ ps. record c.wanted.new.built { nodes = ps }) w.in_ok-push-in-Block.ensures.pushed) low in
+          record { same = w.expect-in-Block.ensures.text ∙ w.statements.ensures.text ∙ w.expect.ensures.text ∙ q.text ∙ v.same; forward = ahead; derived = piece_on c.args.pieces.now _ c.each.piece-index v.same c.each-test.true v.derived p; low = λ h. piece_low p (v.low h) })
       | in-Handler+in_ok-pieces-in-Handler+in_ok-plain-in-Handler+in_ok-push-in-Handler w ↦ rw (w.self-is, w.built-is) (
-        let q = c.wanted.ensures in
-        let span = w.span_from-span-in-Handler.ensures in
-        let made = w.in_ok-plain-in-Handler.ensures.0 ∙ (λ i. node CatchClause [] plain (span i).start (span i).end w.pieces.new.built.nodes) in
-        let low : height w.in_ok-plain-in-Handler.field-0 ≤ c.args.high = subst (λ n. height n ≤ c.args.high) (sym w.in_ok-plain-in-Handler.ensures.0) w.in_ok-plain-in-Handler.ensures.1 in
-        let p = handler_piece _ c.wanted.new.built w.in-Handler.start w.new-caught.result w.pieces.new.built q.text q.same_open q.same_pairs (rw w.in-Handler.is at read) w.catch_pieces.ensures w.new-caught.ensures w.in_ok-pieces-in-Handler.ensures.derived made (ap (λ ps. record c.wanted.new.built { nodes = ps }) w.in_ok-push-in-Handler.ensures.pushed) low in
-        let further = c.wanted.ensures.forward in
-        let behind = w.pieces.ensures.forward in
-        record { same = w.pieces.ensures.text ∙ q.text ∙ v.same; forward = omega arith; derived = piece_on c.args.pieces.now _ c.each.piece-index v.same c.each-test.true v.derived p; low = λ h. piece_low p (v.low h) })
+          let q = c.wanted.ensures in
+          let span = w.span_from-span-in-Handler.ensures in
+          let made = w.in_ok-plain-in-Handler.ensures.0 ∙ (λ i. node CatchClause [] plain (span i).start (span i).end w.pieces.new.built.nodes) in
+          let low : height w.in_ok-plain-in-Handler.field-0 ≤ c.args.high = subst (λ n. height n ≤ c.args.high) (sym w.in_ok-plain-in-Handler.ensures.0) w.in_ok-plain-in-Handler.ensures.1 in
+          let p = handler_piece _ c.wanted.new.built w.in-Handler.start w.new-caught.result w.pieces.new.built q.text q.same_open q.same_pairs (rw w.in-Handler.is at read) w.catch_pieces.ensures w.new-caught.ensures w.in_ok-pieces-in-Handler.ensures.derived made (ap (λ ps. record c.wanted.new.built { nodes = ps }) w.in_ok-push-in-Handler.ensures.pushed) low in
+          let further = c.wanted.ensures.forward in
+          let behind = w.pieces.ensures.forward in
+          record { same = w.pieces.ensures.text ∙ q.text ∙ v.same; forward = omega arith; derived = piece_on c.args.pieces.now _ c.each.piece-index v.same c.each-test.true v.derived p; low = λ h. piece_low p (v.low h) })
       | in-Items+in_ok-statements-in-Items+in_ok-append-in-Items w ↦ rw (w.self-is, w.built-is) (
-        let q = c.wanted.ensures in
-        let further = c.wanted.ensures.forward in
-        let behind = w.statements-in-Items.ensures.forward in
-        let ahead : c.args.self.now.cursor.last.stop ≤ w.statements-in-Items.new.self.cursor.last.stop = omega arith in
-        let p = items_piece _ c.wanted.new.built {d = record c.wanted.new.built { nodes = w.append.new.self }} w.in-Items.until q.text q.same_open q.same_pairs (rw w.in-Items.is at read) w.item-context.ensures w.in_ok-statements-in-Items.ensures.derived w.in_ok-append-in-Items.ensures.joined refl w.in_ok-statements-in-Items.ensures.low in
-        record { same = w.statements-in-Items.ensures.text ∙ q.text ∙ v.same; forward = ahead; derived = piece_on c.args.pieces.now _ c.each.piece-index v.same c.each-test.true v.derived p; low = λ h. piece_low p (v.low h) })
+          let q = c.wanted.ensures in
+          let further = c.wanted.ensures.forward in
+          let behind = w.statements-in-Items.ensures.forward in
+          let ahead : c.args.self.now.cursor.last.stop ≤ w.statements-in-Items.new.self.cursor.last.stop = omega arith in
+          let p = items_piece _ c.wanted.new.built {d = record c.wanted.new.built { nodes = w.append.new.self }} w.in-Items.until q.text q.same_open q.same_pairs (rw w.in-Items.is at read) w.item-context.ensures w.in_ok-statements-in-Items.ensures.derived w.in_ok-append-in-Items.ensures.joined refl w.in_ok-statements-in-Items.ensures.low in
+          record { same = w.statements-in-Items.ensures.text ∙ q.text ∙ v.same; forward = ahead; derived = piece_on c.args.pieces.now _ c.each.piece-index v.same c.each-test.true v.derived p; low = λ h. piece_low p (v.low h) })
       | in-List+in_ok-list-in-List+in_ok-list-in-List-2+in_ok-put_list-in-List w ↦ rw (w.self-is, w.built-is) (
-        let q = c.wanted.ensures in
-        let whole = w.in_ok-list-in-List-2.ensures in
-        let p = list_piece _ c.wanted.new.built w.in_ok-list-in-List.list w.in_ok-list-in-List-2.list w.in-List.listed w.sees_each-each-in-List.result w.saturating_sub-limit.result q.text w.open.ensures.text w.list-in-List.ensures.text q.same_open q.same_pairs w.open.ensures.same_open w.open.ensures.same_pairs (rw w.in-List.is at read)
-            w.in_ok-list-in-List.ensures.listed w.in_ok-list-in-List.ensures.begun whole.same whole.seen whole.derived w.sees_each-each-in-List.ensures.seen w.sees_each-each-in-List.ensures.missed w.in_ok-put_list-in-List.ensures.put w.in_ok-put_list-in-List.ensures.fits whole.low (w.saturating_sub-limit.ensures ∙ ap (λ n. c.args.high - n) w.depth_of.ensures) in
-        let further = c.wanted.ensures.forward in
-        let behind = w.open.ensures.forward in
-        let later = w.list-in-List.ensures.forward in
-        record { same = w.list-in-List.ensures.text ∙ w.open.ensures.text ∙ q.text ∙ v.same; forward = omega arith; derived = piece_on c.args.pieces.now _ c.each.piece-index v.same c.each-test.true v.derived p; low = λ h. piece_low p (v.low h) })
+          let q = c.wanted.ensures in
+          let whole = w.in_ok-list-in-List-2.ensures in
+          let p = list_piece _ c.wanted.new.built w.in_ok-list-in-List.list w.in_ok-list-in-List-2.list w.in-List.listed w.sees_each-each-in-List.result w.saturating_sub-limit.result q.text w.open.ensures.text w.list-in-List.ensures.text q.same_open q.same_pairs w.open.ensures.same_open w.open.ensures.same_pairs (rw w.in-List.is at read)
+          w.in_ok-list-in-List.ensures.listed w.in_ok-list-in-List.ensures.begun whole.same whole.seen whole.derived w.sees_each-each-in-List.ensures.seen w.sees_each-each-in-List.ensures.missed w.in_ok-put_list-in-List.ensures.put w.in_ok-put_list-in-List.ensures.fits whole.low (w.saturating_sub-limit.ensures ∙ ap (λ n. c.args.high - n) w.depth_of.ensures) in
+          let further = c.wanted.ensures.forward in
+          let behind = w.open.ensures.forward in
+          let later = w.list-in-List.ensures.forward in
+          record { same = w.list-in-List.ensures.text ∙ w.open.ensures.text ∙ q.text ∙ v.same; forward = omega arith; derived = piece_on c.args.pieces.now _ c.each.piece-index v.same c.each-test.true v.derived p; low = λ h. piece_low p (v.low h) })
     ]
