@@ -4,6 +4,7 @@ pub mod Bracketed
 pub mod Breaks
 pub mod CaseOf
 pub mod Chaining
+pub mod ClosedBy
 pub mod Delimited
 pub mod Defining
 pub mod Deriving
@@ -39,6 +40,7 @@ pub mod PieceBy
 pub mod PieceLists
 pub mod PieceParts
 pub mod PieceTokens
+pub mod Parting
 pub mod Refused
 pub mod Righted
 pub mod Seeing

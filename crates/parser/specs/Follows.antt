@@ -39,7 +39,7 @@ may_name _ = true
 -- the name as the first part, or a gap where there is none
 abbrev pub NamedAt : Closure → Point → Point → ℕ → Parts → Type 0
 NamedAt c s e high ps =
-    (NameHere s.text is_free_name s.last e.last × (ps ≡ part (single_node Identifier e.last) none) × (1 ≤ high))
+    ((may_name c ≡ true) × NameHere s.text is_free_name s.last e.last × (ps ≡ part (single_node Identifier e.last) none) × (1 ≤ high))
     ⊎ ((asks_name c ≡ false) × (may_name c ≡ true → NoName s.text is_free_name s.last) × (ps ≡ gap none) × (e.last ≡ s.last))
 
 abbrev pub NotNamed : Closure → Point → ℕ → Fault → Type 0

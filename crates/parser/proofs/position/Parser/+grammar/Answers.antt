@@ -27,6 +27,7 @@ use Rattle.parser.specs.Members.{member_flags}
 use Rattle.parser.specs.Links.{link_kind, link_flags, link_rank}
 use Rattle.parser.specs.Parts.{plain_part, part_from}
 use Rattle.parser.specs.Tokens.{single_node}
+use Rattle.productions.specs.Made.{Makes}
 use Rattle.parser.specs.DerivedPieces.{StatementsAt}
 use Rattle.parser.specs.Follows.{ChunkAt}
 use Rattle.covers.specs.declared.list.List.{List}
@@ -47,6 +48,7 @@ use Rattle.parser.proofs.Keying.{named_alone, named_plain, named_computed}
 use Rattle.parser.proofs.Linking.{is_call}
 use Rattle.parser.proofs.LinkReads.{BehindOn, name_read, index_read, arguments_read_behind, template_read, call_is, call_is_not, links_read}
 use Rattle.parser.proofs.SidedBy.{rank_of, SidedFrom, sided_one, sided_two, sided_whole}
+use Rattle.parser.proofs.ClosedBy.{closed}
 use Rattle.parser.proofs.Spelled.{turn_on}
 use Rattle.parser.proofs.Defining.{spread_item, value_item, map_ok}
 use Rattle.parser.proofs.Valuing.{is_free, pair_value, lone_value, default_value}
@@ -709,3 +711,10 @@ pieces-each-preserved t c =
           let later = w.list-in-List.ensures.forward in
           record { same = w.list-in-List.ensures.text ∙ w.open.ensures.text ∙ q.text ∙ v.same; forward = omega arith; derived = piece_on c.args.pieces.now _ c.each.piece-index v.same c.each-test.true v.derived p; low = λ h. piece_low p (v.low h) })
     ]
+
+
+pub closure-returns-clause-derived : goal.closure-returns-clause-derived
+closure-returns-clause-derived c =
+    let made = subst (λ n. Makes n c.args.high c.plain.result) (λ i. node (c.kind.ensures i) [] plain (c.span_from.ensures i).start (c.span_from.ensures i).end c.pieces-2.new.built.nodes) c.plain.ensures in
+    closed c.args.closure true c.args.start c.args.high c.saturating_sub-inner.result c.in_ok-closure_name.field-0 c.of-built.result c.pieces-2.new.built c.plain.result c.closure_name.ensures.text c.closure_name.ensures.same_open c.closure_name.ensures.same_pairs
+    c.in_ok-closure_name.ensures.named (ap (λ b. b.nodes) c.of-built.ensures) c.pieces.ensures c.in_ok-pieces.ensures.derived made
