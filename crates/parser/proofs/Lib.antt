@@ -49,5 +49,6 @@ pub mod Spelled
 pub mod Stating
 pub mod Valuing
 pub mod Turning
+pub mod WordedBy
 pub mod Yielding
 pub mod Wholly

@@ -1,5 +1,5 @@
 -- Pieces that were read one behind the other, by the first of them.
-use Rattle.std.proofs.Common.{◌≡◌, ℕ, Bool, List, [], ◌∷◌, ◌++◌, refl, sym, ap, ◌∙◌, subst}
+use Rattle.std.proofs.Common.{◌≡◌, ℕ, ◌-◌, Bool, List, [], ◌∷◌, ◌++◌, refl, sym, ap, ◌∙◌, subst}
 use Rattle.std.proofs.lemmas.List.{append-nil}
 use Rattle.tokens.specs.declared.token.Class.{Class}
 use Rattle.tokens.specs.Reading.{any_goal}
@@ -14,7 +14,8 @@ use Rattle.language.specs.Pieces.{Role, expr, PieceOf, tok, sub, absent}
 use Rattle.language.specs.Token.{Token}
 use Rattle.language.specs.Places.{NextIn, itself, SpellsIn}
 use Rattle.language.specs.Derivation.{step, token, within, missing}
-use Rattle.parser.specs.Derived.{RunsIn}
+use Rattle.token_cursor.specs.Point.{Point}
+use Rattle.parser.specs.Derived.{RunsIn, Adds, grouping}
 use Rattle.parser.specs.DerivedPieces.{OneMore, IsToken, IsGap, PutAt, ExpressionPut}
 use Rattle.parser.specs.Seen.{ReadsHere}
 
@@ -102,3 +103,12 @@ module _ (text : List ℕ) {o : ℕ} where
 
   pub gap_runs : {qs rs : List (PieceOf Role)} {rest ps : Parts} {s e : Token} {P : List Pair} → rs ≡ absent ∷ qs → ps ≡ gap rest → RunsIn text o qs rest s e P → RunsIn text o rs ps s e P
   gap_runs {qs} {ps = ps} {s = s} {e = e} {P = P} told parts run = subst (λ x. RunsIn text o x ps s e P) (sym told) (subst (λ x. RunsIn text o (absent ∷ qs) x s e P) (sym parts) (missing run))
+
+-- Before what added nothing to the pairs, and as many are open as before.
+pub adds_before : {s m e : Point} {old mid new : List Pair} {A B : ℕ → Token → Token → List Pair → Type 0} → Adds s m old mid A → e.opened ≡ m.opened → new ≡ mid → ((o : ℕ) (P : List Pair) → A o s.last m.last P → B o s.last e.last P) → Adds s e old new B
+adds_before {s} a open_same same f = record {
+  more = a.more;
+  same_open = open_same ∙ a.same_open;
+  pairs = same ∙ a.pairs;
+  is = f (1000 - s.opened) (grouping a.more) a.is;
+}

@@ -2,7 +2,7 @@
 use Rattle.std.proofs.Common.{◌≡◌, ◌≤◌, true, false, sym, refl, ap, subst, ◌∙◌, arith, ◌+◌, ◌-◌, ◌<◌, length, set, Some}
 use Rattle.std.specs.Prelude.{◌&&◌, not, [], Some, true, false, codes}
 use Rattle.std.proofs.lemmas.Bool.{false≢true}
-use Rattle.tree.specs.declared.kind.Kind.TheVariants.{ChainExpression, SwitchCase, VariableDeclarator, ArrowFunctionExpression, Identifier, Property, AssignmentExpression, UpdateExpression, SequenceExpression, BlockStatement, CatchClause}
+use Rattle.tree.specs.declared.kind.Kind.TheVariants.{ChainExpression, SwitchCase, VariableDeclarator, ArrowFunctionExpression, Identifier, Property, AssignmentExpression, UpdateExpression, SequenceExpression, BlockStatement, CatchClause, ImportExpression, NewExpression}
 use Rattle.tree.specs.Tree.{Tree, node, plain, kind_of, part, gap, none, push, push_gap, height, parts_height, flags_of, join}
 use Rattle.tokens.specs.Scanned.{token_of}
 use Rattle.tokens.specs.declared.token.Class.TheVariants.{Name}
@@ -60,8 +60,9 @@ use Rattle.parser.proofs.PieceBy.{built_first, piece_on, piece_low, pieces_taken
 use Rattle.parser.proofs.PieceLists.{list_piece}
 use Rattle.parser.proofs.PieceParts.{expression_piece, binding_piece, statement_piece, items_piece}
 use Rattle.parser.proofs.PieceTokens.{passed_piece, nothing_passed, gap_wanted}
+use Rattle.parser.proofs.WordedBy.{function_worded, class_worded, super_worded, target_worded, import_worded, new_worded, worded_here, NewTail, tail_with, tail_alone}
 use Rattle.parser.proofs.position.Parser.+grammar.Goals as goal
-use Rattle.parser.proofs.position.Parser.+grammar.Goals.{then-context, else-context, then-has_value+in_ok-value+in_ok-settle+in_ok-push, else-has_value+in_ok-push_gap, then-not-is_name, else-not-is_name, in_default-via-in-Elements+else-sees, in_default-via-in_default, then-is_default+in_ok-push_gap-in-Cases, else-is_default, then-not-matches, else-not-matches, in-Sequence, in_default, else-items-test, then-items-test+in_ok-item+then-not-is_separated, in-Some+in_ok-expect, in_default-closing, in-Call, in-Name+in_ok-name-in-Name+in_ok-single-in-Name+in_ok-push-in-Name, in-Index+in_ok-expect-in-Index+in_ok-index-in-Index+in_ok-settle-in-Index+in_ok-push-in-Index+in_ok-expect-in-Index-2, in-Arguments+in_ok-arguments-in-Arguments+in_ok-append-in-Arguments, in-Quasi+in_ok-list-in-Quasi+in_ok-list-in-Quasi-2+in_ok-listed-in-Quasi+in_ok-push-in-Quasi, then-accept-2+in_ok-right+in_ok-settle+in_ok-nodes-2+in_ok-value-3, else-accept-2, then-in_class, else-in_class, in-Method, else-not-in_class-via-then-not-in_class+else-accept, else-not-in_class-via-else-not-in_class, in-Asks+in_ok-part+in_ok-settle+in_ok-push+in_ok-expect}
+use Rattle.parser.proofs.position.Parser.+grammar.Goals.{then-context, else-context, then-has_value+in_ok-value+in_ok-settle+in_ok-push, else-has_value+in_ok-push_gap, then-not-is_name, else-not-is_name, in_default-via-in-Elements+else-sees, in_default-via-in_default, then-is_default+in_ok-push_gap-in-Cases, else-is_default, then-not-matches, else-not-matches, in-Sequence, in_default, else-items-test, then-items-test+in_ok-item+then-not-is_separated, in-Some+in_ok-expect, in_default-closing, in-Call, in-Name+in_ok-name-in-Name+in_ok-single-in-Name+in_ok-push-in-Name, in-Index+in_ok-expect-in-Index+in_ok-index-in-Index+in_ok-settle-in-Index+in_ok-push-in-Index+in_ok-expect-in-Index-2, in-Arguments+in_ok-arguments-in-Arguments+in_ok-append-in-Arguments, in-Quasi+in_ok-list-in-Quasi+in_ok-list-in-Quasi-2+in_ok-listed-in-Quasi+in_ok-push-in-Quasi, then-accept-2+in_ok-right+in_ok-settle+in_ok-nodes-2+in_ok-value-3, else-accept-2, then-in_class, else-in_class, in-Method, else-not-in_class-via-then-not-in_class+else-accept, else-not-in_class-via-else-not-in_class, in-Asks+in_ok-part+in_ok-settle+in_ok-push+in_ok-expect, then-sees+in_ok-arguments-in-New-2+in_ok-append-in-New-2, else-sees}
 
 pub arguments-returns-clause-derived : goal.arguments-returns-clause-derived
 arguments-returns-clause-derived c = arguments_read c.in_ok-list.list c.in_ok-list-2.field-0 c.open.ensures.text c.open.ensures.same_open c.open.ensures.same_pairs c.in_ok-list.ensures.listed c.in_ok-list.ensures.begun c.in_ok-list-2.ensures.same.0 c.in_ok-list-2.ensures.derived
@@ -718,3 +719,45 @@ closure-returns-clause-derived c =
     let made = subst (λ n. Makes n c.args.high c.plain.result) (λ i. node (c.kind.ensures i) [] plain (c.span_from.ensures i).start (c.span_from.ensures i).end c.pieces-2.new.built.nodes) c.plain.ensures in
     closed c.args.closure true c.args.start c.args.high c.saturating_sub-inner.result c.in_ok-closure_name.field-0 c.of-built.result c.pieces-2.new.built c.plain.result c.closure_name.ensures.text c.closure_name.ensures.same_open c.closure_name.ensures.same_pairs
     c.in_ok-closure_name.ensures.named (ap (λ b. b.nodes) c.of-built.ensures) c.pieces.ensures c.in_ok-pieces.ensures.derived made
+
+pub worded-returns-in_ok-node-in-Function-clause-derived : goal.worded-returns-in_ok-node-in-Function-clause-derived
+worded-returns-in_ok-node-in-Function-clause-derived c = function_worded c.args.token c.args.position c.args.opening c.in-Function.is c.plain.ensures c.in_ok-node-in-Function.ensures.derived
+
+pub worded-returns-in_ok-node-in-Class-clause-derived : goal.worded-returns-in_ok-node-in-Class-clause-derived
+worded-returns-in_ok-node-in-Class-clause-derived c = class_worded c.args.token c.args.position c.args.opening c.in-Class.is c.plain-in-Class.ensures c.in_ok-node-in-Class.ensures.derived
+
+pub worded-returns-in_ok-node-in-Super-clause-derived : goal.worded-returns-in_ok-node-in-Super-clause-derived
+worded-returns-in_ok-node-in-Super-clause-derived c =
+    super_worded c.args.self.now.cursor c.linked.new.self.cursor c.args.self.now.pairs.items c.linked.new.self.pairs.items c.args.token c.args.position c.args.opening c.position_takes-takes_call.result c.linked.result c.in-Super.is c.position_takes-takes_call.ensures
+    (c.plain-in-Super.ensures ∙ ap (λ n. plain_part n Primary Other) c.in_ok-node-in-Super.ensures.made.0) c.if-sees_base.ensures.seen c.linked.ensures.derived
+
+pub worded-returns-in-New-clause-derived : goal.worded-returns-in-New-clause-derived
+worded-returns-in-New-clause-derived c =
+    target_worded c.args.self.now.cursor c.accept.new.self.cursor c.new_target.new.self.cursor c.args.token c.args.position c.args.opening c.args.high c.new_target.result c.in-New.is c.accept.ensures.text (c.new_target.ensures.same_open ∙ c.accept.ensures.same_open)
+    (c.new_target.ensures.same_pairs ∙ c.accept.ensures.same_pairs) c.if-accept.ensures.accepted c.new_target.ensures.target
+
+pub worded-returns-in_ok-node-in-New-2-clause-derived : goal.worded-returns-in_ok-node-in-New-2-clause-derived
+worded-returns-in_ok-node-in-New-2-clause-derived c =
+    let callee = c.in_ok-callee-in-New-2.callee in
+    let first = c.in_ok-nodes-in-New-2.ensures.made ∙ ap (λ n. part n none) c.in_ok-settle-in-New-2.ensures.settled.0 in
+    let tail : Adds c.expression.new.self.cursor c.if-sees.self.cursor c.expression.new.self.pairs.items c.if-sees.self.pairs.items (NewTail c.accept.new.self.cursor.text callee.cover.node c.if-sees.nodes c.if-sees.rank) =
+    elim c.if-sees.branch [
+      | then-sees+in_ok-arguments-in-New-2+in_ok-append-in-New-2 w ↦
+        subst (λ v. Adds c.expression.new.self.cursor v.cursor c.expression.new.self.pairs.items v.pairs.items (NewTail c.accept.new.self.cursor.text callee.cover.node c.if-sees.nodes c.if-sees.rank)) (sym w.self-is)
+        (tail_with callee.cover.node w.in_ok-arguments-in-New-2.field-0 c.if-sees.nodes c.if-sees.rank c.expression.ensures.text (w.nodes-is ∙ w.in_ok-append-in-New-2.ensures.joined ∙ ap (λ ps. join ps w.in_ok-arguments-in-New-2.field-0) first) w.rank-is w.if-sees.ensures.seen w.in_ok-arguments-in-New-2.ensures.derived)
+      | else-sees w ↦
+        subst (λ v. Adds c.expression.new.self.cursor v.cursor c.expression.new.self.pairs.items v.pairs.items (NewTail c.accept.new.self.cursor.text callee.cover.node c.if-sees.nodes c.if-sees.rank)) (sym w.self-is)
+        (tail_alone callee.cover.node c.if-sees.nodes c.if-sees.rank c.expression.ensures.text (w.nodes-is ∙ first) w.rank-is w.if-sees.ensures.missed)
+    ] in
+    let span = c.span_from.ensures in
+    let tree = c.in_ok-node-in-New-2.ensures.0 ∙ (λ i. node NewExpression [] plain (span i).start (span i).end c.if-sees.nodes) in
+    worded_here c.args.token c.accept.ensures.text c.if-accept.ensures.missed.1 c.accept.ensures.same_open c.accept.ensures.same_pairs
+    (new_worded c.args.token c.at.result c.args.position c.args.opening c.if-sees.rank c.if-sees.nodes c.in-New-2.is c.at.ensures c.in_ok-callee-in-New-2.ensures.derived c.in_ok-settle-in-New-2.ensures.settled.1 tail (c.plain-in-New-2-2.ensures ∙ ap (λ n. plain_part n c.if-sees.rank Other) tree))
+
+pub worded-returns-in_ok-node-in-Import-clause-derived : goal.worded-returns-in_ok-node-in-Import-clause-derived
+worded-returns-in_ok-node-in-Import-clause-derived c =
+    let parts = c.in_ok-nodes-in-Import.ensures.made ∙ ap (λ n. part n none) c.in_ok-settle-in-Import.ensures.settled.0 in
+    let span = c.span_from-in-Import.ensures in
+    let tree = c.in_ok-node-in-Import.ensures.0 ∙ (λ i. node ImportExpression [] plain (span i).start (span i).end (parts i)) in
+    import_worded c.args.token c.args.position c.args.opening c.in-Import.is c.expect.ensures.text (c.expression-in-Import.ensures.text ∙ c.expect.ensures.text) c.expect.ensures.same_open c.expect.ensures.same_pairs c.expect-in-Import.ensures.same_open c.expect-in-Import.ensures.same_pairs
+    c.in_ok-expect-in-Import.ensures.accepted.0 c.in_ok-source-in-Import.ensures.derived c.in_ok-settle-in-Import.ensures.settled.1 c.in_ok-expect-in-Import-2.ensures.accepted.0 (c.plain-in-Import-2.ensures ∙ ap (λ n. plain_part n Call Other) tree)
