@@ -43,6 +43,7 @@ pub mod PieceTokens
 pub mod Parting
 pub mod Refused
 pub mod Righted
+pub mod ScriptBy
 pub mod Seeing
 pub mod SidedBy
 pub mod Spelled

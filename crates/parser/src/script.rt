@@ -61,7 +61,7 @@ pub fn parse<'s>(alloc: Global, source: &Source<'s>) -> Result<Parsed<'s>, Fault
     pairs.retain(|pair| pair.left < pair.right);
     let span = Span {
         start: 0,
-        end: source.len(),
+        end: source.text().len(),
     };
     let program = Program::new(items.into_parts(), span);
     Ok(Parsed { program, pairs })
