@@ -47,6 +47,7 @@ pub mod ScriptBy
 pub mod Seeing
 pub mod SidedBy
 pub mod Spelled
+pub mod StatementWays
 pub mod Stating
 pub mod Valuing
 pub mod Turning
