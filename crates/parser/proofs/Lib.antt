@@ -32,6 +32,7 @@ pub mod OpenedBy
 pub mod Opens
 pub mod Operating
 pub mod Parenthesized
+pub mod OwnStated
 pub mod Parted
 pub mod Prefixing
 pub mod Points

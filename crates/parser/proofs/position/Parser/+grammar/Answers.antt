@@ -61,6 +61,7 @@ use Rattle.parser.proofs.PieceLists.{list_piece}
 use Rattle.parser.proofs.PieceParts.{expression_piece, binding_piece, statement_piece, items_piece}
 use Rattle.parser.proofs.PieceTokens.{passed_piece, nothing_passed, gap_wanted}
 use Rattle.parser.proofs.StatementWays
+use Rattle.parser.proofs.OwnStated.{closure_stated}
 use Rattle.parser.proofs.WordedBy.{function_worded, class_worded, super_worded, target_worded, import_worded, new_worded, worded_here, NewTail, tail_with, tail_alone}
 use Rattle.parser.proofs.position.Parser.+grammar.Goals as goal
 use Rattle.parser.proofs.position.Parser.+grammar.Goals.{then-context, else-context, then-has_value+in_ok-value+in_ok-settle+in_ok-push, else-has_value+in_ok-push_gap, then-not-is_name, else-not-is_name, in_default-via-in-Elements+else-sees, in_default-via-in_default, then-is_default+in_ok-push_gap-in-Cases, else-is_default, then-not-matches, else-not-matches, in-Sequence, in_default, else-items-test, then-items-test+in_ok-item+then-not-is_separated, in-Some+in_ok-expect, in_default-closing, in-Call, in-Name+in_ok-name-in-Name+in_ok-single-in-Name+in_ok-push-in-Name, in-Index+in_ok-expect-in-Index+in_ok-index-in-Index+in_ok-settle-in-Index+in_ok-push-in-Index+in_ok-expect-in-Index-2, in-Arguments+in_ok-arguments-in-Arguments+in_ok-append-in-Arguments, in-Quasi+in_ok-list-in-Quasi+in_ok-list-in-Quasi-2+in_ok-listed-in-Quasi+in_ok-push-in-Quasi, then-accept-2+in_ok-right+in_ok-settle+in_ok-nodes-2+in_ok-value-3, else-accept-2, then-in_class, else-in_class, in-Method, else-not-in_class-via-then-not-in_class+else-accept, else-not-in_class-via-else-not-in_class, in-Asks+in_ok-part+in_ok-settle+in_ok-push+in_ok-expect, then-sees+in_ok-arguments-in-New-2+in_ok-append-in-New-2, else-sees}
@@ -764,10 +765,6 @@ worded-returns-in_ok-node-in-Import-clause-derived c =
     c.in_ok-expect-in-Import.ensures.accepted.0 c.in_ok-source-in-Import.ensures.derived c.in_ok-settle-in-Import.ensures.settled.1 c.in_ok-expect-in-Import-2.ensures.accepted.0 (c.plain-in-Import-2.ensures ∙ ap (λ n. plain_part n Call Other) tree)
 
 pub statement-returns-in-Closure-clause-derived : goal.statement-returns-in-Closure-clause-derived
-statement-returns-in-Closure-clause-derived c = ?
-
-pub statement-returns-then-not-is_label-clause-derived : goal.statement-returns-then-not-is_label-clause-derived
-statement-returns-then-not-is_label-clause-derived c = ?
-
-pub statement-returns-clause-derived : goal.statement-returns-clause-derived
-statement-returns-clause-derived c = ?
+statement-returns-in-Closure-clause-derived c =
+    closure_stated c.args.self.now.cursor c.pass-in-Closure.new.self.cursor c.closure.new.self.cursor c.args.self.now.pairs.items c.pass-in-Closure.new.self.pairs.items c.closure.new.self.pairs.items c.args.context c.in_ok-token.token c.in-Closure.closure c.closure.result
+    c.in_ok-token.ensures.ahead (sym c.in-Closure.is ∙ c.in_ok-token.ensures.coded) c.pass-in-Closure.ensures.text c.pass-in-Closure.ensures.last c.pass-in-Closure.ensures.same_open c.pass-in-Closure.ensures.same_pairs c.closure.ensures.derived
