@@ -10,6 +10,7 @@ pub mod Defining
 pub mod Deriving
 pub mod Extending
 pub mod Enclosed
+pub mod EvaluatedBy
 pub mod Following
 pub mod Forward
 pub mod Grouped

@@ -38,7 +38,7 @@ use Rattle.parser.proofs.Deriving.{adds_behind}
 use Rattle.parser.proofs.Seeing.{ahead_read}
 use Rattle.parser.proofs.StatementWays.{StatedBy}
 
-abbrev role_of : Bool → Bool → Bool → Role
+abbrev pub role_of : Bool → Bool → Bool → Role
 role_of i p r = cond i (cond p (opening r) (item r)) (statement r)
 
 stands_of : (i p r : Bool) → Stands (role_of i p r) (i && p) i r
@@ -46,7 +46,7 @@ stands_of true true r = as_opening
 stands_of true false r = as_item
 stands_of false p r = as_statement
 
-place_of : (i p r : Bool) (t l : Token) → place (role_of i p r) t l ≡ (t.start, l.stop)
+pub place_of : (i p r : Bool) (t l : Token) → place (role_of i p r) t l ≡ (t.start, l.stop)
 place_of true true r t l = refl
 place_of true false r t l = refl
 place_of false p r t l = refl

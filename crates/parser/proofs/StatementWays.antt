@@ -79,7 +79,7 @@ closed_before {text} {s} {m} n h read = of (ends_in_if n) h
     of false k = refl
 
 module _ (text : List ℕ) where
-  end_standing : {x y : Edge} {s e : Token} → y ≡ standing x s → EndsAt text (Behind y) s e → Step Token (NextIn text any_goal) itself (ending (behind x)) s e
+  pub end_standing : {x y : Edge} {s e : Token} → y ≡ standing x s → EndsAt text (Behind y) s e → Step Token (NextIn text any_goal) itself (ending (behind x)) s e
   end_standing {x} {y} {s} {e} same d = of (subst (λ v. EndsAt text (Behind v) s e) same d)
     where
       of : {e : Token} → Step Token (NextIn text any_goal) itself (ending (behind (standing x s))) s e → Step Token (NextIn text any_goal) itself (ending (behind x)) s e

@@ -346,7 +346,7 @@ impl<'t, 's> Parser<'t, 's> {
         ensures forward { self.old.cursor.last.stop ≤ self.new.cursor.last.stop }
         ensures same_open { self.new.cursor.opened ≡ self.old.cursor.opened }
         ensures same_pairs { self.new.pairs.items ≡ self.old.pairs.items }
-        ensures made { IfOk result (λ n. n ≡ evaluated_node (context.is_prologue && is_lone_string part.entry) part.entry.start self.new.cursor.last.stop part.entry.cover.node) }
+        ensures made { IfOk result (λ n. n ≡ evaluated_node (context.is_item && (context.is_prologue && is_lone_string part.entry)) part.entry.start self.new.cursor.last.stop part.entry.cover.node) }
         ensures fits { IfOk result (λ n. (part.entry.cover.shape.is_expression ≡ true) × (evaluated_height part.entry ≤ high)) }
         ensures ends { IfOk result (λ _. IsEnd self.old.cursor.text (Ending.Behind part.entry.edge) self.old.cursor.last self.new.cursor.last) }
         ensures failed { IfErr result (NotEvaluated self.old.cursor part.entry high) }
@@ -355,7 +355,7 @@ impl<'t, 's> Parser<'t, 's> {
         let start = part.start;
         let edge = part.edge;
         let mut flags = Flags::PLAIN;
-        flags.directive = context.is_prologue && part.is_lone_string();
+        flags.directive = context.is_item && context.is_prologue && part.is_lone_string();
         let nodes = Nodes::one(self.alloc, self.settle(part)?)?;
         self.cursor.semicolon(Ending::Behind(edge))?;
         let span = self.span_from(start);

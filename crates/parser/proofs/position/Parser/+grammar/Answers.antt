@@ -61,6 +61,7 @@ use Rattle.parser.proofs.PieceLists.{list_piece}
 use Rattle.parser.proofs.PieceParts.{expression_piece, binding_piece, statement_piece, items_piece}
 use Rattle.parser.proofs.PieceTokens.{passed_piece, nothing_passed, gap_wanted}
 use Rattle.parser.proofs.StatementWays
+use Rattle.parser.proofs.EvaluatedBy.{evaluated_stated}
 use Rattle.parser.proofs.OwnStated.{closure_stated}
 use Rattle.parser.proofs.WordedBy.{function_worded, class_worded, super_worded, target_worded, import_worded, new_worded, worded_here, NewTail, tail_with, tail_alone}
 use Rattle.parser.proofs.position.Parser.+grammar.Goals as goal
@@ -768,3 +769,8 @@ pub statement-returns-in-Closure-clause-derived : goal.statement-returns-in-Clos
 statement-returns-in-Closure-clause-derived c =
     closure_stated c.args.self.now.cursor c.pass-in-Closure.new.self.cursor c.closure.new.self.cursor c.args.self.now.pairs.items c.pass-in-Closure.new.self.pairs.items c.closure.new.self.pairs.items c.args.context c.in_ok-token.token c.in-Closure.closure c.closure.result
     c.in_ok-token.ensures.ahead (sym c.in-Closure.is ∙ c.in_ok-token.ensures.coded) c.pass-in-Closure.ensures.text c.pass-in-Closure.ensures.last c.pass-in-Closure.ensures.same_open c.pass-in-Closure.ensures.same_pairs c.closure.ensures.derived
+
+pub statement-returns-then-not-is_label-clause-derived : goal.statement-returns-then-not-is_label-clause-derived
+statement-returns-then-not-is_label-clause-derived c =
+    evaluated_stated c.args.self.now.cursor c.expression.new.self.cursor c.evaluated.new.self.cursor c.args.self.now.pairs.items c.expression.new.self.pairs.items c.evaluated.new.self.pairs.items c.args.context c.in_ok-part-in-Expression.part c.args.high c.evaluated.result
+    c.in_ok-part-in-Expression.ensures.derived c.expression.ensures.text c.evaluated.ensures.same_open c.evaluated.ensures.same_pairs c.evaluated.ensures.made c.evaluated.ensures.fits c.evaluated.ensures.ends
