@@ -21,6 +21,7 @@ pub mod Looping
 pub mod Literals
 pub mod LinkReads
 pub mod Keying
+pub mod LabelledBy
 pub mod Linking
 pub mod MemberSpelled
 pub mod Membering

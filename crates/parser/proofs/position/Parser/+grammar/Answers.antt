@@ -62,6 +62,7 @@ use Rattle.parser.proofs.PieceParts.{expression_piece, binding_piece, statement_
 use Rattle.parser.proofs.PieceTokens.{passed_piece, nothing_passed, gap_wanted}
 use Rattle.parser.proofs.StatementWays
 use Rattle.parser.proofs.EvaluatedBy.{evaluated_stated}
+use Rattle.parser.proofs.LabelledBy
 use Rattle.parser.proofs.OwnStated.{closure_stated}
 use Rattle.parser.proofs.WordedBy.{function_worded, class_worded, super_worded, target_worded, import_worded, new_worded, worded_here, NewTail, tail_with, tail_alone}
 use Rattle.parser.proofs.position.Parser.+grammar.Goals as goal
@@ -774,3 +775,6 @@ pub statement-returns-then-not-is_label-clause-derived : goal.statement-returns-
 statement-returns-then-not-is_label-clause-derived c =
     evaluated_stated c.args.self.now.cursor c.expression.new.self.cursor c.evaluated.new.self.cursor c.args.self.now.pairs.items c.expression.new.self.pairs.items c.evaluated.new.self.pairs.items c.args.context c.in_ok-part-in-Expression.part c.args.high c.evaluated.result
     c.in_ok-part-in-Expression.ensures.derived c.expression.ensures.text c.evaluated.ensures.same_open c.evaluated.ensures.same_pairs c.evaluated.ensures.made c.evaluated.ensures.fits c.evaluated.ensures.ends
+
+pub statement-returns-clause-derived : goal.statement-returns-clause-derived
+statement-returns-clause-derived c = ?
