@@ -1,5 +1,5 @@
 -- Labelled statements, and `switch`, from the pieces behind their first part (ECMA-262 13.12, 13.13).
-use Rattle.std.proofs.Common.{◌≡◌, ℕ, ◌+◌, Bool, true, false, cond, List, [], ◌∷◌, ◌++◌, refl, sym, ap, ◌∙◌, subst, append_assoc}
+use Rattle.std.proofs.Common.{◌≡◌, inl, inr, ℕ, ◌+◌, Bool, true, false, cond, List, [], ◌∷◌, ◌++◌, refl, sym, ap, ◌∙◌, subst, append_assoc}
 use Rattle.std.specs.Prelude.{codes, nat_le}
 use Rattle.std.proofs.lemmas.List.{append-nil}
 use Rattle.tokens.specs.declared.token.Class.TheVariants.{Name, Punctuator}
@@ -23,12 +23,22 @@ use Rattle.language.proofs.Domination.{settled}
 use Rattle.language.proofs.Productions.{way_from}
 use Rattle.language.proofs.Running.{run_never, run_laid, run_the_part, run_token}
 use Rattle.language.proofs.Stated.{behind_own, behind_brace}
+use Rattle.language.specs.declared.Edge.TheVariants.{Closed}
+use Rattle.language.specs.Pieces.{absent, ending, behind}
+use Rattle.language.specs.Promises.{ReadBy, is_free}
+use Rattle.language.specs.Statements.{behind_word, end_of}
+use Rattle.language.specs.Derivation.{same_line, missing}
+use Rattle.language.proofs.Leaves.{name_form}
+use Rattle.language.proofs.TextPlaces.{text_determined}
+use Rattle.tokens.specs.declared.token.Goal.TheVariants.{RegExp}
+use Rattle.token_cursor.specs.Ends.{EndsAt}
+use Rattle.token_cursor.specs.declared.semicolon.Ending.TheVariants.{Behind}
 use Rattle.parser.specs.Derived.{RunsIn, anywhere, Begins}
 use Rattle.parser.specs.DerivedPieces.{PiecesAt, StatementAt}
 use Rattle.parser.specs.Pieces.{statement_parts}
 use Rattle.parser.specs.declared.statements.Headed.TheVariants as headed
 use Rattle.parser.proofs.OwnStated.{role_of}
-use Rattle.parser.proofs.Parting.{last_one, part_runs}
+use Rattle.parser.proofs.Parting.{last_one, part_then, gap_then, part_runs}
 use Rattle.parser.proofs.StatementWays.{StatedBy, read_then, expression_then}
 
 module _ (text : List ℕ) {o : ℕ} {s m e : Token} {P Q : List Pair} where
@@ -95,3 +105,33 @@ a_switch text {o} {s} {e} {ps} {P} r x u =
           (retell Token (NextIn text any_goal) itself (ap (λ v. anywhere (cond v cases nothing)) (sym (ap (λ n. nat_le n 1) (defaults_bare b.rest) ∙ d.1))) run);
       dangles = λ h. cc;
     }
+
+-- a name is read before an operand too
+name_read : (text : List ℕ) {o : ℕ} {n : Tree} {s m : Token} {P : List Pair} → SpellsIn text o name n s m P → (t : Token) × ReadBy Token (NextIn text any_goal) itself RegExp s t m
+name_read text {s = s} {m = m} d =
+    let u = (name_form Token (NextIn text any_goal) itself (text_determined text) d).0 in
+    (u.sign, record { next = u.reads.next; allowed = (text_determined text).free RegExp s u.sign m u.reads.next (ap is_free u.reads.class) })
+
+-- behind `break` and `continue`
+jump_runs : (text : List ℕ) {o : ℕ} {s e : Token} {ps : Parts} {P : List Pair} (r : Bool) {z : Edge} → PiecesAt text r o (statement_parts headed.Break r) s e Closed z ps P → RunsIn text o (anywhere (behind_word (bare_parts ps) (put name) ++ end_of Closed ∷ [])) ps s e P
+jump_runs text {o} {s} {e} {ps} {P} r u = elim u.first [
+  | inl h ↦ (let v = part_then u {Is = λ n m y Q. (y ≡ Closed) × SpellsIn text o name n s m Q} h.1.put h.1.parts (h.2, h.1.spelled) in
+      let w = last_one v.others in
+      let t = name_read text v.first.1 in
+      let end = subst (λ y. EndsAt text (Behind y) v.mid e) v.first.0 w.0 in
+      let parts : ps ≡ part v.item none = v.parts ∙ ap (part v.item) w.1.1 in
+      let pairs : P ≡ v.one ++ [] = v.pairs ∙ ap (λ Q. v.one ++ Q) w.1.2 in
+      subst (λ k. RunsIn text o (anywhere (behind_word (bare_parts k) (put name) ++ end_of Closed ∷ [])) k s e P) (sym parts)
+      (step laid (step (same_line t.1.next (h.0 t.0 v.mid t.1)) (part_runs text refl refl pairs v.first.1 (step end done)))))
+  | inr h ↦ (let v = gap_then u h in
+      let w = last_one v.others in
+      let parts : ps ≡ gap none = v.parts ∙ ap gap w.1.1 in
+      subst (λ k. RunsIn text o (anywhere (behind_word (bare_parts k) (put name) ++ end_of Closed ∷ [])) k s e P) (sym parts)
+      (subst (λ Q. RunsIn text o (anywhere (absent ∷ end_of Closed ∷ [])) (gap none) s e Q) (sym w.1.2) (missing (step w.0 done))))
+]
+
+pub a_break : (text : List ℕ) {o : ℕ} {s e : Token} {ps : Parts} {P : List Pair} (r : Bool) {z : Edge} → PiecesAt text r o (statement_parts headed.Break r) s e Closed z ps P → StatedBy text r kind.BreakStatement ps o s e P
+a_break text r u = record { runs = jump_runs text r u; dangles = λ h. cc }
+
+pub a_continue : (text : List ℕ) {o : ℕ} {s e : Token} {ps : Parts} {P : List Pair} (r : Bool) {z : Edge} → PiecesAt text r o (statement_parts headed.Continue r) s e Closed z ps P → StatedBy text r kind.ContinueStatement ps o s e P
+a_continue text r u = record { runs = jump_runs text r u; dangles = λ h. cc }

@@ -114,7 +114,7 @@ module _ (text : List ℕ) {Others : Token → Edge → Parts → List Pair → 
   put_then {o} {a} {s} u = part_then u {Is = λ n m y Q. SpellsIn text o a n s m Q} u.first.put u.first.parts u.first.spelled
 
 module _ (text : List ℕ) {o : ℕ} where
-  a_block : (r : Bool) (x : Edge) {z : Edge} {s e : Token} {ps : Parts} {P : List Pair} → PiecesAt text r o (statement_parts headed.Block r) s e x z ps P → StatedBy text r kind.BlockStatement ps o s e P
+  pub a_block : (r : Bool) (x : Edge) {z : Edge} {s e : Token} {ps : Parts} {P : List Pair} → PiecesAt text r o (statement_parts headed.Block r) s e x z ps P → StatedBy text r kind.BlockStatement ps o s e P
   a_block r x {z} {s} {e} {ps} {P} u =
       let v = last_one u.others in
       let parts : ps ≡ u.put = u.parts ∙ ap (join u.put) v.1.1 ∙ Rattle.tree.proofs.Shapes.join-none u.put in
@@ -124,13 +124,13 @@ module _ (text : List ℕ) {o : ℕ} where
         dangles = λ h. cc;
       }
 
-  an_empty : (r : Bool) (x : Edge) {z : Edge} {s e : Token} {ps : Parts} {P : List Pair} → PiecesAt text r o (statement_parts headed.Empty r) s e x z ps P → StatedBy text r kind.EmptyStatement ps o s e P
+  pub an_empty : (r : Bool) (x : Edge) {z : Edge} {s e : Token} {ps : Parts} {P : List Pair} → PiecesAt text r o (statement_parts headed.Empty r) s e x z ps P → StatedBy text r kind.EmptyStatement ps o s e P
   an_empty r x {z} {s} {e} {ps} {P} u = record {
     runs = subst (λ t. RunsIn text o [] ps s t P) (sym u.0) (subst (λ k. RunsIn text o [] k s s P) (sym u.2) (subst (λ Q. RunsIn text o [] none s s Q) (sym u.3) done));
     dangles = λ h. cc;
   }
 
-  a_variable : (r : Bool) (x : Edge) {z : Edge} {s e : Token} {ps : Parts} {P : List Pair} → PiecesAt text r o (statement_parts headed.Variable r) s e x z ps P → StatedBy text r kind.VariableDeclaration ps o s e P
+  pub a_variable : (r : Bool) (x : Edge) {z : Edge} {s e : Token} {ps : Parts} {P : List Pair} → PiecesAt text r o (statement_parts headed.Variable r) s e x z ps P → StatedBy text r kind.VariableDeclaration ps o s e P
   a_variable r x {z} {s} {e} {ps} {P} u =
       let v = last_one u.others in
       let parts : ps ≡ u.put = u.parts ∙ ap (join u.put) v.1.1 ∙ Rattle.tree.proofs.Shapes.join-none u.put in
@@ -143,7 +143,7 @@ module _ (text : List ℕ) {o : ℕ} where
         dangles = λ h. cc;
       }
 
-  a_debugger : (r : Bool) {z : Edge} {s e : Token} {ps : Parts} {P : List Pair} → PiecesAt text r o (statement_parts headed.Debugger r) s e Closed z ps P → StatedBy text r kind.DebuggerStatement ps o s e P
+  pub a_debugger : (r : Bool) {z : Edge} {s e : Token} {ps : Parts} {P : List Pair} → PiecesAt text r o (statement_parts headed.Debugger r) s e Closed z ps P → StatedBy text r kind.DebuggerStatement ps o s e P
   a_debugger r {z} {s} {e} {ps} {P} u =
       let v = last_one u in
       record {
@@ -152,7 +152,7 @@ module _ (text : List ℕ) {o : ℕ} where
       }
 
   -- an expression in parentheses, and a statement
-  a_while : (r : Bool) (x : Edge) {z : Edge} {s e : Token} {ps : Parts} {P : List Pair} → PiecesAt text r o (statement_parts headed.While r) s e x z ps P → StatedBy text r kind.WhileStatement ps o s e P
+  pub a_while : (r : Bool) (x : Edge) {z : Edge} {s e : Token} {ps : Parts} {P : List Pair} → PiecesAt text r o (statement_parts headed.While r) s e x z ps P → StatedBy text r kind.WhileStatement ps o s e P
   a_while r x {z} {s} {e} {ps} {P} u =
       let a = read_then text u in
       let b = expression_then text a.others in
@@ -165,7 +165,7 @@ module _ (text : List ℕ) {o : ℕ} where
         dangles = λ h. d.statement.dangles (sym (ap (λ k. last_ends_in_if k) parts) ∙ h);
       }
 
-  a_do : (r : Bool) (x : Edge) {z : Edge} {s e : Token} {ps : Parts} {P : List Pair} → PiecesAt text r o (statement_parts headed.Do r) s e x z ps P → StatedBy text r kind.DoWhileStatement ps o s e P
+  pub a_do : (r : Bool) (x : Edge) {z : Edge} {s e : Token} {ps : Parts} {P : List Pair} → PiecesAt text r o (statement_parts headed.Do r) s e x z ps P → StatedBy text r kind.DoWhileStatement ps o s e P
   a_do r x {z} {s} {e} {ps} {P} u =
       let a = statement_then text u in
       let b = read_then text a.others in
@@ -182,7 +182,7 @@ module _ (text : List ℕ) {o : ℕ} where
       }
 
   -- an `if`, with `else` or without
-  an_if : (r : Bool) (x : Edge) {z : Edge} {s e : Token} {ps : Parts} {P : List Pair} → PiecesAt text r o (statement_parts headed.If r) s e x z ps P → StatedBy text r kind.IfStatement ps o s e P
+  pub an_if : (r : Bool) (x : Edge) {z : Edge} {s e : Token} {ps : Parts} {P : List Pair} → PiecesAt text r o (statement_parts headed.If r) s e x z ps P → StatedBy text r kind.IfStatement ps o s e P
   an_if r x {z} {s} {e} {ps} {P} u =
       let a = read_then text u in
       let b = expression_then text a.others in
@@ -208,7 +208,7 @@ module _ (text : List ℕ) {o : ℕ} where
       ]
 
   -- a `try`: with a handler or `finally`, or with both
-  a_try : (r : Bool) (x : Edge) {z : Edge} {s e : Token} {ps : Parts} {P : List Pair} → PiecesAt text r o (statement_parts headed.Try r) s e x z ps P → StatedBy text r kind.TryStatement ps o s e P
+  pub a_try : (r : Bool) (x : Edge) {z : Edge} {s e : Token} {ps : Parts} {P : List Pair} → PiecesAt text r o (statement_parts headed.Try r) s e x z ps P → StatedBy text r kind.TryStatement ps o s e P
   a_try r x {z} {s} {e} {ps} {P} u =
       let a = put_then text u in
       let b = a.others in

@@ -62,7 +62,6 @@ use Rattle.parser.proofs.PieceParts.{expression_piece, binding_piece, statement_
 use Rattle.parser.proofs.PieceTokens.{passed_piece, nothing_passed, gap_wanted}
 use Rattle.parser.proofs.StatementWays
 use Rattle.parser.proofs.EvaluatedBy.{evaluated_stated}
-use Rattle.parser.proofs.LabelledBy
 use Rattle.parser.proofs.OwnStated.{closure_stated}
 use Rattle.parser.proofs.WordedBy.{function_worded, class_worded, super_worded, target_worded, import_worded, new_worded, worded_here, NewTail, tail_with, tail_alone}
 use Rattle.parser.proofs.position.Parser.+grammar.Goals as goal
@@ -747,11 +746,11 @@ worded-returns-in_ok-node-in-New-2-clause-derived c =
     let tail : Adds c.expression.new.self.cursor c.if-sees.self.cursor c.expression.new.self.pairs.items c.if-sees.self.pairs.items (NewTail c.accept.new.self.cursor.text callee.cover.node c.if-sees.nodes c.if-sees.rank) =
     elim c.if-sees.branch [
       | then-sees+in_ok-arguments-in-New-2+in_ok-append-in-New-2 w ↦
-        subst (λ v. Adds c.expression.new.self.cursor v.cursor c.expression.new.self.pairs.items v.pairs.items (NewTail c.accept.new.self.cursor.text callee.cover.node c.if-sees.nodes c.if-sees.rank)) (sym w.self-is)
-        (tail_with callee.cover.node w.in_ok-arguments-in-New-2.field-0 c.if-sees.nodes c.if-sees.rank c.expression.ensures.text (w.nodes-is ∙ w.in_ok-append-in-New-2.ensures.joined ∙ ap (λ ps. join ps w.in_ok-arguments-in-New-2.field-0) first) w.rank-is w.if-sees.ensures.seen w.in_ok-arguments-in-New-2.ensures.derived)
+          subst (λ v. Adds c.expression.new.self.cursor v.cursor c.expression.new.self.pairs.items v.pairs.items (NewTail c.accept.new.self.cursor.text callee.cover.node c.if-sees.nodes c.if-sees.rank)) (sym w.self-is)
+          (tail_with callee.cover.node w.in_ok-arguments-in-New-2.field-0 c.if-sees.nodes c.if-sees.rank c.expression.ensures.text (w.nodes-is ∙ w.in_ok-append-in-New-2.ensures.joined ∙ ap (λ ps. join ps w.in_ok-arguments-in-New-2.field-0) first) w.rank-is w.if-sees.ensures.seen w.in_ok-arguments-in-New-2.ensures.derived)
       | else-sees w ↦
-        subst (λ v. Adds c.expression.new.self.cursor v.cursor c.expression.new.self.pairs.items v.pairs.items (NewTail c.accept.new.self.cursor.text callee.cover.node c.if-sees.nodes c.if-sees.rank)) (sym w.self-is)
-        (tail_alone callee.cover.node c.if-sees.nodes c.if-sees.rank c.expression.ensures.text (w.nodes-is ∙ first) w.rank-is w.if-sees.ensures.missed)
+          subst (λ v. Adds c.expression.new.self.cursor v.cursor c.expression.new.self.pairs.items v.pairs.items (NewTail c.accept.new.self.cursor.text callee.cover.node c.if-sees.nodes c.if-sees.rank)) (sym w.self-is)
+          (tail_alone callee.cover.node c.if-sees.nodes c.if-sees.rank c.expression.ensures.text (w.nodes-is ∙ first) w.rank-is w.if-sees.ensures.missed)
     ] in
     let span = c.span_from.ensures in
     let tree = c.in_ok-node-in-New-2.ensures.0 ∙ (λ i. node NewExpression [] plain (span i).start (span i).end c.if-sees.nodes) in
@@ -775,6 +774,3 @@ pub statement-returns-then-not-is_label-clause-derived : goal.statement-returns-
 statement-returns-then-not-is_label-clause-derived c =
     evaluated_stated c.args.self.now.cursor c.expression.new.self.cursor c.evaluated.new.self.cursor c.args.self.now.pairs.items c.expression.new.self.pairs.items c.evaluated.new.self.pairs.items c.args.context c.in_ok-part-in-Expression.part c.args.high c.evaluated.result
     c.in_ok-part-in-Expression.ensures.derived c.expression.ensures.text c.evaluated.ensures.same_open c.evaluated.ensures.same_pairs c.evaluated.ensures.made c.evaluated.ensures.fits c.evaluated.ensures.ends
-
-pub statement-returns-clause-derived : goal.statement-returns-clause-derived
-statement-returns-clause-derived c = ?
