@@ -74,6 +74,11 @@ several q none = nothing
 several q (part n ps) = q ∷ sequence ps
 several q (gap ps) = nothing
 
+-- of a sequence there are two or more
+abbrev pub two_or_more : Piece → Parts → List Piece
+two_or_more q (part n (part m ps)) = q ∷ sequence (part m ps)
+two_or_more q _ = nothing
+
 -- no parameter; one alone, which is no rest, with no comma behind it (14.3)
 abbrev pub no_part : Parts → List Piece
 no_part none = []
@@ -100,7 +105,7 @@ item_pieces listed.Parameters a ps = listed (pattern_element true) ps
 item_pieces listed.NoParameter a ps = no_part ps
 item_pieces listed.OneParameter a ps = part_alone ps
 item_pieces listed.Template a ps = chunks true ps
-item_pieces (listed.Sequence i) a ps = several (sub (left Assignment)) ps
+item_pieces (listed.Sequence i) a ps = two_or_more (sub (left Assignment)) ps
 item_pieces (listed.Declarators i) as_expression ps = declarators (declarator i true) ps
 item_pieces (listed.Declarators i) (as_pattern b) ps = declarators (declarator i false) ps
 item_pieces (listed.Cases r) a ps = lines (switch_case r) ps
