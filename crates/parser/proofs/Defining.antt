@@ -121,7 +121,7 @@ module _ (text : List ℕ) where
       of : {s t e : Token} → NextIn text any_goal s t e → IsTrue (allows Div t.class t.text) → ((u : LexicalToken) → Scans text Div s.stop u → at ≡ u.start) → Begins text at s
       of (next_in {t = u} g any x) al here = record { token = as_read u; next = next_in g any x; start = sym (here u (by_goal Div x (sym (read_allows Div u x.word x.text) ∙ al))) }
 
-  named_begins : {in_class : Bool} {m : Modifiers} {k : Key} {o : ℕ} {s e : Token} {P : List Pair} {at : ℕ} → ((u : LexicalToken) → Scans text Div s.stop u → at ≡ u.start) → NamedSo text in_class m k o s e P → Begins text at s
+  pub named_begins : {in_class : Bool} {m : Modifiers} {k : Key} {o : ℕ} {s e : Token} {P : List Pair} {at : ℕ} → ((u : LexicalToken) → Scans text Div s.stop u → at ≡ u.start) → NamedSo text in_class m k o s e P → Begins text at s
   named_begins {m = m} here d = let h = words_first m.is_static m.form d.words (key_first d.key) in place_begins here h.read
 
   -- a mark's place

@@ -21,7 +21,6 @@ pub mod Looping
 pub mod Literals
 pub mod LinkReads
 pub mod Keying
-pub mod LabelledBy
 pub mod Linking
 pub mod MemberSpelled
 pub mod Membering
@@ -57,3 +56,7 @@ pub mod Turning
 pub mod WordedBy
 pub mod Yielding
 pub mod Wholly
+pub mod ForWays
+pub mod StatementBy
+pub mod StatementWords
+pub mod MethodItems

@@ -1,37 +1,25 @@
 -- A member of a class (ECMA-262 14.6), from the words before its key, the key and the function.
-use Rattle.std.proofs.Common.{◌≡◌, ℕ, ◌-◌, Bool, true, false, List, [], ◌∷◌, ◌++◌, refl, sym, ap, ◌∙◌, subst, arith}
-use Rattle.std.specs.Prelude.{codes, not}
-use Rattle.std.proofs.lemmas.Bool.{false≢true}
-use Rattle.tokens.specs.declared.token.Class.TheVariants.{Name, Punctuator}
-use Rattle.tokens.specs.declared.token.Goal.TheVariants.{Div}
-use Rattle.tree.specs.declared.kind.Kind.TheVariants.{Identifier, MethodDefinition}
+use Rattle.std.proofs.Common.{◌≡◌, ℕ, Bool, true, false, List, [], ◌∷◌, ◌++◌, refl}
+use Rattle.tree.specs.declared.kind.Kind.TheVariants.{MethodDefinition}
 use Rattle.tree.specs.declared.kind.Form.{Form}
 use Rattle.tree.specs.declared.kind.Form.TheVariants.{Init, Get, Set, Method, Shorthand, Constructor}
 use Rattle.tree.specs.declared.kind.Pair.{Pair}
-use Rattle.tree.specs.Tree.{Tree, node, Parts, none, part, height, bare, bare_parts, plain}
+use Rattle.tree.specs.Tree.{Tree, node, Parts, none, part, bare, bare_parts}
 use Rattle.tree.specs.Uses.{is_lean}
 use Rattle.language.specs.declared.Rank.TheVariants.{Expression, Primary}
 use Rattle.language.specs.declared.Start.TheVariants.{Any}
-use Rattle.language.specs.Words.{is}
-use Rattle.language.specs.Pieces.{member, method, Piece, Spelling, at, put}
+use Rattle.language.specs.Pieces.{member, method, Spelling, at, put}
 use Rattle.language.specs.Statements.{class_members}
 use Rattle.language.specs.Token.{Token}
-use Rattle.language.specs.Promises.{is_free, IsDetermined, FoundAt, AbsentAt, AbsentAtWithin}
+use Rattle.language.specs.Promises.{IsDetermined}
 use Rattle.language.specs.Grammar.{ways, spellings, can_run}
-use Rattle.language.specs.Derivation.{Among, first, Reads, Spells, direct, Runs, step, token, laid, Placed}
+use Rattle.language.specs.Derivation.{Among, first, Spells, direct, Runs, step, token, laid, Placed}
 use Rattle.language.proofs.Domination.{settled}
 use Rattle.language.proofs.Productions.{way_from, in_true}
 use Rattle.language.proofs.Growing.{last_runs}
 use Rattle.language.proofs.Begins.{goes_to}
-use Rattle.language.proofs.Running.{run_token, run_laid}
-use Rattle.language.proofs.Sides.{one_part}
-use Rattle.language.proofs.TwoSides.{same_node}
-use Rattle.language.proofs.PropertyWays.{form_pieces, form_fits, member_pieces, member_flags, is_constructor, member_form}
-use Rattle.language.proofs.KeyWays.{is_accessor, name_key_found}
-use Rattle.language.proofs.Sole.{same_span}
-use Rattle.language.proofs.CoverReadings.{name_or_sign}
-use Rattle.language.proofs.CoverProperties.{key_pieces, accessor_word, KeyAt, run_key, key_runs, method_begins}
-use Rattle.language.proofs.CoverMethods.{word_tells}
+use Rattle.language.proofs.PropertyWays.{form_fits, member_pieces, member_flags}
+use Rattle.language.proofs.CoverProperties.{key_pieces, KeyAt, key_runs}
 use Rattle.language.proofs.Members.{function_form, Prefix, no_word, static_alone, accessor_alone, both_words}
 
 -- a member is a way of the table, where its form fits

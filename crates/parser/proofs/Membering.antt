@@ -1,11 +1,10 @@
 -- Methods of objects and members of classes, whole (ECMA-262 14.3, 14.6).
-use Rattle.std.proofs.Common.{◌≡◌, ℕ, Bool, true, false, cond, List, [], ◌∷◌, ◌++◌, refl, sym, ap, ◌∙◌, subst}
-use Rattle.std.specs.Prelude.{codes, not, ◌&&◌, ◌||◌}
-use Rattle.std.proofs.lemmas.Bool.{false≢true}
+use Rattle.std.proofs.Common.{◌≡◌, ℕ, Bool, true, false, List, [], refl, sym}
+use Rattle.std.specs.Prelude.{not, ◌&&◌}
 use Rattle.tokens.specs.Reading.{any_goal}
 use Rattle.tree.specs.declared.kind.Form.{Form}
 use Rattle.tree.specs.declared.kind.Form.TheVariants.{Get, Set, Method, Init, Shorthand, Constructor}
-use Rattle.tree.specs.Tree.{Tree, node, Parts, none, part, kind_of, text_of, bare, bare_parts}
+use Rattle.tree.specs.Tree.{Tree, node, Parts, none, part, bare_parts}
 use Rattle.language.specs.Token.{Token}
 use Rattle.language.specs.Places.{NextIn, itself}
 use Rattle.language.specs.Derivation.{done, step, token}

@@ -1,39 +1,33 @@
 -- Methods, getters and setters of objects and of classes (ECMA-262 14.3, 14.6), from their names and functions.
-use Rattle.std.proofs.Common.{◌≡◌, ℕ, Bool, true, false, cond, List, [], ◌∷◌, ◌++◌, refl, sym, ap, ◌∙◌, subst}
-use Rattle.std.specs.Prelude.{codes, not, ◌&&◌}
-use Rattle.std.proofs.lemmas.Bool.{false≢true}
+use Rattle.std.proofs.Common.{◌≡◌, ℕ, Bool, true, false, cond, List, [], ◌∷◌, ◌++◌, refl, sym, ap, subst}
+use Rattle.std.specs.Prelude.{codes}
 use Rattle.tokens.specs.Tokens.{LexicalToken}
 use Rattle.tokens.specs.Reading.{any_goal, Reads as Scans}
-use Rattle.tokens.specs.declared.token.Class.TheVariants.{Name, Punctuator}
+use Rattle.tokens.specs.declared.token.Class.TheVariants.{Punctuator}
 use Rattle.tokens.specs.declared.token.Goal.TheVariants.{Div}
-use Rattle.tree.specs.declared.kind.Kind.TheVariants.{FunctionExpression, Property}
+use Rattle.tree.specs.declared.kind.Kind.TheVariants.{FunctionExpression}
 use Rattle.tree.specs.declared.kind.Form.{Form}
 use Rattle.tree.specs.declared.kind.Form.TheVariants.{Get, Set, Method, Init, Shorthand, Constructor}
 use Rattle.tree.specs.declared.kind.Pair.{Pair}
 use Rattle.tree.specs.Tree.{Tree, node, plain, Parts, none, part, gap, kind_of, bare, bare_parts}
-use Rattle.tree.specs.Uses.{is_lean, is_init}
-use Rattle.language.specs.declared.Rank.TheVariants.{Expression, Primary}
+use Rattle.language.specs.declared.Rank.TheVariants.{Expression}
 use Rattle.language.specs.declared.Start.TheVariants.{Any}
 use Rattle.language.specs.Words.{is_rest}
-use Rattle.language.specs.Pieces.{Role, method, property, body, Piece, PieceOf, Spelling, at as at_symbol, absent, sign, sp, tok, put, put_at, only, with_default, parameters, pattern_element, separator}
-use Rattle.language.specs.Expressions.{methods, properties}
+use Rattle.language.specs.Pieces.{Role, method, body, Piece, PieceOf, Spelling, absent, sign, sp, tok, put, put_at, only, with_default, parameters, pattern_element, separator}
+use Rattle.language.specs.Expressions.{methods}
 use Rattle.language.specs.Token.{Token}
-use Rattle.language.specs.Grammar.{spellings, can_run}
+use Rattle.language.specs.Grammar.{spellings}
 use Rattle.language.specs.Places.{NextIn, itself, SpellsIn}
 use Rattle.language.specs.Derivation.{Among, first, placed, direct, done, step, missing, token, laid}
-use Rattle.language.proofs.Begins.{goes_to, retell}
-use Rattle.language.proofs.CoverProperties.{flags_as, key_pieces, accessor_word, key_runs}
-use Rattle.language.proofs.CoverProperties as keys
 use Rattle.language.proofs.Domination.{settled}
-use Rattle.language.proofs.Growing.{kind_bare, none_bare, last_runs}
+use Rattle.language.proofs.Growing.{kind_bare, none_bare}
 use Rattle.language.proofs.Productions.{way_from, runs_can}
 use Rattle.language.proofs.Running.{run_never}
 use Rattle.language.proofs.TextPlaces.{text_determined}
 use Rattle.parser.specs.declared.closures.Closure.TheVariants as closure
-use Rattle.parser.specs.Derived.{RunsIn, anywhere, Begins}
-use Rattle.parser.specs.DerivedLists.{is_called, form_pieces}
+use Rattle.parser.specs.Derived.{RunsIn, anywhere}
+use Rattle.parser.specs.DerivedLists.{is_called}
 use Rattle.parser.specs.DerivedPieces.{pieces_of, method_form, ClosureAt}
-use Rattle.parser.specs.Seen.{ReadsHere}
 use Rattle.parser.proofs.Defining.{mark_starts}
 
 element_bare : (n : Tree) → pattern_element true (bare n) ≡ pattern_element true n

@@ -1,46 +1,42 @@
 -- Statements whose first token is their own, from the pieces behind it (ECMA-262 13).
-use Rattle.std.proofs.Common.{◌≡◌, ◌⊎◌, inl, inr, ℕ, Bool, true, false, not, cond, List, [], ◌∷◌, ◌++◌, refl, sym, ap, ◌∙◌, subst, append_assoc}
-use Rattle.std.specs.Prelude.{IsTrue, codes, map, ◌&&◌, ◌||◌}
+use Rattle.std.proofs.Common.{◌≡◌, inl, inr, ℕ, Bool, true, false, not, cond, List, [], ◌∷◌, ◌++◌, refl, sym, ap, ◌∙◌, subst, append_assoc}
+use Rattle.std.specs.Prelude.{IsTrue, codes, ◌&&◌, ◌||◌}
 use Rattle.std.proofs.lemmas.List.{append-nil}
-use Rattle.std.proofs.lemmas.Bool.{false≢true}
 use Rattle.tokens.specs.declared.token.Class.{Class}
 use Rattle.tokens.specs.declared.token.Class.TheVariants.{Name, Punctuator}
 use Rattle.tokens.specs.Reading.{any_goal}
 use Rattle.token_cursor.specs.Ends.{EndsAt}
-use Rattle.token_cursor.specs.declared.semicolon.Ending.TheVariants.{OfDo, Behind}
+use Rattle.token_cursor.specs.declared.semicolon.Ending.TheVariants.{Behind}
 use Rattle.tree.specs.declared.kind.Kind.{Kind}
 use Rattle.tree.specs.declared.kind.Kind.TheVariants as kind
 use Rattle.tree.specs.declared.kind.Pair.{Pair}
-use Rattle.tree.specs.Tree.{Tree, node, Parts, none, part, gap, join, plain, bare, bare_parts}
-use Rattle.covers.specs.declared.list.Listed.TheVariants as coded
+use Rattle.tree.specs.Tree.{Tree, node, Parts, none, part, gap, join, plain, bare_parts}
 use Rattle.language.specs.declared.Edge.{Edge}
 use Rattle.language.specs.declared.Edge.TheVariants.{Closed, Other, Arrow, Postfix}
 use Rattle.language.specs.declared.Rank.{Rank}
 use Rattle.language.specs.declared.Rank.TheVariants.{Expression}
 use Rattle.language.specs.declared.Start.TheVariants.{Any}
 use Rattle.language.specs.Words.{is}
-use Rattle.language.specs.Edges.{standing, last_edge, may_miss, goes_on, is_end, is_sign, is_semicolon, ends_in_if, last_ends_in_if, edge}
-use Rattle.language.specs.Pieces.{Role, expr, name, item, statement, block, handler, declarator, switch_case, PieceOf, Piece, tok, sub, absent, lay, ending, behind, of_do, line, deeper, shallower, settle_piece, sign, term, sp, nothing, put, is_none}
-use Rattle.language.specs.Statements.{prologue, lines, declarators, end_of, whole}
+use Rattle.language.specs.Edges.{standing, last_edge, goes_on, is_end, is_sign, is_semicolon, ends_in_if, last_ends_in_if, edge}
+use Rattle.language.specs.Pieces.{Role, expr, item, statement, handler, declarator, Piece, absent, lay, ending, behind, line, shallower, settle_piece, sign, term, sp, nothing, put}
+use Rattle.language.specs.Statements.{prologue, lines, declarators, end_of}
 use Rattle.language.specs.Token.{Token}
 use Rattle.language.specs.Places.{NextIn, itself, SpellsIn}
-use Rattle.language.specs.Derivation.{Step, token, explicit, implicit, laid, same_line, done, step, within, missing}
-use Rattle.language.proofs.BareEdges.{edge_bare, last_edge_bare, ends_bare, last_ends_bare}
+use Rattle.language.specs.Derivation.{Step, token, explicit, implicit, laid, done, step, within, missing}
+use Rattle.language.proofs.BareEdges.{last_edge_bare, ends_bare}
 use Rattle.language.proofs.Begins.{retell}
-use Rattle.language.proofs.Growing.{last_runs}
 use Rattle.language.proofs.Running.{run_never}
 use Rattle.language.proofs.Stated.{behind_own, behind_brace, condition}
 use Rattle.parser.specs.Derived.{RunsIn, anywhere}
-use Rattle.parser.specs.DerivedPieces.{OneMore, IsToken, PiecesAt, PutAt, ExpressionPut, StatementPut, StatementAt, IsGap, BehindWord}
-use Rattle.parser.specs.Pieces as Coded
+use Rattle.parser.specs.DerivedPieces.{OneMore, IsToken, PiecesAt, PutAt, ExpressionPut, StatementPut, StatementAt}
 use Rattle.parser.specs.Pieces.{statement_parts}
 use Rattle.parser.specs.declared.statements.Headed.TheVariants as headed
 use Rattle.parser.specs.Seen.{ReadsHere, Misses}
 use Rattle.parser.proofs.Deriving.{runs_on}
-use Rattle.parser.proofs.Parting.{PartThen, TokenThen, last_one, token_then, part_then, gap_then, part_runs, gap_runs}
+use Rattle.parser.proofs.Parting.{PartThen, TokenThen, last_one, token_then, part_then, gap_then, part_runs}
 
 -- a right edge that stands stays as it stands
-standing_twice : (x : Edge) (t : Token) → standing (standing x t) t ≡ standing x t
+pub standing_twice : (x : Edge) (t : Token) → standing (standing x t) t ≡ standing x t
 standing_twice Arrow t = of (is t.text ")") refl
   where
     of : (b : Bool) → is t.text ")" ≡ b → standing (cond b Other Arrow) t ≡ cond b Other Arrow

@@ -103,7 +103,7 @@ module _ (text : List ℕ) where
   property_placed (as_pattern c) {e = e} b = placed b.next (ap (λ (x : ℕ). (x, e.stop)) b.start)
 
   -- a property, by each reading of its shape
-  property_reads : {o st en : ℕ} {g : Flags} {ps : Parts} {s e : Token} {P : List Pair} (shape : Shape) → ((a : Reading) → fits_as shape a ≡ true → SpelledAs (property_as a) text o (read_as a (node Property [] g st en ps)) s e P) → ItemReads text listed.Properties (property_item (node Property [] g st en ps) shape) o s e P
+  pub property_reads : {o st en : ℕ} {g : Flags} {ps : Parts} {s e : Token} {P : List Pair} (shape : Shape) → ((a : Reading) → fits_as shape a ≡ true → SpelledAs (property_as a) text o (read_as a (node Property [] g st en ps)) s e P) → ItemReads text listed.Properties (property_item (node Property [] g st en ps) shape) o s e P
   property_reads {st = st} {en = en} {g = g} {ps = ps} shape f = record {
     reads = λ a has fits. f a fits;
     no_rest = λ a has fits trails. of a;

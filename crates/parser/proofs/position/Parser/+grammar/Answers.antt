@@ -1,4 +1,7 @@
 -- What the functions of the cycle derive.
+use Rattle.parser.proofs.StatementWays
+use Rattle.parser.proofs.position.Parser.+grammar.Goals as goal
+use Rattle.parser.specs.declared.statements.Beginning.TheVariants as code
 use Rattle.std.proofs.Common.{◌≡◌, ◌≤◌, true, false, sym, refl, ap, subst, ◌∙◌, arith, ◌+◌, ◌-◌, ◌<◌, length, set, Some}
 use Rattle.std.specs.Prelude.{◌&&◌, not, [], Some, true, false, codes}
 use Rattle.std.proofs.lemmas.Bool.{false≢true}
@@ -7,7 +10,7 @@ use Rattle.tree.specs.Tree.{Tree, node, plain, kind_of, part, gap, none, push, p
 use Rattle.tokens.specs.Scanned.{token_of}
 use Rattle.tokens.specs.declared.token.Class.TheVariants.{Name}
 use Rattle.covers.specs.Shapes.{initialized, is_target, value}
-use Rattle.language.specs.Token.{same_class, Token}
+use Rattle.language.specs.Token.{same_class, Token, as_read}
 use Rattle.parser.specs.Seen.{is_free_name}
 use Rattle.parser.specs.DerivedLists.{ValueAt, ItemReads, SeenRight, asks_edge, is_chunked}
 use Rattle.tree.specs.declared.kind.Form.TheVariants.{Init, Shorthand, Method}
@@ -28,7 +31,7 @@ use Rattle.parser.specs.Links.{link_kind, link_flags, link_rank}
 use Rattle.parser.specs.Parts.{plain_part, part_from}
 use Rattle.parser.specs.Tokens.{single_node}
 use Rattle.productions.specs.Made.{Makes}
-use Rattle.parser.specs.DerivedPieces.{StatementsAt}
+use Rattle.parser.specs.DerivedPieces.{StatementsAt, StatementAt, context_role}
 use Rattle.parser.specs.Follows.{ChunkAt}
 use Rattle.covers.specs.declared.list.List.{List}
 use Rattle.parser.proofs.CaseOf.{case_nodes, case_taken}
@@ -60,12 +63,13 @@ use Rattle.parser.proofs.PieceBy.{built_first, piece_on, piece_low, pieces_taken
 use Rattle.parser.proofs.PieceLists.{list_piece}
 use Rattle.parser.proofs.PieceParts.{expression_piece, binding_piece, statement_piece, items_piece}
 use Rattle.parser.proofs.PieceTokens.{passed_piece, nothing_passed, gap_wanted}
-use Rattle.parser.proofs.StatementWays
 use Rattle.parser.proofs.EvaluatedBy.{evaluated_stated}
 use Rattle.parser.proofs.OwnStated.{closure_stated}
 use Rattle.parser.proofs.WordedBy.{function_worded, class_worded, super_worded, target_worded, import_worded, new_worded, worded_here, NewTail, tail_with, tail_alone}
-use Rattle.parser.proofs.position.Parser.+grammar.Goals as goal
-use Rattle.parser.proofs.position.Parser.+grammar.Goals.{then-context, else-context, then-has_value+in_ok-value+in_ok-settle+in_ok-push, else-has_value+in_ok-push_gap, then-not-is_name, else-not-is_name, in_default-via-in-Elements+else-sees, in_default-via-in_default, then-is_default+in_ok-push_gap-in-Cases, else-is_default, then-not-matches, else-not-matches, in-Sequence, in_default, else-items-test, then-items-test+in_ok-item+then-not-is_separated, in-Some+in_ok-expect, in_default-closing, in-Call, in-Name+in_ok-name-in-Name+in_ok-single-in-Name+in_ok-push-in-Name, in-Index+in_ok-expect-in-Index+in_ok-index-in-Index+in_ok-settle-in-Index+in_ok-push-in-Index+in_ok-expect-in-Index-2, in-Arguments+in_ok-arguments-in-Arguments+in_ok-append-in-Arguments, in-Quasi+in_ok-list-in-Quasi+in_ok-list-in-Quasi-2+in_ok-listed-in-Quasi+in_ok-push-in-Quasi, then-accept-2+in_ok-right+in_ok-settle+in_ok-nodes-2+in_ok-value-3, else-accept-2, then-in_class, else-in_class, in-Method, else-not-in_class-via-then-not-in_class+else-accept, else-not-in_class-via-else-not-in_class, in-Asks+in_ok-part+in_ok-settle+in_ok-push+in_ok-expect, then-sees+in_ok-arguments-in-New-2+in_ok-append-in-New-2, else-sees}
+use Rattle.parser.proofs.position.Parser.+grammar.Goals.{then-context, else-context, then-has_value+in_ok-value+in_ok-settle+in_ok-push, else-has_value+in_ok-push_gap, then-not-is_name, else-not-is_name, in_default-via-in-Elements+else-sees, in_default-via-in_default, then-is_default+in_ok-push_gap-in-Cases, else-is_default, then-not-matches, else-not-matches, in-Sequence, in_default, else-items-test, then-items-test+in_ok-item+then-not-is_separated, in-Some+in_ok-expect, in_default-closing, in-Call, in-Name+in_ok-name-in-Name+in_ok-single-in-Name+in_ok-push-in-Name, in-Index+in_ok-expect-in-Index+in_ok-index-in-Index+in_ok-settle-in-Index+in_ok-push-in-Index+in_ok-expect-in-Index-2, in-Arguments+in_ok-arguments-in-Arguments+in_ok-append-in-Arguments, in-Quasi+in_ok-list-in-Quasi+in_ok-list-in-Quasi-2+in_ok-listed-in-Quasi+in_ok-push-in-Quasi, then-accept-2+in_ok-right+in_ok-settle+in_ok-nodes-2+in_ok-value-3, else-accept-2, then-in_class, else-in_class, in-Method, else-not-in_class-via-then-not-in_class+else-accept, else-not-in_class-via-else-not-in_class, in-Asks+in_ok-part+in_ok-settle+in_ok-push+in_ok-expect, then-sees+in_ok-arguments-in-New-2+in_ok-append-in-New-2, else-sees, in-Headed, in-Expression+in_ok-part-in-Expression+else-not-is_label+in_ok-push-in-Expression, then-eq+in_ok-what+in_ok-pieces-2, else-eq, in-Variable}
+use Rattle.parser.specs.Stated.{headed_kind}
+use Rattle.parser.proofs.StatementBy.{FirstAt, OnceAt, own_begun, label_begun, pieces_read, for_read, once_read, whole_as, is_for, no_for, headed_text, no_text, statement_made}
+use Rattle.parser.proofs.MethodItems.{method_node, method_item}
 
 pub arguments-returns-clause-derived : goal.arguments-returns-clause-derived
 arguments-returns-clause-derived c = arguments_read c.in_ok-list.list c.in_ok-list-2.field-0 c.open.ensures.text c.open.ensures.same_open c.open.ensures.same_pairs c.in_ok-list.ensures.listed c.in_ok-list.ensures.begun c.in_ok-list-2.ensures.same.0 c.in_ok-list-2.ensures.derived
@@ -549,35 +553,6 @@ value_of-returns-clause-derived c =
           (w.value-is ∙ c.in_ok-value-2.ensures.made.0) w.shape-is (it ∙ ap (λ x. property_item (node Property [] (member_flags false false Shorthand) c.args.start x (part key.node (part c.if-accept-2.value none))) c.if-accept-2.shape) last))
     ]
 
-pub definition-returns-then-accept-clause-derived : goal.definition-returns-then-accept-clause-derived
-definition-returns-then-accept-clause-derived c =
-    let r = c.in_ok-argument.argument in
-    let made = c.in_ok-item.ensures.made.0 in
-    let shape = c.simple-shape.ensures in
-    spread_item c.args.in_class r c.place-start.result _ c.if-not-in_class.true c.place-start.ensures.starts c.accept.ensures.text c.accept.ensures.same_open c.accept.ensures.same_pairs c.if-accept.ensures.accepted c.in_ok-argument.ensures.derived (λ i. record { node = (made i).node; shape = shape i; spreads = (made i).spreads; is_marked = (made i).is_marked; edge = (made i).edge })
-
-pub definition-returns-then-not-is_method-clause-derived : goal.definition-returns-then-not-is_method-clause-derived
-definition-returns-then-not-is_method-clause-derived c =
-    let form = c.in_ok-modifiers.modifiers.form in
-    let start = c.args.self.now.cursor in
-    let here = c.else-not-in_class.self.cursor in
-    let plain : (c.args.in_class ≡ false) × (form ≡ Method) = elim c.if-not-matches.branch [
-      | then-not-matches w ↦ let e : false ≡ true = cc (c.if-not-is_method.true, w.is_method-is) in absurd (false≢true e)
-      | else-not-matches w ↦ elim c.if-in_class.branch [
-        | then-in_class v ↦ let e : false ≡ true = cc (w.if-not-matches.false, v.value-is, v.if-in_class.true) in absurd (false≢true e)
-        | else-in_class v ↦ elim v.match-matches.branch [
-          | in-Method u ↦ (v.if-in_class.false, u.in-Method.is)
-          | in_default u ↦ let e : false ≡ true = cc (w.if-not-matches.false, v.value-is, ap not u.matches-is) in absurd (false≢true e)
-        ]
-      ]
-    ] in
-    let text : here.text ≡ start.text = elim c.else-not-in_class.branch [ else-not-in_class-via-then-not-in_class+else-accept w ↦ ap (λ v. v.cursor.text) w.self-is ∙ w.accept.ensures.text | else-not-in_class-via-else-not-in_class w ↦ ap (λ v. v.cursor.text) w.self-is ] in
-    let opened : here.opened ≡ start.opened = elim c.else-not-in_class.branch [ else-not-in_class-via-then-not-in_class+else-accept w ↦ ap (λ v. v.cursor.opened) w.self-is ∙ w.accept.ensures.same_open | else-not-in_class-via-else-not-in_class w ↦ ap (λ v. v.cursor.opened) w.self-is ] in
-    let same : c.else-not-in_class.self.pairs.items ≡ c.args.self.now.pairs.items = elim c.else-not-in_class.branch [ else-not-in_class-via-then-not-in_class+else-accept w ↦ ap (λ v. v.pairs.items) w.self-is ∙ w.accept.ensures.same_pairs | else-not-in_class-via-else-not-in_class w ↦ ap (λ v. v.pairs.items) w.self-is ] in
-    let stays : here.last ≡ start.last = elim c.else-not-in_class.branch [ else-not-in_class-via-then-not-in_class+else-accept w ↦ ap (λ v. v.cursor.last) w.self-is ∙ w.if-accept.ensures.missed.1 | else-not-in_class-via-else-not-in_class w ↦ ap (λ v. v.cursor.last) w.self-is ] in
-    map_ok c.value_of.result (λ item d. value_item c.args.in_class c.in_ok-modifiers.modifiers c.in_ok-modifiers.key c.place-start.result item plain.0 plain.1 c.place-start.ensures.starts text opened same stays c.property_name.ensures.text c.in_ok-modifiers.ensures.derived d) c.value_of.ensures.derived
-
-
 pub sided-returns-clause-rank : goal.sided-returns-clause-rank
 sided-returns-clause-rank c = rank_of c.args.next.operator c.args.left c.args.next.token.after_break c.in_ok-left.ensures.taken.1 ∙ ap (λ x. Some x.own) (sym c.in_ok-left.ensures.taken.0)
 
@@ -774,3 +749,92 @@ pub statement-returns-then-not-is_label-clause-derived : goal.statement-returns-
 statement-returns-then-not-is_label-clause-derived c =
     evaluated_stated c.args.self.now.cursor c.expression.new.self.cursor c.evaluated.new.self.cursor c.args.self.now.pairs.items c.expression.new.self.pairs.items c.evaluated.new.self.pairs.items c.args.context c.in_ok-part-in-Expression.part c.args.high c.evaluated.result
     c.in_ok-part-in-Expression.ensures.derived c.expression.ensures.text c.evaluated.ensures.same_open c.evaluated.ensures.same_pairs c.evaluated.ensures.made c.evaluated.ensures.fits c.evaluated.ensures.ends
+
+pub statement-returns-clause-derived : goal.statement-returns-clause-derived
+statement-returns-clause-derived c =
+    let s = c.args.self.now in
+    let t = c.in_ok-token.token in
+    let d = c.pieces.new.built in
+    let empty : c.new-built.result.nodes ≡ none = ap (λ b. b.nodes) c.new-built.ensures in
+    let closed_edge : c.new-built.result.edge ≡ Closed = ap (λ b. b.edge) c.new-built.ensures in
+    let first : Adds s.cursor c.match-beginning.self.cursor s.pairs.items c.match-beginning.self.pairs.items (FirstAt s.cursor.text c.args.context (as_read (token_of t)) c.match-beginning.what c.match-beginning.built.nodes) =
+    elim c.match-beginning.branch [
+      | in-Headed w ↦
+          subst (λ v. Adds s.cursor v.cursor s.pairs.items v.pairs.items (FirstAt s.cursor.text c.args.context (as_read (token_of t)) c.match-beginning.what c.match-beginning.built.nodes)) (sym w.self-is)
+          (own_begun c.args.context t c.match-beginning.what c.match-beginning.built.nodes (ap code.Headed w.what-is ∙ sym w.in-Headed.is ∙ c.in_ok-token.ensures.coded) w.pass.ensures.last w.pass.ensures.same_open w.pass.ensures.same_pairs (ap (λ b. b.nodes) w.built-is ∙ empty))
+      | in-Expression+in_ok-part-in-Expression+else-not-is_label+in_ok-push-in-Expression w ↦
+          subst (λ v. Adds s.cursor v.cursor s.pairs.items v.pairs.items (FirstAt s.cursor.text c.args.context (as_read (token_of t)) c.match-beginning.what c.match-beginning.built.nodes)) (sym w.self-is)
+          (label_begun c.args.context (as_read (token_of t)) c.match-beginning.what w.in_ok-part-in-Expression.part c.match-beginning.built.nodes w.in_ok-part-in-Expression.ensures.derived w.if-not-is_label.ensures.label.0 w.if-not-is_label.ensures.label.1 w.what-is
+          (ap (λ b. b.nodes) w.built-is ∙ w.in_ok-push-in-Expression.ensures.pushed ∙ ap (λ ps. push ps w.in_ok-part-in-Expression.part.cover.node) empty))
+    ] in
+    let edge : c.match-beginning.built.edge ≡ Closed = elim c.match-beginning.branch [
+      | in-Headed w ↦ ap (λ b. b.edge) w.built-is ∙ closed_edge
+      | in-Expression+in_ok-part-in-Expression+else-not-is_label+in_ok-push-in-Expression w ↦ ap (λ b. b.edge) w.built-is ∙ closed_edge
+    ] in
+    let same : c.match-beginning.self.cursor.text ≡ s.cursor.text = elim c.match-beginning.branch [
+      | in-Headed w ↦ ap (λ v. v.cursor.text) w.self-is ∙ w.pass.ensures.text
+      | in-Expression+in_ok-part-in-Expression+else-not-is_label+in_ok-push-in-Expression w ↦ ap (λ v. v.cursor.text) w.self-is ∙ w.expression.ensures.text
+    ] in
+    let once : Adds s.cursor c.pieces.new.self.cursor s.pairs.items c.pieces.new.self.pairs.items (OnceAt s.cursor.text c.args.context (as_read (token_of t)) c.match-beginning.what d.nodes d.edge) =
+    pieces_read c.args.context (as_read (token_of t)) c.match-beginning.what c.match-beginning.built.nodes c.match-beginning.built d first refl edge same c.pieces_of.ensures c.in_ok-pieces.ensures.derived in
+    let whole : Adds s.cursor c.if-eq.self.cursor s.pairs.items c.if-eq.self.pairs.items (λ o x y P. StatementAt s.cursor.text (context_role c.args.context) (node (headed_kind c.if-eq.what) (headed_text c.if-eq.what t.text.now) plain t.start y.stop c.if-eq.built.nodes) o x y P) =
+    elim c.if-eq.branch [
+      | then-eq+in_ok-what+in_ok-pieces-2 w ↦
+          subst (λ v. Adds s.cursor v.cursor s.pairs.items v.pairs.items (λ o x y P. StatementAt s.cursor.text (context_role c.args.context) (node (headed_kind c.if-eq.what) (headed_text c.if-eq.what t.text.now) plain t.start y.stop c.if-eq.built.nodes) o x y P)) (sym w.self-is)
+          (whole_as c.args.context t w.in_ok-what.what c.if-eq.what w.pieces-then-eq.new.built.nodes c.if-eq.built.nodes w.what-is (ap (λ b. b.nodes) w.built-is)
+          (for_read c.args.context t w.in_ok-what.what d w.pieces-then-eq.new.built c.in_ok-token.ensures.ahead
+          (subst (λ h. Adds s.cursor c.pieces.new.self.cursor s.pairs.items c.pieces.new.self.pairs.items (OnceAt s.cursor.text c.args.context (as_read (token_of t)) h d.nodes d.edge)) (is_for c.match-beginning.what (sym c.eq.ensures ∙ w.if-eq.true)) once) w.in_ok-what.ensures.followed
+          (c.pieces.ensures.text ∙ same) w.pieces_of-then-eq.ensures w.in_ok-pieces-2.ensures.derived))
+      | else-eq w ↦
+          subst (λ v. Adds s.cursor v.cursor s.pairs.items v.pairs.items (λ o x y P. StatementAt s.cursor.text (context_role c.args.context) (node (headed_kind c.if-eq.what) (headed_text c.if-eq.what t.text.now) plain t.start y.stop c.if-eq.built.nodes) o x y P)) (sym w.self-is)
+          (whole_as c.args.context t c.match-beginning.what c.if-eq.what d.nodes c.if-eq.built.nodes w.what-is (ap (λ b. b.nodes) w.built-is) (once_read c.args.context t c.match-beginning.what d.nodes d.edge c.in_ok-token.ensures.ahead (no_for c.match-beginning.what (sym c.eq.ensures ∙ w.if-eq.false)) once))
+    ] in
+    let word : c.match-what.text.now ≡ headed_text c.if-eq.what t.text.now = elim c.match-what.branch [
+      | in-Variable w ↦ ap (λ x. x.now) w.text-is ∙ ap (λ h. headed_text h t.text.now) (sym w.in-Variable.is)
+      | in_default w ↦ ap (λ x. x.now) w.text-is ∙ no_text c.if-eq.what t.text.now w.in_default.not-Variable
+    ] in
+    statement_made c.args.context (headed_kind c.if-eq.what) (headed_text c.if-eq.what t.text.now) t.start c.args.high c.if-eq.built.nodes c.made.result
+    (subst (λ n. Makes n c.args.high c.made.result) (λ i. node (c.kind.ensures i) (word i) plain (c.span_from-span.ensures i).start (c.span_from-span.ensures i).end c.if-eq.built.nodes) c.made.ensures) whole
+
+pub definition-returns-then-accept-clause-derived : goal.definition-returns-then-accept-clause-derived
+definition-returns-then-accept-clause-derived c =
+    let r = c.in_ok-argument.argument in
+    let made = c.in_ok-item.ensures.made.0 in
+    let shape = c.simple-shape.ensures in
+    spread_item c.args.in_class r c.place-start.result _ c.if-not-in_class.true c.place-start.ensures.starts c.accept.ensures.text c.accept.ensures.same_open c.accept.ensures.same_pairs c.if-accept.ensures.accepted c.in_ok-argument.ensures.derived (λ i. record { node = (made i).node; shape = shape i; spreads = (made i).spreads; is_marked = (made i).is_marked; edge = (made i).edge })
+
+pub definition-returns-then-not-is_method-clause-derived : goal.definition-returns-then-not-is_method-clause-derived
+definition-returns-then-not-is_method-clause-derived c =
+    let form = c.in_ok-modifiers.modifiers.form in
+    let start = c.args.self.now.cursor in
+    let here = c.else-not-in_class.self.cursor in
+    let plain : (c.args.in_class ≡ false) × (form ≡ Method) = elim c.if-not-matches.branch [
+      | then-not-matches w ↦ let e : false ≡ true = cc (c.if-not-is_method.true, w.is_method-is) in absurd (false≢true e)
+      | else-not-matches w ↦ elim c.if-in_class.branch [
+        | then-in_class v ↦ let e : false ≡ true = cc (w.if-not-matches.false, v.value-is, v.if-in_class.true) in absurd (false≢true e)
+        | else-in_class v ↦ elim v.match-matches.branch [
+          | in-Method u ↦ (v.if-in_class.false, u.in-Method.is)
+          | in_default u ↦ let e : false ≡ true = cc (w.if-not-matches.false, v.value-is, ap not u.matches-is) in absurd (false≢true e)
+        ]
+      ]
+    ] in
+    let text : here.text ≡ start.text = elim c.else-not-in_class.branch [ else-not-in_class-via-then-not-in_class+else-accept w ↦ ap (λ v. v.cursor.text) w.self-is ∙ w.accept.ensures.text | else-not-in_class-via-else-not-in_class w ↦ ap (λ v. v.cursor.text) w.self-is ] in
+    let opened : here.opened ≡ start.opened = elim c.else-not-in_class.branch [ else-not-in_class-via-then-not-in_class+else-accept w ↦ ap (λ v. v.cursor.opened) w.self-is ∙ w.accept.ensures.same_open | else-not-in_class-via-else-not-in_class w ↦ ap (λ v. v.cursor.opened) w.self-is ] in
+    let same : c.else-not-in_class.self.pairs.items ≡ c.args.self.now.pairs.items = elim c.else-not-in_class.branch [ else-not-in_class-via-then-not-in_class+else-accept w ↦ ap (λ v. v.pairs.items) w.self-is ∙ w.accept.ensures.same_pairs | else-not-in_class-via-else-not-in_class w ↦ ap (λ v. v.pairs.items) w.self-is ] in
+    let stays : here.last ≡ start.last = elim c.else-not-in_class.branch [ else-not-in_class-via-then-not-in_class+else-accept w ↦ ap (λ v. v.cursor.last) w.self-is ∙ w.if-accept.ensures.missed.1 | else-not-in_class-via-else-not-in_class w ↦ ap (λ v. v.cursor.last) w.self-is ] in
+    map_ok c.value_of.result (λ item d. value_item c.args.in_class c.in_ok-modifiers.modifiers c.in_ok-modifiers.key c.place-start.result item plain.0 plain.1 c.place-start.ensures.starts text opened same stays c.property_name.ensures.text c.in_ok-modifiers.ensures.derived d) c.value_of.ensures.derived
+
+pub definition-returns-clause-derived : goal.definition-returns-clause-derived
+definition-returns-clause-derived c =
+    let start = c.args.self.now.cursor in
+    let here = c.else-not-in_class.self.cursor in
+    let key = c.in_ok-modifiers.key in
+    let words = c.in_ok-modifiers.modifiers in
+    let function = c.in_ok-function.function in
+    let span = c.span_from.ensures in
+    let text : here.text ≡ start.text = elim c.else-not-in_class.branch [ else-not-in_class-via-then-not-in_class+else-accept w ↦ ap (λ v. v.cursor.text) w.self-is ∙ w.accept.ensures.text | else-not-in_class-via-else-not-in_class w ↦ ap (λ v. v.cursor.text) w.self-is ] in
+    let opened : here.opened ≡ start.opened = elim c.else-not-in_class.branch [ else-not-in_class-via-then-not-in_class+else-accept w ↦ ap (λ v. v.cursor.opened) w.self-is ∙ w.accept.ensures.same_open | else-not-in_class-via-else-not-in_class w ↦ ap (λ v. v.cursor.opened) w.self-is ] in
+    let same : c.else-not-in_class.self.pairs.items ≡ c.args.self.now.pairs.items = elim c.else-not-in_class.branch [ else-not-in_class-via-then-not-in_class+else-accept w ↦ ap (λ v. v.pairs.items) w.self-is ∙ w.accept.ensures.same_pairs | else-not-in_class-via-else-not-in_class w ↦ ap (λ v. v.pairs.items) w.self-is ] in
+    let stays : here.last ≡ start.last = elim c.else-not-in_class.branch [ else-not-in_class-via-then-not-in_class+else-accept w ↦ ap (λ v. v.cursor.last) w.self-is ∙ w.if-accept.ensures.missed.1 | else-not-in_class-via-else-not-in_class w ↦ ap (λ v. v.cursor.last) w.self-is ] in
+    let tree : c.in_ok-node.node ≡ method_node c.args.in_class words key function c.place-start.result c.closure.new.self.cursor.last.stop = c.in_ok-node.ensures.0 ∙ (λ i. node (c.method_of-kind.ensures.kind i) [] (c.method_of-kind.ensures.flags i) (span i).start (span i).end (c.in_ok-nodes.ensures.made i)) in
+    method_item c.args.in_class words key function c.place-start.result c.place-from.result c.plain.result c.place-start.ensures.starts text opened same stays c.property_name.ensures.text c.in_ok-modifiers.ensures.derived c.place-from.ensures.starts c.in_ok-function.ensures.derived (c.plain.ensures ∙ ap (λ n. property_item n value) tree)
