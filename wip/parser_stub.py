@@ -32,7 +32,11 @@ for k in keep:
                 mine.append(e)
         if any('pub ' in e for e in mine):
             d=base+'proofs/position/Parser/'+k; os.makedirs(d,exist_ok=True)
-            h2='\n'.join(x for x in h.split('\n') if not ('Goals.{' in x and k!='statements'))
+            def used(x):
+                if 'Goals.{' not in x: return x
+                names=[n for n in x[x.index('{')+1:x.rindex('}')].split(', ') if any(re.search(r'(?<![-\w+.])'+re.escape(n)+r'(?![-\w+])',e) for e in mine)]
+                return x[:x.index('{')+1]+', '.join(names)+'}' if names else None
+            h2='\n'.join(x for x in map(used,h.split('\n')) if x is not None)
             open(d+'/'+f+'.antt','w').write((h2+'\n\n'+'\n\n'.join(mine)).replace('.+grammar.','.'+k+'.')+'\n')
 shutil.rmtree(G,ignore_errors=True)
 for f in glob.glob(src+'src/*.rt'):

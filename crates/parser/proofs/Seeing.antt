@@ -39,11 +39,11 @@ table_allows g Text w = refl
 table_allows g RegExp w = refl
 table_allows g End w = refl
 
-read_allows : (g : Goal) (t : LexicalToken) (w : List ℕ) → t.text ≡ encode_utf8_all w → allows g (as_read t).class (as_read t).text ≡ allows g t.class w
+pub read_allows : (g : Goal) (t : LexicalToken) (w : List ℕ) → t.text ≡ encode_utf8_all w → allows g (as_read t).class (as_read t).text ≡ allows g t.class w
 read_allows g t w e = table_allows g t.class t.text ∙ ap (allows g t.class) e ∙ allows_same g t.class (encode_utf8_all w) w (begins_same 47 (omega arith) w) (begins_same 125 (omega arith) w)
 
 -- the same token, by another goal that allows it
-by_goal : {at : ℕ} {cs : List ℕ} {g : Goal} {t : LexicalToken} {rest : List ℕ} (h : Goal) (x : IsTokenAt g at cs t rest) → IsTrue (allows h t.class x.word) → IsTokenAt h at cs t rest
+pub by_goal : {at : ℕ} {cs : List ℕ} {g : Goal} {t : LexicalToken} {rest : List ℕ} (h : Goal) (x : IsTokenAt g at cs t rest) → IsTrue (allows h t.class x.word) → IsTokenAt h at cs t rest
 by_goal h x al = record {
   gap = x.gap;
   word = x.word;
@@ -107,10 +107,10 @@ module _ (text : List ℕ) where
   none_by p g s none t m r = absurd (none_ahead g s none t m r)
 
   -- the goal behind an operand reads each punctuator and each name
-  mark_by : {w : List ℕ} {s t e : Token} → Reads Token (NextIn text any_goal) itself Punctuator w s t e → By goal.Div s t e
+  pub mark_by : {w : List ℕ} {s t e : Token} → Reads Token (NextIn text any_goal) itself Punctuator w s t e → By goal.Div s t e
   mark_by {t = t} r = record { next = r.next; allowed = subst (λ c. IsTrue (allows goal.Div c t.text)) (sym r.class) (div_allows false t.text) }
 
-  name_by : {w : List ℕ} {s t e : Token} → Reads Token (NextIn text any_goal) itself Name w s t e → By goal.Div s t e
+  pub name_by : {w : List ℕ} {s t e : Token} → Reads Token (NextIn text any_goal) itself Name w s t e → By goal.Div s t e
   name_by {t = t} r = record { next = r.next; allowed = subst (λ c. IsTrue (allows goal.Div c t.text)) (sym r.class) (div_allows true t.text) }
 
   pub class_of : (c d : Class) (b : Bool) → (same_class c d && b) ≡ true → (d ≡ c) × (b ≡ true)

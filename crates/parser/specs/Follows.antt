@@ -9,20 +9,21 @@ use Rattle.token_cursor.specs.Point.{Point, IsAhead}
 use Rattle.tree.specs.declared.kind.Kind.TheVariants.{Identifier, MetaProperty, TemplateElement}
 use Rattle.tree.specs.Tree.{Tree, node, Parts, part, gap, none, plain, part_count}
 use Rattle.covers.specs.declared.list.Listed.{Listed}
+use Rattle.covers.specs.declared.list.Item.{Item}
 use Rattle.covers.specs.declared.list.List.{List as ListOf}
 use Rattle.covers.specs.Lists.{opening, closing, is_ended}
 use Rattle.parser.specs.declared.closures.Closure.{Closure}
 use Rattle.parser.specs.declared.closures.Closure.TheVariants as closure
 use Rattle.parser.specs.declared.links.Linked.{Linked}
 use Rattle.parser.specs.declared.links.Linked.TheVariants as link
-use Rattle.parser.specs.Items.{is_unseparated, list_from}
+use Rattle.parser.specs.Items.{is_unseparated, list_from, with_item}
 use Rattle.covers.specs.declared.list.Listed.TheVariants as listed
 use Rattle.language.specs.Token.{Token}
 use Rattle.parser.specs.Chunks.{front, back}
 use Rattle.parser.specs.Links.{link_by}
 use Rattle.parser.specs.Outcomes.{IsPlaceHere}
-use Rattle.parser.specs.Seen.{MissesBy, Sees, ReadsHere, Misses, NameHere, NoName, is_free_name}
-use Rattle.parser.specs.Tests.{is_later_part}
+use Rattle.parser.specs.Seen.{MissesBy, SeesBy, Sees, ReadsHere, Misses, NameHere, NoName, is_free_name}
+use Rattle.parser.specs.Tests.{is_later_part, is_template}
 use Rattle.parser.specs.Tokens.{single_node}
 
 -- a declaration has a name; a method has none
@@ -38,7 +39,7 @@ may_name _ = true
 -- the name as the first part, or a gap where there is none
 abbrev pub NamedAt : Closure → Point → Point → ℕ → Parts → Type 0
 NamedAt c s e high ps =
-    (NameHere s.text is_free_name s.last e.last × (ps ≡ part (single_node Identifier e.last) none) × (1 ≤ high))
+    ((may_name c ≡ true) × NameHere s.text is_free_name s.last e.last × (ps ≡ part (single_node Identifier e.last) none) × (1 ≤ high))
     ⊎ ((asks_name c ≡ false) × (may_name c ≡ true → NoName s.text is_free_name s.last) × (ps ≡ gap none) × (e.last ≡ s.last))
 
 abbrev pub NotNamed : Closure → Point → ℕ → Fault → Type 0
@@ -104,6 +105,19 @@ chunk_node w last t = node TemplateElement w plain (t.start + 1) (t.stop - lengt
 
 abbrev pub ChunkAt : List ℕ → Token → Token → Tree → Bool → Type 0
 ChunkAt text s e n last = (w : List ℕ) × ReadsHere text Template (front false ++ (w ++ back last)) s e × (n ≡ chunk_node w last e)
+
+-- the first part: its characters stand between "`" and what is behind them
+abbrev pub FirstChunkAt : List ℕ → Token → Token → Tree → Bool → Type 0
+FirstChunkAt text s e n last = (w : List ℕ) × ReadsHere text Template (front true ++ (w ++ back last)) s e × (n ≡ chunk_node w last e)
+
+-- a template is begun by its first part, where a template stands ahead
+pub record BegunTemplate (s e : Point) (l : ListOf) : Type 0 where
+  pub chunk : Item
+  pub list : l ≡ with_item (list_from listed.Template l.span.start) chunk
+  pub read : FirstChunkAt s.text s.last e.last chunk.node chunk.is_marked
+
+abbrev pub TemplateAt : Point → Point → ListOf → Type 0
+TemplateAt s e l = l.listed ≡ listed.Template → SeesBy s.text Div is_template s.last → BegunTemplate s e l
 
 -- semicolons that were passed, one by one
 pub data Semicolons (text : List ℕ) (s : Token) : Token → Type 0 where

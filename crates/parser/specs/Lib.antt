@@ -1,5 +1,8 @@
 pub mod Beginnings
 pub mod Chunks
+pub mod Derived
+pub mod DerivedLists
+pub mod DerivedPieces
 pub mod Follows
 pub mod Items
 pub mod Links

@@ -3,13 +3,20 @@ use Rattle.std.specs.Prelude.{◌≡◌, ℕ, ◌≤◌, ◌<◌, Bool, true, fa
 use Rattle.source_text.specs.declared.fault.Fault.{Fault}
 use Rattle.source_text.specs.declared.fault.Fault.TheVariants.{Syntax, TooDeep, OutOfMemory}
 use Rattle.tokens.specs.Tokens.{LexicalToken}
-use Rattle.tokens.specs.Reading.{Reads}
-use Rattle.tokens.specs.declared.token.Goal.TheVariants.{Div}
+use Rattle.tokens.specs.Reading.{Reads, any_goal}
+use Rattle.tokens.specs.declared.token.Goal.TheVariants.{Div, RegExp}
+use Rattle.language.specs.Token.{Token}
+use Rattle.language.specs.Places.{NextIn, itself}
+use Rattle.language.specs.Promises.{ReadBy}
 use Rattle.token_cursor.specs.Point.{Point, IsPlaceFrom}
 
 -- the place that a syntax error names: where what stands ahead begins
 abbrev pub IsPlaceHere : Point → ℕ → Type 0
 IsPlaceHere p at = IsPlaceFrom p.text p.last.stop at × ((t : LexicalToken) → Reads p.text Div p.last.stop t → at ≡ t.start)
+
+-- where what the goal for operands reads begins
+abbrev pub BeginsBy : Point → ℕ → Type 0
+BeginsBy p at = (t m : Token) → ReadBy Token (NextIn p.text any_goal) itself RegExp p.last t m → at ≡ t.start
 
 -- a syntax error at such a place
 abbrev pub IsSyntaxHere : Point → Fault → Type 0

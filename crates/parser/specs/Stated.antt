@@ -123,14 +123,16 @@ list_parts _ word e span qs ps = join qs ps
 abbrev pub with_list : Built → ListOf → ℕ → Built
 with_list b l e = record b { nodes = list_parts l.listed b.word e l.span b.nodes l.nodes; edge = l.seen.edge }
 
--- the list may be put there
+-- the list may be put there; those that no piece is may not
 abbrev pub takes_listed : Listed → Option Scanned → Bool → ListOf → Bool
 takes_listed (listed.Declarators true) word each l = not l.seen.is_marked
 takes_listed (listed.Declarators false) word each l = takes_head word each l
 takes_listed listed.Parameters word each l = is_bound l.seen.shape
 takes_listed listed.NoParameter word each l = is_bound l.seen.shape
 takes_listed listed.OneParameter word each l = is_bound l.seen.shape
-takes_listed _ word each l = true
+takes_listed (listed.Cases r) word each l = true
+takes_listed listed.Members word each l = true
+takes_listed _ word each l = false
 
 abbrev pub takes_list : Option Scanned → Bool → ListOf → Bool
 takes_list word each l = takes_listed l.listed word each l

@@ -5,6 +5,9 @@ ghost use Rattle.std.specs.Prelude.{◌≡◌, ◌≤◌, IfOk, IfErr, map};
 ghost use Rattle.parser.specs.Pieces.{piece_of, closure_kind, closure_parts};
 ghost use Rattle.parser.specs.Moves.{Passes};
 ghost use Rattle.parser.specs.Follows.{NamedAt, NotNamed};
+ghost use Rattle.parser.specs.Derived.{Adds, ArrowAt};
+ghost use Rattle.tree.specs.Tree.{height};
+ghost use Rattle.parser.specs.DerivedPieces.{ClosureAt};
 ghost use Rattle.parser.specs.Refusals.{IsRefusal};
 
 use crate::part::Part;
@@ -100,6 +103,8 @@ impl<'t, 's> Parser<'t, 's> {
     ) -> Result<Tall<'s>, Fault>
         ensures text { self.new.cursor.text ≡ self.old.cursor.text }
         ensures forward { self.old.cursor.last.stop ≤ self.new.cursor.last.stop }
+        ensures derived { IfOk result (λ n. Adds self.old.cursor self.new.cursor self.old.pairs.items self.new.pairs.items (ClosureAt self.old.cursor.text closure start n)) }
+        ensures low { IfOk result (λ n. height n ≤ high) }
         ensures refused { IfErr result (IsRefusal self.new.cursor.text) }
     {
         let inner = high.saturating_sub(1);
@@ -121,6 +126,8 @@ impl<'t, 's> Parser<'t, 's> {
         ensures text { self.new.cursor.text ≡ self.old.cursor.text }
         ensures forward { self.old.cursor.last.stop ≤ self.new.cursor.last.stop }
         ensures passes { IfOk result (λ _. Passes self.old.cursor self.new.cursor) }
+        ensures derived { IfOk result (λ part. Adds self.old.cursor self.new.cursor self.old.pairs.items self.new.pairs.items (ArrowAt self.old.cursor.text has_in parameters.entry start part)) }
+        ensures low { IfOk result (λ part. height part.cover.node ≤ high) }
         ensures refused { IfErr result (IsRefusal self.new.cursor.text) }
     {
         self.expect("=>")?;

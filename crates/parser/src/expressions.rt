@@ -1,7 +1,7 @@
 //! Expressions (ECMA-262 12.3 to 12.16): what the first token begins, then turn by turn what goes on with it.
 #![tactic(auto, using(crate::proofs::Refused::refusals, crate::proofs::Moves::moves))]
 
-ghost use Rattle.std.specs.Prelude.{◌≡◌, ◌≢◌, ◌≤◌, true, false, IfOk, IfErr};
+ghost use Rattle.std.specs.Prelude.{◌≡◌, ◌≢◌, ◌≤◌, true, false, IfOk, IfErr, Bool, ◌&&◌, not};
 ghost use Rattle.tree.specs.Tree.{height};
 ghost use Rattle.covers.specs.Patterns.{pattern_tree};
 ghost use Rattle.covers.specs.Shapes.{is_target};
@@ -10,6 +10,11 @@ ghost use Rattle.tokens.specs.Scanned.{token_of};
 ghost use Rattle.parser.specs.Moves.{Passes};
 ghost use Rattle.parser.specs.Items.{item_from, list_from, with_item};
 ghost use Rattle.parser.specs.Outcomes.{BecomesHere, IsPlaceHere, RefusedUnless, YieldsWhere};
+ghost use Rattle.parser.specs.Derived.{Adds, ReadAt, ReadsOn, GoesOn};
+ghost use Rattle.language.specs.Follow.{operation, symbol_of};
+ghost use Rattle.language.specs.Token.{as_read};
+ghost use Rattle.language.specs.Words.{is, takes};
+ghost use Rattle.parser.specs.Operators.{coded_operator, meant, stops_by};
 ghost use Rattle.parser.specs.Refusals.{IsRefusal};
 ghost use Rattle.parser.specs.Sides.{left_of, left_symbol, takes_left, sign_of, steps_before, takes_operand, prefixed_node, prefixed_part};
 
@@ -55,6 +60,8 @@ impl<'t, 's> Parser<'t, 's> {
         ensures text { self.new.cursor.text ≡ self.old.cursor.text }
         ensures forward { self.old.cursor.last.stop ≤ self.new.cursor.last.stop }
         ensures passes { IfOk result (λ _. Passes self.old.cursor self.new.cursor) }
+        ensures derived { IfOk result (λ part. Adds self.old.cursor self.new.cursor self.old.pairs.items self.new.pairs.items (ReadAt self.old.cursor.text position part)) }
+        ensures low { IfOk result (λ part. height part.cover.node ≤ high) }
         ensures refused { IfErr result (IsRefusal self.new.cursor.text) }
     {
         let mut part = self.opening(position, high)?;
@@ -76,9 +83,13 @@ impl<'t, 's> Parser<'t, 's> {
     ) -> Result<Part<'s>, Fault>
         requires ahead { IsAhead Goal.Div self.old.cursor.text self.old.cursor.last.stop (token_of next.token) }
         requires real { next.token.class ≢ Class.End }
+        requires coded { coded_operator (operation (as_read (token_of next.token))) next.token.text.now ≡ Some next.operator }
+        requires goes { stops_by position left.edge (as_read (token_of next.token)) ≡ false }
         ensures text { self.new.cursor.text ≡ self.old.cursor.text }
         ensures forward { self.old.cursor.last.stop ≤ self.new.cursor.last.stop }
         ensures passes { IfOk result (λ _. Passes self.old.cursor self.new.cursor) }
+        ensures derived { IfOk result (λ part. Adds self.old.cursor self.new.cursor self.old.pairs.items self.new.pairs.items (ReadsOn self.old.cursor.text position left.entry part)) }
+        ensures low { IfOk result (λ part. height part.cover.node ≤ high) }
         ensures refused { IfErr result (IsRefusal self.new.cursor.text) }
     {
         let start = left.start;
@@ -107,7 +118,8 @@ impl<'t, 's> Parser<'t, 's> {
                 self.pass(next.token);
                 let list = self.list(list, high.saturating_sub(1))?;
                 let edge = list.seen.edge;
-                let node = plain(Kind::SequenceExpression, list.inside, list.nodes, high)?;
+                let span = self.span_from(start);
+                let node = plain(Kind::SequenceExpression, span, list.nodes, high)?;
                 Ok(Part::plain(node, Rank::Expression, edge))
             }
             Operator::Chains => self.chain(left, high),
@@ -130,9 +142,14 @@ impl<'t, 's> Parser<'t, 's> {
     ) -> Result<Part<'s>, Fault>
         requires ahead { IsAhead Goal.Div self.old.cursor.text self.old.cursor.last.stop (token_of next.token) }
         requires real { next.token.class ≢ Class.End }
+        requires coded { coded_operator (operation (as_read (token_of next.token))) next.token.text.now ≡ Some next.operator }
+        requires has_in { (is next.token.text.now "in" && not has_in) ≡ false }
         ensures text { self.new.cursor.text ≡ self.old.cursor.text }
         ensures forward { self.old.cursor.last.stop ≤ self.new.cursor.last.stop }
         ensures passes { IfOk result (λ _. Passes self.old.cursor self.new.cursor) }
+        ensures derived { IfOk result (λ part. Adds self.old.cursor self.new.cursor self.old.pairs.items self.new.pairs.items (GoesOn self.old.cursor.text has_in left.entry part)) }
+        ensures rank { IfOk result (λ part. symbol_of (meant next.entry.operator) next.entry.token.after_break ≡ Some part.rank) }
+        ensures low { IfOk result (λ part. height part.cover.node ≤ high) }
         ensures refused { IfErr result (IsRefusal self.new.cursor.text) }
     {
         let start = left.start;
@@ -250,11 +267,14 @@ impl<'t, 's> Parser<'t, 's> {
     #[tactic(auto, using(crate::proofs::Refused::refusals, crate::proofs::Moves::moves, crate::proofs::Yielding::unless_taken))]
     fn sequence(&self, first: Part<'s>, has_in: bool) -> Result<List<'s>, Fault>
         ensures listed { IfOk result (λ list. list.listed ≡ Listed.Sequence has_in) }
-        ensures begun { IfOk result (λ list. (list ≡ with_item (list_from (Listed.Sequence has_in) first.entry.start) (item_from first.entry.cover.node first.entry.cover.shape false first.entry.edge)) × (first.entry.cover.shape.is_expression ≡ true)) }
-        ensures failed { IfErr result (RefusedUnless (IsPlaceHere self.now.cursor) first.entry.cover.shape.is_expression) }
+        ensures begun { IfOk result (λ list. (list ≡ with_item (list_from (Listed.Sequence has_in) first.entry.start) (item_from first.entry.cover.node first.entry.cover.shape false first.entry.edge)) × ((takes Rank.Assignment first.entry.rank && first.entry.cover.shape.is_expression) ≡ true)) }
+        ensures failed { IfErr result (RefusedUnless (IsPlaceHere self.now.cursor) (takes Rank.Assignment first.entry.rank && first.entry.cover.shape.is_expression)) }
         ensures refused { IfErr result (IsRefusal self.now.cursor.text) }
     {
         let at = self.cursor.place();
+        if !position_takes(Rank::Assignment, first.rank) {
+            return Err(self.refusal());
+        }
         let start = first.start;
         let mut list = List::new(self.alloc, Listed::Sequence { has_in }, start);
         let item = Item {

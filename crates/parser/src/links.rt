@@ -1,7 +1,7 @@
 //! Members, calls, tagged templates and optional chains (ECMA-262 12.3.2 to 12.3.9).
 #![tactic(auto, using(crate::proofs::Refused::refusals, crate::proofs::Moves::moves))]
 
-ghost use Rattle.std.specs.Prelude.{◌≡◌, ◌≤◌, IfOk, IfErr};
+ghost use Rattle.std.specs.Prelude.{◌≡◌, ◌≤◌, IfOk, IfErr, Bool, codes};
 ghost use Rattle.std.specs.Bool.{OnTrue, OnFalse};
 ghost use Rattle.tokens.specs.Scanned.{token_of};
 ghost use Rattle.tokens.specs.declared.token.Goal.TheVariants.{Div};
@@ -9,8 +9,10 @@ ghost use Rattle.language.specs.Token.{as_read};
 ghost use Rattle.parser.specs.Moves.{Passes};
 ghost use Rattle.parser.specs.Follows.{LinkedAt};
 ghost use Rattle.parser.specs.Links.{link_kind, link_flags, link_rank, link_by};
-ghost use Rattle.parser.specs.Seen.{SeesBy, MissesBy};
+ghost use Rattle.parser.specs.Seen.{SeesBy, MissesBy, Sees};
 ghost use Rattle.parser.specs.Tests.{is_link, is_template};
+ghost use Rattle.parser.specs.Derived.{Adds, Links, ArgumentsAt, GoesOn};
+ghost use Rattle.tree.specs.Tree.{height, parts_height};
 ghost use Rattle.parser.specs.Refusals.{IsRefusal};
 
 use crate::openings::listed;
@@ -147,6 +149,8 @@ impl<'t, 's> Parser<'t, 's> {
         ensures text { self.new.cursor.text ≡ self.old.cursor.text }
         ensures forward { self.old.cursor.last.stop ≤ self.new.cursor.last.stop }
         ensures passes { IfOk result (λ _. Passes self.old.cursor self.new.cursor) }
+        ensures derived { IfOk result (λ part. Adds self.old.cursor self.new.cursor self.old.pairs.items self.new.pairs.items (Links self.old.cursor.text left.entry part)) }
+        ensures low { IfOk result (λ part. height part.cover.node ≤ high) }
         ensures refused { IfErr result (IsRefusal self.new.cursor.text) }
     {
         if !position_takes(Rank::Call, left.rank) {
@@ -187,6 +191,8 @@ impl<'t, 's> Parser<'t, 's> {
         ensures text { self.new.cursor.text ≡ self.old.cursor.text }
         ensures forward { self.old.cursor.last.stop ≤ self.new.cursor.last.stop }
         ensures passes { IfOk result (λ _. Passes self.old.cursor self.new.cursor) }
+        ensures derived { IfOk result (λ nodes. Adds self.old.cursor self.new.cursor self.old.pairs.items self.new.pairs.items (ArgumentsAt self.old.cursor.text nodes)) }
+        ensures low { IfOk result (λ nodes. parts_height nodes ≤ high) }
         ensures refused { IfErr result (IsRefusal self.new.cursor.text) }
     {
         let list = self.open(Listed::Arguments, high)?;
@@ -197,9 +203,13 @@ impl<'t, 's> Parser<'t, 's> {
     #[cycle(grammar)]
     #[inline(never)]
     pub(crate) fn chain(&mut self, left: Part<'s>, high: u32) -> Result<Part<'s>, Fault>
+        requires chains { Sees self.old.cursor.text Class.Punctuator (codes "?.") self.old.cursor.last }
         ensures text { self.new.cursor.text ≡ self.old.cursor.text }
         ensures forward { self.old.cursor.last.stop ≤ self.new.cursor.last.stop }
         ensures passes { IfOk result (λ _. Passes self.old.cursor self.new.cursor) }
+        ensures derived { IfOk result (λ part. Adds self.old.cursor self.new.cursor self.old.pairs.items self.new.pairs.items (λ o m e Q. (i : Bool) → GoesOn self.old.cursor.text i left.entry part o m e Q)) }
+        ensures rank { IfOk result (λ part. part.rank ≡ Rank.LeftHandSide) }
+        ensures low { IfOk result (λ part. height part.cover.node ≤ high) }
         ensures refused { IfErr result (IsRefusal self.new.cursor.text) }
     {
         let start = left.start;

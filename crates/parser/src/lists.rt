@@ -1,21 +1,25 @@
 //! Lists (ECMA-262 12.2 to 12.16, 13.3, 13.12, 14.1, 14.6): one loop for all of them, and what each of them lists.
 #![tactic(auto, using(crate::proofs::Refused::refusals, crate::proofs::Moves::moves))]
 
-ghost use Rattle.std.specs.Prelude.{◌⊎◌, codes, ◌≡◌, ◌≤◌, ◌&&◌, IfOk, IfErr, true, false};
+ghost use Rattle.std.specs.Prelude.{◌⊎◌, codes, ◌≡◌, ◌≤◌, ◌&&◌, IfOk, IfErr, true, false, ◌++◌, List as ListOf};
 ghost use Rattle.std.specs.Bool.{OnTrue, OnFalse};
 ghost use Rattle.token_cursor.specs.Point.{IsAhead};
 ghost use Rattle.parser.specs.Moves.{Passes, IsOpened, IsUnseparated};
 ghost use Rattle.parser.specs.Items.{after_item, element_item, element_levels};
-ghost use Rattle.parser.specs.Outcomes.{BecomesHere, IsSyntaxHere, Yields};
-ghost use Rattle.tokens.specs.declared.token.Goal.TheVariants.{TemplateTail};
+ghost use Rattle.parser.specs.Outcomes.{BecomesHere, BeginsBy, IsSyntaxHere, Yields};
+ghost use Rattle.tokens.specs.declared.token.Goal.TheVariants.{Div, TemplateTail};
 ghost use Rattle.tokens.specs.Scanned.{token_of};
-ghost use Rattle.language.specs.Token.{as_read};
-ghost use Rattle.tree.specs.Tree.{part_count};
+ghost use Rattle.language.specs.Token.{as_read, Token as Read};
+ghost use Rattle.tree.specs.Tree.{part_count, height, parts_height};
 ghost use Rattle.covers.specs.Lists.{is_ended};
-ghost use Rattle.parser.specs.Tests.{is_later_part};
-ghost use Rattle.parser.specs.Seen.{ReadsHere, Misses, MissesBy, TokenHere};
+ghost use Rattle.parser.specs.Tests.{is_later_part, is_template};
+ghost use Rattle.parser.specs.Seen.{ReadsHere, Misses, MissesBy, SeesBy, TokenHere};
 ghost use Rattle.parser.specs.Beginnings.{case_word};
-ghost use Rattle.parser.specs.Follows.{Semicolons, PassedBefore, MissesEnd, SeesEnd, end_before, NoChunk, ChunkAt, BegunAt, NotBegun, CommaAt};
+ghost use Rattle.parser.specs.Follows.{Semicolons, PassedBefore, MissesEnd, SeesEnd, end_before, NoChunk, ChunkAt, FirstChunkAt, TemplateAt, BegunAt, NotBegun, CommaAt};
+ghost use Rattle.parser.specs.Derived.{Adds};
+ghost use Rattle.parser.specs.DerivedLists.{SoFarAt, ListAt, ItemAt, ItemReads, SeenRight};
+ghost use Rattle.language.specs.declared.Start.{Start};
+ghost use Rattle.tree.specs.declared.kind.Pair.{Pair};
 ghost use Rattle.parser.specs.Refusals.{IsLimit, IsRefusal};
 ghost use Rattle.covers.specs.Patterns.{pattern_tree};
 ghost use Rattle.covers.specs.Shapes.{is_pattern};
@@ -42,6 +46,7 @@ impl<'t, 's> Parser<'t, 's> {
         ensures same_pairs { self.new.pairs.items ≡ self.old.pairs.items }
         ensures listed { IfOk result (λ list. list.listed ≡ listed) }
         ensures begun { IfOk result (BegunAt self.old.cursor self.new.cursor) }
+        ensures template { IfOk result (TemplateAt self.old.cursor self.new.cursor) }
         ensures not_begun { IfErr result (NotBegun listed self.old.cursor high) }
         ensures refused { IfErr result (IsRefusal self.new.cursor.text) }
     {
@@ -52,8 +57,7 @@ impl<'t, 's> Parser<'t, 's> {
                 self.expect(mark)?;
             }
             None if matches!(listed, Listed::Template) => {
-                let token = self.cursor.take(Goal::Div)?;
-                list.push(chunk(self.alloc, token, high)?, start)?;
+                list.push(self.first_chunk(high)?, start)?;
             }
             None => {}
         }
@@ -128,11 +132,16 @@ impl<'t, 's> Parser<'t, 's> {
     pub(crate) fn list(&mut self, list: List<'s>, high: u32) -> Result<List<'s>, Fault>
         ensures text { self.new.cursor.text ≡ self.old.cursor.text }
         ensures forward { self.old.cursor.last.stop ≤ self.new.cursor.last.stop }
+        ensures derived { IfOk result (λ whole. Adds self.old.cursor self.new.cursor self.old.pairs.items self.new.pairs.items (λ o m e Q. (f : Start) (s : Read) (P : ListOf Pair) → SoFarAt self.old.cursor.text f list.entry o s m P → ListAt self.old.cursor.text f whole o s e (P ++ Q))) }
+        ensures seen { IfOk result (λ whole. SeenRight list.entry → SeenRight whole) }
+        ensures inside { IfOk result (λ whole. list.entry.listed ≡ Listed.Covers → BeginsBy self.old.cursor whole.inside.start) }
+        ensures same { IfOk result (λ whole. (whole.listed ≡ list.entry.listed) × (whole.span.start ≡ list.entry.span.start)) }
+        ensures low { IfOk result (λ whole. parts_height list.entry.nodes ≤ high → parts_height whole.nodes ≤ high) }
         ensures refused { IfErr result (IsRefusal self.new.cursor.text) }
     {
         let mut list = list;
         if !matches!(list.listed, Listed::Sequence { .. }) {
-            list.inside = self.span_from(self.cursor.place());
+            list.inside = self.span_from(self.operand_place());
         }
         'items: while self.has_item(&list) {
             self.item(&mut list, high)?;
@@ -156,14 +165,20 @@ impl<'t, 's> Parser<'t, 's> {
         ensures forward { self.old.cursor.last.stop ≤ self.new.cursor.last.stop }
         ensures passes { IfOk result (λ _. IsUnseparated list.old.listed → Passes self.old.cursor self.new.cursor) }
         ensures listed { list.new.listed ≡ list.old.listed }
+        ensures derived { IfOk result (λ _. Adds self.old.cursor self.new.cursor self.old.pairs.items self.new.pairs.items (ItemAt self.old.cursor.text list.old list.new)) }
+        ensures low { IfOk result (λ _. parts_height list.old.nodes ≤ high → parts_height list.new.nodes ≤ high) }
         ensures refused { IfErr result (IsRefusal self.new.cursor.text) }
     {
         let start = self.cursor.place();
         let inner = high.saturating_sub(1);
         match list.listed {
             Listed::Elements if self.sees(",") => list.push_hole(),
-            Listed::Properties | Listed::Members => {
-                let item = self.definition(list.listed == Listed::Members, high)?;
+            Listed::Properties => {
+                let item = self.definition(false, high)?;
+                list.push(item, self.cursor.place())
+            }
+            Listed::Members => {
+                let item = self.definition(true, high)?;
                 list.push(item, self.cursor.place())
             }
             Listed::Template => {
@@ -188,14 +203,19 @@ impl<'t, 's> Parser<'t, 's> {
                 item.is_marked = is_default;
                 list.push(item, start)
             }
+            Listed::Sequence { has_in } => {
+                let part = self.expression(Position::at(Rank::Assignment, has_in), high)?;
+                let item = self.element(part, false, start, high)?;
+                list.push(item, self.cursor.place())
+            }
             _ => {
-                let (position, spreads) = match list.listed {
-                    Listed::Sequence { has_in } => (Position::at(Rank::Assignment, has_in), false),
-                    _ => (Position::ASSIGNMENT, self.accept("...")),
-                };
-                let limit = if spreads { inner } else { high };
-                let part = self.expression(position, limit)?;
-                let item = self.element(part, spreads, start, high)?;
+                if self.accept("...") {
+                    let part = self.expression(Position::ASSIGNMENT, inner)?;
+                    let item = self.element(part, true, start, high)?;
+                    return list.push(item, self.cursor.place());
+                }
+                let part = self.expression(Position::ASSIGNMENT, high)?;
+                let item = self.element(part, false, start, high)?;
                 list.push(item, self.cursor.place())
             }
         }
@@ -235,6 +255,8 @@ impl<'t, 's> Parser<'t, 's> {
         ensures text { self.new.cursor.text ≡ self.old.cursor.text }
         ensures forward { self.old.cursor.last.stop ≤ self.new.cursor.last.stop }
         ensures passes { IfOk result (λ _. Passes self.old.cursor self.new.cursor) }
+        ensures derived { IfOk result (λ item. Adds self.old.cursor self.new.cursor self.old.pairs.items self.new.pairs.items (ItemReads self.old.cursor.text (Listed.Declarators has_in) item)) }
+        ensures low { IfOk result (λ item. height item.node ≤ high) }
         ensures refused { IfErr result (IsRefusal self.new.cursor.text) }
     {
         let start = self.cursor.place();
@@ -282,6 +304,22 @@ impl<'t, 's> Parser<'t, 's> {
         }
         self.expect_word("case")?;
         Ok(false)
+    }
+
+    // The first part of a template.
+    fn first_chunk(&mut self, high: u32) -> Result<Item<'s>, Fault>
+        ensures text { self.new.cursor.text ≡ self.old.cursor.text }
+        ensures forward { self.old.cursor.last.stop ≤ self.new.cursor.last.stop }
+        ensures passes { IfOk result (λ _. Passes self.old.cursor self.new.cursor) }
+        ensures same_open { self.new.cursor.opened ≡ self.old.cursor.opened }
+        ensures same_pairs { self.new.pairs.items ≡ self.old.pairs.items }
+        ensures plain { IfOk result (λ item. (item.shape.is_expression ≡ true) × (item.spreads ≡ false)) }
+        ensures read { IfOk result (λ item. SeesBy self.old.cursor.text Div is_template self.old.cursor.last → FirstChunkAt self.old.cursor.text self.old.cursor.last self.new.cursor.last item.node item.is_marked) }
+        ensures not_begun { IfErr result (NotBegun Listed.Template self.old.cursor high) }
+        ensures refused { IfErr result (IsRefusal self.new.cursor.text) }
+    {
+        let token = self.cursor.take(Goal::Div)?;
+        chunk(self.alloc, token, high)
     }
 
     // The token of the next part of a template.

@@ -5,6 +5,7 @@ ghost use Rattle.std.specs.Prelude.{◌≡◌, ◌≢◌, ◌≤◌, ◌<◌, �
 ghost use Rattle.token_cursor.specs.Point.{IsAhead};
 ghost use Rattle.source_text.specs.Source.{IsPlace};
 ghost use Rattle.language.specs.Token.{as_read};
+ghost use Rattle.language.specs.Words.{is_identifier};
 ghost use Rattle.language.specs.Opening.{opening_by, opening_of};
 ghost use Rattle.parser.specs.Openings.{coded_opening, stood, opens_at, OpensNothing};
 ghost use Rattle.std.specs.Bool.{OnTrue, OnFalse};
@@ -18,8 +19,9 @@ ghost use Rattle.parser.specs.Moves.{Passes, BeginsList};
 ghost use Rattle.parser.specs.Follows.{target_node, NotTarget};
 ghost use Rattle.parser.specs.Seen.{ReadsHere};
 ghost use Rattle.parser.specs.Items.{listed_kind, listed_node, listed_part, is_grouped, group_levels, list_group};
-ghost use Rattle.parser.specs.Outcomes.{IsPlaceHere, MakesAs, YieldsWhere, RefusedUnder};
+ghost use Rattle.parser.specs.Outcomes.{BeginsBy, IsPlaceHere, MakesAs, YieldsWhere, RefusedUnder};
 ghost use Rattle.parser.specs.Parts.{group_part, plain_part};
+ghost use Rattle.parser.specs.Derived.{Adds, ReadAt, WordedAt};
 ghost use Rattle.parser.specs.Refusals.{IsLimit, IsStop, IsRefusal};
 ghost use Rattle.parser.specs.Tokens.{single_node, single_text};
 
@@ -176,6 +178,8 @@ impl<'t, 's> Parser<'t, 's> {
         ensures text { self.new.cursor.text ≡ self.old.cursor.text }
         ensures forward { self.old.cursor.last.stop ≤ self.new.cursor.last.stop }
         ensures passes { IfOk result (λ _. Passes self.old.cursor self.new.cursor) }
+        ensures derived { IfOk result (λ part. Adds self.old.cursor self.new.cursor self.old.pairs.items self.new.pairs.items (ReadAt self.old.cursor.text position part)) }
+        ensures low { IfOk result (λ part. height part.cover.node ≤ high) }
         ensures refused { IfErr result (IsRefusal self.new.cursor.text) }
     {
         let Some((token, opening)) = self.opens(position) else {
@@ -200,8 +204,10 @@ impl<'t, 's> Parser<'t, 's> {
             Opening::Single(kind) => {
                 self.pass(token);
                 let node = self.single(kind, token, high)?;
-                let is_name = matches!(kind, Kind::Identifier);
-                if is_name && self.sees_arrow() && position_takes(position.rank, Rank::Assignment) {
+                if is_name(kind)
+                    && self.sees_arrow()
+                    && position_takes(position.rank, Rank::Assignment)
+                {
                     let parameter = Nodes::one(self.alloc, node)?;
                     return self.arrow(parameter, token.start, position.has_in, high);
                 }
@@ -251,6 +257,8 @@ impl<'t, 's> Parser<'t, 's> {
     ) -> Result<Part<'s>, Fault>
         ensures text { self.new.cursor.text ≡ self.old.cursor.text }
         ensures forward { self.old.cursor.last.stop ≤ self.new.cursor.last.stop }
+        ensures derived { IfOk result (λ part. Adds self.old.cursor self.new.cursor self.old.pairs.items self.new.pairs.items (WordedAt self.old.cursor.text position token.entry opening part)) }
+        ensures low { IfOk result (λ part. height part.cover.node ≤ high) }
         ensures refused { IfErr result (IsRefusal self.new.cursor.text) }
     {
         let start = token.start;
@@ -312,6 +320,16 @@ impl<'t, 's> Parser<'t, 's> {
         Ok(Part::plain(node, Rank::Member, Edge::Other))
     }
 
+    /// Where what stands ahead begins, where an operand may: by its goal.
+    pub(crate) fn operand_place(&self) -> usize
+        ensures { BeginsBy self.now.cursor result }
+    {
+        match self.cursor.peek(Goal::RegExp) {
+            Some(token) => token.start,
+            None => self.cursor.place(),
+        }
+    }
+
     // What parentheses group, or an arrow function with its parameters in them (12.2.10, 14.2).
     #[cycle(grammar)]
     #[inline(never)]
@@ -319,6 +337,8 @@ impl<'t, 's> Parser<'t, 's> {
         ensures text { self.new.cursor.text ≡ self.old.cursor.text }
         ensures forward { self.old.cursor.last.stop ≤ self.new.cursor.last.stop }
         ensures passes { IfOk result (λ _. Passes self.old.cursor self.new.cursor) }
+        ensures derived { IfOk result (λ part. Adds self.old.cursor self.new.cursor self.old.pairs.items self.new.pairs.items (ReadAt self.old.cursor.text position part)) }
+        ensures low { IfOk result (λ part. height part.cover.node ≤ high) }
         ensures refused { IfErr result (IsRefusal self.new.cursor.text) }
     {
         let (place, start) = self.enter()?;
@@ -386,6 +406,13 @@ fn single_text(kind: Kind, text: &str) -> &str
         Kind::ThisExpression | Kind::Super => "",
         _ => text,
     }
+}
+
+// Whether it is the kind of a name.
+fn is_name(kind: Kind) -> bool
+    ensures { result ≡ is_identifier kind }
+{
+    matches!(kind, Kind::Identifier)
 }
 
 // What parentheses group (12.2.10): an expression, or several with commas between them.

@@ -10,11 +10,13 @@ ghost use Rattle.parser.specs.Moves.{Passes, IfHandler};
 ghost use Rattle.parser.specs.Seen.{SeesBy, MissesBy};
 ghost use Rattle.parser.specs.Tests.{ends_word, is_each};
 ghost use Rattle.parser.specs.Pieces.{piece_of, statement_parts, loop_parts, switch_parts, case_parts, class_parts, parameters_and_body, body_parts, CatchParts};
+ghost use Rattle.parser.specs.Derived.{Adds};
+ghost use Rattle.parser.specs.DerivedPieces.{BuiltAt};
 ghost use Rattle.parser.specs.Refusals.{IsRefusal};
 ghost use Rattle.parser.specs.Outcomes.{BecomesHere, IsPlaceHere, RefusedUnless, RefusedWhere};
 ghost use Rattle.parser.specs.Stated.{built_of, listed_depth, fits_head, head_levels, head_node, list_levels, put_node, takes_head, takes_list, takes_put, with_list, with_part};
 ghost use Rattle.parser.specs.Wants.{wanted_if, wanted_always, WantedAt, NotWanted, LabelAt, NotLabel, TokensAt, NotTokens, WordedAt, NotWorded, ElseAt, FinallyAt, CatchAt, NoCatch, HeritageAt, HeadAt};
-ghost use Rattle.tree.specs.Tree.{none};
+ghost use Rattle.tree.specs.Tree.{none, parts_height};
 
 use crate::part::Part;
 use crate::position::{Parser, Position};
@@ -567,7 +569,8 @@ impl<'t, 's> Parser<'t, 's> {
                 let body = plain(Kind::ClassBody, list.span, list.nodes, high)?;
                 built.nodes.push(body)
             }
-            _ => built.nodes.append(list.nodes),
+            Listed::Declarators { .. } | Listed::Cases { .. } => built.nodes.append(list.nodes),
+            _ => Err(self.refusal()),
         }
     }
 
@@ -623,10 +626,12 @@ impl<'t, 's> Parser<'t, 's> {
     ) -> Result<(), Fault>
         ensures text { self.new.cursor.text ≡ self.old.cursor.text }
         ensures forward { self.old.cursor.last.stop ≤ self.new.cursor.last.stop }
+        ensures derived { IfOk result (λ _. Adds self.old.cursor self.new.cursor self.old.pairs.items self.new.pairs.items (BuiltAt self.old.cursor.text context.returns (map piece_of pieces.now) built.old built.new)) }
+        ensures low { IfOk result (λ _. parts_height built.old.nodes ≤ high → parts_height built.new.nodes ≤ high) }
         ensures refused { IfErr result (IsRefusal self.new.cursor.text) }
     {
         let inner = high.saturating_sub(1);
-        'pieces: for piece in pieces {
+        'each: for piece in pieces {
             match self.wanted(*piece, built, context, high)? {
                 Wanted::Nothing => {}
                 Wanted::Gap => built.nodes.push_gap()?,

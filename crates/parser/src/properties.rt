@@ -13,6 +13,8 @@ ghost use Rattle.language.specs.Token.{as_read};
 ghost use Rattle.parser.specs.Seen.{SeesBy, MissesBy, TokenHere};
 ghost use Rattle.parser.specs.Tests.{is_key_class, is_key, begins_key};
 ghost use Rattle.parser.specs.Modifiers.{Modified, Accessed, Modifying, form_with};
+ghost use Rattle.parser.specs.Derived.{Adds};
+ghost use Rattle.parser.specs.DerivedLists.{NamedSo, defined, ItemReads, ValueAt};
 ghost use Rattle.parser.specs.Refusals.{IsLimit, IsRefusal};
 ghost use Rattle.parser.specs.Tokens.{single_node, key_kind};
 ghost use Rattle.tree.specs.Tree.{height};
@@ -216,6 +218,7 @@ impl<'t, 's> Parser<'t, 's> {
         ensures same_open { self.new.cursor.opened ≡ self.old.cursor.opened }
         ensures same_pairs { self.new.pairs.items ≡ self.old.pairs.items }
         ensures read { IfOk result (λ key. TokenHere self.old.cursor.text Div is_key self.old.cursor.last self.new.cursor.last × KeyRead in_class self.new.cursor.last key key.token) }
+        ensures low { IfOk result (λ key. height key.node ≤ high) }
         ensures no_key { IfErr result (NoKey self.old.cursor high) }
     {
         let token = self.key_token()?;
@@ -252,6 +255,8 @@ impl<'t, 's> Parser<'t, 's> {
         ensures text { self.new.cursor.text ≡ self.old.cursor.text }
         ensures forward { self.old.cursor.last.stop ≤ self.new.cursor.last.stop }
         ensures passes { IfOk result (λ _. Passes self.old.cursor self.new.cursor) }
+        ensures derived { IfOk result (λ named. Adds self.old.cursor self.new.cursor self.old.pairs.items self.new.pairs.items (NamedSo self.old.cursor.text in_class named.0 named.1)) }
+        ensures low { IfOk result (λ named. height named.1.node ≤ high) }
         ensures refused { IfErr result (IsRefusal self.new.cursor.text) }
     {
         let modifiers = self.modifiers(in_class);
@@ -282,6 +287,8 @@ impl<'t, 's> Parser<'t, 's> {
         ensures text { self.new.cursor.text ≡ self.old.cursor.text }
         ensures forward { self.old.cursor.last.stop ≤ self.new.cursor.last.stop }
         ensures passes { IfOk result (λ _. Passes self.old.cursor self.new.cursor) }
+        ensures derived { IfOk result (λ item. Adds self.old.cursor self.new.cursor self.old.pairs.items self.new.pairs.items (ItemReads self.old.cursor.text (defined in_class) item)) }
+        ensures low { IfOk result (λ item. height item.node ≤ high) }
         ensures refused { IfErr result (IsRefusal self.new.cursor.text) }
     {
         let start = self.cursor.place();
@@ -312,6 +319,8 @@ impl<'t, 's> Parser<'t, 's> {
     fn value_of(&mut self, key: Key<'s>, start: usize, high: u32) -> Result<Item<'s>, Fault>
         ensures text { self.new.cursor.text ≡ self.old.cursor.text }
         ensures forward { self.old.cursor.last.stop ≤ self.new.cursor.last.stop }
+        ensures derived { IfOk result (λ item. Adds self.old.cursor self.new.cursor self.old.pairs.items self.new.pairs.items (ValueAt self.old.cursor.text key.entry start item)) }
+        ensures low { IfOk result (λ item. height item.node ≤ high) }
         ensures refused { IfErr result (IsRefusal self.new.cursor.text) }
     {
         let inner = high.saturating_sub(1);

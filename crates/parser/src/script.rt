@@ -1,7 +1,9 @@
 //! Whole scripts (ECMA-262 15.1).
 #![tactic(auto, using(crate::proofs::Refused::refusals, crate::proofs::Moves::moves))]
 
-ghost use Rattle.std.specs.Prelude.{◌≡◌, IfErr};
+ghost use Rattle.std.specs.Prelude.{◌≡◌, ◌≤◌, length, IfErr, IfOk};
+ghost use Rattle.std.specs.Str.{IsUtf8};
+ghost use Rattle.language.specs.Claims.{WithinLimits};
 ghost use Rattle.parser.specs.Refusals.{IsRefusal};
 
 use crate::position::Parser;
@@ -43,6 +45,8 @@ impl<'s> Parsed<'s> {
 /// `Syntax` where no derivation exists, `TooDeep` where none exists within the limits (a height of `MAX_HEIGHT`, and
 /// `MAX_OPEN` parentheses that are open at one point and group or hold an arrow's parameters), `OutOfMemory`.
 pub fn parse<'s>(alloc: Global, source: &Source<'s>) -> Result<Parsed<'s>, Fault>
+    ensures source { IfOk result (λ _. IsUtf8 source.now × (length source.now ≤ 16777216)) }
+    ensures derived { IfOk result (λ parsed. WithinLimits source.now parsed.program parsed.pairs.items) }
     ensures refused { IfErr result (IsRefusal source.now) }
 {
     let mut parser = Parser {
@@ -59,7 +63,7 @@ pub fn parse<'s>(alloc: Global, source: &Source<'s>) -> Result<Parsed<'s>, Fault
     pairs.retain(|pair| pair.left < pair.right);
     let span = Span {
         start: 0,
-        end: source.len(),
+        end: source.text().len(),
     };
     let program = Program::new(items.into_parts(), span);
     Ok(Parsed { program, pairs })

@@ -12,11 +12,13 @@ ghost use Rattle.parser.specs.Tests.{ends};
 ghost use Rattle.parser.specs.Beginnings.{coded_beginning, NothingBegins, HeadFollowed, HeadUnfollowed};
 ghost use Rattle.tokens.specs.Scanned.{token_of};
 ghost use Rattle.parser.specs.Moves.{Passes, IfHeaded};
+ghost use Rattle.parser.specs.Derived.{Adds};
+ghost use Rattle.parser.specs.DerivedPieces.{StatementsAt, StatementAt, context_role};
 ghost use Rattle.parser.specs.Refusals.{IsRefusal};
 ghost use Rattle.parser.specs.Parts.{is_group, is_lone_string};
 ghost use Rattle.parser.specs.Stated.{headed_kind, item_context, inner_context, evaluated_node, evaluated_height, NotEvaluated};
 ghost use Rattle.token_cursor.specs.Ends.{IsEnd};
-ghost use Rattle.tree.specs.Tree.{kind_of};
+ghost use Rattle.tree.specs.Tree.{kind_of, height, parts_height};
 
 use crate::closures::Closure;
 use crate::part::Part;
@@ -249,6 +251,9 @@ impl<'t, 's> Parser<'t, 's> {
     ) -> Result<Nodes<'s>, Fault>
         ensures text { self.new.cursor.text ≡ self.old.cursor.text }
         ensures forward { self.old.cursor.last.stop ≤ self.new.cursor.last.stop }
+        ensures derived { IfOk result (λ nodes. Adds self.old.cursor self.new.cursor self.old.pairs.items self.new.pairs.items (StatementsAt self.old.cursor.text context nodes)) }
+        ensures ended { IfOk result (λ _. SeesBy self.new.cursor.text Div (ends until) self.new.cursor.last) }
+        ensures low { IfOk result (λ nodes. parts_height nodes ≤ high) }
         ensures refused { IfErr result (IsRefusal self.new.cursor.text) }
     {
         let mut context = context;
@@ -268,6 +273,8 @@ impl<'t, 's> Parser<'t, 's> {
         ensures text { self.new.cursor.text ≡ self.old.cursor.text }
         ensures forward { self.old.cursor.last.stop ≤ self.new.cursor.last.stop }
         ensures passes { IfOk result (λ _. Passes self.old.cursor self.new.cursor) }
+        ensures derived { IfOk result (λ n. Adds self.old.cursor self.new.cursor self.old.pairs.items self.new.pairs.items (StatementAt self.old.cursor.text (context_role context) n)) }
+        ensures low { IfOk result (λ n. height n ≤ high) }
         ensures refused { IfErr result (IsRefusal self.new.cursor.text) }
     {
         let (token, beginning) = self.begins(context, high)?;
@@ -339,7 +346,7 @@ impl<'t, 's> Parser<'t, 's> {
         ensures forward { self.old.cursor.last.stop ≤ self.new.cursor.last.stop }
         ensures same_open { self.new.cursor.opened ≡ self.old.cursor.opened }
         ensures same_pairs { self.new.pairs.items ≡ self.old.pairs.items }
-        ensures made { IfOk result (λ n. n ≡ evaluated_node (context.is_prologue && is_lone_string part.entry) part.entry.start self.new.cursor.last.stop part.entry.cover.node) }
+        ensures made { IfOk result (λ n. n ≡ evaluated_node (context.is_item && (context.is_prologue && is_lone_string part.entry)) part.entry.start self.new.cursor.last.stop part.entry.cover.node) }
         ensures fits { IfOk result (λ n. (part.entry.cover.shape.is_expression ≡ true) × (evaluated_height part.entry ≤ high)) }
         ensures ends { IfOk result (λ _. IsEnd self.old.cursor.text (Ending.Behind part.entry.edge) self.old.cursor.last self.new.cursor.last) }
         ensures failed { IfErr result (NotEvaluated self.old.cursor part.entry high) }
@@ -348,7 +355,7 @@ impl<'t, 's> Parser<'t, 's> {
         let start = part.start;
         let edge = part.edge;
         let mut flags = Flags::PLAIN;
-        flags.directive = context.is_prologue && part.is_lone_string();
+        flags.directive = context.is_item && context.is_prologue && part.is_lone_string();
         let nodes = Nodes::one(self.alloc, self.settle(part)?)?;
         self.cursor.semicolon(Ending::Behind(edge))?;
         let span = self.span_from(start);

@@ -1,4 +1,15 @@
 use Rattle.std.proofs.Common.{◌≡◌, ◌-◌, ◌+◌, ◌*◌, ◌≤◌, ◌<◌, length}
+use Rattle.std.specs.Prelude.{◌&&◌, map, take}
+use Rattle.tree.specs.Tree.{height, parts_height}
+use Rattle.parser.specs.Derived.{Adds, ReadAt}
+use Rattle.covers.specs.declared.list.Listed.TheVariants.{Covers}
+use Rattle.parser.specs.DerivedLists.{SeenRight}
+use Rattle.parser.specs.DerivedPieces.{StatementsAt, BuiltAt}
+use Rattle.parser.specs.Outcomes.{BeginsBy}
+use Rattle.parser.specs.Pieces.{piece_of}
+use Rattle.parser.proofs.Chaining.{ChainedOn}
+use Rattle.parser.proofs.Stating.{all_directive}
+use Rattle.parser.proofs.Wholly.{FurtherOn}
 use Rattle.parser.proofs.position.Parser.+grammar.Given as goal
 
 abbrev pub decreases-worded : goal.decreases-worded
@@ -66,6 +77,8 @@ invariant-expression-turns l = record {
   same : l.self.cursor.text ≡ l.fn.self.cursor.text;
   forward : l.fn.self.cursor.last.stop < l.self.cursor.last.stop;
   within : l.fn.self.cursor.last.stop < length l.fn.self.cursor.text;
+  derived : Adds l.fn.self.cursor l.self.cursor l.fn.self.pairs.items l.self.pairs.items (ReadAt l.fn.self.cursor.text l.fn.position l.part);
+  low : height l.part.cover.node ≤ l.fn.high;
 }
 
 abbrev pub decreases-expression-turns : goal.decreases-expression-turns
@@ -76,6 +89,7 @@ invariant-chain-links l = record {
   same : l.self.cursor.text ≡ l.fn.self.cursor.text;
   forward : l.fn.self.cursor.last.stop < l.self.cursor.last.stop;
   within : l.fn.self.cursor.last.stop < length l.fn.self.cursor.text;
+  derived : Adds l.fn.self.cursor l.self.cursor l.fn.self.pairs.items l.self.pairs.items (ChainedOn l.fn.self.cursor.text l.fn.left l.part);
 }
 
 abbrev pub decreases-chain-links : goal.decreases-chain-links
@@ -85,21 +99,34 @@ abbrev pub invariant-list-items : goal.invariant-list-items
 invariant-list-items l = record {
   same : l.self.cursor.text ≡ l.fn.self.cursor.text;
   forward : l.fn.self.cursor.last.stop ≤ l.self.cursor.last.stop;
+  derived : Adds l.fn.self.cursor l.self.cursor l.fn.self.pairs.items l.self.pairs.items (FurtherOn l.fn.self.cursor.text l.fn.list l.list);
+  listed : l.list.listed ≡ l.fn.list.listed;
+  start : l.list.span.start ≡ l.fn.list.span.start;
+  low : parts_height l.fn.list.nodes ≤ l.fn.high → parts_height l.list.nodes ≤ l.fn.high;
+  seen : SeenRight l.fn.list → SeenRight l.list;
+  begins : l.fn.list.listed ≡ Covers → BeginsBy l.fn.self.cursor l.list.inside.start;
 }
 
 abbrev pub decreases-list-items : goal.decreases-list-items
 decreases-list-items l = length l.self.cursor.text - l.self.cursor.last.stop
 
-abbrev pub invariant-pieces-pieces : goal.invariant-pieces-pieces
-invariant-pieces-pieces l = record {
+abbrev pub invariant-pieces-each : goal.invariant-pieces-each
+invariant-pieces-each l = record {
   same : l.self.cursor.text ≡ l.fn.self.cursor.text;
   forward : l.fn.self.cursor.last.stop ≤ l.self.cursor.last.stop;
+  derived : Adds l.fn.self.cursor l.self.cursor l.fn.self.pairs.items l.self.pairs.items (BuiltAt l.fn.self.cursor.text l.fn.context.returns (map piece_of (take l.piece-index l.pieces)) l.fn.built l.built);
+  low : parts_height l.fn.built.nodes ≤ l.fn.high → parts_height l.built.nodes ≤ l.fn.high;
 }
 
 abbrev pub invariant-statements-statements : goal.invariant-statements-statements
 invariant-statements-statements l = record {
   same : l.self.cursor.text ≡ l.fn.self.cursor.text;
   forward : l.fn.self.cursor.last.stop ≤ l.self.cursor.last.stop;
+  derived : Adds l.fn.self.cursor l.self.cursor l.fn.self.pairs.items l.self.pairs.items (StatementsAt l.fn.self.cursor.text l.fn.context l.nodes);
+  items : l.context.is_item ≡ l.fn.context.is_item;
+  returns : l.context.returns ≡ l.fn.context.returns;
+  before : l.context.is_prologue ≡ (l.fn.context.is_prologue && all_directive l.nodes);
+  low : parts_height l.nodes ≤ l.fn.high;
 }
 
 abbrev pub decreases-statements-statements : goal.decreases-statements-statements
