@@ -60,3 +60,4 @@ pub mod ForWays
 pub mod StatementBy
 pub mod StatementWords
 pub mod MethodItems
+pub mod ListEnds
