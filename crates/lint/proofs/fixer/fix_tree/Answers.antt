@@ -29,4 +29,4 @@ returns-clause-fixed c =
     let accepted : Accepted text n pairs = subst (λ m. Accepted text m pairs) (sym c.program-program.ensures) c.in_ok-parsed.ensures.accepted in
     fixes text _ n pairs c.in_ok-plan.plan (IsUtf8-string_bytes c.in_ok-text.text) accepted c.in_ok-plan.ensures
     (c.in_ok-text.ensures.fixed text pairs (1000, accepted.derived.1)
-        (is_planned n c.flags.result.now (λ x. ap (λ (bs : List Bool). is_flagged bs x) c.flags.ensures ∙ c.in_ok-plan.ensures.wrapped x)))
+    (is_planned n c.flags.result.now (λ x. ap (λ (bs : List Bool). is_flagged bs x) c.flags.ensures ∙ c.in_ok-plan.ensures.wrapped x)))

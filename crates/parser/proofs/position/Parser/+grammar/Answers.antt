@@ -72,10 +72,7 @@ use Rattle.parser.proofs.MethodItems.{method_node, method_item}
 use Rattle.covers.specs.Lists.{closing}
 use Rattle.parser.specs.declared.position.Parser.{Parser}
 use Rattle.parser.proofs.ListEnds.{ItemsFrom, closed_list, last_follows, none_follows}
-
 use Rattle.parser.proofs.position.Parser.+grammar.Goals.{declarator-else-has_value+in_ok-push_gap, declarator-else-not-is_name, declarator-then-has_value+in_ok-value+in_ok-settle+in_ok-push, declarator-then-not-is_name, definition-else-in_class, definition-else-not-in_class-via-else-not-in_class, definition-else-not-in_class-via-then-not-in_class+else-accept, definition-else-not-matches, definition-in-Method, definition-in_default, definition-then-in_class, definition-then-not-matches, item-else-is_default, item-in_default-via-in-Elements+else-sees, item-in_default-via-in_default, item-then-is_default+in_ok-push_gap-in-Cases, linked-in-Arguments+in_ok-arguments-in-Arguments+in_ok-append-in-Arguments, linked-in-Call, linked-in-Index+in_ok-expect-in-Index+in_ok-index-in-Index+in_ok-settle-in-Index+in_ok-push-in-Index+in_ok-expect-in-Index-2, linked-in-Name+in_ok-name-in-Name+in_ok-single-in-Name+in_ok-push-in-Name, linked-in-Quasi+in_ok-list-in-Quasi+in_ok-list-in-Quasi-2+in_ok-listed-in-Quasi+in_ok-push-in-Quasi, linked-in_default, list-else-items-test, list-else-not-matches, list-in-Sequence, list-in-Some+in_ok-expect, list-in_default, list-in_default-closing, list-then-items-test+in_ok-item+then-not-is_separated, list-then-not-matches, pieces-in-Binding+in_ok-part-in-Binding+in_ok-put_expression-in-Binding, pieces-in-Block+in_ok-left-in-Block+in_ok-list-in-Block+in_ok-expect-in-Block+in_ok-plain-in-Block+in_ok-push-in-Block, pieces-in-Expression+in_ok-part-in-Expression+in_ok-put_expression-in-Expression, pieces-in-Gap+in_ok-push_gap-in-Gap, pieces-in-Handler+in_ok-pieces-in-Handler+in_ok-plain-in-Handler+in_ok-push-in-Handler, pieces-in-Items+in_ok-statements-in-Items+in_ok-append-in-Items, pieces-in-List+in_ok-list-in-List+in_ok-list-in-List-2+in_ok-put_list-in-List, pieces-in-Nothing, pieces-in-Statement+in_ok-statement-in-Statement+in_ok-push-in-Statement, sided-in-Asks+in_ok-part+in_ok-settle+in_ok-push+in_ok-expect, sided-in_default, statement-else-eq, statement-in-Expression+in_ok-part-in-Expression+else-not-is_label+in_ok-push-in-Expression, statement-in-Headed, statement-in-Variable, statement-in_default, statement-then-eq+in_ok-what+in_ok-pieces-2, statements-else-context, statements-then-context, value_of-else-accept-2, value_of-then-accept-2+in_ok-right+in_ok-settle+in_ok-nodes-2+in_ok-value-3, worded-else-sees, worded-then-sees+in_ok-arguments-in-New-2+in_ok-append-in-New-2}
-
-
 
 pub arguments-returns-clause-derived : goal.arguments-returns-clause-derived
 arguments-returns-clause-derived t c = arguments_read c.in_ok-list.list c.in_ok-list-2.field-0 c.open.ensures.text c.open.ensures.same_open c.open.ensures.same_pairs c.in_ok-list.ensures.listed c.in_ok-list.ensures.begun c.in_ok-list-2.ensures.same.0 c.in_ok-list-2.ensures.derived
@@ -359,7 +356,6 @@ list-returns-clause-seen t c = λ h. same_right c.items-test.list _ refl refl re
       subst SeenRight (sym (w.list-is ∙ w.is_separated.ensures.separated)) (right_after k2 w.is_separated.result (same_right w.item.new.list k2 refl refl refl (right_items c.items.list w.item.new.list w.in_ok-item.ensures.derived (c.items.invariant.seen h))))
 ])
 
-
 pub arrow-returns-then-sees-clause-derived : goal.arrow-returns-then-sees-clause-derived
 arrow-returns-then-sees-clause-derived t c =
     let span = c.span_from-span.ensures in
@@ -463,7 +459,6 @@ opening-returns-then-position_takes-clause-derived t c =
     let sign = c.if-sees_arrow.ensures.seen in
     ok_map (λ r. Adds m c.arrow.new.self.cursor c.pass-in-Single.new.self.pairs.items c.arrow.new.self.pairs.items (ArrowAt m.text c.args.position.has_in c.in_ok-parameter-in-Single.parameter c.in-Some.token.start r)) (λ r. Adds s c.arrow.new.self.cursor c.args.self.now.pairs.items c.arrow.new.self.pairs.items (ReadAt s.text c.args.position r)) c.arrow.result c.arrow.ensures.derived (λ r a.
     name_arrow s m c.arrow.new.self.cursor c.args.position (token_of c.in-Some.token) c.in-Single.kind c.in_ok-parameter-in-Single.parameter c.in-Some.token.start r sign.0 c.pass-in-Single.ensures.text c.pass-in-Single.ensures.same_open c.pass-in-Single.ensures.same_pairs c.pass-in-Single.ensures.reads c.pass-in-Single.ensures.last coded kind parameter refl sign.1 sign.2 (sym c.position_takes.ensures ∙ c.if-position_takes.true) a)
-
 
 pub linked-returns-clause-derived : goal.linked-returns-clause-derived
 linked-returns-clause-derived t c =
@@ -621,7 +616,6 @@ turn-returns-in-Sequences-clause-derived t c =
     c.requires.coded c.in-Sequences.is c.requires.goes begun.0 begun.1 c.in_ok-list-in-Sequences.ensures.listed c.in_ok-list-in-Sequences-2.ensures.same.0 pass.ensures.text pass.ensures.same_open pass.ensures.same_pairs pass.ensures.reads pass.ensures.last
     c.in_ok-list-in-Sequences-2.ensures.derived (c.plain-in-Sequences-2.ensures ∙ ap (λ n. plain_part n Expression list.seen.edge) tree)
 
-
 pub pieces-each-init : goal.pieces-each-init
 pieces-each-init t c = record { same = refl; forward = omega arith; derived = built_first; low = λ h. h }
 
@@ -696,7 +690,6 @@ pieces-each-preserved t c =
           let later = w.list-in-List.ensures.forward in
           record { same = w.list-in-List.ensures.text ∙ w.open.ensures.text ∙ q.text ∙ v.same; forward = omega arith; derived = piece_on c.args.pieces.now _ c.each.piece-index v.same c.each-test.true v.derived p; low = λ h. piece_low p (v.low h) })
     ]
-
 
 pub closure-returns-clause-derived : goal.closure-returns-clause-derived
 closure-returns-clause-derived t c =
