@@ -10,7 +10,7 @@ use Rattle.token_cursor.specs.Point.{Point}
 use Rattle.tree.specs.declared.kind.Kind.{Kind}
 use Rattle.tree.specs.declared.kind.Kind.TheVariants.{ArrayExpression, ObjectExpression, ArrayPattern, ObjectPattern, TemplateLiteral}
 use Rattle.tree.specs.declared.kind.Pair.{Pair}
-use Rattle.tree.specs.Tree.{Tree, node, plain, Parts, none, part, gap, bare, bare_parts, height, kind_of}
+use Rattle.tree.specs.Tree.{Tree, node, plain, Parts, none, part, gap, bare, bare_parts, kind_of}
 use Rattle.covers.specs.declared.shape.Shape.{Shape}
 use Rattle.covers.specs.declared.shape.Assigned.{Assigned}
 use Rattle.covers.specs.declared.shape.Assigned.TheVariants as assigned
@@ -42,7 +42,7 @@ use Rattle.language.proofs.Productions.{spell}
 use Rattle.language.proofs.Running.{run_never}
 use Rattle.language.proofs.Templates.{chunk_found}
 use Rattle.language.proofs.TextPlaces.{text_determined}
-use Rattle.parser.specs.Derived.{RunsIn, Begins, SpelledAs, assigned_at, pattern_at, fits_as, PartAt, bare_role}
+use Rattle.parser.specs.Derived.{RunsIn, Begins, SpelledAs, assigned_at, fits_as, PartAt, bare_role}
 use Rattle.parser.specs.DerivedLists.{ListAt, SoFarAt, is_list_shape, left_of}
 use Rattle.parser.specs.Follows.{BegunTemplate, FirstChunkAt}
 use Rattle.parser.specs.Items.{list_from, with_item, listed_node, listed_part, listed_shape}

@@ -1,6 +1,6 @@
 -- A case, from its word and its pieces (ECMA-262 13.12).
 use Rattle.std.proofs.Common.{◌≡◌, ℕ, Bool, true, false, cond, List, [], ◌∷◌, ◌++◌, refl, sym, ap, ◌∙◌, subst}
-use Rattle.std.specs.Prelude.{Some, codes, map, ◌&&◌, nat_le}
+use Rattle.std.specs.Prelude.{nat_le}
 use Rattle.std.proofs.lemmas.List.{append-nil}
 use Rattle.tokens.specs.Reading.{Reads, any_goal}
 use Rattle.tokens.specs.Tokens.{LexicalToken}
@@ -10,13 +10,11 @@ use Rattle.token_cursor.specs.Point.{Point}
 use Rattle.tree.specs.declared.kind.Kind.TheVariants.{SwitchCase}
 use Rattle.tree.specs.declared.kind.Pair.{Pair}
 use Rattle.tree.specs.Tree.{Tree, node, plain, Parts, none, part, gap, join, kind_of, bare_parts}
-use Rattle.language.specs.declared.Rank.TheVariants.{Expression}
-use Rattle.language.specs.declared.Start.TheVariants.{Any}
 use Rattle.language.specs.declared.Edge.{Edge}
 use Rattle.language.specs.declared.Edge.TheVariants.{Closed}
 use Rattle.language.specs.Words.{is_rest}
 use Rattle.language.specs.Covers.{Reading, as_expression, as_pattern}
-use Rattle.language.specs.Pieces.{Role, PieceOf, item, switch_case, lay, shallower}
+use Rattle.language.specs.Pieces.{item, switch_case, lay, shallower}
 use Rattle.language.specs.Statements.{prologue, lines}
 use Rattle.language.specs.Token.{Token}
 use Rattle.language.specs.Places.{NextIn, itself, SpellsIn}

@@ -1,6 +1,6 @@
 -- Optional chains, from the part before the first `?.` on (ECMA-262 12.3.9).
-use Rattle.std.proofs.Common.{◌≡◌, ℕ, Bool, true, false, cond, List, [], ◌∷◌, ◌++◌, refl, sym, ap, ◌∙◌, subst, append_assoc}
-use Rattle.std.specs.Prelude.{IsTrue, codes, ◌&&◌, ◌||◌}
+use Rattle.std.proofs.Common.{◌≡◌, ℕ, Bool, true, false, cond, List, [], ◌++◌, refl, sym, ap, ◌∙◌, subst, append_assoc}
+use Rattle.std.specs.Prelude.{codes, ◌&&◌, ◌||◌}
 use Rattle.std.proofs.lemmas.List.{append-nil}
 use Rattle.tokens.specs.Reading.{any_goal}
 use Rattle.tokens.specs.declared.token.Class.TheVariants.{Punctuator}
@@ -8,14 +8,13 @@ use Rattle.tokens.specs.declared.token.Goal.TheVariants.{Div}
 use Rattle.token_cursor.specs.Point.{Point}
 use Rattle.tree.specs.declared.kind.Kind.TheVariants.{ChainExpression}
 use Rattle.tree.specs.declared.kind.Pair.{Pair}
-use Rattle.tree.specs.Tree.{Tree, node, plain, Parts, none, part, gap, flags_of, bare, bare_parts}
+use Rattle.tree.specs.Tree.{Tree, node, plain, Parts, none, part, gap, bare, bare_parts}
 use Rattle.language.specs.declared.Rank.TheVariants.{LeftHandSide}
 use Rattle.language.specs.declared.Start.{Start}
 use Rattle.language.specs.declared.Edge.TheVariants.{Other}
 use Rattle.language.specs.Expressions.{is_spine, chained, first_chained}
-use Rattle.language.specs.Pieces.{expr}
 use Rattle.language.specs.Token.{Token}
-use Rattle.language.specs.Places.{NextIn, itself, SpellsIn}
+use Rattle.language.specs.Places.{NextIn, itself}
 use Rattle.language.proofs.Growing.{chain_grows}
 use Rattle.parser.specs.declared.part.Part.{Part}
 use Rattle.parser.specs.Derived.{Adds, Begins, PartAt, LinkAt, Links, GoesOn}

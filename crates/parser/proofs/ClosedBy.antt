@@ -1,30 +1,26 @@
 -- Functions and classes, and the functions of methods, behind their word or from their parameters on (ECMA-262 14.1 to 14.3, 14.6).
-use Rattle.std.proofs.Common.{◌≡◌, ◌⊎◌, inl, inr, ℕ, ◌≤◌, Bool, true, false, not, cond, List, [], ◌∷◌, ◌++◌, Option, Some, None, Result, Ok, Err, refl, sym, ap, ◌∙◌, subst}
-use Rattle.std.specs.Prelude.{codes, IfOk, map}
+use Rattle.std.proofs.Common.{◌≡◌, inl, inr, ℕ, Bool, true, false, not, cond, List, [], ◌∷◌, ◌++◌, Option, Some, None, Result, Ok, Err, refl, sym, ap, ◌∙◌, subst}
+use Rattle.std.specs.Prelude.{IfOk}
 use Rattle.std.proofs.lemmas.List.{append-nil}
 use Rattle.source_text.specs.declared.fault.Fault.{Fault}
-use Rattle.tokens.specs.declared.token.Class.TheVariants.{Name, Punctuator}
 use Rattle.tokens.specs.Reading.{any_goal}
 use Rattle.token_cursor.specs.Point.{Point}
-use Rattle.tree.specs.declared.kind.Form.{Form}
 use Rattle.tree.specs.declared.kind.Form.TheVariants as form
 use Rattle.tree.specs.declared.kind.Kind.{Kind}
 use Rattle.tree.specs.declared.kind.Kind.TheVariants.{Identifier, RestElement}
 use Rattle.tree.specs.declared.kind.Pair.{Pair}
-use Rattle.tree.specs.declared.kind.Span.{Span}
-use Rattle.tree.specs.Tree.{Tree, node, Parts, none, part, gap, join, plain, kind_of, height, bare, bare_parts}
+use Rattle.tree.specs.Tree.{Tree, node, Parts, none, part, gap, join, plain, kind_of, bare, bare_parts}
 use Rattle.productions.specs.Made.{Makes}
 use Rattle.covers.specs.declared.list.Listed.TheVariants as coded
 use Rattle.language.specs.declared.Edge.{Edge}
 use Rattle.language.specs.declared.Rank.TheVariants.{Expression, LeftHandSide}
 use Rattle.language.specs.declared.Start.TheVariants.{Any}
-use Rattle.language.specs.FirstPart.{others}
 use Rattle.language.specs.Words.{is_reserved, is_rest}
-use Rattle.language.specs.Pieces.{Role, expr, name, body, class_body, Piece, PieceOf, tok, sub, absent, lay, put, put_at, sign, term, sp, listed, separator, pattern_element, with_default, only, nothing, is_none, parameters, settle_piece}
-use Rattle.language.specs.Expressions.{given, named, methods}
+use Rattle.language.specs.Pieces.{Role, expr, name, body, class_body, Piece, absent, put, put_at, sign, term, sp, listed, separator, pattern_element, with_default, only, parameters}
+use Rattle.language.specs.Expressions.{given, methods}
 use Rattle.language.specs.Token.{Token}
 use Rattle.language.specs.Places.{NextIn, itself, SpellsIn}
-use Rattle.language.specs.Derivation.{Runs, done, step, within, missing, token, laid}
+use Rattle.language.specs.Derivation.{done, step, within, missing, token, laid}
 use Rattle.language.proofs.Begins.{retell}
 use Rattle.language.proofs.Growing.{kind_bare, none_bare, last_runs}
 use Rattle.language.proofs.Leaves.{name_found}
@@ -36,15 +32,13 @@ use Rattle.parser.specs.declared.closures.Closure.TheVariants as closure
 use Rattle.parser.specs.declared.pieces.Built.{Built}
 use Rattle.parser.specs.Derived.{RunsIn, anywhere, Adds}
 use Rattle.parser.specs.DerivedLists.{part_alone}
-use Rattle.parser.specs.DerivedPieces.{pieces_of, behind_word, closure_pieces, method_form, is_declared, begins_with_part, ClosureAt, PiecesAt, BuiltAt}
+use Rattle.parser.specs.DerivedPieces.{pieces_of, closure_pieces, is_declared, begins_with_part, ClosureAt, PiecesAt, BuiltAt}
 use Rattle.parser.specs.Follows.{asks_name, may_name, NamedAt}
 use Rattle.parser.specs.Pieces as Coded
 use Rattle.parser.specs.Pieces.{closure_kind, closure_parts}
-use Rattle.parser.specs.Seen.{NameHere, is_free_name}
-use Rattle.parser.specs.Stated.{built_of}
 use Rattle.parser.specs.Tokens.{single_node}
 use Rattle.parser.proofs.Deriving.{adds_behind}
-use Rattle.parser.proofs.Parting.{last_one, part_then, gap_then, part_runs, gap_runs}
+use Rattle.parser.proofs.Parting.{last_one, part_then, gap_then, part_runs}
 
 -- places aside, the pieces of parameters are the same
 element_bare : (n : Tree) → pattern_element true (bare n) ≡ pattern_element true n

@@ -1,11 +1,11 @@
 -- Properties of objects and members of classes (ECMA-262 12.2.6, 14.3, 14.6), from their names on.
-use Rattle.std.proofs.Common.{◌≡◌, ℕ, Bool, true, false, cond, List, [], ◌∷◌, ◌++◌, refl, sym, ap, ◌∙◌, subst}
-use Rattle.std.specs.Prelude.{IsTrue, Some, codes, not, ◌&&◌, Result, Ok, Err, IfOk}
+use Rattle.std.proofs.Common.{◌≡◌, ℕ, Bool, true, false, cond, List, [], ◌++◌, refl, sym, ap, ◌∙◌, subst}
+use Rattle.std.specs.Prelude.{IsTrue, Some, codes, ◌&&◌, Result, Ok, Err, IfOk}
 use Rattle.std.proofs.lemmas.Bool.{false≢true}
 use Rattle.tokens.specs.Tokens.{LexicalToken}
 use Rattle.tokens.specs.Reading.{any_goal, Reads as Scans}
 use Rattle.tokens.specs.Goals.{allows}
-use Rattle.tokens.specs.declared.token.Class.TheVariants.{Name, Punctuator}
+use Rattle.tokens.specs.declared.token.Class.TheVariants.{Punctuator}
 use Rattle.tokens.specs.declared.token.Goal.TheVariants.{Div}
 use Rattle.token_cursor.specs.Point.{Point}
 use Rattle.tree.specs.declared.kind.Kind.{Kind}
@@ -13,7 +13,7 @@ use Rattle.tree.specs.declared.kind.Kind.TheVariants.{Identifier, MemberExpressi
 use Rattle.tree.specs.declared.kind.Form.{Form}
 use Rattle.tree.specs.declared.kind.Form.TheVariants.{Get, Set, Method, Init, Shorthand, Constructor}
 use Rattle.tree.specs.declared.kind.Pair.{Pair}
-use Rattle.tree.specs.Tree.{Tree, node, plain, Parts, none, part, kind_of}
+use Rattle.tree.specs.Tree.{node, plain, none, part, kind_of}
 use Rattle.covers.specs.declared.shape.Shape.{Shape}
 use Rattle.covers.specs.declared.shape.Assigned.{Assigned}
 use Rattle.covers.specs.declared.shape.Assigned.TheVariants as assigned

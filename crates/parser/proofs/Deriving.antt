@@ -1,25 +1,24 @@
 -- What was read one behind the other, and the pairs that were added.
-use Rattle.std.proofs.Common.{◌≡◌, ℕ, ◌-◌, Bool, true, false, List, [], ◌∷◌, ◌++◌, refl, sym, ap, ◌∙◌, subst, append_assoc}
-use Rattle.std.specs.Prelude.{IsTrue, map, filter, Option, Some, None, codes}
+use Rattle.std.proofs.Common.{◌≡◌, ℕ, ◌-◌, true, List, [], ◌∷◌, ◌++◌, refl, sym, ap, ◌∙◌, subst, append_assoc}
+use Rattle.std.specs.Prelude.{codes}
 use Rattle.std.proofs.lemmas.List.{append-nil}
 use Rattle.std.proofs.lemmas.List.Elements.{filter-append}
 use Rattle.tokens.specs.Reading.{any_goal}
 use Rattle.tokens.specs.declared.token.Class.TheVariants.{Punctuator}
 use Rattle.token_cursor.specs.Point.{Point}
 use Rattle.tree.specs.declared.kind.Pair.{Pair}
-use Rattle.tree.specs.Tree.{Tree, node, Parts, none, part, gap, join, parts_height}
+use Rattle.tree.specs.Tree.{Parts}
 use Rattle.covers.specs.declared.list.Listed.TheVariants as listed
 use Rattle.covers.specs.declared.list.List.{List as ListOf}
 use Rattle.language.specs.declared.Rank.TheVariants.{Expression}
 use Rattle.language.specs.declared.Start.{Start}
 use Rattle.language.specs.declared.Start.TheVariants.{Any}
 use Rattle.covers.specs.Lists.{opening, closing}
-use Rattle.language.specs.Covers.{Reading, as_expression, as_pattern}
-use Rattle.language.specs.Pieces.{Role, Piece, PieceOf, tok, settle_piece, sign, listed, argument}
+use Rattle.language.specs.Covers.{as_expression, as_pattern}
+use Rattle.language.specs.Pieces.{Role, Piece, PieceOf, settle_piece, sign, listed, argument}
 use Rattle.language.specs.Token.{Token}
 use Rattle.language.specs.Places.{NextIn, itself}
-use Rattle.language.specs.Grammar.{ways}
-use Rattle.language.specs.Derivation.{Runs, done, step, opened, closed, within, missing, Step, token}
+use Rattle.language.specs.Derivation.{done, step, opened, closed, within, missing, Step, token}
 use Rattle.parser.specs.Derived.{RunsIn, anywhere, groups, grouping, Adds, ArgumentsAt}
 use Rattle.parser.specs.DerivedLists.{SoFarAt, ListAt, is_whole, whole_of, stood_in, item_pieces, ClosedBy}
 use Rattle.parser.specs.Follows.{BegunAt}

@@ -1,7 +1,6 @@
 -- Blocks, the bodies of functions and classes, and handlers, from what stands in them (ECMA-262 13.2, 13.15, 14.1, 14.6).
-use Rattle.std.proofs.Common.{◌≡◌, ℕ, Bool, true, false, cond, List, [], ◌∷◌, ◌++◌, refl, sym, ap, ◌∙◌, subst, append_assoc, ◌⊎◌, inl, inr}
-use Rattle.std.specs.Prelude.{codes, ◌&&◌, map, Option, Some}
-use Rattle.std.proofs.lemmas.List.{append-nil}
+use Rattle.std.proofs.Common.{◌≡◌, ℕ, Bool, true, false, cond, List, [], ◌∷◌, ◌++◌, refl, sym, ap, ◌∙◌, subst, append_assoc, inl, inr}
+use Rattle.std.specs.Prelude.{codes, ◌&&◌}
 use Rattle.tokens.specs.Reading.{any_goal}
 use Rattle.tokens.specs.declared.token.Class.TheVariants.{Name, Punctuator}
 use Rattle.tree.specs.declared.kind.Kind.{Kind}
@@ -9,14 +8,12 @@ use Rattle.tree.specs.declared.kind.Kind.TheVariants.{BlockStatement, ClassBody,
 use Rattle.tree.specs.declared.kind.Pair.{Pair}
 use Rattle.tree.specs.Tree.{Tree, node, plain, Parts, none, part, gap, join, bare, bare_parts, kind_of}
 use Rattle.language.specs.declared.Edge.{Edge}
-use Rattle.language.specs.declared.Rank.TheVariants.{Expression}
-use Rattle.language.specs.declared.Start.TheVariants.{Any}
 use Rattle.language.specs.Pieces.{Role, block, body, class_body, handler, item, member, bound, line, deeper, shallower, Piece, many, lay, put, put_at, sign, sp, term, is_none}
 use Rattle.language.specs.Places.{NextIn, itself, SpellsIn}
 use Rattle.language.specs.Statements.{prologue, lines, is_directive, member_lines}
 use Rattle.language.specs.Token.{Token}
 use Rattle.language.specs.Derivation.{done, step, within, missing, token, laid, Placed, placed}
-use Rattle.language.proofs.Blocks.{one_block, one_body, one_class_body, one_handler, block_pieces, body_pieces, class_body_pieces, handler_pieces}
+use Rattle.language.proofs.Blocks.{one_block, one_body, one_class_body, one_handler}
 use Rattle.language.proofs.OneKind.{OneKind, one_kind}
 use Rattle.language.proofs.Running.{run_never}
 use Rattle.language.proofs.Stated.{behind_brace}

@@ -1,5 +1,5 @@
 -- The statement of an expression, and a directive (ECMA-262 13.5, 14.1.1).
-use Rattle.std.proofs.Common.{◌≡◌, ℕ, ◌≤◌, Bool, true, false, not, cond, List, [], ◌∷◌, ◌++◌, Some, None, Result, Ok, Err, refl, sym, ap, ◌∙◌, subst}
+use Rattle.std.proofs.Common.{◌≡◌, ℕ, ◌≤◌, Bool, true, false, not, cond, List, [], ◌∷◌, Some, None, Result, Ok, Err, refl, sym, ap, ◌∙◌, subst}
 use Rattle.std.specs.Prelude.{IsTrue, IfOk, ◌&&◌}
 use Rattle.std.proofs.lemmas.List.{append-nil}
 use Rattle.source_text.specs.declared.fault.Fault.{Fault}
@@ -7,23 +7,21 @@ use Rattle.tokens.specs.Reading.{any_goal}
 use Rattle.token_cursor.specs.Point.{Point}
 use Rattle.token_cursor.specs.Ends.{EndsAt, IsEnd}
 use Rattle.token_cursor.specs.declared.semicolon.Ending.TheVariants.{Behind}
-use Rattle.tree.specs.declared.kind.Kind.{Kind}
-use Rattle.tree.specs.declared.kind.Kind.TheVariants.{Literal, ExpressionStatement}
+use Rattle.tree.specs.declared.kind.Kind.TheVariants.{Literal}
 use Rattle.tree.specs.declared.kind.Pair.{Pair}
-use Rattle.tree.specs.Tree.{Tree, node, Parts, none, part, gap, plain, bare, bare_parts, kind_of, text_of}
-use Rattle.language.specs.declared.Edge.{Edge}
+use Rattle.tree.specs.Tree.{Tree, node, none, part, bare, kind_of, text_of}
 use Rattle.language.specs.declared.Edge.TheVariants.{Other}
 use Rattle.language.specs.declared.Rank.{Rank}
 use Rattle.language.specs.declared.Rank.TheVariants.{Expression, Grouped, Primary}
 use Rattle.language.specs.declared.Start.TheVariants.{Any, Statement}
-use Rattle.language.specs.Words.{takes, is_identifier, tightness}
-use Rattle.language.specs.Edges.{edge, last_edge, standing}
-use Rattle.language.specs.Pieces.{Role, expr, quoted, statement, item, opening, Spelling, PieceOf, at, put, sub, ending, behind}
-use Rattle.language.specs.Statements.{statements, items, openings, end_of, is_string_literal, first_is_string}
+use Rattle.language.specs.Words.{takes, tightness}
+use Rattle.language.specs.Edges.{edge, standing}
+use Rattle.language.specs.Pieces.{expr, quoted, statement, item, opening, Spelling, at, put, sub, ending, behind}
+use Rattle.language.specs.Statements.{statements, items, openings, end_of, is_string_literal}
 use Rattle.language.specs.Grammar.{spellings}
 use Rattle.language.specs.Token.{Token}
 use Rattle.language.specs.Places.{NextIn, itself, SpellsIn}
-use Rattle.language.specs.Derivation.{Step, Among, first, direct, grouped, done, step, within, placed}
+use Rattle.language.specs.Derivation.{Step, first, direct, grouped, done, step, within, placed}
 use Rattle.language.proofs.BareEdges.{edge_bare}
 use Rattle.language.proofs.Beginnings.{made_rank, too_tight}
 use Rattle.language.proofs.Viewed.{way_of, made}
@@ -32,12 +30,11 @@ use Rattle.language.proofs.Domination.{settled}
 use Rattle.language.proofs.Productions.{way_from, in_true, in_false}
 use Rattle.parser.specs.declared.part.Part.{Part}
 use Rattle.parser.specs.declared.statements.Context.{Context}
-use Rattle.parser.specs.Derived.{RunsIn, Adds, PartAt, ReadAt, bare_role}
+use Rattle.parser.specs.Derived.{RunsIn, Adds, ReadAt, bare_role}
 use Rattle.parser.specs.DerivedPieces.{StatementAt, context_role}
 use Rattle.parser.specs.Parts.{is_group, is_lone_string}
 use Rattle.parser.specs.Stated.{evaluated_node, evaluated_height}
-use Rattle.parser.proofs.Deriving.{adds_behind}
-use Rattle.parser.proofs.OwnStated.{role_of, place_of}
+use Rattle.parser.proofs.OwnStated.{role_of}
 use Rattle.parser.proofs.Parting.{adds_before}
 use Rattle.parser.proofs.StatementWays.{end_standing}
 

@@ -1,5 +1,5 @@
 -- A list with one more item: what runs over the rest behind it runs over both (ECMA-262 12.2, 12.3.6, 12.16, 13.3, 13.12, 14.1, 14.6).
-use Rattle.std.proofs.Common.{◌≡◌, ℕ, Bool, true, false, cond, List, [], ◌∷◌, ◌++◌, refl, sym, ap, ◌∙◌, subst, append_assoc}
+use Rattle.std.proofs.Common.{◌≡◌, ℕ, Bool, true, false, cond, List, [], ◌∷◌, ◌++◌, refl, sym, ap, ◌∙◌, subst}
 use Rattle.std.specs.Prelude.{Option, Some, None, codes, map}
 use Rattle.std.proofs.lemmas.List.{append-nil}
 use Rattle.tokens.specs.Reading.{any_goal}
@@ -13,19 +13,18 @@ use Rattle.language.specs.declared.Start.{Start}
 use Rattle.language.specs.declared.Start.TheVariants.{Any}
 use Rattle.language.specs.Covers.{Reading, as_expression, as_pattern, element_as, property_as}
 use Rattle.language.specs.Words.{is_rest}
-use Rattle.language.specs.Pieces.{Role, expr, declarator, switch_case, member, Piece, PieceOf, settle_piece, sign, sp, put, put_at, sub, tail, many, may, nothing, separator, is_none, listed as listed_pieces, elements, argument, pattern_element, with_default}
+use Rattle.language.specs.Pieces.{Role, expr, declarator, switch_case, member, Piece, PieceOf, settle_piece, sign, sp, put_at, sub, tail, many, may, nothing, separator, is_none, listed as listed_pieces, elements, argument, pattern_element, with_default}
 use Rattle.language.specs.Expressions.{assignment, sequence, object_part, object_pattern_part}
 use Rattle.language.specs.Statements.{lines, declarators, member_lines}
-use Rattle.language.specs.Grammar.{ways}
 use Rattle.language.specs.Token.{Token}
 use Rattle.language.specs.Places.{NextIn, itself, SpellsIn}
-use Rattle.language.specs.Derivation.{Runs, done, step, within, missing, token, with_mark, without_mark, no_more, one_more as another, laid}
+use Rattle.language.specs.Derivation.{done, step, within, missing, token, with_mark, without_mark, no_more, one_more as another, laid}
 use Rattle.language.proofs.Running.{run_never}
 use Rattle.covers.specs.declared.list.Listed.{Listed}
 use Rattle.covers.specs.declared.list.Listed.TheVariants as listed
 use Rattle.covers.specs.Patterns.{pattern_tree, pattern_parts}
 use Rattle.parser.specs.Derived.{RunsIn, SpelledAs, read_as, all_read_as}
-use Rattle.parser.specs.DerivedLists.{stood_in, left_of, item_pieces, has_reading, item_role, several, part_alone, is_chunked}
+use Rattle.parser.specs.DerivedLists.{stood_in, left_of, has_reading, item_role, several, is_chunked}
 use Rattle.parser.specs.Follows.{Semicolons, none_passed, one_more}
 use Rattle.parser.specs.Seen.{ReadsHere}
 

@@ -17,7 +17,7 @@ use Rattle.covers.specs.Lists.{closing}
 use Rattle.covers.specs.Patterns.{pattern_tree}
 use Rattle.covers.specs.Shapes.{is_target}
 use Rattle.language.specs.declared.Rank.{Rank}
-use Rattle.language.specs.declared.Rank.TheVariants.{Expression, Assignment, LeftHandSide, Grouped}
+use Rattle.language.specs.declared.Rank.TheVariants.{Expression, Assignment, LeftHandSide}
 use Rattle.language.specs.declared.Start.{Start}
 use Rattle.language.specs.declared.Start.TheVariants.{Any}
 use Rattle.language.specs.declared.Edge.{Edge}
@@ -29,7 +29,7 @@ use Rattle.language.specs.Pieces.{Role, expr, Piece, PieceOf, at, tok, sub, sett
 use Rattle.language.specs.Pieces as pieces
 use Rattle.language.specs.Token.{Token}
 use Rattle.language.specs.Edges.{edge, standing}
-use Rattle.language.specs.Expressions.{arrow_end, sequence, assignment}
+use Rattle.language.specs.Expressions.{sequence, assignment}
 use Rattle.language.specs.Places.{NextIn, itself, SpellsIn}
 use Rattle.language.specs.Derivation.{Placed, placed, pair_of, grouped}
 use Rattle.language.proofs.Begins.{goes_to}
@@ -40,7 +40,7 @@ use Rattle.language.proofs.Running.{run_never, run_the_part, run_none}
 use Rattle.language.proofs.TextPlaces.{text_determined}
 use Rattle.language.proofs.Wholes.{spells_expression}
 use Rattle.parser.specs.Derived.{RunsIn, SpelledAs, assigned_at, target_at, fits_as, minds_in, PartAt}
-use Rattle.parser.specs.DerivedLists.{ListAt, SoFarAt, SeenRight, ClosedBy, is_whole, whole_of, stood_in, item_pieces, several, asks_last}
+use Rattle.parser.specs.DerivedLists.{ListAt, SeenRight, ClosedBy, is_whole, whole_of, stood_in, item_pieces, several, asks_last}
 use Rattle.parser.specs.Items.{group_node, group_shape, is_grouped, are_some, list_group}
 use Rattle.parser.specs.Parts.{group_part}
 use Rattle.parser.specs.Seen.{ReadsHere}

@@ -1,6 +1,6 @@
 -- One item of a list, from what was read: an element, alone or behind `...` (ECMA-262 12.2.5, 12.3.6, 12.15.5, 14.1).
-use Rattle.std.proofs.Common.{arith, ◌≡◌, ℕ, ◌-◌, ◌≤◌, Result, Ok, Err, Bool, true, false, cond, List, [], ◌++◌, refl, sym, ap, ◌∙◌, subst}
-use Rattle.std.specs.Prelude.{IsTrue, Option, Some, None, codes, not, max, ◌&&◌, nat_le}
+use Rattle.std.proofs.Common.{arith, ◌≡◌, ℕ, ◌-◌, ◌≤◌, Result, Ok, Err, Bool, true, false, cond, List, [], refl, sym, ap, ◌∙◌, subst}
+use Rattle.std.specs.Prelude.{IsTrue, Some, codes, not, max, ◌&&◌, nat_le}
 use Rattle.std.specs.Result.{IfOk}
 use Rattle.source_text.specs.declared.fault.Fault.{Fault}
 use Rattle.std.proofs.lemmas.Bool.{and_parts, false≢true}
@@ -13,18 +13,17 @@ use Rattle.tree.specs.declared.kind.Kind.TheVariants.{Identifier, MemberExpressi
 use Rattle.tree.specs.declared.kind.Pair.{Pair}
 use Rattle.tree.specs.Tree.{Tree, node, plain, Parts, none, part, gap, push_gap, kind_of, height, parts_height}
 use Rattle.language.specs.declared.Rank.{Rank}
-use Rattle.language.specs.declared.Rank.TheVariants.{Expression, Assignment, LeftHandSide}
+use Rattle.language.specs.declared.Rank.TheVariants.{Expression, Assignment}
 use Rattle.language.specs.declared.Start.{Start}
 use Rattle.language.specs.declared.Start.TheVariants.{Any}
 use Rattle.language.specs.declared.Edge.TheVariants.{Closed}
-use Rattle.language.specs.Words.{takes as takes_rank, is_identifier, is_target as is_simple, is_pattern as is_pattern_kind, is_rest, is_spread}
+use Rattle.language.specs.Words.{takes as takes_rank, is_target as is_simple, is_rest}
 use Rattle.language.specs.Covers.{Reading, as_expression, as_pattern, element_as}
-use Rattle.language.specs.Edges.{edge, standing}
 use Rattle.language.specs.Grammar.{ways}
-use Rattle.language.specs.Pieces.{Role, expr, name, pattern, spread, rest, element, bound, with_default}
+use Rattle.language.specs.Pieces.{Role, expr, spread, rest, bound, with_default}
 use Rattle.language.specs.Token.{Token}
 use Rattle.language.specs.Places.{NextIn, itself, SpellsIn}
-use Rattle.language.specs.Derivation.{Spells, direct, grouped}
+use Rattle.language.specs.Derivation.{direct, grouped}
 use Rattle.language.proofs.CoverSpreads.{spread_spells, rest_spells, expression_kind}
 use Rattle.language.proofs.TextPlaces.{text_determined}
 use Rattle.language.proofs.Viewed.{way_of}
@@ -47,7 +46,6 @@ use Rattle.parser.specs.DerivedLists.{ItemReads, ItemAt, an_item, a_chunk, is_ch
 use Rattle.parser.specs.Items.{element_item, element_levels, item_from, with_item}
 use Rattle.parser.specs.Follows.{ChunkAt}
 use Rattle.parser.specs.Seen.{ReadsHere}
-use Rattle.parser.specs.Stated.{is_closed}
 use Rattle.parser.proofs.Deriving.{adds_behind}
 use Rattle.parser.proofs.Listing.{place_of}
 use Rattle.parser.proofs.Seeing.{mark_by}

@@ -1,7 +1,6 @@
 -- Names of properties and members, with the words before them (ECMA-262 12.2.6, 14.3, 14.6).
-use Rattle.std.proofs.Common.{◌≡◌, ℕ, Bool, true, false, cond, List, [], ◌∷◌, ◌++◌, refl, sym, ap, ◌∙◌, subst}
-use Rattle.std.specs.Prelude.{Option, Some, None, codes, not, ◌&&◌, ◌||◌}
-use Rattle.std.specs.Str.{bytes_eq, chars}
+use Rattle.std.proofs.Common.{◌≡◌, ℕ, Bool, true, false, List, [], ◌∷◌, refl, sym, ap, ◌∙◌, subst}
+use Rattle.std.specs.Prelude.{Option, Some, None, codes, ◌&&◌, ◌||◌}
 use Rattle.std.proofs.lemmas.Bool.{false≢true}
 use Rattle.std.proofs.lemmas.List.{append-nil}
 use Rattle.tokens.specs.Scanned.{token_of}
@@ -15,9 +14,8 @@ use Rattle.tokens.specs.declared.token.Goal.TheVariants.{Div}
 use Rattle.token_cursor.specs.Point.{Point}
 use Rattle.tree.specs.declared.kind.Kind.TheVariants.{Identifier, Literal}
 use Rattle.tree.specs.declared.kind.Form.{Form}
-use Rattle.tree.specs.declared.kind.Form.TheVariants.{Get, Set, Method}
 use Rattle.tree.specs.declared.kind.Pair.{Pair}
-use Rattle.tree.specs.Tree.{Tree, Parts, none, part}
+use Rattle.tree.specs.Tree.{Tree, none, part}
 use Rattle.language.specs.declared.Rank.TheVariants.{Assignment}
 use Rattle.language.specs.declared.Start.TheVariants.{Any}
 use Rattle.language.specs.Words.{is, is_string, literal_class}
@@ -36,7 +34,7 @@ use Rattle.parser.specs.declared.properties.Modifiers.{Modifiers}
 use Rattle.parser.specs.Derived.{RunsIn, anywhere, Adds, ReadAt, takes_new}
 use Rattle.parser.specs.DerivedLists.{KeyAt, NamedSo, is_called, names_constructor, form_pieces, modifier_pieces}
 use Rattle.parser.specs.Members.{is_constructor, KeyRead}
-use Rattle.parser.specs.Modifiers.{Named, Accessed, gets, sets, get_named, set_named, neither, Modifying, in_object, not_static, static_named, static}
+use Rattle.parser.specs.Modifiers.{Accessed, gets, sets, get_named, set_named, neither, Modifying, in_object, not_static, static_named, static}
 use Rattle.parser.specs.Seen.{ReadsHere, TokenHere}
 use Rattle.parser.specs.Tests.{is_key, is_key_class}
 use Rattle.parser.specs.Tokens.{single_node, key_kind}

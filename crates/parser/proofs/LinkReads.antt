@@ -1,8 +1,7 @@
 -- What a function reads behind the object of a member, a callee or a tag, step by step (ECMA-262 12.3.2 to 12.3.9).
 use Rattle.std.proofs.Common.{◌≡◌, ℕ, Bool, true, false, cond, List, [], ◌∷◌, ◌++◌, refl, sym, ap, ◌∙◌, subst}
-use Rattle.std.specs.Prelude.{IsTrue, Some, None, codes, ◌&&◌}
+use Rattle.std.specs.Prelude.{IsTrue, Some, None, codes}
 use Rattle.std.proofs.lemmas.Bool.{false≢true}
-use Rattle.std.proofs.lemmas.List.{append-nil}
 use Rattle.tokens.specs.Tokens.{LexicalToken}
 use Rattle.tokens.specs.Reading.{any_goal}
 use Rattle.tokens.specs.declared.token.Class.{Class}
@@ -10,9 +9,9 @@ use Rattle.tokens.specs.declared.token.Class.TheVariants.{Name, Punctuator, Temp
 use Rattle.tokens.specs.declared.token.Goal.TheVariants.{Div}
 use Rattle.token_cursor.specs.Point.{Point, IsAhead}
 use Rattle.tree.specs.declared.kind.Kind.{Kind}
-use Rattle.tree.specs.declared.kind.Kind.TheVariants.{Identifier, TemplateLiteral, TemplateElement}
+use Rattle.tree.specs.declared.kind.Kind.TheVariants.{Identifier, TemplateLiteral}
 use Rattle.tree.specs.declared.kind.Pair.{Pair}
-use Rattle.tree.specs.Tree.{Tree, node, plain, Parts, none, part, gap, join, bare_parts}
+use Rattle.tree.specs.Tree.{Tree, node, plain, Parts, none, part, gap, bare_parts}
 use Rattle.covers.specs.declared.list.Item.{Item}
 use Rattle.covers.specs.declared.list.Listed.TheVariants as listed
 use Rattle.covers.specs.declared.list.List.{List as ListOf}
@@ -24,12 +23,12 @@ use Rattle.language.specs.declared.Start.TheVariants.{Any}
 use Rattle.language.specs.declared.Edge.TheVariants.{Other}
 use Rattle.language.specs.Words.{is, takes}
 use Rattle.language.specs.Covers.{Reading, as_expression, as_pattern}
-use Rattle.language.specs.Pieces.{Role, expr, quasi, chunk, tok, put, Spelling, at as at_symbol}
+use Rattle.language.specs.Pieces.{expr, quasi, chunk, put, Spelling, at as at_symbol}
 use Rattle.language.specs.Token.{Token, as_read, table_text, same_class}
 use Rattle.language.specs.Expressions.{chunks}
-use Rattle.language.specs.Grammar.{ways, spellings}
+use Rattle.language.specs.Grammar.{spellings}
 use Rattle.language.specs.Places.{NextIn, itself, SpellsIn}
-use Rattle.language.specs.Derivation.{Reads, direct, placed, Runs, done, step, within, token, first}
+use Rattle.language.specs.Derivation.{Reads, direct, placed, done, step, within, token, first}
 use Rattle.language.specs.Promises.{ReadBy}
 use Rattle.language.proofs.Begins.{goes_to, retell}
 use Rattle.language.proofs.Domination.{settled}
@@ -41,14 +40,13 @@ use Rattle.parser.specs.declared.part.Part.{Part}
 use Rattle.parser.specs.declared.position.Position.{Position}
 use Rattle.parser.specs.declared.links.Linked.{Linked}
 use Rattle.parser.specs.declared.links.Linked.TheVariants as link
-use Rattle.parser.specs.Chunks.{front, back}
 use Rattle.parser.specs.Derived.{RunsIn, Adds, ReadAt, takes_new, ArgumentsAt, Links}
-use Rattle.parser.specs.DerivedLists.{SoFarAt, ListAt, is_whole, whole_of, left_of, stood_in, item_pieces, ClosedBy}
-use Rattle.parser.specs.Follows.{LinkedAt, PassedSign, BegunAt, TemplateAt, BegunTemplate, FirstChunkAt, chunk_node}
+use Rattle.parser.specs.DerivedLists.{SoFarAt, ListAt, whole_of, left_of, stood_in, item_pieces, ClosedBy}
+use Rattle.parser.specs.Follows.{LinkedAt, BegunAt, TemplateAt, BegunTemplate, FirstChunkAt}
 use Rattle.parser.specs.Items.{list_from, with_item, listed_kind, listed_node}
 use Rattle.parser.specs.Links.{link_kind, link_flags, link_rank, link_by}
 use Rattle.parser.specs.Parts.{plain_part}
-use Rattle.parser.specs.Seen.{ReadsHere, Sees, Misses, SeesBy}
+use Rattle.parser.specs.Seen.{ReadsHere, Sees}
 use Rattle.parser.specs.Tests.{is_template}
 use Rattle.parser.specs.Tokens.{single_node}
 use Rattle.parser.proofs.Deriving.{adds_behind, adds_none}

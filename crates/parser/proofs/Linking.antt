@@ -12,27 +12,26 @@ use Rattle.tokens.specs.declared.token.Class.{Class}
 use Rattle.tokens.specs.declared.token.Class.TheVariants.{Name, Punctuator, Template}
 use Rattle.tokens.specs.declared.token.Goal.TheVariants.{Div}
 use Rattle.tree.specs.declared.kind.Kind.{Kind}
-use Rattle.tree.specs.declared.kind.Kind.TheVariants.{Identifier, Super, MemberExpression, CallExpression, TaggedTemplateExpression}
+use Rattle.tree.specs.declared.kind.Kind.TheVariants.{Identifier, MemberExpression, CallExpression, TaggedTemplateExpression}
 use Rattle.tree.specs.declared.kind.Flags.{Flags}
 use Rattle.tree.specs.declared.kind.Pair.{Pair}
 use Rattle.tree.specs.Uses.{is_lean}
-use Rattle.tree.specs.Tree.{Tree, node, plain, Parts, none, part, gap, kind_of, flags_of, bare, bare_parts}
-use Rattle.covers.specs.Shapes.{shape_of, value, target}
+use Rattle.tree.specs.Tree.{Tree, node, plain, Parts, none, part, gap, kind_of, bare, bare_parts}
+use Rattle.covers.specs.Shapes.{value}
 use Rattle.language.specs.declared.Rank.{Rank}
 use Rattle.language.specs.declared.Rank.TheVariants as rank
 use Rattle.language.specs.declared.Rank.TheVariants.{Expression, LeftHandSide, New, Call, Member}
 use Rattle.language.specs.declared.Start.{Start}
 use Rattle.language.specs.declared.Start.TheVariants.{Any}
 use Rattle.language.specs.declared.Edge.TheVariants.{Other}
-use Rattle.language.specs.FirstPart.{others}
 use Rattle.language.specs.Words.{takes, takes_number, tightness, is_super, tags, no_operator}
-use Rattle.language.specs.Pieces.{Role, expr, spine, base, word, quasi, Piece, PieceOf, tok, sub, put, fixed, sign, at, is_tight, is_none, listed, separator, argument, settle_piece, Spelling}
+use Rattle.language.specs.Pieces.{expr, spine, base, word, quasi, Piece, tok, sub, put, fixed, sign, at, is_tight, listed, separator, argument}
 use Rattle.language.specs.Token.{Token, same_class}
-use Rattle.language.specs.Expressions.{arguments, selector, chained, first_chained, member_link, call_link}
+use Rattle.language.specs.Expressions.{arguments, selector, chained}
 use Rattle.language.specs.Places.{NextIn, itself, SpellsIn}
 use Rattle.language.specs.Follow.{of_class, operation, symbol_of}
 use Rattle.language.specs.Promises.{ReadBy}
-use Rattle.language.specs.Derivation.{Reads, Placed, placed, Spells, Runs, done, step, within, token}
+use Rattle.language.specs.Derivation.{Reads, Placed, placed, done, step, within, token}
 use Rattle.language.specs.View.{super_member, super_call}
 use Rattle.language.proofs.Begins.{div_allows, goes_to, retell}
 use Rattle.language.proofs.Fixed.{all_done, one_more, same_pieces, fixed_join, fixed_listed}
@@ -41,14 +40,14 @@ use Rattle.language.proofs.Leaves.{word_found}
 use Rattle.language.proofs.Led.{callee_rank}
 use Rattle.language.proofs.Links.{no_part}
 use Rattle.language.proofs.Productions.{spell, starts_led}
-use Rattle.language.proofs.Suffixes.{suffix_rank, suffix_stands, no_super, arguments_fixed}
+use Rattle.language.proofs.Suffixes.{suffix_rank, suffix_stands, no_super}
 use Rattle.language.proofs.TextPlaces.{text_determined}
 use Rattle.parser.specs.declared.part.Part.{Part}
 use Rattle.parser.specs.declared.links.Linked.{Linked}
 use Rattle.parser.specs.declared.links.Linked.TheVariants as link
 use Rattle.parser.specs.Derived.{RunsIn, anywhere, minds_in, Begins, PartAt, LinkAt, SuperAt, Links, ArgumentsAt}
 use Rattle.parser.specs.Links.{link_kind, link_flags, link_rank}
-use Rattle.parser.specs.Parts.{part_from, plain_part}
+use Rattle.parser.specs.Parts.{plain_part}
 use Rattle.parser.specs.Seen.{ReadsHere, Sees, Misses, SeesBy, MissesBy}
 use Rattle.parser.specs.Tests.{is_template, goes_behind_super}
 use Rattle.parser.specs.Tokens.{single_node}

@@ -14,15 +14,13 @@ use Rattle.tree.specs.declared.kind.Pair.{Pair}
 use Rattle.tree.specs.Tree.{Tree, node, plain, Parts, none, part, gap, kind_of}
 use Rattle.language.specs.declared.Rank.TheVariants.{Assignment, Primary}
 use Rattle.language.specs.declared.Start.TheVariants.{Any}
-use Rattle.language.specs.declared.Edge.{Edge}
 use Rattle.language.specs.declared.Edge.TheVariants.{Closed}
 use Rattle.language.specs.Words.{takes, is_identifier, is_pattern as is_pattern_kind, is_rest}
 use Rattle.language.specs.Covers.{Reading, as_expression, as_pattern}
-use Rattle.language.specs.Edges.{edge, standing}
-use Rattle.language.specs.Pieces.{Role, expr, name, pattern, declarator, bound}
+use Rattle.language.specs.Pieces.{Role, name, pattern, declarator, bound}
 use Rattle.language.specs.Token.{Token, as_read}
 use Rattle.language.specs.Promises.{ReadBy}
-use Rattle.language.specs.Places.{NextIn, next_in, itself, SpellsIn}
+use Rattle.language.specs.Places.{NextIn, next_in, itself}
 use Rattle.language.specs.Derivation.{Placed, placed}
 use Rattle.language.proofs.CoverElements.{a_name, a_target, a_pattern, a_simple, bound_form, BoundForm}
 use Rattle.language.proofs.Declarators.{Target, valued_spells, alone_spells}
@@ -42,7 +40,6 @@ use Rattle.parser.specs.declared.position.Position.{Position}
 use Rattle.parser.specs.Derived.{Adds, grouping, Begins, PartAt, ReadAt, SpelledAs, assigned_at, read_as}
 use Rattle.parser.specs.DerivedLists.{ItemReads, has_reading, item_fits, item_role, may_trail}
 use Rattle.parser.specs.Seen.{ReadsHere}
-use Rattle.parser.specs.Stated.{is_closed}
 use Rattle.parser.proofs.Deriving.{adds_behind, adds_both}
 use Rattle.parser.proofs.Seeing.{by_goal, read_allows, mark_by, name_by}
 

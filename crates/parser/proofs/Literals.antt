@@ -1,5 +1,5 @@
 -- The class of a string, a number or a regular expression is told by its text (ECMA-262 11.8).
-use Rattle.std.proofs.Common.{◌≡◌, ℕ, ◌<◌, Bool, true, false, cond, List, [], ◌∷◌, ◌++◌, get_or, refl, sym, ap, ◌∙◌, arith}
+use Rattle.std.proofs.Common.{◌≡◌, ℕ, ◌<◌, Bool, true, false, cond, List, [], ◌∷◌, refl, ap, ◌∙◌, arith}
 use Rattle.std.specs.Prelude.{IsTrue, nat_eq, nat_le, encode_utf8_all, ◌&&◌, ◌||◌}
 use Rattle.std.proofs.lemmas.Bool.Decides.{nat_tests}
 use Rattle.std.proofs.lemmas.Str.{byte_from_char}
@@ -9,11 +9,10 @@ use Rattle.tokens.specs.Alphabet.{one_of, begins_with, is_decimal_digit}
 use Rattle.tokens.specs.Strings.{closes_string}
 use Rattle.tokens.specs.RegularExpressions.{has_flags, expression_behind, opened}
 use Rattle.tokens.specs.Lexical.{is_of}
-use Rattle.tokens.specs.Tokens.{LexicalToken, IsTokenAt}
 use Rattle.tokens.specs.Reading.{any_goal, behind}
 use Rattle.tokens.proofs.Classes.{token_is, number_begins}
 use Rattle.language.specs.Words.{literal_class}
-use Rattle.language.specs.Token.{Token, table_text, as_read}
+use Rattle.language.specs.Token.{Token, table_text}
 use Rattle.language.specs.Places.{NextIn, next_in}
 
 -- the classes of literals but templates

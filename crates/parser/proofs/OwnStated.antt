@@ -1,8 +1,7 @@
 -- Statements and declarations whose first token is their own, at the position of their context (ECMA-262 13, 14.1, 14.6).
-use Rattle.std.proofs.Common.{◌≡◌, ◌⊎◌, inl, inr, ℕ, Bool, true, false, cond, List, [], ◌∷◌, ◌++◌, Result, Ok, Err, refl, sym, ap, ◌∙◌, subst}
-use Rattle.std.specs.Prelude.{IfOk, codes, ◌&&◌}
+use Rattle.std.proofs.Common.{◌≡◌, ◌⊎◌, inl, inr, ℕ, Bool, true, false, cond, List, ◌∷◌, Result, Ok, Err, refl, sym, ap, subst}
+use Rattle.std.specs.Prelude.{IfOk, ◌&&◌}
 use Rattle.source_text.specs.declared.fault.Fault.{Fault}
-use Rattle.tokens.specs.declared.token.Class.TheVariants.{Name}
 use Rattle.tokens.specs.declared.token.Goal.TheVariants.{RegExp}
 use Rattle.tokens.specs.declared.token.Token.{Token as Scanned}
 use Rattle.tokens.specs.Scanned.{token_of}
@@ -12,13 +11,12 @@ use Rattle.token_cursor.specs.Point.{Point, IsAhead}
 use Rattle.tree.specs.declared.kind.Kind.{Kind}
 use Rattle.tree.specs.declared.kind.Kind.TheVariants as kind
 use Rattle.tree.specs.declared.kind.Pair.{Pair}
-use Rattle.tree.specs.Tree.{Tree, node, Parts, none, part, gap, plain, bare_parts}
+use Rattle.tree.specs.Tree.{Tree, node, Parts, none, part, gap, plain}
 use Rattle.language.specs.Beginning.{Beginning, a_function, a_class, beginning_of, is_own}
-use Rattle.language.specs.Edges.{ends_in_if}
 use Rattle.language.specs.Pieces.{Role, statement, item, opening, name, sign, put}
 use Rattle.language.specs.Expressions.{function_pieces, class_pieces}
 use Rattle.language.specs.Token.{Token, as_read}
-use Rattle.language.specs.Places.{NextIn, itself, SpellsIn}
+use Rattle.language.specs.Places.{NextIn, itself}
 use Rattle.language.specs.Derivation.{place, placed, laid, step}
 use Rattle.language.proofs.Begins.{retell}
 use Rattle.language.proofs.Beginnings.{text_as}
@@ -32,7 +30,6 @@ use Rattle.parser.specs.declared.statements.Context.{Context}
 use Rattle.parser.specs.Beginnings.{coded_beginning}
 use Rattle.parser.specs.Derived.{RunsIn, anywhere, Adds}
 use Rattle.parser.specs.DerivedPieces.{StatementAt, ClosureAt, context_role, behind_word, begins_with_part}
-use Rattle.parser.specs.Seen.{Misses}
 use Rattle.parser.proofs.ClosedBy.{closing_and_body, parameters_bare}
 use Rattle.parser.proofs.Deriving.{adds_behind}
 use Rattle.parser.proofs.Seeing.{ahead_read}

@@ -1,23 +1,17 @@
 -- Pieces that were read one behind the other, by the first of them.
-use Rattle.std.proofs.Common.{◌≡◌, ℕ, ◌-◌, Bool, List, [], ◌∷◌, ◌++◌, refl, sym, ap, ◌∙◌, subst}
+use Rattle.std.proofs.Common.{◌≡◌, ℕ, ◌-◌, List, [], ◌∷◌, ◌++◌, refl, sym, ap, ◌∙◌, subst}
 use Rattle.std.proofs.lemmas.List.{append-nil}
-use Rattle.tokens.specs.declared.token.Class.{Class}
-use Rattle.tokens.specs.Reading.{any_goal}
 use Rattle.tree.specs.declared.kind.Pair.{Pair}
 use Rattle.tree.specs.Tree.{Tree, Parts, none, part, gap, join}
 use Rattle.tree.proofs.Shapes.{join-none}
 use Rattle.language.specs.declared.Edge.{Edge}
-use Rattle.language.specs.declared.Rank.{Rank}
-use Rattle.language.specs.declared.Start.TheVariants.{Any}
-use Rattle.language.specs.Edges.{edge, standing}
-use Rattle.language.specs.Pieces.{Role, expr, PieceOf, tok, sub, absent}
+use Rattle.language.specs.Pieces.{Role, PieceOf, sub, absent}
 use Rattle.language.specs.Token.{Token}
-use Rattle.language.specs.Places.{NextIn, itself, SpellsIn}
-use Rattle.language.specs.Derivation.{step, token, within, missing}
+use Rattle.language.specs.Places.{SpellsIn}
+use Rattle.language.specs.Derivation.{within, missing}
 use Rattle.token_cursor.specs.Point.{Point}
 use Rattle.parser.specs.Derived.{RunsIn, Adds, grouping}
-use Rattle.parser.specs.DerivedPieces.{OneMore, IsToken, IsGap, PutAt, ExpressionPut}
-use Rattle.parser.specs.Seen.{ReadsHere}
+use Rattle.parser.specs.DerivedPieces.{OneMore, IsToken, IsGap}
 
 -- what a piece is from a place on, by where it ends, the right edge behind it, its parts and its pairs
 abbrev pub Reading : Type 1

@@ -1,6 +1,6 @@
 -- A piece that is a block, a body or a handler (ECMA-262 13.2, 13.15, 14.1).
-use Rattle.std.proofs.Common.{◌≡◌, ℕ, ◌-◌, ◌≤◌, Bool, true, false, List, [], ◌∷◌, ◌++◌, refl, sym, ap, ◌∙◌, subst, ◌⊎◌, inl, inr}
-use Rattle.std.specs.Prelude.{IsTrue, codes, map, Option, Some, None}
+use Rattle.std.proofs.Common.{◌≡◌, ℕ, ◌-◌, ◌≤◌, Bool, true, false, List, [], ◌++◌, refl, sym, ap, ◌∙◌, subst, inl}
+use Rattle.std.specs.Prelude.{IsTrue, codes, Some}
 use Rattle.tokens.specs.declared.token.Class.TheVariants.{Name, Punctuator}
 use Rattle.tokens.specs.declared.token.Goal.{Goal}
 use Rattle.tokens.specs.declared.token.Goal.TheVariants as goal
@@ -10,11 +10,10 @@ use Rattle.tokens.specs.Reading.{any_goal, Reads}
 use Rattle.token_cursor.specs.Point.{Point}
 use Rattle.tree.specs.declared.kind.Kind.TheVariants.{BlockStatement, CatchClause}
 use Rattle.tree.specs.declared.kind.Pair.{Pair}
-use Rattle.tree.specs.Tree.{Tree, node, plain, Parts, none, part, gap, join, push, height, parts_height}
+use Rattle.tree.specs.Tree.{Tree, node, plain, Parts, none, part, height}
 use Rattle.language.specs.declared.Edge.{Edge}
-use Rattle.language.specs.Pieces.{block, body, handler}
-use Rattle.language.specs.Places.{NextIn, next_in, itself, SpellsIn}
-use Rattle.language.specs.Statements.{prologue}
+use Rattle.language.specs.Pieces.{block, body}
+use Rattle.language.specs.Places.{NextIn, next_in, SpellsIn}
 use Rattle.language.specs.Token.{Token}
 use Rattle.language.proofs.Begins.{div_allows}
 use Rattle.parser.specs.declared.pieces.Built.{Built}
@@ -22,7 +21,7 @@ use Rattle.parser.specs.declared.pieces.Piece.{Piece as Coded}
 use Rattle.parser.specs.declared.pieces.Piece.TheVariants as code
 use Rattle.parser.specs.declared.pieces.Wanted.TheVariants as wanted
 use Rattle.parser.specs.declared.statements.Context.{Context}
-use Rattle.parser.specs.Derived.{RunsIn, anywhere, Adds, grouping}
+use Rattle.parser.specs.Derived.{Adds, grouping}
 use Rattle.parser.specs.DerivedPieces.{PieceAt, PutAt, StatementsAt, BuiltAt}
 use Rattle.parser.specs.Outcomes.{IsPlaceHere}
 use Rattle.parser.specs.Pieces.{Piece, piece_of, CatchParts}

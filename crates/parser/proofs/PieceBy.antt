@@ -1,18 +1,17 @@
 -- One more piece of a statement, a function or a class, and what it adds to those before it (ECMA-262 clauses 13 and 14).
-use Rattle.std.proofs.Common.{◌≡◌, ℕ, suc, ◌+◌, ◌<◌, ◌≤◌, Bool, true, false, List, [], ◌∷◌, ◌++◌, length, get_or, take, refl, sym, ap, ◌∙◌, subst, append_assoc, ◌⊎◌, inl, inr, add-one, arith}
-use Rattle.std.specs.Prelude.{map, codes}
+use Rattle.std.proofs.Common.{◌≡◌, ℕ, suc, ◌+◌, ◌<◌, ◌≤◌, Bool, List, [], ◌∷◌, ◌++◌, length, get_or, take, refl, sym, ap, ◌∙◌, subst, append_assoc, add-one, arith}
+use Rattle.std.specs.Prelude.{map}
 use Rattle.std.proofs.lemmas.List.{append-nil}
 use Rattle.token_cursor.specs.Point.{Point}
-use Rattle.tree.specs.declared.kind.Kind.TheVariants.{Identifier}
 use Rattle.tree.specs.declared.kind.Pair.{Pair}
-use Rattle.tree.specs.Tree.{Tree, Parts, none, part, gap, join, push, push_gap, parts_height}
-use Rattle.tree.proofs.Shapes.{join-none, join-assoc, push-join, parts_height-join}
+use Rattle.tree.specs.Tree.{Parts, none, part, gap, join, push_gap, parts_height}
+use Rattle.tree.proofs.Shapes.{join-none, join-assoc, parts_height-join}
 use Rattle.language.specs.declared.Edge.{Edge}
 use Rattle.language.specs.Token.{Token}
 use Rattle.parser.specs.declared.pieces.Built.{Built}
 use Rattle.parser.specs.declared.pieces.Piece.{Piece as Coded}
 use Rattle.parser.specs.Derived.{Adds}
-use Rattle.parser.specs.DerivedPieces.{BuiltAt, PiecesAt, PieceAt, OneMore}
+use Rattle.parser.specs.DerivedPieces.{BuiltAt, PiecesAt, PieceAt}
 use Rattle.parser.specs.Pieces.{Piece, piece_of}
 use Rattle.parser.proofs.Deriving.{adds_both, adds_none}
 

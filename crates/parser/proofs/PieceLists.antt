@@ -1,6 +1,6 @@
 -- A piece that is a list, and the declaration in the head of a `for` (ECMA-262 13.3, 13.7, 13.12, 14.1, 14.6).
-use Rattle.std.proofs.Common.{◌≡◌, ℕ, ◌+◌, ◌-◌, ◌<◌, ◌≤◌, Bool, true, false, cond, List, [], ◌∷◌, ◌++◌, refl, sym, ap, ◌∙◌, subst, ◌⊎◌, inl, inr, arith}
-use Rattle.std.specs.Prelude.{IsTrue, codes, map, not, ◌&&◌, ◌||◌, nat_le, nat_eq, Option, Some, None}
+use Rattle.std.proofs.Common.{◌≡◌, ℕ, ◌-◌, ◌≤◌, Bool, true, false, cond, List, [], ◌∷◌, ◌++◌, refl, sym, ap, ◌∙◌, subst, inl, arith}
+use Rattle.std.specs.Prelude.{codes, not, ◌&&◌, ◌||◌, nat_le, nat_eq, Option, Some, None}
 use Rattle.std.specs.Bool.{OnTrue, OnFalse}
 use Rattle.std.proofs.lemmas.Bool.Decides.{nat_tests}
 use Rattle.tokens.specs.Reading.{any_goal}
@@ -13,7 +13,7 @@ use Rattle.tree.specs.declared.kind.Kind.{Kind}
 use Rattle.tree.specs.declared.kind.Kind.TheVariants as kind
 use Rattle.tree.specs.declared.kind.Pair.{Pair}
 use Rattle.tree.specs.declared.kind.Span.{Span}
-use Rattle.tree.specs.Tree.{Tree, node, plain, Parts, none, part, gap, join, push, part_count, kind_of, height, parts_height, bare, bare_parts}
+use Rattle.tree.specs.Tree.{Tree, node, plain, Parts, none, part, gap, join, part_count, kind_of, height, parts_height, bare_parts}
 use Rattle.tree.proofs.Shapes.{push-join}
 use Rattle.covers.specs.declared.list.Listed.{Listed}
 use Rattle.covers.specs.declared.list.Listed.TheVariants as listed
@@ -21,20 +21,19 @@ use Rattle.covers.specs.declared.list.List.{List as ListOf}
 use Rattle.covers.specs.Lists.{opening, closing}
 use Rattle.covers.specs.Patterns.{pattern_tree, pattern_parts, pattern_kind}
 use Rattle.covers.proofs.Patterns.{same_parts_height}
-use Rattle.language.specs.declared.Edge.{Edge}
 use Rattle.language.specs.declared.Rank.TheVariants.{Expression}
 use Rattle.language.specs.declared.Start.{Start}
 use Rattle.language.specs.declared.Start.TheVariants.{Any}
 use Rattle.language.specs.Covers.{Reading, as_expression, as_pattern}
 use Rattle.language.specs.Edges.{last_edge, standing}
 use Rattle.language.specs.Pieces.{class_body, declarator, head, switch_case, Piece, PieceOf, many, sign, pattern_element, sp, nothing, listed as listed_pieces}
-use Rattle.language.specs.Statements.{declarators, defaults, lines, member_lines, is_one}
+use Rattle.language.specs.Statements.{declarators, defaults, lines, is_one}
 use Rattle.language.specs.Places.{NextIn, itself, SpellsIn}
 use Rattle.language.specs.Token.{Token, as_read, table_text}
-use Rattle.language.specs.Derivation.{Runs, done, step, within, token, laid, Placed, placed}
+use Rattle.language.specs.Derivation.{step, token, laid, placed}
 use Rattle.language.proofs.Running.{run_never, run_the_part}
 use Rattle.language.proofs.TextPlaces.{text_determined}
-use Rattle.language.proofs.HeadWays.{head_sole, behind_head}
+use Rattle.language.proofs.HeadWays.{head_sole}
 use Rattle.language.proofs.Blocks.{one_declarator}
 use Rattle.language.proofs.OneKind.{one_kind}
 use Rattle.parser.specs.declared.pieces.Built.{Built}
@@ -42,12 +41,11 @@ use Rattle.parser.specs.declared.pieces.Piece.{Piece as Coded}
 use Rattle.parser.specs.declared.pieces.Piece.TheVariants as code
 use Rattle.parser.specs.declared.pieces.Wanted.TheVariants as wanted
 use Rattle.parser.specs.Derived.{RunsIn, anywhere, Adds, all_read_as}
-use Rattle.parser.specs.DerivedLists.{SoFarAt, ListAt, SeenRight, is_whole, whole_of, stood_in, item_pieces, ClosedBy, part_alone, no_part, so_far_fits, case_count, asks_edge}
+use Rattle.parser.specs.DerivedLists.{SoFarAt, ListAt, SeenRight, whole_of, stood_in, item_pieces, ClosedBy, part_alone, no_part, case_count, asks_edge}
 use Rattle.parser.specs.DerivedPieces.{PieceAt, PutAt, ListPut, HeadPut, a_declaration, EachAt}
 use Rattle.parser.specs.Follows.{BegunAt}
 use Rattle.parser.specs.Items.{list_from, is_unseparated}
-use Rattle.parser.specs.Outcomes.{IsPlaceHere}
-use Rattle.parser.specs.Pieces.{Piece as Parsed, piece_of}
+use Rattle.parser.specs.Pieces.{piece_of}
 use Rattle.parser.specs.Seen.{ReadsHere, NameHere, SeesBy, MissesBy, declares}
 use Rattle.parser.specs.Stated.{with_list, list_parts, takes_list, takes_listed, list_levels, listed_levels, listed_depth, head_node, fits_head, is_closed}
 use Rattle.parser.specs.Tests.{is_each}

@@ -1,32 +1,27 @@
 -- A piece that is an expression, what is bound or assigned to, a statement, or statements (ECMA-262 13.3, 13.7, 13.10, 13.15, 14.6).
-use Rattle.std.proofs.Common.{◌≡◌, ℕ, ◌≤◌, Bool, true, false, cond, List, [], ◌∷◌, ◌++◌, refl, sym, ap, ◌∙◌, subst, ◌⊎◌, inl, inr, arith}
+use Rattle.std.proofs.Common.{◌≡◌, ℕ, ◌≤◌, Bool, true, false, cond, List, [], refl, sym, ap, ◌∙◌, subst, inl, arith}
 use Rattle.std.specs.Prelude.{IsTrue, codes, Option, Some, None, ◌&&◌}
 use Rattle.std.specs.Bool.{OnTrue, OnFalse}
-use Rattle.std.proofs.lemmas.Bool.{false≢true}
-use Rattle.tokens.specs.Reading.{any_goal}
 use Rattle.tokens.specs.declared.token.Class.TheVariants.{Name}
 use Rattle.tokens.specs.declared.token.Goal.TheVariants.{Div, RegExp}
 use Rattle.tokens.specs.declared.token.Token.{Token as Scanned}
 use Rattle.token_cursor.specs.Point.{Point}
 use Rattle.tree.specs.declared.kind.Kind.{Kind}
 use Rattle.tree.specs.declared.kind.Pair.{Pair}
-use Rattle.tree.specs.Tree.{Tree, Parts, none, part, gap, join, push, kind_of, height, parts_height}
+use Rattle.tree.specs.Tree.{Tree, Parts, none, part, join, push, kind_of, height, parts_height}
 use Rattle.tree.proofs.Shapes.{push-join}
 use Rattle.covers.specs.declared.shape.Assigned.{Assigned}
 use Rattle.covers.specs.declared.shape.Assigned.TheVariants as assigned
-use Rattle.covers.specs.declared.shape.Shape.{Shape}
 use Rattle.covers.specs.Patterns.{pattern_tree}
-use Rattle.covers.specs.Shapes.{is_pattern, is_bound, is_element}
+use Rattle.covers.specs.Shapes.{is_pattern, is_element}
 use Rattle.covers.proofs.Patterns.{same_height}
 use Rattle.language.specs.declared.Edge.{Edge}
 use Rattle.language.specs.declared.Rank.{Rank}
-use Rattle.language.specs.declared.Rank.TheVariants.{Expression, Assignment, LeftHandSide, Primary}
+use Rattle.language.specs.declared.Rank.TheVariants.{LeftHandSide, Primary}
 use Rattle.language.specs.declared.Start.TheVariants.{Any}
 use Rattle.language.specs.Covers.{as_pattern}
-use Rattle.language.specs.Pieces.{Role, expr, name, pattern, bound, statement, item}
-use Rattle.language.specs.Words.{takes, is_target as is_simple, is_pattern as is_pattern_kind, is_identifier}
-use Rattle.language.specs.Places.{NextIn, itself, SpellsIn}
-use Rattle.language.specs.Promises.{ReadBy}
+use Rattle.language.specs.Pieces.{Role, expr, name, pattern, bound, statement}
+use Rattle.language.specs.Words.{is_target as is_simple, is_pattern as is_pattern_kind, is_identifier}
 use Rattle.language.specs.Statements.{prologue}
 use Rattle.language.specs.Token.{Token}
 use Rattle.parser.specs.declared.part.Part.{Part}
@@ -38,13 +33,13 @@ use Rattle.parser.specs.declared.pieces.Wanted.TheVariants as wanted
 use Rattle.parser.specs.declared.position.Position.{Position}
 use Rattle.parser.specs.declared.statements.Context.{Context}
 use Rattle.parser.specs.declared.statements.Until.{Until}
-use Rattle.parser.specs.Derived.{RunsIn, anywhere, Adds, ReadAt, PartAt, SpelledAs, assigned_at, target_at, pattern_at, takes_new, fits_as}
-use Rattle.parser.specs.DerivedPieces.{PieceAt, ExpressionPut, PutAt, TargetPut, HeadPut, a_declaration, an_expression, a_target, EachAt, StatementPut, StatementAt, StatementsAt, context_role}
-use Rattle.parser.specs.Pieces.{Piece, piece_of}
+use Rattle.parser.specs.Derived.{RunsIn, anywhere, Adds, ReadAt, PartAt, assigned_at, target_at, pattern_at, takes_new, fits_as}
+use Rattle.parser.specs.DerivedPieces.{PieceAt, ExpressionPut, TargetPut, HeadPut, an_expression, a_target, EachAt, StatementAt, StatementsAt, context_role}
+use Rattle.parser.specs.Pieces.{piece_of}
 use Rattle.parser.specs.Seen.{ReadsHere, SeesBy, MissesBy}
 use Rattle.parser.specs.Stated.{put_node, takes_put, with_part, inner_context, item_context}
 use Rattle.parser.specs.Tests.{ends_word, is_each}
-use Rattle.parser.specs.Wants.{WantedAt, HeadAt, expression_position}
+use Rattle.parser.specs.Wants.{WantedAt, HeadAt}
 use Rattle.parser.proofs.Deriving.{adds_behind}
 use Rattle.parser.proofs.PieceBy.{OnePiece}
 use Rattle.parser.proofs.PieceTokens.{nodes_of, token_edge}

@@ -1,7 +1,5 @@
 -- A piece that is tokens alone, or missing (ECMA-262 13.7 to 13.15, 14.6).
-use Rattle.std.proofs.Common.{◌≡◌, ℕ, ◌≤◌, Bool, true, false, List, [], ◌∷◌, ◌++◌, refl, sym, ap, ◌∙◌, subst, ◌⊎◌, inl, inr, arith}
-use Rattle.std.specs.Prelude.{codes, Option, Some, None, not}
-use Rattle.tokens.specs.declared.token.Class.TheVariants.{Name}
+use Rattle.std.proofs.Common.{◌≡◌, ℕ, ◌≤◌, Bool, List, [], refl, sym, ap, ◌∙◌, inl, inr, arith}
 use Rattle.token_cursor.specs.Point.{Point}
 use Rattle.tree.specs.declared.kind.Kind.TheVariants.{Identifier}
 use Rattle.tree.specs.declared.kind.Pair.{Pair}
@@ -18,8 +16,7 @@ use Rattle.parser.specs.declared.pieces.Built.{Built}
 use Rattle.parser.specs.declared.pieces.Piece.{Piece as Coded}
 use Rattle.parser.specs.declared.pieces.Piece.TheVariants as code
 use Rattle.parser.specs.declared.pieces.Wanted.TheVariants as wanted
-use Rattle.parser.specs.Derived.{Adds}
-use Rattle.parser.specs.DerivedPieces.{PieceAt, PutAt, IsToken, IsGap}
+use Rattle.parser.specs.DerivedPieces.{PieceAt}
 use Rattle.parser.specs.Pieces.{Piece, piece_of}
 use Rattle.parser.specs.Seen.{NameHere, is_free_name}
 use Rattle.parser.specs.Tokens.{single_node}

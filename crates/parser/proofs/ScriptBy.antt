@@ -1,6 +1,6 @@
 -- A script from its items, up to the end of the text (ECMA-262 15.1).
-use Rattle.std.proofs.Common.{◌≡◌, ℕ, suc, ◌+◌, ◌-◌, ◌≤◌, ◌<◌, arith, Bool, true, false, cond, List, [], ◌∷◌, ◌++◌, length, drop, refl, sym, ap, ◌∙◌, subst}
-use Rattle.std.specs.Prelude.{IsTrue, ◌&&◌, max}
+use Rattle.std.proofs.Common.{◌≡◌, ℕ, suc, ◌-◌, ◌≤◌, arith, Bool, true, false, List, [], ◌∷◌, ◌++◌, length, drop, refl, sym, ap, ◌∙◌, subst}
+use Rattle.std.specs.Prelude.{IsTrue, ◌&&◌}
 use Rattle.std.specs.Str.{chars, IsUtf8}
 use Rattle.std.specs.Str.{encode_utf8_all}
 use Rattle.std.proofs.lemmas.Str.{IsCharBoundary-start, IsUtf8-drop, encodes-chars}
@@ -23,18 +23,17 @@ use Rattle.language.specs.declared.Start.TheVariants.{Any}
 use Rattle.language.specs.Claims.{WithinLimits}
 use Rattle.language.specs.Cursor.{beginning}
 use Rattle.language.specs.Edges.{is_end}
-use Rattle.language.specs.Pieces.{Role, script, opening, item, Piece, PieceOf, Spelling, at, tok, lay, feed, put}
+use Rattle.language.specs.Pieces.{Role, script, PieceOf, Spelling, at, tok, lay, feed}
 use Rattle.language.specs.Statements.{prologue, is_directive}
-use Rattle.language.specs.Grammar.{ways, spellings}
+use Rattle.language.specs.Grammar.{spellings}
 use Rattle.language.specs.Token.{Token, table_text}
 use Rattle.language.specs.Places.{NextIn, next_in, itself, SpellsIn}
-use Rattle.language.specs.Promises.{ReadBy}
-use Rattle.language.specs.Derivation.{Step, token, with_mark, without_mark, one_more, no_more, seen, same_line, explicit, implicit, laid, Spells, direct, grouped, Runs, done, step, opened, closed, within, missing, first, placed}
-use Rattle.language.proofs.Begins.{goes_to, retell}
+use Rattle.language.specs.Derivation.{Step, token, with_mark, without_mark, one_more, no_more, seen, same_line, explicit, implicit, laid, direct, grouped, done, step, opened, closed, within, missing, first, placed}
+use Rattle.language.proofs.Begins.{retell}
 use Rattle.language.proofs.Domination.{settled}
 use Rattle.language.proofs.Productions.{way_from, runs_can}
 use Rattle.language.proofs.Running.{run_never}
-use Rattle.parser.specs.Derived.{RunsIn, anywhere, Adds, grouping, groups}
+use Rattle.parser.specs.Derived.{RunsIn, anywhere, Adds, grouping}
 use Rattle.parser.specs.DerivedPieces.{StatementsAt}
 use Rattle.parser.specs.Seen.{ReadsHere, SeesBy}
 use Rattle.parser.specs.Tests.{ends}

@@ -1,42 +1,41 @@
 -- Parts of expressions, from what they are made of.
-use Rattle.std.proofs.Common.{◌≡◌, ℕ, ◌≤◌, arith, Bool, true, false, cond, List, [], ◌∷◌, ◌++◌, refl, sym, ap, ◌∙◌, subst}
-use Rattle.std.specs.Prelude.{IsTrue, Option, Some, None, codes, not, ◌&&◌, nat_le}
+use Rattle.std.proofs.Common.{◌≡◌, ℕ, ◌≤◌, arith, Bool, true, false, cond, List, [], ◌++◌, refl, sym, ap, ◌∙◌, subst}
+use Rattle.std.specs.Prelude.{IsTrue, Some, None, codes, not, ◌&&◌, nat_le}
 use Rattle.std.proofs.lemmas.Bool.{false≢true}
 use Rattle.std.proofs.lemmas.Bool.Decides.{nat_tests}
 use Rattle.std.proofs.lemmas.List.{append-nil}
 use Rattle.tokens.specs.Reading.{any_goal}
 use Rattle.tokens.specs.declared.token.Class.TheVariants.{Name, Punctuator}
 use Rattle.tree.specs.declared.kind.Kind.{Kind}
-use Rattle.tree.specs.declared.kind.Kind.TheVariants.{Identifier, MemberExpression, CallExpression, BinaryExpression, LogicalExpression, ConditionalExpression}
+use Rattle.tree.specs.declared.kind.Kind.TheVariants.{Identifier, MemberExpression, BinaryExpression, LogicalExpression, ConditionalExpression}
 use Rattle.tree.specs.declared.kind.Flags.{Flags}
 use Rattle.tree.specs.declared.kind.Pair.{Pair}
-use Rattle.tree.specs.Tree.{Tree, node, plain, Parts, none, part, kind_of, start_of}
+use Rattle.tree.specs.Tree.{Tree, node, plain, Parts, none, part}
 use Rattle.tree.specs.Uses.{implies}
 use Rattle.covers.specs.declared.shape.Shape.{Shape}
 use Rattle.covers.specs.Patterns.{pattern_tree}
 use Rattle.covers.specs.Shapes.{shape_of, value, target}
 use Rattle.language.specs.declared.Rank.{Rank}
-use Rattle.language.specs.declared.Rank.TheVariants.{Expression, Assignment, Conditional, ShortCircuit, Exponentiation, Update, LeftHandSide, New, Call, Member}
+use Rattle.language.specs.declared.Rank.TheVariants.{Expression, Assignment, Conditional, ShortCircuit, LeftHandSide, New, Call, Member}
 use Rattle.language.specs.declared.Start.{Start}
 use Rattle.language.specs.declared.Start.TheVariants.{Any}
 use Rattle.language.specs.declared.Edge.{Edge}
 use Rattle.language.specs.declared.Edge.TheVariants.{Other}
-use Rattle.language.specs.Words.{is, takes, takes_number, tightness, is_word_operator, is_target, operator_of, binds, powers}
+use Rattle.language.specs.Words.{is, takes, takes_number, tightness, is_word_operator, operator_of, binds}
 use Rattle.language.specs.Covers.{as_pattern}
-use Rattle.language.specs.Pieces.{Role, expr, word, is_tight, tok}
+use Rattle.language.specs.Pieces.{Role, expr, is_tight}
 use Rattle.language.specs.Token.{Token}
 use Rattle.language.specs.Edges.{edge, standing}
-use Rattle.language.specs.Expressions.{arguments}
 use Rattle.language.specs.Places.{NextIn, itself, SpellsIn}
-use Rattle.language.specs.Derivation.{Reads, Placed, placed, Spells}
-use Rattle.language.proofs.Growing.{binary_grows, power_grows, conditional_grows, dot_grows, index_grows, call_grows}
+use Rattle.language.specs.Derivation.{Placed, placed}
+use Rattle.language.proofs.Growing.{binary_grows, conditional_grows, dot_grows, index_grows}
 use Rattle.language.proofs.Leaves.{word_found}
 use Rattle.language.proofs.Led.{callee_rank}
 use Rattle.language.proofs.Operators.{Rises, binding}
 use Rattle.language.proofs.Suffixes.{suffix_rank, suffix_stands, no_super}
 use Rattle.language.proofs.TextPlaces.{text_determined}
 use Rattle.parser.specs.declared.part.Part.{Part}
-use Rattle.parser.specs.Derived.{RunsIn, Adds, Begins, SpelledAs, assigned_at, fits_as, minds_in, bare_role, PartAt, ReadAt, ReadsOn, ArgumentsAt}
+use Rattle.parser.specs.Derived.{Adds, Begins, SpelledAs, assigned_at, fits_as, minds_in, bare_role, PartAt, ReadAt, ReadsOn}
 use Rattle.parser.specs.Parts.{part_from, plain_part}
 use Rattle.parser.specs.Seen.{ReadsHere, Misses}
 use Rattle.parser.specs.Stated.{is_closed}

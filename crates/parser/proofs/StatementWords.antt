@@ -14,7 +14,7 @@ use Rattle.language.specs.declared.Rank.{Rank}
 use Rattle.language.specs.declared.Rank.TheVariants.{Primary}
 use Rattle.language.specs.declared.Start.TheVariants.{Any}
 use Rattle.language.specs.Edges.{standing, edge, last_edge, last_ends_in_if}
-use Rattle.language.specs.Pieces.{Role, expr, name, statement, switch_case, Piece, Spelling, at, unbroken, behind, lay, line, shallower, sign, sp, nothing, put}
+use Rattle.language.specs.Pieces.{Role, expr, name, statement, switch_case, Piece, Spelling, at, unbroken, lay, line, shallower, sign, sp, nothing, put}
 use Rattle.language.specs.Statements.{lines, defaults, end_of, whole, behind_word}
 use Rattle.language.specs.Token.{Token}
 use Rattle.language.specs.Places.{NextIn, itself, SpellsIn}

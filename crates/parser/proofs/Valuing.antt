@@ -1,10 +1,9 @@
 -- Properties of objects and their patterns that are no methods (ECMA-262 12.2.6, 12.15.5, 13.3.3).
-use Rattle.std.proofs.Common.{◌≡◌, ℕ, Bool, true, false, cond, List, [], ◌∷◌, ◌++◌, refl, sym, ap, ◌∙◌, subst}
-use Rattle.std.specs.Prelude.{Option, Some, None, IfSome, codes, not, ◌&&◌}
+use Rattle.std.proofs.Common.{◌≡◌, ℕ, Bool, true, false, List, [], ◌∷◌, ◌++◌, refl, sym, ap, ◌∙◌, subst}
+use Rattle.std.specs.Prelude.{Some, IfSome, codes, not, ◌&&◌}
 use Rattle.std.proofs.lemmas.Bool.{false≢true}
 use Rattle.std.proofs.lemmas.List.{append-nil}
 use Rattle.tokens.specs.Scanned.{token_of}
-use Rattle.tokens.specs.Tokens.{LexicalToken}
 use Rattle.tokens.specs.Reading.{any_goal}
 use Rattle.tokens.specs.declared.token.Token.{Token as Scanned}
 use Rattle.tokens.specs.declared.token.Class.TheVariants.{Name, Punctuator, Template}
@@ -26,7 +25,7 @@ use Rattle.language.specs.declared.Rank.TheVariants.{Assignment, Primary}
 use Rattle.language.specs.declared.Start.TheVariants.{Any}
 use Rattle.language.specs.Words.{is_reserved, is_rest}
 use Rattle.language.specs.Covers.{Reading, as_expression, as_pattern, property_as}
-use Rattle.language.specs.Pieces.{Role, expr, name, echo, element, put, bound, with_default, Spelling, at as at_symbol}
+use Rattle.language.specs.Pieces.{Role, expr, name, echo, element, put, with_default, Spelling, at as at_symbol}
 use Rattle.language.specs.Token.{Token, as_read, same_class, table_text}
 use Rattle.language.specs.Grammar.{spellings}
 use Rattle.language.specs.Places.{NextIn, itself, SpellsIn}
@@ -45,14 +44,14 @@ use Rattle.language.proofs.TextPlaces.{text_determined}
 use Rattle.parser.specs.declared.part.Part.{Part}
 use Rattle.parser.specs.declared.position.Position.{Position}
 use Rattle.parser.specs.declared.properties.Key.{Key}
-use Rattle.parser.specs.Derived.{Adds, Begins, PartAt, ReadAt, SpelledAs, assigned_at, fits_as, read_as}
+use Rattle.parser.specs.Derived.{Adds, Begins, ReadAt, SpelledAs, assigned_at, fits_as, read_as}
 use Rattle.parser.specs.DerivedLists.{KeyAt, ItemReads, ValueAt}
 use Rattle.parser.specs.Items.{property_item}
 use Rattle.parser.specs.Members.{member_flags}
 use Rattle.parser.specs.Seen.{ReadsHere, is_free_name}
 use Rattle.parser.specs.Tokens.{single_node, key_kind}
 use Rattle.parser.proofs.Deriving.{adds_behind, adds_none}
-use Rattle.parser.proofs.LinkReads.{adds_then, spelled_at, single_read}
+use Rattle.parser.proofs.LinkReads.{spelled_at, single_read}
 
 -- the position of what stands behind `:` and `=`
 abbrev pub at_assignment : Position

@@ -1,12 +1,12 @@
 -- A list as far as it is read, with one more item; and the whole (ECMA-262 12.2, 12.3.6, 12.16, 13.3, 13.12, 14.1, 14.6).
-use Rattle.std.proofs.Common.{arith, ◌≡◌, ℕ, ◌+◌, ◌-◌, Bool, true, false, cond, List, [], ◌++◌, refl, sym, ap, ◌∙◌, subst, append_assoc}
-use Rattle.std.specs.Prelude.{not, ◌⊎◌, ◌&&◌, ◌||◌, if◌then◌else◌, nat_le, nat_lt, Option, Some, None, codes}
+use Rattle.std.proofs.Common.{arith, ◌≡◌, ℕ, ◌+◌, ◌-◌, Bool, true, false, List, [], ◌++◌, refl, sym, ap, ◌∙◌, subst, append_assoc}
+use Rattle.std.specs.Prelude.{not, ◌&&◌, ◌||◌, if◌then◌else◌, nat_le, nat_lt, codes}
 use Rattle.std.proofs.lemmas.Bool.{and_parts, false≢true}
 use Rattle.std.proofs.lemmas.Bool.Decides.{nat_tests}
 use Rattle.std.proofs.lemmas.List.{append-nil}
 use Rattle.tokens.specs.Reading.{any_goal}
 use Rattle.tree.specs.declared.kind.Pair.{Pair}
-use Rattle.tree.specs.Tree.{Tree, Parts, none, part, gap, push, push_gap, join, kind_of, part_count}
+use Rattle.tree.specs.Tree.{Tree, Parts, none, part, gap, push, push_gap, join, part_count}
 use Rattle.language.specs.declared.Start.{Start}
 use Rattle.language.specs.Covers.{Reading, as_expression, as_pattern}
 use Rattle.language.specs.declared.Rank.TheVariants.{Expression}
@@ -31,7 +31,7 @@ use Rattle.parser.specs.Derived.{Adds, grouping, RunsIn, fits_as, read_as, all_r
 use Rattle.parser.specs.DerivedLists.{SoFarAt, Unless, is_stuck, so_far_fits, seen_fits, has_reading, stood_in, left_of, left_pieces, item_pieces, ItemReads, ItemAt, an_item, a_hole, a_chunk, SeenRight, is_chunked, stuck_at}
 use Rattle.parser.specs.Follows.{Semicolons, PassedBefore, ChunkAt, CommaAt}
 use Rattle.parser.specs.Seen.{ReadsHere}
-use Rattle.parser.specs.Items.{after_item, are_some, with_item, is_unseparated}
+use Rattle.parser.specs.Items.{after_item, are_some, is_unseparated}
 use Rattle.parser.specs.Stated.{is_closed}
 use Rattle.parser.proofs.Deriving.{adds_behind, adds_both}
 use Rattle.parser.proofs.Extending.{CommaBetween, goes_on_at, next_runs, has_items, last_runs, read_push, read_gap, join_none, semicolons_on, hole_comma}

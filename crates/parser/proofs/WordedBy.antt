@@ -1,9 +1,8 @@
 -- What `function`, `class`, `super`, `new` and `import` begin (ECMA-262 12.3, 14.1, 14.6).
-use Rattle.std.proofs.Common.{◌≡◌, ◌⊎◌, ◌≤◌, inl, inr, ℕ, Bool, true, false, not, cond, List, [], ◌∷◌, ◌++◌, Option, Some, None, Result, Ok, Err, refl, sym, ap, ◌∙◌, subst, arith}
+use Rattle.std.proofs.Common.{◌≡◌, ◌⊎◌, ◌≤◌, inl, inr, ℕ, Bool, true, false, cond, List, [], ◌∷◌, ◌++◌, Option, Some, None, Result, Ok, Err, refl, sym, ap, ◌∙◌, subst, arith}
 use Rattle.std.specs.Prelude.{IsTrue, IfOk, codes, ◌&&◌, ◌||◌}
 use Rattle.std.specs.Str.{bytes_eq}
 use Prim.Native.String.{String}
-use Rattle.std.proofs.lemmas.Bool.{false≢true}
 use Rattle.std.proofs.lemmas.Bool.Decides.{nat_tests}
 use Rattle.std.proofs.lemmas.List.{append-nil}
 use Rattle.std.proofs.lemmas.Slice.Eq.{bytes_eq-Decides}
@@ -16,26 +15,23 @@ use Rattle.tokens.specs.Scanned.{token_of}
 use Rattle.tokens.specs.Tokens.{LexicalToken}
 use Rattle.tokens.specs.Reading.{any_goal}
 use Rattle.token_cursor.specs.Point.{Point}
-use Rattle.tree.specs.declared.kind.Kind.TheVariants.{Identifier, Super, FunctionExpression, ClassExpression, NewExpression, MetaProperty, ImportExpression}
+use Rattle.tree.specs.declared.kind.Kind.TheVariants.{Identifier, Super, NewExpression, ImportExpression}
 use Rattle.tree.specs.declared.kind.Pair.{Pair}
 use Rattle.tree.specs.Tree.{Tree, node, Parts, none, part, gap, join, plain, kind_of, flags_of, bare_parts, start_of}
-use Rattle.covers.specs.Shapes.{shape_of, value}
 use Rattle.language.specs.declared.Edge.TheVariants.{Other}
 use Rattle.language.specs.declared.Rank.{Rank}
 use Rattle.language.specs.declared.Rank.TheVariants as rank
 use Rattle.language.specs.declared.Rank.TheVariants.{Expression, Assignment, Primary, Member, Call, New}
 use Rattle.language.specs.declared.Start.{Start}
 use Rattle.language.specs.declared.Start.TheVariants.{Any, NoBrace, Statement}
-use Rattle.language.specs.FirstPart.{others}
 use Rattle.language.specs.Words.{is, among, is_reserved, takes, takes_number}
 use Rattle.language.specs.Pieces.{Role, expr, base, word, Piece, Spelling, fixed, tok, sub, put, sign, term, sp, at, listed, argument, separator, parameters}
 use Rattle.language.specs.Expressions.{function_pieces, class_pieces, arguments}
 use Rattle.language.specs.Opening.{Opening, opening_by, opening_of, opening_among, opening_words, opening_signs, no_opening, with_name, with_template}
 use Rattle.language.specs.Token.{Token, as_read, table_text, same_class}
-use Rattle.language.specs.Follow.{operation, of_class, symbol_of}
+use Rattle.language.specs.Follow.{of_class, symbol_of}
 use Rattle.language.specs.Grammar.{spellings, starts}
 use Rattle.language.specs.Places.{NextIn, itself, SpellsIn}
-use Rattle.language.specs.Promises.{ReadBy}
 use Rattle.tokens.specs.Goals.{allows}
 use Rattle.language.specs.Derivation.{first, direct, done, step, within, token, laid, placed}
 use Rattle.language.specs.View.{new_with, new_without, new_target}
@@ -52,11 +48,11 @@ use Rattle.parser.specs.declared.openings.Opening.{Opening as Coded}
 use Rattle.parser.specs.declared.openings.Opening.TheVariants as code
 use Rattle.parser.specs.declared.part.Part.{Part}
 use Rattle.parser.specs.declared.position.Position.{Position}
-use Rattle.parser.specs.Derived.{RunsIn, anywhere, Adds, Begins, PartAt, ReadAt, SuperAt, Links, ArgumentsAt, WordedAt, takes_new}
+use Rattle.parser.specs.Derived.{anywhere, Adds, Begins, ReadAt, SuperAt, Links, ArgumentsAt, WordedAt, takes_new}
 use Rattle.parser.specs.DerivedPieces.{ClosureAt, behind_word}
 use Rattle.parser.specs.Follows.{target_node}
-use Rattle.parser.specs.Openings.{coded_opening, opens_at, stands_at, takes_closure}
-use Rattle.parser.specs.Parts.{part_from, plain_part}
+use Rattle.parser.specs.Openings.{coded_opening, stands_at, takes_closure}
+use Rattle.parser.specs.Parts.{plain_part}
 use Rattle.parser.specs.Seen.{ReadsHere, Sees, Misses, SeesBy}
 use Rattle.parser.specs.Tests.{goes_behind_super}
 use Rattle.parser.specs.Tokens.{single_node}

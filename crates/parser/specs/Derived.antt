@@ -1,5 +1,5 @@
 -- What is derived: which part of the text was read, and what it spells there, at the text's own places (ECMA-262 clauses 12 to 15).
-use Rattle.std.specs.Prelude.{◌≡◌, ℕ, ◌-◌, Bool, true, false, cond, List, [], ◌++◌, filter, nat_le, nat_lt, Option, Some, None, IsTrue, codes, map, ◌&&◌}
+use Rattle.std.specs.Prelude.{◌≡◌, ℕ, ◌-◌, Bool, true, false, cond, List, [], ◌++◌, filter, nat_le, nat_lt, Option, Some, None, IsTrue, codes, map}
 use Rattle.tokens.specs.declared.token.Class.TheVariants.{Punctuator}
 use Rattle.tokens.specs.declared.token.Goal.TheVariants.{Div}
 use Rattle.tokens.specs.declared.token.Token.{Token as Scanned}
@@ -7,7 +7,7 @@ use Rattle.tokens.specs.Scanned.{token_of}
 use Rattle.tokens.specs.Reading.{any_goal}
 use Rattle.token_cursor.specs.Point.{Point}
 use Rattle.tree.specs.declared.kind.Kind.{Kind}
-use Rattle.tree.specs.declared.kind.Kind.TheVariants.{Identifier, Super, AssignmentPattern, ArrowFunctionExpression}
+use Rattle.tree.specs.declared.kind.Kind.TheVariants.{Super, AssignmentPattern, ArrowFunctionExpression}
 use Rattle.tree.specs.declared.kind.Flags.{Flags}
 use Rattle.tree.specs.declared.kind.Pair.{Pair}
 use Rattle.tree.specs.Tree.{Tree, node, plain, Parts, part, none, push, kind_of, text_of, flags_of}
@@ -15,8 +15,6 @@ use Rattle.language.specs.declared.Rank.{Rank}
 use Rattle.language.specs.declared.Rank.TheVariants.{Expression, Assignment, LeftHandSide, New}
 use Rattle.language.specs.declared.Start.{Start}
 use Rattle.language.specs.declared.Start.TheVariants.{Any}
-use Rattle.language.specs.declared.Edge.{Edge}
-use Rattle.language.specs.declared.Edge.TheVariants.{Closed}
 use Rattle.language.specs.Words.{takes, tightness, is_target, is_pattern, is_identifier}
 use Rattle.language.specs.Token.{Token, as_read}
 use Rattle.language.specs.Pieces.{Role, expr, spine, name, quoted, base, pattern, element, Piece, PieceOf, settle_piece}
@@ -40,7 +38,7 @@ use Rattle.parser.specs.declared.position.Position.{Position}
 use Rattle.parser.specs.declared.openings.Opening.{Opening}
 use Rattle.parser.specs.Openings.{coded_opening, opens_at}
 use Rattle.parser.specs.Parts.{is_group}
-use Rattle.parser.specs.Seen.{ReadsHere, Sees, Misses, MissesBy}
+use Rattle.parser.specs.Seen.{Sees, Misses, MissesBy}
 use Rattle.parser.specs.Stated.{is_closed}
 use Rattle.parser.specs.Tests.{is_template}
 

@@ -1,10 +1,8 @@
 -- What is derived of lists: their items so far, one more, and the whole (ECMA-262 12.2, 12.3.6, 12.16, 13.3, 13.12, 14.1, 14.6).
 use Rattle.std.specs.Prelude.{◌≡◌, ℕ, Bool, true, false, not, cond, ◌&&◌, ◌||◌, List, [], ◌∷◌, ◌++◌, map, nat_le, Option, Some, None, codes, IfSome}
 use Rattle.tokens.specs.declared.token.Class.TheVariants.{Punctuator}
-use Rattle.tokens.specs.declared.token.Token.{Token as Scanned}
 use Rattle.tokens.specs.Scanned.{token_of}
 use Rattle.tokens.specs.Reading.{any_goal}
-use Rattle.token_cursor.specs.Point.{Point}
 use Rattle.tree.specs.declared.kind.Kind.{Kind}
 use Rattle.tree.specs.declared.kind.Form.{Form}
 use Rattle.tree.specs.declared.kind.Form.TheVariants as form
@@ -13,7 +11,6 @@ use Rattle.tree.specs.Tree.{Tree, Parts, none, part, gap, join, kind_of, push_ga
 use Rattle.language.specs.declared.Rank.TheVariants.{Expression, Assignment}
 use Rattle.language.specs.declared.Start.{Start}
 use Rattle.language.specs.declared.Start.TheVariants.{Any}
-use Rattle.language.specs.declared.Edge.{Edge}
 use Rattle.language.specs.declared.Edge.TheVariants.{Closed}
 use Rattle.language.specs.Token.{Token, as_read}
 use Rattle.language.specs.Words.{is, is_identifier, is_target as is_simple, is_rest}

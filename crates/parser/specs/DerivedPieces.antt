@@ -1,15 +1,14 @@
 -- What is derived of statements, functions and classes, piece by piece (ECMA-262 clauses 13 and 14).
-use Rattle.std.specs.Prelude.{◌≡◌, ◌⊎◌, ℕ, Bool, true, false, not, cond, ◌&&◌, List, [], ◌∷◌, ◌++◌, map, nat_le, Option, Some, None, codes}
+use Rattle.std.specs.Prelude.{◌≡◌, ◌⊎◌, ℕ, Bool, true, false, not, cond, List, [], ◌∷◌, ◌++◌, nat_le, codes}
 use Rattle.tokens.specs.declared.token.Class.TheVariants.{Name, Punctuator}
 use Rattle.tokens.specs.declared.token.Goal.TheVariants.{Div, RegExp}
-use Rattle.tokens.specs.declared.token.Token.{Token as Scanned}
 use Rattle.tokens.specs.Reading.{any_goal}
 use Rattle.token_cursor.specs.Ends.{EndsAt}
 use Rattle.token_cursor.specs.declared.semicolon.Ending.TheVariants.{OfDo, Behind}
 use Rattle.tree.specs.declared.kind.Form.{Form}
 use Rattle.tree.specs.declared.kind.Form.TheVariants as form
 use Rattle.tree.specs.declared.kind.Pair.{Pair}
-use Rattle.tree.specs.Tree.{Tree, node, Parts, none, part, gap, join, plain, kind_of}
+use Rattle.tree.specs.Tree.{Tree, node, Parts, none, part, gap, join, plain}
 use Rattle.language.specs.declared.Rank.{Rank}
 use Rattle.language.specs.declared.Rank.TheVariants.{Expression, Assignment, LeftHandSide}
 use Rattle.language.specs.declared.Start.TheVariants.{Any}
@@ -27,13 +26,12 @@ use Rattle.parser.specs.declared.closures.Closure.{Closure}
 use Rattle.parser.specs.declared.closures.Closure.TheVariants as closure
 use Rattle.parser.specs.declared.pieces.Built.{Built}
 use Rattle.parser.specs.declared.statements.Context.{Context}
-use Rattle.parser.specs.declared.statements.Until.{Until}
 use Rattle.parser.specs.Derived.{RunsIn, anywhere, SpelledAs}
 use Rattle.parser.specs.DerivedLists.{part_alone}
 use Rattle.parser.specs.Pieces as Piece
 use Rattle.parser.specs.Pieces.{closure_kind}
-use Rattle.parser.specs.Seen.{ReadsHere, NameHere, Sees, Misses, SeesBy, MissesBy, declares, is_free_name}
-use Rattle.parser.specs.Tests.{ends, is_each}
+use Rattle.parser.specs.Seen.{ReadsHere, Sees, Misses, SeesBy, MissesBy}
+use Rattle.parser.specs.Tests.{is_each}
 
 -- the position of a statement
 abbrev pub context_role : Context → Role

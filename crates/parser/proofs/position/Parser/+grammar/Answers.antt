@@ -1,12 +1,11 @@
 -- What the functions of the cycle derive.
-use Rattle.parser.proofs.StatementWays
 use Rattle.parser.proofs.position.Parser.+grammar.Goals as goal
 use Rattle.parser.specs.declared.statements.Beginning.TheVariants as code
 use Rattle.std.proofs.Common.{rules, ◌≡◌, ◌≤◌, true, false, sym, refl, ap, subst, ◌∙◌, arith, ◌+◌, ◌-◌, ◌<◌, length, set, Some}
 use Rattle.std.specs.Prelude.{◌&&◌, not, [], Some, true, false, codes}
 use Rattle.std.proofs.lemmas.Bool.{false≢true}
 use Rattle.tree.specs.declared.kind.Kind.TheVariants.{ChainExpression, SwitchCase, VariableDeclarator, ArrowFunctionExpression, Identifier, Property, AssignmentExpression, UpdateExpression, SequenceExpression, BlockStatement, CatchClause, ImportExpression, NewExpression}
-use Rattle.tree.specs.Tree.{Tree, node, plain, kind_of, part, gap, none, push, push_gap, height, parts_height, flags_of, join}
+use Rattle.tree.specs.Tree.{node, plain, kind_of, part, gap, none, push, push_gap, height, parts_height, flags_of, join}
 use Rattle.tokens.specs.Scanned.{token_of}
 use Rattle.tokens.specs.declared.token.Class.TheVariants.{Name, Punctuator}
 use Rattle.covers.specs.Shapes.{initialized, is_target, value}
@@ -21,7 +20,7 @@ use Rattle.covers.specs.declared.list.Item.{Item}
 use Rattle.covers.specs.declared.list.Listed.TheVariants.{Cases, Declarators, Elements, Members, Properties, Sequence}
 use Rattle.covers.specs.Patterns.{pattern_tree}
 use Rattle.language.specs.Words.{is_target as is_simple, takes}
-use Rattle.parser.specs.Derived.{Adds, GoesOn, ReadAt, ArrowAt}
+use Rattle.parser.specs.Derived.{Adds, ReadAt, ArrowAt}
 use Rattle.parser.specs.Outcomes.{BeginsBy, IsPlaceHere}
 use Rattle.parser.specs.Items.{group_levels, is_grouped, list_group, after_item, item_from, with_item, listed_node, listed_part, property_item}
 use Rattle.token_cursor.specs.Point.{Point}
@@ -59,7 +58,7 @@ use Rattle.parser.proofs.Turning.{step_reads, sequence_reads, no_tag_there, in_t
 use Rattle.parser.proofs.Stating.{all_directive, and_true, still, push_low, statements_first, statements_on}
 use Rattle.parser.proofs.Wholly.{after_inside, after_nodes, after_start, further_first, further_item, item_places, not_a_sequence, same_right}
 use Rattle.parser.proofs.PieceBlocks.{block_piece, handler_piece}
-use Rattle.parser.proofs.PieceBy.{built_first, piece_on, piece_low, pieces_taken}
+use Rattle.parser.proofs.PieceBy.{built_first, piece_on, piece_low}
 use Rattle.parser.proofs.PieceLists.{list_piece}
 use Rattle.parser.proofs.PieceParts.{expression_piece, binding_piece, statement_piece, items_piece}
 use Rattle.parser.proofs.PieceTokens.{passed_piece, nothing_passed, gap_wanted}
