@@ -61,12 +61,12 @@ module _ (S : Type 0) (Next : S → Token → S → Type 0) (behind : S → Toke
         property_as z (kind_of m) ≡ Some b → Spells ways S Next behind o' b m s k Q → Separated S Next behind det (codes "}") k → k ≡ e
 
   -- parts over which these pieces run, of at most this height, are the only ones
-  abbrev pub UniqueParts : ℕ → (Parts → List (PieceOf Role)) → Type 0
-  UniqueParts h pieces = {o : ℕ} {s e : S} {ps : Parts} {P : List Pair} → parts_height ps ≤ h → Runs ways S Next behind o (pieces ps) ps s e P → FoundParts S Next behind o pieces s e ps P
+  pub record UniqueParts (h : ℕ) (pieces : Parts → List (PieceOf Role)) : Type 0 where
+    pub gives : {o : ℕ} {s e : S} {ps : Parts} {P : List Pair} → parts_height ps ≤ h → Runs ways S Next behind o (pieces ps) ps s e P → FoundParts S Next behind o pieces s e ps P
 
   -- what stands in a pair of parentheses that groups: a tree as high, with fewer parentheses left
-  abbrev pub Inner : ℕ → ℕ → Type 0
-  Inner o h = {less : ℕ} {n : Tree} {s e : S} {P : List Pair} → o ≡ suc less → height n ≤ h → Spells ways S Next behind less (expr Expression true Any) n s e P → Stops S Next behind Expression true n e → Found S Next behind less Expression true Any s e n P
+  pub record Inner (o h : ℕ) : Type 0 where
+    pub gives : {less : ℕ} {n : Tree} {s e : S} {P : List Pair} → o ≡ suc less → height n ≤ h → Spells ways S Next behind less (expr Expression true Any) n s e P → Stops S Next behind Expression true n e → Found S Next behind less Expression true Any s e n P
 
   -- the loop has read this much, with some symbol; the same behind `new`
   pub record Climbed (o : ℕ) (y : Rank) (i : Bool) (f : Start) (s0 : S) (m : Tree) (mid : S) (Q : List Pair) : Type 0 where
@@ -93,24 +93,30 @@ module _ (S : Type 0) (Next : S → Token → S → Type 0) (behind : S → Toke
     pub climbed : ClimbedCallee o s0 tree place pairs
 
   -- What a turn of the loop with this operator needs and gives: the whole, which can't go on and is no higher, what was read of it, and the token.
-  abbrev pub Turn : ℕ → Operator → Type 0
-  Turn h z = {o : ℕ} {y : Rank} {i : Bool} {f : Start} {n : Tree} {s0 e : S} {P : List Pair} {c : Rank} {m : Tree} {mid x : S} {Q : List Pair} {t : Token} → (y ≡ Conditional → ⊥) → (y ≡ New → ⊥) → height n ≤ suc h → Spells ways S Next behind o (expr y i f) n s0 e P →
-      Stops S Next behind y i n e → Climbing S Next behind det o y i f c s0 m mid Q → ReadBy S Next behind Div mid t x → operation t ≡ z → stops y i (edge m) (behind mid) t ≡ false → Turned o y i f s0 m
+  pub record Turn (h : ℕ) (z : Operator) : Type 0 where
+    pub gives : {o : ℕ} {y : Rank} {i : Bool} {f : Start} {n : Tree} {s0 e : S} {P : List Pair} {c : Rank} {m : Tree} {mid x : S} {Q : List Pair} {t : Token} → (y ≡ Conditional → ⊥) → (y ≡ New → ⊥) → height n ≤ suc h → Spells ways S Next behind o (expr y i f) n s0 e P →
+        Stops S Next behind y i n e → Climbing S Next behind det o y i f c s0 m mid Q → ReadBy S Next behind Div mid t x → operation t ≡ z → stops y i (edge m) (behind mid) t ≡ false → Turned o y i f s0 m
 
-  abbrev pub TurnCallee : ℕ → Operator → Type 0
-  TurnCallee h z = {o : ℕ} {n : Tree} {s0 e : S} {P : List Pair} {c : Rank} {m : Tree} {mid x : S} {Q : List Pair} {t : Token} → height n ≤ suc h → Callee S Next behind o n s0 e P → Stops S Next behind New true n e → ClimbingCallee S Next behind det o c s0 m mid Q →
-      ReadBy S Next behind Div mid t x → operation t ≡ z → stops New true (edge m) (behind mid) t ≡ false → TurnedCallee o s0 m
+  pub record TurnCallee (h : ℕ) (z : Operator) : Type 0 where
+    pub gives : {o : ℕ} {n : Tree} {s0 e : S} {P : List Pair} {c : Rank} {m : Tree} {mid x : S} {Q : List Pair} {t : Token} → height n ≤ suc h → Callee S Next behind o n s0 e P → Stops S Next behind New true n e → ClimbingCallee S Next behind det o c s0 m mid Q →
+        ReadBy S Next behind Div mid t x → operation t ≡ z → stops New true (edge m) (behind mid) t ≡ false → TurnedCallee o s0 m
 
   -- What the loop begins with, by the first token: the leftmost part of a whole that can't go on and is no higher. The same of `new` behind another.
-  abbrev pub CoreStep : ℕ → Opening → Type 0
-  CoreStep h z = {o : ℕ} {y : Rank} {i : Bool} {f : Start} {n : Tree} {s0 e : S} {P : List Pair} {q : Rank} {j : Bool} {m : Tree} {mid m0 : S} {Q : List Pair} {t : Token} → (z ≡ with_new → y ≡ New → ⊥) → Inner o (suc h) → height n ≤ suc h →
-      Begun S Next behind det o s0 y i f n e P q j m mid Q → ReadBy S Next behind RegExp s0 t m0 → opening_of t ≡ z → Climbed o y i f s0 m mid Q
+  pub record CoreStep (h : ℕ) (z : Opening) : Type 0 where
+    pub gives : {o : ℕ} {y : Rank} {i : Bool} {f : Start} {n : Tree} {s0 e : S} {P : List Pair} {q : Rank} {j : Bool} {m : Tree} {mid m0 : S} {Q : List Pair} {t : Token} → (z ≡ with_new → y ≡ New → ⊥) → Inner o (suc h) → height n ≤ suc h →
+        Begun S Next behind det o s0 y i f n e P q j m mid Q → ReadBy S Next behind RegExp s0 t m0 → opening_of t ≡ z → Climbed o y i f s0 m mid Q
 
-  abbrev pub NewCallee : ℕ → Type 0
-  NewCallee h = {o : ℕ} {n : Tree} {s0 e : S} {P : List Pair} {q : Rank} {j : Bool} {m : Tree} {mid m0 : S} {Q : List Pair} {t : Token} → height n ≤ suc h → Callee S Next behind o n s0 e P → Stops S Next behind New true n e →
-      Begun S Next behind det o s0 New true Any n e P q j m mid Q → ReadBy S Next behind RegExp s0 t m0 → opening_of t ≡ with_new → ClimbedCallee o s0 m mid Q
+  -- what is read behind `new` begins here
+  pub record BegunCallee (o : ℕ) (s0 : S) : Type 0 where
+    pub tree : Tree
+    pub place : S
+    pub pairs : List Pair
+    pub climbed : ClimbedCallee o s0 tree place pairs
+
+  pub record NewCallee (h : ℕ) : Type 0 where
+    pub gives : {o : ℕ} {n : Tree} {s0 e m0 : S} {P : List Pair} {t : Token} → height n ≤ suc h → Callee S Next behind o n s0 e P → Stops S Next behind New true n e → ReadBy S Next behind RegExp s0 t m0 → opening_of t ≡ with_new → BegunCallee o s0
 
   -- a statement or declaration by its first token
-  abbrev pub StatementStep : ℕ → Beginning → Type 0
-  StatementStep h b = {a : Role} {p d r : Bool} {o : ℕ} {n : Tree} {s m e : S} {P : List Pair} {t : Token} → Stands a p d r → height n ≤ suc h → Spells ways S Next behind o a n s e P → Finished S Next behind n e → ReadBy S Next behind RegExp s t m →
-      beginning_of d r t ≡ b → FoundWhere S Next behind (Finished S Next behind) o a s e n P
+  pub record StatementStep (h : ℕ) (b : Beginning) : Type 0 where
+    pub gives : {a : Role} {p d r : Bool} {o : ℕ} {n : Tree} {s m e : S} {P : List Pair} {t : Token} → Stands a p d r → height n ≤ suc h → Spells ways S Next behind o a n s e P → Finished S Next behind n e → ReadBy S Next behind RegExp s t m →
+        beginning_of d r t ≡ b → FoundWhere S Next behind (Finished S Next behind) o a s e n P
