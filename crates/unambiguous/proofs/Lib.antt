@@ -36,6 +36,7 @@ pub mod Properties
 pub mod Restated
 pub mod StatementEnds
 pub mod Statements
+pub mod Steps
 pub mod SuperCores
 pub mod Switches
 pub mod TemplateParts
