@@ -2,18 +2,13 @@
 use Rattle.std.specs.Prelude.{◌≡◌, codes, true, List, Option, Some}
 use Rattle.clap.specs.Words.{App, Row, Rule, Text, first_of, new_app, new_rule, with_rule, with_subcommand}
 use Rattle.clap.specs.Simple.{on_top}
-use Rattle.command_line.specs.declared.command.Command.{Command}
-use Rattle.command_line.specs.declared.command.Command.TheVariants.{Fix, Tree}
+use Rattle.streams.specs.Commands.{word_of}
+use Rattle.streams.specs.declared.command.Command.TheVariants.{Fix, Tree}
 use Rattle.command_line.specs.declared.line.Line.{Line}
 
 -- the argument FILE
 abbrev pub file_rule : Rule
 file_rule = record (new_rule (codes "file")) { required = true; value_names = 1 }
-
--- the word for a command
-abbrev pub word_of : Command → Text
-word_of Fix = codes "fix"
-word_of Tree = codes "tree"
 
 -- a command, by its word, with its FILE
 abbrev pub file_app : Text → App

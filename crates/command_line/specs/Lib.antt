@@ -1,4 +1,1 @@
-pub mod Streams
-pub mod Refused
-pub mod Refusal
 pub mod CommandLine

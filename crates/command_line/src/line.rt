@@ -5,10 +5,10 @@ ghost use Rattle.clap.specs.Words.{app_of, kind_of, subcommand_of, subcommand_ro
 ghost use Rattle.clap.specs.declared.builder.command.Command.TheViews.{out-Command};
 ghost use Rattle.command_line.specs.CommandLine.{Chooses, file_app, jslint_app};
 
-use crate::command::Command;
 use clap::error::ErrorKind;
 use clap::{Arg, ArgMatches, Error};
 use std::alloc::{AllocError, Global};
+use streams::Command;
 
 /// What a command line asks for: a command, and the file that it is to read.
 #[derive(Clone, Copy, Debug, PartialEq, Eq)]

@@ -8,12 +8,13 @@ ghost use Rattle.clap.specs.Words.{kind_of};
 ghost use Rattle.jslint.specs.Program.{RunsOnFile};
 
 use clap::error::ErrorKind;
-use command_line::{Line, Refused, command_line, write_refusal};
+use command_line::{Line, command_line};
 use lint::run::run;
 use source_text::{Device, Fault, Sink};
 use std::process::ExitCode;
 use std::rt::{Env, Files};
 use std::{env, fs, io};
+use streams::{Refused, write_refusal};
 
 /// The words of the command line, the program's name first. Words that are not UTF-8 name no file that can be read.
 fn own_words<R: Env + AllocGlobal>(rt: &R) -> Result<Vec<String>, Fault>

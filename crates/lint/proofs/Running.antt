@@ -5,9 +5,9 @@ use Rattle.std.specs.declared.option.Option.{Option}
 use Rattle.source_text.specs.Source.{IsPlace, max_bytes}
 use Rattle.source_text.specs.declared.fault.Fault.{Fault}
 use Rattle.source_text.specs.declared.fault.Fault.TheVariants.{NotUtf8, TooLong, Syntax, TooDeep, Early, OutOfMemory, BadSettings, BadTable, WriteFailed, ReadFailed, Usage}
-use Rattle.command_line.specs.declared.command.Command.{Command}
-use Rattle.command_line.specs.declared.command.Command.TheVariants.{Fix, Tree}
-use Rattle.command_line.specs.Refused.{HasPlace, place_of}
+use Rattle.streams.specs.declared.command.Command.{Command}
+use Rattle.streams.specs.declared.command.Command.TheVariants.{Fix, Tree}
+use Rattle.streams.specs.Refused.{HasPlace, place_of}
 use Rattle.lint.specs.Run.{IsSource, IsAnswer, RefusesSource, RefusesBytes, Seen, NoneFailed, NothingWritten, IsGiven, Refuses}
 
 -- bytes that were read up to one byte past the longest text

@@ -7,17 +7,17 @@ use Rattle.source_text.specs.Source.{IsPlace, IsRefusal, max_bytes}
 use Rattle.source_text.specs.Lines.{line_column}
 use Rattle.source_text.specs.declared.fault.Fault.{Fault}
 use Rattle.source_text.specs.declared.fault.Fault.TheVariants.{NotUtf8, TooLong, Syntax, Early, OutOfMemory, ReadFailed, WriteFailed}
-use Rattle.command_line.specs.declared.command.Command.{Command}
-use Rattle.command_line.specs.declared.command.Command.TheVariants.{Fix, Tree}
-use Rattle.command_line.specs.declared.refused.Refused.{Refused}
+use Rattle.streams.specs.declared.command.Command.{Command}
+use Rattle.streams.specs.declared.command.Command.TheVariants.{Fix, Tree}
+use Rattle.streams.specs.declared.refused.Refused.{Refused}
 use Rattle.tree.specs.Tree.{Tree as SyntaxTree}
 use Rattle.tree.specs.declared.kind.Pair.{Pair}
 use Rattle.early_errors.specs.Accepted.{Accepted}
 use Rattle.estree_json.specs.Json.{json_text}
 use Rattle.lint.specs.ReadScripts.{RefusesReading}
 use Rattle.lint.specs.Fixes.{FixesScript, RefusesFixing}
-use Rattle.command_line.specs.Streams.{AppendsBeginning}
-use Rattle.command_line.specs.Refused.{place_of}
+use Rattle.streams.specs.WholeTexts.{AppendsBeginning}
+use Rattle.streams.specs.Refused.{place_of}
 
 -- ---- a text and its answer
 

@@ -6,10 +6,10 @@ ghost use Rattle.lint.specs.Run.{Answers, IsJson, Runs};
 
 use crate::fixer::fix;
 use crate::reader::read_script;
-use command_line::{Command, Refused, read_up_to, write_text};
 use estree_json::tree_text;
 use source_text::{DeviceFault, Fault, Feed, MAX_BYTES, Sink, Source};
 use std::alloc::Global;
+use streams::{Command, Refused, read_up_to, write_text};
 
 // The tree of a script as JSON, and a line feed.
 fn tree_line(alloc: Global, source: &Source<'_>) -> Result<String, Fault>

@@ -1,12 +1,11 @@
 //! The program's edge, with devices that take or give little, or fail.
 
-use clap::error::ErrorKind;
-use command_line::{Command, Refused, command_line, read_up_to, write_refusal, write_text};
 use lint::run::run;
 use source_text::{Device, Fault, MemoryFeed, MemorySink, Plan, Reason};
 use std::alloc::{AllocError, Global};
 use std::process::Abort;
 use std::test::Fail;
+use streams::{Command, Refused, read_up_to, write_refusal, write_text};
 
 const WHOLE: Plan = Plan {
     per_call: 65536,
@@ -297,42 +296,4 @@ fn runs_whose_writer_fails(rt: HostRuntime) -> Result<(), Fail> {
         expect_run(&rt, rt.alloc(), b"a;\n", (failed, left.as_bytes()), plans)?;
     }
     Ok(())
-}
-
-#[test]
-fn a_command_line(rt: HostRuntime) -> Result<(), Fail> {
-    let words = ["jslint", "fix", "a.js"];
-    let line = command_line(rt.alloc(), &words)?;
-    assert_eq!(rt; line.command, Command::Fix);
-    assert_eq!(rt; line.file, "a.js");
-    Ok(())
-}
-
-/// Words that are no command, and the kind of their refusal.
-fn no_commands() -> &'static [(&'static [&'static str], ErrorKind)] {
-    &NO_COMMANDS
-}
-
-static NO_COMMANDS: [(&[&str], ErrorKind); 7] = [
-    (&["jslint", "fix"], ErrorKind::MissingRequiredArgument),
-    (&["jslint"], ErrorKind::MissingSubcommand),
-    (&["jslint", "nope"], ErrorKind::InvalidSubcommand),
-    (&["jslint", "fix", "a", "b"], ErrorKind::UnknownArgument),
-    (&["jslint", "--help"], ErrorKind::DisplayHelp),
-    (&["jslint", "help"], ErrorKind::DisplayHelp),
-    (&["jslint", "help", "fix"], ErrorKind::DisplayHelp),
-];
-
-fn expect_no_command<'a>(rt: &impl Abort, alloc: Global, words: &'a [&'a str], want: ErrorKind) {
-    match command_line(alloc, words) {
-        Ok(_) => panic!(rt; "{words:?}"),
-        Err(error) => assert_eq!(rt; error.kind(), want, "{words:?}"),
-    }
-}
-
-#[test]
-fn command_lines_that_are_refused(rt: HostRuntime) {
-    for (words, want) in no_commands() {
-        expect_no_command(&rt, rt.alloc(), words, *want);
-    }
 }

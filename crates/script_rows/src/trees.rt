@@ -1,11 +1,11 @@
 //! Runs of the command `tree`: what is written, or the refusal.
 
-use command_line::{Command, Refused};
 use lint::run::run;
 use source_text::{Fault, MemoryFeed, MemorySink, Plan};
 use std::alloc::Global;
 use std::process::Abort;
 use std::test::Fail;
+use streams::{Command, Refused};
 
 // Texts with their JSON.
 const TREES: [(&str, &str); 6] = [

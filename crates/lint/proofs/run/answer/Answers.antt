@@ -2,8 +2,8 @@ use Rattle.std.proofs.Common.{◌≡◌, ◌∙◌, ℕ, List, sym, subst, Ok, E
 use Rattle.std.specs.declared.alloc.Global.{Global}
 use Rattle.std.specs.declared.result.Result.{Result}
 use Rattle.source_text.specs.declared.fault.Fault.{Fault}
-use Rattle.command_line.specs.declared.command.Command.{Command}
-use Rattle.command_line.specs.declared.command.Command.TheVariants.{Fix, Tree}
+use Rattle.streams.specs.declared.command.Command.{Command}
+use Rattle.streams.specs.declared.command.Command.TheVariants.{Fix, Tree}
 use Rattle.lint.specs.Fixes.{FixesScript}
 use Rattle.lint.specs.Run.{IsSource, IsAnswer, IsJson, RefusesSource}
 use Rattle.lint.proofs.Running.{source_refused}

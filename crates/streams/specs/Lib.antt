@@ -1,0 +1,4 @@
+pub mod Commands
+pub mod WholeTexts
+pub mod Refused
+pub mod Refusal
