@@ -1,5 +1,5 @@
 -- What the loop begins with at `[` and at `{`.
-use Rattle.std.proofs.Common.{◌≡◌, ℕ, suc, ◌≤◌, Bool, true, false, List, [], ◌∷◌, ◌++◌, refl, sym, ap, ◌∙◌, subst, arith, inl, inr}
+use Rattle.std.proofs.Common.{◌≡◌, ℕ, suc, ◌≤◌, Bool, false, List, [], ◌∷◌, ◌++◌, refl, sym, ap, ◌∙◌, subst, arith, inl}
 use Rattle.std.specs.Prelude.{IsTrue, codes}
 use Rattle.tokens.specs.declared.token.Class.TheVariants.{Punctuator}
 use Rattle.tokens.specs.declared.token.Goal.TheVariants.{RegExp}
@@ -8,10 +8,10 @@ use Rattle.tree.specs.declared.kind.Kind.TheVariants.{AssignmentExpression}
 use Rattle.tree.specs.declared.kind.Pair.{Pair}
 use Rattle.tree.specs.Tree.{Tree, node, Parts, none, part, height, parts_height, bare_parts, plain}
 use Rattle.language.specs.declared.Rank.{Rank}
-use Rattle.language.specs.declared.Rank.TheVariants.{Expression, Assignment, Primary}
+use Rattle.language.specs.declared.Rank.TheVariants.{Assignment, Primary}
 use Rattle.language.specs.declared.Start.{Start}
-use Rattle.language.specs.declared.Start.TheVariants.{Any}
 use Rattle.language.specs.FirstPart.{lead as lead_kind}
+use Rattle.language.specs.declared.Start.TheVariants.{Any}
 use Rattle.language.specs.Words.{takes}
 use Rattle.language.specs.Pieces.{Role, expr, pattern, PieceOf, sign}
 use Rattle.language.specs.Token.{Token}
@@ -43,7 +43,7 @@ module _ (S : Type 0) (Next : S → Token → S → Type 0) (behind : S → Toke
       object_starts S Next behind a.spelled (sym (kind_bare a.item) ∙ sym (ap (λ v. lead_kind (bare_parts v)) a.parts) ∙ l)
 
 module _ (S : Type 0) (Next : S → Token → S → Type 0) (behind : S → Token) (det : IsDetermined S Next behind) (alike : IsAlike S Next behind) {h : ℕ} (u : Unique S Next behind det h) where
-  module _ {f : Start} {a : Opening} {K L : Kind} {pieces : Parts → List (PieceOf Role)} (is_bracket : Bracketing f a K L pieces) (high : (st en : ℕ) (ps : Parts) → height (node K [] plain st en ps) ≡ suc (parts_height ps)) (lists : UniqueParts S Next behind det h pieces)
+  module _ {f : Start} {a : Opening} {K L : Kind} {pieces : Parts → List (PieceOf Role)} (bracketing : Bracketing f a K L pieces) (high : (st en : ℕ) (ps : Parts) → height (node K [] plain st en ps) ≡ suc (parts_height ps)) (lists : UniqueParts S Next behind det h pieces)
       {o : ℕ} {y q : Rank} {i j : Bool} {n m : Tree} {s0 e mid m0 : S} {P Q : List Pair} {t : Token} (low : height n ≤ suc h) (b : Begun S Next behind det o s0 y i f n e P q j m mid Q) (r : ReadBy S Next behind RegExp s0 t m0) (opening : opening_of t ≡ a) where
     m_low : height m ≤ suc h
     m_low = let g = grows_height S Next behind det b.grows in omega arith
@@ -53,7 +53,7 @@ module _ (S : Type 0) (Next : S → Token → S → Type 0) (behind : S → Toke
     by_list {st} {en} {ps} tree pl d = record {
       symbol = Primary;
       climbing = subst (λ v. Climbing S Next behind det o y i f Primary s0 v mid Q) (sym tree)
-          (climb_bracket S Next behind det is_bracket r opening (b.reached.taken Primary (bracket_primary S Next behind det is_bracket r opening b.core)) (lists.gives parts_low d) unassigned (replaced S Next behind det pl));
+          (climb_bracket S Next behind det bracketing r opening (b.reached.taken Primary (bracket_primary S Next behind det bracketing r opening b.core)) (lists.gives parts_low d) unassigned (replaced S Next behind det pl));
     }
       where
         parts_low : parts_height ps ≤ h
@@ -62,8 +62,8 @@ module _ (S : Type 0) (Next : S → Token → S → Type 0) (behind : S → Toke
         unassigned : IsTrue (takes y Assignment) → Unassigned S Next behind f s0
         unassigned tk o' e' n' P' v k d' eq =
             let p = pattern_parts S Next behind det d' in
-            let same = brackets_end S Next behind det alike u as_expression (as_pattern false) (inl parts_low) (literal_bracketed S Next behind is_bracket d) p.bracketed in
-            literal_unassigned S Next behind det is_bracket tk b tree (subst (λ c. Reads S Next behind Punctuator (codes "=") c v k) same eq)
+            let same = brackets_end S Next behind det alike u as_expression (as_pattern false) (inl parts_low) (literal_bracketed S Next behind bracketing d) p.bracketed in
+            literal_unassigned S Next behind det bracketing tk b tree (subst (λ c. Reads S Next behind Punctuator (codes "=") c v k) same eq)
 
     -- an assignment to a pattern
     by_assigned : {st en : ℕ} {p w : Tree} {place x : S} {v : Token} {R V : List Pair} → m ≡ node AssignmentExpression (codes "=") plain st en (part p (part w none)) → IsTrue (takes q Assignment) → Placed S Next behind (expr q j f) (node AssignmentExpression (codes "=") plain st en (part p (part w none))) s0 mid →
@@ -78,15 +78,15 @@ module _ (S : Type 0) (Next : S → Token → S → Type 0) (behind : S → Toke
         let found = u.expressions.found w_low (λ c. cc) (λ c. cc) (subst (λ c. Spells ways S Next behind o (expr Assignment c Any) w x mid V) same right) (subst (λ c. Stops S Next behind Assignment c w mid) same (right_stops S Next behind det b tree tk)) in
         let inner = pattern_parts S Next behind det d in
         let is_high = inner.high in
-        let ends : PartsEndAt S Next behind pieces s0 place = λ o' e' ps' P' d'. brackets_end S Next behind det alike u (as_pattern false) as_expression (inl (omega arith)) inner.bracketed (literal_bracketed S Next behind is_bracket d') in
+        let ends : PartsEndAt S Next behind pieces s0 place = λ o' e' ps' P' d'. brackets_end S Next behind det alike u (as_pattern false) as_expression (inl (omega arith)) inner.bracketed (literal_bracketed S Next behind bracketing d') in
         record {
           symbol = Assignment;
           climbing = subst (λ c. Climbing S Next behind det o y i f Assignment s0 m mid c) (sym pairs) (subst (λ c. Climbing S Next behind det o y i f Assignment s0 c mid (R ++ V)) (sym tree)
-              (climb_assigned S Next behind det is_bracket r opening ends eq (b.reached.taken Assignment tk) target found (replaced S Next behind det pl)));
+              (climb_assigned S Next behind det bracketing r opening ends eq (b.reached.taken Assignment tk) target found (replaced S Next behind det pl)));
         }
 
     bracket_begins : Climbed S Next behind det o y i f s0 m mid Q
-    bracket_begins = of (bracket_of S Next behind det is_bracket r opening b.core)
+    bracket_begins = of (bracket_of S Next behind det bracketing r opening b.core)
       where
         of : BracketCore S Next behind det o q j f m s0 mid Q K pieces → Climbed S Next behind det o y i f s0 m mid Q
         of (as_list tree pl d) = by_list tree pl d

@@ -1,12 +1,11 @@
 -- Arrays, objects and their patterns at one place end alike, if one of them is no higher.
-use Rattle.std.proofs.Common.{◌≡◌, ℕ, suc, ◌≤◌, Bool, true, false, List, refl, sym, ap, ◌∙◌, subst, arith, ◌⊎◌, inl, inr}
+use Rattle.std.proofs.Common.{◌≡◌, ℕ, suc, ◌≤◌, Bool, List, refl, sym, ap, arith, ◌⊎◌, inl, inr}
 use Rattle.std.specs.Prelude.{codes}
 use Rattle.std.proofs.lemmas.Bool.{false≢true}
 use Rattle.tokens.specs.declared.token.Class.TheVariants.{Punctuator}
 use Rattle.tree.specs.declared.kind.Kind.{Kind}
-use Rattle.tree.specs.declared.kind.Kind.TheVariants.{ArrayPattern, ObjectPattern}
 use Rattle.tree.specs.declared.kind.Pair.{Pair}
-use Rattle.tree.specs.Tree.{Tree, node, Parts, height, parts_height, plain}
+use Rattle.tree.specs.Tree.{Tree, Parts, height, parts_height}
 use Rattle.language.specs.declared.Start.{Start}
 use Rattle.language.specs.Words.{is}
 use Rattle.language.specs.Pieces.{pattern, PieceOf, Role}

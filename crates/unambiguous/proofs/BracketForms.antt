@@ -1,5 +1,5 @@
 -- What begins with `[` or `{` in a derivation: an array or an object, or an assignment to a pattern.
-use Rattle.std.proofs.Common.{◌≡◌, ℕ, ◌≤◌, Bool, true, false, List, [], ◌∷◌, ◌++◌, refl, sym, ap, ◌∙◌, subst, arith}
+use Rattle.std.proofs.Common.{◌≡◌, ℕ, Bool, true, false, List, [], ◌∷◌, ◌++◌, refl, sym, ap, ◌∙◌, subst, arith}
 use Rattle.std.specs.Prelude.{IsTrue, codes}
 use Rattle.std.proofs.lemmas.Slice.Eq.{bytes_eq-Decides}
 use Rattle.tokens.specs.declared.token.Class.TheVariants.{Punctuator}
@@ -33,7 +33,7 @@ use Rattle.language.proofs.Cores.{Cored, in_way, core_by}
 use Rattle.language.proofs.Running.{run_token, run_laid, run_part}
 use Rattle.language.proofs.Sides.{one_part}
 use Rattle.language.proofs.Lists.{object_role, item_piece, object_pieces}
-use Rattle.language.proofs.Reaches.{is_loose, loose_of}
+use Rattle.language.proofs.Reaches.{loose_of}
 use Rattle.language.proofs.Tails.{tails_assign}
 use Rattle.language.proofs.TwoSides.{same_node}
 use Rattle.language.proofs.Starting.{Begun, begun_stops}
@@ -77,7 +77,7 @@ module _ (S : Type 0) (Next : S → Token → S → Type 0) (behind : S → Toke
       let right = one_part S Next behind det (run_laid S Next behind eq.runs) in
       let same : m ≡ node AssignmentExpression (codes "=") plain st en (part a.item (part right.operand none)) =
       tree ∙ same_node kind text (lean_flags (bare (node k w g st en ps)) bares ∙ ap (λ v. used_flags v g) kind) refl refl (a.parts ∙ ap (part a.item) right.parts) in
-      as_assigned same tk (subst (λ v. Placed S Next behind (expr h j f) v s0 mid) same pl) a.spelled eq.reads right.spelled a.pairs
+      as_assigned same tk (subst (λ v. Placed S Next behind (expr h j f) v s0 mid) {y = node AssignmentExpression (codes "=") plain st en (part a.item (part right.operand none))} same pl) a.spelled eq.reads right.spelled a.pairs
 
   listed_core : {o : ℕ} {h : Rank} {j : Bool} {f : Start} {m : Tree} {s0 mid : S} {Q : List Pair} {k : Kind} {w : List ℕ} {g : Flags} {st en : ℕ} {ps : Parts} {qs : List (PieceOf Role)} {K : Kind} {pieces : Parts → List (PieceOf Role)} →
       m ≡ node k w g st en ps → k ≡ K → has_text K ≡ false → used_flags K g ≡ plain → qs ≡ pieces ps → is_lean (bare m) ≡ true → Placed S Next behind (expr h j f) m s0 mid → Runs ways S Next behind o qs ps s0 mid Q → BracketCore o h j f m s0 mid Q K pieces
@@ -97,18 +97,18 @@ module _ (S : Type 0) (Next : S → Token → S → Type 0) (behind : S → Toke
   -- what the leftmost part is, where the first token is `[` or `{`
   pub bracket_of : {f : Start} {x : Opening} {K L : Kind} {pieces : Parts → List (PieceOf Role)} {s0 m0 : S} {t : Token} {o : ℕ} {h : Rank} {j : Bool} {m : Tree} {mid : S} {Q : List Pair} → Bracketing f x K L pieces → ReadBy S Next behind Goal.RegExp s0 t m0 → opening_of t ≡ x →
       Core S Next behind o (expr h j f) m s0 mid Q → BracketCore o h j f m s0 mid Q K pieces
-  bracket_of is_bracket r opening c = cored_bracket is_bracket (core_by S Next behind det r opening c)
+  bracket_of bracketing r opening c = cored_bracket bracketing (core_by S Next behind det r opening c)
 
   -- it stands where an operand does
   pub bracket_primary : {f : Start} {x : Opening} {K L : Kind} {pieces : Parts → List (PieceOf Role)} {s0 m0 : S} {t : Token} {o : ℕ} {h : Rank} {j : Bool} {m : Tree} {mid : S} {Q : List Pair} → Bracketing f x K L pieces → ReadBy S Next behind Goal.RegExp s0 t m0 → opening_of t ≡ x →
       Core S Next behind o (expr h j f) m s0 mid Q → IsTrue (takes h Primary)
-  bracket_primary is_bracket r opening c = core_primary S Next behind det c r (λ q. no_parenthesis is_bracket (sym opening ∙ q))
+  bracket_primary bracketing r opening c = core_primary S Next behind det c r (λ q. no_parenthesis bracketing (sym opening ∙ q))
 
   -- an array or an object isn't assigned to
   pub literal_unassigned : {f : Start} {x : Opening} {K L : Kind} {pieces : Parts → List (PieceOf Role)} {s0 : S} {o : ℕ} {y : Rank} {i : Bool} {n : Tree} {e : S} {P : List Pair} {h : Rank} {j : Bool} {m : Tree} {mid x2 : S} {Q : List Pair} {v : Token} {st en : ℕ} {ps : Parts} → Bracketing f x K L pieces →
       IsTrue (takes y Assignment) → Begun S Next behind det o s0 y i f n e P h j m mid Q → m ≡ node K [] plain st en ps → Reads S Next behind Punctuator (codes "=") mid v x2 → ⊥
-  literal_unassigned {mid = mid} {st = st} {en = en} {ps = ps} is_bracket tk b tree reads =
-      assign_follows S Next behind det b (ap (λ c. standing (edge c) (behind mid)) tree ∙ ap (λ c. standing c (behind mid)) (other_edge st en ps is_bracket)) (ap (λ c. is_target (kind_of c)) tree ∙ no_target is_bracket) reads tk
+  literal_unassigned {mid = mid} {st = st} {en = en} {ps = ps} bracketing tk b tree reads =
+      assign_follows S Next behind det b (ap (λ c. standing (edge c) (behind mid)) tree ∙ ap (λ c. standing c (behind mid)) (other_edge st en ps bracketing)) (ap (λ c. is_target (kind_of c)) tree ∙ no_target bracketing) reads tk
 
   -- the right side of such an assignment can't go on
   pub right_stops : {f : Start} {s0 : S} {o : ℕ} {y : Rank} {i : Bool} {n : Tree} {e : S} {P : List Pair} {h : Rank} {j : Bool} {m : Tree} {mid : S} {Q : List Pair} {st en : ℕ} {p u : Tree} → Begun S Next behind det o s0 y i f n e P h j m mid Q →

@@ -1,27 +1,25 @@
 -- A turn of the loop at `?.`: the whole chain, from its base to its end.
-use Rattle.std.proofs.Common.{◌≡◌, ℕ, suc, ◌≤◌, ◌<◌, Bool, true, false, List, [], ◌∷◌, ◌++◌, refl, sym, ap, ◌∙◌, subst, arith}
+use Rattle.std.proofs.Common.{◌≡◌, ℕ, suc, ◌≤◌, Bool, true, false, List, [], ◌++◌, refl, sym, ap, ◌∙◌, subst, arith}
 use Rattle.std.specs.Prelude.{IsTrue, max}
 use Rattle.std.proofs.lemmas.Bool.{false≢true}
 use Rattle.std.proofs.lemmas.List.{append-nil}
 use Rattle.tokens.specs.declared.token.Goal.TheVariants.{Div}
-use Rattle.tree.specs.declared.kind.Kind.{Kind}
 use Rattle.tree.specs.declared.kind.Kind.TheVariants.{ChainExpression}
 use Rattle.language.specs.declared.Rank.{Rank}
-use Rattle.language.specs.declared.Rank.TheVariants.{Conditional, New, Call, LeftHandSide}
+use Rattle.language.specs.declared.Rank.TheVariants.{Call, LeftHandSide}
 use Rattle.language.specs.declared.Start.{Start}
-use Rattle.tree.specs.declared.kind.Flags.{Flags}
 use Rattle.tree.specs.declared.kind.Pair.{Pair}
-use Rattle.tree.specs.Tree.{Tree, node, Parts, none, part, height, parts_height, bare, bare_parts, plain}
+use Rattle.tree.specs.Tree.{Tree, node, none, part, height, parts_height, bare, bare_parts, plain}
 use Rattle.tree.specs.Uses.{is_lean}
-use Rattle.language.specs.Words.{takes, Operator, chains}
-use Rattle.language.specs.Pieces.{Role, expr, spine, PieceOf}
+use Rattle.language.specs.Words.{takes, chains}
+use Rattle.language.specs.Pieces.{expr, spine}
 use Rattle.language.specs.Token.{Token}
 use Rattle.language.specs.Edges.{edge}
 use Rattle.language.specs.Follow.{operation, stops}
 use Rattle.language.specs.Promises.{IsDetermined, ReadBy, Stops}
 use Rattle.language.specs.Following.{IsAlike}
-use Rattle.language.specs.Grammar.{ways, spellings}
-use Rattle.language.specs.Derivation.{Spells, Runs, Placed}
+use Rattle.language.specs.Grammar.{spellings}
+use Rattle.language.specs.Derivation.{Placed}
 use Rattle.language.proofs.Spine.{Grows, grow, grows_on_spine}
 use Rattle.language.proofs.Viewed.{way_of, made}
 use Rattle.language.proofs.Running.{run_none}
@@ -33,11 +31,11 @@ use Rattle.language.proofs.Stepping.{no_spine, goes_where_not}
 use Rattle.language.proofs.Climbing.{grows_height, Leads, Climbing}
 use Rattle.language.proofs.Suffixes.{argument_pieces}
 use Rattle.language.proofs.TwoSides.{replaced, regrown}
-use Rattle.language.proofs.Chains.{chains_led, LinkSymbol, Chaining, chain_first, chain_more, chain_end}
+use Rattle.language.proofs.Chains.{chains_led, Chaining, chain_first, chain_more, chain_end}
 use Rattle.language.proofs.Links.{no_part}
 use Rattle.unambiguous.proofs.Unique.{Unique, UniqueParts, Turn, Turned}
 use Rattle.unambiguous.proofs.LinkParts.{link_found}
-use Rattle.unambiguous.proofs.ChainLinks.{SymbolOf, link_symbol, chain_led, LinkRuns, as_node, link_runs, moved, chain_ended}
+use Rattle.unambiguous.proofs.ChainLinks.{link_symbol, chain_led, LinkRuns, as_node, link_runs, moved, chain_ended}
 
 module _ (S : Type 0) (Next : S → Token → S → Type 0) (behind : S → Token) (det : IsDetermined S Next behind) (alike : IsAlike S Next behind) {h : ℕ} (u : Unique S Next behind det h) where
   -- the chain as it stands in the whole, from one of its parts to its end

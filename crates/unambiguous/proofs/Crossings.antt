@@ -1,21 +1,20 @@
 -- Readings of one place end alike: arrays, objects, their patterns, arguments and parameters, from their items.
-use Rattle.std.proofs.Common.{◌≡◌, ℕ, ◌≤◌, Bool, true, false, List, [], ◌∷◌, refl, sym, ap, ◌∙◌, subst, arith}
-use Rattle.std.specs.Prelude.{IsTrue, Option, Some, codes}
+use Rattle.std.proofs.Common.{◌≡◌, ℕ, ◌≤◌, List, ◌∷◌, refl, sym, ap, subst}
+use Rattle.std.specs.Prelude.{IsTrue, Some, codes}
 use Rattle.std.proofs.lemmas.Bool.{false≢true}
 use Rattle.tokens.specs.declared.token.Class.TheVariants.{Punctuator}
 use Rattle.tokens.specs.declared.token.Goal.TheVariants.{Div}
 use Rattle.tokens.specs.Goals.{allows}
-use Rattle.tree.specs.declared.kind.Kind.{Kind}
 use Rattle.tree.specs.declared.kind.Pair.{Pair}
 use Rattle.tree.specs.Tree.{Tree, Parts, kind_of, parts_height}
 use Rattle.language.specs.Words.{is}
 use Rattle.language.specs.Pieces.{Role, PieceOf, tok}
 use Rattle.language.specs.Token.{Token}
-use Rattle.language.specs.Covers.{Reading, as_expression, as_pattern, element_as, property_as}
+use Rattle.language.specs.Covers.{Reading, element_as, property_as}
 use Rattle.language.specs.Promises.{IsDetermined}
 use Rattle.language.specs.Following.{IsAlike}
 use Rattle.language.specs.Grammar.{ways}
-use Rattle.language.specs.Derivation.{Reads, Spells, Runs}
+use Rattle.language.specs.Derivation.{Spells, Runs}
 use Rattle.language.proofs.Running.{run_token}
 use Rattle.language.proofs.Conditionals.{same_sign}
 use Rattle.language.proofs.Lists.{list_pieces, element_pieces}

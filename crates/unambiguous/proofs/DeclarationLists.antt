@@ -1,27 +1,26 @@
 -- A list of declarators is the only one at its place, and so is a declaration.
-use Rattle.std.proofs.Common.{◌≡◌, ℕ, suc, ◌≤◌, Bool, true, false, List, [], ◌∷◌, ◌++◌, refl, sym, ap, ◌∙◌, subst, arith}
+use Rattle.std.proofs.Common.{◌≡◌, ℕ, suc, ◌≤◌, Bool, true, false, List, refl, sym, ap, ◌∙◌, subst, arith}
 use Rattle.std.specs.Prelude.{IsTrue, codes}
 use Rattle.std.proofs.lemmas.Bool.{false≢true}
 use Rattle.tokens.specs.declared.token.Class.TheVariants.{Punctuator}
 use Rattle.tokens.specs.declared.token.Goal.{Goal}
 use Rattle.tokens.specs.Goals.{allows}
-use Rattle.tree.specs.declared.kind.Kind.TheVariants.{VariableDeclaration}
 use Rattle.tree.specs.declared.kind.Pair.{Pair}
-use Rattle.tree.specs.Tree.{Tree, node, Parts, none, part, gap, height, parts_height, bare_parts}
+use Rattle.tree.specs.Tree.{Tree, Parts, none, part, gap, height, parts_height}
 use Rattle.language.specs.declared.Rank.TheVariants.{Expression}
 use Rattle.language.specs.declared.Start.TheVariants.{Any}
 use Rattle.language.specs.declared.Edge.{Edge}
 use Rattle.language.specs.Words.{is}
-use Rattle.language.specs.Beginning.{a_variable, beginning_of}
+use Rattle.language.specs.Beginning.{a_variable}
 use Rattle.language.specs.Edges.{edge}
-use Rattle.language.specs.Pieces.{Role, declarator, Piece, PieceOf, ending}
+use Rattle.language.specs.Pieces.{declarator, Piece, ending}
 use Rattle.language.specs.Token.{Token}
-use Rattle.language.specs.Promises.{IsDetermined, ReadBy}
-use Rattle.language.specs.Following.{IsAlike, Followed, Finished, Declared, may_follow, FoundWhere, FoundPartsWhere}
+use Rattle.language.specs.Promises.{IsDetermined}
+use Rattle.language.specs.Following.{IsAlike, Followed, Finished, Declared, may_follow, FoundPartsWhere}
 use Rattle.language.specs.Grammar.{ways}
-use Rattle.language.specs.Derivation.{Reads, Spells, Runs, Step, explicit, implicit}
+use Rattle.language.specs.Derivation.{Reads, Runs, Step, explicit, implicit, Placed}
 use Rattle.language.proofs.Begins.{goes_to, retell}
-use Rattle.language.proofs.Running.{run_none, run_token, run_laid, run_never, run_the_part}
+use Rattle.language.proofs.Running.{run_token, run_laid, run_never, run_the_part}
 use Rattle.language.proofs.BareEdges.{edge_bare}
 use Rattle.language.proofs.HeadWays.{two_signs}
 use Rattle.language.proofs.LineLists.{closed_by}
@@ -29,7 +28,6 @@ use Rattle.language.proofs.OptionalParts.{and_found}
 use Rattle.language.proofs.OwnWays.{own_sole}
 use Rattle.language.proofs.Sofar.{and_then, lay_on, run_end}
 use Rattle.language.proofs.Sole.{sole_found}
-use Rattle.language.proofs.Stated.{Stands}
 use Rattle.language.proofs.DeclaratorLists.{before_declarator, its_end, comma_declared, declarator_on, declarator_comma, declarators_closed, end_declared}
 use Rattle.unambiguous.proofs.Unique.{Unique, StatementStep}
 use Rattle.unambiguous.proofs.Restated.{found_as, parts_as, ends_once}
@@ -88,8 +86,8 @@ module _ (S : Type 0) (Next : S → Token → S → Type 0) (behind : S → Toke
         let high : height n ≡ suc (parts_height told.parts) = ap height told.tree in
         let fine' : Followed S Next behind false e = subst (λ v. Finished S Next behind v e) told.tree fine in
         let list = declarators_unique true true its_end (Followed S Next behind false) (λ o' n' k e' P' run f. end_declared S Next behind det alike o' n' k e' P' run f)
-            (λ o' n' k e' m' t' P' run f c. comma_apart (run_end S Next behind det run).ends f c)
-            (λ o1 o2 n' k e1 e2 P1 P2 r1 f1 r2 f2. (let a1 = run_end S Next behind det r1 in let a2 = run_end S Next behind det r2 in (ends_once S Next behind det a1.ends a2.ends, a2.pairs ∙ sym a1.pairs)))
-            told.parts (omega arith) (run_laid S Next behind told.runs) fine' in
-        found_as S Next behind det (sole_found S Next behind det sole {FineParts = λ ps e. Followed S Next behind false e} (λ st en ps e f. f) (and_found S Next behind det (lay_on S Next behind det) list) (subst (λ v. Rattle.language.specs.Derivation.Placed S Next behind a v s e) told.tree told.placed)) sp fine;
+        (λ o' n' k e' m' t' P' run f c. comma_apart (run_end S Next behind det run).ends f c)
+        (λ o1 o2 n' k e1 e2 P1 P2 r1 f1 r2 f2. (let a1 = run_end S Next behind det r1 in let a2 = run_end S Next behind det r2 in (ends_once S Next behind det a1.ends a2.ends, a2.pairs ∙ sym a1.pairs)))
+        told.parts (omega arith) (run_laid S Next behind told.runs) fine' in
+        found_as S Next behind det (sole_found S Next behind det sole {FineParts = λ ps e. Followed S Next behind false e} (λ st en ps e f. f) (and_found S Next behind det (lay_on S Next behind det) list) (subst (λ v. Placed S Next behind a v s e) told.tree told.placed)) sp fine;
   }

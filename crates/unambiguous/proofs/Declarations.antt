@@ -1,37 +1,29 @@
 -- Declarators and declarations are the only ones at their place.
-use Rattle.std.proofs.Common.{◌≡◌, ℕ, suc, ◌≤◌, Bool, true, false, List, [], ◌∷◌, ◌++◌, refl, sym, ap, ◌∙◌, subst, arith}
-use Rattle.std.specs.Prelude.{IsTrue, codes, ◌&&◌}
-use Rattle.std.proofs.lemmas.Bool.{false≢true}
-use Rattle.tokens.specs.declared.token.Class.TheVariants.{Name, Punctuator}
-use Rattle.tokens.specs.declared.token.Goal.{Goal}
-use Rattle.tokens.specs.Goals.{allows}
-use Rattle.tree.specs.declared.kind.Kind.TheVariants.{VariableDeclaration, VariableDeclarator}
+use Rattle.std.proofs.Common.{◌≡◌, ℕ, suc, ◌≤◌, Bool, true, false, List, [], ◌++◌, refl, sym, ap, subst, arith}
+use Rattle.std.specs.Prelude.{IsTrue, codes}
+use Rattle.tokens.specs.declared.token.Class.TheVariants.{Punctuator}
+use Rattle.tree.specs.declared.kind.Kind.TheVariants.{VariableDeclarator}
 use Rattle.tree.specs.declared.kind.Pair.{Pair}
-use Rattle.tree.specs.Tree.{Tree, node, Parts, none, part, gap, kind_of, height, parts_height, bare_parts, plain}
-use Rattle.language.specs.declared.Rank.TheVariants.{Expression, Assignment, Conditional, New}
+use Rattle.tree.specs.Tree.{Tree, node, none, part, gap, height, plain}
+use Rattle.language.specs.declared.Rank.TheVariants.{Assignment}
 use Rattle.language.specs.declared.Start.TheVariants.{Any}
-use Rattle.language.specs.declared.Edge.{Edge}
-use Rattle.language.specs.Words.{is, is_pattern}
-use Rattle.language.specs.Beginning.{a_variable, beginning_of}
 use Rattle.language.specs.Edges.{edge}
 use Rattle.language.specs.Follow.{stops}
-use Rattle.language.specs.Pieces.{Role, expr, name, pattern, bound, declarator, Piece, PieceOf}
+use Rattle.language.specs.Pieces.{expr, name, pattern, declarator}
 use Rattle.language.specs.Token.{Token}
-use Rattle.language.specs.Promises.{IsDetermined, ReadBy, Stops, FoundAt, AbsentAt}
-use Rattle.language.specs.Following.{IsAlike, Followed, Finished, Declared, FoundWhere, FoundPartsWhere}
+use Rattle.language.specs.Promises.{IsDetermined, FoundAt, AbsentAt}
+use Rattle.language.specs.Following.{IsAlike, Declared, FoundWhere}
 use Rattle.language.specs.Grammar.{ways}
-use Rattle.language.specs.Derivation.{Reads, Spells, Runs, Placed}
-use Rattle.language.proofs.Begins.{goes_to, retell}
-use Rattle.language.proofs.Running.{run_none, run_token, run_laid, run_never, run_the_part}
+use Rattle.language.specs.Derivation.{Reads, Spells, Placed}
+use Rattle.language.proofs.Running.{run_token}
 use Rattle.language.proofs.Leaves.{name_form, name_found}
 use Rattle.language.proofs.Patterned.{PatternCore, as_array, as_object, pattern_core}
 use Rattle.language.proofs.CoverReadings.{name_or_sign}
 use Rattle.language.proofs.CoverElements.{BoundForm, a_pattern, a_simple, a_name, a_target, bound_form}
 use Rattle.language.proofs.BoundTargets.{name_bound, pattern_bound_found}
 use Rattle.language.proofs.Declarators.{Target, DeclaratorForm, with_value, alone, declarator_form, TargetFound, declarator_alone, declarator_found}
-use Rattle.language.proofs.Stated.{Stands}
-use Rattle.unambiguous.proofs.Unique.{Unique, Expressions, StatementStep}
-use Rattle.unambiguous.proofs.Restated.{found_as, found_at_as, parts_as, ends_once}
+use Rattle.unambiguous.proofs.Unique.{Unique, Expressions}
+use Rattle.unambiguous.proofs.Restated.{found_at_as}
 
 module _ (S : Type 0) (Next : S → Token → S → Type 0) (behind : S → Token) (det : IsDetermined S Next behind) (alike : IsAlike S Next behind) {h : ℕ} (u : Unique S Next behind det h) where
   -- a name that binds is the only one

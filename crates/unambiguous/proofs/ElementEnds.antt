@@ -1,7 +1,6 @@
 -- An expression and an element of a pattern at one place end alike, where a comma or a closing sign follows; so do two elements.
-use Rattle.std.proofs.Common.{◌≡◌, ℕ, suc, ◌≤◌, Bool, true, false, List, [], ◌∷◌, ◌++◌, refl, sym, ap, ◌∙◌, subst, arith, ◌⊎◌, inl, inr}
+use Rattle.std.proofs.Common.{◌≡◌, ℕ, suc, ◌≤◌, Bool, true, List, [], refl, sym, ap, ◌∙◌, subst, arith, ◌⊎◌, inl, inr}
 use Rattle.std.specs.Prelude.{IsTrue, codes}
-use Rattle.std.proofs.lemmas.Bool.{false≢true}
 use Rattle.tokens.specs.declared.token.Class.TheVariants.{Punctuator}
 use Rattle.tokens.specs.declared.token.Goal.{Goal}
 use Rattle.tokens.specs.Goals.{allows}
@@ -11,24 +10,22 @@ use Rattle.tree.specs.declared.kind.Pair.{Pair}
 use Rattle.tree.specs.Tree.{Tree, node, Parts, none, part, height, parts_height, plain}
 use Rattle.language.specs.declared.Rank.{Rank}
 use Rattle.language.specs.declared.Rank.TheVariants.{Assignment}
-use Rattle.language.specs.declared.Start.{Start}
 use Rattle.language.specs.declared.Start.TheVariants.{Any}
-use Rattle.language.specs.Words.{takes}
 use Rattle.language.specs.Pieces.{Role, expr, pattern, PieceOf}
 use Rattle.language.specs.Token.{Token}
 use Rattle.language.specs.Opening.{Opening, opening_of}
-use Rattle.language.specs.Covers.{Reading, as_expression, as_pattern}
+use Rattle.language.specs.Covers.{Reading, as_expression}
 use Rattle.language.specs.Promises.{IsDetermined, ReadBy, Stops, Found}
 use Rattle.language.specs.Following.{IsAlike}
 use Rattle.language.specs.Grammar.{ways}
-use Rattle.language.specs.Derivation.{Reads, Spells, Runs}
+use Rattle.language.specs.Derivation.{Reads, Spells}
 use Rattle.language.proofs.Running.{run_token}
 use Rattle.language.proofs.Headed.{opens}
 use Rattle.language.proofs.Conditionals.{same_sign}
 use Rattle.language.proofs.Climbing.{grows_height, whole_where_stops}
 use Rattle.language.proofs.Starting.{Begun, begins, core_spelled}
 use Rattle.language.proofs.CommaLists.{Separated}
-use Rattle.language.proofs.CoverElements.{Simple, simple_expression, Defaulted, default_expression, ElementForm, bare_pattern, bare_simple, pattern_default, simple_default}
+use Rattle.language.proofs.CoverElements.{simple_expression, Defaulted, default_expression, ElementForm, bare_pattern, bare_simple, pattern_default, simple_default}
 use Rattle.language.proofs.CoverEnds.{Closing, item_stops, item_quiet}
 use Rattle.language.proofs.Targets.{Bracketing, by_bracket, by_brace}
 use Rattle.unambiguous.proofs.Unique.{Unique}
@@ -88,17 +85,17 @@ module _ (S : Type 0) (Next : S → Token → S → Type 0) (behind : S → Toke
         where
           of : {a : Opening} {K L : Kind} {pieces : Parts → List (PieceOf Role)} {q : Rank} {j : Bool} {m0 : Tree} {mid : S} {Q0 : List Pair} → Bracketing Any a K L pieces → ((st en : ℕ) (ps : Parts) → height (node K [] plain st en ps) ≡ suc (parts_height ps)) →
               Begun S Next behind det o s Assignment true Any n e P q j m0 mid Q0 → BracketCore S Next behind det o q j Any m0 s mid Q0 K pieces → Met place
-          of {K = K} {m0 = m0} is_bracket high b (as_list {st = st} {en = en} {ps = ps} tree pl dl) =
+          of {K = K} {m0 = m0} bracketing high b (as_list {st = st} {en = en} {ps = ps} tree pl dl) =
               let g = grows_height S Next behind det b.grows in
               let k : height m0 ≡ height (node K [] plain st en ps) = ap height tree in
               let k' = high st en ps in
               let inner = pattern_parts S Next behind det p in
-              literal b (brackets_end S Next behind det alike u _ as_expression (either inner.high (omega arith) low) inner.bracketed (literal_bracketed S Next behind is_bracket dl)) (λ v x eq. literal_unassigned S Next behind det is_bracket refl b tree eq)
+              literal b (brackets_end S Next behind det alike u _ as_expression (either inner.high (omega arith) low) inner.bracketed (literal_bracketed S Next behind bracketing dl)) (λ v x eq. literal_unassigned S Next behind det bracketing refl b tree eq)
             where
               either : {x y : ℕ} → height m ≡ suc x → suc y ≤ height n → (height n ≤ suc h) ⊎ (height m ≤ suc h) → (x ≤ h) ⊎ (y ≤ h)
               either v w (inl l) = inr (omega arith)
               either v w (inr l) = inl (omega arith)
-          of {m0 = m0} {mid = mid} is_bracket high b (as_assigned {st = st} {en = en} {p = p'} {u = r} {x = x} {V = V} tree tk pl dp eq dr pairs) =
+          of {m0 = m0} {mid = mid} bracketing high b (as_assigned {st = st} {en = en} {p = p'} {u = r} {x = x} {V = V} tree tk pl dp eq dr pairs) =
               let g = grows_height S Next behind det b.grows in
               let k : height m0 ≡ height (node AssignmentExpression (codes "=") plain st en (part p' (part r none))) = ap height tree in
               let same = inside S Next behind det b tk in
@@ -109,7 +106,7 @@ module _ (S : Type 0) (Next : S → Token → S → Type 0) (behind : S → Toke
               either w (inr l) = inl l
 
           by_bracket_at : {q : Rank} {j : Bool} {m0 : Tree} {mid : S} {Q0 : List Pair} → BracketAt S Next behind det s → Begun S Next behind det o s Assignment true Any n e P q j m0 mid Q0 → Met place
-          by_bracket_at (bracket_at is_bracket r opening) b = of is_bracket (λ st en ps. refl) b (bracket_of S Next behind det is_bracket r opening b.core)
+          by_bracket_at (bracket_at bracketing r opening) b = of bracketing (λ st en ps. refl) b (bracket_of S Next behind det bracketing r opening b.core)
 
       -- at the place of a pattern
       pub at_pattern : {b : Bool} {o' : ℕ} {m : Tree} {k : S} {Q : List Pair} → (height n ≤ suc h) ⊎ (height m ≤ suc h) → Spells ways S Next behind o' (pattern b Any) m s k Q → Separated S Next behind det w k → k ≡ e

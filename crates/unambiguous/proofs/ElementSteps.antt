@@ -1,19 +1,18 @@
 -- Two readings of an element at one place end alike.
-use Rattle.std.proofs.Common.{◌≡◌, ℕ, suc, ◌≤◌, Bool, true, false, cond, List, refl, sym, ap, ◌∙◌, subst, arith, ◌⊎◌, inl, inr}
-use Rattle.std.specs.Prelude.{IsTrue, Option, Some, codes}
-use Rattle.std.proofs.lemmas.Bool.{false≢true}
+use Rattle.std.proofs.Common.{◌≡◌, ℕ, suc, ◌≤◌, Bool, true, false, cond, List, [], refl, sym, ap, ◌∙◌, subst, arith, inl, inr}
+use Rattle.std.specs.Prelude.{Option, Some, codes}
 use Rattle.tokens.specs.declared.token.Class.TheVariants.{Punctuator}
 use Rattle.tree.specs.declared.kind.Kind.{Kind}
 use Rattle.tree.specs.declared.kind.Kind.TheVariants.{AssignmentPattern, SpreadElement, RestElement}
 use Rattle.tree.specs.declared.kind.Pair.{Pair}
-use Rattle.tree.specs.Tree.{Tree, node, Parts, none, part, kind_of, height, parts_height, plain}
+use Rattle.tree.specs.Tree.{Tree, node, none, part, kind_of, height, plain}
 use Rattle.language.specs.declared.Rank.TheVariants.{Assignment}
 use Rattle.language.specs.declared.Start.TheVariants.{Any}
 use Rattle.language.specs.Words.{is_spread, is_rest}
-use Rattle.language.specs.Pieces.{Role, expr, pattern, spread, rest, with_default}
+use Rattle.language.specs.Pieces.{Role, expr, spread, rest, with_default}
 use Rattle.language.specs.Token.{Token}
 use Rattle.language.specs.Covers.{Reading, as_expression, as_pattern, element_as}
-use Rattle.language.specs.Promises.{IsDetermined, Found}
+use Rattle.language.specs.Promises.{IsDetermined}
 use Rattle.language.specs.Following.{IsAlike}
 use Rattle.language.specs.Grammar.{ways}
 use Rattle.language.specs.Derivation.{Reads, Spells}
@@ -35,8 +34,8 @@ module _ (S : Type 0) (Next : S → Token → S → Type 0) (behind : S → Toke
     dotted : {a : Role} {m : Tree} {t : Token} {y : S} → height n ≡ suc (height m) → Reads S Next behind Punctuator (codes "...") s t y → element_as x (kind_of m) ≡ Some a → Spells ways S Next behind o a m y e P → Element x o n s e P
     undotted : Plain S Next behind det o n s e P → Element x o n s e P
 
-  one_high : (K : Kind) (st en : ℕ) {n m : Tree} → n ≡ node K Rattle.std.proofs.Common.[] plain st en (part m none) → height n ≡ suc (height m)
-  one_high K st en {n} {m} tree = let k : height n ≡ height (node K Rattle.std.proofs.Common.[] plain st en (part m none)) = ap height tree in omega arith
+  one_high : (K : Kind) (st en : ℕ) {n m : Tree} → n ≡ node K [] plain st en (part m none) → height n ≡ suc (height m)
+  one_high K st en {n} {m} tree = let k : height n ≡ height (node K [] plain st en (part m none)) = ap height tree in omega arith
 
   pub element_is : (x : Reading) {a : Role} {o : ℕ} {n : Tree} {s e : S} {P : List Pair} → element_as x (kind_of n) ≡ Some a → Spells ways S Next behind o a n s e P → Element x o n s e P
   element_is as_expression {a} {o} {n} {s} {e} {P} it d = of (is_spread (kind_of n)) it
@@ -68,7 +67,7 @@ module _ (S : Type 0) (Next : S → Token → S → Type 0) (behind : S → Toke
     -- a pattern with a default, and what else is no expression
     default_default : {b b' : Bool} {o o' : ℕ} {n m : Tree} {s e k : S} {P Q : List Pair} → height n ≤ suc h → WithDefault S Next behind det b o n s e P → Separated S Next behind det w e → WithDefault S Next behind det b' o' m s k Q → Separated S Next behind det w k → k ≡ e
     default_default {o' = o'} {n = n} {k = k} low p sep q there =
-        let high : height n ≡ height (node AssignmentPattern Rattle.std.proofs.Common.[] plain p.st p.en (part p.left (part p.right none))) = ap height p.tree in
+        let high : height n ≡ height (node AssignmentPattern [] plain p.st p.en (part p.left (part p.right none))) = ap height p.tree in
         let left_low : height p.left ≤ suc h = omega arith in
         let left = patterns_end S Next behind det alike u (inl left_low) p.stands q.stands in
         let one = same_sign S Next behind det (subst (λ z. Reads S Next behind Punctuator (codes "=") z q.sign q.x) left q.reads) p.reads refl in
@@ -85,7 +84,7 @@ module _ (S : Type 0) (Next : S → Token → S → Type 0) (behind : S → Toke
     plains_end {e = e} low (a_pattern b p) sep (a_default b' q) there =
         absurd (item_quiet S Next behind det c e q.sign q.x sep (subst (λ z. Reads S Next behind Punctuator (codes "=") z q.sign q.x) (patterns_end S Next behind det alike u (inl low) p q.stands) q.reads))
     plains_end {n = n} {k = k} low (a_default b p) sep (a_pattern b' q) there =
-        let high : height n ≡ height (node AssignmentPattern Rattle.std.proofs.Common.[] plain p.st p.en (part p.left (part p.right none))) = ap height p.tree in
+        let high : height n ≡ height (node AssignmentPattern [] plain p.st p.en (part p.left (part p.right none))) = ap height p.tree in
         let left_low : height p.left ≤ suc h = omega arith in
         absurd (item_quiet S Next behind det c k p.sign p.x there (subst (λ z. Reads S Next behind Punctuator (codes "=") z p.sign p.x) (sym (patterns_end S Next behind det alike u (inl left_low) p.stands q)) p.reads))
     plains_end low (a_default b p) sep (a_default b' q) there = default_default low p sep q there

@@ -8,7 +8,7 @@ use Rattle.language.specs.declared.Rank.{Rank}
 use Rattle.language.specs.declared.Rank.TheVariants.{Expression, Assignment, LeftHandSide}
 use Rattle.language.specs.declared.Start.TheVariants.{Any}
 use Rattle.language.specs.Words.{takes, is_spread, is_rest}
-use Rattle.language.specs.Pieces.{Role, expr, name, spread, pattern, element, rest, bound, with_default}
+use Rattle.language.specs.Pieces.{Role, expr, spread, pattern, rest, with_default}
 use Rattle.language.specs.Token.{Token}
 use Rattle.language.specs.Covers.{Reading, as_expression, as_pattern, element_as, FoundItem}
 use Rattle.language.specs.Promises.{IsDetermined, Stops, Found, FoundAt}

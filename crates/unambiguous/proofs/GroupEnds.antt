@@ -1,13 +1,13 @@
 -- A group and parameters at one place end alike (ECMA-262 12.2.10, 14.2).
-use Rattle.std.proofs.Common.{◌≡◌, ℕ, suc, ◌≤◌, Bool, true, false, cond, not, ◌&&◌, ◌||◌, List, [], ◌∷◌, refl, sym, ap, ◌∙◌, subst, arith, inl}
-use Rattle.std.specs.Prelude.{IsTrue, Option, Some, codes}
+use Rattle.std.proofs.Common.{◌≡◌, ℕ, suc, ◌≤◌, Bool, true, false, cond, not, ◌&&◌, ◌||◌, List, [], refl, sym, ap, ◌∙◌, subst, arith, inl}
+use Rattle.std.specs.Prelude.{IsTrue, Some, codes}
 use Rattle.std.proofs.lemmas.Bool.{false≢true}
 use Rattle.tokens.specs.declared.token.Class.TheVariants.{Name, Punctuator}
 use Rattle.tokens.specs.declared.token.Goal.{Goal}
 use Rattle.tokens.specs.declared.token.Goal.TheVariants.{Div}
 use Rattle.tokens.specs.Goals.{allows}
 use Rattle.tree.specs.declared.kind.Kind.{Kind}
-use Rattle.tree.specs.declared.kind.Kind.TheVariants.{Identifier, AssignmentExpression, AssignmentPattern, SequenceExpression}
+use Rattle.tree.specs.declared.kind.Kind.TheVariants.{Identifier, AssignmentExpression, SequenceExpression}
 use Rattle.language.specs.declared.Edge.TheVariants.{Other}
 use Rattle.tree.specs.declared.kind.Flags.{Flags}
 use Rattle.tree.specs.declared.kind.Pair.{Pair}
@@ -16,7 +16,7 @@ use Rattle.language.specs.declared.Rank.{Rank}
 use Rattle.language.specs.declared.Rank.TheVariants.{Expression, Assignment, Primary}
 use Rattle.language.specs.declared.Start.{Start}
 use Rattle.language.specs.declared.Start.TheVariants.{Any}
-use Rattle.language.specs.Words.{is, is_reserved, is_rest, takes, Operator, assigns}
+use Rattle.language.specs.Words.{is, is_reserved, is_rest, takes, assigns}
 use Rattle.language.specs.Pieces.{Role, expr, PieceOf, name, rest, with_default}
 use Rattle.language.specs.Token.{Token}
 use Rattle.language.specs.Edges.{edge, standing}
@@ -35,11 +35,11 @@ use Rattle.language.proofs.Stepping.{goes_where_not}
 use Rattle.language.proofs.Tails.{tails_assign}
 use Rattle.language.proofs.TwoSides.{same_node}
 use Rattle.language.proofs.Conditionals.{same_sign}
-use Rattle.language.proofs.Climbing.{Climbing, climb_stop, led_on, stops_inside, grows_height, whole_where_stops}
+use Rattle.language.proofs.Climbing.{Climbing, climb_stop, LedOn, led_on, stops_inside, grows_height, whole_where_stops}
 use Rattle.language.proofs.Leaves.{OneToken, name_form, climb_identifier}
 use Rattle.language.proofs.CommaLists.{Separated, by_comma, by_closing}
 use Rattle.language.proofs.CoverElements.{Simple, a_name, a_target, Defaulted, ElementForm, bare_pattern, bare_simple, pattern_default, simple_default, element_form}
-use Rattle.language.proofs.CoverEnds.{Closing, a_parenthesis, item_stops}
+use Rattle.language.proofs.CoverEnds.{a_parenthesis, item_stops}
 use Rattle.language.proofs.CoverSpreads.{rest_form, no_plain_expression, two_texts}
 use Rattle.language.proofs.HeadWays.{two_signs}
 use Rattle.language.proofs.ParameterLists.{parameter_list}
@@ -49,7 +49,7 @@ use Rattle.unambiguous.proofs.Unique.{Unique}
 use Rattle.unambiguous.proofs.Listed.{Form, closed, hole, last, more, list_view}
 use Rattle.unambiguous.proofs.Crossings.{no_element_there, list_ends}
 use Rattle.unambiguous.proofs.ElementEnds.{at_pattern, at_default}
-use Rattle.unambiguous.proofs.GroupLists.{AtExpression, single, sequenced, at_expression, Arguments, argument_is, one_argument, several_arguments}
+use Rattle.unambiguous.proofs.GroupLists.{AtExpression, single, sequenced, at_expression, argument_is, one_argument, several_arguments}
 
 some_same : {a b : Role} → Some a ≡ Some b → a ≡ b
 some_same e = cc
@@ -79,6 +79,27 @@ module _ (S : Type 0) (Next : S → Token → S → Type 0) (behind : S → Toke
         no_arrow (by_comma h) t z eq = let clash = two_texts S Next behind det refl refl eq h in false≢true (sym (ap (λ w. is w "=>") clash))
         no_arrow (by_closing h) t z eq = let clash = two_texts S Next behind det refl refl eq h in false≢true (sym (ap (λ w. is w "=>") clash))
 
+    -- `=` goes on with the name, and both right sides end alike
+    rights_end : {o' : ℕ} {m left : Tree} {k : S} {Q R : List Pair} {q : Rank} {j : Bool} {f : Start} → height n ≤ suc h → (p : Defaulted S Next behind det (Simple S Next behind det true) o' m x k Q) → Separated S Next behind det (codes ")") k → ReadBy S Next behind Div p.mid p.sign p.x →
+        LedOn S Next behind det o x (expr Assignment true Any) n e P q j f left p.mid R assigns → k ≡ e
+    rights_end {o'} {left = left} {k = k} low p there r on =
+        let led = assigned_rest on.led in
+        let side = right_side S Next behind det on.w (retell S Next behind led.2 on.runs) r in
+        of led.0 led.1 side.operand side.parts side.spelled
+      where
+        of : on.k ≡ AssignmentExpression → IsTrue (takes on.y Assignment) → (w : Tree) → on.ps ≡ part w none → Spells ways S Next behind o (expr Assignment on.i Any) w p.x on.to on.more → k ≡ e
+        of kind tk w parts d' =
+            let same : node on.k on.w on.g on.st on.en (part left on.ps) ≡ node AssignmentExpression on.w on.g on.st on.en (part left (part w none)) = same_node kind refl refl refl refl (ap (part left) parts) in
+            let grown = grows_height S Next behind det on.grows in
+            let high : height (node on.k on.w on.g on.st on.en (part left on.ps)) ≡ height (node AssignmentExpression on.w on.g on.st on.en (part left (part w none))) = ap height same in
+            let right_low : height w ≤ h = omega arith in
+            let inside : on.i ≡ true = ((reaches S Next behind on.grows).same_in (loose_of on.y Assignment tk refl)).1 in
+            let right_st = stops_inside S Next behind det Assignment Assignment on.i w tails_assign (λ a b. omega arith) tk (λ a. refl) (ap (λ c. standing (edge c) (behind on.to)) same) (item_stops S Next behind det a_parenthesis Assignment n e refl sep) on.grows in
+            let found = u.expressions.found right_low (λ c. cc) (λ c. cc) (subst (λ j. Spells ways S Next behind o (expr Assignment j Any) w p.x on.to on.more) inside d') (subst (λ j. Stops S Next behind Assignment j w on.to) inside right_st) in
+            let ends : k ≡ on.to = (found.only o' k p.right p.more p.value (item_stops S Next behind det a_parenthesis Assignment p.right k refl there)).0 in
+            let whole = whole_where_stops S Next behind det on.spelled (item_stops S Next behind det a_parenthesis Assignment (node on.k on.w on.g on.st on.en (part left on.ps)) on.to refl (subst (λ z. Separated S Next behind det (codes ")") z) ends there)) on.grows in
+            ends ∙ sym whole.place
+
     -- a name with a default
     at_named_default : {o' : ℕ} {m : Tree} {k : S} {Q : List Pair} → height n ≤ suc h → Defaulted S Next behind det (Simple S Next behind det true) o' m x k Q → Separated S Next behind det (codes ")") k → k ≡ e
     at_named_default {o'} {m} {k} {Q} low p there = of p.stands
@@ -87,7 +108,6 @@ module _ (S : Type 0) (Next : S → Token → S → Type 0) (behind : S → Toke
         of (a_target c t q) = absurd (false≢true (sym c))
         of (a_name c q) =
             let v = name_form S Next behind det q in
-            let left : Tree = node Identifier v.0.sign.text plain v.0.sign.start (behind p.mid).stop none in
             let climb = name_climbs {o' = o'} v.0 v.1 (λ t z eq. (let clash = two_texts S Next behind det refl refl eq p.reads in false≢true (sym (ap (λ w. is w "=>") clash)))) in
             let st = item_stops S Next behind det a_parenthesis Assignment n e refl sep in
             let lead = climb.leads o e n P d st in
@@ -95,19 +115,7 @@ module _ (S : Type 0) (Next : S → Token → S → Type 0) (behind : S → Toke
             let al : IsTrue (allows Div p.sign.class p.sign.text) = subst (λ c. IsTrue (allows Div c p.sign.text)) (sym p.reads.class) (subst (λ z. IsTrue (allows Div Punctuator z)) (sym p.reads.text) refl) in
             let r : ReadBy S Next behind Div p.mid p.sign p.x = record { next = p.reads.next; allowed = al } in
             let goes = goes_on_name v.0.sign.text v.0.sign.start (behind p.mid).stop (behind p.mid) p.sign p.reads.text op in
-            let on = led_on S Next behind det r op (λ c. cc) (goes_where_not S Next behind det Assignment true {m = left} r st goes) lead.spelled lead.grows in
-            let led = assigned_rest on.led in
-            let side = right_side S Next behind det on.w (retell S Next behind led.2 on.runs) r in
-            let same : node on.k on.w on.g on.st on.en (part left on.ps) ≡ node AssignmentExpression on.w on.g on.st on.en (part left (part side.operand none)) = same_node led.0 refl refl refl refl (ap (part left) side.parts) in
-            let grown = grows_height S Next behind det on.grows in
-            let high : height (node on.k on.w on.g on.st on.en (part left on.ps)) ≡ height (node AssignmentExpression on.w on.g on.st on.en (part left (part side.operand none))) = ap height same in
-            let right_low : height side.operand ≤ h = omega arith in
-            let inside : on.i ≡ true = ((reaches S Next behind on.grows).same_in (loose_of on.y Assignment led.1 refl)).1 in
-            let right_st = stops_inside S Next behind det Assignment Assignment on.i side.operand tails_assign (λ a b. omega arith) led.1 (λ a. refl) (ap (λ c. standing (edge c) (behind on.to)) same) st on.grows in
-            let found = u.expressions.found right_low (λ c. cc) (λ c. cc) (subst (λ j. Spells ways S Next behind o (expr Assignment j Any) side.operand p.x on.to on.more) inside side.spelled) (subst (λ j. Stops S Next behind Assignment j side.operand on.to) inside right_st) in
-            let ends : k ≡ on.to = (found.only o' k p.right p.more p.value (item_stops S Next behind det a_parenthesis Assignment p.right k refl there)).0 in
-            let whole = whole_where_stops S Next behind det on.spelled (item_stops S Next behind det a_parenthesis Assignment (node on.k on.w on.g on.st on.en (part left on.ps)) on.to refl (subst (λ z. Separated S Next behind det (codes ")") z) ends there)) on.grows in
-            ends ∙ sym whole.place
+            rights_end low p there r (led_on S Next behind det r op (λ c. cc) (goes_where_not S Next behind det Assignment true {m = node Identifier v.0.sign.text plain v.0.sign.start (behind p.mid).stop none} r st goes) lead.spelled lead.grows)
 
     -- a parameter
     at_parameter : {o' : ℕ} {a : Role} {m : Tree} {k : S} {Q : List Pair} → height n ≤ suc h → element_as (as_pattern true) (kind_of m) ≡ Some a → Spells ways S Next behind o' a m x k Q → Separated S Next behind det (codes ")") k → k ≡ e

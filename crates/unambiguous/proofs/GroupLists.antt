@@ -1,10 +1,10 @@
 -- What stands in parentheses that group, as a list: an expression, or those of a sequence.
-use Rattle.std.proofs.Common.{◌≡◌, ℕ, ◌≤◌, Bool, true, false, List, [], ◌∷◌, ◌++◌, refl, sym, ap, ◌∙◌, subst, arith}
-use Rattle.std.specs.Prelude.{IsTrue, Option, Some, codes}
+use Rattle.std.proofs.Common.{◌≡◌, ℕ, ◌≤◌, Bool, true, false, cond, List, [], ◌∷◌, ◌++◌, refl, sym, ap, ◌∙◌, subst, arith}
+use Rattle.std.specs.Prelude.{IsTrue, Some}
 use Rattle.std.proofs.lemmas.Bool.{and_parts, and_from}
 use Rattle.tokens.specs.declared.token.Class.TheVariants.{Punctuator}
 use Rattle.tree.specs.declared.kind.Kind.{Kind}
-use Rattle.tree.specs.declared.kind.Kind.TheVariants.{SequenceExpression}
+use Rattle.tree.specs.declared.kind.Kind.TheVariants.{RestElement, SequenceExpression}
 use Rattle.tree.specs.declared.kind.Flags.{Flags}
 use Rattle.tree.specs.declared.kind.Pair.{Pair}
 use Rattle.tree.specs.Tree.{Tree, node, Parts, none, part, gap, kind_of, bare, bare_parts, plain}
@@ -15,10 +15,10 @@ use Rattle.language.specs.declared.Rank.TheVariants.{Expression, Assignment}
 use Rattle.language.specs.declared.Start.{Start}
 use Rattle.language.specs.declared.Start.TheVariants.{Any}
 use Rattle.language.specs.FirstPart.{others}
-use Rattle.language.specs.Words.{takes, tightness, is_spread, is_rest}
-use Rattle.language.specs.Pieces.{Role, expr, spread, Spelling, at, sub, left, is_none}
+use Rattle.language.specs.Words.{takes, tightness, is_rest}
+use Rattle.language.specs.Pieces.{expr, spread, Spelling, at, sub, left, is_none}
 use Rattle.language.specs.Token.{Token}
-use Rattle.language.specs.Expressions.{sequence}
+use Rattle.language.specs.Expressions.{sequence, expressions}
 use Rattle.language.specs.Covers.{as_expression, element_as}
 use Rattle.language.specs.Promises.{IsDetermined}
 use Rattle.language.specs.Grammar.{ways, spellings}
@@ -83,12 +83,12 @@ module _ (S : Type 0) (Next : S → Token → S → Type 0) (behind : S → Toke
 
   -- an expression is an argument
   pub argument_is : {o : ℕ} {n : Tree} {s e : S} {P : List Pair} → Spells ways S Next behind o (expr Assignment true Any) n s e P → element_as as_expression (kind_of n) ≡ Some (expr Assignment true Any)
-  argument_is d = ap (λ b. Some (Rattle.std.proofs.Common.cond b spread (expr Assignment true Any))) (expression_kind S Next behind det d)
+  argument_is d = ap (λ b. Some (cond b spread (expr Assignment true Any))) (expression_kind S Next behind det d)
 
   expression_no_rest : {o : ℕ} {y : Rank} {i : Bool} {f : Start} {n : Tree} {s e : S} {P : List Pair} → Spells ways S Next behind o (expr y i f) n s e P → is_rest (kind_of n) ≡ false
-  unfolding spellings Rattle.language.specs.Expressions.expressions
+  unfolding spellings expressions
   expression_no_rest (grouped p d q) = expression_no_rest d
-  expression_no_rest {n = node Rattle.tree.specs.declared.kind.Kind.TheVariants.RestElement w g st en ps} (direct qs h pl d) = elim ((way_of h).listed) [ ]
+  expression_no_rest {n = node RestElement w g st en ps} (direct qs h pl d) = elim ((way_of h).listed) [ ]
   expression_no_rest {n = node _ w g st en ps} (direct qs h pl d) = refl
 
   -- what runs over such a list, up to the closing sign

@@ -2,14 +2,13 @@
 use Rattle.std.proofs.Common.{◌≡◌, ℕ, ◌≤◌, Bool, true, false, cond, List, [], ◌∷◌, sym, ◌∙◌, subst, arith}
 use Rattle.std.specs.Prelude.{IsTrue, ◌&&◌}
 use Rattle.tokens.specs.declared.token.Class.{Class}
-use Rattle.tokens.specs.declared.token.Class.TheVariants.{End}
 use Rattle.tokens.specs.declared.token.Goal.{Goal}
 use Rattle.tokens.specs.Goals.{allows}
 use Rattle.tree.specs.declared.kind.Pair.{Pair}
 use Rattle.tree.specs.Tree.{Parts, none, part, gap, height, parts_height}
 use Rattle.language.specs.Edges.{ends_in_if}
 use Rattle.language.specs.Pieces.{Role, item, opening, PieceOf, tok}
-use Rattle.language.specs.Statements.{prologue, is_directive}
+use Rattle.language.specs.Statements.{is_directive}
 use Rattle.language.specs.Token.{Token}
 use Rattle.language.specs.Promises.{IsDetermined}
 use Rattle.language.specs.Following.{IsAlike, Followed, FoundPartsWhere}

@@ -17,6 +17,7 @@ pub mod ElementLists
 pub mod ElementSteps
 pub mod Elements
 pub mod ExpressionStatements
+pub mod ForStatements
 pub mod FunctionBodies
 pub mod GroupEnds
 pub mod GroupLists
@@ -25,6 +26,9 @@ pub mod LinesOnce
 pub mod LinkParts
 pub mod Listed
 pub mod Loop
+pub mod LoopHeads
+pub mod LoopParts
+pub mod Loops
 pub mod NameCores
 pub mod NewCores
 pub mod ObjectLists
@@ -33,6 +37,8 @@ pub mod PatternLists
 pub mod PieceRuns
 pub mod PrefixCores
 pub mod Properties
+pub mod PropertyForms
+pub mod PropertySteps
 pub mod Restated
 pub mod StatementEnds
 pub mod Statements

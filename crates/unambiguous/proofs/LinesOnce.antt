@@ -1,11 +1,11 @@
 -- What runs over lines, items or cases one behind the other up to what closes them, is the only thing that does.
-use Rattle.std.proofs.Common.{◌≡◌, ℕ, ◌≤◌, Bool, List, [], ◌∷◌, ◌++◌, refl, sym, ap, ◌∙◌, subst, arith}
+use Rattle.std.proofs.Common.{◌≡◌, ℕ, ◌≤◌, Bool, List, ◌++◌, refl, sym, ◌∙◌, subst, arith}
 use Rattle.tree.specs.declared.kind.Pair.{Pair}
 use Rattle.tree.specs.Tree.{Tree, Parts, none, part, gap, height, parts_height}
 use Rattle.language.specs.Pieces.{Role, PieceOf}
 use Rattle.language.specs.Token.{Token}
 use Rattle.language.specs.Promises.{IsDetermined}
-use Rattle.language.specs.Following.{IsAlike, Followed, Finished, FoundWhere}
+use Rattle.language.specs.Following.{IsAlike, Finished, FoundWhere}
 use Rattle.language.specs.Grammar.{ways}
 use Rattle.language.specs.Derivation.{Spells, Runs}
 use Rattle.language.proofs.Running.{run_never, run_the_part}

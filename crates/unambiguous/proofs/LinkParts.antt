@@ -1,28 +1,25 @@
 -- What stands behind the token of a part of a chain, no higher, is the only part there.
-use Rattle.std.proofs.Common.{◌≡◌, ℕ, suc, ◌≤◌, true, List, [], ◌∷◌, refl, sym, ap, ◌∙◌, subst, arith}
-use Rattle.std.specs.Prelude.{codes, max}
-use Rattle.tokens.specs.declared.token.Class.TheVariants.{Punctuator}
+use Rattle.std.proofs.Common.{◌≡◌, ℕ, ◌≤◌, true, List, refl, sym, ap, ◌∙◌, subst, arith}
+use Rattle.std.specs.Prelude.{max}
 use Rattle.tree.specs.declared.kind.Kind.{Kind}
-use Rattle.tree.specs.declared.kind.Kind.TheVariants.{MemberExpression}
 use Rattle.language.specs.declared.Rank.TheVariants.{Expression}
 use Rattle.language.specs.declared.Start.TheVariants.{Any}
 use Rattle.tree.specs.declared.kind.Flags.{Flags}
 use Rattle.tree.specs.declared.kind.Pair.{Pair}
-use Rattle.tree.specs.Tree.{Tree, Parts, none, part, height, parts_height, plain}
-use Rattle.language.specs.Words.{Operator, selects, indexes, chains}
-use Rattle.language.specs.Pieces.{Role, expr, word, PieceOf, tok, sub}
+use Rattle.tree.specs.Tree.{Tree, Parts, height, parts_height}
+use Rattle.language.specs.Words.{Operator}
+use Rattle.language.specs.Pieces.{Role, word, PieceOf}
 use Rattle.language.specs.Token.{Token}
 use Rattle.language.specs.Promises.{IsDetermined, Found, FoundAt}
 use Rattle.language.specs.Following.{IsAlike}
 use Rattle.language.specs.Grammar.{ways}
-use Rattle.language.specs.Derivation.{Reads, Spells, Runs}
-use Rattle.language.proofs.Led.{bracketed}
+use Rattle.language.specs.Derivation.{Spells, Runs}
 use Rattle.language.proofs.Sides.{one_part, Bracketed, in_bracket}
 use Rattle.language.proofs.Running.{run_token}
-use Rattle.language.proofs.Suffixes.{computed_flags, argument_pieces}
+use Rattle.language.proofs.Suffixes.{argument_pieces}
 use Rattle.language.proofs.Conditionals.{stops_before}
 use Rattle.language.proofs.Leaves.{word_form, word_found}
-use Rattle.language.proofs.Chains.{optional_flags, Link, on_dot, on_index, on_call, on_name, on_brackets, on_arguments, FoundLink}
+use Rattle.language.proofs.Chains.{Link, on_dot, on_index, on_call, on_name, on_brackets, on_arguments, FoundLink}
 use Rattle.language.proofs.Links.{found_dot, found_index, found_call, found_name, found_brackets, found_arguments}
 use Rattle.unambiguous.proofs.Unique.{Unique, UniqueParts}
 

@@ -1,5 +1,5 @@
 -- Two lists that begin at one place, item by item: where their items end alike, they do.
-use Rattle.std.proofs.Common.{◌≡◌, ℕ, ◌≤◌, Bool, true, false, List, [], ◌∷◌, ◌++◌, refl, sym, ap, ◌∙◌, subst, arith}
+use Rattle.std.proofs.Common.{◌≡◌, ℕ, ◌≤◌, List, [], ◌∷◌, refl, subst, arith}
 use Rattle.std.specs.Prelude.{IsTrue, Option, Some, codes}
 use Rattle.tokens.specs.declared.token.Class.TheVariants.{Punctuator}
 use Rattle.tokens.specs.declared.token.Goal.TheVariants.{Div}
@@ -7,16 +7,15 @@ use Rattle.tokens.specs.Goals.{allows}
 use Rattle.tree.specs.declared.kind.Kind.{Kind}
 use Rattle.tree.specs.declared.kind.Pair.{Pair}
 use Rattle.tree.specs.Tree.{Tree, Parts, none, part, gap, kind_of, height, parts_height}
-use Rattle.language.specs.Words.{is_rest}
 use Rattle.language.specs.Pieces.{Role, PieceOf, tok}
 use Rattle.language.specs.Token.{Token}
 use Rattle.language.specs.Promises.{IsDetermined}
 use Rattle.language.specs.Grammar.{ways}
-use Rattle.language.specs.Derivation.{Reads, Spells, Runs}
-use Rattle.language.proofs.Running.{run_never, run_token, run_none}
+use Rattle.language.specs.Derivation.{Reads, Spells, Runs, done, step, token}
+use Rattle.language.proofs.Running.{run_token, run_none}
 use Rattle.language.proofs.Conditionals.{same_sign}
 use Rattle.language.proofs.HeadWays.{two_signs}
-use Rattle.language.proofs.Lists.{list_pieces, element_pieces, BehindLast, alone, and_comma, ListForm, no_item, last_item, trailing, more_items, list_form, ElementForm, no_element, a_hole, last_element, more_elements, element_form}
+use Rattle.language.proofs.Lists.{list_pieces, element_pieces, alone, and_comma, ListForm, no_item, last_item, trailing, more_items, list_form, ElementForm, no_element, a_hole, last_element, more_elements, element_form}
 use Rattle.language.proofs.CommaLists.{Separated, by_comma, by_closing}
 
 module _ (S : Type 0) (Next : S → Token → S → Type 0) (behind : S → Token) where
@@ -38,7 +37,7 @@ module _ (S : Type 0) (Next : S → Token → S → Type 0) (behind : S → Toke
       of : {ps : Parts} → ListForm S Next behind o r w s e P ps → Form (list_pieces r w) r w o s e ps
       of (no_item x z) = closed x
       of (last_item h p x) = last h p x
-      of (trailing h b p c x) = more h p c (Rattle.language.specs.Derivation.step (Rattle.language.specs.Derivation.token x) Rattle.language.specs.Derivation.done)
+      of (trailing h b p c x) = more h p c (step (token x) done)
       of (more_items h b i p c d z) = more h p c d
 
   pub element_view : (r : Kind → Option Role) (w : List ℕ) (o : ℕ) (ps : Parts) (s e : S) (P : List Pair) → Runs ways S Next behind o (element_pieces r w ps) ps s e P → Form (element_pieces r w) r w o s e ps

@@ -24,7 +24,7 @@ use Rattle.language.specs.Token.{Token}
 use Rattle.language.specs.Edges.{edge, last_edge, standing}
 use Rattle.language.specs.Expressions.{arrow_end}
 use Rattle.language.specs.Follow.{symbol_of}
-use Rattle.language.specs.Opening.{with_parenthesis, opening_of}
+use Rattle.language.specs.Opening.{with_parenthesis}
 use Rattle.language.specs.Promises.{IsDetermined, ReadBy, Stops, Found}
 use Rattle.language.specs.Following.{IsAlike}
 use Rattle.language.specs.Grammar.{ways}
@@ -36,7 +36,7 @@ use Rattle.language.proofs.Cores.{Cored, in_group, in_way, core_by}
 use Rattle.language.proofs.Running.{run_opened, run_closed, run_unbroken, run_laid, run_token}
 use Rattle.language.proofs.Sides.{OnePart, one_part}
 use Rattle.language.proofs.RightEdges.{edged}
-use Rattle.language.proofs.Reaches.{is_loose, loose_of}
+use Rattle.language.proofs.Reaches.{loose_of}
 use Rattle.language.proofs.Tails.{tails_assign}
 use Rattle.language.proofs.Commas.{last_edge_join}
 use Rattle.language.proofs.TwoSides.{same_node, replaced}

@@ -14,7 +14,7 @@ use Rattle.tree.specs.Tree.{Tree, node, none, part, kind_of, height, plain}
 use Rattle.language.specs.declared.Rank.TheVariants.{Assignment}
 use Rattle.language.specs.declared.Start.TheVariants.{Any}
 use Rattle.language.specs.Words.{is, is_reserved}
-use Rattle.language.specs.Pieces.{Role, expr, name, key, spread, property, element, rest, with_default}
+use Rattle.language.specs.Pieces.{Role, expr, name, key, spread, element, rest, with_default}
 use Rattle.language.specs.Token.{Token}
 use Rattle.language.specs.Covers.{Reading, as_expression, as_pattern, element_as, property_as, FoundItem}
 use Rattle.language.specs.Promises.{is_free, IsDetermined, Found, FoundAt}

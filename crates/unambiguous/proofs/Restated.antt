@@ -1,6 +1,6 @@
 -- What is found, as a given derivation has it; and that a statement ends at one place only.
-use Rattle.std.proofs.Common.{◌≡◌, ℕ, Bool, true, false, List, [], refl, sym, ap, ◌∙◌, subst}
-use Rattle.std.specs.Prelude.{IsTrue, codes, not, ◌&&◌, ◌||◌, if◌then◌else◌}
+use Rattle.std.proofs.Common.{◌≡◌, ℕ, Bool, true, false, List, refl, sym, ap, ◌∙◌, subst}
+use Rattle.std.specs.Prelude.{IsTrue, codes, not, ◌&&◌, if◌then◌else◌}
 use Rattle.std.specs.Bool.{beq}
 use Rattle.std.proofs.lemmas.Bool.{and_parts, false≢true}
 use Rattle.tokens.specs.declared.token.Class.{Class}
@@ -12,7 +12,7 @@ use Rattle.tokens.specs.Goals.{allows, is_regexp, is_template_part, reads_regexp
 use Rattle.tree.specs.declared.kind.Pair.{Pair}
 use Rattle.tree.specs.Tree.{Tree, Parts}
 use Rattle.language.specs.Words.{is}
-use Rattle.language.specs.Edges.{is_sign, is_end, is_semicolon, may_miss}
+use Rattle.language.specs.Edges.{is_semicolon, may_miss}
 use Rattle.language.specs.Pieces.{Role, PieceOf, Ending, ending}
 use Rattle.language.specs.Token.{Token}
 use Rattle.language.specs.Promises.{IsDetermined, FoundAt}

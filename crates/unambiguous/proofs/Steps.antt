@@ -1,20 +1,21 @@
 -- The step of each position, from what holds of lower trees.
-use Rattle.std.proofs.Common.{ℕ, suc, Bool}
-use Rattle.tree.specs.declared.kind.Form.{Form}
-use Rattle.tree.specs.declared.kind.Pair.{Pair}
-use Rattle.tree.specs.Tree.{Tree, Parts}
-use Rattle.language.specs.declared.Start.{Start}
-use Rattle.language.specs.Pieces.{Role}
+use Rattle.std.proofs.Common.{ℕ, suc}
+use Rattle.tokens.specs.Reading.{any_goal}
 use Rattle.language.specs.Token.{Token}
 use Rattle.language.specs.Promises.{IsDetermined}
 use Rattle.language.specs.Following.{IsAlike}
+use Rattle.language.specs.Places.{NextIn, itself}
+use Rattle.language.proofs.TextPlaces.{text_determined}
+use Rattle.language.proofs.TextAlike.{text_alike}
+use Rattle.unambiguous.specs.Laws.{AtMostOneScript}
 use Rattle.unambiguous.proofs.Unique.{Expressions, Unique}
-use Rattle.unambiguous.proofs.Tied.{ExpressionSteps, StatementSteps, OtherSteps, Steps, any_statement}
+use Rattle.unambiguous.proofs.Tied.{ExpressionSteps, StatementSteps, OtherSteps, Steps, any_statement, at_most_one_script}
 use Rattle.unambiguous.proofs.PatternLists.{array_parts_unique, argument_pieces_unique, parameter_list_unique, pattern_closed}
 use Rattle.unambiguous.proofs.TemplateParts.{quasi_closed, template_core}
 use Rattle.unambiguous.proofs.Elements.{element_step}
 use Rattle.unambiguous.proofs.ElementSteps.{element_ends_step}
 use Rattle.unambiguous.proofs.Properties.{property_step}
+use Rattle.unambiguous.proofs.PropertySteps.{property_ends_step}
 use Rattle.unambiguous.proofs.ObjectLists.{object_parts_unique}
 use Rattle.unambiguous.proofs.BracketCores.{bracket_core, brace_core}
 use Rattle.unambiguous.proofs.GroupEnds.{group_parameters, parameters_group}
@@ -32,6 +33,7 @@ use Rattle.unambiguous.proofs.Conditioned.{if_statement, do_statement, while_sta
 use Rattle.unambiguous.proofs.ExpressionStatements.{expression_statement}
 use Rattle.unambiguous.proofs.Declarations.{declarator_step}
 use Rattle.unambiguous.proofs.DeclarationLists.{variable_statement}
+use Rattle.unambiguous.proofs.ForStatements.{for_statement}
 use Rattle.unambiguous.proofs.Switches.{switch_statement}
 use Rattle.unambiguous.proofs.Tries.{handler_closed, try_statement}
 use Rattle.unambiguous.proofs.Bodies.{block_closed, body_closed, script_unique}
@@ -79,7 +81,7 @@ module _ (S : Type 0) (Next : S → Token → S → Type 0) (behind : S → Toke
       if_statement = if_statement S Next behind det alike u;
       do_statement = do_statement S Next behind det alike u;
       while_statement = while_statement S Next behind det alike u;
-      for_statement = ?;
+      for_statement = for_statement S Next behind det alike u;
       continue_statement = continue_statement S Next behind det alike u;
       break_statement = break_statement S Next behind det alike u;
       return_statement = return_statement S Next behind det alike u;
@@ -107,7 +109,7 @@ module _ (S : Type 0) (Next : S → Token → S → Type 0) (behind : S → Toke
       element = λ y {w} {a} {o} {n} {s} {e} {P} c low it d ends. element_step S Next behind det alike u x y c low it d ends;
       element_ends = λ y z {w} {a} {b} {o} {o'} {n} {m} {s} {e} {k} {P} {Q} c low it d ends it' d' ends'. element_ends_step S Next behind det alike u x y z c low it d ends it' d' ends';
       property = λ y {a} {o} {n} {s} {e} {P} low it d ends. property_step S Next behind det alike u y low it d ends;
-      property_ends = λ y z {a} {b} {o} {o'} {n} {m} {s} {e} {k} {P} {Q} low it d ends it' d' ends'. ?;
+      property_ends = λ y z {a} {b} {o} {o'} {n} {m} {s} {e} {k} {P} {Q} low it d ends it' d' ends'. property_ends_step S Next behind det alike u y z low it d ends it' d' ends';
     }
 
   -- Of every height.
@@ -117,3 +119,7 @@ module _ (S : Type 0) (Next : S → Token → S → Type 0) (behind : S → Toke
     other_steps = λ {h} u x. others u x;
     script_unique = λ {h} {o} {n} {s} {e} {P} u low d. script_unique S Next behind det alike u low d;
   }
+
+-- a text derives at most one script
+pub one_script : AtMostOneScript
+one_script = at_most_one_script (λ text. steps Token (NextIn text any_goal) itself (text_determined text) (text_alike text))

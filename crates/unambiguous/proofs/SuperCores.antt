@@ -1,5 +1,5 @@
 -- The leftmost part that begins with `super`.
-use Rattle.std.proofs.Common.{◌≡◌, ℕ, suc, ◌≤◌, Bool, true, false, cond, List, [], ◌∷◌, ◌++◌, refl, sym, ap, ◌∙◌, subst, arith}
+use Rattle.std.proofs.Common.{◌≡◌, ℕ, Bool, true, false, cond, List, [], ◌∷◌, ◌++◌, refl, sym, ap, ◌∙◌, subst, arith}
 use Rattle.std.specs.Prelude.{IsTrue, codes}
 use Rattle.tokens.specs.declared.token.Class.TheVariants.{Name, Punctuator}
 use Rattle.tokens.specs.declared.token.Goal.{Goal}
@@ -11,7 +11,7 @@ use Rattle.language.specs.declared.Rank.{Rank}
 use Rattle.language.specs.declared.Start.{Start}
 use Rattle.tree.specs.declared.kind.Flags.{Flags}
 use Rattle.tree.specs.declared.kind.Pair.{Pair}
-use Rattle.tree.specs.Tree.{Tree, node, Parts, none, part, height, bare, bare_parts, plain}
+use Rattle.tree.specs.Tree.{Tree, node, Parts, part, height, bare, bare_parts}
 use Rattle.tree.specs.Uses.{is_lean, used_flags, has_text}
 use Rattle.tree.proofs.Lean.{lean_flags, lean_text}
 use Rattle.language.specs.FirstPart.{others}
@@ -35,10 +35,9 @@ use Rattle.language.proofs.TwoSides.{same_node, replaced}
 use Rattle.language.proofs.Climbing.{grows_height, Climbing}
 use Rattle.language.proofs.Suffixes.{argument_pieces, arguments_fixed, member_flags, call_flags}
 use Rattle.language.proofs.Chains.{Link, on_dot, on_index, on_call}
-use Rattle.language.proofs.Starting.{Begun}
 use Rattle.language.proofs.Leaves.{by_name}
 use Rattle.language.proofs.Supers.{SuperLink, super_dot, super_index, super_arguments, super_node, climb_super}
-use Rattle.unambiguous.proofs.Unique.{Unique, UniqueParts, Climbed, CoreStep}
+use Rattle.unambiguous.proofs.Unique.{Unique, UniqueParts, CoreStep}
 use Rattle.unambiguous.proofs.LinkParts.{link_found}
 
 module _ (S : Type 0) (Next : S → Token → S → Type 0) (behind : S → Token) (det : IsDetermined S Next behind) where

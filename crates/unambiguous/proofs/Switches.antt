@@ -6,19 +6,17 @@ use Rattle.tokens.specs.declared.token.Class.{Class}
 use Rattle.tokens.specs.declared.token.Class.TheVariants.{Name, Punctuator}
 use Rattle.tokens.specs.declared.token.Goal.{Goal}
 use Rattle.tokens.specs.Goals.{allows}
-use Rattle.tree.specs.declared.kind.Kind.TheVariants.{SwitchStatement, SwitchCase}
 use Rattle.tree.specs.declared.kind.Pair.{Pair}
-use Rattle.tree.specs.Tree.{Tree, node, Parts, none, part, gap, height, parts_height, bare_parts}
+use Rattle.tree.specs.Tree.{Tree, Parts, none, part, gap, height, parts_height, bare_parts}
 use Rattle.language.specs.declared.Rank.TheVariants.{Expression}
 use Rattle.language.specs.declared.Start.TheVariants.{Any}
-use Rattle.language.specs.FirstPart.{others}
-use Rattle.language.specs.Words.{is, is_reserved}
-use Rattle.language.specs.Beginning.{a_switch, beginning_of}
-use Rattle.language.specs.Pieces.{Role, expr, item, switch_case, Piece, PieceOf, tok, lay, shallower, sub, sign, nothing}
+use Rattle.language.specs.Words.{is}
+use Rattle.language.specs.Beginning.{a_switch}
+use Rattle.language.specs.Pieces.{Role, expr, item, switch_case, lay, shallower, nothing}
 use Rattle.language.specs.Statements.{lines, defaults}
 use Rattle.language.specs.Token.{Token}
-use Rattle.language.specs.Promises.{is_free, IsDetermined}
-use Rattle.language.specs.Following.{IsAlike, Followed, Finished, ListEnds, ends_list, FoundWhere, FoundPartsWhere}
+use Rattle.language.specs.Promises.{IsDetermined}
+use Rattle.language.specs.Following.{IsAlike, Finished, ListEnds, ends_list, FoundWhere, FoundPartsWhere}
 use Rattle.language.specs.Grammar.{ways}
 use Rattle.language.specs.Derivation.{Reads, Spells, Runs, within, Placed}
 use Rattle.language.proofs.Begins.{goes_to, retell}
@@ -32,7 +30,7 @@ use Rattle.language.proofs.OneKind.{one_kind}
 use Rattle.language.proofs.OwnWays.{own_sole}
 use Rattle.language.proofs.Shapes.{behind_cases, switch_begins}
 use Rattle.language.proofs.Sole.{Anyhow, sole_found}
-use Rattle.language.proofs.Stated.{Stands, as_item, behind_brace, behind_switch}
+use Rattle.language.proofs.Stated.{as_item, behind_brace, behind_switch}
 use Rattle.unambiguous.proofs.Unique.{Unique, StatementStep}
 use Rattle.unambiguous.proofs.Restated.{found_as}
 use Rattle.unambiguous.proofs.LinesOnce.{Lines, lines_unique, statement_lines}
@@ -121,7 +119,7 @@ module _ (S : Type 0) (Next : S → Token → S → Type 0) (behind : S → Toke
       let b = run_token S Next behind v.runs in
       let c = run_token S Next behind (run_laid S Next behind b.runs) in
       let x : Runs ways S Next behind o (goes_to Expression true Any (cond (nat_le (defaults (bare_parts v.rest)) 1) (behind_brace (bare_parts v.rest) (lines (switch_case r) (bare_parts v.rest))) nothing)) v.rest c.mid e v.more =
-          retell S Next behind (ap (λ c. goes_to Expression true Any (behind_cases r (bare_parts c))) v.parts) c.runs in
+      retell S Next behind (ap (λ c. goes_to Expression true Any (behind_cases r (bare_parts c))) v.parts) c.runs in
       let g = (block_begins S Next behind det {Fine = Anyhow} {o = o} {m = c.mid} (switch_case r)).leads (allowed v.rest (nat_le (defaults (bare_parts v.rest)) 1) x) tt in
       record {
         test = v.item;
@@ -180,7 +178,7 @@ module _ (S : Type 0) (Next : S → Token → S → Type 0) (behind : S → Toke
       let high : height n ≡ suc (parts_height told.parts) = ap height told.tree in
       let form = case_form S Next behind det told.parts told.runs in
       let found : FoundPartsWhere S Next behind (λ ps e. ListEnds S Next behind e) o (λ ps. goes_to Expression true Any (case_pieces r (bare_parts ps))) s e told.parts P =
-          record { runs = told.runs; only = λ o' e' ps' P' d' fine'. case_parts (omega arith) form fine (case_form S Next behind det ps' d') fine' } in
+      record { runs = told.runs; only = λ o' e' ps' P' d' fine'. case_parts (omega arith) form fine (case_form S Next behind det ps' d') fine' } in
       found_as S Next behind det (sole_found S Next behind det sole {FineParts = λ ps e. ListEnds S Next behind e} (λ st en ps e f. f) found (subst (λ v. Placed S Next behind (switch_case r) v s e) told.tree told.placed)) d fine
 
   case_list : {r : Bool} → Lines S Next behind det alike u (switch_case r) closing_brace (λ n e. ListEnds S Next behind e) (λ e. Unit {0})
@@ -221,6 +219,6 @@ module _ (S : Type 0) (Next : S → Token → S → Type 0) (behind : S → Toke
         let high : height n ≡ suc (parts_height told.parts) = ap height told.tree in
         let form = switch_form S Next behind det told.runs in
         let found : FoundPartsWhere S Next behind Anyhow o (λ ps. goes_to Expression true Any (behind_switch r (bare_parts ps))) m e told.parts P =
-            record { runs = told.runs; only = λ o' e' ps' P' d' f. switch_parts (omega arith) form (switch_form S Next behind det d') } in
+        record { runs = told.runs; only = λ o' e' ps' P' d' f. switch_parts (omega arith) form (switch_form S Next behind det d') } in
         found_as S Next behind det (sole_found S Next behind det sole {FineParts = Anyhow} (λ st en ps e f. tt) found (subst (λ v. Placed S Next behind a v s e) told.tree told.placed)) sp fine;
   }

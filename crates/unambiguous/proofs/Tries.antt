@@ -1,22 +1,21 @@
 -- The handler of a `try`, and a `try`, are the only ones at their place.
 use Rattle.std.proofs.Common.{◌≡◌, ℕ, suc, ◌≤◌, Bool, true, false, List, [], ◌∷◌, ◌++◌, refl, sym, ap, ◌∙◌, subst, arith}
-use Rattle.std.specs.Prelude.{IsTrue, codes}
+use Rattle.std.specs.Prelude.{codes}
 use Rattle.std.proofs.lemmas.Bool.{false≢true}
 use Rattle.std.proofs.lemmas.List.{append-nil}
 use Rattle.tokens.specs.declared.token.Class.TheVariants.{Name, Punctuator}
 use Rattle.tokens.specs.declared.token.Goal.{Goal}
 use Rattle.tokens.specs.declared.token.Goal.TheVariants.{Div}
-use Rattle.tree.specs.declared.kind.Kind.TheVariants.{TryStatement, CatchClause}
 use Rattle.tree.specs.declared.kind.Pair.{Pair}
-use Rattle.tree.specs.Tree.{Tree, node, Parts, none, part, gap, kind_of, height, parts_height, bare_parts}
+use Rattle.tree.specs.Tree.{Tree, node, Parts, none, part, gap, height, parts_height, bare_parts}
 use Rattle.language.specs.declared.Rank.TheVariants.{Expression}
 use Rattle.language.specs.declared.Start.TheVariants.{Any}
 use Rattle.language.specs.Words.{is, is_reserved}
-use Rattle.language.specs.Beginning.{a_try, beginning_of}
-use Rattle.language.specs.Pieces.{Role, block, handler, bound, PieceOf}
+use Rattle.language.specs.Beginning.{a_try}
+use Rattle.language.specs.Pieces.{Role, block, handler, bound, sub}
 use Rattle.language.specs.Token.{Token}
-use Rattle.language.specs.Promises.{is_free, IsDetermined, FoundAt, FoundParts}
-use Rattle.language.specs.Following.{IsAlike, Followed, Finished, may_follow, FoundWhere, FoundPartsWhere}
+use Rattle.language.specs.Promises.{is_free, IsDetermined, FoundAt}
+use Rattle.language.specs.Following.{IsAlike, Followed, Finished, may_follow, FoundPartsWhere}
 use Rattle.language.specs.Grammar.{ways}
 use Rattle.language.specs.Derivation.{Reads, Spells, Runs, Placed}
 use Rattle.language.proofs.Begins.{goes_to, retell}
@@ -30,7 +29,6 @@ use Rattle.language.proofs.OwnWays.{own_sole}
 use Rattle.language.proofs.Shapes.{behind_tried, try_begins}
 use Rattle.language.proofs.Sofar.{and_then, lay_on, part_on}
 use Rattle.language.proofs.Sole.{Anyhow, sole_found, sole_found_at, found_where}
-use Rattle.language.proofs.Stated.{Stands}
 use Rattle.language.proofs.OptionalParts.{and_found}
 use Rattle.language.proofs.Declarators.{Target}
 use Rattle.unambiguous.proofs.Unique.{Unique, StatementStep}
@@ -66,12 +64,12 @@ module _ (S : Type 0) (Next : S → Token → S → Type 0) (behind : S → Toke
     no_parameter : {b : Tree} {t : Token} {m : S} → ps ≡ gap (part b none) → Reads S Next behind Name (codes "catch") s t m → Spells ways S Next behind o (block r) b m e P → HandlerForm r o ps s e P
 
   -- a part alone
-  record Last (o : ℕ) (a : Role) (ps : Parts) (s e : S) (P : List Pair) : Type 0 where
-    item : Tree
-    parts : ps ≡ part item none
-    spelled : Spells ways S Next behind o a item s e P
+  pub record Last (o : ℕ) (a : Role) (ps : Parts) (s e : S) (P : List Pair) : Type 0 where
+    pub item : Tree
+    pub parts : ps ≡ part item none
+    pub spelled : Spells ways S Next behind o a item s e P
 
-  last_part : {o : ℕ} {a : Role} {ps : Parts} {s e : S} {P : List Pair} → Runs ways S Next behind o (Rattle.language.specs.Pieces.sub a ∷ []) ps s e P → Last o a ps s e P
+  pub last_part : {o : ℕ} {a : Role} {ps : Parts} {s e : S} {P : List Pair} → Runs ways S Next behind o (sub a ∷ []) ps s e P → Last o a ps s e P
   last_part {o} {a} {ps} {s} {e} {P} d =
       let v = run_part S Next behind d in
       let z = run_none S Next behind v.runs in
@@ -225,8 +223,8 @@ module _ (S : Type 0) (Next : S → Token → S → Type 0) (behind : S → Toke
         let runs : Runs ways S Next behind o (goes_to Expression true Any (behind_tried r (bare_parts (part v.item v.rest)))) v.rest v.mid e v.more = retell S Next behind (ap (λ c. goes_to Expression true Any (behind_tried r (bare_parts c))) v.parts) v.runs in
         let form = tried_form S Next behind det v.item v.rest runs in
         let rest : FoundPartsWhere S Next behind (λ ps e. Followed S Next behind false e) o (λ ps. goes_to Expression true Any (behind_tried r (bare_parts (part v.item ps)))) v.mid e v.rest v.more =
-            record { runs = runs; only = λ o' e' ps' P' d' f. tried_parts (omega arith) form fine' (tried_form S Next behind det v.item ps' d') f } in
+        record { runs = runs; only = λ o' e' ps' P' d' f. tried_parts (omega arith) form fine' (tried_form S Next behind det v.item ps' d') f } in
         let sofar = and_then S Next behind det (try_begins S Next behind det {Fine = λ ps e. Followed S Next behind false e} {o = o} r) (and_then S Next behind det (lay_on S Next behind det)
-            (part_on S Next behind det {FineNode = Anyhow} {after = λ ps. goes_to Expression true Any (behind_tried r (bare_parts ps))} (found_where S Next behind det (u.closed refl (omega arith) v.spelled)) (λ o' m' ps' k' e' A' P' d' r' f. tt))) in
+        (part_on S Next behind det {FineNode = Anyhow} {after = λ ps. goes_to Expression true Any (behind_tried r (bare_parts ps))} (found_where S Next behind det (u.closed refl (omega arith) v.spelled)) (λ o' m' ps' k' e' A' P' d' r' f. tt))) in
         found_as S Next behind det (sole_found S Next behind det sole {FineParts = λ ps e. Followed S Next behind false e} (λ st en ps e f. f) (parts_as S Next behind det (and_found S Next behind det sofar rest) told.runs fine') (subst (λ v. Placed S Next behind a v s e) told.tree told.placed)) sp fine;
   }

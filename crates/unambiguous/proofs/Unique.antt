@@ -1,8 +1,7 @@
 -- What is shown by induction on the height of a tree: what a position spells at a place, and what can't go on, is the only thing there.
 use Rattle.std.proofs.Common.{◌≡◌, ℕ, suc, ◌≤◌, ◌<◌, Bool, true, List}
-use Rattle.std.specs.Prelude.{Option, Some, codes, false}
+use Rattle.std.specs.Prelude.{Some, codes, false}
 use Rattle.tokens.specs.declared.token.Goal.TheVariants.{Div, RegExp}
-use Rattle.tree.specs.declared.kind.Kind.{Kind}
 use Rattle.tree.specs.declared.kind.Pair.{Pair}
 use Rattle.tree.specs.Tree.{Tree, Parts, kind_of, height, parts_height}
 use Rattle.language.specs.declared.Rank.{Rank}
