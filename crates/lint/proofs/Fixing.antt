@@ -1,5 +1,5 @@
 -- From the planner's flags to the printer's; from what sums are refused for to what `fix` promises.
-use Rattle.std.proofs.Common.{◌≡◌, ℕ, zero, suc, Bool, true, false, List, [], ◌∷◌, refl, sym, subst, ◌∙◌, get_or, Result, Ok, Err, String, string_bytes, IfOk, IfErr, inr, ◌≤◌, length, Option, Some, None, arith}
+use Rattle.std.proofs.Common.{◌≡◌, ℕ, zero, suc, Bool, true, false, List, [], ◌∷◌, refl, sym, ap, subst, ◌∙◌, get_or, Result, Ok, Err, String, string_bytes, IfOk, IfErr, inr, ◌≤◌, length, Option, Some, None, arith}
 use Rattle.std.specs.declared.alloc.Global.{Global}
 use Rattle.source_text.specs.declared.fault.Fault.{Fault}
 use Rattle.source_text.specs.declared.fault.Fault.TheVariants.{NotUtf8, TooLong, Syntax, TooDeep, Early, OutOfMemory, BadSettings, BadTable, WriteFailed, ReadFailed, Usage}
@@ -22,7 +22,8 @@ use Rattle.paren_planner.specs.Wrapped.{is_flagged}
 use Rattle.printer.specs.Sheets.{flag_at}
 use Rattle.printer.specs.Fits.{wrapped_by, IsPlanned}
 use Rattle.sum_fixer.specs.Scripts.{RefusesScript}
-use Rattle.lint.specs.ReadScripts.{RefusesReading}
+use Rattle.lint.specs.ReadScripts.{IsOnly, RefusesReading}
+use Rattle.lint.proofs.OneScript.{only_script}
 use Rattle.lint.specs.Fixes.{NoSums, Fixes, FixesScript, RefusesFixing, refuses_sums}
 
 -- ---- flags
@@ -59,21 +60,26 @@ fewest n m p source P is same derived =
 pub fixes : (text fixed : List ℕ) (n : Tree) (P : List Pair) (p : Plan) → IsUtf8 fixed → Accepted text n P → IsPlan n p → fixed ≡ fixed_text n → Fixes text fixed
 fixes text fixed n P p utf8 is plan laid = from (within_always script_readable text n P is.source is.derived)
   where
+    only_again : (m : Tree) (Q : List Pair) → WithinLimits (fixed_text n) m Q → IsOnly fixed m Q
+    only_again m Q within = only_script fixed m Q (subst (λ t. WithinLimits t m Q) (sym laid) within)
+
     from : (m : Tree) × (Q : List Pair) × SameTree m n × WithinLimits (fixed_text n) m Q × (length Q ≡ length (wrapped_rows n script 1)) → Fixes text fixed
     from (m, Q, same, within, count) = record {
       tree = n;
       pairs = P;
       accepted = is;
+      only = only_script text n P is.derived;
       is_fixed = laid;
       again = m;
       pairs_again = Q;
       same = same;
+      only_again = only_again m Q within;
       accepted_again = record { source = utf8; derived = subst (λ t. WithinLimits t m Q) (sym laid) within; lawful = none_either n m (sym same) is.lawful };
       fewest = record {
         attained = (fixed_text n, m, Q, same, (1000, within.1), refl);
         least = λ source k R alike d. subst (λ x. x ≤ length R) (sym count) (fewest n k p source R plan alike d);
       };
-      stable = same_layout m n same ∙ sym laid;
+      stable = λ k R d. ap fixed_text (only_again m Q within k R d).0 ∙ same_layout m n same ∙ sym laid;
     }
 
 -- ---- refusals

@@ -1,2 +1,3 @@
 pub mod Fixing
 pub mod Running
+pub mod OneScript

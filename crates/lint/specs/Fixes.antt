@@ -4,12 +4,12 @@ use Rattle.source_text.specs.declared.fault.Fault.{Fault}
 use Rattle.source_text.specs.declared.fault.Fault.TheVariants.{Syntax, TooDeep, OutOfMemory}
 use Rattle.tree.specs.Tree.{Tree, SameTree}
 use Rattle.tree.specs.declared.kind.Pair.{Pair}
-use Rattle.language.specs.Claims.{Fewest}
+use Rattle.language.specs.Claims.{Derives, Fewest}
 use Rattle.language.specs.Layout.{fixed_text}
 use Rattle.grammar.specs.Limits.{DerivesWithin}
 use Rattle.early_errors.specs.Accepted.{Accepted}
 use Rattle.sum_fixer.specs.Fix.{IsFixed}
-use Rattle.lint.specs.ReadScripts.{RefusesReading}
+use Rattle.lint.specs.ReadScripts.{IsOnly, RefusesReading}
 
 -- the text is no script of sums within the limits
 abbrev pub NoSums : List ℕ → Type 0
@@ -26,19 +26,22 @@ pub record FixesSums (text fixed : List ℕ) : Type 0 where
   pub is_fixed : IsFixed text fixed
   pub stable : (again : List ℕ) → IsFixed fixed again → again ≡ fixed
 
--- The text is accepted with a tree whose fixed text this is. The fixed text is accepted with the same tree, places aside; no text that
--- derives that tree has fewer grouping pairs; and the tree that it is accepted with has the same fixed text.
+-- The text is accepted with a tree whose fixed text this is, and derives no other. The fixed text is accepted with the same tree, places
+-- aside; no text that derives that tree has fewer grouping pairs; the fixed text derives no other tree either, and whatever it derives
+-- has the same fixed text.
 pub record Fixes (text fixed : List ℕ) : Type 0 where
   pub tree : Tree
   pub pairs : List Pair
   pub accepted : Accepted text tree pairs
+  pub only : IsOnly text tree pairs
   pub is_fixed : fixed ≡ fixed_text tree
   pub again : Tree
   pub pairs_again : List Pair
   pub same : SameTree again tree
   pub accepted_again : Accepted fixed again pairs_again
+  pub only_again : IsOnly fixed again pairs_again
   pub fewest : Fewest tree (length pairs_again)
-  pub stable : fixed_text again ≡ fixed
+  pub stable : (m : Tree) (Q : List Pair) → Derives fixed m Q → fixed_text m ≡ fixed
 
 abbrev pub FixesScript : List ℕ → List ℕ → Type 0
 FixesScript text fixed = FixesSums text fixed ⊎ (NoSums text × Fixes text fixed)

@@ -14,7 +14,7 @@ use Rattle.tree.specs.Tree.{Tree as SyntaxTree}
 use Rattle.tree.specs.declared.kind.Pair.{Pair}
 use Rattle.early_errors.specs.Accepted.{Accepted}
 use Rattle.estree_json.specs.Json.{json_text}
-use Rattle.lint.specs.ReadScripts.{RefusesReading}
+use Rattle.lint.specs.ReadScripts.{IsOnly, RefusesReading}
 use Rattle.lint.specs.Fixes.{FixesScript, RefusesFixing}
 use Rattle.streams.specs.WholeTexts.{AppendsBeginning}
 use Rattle.streams.specs.Refused.{place_of}
@@ -25,9 +25,9 @@ use Rattle.streams.specs.Refused.{place_of}
 abbrev pub IsSource : List ℕ → Type 0
 IsSource text = IsUtf8 text × (length text ≤ max_bytes)
 
--- the JSON of a tree that the text is accepted with, and a line feed
+-- the JSON of the tree that the text is accepted with, which is the only one that it derives, and a line feed
 abbrev pub IsJson : List ℕ → List ℕ → Type 0
-IsJson text answer = (n : SyntaxTree) × (P : List Pair) × Accepted text n P × (answer ≡ json_text n ++ 10 ∷ [])
+IsJson text answer = (n : SyntaxTree) × (P : List Pair) × Accepted text n P × IsOnly text n P × (answer ≡ json_text n ++ 10 ∷ [])
 
 -- what the command is to write for a text
 abbrev pub IsAnswer : Command → List ℕ → List ℕ → Type 0

@@ -2,7 +2,7 @@
 
 ghost use Rattle.std.specs.Prelude.{◌≤◌, length, IfOk, IfErr};
 ghost use Rattle.early_errors.specs.Accepted.{Accepted};
-ghost use Rattle.lint.specs.ReadScripts.{RefusesReading};
+ghost use Rattle.lint.specs.ReadScripts.{IsOnly, RefusesReading};
 
 use early_errors::first_early_error;
 use parser::{Parsed, parse};
@@ -18,6 +18,7 @@ use std::alloc::Global;
 pub fn read_script<'s>(alloc: Global, source: &Source<'s>) -> Result<Parsed<'s>, Fault>
     ensures short { IfOk result (λ _. length source.now ≤ 16777216) }
     ensures accepted { IfOk result (λ parsed. Accepted source.now parsed.program parsed.pairs.items) }
+    ensures only { IfOk result (λ parsed. IsOnly source.now parsed.program parsed.pairs.items) }
     ensures refused { IfErr result (RefusesReading source.now) }
 {
     let parsed = parse(alloc, source)?;

@@ -8,5 +8,6 @@ returns-clause-json c = (
   c.in_ok-parsed.parsed.program,
   c.in_ok-parsed.parsed.pairs.items,
   c.in_ok-parsed.ensures.accepted,
+  c.in_ok-parsed.ensures.only,
   c.in_ok-push.ensures.bytes ∙ ap (λ (x : List ℕ). x ++ 10 ∷ []) (c.in_ok-line.ensures ∙ ap json_text c.program.ensures),
 )
