@@ -31,3 +31,6 @@ pub mod Ranging
 pub mod Insides
 pub mod Joining
 pub mod ScopeErrors
+pub mod NodeStarts
+pub mod ErrorStarts
+pub mod StartPlaces

@@ -1,8 +1,13 @@
 -- What is proved of the definitions.
-use Rattle.std.specs.Prelude.{◌≡◌, [], IsTrue, Some, None}
+use Rattle.std.specs.Prelude.{◌≡◌, ℕ, List, [], IsTrue, Some, None}
+use Rattle.std.specs.Str.{IsUtf8}
+use Rattle.source_text.specs.Source.{IsPlace}
+use Rattle.tree.specs.declared.kind.Pair.{Pair}
 use Rattle.tree.specs.Tree.{Tree, SameTree}
+use Rattle.language.specs.Claims.{Derives}
 use Rattle.language.specs.Derivation.{Among}
 use Rattle.early_errors.specs.Early.{Error, errors, comes_first, least_error}
+use Rattle.early_errors.specs.Starts.{starts}
 
 -- the error that is reported is one of the tree's, and none of the others comes before it; where none is reported there is none
 pub record ReportsTheLeast (n : Tree) : Type 0 where
@@ -16,3 +21,15 @@ EachReportsTheLeast = (n : Tree) → ReportsTheLeast n
 -- a tree without early errors has none at other places either
 abbrev pub PlacesMakeNoError : Type 0
 PlacesMakeNoError = (a b : Tree) → SameTree a b → errors a ≡ [] → errors b ≡ []
+
+-- an early error stands where a node of the tree starts
+abbrev pub ErrorsAreAtNodes : Type 0
+ErrorsAreAtNodes = (n : Tree) (x : Error) → Among x (errors n) → Among x.1 (starts n)
+
+-- each node of a tree that a text derives starts at a place of the text
+abbrev pub NodesStartAtPlaces : Type 0
+NodesStartAtPlaces = (text : List ℕ) (n : Tree) (P : List Pair) → IsUtf8 text → Derives text n P → (at : ℕ) → Among at (starts n) → IsPlace text at
+
+-- so each early error of such a tree is at one
+abbrev pub ErrorsAreAtPlaces : Type 0
+ErrorsAreAtPlaces = (text : List ℕ) (n : Tree) (P : List Pair) → IsUtf8 text → Derives text n P → (x : Error) → Among x (errors n) → IsPlace text x.1

@@ -9,6 +9,7 @@ pub mod Classes
 pub mod Cooked
 pub mod Literals
 pub mod Early
+pub mod Starts
 pub mod Accepted
 pub mod Laws
 pub mod Walk
