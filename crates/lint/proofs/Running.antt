@@ -2,7 +2,7 @@
 use Rattle.std.proofs.Common.{◌≡◌, ◌≢◌, ◌<◌, ◌≤◌, ◌+◌, ℕ, List, length, take, arith, refl, ap, subst, ◌∙◌, Some, None, IfSome}
 use Rattle.std.proofs.lemmas.List.{length-take, take_all}
 use Rattle.std.specs.declared.option.Option.{Option}
-use Rattle.source_text.specs.Source.{IsPlace, max_bytes}
+use Rattle.source_text.specs.Source.{max_bytes}
 use Rattle.source_text.specs.declared.fault.Fault.{Fault}
 use Rattle.source_text.specs.declared.fault.Fault.TheVariants.{NotUtf8, TooLong, Syntax, TooDeep, Early, OutOfMemory, BadSettings, BadTable, WriteFailed, ReadFailed, Usage}
 use Rattle.streams.specs.declared.command.Command.{Command}
@@ -84,24 +84,27 @@ pub answered_text : (command : Command) (given : Option (List ℕ)) (bytes answe
 answered_text command given bytes answer W is_read is written =
     (bytes, answer, all_read given bytes is_read (answer_length command bytes answer is), is, written)
 
--- the place of a syntax error is one of the text
-pub has_place : (command : Command) (bytes : List ℕ) (at : ℕ) → RefusesSource command bytes (Syntax at) → IsPlace bytes at
-has_place Fix bytes at refused = refused.1
-has_place Tree bytes at refused = refused
+-- where a refusal speaks of a place, it is one of the text
+pub has_place : (command : Command) (bytes : List ℕ) (fault : Fault) → RefusesSource command bytes fault → HasPlace bytes fault
+has_place Fix bytes (Syntax at) refused = refused.1
+has_place Tree bytes (Syntax at) refused = refused
+has_place Fix bytes (Early number at) refused = refused.1.0
+has_place Tree bytes (Early number at) refused = refused.0
+has_place command bytes _ refused = tt
 
 -- what a command refuses of source text is refused
 pub source_refused : (command : Command) (bytes : List ℕ) (fault : Fault) (place : ℕ × ℕ)
-    → IsSource bytes → RefusesSource command bytes fault → (HasPlace bytes fault → place ≡ place_of bytes fault)
+    → IsSource bytes → RefusesSource command bytes fault → place ≡ place_of bytes fault
     → RefusesBytes command bytes fault place
-source_refused command bytes (Syntax at) place source refused is = ((source, refused), is (has_place command bytes at refused))
-source_refused command bytes TooDeep place source refused is = ((source, refused), is tt)
-source_refused command bytes OutOfMemory place source refused is = is tt
+source_refused command bytes (Syntax at) place source refused is = ((source, refused), is)
+source_refused command bytes TooDeep place source refused is = ((source, refused), is)
+source_refused command bytes OutOfMemory place source refused is = is
 source_refused command bytes (Early number at) place source refused is = ((source, refused), is)
-source_refused command bytes BadSettings place source refused is = ((source, refused), is tt)
-source_refused command bytes (BadTable row reason) place source refused is = ((source, refused), is tt)
-source_refused command bytes WriteFailed place source refused is = ((source, refused), is tt)
-source_refused command bytes ReadFailed place source refused is = ((source, refused), is tt)
-source_refused command bytes Usage place source refused is = ((source, refused), is tt)
+source_refused command bytes BadSettings place source refused is = ((source, refused), is)
+source_refused command bytes (BadTable row reason) place source refused is = ((source, refused), is)
+source_refused command bytes WriteFailed place source refused is = ((source, refused), is)
+source_refused command bytes ReadFailed place source refused is = ((source, refused), is)
+source_refused command bytes Usage place source refused is = ((source, refused), is)
 source_refused Fix bytes (NotUtf8 at) place source refused is = absurd refused.1
 source_refused Fix bytes TooLong place source refused is = absurd refused.1
 source_refused Tree bytes (NotUtf8 at) place source refused is = absurd refused

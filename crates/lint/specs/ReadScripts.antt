@@ -22,11 +22,11 @@ pub record HasEarlyError (text : List ℕ) (number at : ℕ) : Type 0 where
   pub least : least_error tree ≡ Some (number, at)
   pub unlawful : (m : Tree) (Q : List Pair) → Derives text m Q → errors m ≡ [] → ⊥
 
--- a syntax error names a place of the text; an early error is that of the one tree that the text derives; else it is nested too deep, or
--- memory is refused
+-- a syntax error names a place of the text, and so does an early error, which is the least of the one tree that the text derives; else it
+-- is nested too deep, or memory is refused
 abbrev pub RefusesReading : List ℕ → Fault → Type 0
 RefusesReading text (Syntax at) = IsPlace text at
 RefusesReading text TooDeep = Unit {0}
-RefusesReading text (Early number at) = HasEarlyError text number at
+RefusesReading text (Early number at) = IsPlace text at × HasEarlyError text number at
 RefusesReading text OutOfMemory = Unit {0}
 RefusesReading text other = ⊥

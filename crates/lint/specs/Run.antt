@@ -3,10 +3,9 @@ use Rattle.std.specs.Prelude.{◌≡◌, ◌≤◌, ℕ, List, [], ◌∷◌, �
 use Rattle.std.specs.Str.{IsUtf8}
 use Rattle.std.specs.declared.alloc.Global.{Global}
 use Rattle.std.specs.Io.KnownBytes.{Appends, Keeps}
-use Rattle.source_text.specs.Source.{IsPlace, IsRefusal, max_bytes}
-use Rattle.source_text.specs.Lines.{line_column}
+use Rattle.source_text.specs.Source.{IsRefusal, max_bytes}
 use Rattle.source_text.specs.declared.fault.Fault.{Fault}
-use Rattle.source_text.specs.declared.fault.Fault.TheVariants.{NotUtf8, TooLong, Syntax, Early, OutOfMemory, ReadFailed, WriteFailed}
+use Rattle.source_text.specs.declared.fault.Fault.TheVariants.{NotUtf8, TooLong, OutOfMemory, ReadFailed, WriteFailed}
 use Rattle.streams.specs.declared.command.Command.{Command}
 use Rattle.streams.specs.declared.command.Command.TheVariants.{Fix, Tree}
 use Rattle.streams.specs.declared.refused.Refused.{Refused}
@@ -45,11 +44,6 @@ RefusesText command text (NotUtf8 at) = IsRefusal text (NotUtf8 at)
 RefusesText command text TooLong = IsRefusal text TooLong
 RefusesText command text fault = IsSource text × RefusesSource command text fault
 
--- the line and the column are those of the place; of an early error: if that is a place of the text
-abbrev pub IsPlacedAt : List ℕ → Fault → ℕ × ℕ → Type 0
-IsPlacedAt text (Early number at) place = IsPlace text at → place ≡ line_column text at
-IsPlacedAt text fault place = place ≡ place_of text fault
-
 -- ---- the devices
 
 -- What is seen of the two devices: the bytes that the reader has to give, the bytes that the writer took before and after, where
@@ -81,13 +75,13 @@ WritesAnswer command seen = (text : List ℕ) × (answer : List ℕ) × IsGiven 
 abbrev pub BeginsAnswer : Command → Seen → Type 0
 BeginsAnswer command seen = (text : List ℕ) × (answer : List ℕ) × IsGiven seen.given text × IsAnswer command text answer × AppendsBeginning seen.before seen.after answer
 
--- a refusal by its fault and its place
+-- a refusal by its fault, with the line and the column of its place
 abbrev pub Refuses : Command → Seen → Fault → ℕ × ℕ → Type 0
 Refuses command seen ReadFailed place = (seen.reader_failed ≡ true) × (seen.writer_failed ≡ false) × NothingWritten seen × (place ≡ (0, 0))
 Refuses command seen WriteFailed place = (seen.reader_failed ≡ false) × (seen.writer_failed ≡ true) × BeginsAnswer command seen × (place ≡ (0, 0))
 Refuses command seen OutOfMemory place = NoneFailed seen × NothingWritten seen × (place ≡ (0, 0))
 Refuses command seen fault place = NoneFailed seen × NothingWritten seen
-    × ((text : List ℕ) × IsGiven seen.given text × RefusesText command text fault × IsPlacedAt text fault place)
+    × ((text : List ℕ) × IsGiven seen.given text × RefusesText command text fault × (place ≡ place_of text fault))
 
 -- a run: status 0 and the whole answer, or a refusal
 abbrev pub Runs : Command → Seen → Result ℕ Refused → Type 0
@@ -98,7 +92,7 @@ Runs command seen (Err refused) = Refuses command seen refused.fault (refused.li
 
 abbrev pub RefusesBytes : Command → List ℕ → Fault → ℕ × ℕ → Type 0
 RefusesBytes command bytes OutOfMemory place = place ≡ (0, 0)
-RefusesBytes command bytes fault place = RefusesText command bytes fault × IsPlacedAt bytes fault place
+RefusesBytes command bytes fault place = RefusesText command bytes fault × (place ≡ place_of bytes fault)
 
 abbrev pub Answers : Command → List ℕ → Result (String Global) Refused → Type 0
 Answers command bytes (Ok answer) = IsAnswer command bytes (string_bytes answer)

@@ -1,6 +1,7 @@
 //! A run of a command: read all, answer, write all.
 
 ghost use Rattle.std.specs.Prelude.{IfErr, IfOk, ◌≡◌, ◌≢◌, false, string_bytes};
+ghost use Rattle.streams.specs.Refused.{HasPlace, place_of};
 ghost use Rattle.lint.specs.ReadScripts.{RefusesReading};
 ghost use Rattle.lint.specs.Run.{Answers, IsJson, Runs};
 
@@ -22,6 +23,25 @@ fn tree_line(alloc: Global, source: &Source<'_>) -> Result<String, Fault>
     Ok(line)
 }
 
+// A refusal of a text, with the line and the column of its place.
+fn refused_at(source: &Source<'_>, fault: Fault) -> Refused
+    requires { HasPlace source.now fault }
+    ensures fault { result.fault ≡ fault }
+    ensures place { (result.line, result.column) ≡ place_of source.now fault }
+{
+    match fault {
+        Fault::Syntax(at) | Fault::Early(_, at) => {
+            let (line, column) = source.line_column(at);
+            Refused {
+                fault,
+                line,
+                column,
+            }
+        }
+        _ => Refused::at_no_place(fault),
+    }
+}
+
 /// What the command answers for the bytes of a file.
 fn answer(alloc: Global, command: Command, bytes: &[u8]) -> Result<String, Refused>
     ensures { Answers command bytes.now result }
@@ -36,7 +56,7 @@ fn answer(alloc: Global, command: Command, bytes: &[u8]) -> Result<String, Refus
     };
     match answered {
         Ok(text) => Ok(text),
-        Err(fault) => Err(Refused::of_text(&source, fault)),
+        Err(fault) => Err(refused_at(&source, fault)),
     }
 }
 

@@ -1,6 +1,7 @@
-use Rattle.std.proofs.Common.{◌∙◌, ap, sym}
+use Rattle.std.proofs.Common.{◌≡◌, ◌∙◌, ap, sym, Some}
 use Rattle.early_errors.specs.Early.{errors, least_error}
-use Rattle.early_errors.proofs.FirstError.{least_none}
+use Rattle.early_errors.proofs.FirstError.{least_among, least_none}
+use Rattle.early_errors.proofs.StartPlaces.{error_place}
 use Rattle.lint.proofs.OneScript.{only_script, has_early_error}
 use Rattle.lint.proofs.reader.read_script.Goals as goal
 
@@ -14,5 +15,12 @@ returns-clause-accepted c = record {
 pub returns-clause-only : goal.returns-clause-only
 returns-clause-only c = only_script c.args.source.now c.in_ok-parsed.parsed.program c.in_ok-parsed.parsed.pairs.items c.in_ok-parsed.ensures.derived
 
-pub returns-clause-refused : goal.returns-clause-refused
-returns-clause-refused c = ?
+pub returns-in-Some-clause-refused : goal.returns-in-Some-clause-refused
+returns-in-Some-clause-refused c =
+    let text = c.args.source.now in
+    let n = c.in_ok-parsed.parsed.program in
+    let pairs = c.in_ok-parsed.parsed.pairs.items in
+    let derived = c.in_ok-parsed.ensures.derived in
+    let found : least_error n ≡ Some (c.in-Some.number, c.in-Some.at) = ap least_error (sym c.program.ensures) ∙ sym c.in_ok-number.ensures ∙ c.in-Some.is in
+    let place = error_place text n pairs c.in_ok-parsed.ensures.source.0 (1000, derived.1) (c.in-Some.number, c.in-Some.at) (least_among (errors n) (c.in-Some.number, c.in-Some.at) found) in
+    (place, has_early_error text n pairs c.in-Some.number c.in-Some.at derived found)

@@ -6,8 +6,8 @@ use Rattle.streams.specs.declared.command.Command.{Command}
 use Rattle.streams.specs.declared.command.Command.TheVariants.{Fix, Tree}
 use Rattle.lint.specs.Fixes.{FixesScript}
 use Rattle.lint.specs.Run.{IsSource, IsAnswer, IsJson, RefusesSource}
-use Rattle.lint.proofs.Running.{source_refused}
-use Rattle.lint.proofs.run.answer.Goals.{in-Fix, in-Tree}
+use Rattle.lint.proofs.Running.{has_place, source_refused}
+use Rattle.lint.proofs.run.answer.Goals.{In-Err-answered, in-Fix, in-Tree}
 use Rattle.lint.proofs.run.answer.Goals as goal
 
 -- what the command's own call refuses, the command refuses
@@ -42,12 +42,18 @@ returns-in-Ok-answered c =
     ] in
     rw source.0 at is
 
+refused_text : (c : In-Err-answered) → RefusesSource c.args.command c.in-Ok.source c.in-Err-answered.fault
+refused_text c = elim c.match-command.branch [
+  | in-Fix w ↦ refuses c.in-Ok.source c.args.command Fix w.fix-answered.result c.match-command.answered c.in-Err-answered.fault w.in-Fix.is w.answered-is c.in-Err-answered.is w.fix-answered.ensures.refused
+  | in-Tree w ↦ refuses c.in-Ok.source c.args.command Tree w.tree_line-answered.result c.match-command.answered c.in-Err-answered.fault w.in-Tree.is w.answered-is c.in-Err-answered.is w.tree_line-answered.ensures.refused
+]
+
+pub refused_at-requires : goal.refused_at-requires
+refused_at-requires c = has_place c.args.command c.in-Ok.source c.in-Err-answered.fault (refused_text (goal.at.refused_at-requires c).In-Err-answered)
+
 pub returns-in-Err-answered : goal.returns-in-Err-answered
 returns-in-Err-answered c =
     let source = c.in-Ok.ensures.ok in
-    let refused : RefusesSource c.args.command c.in-Ok.source c.in-Err-answered.fault = elim c.match-command.branch [
-      | in-Fix w ↦ refuses c.in-Ok.source c.args.command Fix w.fix-answered.result c.match-command.answered c.in-Err-answered.fault w.in-Fix.is w.answered-is c.in-Err-answered.is w.fix-answered.ensures.refused
-      | in-Tree w ↦ refuses c.in-Ok.source c.args.command Tree w.tree_line-answered.result c.match-command.answered c.in-Err-answered.fault w.in-Tree.is w.answered-is c.in-Err-answered.is w.tree_line-answered.ensures.refused
-    ] in
-    rw c.of_text.ensures.fault
-    (source_refused c.args.command _ c.in-Err-answered.fault _ (source.1, source.2) (rw source.0 at refused) (rw source.0 at c.of_text.ensures.place))
+    let refused : RefusesSource c.args.command c.in-Ok.source c.in-Err-answered.fault = refused_text (goal.at.returns-in-Err-answered c).In-Err-answered in
+    rw c.refused_at.ensures.fault
+    (source_refused c.args.command _ c.in-Err-answered.fault _ (source.1, source.2) (rw source.0 at refused) (rw source.0 at c.refused_at.ensures.place))
