@@ -1,9 +1,9 @@
 -- What is derived is the only script of its text.
-use Rattle.std.proofs.Common.{◌≡◌, ◌∙◌, ℕ, List, [], sym, ap, Option, Some, None}
+use Rattle.std.proofs.Common.{◌≡◌, ◌∙◌, ℕ, List, sym, ap, Some, None}
 use Rattle.tree.specs.declared.kind.Pair.{Pair}
 use Rattle.tree.specs.Tree.{Tree}
 use Rattle.language.specs.Claims.{WithinLimits}
-use Rattle.early_errors.specs.Early.{Error, errors, least, least_error}
+use Rattle.early_errors.specs.Early.{Error, least, least_error}
 use Rattle.unambiguous.proofs.Steps.{one_script}
 use Rattle.lint.specs.ReadScripts.{IsOnly, HasEarlyError}
 
