@@ -1,5 +1,5 @@
 -- From the planner's flags to the printer's; from what sums are refused for to what `fix` promises.
-use Rattle.std.proofs.Common.{◌≡◌, ℕ, zero, suc, Bool, true, false, List, [], ◌∷◌, refl, sym, ap, subst, ◌∙◌, get_or, Result, Ok, Err, String, string_bytes, IfOk, IfErr, inr, ◌≤◌, length, Option, Some, None, arith}
+use Rattle.std.proofs.Common.{◌≡◌, ℕ, zero, suc, Bool, true, false, List, [], ◌∷◌, refl, sym, ap, subst, ◌∙◌, get_or, Result, Ok, Err, String, string_bytes, IfOk, IfErr, inl, inr, ◌≤◌, length, Option, Some, None, arith}
 use Rattle.std.specs.declared.alloc.Global.{Global}
 use Rattle.source_text.specs.declared.fault.Fault.{Fault}
 use Rattle.source_text.specs.declared.fault.Fault.TheVariants.{NotUtf8, TooLong, Syntax, TooDeep, Early, OutOfMemory, BadSettings, BadTable, WriteFailed, ReadFailed, Usage}
@@ -24,7 +24,7 @@ use Rattle.printer.specs.Fits.{wrapped_by, IsPlanned}
 use Rattle.sum_fixer.specs.Scripts.{RefusesScript}
 use Rattle.lint.specs.ReadScripts.{IsOnly, RefusesReading}
 use Rattle.lint.proofs.OneScript.{only_script}
-use Rattle.lint.specs.Fixes.{NoSums, Fixes, FixesScript, RefusesFixing, refuses_sums}
+use Rattle.lint.specs.Fixes.{NoSums, Fixes, FixesScript, IsStable, RefusesFixing, refuses_sums}
 
 -- ---- flags
 
@@ -116,3 +116,21 @@ other_fixed text (Err fault) none is = tt
 pub other_refused : (text : List ℕ) (r : Result (String Global) Fault) → NoSums text → IfErr r (RefusesReading text) → IfErr r (RefusesFixing text)
 other_refused text (Ok fixed) none is = tt
 other_refused text (Err fault) none is = refused_fault text fault none is
+
+-- ---- fixing again
+
+pub stable : (text fixed : List ℕ) → FixesScript text fixed → IsStable text fixed
+stable text fixed (inl sums) = λ kept again. of_sums again
+  where
+    of_sums : (again : List ℕ) → FixesScript fixed again → again ≡ fixed
+    of_sums again (inl sums') = sums.stable again sums'.is_fixed
+    of_sums again (inr other) = absurd (other.0 sums.is_fixed.again.tree sums.is_fixed.again.pairs sums.is_fixed.again.derived)
+stable text fixed (inr is) = λ kept again. of_others kept again
+  where
+    of_others : (NoSums text → NoSums fixed) → (again : List ℕ) → FixesScript fixed again → again ≡ fixed
+    of_others kept again (inl sums) = absurd (kept is.0 sums.is_fixed.tree sums.is_fixed.pairs sums.is_fixed.read.derived)
+    of_others kept again (inr other) = other.1.is_fixed ∙ is.1.stable other.1.tree other.1.pairs (1000, other.1.accepted.derived.1)
+
+pub answers_stable : (text : List ℕ) (r : Result (String Global) Fault) → IfOk r (λ fixed. FixesScript text (string_bytes fixed)) → IfOk r (λ fixed. IsStable text (string_bytes fixed))
+answers_stable text (Ok fixed) is = stable text (string_bytes fixed) is
+answers_stable text (Err fault) is = tt

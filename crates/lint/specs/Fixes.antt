@@ -46,6 +46,10 @@ pub record Fixes (text fixed : List ℕ) : Type 0 where
 abbrev pub FixesScript : List ℕ → List ℕ → Type 0
 FixesScript text fixed = FixesSums text fixed ⊎ (NoSums text × Fixes text fixed)
 
+-- fixing the fixed text gives it again, but where the text is no script of sums and the fixed text is one
+abbrev pub IsStable : List ℕ → List ℕ → Type 0
+IsStable text fixed = (NoSums text → NoSums fixed) → (again : List ℕ) → FixesScript fixed again → again ≡ fixed
+
 -- what is refused is no script of sums
 abbrev pub RefusesFixing : List ℕ → Fault → Type 0
 RefusesFixing text OutOfMemory = Unit {0}

@@ -1,7 +1,7 @@
 //! Fixing a script: the same tree, in one layout, with pairs only where the grammar wants them.
 
 ghost use Rattle.std.specs.Prelude.{IfErr, IfOk, ◌≡◌, string_bytes};
-ghost use Rattle.lint.specs.Fixes.{Fixes, FixesScript, RefusesFixing, refuses_sums};
+ghost use Rattle.lint.specs.Fixes.{Fixes, FixesScript, IsStable, RefusesFixing, refuses_sums};
 ghost use Rattle.lint.specs.ReadScripts.{RefusesReading};
 
 use crate::reader::read_script;
@@ -41,6 +41,7 @@ fn fix_tree(alloc: Global, source: &Source<'_>) -> Result<String, Fault>
 /// place of the first early error; `OutOfMemory`.
 pub fn fix(alloc: Global, source: &Source<'_>) -> Result<String, Fault>
     ensures fixed { IfOk result (λ text. FixesScript source.now (string_bytes text)) }
+    ensures stable { IfOk result (λ text. IsStable source.now (string_bytes text)) }
     ensures refused { IfErr result (RefusesFixing source.now) }
 {
     match sum_fixer::fix(alloc, source) {
