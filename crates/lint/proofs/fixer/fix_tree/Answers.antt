@@ -1,4 +1,4 @@
-use Rattle.std.proofs.Common.{◌≡◌, ◌∙◌, ◌≤◌, sym, ap, subst, Bool, List, length, arith}
+use Rattle.std.proofs.Common.{◌∙◌, ◌≤◌, sym, ap, subst, Bool, List, length, arith}
 use Rattle.std.proofs.lemmas.Str.{IsUtf8-string_bytes}
 use Rattle.early_errors.specs.Accepted.{Accepted}
 use Rattle.std.specs.Prelude.{IsSome}
