@@ -3,7 +3,6 @@ pub mod Tables
 pub mod Quotes
 pub mod Walking
 pub mod Floatless
-pub mod Pieces
 pub mod Shown
 mod ScriptRows
 mod ExpressionRows

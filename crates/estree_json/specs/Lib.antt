@@ -3,4 +3,3 @@ pub mod Texts
 pub mod Fields
 pub mod Json
 pub mod View
-pub mod Writing

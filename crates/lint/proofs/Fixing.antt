@@ -1,8 +1,5 @@
--- From the planner's flags to the printer's; from what sums are refused for to what `fix` promises.
-use Rattle.std.proofs.Common.{◌≡◌, ℕ, zero, suc, Bool, true, false, List, [], ◌∷◌, refl, sym, ap, subst, ◌∙◌, get_or, Result, Ok, Err, String, string_bytes, IfOk, IfErr, inl, inr, ◌≤◌, length, Option, Some, None, arith}
-use Rattle.std.specs.declared.alloc.Global.{Global}
-use Rattle.source_text.specs.declared.fault.Fault.{Fault}
-use Rattle.source_text.specs.declared.fault.Fault.TheVariants.{NotUtf8, TooLong, Syntax, TooDeep, Early, OutOfMemory, BadSettings, BadTable, WriteFailed, ReadFailed, Usage}
+-- From the planner's flags to the printer's, and to what `fix` promises.
+use Rattle.std.proofs.Common.{◌≡◌, ℕ, zero, suc, Bool, true, false, List, [], ◌∷◌, refl, sym, ap, subst, ◌∙◌, get_or, ◌≤◌, length, Option, Some, None, arith}
 use Rattle.tree.specs.Tree.{Tree, SameTree}
 use Rattle.tree.specs.declared.kind.Pair.{Pair}
 use Rattle.std.specs.Str.{IsUtf8}
@@ -21,10 +18,9 @@ use Rattle.language.specs.Layout.{fixed_text, has_number, wrapped_rows}
 use Rattle.paren_planner.specs.Wrapped.{is_flagged}
 use Rattle.printer.specs.Sheets.{flag_at}
 use Rattle.printer.specs.Fits.{wrapped_by, IsPlanned}
-use Rattle.sum_fixer.specs.Scripts.{RefusesScript}
-use Rattle.lint.specs.ReadScripts.{IsOnly, RefusesReading}
+use Rattle.lint.specs.ReadScripts.{IsOnly}
 use Rattle.lint.proofs.OneScript.{only_script}
-use Rattle.lint.specs.Fixes.{NoSums, Fixes, FixesScript, IsStable, RefusesFixing, refuses_sums}
+use Rattle.lint.specs.Fixes.{Fixes, IsStable}
 
 -- ---- flags
 
@@ -82,55 +78,7 @@ fixes text fixed n P p utf8 is plan laid = from (within_always script_readable t
       stable = λ k R d. ap fixed_text (only_again m Q within k R d).0 ∙ same_layout m n same ∙ sym laid;
     }
 
--- ---- refusals
-
-pub no_sums : (text : List ℕ) (fault : Fault) → refuses_sums fault ≡ true → RefusesScript text fault → NoSums text
-no_sums text (Syntax at) is refused = λ n P d. refused.0 n P (record { groups = _; end = d.end; spelled = d.spelled })
-no_sums text TooDeep is refused = refused.0
-no_sums text _ is refused = cc
-
-pub kept_fault : (text : List ℕ) (fault : Fault) → refuses_sums fault ≡ false → RefusesScript text fault → RefusesFixing text fault
-kept_fault text (Syntax at) is refused = cc
-kept_fault text TooDeep is refused = cc
-kept_fault text OutOfMemory is refused = tt
-kept_fault text _ is refused = absurd refused
-
-refused_fault : (text : List ℕ) (fault : Fault) → NoSums text → RefusesReading text fault → RefusesFixing text fault
-refused_fault text OutOfMemory none refused = tt
-refused_fault text (NotUtf8 at) none refused = (none, refused)
-refused_fault text TooLong none refused = (none, refused)
-refused_fault text (Syntax at) none refused = (none, refused)
-refused_fault text TooDeep none refused = (none, refused)
-refused_fault text (Early number at) none refused = (none, refused)
-refused_fault text BadSettings none refused = (none, refused)
-refused_fault text (BadTable row reason) none refused = (none, refused)
-refused_fault text WriteFailed none refused = (none, refused)
-refused_fault text ReadFailed none refused = (none, refused)
-refused_fault text Usage none refused = (none, refused)
-
--- of a text that is no script of sums
-pub other_fixed : (text : List ℕ) (r : Result (String Global) Fault) → NoSums text → IfOk r (λ fixed. Fixes text (string_bytes fixed)) → IfOk r (λ fixed. FixesScript text (string_bytes fixed))
-other_fixed text (Ok fixed) none is = inr (none, is)
-other_fixed text (Err fault) none is = tt
-
-pub other_refused : (text : List ℕ) (r : Result (String Global) Fault) → NoSums text → IfErr r (RefusesReading text) → IfErr r (RefusesFixing text)
-other_refused text (Ok fixed) none is = tt
-other_refused text (Err fault) none is = refused_fault text fault none is
-
 -- ---- fixing again
 
-pub stable : (text fixed : List ℕ) → FixesScript text fixed → IsStable text fixed
-stable text fixed (inl sums) = λ kept again. of_sums again
-  where
-    of_sums : (again : List ℕ) → FixesScript fixed again → again ≡ fixed
-    of_sums again (inl sums') = sums.stable again sums'.is_fixed
-    of_sums again (inr other) = absurd (other.0 sums.is_fixed.again.tree sums.is_fixed.again.pairs sums.is_fixed.again.derived)
-stable text fixed (inr is) = λ kept again. of_others kept again
-  where
-    of_others : (NoSums text → NoSums fixed) → (again : List ℕ) → FixesScript fixed again → again ≡ fixed
-    of_others kept again (inl sums) = absurd (kept is.0 sums.is_fixed.tree sums.is_fixed.pairs sums.is_fixed.read.derived)
-    of_others kept again (inr other) = other.1.is_fixed ∙ is.1.stable other.1.tree other.1.pairs (1000, other.1.accepted.derived.1)
-
-pub answers_stable : (text : List ℕ) (r : Result (String Global) Fault) → IfOk r (λ fixed. FixesScript text (string_bytes fixed)) → IfOk r (λ fixed. IsStable text (string_bytes fixed))
-answers_stable text (Ok fixed) is = stable text (string_bytes fixed) is
-answers_stable text (Err fault) is = tt
+pub stable : (text fixed : List ℕ) → Fixes text fixed → IsStable fixed
+stable text fixed is again of = of.is_fixed ∙ is.stable of.tree of.pairs (1000, of.accepted.derived.1)

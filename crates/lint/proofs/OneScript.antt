@@ -1,11 +1,16 @@
--- What is derived is the only script of its text.
-use Rattle.std.proofs.Common.{◌≡◌, ◌∙◌, ℕ, List, sym, ap, Some, None}
+-- What is derived is the only script of its text; why a text is refused.
+use Rattle.std.proofs.Common.{◌≡◌, ◌∙◌, ◌≤◌, ℕ, List, sym, ap, Some, None, Result, Ok, Err, arith, subst, refl, length}
+use Rattle.std.specs.Result.{IfErr, IsErrAnd}
+use Rattle.source_text.specs.declared.fault.Fault.{Fault}
+use Rattle.source_text.specs.declared.fault.Fault.TheVariants.{Syntax, TooDeep, OutOfMemory}
 use Rattle.tree.specs.declared.kind.Pair.{Pair}
-use Rattle.tree.specs.Tree.{Tree}
-use Rattle.language.specs.Claims.{WithinLimits}
+use Rattle.tree.specs.Tree.{Tree, height}
+use Rattle.language.specs.Claims.{DerivesOpen, WithinLimits}
 use Rattle.early_errors.specs.Early.{Error, least, least_error}
 use Rattle.unambiguous.proofs.Steps.{one_script}
-use Rattle.lint.specs.ReadScripts.{IsOnly, HasEarlyError}
+use Rattle.parser.specs.Given.{Agrees}
+use Rattle.parser.specs.Refusals.{IsRefusal}
+use Rattle.lint.specs.ReadScripts.{IsOnly, HasEarlyError, RefusesReading}
 
 unlike : {x : Error} → None ≡ Some x → ⊥
 unlike h = cc
@@ -25,3 +30,16 @@ has_early_error text n P number at within is =
       least = is;
       unlawful = λ m Q d none. unlike (sym (ap least none) ∙ ap least_error (only m Q d).0 ∙ is);
     }
+
+-- a refusal that agrees with each derivation of the text: a syntax error, where there is none; too deep, where none is within the limits, of a text that is long
+pub refused_reading : (text : List ℕ) (fault : Fault) → IsRefusal text fault →
+    ((o : ℕ) (n : Tree) (P : List Pair) → DerivesOpen o text n P → Agrees {X = Unit {0}} ((o ≤ 1000) × (height n ≤ 500)) (λ x. Unit {0}) (Err fault)) → (fault ≡ TooDeep → 250 ≤ length text) → RefusesReading text fault
+refused_reading text (Syntax at) is agrees long = (is, λ n P d. agrees d.0 n P d.1)
+refused_reading text TooDeep is agrees long = (long refl, λ n P within. agrees 1000 n P within.1 (omega arith, within.0))
+refused_reading text OutOfMemory is agrees long = tt
+refused_reading text _ is agrees long = absurd is
+
+-- behind a `?` the fault is the same
+pub passed_on : {X : Type 0} (R : Fault → Type 0) (answer : Result X Fault) (fault : Fault) → IsErrAnd answer (λ e. e ≡ fault) → R fault → IfErr answer R
+passed_on R (Ok x) fault is h = tt
+passed_on R (Err other) fault is h = subst R (sym is) h

@@ -8,7 +8,8 @@ use Rattle.source_text.specs.declared.fault.Fault.TheVariants.{NotUtf8, TooLong,
 use Rattle.streams.specs.declared.command.Command.{Command}
 use Rattle.streams.specs.declared.command.Command.TheVariants.{Fix, Tree}
 use Rattle.streams.specs.Refused.{HasPlace, place_of}
-use Rattle.lint.specs.Run.{IsSource, IsAnswer, RefusesSource, RefusesBytes, Seen, NoneFailed, NothingWritten, IsGiven, Refuses}
+use Rattle.lint.specs.ReadScripts.{RefusesReading}
+use Rattle.lint.specs.Run.{IsSource, IsAnswer, RefusesBytes, Seen, NoneFailed, NothingWritten, IsGiven, Refuses}
 
 -- bytes that were read up to one byte past the longest text
 abbrev pub IsRead : Option (List ℕ) → List ℕ → Type 0
@@ -35,14 +36,11 @@ IsNever ReadFailed = Unit {0}
 IsNever Usage = Unit {0}
 IsNever _ = ⊥
 
-pub never_refused : (command : Command) (text : List ℕ) (fault : Fault) → IsNever fault → RefusesSource command text fault → ⊥
-never_refused Fix text WriteFailed n refused = refused.1
-never_refused Fix text ReadFailed n refused = refused.1
-never_refused Fix text Usage n refused = refused.1
-never_refused Tree text WriteFailed n refused = refused
-never_refused Tree text ReadFailed n refused = refused
-never_refused Tree text Usage n refused = refused
-never_refused command text _ n refused = n
+pub never_refused : (text : List ℕ) (fault : Fault) → IsNever fault → RefusesReading text fault → ⊥
+never_refused text WriteFailed n refused = refused
+never_refused text ReadFailed n refused = refused
+never_refused text Usage n refused = refused
+never_refused text _ n refused = n
 
 -- a refusal of the bytes that were read is one of the text that is given
 pub refused_text : (command : Command) (seen : Seen) (bytes : List ℕ) (fault : Fault) (place : ℕ × ℕ)
@@ -63,15 +61,15 @@ refused_text command seen bytes BadSettings place given sound kept refused =
     (sound, kept, (bytes, all_read seen.given bytes given refused.0.0.1, refused.0, refused.1))
 refused_text command seen bytes (BadTable row reason) place given sound kept refused =
     (sound, kept, (bytes, all_read seen.given bytes given refused.0.0.1, refused.0, refused.1))
-refused_text command seen bytes WriteFailed place given sound kept refused = absurd (never_refused command bytes WriteFailed tt refused.0.1)
-refused_text command seen bytes ReadFailed place given sound kept refused = absurd (never_refused command bytes ReadFailed tt refused.0.1)
-refused_text command seen bytes Usage place given sound kept refused = absurd (never_refused command bytes Usage tt refused.0.1)
+refused_text command seen bytes WriteFailed place given sound kept refused = absurd (never_refused bytes WriteFailed tt refused.0.1)
+refused_text command seen bytes ReadFailed place given sound kept refused = absurd (never_refused bytes ReadFailed tt refused.0.1)
+refused_text command seen bytes Usage place given sound kept refused = absurd (never_refused bytes Usage tt refused.0.1)
 
 -- no run is refused as a command line is
 pub not_usage : (command : Command) (bytes : List ℕ) (fault : Fault) (place : ℕ × ℕ) → RefusesBytes command bytes fault place → fault ≢ Usage
 not_usage command bytes fault place refused is =
     let usage : RefusesBytes command bytes Usage place = subst (λ f. RefusesBytes command bytes f place) is refused in
-    never_refused command bytes Usage tt usage.0.1
+    never_refused bytes Usage tt usage.0.1
 
 pub answer_length : (command : Command) (bytes answer : List ℕ) → IsAnswer command bytes answer → length bytes ≤ max_bytes
 answer_length Fix bytes answer is = is.0.1
@@ -85,16 +83,14 @@ answered_text command given bytes answer W is_read is written =
     (bytes, answer, all_read given bytes is_read (answer_length command bytes answer is), is, written)
 
 -- where a refusal speaks of a place, it is one of the text
-pub has_place : (command : Command) (bytes : List ℕ) (fault : Fault) → RefusesSource command bytes fault → HasPlace bytes fault
-has_place Fix bytes (Syntax at) refused = refused.1
-has_place Tree bytes (Syntax at) refused = refused
-has_place Fix bytes (Early number at) refused = refused.1.0
-has_place Tree bytes (Early number at) refused = refused.0
-has_place command bytes _ refused = tt
+pub has_place : (bytes : List ℕ) (fault : Fault) → RefusesReading bytes fault → HasPlace bytes fault
+has_place bytes (Syntax at) refused = refused.0
+has_place bytes (Early number at) refused = refused.0
+has_place bytes _ refused = tt
 
 -- what a command refuses of source text is refused
 pub source_refused : (command : Command) (bytes : List ℕ) (fault : Fault) (place : ℕ × ℕ)
-    → IsSource bytes → RefusesSource command bytes fault → place ≡ place_of bytes fault
+    → IsSource bytes → RefusesReading bytes fault → place ≡ place_of bytes fault
     → RefusesBytes command bytes fault place
 source_refused command bytes (Syntax at) place source refused is = ((source, refused), is)
 source_refused command bytes TooDeep place source refused is = ((source, refused), is)
@@ -105,7 +101,5 @@ source_refused command bytes (BadTable row reason) place source refused is = ((s
 source_refused command bytes WriteFailed place source refused is = ((source, refused), is)
 source_refused command bytes ReadFailed place source refused is = ((source, refused), is)
 source_refused command bytes Usage place source refused is = ((source, refused), is)
-source_refused Fix bytes (NotUtf8 at) place source refused is = absurd refused.1
-source_refused Fix bytes TooLong place source refused is = absurd refused.1
-source_refused Tree bytes (NotUtf8 at) place source refused is = absurd refused
-source_refused Tree bytes TooLong place source refused is = absurd refused
+source_refused command bytes (NotUtf8 at) place source refused is = absurd refused
+source_refused command bytes TooLong place source refused is = absurd refused

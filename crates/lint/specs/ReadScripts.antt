@@ -1,6 +1,8 @@
--- What reading a script promises: a tree that the text derives within the limits, and no early error of it (ECMA-262 5.2.4, clause 16).
-use Rattle.std.specs.Prelude.{◌≡◌, ℕ, List, [], Some}
-use Rattle.source_text.specs.Source.{IsPlace}
+-- What reading a script promises: the one tree that the text derives, within the limits, and no early error of it; a refusal names the reason why there is
+-- none (ECMA-262 5.2.4, clause 16).
+use Rattle.std.specs.Prelude.{◌≡◌, ◌≤◌, ℕ, List, [], Some, length}
+use Rattle.std.specs.Str.{IsUtf8}
+use Rattle.source_text.specs.Source.{IsPlace, max_bytes}
 use Rattle.source_text.specs.declared.fault.Fault.{Fault}
 use Rattle.source_text.specs.declared.fault.Fault.TheVariants.{Syntax, TooDeep, Early, OutOfMemory}
 use Rattle.tree.specs.declared.kind.Pair.{Pair}
@@ -12,6 +14,14 @@ use Rattle.early_errors.specs.Early.{errors, least_error}
 abbrev pub IsOnly : List ℕ → Tree → List Pair → Type 0
 IsOnly text n P = (m : Tree) (Q : List Pair) → Derives text m Q → (m ≡ n) × (Q ≡ P)
 
+-- the text derives no script, of whatever height and nesting
+abbrev pub NoScript : List ℕ → Type 0
+NoScript text = (m : Tree) (Q : List Pair) → Derives text m Q → ⊥
+
+-- it derives none within the limits
+abbrev pub NoneWithin : List ℕ → Type 0
+NoneWithin text = (m : Tree) (Q : List Pair) → WithinLimits text m Q → ⊥
+
 -- The text derives a tree within the limits and no other, and this is the tree's least early error: so it is that of each tree that the
 -- text derives, and none of them is without early errors.
 pub record HasEarlyError (text : List ℕ) (number at : ℕ) : Type 0 where
@@ -22,11 +32,18 @@ pub record HasEarlyError (text : List ℕ) (number at : ℕ) : Type 0 where
   pub least : least_error tree ≡ Some (number, at)
   pub unlawful : (m : Tree) (Q : List Pair) → Derives text m Q → errors m ≡ [] → ⊥
 
--- a syntax error names a place of the text, and so does an early error, which is the least of the one tree that the text derives; else it
--- is nested too deep, or memory is refused
+-- A syntax error names a place of a text that is no script; a text that is nested too deep is no script within the limits, and has 250 bytes at least; an early
+-- error is the least of the one tree that the text derives, and names a place of it; else memory is refused.
 abbrev pub RefusesReading : List ℕ → Fault → Type 0
-RefusesReading text (Syntax at) = IsPlace text at
-RefusesReading text TooDeep = Unit {0}
+RefusesReading text (Syntax at) = IsPlace text at × NoScript text
+RefusesReading text TooDeep = (250 ≤ length text) × NoneWithin text
 RefusesReading text (Early number at) = IsPlace text at × HasEarlyError text number at
 RefusesReading text OutOfMemory = Unit {0}
 RefusesReading text other = ⊥
+
+-- some source text derives this tree within the limits, with these pairs
+pub record IsScript (n : Tree) (P : List Pair) : Type 0 where
+  pub text : List ℕ
+  pub utf8 : IsUtf8 text
+  pub short : length text ≤ max_bytes
+  pub derived : WithinLimits text n P

@@ -4,6 +4,7 @@ use Rattle.std.specs.Str.{IsUtf8}
 use Rattle.std.specs.declared.alloc.Global.{Global}
 use Rattle.std.specs.Io.KnownBytes.{Appends, Keeps}
 use Rattle.source_text.specs.Source.{IsRefusal, max_bytes}
+use Rattle.source_text.specs.Writing.{AppendsBeginning}
 use Rattle.source_text.specs.declared.fault.Fault.{Fault}
 use Rattle.source_text.specs.declared.fault.Fault.TheVariants.{NotUtf8, TooLong, OutOfMemory, ReadFailed, WriteFailed}
 use Rattle.streams.specs.declared.command.Command.{Command}
@@ -14,8 +15,7 @@ use Rattle.tree.specs.declared.kind.Pair.{Pair}
 use Rattle.early_errors.specs.Accepted.{Accepted}
 use Rattle.estree_json.specs.Json.{json_text}
 use Rattle.lint.specs.ReadScripts.{IsOnly, RefusesReading}
-use Rattle.lint.specs.Fixes.{FixesScript, RefusesFixing}
-use Rattle.streams.specs.WholeTexts.{AppendsBeginning}
+use Rattle.lint.specs.Fixes.{Fixes}
 use Rattle.streams.specs.Refused.{place_of}
 
 -- ---- a text and its answer
@@ -30,19 +30,14 @@ IsJson text answer = (n : SyntaxTree) × (P : List Pair) × Accepted text n P ×
 
 -- what the command is to write for a text
 abbrev pub IsAnswer : Command → List ℕ → List ℕ → Type 0
-IsAnswer Fix text answer = IsSource text × FixesScript text answer
+IsAnswer Fix text answer = IsSource text × Fixes text answer
 IsAnswer Tree text answer = IsSource text × IsJson text answer
-
--- why the command refuses source text
-abbrev pub RefusesSource : Command → List ℕ → Fault → Type 0
-RefusesSource Fix text fault = RefusesFixing text fault
-RefusesSource Tree text fault = RefusesReading text fault
 
 -- why the command refuses a text: it is source text that it refuses, or it is none
 abbrev pub RefusesText : Command → List ℕ → Fault → Type 0
 RefusesText command text (NotUtf8 at) = IsRefusal text (NotUtf8 at)
 RefusesText command text TooLong = IsRefusal text TooLong
-RefusesText command text fault = IsSource text × RefusesSource command text fault
+RefusesText command text fault = IsSource text × RefusesReading text fault
 
 -- ---- the devices
 

@@ -6,5 +6,5 @@ mod fixer;
 mod reader;
 pub mod run;
 
-pub use fixer::fix;
+pub use fixer::{fix, fix_text};
 pub use reader::read_script;

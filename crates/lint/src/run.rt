@@ -5,12 +5,12 @@ ghost use Rattle.streams.specs.Refused.{HasPlace, place_of};
 ghost use Rattle.lint.specs.ReadScripts.{RefusesReading};
 ghost use Rattle.lint.specs.Run.{Answers, IsJson, Runs};
 
-use crate::fixer::fix;
+use crate::fixer::fix_text;
 use crate::reader::read_script;
 use estree_json::tree_text;
-use source_text::{DeviceFault, Fault, Feed, MAX_BYTES, Sink, Source};
+use source_text::{DeviceFault, Fault, Feed, MAX_BYTES, Sink, Source, write_text};
 use std::alloc::Global;
-use streams::{Command, Refused, read_up_to, write_text};
+use streams::{Command, Refused, read_up_to};
 
 // The tree of a script as JSON, and a line feed.
 fn tree_line(alloc: Global, source: &Source<'_>) -> Result<String, Fault>
@@ -51,7 +51,7 @@ fn answer(alloc: Global, command: Command, bytes: &[u8]) -> Result<String, Refus
         Err(fault) => return Err(Refused::at_no_place(fault)),
     };
     let answered = match command {
-        Command::Fix => fix(alloc, &source),
+        Command::Fix => fix_text(alloc, &source),
         Command::Tree => tree_line(alloc, &source),
     };
     match answered {

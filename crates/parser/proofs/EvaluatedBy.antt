@@ -39,7 +39,7 @@ use Rattle.parser.proofs.Parting.{adds_before}
 use Rattle.parser.proofs.StatementWays.{end_standing}
 
 -- a string literal
-literal_role : (n : Tree) → is_string_literal (kind_of n) (text_of n) ≡ true → bare_role n ≡ Some quoted
+pub literal_role : (n : Tree) → is_string_literal (kind_of n) (text_of n) ≡ true → bare_role n ≡ Some quoted
 literal_role (node Literal w g s e ps) h = ap (λ b. cond b (Some quoted) None) h
 literal_role (node _ w g s e ps) h = cc
 
@@ -47,7 +47,7 @@ literal_edge : (n : Tree) → is_string_literal (kind_of n) (text_of n) ≡ true
 literal_edge (node Literal w g s e ps) h = refl
 literal_edge (node _ w g s e ps) h = cc
 
-group_taken : (r : Rank) → is_group r ≡ true → IsTrue (takes Grouped r)
+pub group_taken : (r : Rank) → is_group r ≡ true → IsTrue (takes Grouped r)
 group_taken Grouped h = refl
 group_taken _ h = cc
 

@@ -104,7 +104,7 @@ first_true false b h = cc
 
 module _ (text : List ℕ) where
   -- the right edge of a group
-  group_edge : {o : ℕ} {n : Tree} {s m e : Token} {P : List Pair} → SpellsIn text o (expr Expression true Any) n s m P → ReadsHere text Punctuator (codes ")") m e → Other ≡ standing (edge n) e
+  pub group_edge : {o : ℕ} {n : Tree} {s m e : Token} {P : List Pair} → SpellsIn text o (expr Expression true Any) n s m P → ReadsHere text Punctuator (codes ")") m e → Other ≡ standing (edge n) e
   group_edge {n = n} {e = e} d sign = of (edge n) (edged Token (NextIn text any_goal) itself (text_determined text) d).ends (ap (λ w. is w ")") sign.text)
     where
       of : (x : Edge) → (x ≡ Closed → ⊥) → is e.text ")" ≡ true → Other ≡ standing x e

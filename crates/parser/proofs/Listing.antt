@@ -98,7 +98,7 @@ module _ (text : List ℕ) where
       of (next_in {t = v} other any x) h = record { token = as_read v; next = next_in other any x; start = sym h }
 
   -- the goal behind an operand reads the first token of what is bound
-  bound_first : {o : ℕ} {n : Tree} {s e : Token} {P : List Pair} → BoundForm Token (NextIn text any_goal) itself (text_determined text) true o n s e P → (t : Token) × (m : Token) × ByDiv s t m
+  pub bound_first : {o : ℕ} {n : Tree} {s e : Token} {P : List Pair} → BoundForm Token (NextIn text any_goal) itself (text_determined text) true o n s e P → (t : Token) × (m : Token) × ByDiv s t m
   bound_first (a_simple (a_name b d)) = let u = (name_form Token (NextIn text any_goal) itself (text_determined text) d).0 in (u.sign, _, name_by text u.reads)
   bound_first (a_simple (a_target b k d)) = cc
   bound_first {s = s} (a_pattern d) = of (pattern_core Token (NextIn text any_goal) itself (text_determined text) d)

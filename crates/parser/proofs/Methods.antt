@@ -41,7 +41,7 @@ parameters_bare after (part n none) = refl
 parameters_bare after (part n (gap ps)) = refl
 parameters_bare after (part n (part m ps)) = λ i. (element_bare n i ∷ separator (kind_bare n i) (none_bare ps i)) ++ parameters_bare after (part m ps) i
 
-methods_bare : (f : Form) (ps : Parts) → is_called f ≡ true → methods f (bare_parts ps) ≡ methods f ps
+pub methods_bare : (f : Form) (ps : Parts) → is_called f ≡ true → methods f (bare_parts ps) ≡ methods f ps
 methods_bare Get none h = refl
 methods_bare Get (part n ps) h = refl
 methods_bare Get (gap none) h = refl

@@ -49,7 +49,7 @@ place_of true false r t l = refl
 place_of false p r t l = refl
 
 -- a declaration behind its word
-coded_closure : (c : Closure) (x : Beginning) → code.Closure c ≡ coded_beginning x → ((x ≡ a_function) × (c ≡ closure.FunctionDeclaration)) ⊎ ((x ≡ a_class) × (c ≡ closure.ClassDeclaration))
+pub coded_closure : (c : Closure) (x : Beginning) → code.Closure c ≡ coded_beginning x → ((x ≡ a_function) × (c ≡ closure.FunctionDeclaration)) ⊎ ((x ≡ a_class) × (c ≡ closure.ClassDeclaration))
 coded_closure c a_function h = inl (refl, cc)
 coded_closure c a_class h = inr (refl, cc)
 coded_closure c _ h = cc

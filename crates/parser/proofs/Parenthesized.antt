@@ -103,7 +103,7 @@ in_parens s0 s1 s2 s3 l0 l text last text2 opened2 same is begun a kept seen inn
       a.same_open ∙ opened2,
     )
 
-none_groups : (x : ℕ) (ps : List Pair) → grouping (record { left = x; right = x } ∷ ps) ≡ grouping ps
+pub none_groups : (x : ℕ) (ps : List Pair) → grouping (record { left = x; right = x } ∷ ps) ≡ grouping ps
 none_groups x ps = let h : nat_lt x x ≡ false = grind (arith, nat_tests) in ap (λ b. cond b (record { left = x; right = x } ∷ grouping ps) (grouping ps)) h
 
 -- the place of a pair is one of theirs

@@ -96,7 +96,7 @@ list_added listed.OneParameter word e span ps = pattern_parts 0 ps
 list_added listed.Members word e span ps = part (node kind.ClassBody [] plain span.start span.end ps) none
 list_added _ word e span ps = ps
 
-list_joined : (l : Listed) (word : Option Scanned) (e : ℕ) (span : Span) (qs ps : Parts) → list_parts l word e span qs ps ≡ join qs (list_added l word e span ps)
+pub list_joined : (l : Listed) (word : Option Scanned) (e : ℕ) (span : Span) (qs ps : Parts) → list_parts l word e span qs ps ≡ join qs (list_added l word e span ps)
 list_joined (listed.Declarators false) word e span qs ps = push-join qs (head_node word e ps)
 list_joined (listed.Declarators true) word e span qs ps = refl
 list_joined listed.Members word e span qs ps = push-join qs (node kind.ClassBody [] plain span.start span.end ps)
@@ -128,7 +128,7 @@ and_true : (a : Bool) → (a && true) ≡ a
 and_true true = refl
 and_true false = refl
 
-both_mapped : (qs : List Piece) (q : Piece) → anywhere (qs ++ q ∷ []) ≡ anywhere qs ++ Rattle.language.specs.Pieces.settle_piece Expression true Any q ∷ []
+pub both_mapped : (qs : List Piece) (q : Piece) → anywhere (qs ++ q ∷ []) ≡ anywhere qs ++ Rattle.language.specs.Pieces.settle_piece Expression true Any q ∷ []
 both_mapped [] q = refl
 both_mapped (r ∷ qs) q = ap (λ x. Rattle.language.specs.Pieces.settle_piece Expression true Any r ∷ x) (both_mapped qs q)
 
@@ -189,20 +189,20 @@ more_than_one n h k = grind (arith, nat_tests)
 
 module _ (text : List ℕ) (o : ℕ) where
   -- a declarator is one as a pattern too
-  same_kind : (k : Kind) → pattern_kind k ≡ kind.VariableDeclarator → k ≡ kind.VariableDeclarator
+  pub same_kind : (k : Kind) → pattern_kind k ≡ kind.VariableDeclarator → k ≡ kind.VariableDeclarator
   same_kind kind.ArrayExpression h = cc
   same_kind kind.ObjectExpression h = cc
   same_kind kind.AssignmentExpression h = cc
   same_kind kind.SpreadElement h = cc
   same_kind _ h = h
 
-  kind_same : (n : Tree) → kind_of n ≡ kind.VariableDeclarator → pattern_tree n ≡ n
+  pub kind_same : (n : Tree) → kind_of n ≡ kind.VariableDeclarator → pattern_tree n ≡ n
   kind_same (node k w g s e ps) h = (λ i. pattern_tree (node (h i) w g s e ps)) ∙ (λ i. node (sym h i) w g s e ps)
 
-  pattern_kind_of : (n : Tree) → kind_of (pattern_tree n) ≡ pattern_kind (kind_of n)
+  pub pattern_kind_of : (n : Tree) → kind_of (pattern_tree n) ≡ pattern_kind (kind_of n)
   pattern_kind_of (node k w g s e ps) = refl
 
-  declarator_kind : {i b : Bool} (n : Tree) {s e : Token} {P : List Pair} → SpellsIn text o (declarator i b) n s e P → kind_of n ≡ kind.VariableDeclarator
+  pub declarator_kind : {i b : Bool} (n : Tree) {s e : Token} {P : List Pair} → SpellsIn text o (declarator i b) n s e P → kind_of n ≡ kind.VariableDeclarator
   declarator_kind {i} {b} n d = ap kind_of ((one_kind Token (NextIn text any_goal) itself (text_determined text) {Fine = λ n v. Unit {0}} (one_declarator i b)).told d tt).tree
 
   declarator_same : {i b : Bool} (n : Tree) {s e : Token} {P : List Pair} → SpellsIn text o (declarator i b) (pattern_tree n) s e P → pattern_tree n ≡ n
@@ -222,7 +222,7 @@ module _ (text : List ℕ) (o : ℕ) where
   one_there (part n (gap ps)) h d = absurd (run_never Token (NextIn text any_goal) itself d)
   one_there (part n (part m ps)) h d = absurd (more_than_one (part_count (part n (part m ps))) (omega arith) h)
 
-  declarators_bare : (a : Rattle.language.specs.Pieces.Role) (ps : Parts) → declarators a (bare_parts ps) ≡ declarators a ps
+  pub declarators_bare : (a : Rattle.language.specs.Pieces.Role) (ps : Parts) → declarators a (bare_parts ps) ≡ declarators a ps
   declarators_bare a none = refl
   declarators_bare a (part n none) = refl
   declarators_bare a (part n (part m ps)) = ap (λ qs. Rattle.language.specs.Pieces.put a ∷ sign "," ∷ sp ∷ qs) (declarators_bare a (part m ps))
@@ -246,7 +246,7 @@ taken_put listed.Parameters word each l h = refl
 taken_put _ word each l h = cc
 
 -- such a list begins without items
-begun_list : (m : Listed) (s x : Point) {l : ListOf} → is_put m ≡ true → l.listed ≡ m → BegunAt s x l → l ≡ list_from m l.span.start
+pub begun_list : (m : Listed) (s x : Point) {l : ListOf} → is_put m ≡ true → l.listed ≡ m → BegunAt s x l → l ≡ list_from m l.span.start
 begun_list (listed.Declarators i) s x {l = l} h is begun = (begun.2 (ap opening is) (ap is_unseparated is)).1 ∙ ap (λ z. list_from z l.span.start) is
 begun_list (listed.Cases r) s x {l = l} h is begun = (begun.1 (codes "{") (ap opening is)).1 ∙ ap (λ z. list_from z l.span.start) is
 begun_list listed.Members s x {l = l} h is begun = (begun.1 (codes "{") (ap opening is)).1 ∙ ap (λ z. list_from z l.span.start) is
@@ -260,7 +260,7 @@ begun_list listed.Covers s x h is begun = cc
 begun_list listed.Template s x h is begun = cc
 begun_list (listed.Sequence i) s x h is begun = cc
 
-stays_before : (m : Listed) (s x : Point) {l : ListOf} → is_put m ≡ true → l.listed ≡ m → BegunAt s x l → opening m ≡ None → x.last ≡ s.last
+pub stays_before : (m : Listed) (s x : Point) {l : ListOf} → is_put m ≡ true → l.listed ≡ m → BegunAt s x l → opening m ≡ None → x.last ≡ s.last
 stays_before (listed.Declarators i) s x h is begun sign_missing = (begun.2 (ap opening is) (ap is_unseparated is)).0
 stays_before (listed.Cases r) s x h is begun sign_missing = cc
 stays_before listed.Members s x h is begun sign_missing = cc
@@ -281,7 +281,7 @@ seen_first m at = record { together = refl; target = λ n a b c d. cc; one_defau
     of (listed.Cases r) = refl
     of _ = refl
 
-list_of : {a b : Listed} → Some (wanted.List a) ≡ Some (wanted.List b) → b ≡ a
+pub list_of : {a b : Listed} → Some (wanted.List a) ≡ Some (wanted.List b) → b ≡ a
 list_of h = cc
 
 one_at_most : (n : ℕ) → nat_eq n 1 ≡ true → nat_le n 1 ≡ true

@@ -40,7 +40,7 @@ use Rattle.parser.specs.Tests.{ends}
 use Rattle.parser.specs.declared.statements.Until.TheVariants as until
 
 -- whether it is a directive doesn't depend on places
-directive_bare : (n : Tree) → is_directive (Rattle.tree.specs.Tree.bare n) ≡ is_directive n
+pub directive_bare : (n : Tree) → is_directive (Rattle.tree.specs.Tree.bare n) ≡ is_directive n
 directive_bare (node k w g s e ps) = refl
 
 module _ (text : List ℕ) (utf8 : IsUtf8 text) where
@@ -64,7 +64,7 @@ module _ (text : List ℕ) (utf8 : IsUtf8 text) where
     spells_place (direct qs h pl d) p = runs_place d p
     spells_place (grouped r d q) p = next_place q.next (spells_place d (next_place r.next p))
 
-    runs_place : {o : ℕ} {qs : List (PieceOf Role)} {ps : Parts} {s e : Token} {P : List Pair} → RunsIn text o qs ps s e P → IsPlace text s.stop → IsPlace text e.stop
+    pub runs_place : {o : ℕ} {qs : List (PieceOf Role)} {ps : Parts} {s e : Token} {P : List Pair} → RunsIn text o qs ps s e P → IsPlace text s.stop → IsPlace text e.stop
     runs_place done p = p
     runs_place (step q d) p = runs_place d (step_place q p)
     runs_place (opened r d) p = runs_place d (next_place r.next p)
@@ -90,7 +90,7 @@ module _ (text : List ℕ) (utf8 : IsUtf8 text) where
       of (c ∷ cs) [] r k w = cc
       of (c ∷ cs) (b ∷ bs) r k w = cc
 
-  end_read : {s t e : Token} → NextIn text any_goal s t e → t.class ≡ End → IsPlace text s.stop → (t.text ≡ []) × (e.stop ≡ length text)
+  pub end_read : {s t e : Token} → NextIn text any_goal s t e → t.class ≡ End → IsPlace text s.stop → (t.text ≡ []) × (e.stop ≡ length text)
   end_read (next_in {s = s} {t = u} goal g h) class p = let v = end_token goal s.stop u p h class in ((λ i. table_text (class i) u.text) ∙ v.0, v.1)
 
 ended_class : (t : Token) → is_end t ≡ true → t.class ≡ End

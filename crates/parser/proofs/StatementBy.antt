@@ -64,7 +64,7 @@ context_stands c = of c.is_item c.is_prologue c.returns
     of true false r = as_item
     of false p r = as_statement
 
-abbrev headed_of : Coded → Headed
+abbrev pub headed_of : Coded → Headed
 headed_of (code.Headed h) = h
 headed_of _ = headed.Label
 
@@ -89,7 +89,7 @@ headed_beginning headed.Try = a_try
 headed_beginning headed.Debugger = a_debugger
 headed_beginning headed.Label = an_expression
 
-headed_begins : (b : Beginning) (h : Headed) → code.Headed h ≡ coded_beginning b → b ≡ headed_beginning h
+pub headed_begins : (b : Beginning) (h : Headed) → code.Headed h ≡ coded_beginning b → b ≡ headed_beginning h
 headed_begins a_block h e = ap headed_beginning (sym (ap headed_of e))
 headed_begins an_empty h e = ap headed_beginning (sym (ap headed_of e))
 headed_begins a_variable h e = ap headed_beginning (sym (ap headed_of e))
@@ -199,7 +199,7 @@ pieces_read {s} {m} {e} {text = text} {pieces} c t h nodes b d a begun edge same
 })
 
 -- the text of a node whose first token is its own
-text_told : (d r : Bool) (t : Scanned) (h : Headed) → headed_beginning h ≡ beginning_of d r (as_read (token_of t)) → headed_text h t.text.now ≡ headed_text h (as_read (token_of t)).text
+pub text_told : (d r : Bool) (t : Scanned) (h : Headed) → headed_beginning h ≡ beginning_of d r (as_read (token_of t)) → headed_text h t.text.now ≡ headed_text h (as_read (token_of t)).text
 text_told d r t headed.Variable q =
     let class : t.class ≡ Name = variable_class d r (as_read (token_of t)).class (as_read (token_of t)).text (sym q) in
     ap (λ c. table_text c t.text.now) (sym class)

@@ -40,7 +40,7 @@ use Rattle.parser.proofs.Parting.{last_one, token_then, part_runs}
 use Rattle.parser.proofs.StatementWays.{StatedBy, read_then, expression_then, statement_then, end_standing}
 
 -- places aside, the cases are the same
-defaults_bare : (ps : Parts) → defaults (bare_parts ps) ≡ defaults ps
+pub defaults_bare : (ps : Parts) → defaults (bare_parts ps) ≡ defaults ps
 defaults_bare none = refl
 defaults_bare (gap ps) = defaults_bare ps
 defaults_bare (part (node k w g s e none) ps) = ap (λ n. 0 + n) (defaults_bare ps)

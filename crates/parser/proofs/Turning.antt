@@ -60,7 +60,7 @@ use Rattle.parser.proofs.Spelled.{placed_at, value_part}
 coded_same : {a b : Coded} → Some a ≡ Some b → a ≡ b
 coded_same h = cc
 
-meant_symbol : (x : Operator) (w : List ℕ) (b : Bool) {c : Coded} → coded_operator x w ≡ Some c → symbol_of (meant c) b ≡ symbol_of x b
+pub meant_symbol : (x : Operator) (w : List ℕ) (b : Bool) {c : Coded} → coded_operator x w ≡ Some c → symbol_of (meant c) b ≡ symbol_of x b
 meant_symbol (binds l z q) w b h = ap (λ k. symbol_of (meant k) b) (sym (coded_same h))
 meant_symbol powers w b h = ap (λ k. symbol_of (meant k) b) (sym (coded_same h))
 meant_symbol assigns w b h = ap (λ k. symbol_of (meant k) b) (sym (coded_same h))
@@ -75,26 +75,26 @@ meant_symbol arrows w b h = ap (λ k. symbol_of (meant k) b) (sym (coded_same h)
 meant_symbol tags w b h = ap (λ k. symbol_of (meant k) b) (sym (coded_same h))
 meant_symbol no_operator w b h = cc
 
-steps_by : (x : Operator) (w : List ℕ) → coded_operator x w ≡ Some code.Steps → x ≡ steps
+pub steps_by : (x : Operator) (w : List ℕ) → coded_operator x w ≡ Some code.Steps → x ≡ steps
 steps_by steps w h = refl
 steps_by _ w h = cc
 
-sequences_by : (x : Operator) (w : List ℕ) → coded_operator x w ≡ Some code.Sequences → x ≡ sequences
+pub sequences_by : (x : Operator) (w : List ℕ) → coded_operator x w ≡ Some code.Sequences → x ≡ sequences
 sequences_by sequences w h = refl
 sequences_by _ w h = cc
 
-chains_by : (x : Operator) (w : List ℕ) → coded_operator x w ≡ Some code.Chains → x ≡ chains
+pub chains_by : (x : Operator) (w : List ℕ) → coded_operator x w ≡ Some code.Chains → x ≡ chains
 chains_by chains w h = refl
 chains_by _ w h = cc
 
 -- an operator that the code has is none but a tag, if that is excluded
-some_operator : (x : Operator) (w : List ℕ) {c : Coded} → coded_operator x w ≡ Some c → x ≡ no_operator → ⊥
+pub some_operator : (x : Operator) (w : List ℕ) {c : Coded} → coded_operator x w ≡ Some c → x ≡ no_operator → ⊥
 some_operator x w {c} h e = of (sym (ap (λ k. coded_operator k w) e) ∙ h)
   where
     of : None ≡ Some c → ⊥
     of k = cc
 
-no_tag : (x : Operator) (w : List ℕ) {c : Coded} → coded_operator x w ≡ Some c → (c ≡ code.Tags → ⊥) → x ≡ tags → ⊥
+pub no_tag : (x : Operator) (w : List ℕ) {c : Coded} → coded_operator x w ≡ Some c → (c ≡ code.Tags → ⊥) → x ≡ tags → ⊥
 no_tag x w h other e = other (sym (coded_same (sym (ap (λ k. coded_operator k w) e) ∙ h)))
 
 -- what the test says where something goes on

@@ -1,5 +1,8 @@
 -- What a statement begins with in the code, as in the definition; and what a `for` is.
-use Rattle.std.specs.Prelude.{ℕ, Bool, true, false, List, codes}
+use Rattle.std.specs.Prelude.{◌≡◌, ◌⊎◌, ℕ, Bool, true, false, List, codes}
+use Rattle.source_text.specs.declared.fault.Fault.{Fault}
+use Rattle.source_text.specs.declared.fault.Fault.TheVariants.{TooDeep}
+use Rattle.token_cursor.specs.Point.{Point}
 use Rattle.tokens.specs.declared.token.Class.TheVariants.{Name, Punctuator}
 use Rattle.tokens.specs.declared.token.Goal.TheVariants.{RegExp}
 use Rattle.tokens.specs.Reading.{any_goal}
@@ -37,6 +40,10 @@ coded_beginning an_expression = code.Expression
 -- the goal before an operand reads no token
 abbrev pub NothingBegins : List ℕ → Token → Type 0
 NothingBegins text s = (t m : Token) → ReadBy Token (NextIn text any_goal) itself RegExp s t m → ⊥
+
+-- it reads none, or the statement may have no height and is too deep
+abbrev pub NotBegun : Point → ℕ → Fault → Type 0
+NotBegun s high fault = NothingBegins s.text s.last ⊎ ((fault ≡ TooDeep) × (high ≡ 0))
 
 -- what follows the first part in the head of a `for` (ECMA-262 13.7), by what the `for` is
 abbrev pub HeadFollowed : List ℕ → Token → Headed → Type 0

@@ -5,7 +5,7 @@ use Rattle.source_text.specs.declared.fault.Fault.TheVariants.{Syntax, TooDeep, 
 use Rattle.tokens.specs.declared.token.Class.TheVariants.{Name, Punctuator, Template}
 use Rattle.tokens.specs.declared.token.Goal.TheVariants.{Div, TemplateTail}
 use Rattle.tokens.specs.Tokens.{LexicalToken}
-use Rattle.token_cursor.specs.Point.{Point, IsAhead}
+use Rattle.token_cursor.specs.Point.{Point, IsAhead, NoneAhead}
 use Rattle.tree.specs.declared.kind.Kind.TheVariants.{Identifier, MetaProperty, TemplateElement}
 use Rattle.tree.specs.Tree.{Tree, node, Parts, part, gap, none, plain, part_count}
 use Rattle.covers.specs.declared.list.Listed.{Listed}
@@ -62,6 +62,17 @@ NotBegun l s high TooDeep = (is_unseparated l ≡ true) × (high < 1)
 NotBegun l s high OutOfMemory = Unit {0}
 NotBegun l s high _ = ⊥
 
+-- no template stands there
+abbrev pub NoTemplate : Listed → Point → Fault → Type 0
+NoTemplate l s (Syntax at) = l ≡ listed.Template → MissesBy s.text Div is_template s.last
+NoTemplate l s fault = Unit {0}
+
+-- a list that begins with no sign is begun always, but for a template
+abbrev pub Unopened : Listed → Fault → Type 0
+Unopened l (Syntax at) = opening l ≡ None → l ≡ listed.Template
+Unopened l TooDeep = l ≡ listed.Template
+Unopened l _ = Unit {0}
+
 -- a comma was passed behind the last item; nothing was, where it ends the list, or where nothing stands between items
 abbrev pub CommaAt : Point → Point → ListOf → Bool → Type 0
 CommaAt s e l true = (is_ended l.listed l.seen (part_count l.nodes) ≡ false) × ((is_unseparated l.listed ≡ true → e.last ≡ s.last) × (is_unseparated l.listed ≡ false → ReadsHere s.text Punctuator (codes ",") s.last e.last))
@@ -80,6 +91,21 @@ is_quasi _ = false
 abbrev pub LinkedAt : Point → Point → Linked → Bool → Type 0
 LinkedAt s e link.Name false = PassedSign s e link.Name false
 LinkedAt s e l optional = PassedSign s e l optional × ((is_quasi l && optional) ≡ false) × ((t : LexicalToken) × IsAhead Div e.text e.last.stop t × (link_by t.class t.text ≡ Some l))
+
+-- the first token is none of those that go on so: behind a `?.` no template, and without a sign no name
+abbrev pub unlinks : Bool → Option Linked → Bool
+unlinks optional None = true
+unlinks true (Some link.Quasi) = true
+unlinks false (Some link.Name) = true
+unlinks optional (Some l) = false
+
+abbrev pub Unlinked : Bool → Point → Type 0
+Unlinked optional e = NoneAhead Div e.text e.last.stop ⊎ ((t : LexicalToken) × IsAhead Div e.text e.last.stop t × (unlinks optional (link_by t.class t.text) ≡ true))
+
+-- nothing follows so, behind a `?.` or without a sign
+abbrev pub NotLinked : Point → Point → Fault → Type 0
+NotLinked s e (Syntax at) = (ReadsHere s.text Punctuator (codes "?.") s.last e.last × Unlinked true e) ⊎ ((e.last ≡ s.last) × Misses s.text Punctuator (codes "?.") s.last × Misses s.text Punctuator (codes ".") s.last × Unlinked false e)
+NotLinked s e fault = ⊥
 
 -- `new.target`, whose words are these tokens
 abbrev pub target_node : LexicalToken → LexicalToken → Tree
@@ -115,6 +141,7 @@ pub record BegunTemplate (s e : Point) (l : ListOf) : Type 0 where
   pub chunk : Item
   pub list : l ≡ with_item (list_from listed.Template l.span.start) chunk
   pub read : FirstChunkAt s.text s.last e.last chunk.node chunk.is_marked
+  pub plain : (chunk.shape.is_expression ≡ true) × (chunk.spreads ≡ false)
 
 abbrev pub TemplateAt : Point → Point → ListOf → Type 0
 TemplateAt s e l = l.listed ≡ listed.Template → SeesBy s.text Div is_template s.last → BegunTemplate s e l
@@ -141,3 +168,8 @@ MissesEnd (Some w) e = Misses e.text Punctuator w e.last
 abbrev pub SeesEnd : Option (List ℕ) → Point → Type 0
 SeesEnd None e = ⊥
 SeesEnd (Some w) e = Sees e.text Punctuator w e.last
+
+-- no semicolon stands before the next member
+abbrev pub FirstMisses : List ℕ → Listed → Token → Type 0
+FirstMisses text listed.Members s = Misses text Punctuator (codes ";") s
+FirstMisses text _ s = Unit {0}

@@ -3,6 +3,10 @@ pub mod Chunks
 pub mod Derived
 pub mod DerivedLists
 pub mod DerivedPieces
+pub mod Given
+pub mod GivenLists
+pub mod GivenPieces
+pub mod Complete
 pub mod Follows
 pub mod Items
 pub mod Links
@@ -21,3 +25,6 @@ pub mod Stated
 pub mod Tests
 pub mod Tokens
 pub mod Wants
+pub mod GivenProperties
+pub mod Stages
+pub mod Scripts

@@ -32,6 +32,11 @@ link_rank Arguments is_call = Call
 link_rank _ true = Call
 link_rank _ false = Member
 
+-- what is a call's
+abbrev pub is_calling : Rank → Bool
+is_calling Call = true
+is_calling _ = false
+
 -- what follows, by the class and the text of its first token
 abbrev pub link_by : Class → List ℕ → Option Linked
 link_by Template w = Some Quasi

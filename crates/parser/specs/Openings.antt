@@ -74,3 +74,12 @@ opens_at p t = stands_at p.rank p.start (opening_of t)
 -- with what is read behind a place the position begins with nothing
 abbrev pub OpensNothing : List ℕ → Position → Token → Type 0
 OpensNothing text p s = (t m : Token) → ReadBy Token (NextIn text any_goal) itself RegExp s t m → IsFalse (opens_at p t)
+
+-- what is begun by one of five words
+abbrev pub is_by_word : Coded → Bool
+is_by_word code.Function = true
+is_by_word code.Class = true
+is_by_word code.Super = true
+is_by_word code.New = true
+is_by_word code.Import = true
+is_by_word _ = false

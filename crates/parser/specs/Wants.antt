@@ -85,10 +85,10 @@ LabelAt s e b c high =
     (NameHere s.text is_free_name s.last e.last × IsUnbroken s × (c ≡ record b { nodes = push b.nodes (single_node Identifier e.last) }) × (1 ≤ high))
     ⊎ ((NoName s.text is_free_name s.last ⊎ IsBroken s) × (e.last ≡ s.last) × (c ≡ record b { nodes = push_gap b.nodes }))
 
-abbrev pub NotLabel : ℕ → Fault → Type 0
-NotLabel high TooDeep = high < 1
-NotLabel high OutOfMemory = Unit {0}
-NotLabel high _ = ⊥
+abbrev pub NotLabel : Point → ℕ → Fault → Type 0
+NotLabel s high TooDeep = (high < 1) × ((t : Token) × NameHere s.text is_free_name s.last t) × IsUnbroken s
+NotLabel s high OutOfMemory = Unit {0}
+NotLabel s high _ = ⊥
 
 -- what a piece that is tokens alone passes
 abbrev pub TokensAt : Piece → Point → Point → Built → Built → ℕ → Type 0
@@ -106,7 +106,7 @@ NotTokens (piece.Word w) s x high (Syntax at) = Misses s.text Name w.now s.last
 NotTokens piece.EndOfDo s x high (Syntax at) = (e : Token) → EndsAt s.text OfDo s.last e → ⊥
 NotTokens piece.End s x high (Syntax at) = (e : Token) → EndsAt s.text (Behind x) s.last e → ⊥
 NotTokens piece.Unbroken s x high (Syntax at) = IsBroken s
-NotTokens piece.Label s x high fault = NotLabel high fault
+NotTokens piece.Label s x high fault = NotLabel s high fault
 NotTokens _ s x high fault = ⊥
 
 -- what a piece with one of these words before it wants

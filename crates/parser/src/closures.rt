@@ -1,6 +1,7 @@
 //! Functions, arrow functions and classes (ECMA-262 14.1 to 14.3, 14.6).
 #![tactic(auto, using(crate::proofs::Refused::refusals, crate::proofs::Moves::moves))]
 
+ghost use Rattle.parser.specs.Complete.{ArrowComplete, ClosureComplete};
 ghost use Rattle.std.specs.Prelude.{◌≡◌, ◌≤◌, IfOk, IfErr, map};
 ghost use Rattle.parser.specs.Pieces.{piece_of, closure_kind, closure_parts};
 ghost use Rattle.parser.specs.Moves.{Passes};
@@ -105,6 +106,7 @@ impl<'t, 's> Parser<'t, 's> {
         ensures forward { self.old.cursor.last.stop ≤ self.new.cursor.last.stop }
         ensures derived { IfOk result (λ n. Adds self.old.cursor self.new.cursor self.old.pairs.items self.new.pairs.items (ClosureAt self.old.cursor.text closure start n)) }
         ensures low { IfOk result (λ n. height n ≤ high) }
+        ensures complete { ClosureComplete self.old.cursor self.new.cursor self.old.pairs.items self.new.pairs.items high closure start result }
         ensures refused { IfErr result (IsRefusal self.new.cursor.text) }
     {
         let inner = high.saturating_sub(1);
@@ -128,6 +130,7 @@ impl<'t, 's> Parser<'t, 's> {
         ensures passes { IfOk result (λ _. Passes self.old.cursor self.new.cursor) }
         ensures derived { IfOk result (λ part. Adds self.old.cursor self.new.cursor self.old.pairs.items self.new.pairs.items (ArrowAt self.old.cursor.text has_in parameters.entry start part)) }
         ensures low { IfOk result (λ part. height part.cover.node ≤ high) }
+        ensures complete { ArrowComplete self.old.cursor self.new.cursor self.old.pairs.items self.new.pairs.items high parameters.entry start has_in result }
         ensures refused { IfErr result (IsRefusal self.new.cursor.text) }
     {
         self.expect("=>")?;

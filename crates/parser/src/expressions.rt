@@ -1,6 +1,8 @@
 //! Expressions (ECMA-262 12.3 to 12.16): what the first token begins, then turn by turn what goes on with it.
 #![tactic(auto, using(crate::proofs::Refused::refusals, crate::proofs::Moves::moves))]
 
+ghost use Rattle.parser.specs.Complete.{ExpressionComplete, SidedComplete};
+ghost use Rattle.parser.specs.Stages.{TurnComplete};
 ghost use Rattle.std.specs.Prelude.{◌≡◌, ◌≢◌, ◌≤◌, true, false, IfOk, IfErr, Bool, ◌&&◌, not};
 ghost use Rattle.tree.specs.Tree.{height};
 ghost use Rattle.covers.specs.Patterns.{pattern_tree};
@@ -62,6 +64,7 @@ impl<'t, 's> Parser<'t, 's> {
         ensures passes { IfOk result (λ _. Passes self.old.cursor self.new.cursor) }
         ensures derived { IfOk result (λ part. Adds self.old.cursor self.new.cursor self.old.pairs.items self.new.pairs.items (ReadAt self.old.cursor.text position part)) }
         ensures low { IfOk result (λ part. height part.cover.node ≤ high) }
+        ensures complete { ExpressionComplete self.old.cursor self.new.cursor self.old.pairs.items self.new.pairs.items high position result }
         ensures refused { IfErr result (IsRefusal self.new.cursor.text) }
     {
         let mut part = self.opening(position, high)?;
@@ -90,6 +93,7 @@ impl<'t, 's> Parser<'t, 's> {
         ensures passes { IfOk result (λ _. Passes self.old.cursor self.new.cursor) }
         ensures derived { IfOk result (λ part. Adds self.old.cursor self.new.cursor self.old.pairs.items self.new.pairs.items (ReadsOn self.old.cursor.text position left.entry part)) }
         ensures low { IfOk result (λ part. height part.cover.node ≤ high) }
+        ensures complete { TurnComplete self.old.cursor self.new.cursor self.old.pairs.items self.new.pairs.items high position left.entry result }
         ensures refused { IfErr result (IsRefusal self.new.cursor.text) }
     {
         let start = left.start;
@@ -150,6 +154,7 @@ impl<'t, 's> Parser<'t, 's> {
         ensures derived { IfOk result (λ part. Adds self.old.cursor self.new.cursor self.old.pairs.items self.new.pairs.items (GoesOn self.old.cursor.text has_in left.entry part)) }
         ensures rank { IfOk result (λ part. symbol_of (meant next.entry.operator) next.entry.token.after_break ≡ Some part.rank) }
         ensures low { IfOk result (λ part. height part.cover.node ≤ high) }
+        ensures complete { SidedComplete self.old.cursor self.new.cursor self.old.pairs.items self.new.pairs.items high left.entry next.entry.token next.entry.operator has_in result }
         ensures refused { IfErr result (IsRefusal self.new.cursor.text) }
     {
         let start = left.start;

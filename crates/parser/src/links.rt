@@ -1,13 +1,14 @@
 //! Members, calls, tagged templates and optional chains (ECMA-262 12.3.2 to 12.3.9).
 #![tactic(auto, using(crate::proofs::Refused::refusals, crate::proofs::Moves::moves))]
 
+ghost use Rattle.parser.specs.Complete.{LinkedComplete, ArgumentsComplete, ChainComplete};
 ghost use Rattle.std.specs.Prelude.{◌≡◌, ◌≤◌, IfOk, IfErr, Bool, codes};
 ghost use Rattle.std.specs.Bool.{OnTrue, OnFalse};
 ghost use Rattle.tokens.specs.Scanned.{token_of};
 ghost use Rattle.tokens.specs.declared.token.Goal.TheVariants.{Div};
 ghost use Rattle.language.specs.Token.{as_read};
 ghost use Rattle.parser.specs.Moves.{Passes};
-ghost use Rattle.parser.specs.Follows.{LinkedAt};
+ghost use Rattle.parser.specs.Follows.{LinkedAt, NotLinked};
 ghost use Rattle.parser.specs.Links.{link_kind, link_flags, link_rank, link_by};
 ghost use Rattle.parser.specs.Seen.{SeesBy, MissesBy, Sees};
 ghost use Rattle.parser.specs.Tests.{is_link, is_template};
@@ -125,6 +126,7 @@ impl<'t, 's> Parser<'t, 's> {
         ensures same_open { self.new.cursor.opened ≡ self.old.cursor.opened }
         ensures same_pairs { self.new.pairs.items ≡ self.old.pairs.items }
         ensures linked { IfOk result (λ found. LinkedAt self.old.cursor self.new.cursor found.0 found.1) }
+        ensures failed { IfErr result (NotLinked self.old.cursor self.new.cursor) }
         ensures refused { IfErr result (IsRefusal self.new.cursor.text) }
     {
         let optional = self.accept("?.");
@@ -151,6 +153,7 @@ impl<'t, 's> Parser<'t, 's> {
         ensures passes { IfOk result (λ _. Passes self.old.cursor self.new.cursor) }
         ensures derived { IfOk result (λ part. Adds self.old.cursor self.new.cursor self.old.pairs.items self.new.pairs.items (Links self.old.cursor.text left.entry part)) }
         ensures low { IfOk result (λ part. height part.cover.node ≤ high) }
+        ensures complete { LinkedComplete self.old.cursor self.new.cursor self.old.pairs.items self.new.pairs.items high left.entry result }
         ensures refused { IfErr result (IsRefusal self.new.cursor.text) }
     {
         if !position_takes(Rank::Call, left.rank) {
@@ -193,6 +196,7 @@ impl<'t, 's> Parser<'t, 's> {
         ensures passes { IfOk result (λ _. Passes self.old.cursor self.new.cursor) }
         ensures derived { IfOk result (λ nodes. Adds self.old.cursor self.new.cursor self.old.pairs.items self.new.pairs.items (ArgumentsAt self.old.cursor.text nodes)) }
         ensures low { IfOk result (λ nodes. parts_height nodes ≤ high) }
+        ensures complete { ArgumentsComplete self.old.cursor self.new.cursor self.old.pairs.items self.new.pairs.items high result }
         ensures refused { IfErr result (IsRefusal self.new.cursor.text) }
     {
         let list = self.open(Listed::Arguments, high)?;
@@ -210,6 +214,7 @@ impl<'t, 's> Parser<'t, 's> {
         ensures derived { IfOk result (λ part. Adds self.old.cursor self.new.cursor self.old.pairs.items self.new.pairs.items (λ o m e Q. (i : Bool) → GoesOn self.old.cursor.text i left.entry part o m e Q)) }
         ensures rank { IfOk result (λ part. part.rank ≡ Rank.LeftHandSide) }
         ensures low { IfOk result (λ part. height part.cover.node ≤ high) }
+        ensures complete { ChainComplete self.old.cursor self.new.cursor self.old.pairs.items self.new.pairs.items high left.entry result }
         ensures refused { IfErr result (IsRefusal self.new.cursor.text) }
     {
         let start = left.start;

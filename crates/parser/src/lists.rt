@@ -1,6 +1,7 @@
 //! Lists (ECMA-262 12.2 to 12.16, 13.3, 13.12, 14.1, 14.6): one loop for all of them, and what each of them lists.
 #![tactic(auto, using(crate::proofs::Refused::refusals, crate::proofs::Moves::moves))]
 
+ghost use Rattle.parser.specs.Complete.{ListComplete, DeclaratorComplete, ItemComplete};
 ghost use Rattle.std.specs.Prelude.{◌⊎◌, codes, ◌≡◌, ◌≤◌, ◌&&◌, IfOk, IfErr, true, false, ◌++◌, List as ListOf};
 ghost use Rattle.std.specs.Bool.{OnTrue, OnFalse};
 ghost use Rattle.token_cursor.specs.Point.{IsAhead};
@@ -15,7 +16,7 @@ ghost use Rattle.covers.specs.Lists.{is_ended};
 ghost use Rattle.parser.specs.Tests.{is_later_part, is_template};
 ghost use Rattle.parser.specs.Seen.{ReadsHere, Misses, MissesBy, SeesBy, TokenHere};
 ghost use Rattle.parser.specs.Beginnings.{case_word};
-ghost use Rattle.parser.specs.Follows.{Semicolons, PassedBefore, MissesEnd, SeesEnd, end_before, NoChunk, ChunkAt, FirstChunkAt, TemplateAt, BegunAt, NotBegun, CommaAt};
+ghost use Rattle.parser.specs.Follows.{Semicolons, PassedBefore, MissesEnd, SeesEnd, end_before, NoChunk, ChunkAt, FirstChunkAt, TemplateAt, BegunAt, NotBegun, CommaAt, NoTemplate, FirstMisses, Unopened};
 ghost use Rattle.parser.specs.Derived.{Adds};
 ghost use Rattle.parser.specs.DerivedLists.{SoFarAt, ListAt, ItemAt, ItemReads, SeenRight};
 ghost use Rattle.language.specs.declared.Start.{Start};
@@ -48,6 +49,8 @@ impl<'t, 's> Parser<'t, 's> {
         ensures begun { IfOk result (BegunAt self.old.cursor self.new.cursor) }
         ensures template { IfOk result (TemplateAt self.old.cursor self.new.cursor) }
         ensures not_begun { IfErr result (NotBegun listed self.old.cursor high) }
+        ensures untemplated { IfErr result (NoTemplate listed self.old.cursor) }
+        ensures unopened { IfErr result (Unopened listed) }
         ensures refused { IfErr result (IsRefusal self.new.cursor.text) }
     {
         let start = self.cursor.place();
@@ -84,6 +87,7 @@ impl<'t, 's> Parser<'t, 's> {
         ensures same_pairs { self.new.pairs.items ≡ self.old.pairs.items }
         ensures passed { PassedBefore list.now.listed self.old.cursor self.new.cursor }
         ensures item { OnTrue result ((is_ended list.now.listed list.now.seen (part_count list.now.nodes) ≡ false) × MissesEnd (end_before list.now.listed) self.new.cursor) }
+        ensures first { FirstMisses self.new.cursor.text list.now.listed self.new.cursor.last }
         ensures no_item { OnFalse result ((is_ended list.now.listed list.now.seen (part_count list.now.nodes) ≡ true) ⊎ SeesEnd (end_before list.now.listed) self.new.cursor) }
     {
         if list.is_ended() {
@@ -137,6 +141,7 @@ impl<'t, 's> Parser<'t, 's> {
         ensures inside { IfOk result (λ whole. list.entry.listed ≡ Listed.Covers → BeginsBy self.old.cursor whole.inside.start) }
         ensures same { IfOk result (λ whole. (whole.listed ≡ list.entry.listed) × (whole.span.start ≡ list.entry.span.start)) }
         ensures low { IfOk result (λ whole. parts_height list.entry.nodes ≤ high → parts_height whole.nodes ≤ high) }
+        ensures complete { ListComplete self.old.cursor self.new.cursor self.old.pairs.items self.new.pairs.items high list.entry result }
         ensures refused { IfErr result (IsRefusal self.new.cursor.text) }
     {
         let mut list = list;
@@ -167,6 +172,7 @@ impl<'t, 's> Parser<'t, 's> {
         ensures listed { list.new.listed ≡ list.old.listed }
         ensures derived { IfOk result (λ _. Adds self.old.cursor self.new.cursor self.old.pairs.items self.new.pairs.items (ItemAt self.old.cursor.text list.old list.new)) }
         ensures low { IfOk result (λ _. parts_height list.old.nodes ≤ high → parts_height list.new.nodes ≤ high) }
+        ensures complete { ItemComplete self.old.cursor self.new.cursor self.old.pairs.items self.new.pairs.items high list.old list.new result }
         ensures refused { IfErr result (IsRefusal self.new.cursor.text) }
     {
         let start = self.cursor.place();
@@ -257,6 +263,7 @@ impl<'t, 's> Parser<'t, 's> {
         ensures passes { IfOk result (λ _. Passes self.old.cursor self.new.cursor) }
         ensures derived { IfOk result (λ item. Adds self.old.cursor self.new.cursor self.old.pairs.items self.new.pairs.items (ItemReads self.old.cursor.text (Listed.Declarators has_in) item)) }
         ensures low { IfOk result (λ item. height item.node ≤ high) }
+        ensures complete { DeclaratorComplete self.old.cursor self.new.cursor self.old.pairs.items self.new.pairs.items high has_in result }
         ensures refused { IfErr result (IsRefusal self.new.cursor.text) }
     {
         let start = self.cursor.place();
@@ -316,6 +323,7 @@ impl<'t, 's> Parser<'t, 's> {
         ensures plain { IfOk result (λ item. (item.shape.is_expression ≡ true) × (item.spreads ≡ false)) }
         ensures read { IfOk result (λ item. SeesBy self.old.cursor.text Div is_template self.old.cursor.last → FirstChunkAt self.old.cursor.text self.old.cursor.last self.new.cursor.last item.node item.is_marked) }
         ensures not_begun { IfErr result (NotBegun Listed.Template self.old.cursor high) }
+        ensures untemplated { IfErr result (NoTemplate Listed.Template self.old.cursor) }
         ensures refused { IfErr result (IsRefusal self.new.cursor.text) }
     {
         let token = self.cursor.take(Goal::Div)?;
@@ -350,6 +358,7 @@ impl<'t, 's> Parser<'t, 's> {
         ensures forward { self.old.cursor.last.stop ≤ self.new.cursor.last.stop }
         ensures same_open { self.new.cursor.opened ≡ self.old.cursor.opened }
         ensures same_pairs { self.new.pairs.items ≡ self.old.pairs.items }
+        ensures plain { IfOk result (λ item. (item.shape.is_expression ≡ true) × (item.spreads ≡ false)) }
         ensures read { IfOk result (λ item. ChunkAt self.old.cursor.text self.old.cursor.last self.new.cursor.last item.node item.is_marked) }
         ensures no_chunk { IfErr result (NoChunk self.old.cursor high) }
         ensures refused { IfErr result (IsRefusal self.new.cursor.text) }

@@ -1,6 +1,7 @@
 //! What the first token of an expression begins (ECMA-262 12.2 to 12.5, 14.1, 14.2, 14.6).
 #![tactic(auto, using(crate::proofs::Refused::refusals, crate::proofs::Moves::moves))]
 
+ghost use Rattle.parser.specs.Complete.{OpeningComplete, WordedComplete, ParenthesizedComplete};
 ghost use Rattle.std.specs.Prelude.{◌≡◌, ◌≢◌, ◌≤◌, ◌<◌, ◌+◌, ◌-◌, [], ◌∷◌, ◌++◌, vec_len, set, IfOk, IfErr, IfSome, IfNone, true, codes};
 ghost use Rattle.token_cursor.specs.Point.{IsAhead};
 ghost use Rattle.source_text.specs.Source.{IsPlace};
@@ -180,6 +181,7 @@ impl<'t, 's> Parser<'t, 's> {
         ensures passes { IfOk result (λ _. Passes self.old.cursor self.new.cursor) }
         ensures derived { IfOk result (λ part. Adds self.old.cursor self.new.cursor self.old.pairs.items self.new.pairs.items (ReadAt self.old.cursor.text position part)) }
         ensures low { IfOk result (λ part. height part.cover.node ≤ high) }
+        ensures complete { OpeningComplete self.old.cursor self.new.cursor self.old.pairs.items self.new.pairs.items high position result }
         ensures refused { IfErr result (IsRefusal self.new.cursor.text) }
     {
         let Some((token, opening)) = self.opens(position) else {
@@ -259,6 +261,7 @@ impl<'t, 's> Parser<'t, 's> {
         ensures forward { self.old.cursor.last.stop ≤ self.new.cursor.last.stop }
         ensures derived { IfOk result (λ part. Adds self.old.cursor self.new.cursor self.old.pairs.items self.new.pairs.items (WordedAt self.old.cursor.text position token.entry opening part)) }
         ensures low { IfOk result (λ part. height part.cover.node ≤ high) }
+        ensures complete { WordedComplete self.old.cursor self.new.cursor self.old.pairs.items self.new.pairs.items high token.entry opening position result }
         ensures refused { IfErr result (IsRefusal self.new.cursor.text) }
     {
         let start = token.start;
@@ -339,6 +342,7 @@ impl<'t, 's> Parser<'t, 's> {
         ensures passes { IfOk result (λ _. Passes self.old.cursor self.new.cursor) }
         ensures derived { IfOk result (λ part. Adds self.old.cursor self.new.cursor self.old.pairs.items self.new.pairs.items (ReadAt self.old.cursor.text position part)) }
         ensures low { IfOk result (λ part. height part.cover.node ≤ high) }
+        ensures complete { ParenthesizedComplete self.old.cursor self.new.cursor self.old.pairs.items self.new.pairs.items high position result }
         ensures refused { IfErr result (IsRefusal self.new.cursor.text) }
     {
         let (place, start) = self.enter()?;

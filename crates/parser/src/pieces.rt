@@ -1,6 +1,7 @@
 //! Statements, functions, classes and their parts as lists of pieces (ECMA-262 clauses 13 and 14).
 #![tactic(auto, using(crate::proofs::Refused::refusals, crate::proofs::Moves::moves))]
 
+ghost use Rattle.parser.specs.Complete.{PiecesComplete};
 ghost use Rattle.std.specs.Prelude.{◌≡◌, ◌≤◌, true, IfOk, IfErr, IfSome, map};
 ghost use Rattle.std.specs.Bool.{OnTrue, OnFalse};
 ghost use Rattle.tokens.specs.Scanned.{token_of};
@@ -329,7 +330,7 @@ impl<'t, 's> Parser<'t, 's> {
         ensures same_open { self.new.cursor.opened ≡ self.old.cursor.opened }
         ensures same_pairs { self.new.pairs.items ≡ self.old.pairs.items }
         ensures read { IfOk result (λ _. LabelAt self.old.cursor self.new.cursor built.old built.new high) }
-        ensures failed { IfErr result (NotLabel high) }
+        ensures failed { IfErr result (NotLabel self.old.cursor high) }
         ensures refused { IfErr result (IsRefusal self.new.cursor.text) }
     {
         if !self.sees_identifier() || self.sees_break() {
@@ -628,6 +629,7 @@ impl<'t, 's> Parser<'t, 's> {
         ensures forward { self.old.cursor.last.stop ≤ self.new.cursor.last.stop }
         ensures derived { IfOk result (λ _. Adds self.old.cursor self.new.cursor self.old.pairs.items self.new.pairs.items (BuiltAt self.old.cursor.text context.returns (map piece_of pieces.now) built.old built.new)) }
         ensures low { IfOk result (λ _. parts_height built.old.nodes ≤ high → parts_height built.new.nodes ≤ high) }
+        ensures complete { PiecesComplete self.old.cursor self.new.cursor self.old.pairs.items self.new.pairs.items high (map piece_of pieces.now) context.returns built.old built.new result }
         ensures refused { IfErr result (IsRefusal self.new.cursor.text) }
     {
         let inner = high.saturating_sub(1);

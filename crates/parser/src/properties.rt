@@ -1,6 +1,7 @@
 //! Properties of objects and members of classes (ECMA-262 12.2.6, 14.3, 14.6).
 #![tactic(auto, using(crate::proofs::Refused::refusals, crate::proofs::Moves::moves))]
 
+ghost use Rattle.parser.specs.Complete.{DefinitionComplete, NameComplete, ValueComplete};
 ghost use Rattle.std.specs.Prelude.{◌≡◌, ◌≤◌, false, is_some, Some, IfOk, IfErr, IfSome};
 ghost use Rattle.parser.specs.Moves.{Passes};
 ghost use Rattle.parser.specs.Items.{property_item};
@@ -257,6 +258,7 @@ impl<'t, 's> Parser<'t, 's> {
         ensures passes { IfOk result (λ _. Passes self.old.cursor self.new.cursor) }
         ensures derived { IfOk result (λ named. Adds self.old.cursor self.new.cursor self.old.pairs.items self.new.pairs.items (NamedSo self.old.cursor.text in_class named.0 named.1)) }
         ensures low { IfOk result (λ named. height named.1.node ≤ high) }
+        ensures complete { NameComplete self.old.cursor self.new.cursor self.old.pairs.items self.new.pairs.items high in_class result }
         ensures refused { IfErr result (IsRefusal self.new.cursor.text) }
     {
         let modifiers = self.modifiers(in_class);
@@ -289,6 +291,7 @@ impl<'t, 's> Parser<'t, 's> {
         ensures passes { IfOk result (λ _. Passes self.old.cursor self.new.cursor) }
         ensures derived { IfOk result (λ item. Adds self.old.cursor self.new.cursor self.old.pairs.items self.new.pairs.items (ItemReads self.old.cursor.text (defined in_class) item)) }
         ensures low { IfOk result (λ item. height item.node ≤ high) }
+        ensures complete { DefinitionComplete self.old.cursor self.new.cursor self.old.pairs.items self.new.pairs.items high in_class result }
         ensures refused { IfErr result (IsRefusal self.new.cursor.text) }
     {
         let start = self.cursor.place();
@@ -321,6 +324,7 @@ impl<'t, 's> Parser<'t, 's> {
         ensures forward { self.old.cursor.last.stop ≤ self.new.cursor.last.stop }
         ensures derived { IfOk result (λ item. Adds self.old.cursor self.new.cursor self.old.pairs.items self.new.pairs.items (ValueAt self.old.cursor.text key.entry start item)) }
         ensures low { IfOk result (λ item. height item.node ≤ high) }
+        ensures complete { ValueComplete self.old.cursor self.new.cursor self.old.pairs.items self.new.pairs.items high key.entry result }
         ensures refused { IfErr result (IsRefusal self.new.cursor.text) }
     {
         let inner = high.saturating_sub(1);

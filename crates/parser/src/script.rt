@@ -4,6 +4,8 @@
 ghost use Rattle.std.specs.Prelude.{◌≡◌, ◌≤◌, length, IfErr, IfOk};
 ghost use Rattle.std.specs.Str.{IsUtf8};
 ghost use Rattle.language.specs.Claims.{WithinLimits};
+ghost use Rattle.unambiguous.specs.Laws.{InOrder};
+ghost use Rattle.parser.specs.Scripts.{IsAnswered};
 ghost use Rattle.parser.specs.Refusals.{IsRefusal};
 
 use crate::position::Parser;
@@ -15,6 +17,9 @@ use tree::{Pair, Program, Span};
 
 /// The greatest height of a tree, the Program's own node counted.
 pub const MAX_HEIGHT: u32 = 500;
+
+/// Scripts of fewer bytes than this are within the limits.
+const SHORT: usize = 250;
 
 /// A script with its grouping pairs.
 #[derive(Drop)]
@@ -39,14 +44,11 @@ impl<'s> Parsed<'s> {
     }
 }
 
-/// The script that a text is.
-///
-/// # Errors
-/// `Syntax` where no derivation exists, `TooDeep` where none exists within the limits (a height of `MAX_HEIGHT`, and
-/// `MAX_OPEN` parentheses that are open at one point and group or hold an arrow's parameters), `OutOfMemory`.
-pub fn parse<'s>(alloc: Global, source: &Source<'s>) -> Result<Parsed<'s>, Fault>
+// The script that a text is: what `parse` promises, but for how long a text is that is nested too deep.
+fn read<'s>(alloc: Global, source: &Source<'s>) -> Result<Parsed<'s>, Fault>
     ensures source { IfOk result (λ _. IsUtf8 source.now × (length source.now ≤ 16777216)) }
     ensures derived { IfOk result (λ parsed. WithinLimits source.now parsed.program parsed.pairs.items) }
+    ensures complete { IsAnswered source.now result }
     ensures refused { IfErr result (IsRefusal source.now) }
 {
     let mut parser = Parser {
@@ -67,4 +69,26 @@ pub fn parse<'s>(alloc: Global, source: &Source<'s>) -> Result<Parsed<'s>, Fault
     };
     let program = Program::new(items.into_parts(), span);
     Ok(Parsed { program, pairs })
+}
+
+/// The script that a text is.
+///
+/// # Errors
+/// `Syntax` with a place, a byte offset, where no derivation exists; `TooDeep` where none exists within the limits (a height
+/// of `MAX_HEIGHT`, and `MAX_OPEN` parentheses that are open at one point and group or hold an arrow's parameters), and only
+/// for a text of `SHORT` bytes or more: a shorter one that isn't within the limits is no script; `OutOfMemory`.
+pub fn parse<'s>(alloc: Global, source: &Source<'s>) -> Result<Parsed<'s>, Fault>
+    ensures source { IfOk result (λ _. IsUtf8 source.now × (length source.now ≤ 16777216)) }
+    ensures derived { IfOk result (λ parsed. WithinLimits source.now parsed.program parsed.pairs.items) }
+    ensures complete { IsAnswered source.now result }
+    ensures ordered { IfOk result (λ parsed. InOrder parsed.pairs.items) }
+    ensures long { IfErr result (λ fault. fault ≡ Fault.TooDeep → 250 ≤ length source.now) }
+    ensures refused { IfErr result (IsRefusal source.now) }
+{
+    let text = source.text();
+    match read(alloc, source) {
+        Ok(parsed) => Ok(parsed),
+        Err(Fault::TooDeep) if text.len() < SHORT => Err(Fault::Syntax(0)),
+        Err(fault) => Err(fault),
+    }
 }

@@ -1,6 +1,7 @@
 //! Statements and declarations (ECMA-262 clause 13, 14.1, 14.6), by the first token.
 #![tactic(auto, using(crate::proofs::Refused::refusals, crate::proofs::Moves::moves))]
 
+ghost use Rattle.parser.specs.Complete.{StatementsComplete, StatementComplete};
 ghost use Rattle.std.specs.Prelude.{◌≡◌, ◌≢◌, ◌≤◌, ◌&&◌, true, IfOk, IfErr, ◌<◌, ◌⊎◌, Bool, false, codes};
 ghost use Rattle.std.specs.Bool.{OnTrue, OnFalse};
 ghost use Rattle.token_cursor.specs.Point.{IsAhead};
@@ -9,7 +10,7 @@ ghost use Rattle.language.specs.Token.{as_read};
 ghost use Rattle.language.specs.Beginning.{beginning_of, beginning_by};
 ghost use Rattle.parser.specs.Seen.{Sees, Misses, SeesBy, MissesBy};
 ghost use Rattle.parser.specs.Tests.{ends};
-ghost use Rattle.parser.specs.Beginnings.{coded_beginning, NothingBegins, HeadFollowed, HeadUnfollowed};
+ghost use Rattle.parser.specs.Beginnings.{coded_beginning, NothingBegins, NotBegun, HeadFollowed, HeadUnfollowed};
 ghost use Rattle.tokens.specs.Scanned.{token_of};
 ghost use Rattle.parser.specs.Moves.{Passes, IfHeaded};
 ghost use Rattle.parser.specs.Derived.{Adds};
@@ -254,6 +255,7 @@ impl<'t, 's> Parser<'t, 's> {
         ensures derived { IfOk result (λ nodes. Adds self.old.cursor self.new.cursor self.old.pairs.items self.new.pairs.items (StatementsAt self.old.cursor.text context nodes)) }
         ensures ended { IfOk result (λ _. SeesBy self.new.cursor.text Div (ends until) self.new.cursor.last) }
         ensures low { IfOk result (λ nodes. parts_height nodes ≤ high) }
+        ensures complete { StatementsComplete self.old.cursor self.new.cursor self.old.pairs.items self.new.pairs.items high until context result }
         ensures refused { IfErr result (IsRefusal self.new.cursor.text) }
     {
         let mut context = context;
@@ -275,6 +277,7 @@ impl<'t, 's> Parser<'t, 's> {
         ensures passes { IfOk result (λ _. Passes self.old.cursor self.new.cursor) }
         ensures derived { IfOk result (λ n. Adds self.old.cursor self.new.cursor self.old.pairs.items self.new.pairs.items (StatementAt self.old.cursor.text (context_role context) n)) }
         ensures low { IfOk result (λ n. height n ≤ high) }
+        ensures complete { StatementComplete self.old.cursor self.new.cursor self.old.pairs.items self.new.pairs.items high context result }
         ensures refused { IfErr result (IsRefusal self.new.cursor.text) }
     {
         let (token, beginning) = self.begins(context, high)?;
@@ -318,6 +321,7 @@ impl<'t, 's> Parser<'t, 's> {
         ensures coded { IfOk result (λ found. found.1 ≡ coded_beginning (beginning_of context.is_item context.returns (as_read (token_of found.0)))) }
         ensures room { IfOk result (λ _. 0 < high) }
         ensures none { IfErr result (λ _. (high ≡ 0) ⊎ NothingBegins self.now.cursor.text self.now.cursor.last) }
+        ensures failed { IfErr result (NotBegun self.now.cursor high) }
         ensures refused { IfErr result (IsRefusal self.now.cursor.text) }
     {
         let Some(token) = self.cursor.peek(Goal::RegExp) else {

@@ -6,6 +6,7 @@ pub mod ListMarks
 pub mod Nodes
 pub mod OtherMarks
 pub mod Passing
+pub mod Planned
 pub mod PlaceMarks
 pub mod Rows
 pub mod Shaped

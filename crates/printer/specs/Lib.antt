@@ -3,3 +3,4 @@ pub mod Fits
 pub mod Shapes
 pub mod Sheets
 pub mod Printed
+pub mod Texts

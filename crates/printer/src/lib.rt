@@ -7,9 +7,11 @@ mod definitions;
 mod expressions;
 mod frame;
 mod lists;
+mod output;
 mod pieces;
 mod printer;
 mod sheet;
 mod statements;
 
+pub use output::print;
 pub use printer::print_text;

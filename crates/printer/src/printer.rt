@@ -4,19 +4,16 @@ ghost use Rattle.std.specs.Prelude.{◌≡◌, ℕ, suc, ◌<◌, ◌+◌, Bool,
 ghost use Rattle.std.specs.String.{string_bytes};
 ghost use Rattle.tree.specs.Node.{node_tree};
 ghost use Rattle.tree.specs.Tree.{kind_of, text_of, flags_of, parts_of, part_count, none};
-ghost use Rattle.language.specs.Pieces.{script, is_none};
+ghost use Rattle.language.specs.Pieces.{is_none};
 ghost use Rattle.language.specs.Grammar.{ways};
 ghost use Rattle.language.specs.Positions.{has_row as row_of};
-ghost use Rattle.language.specs.Layout.{layout, fixed_text};
-ghost use Rattle.language.specs.Claims.{Derives};
-ghost use Rattle.tree.specs.declared.kind.Pair.{Pair};
 ghost use Rattle.positions.specs.Outlines.{role_of, parts_behind, whole_at};
 ghost use Rattle.positions.specs.Remaining.{remaining};
 ghost use Rattle.printer.specs.Bits.{Mark, here, bits_of, chain_of, shape_of};
 ghost use Rattle.printer.specs.Shapes.{sign_at, sign_of_text, inner};
 ghost use Rattle.printer.specs.Sheets.{flag_at};
 ghost use Rattle.language.specs.Fits.{fits, parts_fit, lines_up};
-ghost use Rattle.printer.specs.Fits.{wrapped_by, IsPlanned};
+ghost use Rattle.printer.specs.Texts.{IsLaid, IsFixed};
 ghost use Rattle.printer.specs.Printed.{Reads, Printed, Direct, Passed, Written, spelled_so, front_marks, chain_marks, deep, shape_marks, marks_in, signed_marks};
 
 use crate::frame::frame_of;
@@ -55,8 +52,8 @@ pub fn print_text(
     program: &Program<'_>,
     wraps: &[bool],
 ) -> Result<String, AllocError>
-    ensures laid { IfOk result (λ t. fits (wrapped_by wraps.now) program.now script 1 ≡ true → string_bytes t ≡ layout (wrapped_by wraps.now) program.now script 1 0) }
-    ensures fixed { IfOk result (λ t. (text : List ℕ) → (pairs : List Pair) → Derives text program.now pairs → IsPlanned wraps.now program.now → string_bytes t ≡ fixed_text program.now) }
+    ensures laid { IfOk result (λ t. IsLaid wraps.now program.now (string_bytes t)) }
+    ensures fixed { IfOk result (λ t. IsFixed wraps.now program.now (string_bytes t)) }
 {
     let root = program.root();
     let mut sheet = Sheet::new(alloc, root.span().end, wraps)?;

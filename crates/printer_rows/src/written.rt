@@ -2,8 +2,8 @@
 
 use crate::{laid, other};
 use parser::parse;
-use printer::print_text;
-use source_text::{Fault, Source};
+use printer::{print, print_text};
+use source_text::{Fault, MemorySink, Plan, Source};
 use std::alloc::{AllocError, Global};
 use std::process::Abort;
 use std::test::Fail;
@@ -70,4 +70,44 @@ fn nested_lines(rt: HostRuntime) -> Result<(), Fail> {
 #[test]
 fn other_layouts(rt: HostRuntime) -> Result<(), Fail> {
     are_written_as(&rt, rt.alloc(), &other::OTHERS)
+}
+
+/// What is written of the layout of a tree, a few bytes a call, where there is so much room; and why no more is.
+fn printed(
+    alloc: Global,
+    text: &str,
+    wrapped: &str,
+    room: usize,
+) -> Result<(MemorySink, Option<Fault>), Fault> {
+    let source = Source::new(text.as_bytes())?;
+    let parsed = parse(alloc, &source)?;
+    let flags = flags_of(alloc, wrapped)?;
+    let plan = Plan {
+        per_call: 7,
+        fails_at: None,
+    };
+    let mut writer = MemorySink::new(alloc, room, plan)?;
+    let refused = print(alloc, parsed.program(), &flags, &mut writer).err();
+    Ok((writer, refused))
+}
+
+#[test]
+fn a_writer_with_room(rt: HostRuntime) -> Result<(), Fail> {
+    for (text, wrapped, want) in &other::OTHERS {
+        let (writer, refused) = printed(rt.alloc(), text, wrapped, want.len())?;
+        assert_eq!(rt; writer.bytes(), want.as_bytes());
+        assert_eq!(rt; refused, None);
+    }
+    Ok(())
+}
+
+#[test]
+fn a_writer_that_is_full(rt: HostRuntime) -> Result<(), Fail> {
+    for room in 0..13usize {
+        let (writer, refused) = printed(rt.alloc(), "(a+b)*c", ".(", room)?;
+        let want = "(a + b) * c;\n".as_bytes();
+        assert_eq!(rt; Some(writer.bytes()), want.get(..room));
+        assert_eq!(rt; refused, Some(Fault::WriteFailed));
+    }
+    Ok(())
 }

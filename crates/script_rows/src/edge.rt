@@ -1,11 +1,11 @@
 //! The program's edge, with devices that take or give little, or fail.
 
 use lint::run::run;
-use source_text::{Device, Fault, MemoryFeed, MemorySink, Plan, Reason};
+use source_text::{Device, Fault, MemoryFeed, MemorySink, Plan, Reason, write_text};
 use std::alloc::{AllocError, Global};
 use std::process::Abort;
 use std::test::Fail;
-use streams::{Command, Refused, read_up_to, write_refusal, write_text};
+use streams::{Command, Refused, read_up_to, write_refusal};
 
 const WHOLE: Plan = Plan {
     per_call: 65536,

@@ -1,18 +1,18 @@
 //! Scripts of the whole language: what is fixed, and that the fixed text is fixed to itself; what is refused.
 
-use lint::fix;
+use lint::fix_text;
 use source_text::{Fault, Source};
 use std::alloc::{AllocError, Global};
 use std::process::Abort;
 use std::test::Fail;
 
-/// What `fix` answers for a text, as a text.
+/// What `fix_text` answers for a text, as a text.
 fn answer(alloc: Global, text: &str) -> Result<String, AllocError> {
     let source = match Source::new(text.as_bytes()) {
         Ok(source) => source,
         Err(fault) => return format!(in alloc; "{fault}"),
     };
-    match fix(alloc, &source) {
+    match fix_text(alloc, &source) {
         Ok(fixed) => Ok(fixed),
         Err(Fault::Syntax(_)) => String::from_str(alloc, "syntax"),
         Err(Fault::Early(number, at)) => format!(in alloc; "E{number} {at}"),

@@ -8,8 +8,6 @@ mod early;
 #[cfg(test)]
 mod edge;
 #[cfg(test)]
-mod fixer;
-#[cfg(test)]
 mod fixes;
 #[cfg(test)]
 mod json;
@@ -17,5 +15,7 @@ mod json;
 mod numbers;
 #[cfg(test)]
 mod parse;
+#[cfg(test)]
+mod sums;
 #[cfg(test)]
 mod trees;

@@ -1,2 +1,3 @@
 pub mod Lines
 mod LineExamples
+pub mod Pieces

@@ -4,3 +4,4 @@ pub mod LineBytes
 pub mod Spaces
 pub mod Io
 pub mod Memory
+pub mod Writing

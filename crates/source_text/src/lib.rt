@@ -1,6 +1,6 @@
 #![tactic(auto)]
 
-//! Checked source text, its lines and columns, devices, and refusals.
+//! Checked source text, its lines and columns, devices, whole texts to them, and refusals.
 
 mod character;
 mod device;
@@ -8,6 +8,7 @@ mod fault;
 mod memory;
 mod sink;
 mod source;
+mod write;
 
 pub use character::{is_line_terminator, is_space};
 pub use device::Device;
@@ -15,3 +16,4 @@ pub use fault::{Fault, Reason};
 pub use memory::{MemoryFeed, MemorySink, Plan};
 pub use sink::{DeviceFault, Feed, Sink};
 pub use source::{MAX_BYTES, Source};
+pub use write::{PIECE, write_text};

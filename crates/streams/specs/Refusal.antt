@@ -6,8 +6,8 @@ use Rattle.source_text.specs.declared.fault.Fault.{Fault}
 use Rattle.source_text.specs.declared.fault.Fault.TheVariants.{NotUtf8, TooLong, Syntax, TooDeep, Early, OutOfMemory, BadSettings, BadTable, WriteFailed, ReadFailed, Usage}
 use Rattle.source_text.specs.declared.fault.Reason.{Reason}
 use Rattle.source_text.specs.declared.fault.Reason.TheVariants as reason
+use Rattle.source_text.specs.Writing.{AppendsBeginning}
 use Rattle.streams.specs.declared.refused.Refused.{Refused}
-use Rattle.streams.specs.WholeTexts.{AppendsBeginning}
 
 -- 1 for a bad cost table, else 2
 abbrev pub status_of : Fault → ℕ

@@ -1,6 +1,6 @@
 #![tactic(auto)]
 
-//! The streams of a run: its commands, whole texts to a sink and from a feed, and refusals as they are written.
+//! The streams of a run: its commands, whole texts from a feed, and refusals as they are written.
 
 mod command;
 mod refusal;
@@ -11,4 +11,4 @@ mod whole_texts;
 pub use command::Command;
 pub use refusal::{status, write_refusal};
 pub use refused::Refused;
-pub use whole_texts::{PIECE, ROOM, read_up_to, write_text};
+pub use whole_texts::{ROOM, read_up_to};

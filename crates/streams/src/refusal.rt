@@ -6,8 +6,7 @@ ghost use Rattle.streams.specs.Refusal.{WritesLine, place_words, reason_words, r
 
 use crate::refused::Refused;
 use crate::short_text::ShortText;
-use crate::whole_texts::write_text;
-use source_text::{Fault, Reason, Sink};
+use source_text::{Fault, Reason, Sink, write_text};
 
 /// The exit status of a refusal: 1 for a bad cost table, else 2.
 pub fn status(fault: Fault) -> u8

@@ -1,38 +1,13 @@
-//! Whole texts to a sink and from a feed.
+//! Whole texts from a feed.
 
 ghost use Rattle.std.specs.Prelude.{◌≡◌, ◌<◌, ◌^◌, false};
-ghost use Rattle.streams.specs.WholeTexts.{ReadsUpTo, WritesText};
+ghost use Rattle.streams.specs.WholeTexts.{ReadsUpTo};
 
-use source_text::{DeviceFault, Fault, Feed, Sink};
+use source_text::{DeviceFault, Fault, Feed};
 use std::alloc::Global;
-
-/// The most bytes that one `put` is handed.
-pub const PIECE: usize = 4096;
 
 /// The most bytes that one `get` is asked for.
 pub const ROOM: usize = 16384;
-
-/// Writes the whole text, in pieces of at most `PIECE` bytes. What was written is always a beginning of the text.
-///
-/// # Errors
-///
-/// A `DeviceFault` where the writer fails; it is not asked again.
-pub fn write_text<W: Sink>(text: &[u8], writer: &mut W) -> Result<(), DeviceFault>
-    requires { W.failed writer.old ≡ false }
-    ensures { WritesText text.now result (W.taken writer.old) (W.taken writer.new) (W.failed writer.new) }
-{
-    let mut at = 0;
-    while at < text.len() {
-        let end = if text.len() - at < PIECE {
-            text.len()
-        } else {
-            at + PIECE
-        };
-        let count = writer.put(&text[at..end])?;
-        at += count;
-    }
-    Ok(())
-}
 
 /// Reads to the end, or to one byte past the limit, in bytes.
 ///

@@ -21,7 +21,11 @@ pub mod ForStatements
 pub mod FunctionBodies
 pub mod GroupEnds
 pub mod GroupLists
+pub mod Heights
 pub mod ItemLists
+pub mod Levels
+pub mod LevelsOfExpressions
+pub mod LevelsOfNodes
 pub mod LinesOnce
 pub mod LinkParts
 pub mod Listed
@@ -32,6 +36,7 @@ pub mod Loops
 pub mod NameCores
 pub mod NewCores
 pub mod ObjectLists
+pub mod OrderedPairs
 pub mod ParenthesisCores
 pub mod PatternLists
 pub mod PieceRuns

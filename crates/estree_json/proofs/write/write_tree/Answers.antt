@@ -1,7 +1,7 @@
 use Rattle.std.proofs.Common.{◌≡◌, ◌∙◌, List, ℕ, subst}
 use Rattle.std.specs.Io.KnownBytes.{Appends}
+use Rattle.source_text.specs.Writing.{AppendsBeginning}
 use Rattle.estree_json.specs.Json.{json_text}
-use Rattle.estree_json.specs.Writing.{AppendsBeginning}
 use Rattle.estree_json.proofs.write.write_tree.Goals as goal
 
 pub returns-in-Ok : goal.returns-in-Ok

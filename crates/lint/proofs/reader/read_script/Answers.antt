@@ -2,7 +2,8 @@ use Rattle.std.proofs.Common.{◌≡◌, ◌∙◌, ap, sym, Some}
 use Rattle.early_errors.specs.Early.{errors, least_error}
 use Rattle.early_errors.proofs.FirstError.{least_among, least_none}
 use Rattle.early_errors.proofs.StartPlaces.{error_place}
-use Rattle.lint.proofs.OneScript.{only_script, has_early_error}
+use Rattle.lint.proofs.OneScript.{only_script, has_early_error, refused_reading, passed_on}
+use Rattle.lint.specs.ReadScripts.{RefusesReading}
 use Rattle.lint.proofs.reader.read_script.Goals as goal
 
 pub returns-clause-accepted : goal.returns-clause-accepted
@@ -24,3 +25,8 @@ returns-in-Some-clause-refused c =
     let found : least_error n ≡ Some (c.in-Some.number, c.in-Some.at) = ap least_error (sym c.program.ensures) ∙ sym c.in_ok-number.ensures ∙ c.in-Some.is in
     let place = error_place text n pairs c.in_ok-parsed.ensures.source.0 (1000, derived.1) (c.in-Some.number, c.in-Some.at) (least_among (errors n) (c.in-Some.number, c.in-Some.at) found) in
     (place, has_early_error text n pairs c.in-Some.number c.in-Some.at derived found)
+
+pub returns-in_err-parsed-clause-refused : goal.returns-in_err-parsed-clause-refused
+returns-in_err-parsed-clause-refused c =
+    let is = c.in_err-parsed.ensures in
+    passed_on (RefusesReading c.args.source.now) c.from_residual.result c.in_err-parsed.field-0.0 c.from_residual.ensures.1 (refused_reading c.args.source.now c.in_err-parsed.field-0.0 is.refused is.complete is.long)

@@ -1,7 +1,7 @@
 use Rattle.std.proofs.Common.{ℕ, List, refl, subst, string_bytes}
 use Rattle.std.specs.Io.KnownBytes.{Appends}
 use Rattle.std.proofs.KnownBytes.{Keeps-refl}
-use Rattle.streams.specs.WholeTexts.{AppendsBeginning}
+use Rattle.source_text.specs.Writing.{AppendsBeginning}
 use Rattle.lint.specs.Run.{IsAnswer, RefusesBytes}
 use Rattle.lint.proofs.Running.{refused_text, answered_text}
 use Rattle.lint.proofs.run.run.Goals as goal

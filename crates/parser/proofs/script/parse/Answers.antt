@@ -1,11 +1,17 @@
-use Rattle.std.proofs.Common.{◌≡◌, ◌∙◌, length, rules}
-use Rattle.std.proofs.lemmas.List.Elements.{filter_from_retain}
-use Rattle.tree.specs.Tree.{program_tree}
-use Rattle.parser.specs.Derived.{groups, grouping}
-use Rattle.parser.proofs.ScriptBy.{parsed}
+use Rattle.std.proofs.Common.{◌∙◌, ◌<◌, ap, subst, Err, List, ℕ, length}
+use Rattle.std.proofs.lemmas.Str.{IsCharBoundary-start}
+use Rattle.unambiguous.proofs.OrderedPairs.{pairs_ordered}
+use Rattle.parser.proofs.ShortTexts.{short_refused}
 use Rattle.parser.proofs.script.parse.Goals as goal
 
-pub returns-clause-derived : goal.returns-clause-derived
-returns-clause-derived c =
-    let kept : c.retain.new.self.items ≡ grouping c.statements.new.self.pairs.items = filter_from_retain _ groups (λ p x b q h. search rules) _ _ _ c.retain.ensures.filtered in
-    parsed c.args.source.now c.in_ok-items.items c.new-program.result c.text.ensures.utf8 c.new.ensures.text c.new.ensures.last c.new.ensures.none c.new-2.ensures.items c.in_ok-items.ensures.derived c.statements.ensures.text c.in_ok-items.ensures.ended kept (c.new-program.ensures ∙ (λ i. program_tree (c.into_parts.ensures i) (record { start = 0; end = length (c.text.ensures.value i) }))) c.in_ok-items.ensures.low
+pub returns-in-Err-TooDeep-clause-complete : goal.returns-in-Err-TooDeep-clause-complete
+returns-in-Err-TooDeep-clause-complete c =
+    short_refused c.args.source.now c.read.result c.text-text.ensures.utf8 (subst (λ (x : List ℕ). length x < 250) c.text-text.ensures.value c.if-text-lt-SHORT.true) (c.in-Err-TooDeep.is ∙ ap Err c.in-Err-TooDeep.field-0-is) c.read.ensures.complete
+
+pub returns-in-Err-TooDeep-clause-refused : goal.returns-in-Err-TooDeep-clause-refused
+returns-in-Err-TooDeep-clause-refused c = IsCharBoundary-start c.args.source.now c.text-text.ensures.utf8
+
+pub returns-in-Ok-clause-ordered : goal.returns-in-Ok-clause-ordered
+returns-in-Ok-clause-ordered c =
+    let is = c.in-Ok.ensures in
+    pairs_ordered c.args.source.now c.in-Ok.parsed.program c.in-Ok.parsed.pairs.items is.source.0 (1000, is.derived.1)

@@ -1,6 +1,6 @@
-use Rattle.std.proofs.Common.{◌≡◌, ◌-◌, ◌+◌, ◌*◌, ◌≤◌, ◌<◌, length}
-use Rattle.std.specs.Prelude.{◌&&◌, map, take}
-use Rattle.tree.specs.Tree.{height, parts_height}
+use Rattle.std.proofs.Common.{◌≡◌, ◌-◌, ◌+◌, ◌*◌, ◌≤◌, ◌<◌, length, ℕ, List, []}
+use Rattle.std.specs.Prelude.{◌&&◌, map, take, drop}
+use Rattle.tree.specs.Tree.{height, parts_height, Tree}
 use Rattle.parser.specs.Derived.{Adds, ReadAt}
 use Rattle.covers.specs.declared.list.Listed.TheVariants.{Covers}
 use Rattle.parser.specs.DerivedLists.{SeenRight}
@@ -11,6 +11,15 @@ use Rattle.parser.proofs.Chaining.{ChainedOn}
 use Rattle.parser.proofs.Stating.{all_directive}
 use Rattle.parser.proofs.Wholly.{FurtherOn}
 use Rattle.parser.proofs.position.Parser.+grammar.Given as goal
+use Rattle.tree.specs.declared.kind.Pair.{Pair}
+use Rattle.language.specs.Token.{Token}
+use Rattle.language.specs.Covers.{Reading}
+use Rattle.parser.specs.Given.{GivenAs}
+use Rattle.parser.specs.Stages.{Staged}
+use Rattle.parser.proofs.GivenChains.{ChainAgrees}
+use Rattle.parser.proofs.ListLoop.{Reaches}
+use Rattle.parser.proofs.PiecesLeft.{LeftOf}
+use Rattle.parser.proofs.ItemsGiven.{AllLeft}
 
 abbrev pub decreases-worded : goal.decreases-worded
 decreases-worded l = 9 * (length l.self.now.cursor.text - l.self.now.cursor.last.stop) + 8
@@ -79,6 +88,8 @@ invariant-expression-turns l = record {
   within : l.fn.self.cursor.last.stop < length l.fn.self.cursor.text;
   derived : Adds l.fn.self.cursor l.self.cursor l.fn.self.pairs.items l.self.pairs.items (ReadAt l.fn.self.cursor.text l.fn.position l.part);
   low : height l.part.cover.node ≤ l.fn.high;
+  complete : (a : Reading) (o : ℕ) (n : Tree) (to : Token) (P : List Pair) → GivenAs l.fn.self.cursor.text l.fn.position o n l.fn.self.cursor.last to P a →
+      Staged l.fn.self.cursor.text l.fn.position o l.fn.self.cursor.last to P l.part l.self.cursor.last [] l.fn.self.pairs.items l.self.pairs.items a n;
 }
 
 abbrev pub decreases-expression-turns : goal.decreases-expression-turns
@@ -90,6 +101,7 @@ invariant-chain-links l = record {
   forward : l.fn.self.cursor.last.stop < l.self.cursor.last.stop;
   within : l.fn.self.cursor.last.stop < length l.fn.self.cursor.text;
   derived : Adds l.fn.self.cursor l.self.cursor l.fn.self.pairs.items l.self.pairs.items (ChainedOn l.fn.self.cursor.text l.fn.left l.part);
+  agrees : ChainAgrees l.fn.self.cursor l.self.cursor l.fn.self.pairs.items l.self.pairs.items l.fn.left l.part;
 }
 
 abbrev pub decreases-chain-links : goal.decreases-chain-links
@@ -105,6 +117,7 @@ invariant-list-items l = record {
   low : parts_height l.fn.list.nodes ≤ l.fn.high → parts_height l.list.nodes ≤ l.fn.high;
   seen : SeenRight l.fn.list → SeenRight l.list;
   begins : l.fn.list.listed ≡ Covers → BeginsBy l.fn.self.cursor l.list.inside.start;
+  complete : Reaches l.fn.self.cursor.text l.fn.list l.list l.fn.self.cursor l.self.cursor l.fn.self.pairs.items l.self.pairs.items;
 }
 
 abbrev pub decreases-list-items : goal.decreases-list-items
@@ -116,6 +129,7 @@ invariant-pieces-each l = record {
   forward : l.fn.self.cursor.last.stop ≤ l.self.cursor.last.stop;
   derived : Adds l.fn.self.cursor l.self.cursor l.fn.self.pairs.items l.self.pairs.items (BuiltAt l.fn.self.cursor.text l.fn.context.returns (map piece_of (take l.piece-index l.pieces)) l.fn.built l.built);
   low : parts_height l.fn.built.nodes ≤ l.fn.high → parts_height l.built.nodes ≤ l.fn.high;
+  complete : LeftOf l.fn.context.returns (map piece_of l.pieces) (map piece_of (drop l.piece-index l.pieces)) l.fn.self.cursor l.self.cursor l.fn.self.pairs.items l.self.pairs.items l.fn.built l.built;
 }
 
 abbrev pub invariant-statements-statements : goal.invariant-statements-statements
@@ -127,6 +141,7 @@ invariant-statements-statements l = record {
   returns : l.context.returns ≡ l.fn.context.returns;
   before : l.context.is_prologue ≡ (l.fn.context.is_prologue && all_directive l.nodes);
   low : parts_height l.nodes ≤ l.fn.high;
+  left : AllLeft l.fn.self.cursor l.self.cursor l.fn.self.pairs.items l.self.pairs.items l.fn.until l.fn.context l.context l.nodes;
 }
 
 abbrev pub decreases-statements-statements : goal.decreases-statements-statements

@@ -1,4 +1,4 @@
-use Rattle.std.proofs.Common.{inl, inr}
+use Rattle.std.proofs.Common.{inl, inr, refl}
 use Rattle.tokens.specs.declared.token.Goal.TheVariants.{RegExp}
 use Rattle.parser.proofs.Seeing.{none_ahead}
 use Rattle.parser.proofs.position.Parser.begins.Goals as goal
@@ -8,3 +8,9 @@ returns-in_default-clause-none c = inr (λ t m r. none_ahead _ RegExp _ c.in_def
 
 pub returns-then-high-eq0-clause-none : goal.returns-then-high-eq0-clause-none
 returns-then-high-eq0-clause-none c = inl c.if-high-eq0.true
+
+pub returns-in_default-clause-failed : goal.returns-in_default-clause-failed
+returns-in_default-clause-failed c = inl (λ t m r. none_ahead _ RegExp _ c.in_default.ensures.none t m r)
+
+pub returns-then-high-eq0-clause-failed : goal.returns-then-high-eq0-clause-failed
+returns-then-high-eq0-clause-failed c = inr (refl, c.if-high-eq0.true)

@@ -1,8 +1,0 @@
-use Rattle.std.proofs.lemmas.Str.{IsCharBoundary-start}
-use Rattle.sum_fixer.proofs.cursor.Cursor.new.Goals as goal
-
-pub look-requires : goal.look-requires
-look-requires c = IsCharBoundary-start _ c.text-text.ensures.utf8
-
-pub invariant_of-result : goal.invariant_of-result
-invariant_of-result c = (IsCharBoundary-start _ c.text-text.ensures.utf8, c.look.ensures)

@@ -1,0 +1,80 @@
+"""One function of the parser's cycle alone: writes a copy of the crate in which each other function of the cycle only refuses, so that
+its contract is taken as it stands. A check of it takes 10 to 60 seconds, where one of the whole cycle takes minutes.
+
+    stub.py CRATE COPY [FUNCTION]
+
+CRATE is crates/parser, COPY the same folder of a copy of the repository (with the other crates' out/). Its answers and invariants are
+taken from proofs/position/Parser/+grammar of CRATE, by their names; with no FUNCTION all of the cycle refuse, for a check of another
+function. In COPY: rt check --only position::Parser::FUNCTION --allow-holes
+"""
+import re,glob,sys,shutil,os
+src,base=(it.rstrip('/')+'/' for it in sys.argv[1:3])
+keep=set(sys.argv[3:])
+for d in ('specs','proofs'):
+    shutil.rmtree(base+d,ignore_errors=True); shutil.copytree(src+d,base+d)
+G=base+'proofs/position/Parser/+grammar/'
+def split(path):
+    # header and entries by 'pub NAME : goal...' or 'abbrev pub NAME'
+    if not os.path.exists(path): return '',[]
+    t=open(path).read()
+    parts=re.split(r'\n\n(?=(?:abbrev pub|pub|--|[a-z_]+[-\w]* :))',t)
+    return parts[0],parts[1:]
+def plain(k,text):
+    # goals without the function in front, and without the measure
+    return re.sub(r'(?:(?<=goal\.)|(?<![-\w+.]))'+k+r'-(?=[a-z])','',text)
+def needed(text):
+    # without the imports that nothing uses
+    body='\n'.join(x for x in text.split('\n') if not x.startswith('use '))
+    def line(x):
+        m=re.match(r'use (\S+)\.\{(.*)\}$',x)
+        if m is None: return x
+        names=[n for n in m.group(2).split(', ') if '◌' in n or re.search(r'(?<![-\w+])'+re.escape(n.split(' as ')[-1])+r'(?![-\w+])',body)]
+        return 'use '+m.group(1)+'.{'+', '.join(names)+'}' if names else None
+    return '\n'.join(y for y in map(line,text.split('\n')) if y is not None)
+for k in keep:
+    own=k=='pieces'
+    for f in ('Answers','Invariants'):
+        h,es=split(G+f+'.antt')
+        mine=[]
+        for e in es:
+            m=re.search(r'(?:^|\n)(?:abbrev )?pub ([\w\-\+]+) :',e)
+            if m is None:
+                if re.search(r'(?m)^[a-z]\w* :',e): mine.append(e)
+                continue
+            nm=m.group(1)
+            if nm.startswith(k+'-') or nm=='invariant-'+k or nm.startswith('invariant-'+k+'-') or nm.startswith('decreases-'+k+'-') or nm=='decreases-'+k and own:
+                if nm.startswith(('invariant-'+k+'-','decreases-'+k+'-')): e=e.replace(nm,nm.replace('-'+k+'-','-',1))
+                if not own:
+                    e=re.sub(r'(?m)^([\w\-\+]+) t c =',r'\1 c =',e)
+                    e=re.sub(r'(returns-[\w+-]*) t c\)',r'\1 c)',e)
+                mine.append(e)
+        if any('pub ' in e for e in mine):
+            d=base+'proofs/position/Parser/'+('+'+k if own else k); os.makedirs(d,exist_ok=True)
+            def used(x):
+                if 'Goals.{' not in x: return x
+                names=[n for n in x[x.index('{')+1:x.rindex('}')].split(', ') if any(re.search(r'(?<![-\w+.])'+re.escape(n)+r'(?![-\w+])',e) for e in mine)]
+                return x[:x.index('{')+1]+', '.join(names)+'}' if names else None
+            h2='\n'.join(x for x in map(used,h.split('\n')) if x is not None)
+            out='\n\n'.join([h2]+mine)
+            out=plain(k,out)
+            out=needed(out)
+            open(d+'/'+f+'.antt','w').write(out.replace('.+grammar.','.'+('+'+k if own else k)+'.')+'\n')
+shutil.rmtree(G,ignore_errors=True)
+for f in glob.glob(src+'src/*.rt'):
+    s=open(f).read()
+    out='';pos=0
+    while True:
+        i=s.find('#[cycle(grammar)]',pos)
+        if i<0: out+=s[pos:];break
+        out+=s[pos:i]
+        m=re.compile(r'\n(\s*)\{\n').search(s,i)
+        ind=m.group(1)
+        e=s.index('\n'+ind+'}\n',m.end()-1)
+        head=s[i+len('#[cycle(grammar)]'):m.start()]
+        fn=re.search(r'fn (\w+)',head).group(1)
+        body=s[m.start():e+len('\n'+ind+'}\n')]
+        if fn=='pieces' and fn in keep: out+='#[cycle(pieces)]'+head+body
+        elif fn in keep: out+=head.replace('#[inline(never)]','').lstrip()+body
+        else: out+=head.replace('#[inline(never)]','').lstrip()+'\n'+ind+'{\n'+ind+'    Err(Fault::OutOfMemory)\n'+ind+'}\n'
+        pos=e+len('\n'+ind+'}\n')
+    open(base+'src/'+os.path.basename(f),'w').write(out)
