@@ -5,7 +5,6 @@ use Rattle.std.proofs.lemmas.Slice.Eq.{bytes_eq-Decides}
 use Rattle.std.proofs.lemmas.Bool.Decides.{nat_tests}
 use Prim.Native.String.{String}
 use Rattle.language.specs.Words.{is, among, is_reserved}
-use Rattle.grammar.proofs.Flat.{both_true}
 
 -- the words of this length
 abbrev pub of_length : ℕ → List String → List String
@@ -47,6 +46,10 @@ of_usual_length (s ∷ ss) = (nat_le 2 (length (codes s)) && nat_le (length (cod
 
 not_equal : (k n : ℕ) → (nat_le 2 k && nat_le k 10) ≡ true → (2 ≤ k → k ≤ 10 → k ≢ n) → nat_eq k n ≡ false
 not_equal k n u h = grind (arith, nat_tests)
+
+both_true : (a b : Bool) → (a && b) ≡ true → (a ≡ true) × (b ≡ true)
+both_true true b e = (refl, e)
+both_true false b e = cc
 
 none_of_length : (n : ℕ) (ss : List String) → of_usual_length ss ≡ true → ((k : ℕ) → 2 ≤ k → k ≤ 10 → k ≢ n) → of_length n ss ≡ []
 none_of_length n [] u h = refl

@@ -1,7 +1,2 @@
-pub mod Sums
-pub mod Promises
-pub mod Layout
-pub mod Limits
-pub mod Bindings
-pub mod Nodes
-pub mod Laws
+pub mod Chains
+pub mod Ranks

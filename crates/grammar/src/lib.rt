@@ -1,8 +1,17 @@
 #![tactic(auto)]
 
-//! The first path's part of the language: operators and reserved words, with the definitions that say what a text derives.
+//! Words, operators, and the symbol at which an expression stands by itself.
 
-pub mod laws;
+mod chain;
+mod literals;
+mod operators;
+mod ranks;
+mod targets;
 mod words;
 
-pub use words::{Binding, binary_rank, is_integer, is_reserved, rank_of};
+pub use chain::{is_chained, is_link};
+pub use literals::{is_literal, literal_class};
+pub use operators::{is_assignment, is_prefix_operator, is_step};
+pub use ranks::rank_of;
+pub use targets::{is_pattern, is_target};
+pub use words::is_reserved;

@@ -1,74 +1,7 @@
-//! Operators and reserved words, and where nodes stand by their operators.
+//! Reserved words (ECMA-262 clause 11.6.2), by their length.
 
 ghost use Rattle.std.specs.Prelude.{◌≡◌, [], ◌∷◌};
-ghost use Rattle.tree.specs.Node.{node_tree};
 ghost use Rattle.language.specs.Words.{is_reserved, among};
-ghost use Rattle.grammar.specs.Sums.{sum_operator, is_integer};
-ghost use Rattle.tokens.specs.Alphabet.{is_decimal_digit};
-ghost use Rattle.std.specs.List.{list_all};
-ghost use Rattle.grammar.specs.Bindings.{bound_by};
-ghost use Rattle.grammar.specs.Layout.{rank_of};
-
-use language::Rank;
-use tree::{Kind, Node};
-
-/// The symbols that a binary operator binds.
-#[derive(Clone, Copy, Debug, PartialEq, Eq)]
-pub struct Binding {
-    /// That of the node which the operator makes, and of its left side.
-    pub own: Rank,
-    /// That of its right side.
-    pub right: Rank,
-}
-
-/// What a binary operator binds (ECMA-262 clauses 12.7 and 12.8); none where the text is no such operator.
-pub fn binary_rank(operator: &str) -> Option<Binding>
-    ensures { result ≡ bound_by (sum_operator operator.now) }
-{
-    let (own, right) = match operator {
-        "+" | "-" => (Rank::Additive, Rank::Multiplicative),
-        "*" | "/" => (Rank::Multiplicative, Rank::Exponentiation),
-        _ => return None,
-    };
-    Some(Binding { own, right })
-}
-
-/// The tightest symbol that can spell the node without a pair round it.
-pub fn rank_of(node: Node<'_, '_>) -> Rank
-    ensures { result ≡ rank_of (node_tree node.entry) }
-{
-    match node.kind() {
-        Kind::SequenceExpression => Rank::Expression,
-        Kind::BinaryExpression => match binary_rank(node.text()) {
-            Some(binding) => binding.own,
-            None => Rank::Primary,
-        },
-        _ => Rank::Primary,
-    }
-}
-
-/// Whether the text is a DecimalIntegerLiteral (ECMA-262 clause 11.8.3): one digit, or several of which the first isn't 0.
-pub fn is_integer(text: &str) -> bool
-    ensures { result ≡ is_integer text.now }
-{
-    match text.as_bytes() {
-        [] => false,
-        [digit] => digit.is_ascii_digit(),
-        [first, rest @ ..] => *first != b'0' && first.is_ascii_digit() && are_digits(rest),
-    }
-}
-
-// Whether all the bytes are decimal digits.
-fn are_digits(bytes: &[u8]) -> bool
-    ensures { result ≡ list_all is_decimal_digit bytes.now }
-{
-    for byte in bytes {
-        if !byte.is_ascii_digit() {
-            return false;
-        }
-    }
-    true
-}
 
 /// Whether strict code reserves the name (ECMA-262 clause 11.6.2), so that it is no identifier.
 pub fn is_reserved(name: &str) -> bool

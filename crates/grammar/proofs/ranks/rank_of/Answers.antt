@@ -1,0 +1,86 @@
+use Rattle.std.proofs.Common.{◌∙◌, ap}
+use Rattle.std.specs.Prelude.{not, nat_lt}
+use Rattle.tree.specs.Node.{node_tree}
+use Rattle.tree.specs.Tree.{text_of, flags_of, parts_of}
+use Rattle.tree.specs.declared.kind.Kind.TheVariants as kind
+use Rattle.language.specs.declared.Rank.TheVariants.{Expression, Assignment, Unary, Update, LeftHandSide, Call, Member, Primary}
+use Rattle.language.specs.Words.{is_reserved, is_prefix, operator_of}
+use Rattle.grammar.specs.Ranks.{rank_if, is_spelled_literal, binary_symbol, logical_symbol}
+use Rattle.grammar.proofs.Chained.{chained_first}
+use Rattle.grammar.proofs.Ranked.{stands, has_others, unranked}
+use Rattle.grammar.proofs.ranks.rank_of.Goals as goal
+
+pub returns-in-Identifier : goal.returns-in-Identifier
+returns-in-Identifier c = c.rank_if.ensures ∙ (ap (λ b. rank_if (not b) Primary) (c.is_reserved.ensures ∙ ap is_reserved c.text-text.ensures) ∙ stands kind.Identifier (node_tree c.args.node) c.in-Identifier.ensures)
+
+pub returns-in-Literal : goal.returns-in-Literal
+returns-in-Literal c = c.rank_if-in-Literal.ensures ∙ (ap (λ b. rank_if b Primary) (c.is_literal.ensures ∙ ap is_spelled_literal c.text-text.ensures) ∙ stands kind.Literal (node_tree c.args.node) c.in-Literal.ensures)
+
+pub returns-in-ThisExpression : goal.returns-in-ThisExpression
+returns-in-ThisExpression c = stands kind.ThisExpression (node_tree c.args.node) c.in-ThisExpression.ensures
+
+pub returns-in-ArrayExpression : goal.returns-in-ArrayExpression
+returns-in-ArrayExpression c = stands kind.ArrayExpression (node_tree c.args.node) c.in-ArrayExpression.ensures
+
+pub returns-in-ObjectExpression : goal.returns-in-ObjectExpression
+returns-in-ObjectExpression c = stands kind.ObjectExpression (node_tree c.args.node) c.in-ObjectExpression.ensures
+
+pub returns-in-FunctionExpression : goal.returns-in-FunctionExpression
+returns-in-FunctionExpression c = stands kind.FunctionExpression (node_tree c.args.node) c.in-FunctionExpression.ensures
+
+pub returns-in-ClassExpression : goal.returns-in-ClassExpression
+returns-in-ClassExpression c = stands kind.ClassExpression (node_tree c.args.node) c.in-ClassExpression.ensures
+
+pub returns-in-TemplateLiteral : goal.returns-in-TemplateLiteral
+returns-in-TemplateLiteral c = stands kind.TemplateLiteral (node_tree c.args.node) c.in-TemplateLiteral.ensures
+
+pub returns-in-TaggedTemplateExpression : goal.returns-in-TaggedTemplateExpression
+returns-in-TaggedTemplateExpression c = stands kind.TaggedTemplateExpression (node_tree c.args.node) c.in-TaggedTemplateExpression.ensures
+
+pub returns-in-NewExpression : goal.returns-in-NewExpression
+returns-in-NewExpression c = stands kind.NewExpression (node_tree c.args.node) c.in-NewExpression.ensures
+
+pub returns-in-MemberExpression : goal.returns-in-MemberExpression
+returns-in-MemberExpression c = c.rank_if-in-MemberExpression.ensures ∙ (ap (λ g. rank_if (not g.optional) Member) c.flags.ensures ∙ stands kind.MemberExpression (node_tree c.args.node) c.in-MemberExpression.ensures)
+
+pub returns-in-MetaProperty : goal.returns-in-MetaProperty
+returns-in-MetaProperty c = c.rank_if-in-MetaProperty.ensures ∙ (ap (λ b. rank_if b Member) c.is_new_target.ensures ∙ stands kind.MetaProperty (node_tree c.args.node) c.in-MetaProperty.ensures)
+
+pub returns-in-CallExpression : goal.returns-in-CallExpression
+returns-in-CallExpression c = c.rank_if-in-CallExpression.ensures ∙ (ap (λ g. rank_if (not g.optional) Call) c.flags-in-CallExpression.ensures ∙ stands kind.CallExpression (node_tree c.args.node) c.in-CallExpression.ensures)
+
+pub returns-in-ImportExpression : goal.returns-in-ImportExpression
+returns-in-ImportExpression c = stands kind.ImportExpression (node_tree c.args.node) c.in-ImportExpression.ensures
+
+pub returns-in-ChainExpression : goal.returns-in-ChainExpression
+returns-in-ChainExpression c = c.rank_if-in-ChainExpression.ensures ∙ (ap (λ b. rank_if b LeftHandSide) (c.is_chained.ensures ∙ chained_first (parts_of (node_tree c.args.node)) _ c.part.ensures) ∙ stands kind.ChainExpression (node_tree c.args.node) c.in-ChainExpression.ensures)
+
+pub returns-in-UpdateExpression : goal.returns-in-UpdateExpression
+returns-in-UpdateExpression c = c.rank_if-in-UpdateExpression.ensures ∙ (ap (λ b. rank_if b Update) c.can_step.ensures ∙ stands kind.UpdateExpression (node_tree c.args.node) c.in-UpdateExpression.ensures)
+
+pub returns-in-UnaryExpression : goal.returns-in-UnaryExpression
+returns-in-UnaryExpression c = c.rank_if-in-UnaryExpression.ensures ∙ (ap (λ b. rank_if b Unary) (c.is_prefix_operator.ensures ∙ ap is_prefix c.text-text.ensures) ∙ stands kind.UnaryExpression (node_tree c.args.node) c.in-UnaryExpression.ensures)
+
+pub returns-in-BinaryExpression : goal.returns-in-BinaryExpression
+returns-in-BinaryExpression c = c.binary_rank.ensures ∙ (ap (λ w. binary_symbol (operator_of w)) c.text-text.ensures ∙ stands kind.BinaryExpression (node_tree c.args.node) c.in-BinaryExpression.ensures)
+
+pub returns-in-LogicalExpression : goal.returns-in-LogicalExpression
+returns-in-LogicalExpression c = c.logical_rank.ensures ∙ (ap (λ w. logical_symbol (operator_of w)) c.text-text.ensures ∙ stands kind.LogicalExpression (node_tree c.args.node) c.in-LogicalExpression.ensures)
+
+pub returns-in-ConditionalExpression : goal.returns-in-ConditionalExpression
+returns-in-ConditionalExpression c = stands kind.ConditionalExpression (node_tree c.args.node) c.in-ConditionalExpression.ensures
+
+pub returns-in-ArrowFunctionExpression : goal.returns-in-ArrowFunctionExpression
+returns-in-ArrowFunctionExpression c = stands kind.ArrowFunctionExpression (node_tree c.args.node) c.in-ArrowFunctionExpression.ensures
+
+pub returns-in-AssignmentExpression : goal.returns-in-AssignmentExpression
+returns-in-AssignmentExpression c = c.rank_if-in-AssignmentExpression.ensures ∙ (ap (λ b. rank_if b Assignment) c.can_assign.ensures ∙ stands kind.AssignmentExpression (node_tree c.args.node) c.in-AssignmentExpression.ensures)
+
+pub returns-in-SequenceExpression : goal.returns-in-SequenceExpression
+returns-in-SequenceExpression c = c.rank_if-in-SequenceExpression.ensures ∙ (ap (λ b. rank_if b Expression) (ap (nat_lt 1) c.part_count.ensures ∙ has_others (parts_of (node_tree c.args.node))) ∙ stands kind.SequenceExpression (node_tree c.args.node) c.in-SequenceExpression.ensures)
+
+pub returns-in_default : goal.returns-in_default
+returns-in_default c =
+    let n = node_tree c.args.node in
+    let d = c.in_default in
+    unranked c.kind.result (text_of n) (flags_of n) (parts_of n) (d.not-Identifier, (d.not-Literal, (d.not-ThisExpression, (d.not-ArrayExpression, (d.not-ObjectExpression, (d.not-FunctionExpression, (d.not-ClassExpression, (d.not-TemplateLiteral, (d.not-TaggedTemplateExpression, (d.not-NewExpression, (d.not-MemberExpression, (d.not-MetaProperty, (d.not-CallExpression, (d.not-ImportExpression, (d.not-ChainExpression, (d.not-UpdateExpression, (d.not-UnaryExpression, (d.not-BinaryExpression, (d.not-LogicalExpression, (d.not-ConditionalExpression, (d.not-ArrowFunctionExpression, (d.not-AssignmentExpression, (d.not-SequenceExpression, tt))))))))))))))))))))))) ∙ stands c.kind.result n c.kind.ensures

@@ -1,0 +1,68 @@
+-- The symbol at which an expression of each kind can be spelled directly.
+use Rattle.std.specs.Prelude.{ℕ, Bool, true, false, not, cond, ◌&&◌, ◌||◌, List, [], ◌∷◌, Option, Some, None}
+use Rattle.std.specs.Str.{bytes_eq}
+use Rattle.tree.specs.declared.kind.Kind.{Kind}
+use Rattle.tree.specs.declared.kind.Kind.TheVariants.{Identifier, Literal, ThisExpression, ArrayExpression, ObjectExpression, FunctionExpression, ArrowFunctionExpression, ClassExpression, TemplateLiteral, TaggedTemplateExpression, MemberExpression, CallExpression, NewExpression, MetaProperty, ImportExpression, ChainExpression, UpdateExpression, UnaryExpression, BinaryExpression, LogicalExpression, ConditionalExpression, AssignmentExpression, SequenceExpression}
+use Rattle.tree.specs.declared.kind.Flags.{Flags}
+use Rattle.tree.specs.Tree.{Tree, Parts, text_of}
+use Rattle.language.specs.declared.Rank.{Rank}
+use Rattle.language.specs.declared.Rank.TheVariants.{Expression, Assignment, Conditional, Exponentiation, Unary, Update, LeftHandSide, Call, Member, Primary}
+use Rattle.language.specs.FirstPart.{lead, others}
+use Rattle.language.specs.Words.{is, among, Operator, binds, powers, operator_of, is_assignment, is_step, is_prefix, is_reserved, literal_class, is_name, is_target, is_pattern}
+use Rattle.language.specs.Pieces.{is_none}
+use Rattle.language.specs.Expressions.{first_chained, lead_is}
+use Rattle.language.specs.Grammar.{standard}
+
+-- of the names only `true`, `false` and `null` are literals
+abbrev pub is_spelled_literal : List ℕ → Bool
+is_spelled_literal w = not (is_name (literal_class w) && not (among w ("true" ∷ "false" ∷ "null" ∷ [])))
+
+-- the symbol of the node that a binary operator makes
+abbrev pub binary_symbol : Operator → Option Rank
+binary_symbol (binds false z q) = Some (standard z)
+binary_symbol powers = Some Exponentiation
+binary_symbol _ = None
+
+-- the symbol of the node that a logical operator makes
+abbrev pub logical_symbol : Operator → Option Rank
+logical_symbol (binds true z q) = Some (standard z)
+logical_symbol _ = None
+
+-- what an assignment's operator can assign to
+abbrev pub is_assigned : List ℕ → Kind → Bool
+is_assigned w k = is_target k || (is w "=" && is_pattern k)
+
+abbrev pub rank_if : Bool → Rank → Option Rank
+rank_if b z = cond b (Some z) None
+
+-- the part is there and has this text
+abbrev pub is_text : Option Tree → List ℕ → Bool
+is_text None v = false
+is_text (Some n) v = bytes_eq (text_of n) v
+
+-- by kind, text, flags and parts
+abbrev pub rank_by : Kind → List ℕ → Flags → Parts → Option Rank
+rank_by Identifier w g ps = rank_if (not (is_reserved w)) Primary
+rank_by Literal w g ps = rank_if (is_spelled_literal w) Primary
+rank_by ThisExpression w g ps = Some Primary
+rank_by ArrayExpression w g ps = Some Primary
+rank_by ObjectExpression w g ps = Some Primary
+rank_by FunctionExpression w g ps = Some Primary
+rank_by ClassExpression w g ps = Some Primary
+rank_by TemplateLiteral w g ps = Some Primary
+rank_by ArrowFunctionExpression w g ps = Some Assignment
+rank_by TaggedTemplateExpression w g ps = Some Member
+rank_by MemberExpression w g ps = rank_if (not g.optional) Member
+rank_by CallExpression w g ps = rank_if (not g.optional) Call
+rank_by NewExpression w g ps = Some Member
+rank_by MetaProperty w g ps = rank_if (lead_is ps "new" && lead_is (others ps) "target") Member
+rank_by ImportExpression w g ps = Some Call
+rank_by ChainExpression w g ps = rank_if (first_chained ps) LeftHandSide
+rank_by UpdateExpression w g ps = rank_if (is_step w && is_target (lead ps)) Update
+rank_by UnaryExpression w g ps = rank_if (is_prefix w) Unary
+rank_by BinaryExpression w g ps = binary_symbol (operator_of w)
+rank_by LogicalExpression w g ps = logical_symbol (operator_of w)
+rank_by ConditionalExpression w g ps = Some Conditional
+rank_by AssignmentExpression w g ps = rank_if (is_assignment w && is_assigned w (lead ps)) Assignment
+rank_by SequenceExpression w g ps = rank_if (not (is_none (others ps))) Expression
+rank_by _ w g ps = None

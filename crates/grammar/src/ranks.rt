@@ -1,0 +1,104 @@
+//! The symbol at which an expression stands by itself, without parentheses.
+
+ghost use Rattle.std.specs.Prelude.{◌≡◌, not, ◌&&◌, option_map};
+ghost use Rattle.tree.specs.Node.{node_tree};
+ghost use Rattle.tree.specs.Tree.{text_of, parts_of};
+ghost use Rattle.language.specs.FirstPart.{lead, others};
+ghost use Rattle.language.specs.Words.{is_step as is_step_text, is_target as is_target_kind, is_assignment as is_assignment_text};
+ghost use Rattle.language.specs.Expressions.{lead_is};
+ghost use Rattle.language.specs.Pieces.{is_none};
+ghost use Rattle.language.specs.Grammar.{rank_of};
+ghost use Rattle.grammar.specs.Ranks.{rank_if, is_assigned, is_text};
+
+use crate::chain::is_chained;
+use crate::literals::is_literal;
+use crate::operators::{binary_rank, is_assignment, is_prefix_operator, is_step, logical_rank};
+use crate::targets::{is_pattern, is_target};
+use crate::words::is_reserved;
+use language::Rank;
+use tree::{Kind, Node};
+
+/// The tightest symbol that can spell the node without a pair round it; none where it is no expression.
+pub fn rank_of(node: Node<'_, '_>) -> Option<Rank>
+    ensures { result ≡ rank_of (node_tree node.entry) }
+{
+    let text = node.text();
+    match node.kind() {
+        Kind::Identifier => rank_if(!is_reserved(text), Rank::Primary),
+        Kind::Literal => rank_if(is_literal(text), Rank::Primary),
+        Kind::ThisExpression => Some(Rank::Primary),
+        Kind::ArrayExpression => Some(Rank::Primary),
+        Kind::ObjectExpression => Some(Rank::Primary),
+        Kind::FunctionExpression => Some(Rank::Primary),
+        Kind::ClassExpression => Some(Rank::Primary),
+        Kind::TemplateLiteral => Some(Rank::Primary),
+        Kind::TaggedTemplateExpression => Some(Rank::Member),
+        Kind::NewExpression => Some(Rank::Member),
+        Kind::MemberExpression => rank_if(!node.flags().optional, Rank::Member),
+        Kind::MetaProperty => rank_if(is_new_target(node), Rank::Member),
+        Kind::CallExpression => rank_if(!node.flags().optional, Rank::Call),
+        Kind::ImportExpression => Some(Rank::Call),
+        Kind::ChainExpression => rank_if(is_chained(node.part(0)), Rank::LeftHandSide),
+        Kind::UpdateExpression => rank_if(can_step(node), Rank::Update),
+        Kind::UnaryExpression => rank_if(is_prefix_operator(text), Rank::Unary),
+        Kind::BinaryExpression => binary_rank(text),
+        Kind::LogicalExpression => logical_rank(text),
+        Kind::ConditionalExpression => Some(Rank::Conditional),
+        Kind::ArrowFunctionExpression => Some(Rank::Assignment),
+        Kind::AssignmentExpression => rank_if(can_assign(node), Rank::Assignment),
+        Kind::SequenceExpression => rank_if(node.part_count() > 1, Rank::Expression),
+        _ => None,
+    }
+}
+
+fn rank_if(holds: bool, rank: Rank) -> Option<Rank>
+    ensures { result ≡ rank_if holds rank }
+{
+    if holds {
+        return Some(rank);
+    }
+    None
+}
+
+/// The kind of the first part, that of the Program where there is none.
+fn first_kind(node: Node<'_, '_>) -> Kind
+    ensures { result ≡ lead (parts_of (node_tree node.entry)) }
+{
+    match node.part(0) {
+        Some(part) => part.kind(),
+        None => Kind::Program,
+    }
+}
+
+/// Whether it is an update of a simple target.
+fn can_step(node: Node<'_, '_>) -> bool
+    ensures { result ≡ (is_step_text (text_of (node_tree node.entry)) && is_target_kind (lead (parts_of (node_tree node.entry)))) }
+{
+    is_step(node.text()) && is_target(first_kind(node))
+}
+
+/// Whether it assigns to what its operator can assign to: a pattern behind `=` alone.
+fn can_assign(node: Node<'_, '_>) -> bool
+    ensures { result ≡ (is_assignment_text (text_of (node_tree node.entry)) && is_assigned (text_of (node_tree node.entry)) (lead (parts_of (node_tree node.entry)))) }
+{
+    let operator = node.text();
+    let target = first_kind(node);
+    is_assignment(operator) && (is_target(target) || operator == "=" && is_pattern(target))
+}
+
+/// Whether it is `new.target`.
+fn is_new_target(node: Node<'_, '_>) -> bool
+    ensures { result ≡ (lead_is (parts_of (node_tree node.entry)) "new" && lead_is (others (parts_of (node_tree node.entry))) "target") }
+{
+    is_word(node.part(0), "new") && is_word(node.part(1), "target")
+}
+
+/// Whether the part is there and has this text.
+fn is_word(part: Option<Node<'_, '_>>, word: &str) -> bool
+    ensures { result ≡ is_text (option_map node_tree part.entry) word.now }
+{
+    match part {
+        Some(part) => part.text() == word,
+        None => false,
+    }
+}
