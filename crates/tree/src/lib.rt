@@ -4,16 +4,23 @@
 
 mod copy;
 mod kind;
+mod list;
 mod node;
 mod parts;
 mod program;
 mod syntax;
+mod views;
 mod walk;
 
 pub use copy::try_copy;
 pub use kind::{Flags, Form, Kind, Pair, Span};
+pub use list::NodeList;
 pub use node::Node;
 pub use parts::Parts;
 pub use program::Program;
 pub use syntax::Syntax;
+pub use views::{
+    CatchClause, Class, ClassBody, Expression, Function, MethodDefinition, Pattern, Property,
+    SpreadElement, Statement, SwitchCase, TemplateElement, VariableDeclarator,
+};
 pub use walk::{height, same_tree};

@@ -3,9 +3,10 @@
 
 ghost use Rattle.std.specs.Prelude.{◌≡◌, option_map};
 ghost use Rattle.tree.specs.Tree.{kind_of, text_of, flags_of, start_of, stop_of, parts_of, part_count, part_at};
-ghost use Rattle.tree.specs.Node.{node_tree};
+ghost use Rattle.tree.specs.Node.{node_tree, list_parts};
 
 use crate::kind::{Flags, Kind, Span};
+use crate::list::NodeList;
 use crate::syntax::Syntax;
 
 /// A node of a tree, by reference; none of its calls takes memory or more than a few steps.
@@ -72,5 +73,12 @@ impl<'t, 's> Node<'t, 's> {
             Some(None) => None,
             None => None,
         }
+    }
+    /// All its parts.
+    pub fn parts(self) -> NodeList<'t, 's>
+        ensures { list_parts result ≡ parts_of (node_tree self.entry) }
+    {
+        let syntax = self.syntax;
+        NodeList::new(syntax.parts.as_slice())
     }
 }

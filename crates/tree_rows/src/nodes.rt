@@ -6,6 +6,8 @@ mod print;
 mod sketch;
 mod statements;
 mod structures;
+mod viewed;
+mod views;
 
 use Sketch::{Gap, Name, Node};
 use expressions::expressions;
@@ -19,6 +21,8 @@ use std::process::Abort;
 use std::test::Fail;
 use structures::structures;
 use tree::{Kind, Parts, Program, Span, Syntax, height, same_tree, try_copy};
+use viewed::viewed;
+use views::views;
 
 /// The height at which scripts are still read.
 const LIMIT: u32 = 500;
@@ -221,5 +225,19 @@ fn trees_at_the_limit_are_walked(rt: HostRuntime) -> Result<(), Fail> {
     assert!(rt; !same_tree(&program, &lower));
     let copy = try_copy(alloc, &program)?;
     assert!(rt; same_tree(&program, &copy));
+    Ok(())
+}
+
+#[test]
+fn views_show_the_fields_of_each_kind(rt: HostRuntime) -> Result<(), Fail> {
+    let alloc = rt.alloc();
+    for (sketch, want) in viewed() {
+        let program = script(alloc, &[*sketch], 0)?;
+        let shown = match program.root().part(0) {
+            Some(node) => views(alloc, node)?,
+            None => String::new(alloc),
+        };
+        assert_eq!(rt; shown.as_str(), *want);
+    }
     Ok(())
 }
