@@ -11,17 +11,15 @@ use Rattle.language.specs.declared.Start.{Start}
 use Rattle.language.specs.declared.Start.TheVariants.{Any}
 use Rattle.language.specs.Pieces.{Role, expr, PieceOf, Slot}
 use Rattle.language.specs.Expressions.{chained, first_chained}
-use Rattle.language.specs.Grammar.{ways, own_rank, own_in, own_start}
+use Rattle.language.specs.Grammar.{ways}
 use Rattle.language.specs.Positions.{first_roles, widest}
 use Rattle.language.specs.Layout.{some_way}
 use Rattle.language.specs.Cost.{add_cost, if_any, least, parts_least, cell}
 use Rattle.positions.specs.declared.spelled.Spelled.{Spelled}
 use Rattle.positions.specs.Spelled.{fits_outline, settled_roles, Verdict}
-use Rattle.positions.specs.declared.position.Slot as slot
-use Rattle.positions.specs.declared.spelling.Positions.{Positions}
-use Rattle.positions.specs.Outlines.{slot_of}
-use Rattle.positions.specs.Remaining.{left, Taken}
+use Rattle.positions.specs.Remaining.{left}
 use Rattle.positions.specs.Wherever.{with_own, spelled_roles, IsSpelledWherever}
+use Rattle.positions.proofs.Walked.{spelled_here}
 use Rattle.paren_planner.specs.declared.costs.Costs as own
 use Rattle.paren_planner.specs.declared.weighed.Weighed.{Weighed}
 use Rattle.paren_planner.specs.declared.table.Row.{Row}
@@ -29,7 +27,7 @@ use Rattle.paren_planner.specs.Costs.{capped, capped_sum, each, sums, same_every
 use Rattle.paren_planner.specs.Weighed.{fits_any, settled_at, uses, fitting, sums_over, IsWeighed}
 use Rattle.paren_planner.specs.Rows.{row_with, row_of, is_expression, table_rows, parts_table}
 use Rattle.paren_planner.proofs.Sums.{capped-add, sums-assoc, sums-zero, sums-none}
-use Rattle.paren_planner.proofs.Known.{own_again, own_widest, fits_widest, use_known}
+use Rattle.paren_planner.proofs.Known.{own_widest, fits_widest, use_known}
 
 -- Steps over parts
 
@@ -119,14 +117,14 @@ weighed_none a n h = record {
 pub roles_some : (a : Role) (n : Tree) (x : Spelled) → IsSpelledWherever (widest a) n (Some x) → first_roles (ways (widest a) n) ≡ settled_roles (widest a) (left x.slots)
 roles_some a n x h =
     let b = widest a in
-    let v : Verdict (ways b n) (spelled_roles b (Some x)) = subst (λ u. Verdict (ways u n) (spelled_roles u (Some x))) (own_again b) (h (own_rank b) (own_in b) (own_start b)) in
+    let v : Verdict (ways b n) (spelled_roles b (Some x)) = spelled_here b n (Some x) h in
     let w : Verdict (ways b n) (Some (settled_roles b (left x.slots))) = subst (λ u. Verdict (ways b n) (cond u (Some (settled_roles b (left x.slots))) None)) (fits_widest a x.outline) v in
     w.1
 
 pub roles_none : (a : Role) (n : Tree) → IsSpelledWherever (widest a) n None → first_roles (ways (widest a) n) ≡ []
 roles_none a n h =
     let b = widest a in
-    let v : ways b n ≡ [] = subst (λ u. ways u n ≡ []) (own_again b) (h (own_rank b) (own_in b) (own_start b)) in
+    let v : ways b n ≡ [] = spelled_here b n None h in
     ap first_roles v
 
 pub rows_inside : (n : Tree) (a : Role) → is_expression a ≡ false → table_rows n a ≡ parts_table (parts_of n) (first_roles (ways (widest a) n))
@@ -150,14 +148,6 @@ chained_part (node k w g s e (gap ps)) u h p = absurd (cc)
 chained_part (node k w g s e (part t ps)) u h p = let same : u ≡ t = cc in ap chained same ∙ h
 
 -- The turns of the loop over parts
-
-pub taken_some : (xs : List Slot) (q : Positions) (x : slot.Slot × Positions) → Taken xs q (Some x) → xs ≡ slot_of x.0 ∷ left x.1
-taken_some [] q x h = elim h [ ]
-taken_some (s ∷ xs) q x h = λ j. sym h.0 j ∷ sym h.1 j
-
-pub taken_none : (xs : List Slot) (q : Positions) → Taken xs q None → xs ≡ []
-taken_none [] q h = refl
-taken_none (s ∷ xs) q h = elim h [ ]
 
 pub sums_turn : (s t T : own.Costs) (P Q : Parts) (u : Tree) (a : Role) (x : Slot) (xs ys : List Slot) (w : Weighed) →
     sums s (sums_over P a xs) ≡ T → P ≡ part u Q → xs ≡ x ∷ ys → IsWeighed (settled_at a x) u w → t ≡ sums s (uses a x w) → sums t (sums_over Q a ys) ≡ T

@@ -18,6 +18,7 @@ use Rattle.positions.specs.declared.outline.Outline.{Outline}
 use Rattle.positions.specs.Outlines.{opens_at}
 use Rattle.positions.specs.Spelled.{fits_outline}
 use Rattle.positions.specs.Wherever.{with_own}
+use Rattle.positions.proofs.Walked.{own_again}
 use Rattle.paren_planner.specs.declared.costs.Costs as own
 use Rattle.paren_planner.specs.declared.weighed.Weighed.{Weighed}
 use Rattle.paren_planner.specs.Costs.{capped, capped_sum, started_at, each, cost_at, cells_at}
@@ -25,12 +26,6 @@ use Rattle.paren_planner.specs.Weighed.{fits_any, least_of, settled_at, IsWeighe
 use Rattle.paren_planner.proofs.Sums.{capped-one, capped-lesser}
 
 -- Positions with their own symbol, In and start
-
-pub own_again : (a : Role) → with_own (own_rank a) (own_in a) (own_start a) a ≡ a
-own_again (expr y i f) = refl
-own_again (spine f) = refl
-own_again (pattern b f) = refl
-own_again _ = refl
 
 pub own_widest : (y : Rank) (i : Bool) (f : Start) (a : Role) → with_own y i f (widest a) ≡ with_own y i f a
 own_widest y i f (expr z j x) = refl

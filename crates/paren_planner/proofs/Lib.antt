@@ -11,3 +11,4 @@ pub mod Bounded
 pub mod Heavy
 pub mod Bytes
 pub mod Plans
+mod ExtraExamples

@@ -6,7 +6,7 @@ use Rattle.tree.specs.Tree.{Tree, node, Parts, none, part, gap, parts_of}
 use Rattle.language.specs.declared.Rank.TheVariants.{Expression}
 use Rattle.language.specs.declared.Start.TheVariants.{Any}
 use Rattle.language.specs.Pieces.{Role, expr, script, Slot}
-use Rattle.language.specs.Grammar.{ways, own_rank, own_in, own_start}
+use Rattle.language.specs.Grammar.{ways}
 use Rattle.language.specs.Positions.{first_roles, widest, has_row, rows, parts_rows}
 use Rattle.language.specs.Layout.{some_way, exceeds, wants_pair, inside}
 use Rattle.language.specs.Cost.{add_cost, least, cell, cell_position}
@@ -14,13 +14,14 @@ use Rattle.positions.specs.declared.spelled.Spelled.{Spelled}
 use Rattle.positions.specs.Spelled.{fits_outline, settled_roles, Verdict}
 use Rattle.positions.specs.Remaining.{left}
 use Rattle.positions.specs.Wherever.{spelled_roles, IsSpelledWherever}
+use Rattle.positions.proofs.Walked.{spelled_here}
 use Rattle.paren_planner.specs.declared.costs.Costs as own
 use Rattle.paren_planner.specs.declared.table.Row.{Row}
 use Rattle.paren_planner.specs.Costs.{capped, capped_sum, cells_at}
 use Rattle.paren_planner.specs.Weighed.{settled_at, cost_of, fits_spelled}
 use Rattle.paren_planner.specs.Rows.{row_of, is_expression, own_row, table_rows, parts_table}
 use Rattle.paren_planner.specs.Wrapped.{unwrapped, flags, parts_flags, inner_flags, HasRows}
-use Rattle.paren_planner.proofs.Known.{own_again, fits_widest, counted}
+use Rattle.paren_planner.proofs.Known.{fits_widest, counted}
 use Rattle.paren_planner.proofs.Filled.{way_when, rows_inside}
 use Rattle.paren_planner.proofs.Bounds.{Below, below_more, cell_below, least_below, widest-cell, capped_below, sum_below, rows_inner}
 use Rattle.paren_planner.proofs.Wrapping.{parts-rows, parts-table, widest_own, flags-length, rows-empty}
@@ -155,15 +156,12 @@ table_below b n x h = ap (parts_table (parts_of n)) (widely_known b n x h) ∙ p
 pub rows_below : (b : Role) (n : Tree) (x : Spelled) → IsSpelledWherever b n (Some x) → parts_rows (parts_of n) (first_roles (ways (widest b) n)) ≡ parts_rows (parts_of n) (settled_roles b (left x.slots))
 rows_below b n x h = ap (parts_rows (parts_of n)) (widely_known b n x h) ∙ parts-rows (parts_of n) (widest b) b (left x.slots)
 
-here : (b : Role) (n : Tree) (r : Option Spelled) → IsSpelledWherever b n r → Verdict (ways b n) (spelled_roles b r)
-here b n r h = subst (λ u. Verdict (ways u n) (spelled_roles u r)) (own_again b) (h (own_rank b) (own_in b) (own_start b))
-
 pub inner_some : (b : Role) (n : Tree) (x : Spelled) (lives : Bool) → IsSpelledWherever b n (Some x) →
     cond (lives && fits_outline b x.outline) (parts_flags (parts_of n) (settled_roles b (left x.slots))) (unwrapped (parts_rows (parts_of n) (settled_roles b (left x.slots))))
     ≡ cond lives (inner_flags n b) (unwrapped (parts_rows (parts_of n) (first_roles (ways (widest b) n))))
 unfolding inner_flags
 inner_some b n x false h = ap unwrapped (sym (rows_below b n x h))
-inner_some b n x true h = of (fits_outline b x.outline) (here b n (Some x) h)
+inner_some b n x true h = of (fits_outline b x.outline) (spelled_here b n (Some x) h)
   where
     of : (v : Bool) → Verdict (ways b n) (cond v (Some (settled_roles b (left x.slots))) None) →
         cond v (parts_flags (parts_of n) (settled_roles b (left x.slots))) (unwrapped (parts_rows (parts_of n) (settled_roles b (left x.slots))))
@@ -183,7 +181,7 @@ inner_none b n lives h = of lives
 
     of : (l : Bool) → [] ≡ cond l (cond (some_way (ways b n)) (parts_flags (parts_of n) (first_roles (ways b n))) (unwrapped (parts_rows (parts_of n) (first_roles (ways (widest b) n))))) (unwrapped (parts_rows (parts_of n) (first_roles (ways (widest b) n))))
     of false = sym empty
-    of true = sym (ap (λ u. cond (some_way u) (parts_flags (parts_of n) (first_roles u)) (unwrapped (parts_rows (parts_of n) (first_roles (ways (widest b) n))))) (here b n None h) ∙ empty)
+    of true = sym (ap (λ u. cond (some_way u) (parts_flags (parts_of n) (first_roles u)) (unwrapped (parts_rows (parts_of n) (first_roles (ways (widest b) n))))) (spelled_here b n None h) ∙ empty)
 
 -- A node
 
@@ -220,8 +218,8 @@ wanted n (expr y i f) r c h s l e =
     (λ j. exceeds (cond (fit j) (direct j) None) (around j))
   where
     way_spelled : (b : Role) (n : Tree) (r : Option Spelled) → IsSpelledWherever b n r → some_way (ways b n) ≡ fits_spelled b r
-    way_spelled b n None k = ap some_way (here b n None k)
-    way_spelled b n (Some x) k = way_when (ways b n) (spelled_roles b (Some x)) (here b n (Some x) k) (fits_outline b x.outline) (settled_roles b (left x.slots)) refl
+    way_spelled b n None k = ap some_way (spelled_here b n None k)
+    way_spelled b n (Some x) k = way_when (ways b n) (spelled_roles b (Some x)) (spelled_here b n (Some x) k) (fits_outline b x.outline) (settled_roles b (left x.slots)) refl
 wanted n _ r c h s l e = absurd (cc)
 
 pub spelled_inside : (n : Tree) (a : Role) (b : Bool) (r : Option Spelled) → is_expression a ≡ true → IsSpelledWherever a n r → IsSpelledWherever (inside b a) n r

@@ -18,7 +18,8 @@ use Rattle.positions.proofs.Wherever.{found_roles, AnySpelling, any_spelling}
 use Rattle.paren_planner.specs.Weighed.{settled_at}
 use Rattle.paren_planner.specs.Rows.{table_rows, parts_table}
 use Rattle.paren_planner.specs.Wrapped.{own_flag, unwrapped, flags, parts_flags, is_flagged}
-use Rattle.paren_planner.proofs.Known.{own_again, fits_widest}
+use Rattle.positions.proofs.Walked.{own_again}
+use Rattle.paren_planner.proofs.Known.{fits_widest}
 
 -- The rows of a part don't depend on its node's own symbol, In and start.
 

@@ -5,3 +5,4 @@ pub mod Wrapped
 pub mod Laws
 pub mod Tables
 pub mod Plans
+pub mod Extra

@@ -1,6 +1,6 @@
 //! The rows of a table, in one pass from the leaves up.
 
-ghost use Rattle.std.specs.Prelude.{◌≡◌, ◌++◌, ◌&&◌, nat_eq, true, IfOk, OnOk};
+ghost use Rattle.std.specs.Prelude.{◌≡◌, ◌++◌, true, IfOk, OnOk};
 ghost use Rattle.tree.specs.Node.{node_tree};
 ghost use Rattle.tree.specs.Tree.{parts_of};
 ghost use Rattle.language.specs.Expressions.{chained, first_chained};
@@ -15,7 +15,7 @@ ghost use Rattle.paren_planner.specs.Weighed.{IsWeighed, sums_over};
 use crate::costs::Costs;
 use crate::table::CostTable;
 use crate::weighed::{Weighed, fitting, uses, widest};
-use positions::{Position, Spelled, node_spelling, settled};
+use positions::{Position, Spelled, leads_chain, node_spelling, settled};
 use std::alloc::AllocError;
 use tree::Node;
 
@@ -103,11 +103,4 @@ pub(crate) fn has_row(position: Position) -> bool
     ensures { result ≡ is_expression (role_of position) }
 {
     matches!(position, Position::Expression { .. })
-}
-
-/// Whether the part at a place is part of a chain, with a `?.` in it or below it, by what is known of the first.
-pub(crate) fn leads_chain(holds_chain: bool, index: usize) -> bool
-    ensures { result ≡ (holds_chain && nat_eq index 0) }
-{
-    holds_chain && index == 0
 }

@@ -4,6 +4,7 @@
 
 mod amount;
 mod costs;
+mod extra;
 mod fill;
 pub mod laws;
 mod planned;
@@ -12,6 +13,7 @@ mod table;
 mod weighed;
 mod wrap;
 
+pub use extra::extra_pairs;
 pub use planned::Plan;
 pub use planner::{plan, plan_if_any};
 pub use table::CostTable;

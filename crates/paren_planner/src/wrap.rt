@@ -18,11 +18,11 @@ ghost use Rattle.paren_planner.specs.Wrapped.{flags, inner_flags, parts_flags, u
 
 use crate::amount::{exceeds, sum};
 use crate::costs::Costs;
-use crate::fill::{has_row, leads_chain};
+use crate::fill::has_row;
 use crate::table::CostTable;
 use crate::weighed::cost_at;
 use language::{Rank, Start};
-use positions::{Outline, Position, Spelled, fits, node_spelling, settled};
+use positions::{Outline, Position, Spelled, fits, leads_chain, node_spelling, settled};
 use std::alloc::AllocError;
 use tree::Node;
 

@@ -17,3 +17,6 @@ pub mod StatementTable
 pub mod Ways
 pub mod Wherever
 pub mod Slots
+pub mod Walked
+pub mod Starting
+mod GroupingExamples

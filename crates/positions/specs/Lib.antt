@@ -9,3 +9,4 @@ pub mod Positions
 pub mod Spelled
 pub mod Remaining
 pub mod Wherever
+pub mod Groupings

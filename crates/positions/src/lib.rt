@@ -10,6 +10,7 @@ mod leaves;
 mod members;
 mod nodes;
 mod outline;
+mod pairs;
 mod position;
 mod properties;
 mod spelled;
@@ -21,6 +22,7 @@ mod words;
 
 pub use nodes::node_positions;
 pub use outline::Outline;
+pub use pairs::{Grouping, groupings};
 pub use position::{Position, Slot};
-pub use spelled::{Spelled, node_spelling};
+pub use spelled::{Spelled, leads_chain, node_spelling};
 pub use spelling::{Positions, expression_positions, fits, settled};

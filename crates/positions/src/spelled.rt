@@ -1,6 +1,6 @@
 //! How a node is spelled at a position, whatever symbol, In and start it has there.
 
-ghost use Rattle.std.specs.Prelude.{◌≡◌, true, IfSome};
+ghost use Rattle.std.specs.Prelude.{◌≡◌, ◌&&◌, nat_eq, true, IfSome};
 ghost use Rattle.tree.specs.Node.{node_tree};
 ghost use Rattle.tree.specs.Tree.{kind_of, parts_of};
 ghost use Rattle.language.specs.Expressions.{chained as is_chained_tree, first_chained};
@@ -77,4 +77,11 @@ fn begins_with_spine(front: Front) -> bool
         front,
         Front::One(Slot::LeadSpine) | Front::Two(Slot::LeadSpine, _)
     )
+}
+
+/// Whether the part at a place, counted from 0, is part of a chain, with a `?.` in it or below it, by what is known of the first.
+pub fn leads_chain(holds_chain: bool, index: usize) -> bool
+    ensures { result ≡ (holds_chain && nat_eq index 0) }
+{
+    holds_chain && index == 0
 }

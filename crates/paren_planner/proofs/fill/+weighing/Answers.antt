@@ -14,8 +14,9 @@ use Rattle.paren_planner.specs.Costs.{sums, same_everywhere}
 use Rattle.paren_planner.specs.Weighed.{settled_at, sums_over, IsWeighed}
 use Rattle.paren_planner.proofs.Sums.{zero-sums, zero-zero}
 use Rattle.paren_planner.specs.Rows.{table_rows, parts_table, row_with}
+use Rattle.positions.proofs.Walked.{taken_some, taken_none}
 use Rattle.paren_planner.proofs.Results.{on_ok}
-use Rattle.paren_planner.proofs.Filled.{taken_some, taken_none, sums_turn, whole_turn, sums_skip, sums_stop, sums_finish, rows_turn, rows_skip, rows_stop, rows_finish, chained_at, inside_none, inside_none_rows, inside_some, inside_some_rows, rows_inside, rows_own, row_within}
+use Rattle.paren_planner.proofs.Filled.{sums_turn, whole_turn, sums_skip, sums_stop, sums_finish, rows_turn, rows_skip, rows_stop, rows_finish, chained_at, inside_none, inside_none_rows, inside_some, inside_some_rows, rows_inside, rows_own, row_within}
 use Rattle.paren_planner.proofs.fill.+weighing.Goals as goal
 
 pub weigh_node-returns-then-not-has_row-clause-rows : goal.weigh_node-returns-then-not-has_row-clause-rows

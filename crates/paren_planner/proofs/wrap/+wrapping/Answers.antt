@@ -12,8 +12,9 @@ use Rattle.paren_planner.specs.Weighed.{settled_at}
 use Rattle.paren_planner.specs.Rows.{table_rows}
 use Rattle.paren_planner.specs.Wrapped.{flags, parts_flags, unwrapped, HasRows}
 use Rattle.positions.specs.Wherever.{IsSpelledWherever}
+use Rattle.positions.proofs.Walked.{taken_some, taken_none}
 use Rattle.paren_planner.proofs.Results.{on_ok}
-use Rattle.paren_planner.proofs.Filled.{taken_some, taken_none, chained_at}
+use Rattle.paren_planner.proofs.Filled.{chained_at}
 use Rattle.paren_planner.proofs.Turns.{flags_skip, flags_stop, flags_finish, flags_next, table_skip, table_here, table_turn, few_skip, few_here, front_rows, plain_flags, table_below, rows_below, inner_some, inner_none, own_cost, own_index, own_standing, own_few, own_result, plain_standing, plain_few, wanted, spelled_inside}
 use Rattle.paren_planner.proofs.wrap.+wrapping.Goals as goal
 

@@ -1,0 +1,56 @@
+//! Which grouping pairs of a text are extra, by the plan of its script.
+
+ghost use Rattle.std.specs.Prelude.{◌≡◌, ◌+◌, ◌<◌, length, drop, IfOk};
+ghost use Rattle.paren_planner.specs.Extra.{extra_spans, is_innermost as is_innermost_of, span_of};
+
+use crate::planned::Plan;
+use positions::Grouping;
+use std::alloc::{AllocError, Global};
+use tree::Span;
+
+/// The extra ones of a script's grouping pairs, in their order, each from its `(` to behind its `)`: of each node's pairs the
+/// innermost is needed where the plan wraps the node, and all others are extra. The pairs of a node stand one behind another, the
+/// innermost last.
+///
+/// # Errors
+///
+/// `AllocError` where memory is refused.
+pub fn extra_pairs(
+    alloc: Global,
+    groupings: &[Grouping],
+    plan: &Plan,
+) -> Result<Vec<Span>, AllocError>
+    ensures { IfOk result (λ found. found.items ≡ extra_spans plan.now.wrapped.items groupings.now) }
+{
+    let mut spans = Vec::new(alloc);
+    for index in 0..groupings.len() {
+        let grouping = groupings[index];
+        let needed = is_innermost(groupings, index) && plan.wrapped(grouping.row);
+        if !needed {
+            spans.push(span(grouping))?;
+        }
+    }
+    Ok(spans)
+}
+
+/// Whether the pair at a place is the innermost of its node: the next pair, if there is one, stands round another.
+fn is_innermost(groupings: &[Grouping], index: usize) -> bool
+    requires { index < length groupings.now }
+    ensures { result ≡ is_innermost_of (drop index groupings.now) }
+{
+    let row = groupings[index].row;
+    match groupings.get(index + 1) {
+        Some(next) => next.row != row,
+        None => true,
+    }
+}
+
+/// From a pair's `(` to behind its `)`, in bytes.
+fn span(grouping: Grouping) -> Span
+    ensures { result ≡ span_of grouping }
+{
+    Span {
+        start: grouping.left,
+        end: grouping.right.saturating_add(1),
+    }
+}

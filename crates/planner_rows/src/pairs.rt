@@ -1,0 +1,95 @@
+//! Grouping pairs of small scripts: the row of each pair's node, and which pairs are extra.
+
+use crate::texts::{GROUPS, Paired, STATEMENTS};
+use paren_planner::{extra_pairs, plan_if_any};
+use parser::parse;
+use positions::{Grouping, groupings};
+use source_text::{Fault, Source};
+use std::alloc::Global;
+use std::process::Abort;
+use std::test::Fail;
+use tree::{Pair, Span};
+
+fn are_groupings(found: &[Grouping], wanted: &[(usize, usize, usize)]) -> bool {
+    if found.len() != wanted.len() {
+        return false;
+    }
+    for index in 0..found.len() {
+        let (left, right, row) = wanted[index];
+        if found[index] != (Grouping { left, right, row }) {
+            return false;
+        }
+    }
+    true
+}
+
+fn are_spans(found: &[Span], wanted: &[(usize, usize)]) -> bool {
+    if found.len() != wanted.len() {
+        return false;
+    }
+    for index in 0..found.len() {
+        let (start, end) = wanted[index];
+        if found[index] != (Span { start, end }) {
+            return false;
+        }
+    }
+    true
+}
+
+/// Whether a script has these pairs, by their `(`, `)` and row, and these extra ones, by where they start and end.
+fn is_paired(
+    alloc: Global,
+    text: &str,
+    pairs: &[(usize, usize, usize)],
+    extra: &[(usize, usize)],
+) -> Result<bool, Fault> {
+    let source = Source::new(text.as_bytes())?;
+    let parsed = parse(alloc, &source)?;
+    let found = groupings(alloc, parsed.program(), parsed.grouping_pairs())?;
+    let Some(plan) = plan_if_any(alloc, parsed.program())? else {
+        return Ok(false);
+    };
+    let spans = extra_pairs(alloc, &found, &plan)?;
+    Ok(are_groupings(&found, pairs) && are_spans(&spans, extra))
+}
+
+fn are_paired(rt: &impl Abort, alloc: Global, scripts: &[Paired]) {
+    for (text, pairs, extra) in scripts {
+        assert_eq!(rt; is_paired(alloc, text, pairs, extra), Ok(true), "{text}");
+    }
+}
+
+#[test]
+fn groups(rt: HostRuntime) {
+    are_paired(&rt, rt.alloc(), &GROUPS);
+}
+
+#[test]
+fn statements(rt: HostRuntime) {
+    are_paired(&rt, rt.alloc(), &STATEMENTS);
+}
+
+/// Pairs that no script has: out of order, behind all rows, at the greatest place.
+#[test]
+fn other_pairs(rt: HostRuntime) -> Result<(), Fail> {
+    let last = usize::MAX;
+    let source = Source::new("a + b;".as_bytes())?;
+    let parsed = parse(rt.alloc(), &source)?;
+    let pairs = [
+        Pair { left: 3, right: 5 },
+        Pair { left: 0, right: 1 },
+        Pair {
+            left: 4,
+            right: last,
+        },
+    ];
+    let found = groupings(rt.alloc(), parsed.program(), &pairs)?;
+    assert!(rt; are_groupings(&found, &[(3, 5, 3), (0, 1, 3), (4, last, 0)]));
+    let plan = plan_if_any(rt.alloc(), parsed.program())?;
+    let Some(plan) = plan else {
+        return Ok(assert!(rt; false));
+    };
+    let spans = extra_pairs(rt.alloc(), &found, &plan)?;
+    assert!(rt; are_spans(&spans, &[(3, 6), (0, 2), (4, last)]));
+    Ok(())
+}
