@@ -29,11 +29,11 @@ abbrev pub Refuses : Type 0 → Fault → Type 0
 Refuses W fault = Agrees {X = Unit {0}} W (λ _. Unit {0}) (Err fault)
 
 -- a callee's refusal is passed on, where what it read lies within the limits if the whole does
-pub refuses_on : (W1 W : Type 0) (fault : Fault) → Refuses W1 fault → (W → W1) → Refuses W fault
-refuses_on W1 W (Syntax at) h f = absurd h
-refuses_on W1 W TooDeep h f = λ w. h (f w)
-refuses_on W1 W OutOfMemory h f = tt
-refuses_on W1 W _ h f = absurd h
+pub refuses_on : (Inner W : Type 0) (fault : Fault) → Refuses Inner fault → (W → Inner) → Refuses W fault
+refuses_on Inner W (Syntax at) h f = absurd h
+refuses_on Inner W TooDeep h f = λ w. h (f w)
+refuses_on Inner W OutOfMemory h f = tt
+refuses_on Inner W _ h f = absurd h
 
 -- behind a `?` the fault is the same
 pub agrees_err : {X : Type 0} (W : Type 0) (Same : X → Type 0) (answer : Result X Fault) (fault : Fault) → IsErrAnd answer (λ e. e ≡ fault) → Refuses W fault → Agrees W Same answer
@@ -41,8 +41,8 @@ agrees_err W Same (Ok x) fault is h = absurd is
 agrees_err W Same (Err other) fault is h = subst (λ (x : Fault). Refuses W x) (sym is) h
 
 -- both in one
-pub agrees_on : {X : Type 0} (W1 W : Type 0) (Same : X → Type 0) (answer : Result X Fault) (fault : Fault) → IsErrAnd answer (λ e. e ≡ fault) → Refuses W1 fault → (W → W1) → Agrees W Same answer
-agrees_on W1 W Same answer fault is h f = agrees_err W Same answer fault is (refuses_on W1 W fault h f)
+pub agrees_on : {X : Type 0} (Inner W : Type 0) (Same : X → Type 0) (answer : Result X Fault) (fault : Fault) → IsErrAnd answer (λ e. e ≡ fault) → Refuses Inner fault → (W → Inner) → Agrees W Same answer
+agrees_on Inner W Same answer fault is h f = agrees_err W Same answer fault is (refuses_on Inner W fault h f)
 
 -- an answer
 pub agrees_ok : {X : Type 0} (W : Type 0) (Same : X → Type 0) (answer : Result X Fault) (x : X) → IsOkAnd answer (λ y. y ≡ x) → Same x → Agrees W Same answer

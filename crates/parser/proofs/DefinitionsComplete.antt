@@ -47,7 +47,7 @@ use Rattle.parser.proofs.NamesGiven.{element_position}
 use Rattle.parser.proofs.ValuesGiven.{element_given, fits_in}
 
 -- an answer that is handed on
-agrees_map : {X : Type 0} {W1 W : Type 0} {Same1 Same : X → Type 0} {D : X → Type 0} (r : Result X Fault) → IfOk r D → Agrees W1 Same1 r → (W → W1) → ((x : X) → D x → Same1 x → Same x) → Agrees W Same r
+agrees_map : {X : Type 0} {Inner W : Type 0} {SameInner Same : X → Type 0} {D : X → Type 0} (r : Result X Fault) → IfOk r D → Agrees Inner SameInner r → (W → Inner) → ((x : X) → D x → SameInner x → Same x) → Agrees W Same r
 agrees_map (Ok x) d h g f = f x d h
 agrees_map (Err TooDeep) d h g f = λ w. h (g w)
 agrees_map (Err OutOfMemory) d h g f = tt

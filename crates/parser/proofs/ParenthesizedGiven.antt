@@ -65,9 +65,9 @@ paren_unopened s e old new high p result fault is under = λ sees a h o t to P f
     (refuses_under (Room s o (height t) high) s.opened fault under (λ room. let fits : o ≤ 1000 - s.opened = room.0 in omega arith))
 
 -- an answer agrees where what is asked of it does
-agrees_as : {X : Type 0} (W1 W : Type 0) (D Same1 Same : X → Type 0) (result : Result X Fault) → IfOk result D → Agrees W1 Same1 result → (W → W1) → ((x : X) → D x → Same1 x → Same x) → Agrees W Same result
-agrees_as W1 W D Same1 Same (Ok x) d h room f = f x d h
-agrees_as W1 W D Same1 Same (Err fault) d h room f = refuses_on W1 W fault h room
+agrees_as : {X : Type 0} (Inner W : Type 0) (D SameInner Same : X → Type 0) (result : Result X Fault) → IfOk result D → Agrees Inner SameInner result → (W → Inner) → ((x : X) → D x → SameInner x → Same x) → Agrees W Same result
+agrees_as Inner W D SameInner Same (Ok x) d h room f = f x d h
+agrees_as Inner W D SameInner Same (Err fault) d h room f = refuses_on Inner W fault h room
 
 true_last : (b : Bool) → (b && true) ≡ true → b ≡ true
 true_last true h = refl

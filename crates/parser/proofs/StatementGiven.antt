@@ -52,9 +52,9 @@ use Rattle.parser.proofs.StatedSteps.{PiecesFrom}
 use Rattle.parser.proofs.StatedWords.{empty_given, debugger_given, continue_given, break_given, return_given, throw_given}
 
 -- what agrees with one derivation agrees with another that has it
-pub agrees_as : {X : Type 0} (W1 W : Type 0) (Same1 Same : X → Type 0) (result : Result X Fault) → (W → W1) → ((x : X) → Same1 x → Same x) → Agrees W1 Same1 result → Agrees W Same result
-agrees_as W1 W Same1 Same (Ok x) f g h = g x h
-agrees_as W1 W Same1 Same (Err fault) f g h = refuses_on W1 W fault h f
+pub agrees_as : {X : Type 0} (Inner W : Type 0) (SameInner Same : X → Type 0) (result : Result X Fault) → (W → Inner) → ((x : X) → SameInner x → Same x) → Agrees Inner SameInner result → Agrees W Same result
+agrees_as Inner W SameInner Same (Ok x) f g h = g x h
+agrees_as Inner W SameInner Same (Err fault) f g h = refuses_on Inner W fault h f
 
 is_headed : (b : Beginning) (h : Headed) → code.Headed h ≡ coded_beginning b → is_own b ≡ true
 is_headed a_function h q = refl

@@ -86,9 +86,9 @@ no_linked : {A : Type 0} {c d : Coded} → Some d ≡ Some c → is_linked d ≡
 no_linked h k l = absurd (false≢true (sym k ∙ ap is_linked (coded_same h) ∙ l))
 
 -- what was answered is told in other words
-pub agrees_through : {X : Type 0} (W1 W : Type 0) (Same1 Same : X → Type 0) (result : Result X Fault) → Agrees W1 Same1 result → (W → W1) → ((x : X) → result ≡ Ok x → Same1 x → Same x) → Agrees W Same result
-agrees_through W1 W Same1 Same (Ok x) h f g = g x refl h
-agrees_through W1 W Same1 Same (Err fault) h f g = refuses_on W1 W fault h f
+pub agrees_through : {X : Type 0} (Inner W : Type 0) (SameInner Same : X → Type 0) (result : Result X Fault) → Agrees Inner SameInner result → (W → Inner) → ((x : X) → result ≡ Ok x → SameInner x → Same x) → Agrees W Same result
+agrees_through Inner W SameInner Same (Ok x) h f g = g x refl h
+agrees_through Inner W SameInner Same (Err fault) h f g = refuses_on Inner W fault h f
 
 ok_then : {X : Type 0} (B : X → Type 0) (result : Result X Fault) {x : X} → IfOk result B → result ≡ Ok x → B x
 ok_then B result {x} h e = subst (λ r. IfOk r B) e h
