@@ -1,5 +1,6 @@
 -- A statement that is given whose first token is its own: its node, and its pieces behind that token (ECMA-262 13, 14.1, 14.6).
-use Rattle.std.proofs.Common.{◌≡◌, inl, inr, ℕ, suc, ◌-◌, ◌≤◌, ◌<◌, arith, Bool, true, List, [], ◌∷◌, Result, Ok, Err, refl, sym, ap, ◌∙◌, subst}
+use Rattle.std.proofs.Common.{◌≡◌, inl, inr, ℕ, suc, ◌-◌, ◌≤◌, ◌<◌, arith, Bool, true, false, List, [], ◌∷◌, Result, Ok, Err, refl, sym, ap, ◌∙◌, subst}
+use Rattle.std.proofs.lemmas.Bool.{false≢true}
 use Rattle.std.specs.Result.{IsErrAnd}
 use Rattle.source_text.specs.declared.fault.Fault.{Fault}
 use Rattle.tokens.specs.declared.token.Goal.{Goal}
@@ -62,6 +63,25 @@ is_headed a_class h q = refl
 is_headed an_expression h q = cc
 is_headed _ h q = refl
 
+-- the kinds that a `for` has
+abbrev is_for : Kind → Bool
+is_for kind.ForStatement = true
+is_for kind.ForInStatement = true
+is_for kind.ForOfStatement = true
+is_for _ = false
+
+for_only : (k : Kind) → begins_as k ≡ a_for → is_for k ≡ true
+for_only kind.ForStatement h = refl
+for_only kind.ForInStatement h = refl
+for_only kind.ForOfStatement h = refl
+for_only _ h = cc
+
+function_other : a_function ≡ a_for → ⊥
+function_other h = cc
+
+class_other : a_class ≡ a_for → ⊥
+class_other h = cc
+
 -- the pieces of a statement, by its first token
 record OwnFrom (text : List ℕ) (r : Bool) (o : ℕ) (m e : Token) (P : List Pair) (h : Headed) (b : Beginning) (ps : Parts) : Type 0 where
   pieces : PiecesFrom text r o (statement_parts h r) m e Closed ps P
@@ -96,7 +116,7 @@ module _ (text : List ℕ) (r : Bool) {o : ℕ} {m e : Token} {P : List Pair} wh
   for_from kind.ForStatement ps loop fine d = (headed.ForLoop, refl, (λ w. refl), for_loop_given text r Closed ps fine d)
   for_from kind.ForInStatement ps loop fine d = (headed.ForIn, refl, (λ w. refl), for_in_given text r Closed ps fine d)
   for_from kind.ForOfStatement ps loop fine d = (headed.ForOf, refl, (λ w. refl), for_of_given text r Closed ps fine d)
-  for_from _ ps loop fine d = cc
+  for_from k ps loop fine d = absurd (false≢true (for_only k loop))
 
   -- a declaration behind its word
   function_given : (ps : Parts) → RunsIn text o (anywhere (behind_own r kind.FunctionDeclaration (bare_parts ps))) ps m e P → (begins_with_part ps ≡ true) × RunsIn text o (anywhere (closure_pieces closure.FunctionDeclaration ps)) ps m e P
@@ -130,14 +150,17 @@ module _ (text : List ℕ) (c : Context) (t : Scanned) (s : Token) (ahead : IsAh
     pub tree : n ≡ node (headed_kind h) (headed_text h t.text.now) plain t.start to.stop parts
     pub pieces : PiecesFrom text c.returns o (statement_parts h c.returns) Start to Closed parts P
 
-  pub own_told : (h : Headed) {o : ℕ} {n : Tree} {to : Token} {P : List Pair} → code.Headed h ≡ coded_beginning (beginning_of c.is_item c.returns Start) → (h ≡ headed.For → ⊥) → SpellsIn text o (context_role c) n s to P → FinishedIn text n to → OwnTold h o n to P
-  own_told h {o} {n} {to} {P} coded loop spelled fine =
-      let b = beginning_of c.is_item c.returns Start in
-      let told = (own_sole Token (NextIn text any_goal) itself (text_determined text) {Fine = Finished Token (NextIn text any_goal) itself} (context_stands c) read b refl (is_headed b h coded) (λ k. loop (ap headed_of (coded ∙ ap coded_beginning k)))).told spelled fine in
+  -- so with what it begins with
+  own_by : (b : Beginning) (h : Headed) {o : ℕ} {n : Tree} {to : Token} {P : List Pair} → beginning_of c.is_item c.returns Start ≡ b → code.Headed h ≡ coded_beginning b → headed_text h t.text.now ≡ headed_text h Start.text → (h ≡ headed.For → ⊥) → SpellsIn text o (context_role c) n s to P → FinishedIn text n to → OwnTold h o n to P
+  own_by b h {o} {n} {to} {P} begun coded same loop spelled fine =
+      let told = (own_sole Token (NextIn text any_goal) itself (text_determined text) {Fine = Finished Token (NextIn text any_goal) itself} (context_stands c) read b begun (is_headed b h coded) (λ k. loop (ap headed_of (coded ∙ ap coded_beginning k)))).told spelled fine in
       let v = own_from text c.returns b h (text_as b Start.text) told.st told.en told.parts coded loop (subst (λ k. FinishedIn text k to) told.tree fine) told.runs in
       let place = spans told.tree told.placed in
-      let word : text_as b Start.text ≡ headed_text h t.text.now = sym (text_told c.is_item c.returns t h (sym (headed_begins b h coded)) ∙ v.named Start.text) in
+      let word : text_as b Start.text ≡ headed_text h t.text.now = sym (same ∙ v.named Start.text) in
       record { parts = told.parts; tree = told.tree ∙ (λ i. node (sym v.kind_is i) (word i) plain (place.0 i) (place.1 i) told.parts); pieces = v.pieces }
+
+  pub own_told : (h : Headed) {o : ℕ} {n : Tree} {to : Token} {P : List Pair} → code.Headed h ≡ coded_beginning (beginning_of c.is_item c.returns Start) → (h ≡ headed.For → ⊥) → SpellsIn text o (context_role c) n s to P → FinishedIn text n to → OwnTold h o n to P
+  own_told h coded = own_by (beginning_of c.is_item c.returns Start) h refl coded (text_told c.is_item c.returns t h (sym (headed_begins (beginning_of c.is_item c.returns Start) h coded)))
 
   -- a `for`
   pub record ForTold (o : ℕ) (n : Tree) (to : Token) (P : List Pair) : Type 0 where
@@ -158,8 +181,8 @@ pub closure_stated_given : (s m e : Point) (old mid new : List Pair) (high : ℕ
     m.text ≡ s.text → m.last ≡ as_read (token_of t) → m.opened ≡ s.opened → mid ≡ old → ClosureComplete m e mid new high w t.start result → StatementComplete s e old new high c result
 closure_stated_given s m e old mid new high c t w result ahead coded text last same_open same complete o n to P spelled fine =
     elim (coded_closure w (beginning_of c.is_item c.returns (as_read (token_of t))) coded) [
-      | inl h ↦ of a_function refl (λ z. cc) h.0 h.1 kind.FunctionDeclaration refl refl (λ v. refl) (λ ps d. function_given s.text c.returns ps d)
-      | inr h ↦ of a_class refl (λ z. cc) h.0 h.1 kind.ClassDeclaration refl refl (λ v. refl) (λ ps d. class_given s.text c.returns ps d)
+      | inl h ↦ of a_function refl function_other h.0 h.1 kind.FunctionDeclaration refl refl (λ v. refl) (λ ps d. function_given s.text c.returns ps d)
+      | inr h ↦ of a_class refl class_other h.0 h.1 kind.ClassDeclaration refl refl (λ v. refl) (λ ps d. class_given s.text c.returns ps d)
     ]
   where
     of : (b : Beginning) {v : Closure} → is_own b ≡ true → (b ≡ a_for → ⊥) → beginning_of c.is_item c.returns (as_read (token_of t)) ≡ b → w ≡ v → (k : Kind) → kind_as b ≡ k → closure_kind v ≡ k → ((x : List ℕ) → text_as b x ≡ []) →

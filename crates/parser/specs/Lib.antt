@@ -1,3 +1,4 @@
+pub mod Assignments
 pub mod Beginnings
 pub mod Chunks
 pub mod Derived

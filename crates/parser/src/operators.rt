@@ -8,6 +8,7 @@ ghost use Rattle.language.specs.Token.{as_read, is_token};
 ghost use Rattle.language.specs.Words.{takes, binds, powers, operator_among};
 ghost use Rattle.language.specs.Follow.{operation, symbol_of, holds};
 ghost use Rattle.parser.specs.Tests.{links};
+ghost use Rattle.parser.specs.Assignments.{assignment_operators};
 ghost use Rattle.parser.specs.Operators.{coded_operator, meant, short_operators, long_operators, word_operators, stops_by, StopsHere};
 
 use crate::position::{Parser, Position};
@@ -170,6 +171,15 @@ fn operator_of_more(text: &str) -> Option<Operator>
         "++" | "--" => Some(Operator::Steps),
         "?." => Some(Operator::Chains),
         "=>" => Some(Operator::Arrows),
+        _ => assignment_of(text),
+    }
+}
+
+// An operator of an assignment that isn't `=`.
+fn assignment_of(text: &str) -> Option<Operator>
+    ensures { result ≡ coded_operator (operator_among text.now assignment_operators) text.now }
+{
+    match text {
         "+=" | "-=" | "*=" | "/=" | "%=" | "**=" => Some(Operator::Assigns { is_plain: false }),
         "<<=" | ">>=" | ">>>=" => Some(Operator::Assigns { is_plain: false }),
         "&=" | "|=" | "^=" => Some(Operator::Assigns { is_plain: false }),
