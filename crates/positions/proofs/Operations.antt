@@ -5,6 +5,7 @@ use Rattle.std.proofs.lemmas.Slice.Eq.{bytes_eq-Decides}
 use Rattle.std.proofs.lemmas.Bool.{false≢true}
 use Prim.Native.String.{String}
 use Rattle.language.specs.Words.{is, among, Operator, binds, powers, no_operator, operators, operator_among, operator_of}
+use Rattle.positions.specs.declared.words.Operation.TheVariants.{Other}
 use Rattle.positions.specs.Operations.{operation, logical_operation}
 
 -- the text is none of these
@@ -77,3 +78,17 @@ no_plain w a b c d e f g h i =
         ),
       ),
     ))
+
+abbrev is_logical : Operator → Bool
+is_logical (binds true z q) = true
+is_logical _ = false
+
+as_other : (o : Operator) → is_logical o ≡ false → Other ≡ logical_operation o
+as_other (binds true z q) h = cc
+as_other (binds false z q) h = refl
+as_other _ h = refl
+
+pub no_logical : (w : List ℕ) → NoneOf w ("??" ∷ []) → NoneOf w ("||" ∷ []) → NoneOf w ("&&" ∷ []) → Other ≡ logical_operation (operator_of w)
+no_logical w a b c =
+    as_other (operator_of w) (quiet is_logical w operators
+    ((λ x. refl), ((λ x. refl), ((λ x. refl), ((λ x. refl), ((λ x. refl), ((λ x. refl), ((λ x. refl), ((λ x. refl), (unless w ("??" ∷ []) a, (unless w ("||" ∷ []) b, (unless w ("&&" ∷ []) c, ((λ x. refl), ((λ x. refl), ((λ x. refl), ((λ x. refl), ((λ x. refl), ((λ x. refl), ((λ x. refl), ((λ x. refl), ((λ x. refl), ((λ x. refl), refl))))))))))))))))))))))

@@ -2,7 +2,6 @@ pub mod Entries
 pub mod Expressions
 pub mod Outlines
 pub mod Operations
-pub mod Chains
 pub mod Others
 pub mod Statements
 pub mod Positions

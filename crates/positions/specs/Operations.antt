@@ -1,6 +1,6 @@
--- What an operator between two operands makes, and literals.
-use Rattle.std.specs.Prelude.{ℕ, Bool, true, not, ◌&&◌, List, [], ◌∷◌}
-use Rattle.language.specs.Words.{Operator, binds, powers, among, operator_of, is_name, literal_class}
+-- What an operator between two operands makes.
+use Rattle.std.specs.Prelude.{ℕ, true, List}
+use Rattle.language.specs.Words.{Operator, binds, powers, operator_of}
 use Rattle.positions.specs.declared.words.Operation.{Operation}
 use Rattle.positions.specs.declared.words.Operation.TheVariants.{Binds, Powers, Other}
 
@@ -16,6 +16,3 @@ logical_operation _ = Other
 -- what a text makes
 unfoldable pub operation_at : List ℕ → Operation
 operation_at w = operation (operator_of w)
-
-abbrev pub is_spelled_literal : List ℕ → Bool
-is_spelled_literal w = not (is_name (literal_class w) && not (among w ("true" ∷ "false" ∷ "null" ∷ [])))

@@ -1,45 +1,21 @@
 //! Chains: the parts of them, and where their `?.` stand.
 
-ghost use Rattle.std.specs.Prelude.{◌≡◌, true, option_map};
+ghost use Rattle.std.specs.Prelude.{◌≡◌, true};
 ghost use Rattle.tree.specs.Node.{node_tree};
 ghost use Rattle.tree.specs.Tree.{kind_of, flags_of, parts_of};
-ghost use Rattle.language.specs.Expressions.{is_spine, chained as is_chained_tree, first_chained};
+ghost use Rattle.language.specs.Expressions.{chained as is_chained_tree, first_chained};
 ghost use Rattle.positions.specs.Others.{linked_by as outline_linked, member_link as outline_of_member_link, call_link as outline_of_call_link, spine_outline as outline_of_spine};
-ghost use Rattle.positions.specs.Chains.{is_chained_part};
 
 use crate::expressions::selected;
 use crate::outline::{Front, Outline, Tail};
 use crate::position::Slot;
+use grammar::is_chained;
 use language::Rank;
 use tree::{Flags, Kind, Node};
 
-/// Whether a `?.` stands in this part of a chain or in one below it.
-#[tactic(auto, using(tree::proofs::PartWalk::part_steps))]
-pub(crate) fn is_chained(part: Option<Node>) -> bool
-    ensures { result ≡ is_chained_part (option_map node_tree part.entry) }
-{
-    let Some(node) = part else {
-        return false;
-    };
-    if !is_link(node.kind()) {
-        return false;
-    }
-    if node.flags().optional {
-        return true;
-    }
-    is_chained(node.part(0))
-}
-
-/// Whether a node of this kind may be a part of a chain above its base.
-pub(crate) fn is_link(kind: Kind) -> bool
-    ensures { result ≡ is_spine kind }
-{
-    matches!(kind, Kind::MemberExpression | Kind::CallExpression)
-}
-
 /// Whether a `?.` stands in the first part of a part of a chain, or below; `in_chain`: one is known to stand in the node or below it.
 /// Then it isn't looked for behind a part without one of its own: each part of a chain is passed once, from the nearest above that has one.
-#[tactic(auto, using(crate::proofs::Chained::chained_first, crate::proofs::Chained::chained_inside))]
+#[tactic(auto, using(grammar::proofs::Chained::chained_first, crate::proofs::Chained::chained_inside))]
 fn is_first_chained(node: Node, in_chain: bool) -> bool
     requires { in_chain ≡ true → is_chained_tree (node_tree node) ≡ true }
     ensures { result ≡ first_chained (parts_of (node_tree node.entry)) }

@@ -14,7 +14,8 @@ use crate::statements::{
     EVALUATED, declaration_outline, declarators_outline, items_outline, one, statement_outline, two,
 };
 use crate::tail::bound;
-use crate::words::{is_pattern, is_string_literal};
+use crate::words::is_string_literal;
+use grammar::is_pattern;
 use language::{Rank, Start};
 use tree::{Kind, Node};
 

@@ -7,14 +7,13 @@ ghost use Rattle.positions.specs.Operations.{operation_at};
 ghost use Rattle.positions.specs.Entries.{around};
 ghost use Rattle.positions.specs.Expressions.{expression_outline as outline_of_expression, definition_outline as outline_of_definition, reference_outline as outline_of_reference, operation_outline as outline_of_operation, identifier_outline as outline_of_identifier, literal_outline as outline_of_literal, function_outline as outline_of_function, class_outline as outline_of_class, member_outline as outline_of_member, call_outline as outline_of_call, update_outline as outline_of_update, unary_outline as outline_of_unary, binary_outline as outline_of_binary, logical_outline as outline_of_logical, assignment_outline as outline_of_assignment, kind_at as kind_of_entry, selected as slot_selected, meta_outline as outline_of_meta, chain_outline as outline_of_chain, new_outline as outline_of_new, power_outline as outline_of_power, conditional_outline as outline_of_conditional, sequence_outline as outline_of_sequence, joined_outline as outline_joined, list_outline as outline_of_list, arrow_outline as outline_of_arrow};
 
-use crate::chain::is_chained;
 use crate::outline::{Front, Opens, Outline, Tail};
 use crate::position::{ASSIGNMENT, Entry, Position, Slot, WHOLE, entry_of, part_text};
-use crate::words::{
-    Operation, is_assignment, is_literal, is_pattern, is_prefix_operator, is_step, is_target,
-    operation_of,
+use crate::words::{Operation, operation_of};
+use grammar::{
+    is_assignment, is_chained, is_literal, is_pattern, is_prefix_operator, is_reserved, is_step,
+    is_target,
 };
-use grammar::is_reserved;
 use language::{Rank, Start};
 use tree::{Flags, Kind, Node};
 
@@ -116,7 +115,7 @@ fn arrow_outline(flags: Flags) -> Outline
 }
 
 /// What stands at a symbol from LeftHandSide to Member.
-#[tactic(auto, using(crate::proofs::Chained::chained_first))]
+#[tactic(auto, using(grammar::proofs::Chained::chained_first))]
 fn reference_outline(node: Node) -> Option<Outline>
     ensures { result ≡ outline_of_reference (kind_of (node_tree node.entry)) (text_of (node_tree node.entry)) (flags_of (node_tree node.entry)) (around (parts_of (node_tree node.entry))) }
 {

@@ -5,8 +5,7 @@ ghost use Rattle.language.specs.Words.{is_super as is_super_kind};
 ghost use Rattle.positions.specs.Others.{leaf_if as leaf_when, is_chunk as is_chunk_kind, is_key_class as is_class_of_key, name_outline as outline_of_name, key_outline as outline_of_key, quoted_outline as outline_of_quoted, quasi_outline as outline_of_quasi};
 
 use crate::outline::{Front, Outline, Tail};
-use crate::words::literal_class;
-use grammar::is_reserved;
+use grammar::{is_reserved, literal_class};
 use language::Rank;
 use tokens::Class;
 use tree::Kind;

@@ -6,7 +6,7 @@ ghost use Rattle.positions.specs.Others.{spread_outline as outline_of_spread, ke
 use crate::outline::{Front, Opens, Outline, Tail};
 use crate::position::{ASSIGNMENT, Position, Slot};
 use crate::tail::{bound, with_default};
-use crate::words::is_pattern;
+use grammar::is_pattern;
 use language::Rank;
 use tree::{Flags, Form, Kind};
 

@@ -6,7 +6,8 @@ ghost use Rattle.positions.specs.Outlines.{chunk_at, item_at, tail_at, skips_gap
 
 use crate::outline::Tail;
 use crate::position::{ASSIGNMENT, Position, Slot, WHOLE};
-use crate::words::{is_identifier, is_pattern, is_rest, is_target};
+use crate::words::{is_identifier, is_rest};
+use grammar::{is_pattern, is_target};
 use language::{Rank, Start};
 use tree::Kind;
 

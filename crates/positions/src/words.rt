@@ -1,12 +1,14 @@
 //! What texts and kinds mean to the table.
 
-ghost use Rattle.std.specs.Prelude.{◌≡◌, [], ◌∷◌};
-ghost use Rattle.language.specs.Words.{is_prefix, is_step as is_step_text, is_assignment as is_assignment_text, is_target as is_target_kind, is_pattern as is_pattern_kind, is_identifier as is_identifier_kind, is_rest as is_rest_kind, literal_class as class_of_literal, operator_of, among, is};
+ghost use Rattle.std.specs.Prelude.{◌≡◌, true, false};
+ghost use Rattle.language.specs.Words.{is_identifier as is_identifier_kind, is_rest as is_rest_kind, operator_of, is};
 ghost use Rattle.language.specs.Strings.{literal_units};
 ghost use Rattle.language.specs.Statements.{is_string_literal as is_string_of_kind};
 ghost use Rattle.positions.specs.Others.{names_constructor as names_constructor_key};
-ghost use Rattle.positions.specs.Operations.{operation_at, logical_operation, is_spelled_literal};
+ghost use Rattle.positions.specs.Operations.{operation_at, logical_operation};
+ghost use Rattle.positions.specs.declared.words.Operation.TheVariants;
 
+use grammar::literal_class;
 use language::Rank;
 use tokens::{Class, string_is};
 use tree::Kind;
@@ -29,18 +31,23 @@ pub(crate) enum Operation {
 pub(crate) fn operation_of(operator: &str) -> Operation
     ensures { result ≡ operation_at operator.now }
 {
-    let (own, right) = match operator {
-        "|" => (Rank::BitwiseOr, Rank::BitwiseXor),
-        "^" => (Rank::BitwiseXor, Rank::BitwiseAnd),
-        "&" => (Rank::BitwiseAnd, Rank::Equality),
-        "==" | "!=" | "===" | "!==" => (Rank::Equality, Rank::Relational),
-        "<" | ">" | "<=" | ">=" | "instanceof" | "in" => (Rank::Relational, Rank::Shift),
-        "<<" | ">>" | ">>>" => (Rank::Shift, Rank::Additive),
-        "+" | "-" => (Rank::Additive, Rank::Multiplicative),
-        "*" | "/" | "%" => (Rank::Multiplicative, Rank::Exponentiation),
-        "**" => return Operation::Powers,
-        _ => return logical_operation_of(operator),
-    };
+    match operator {
+        "|" => binary(Rank::BitwiseOr, Rank::BitwiseXor),
+        "^" => binary(Rank::BitwiseXor, Rank::BitwiseAnd),
+        "&" => binary(Rank::BitwiseAnd, Rank::Equality),
+        "==" | "!=" | "===" | "!==" => binary(Rank::Equality, Rank::Relational),
+        "<" | ">" | "<=" | ">=" | "instanceof" | "in" => binary(Rank::Relational, Rank::Shift),
+        "<<" | ">>" | ">>>" => binary(Rank::Shift, Rank::Additive),
+        "+" | "-" => binary(Rank::Additive, Rank::Multiplicative),
+        "*" | "/" | "%" => binary(Rank::Multiplicative, Rank::Exponentiation),
+        "**" => Operation::Powers,
+        _ => logical_operation_of(operator),
+    }
+}
+
+fn binary(own: Rank, right: Rank) -> Operation
+    ensures { result ≡ TheVariants.Binds false own right }
+{
     Operation::Binds {
         is_logical: false,
         own,
@@ -52,85 +59,22 @@ pub(crate) fn operation_of(operator: &str) -> Operation
 fn logical_operation_of(operator: &str) -> Operation
     ensures { result ≡ logical_operation (operator_of operator.now) }
 {
-    let (own, right) = match operator {
-        "??" => (Rank::Coalesce, Rank::BitwiseOr),
-        "||" => (Rank::LogicalOr, Rank::LogicalAnd),
-        "&&" => (Rank::LogicalAnd, Rank::BitwiseOr),
-        _ => return Operation::Other,
-    };
+    match operator {
+        "??" => logical(Rank::Coalesce, Rank::BitwiseOr),
+        "||" => logical(Rank::LogicalOr, Rank::LogicalAnd),
+        "&&" => logical(Rank::LogicalAnd, Rank::BitwiseOr),
+        _ => Operation::Other,
+    }
+}
+
+fn logical(own: Rank, right: Rank) -> Operation
+    ensures { result ≡ TheVariants.Binds true own right }
+{
     Operation::Binds {
         is_logical: true,
         own,
         right,
     }
-}
-
-/// Whether the text is `++` or `--`.
-pub(crate) fn is_step(operator: &str) -> bool
-    ensures { result ≡ is_step_text operator.now }
-{
-    matches!(operator, "++" | "--")
-}
-
-/// Whether the text is an assignment operator.
-pub(crate) fn is_assignment(operator: &str) -> bool
-    ensures { result ≡ is_assignment_text operator.now }
-{
-    matches!(
-        operator,
-        "=" | "+=" | "-=" | "*=" | "/=" | "%=" | "**=" | "<<=" | ">>=" | ">>>=" | "&=" | "|=" | "^="
-    )
-}
-
-/// Whether the text is that of an operator before its operand.
-pub(crate) fn is_prefix_operator(operator: &str) -> bool
-    ensures { result ≡ is_prefix operator.now }
-{
-    matches!(
-        operator,
-        "delete" | "void" | "typeof" | "+" | "-" | "~" | "!"
-    )
-}
-
-/// The class of a literal's token, which its first character tells.
-pub(crate) fn literal_class(raw: &str) -> Class
-    ensures { result ≡ class_of_literal raw.now }
-{
-    match raw.as_bytes() {
-        [b'"' | b'\'', ..] => Class::Text,
-        [b'/', ..] => Class::RegExp,
-        [b'.' | b'0'..=b'9', ..] => Class::Number,
-        _ => Class::Name,
-    }
-}
-
-/// Whether a literal's text is one: of the names only `true`, `false` and `null`.
-pub(crate) fn is_literal(raw: &str) -> bool
-    ensures { result ≡ is_spelled_literal raw.now }
-{
-    match literal_class(raw) {
-        Class::Name => is_word_literal(raw),
-        _ => true,
-    }
-}
-
-fn is_word_literal(raw: &str) -> bool
-    ensures { result ≡ among raw.now ("true" ∷ "false" ∷ "null" ∷ []) }
-{
-    matches!(raw, "true" | "false" | "null")
-}
-
-/// A simple target.
-pub(crate) fn is_target(kind: Kind) -> bool
-    ensures { result ≡ is_target_kind kind }
-{
-    matches!(kind, Kind::Identifier | Kind::MemberExpression)
-}
-
-pub(crate) fn is_pattern(kind: Kind) -> bool
-    ensures { result ≡ is_pattern_kind kind }
-{
-    matches!(kind, Kind::ArrayPattern | Kind::ObjectPattern)
 }
 
 pub(crate) fn is_identifier(kind: Kind) -> bool
