@@ -4,10 +4,4 @@ pub mod Sizes
 pub mod Node
 pub mod Same
 pub mod Uses
-pub mod Arity
 pub mod Fields
-pub mod Functions
-pub mod Expressions
-pub mod Patterns
-pub mod Statements
-pub mod Pieces

@@ -9,7 +9,6 @@ mod node;
 mod parts;
 mod program;
 mod syntax;
-mod views;
 mod walk;
 
 pub use copy::try_copy;
@@ -19,8 +18,4 @@ pub use node::Node;
 pub use parts::Parts;
 pub use program::Program;
 pub use syntax::Syntax;
-pub use views::{
-    CatchClause, Class, ClassBody, Expression, Function, MethodDefinition, Pattern, Property,
-    SpreadElement, Statement, SwitchCase, TemplateElement, VariableDeclarator,
-};
 pub use walk::{height, same_tree};

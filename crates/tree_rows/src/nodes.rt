@@ -3,16 +3,17 @@
 mod expressions;
 mod pairs;
 mod print;
+mod shown;
 mod sketch;
 mod statements;
 mod structures;
 mod viewed;
-mod views;
 
 use Sketch::{Gap, Name, Node};
 use expressions::expressions;
 use pairs::{FLAGS, others};
 use print::line;
+use shown::views;
 use sketch::{EMPTY, PLAIN, Sketch, script};
 use statements::statements;
 use std::alloc::{AllocError, Global};
@@ -22,7 +23,6 @@ use std::test::Fail;
 use structures::structures;
 use tree::{Kind, Parts, Program, Span, Syntax, height, same_tree, try_copy};
 use viewed::viewed;
-use views::views;
 
 /// The height at which scripts are still read.
 const LIMIT: u32 = 500;

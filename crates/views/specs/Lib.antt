@@ -1,0 +1,6 @@
+pub mod Arity
+pub mod Functions
+pub mod Expressions
+pub mod Patterns
+pub mod Statements
+pub mod Pieces

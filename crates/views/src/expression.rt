@@ -1,0 +1,286 @@
+//! Expressions.
+
+ghost use Rattle.std.specs.Prelude.{◌≡◌, option_map};
+ghost use Rattle.tree.specs.Tree.{kind_of};
+ghost use Rattle.tree.specs.Node.{node_tree};
+ghost use Rattle.views.specs.Expressions.{expression_of, expression_by, member_by, operation_by, operands_by, expression_seen};
+ghost use Rattle.tree.specs.declared.kind.Kind.TheVariants.{MemberExpression, CallExpression, ConditionalExpression};
+
+use crate::arity::is_whole;
+use crate::function::{Class, Function};
+use tree::{Kind, Node, NodeList};
+
+/// An expression.
+#[derive(Clone, Copy)]
+pub enum Expression<'t, 's> {
+    Identifier {
+        name: &'t str,
+    },
+    Literal {
+        raw: &'t str,
+    },
+    This,
+    /// Expressions, spread elements and, for holes, gaps.
+    Array {
+        elements: NodeList<'t, 's>,
+    },
+    /// Properties and spread elements.
+    Object {
+        properties: NodeList<'t, 's>,
+    },
+    Function(Function<'t, 's>),
+    ArrowFunction(Function<'t, 's>),
+    Class(Class<'t, 's>),
+    /// Template elements (`quasis`) at the even places, `expressions` between them.
+    TemplateLiteral {
+        turns: NodeList<'t, 's>,
+    },
+    TaggedTemplate {
+        tag: Node<'t, 's>,
+        quasi: Node<'t, 's>,
+    },
+    /// The object is an expression or `super`.
+    Member {
+        object: Node<'t, 's>,
+        property: Node<'t, 's>,
+        computed: bool,
+        optional: bool,
+    },
+    /// The callee is an expression or `super`; arguments are expressions and spread elements.
+    Call {
+        callee: Node<'t, 's>,
+        arguments: NodeList<'t, 's>,
+        optional: bool,
+    },
+    New {
+        callee: Node<'t, 's>,
+        arguments: NodeList<'t, 's>,
+    },
+    MetaProperty {
+        meta: Node<'t, 's>,
+        property: Node<'t, 's>,
+    },
+    Import {
+        source: Node<'t, 's>,
+    },
+    /// A member or a call.
+    Chain {
+        expression: Node<'t, 's>,
+    },
+    Update {
+        operator: &'t str,
+        prefix: bool,
+        argument: Node<'t, 's>,
+    },
+    Unary {
+        operator: &'t str,
+        argument: Node<'t, 's>,
+    },
+    Binary {
+        operator: &'t str,
+        left: Node<'t, 's>,
+        right: Node<'t, 's>,
+    },
+    Logical {
+        operator: &'t str,
+        left: Node<'t, 's>,
+        right: Node<'t, 's>,
+    },
+    Conditional {
+        test: Node<'t, 's>,
+        consequent: Node<'t, 's>,
+        alternate: Node<'t, 's>,
+    },
+    /// The left side is a pattern.
+    Assignment {
+        operator: &'t str,
+        left: Node<'t, 's>,
+        right: Node<'t, 's>,
+    },
+    Sequence {
+        expressions: NodeList<'t, 's>,
+    },
+}
+
+impl<'t, 's> Expression<'t, 's> {
+    /// The node as an expression; none where it is of another kind, or hasn't the parts of its kind.
+    pub fn of(node: Node<'t, 's>) -> Option<Expression<'t, 's>>
+        ensures { option_map expression_seen result ≡ expression_of (node_tree node.entry) }
+    {
+        if is_whole(node) {
+            return any_expression(node);
+        }
+        None
+    }
+}
+
+/// Names, literals, functions and lists, and all else.
+fn any_expression<'t, 's>(node: Node<'t, 's>) -> Option<Expression<'t, 's>>
+    ensures { option_map expression_seen result ≡ expression_by (kind_of (node_tree node.entry)) (node_tree node.entry) }
+{
+    match node.kind() {
+        Kind::Identifier => Some(Expression::Identifier { name: node.text() }),
+        Kind::Literal => Some(Expression::Literal { raw: node.text() }),
+        Kind::ThisExpression => Some(Expression::This),
+        Kind::ArrayExpression => Some(Expression::Array {
+            elements: node.parts(),
+        }),
+        Kind::ObjectExpression => Some(Expression::Object {
+            properties: node.parts(),
+        }),
+        Kind::FunctionExpression => {
+            let function = Function::of(node)?;
+            Some(Expression::Function(function))
+        }
+        Kind::ArrowFunctionExpression => {
+            let function = Function::of(node)?;
+            Some(Expression::ArrowFunction(function))
+        }
+        Kind::ClassExpression => {
+            let class = Class::of(node)?;
+            Some(Expression::Class(class))
+        }
+        Kind::TemplateLiteral => Some(Expression::TemplateLiteral {
+            turns: node.parts(),
+        }),
+        Kind::SequenceExpression => Some(Expression::Sequence {
+            expressions: node.parts(),
+        }),
+        _ => member(node),
+    }
+}
+
+/// Members and calls, and operations.
+fn member<'t, 's>(node: Node<'t, 's>) -> Option<Expression<'t, 's>>
+    ensures { option_map expression_seen result ≡ member_by (kind_of (node_tree node.entry)) (node_tree node.entry) }
+{
+    match node.kind() {
+        Kind::TaggedTemplateExpression => {
+            let tag = node.part(0)?;
+            let quasi = node.part(1)?;
+            Some(Expression::TaggedTemplate { tag, quasi })
+        }
+        Kind::MemberExpression => selection(node),
+        Kind::CallExpression => call(node),
+        Kind::NewExpression => {
+            let callee = node.part(0)?;
+            let arguments = node.parts().skip(1);
+            Some(Expression::New { callee, arguments })
+        }
+        Kind::MetaProperty => {
+            let meta = node.part(0)?;
+            let property = node.part(1)?;
+            Some(Expression::MetaProperty { meta, property })
+        }
+        Kind::ImportExpression => {
+            let source = node.part(0)?;
+            Some(Expression::Import { source })
+        }
+        Kind::ChainExpression => {
+            let expression = node.part(0)?;
+            Some(Expression::Chain { expression })
+        }
+        _ => operation(node),
+    }
+}
+
+fn selection<'t, 's>(node: Node<'t, 's>) -> Option<Expression<'t, 's>>
+    ensures { option_map expression_seen result ≡ member_by MemberExpression (node_tree node.entry) }
+{
+    let object = node.part(0)?;
+    let property = node.part(1)?;
+    let flags = node.flags();
+    Some(Expression::Member {
+        object,
+        property,
+        computed: flags.computed,
+        optional: flags.optional,
+    })
+}
+
+fn call<'t, 's>(node: Node<'t, 's>) -> Option<Expression<'t, 's>>
+    ensures { option_map expression_seen result ≡ member_by CallExpression (node_tree node.entry) }
+{
+    let callee = node.part(0)?;
+    let flags = node.flags();
+    Some(Expression::Call {
+        callee,
+        arguments: node.parts().skip(1),
+        optional: flags.optional,
+    })
+}
+
+/// Operations.
+fn operation<'t, 's>(node: Node<'t, 's>) -> Option<Expression<'t, 's>>
+    ensures { option_map expression_seen result ≡ operation_by (kind_of (node_tree node.entry)) (node_tree node.entry) }
+{
+    let operator = node.text();
+    match node.kind() {
+        Kind::UpdateExpression => {
+            let argument = node.part(0)?;
+            let flags = node.flags();
+            let prefix = flags.prefix;
+            Some(Expression::Update {
+                operator,
+                prefix,
+                argument,
+            })
+        }
+        Kind::UnaryExpression => {
+            let argument = node.part(0)?;
+            Some(Expression::Unary { operator, argument })
+        }
+        Kind::ConditionalExpression => conditional(node),
+        _ => operands(node),
+    }
+}
+
+fn conditional<'t, 's>(node: Node<'t, 's>) -> Option<Expression<'t, 's>>
+    ensures { option_map expression_seen result ≡ operation_by ConditionalExpression (node_tree node.entry) }
+{
+    let test = node.part(0)?;
+    let consequent = node.part(1)?;
+    let alternate = node.part(2)?;
+    Some(Expression::Conditional {
+        test,
+        consequent,
+        alternate,
+    })
+}
+
+/// Operations with two operands.
+fn operands<'t, 's>(node: Node<'t, 's>) -> Option<Expression<'t, 's>>
+    ensures { option_map expression_seen result ≡ operands_by (kind_of (node_tree node.entry)) (node_tree node.entry) }
+{
+    let operator = node.text();
+    match node.kind() {
+        Kind::BinaryExpression => {
+            let left = node.part(0)?;
+            let right = node.part(1)?;
+            Some(Expression::Binary {
+                operator,
+                left,
+                right,
+            })
+        }
+        Kind::LogicalExpression => {
+            let left = node.part(0)?;
+            let right = node.part(1)?;
+            Some(Expression::Logical {
+                operator,
+                left,
+                right,
+            })
+        }
+        Kind::AssignmentExpression => {
+            let left = node.part(0)?;
+            let right = node.part(1)?;
+            Some(Expression::Assignment {
+                operator,
+                left,
+                right,
+            })
+        }
+        _ => None,
+    }
+}
