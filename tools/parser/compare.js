@@ -112,7 +112,7 @@ function run(texts) {
     const at = path.join(folder, 'crates', file);
     fs.writeFileSync(at, fs.readFileSync(at, 'utf8').replace(new RegExp(`(const ${name}: u32 = )\\d+`), '$1' + value));
   };
-  limit('parser/src/script.rt', 'MAX_HEIGHT', HIGH);
+  limit('descent/src/script.rt', 'MAX_HEIGHT', HIGH);
   limit('token_cursor/src/cursor.rt', 'MAX_OPEN', OPEN);
   return answersOf(folder, texts, 4000);
 }

@@ -8,8 +8,8 @@ use Rattle.tree.specs.Tree.{Tree, height}
 use Rattle.language.specs.Claims.{DerivesOpen, WithinLimits}
 use Rattle.early_errors.specs.Early.{Error, least, least_error}
 use Rattle.unambiguous.proofs.Steps.{one_script}
-use Rattle.parser.specs.Given.{Agrees}
-use Rattle.parser.specs.Refusals.{IsRefusal}
+use Rattle.descent.specs.Given.{Agrees}
+use Rattle.phrases.specs.Refusals.{IsRefusal}
 use Rattle.lint.specs.ReadScripts.{IsOnly, HasEarlyError, RefusesReading}
 
 unlike : {x : Error} → None ≡ Some x → ⊥

@@ -7,10 +7,10 @@ use Rattle.tree.specs.declared.kind.Pair.{Pair}
 use Rattle.tree.specs.Tree.{Tree}
 use Rattle.language.specs.Claims.{DerivesOpen, WithinLimits}
 use Rattle.unambiguous.proofs.Heights.{short_fits}
-use Rattle.parser.specs.declared.script.Parsed.{Parsed}
-use Rattle.parser.specs.Scripts.{IsAnswered}
+use Rattle.descent.specs.declared.script.Script.{Script}
+use Rattle.descent.specs.Scripts.{IsAnswered}
 
-pub short_refused : (text : List ℕ) (r : Result Parsed Fault) → IsUtf8 text → length text < 250 → r ≡ Err TooDeep → IsAnswered text r →
+pub short_refused : (text : List ℕ) (r : Result Script Fault) → IsUtf8 text → length text < 250 → r ≡ Err TooDeep → IsAnswered text r →
     (o : ℕ) (n : Tree) (P : List Pair) → DerivesOpen o text n P → ⊥
 short_refused text r utf8 less is answered o n P d =
     let within : WithinLimits text n P = short_fits text n P utf8 less (o, d) in

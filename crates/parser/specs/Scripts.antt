@@ -5,7 +5,7 @@ use Rattle.tree.specs.declared.kind.Pair.{Pair}
 use Rattle.tree.specs.Tree.{Tree, height}
 use Rattle.language.specs.Claims.{DerivesOpen}
 use Rattle.parser.specs.declared.script.Parsed.{Parsed}
-use Rattle.parser.specs.Given.{Agrees}
+use Rattle.descent.specs.Given.{Agrees}
 
 -- For each derivation of the text, of any height and nesting, the answer is its tree with its pairs; a refusal is no syntax error, and it is too deep only
 -- where the derivation isn't within the limits.

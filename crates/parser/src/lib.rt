@@ -1,21 +1,7 @@
 #![tactic(auto)]
 
-//! Scripts from text (ECMA-262 clauses 12 to 15): by recursive descent. An expression is what its first token begins, and then
-//! what goes on with it; a statement is a list of pieces, by its first token; a list is one loop.
+//! Scripts from text (ECMA-262 clauses 12 to 15): the tree of a text with its grouping pairs, or how the text is refused.
 
-mod chunks;
-mod closures;
-mod expressions;
-mod links;
-mod lists;
-mod openings;
-mod operators;
-mod part;
-mod pieces;
-mod position;
-mod properties;
 mod script;
-mod statements;
-mod words;
 
-pub use script::{MAX_HEIGHT, Parsed, parse};
+pub use script::{Parsed, parse};

@@ -1,22 +1,17 @@
 //! Whole scripts (ECMA-262 15.1).
-#![tactic(auto, using(crate::proofs::Refused::refusals, crate::proofs::Moves::moves))]
+#![tactic(auto, using(phrases::proofs::Refused::refusals))]
 
 ghost use Rattle.std.specs.Prelude.{◌≡◌, ◌≤◌, length, IfErr, IfOk};
 ghost use Rattle.std.specs.Str.{IsUtf8};
 ghost use Rattle.language.specs.Claims.{WithinLimits};
 ghost use Rattle.unambiguous.specs.Laws.{InOrder};
+ghost use Rattle.phrases.specs.Refusals.{IsRefusal};
 ghost use Rattle.parser.specs.Scripts.{IsAnswered};
-ghost use Rattle.parser.specs.Refusals.{IsRefusal};
 
-use crate::position::Parser;
-use crate::statements::{Context, Until};
+use descent::{Script, read};
 use source_text::{Fault, Source};
 use std::alloc::Global;
-use token_cursor::Cursor;
-use tree::{Pair, Program, Span};
-
-/// The greatest height of a tree, the Program's own node counted.
-pub const MAX_HEIGHT: u32 = 500;
+use tree::{Pair, Program};
 
 /// Scripts of fewer bytes than this are within the limits.
 const SHORT: usize = 250;
@@ -44,33 +39,6 @@ impl<'s> Parsed<'s> {
     }
 }
 
-// The script that a text is: what `parse` promises, but for how long a text is that is nested too deep.
-fn read<'s>(alloc: Global, source: &Source<'s>) -> Result<Parsed<'s>, Fault>
-    ensures source { IfOk result (λ _. IsUtf8 source.now × (length source.now ≤ 16777216)) }
-    ensures derived { IfOk result (λ parsed. WithinLimits source.now parsed.program parsed.pairs.items) }
-    ensures complete { IsAnswered source.now result }
-    ensures refused { IfErr result (IsRefusal source.now) }
-{
-    let mut parser = Parser {
-        cursor: Cursor::new(source),
-        pairs: Vec::new(alloc),
-        alloc,
-    };
-    let items = parser.statements(Until::End, Context::SCRIPT, MAX_HEIGHT - 1)?;
-    let Parser {
-        cursor: _,
-        mut pairs,
-        alloc: _,
-    } = parser;
-    pairs.retain(|pair| pair.left < pair.right);
-    let span = Span {
-        start: 0,
-        end: source.text().len(),
-    };
-    let program = Program::new(items.into_parts(), span);
-    Ok(Parsed { program, pairs })
-}
-
 /// The script that a text is.
 ///
 /// # Errors
@@ -87,7 +55,7 @@ pub fn parse<'s>(alloc: Global, source: &Source<'s>) -> Result<Parsed<'s>, Fault
 {
     let text = source.text();
     match read(alloc, source) {
-        Ok(parsed) => Ok(parsed),
+        Ok(Script { program, pairs }) => Ok(Parsed { program, pairs }),
         Err(Fault::TooDeep) if text.len() < SHORT => Err(Fault::Syntax(0)),
         Err(fault) => Err(fault),
     }

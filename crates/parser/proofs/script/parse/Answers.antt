@@ -14,4 +14,4 @@ returns-in-Err-TooDeep-clause-refused c = IsCharBoundary-start c.args.source.now
 pub returns-in-Ok-clause-ordered : goal.returns-in-Ok-clause-ordered
 returns-in-Ok-clause-ordered c =
     let is = c.in-Ok.ensures in
-    pairs_ordered c.args.source.now c.in-Ok.parsed.program c.in-Ok.parsed.pairs.items is.source.0 (1000, is.derived.1)
+    pairs_ordered c.args.source.now _ _ is.source.0 (1000, is.derived.1)

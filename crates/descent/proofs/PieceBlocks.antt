@@ -1,0 +1,132 @@
+-- A piece that is a block, a body or a handler (ECMA-262 13.2, 13.15, 14.1).
+use Rattle.std.proofs.Common.{◌≡◌, ℕ, ◌-◌, ◌≤◌, Bool, true, false, List, [], ◌++◌, refl, sym, ap, ◌∙◌, subst, inl}
+use Rattle.std.specs.Prelude.{IsTrue, codes, Some}
+use Rattle.tokens.specs.declared.token.Class.TheVariants.{Name, Punctuator}
+use Rattle.tokens.specs.declared.token.Goal.{Goal}
+use Rattle.tokens.specs.declared.token.Goal.TheVariants as goal
+use Rattle.tokens.specs.Goals.{allows}
+use Rattle.tokens.specs.Tokens.{LexicalToken, IsTokenAt}
+use Rattle.tokens.specs.Reading.{any_goal, Reads}
+use Rattle.token_cursor.specs.Point.{Point}
+use Rattle.tree.specs.declared.kind.Kind.TheVariants.{BlockStatement, CatchClause}
+use Rattle.tree.specs.declared.kind.Pair.{Pair}
+use Rattle.tree.specs.Tree.{Tree, node, plain, Parts, none, part, height}
+use Rattle.language.specs.declared.Edge.{Edge}
+use Rattle.language.specs.Pieces.{block, body}
+use Rattle.language.specs.Places.{NextIn, next_in, SpellsIn}
+use Rattle.language.specs.Token.{Token}
+use Rattle.language.proofs.Begins.{div_allows}
+use Rattle.phrases.specs.declared.pieces.Built.{Built}
+use Rattle.phrases.specs.declared.pieces.Piece.{Piece as Coded}
+use Rattle.phrases.specs.declared.pieces.Piece.TheVariants as code
+use Rattle.descent.specs.declared.pieces.Wanted.TheVariants as wanted
+use Rattle.phrases.specs.declared.statements.Context.{Context}
+use Rattle.descent.specs.Derived.{Adds, grouping}
+use Rattle.descent.specs.DerivedPieces.{PieceAt, PutAt, StatementsAt, BuiltAt}
+use Rattle.phrases.specs.Outcomes.{IsPlaceHere}
+use Rattle.phrases.specs.Pieces.{Piece, piece_of, CatchParts}
+use Rattle.phrases.specs.Seen.{ReadsHere}
+use Rattle.phrases.specs.Stated.{with_part, item_context, built_of}
+use Rattle.descent.specs.Wants.{WantedAt}
+use Rattle.descent.proofs.Deriving.{adds_behind}
+use Rattle.descent.proofs.Enclosed.{block_spelled, body_spelled, handler_spelled}
+use Rattle.descent.proofs.PieceBy.{OnePiece}
+use Rattle.descent.proofs.PieceParts.{one_part}
+
+-- between what adds nothing to the pairs
+pub adds_within : {m x k e : Point} {old mid more new : List Pair} {A B : ℕ → Token → Token → List Pair → Type 0} → x.opened ≡ m.opened → mid ≡ old → Adds x k mid more A → e.opened ≡ k.opened → new ≡ more → ((o : ℕ) (P : List Pair) → A o x.last k.last P → B o m.last e.last P) → Adds m e old new B
+adds_within {m} {x} {k} {e} {A = A} o1 p1 a o2 p2 f = record {
+  more = a.more;
+  same_open = o2 ∙ a.same_open ∙ o1;
+  pairs = p2 ∙ a.pairs ∙ ap (λ y. y ++ a.more) p1;
+  is = f (1000 - m.opened) (grouping a.more) (subst (λ y. A (1000 - y) x.last k.last (grouping a.more)) o1 a.is);
+}
+
+context_of : {a b : Context} → Some (wanted.Block a) ≡ Some (wanted.Block b) → b ≡ a
+context_of h = cc
+
+module _ (text : List ℕ) (r : Bool) (s m : Point) (b c : Built) (high : ℕ) (context : Context) (o : ℕ) (x k e : Token) (at : ℕ) (ps : Parts) (P : List Pair) (y : Edge)
+    (same : text ≡ s.text) (left : ReadsHere text Punctuator (codes "{") m.last x) (start : x.start ≡ at) (items : StatementsAt text context ps o x k P) (right : ReadsHere text Punctuator (codes "}") k e)
+  where
+    whole_block : context ≡ item_context r → SpellsIn text o (block r) (node BlockStatement [] plain at e.stop ps) m.last e P
+    whole_block is = block_spelled text r ps left start (subst (λ z. StatementsAt text z ps o x k P) is items refl) right
+
+    block_put : (p : Coded) → WantedAt p r s m b c high (wanted.Block context) → PieceAt text r o (piece_of p) s.last e b.edge y (part (node BlockStatement [] plain at e.stop ps) none) P
+    block_put code.Block h = record { put = node BlockStatement [] plain at e.stop ps; parts = refl; spelled = subst (λ z. SpellsIn text o (block r) (node BlockStatement [] plain at e.stop ps) z e P) h.1.0 (whole_block (context_of h.0)) }
+    block_put code.Body h =
+        let whole = body_spelled text ps left start (subst (λ z. StatementsAt text z ps o x k P) (context_of h.0) items refl) right in
+        (record { put = node BlockStatement [] plain at e.stop ps; parts = refl; spelled = subst (λ z. SpellsIn text o body (node BlockStatement [] plain at e.stop ps) z e P) h.1.0 whole }, right.text)
+    block_put code.Finally h = inl (m.last, subst (λ z. ReadsHere z Name (codes "finally") s.last m.last) (sym same) h.0.0, record { put = node BlockStatement [] plain at e.stop ps; parts = refl; spelled = whole_block h.0.1 })
+    block_put code.Test h = absurd h.0
+    block_put code.Update h = absurd h.0
+    block_put code.Argument h = absurd h.0
+    block_put code.Head h = absurd h.0
+    block_put code.Else h = absurd h.0
+    block_put code.Catch h = absurd h.0
+    block_put code.Heritage h = absurd h.0
+    block_put _ h = cc
+
+pub block_piece : {s m x k e : Point} {old q0 q1 q2 new : List Pair} {r : Bool} (p : Coded) {b : Built} (c : Built) {d : Built} {high at : ℕ} {n : Tree} {ps : Parts} (context : Context) → m.text ≡ s.text → x.text ≡ m.text → k.text ≡ x.text → m.opened ≡ s.opened → q0 ≡ old → x.opened ≡ m.opened → q1 ≡ q0 → e.opened ≡ k.opened → new ≡ q2 →
+    WantedAt p r s m b c high (wanted.Block context) → ReadsHere m.text Punctuator (codes "{") m.last x.last → x.last.start ≡ at → Adds x k q1 q2 (StatementsAt x.text context ps) → ReadsHere k.text Punctuator (codes "}") k.last e.last →
+    n ≡ node BlockStatement [] plain at e.last.stop ps → d ≡ with_part c n c.edge → height n ≤ high → OnePiece s e old new r (piece_of p) b d high
+block_piece {s} {m} {x} {k} {e} {q0 = q0} {new = new} {r = r} p {b} c {d} {high} {at} {n} {ps} context t0 t1 t2 o0 p0 o1 p1 o2 p2 h left start a right made is low =
+    let left' = subst (λ z. ReadsHere z Punctuator (codes "{") m.last x.last) t0 left in
+    let right' = subst (λ z. ReadsHere z Punctuator (codes "}") k.last e.last) (t2 ∙ t1 ∙ t0) right in
+    one_part p c n c.edge o0 p0 (λ u. cc) h is low
+    (λ edges. adds_within o1 p1 a o2 p2 (λ o P v.
+    subst (λ z. PieceAt s.text r o (piece_of p) s.last e.last b.edge c.edge (part z none) P) (sym made)
+    (block_put s.text r s m b c high context o x.last k.last e.last at ps P c.edge refl left' start (subst (λ z. StatementsAt z context ps o x.last k.last P) (t1 ∙ t0) v) right' p h)))
+
+-- the same token, by another goal that allows it
+by_goal : {at : ℕ} {cs : List ℕ} {g : Goal} {t : LexicalToken} {rest : List ℕ} (h : Goal) (x : IsTokenAt g at cs t rest) → IsTrue (allows h t.class x.word) → IsTokenAt h at cs t rest
+by_goal h x al = record {
+  gap = x.gap;
+  word = x.word;
+  split = x.split;
+  separated = x.separated;
+  no_comment = x.no_comment;
+  longest = x.longest;
+  allowed = al;
+  text = x.text;
+  start = x.start;
+  stop = x.stop;
+  after_break = x.after_break;
+}
+
+-- the place of what stands ahead is that of a name there
+pub place_name : (p : Point) {w : List ℕ} {m : Token} {at : ℕ} → IsPlaceHere p at → ReadsHere p.text Name w p.last m → at ≡ m.start
+place_name p {at = at} here r = of r.next r.class here.1
+  where
+    of : {s t e : Token} → NextIn p.text any_goal s t e → t.class ≡ Name → ((u : LexicalToken) → Reads p.text goal.Div s.stop u → at ≡ u.start) → at ≡ t.start
+    of (next_in {t = u} g any x) class here = here u (by_goal goal.Div x (subst (λ c. IsTrue (allows goal.Div c x.word)) (sym class) (div_allows true x.word)))
+
+pub place_mark : (p : Point) {w : List ℕ} {m : Token} {at : ℕ} → IsPlaceHere p at → ReadsHere p.text Punctuator w p.last m → at ≡ m.start
+place_mark p {at = at} here r = of r.next r.class here.1
+  where
+    of : {s t e : Token} → NextIn p.text any_goal s t e → t.class ≡ Punctuator → ((u : LexicalToken) → Reads p.text goal.Div s.stop u → at ≡ u.start) → at ≡ t.start
+    of (next_in {t = u} g any x) class here = here u (by_goal goal.Div x (subst (λ c. IsTrue (allows goal.Div c x.word)) (sym class) (div_allows false x.word)))
+
+-- a handler
+handler_put : (text : List ℕ) (r : Bool) (s m : Point) (b c : Built) (high at : ℕ) (ps : Parts) (o : ℕ) (e : Token) (P : List Pair) (z y : Edge) {pieces : List Piece} (p : Coded) → text ≡ s.text → WantedAt p r s m b c high (wanted.Handler at) → CatchParts text m.last pieces → Rattle.descent.specs.DerivedPieces.PiecesAt text r o pieces m.last e Rattle.language.specs.declared.Edge.TheVariants.Closed z ps P →
+    PieceAt text r o (piece_of p) s.last e b.edge y (part (node CatchClause [] plain at e.stop ps) none) P
+handler_put text r s m b c high at ps o e P z y code.Catch same h parts d =
+    let read = subst (λ v. ReadsHere v Name (codes "catch") s.last m.last) (sym same) h.0.0 in
+    inl (record { put = node CatchClause [] plain at e.stop ps; parts = refl; spelled = handler_spelled text r _ z read (sym (place_name s h.0.1 h.0.0)) parts d })
+handler_put text r s m b c high at ps o e P z y code.Test same h parts d = absurd h.0
+handler_put text r s m b c high at ps o e P z y code.Update same h parts d = absurd h.0
+handler_put text r s m b c high at ps o e P z y code.Argument same h parts d = absurd h.0
+handler_put text r s m b c high at ps o e P z y code.Head same h parts d = absurd h.0
+handler_put text r s m b c high at ps o e P z y code.Else same h parts d = absurd h.0
+handler_put text r s m b c high at ps o e P z y code.Finally same h parts d = absurd h.0
+handler_put text r s m b c high at ps o e P z y code.Heritage same h parts d = absurd h.0
+handler_put text r s m b c high at ps o e P z y _ same h parts d = cc
+
+pub handler_piece : {s m e : Point} {old mid new : List Pair} {r : Bool} (p : Coded) {b : Built} (c : Built) {d : Built} {high : ℕ} {n : Tree} (at : ℕ) (first caught : Built) {pieces : List Piece} → m.text ≡ s.text → m.opened ≡ s.opened → mid ≡ old →
+    WantedAt p r s m b c high (wanted.Handler at) → CatchParts m.text m.last pieces → first ≡ built_of none → Adds m e mid new (BuiltAt m.text r pieces first caught) → n ≡ node CatchClause [] plain at e.last.stop caught.nodes → d ≡ with_part c n c.edge → height n ≤ high → OnePiece s e old new r (piece_of p) b d high
+handler_piece {s} {m} {e} {r = r} p {b} c {d} {high} {n} at first caught {pieces} t0 o0 p0 h parts is_first a made is low =
+    one_part p c n c.edge o0 p0 (λ u. cc) h is low
+    (λ edges. adds_behind refl refl a (λ o P v.
+    let u = subst (λ z. BuiltAt z r pieces (built_of none) caught o m.last e.last P) t0 (subst (λ z. BuiltAt m.text r pieces z caught o m.last e.last P) is_first v) in
+    let tree : n ≡ node CatchClause [] plain at e.last.stop u.added = made ∙ ap (λ qs. node CatchClause [] plain at e.last.stop qs) u.nodes in
+    subst (λ z. PieceAt s.text r o (piece_of p) s.last e.last b.edge c.edge (part z none) P) (sym tree)
+    (handler_put s.text r s m b c high at u.added o e.last P caught.edge c.edge p refl h (subst (λ z. CatchParts z m.last pieces) t0 parts) u.read)))

@@ -1,0 +1,67 @@
+-- The next stage on the spine of an expression.
+use Rattle.std.proofs.Common.{◌≡◌, ◌⊎◌, ℕ, suc, ◌≤◌, ◌<◌, Bool, true, false, cond, List, [], ◌∷◌, ◌++◌, refl, sym, ap, ◌∙◌, subst, inl, inr, arith}
+use Rattle.std.specs.Prelude.{IsTrue, codes, Some, None, not, ◌&&◌, ◌||◌}
+use Rattle.std.proofs.lemmas.Bool.{false≢true, and_from}
+use Rattle.tokens.specs.declared.token.Goal.TheVariants.{Div}
+use Rattle.tokens.specs.Reading.{any_goal}
+use Rattle.tree.specs.declared.kind.Kind.{Kind}
+use Rattle.tree.specs.declared.kind.Kind.TheVariants.{AssignmentExpression, BinaryExpression, LogicalExpression, ConditionalExpression}
+use Rattle.tree.specs.declared.kind.Pair.{Pair}
+use Rattle.tree.specs.Tree.{Tree, node, plain, Parts, part, none, kind_of, text_of, height}
+use Rattle.language.specs.declared.Rank.{Rank}
+use Rattle.language.specs.declared.Rank.TheVariants.{Assignment, Conditional, ShortCircuit, LeftHandSide, Update, Exponentiation}
+use Rattle.language.specs.declared.Start.{Start}
+use Rattle.language.specs.declared.Start.TheVariants.{Any}
+use Rattle.language.specs.declared.Edge.{Edge}
+use Rattle.language.specs.Words.{is, takes, tightness, is_target as is_simple, is_pattern, Operator, binds, powers, assigns, asks}
+use Rattle.language.specs.Token.{Token}
+use Rattle.language.specs.Edges.{edge, standing}
+use Rattle.language.specs.Pieces.{Role, expr}
+use Rattle.language.specs.Follow.{operation, symbol_of, holds, stops_at, stops}
+use Rattle.language.specs.Promises.{ReadBy}
+use Rattle.language.specs.Covers.{Reading, as_expression, as_pattern}
+use Rattle.language.specs.Derivation.{Placed}
+use Rattle.language.specs.Places.{NextIn, itself, SpellsIn}
+use Rattle.language.proofs.TextPlaces.{text_determined}
+use Rattle.language.proofs.Spine.{Grows}
+use Rattle.language.proofs.Climbing.{Leads, grows_height}
+use Rattle.language.proofs.TwoSides.{TwoSided, two_binds, two_powers, two_assigns, same_places, replaced, retold, regrown}
+use Rattle.covers.specs.Patterns.{pattern_tree}
+use Rattle.covers.specs.Shapes.{is_element, is_target, is_pattern as is_listed}
+use Rattle.phrases.specs.declared.part.Part.{Part}
+use Rattle.phrases.specs.declared.position.Position.{Position}
+use Rattle.descent.specs.Derived.{Begins}
+use Rattle.phrases.specs.Operators.{stops_by}
+use Rattle.descent.specs.Stages.{SpineAs, Serves, as_it_is, as_element, StageAs, on_spine}
+use Rattle.descent.proofs.Spelled.{placed_at}
+use Rattle.descent.proofs.OverEnds.{grows_or, target_element}
+
+module _ (text : List ℕ) where
+  -- what goes on at the position goes on behind the tree
+  pub goes_there : (p : Position) (l : Part) (m t : Token) → l.edge ≡ standing (edge l.cover.node) m → stops_by p l.edge t ≡ false → stops p.rank p.has_in (edge l.cover.node) m t ≡ false
+  goes_there p l m t at goes = subst (λ v. stops_at p.rank p.has_in v t (symbol_of (operation t) t.after_break) ≡ false) at goes
+
+  -- what was read stands on the spine, and serves as what was read before it
+  pub on_further : {p : Position} {o : ℕ} {s e : Token} {P : List Pair} {l : Part} {m : Token} {Q : List Pair} {a : Reading} {n k : Tree} {r : Part} {to : Token} {R : List Pair} → Serves text p o s e P l m Q a n k → height k ≡ height n → SpineAs text p o s e P l m Q k →
+      Leads Token (NextIn text any_goal) itself (text_determined text) o s p.rank p.has_in p.start k e P r.rank r.cover.node to R → r.cover.shape.is_expression ≡ true → (is_simple (kind_of r.cover.node) ≡ true → is_target r.cover.shape.assigned ≡ true) →
+      (kind_of r.cover.node ≡ AssignmentExpression → text_of r.cover.node ≡ codes "=" → is_element r.cover.shape.assigned ≡ true) → StageAs text p o s e P r to R a n
+  on_further {p} {o} {s} {e} {P} {l} {m} {Q} {a} {n} {k} {r} {to} {R} serves high u leads value target element = on_spine (of serves) high (record { no_test = u.no_test; stopped = u.stopped; leads = leads; value = value; target = target })
+    where
+      of : Serves text p o s e P l m Q a n k → Serves text p o s e P r to R a n k
+      of (as_it_is reading same) = as_it_is reading same
+      of (as_element reading same other kind so_far) = as_element reading same other kind (by (grows_or text leads.grows) kind)
+        where
+          by : (r.cover.node ≡ k) ⊎ (height r.cover.node < height k) → (is_simple (kind_of k) ≡ true) ⊎ ((kind_of k ≡ AssignmentExpression) × (text_of k ≡ codes "=")) → (height r.cover.node < height k) ⊎ (is_element r.cover.shape.assigned ≡ true)
+          by (inr less) x = inl less
+          by (inl whole) (inl simple) = inr (target_element r.cover.shape.assigned (target (ap (λ v. is_simple (kind_of v)) whole ∙ simple)))
+          by (inl whole) (inr x) = inr (element (ap kind_of whole ∙ x.0) (ap text_of whole ∙ x.1))
+
+  -- a node on the spine, told of the start and the end that it has
+  pub node_there : {o : ℕ} {s0 e : Token} {y : Rank} {i : Bool} {f : Start} {n : Tree} {P : List Pair} {h c : Rank} {j : Bool} {g : Start} {k : Kind} {w : List ℕ} {fl : Rattle.tree.specs.declared.kind.Flags.Flags} {st en from : ℕ} {ps : Parts} {to : Token} {Q : List Pair} → Begins text from s0 →
+      Placed Token (NextIn text any_goal) itself (expr h j g) (node k w fl st en ps) s0 to → IsTrue (takes h c) → SpellsIn text o (expr h j g) (node k w fl st en ps) s0 to Q → Grows Token (NextIn text any_goal) itself o s0 (expr y i f) n e P (expr h j g) (node k w fl st en ps) to Q →
+      Leads Token (NextIn text any_goal) itself (text_determined text) o s0 y i f n e P c (node k w fl from to.stop ps) to Q
+  node_there {s0 = s0} {h = h} {j = j} {g = g} {k = k} {w = w} {fl = fl} {st = st} {en = en} {from = from} {ps = ps} {to = to} begins pl fits sp gs =
+      let places : Placed Token (NextIn text any_goal) itself (expr h j g) (node k w fl from to.stop ps) s0 to = placed_at text begins in
+      let at = same_places Token (NextIn text any_goal) itself (text_determined text) pl places refl in
+      let same : node k w fl st en ps ≡ node k w fl from to.stop ps = λ v. node k w fl (at.0 v) (at.1 v) ps in
+      record { h = h; j = j; g = g; fits = fits; spelled = retold Token (NextIn text any_goal) itself (text_determined text) same refl refl sp; grows = regrown Token (NextIn text any_goal) itself (text_determined text) same refl refl gs }

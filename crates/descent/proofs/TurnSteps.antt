@@ -1,0 +1,117 @@
+-- A turn of the loop at `++` or `--`, and the texts of operators.
+use Rattle.std.proofs.Common.{◌≡◌, ◌⊎◌, ℕ, suc, ◌≤◌, ◌<◌, ◌-◌, Bool, true, false, cond, List, [], ◌∷◌, ◌++◌, Result, Ok, Err, refl, sym, ap, ◌∙◌, subst, inl, inr, arith}
+use Rattle.std.specs.Prelude.{IsTrue, Option, Some, None}
+use Rattle.std.specs.Result.{IsErrAnd}
+use Rattle.std.proofs.lemmas.Bool.{false≢true}
+use Rattle.std.proofs.lemmas.List.{append-nil}
+use Rattle.source_text.specs.declared.fault.Fault.{Fault}
+use Rattle.source_text.specs.declared.fault.Fault.TheVariants.{TooDeep, OutOfMemory}
+use Rattle.tokens.specs.declared.token.Goal.TheVariants.{Div}
+use Rattle.tokens.specs.Tokens.{LexicalToken}
+use Rattle.tokens.specs.Reading.{any_goal}
+use Rattle.token_cursor.specs.Point.{Point, IsAhead}
+use Rattle.tree.specs.declared.kind.Kind.TheVariants.{UpdateExpression, AssignmentExpression}
+use Rattle.tree.specs.declared.kind.Pair.{Pair}
+use Rattle.tree.specs.Tree.{Tree, node, plain, Parts, part, none, height, parts_height, kind_of}
+use Rattle.language.specs.declared.Rank.TheVariants.{Update}
+use Rattle.language.specs.declared.Edge.TheVariants.{Postfix}
+use Rattle.language.specs.Words.{is_word_operator, is_target as is_simple, Operator, assigns, steps, tags}
+use Rattle.language.specs.Token.{Token, as_read, table_text}
+use Rattle.language.specs.Follow.{operation}
+use Rattle.language.specs.Promises.{ReadBy}
+use Rattle.language.specs.Covers.{Reading}
+use Rattle.language.specs.Places.{NextIn, itself}
+use Rattle.language.proofs.TextPlaces.{text_determined}
+use Rattle.language.proofs.Signs.{op_reads}
+use Rattle.language.proofs.Climbing.{Leads, grows_height}
+use Rattle.covers.specs.Patterns.{pattern_tree}
+use Rattle.covers.specs.Shapes.{is_target}
+use Rattle.phrases.specs.declared.part.Part.{Part}
+use Rattle.phrases.specs.declared.position.Position.{Position}
+use Rattle.phrases.specs.declared.operators.Operator.{Operator as Coded}
+use Rattle.phrases.specs.declared.operators.Operator.TheVariants as code
+use Rattle.descent.specs.Derived.{ReadAt}
+use Rattle.descent.specs.Given.{Room}
+use Rattle.phrases.specs.Operators.{coded_operator, stops_by}
+use Rattle.phrases.specs.Parts.{plain_part}
+use Rattle.phrases.specs.Outcomes.{BecomesHere}
+use Rattle.descent.specs.Stages.{StageAs, Staged, TurnComplete}
+use Rattle.descent.proofs.Agreeing.{agrees_err, refuses_high, refuses_memory, refuses_unfit}
+use Rattle.phrases.proofs.Seeing.{ahead_read}
+use Rattle.descent.proofs.SidedBy.{own_text}
+use Rattle.descent.proofs.OverEnds.{simple_itself}
+use Rattle.descent.proofs.SpineTurns.{goes_there, on_further}
+use Rattle.descent.proofs.Turning.{some_operator, no_tag, steps_by}
+use Rattle.descent.proofs.LinksOn.{step_on}
+use Rattle.descent.proofs.TurnBy.{OnSpine, spined, spine_only}
+
+-- an operator that is no tag has the text of its token
+pub own_there : (v : LexicalToken) {c : Coded} → coded_operator (operation (as_read v)) v.text ≡ Some c → (c ≡ code.Tags → ⊥) → (as_read v).text ≡ v.text
+own_there v op other =
+    let r = op_reads (as_read v) refl (some_operator (operation (as_read v)) v.text op) (no_tag (operation (as_read v)) v.text op other) in
+    own_text (is_word_operator (as_read v).text) v.class v.text r.0
+
+module _ (s : Point) (p : Position) (l : Part) (v : LexicalToken) {c : Coded} (ahead : IsAhead Div s.text s.last.stop v) (coded : coded_operator (operation (as_read v)) v.text ≡ Some c) (is : c ≡ code.Steps) (goes : stops_by p l.edge (as_read v) ≡ false) where
+  no_tags : c ≡ code.Tags → ⊥
+  no_tags e = let k = sym is ∙ e in cc
+
+  abbrev pub stepped : Tree
+  stepped = node UpdateExpression v.text plain l.start v.stop (part (pattern_tree l.cover.node) none)
+
+  -- what stands before it is a target; it is no higher than what is given; and the next stage
+  pub record Stepping (o : ℕ) (from to : Token) (P Q : List Pair) (a : Reading) (n : Tree) : Type 0 where
+    pub target : is_target l.cover.shape.assigned ≡ true
+    pub low : height stepped ≤ height n
+    pub next : StageAs s.text p o from to P (plain_part stepped Update Postfix) (as_read v) (Q ++ []) a n
+
+  pub stepping : (a : Reading) (o : ℕ) (n : Tree) (from to : Token) (P Q R : List Pair) → ReadAt s.text p l (1000 - s.opened) from s.last R → StageAs s.text p o from to P l s.last Q a n → Stepping o from to P Q a n
+  stepping a o n from to P Q R read stage = of (spine_only s.text p o from to P l s.last Q a n read.part.begins read.part.edge r goes (λ h. let k : steps ≡ assigns = sym op ∙ h in cc) stage)
+    where
+      r : ReadBy Token (NextIn s.text any_goal) itself Div s.last (as_read v) (as_read v)
+      r = ahead_read s.text Div s.last v ahead
+
+      op : operation (as_read v) ≡ steps
+      op = steps_by (operation (as_read v)) v.text (coded ∙ ap Some is)
+
+      of : OnSpine s.text p o from to P l s.last Q a n read.part.begins read.part.edge r goes → Stepping o from to P Q a n
+      of (spined {k = k} serves high u) =
+          let w = step_on s.text p o from to P l s.last Q a n serves high u read.part.begins r (goes_there s.text p l s.last (as_read v) read.part.edge goes) op in
+          let same : node UpdateExpression (as_read v).text plain l.start v.stop (part l.cover.node none) ≡ stepped =
+          (let back : l.cover.node ≡ pattern_tree l.cover.node = sym (simple_itself l.cover.node w.target) in let texts = own_there v coded no_tags in λ i. node UpdateExpression (texts i) plain l.start v.stop (part (back i) none)) in
+          let leads : Leads Token (NextIn s.text any_goal) itself (text_determined s.text) o from p.rank p.has_in p.start k to P Update stepped (as_read v) (Q ++ []) = subst (λ d. Leads Token (NextIn s.text any_goal) itself (text_determined s.text) o from p.rank p.has_in p.start k to P Update d (as_read v) (Q ++ [])) same w.leads in
+          let below = grows_height Token (NextIn s.text any_goal) itself (text_determined s.text) leads.grows in
+          record {
+            target = u.target w.target;
+            low = omega arith;
+            next = on_further s.text {r = plain_part stepped Update Postfix} serves high u leads refl (λ h. cc) (λ h d. cc);
+          }
+
+  pub step_staged : {a : Reading} {o : ℕ} {n : Tree} {from to : Token} {P Q : List Pair} → Stepping o from to P Q a n → (r : Part) (e : Point) (old new : List Pair) → e.last ≡ as_read v → new ≡ old → r ≡ plain_part (node UpdateExpression v.text plain l.start e.last.stop (part (pattern_tree l.cover.node) none)) Update Postfix →
+      Staged s.text p o from to P r e.last Q old new a n
+  step_staged {a} {o} {n} {from} {to} {P} {Q} u r e old new last same tree =
+      let made : plain_part stepped Update Postfix ≡ r = sym (tree ∙ ap (λ (k : Token). plain_part (node UpdateExpression v.text plain l.start k.stop (part (pattern_tree l.cover.node) none)) Update Postfix) last) in
+      record {
+        more = [];
+        added = same ∙ sym (append-nil old);
+        stage = subst (λ d. StageAs s.text p o from to P r d (Q ++ []) a n) (sym last) (subst (λ d. StageAs s.text p o from to P d (as_read v) (Q ++ []) a n) made u.next);
+      }
+
+  -- what stands before it is no target, or the node is higher than allowed
+  module _ (high : ℕ) (e : Point) (old new : List Pair) (answer : Result Part Fault) (fault : Fault) (err : IsErrAnd answer (λ x. x ≡ fault)) where
+    pub step_unfit : (t : Tree) → BecomesHere t (is_target l.cover.shape.assigned) s (Err fault) → TurnComplete s e old new high p l answer
+    step_unfit t unfit = λ a o n from to P Q R read stage.
+        let u = stepping a o n from to P Q R read stage in
+        agrees_err (Room s o (height n) high) (λ r. Staged s.text p o from to P r e.last Q old new a n) answer fault err (refuses_unfit (Room s o (height n) high) t (is_target l.cover.shape.assigned) s fault unfit u.target)
+
+    pub step_high : (levels : ℕ) {nodes : Parts} → nodes ≡ part (pattern_tree l.cover.node) none → levels ≡ suc (parts_height nodes) → fault ≡ TooDeep → high < levels → TurnComplete s e old new high p l answer
+    step_high levels {nodes} nodes_are levels_are deep above = λ a o n from to P Q R read stage.
+        let u = stepping a o n from to P Q R read stage in
+        let low = u.low in
+        let level : suc (parts_height nodes) ≡ suc (parts_height (part (pattern_tree l.cover.node) none)) = ap (λ ps. suc (parts_height ps)) nodes_are in
+        agrees_err (Room s o (height n) high) (λ r. Staged s.text p o from to P r e.last Q old new a n) answer fault err
+        (refuses_high (Room s o (height n) high) levels high fault deep above (λ (room : Room s o (height n) high). let fits = room.1 in omega arith))
+
+-- memory is refused
+pub turn_memory : (s e : Point) (old new : List Pair) (high : ℕ) (p : Position) (l : Part) (answer : Result Part Fault) (fault : Fault) → IsErrAnd answer (λ x. x ≡ fault) → fault ≡ OutOfMemory → TurnComplete s e old new high p l answer
+turn_memory s e old new high p l answer fault err is = λ a o n from to P Q R read stage.
+    agrees_err (Room s o (height n) high) (λ r. Staged s.text p o from to P r e.last Q old new a n) answer fault err (refuses_memory (Room s o (height n) high) fault is)

@@ -1,0 +1,12 @@
+use Rattle.std.proofs.Common.{sym, ◌∙◌}
+use Rattle.std.proofs.lemmas.Bool.{OnTrue_from, OnFalse_from}
+use Rattle.tokens.specs.declared.token.Class.TheVariants.{Name}
+use Rattle.tokens.specs.declared.token.Goal.TheVariants.{Div}
+use Rattle.phrases.proofs.Seeing.{sees, word_missed}
+use Rattle.descent.proofs.position.Parser.sees_word.Goals as goal
+
+pub returns-in-Some-clause-seen : goal.returns-in-Some-clause-seen
+returns-in-Some-clause-seen c = OnTrue_from _ _ (λ h. sees _ Div Name _ _ _ c.in-Some.ensures.some (sym c.is_word.ensures.is ∙ h))
+
+pub returns-in-Some-clause-missed : goal.returns-in-Some-clause-missed
+returns-in-Some-clause-missed c = OnFalse_from _ _ (λ h. word_missed _ _ _ _ c.in-Some.ensures.some (sym c.is_word.ensures.is ∙ h))

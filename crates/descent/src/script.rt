@@ -1,0 +1,56 @@
+//! Whole scripts (ECMA-262 15.1).
+#![tactic(auto, using(phrases::proofs::Refused::refusals, crate::proofs::Moves::moves))]
+
+ghost use Rattle.std.specs.Prelude.{◌≡◌, ◌≤◌, length, IfErr, IfOk};
+ghost use Rattle.std.specs.Str.{IsUtf8};
+ghost use Rattle.language.specs.Claims.{WithinLimits};
+ghost use Rattle.phrases.specs.Refusals.{IsRefusal};
+ghost use Rattle.descent.specs.Scripts.{IsAnswered};
+
+use crate::position::Parser;
+use phrases::{Context, Until};
+use source_text::{Fault, Source};
+use std::alloc::Global;
+use token_cursor::Cursor;
+use tree::{Pair, Program, Span};
+
+/// The greatest height of a tree, the Program's own node counted.
+pub const MAX_HEIGHT: u32 = 500;
+
+/// A script, with the pairs of parentheses that group, in order of their `(`.
+#[derive(Drop)]
+pub struct Script<'s> {
+    pub program: Program<'s>,
+    pub pairs: Vec<Pair>,
+}
+
+/// The script that a text is.
+///
+/// # Errors
+/// `Syntax` with a place, a byte offset, where no derivation exists; `TooDeep` where none exists within the limits: a height of `MAX_HEIGHT`, and
+/// `token_cursor::MAX_OPEN` parentheses that are open at one point and group or hold an arrow's parameters; `OutOfMemory`.
+pub fn read<'s>(alloc: Global, source: &Source<'s>) -> Result<Script<'s>, Fault>
+    ensures source { IfOk result (λ _. IsUtf8 source.now × (length source.now ≤ 16777216)) }
+    ensures derived { IfOk result (λ script. WithinLimits source.now script.program script.pairs.items) }
+    ensures complete { IsAnswered source.now result }
+    ensures refused { IfErr result (IsRefusal source.now) }
+{
+    let mut parser = Parser {
+        cursor: Cursor::new(source),
+        pairs: Vec::new(alloc),
+        alloc,
+    };
+    let items = parser.statements(Until::End, Context::SCRIPT, MAX_HEIGHT - 1)?;
+    let Parser {
+        cursor: _,
+        mut pairs,
+        alloc: _,
+    } = parser;
+    pairs.retain(|pair| pair.left < pair.right);
+    let span = Span {
+        start: 0,
+        end: source.text().len(),
+    };
+    let program = Program::new(items.into_parts(), span);
+    Ok(Script { program, pairs })
+}

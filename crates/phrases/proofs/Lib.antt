@@ -1,0 +1,6 @@
+pub mod Begun
+pub mod Grouping
+pub mod Opened
+pub mod Operating
+pub mod Refused
+pub mod Seeing

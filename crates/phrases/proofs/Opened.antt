@@ -1,0 +1,65 @@
+-- What the token ahead begins, by its class, and whether it stands at a position.
+use Rattle.std.proofs.Common.{◌≡◌, ℕ, Bool, false, cond, List, refl, sym, ap, ◌∙◌}
+use Rattle.std.specs.Prelude.{IsFalse, Option, Some, None, nat_eq, slice_index_or}
+use Rattle.tokens.specs.declared.token.Class.{Class}
+use Rattle.tokens.specs.declared.token.Class.TheVariants.{Template}
+use Rattle.tokens.specs.declared.token.Goal.TheVariants.{RegExp}
+use Rattle.tokens.specs.Tokens.{LexicalToken}
+use Rattle.language.specs.declared.Rank.{Rank}
+use Rattle.language.specs.declared.Start.{Start}
+use Rattle.language.specs.Opening.{Opening, with_name, with_literal, with_this, with_bracket, with_brace, with_function, with_class, with_template, with_parenthesis, with_super, with_new, with_import, with_step, with_word, with_sign, no_opening, opening_by, opening_of}
+use Rattle.language.specs.Token.{Token, table_text, as_read}
+use Rattle.token_cursor.specs.Point.{IsAhead, NoneAhead}
+use Rattle.phrases.specs.declared.position.Position.{Position}
+use Rattle.phrases.specs.declared.openings.Opening.{Opening as Coded}
+use Rattle.phrases.specs.Openings.{coded_opening, stands_at, stood, opens_at, OpensNothing}
+use Rattle.phrases.proofs.Seeing.{none_ahead, of_ahead}
+
+-- what a token begins, by its class
+pub by_class : (t : LexicalToken) (c : Class) → t.class ≡ c → coded_opening (opening_by c (table_text c t.text)) ≡ coded_opening (opening_of (as_read t))
+by_class t c e = ap (λ d. coded_opening (opening_by d (table_text d t.text))) (sym e)
+
+pub template_opening : (t : LexicalToken) (b : Bool) → t.class ≡ Template → nat_eq (slice_index_or (as_read t).text 0 0) 96 ≡ b → coded_opening (cond b with_template no_opening) ≡ coded_opening (opening_of (as_read t))
+template_opening t b c h = ap coded_opening (sym (ap (λ d. opening_by d (as_read t).text) c ∙ ap (λ x. cond x with_template no_opening) h))
+
+stood_if : Rank → Start → Option Coded → Bool
+stood_if y f None = false
+stood_if y f (Some c) = stood y f c
+
+-- what the code has for an opening stands where that does
+same_if : (y : Rank) (f : Start) (x : Opening) (o : Option Coded) → coded_opening x ≡ o → stands_at y f x ≡ stood_if y f o
+unfolding stood_if
+same_if y f x o h = of x ∙ ap (stood_if y f) h
+  where
+    of : (x : Opening) → stands_at y f x ≡ stood_if y f (coded_opening x)
+    of with_name = refl
+    of with_literal = refl
+    of with_this = refl
+    of with_bracket = refl
+    of with_brace = refl
+    of with_function = refl
+    of with_class = refl
+    of with_template = refl
+    of with_parenthesis = refl
+    of with_super = refl
+    of with_new = refl
+    of with_import = refl
+    of with_step = refl
+    of with_word = refl
+    of with_sign = refl
+    of no_opening = refl
+
+pub stands_same : (p : Position) (t : Token) (c : Coded) (b : Bool) → coded_opening (opening_of t) ≡ Some c → stood p.rank p.start c ≡ b → opens_at p t ≡ b
+unfolding stood_if
+stands_same p t c b h k = same_if p.rank p.start (opening_of t) (Some c) h ∙ k
+
+pub stands_nowhere : (p : Position) (t : Token) → coded_opening (opening_of t) ≡ None → opens_at p t ≡ false
+unfolding stood_if
+stands_nowhere p t h = same_if p.rank p.start (opening_of t) None h
+
+-- where the token ahead begins nothing, nothing does
+pub nothing_ahead : (text : List ℕ) (p : Position) (s : Token) (u : LexicalToken) → IsAhead RegExp text s.stop u → opens_at p (as_read u) ≡ false → OpensNothing text p s
+nothing_ahead text p s u a h = of_ahead text (λ t. IsFalse (opens_at p t)) RegExp s u a h
+
+pub nothing_read : (text : List ℕ) (p : Position) (s : Token) → NoneAhead RegExp text s.stop → OpensNothing text p s
+nothing_read text p s none t m r = absurd (none_ahead text RegExp s none t m r)

@@ -1,0 +1,15 @@
+pub mod Assignments
+pub mod Beginnings
+pub mod Items
+pub mod Methods
+pub mod Moves
+pub mod Openings
+pub mod Operators
+pub mod Outcomes
+pub mod Parts
+pub mod Pieces
+pub mod Refusals
+pub mod Seen
+pub mod Stated
+pub mod Tests
+pub mod Tokens

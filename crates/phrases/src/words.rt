@@ -1,0 +1,83 @@
+//! Single tokens.
+#![tactic(auto, using(crate::proofs::Refused::refusals))]
+
+ghost use Rattle.std.specs.Prelude.{◌≡◌, ◌&&◌, true, false, nat_eq, slice_index_or};
+ghost use Rattle.std.specs.Bool.{OnTrue};
+ghost use Rattle.tokens.specs.Scanned.{token_of};
+ghost use Rattle.language.specs.Token.{as_read, same_class, is_token, is_mark};
+ghost use Rattle.language.specs.Words.{is_reserved};
+ghost use Rattle.phrases.specs.Seen.{is_any, is_free_name, declares};
+
+use grammar::is_reserved;
+use tokens::{Class, Token};
+use tree::Span;
+
+/// The place of a token.
+pub fn span_of(token: &Token<'_>) -> Span
+    ensures { result ≡ record { start = token.now.start; end = token.now.end } }
+{
+    Span {
+        start: token.start,
+        end: token.end,
+    }
+}
+
+/// Whether the token is this punctuator.
+pub fn is_mark(token: &Token<'_>, mark: &str) -> bool
+    ensures class { OnTrue result (token.now.class ≡ Class.Punctuator) }
+    ensures is { result ≡ is_mark mark.now (as_read (token_of token.now)) }
+{
+    token.class == Class::Punctuator && token.text == mark
+}
+
+/// Whether the token is this name.
+pub fn is_word(token: &Token<'_>, word: &str) -> bool
+    ensures class { OnTrue result (token.now.class ≡ Class.Name) }
+    ensures is { result ≡ is_token Class.Name word.now (as_read (token_of token.now)) }
+{
+    token.class == Class::Name && token.text == word
+}
+
+/// Whether the token is an Identifier (ECMA-262 12.1).
+pub fn is_identifier(token: &Token<'_>) -> bool
+    ensures class { OnTrue result (token.now.class ≡ Class.Name) }
+    ensures is { result ≡ (same_class Class.Name token.now.class && is_free_name token.now.text.now) }
+{
+    token.class == Class::Name && !is_reserved(token.text)
+}
+
+/// Whether the token is an IdentifierName (11.6).
+pub fn is_name(token: &Token<'_>) -> bool
+    ensures class { OnTrue result (token.now.class ≡ Class.Name) }
+    ensures is { result ≡ (same_class Class.Name token.now.class && is_any token.now.text.now) }
+{
+    match token.class {
+        Class::Name => true,
+        _ => false,
+    }
+}
+
+/// Whether the token declares variables.
+pub fn is_declaration(token: &Token<'_>) -> bool
+    ensures class { OnTrue result (token.now.class ≡ Class.Name) }
+    ensures is { result ≡ (same_class Class.Name token.now.class && declares token.now.text.now) }
+{
+    token.class == Class::Name && declares(token.text)
+}
+
+/// Whether the word declares variables: `var`, `let` or `const`.
+pub fn declares(word: &str) -> bool
+    ensures { result ≡ declares word.now }
+{
+    matches!(word, "var" | "let" | "const")
+}
+
+/// Whether the token begins with a grave accent: then it is the first part of a template, where it is one of a template.
+pub fn is_head(token: &Token<'_>) -> bool
+    ensures { result ≡ nat_eq (slice_index_or (as_read (token_of token.now)).text 0 0) 96 }
+{
+    match token.text.as_bytes().first() {
+        Some(first) => *first == b'`',
+        None => false,
+    }
+}
