@@ -1,7 +1,7 @@
 #![tactic(auto)]
 
 //! Rows of texts with what the public calls of other crates answer: tests alone. They stand in a crate of their own, since a crate
-//! that has tests is proved twice by the gate.
+//! that has tests is proved twice by the gate, and in one, since each crate of tests costs a minute before its first test.
 
 #[cfg(test)]
 mod early;
@@ -12,10 +12,24 @@ mod fixes;
 #[cfg(test)]
 mod json;
 #[cfg(test)]
+mod laid;
+#[cfg(test)]
 mod numbers;
 #[cfg(test)]
+mod other;
+#[cfg(test)]
+mod paired;
+#[cfg(test)]
+mod pairs;
+#[cfg(test)]
 mod parse;
+#[cfg(test)]
+mod planned;
+#[cfg(test)]
+mod plans;
 #[cfg(test)]
 mod sums;
 #[cfg(test)]
 mod trees;
+#[cfg(test)]
+mod written;

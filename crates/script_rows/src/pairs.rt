@@ -1,6 +1,6 @@
 //! Grouping pairs of small scripts: the row of each pair's node, and which pairs are extra.
 
-use crate::texts::{GROUPS, Paired, STATEMENTS};
+use crate::paired::{GROUPS, Paired, STATEMENTS};
 use paren_planner::{extra_pairs, plan_if_any};
 use parser::parse;
 use positions::{Grouping, groupings};

@@ -1,6 +1,6 @@
 //! Plans of small scripts: the cells of each row, the wrapped nodes and their number.
 
-use crate::scripts::{BODIES, CHAINS, EXPRESSIONS, KEYS, Planned};
+use crate::planned::{BODIES, CHAINS, EXPRESSIONS, KEYS, Planned};
 use paren_planner::{CostTable, Plan, plan_if_any};
 use parser::parse;
 use source_text::{Fault, Source};
