@@ -6,35 +6,75 @@ use std::test::Fail;
 use token_cursor::{Cursor, Ending, MAX_OPEN, goes_on};
 use tokens::Goal;
 
-#[test]
-fn tokens_by_goal(rt: HostRuntime) -> Result<(), Fail> {
-    let rows = [
-        ("/=x/ 1", Goal::Div, "/="),
-        ("/=x/ 1", Goal::RegExp, "/=x/"),
-        ("}x${ 1", Goal::Div, "}"),
-        ("}x${ 1", Goal::TemplateTail, "}x${"),
-        (" abc 1", Goal::RegExp, "abc"),
-        ("", Goal::Div, ""),
-    ];
-    for (text, goal, word) in rows {
-        let source = Source::new(text.as_bytes())?;
-        let mut cursor = Cursor::new(&source);
-        let token = cursor.peek(goal).ok_or("no token")?;
-        assert_eq!(rt; token.text, word, "{text}");
-        let taken = cursor.take(goal).is_ok();
-        assert_eq!(rt; taken, word != "", "{text}");
-        assert_eq!(rt; cursor.last_end(), token.end, "{text}");
+/// The word that a goal reads ahead of a text.
+static AHEAD: [(&str, Goal, &str); 6] = [
+    ("/=x/ 1", Goal::Div, "/="),
+    ("/=x/ 1", Goal::RegExp, "/=x/"),
+    ("}x${ 1", Goal::Div, "}"),
+    ("}x${ 1", Goal::TemplateTail, "}x${"),
+    (" abc 1", Goal::RegExp, "abc"),
+    ("", Goal::Div, ""),
+];
+
+/// The word that a goal reads ahead, and whether it is taken. None where the cursor doesn't stand behind it then.
+fn word_ahead(text: &'static str, goal: Goal) -> Option<(&'static str, bool)> {
+    let source = Source::new(text.as_bytes()).ok()?;
+    let mut cursor = Cursor::new(&source);
+    let token = cursor.peek(goal)?;
+    let is_taken = cursor.take(goal).is_ok();
+    if cursor.last_end() == token.end {
+        return Some((token.text, is_taken));
     }
+    None
+}
+
+#[test]
+fn tokens_by_goal(rt: HostRuntime) {
+    for (text, goal, word) in &AHEAD {
+        let found = word_ahead(text, *goal);
+        assert_eq!(rt; found, Some((*word, !word.is_empty())), "{text}");
+    }
+}
+
+#[test]
+fn no_token_by_goal(rt: HostRuntime) -> Result<(), Fail> {
     let source = Source::new(b"a /b")?;
     let mut cursor = Cursor::new(&source);
     cursor.take(Goal::Div)?;
-    assert!(rt; cursor.peek(Goal::RegExp).is_none());
-    assert!(rt; matches!(cursor.take(Goal::RegExp), Err(Fault::Syntax(2))));
-    assert_eq!(rt; cursor.last_end(), 1);
+    let is_none = cursor.peek(Goal::RegExp).is_none();
+    let fault = cursor.take(Goal::RegExp).err();
+    let found = (is_none, fault, cursor.last_end());
+    assert_eq!(rt; found, (true, Some(Fault::Syntax(2)), 1));
     Ok(())
 }
 
-// Whether the `;` may be missing behind the first token of the text.
+/// Whether the `;` may be missing behind the first token of a text.
+static ENDS: [(&str, Ending, bool); 23] = [
+    ("a;", Ending::Behind(Edge::Other), true),
+    ("a", Ending::Behind(Edge::Other), true),
+    ("a }", Ending::Behind(Edge::Other), true),
+    ("a b", Ending::Behind(Edge::Other), false),
+    ("a\nb", Ending::Behind(Edge::Other), true),
+    ("a\n++", Ending::Behind(Edge::Other), true),
+    ("a\n+b", Ending::Behind(Edge::Other), false),
+    ("a\n(b", Ending::Behind(Edge::Other), false),
+    ("a\n[b", Ending::Behind(Edge::Other), false),
+    ("a\n`b`", Ending::Behind(Edge::Other), false),
+    ("a\n/b/", Ending::Behind(Edge::Other), false),
+    ("a\n/=b/", Ending::Behind(Edge::Other), false),
+    ("a\n(b", Ending::Behind(Edge::Postfix), true),
+    ("a\n`b`", Ending::Behind(Edge::Postfix), true),
+    ("a\n-b", Ending::Behind(Edge::Postfix), false),
+    ("a\n/b/", Ending::Behind(Edge::Postfix), false),
+    ("a\n(b", Ending::Behind(Edge::Arrow), true),
+    ("a\n/b/", Ending::Behind(Edge::Arrow), true),
+    ("a (b", Ending::Behind(Edge::Arrow), false),
+    ("a\n+b", Ending::Behind(Edge::Closed), true),
+    ("a 'b", Ending::Behind(Edge::Other), false),
+    ("a b", Ending::OfDo, true),
+    ("a 'b", Ending::OfDo, false),
+];
+
 fn ends(text: &str, ending: Ending) -> Result<bool, Fault> {
     let source = Source::new(text.as_bytes())?;
     let mut cursor = Cursor::new(&source);
@@ -44,43 +84,16 @@ fn ends(text: &str, ending: Ending) -> Result<bool, Fault> {
 
 #[test]
 fn semicolons(rt: HostRuntime) {
-    let rows = [
-        ("a;", Edge::Other, true),
-        ("a", Edge::Other, true),
-        ("a }", Edge::Other, true),
-        ("a b", Edge::Other, false),
-        ("a\nb", Edge::Other, true),
-        ("a\n++", Edge::Other, true),
-        ("a\n+b", Edge::Other, false),
-        ("a\n(b", Edge::Other, false),
-        ("a\n[b", Edge::Other, false),
-        ("a\n`b`", Edge::Other, false),
-        ("a\n/b/", Edge::Other, false),
-        ("a\n/=b/", Edge::Other, false),
-        ("a\n(b", Edge::Postfix, true),
-        ("a\n`b`", Edge::Postfix, true),
-        ("a\n-b", Edge::Postfix, false),
-        ("a\n/b/", Edge::Postfix, false),
-        ("a\n(b", Edge::Arrow, true),
-        ("a\n/b/", Edge::Arrow, true),
-        ("a (b", Edge::Arrow, false),
-        ("a\n+b", Edge::Closed, true),
-        ("a 'b", Edge::Other, false),
-    ];
-    for (text, edge, is_end) in rows {
-        assert_eq!(rt; ends(text, Ending::Behind(edge)), Ok(is_end), "{text}");
+    for (text, ending, is_end) in &ENDS {
+        assert_eq!(rt; ends(text, *ending), Ok(*is_end), "{text}");
     }
-    assert_eq!(rt; ends("a b", Ending::OfDo), Ok(true));
-    assert_eq!(rt; ends("a 'b", Ending::OfDo), Ok(false));
 }
 
 #[test]
 fn going_on(rt: HostRuntime) -> Result<(), Fail> {
     let source = Source::new(b"/=x/")?;
-    let cursor = Cursor::new(&source);
-    let token = cursor.peek(Goal::RegExp).ok_or("no token")?;
-    assert!(rt; goes_on(Edge::Postfix, &token));
-    assert!(rt; !goes_on(Edge::Arrow, &token));
+    let token = Cursor::new(&source).peek(Goal::RegExp).ok_or("no token")?;
+    assert!(rt; goes_on(Edge::Postfix, &token) && !goes_on(Edge::Arrow, &token));
     Ok(())
 }
 
@@ -91,10 +104,12 @@ fn parentheses(rt: HostRuntime) -> Result<(), Fail> {
     for _ in 0..MAX_OPEN {
         cursor.enter()?;
     }
-    assert!(rt; matches!(cursor.enter(), Err(Fault::TooDeep)));
+    let refused = cursor.enter();
     cursor.leave();
-    assert!(rt; cursor.enter().is_ok());
-    assert!(rt; cursor.enter().is_err());
-    assert_eq!(rt; cursor.place(), 0);
+    let found = (refused, cursor.enter(), cursor.enter(), cursor.place());
+    assert_eq!(rt;
+        found,
+        (Err(Fault::TooDeep), Ok(()), Err(Fault::TooDeep), 0)
+    );
     Ok(())
 }

@@ -7,7 +7,6 @@ use grammar::{
 use language::Rank;
 use std::alloc::{AllocError, Global};
 use std::borrow::CowStr;
-use std::test::Fail;
 use tokens::Class;
 use tree::{Flags, Kind, Parts, Span, Syntax};
 
@@ -28,326 +27,444 @@ const EXPRESSION_BODY: Flags = Flags {
     ..Flags::PLAIN
 };
 
-/// A node of this text whose parts are names.
-fn of_names(
+/// A node without parts: its kind and its text.
+type Leaf = (Kind, &'static str);
+
+const NAME: Leaf = (Kind::Identifier, "a");
+
+/// A node's kind, text and flags.
+type Head = (Kind, &'static str, Flags);
+
+/// The symbols of nodes that have these flags and these leaves as parts, by kind and text.
+static RANKS: [(Flags, &[Leaf], &[(Kind, &str, Option<Rank>)]); 11] = [
+    (
+        Flags::PLAIN,
+        &[],
+        &[
+            (Kind::Identifier, "a", Some(Rank::Primary)),
+            (Kind::Literal, "1", Some(Rank::Primary)),
+            (Kind::Literal, "\"a\"", Some(Rank::Primary)),
+            (Kind::Literal, "/a/", Some(Rank::Primary)),
+            (Kind::Literal, "null", Some(Rank::Primary)),
+            (Kind::ThisExpression, "", Some(Rank::Primary)),
+            (Kind::ObjectExpression, "", Some(Rank::Primary)),
+            // no expressions
+            (Kind::Identifier, "new", None),
+            (Kind::Literal, "a", None),
+            (Kind::Super, "", None),
+            (Kind::TemplateElement, "a", None),
+            (Kind::Program, "", None),
+        ],
+    ),
+    (
+        Flags::PLAIN,
+        &[NAME],
+        &[
+            (Kind::ArrayExpression, "", Some(Rank::Primary)),
+            (Kind::TemplateLiteral, "", Some(Rank::Primary)),
+            // without arguments it stands at New too, but with `()` at Member
+            (Kind::NewExpression, "", Some(Rank::Member)),
+            (Kind::ImportExpression, "", Some(Rank::Call)),
+            (Kind::UnaryExpression, "delete", Some(Rank::Unary)),
+            (Kind::UnaryExpression, "void", Some(Rank::Unary)),
+            (Kind::UnaryExpression, "typeof", Some(Rank::Unary)),
+            (Kind::UnaryExpression, "+", Some(Rank::Unary)),
+            (Kind::UnaryExpression, "-", Some(Rank::Unary)),
+            (Kind::UnaryExpression, "~", Some(Rank::Unary)),
+            (Kind::UnaryExpression, "!", Some(Rank::Unary)),
+            (Kind::UpdateExpression, "++", Some(Rank::Update)),
+            (Kind::UpdateExpression, "--", Some(Rank::Update)),
+            // no expressions
+            (Kind::SequenceExpression, "", None),
+            (Kind::UnaryExpression, "++", None),
+            (Kind::UpdateExpression, "+", None),
+            (Kind::SpreadElement, "", None),
+            (Kind::ArrayPattern, "", None),
+            (Kind::RestElement, "", None),
+            (Kind::ExpressionStatement, "", None),
+        ],
+    ),
+    (
+        PREFIX,
+        &[NAME],
+        &[
+            (Kind::UpdateExpression, "++", Some(Rank::Update)),
+            (Kind::UpdateExpression, "--", Some(Rank::Update)),
+        ],
+    ),
+    (
+        Flags::PLAIN,
+        &[NAME, NAME],
+        &[
+            (Kind::FunctionExpression, "", Some(Rank::Primary)),
+            (Kind::MemberExpression, "", Some(Rank::Member)),
+            (Kind::TaggedTemplateExpression, "", Some(Rank::Member)),
+            (Kind::NewExpression, "", Some(Rank::Member)),
+            (Kind::CallExpression, "", Some(Rank::Call)),
+            (Kind::SequenceExpression, "", Some(Rank::Expression)),
+            (Kind::ArrowFunctionExpression, "", Some(Rank::Assignment)),
+            // binary operators
+            (Kind::BinaryExpression, "|", Some(Rank::BitwiseOr)),
+            (Kind::BinaryExpression, "^", Some(Rank::BitwiseXor)),
+            (Kind::BinaryExpression, "&", Some(Rank::BitwiseAnd)),
+            (Kind::BinaryExpression, "==", Some(Rank::Equality)),
+            (Kind::BinaryExpression, "!=", Some(Rank::Equality)),
+            (Kind::BinaryExpression, "===", Some(Rank::Equality)),
+            (Kind::BinaryExpression, "!==", Some(Rank::Equality)),
+            (Kind::BinaryExpression, "<", Some(Rank::Relational)),
+            (Kind::BinaryExpression, ">", Some(Rank::Relational)),
+            (Kind::BinaryExpression, "<=", Some(Rank::Relational)),
+            (Kind::BinaryExpression, ">=", Some(Rank::Relational)),
+            (Kind::BinaryExpression, "instanceof", Some(Rank::Relational)),
+            (Kind::BinaryExpression, "in", Some(Rank::Relational)),
+            (Kind::BinaryExpression, "<<", Some(Rank::Shift)),
+            (Kind::BinaryExpression, ">>", Some(Rank::Shift)),
+            (Kind::BinaryExpression, ">>>", Some(Rank::Shift)),
+            (Kind::BinaryExpression, "+", Some(Rank::Additive)),
+            (Kind::BinaryExpression, "-", Some(Rank::Additive)),
+            (Kind::BinaryExpression, "*", Some(Rank::Multiplicative)),
+            (Kind::BinaryExpression, "/", Some(Rank::Multiplicative)),
+            (Kind::BinaryExpression, "%", Some(Rank::Multiplicative)),
+            (Kind::BinaryExpression, "**", Some(Rank::Exponentiation)),
+            (Kind::BinaryExpression, "??", None),
+            (Kind::BinaryExpression, "||", None),
+            (Kind::BinaryExpression, "&&", None),
+            // logical operators
+            (Kind::LogicalExpression, "??", Some(Rank::ShortCircuit)),
+            (Kind::LogicalExpression, "||", Some(Rank::LogicalOr)),
+            (Kind::LogicalExpression, "&&", Some(Rank::LogicalAnd)),
+            (Kind::LogicalExpression, "|", None),
+            (Kind::LogicalExpression, "^", None),
+            (Kind::LogicalExpression, "&", None),
+            (Kind::LogicalExpression, "==", None),
+            (Kind::LogicalExpression, "!=", None),
+            (Kind::LogicalExpression, "===", None),
+            (Kind::LogicalExpression, "!==", None),
+            (Kind::LogicalExpression, "<", None),
+            (Kind::LogicalExpression, ">", None),
+            (Kind::LogicalExpression, "<=", None),
+            (Kind::LogicalExpression, ">=", None),
+            (Kind::LogicalExpression, "instanceof", None),
+            (Kind::LogicalExpression, "in", None),
+            (Kind::LogicalExpression, "<<", None),
+            (Kind::LogicalExpression, ">>", None),
+            (Kind::LogicalExpression, ">>>", None),
+            (Kind::LogicalExpression, "+", None),
+            (Kind::LogicalExpression, "-", None),
+            (Kind::LogicalExpression, "*", None),
+            (Kind::LogicalExpression, "/", None),
+            (Kind::LogicalExpression, "%", None),
+            (Kind::LogicalExpression, "**", None),
+            // assignments
+            (Kind::AssignmentExpression, "=", Some(Rank::Assignment)),
+            (Kind::AssignmentExpression, "+=", Some(Rank::Assignment)),
+            (Kind::AssignmentExpression, "-=", Some(Rank::Assignment)),
+            (Kind::AssignmentExpression, "*=", Some(Rank::Assignment)),
+            (Kind::AssignmentExpression, "/=", Some(Rank::Assignment)),
+            (Kind::AssignmentExpression, "%=", Some(Rank::Assignment)),
+            (Kind::AssignmentExpression, "**=", Some(Rank::Assignment)),
+            (Kind::AssignmentExpression, "<<=", Some(Rank::Assignment)),
+            (Kind::AssignmentExpression, ">>=", Some(Rank::Assignment)),
+            (Kind::AssignmentExpression, ">>>=", Some(Rank::Assignment)),
+            (Kind::AssignmentExpression, "&=", Some(Rank::Assignment)),
+            (Kind::AssignmentExpression, "|=", Some(Rank::Assignment)),
+            (Kind::AssignmentExpression, "^=", Some(Rank::Assignment)),
+            // no expressions
+            (Kind::BinaryExpression, "=", None),
+            (Kind::AssignmentExpression, "==", None),
+            (Kind::Property, "", None),
+            (Kind::FunctionDeclaration, "", None),
+        ],
+    ),
+    (
+        EXPRESSION_BODY,
+        &[NAME, NAME],
+        &[(Kind::ArrowFunctionExpression, "", Some(Rank::Assignment))],
+    ),
+    // parts of chains are no expressions
+    (
+        OPTIONAL,
+        &[NAME, NAME],
+        &[
+            (Kind::MemberExpression, "", None),
+            (Kind::CallExpression, "", None),
+        ],
+    ),
+    (
+        Flags::PLAIN,
+        &[NAME, NAME, NAME],
+        &[
+            (Kind::ClassExpression, "", Some(Rank::Primary)),
+            (Kind::ConditionalExpression, "", Some(Rank::Conditional)),
+        ],
+    ),
+    // a pattern stands before `=` alone
+    (
+        Flags::PLAIN,
+        &[(Kind::ArrayPattern, ""), NAME],
+        &[
+            (Kind::AssignmentExpression, "=", Some(Rank::Assignment)),
+            (Kind::AssignmentExpression, "+=", None),
+            (Kind::AssignmentExpression, "-=", None),
+            (Kind::AssignmentExpression, "*=", None),
+            (Kind::AssignmentExpression, "/=", None),
+            (Kind::AssignmentExpression, "%=", None),
+            (Kind::AssignmentExpression, "**=", None),
+            (Kind::AssignmentExpression, "<<=", None),
+            (Kind::AssignmentExpression, ">>=", None),
+            (Kind::AssignmentExpression, ">>>=", None),
+            (Kind::AssignmentExpression, "&=", None),
+            (Kind::AssignmentExpression, "|=", None),
+            (Kind::AssignmentExpression, "^=", None),
+        ],
+    ),
+    // meta properties
+    (
+        Flags::PLAIN,
+        &[(Kind::Identifier, "new"), (Kind::Identifier, "target")],
+        &[(Kind::MetaProperty, "", Some(Rank::Member))],
+    ),
+    (
+        Flags::PLAIN,
+        &[(Kind::Identifier, "new"), NAME],
+        &[(Kind::MetaProperty, "", None)],
+    ),
+    (
+        Flags::PLAIN,
+        &[(Kind::Identifier, "import"), (Kind::Identifier, "meta")],
+        &[(Kind::MetaProperty, "", None)],
+    ),
+];
+
+/// A node whose parts are leaves.
+fn of_leaves(
     alloc: Global,
-    kind: Kind,
-    text: &'static str,
-    flags: Flags,
-    count: usize,
+    (kind, text, flags): Head,
+    leaves: &[Leaf],
 ) -> Result<Syntax<'static>, AllocError> {
     let mut parts = Parts::new(alloc);
-    for _ in 0..count {
-        let name = Syntax::leaf(alloc, Kind::Identifier, CowStr::Borrowed("a"), ANYWHERE);
-        parts.push(name)?;
+    for (kind, text) in leaves {
+        parts.push(Syntax::leaf(alloc, *kind, CowStr::Borrowed(text), ANYWHERE))?;
     }
     Ok(Syntax::new(kind, CowStr::Borrowed(text), flags, ANYWHERE, parts))
 }
 
-#[test]
-fn ranks_of_binary_operators(rt: HostRuntime) -> Result<(), Fail> {
-    for (operators, rank) in [
-        ("|", Rank::BitwiseOr),
-        ("^", Rank::BitwiseXor),
-        ("&", Rank::BitwiseAnd),
-        ("== != === !==", Rank::Equality),
-        ("< > <= >= instanceof in", Rank::Relational),
-        ("<< >> >>>", Rank::Shift),
-        ("+ -", Rank::Additive),
-        ("* / %", Rank::Multiplicative),
-        ("**", Rank::Exponentiation),
-    ] {
-        for operator in operators.split(' ') {
-            let sum = of_names(
-                rt.alloc(),
-                Kind::BinaryExpression,
-                operator,
-                Flags::PLAIN,
-                2,
-            )?;
-            assert_eq!(rt; rank_of(sum.node()), Some(rank), "{operator}");
-            let other = of_names(
-                rt.alloc(),
-                Kind::LogicalExpression,
-                operator,
-                Flags::PLAIN,
-                2,
-            )?;
-            assert_eq!(rt; rank_of(other.node()), None, "{operator}");
+/// The symbol of a node whose parts are leaves.
+fn rank(alloc: Global, head: Head, leaves: &[Leaf]) -> Result<Option<Rank>, AllocError> {
+    let node = of_leaves(alloc, head, leaves)?;
+    Ok(rank_of(node.node()))
+}
+
+/// The first of the nodes over these leaves that stands at another symbol, with that symbol.
+fn first_other(
+    alloc: Global,
+    flags: Flags,
+    leaves: &[Leaf],
+    rows: &[(Kind, &'static str, Option<Rank>)],
+) -> Result<Option<(Kind, &'static str, Option<Rank>)>, AllocError> {
+    for (kind, text, wanted) in rows {
+        let found = rank(alloc, (*kind, *text, flags), leaves)?;
+        if found != *wanted {
+            return Ok(Some((*kind, *text, found)));
         }
     }
-    Ok(())
+    Ok(None)
 }
 
 #[test]
-fn ranks_of_logical_operators(rt: HostRuntime) -> Result<(), Fail> {
-    for (operator, rank) in [
-        ("??", Rank::ShortCircuit),
-        ("||", Rank::LogicalOr),
-        ("&&", Rank::LogicalAnd),
-    ] {
-        let either = of_names(
-            rt.alloc(),
-            Kind::LogicalExpression,
-            operator,
-            Flags::PLAIN,
-            2,
-        )?;
-        assert_eq!(rt; rank_of(either.node()), Some(rank), "{operator}");
-        let other = of_names(
-            rt.alloc(),
-            Kind::BinaryExpression,
-            operator,
-            Flags::PLAIN,
-            2,
-        )?;
-        assert_eq!(rt; rank_of(other.node()), None, "{operator}");
+fn ranks(rt: HostRuntime) {
+    for (flags, leaves, rows) in &RANKS {
+        assert_eq!(rt; first_other(rt.alloc(), *flags, leaves, rows), Ok(None));
     }
-    Ok(())
 }
 
-#[test]
-fn ranks_of_kinds(rt: HostRuntime) -> Result<(), Fail> {
-    for (kind, text, count, rank) in [
-        (Kind::Identifier, "a", 0, Rank::Primary),
-        (Kind::Literal, "1", 0, Rank::Primary),
-        (Kind::Literal, "\"a\"", 0, Rank::Primary),
-        (Kind::Literal, "/a/", 0, Rank::Primary),
-        (Kind::Literal, "null", 0, Rank::Primary),
-        (Kind::ThisExpression, "", 0, Rank::Primary),
-        (Kind::ArrayExpression, "", 1, Rank::Primary),
-        (Kind::ObjectExpression, "", 0, Rank::Primary),
-        (Kind::FunctionExpression, "", 2, Rank::Primary),
-        (Kind::ClassExpression, "", 3, Rank::Primary),
-        (Kind::TemplateLiteral, "", 1, Rank::Primary),
-        (Kind::MemberExpression, "", 2, Rank::Member),
-        (Kind::TaggedTemplateExpression, "", 2, Rank::Member),
-        // with arguments, and without: the latter stands at New too, but with `()` at Member
-        (Kind::NewExpression, "", 2, Rank::Member),
-        (Kind::NewExpression, "", 1, Rank::Member),
-        (Kind::CallExpression, "", 2, Rank::Call),
-        (Kind::ImportExpression, "", 1, Rank::Call),
-        (Kind::ConditionalExpression, "", 3, Rank::Conditional),
-        (Kind::SequenceExpression, "", 2, Rank::Expression),
-    ] {
-        let node = of_names(rt.alloc(), kind, text, Flags::PLAIN, count)?;
-        assert_eq!(rt; rank_of(node.node()), Some(rank), "{text}");
-    }
-    Ok(())
-}
+/// Nodes over a call of a node over leaves: whether the lowest is part of a chain, and the symbol.
+static OVER_CALLS: [(Head, Head, &[Leaf], (bool, Option<Rank>)); 3] = [
+    (
+        (Kind::ChainExpression, "", Flags::PLAIN),
+        (Kind::MemberExpression, "", OPTIONAL),
+        &[NAME, NAME],
+        (true, Some(Rank::LeftHandSide)),
+    ),
+    (
+        (Kind::ChainExpression, "", Flags::PLAIN),
+        (Kind::MemberExpression, "", Flags::PLAIN),
+        &[NAME, NAME],
+        (false, None),
+    ),
+    (
+        (Kind::UpdateExpression, "++", PREFIX),
+        (Kind::Identifier, "a", Flags::PLAIN),
+        &[],
+        (false, None),
+    ),
+];
 
-#[test]
-fn ranks_of_arrows_and_prefixes(rt: HostRuntime) -> Result<(), Fail> {
-    for flags in [Flags::PLAIN, EXPRESSION_BODY] {
-        let arrow = of_names(rt.alloc(), Kind::ArrowFunctionExpression, "", flags, 2)?;
-        assert_eq!(rt; rank_of(arrow.node()), Some(Rank::Assignment));
-    }
-    for operator in ["delete", "void", "typeof", "+", "-", "~", "!"] {
-        let unary = of_names(rt.alloc(), Kind::UnaryExpression, operator, Flags::PLAIN, 1)?;
-        assert_eq!(rt; rank_of(unary.node()), Some(Rank::Unary), "{operator}");
-        assert!(rt; is_prefix_operator(operator), "{operator}");
-    }
-    for operator in ["++", "--"] {
-        for flags in [PREFIX, Flags::PLAIN] {
-            let update = of_names(rt.alloc(), Kind::UpdateExpression, operator, flags, 1)?;
-            assert_eq!(rt; rank_of(update.node()), Some(Rank::Update), "{operator}");
-        }
-        assert!(rt; is_step(operator), "{operator}");
-        assert!(rt; !is_prefix_operator(operator), "{operator}");
-    }
-    Ok(())
-}
-
-#[test]
-fn ranks_of_assignments(rt: HostRuntime) -> Result<(), Fail> {
-    for operator in "= += -= *= /= %= **= <<= >>= >>>= &= |= ^=".split(' ') {
-        let name = of_names(
-            rt.alloc(),
-            Kind::AssignmentExpression,
-            operator,
-            Flags::PLAIN,
-            2,
-        )?;
-        assert_eq!(rt; rank_of(name.node()), Some(Rank::Assignment), "{operator}");
-        assert!(rt; is_assignment(operator), "{operator}");
-        let pattern = Syntax::leaf(
-            rt.alloc(),
-            Kind::ArrayPattern,
-            CowStr::Borrowed(""),
-            ANYWHERE,
-        );
-        let value = Syntax::leaf(
-            rt.alloc(),
-            Kind::Identifier,
-            CowStr::Borrowed("a"),
-            ANYWHERE,
-        );
-        let parts = Parts::two(rt.alloc(), pattern, value)?;
-        let text = CowStr::Borrowed(operator);
-        let node = Syntax::new(
-            Kind::AssignmentExpression,
-            text,
-            Flags::PLAIN,
-            ANYWHERE,
-            parts,
-        );
-        // a pattern stands before `=` alone
-        let expected = match operator {
-            "=" => Some(Rank::Assignment),
-            _ => None,
-        };
-        assert_eq!(rt; rank_of(node.node()), expected, "{operator}");
-    }
-    assert!(rt; is_target(Kind::MemberExpression) && !is_target(Kind::ArrayPattern));
-    assert!(rt; is_pattern(Kind::ObjectPattern) && !is_pattern(Kind::ObjectExpression));
-    Ok(())
-}
-
-/// A node of a kind with one part, without text and flags.
-fn round(alloc: Global, kind: Kind, part: Syntax<'static>) -> Result<Syntax<'static>, AllocError> {
+/// A node with one part.
+fn over(
+    alloc: Global,
+    (kind, text, flags): Head,
+    part: Syntax<'static>,
+) -> Result<Syntax<'static>, AllocError> {
     let parts = Parts::one(alloc, part)?;
-    Ok(Syntax::new(kind, CowStr::Borrowed(""), Flags::PLAIN, ANYWHERE, parts))
+    Ok(Syntax::new(kind, CowStr::Borrowed(text), flags, ANYWHERE, parts))
 }
 
-/// Whether a member with these flags is part of a chain.
-fn is_member_chained(alloc: Global, flags: Flags) -> Result<bool, AllocError> {
-    let member = of_names(alloc, Kind::MemberExpression, "", flags, 2)?;
-    Ok(is_chained(Some(member.node())))
-}
-
-/// The symbol of a chain that calls a member with these flags.
-fn chain_rank(alloc: Global, flags: Flags) -> Result<Option<Rank>, AllocError> {
-    let member = of_names(alloc, Kind::MemberExpression, "", flags, 2)?;
-    let call = round(alloc, Kind::CallExpression, member)?;
-    let chain = round(alloc, Kind::ChainExpression, call)?;
-    Ok(rank_of(chain.node()))
-}
-
-#[test]
-fn ranks_of_chains(rt: HostRuntime) -> Result<(), Fail> {
-    let alloc = rt.alloc();
-    for (flags, rank) in [(OPTIONAL, Some(Rank::LeftHandSide)), (Flags::PLAIN, None)] {
-        assert!(rt; is_member_chained(alloc, flags)? == flags.optional);
-        assert_eq!(rt; chain_rank(alloc, flags)?, rank);
-    }
-    Ok(())
+/// Whether the lowest node is part of a chain, and the symbol of a node over a call of it.
+fn over_call(
+    alloc: Global,
+    head: Head,
+    lowest: Head,
+    leaves: &[Leaf],
+) -> Result<(bool, Option<Rank>), AllocError> {
+    let part = of_leaves(alloc, lowest, leaves)?;
+    let is_part = is_chained(Some(part.node()));
+    let call = over(alloc, (Kind::CallExpression, "", Flags::PLAIN), part)?;
+    let node = over(alloc, head, call)?;
+    Ok((is_part, rank_of(node.node())))
 }
 
 #[test]
-fn parts_of_chains_are_no_expressions(rt: HostRuntime) -> Result<(), Fail> {
-    for kind in [Kind::MemberExpression, Kind::CallExpression] {
-        let part = of_names(rt.alloc(), kind, "", OPTIONAL, 2)?;
-        assert_eq!(rt; rank_of(part.node()), None);
-        assert!(rt; is_link(kind));
+fn over_calls(rt: HostRuntime) {
+    for (head, lowest, leaves, wanted) in &OVER_CALLS {
+        let found = over_call(rt.alloc(), *head, *lowest, leaves);
+        assert_eq!(rt; found, Ok(*wanted), "{head:?} {lowest:?}");
     }
-    assert!(rt; !is_link(Kind::NewExpression));
-    Ok(())
 }
 
-#[test]
-fn ranks_of_meta_properties(rt: HostRuntime) -> Result<(), Fail> {
-    let alloc = rt.alloc();
-    for (meta, property, rank) in [
-        ("new", "target", Some(Rank::Member)),
-        ("new", "a", None),
-        ("import", "meta", None),
-    ] {
-        let first = Syntax::leaf(alloc, Kind::Identifier, CowStr::Borrowed(meta), ANYWHERE);
-        let second = Syntax::leaf(
-            alloc,
-            Kind::Identifier,
-            CowStr::Borrowed(property),
-            ANYWHERE,
-        );
-        let parts = Parts::two(alloc, first, second)?;
-        let node = Syntax::new(
-            Kind::MetaProperty,
-            CowStr::Borrowed(""),
-            Flags::PLAIN,
-            ANYWHERE,
-            parts,
-        );
-        assert_eq!(rt; rank_of(node.node()), rank, "{meta}.{property}");
-    }
-    Ok(())
-}
+/// Whether a kind is a target, a pattern and a link of a chain.
+static KINDS: [(Kind, bool, bool, bool); 6] = [
+    (Kind::MemberExpression, true, false, true),
+    (Kind::CallExpression, false, false, true),
+    (Kind::NewExpression, false, false, false),
+    (Kind::ArrayPattern, false, true, false),
+    (Kind::ObjectPattern, false, true, false),
+    (Kind::ObjectExpression, false, false, false),
+];
 
 #[test]
-fn no_expressions(rt: HostRuntime) -> Result<(), Fail> {
-    for (kind, text, count) in [
-        (Kind::Identifier, "new", 0),
-        (Kind::Literal, "a", 0),
-        (Kind::SequenceExpression, "", 1),
-        (Kind::BinaryExpression, "=", 2),
-        (Kind::UnaryExpression, "++", 1),
-        (Kind::UpdateExpression, "+", 1),
-        (Kind::AssignmentExpression, "==", 2),
-        (Kind::Super, "", 0),
-        (Kind::Property, "", 2),
-        (Kind::SpreadElement, "", 1),
-        (Kind::TemplateElement, "a", 0),
-        (Kind::ArrayPattern, "", 1),
-        (Kind::RestElement, "", 1),
-        (Kind::ExpressionStatement, "", 1),
-        (Kind::FunctionDeclaration, "", 2),
-        (Kind::Program, "", 0),
-    ] {
-        let node = of_names(rt.alloc(), kind, text, Flags::PLAIN, count)?;
-        assert_eq!(rt; rank_of(node.node()), None, "{text}");
+fn kinds(rt: HostRuntime) {
+    for (kind, target, pattern, link) in &KINDS {
+        let found = (is_target(*kind), is_pattern(*kind), is_link(*kind));
+        assert_eq!(rt; found, (*target, *pattern, *link), "{kind:?}");
     }
-    let call = of_names(rt.alloc(), Kind::CallExpression, "", Flags::PLAIN, 1)?;
-    let parts = Parts::one(rt.alloc(), call)?;
-    let update = Syntax::new(
-        Kind::UpdateExpression,
-        CowStr::Borrowed("++"),
-        PREFIX,
-        ANYWHERE,
-        parts,
-    );
-    assert_eq!(rt; rank_of(update.node()), None);
-    Ok(())
 }
+
+/// A literal's class by its text, and whether it is a literal.
+static LITERALS: [(&str, Class, bool); 9] = [
+    ("'a'", Class::Text, true),
+    ("\"a\"", Class::Text, true),
+    ("/a/", Class::RegExp, true),
+    (".5", Class::Number, true),
+    ("0x1F", Class::Number, true),
+    ("true", Class::Name, true),
+    ("null", Class::Name, true),
+    ("undefined", Class::Name, false),
+    ("", Class::Name, false),
+];
 
 #[test]
 fn literals_by_text(rt: HostRuntime) {
-    for (raw, class, literal) in [
-        ("'a'", Class::Text, true),
-        ("\"a\"", Class::Text, true),
-        ("/a/", Class::RegExp, true),
-        (".5", Class::Number, true),
-        ("0x1F", Class::Number, true),
-        ("true", Class::Name, true),
-        ("null", Class::Name, true),
-        ("undefined", Class::Name, false),
-        ("", Class::Name, false),
-    ] {
-        assert_eq!(rt; literal_class(raw), class, "{raw}");
-        assert_eq!(rt; is_literal(raw), literal, "{raw}");
+    for (raw, class, literal) in &LITERALS {
+        let found = (literal_class(raw), is_literal(raw));
+        assert_eq!(rt; found, (*class, *literal), "{raw}");
     }
 }
 
-#[test]
-fn words_are_reserved(rt: HostRuntime) {
-    let words =
-        "break case catch class const continue debugger default delete do else enum export extends false \
-        finally for function if import in instanceof new null return super switch this throw true try typeof var void \
-        while with yield let static implements interface package private protected public";
-    for word in words.split(' ') {
-        assert!(rt; is_reserved(word), "{word}");
+/// Texts, by whether they are prefix operators, steps, assignments and reserved.
+static WORDS: [((bool, bool, bool, bool), &[&str]); 6] = [
+    ((true, false, false, true), &["delete", "typeof", "void"]),
+    ((true, false, false, false), &["+", "-", "~", "!"]),
+    ((false, true, false, false), &["++", "--"]),
+    (
+        (false, false, true, false),
+        &[
+            "=", "+=", "-=", "*=", "/=", "%=", "**=", "<<=", ">>=", ">>>=", "&=", "|=", "^=",
+        ],
+    ),
+    (
+        (false, false, false, true),
+        &[
+            "break",
+            "case",
+            "catch",
+            "class",
+            "const",
+            "continue",
+            "debugger",
+            "default",
+            "do",
+            "else",
+            "enum",
+            "export",
+            "extends",
+            "false",
+            "finally",
+            "for",
+            "function",
+            "if",
+            "import",
+            "in",
+            "instanceof",
+            "new",
+            "null",
+            "return",
+            "super",
+            "switch",
+            "this",
+            "throw",
+            "true",
+            "try",
+            "var",
+            "while",
+            "with",
+            "yield",
+            "let",
+            "static",
+            "implements",
+            "interface",
+            "package",
+            "private",
+            "protected",
+            "public",
+        ],
+    ),
+    (
+        (false, false, false, false),
+        &[
+            "",
+            "a",
+            "of",
+            "get",
+            "async",
+            "await",
+            "Break",
+            "breaks",
+            "instance",
+            "constructor",
+            "undefined",
+        ],
+    ),
+];
+
+/// The first of the texts that is something else, with what it is.
+fn first_other_word(
+    wanted: (bool, bool, bool, bool),
+    texts: &[&'static str],
+) -> Option<(&'static str, (bool, bool, bool, bool))> {
+    for text in texts {
+        let (prefix, step) = (is_prefix_operator(text), is_step(text));
+        let found = (prefix, step, is_assignment(text), is_reserved(text));
+        if found != wanted {
+            return Some((*text, found));
+        }
     }
-    for name in [
-        "",
-        "a",
-        "of",
-        "get",
-        "async",
-        "await",
-        "Break",
-        "breaks",
-        "instance",
-        "constructor",
-        "undefined",
-    ] {
-        assert!(rt; !is_reserved(name), "{name}");
+    None
+}
+
+#[test]
+fn words(rt: HostRuntime) {
+    for (wanted, texts) in &WORDS {
+        assert_eq!(rt; first_other_word(*wanted, texts), None);
     }
 }

@@ -11,3 +11,7 @@ mod heights;
 mod nodes;
 #[cfg(test)]
 mod placed;
+#[cfg(test)]
+mod print;
+#[cfg(test)]
+mod sketch;

@@ -2,19 +2,19 @@
 
 mod expressions;
 mod pairs;
-mod print;
 mod shown;
-mod sketch;
 mod statements;
 mod structures;
 mod viewed;
 
-use Sketch::{Gap, Name, Node};
+use crate::heights::tower;
+use crate::print::line;
+use crate::sketch::{EMPTY, PLAIN, Sketch, script};
+use Sketch::{Gap, Name, Plain, Word};
 use expressions::expressions;
-use pairs::{FLAGS, others};
-use print::line;
+use pairs::others;
 use shown::views;
-use sketch::{EMPTY, PLAIN, Sketch, script};
+use source_text::Fault;
 use statements::statements;
 use std::alloc::{AllocError, Global};
 use std::borrow::CowStr;
@@ -27,84 +27,87 @@ use viewed::viewed;
 /// The height at which scripts are still read.
 const LIMIT: u32 = 500;
 
-const SIDES: &[Sketch] = &[Name("a"), Name("b")];
-
 /// `a + b`.
-const SUM: Sketch = Node(Kind::BinaryExpression, "+", PLAIN, SIDES);
+const SUM: Sketch = Word(Kind::BinaryExpression, "+", &[Name("a"), Name("b")]);
 
 /// `[, , ]`.
-const HOLES: Sketch = Node(Kind::ArrayExpression, "", PLAIN, &[Gap, Gap]);
+const HOLES: Sketch = Plain(Kind::ArrayExpression, &[Gap, Gap]);
 
 /// `[a, , ...b, c]`.
-const DEEP: Sketch = Node(
+const DEEP: Sketch = Plain(
     Kind::ArrayExpression,
-    "",
-    PLAIN,
     &[
         Name("a"),
         Gap,
-        Node(Kind::SpreadElement, "", PLAIN, &[Name("b")]),
+        Plain(Kind::SpreadElement, &[Name("b")]),
         Name("c"),
     ],
 );
 
 const HERE: Span = Span { start: 3, end: 5 };
 
-/// The script of these items is shown as this line.
-fn expect_script(
-    rt: &impl Abort,
-    alloc: Global,
-    items: &[Sketch],
-    want: &str,
-) -> Result<(), AllocError> {
+/// The script of these items as a line, and whether it has no part behind them.
+fn script_line(alloc: Global, items: &[Sketch]) -> Result<(String, bool), Fault> {
     let program = script(alloc, items, 0)?;
-    let shown = line(alloc, program.root())?;
-    assert_eq!(rt; shown.as_str(), want);
-    assert!(rt; program.root().part(items.len()).is_none(), "{want}");
-    Ok(())
+    let is_whole = program.root().part(items.len()).is_none();
+    Ok((line(alloc, program.root())?, is_whole))
 }
 
 #[test]
 fn programs_have_items(rt: HostRuntime) -> Result<(), Fail> {
-    let alloc = rt.alloc();
-    expect_script(&rt, alloc, &[], "(Program 0-1)")?;
-    let want = "(Program 0-3 (EmptyStatement 0-1) (Identifier 1-2 a))";
-    expect_script(&rt, alloc, &[EMPTY, Name("a")], want)?;
+    let rows: [(&[Sketch], &str); 2] = [
+        (&[], "(Program 0-1)"),
+        (
+            &[EMPTY, Name("a")],
+            "(Program 0-3 (EmptyStatement 0-1) (Identifier 1-2 a))",
+        ),
+    ];
+    for (items, want) in rows {
+        let (shown, is_whole) = script_line(rt.alloc(), items)?;
+        assert_eq!(rt; (shown.as_str(), is_whole), (want, true));
+    }
     Ok(())
 }
 
-#[test]
-fn expressions_have_text_flags_and_parts(rt: HostRuntime) -> Result<(), Fail> {
-    for (sketch, want) in expressions() {
-        expect_script(&rt, rt.alloc(), &[*sketch], want)?;
+/// The scripts of single nodes are shown as these lines.
+fn expect_lines(
+    rt: &impl Abort,
+    alloc: Global,
+    rows: &[(Sketch, &'static str)],
+) -> Result<(), Fault> {
+    for (sketch, want) in rows {
+        let (shown, is_whole) = script_line(alloc, &[*sketch])?;
+        assert_eq!(rt; (shown.as_str(), is_whole), (*want, true));
     }
     Ok(())
 }
 
 #[test]
-fn structures_have_text_flags_and_parts(rt: HostRuntime) -> Result<(), Fail> {
-    for (sketch, want) in structures() {
-        expect_script(&rt, rt.alloc(), &[*sketch], want)?;
-    }
+fn nodes_have_text_flags_and_parts(rt: HostRuntime) -> Result<(), Fail> {
+    expect_lines(&rt, rt.alloc(), expressions())?;
+    expect_lines(&rt, rt.alloc(), structures())?;
+    expect_lines(&rt, rt.alloc(), statements())?;
     Ok(())
 }
 
-#[test]
-fn statements_have_text_flags_and_parts(rt: HostRuntime) -> Result<(), Fail> {
-    for (sketch, want) in statements() {
-        expect_script(&rt, rt.alloc(), &[*sketch], want)?;
-    }
-    Ok(())
+fn name(alloc: Global, text: &str) -> Syntax<'_> {
+    Syntax::leaf(alloc, Kind::Identifier, CowStr::Borrowed(text), HERE)
+}
+
+/// `[a, b, , c]`, by each of the calls that make parts.
+fn parts(alloc: Global) -> Result<Parts<'static>, AllocError> {
+    let mut parts = Parts::two(alloc, name(alloc, "a"), name(alloc, "b"))?;
+    parts.push_gap()?;
+    parts.push(name(alloc, "c"))?;
+    Ok(parts)
 }
 
 /// Parts come behind one another, by each of the calls that make them.
 #[test]
 fn parts_stand_in_order(rt: HostRuntime) -> Result<(), Fail> {
     let alloc = rt.alloc();
-    let mut parts = Parts::two(alloc, name(alloc, "a"), name(alloc, "b"))?;
-    parts.push_gap()?;
-    parts.push(name(alloc, "c"))?;
-    assert_eq!(rt; parts.len(), 4);
+    let parts = parts(alloc)?;
+    assert!(rt; parts.len() == 4);
     let text = CowStr::Borrowed("");
     let array = Syntax::new(Kind::ArrayExpression, text, PLAIN, HERE, parts);
     let program = Program::new(Parts::one(alloc, array)?, HERE);
@@ -116,42 +119,28 @@ fn parts_stand_in_order(rt: HostRuntime) -> Result<(), Fail> {
 }
 
 /// Whether the trees of two sketches are the same, wherever the second stands and whichever comes first.
-fn expect_same(
-    rt: &impl Abort,
-    alloc: Global,
-    (first, second): (Sketch, Sketch),
-    same: bool,
-) -> Result<(), AllocError> {
+fn are_same(alloc: Global, first: Sketch, second: Sketch) -> Result<[bool; 2], Fault> {
     let first = script(alloc, &[first], 0)?;
     let second = script(alloc, &[second], 7)?;
-    assert_eq!(rt; same_tree(&first, &second), same);
-    assert_eq!(rt; same_tree(&second, &first), same);
-    Ok(())
+    Ok([same_tree(&first, &second), same_tree(&second, &first)])
 }
 
 #[test]
 fn trees_are_compared(rt: HostRuntime) -> Result<(), Fail> {
-    for (first, second) in others() {
-        expect_same(&rt, rt.alloc(), (*first, *first), true)?;
-        expect_same(&rt, rt.alloc(), (*first, *second), false)?;
-    }
-    Ok(())
-}
-
-#[test]
-fn flags_are_compared(rt: HostRuntime) -> Result<(), Fail> {
-    let plain = Node(Kind::MemberExpression, "", PLAIN, SIDES);
-    for flags in FLAGS {
-        let flagged = Node(Kind::MemberExpression, "", flags, SIDES);
-        expect_same(&rt, rt.alloc(), (flagged, flagged), true)?;
-        expect_same(&rt, rt.alloc(), (plain, flagged), false)?;
+    let alloc = rt.alloc();
+    for (index, (first, second)) in others().iter().enumerate() {
+        let found = (
+            are_same(alloc, *first, *first)?,
+            are_same(alloc, *second, *second)?,
+            are_same(alloc, *first, *second)?,
+        );
+        assert_eq!(rt; found, ([true; 2], [true; 2], [false; 2]), "row {index}");
     }
     Ok(())
 }
 
 #[test]
 fn heights_count_nodes(rt: HostRuntime) -> Result<(), Fail> {
-    let alloc = rt.alloc();
     let rows: [(&[Sketch], u32); 6] = [
         (&[], 1),
         (&[EMPTY], 2),
@@ -161,28 +150,29 @@ fn heights_count_nodes(rt: HostRuntime) -> Result<(), Fail> {
         (&[EMPTY, DEEP, SUM], 4),
     ];
     for (items, want) in rows {
-        assert_eq!(rt; height(&script(alloc, items, 0)?), want);
+        assert_eq!(rt; height(&script(rt.alloc(), items, 0)?), want);
     }
     Ok(())
 }
 
-/// A copy is shown as what it is made of, places included.
-fn expect_copied(rt: &impl Abort, alloc: Global, sketch: Sketch) -> Result<(), AllocError> {
+/// What a sketch is made to and its copy, as lines, places included, and whether they are the same.
+fn copied(alloc: Global, sketch: Sketch) -> Result<(String, String, bool), Fault> {
     let program = script(alloc, &[sketch], 3)?;
     let copy = try_copy(alloc, &program)?;
+    let is_same = same_tree(&copy, &program);
     let shown = line(alloc, copy.root())?;
-    let want = line(alloc, program.root())?;
-    assert_eq!(rt; shown, want);
-    assert!(rt; same_tree(&copy, &program), "{want}");
-    Ok(())
+    Ok((shown, line(alloc, program.root())?, is_same))
 }
 
 #[test]
 fn copies_are_equal(rt: HostRuntime) -> Result<(), Fail> {
+    let alloc = rt.alloc();
+    let (shown, want, is_same) = copied(alloc, DEEP)?;
+    assert!(rt; shown == want && is_same, "{want}");
     for (sketch, _) in structures() {
-        expect_copied(&rt, rt.alloc(), *sketch)?;
+        let (shown, want, is_same) = copied(alloc, *sketch)?;
+        assert!(rt; shown == want && is_same, "{want}");
     }
-    expect_copied(&rt, rt.alloc(), DEEP)?;
     Ok(())
 }
 
@@ -200,31 +190,24 @@ fn owned_texts_are_copied(rt: HostRuntime) -> Result<(), Fail> {
     Ok(())
 }
 
-fn name(alloc: Global, text: &str) -> Syntax<'_> {
-    Syntax::leaf(alloc, Kind::Identifier, CowStr::Borrowed(text), HERE)
-}
-
-/// `!!..a`, this high; from 2 on.
-fn tower(alloc: Global, nodes: u32) -> Result<Program<'static>, AllocError> {
-    let mut whole = name(alloc, "a");
-    for _ in 2..nodes {
-        let text = CowStr::Borrowed("!");
-        let parts = Parts::one(alloc, whole)?;
-        whole = Syntax::new(Kind::UnaryExpression, text, PLAIN, HERE, parts);
-    }
-    Ok(Program::new(Parts::one(alloc, whole)?, HERE))
+/// A script of `!..a`, this high; from 2 on.
+fn high_script(alloc: Global, nodes: u32) -> Result<Program<'static>, Fault> {
+    let whole = tower(alloc, nodes.saturating_sub(1))?;
+    Ok(Program::new(Parts::one(alloc, whole.into_syntax())?, HERE))
 }
 
 /// Measured, compared, copied and dropped on the stack of a process, 8 MiB by default.
 #[test]
 fn trees_at_the_limit_are_walked(rt: HostRuntime) -> Result<(), Fail> {
     let alloc = rt.alloc();
-    let program = tower(alloc, LIMIT)?;
-    assert_eq!(rt; height(&program), LIMIT);
-    let lower = tower(alloc, LIMIT - 1)?;
+    let program = high_script(alloc, LIMIT)?;
+    let lower = high_script(alloc, LIMIT - 1)?;
     assert!(rt; !same_tree(&program, &lower));
     let copy = try_copy(alloc, &program)?;
-    assert!(rt; same_tree(&program, &copy));
+    assert_eq!(rt;
+        (height(&program), same_tree(&program, &copy)),
+        (LIMIT, true)
+    );
     Ok(())
 }
 
@@ -233,10 +216,7 @@ fn views_show_the_fields_of_each_kind(rt: HostRuntime) -> Result<(), Fail> {
     let alloc = rt.alloc();
     for (sketch, want) in viewed() {
         let program = script(alloc, &[*sketch], 0)?;
-        let shown = match program.root().part(0) {
-            Some(node) => views(alloc, node)?,
-            None => String::new(alloc),
-        };
+        let shown = views(alloc, &program)?;
         assert_eq!(rt; shown.as_str(), *want);
     }
     Ok(())

@@ -1,70 +1,414 @@
-//! The positions of small nodes, built by hand.
+//! The positions of small nodes.
 
+use crate::sketch::{BLOCK, CONSTRUCTOR, DIRECTIVE, EMPTY, OPTIONAL, Sketch, script};
+use Asked::{At, Ranked};
+use Sketch::{Flagged, Gap, Name, Plain, Word};
 use language::{Rank, Start};
 use positions::{Position, Positions, expression_positions, node_positions};
-use std::alloc::{AllocError, Global};
-use std::borrow::CowStr;
 use std::test::Fail;
-use tree::{Flags, Form, Kind, Node, Parts, Span, Syntax};
+use tree::{Form, Kind, Program};
 
-const NOWHERE: Span = Span { start: 0, end: 0 };
-
-fn leaf(alloc: Global, kind: Kind, text: &str) -> Syntax<'_> {
-    Syntax::leaf(alloc, kind, CowStr::Borrowed(text), NOWHERE)
+/// Where a node stands: at a position, or as an expression at a symbol.
+#[derive(Clone, Copy)]
+enum Asked {
+    At(Position),
+    Ranked(Rank),
 }
 
-fn name(alloc: Global, text: &str) -> Syntax<'_> {
-    leaf(alloc, Kind::Identifier, text)
-}
+/// What a node is and where it stands; the node; where; at what positions its parts stand, if it can be spelled there.
+type Row = (&'static str, Sketch, Asked, Option<&'static [&'static str]>);
 
-fn worded<'s>(kind: Kind, text: &'s str, parts: Parts<'s>) -> Syntax<'s> {
-    Syntax::new(kind, CowStr::Borrowed(text), Flags::PLAIN, NOWHERE, parts)
-}
+const A: Sketch = Name("a");
 
-fn made(kind: Kind, parts: Parts<'_>) -> Syntax<'_> {
-    worded(kind, "", parts)
-}
+const B: Sketch = Name("b");
 
-fn flagged(kind: Kind, flags: Flags, parts: Parts<'_>) -> Syntax<'_> {
-    Syntax::new(kind, CowStr::Borrowed(""), flags, NOWHERE, parts)
-}
+const C: Sketch = Name("c");
 
-fn formed(form: Form) -> Flags {
-    Flags {
-        form,
-        ..Flags::PLAIN
-    }
-}
+const IF: Sketch = Name("if");
 
-fn empty(alloc: Global, kind: Kind) -> Syntax<'static> {
-    made(kind, Parts::new(alloc))
-}
+/// `a + b`.
+const SUM: Sketch = Word(Kind::BinaryExpression, "+", &[A, B]);
 
-/// One part more, or a gap.
-fn add<'s>(parts: &mut Parts<'s>, part: Option<Syntax<'s>>) -> Result<(), AllocError> {
-    match part {
-        Some(part) => parts.push(part),
-        None => parts.push_gap(),
-    }
-}
+const STRING: Sketch = Word(Kind::Literal, "'a'", &[]);
 
-fn three<'s>(
-    alloc: Global,
-    first: Option<Syntax<'s>>,
-    second: Option<Syntax<'s>>,
-    third: Option<Syntax<'s>>,
-) -> Result<Parts<'s>, AllocError> {
-    let mut parts = Parts::new(alloc);
-    add(&mut parts, first)?;
-    add(&mut parts, second)?;
-    add(&mut parts, third)?;
-    Ok(parts)
-}
+const REGEXP: Sketch = Word(Kind::Literal, "/a/", &[]);
+
+const SUPER: Sketch = Plain(Kind::Super, &[]);
+
+const HEAD: Sketch = Word(Kind::TemplateElement, "a", &[]);
+
+const TAIL: Sketch = Word(Kind::TemplateElement, "b", &[]);
+
+/// What stands before the first substitution.
+const FIRST: Asked = At(Position::Chunk {
+    is_first: true,
+    is_last: false,
+});
+
+/// `a${c}b`.
+const TEMPLATE: Sketch = Plain(Kind::TemplateLiteral, &[HEAD, C, TAIL]);
+
+/// `a: b`.
+const PROPERTY: Sketch = Plain(Kind::Property, &[A, B]);
+
+/// `{a: b}`, a pattern.
+const OBJECT: Sketch = Plain(Kind::ObjectPattern, &[PROPERTY]);
+
+/// `...{a: b}`.
+const REST: Sketch = Plain(Kind::RestElement, &[OBJECT]);
+
+const BINDS: Asked = At(Position::Pattern {
+    binds: true,
+    start: Start::Any,
+});
+
+/// The same, where no `{` may come first.
+const BINDS_UNBRACED: Asked = At(Position::Pattern {
+    binds: true,
+    start: Start::NoBrace,
+});
+
+const ARRAY_REST: Asked = At(Position::Rest {
+    binds: true,
+    of_object: false,
+});
+
+const OBJECT_REST: Asked = At(Position::Rest {
+    binds: true,
+    of_object: true,
+});
+
+/// `a = b`, with a default.
+const DEFAULT: Sketch = Plain(Kind::AssignmentPattern, &[A, B]);
+
+/// `[a = b]`, a pattern.
+const LIST: Sketch = Plain(Kind::ArrayPattern, &[DEFAULT]);
+
+/// `...c`.
+const SPREAD: Sketch = Plain(Kind::SpreadElement, &[C]);
+
+/// The function of a method with no parameters.
+const FUNCTION: Sketch = Plain(Kind::FunctionExpression, &[Gap, BLOCK]);
+
+const CONSTRUCTOR_KEY: Sketch = Word(Kind::Literal, "'con\\u0073tructor'", &[]);
+
+const OTHER_KEY: Sketch = Word(Kind::Literal, "'constructors'", &[]);
+
+const CONSTRUCTING: Sketch = Flagged(
+    Kind::MethodDefinition,
+    CONSTRUCTOR,
+    &[CONSTRUCTOR_KEY, FUNCTION],
+);
+
+const MISNAMED: Sketch = Flagged(Kind::MethodDefinition, CONSTRUCTOR, &[OTHER_KEY, FUNCTION]);
+
+const CLASS_BODY: Sketch = Plain(Kind::ClassBody, &[CONSTRUCTING]);
+
+const STATEMENT: Asked = At(Position::Statement { returns: false });
+
+/// `if (a) ;`.
+const INNER: Sketch = Plain(Kind::IfStatement, &[A, EMPTY, Gap]);
+
+/// `while (b) if (a) ;`.
+const LOOPED: Sketch = Plain(Kind::WhileStatement, &[B, INNER]);
+
+/// `if (a) while (b) if (a) ; else ;`, where the `else` is that of the first `if`.
+const DANGLING: Sketch = Plain(Kind::IfStatement, &[A, LOOPED, EMPTY]);
+
+/// It in a block.
+const IN_BLOCK: Sketch = Plain(Kind::BlockStatement, &[DANGLING]);
+
+const GUARDED: Sketch = Plain(Kind::IfStatement, &[A, IN_BLOCK, EMPTY]);
+
+/// `for (; a;) ;`.
+const FOR: Sketch = Plain(Kind::ForStatement, &[Gap, A, Gap, EMPTY]);
+
+const DECLARATOR: Sketch = Plain(Kind::VariableDeclarator, &[B, Gap]);
+
+const DECLARED: Asked = At(Position::Declarator {
+    with_in: false,
+    initialised: false,
+});
+
+/// `let b`.
+const DECLARATION: Sketch = Word(Kind::VariableDeclaration, "let", &[DECLARATOR]);
+
+/// `for (let b of c) ;`.
+const FOR_OF: Sketch = Plain(Kind::ForOfStatement, &[DECLARATION, C, EMPTY]);
+
+/// `default: ;`.
+const CASE: Sketch = Plain(Kind::SwitchCase, &[Gap, EMPTY]);
+
+const SWITCH: Sketch = Plain(Kind::SwitchStatement, &[A, CASE]);
+
+const TWO_DEFAULTS: Sketch = Plain(Kind::SwitchStatement, &[A, CASE, CASE]);
+
+/// `catch (a) {}`.
+const CATCH: Sketch = Plain(Kind::CatchClause, &[A, BLOCK]);
+
+const TRY: Sketch = Plain(Kind::TryStatement, &[BLOCK, CATCH, Gap]);
+
+const OPENING: Asked = At(Position::Opening { returns: false });
+
+const ITEM: Asked = At(Position::Item { returns: false });
+
+/// `'a';` as a directive.
+const DIRECTED: Sketch = Flagged(Kind::ExpressionStatement, DIRECTIVE, &[STRING]);
+
+/// `('a');`.
+const GROUPED: Sketch = Plain(Kind::ExpressionStatement, &[STRING]);
+
+const SCRIPT: Sketch = Plain(Kind::Program, &[DIRECTED, GROUPED, EMPTY]);
+
+/// `return a;`.
+const RETURN: Sketch = Plain(Kind::ReturnStatement, &[A]);
+
+const BODY: Sketch = Plain(Kind::BlockStatement, &[RETURN]);
+
+const SPINE: Asked = At(Position::Spine { start: Start::Any });
+
+/// `a?.b`.
+const LOWEST: Sketch = Flagged(Kind::MemberExpression, OPTIONAL, &[A, B]);
+
+/// `a?.b.c`.
+const ABOVE: Sketch = Plain(Kind::MemberExpression, &[LOWEST, C]);
+
+static ROWS: [Row; 56] = [
+    (
+        "a sum",
+        SUM,
+        Ranked(Rank::Expression),
+        Some(&["sum", "product"]),
+    ),
+    (
+        "a sum in a product",
+        SUM,
+        Ranked(Rank::Multiplicative),
+        None,
+    ),
+    // reserved words are no names
+    ("a name, read", A, Ranked(Rank::Primary), Some(&[])),
+    ("if, read", IF, Ranked(Rank::Primary), None),
+    ("a name, bound", A, At(Position::Name), Some(&[])),
+    ("if, bound", IF, At(Position::Name), None),
+    ("if behind a dot", IF, At(Position::Word), Some(&[])),
+    ("if as a shorthand's key", IF, At(Position::Echo), Some(&[])),
+    // keys and strings
+    ("a string as a key", STRING, At(Position::Key), Some(&[])),
+    (
+        "a string as a directive",
+        STRING,
+        At(Position::Quoted),
+        Some(&[]),
+    ),
+    (
+        "a regular expression as a key",
+        REGEXP,
+        At(Position::Key),
+        None,
+    ),
+    (
+        "a regular expression as a directive",
+        REGEXP,
+        At(Position::Quoted),
+        None,
+    ),
+    ("super", SUPER, At(Position::Base), Some(&[])),
+    ("a string as super", STRING, At(Position::Base), None),
+    // parts of a template
+    ("characters of a template", HEAD, FIRST, Some(&[])),
+    (
+        "a tagged template",
+        TEMPLATE,
+        At(Position::Quasi),
+        Some(&["chunk", "expression", "chunk"]),
+    ),
+    // properties and patterns
+    (
+        "a property",
+        PROPERTY,
+        At(Position::Property),
+        Some(&["key", "expression"]),
+    ),
+    (
+        "a property of a pattern",
+        PROPERTY,
+        At(Position::PatternProperty { binds: true }),
+        Some(&["key", "name"]),
+    ),
+    (
+        "an object pattern",
+        OBJECT,
+        BINDS,
+        Some(&["pattern property"]),
+    ),
+    (
+        "an object pattern, where no brace may come first",
+        OBJECT,
+        BINDS_UNBRACED,
+        None,
+    ),
+    ("the rest of an array", REST, ARRAY_REST, Some(&["pattern"])),
+    (
+        "a pattern as the rest of an object",
+        REST,
+        OBJECT_REST,
+        None,
+    ),
+    // defaults and spreads
+    (
+        "a default",
+        DEFAULT,
+        At(Position::Element { binds: true }),
+        Some(&["name", "expression"]),
+    ),
+    ("an array pattern", LIST, BINDS, Some(&["element"])),
+    (
+        "a spread",
+        SPREAD,
+        At(Position::Spread),
+        Some(&["expression"]),
+    ),
+    // members of a class
+    (
+        "a getter",
+        FUNCTION,
+        At(Position::Method(Form::Get)),
+        Some(&["body"]),
+    ),
+    (
+        "a method",
+        FUNCTION,
+        At(Position::Method(Form::Method)),
+        Some(&["body"]),
+    ),
+    (
+        "a setter without parameter",
+        FUNCTION,
+        At(Position::Method(Form::Set)),
+        None,
+    ),
+    (
+        "a constructor",
+        CONSTRUCTING,
+        At(Position::Member),
+        Some(&["key", "method"]),
+    ),
+    (
+        "a constructor of another name",
+        MISNAMED,
+        At(Position::Member),
+        None,
+    ),
+    (
+        "the body of a class",
+        CLASS_BODY,
+        At(Position::ClassBody),
+        Some(&["member"]),
+    ),
+    // an else belongs to the nearest if
+    (
+        "an if without else",
+        INNER,
+        STATEMENT,
+        Some(&["expression", "statement"]),
+    ),
+    ("an else behind another if", DANGLING, STATEMENT, None),
+    (
+        "an else behind a block",
+        GUARDED,
+        STATEMENT,
+        Some(&["expression", "statement", "statement"]),
+    ),
+    // heads of for
+    ("a for", FOR, STATEMENT, Some(&["expression", "statement"])),
+    ("a declarator", DECLARATOR, DECLARED, Some(&["name"])),
+    (
+        "a declaration in a head",
+        DECLARATION,
+        At(Position::Head { initialised: false }),
+        Some(&["declarator"]),
+    ),
+    (
+        "a declaration among statements",
+        DECLARATION,
+        ITEM,
+        Some(&["declarator"]),
+    ),
+    ("a declaration as a body", DECLARATION, STATEMENT, None),
+    (
+        "a for of",
+        FOR_OF,
+        STATEMENT,
+        Some(&["head", "expression", "statement"]),
+    ),
+    // one default at most
+    (
+        "a default case",
+        CASE,
+        At(Position::SwitchCase { returns: false }),
+        Some(&["item"]),
+    ),
+    ("a switch", SWITCH, STATEMENT, Some(&["expression", "case"])),
+    ("a switch with two defaults", TWO_DEFAULTS, STATEMENT, None),
+    // handlers of try
+    (
+        "a block",
+        BLOCK,
+        At(Position::Block { returns: false }),
+        Some(&[]),
+    ),
+    (
+        "a handler",
+        CATCH,
+        At(Position::Handler { returns: false }),
+        Some(&["name", "block"]),
+    ),
+    ("a try", TRY, STATEMENT, Some(&["block", "handler"])),
+    // directives come first
+    ("a directive", DIRECTED, OPENING, Some(&["quoted"])),
+    ("a directive among statements", DIRECTED, ITEM, None),
+    (
+        "a string in parentheses",
+        GROUPED,
+        OPENING,
+        Some(&["expression"]),
+    ),
+    (
+        "a script",
+        SCRIPT,
+        At(Position::Script),
+        Some(&["opening", "opening", "item"]),
+    ),
+    // what functions return
+    ("a return outside a function", RETURN, STATEMENT, None),
+    (
+        "a return in a function",
+        RETURN,
+        At(Position::Statement { returns: true }),
+        Some(&["expression"]),
+    ),
+    (
+        "the body of a function",
+        BODY,
+        At(Position::Body),
+        Some(&["opening"]),
+    ),
+    // parts of a chain
+    (
+        "the lowest of a chain",
+        LOWEST,
+        SPINE,
+        Some(&["expression", "word"]),
+    ),
+    ("a member above it", ABOVE, SPINE, Some(&["spine", "word"])),
+    ("a name in a chain", A, SPINE, None),
+];
 
 /// What a position is called here.
 fn called(position: Position) -> &'static str {
     match position {
-        Position::Expression { .. } => "expression",
+        Position::Expression { rank, .. } => called_by(rank),
         Position::Spine { .. } => "spine",
         Position::Name => "name",
         Position::Word => "word",
@@ -96,11 +440,17 @@ fn called(position: Position) -> &'static str {
     }
 }
 
-/// Whether a node's parts stand at these positions.
-fn gives(node: &Syntax, position: Position, wanted: &[&str]) -> bool {
-    let Some(found) = node_positions(node.node(), position) else {
-        return false;
-    };
+/// What the symbol of an expression is called here.
+fn called_by(rank: Rank) -> &'static str {
+    match rank {
+        Rank::Additive => "sum",
+        Rank::Multiplicative => "product",
+        _ => "expression",
+    }
+}
+
+/// Whether positions are called so.
+fn are_called(found: Positions, wanted: &[&str]) -> bool {
     let mut rest = found;
     for &one in wanted {
         let Some((here, others)) = rest.next() else {
@@ -114,344 +464,28 @@ fn gives(node: &Syntax, position: Position, wanted: &[&str]) -> bool {
     rest.next().is_none()
 }
 
-fn refuses(node: &Syntax, position: Position) -> bool {
-    node_positions(node.node(), position).is_none()
-}
-
-/// The symbol of the next position, if it is an expression's.
-fn next_rank<'t, 's>(positions: Positions<'t, 's>) -> Option<(Rank, Positions<'t, 's>)> {
-    match positions.next() {
-        Some((Position::Expression { rank, .. }, others)) => Some((rank, others)),
-        _ => None,
+/// Whether the parts of the only item of a script stand at these positions, or it can't be spelled where there are none.
+fn is_placed(program: &Program, asked: Asked, wanted: Option<&[&str]>) -> bool {
+    let Some(node) = program.root().part(0) else {
+        return false;
+    };
+    let found = match asked {
+        At(position) => node_positions(node, position),
+        Ranked(rank) => expression_positions(node, rank, true, Start::Any),
+    };
+    match (found, wanted) {
+        (Some(positions), Some(names)) => are_called(positions, names),
+        (None, None) => true,
+        _ => false,
     }
 }
 
 #[test]
-fn operands_of_a_sum(rt: HostRuntime) -> Result<(), Fail> {
+fn parts_stand_at_their_positions(rt: HostRuntime) -> Result<(), Fail> {
     let alloc = rt.alloc();
-    let parts = Parts::two(alloc, name(alloc, "a"), name(alloc, "b"))?;
-    let sum = worded(Kind::BinaryExpression, "+", parts);
-    let node: Node = sum.node();
-    let first = expression_positions(node, Rank::Expression, true, Start::Any).expect(
-        &rt, "spelled",
-    );
-    let (left, second) = next_rank(first).expect(&rt, "left");
-    let (right, others) = next_rank(second).expect(&rt, "right");
-    assert_eq!(rt; left, Rank::Additive);
-    assert_eq!(rt; right, Rank::Multiplicative);
-    assert!(rt; others.next().is_none());
-    assert!(rt; expression_positions(node, Rank::Multiplicative, true, Start::Any).is_none());
-    Ok(())
-}
-
-#[test]
-fn reserved_words_are_no_names(rt: HostRuntime) {
-    let alloc = rt.alloc();
-    let (good, bad) = (name(alloc, "a"), name(alloc, "if"));
-    let at = Rank::Primary;
-    assert!(rt; expression_positions(good.node(), at, true, Start::Any).is_some());
-    assert!(rt; expression_positions(bad.node(), at, true, Start::Any).is_none());
-    assert!(rt; gives(&good, Position::Name, &[]));
-    assert!(rt; refuses(&bad, Position::Name));
-    assert!(rt; gives(&bad, Position::Word, &[]));
-    assert!(rt; gives(&bad, Position::Echo, &[]));
-}
-
-#[test]
-fn keys_and_strings(rt: HostRuntime) {
-    let alloc = rt.alloc();
-    let string = leaf(alloc, Kind::Literal, "'a'");
-    let pattern = leaf(alloc, Kind::Literal, "/a/");
-    assert!(rt; gives(&string, Position::Key, &[]));
-    assert!(rt; gives(&string, Position::Quoted, &[]));
-    assert!(rt; refuses(&pattern, Position::Key));
-    assert!(rt; refuses(&pattern, Position::Quoted));
-    assert!(rt; gives(&leaf(alloc, Kind::Super, ""), Position::Base, &[]));
-    assert!(rt; refuses(&string, Position::Base));
-}
-
-#[test]
-fn parts_of_a_template(rt: HostRuntime) -> Result<(), Fail> {
-    let alloc = rt.alloc();
-    let first = leaf(alloc, Kind::TemplateElement, "a");
-    let last = leaf(alloc, Kind::TemplateElement, "b");
-    let at = Position::Chunk {
-        is_first: true,
-        is_last: false,
-    };
-    assert!(rt; gives(&first, at, &[]));
-    let parts = three(alloc, Some(first), Some(name(alloc, "c")), Some(last))?;
-    let template = made(Kind::TemplateLiteral, parts);
-    assert!(rt;
-        gives(
-            &template,
-            Position::Quasi,
-            &["chunk", "expression", "chunk"]
-        )
-    );
-    Ok(())
-}
-
-const BINDS: Position = Position::Pattern {
-    binds: true,
-    start: Start::Any,
-};
-
-fn rest_at(of_object: bool) -> Position {
-    Position::Rest {
-        binds: true,
-        of_object,
+    for (what, sketch, asked, wanted) in &ROWS {
+        let program = script(alloc, &[*sketch], 0)?;
+        assert!(rt; is_placed(&program, *asked, *wanted), "{what}: {wanted:?}");
     }
-}
-
-#[test]
-fn properties_and_patterns(rt: HostRuntime) -> Result<(), Fail> {
-    let alloc = rt.alloc();
-    let parts = Parts::two(alloc, name(alloc, "a"), name(alloc, "b"))?;
-    let property = made(Kind::Property, parts);
-    let of_pattern = Position::PatternProperty { binds: true };
-    assert!(rt; gives(&property, Position::Property, &["key", "expression"]));
-    assert!(rt; gives(&property, of_pattern, &["key", "name"]));
-    let object = made(Kind::ObjectPattern, Parts::one(alloc, property)?);
-    let first = Position::Pattern {
-        binds: true,
-        start: Start::NoBrace,
-    };
-    assert!(rt; gives(&object, BINDS, &["pattern property"]));
-    assert!(rt; refuses(&object, first));
-    let rest = made(Kind::RestElement, Parts::one(alloc, object)?);
-    assert!(rt; gives(&rest, rest_at(false), &["pattern"]));
-    assert!(rt; refuses(&rest, rest_at(true)));
-    Ok(())
-}
-
-#[test]
-fn defaults_and_spreads(rt: HostRuntime) -> Result<(), Fail> {
-    let alloc = rt.alloc();
-    let parts = Parts::two(alloc, name(alloc, "a"), name(alloc, "b"))?;
-    let given = made(Kind::AssignmentPattern, parts);
-    assert!(rt;
-        gives(
-            &given,
-            Position::Element { binds: true },
-            &["name", "expression"]
-        )
-    );
-    let list = made(Kind::ArrayPattern, Parts::one(alloc, given)?);
-    assert!(rt; gives(&list, BINDS, &["element"]));
-    let spread = made(Kind::SpreadElement, Parts::one(alloc, name(alloc, "c"))?);
-    assert!(rt; gives(&spread, Position::Spread, &["expression"]));
-    Ok(())
-}
-
-/// The function of a method with no parameters.
-fn plain_function(alloc: Global) -> Result<Syntax<'static>, AllocError> {
-    let mut parts = Parts::new(alloc);
-    parts.push_gap()?;
-    parts.push(empty(alloc, Kind::BlockStatement))?;
-    Ok(made(Kind::FunctionExpression, parts))
-}
-
-#[test]
-fn members_of_a_class(rt: HostRuntime) -> Result<(), Fail> {
-    let alloc = rt.alloc();
-    let function = plain_function(alloc)?;
-    assert!(rt; gives(&function, Position::Method(Form::Get), &["body"]));
-    assert!(rt; gives(&function, Position::Method(Form::Method), &["body"]));
-    assert!(rt; refuses(&function, Position::Method(Form::Set)));
-    let key = leaf(alloc, Kind::Literal, "'con\\u0073tructor'");
-    let parts = Parts::two(alloc, key, function)?;
-    let constructor = flagged(Kind::MethodDefinition, formed(Form::Constructor), parts);
-    assert!(rt; gives(&constructor, Position::Member, &["key", "method"]));
-    let parts = Parts::two(
-        alloc,
-        leaf(alloc, Kind::Literal, "'constructors'"),
-        plain_function(alloc)?,
-    )?;
-    let other = flagged(Kind::MethodDefinition, formed(Form::Constructor), parts);
-    assert!(rt; refuses(&other, Position::Member));
-    let body = made(Kind::ClassBody, Parts::one(alloc, constructor)?);
-    assert!(rt; gives(&body, Position::ClassBody, &["member"]));
-    Ok(())
-}
-
-const STATEMENT: Position = Position::Statement { returns: false };
-
-/// An `if` with these branches.
-fn choice<'s>(
-    alloc: Global,
-    consequent: Syntax<'s>,
-    alternate: Option<Syntax<'s>>,
-) -> Result<Syntax<'s>, AllocError> {
-    let parts = three(alloc, Some(name(alloc, "a")), Some(consequent), alternate)?;
-    Ok(made(Kind::IfStatement, parts))
-}
-
-#[test]
-fn an_else_belongs_to_the_nearest_if(rt: HostRuntime) -> Result<(), Fail> {
-    let alloc = rt.alloc();
-    let inner = choice(alloc, empty(alloc, Kind::EmptyStatement), None)?;
-    assert!(rt; gives(&inner, STATEMENT, &["expression", "statement"]));
-    let looped = made(
-        Kind::WhileStatement,
-        Parts::two(alloc, name(alloc, "b"), inner)?,
-    );
-    let outer = choice(alloc, looped, Some(empty(alloc, Kind::EmptyStatement)))?;
-    assert!(rt; refuses(&outer, STATEMENT));
-    let block = made(Kind::BlockStatement, Parts::one(alloc, outer)?);
-    let outer = choice(alloc, block, Some(empty(alloc, Kind::EmptyStatement)))?;
-    assert!(rt; gives(&outer, STATEMENT, &["expression", "statement", "statement"]));
-    Ok(())
-}
-
-#[test]
-fn heads_of_for(rt: HostRuntime) -> Result<(), Fail> {
-    let alloc = rt.alloc();
-    let mut parts = three(alloc, None, Some(name(alloc, "a")), None)?;
-    parts.push(empty(alloc, Kind::EmptyStatement))?;
-    let plain = made(Kind::ForStatement, parts);
-    assert!(rt; gives(&plain, STATEMENT, &["expression", "statement"]));
-    let mut declarator = Parts::one(alloc, name(alloc, "b"))?;
-    declarator.push_gap()?;
-    let declarator = made(Kind::VariableDeclarator, declarator);
-    let at = Position::Declarator {
-        with_in: false,
-        initialised: false,
-    };
-    assert!(rt; gives(&declarator, at, &["name"]));
-    let head = worded(
-        Kind::VariableDeclaration,
-        "let",
-        Parts::one(alloc, declarator)?,
-    );
-    assert!(rt;
-        gives(
-            &head,
-            Position::Head { initialised: false },
-            &["declarator"]
-        )
-    );
-    assert!(rt; gives(&head, Position::Item { returns: false }, &["declarator"]));
-    assert!(rt; refuses(&head, STATEMENT));
-    let parts = three(
-        alloc,
-        Some(head),
-        Some(name(alloc, "c")),
-        Some(empty(alloc, Kind::EmptyStatement)),
-    )?;
-    let each = made(Kind::ForOfStatement, parts);
-    assert!(rt; gives(&each, STATEMENT, &["head", "expression", "statement"]));
-    Ok(())
-}
-
-/// A case without test.
-fn default_case(alloc: Global) -> Result<Syntax<'static>, AllocError> {
-    let mut parts = Parts::new(alloc);
-    parts.push_gap()?;
-    parts.push(empty(alloc, Kind::EmptyStatement))?;
-    Ok(made(Kind::SwitchCase, parts))
-}
-
-#[test]
-fn one_default_at_most(rt: HostRuntime) -> Result<(), Fail> {
-    let alloc = rt.alloc();
-    let case = default_case(alloc)?;
-    assert!(rt; gives(&case, Position::SwitchCase { returns: false }, &["item"]));
-    let once = made(
-        Kind::SwitchStatement,
-        Parts::two(alloc, name(alloc, "a"), case)?,
-    );
-    assert!(rt; gives(&once, STATEMENT, &["expression", "case"]));
-    let parts = three(
-        alloc,
-        Some(name(alloc, "a")),
-        Some(default_case(alloc)?),
-        Some(default_case(alloc)?),
-    )?;
-    assert!(rt; refuses(&made(Kind::SwitchStatement, parts), STATEMENT));
-    Ok(())
-}
-
-#[test]
-fn handlers_of_try(rt: HostRuntime) -> Result<(), Fail> {
-    let alloc = rt.alloc();
-    let block = empty(alloc, Kind::BlockStatement);
-    assert!(rt; gives(&block, Position::Block { returns: false }, &[]));
-    let handler = made(
-        Kind::CatchClause,
-        Parts::two(alloc, name(alloc, "a"), block)?,
-    );
-    assert!(rt;
-        gives(
-            &handler,
-            Position::Handler { returns: false },
-            &["name", "block"]
-        )
-    );
-    let guarded = empty(alloc, Kind::BlockStatement);
-    let parts = three(alloc, Some(guarded), Some(handler), None)?;
-    let whole = made(Kind::TryStatement, parts);
-    assert!(rt; gives(&whole, STATEMENT, &["block", "handler"]));
-    Ok(())
-}
-
-/// A string as a statement, which is a directive or isn't.
-fn string_statement(alloc: Global, directive: bool) -> Result<Syntax<'static>, AllocError> {
-    let flags = Flags {
-        directive,
-        ..Flags::PLAIN
-    };
-    let parts = Parts::one(alloc, leaf(alloc, Kind::Literal, "'a'"))?;
-    Ok(flagged(Kind::ExpressionStatement, flags, parts))
-}
-
-#[test]
-fn directives_come_first(rt: HostRuntime) -> Result<(), Fail> {
-    let alloc = rt.alloc();
-    let directive = string_statement(alloc, true)?;
-    let opening = Position::Opening { returns: false };
-    assert!(rt; gives(&directive, opening, &["quoted"]));
-    assert!(rt; refuses(&directive, Position::Item { returns: false }));
-    let grouped = string_statement(alloc, false)?;
-    assert!(rt; gives(&grouped, opening, &["expression"]));
-    let parts = three(
-        alloc,
-        Some(directive),
-        Some(grouped),
-        Some(empty(alloc, Kind::EmptyStatement)),
-    )?;
-    let script = made(Kind::Program, parts);
-    assert!(rt; gives(&script, Position::Script, &["opening", "opening", "item"]));
-    let returned = made(Kind::ReturnStatement, Parts::one(alloc, name(alloc, "a"))?);
-    assert!(rt; refuses(&returned, STATEMENT));
-    assert!(rt;
-        gives(
-            &returned,
-            Position::Statement { returns: true },
-            &["expression"]
-        )
-    );
-    let body = made(Kind::BlockStatement, Parts::one(alloc, returned)?);
-    assert!(rt; gives(&body, Position::Body, &["opening"]));
-    Ok(())
-}
-
-#[test]
-fn parts_of_a_chain(rt: HostRuntime) -> Result<(), Fail> {
-    let alloc = rt.alloc();
-    let optional = Flags {
-        optional: true,
-        ..Flags::PLAIN
-    };
-    let parts = Parts::two(alloc, name(alloc, "a"), name(alloc, "b"))?;
-    let lowest = flagged(Kind::MemberExpression, optional, parts);
-    let at = Position::Spine { start: Start::Any };
-    assert!(rt; gives(&lowest, at, &["expression", "word"]));
-    let above = made(
-        Kind::MemberExpression,
-        Parts::two(alloc, lowest, name(alloc, "c"))?,
-    );
-    assert!(rt; gives(&above, at, &["spine", "word"]));
-    assert!(rt; refuses(&name(alloc, "a"), at));
     Ok(())
 }

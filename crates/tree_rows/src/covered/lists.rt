@@ -1,7 +1,7 @@
 //! Which lists take which items, and which have ended.
 
-use super::sketch::{A, B, MEMBER, Sketch};
-use Sketch::{Array, Assign, Group, Initialized, Object, One, Pair, Rest};
+use super::sketch::{A, B, INITIALIZED_A, MEMBER, ONE, Sketch};
+use Sketch::{Array, Assign, Group, Object, Pair, Rest};
 use covers::Listed;
 
 /// Items of a list, and whether it takes them.
@@ -10,38 +10,34 @@ pub(super) fn taken() -> &'static [(Listed, &'static [Sketch], bool)] {
 }
 
 static TAKEN: [(Listed, &[Sketch], bool); 16] = [
-    (Listed::Arguments, &[One, Rest(&[A]), B], true),
-    (Listed::Arguments, &[Object(&[Initialized("a")])], false),
+    (Listed::Arguments, &[ONE, Rest(&[A]), B], true),
+    (Listed::Arguments, &[Object(&[INITIALIZED_A])], false),
     (
         Listed::Elements,
-        &[One, Array(&[Object(&[Initialized("a")])])],
+        &[ONE, Array(&[Object(&[INITIALIZED_A])])],
         false,
     ),
-    (Listed::Elements, &[Object(&[Initialized("a")]), One], false),
-    (Listed::Elements, &[Object(&[Initialized("a")]), A], true),
+    (Listed::Elements, &[Object(&[INITIALIZED_A]), ONE], false),
+    (Listed::Elements, &[Object(&[INITIALIZED_A]), A], true),
     (
         Listed::Properties,
-        &[Initialized("a"), Pair("b", &[One])],
+        &[INITIALIZED_A, Pair("b", &[ONE])],
         false,
     ),
-    (
-        Listed::Properties,
-        &[Initialized("a"), Pair("b", &[A])],
-        true,
-    ),
+    (Listed::Properties, &[INITIALIZED_A, Pair("b", &[A])], true),
     (Listed::Covers, &[Rest(&[MEMBER])], false),
-    (Listed::Covers, &[One, Rest(&[A])], false),
+    (Listed::Covers, &[ONE, Rest(&[A])], false),
     (Listed::Covers, &[A, MEMBER], true),
     (
         Listed::Parameters,
         &[A, Assign(&[Array(&[B])]), Rest(&[A])],
         true,
     ),
-    (Listed::Parameters, &[One], false),
+    (Listed::Parameters, &[ONE], false),
     (Listed::Parameters, &[Group(&[A])], false),
     (Listed::OneParameter, &[Assign(&[A])], true),
     (Listed::OneParameter, &[Rest(&[A])], false),
-    (Listed::Sequence { has_in: true }, &[A, One], true),
+    (Listed::Sequence { has_in: true }, &[A, ONE], true),
 ];
 
 /// A list of these items: whether it has ended, and the marks that it stands between.
@@ -86,7 +82,7 @@ static ENDED: [Ended; 14] = [
     (Listed::NoParameter, &[], true, Some("("), Some(")")),
     (Listed::OneParameter, &[], false, Some("("), Some(")")),
     (Listed::OneParameter, &[A], true, Some("("), Some(")")),
-    (Listed::Template, &[One], false, None, None),
+    (Listed::Template, &[ONE], false, None, None),
     (Listed::Sequence { has_in: true }, &[A], false, None, None),
     (
         Listed::Cases { returns: true },

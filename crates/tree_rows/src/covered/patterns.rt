@@ -1,7 +1,7 @@
 //! What covers become where they are assigned to, and as parameters.
 
-use super::sketch::{A, B, MEMBER, Sketch};
-use Sketch::{Array, Assign, Group, Hole, Initialized, Object, One, Pair, Rest, Short};
+use super::sketch::{A, B, INITIALIZED_A, INITIALIZED_B, MEMBER, ONE, SHORT_A, Sketch};
+use Sketch::{Array, Assign, Group, Hole, Object, Pair, Rest};
 
 /// What each becomes where it is assigned to.
 pub(super) fn patterns() -> &'static [(Sketch, &'static str)] {
@@ -9,74 +9,72 @@ pub(super) fn patterns() -> &'static [(Sketch, &'static str)] {
 }
 
 static PATTERNS: [(Sketch, &str); 8] = [
-    (A, " Identifier:a/0"),
+    (A, "(Identifier 3-4 a)"),
     (
         Group(&[MEMBER]),
-        " MemberExpression:/2 Identifier:a/0 Identifier:b/0",
+        "(MemberExpression 3-6 (Identifier 3-4 a) (Identifier 4-5 b))",
     ),
     (
         Array(&[Hole, Rest(&[Array(&[A])])]),
-        " ArrayPattern:/2 _ RestElement:/1 ArrayPattern:/1 Identifier:a/0",
+        "(ArrayPattern 3-4 _ (RestElement 3-4 (ArrayPattern 3-4 (Identifier 3-4 a))))",
     ),
     (
         Array(&[Assign(&[A])]),
-        " ArrayPattern:/1 AssignmentPattern:/2 Identifier:a/0 Literal:1/0",
+        "(ArrayPattern 3-4 (AssignmentPattern 3-4 (Identifier 3-4 a) (Literal 3-4 1)))",
     ),
     (
         Array(&[Assign(&[Array(&[A])])]),
-        " ArrayPattern:/1 AssignmentPattern:/2 ArrayPattern:/1 Identifier:a/0 Literal:1/0",
+        "(ArrayPattern 3-4 (AssignmentPattern 3-4 (ArrayPattern 3-4 (Identifier 3-4 a)) (Literal 3-4 1)))",
     ),
     (
         Object(&[Pair("k", &[Object(&[])]), Rest(&[A])]),
-        " ObjectPattern:/2 Property:/2 Identifier:k/0 ObjectPattern:/0 RestElement:/1 Identifier:a/0",
+        "(ObjectPattern 3-4 (Property 3-4 (Identifier 3-4 k) (ObjectPattern 3-4)) (RestElement 3-4 (Identifier 3-4 a)))",
     ),
     (
-        Object(&[Short("a"), Initialized("b")]),
-        " ObjectPattern:/2 Property:/2 Identifier:a/0 Identifier:a/0 Property:/2 Identifier:b/0 AssignmentPattern:/2 Identifier:b/0 Literal:1/0",
+        Object(&[SHORT_A, INITIALIZED_B]),
+        "(ObjectPattern 3-4 (Property 3-6 shorthand (Identifier 3-4 a) (Identifier 4-5 a)) (Property 3-8 shorthand (Identifier 3-4 b) (AssignmentPattern 4-7 (Identifier 4-5 b) (Literal 5-6 1))))",
     ),
     (
         Object(&[Pair("k", &[Group(&[B])])]),
-        " ObjectPattern:/1 Property:/2 Identifier:k/0 Identifier:b/0",
+        "(ObjectPattern 3-4 (Property 3-4 (Identifier 3-4 k) (Identifier 3-4 b)))",
     ),
 ];
 
-/// What parentheses hold, with a comma behind it or without: whether it is an expression, and the patterns that it is as parameters.
-pub(super) type Parenthesized = (&'static [Sketch], bool, bool, Option<&'static str>);
+/// What parentheses hold, with a comma behind it or without: whether it is an expression, and the patterns that it is as parameters, or `refused`.
+pub(super) type Parenthesized = (&'static [Sketch], bool, bool, &'static str);
 
 pub(super) fn parenthesized() -> &'static [Parenthesized] {
     &PARENTHESIZED
 }
 
 static PARENTHESIZED: [Parenthesized; 9] = [
-    (&[], false, true, Some(" ArrayExpression:/0")),
+    (&[], false, true, "(Program 3-4)"),
     (
         &[A, Assign(&[B])],
         false,
         true,
-        Some(" ArrayExpression:/2 Identifier:a/0 AssignmentPattern:/2 Identifier:b/0 Literal:1/0"),
+        "(Program 3-4 (Identifier 3-4 a) (AssignmentPattern 3-4 (Identifier 3-4 b) (Literal 3-4 1)))",
     ),
-    (&[A], true, true, Some(" ArrayExpression:/1 Identifier:a/0")),
+    (&[A], true, true, "(Program 3-4 (Identifier 3-4 a))"),
     (
         &[A, Rest(&[B])],
         false,
         false,
-        Some(" ArrayExpression:/2 Identifier:a/0 RestElement:/1 Identifier:b/0"),
+        "(Program 3-4 (Identifier 3-4 a) (RestElement 3-4 (Identifier 3-4 b)))",
     ),
     (
         &[Rest(&[Array(&[B])])],
         false,
         false,
-        Some(" ArrayExpression:/1 RestElement:/1 ArrayPattern:/1 Identifier:b/0"),
+        "(Program 3-4 (RestElement 3-4 (ArrayPattern 3-4 (Identifier 3-4 b))))",
     ),
-    (&[A, Rest(&[B])], true, false, None),
-    (&[A, One], false, true, None),
-    (&[MEMBER], false, true, None),
+    (&[A, Rest(&[B])], true, false, "refused"),
+    (&[A, ONE], false, true, "refused"),
+    (&[MEMBER], false, true, "refused"),
     (
-        &[Object(&[Initialized("a")])],
+        &[Object(&[INITIALIZED_A])],
         false,
         false,
-        Some(
-            " ArrayExpression:/1 ObjectPattern:/1 Property:/2 Identifier:a/0 AssignmentPattern:/2 Identifier:a/0 Literal:1/0",
-        ),
+        "(Program 3-4 (ObjectPattern 3-4 (Property 3-8 shorthand (Identifier 3-4 a) (AssignmentPattern 4-7 (Identifier 4-5 a) (Literal 5-6 1)))))",
     ),
 ];

@@ -1,7 +1,7 @@
 //! What covers may be.
 
-use super::sketch::{A, B, CHAINED, MEMBER, Sketch};
-use Sketch::{Array, Assign, Group, Hole, Initialized, Object, One, Pair, Rest, Short};
+use super::sketch::{A, B, CHAINED, INITIALIZED_A, MEMBER, ONE, SHORT_A, Sketch};
+use Sketch::{Array, Assign, Group, Hole, Object, Pair, Rest};
 
 /// A sketch; whether it is an expression, a target, what is assigned to, what is bound, a parameter; its text.
 pub(super) type Reading = (Sketch, [bool; 5], &'static str);
@@ -13,7 +13,7 @@ pub(super) fn simple_readings() -> &'static [Reading] {
 
 static SIMPLE: [Reading; 20] = [
     (A, [true, true, true, true, true], "a"),
-    (One, [true, false, false, false, false], "1"),
+    (ONE, [true, false, false, false, false], "1"),
     (MEMBER, [true, true, true, false, false], "a.b"),
     (CHAINED, [true, false, false, false, false], "a?.b"),
     (Group(&[A]), [true, true, true, false, false], "(a)"),
@@ -46,7 +46,7 @@ static SIMPLE: [Reading; 20] = [
     ),
     (Array(&[]), [true, false, true, true, true], "[]"),
     (Array(&[Hole, A]), [true, false, true, true, true], "[, a]"),
-    (Array(&[One]), [true, false, false, false, false], "[1]"),
+    (Array(&[ONE]), [true, false, false, false, false], "[1]"),
     (Array(&[MEMBER]), [true, false, true, false, false], "[a.b]"),
     (
         Array(&[CHAINED]),
@@ -59,7 +59,7 @@ static SIMPLE: [Reading; 20] = [
         "[(a)]",
     ),
     (
-        Array(&[Group(&[Object(&[Short("a")])])]),
+        Array(&[Group(&[Object(&[SHORT_A])])]),
         [true, false, false, false, false],
         "[({a})]",
     ),
@@ -103,7 +103,7 @@ static OBJECTS: [Reading; 11] = [
         "{a: (b)}",
     ),
     (
-        Object(&[Short("a"), Rest(&[B])]),
+        Object(&[SHORT_A, Rest(&[B])]),
         [true, false, true, true, true],
         "{a, ...b}",
     ),
@@ -113,17 +113,17 @@ static OBJECTS: [Reading; 11] = [
         "{...[a]}",
     ),
     (
-        Object(&[Initialized("a")]),
+        Object(&[INITIALIZED_A]),
         [false, false, true, true, true],
         "{a = 1}",
     ),
     (
-        Array(&[Object(&[Initialized("a")])]),
+        Array(&[Object(&[INITIALIZED_A])]),
         [false, false, true, true, true],
         "[{a = 1}]",
     ),
     (
-        Assign(&[Object(&[Initialized("a")])]),
+        Assign(&[Object(&[INITIALIZED_A])]),
         [true, false, false, false, true],
         "{a = 1} = 1",
     ),

@@ -1,24 +1,20 @@
-//! Covers as data, which tests write down in tables and build, and trees as lines of text.
+//! Covers as data, which tests write down in tables and build.
 
+use crate::sketch::{OPTIONAL, SHORTHAND, Sketch as Tree, build as build_tree};
 use covers::{Cover, Item, List, Listed, Shape};
 use language::Edge;
 use productions::{Nodes, Tall, made};
 use source_text::Fault;
-use std::alloc::{AllocError, Global};
-use std::borrow::CowStr;
-use tree::{Flags, Form, Kind, Node, Span};
+use std::alloc::Global;
+use tree::{Flags, Kind, Span};
 
 /// What is read where an expression or a pattern may stand.
 #[derive(Clone, Copy)]
 pub(super) enum Sketch {
     /// A hole of an array.
     Hole,
-    /// A name.
-    Name(&'static str),
-    /// `1`.
-    One,
-    /// `a.b`, or in an optional chain `a?.b`.
-    Member { optional: bool },
+    /// An expression that is no array, no object and no assignment.
+    Read(&'static Tree),
     /// What stands in parentheses, which is one.
     Group(&'static [Sketch]),
     /// `target = 1`, with one target.
@@ -32,34 +28,77 @@ pub(super) enum Sketch {
     /// `key: value`, with the name of the key and one value.
     Pair(&'static str, &'static [Sketch]),
     /// `a`, among properties.
-    Short(&'static str),
+    Short(&'static Tree),
     /// `a = 1`, among properties.
-    Initialized(&'static str),
+    Initialized(&'static Tree),
 }
 
+const NAME: Tree = Tree::Name("a");
+
+const OTHER: Tree = Tree::Name("b");
+
+const NUMBER: Tree = Tree::Word(Kind::Literal, "1", &[]);
+
+pub(super) const A: Sketch = Sketch::Read(&NAME);
+
+pub(super) const B: Sketch = Sketch::Read(&OTHER);
+
+/// `1`.
+pub(super) const ONE: Sketch = Sketch::Read(&NUMBER);
+
 /// `a.b`.
-pub(super) const MEMBER: Sketch = Sketch::Member { optional: false };
+pub(super) const MEMBER: Sketch = Sketch::Read(&Tree::Plain(
+    Kind::MemberExpression,
+    &[NAME, OTHER],
+));
 
 /// `a?.b`.
-pub(super) const CHAINED: Sketch = Sketch::Member { optional: true };
+pub(super) const CHAINED: Sketch = Sketch::Read(&Tree::Flagged(
+    Kind::MemberExpression,
+    OPTIONAL,
+    &[NAME, OTHER],
+));
 
-pub(super) const A: Sketch = Sketch::Name("a");
+/// `a`, among properties.
+pub(super) const SHORT_A: Sketch = Sketch::Short(&Tree::Flagged(
+    Kind::Property,
+    SHORTHAND,
+    &[NAME, NAME],
+));
 
-pub(super) const B: Sketch = Sketch::Name("b");
+/// `a = 1`, among properties.
+pub(super) const INITIALIZED_A: Sketch = Sketch::Initialized(&Tree::Flagged(
+    Kind::Property,
+    SHORTHAND,
+    &[
+        NAME,
+        Tree::Word(Kind::AssignmentExpression, "=", &[NAME, NUMBER]),
+    ],
+));
+
+/// `b = 1`, among properties.
+pub(super) const INITIALIZED_B: Sketch = Sketch::Initialized(&Tree::Flagged(
+    Kind::Property,
+    SHORTHAND,
+    &[
+        OTHER,
+        Tree::Word(Kind::AssignmentExpression, "=", &[OTHER, NUMBER]),
+    ],
+));
 
 const SPAN: Span = Span { start: 3, end: 4 };
 
 const HIGH: u32 = 100;
 
 /// The place that refusals name where a sketch is no cover.
-const ASTRAY: usize = 99;
+pub(super) const ASTRAY: usize = 99;
 
-fn leaf(alloc: Global, kind: Kind, text: &str) -> Result<Tall<'_>, Fault> {
-    Tall::leaf(alloc, kind, CowStr::Borrowed(text), SPAN, HIGH)
-}
-
-fn node<'s>(kind: Kind, text: &'s str, flags: Flags, nodes: Nodes<'s>) -> Result<Tall<'s>, Fault> {
-    made(kind, text, flags, SPAN, nodes, HIGH)
+/// The node of a tree.
+fn read(alloc: Global, tree: &Tree) -> Result<Tall<'static>, Fault> {
+    match build_tree(alloc, tree, 3)? {
+        Some(node) => Ok(node),
+        None => Err(Fault::Syntax(ASTRAY)),
+    }
 }
 
 fn item(node: Tall<'_>, shape: Shape) -> Item<'_> {
@@ -72,119 +111,77 @@ fn item(node: Tall<'_>, shape: Shape) -> Item<'_> {
     }
 }
 
-fn cover(item: Item<'_>) -> Cover<'_> {
-    Cover {
-        node: item.node,
-        shape: item.shape,
-    }
-}
-
-/// `target = 1`, where the target is a pattern already.
-fn assigned(alloc: Global, target: Tall<'static>) -> Result<Tall<'static>, Fault> {
-    let nodes = Nodes::two(alloc, target, leaf(alloc, Kind::Literal, "1")?)?;
-    node(Kind::AssignmentExpression, "=", Flags::PLAIN, nodes)
-}
-
-/// `a.b` or `a?.b`.
-fn member(alloc: Global, optional: bool) -> Result<Item<'static>, Fault> {
-    let flags = Flags {
-        optional,
-        ..Flags::PLAIN
-    };
-    let (object, name) = (
-        leaf(alloc, Kind::Identifier, "a")?,
-        leaf(alloc, Kind::Identifier, "b")?,
-    );
-    let nodes = Nodes::two(alloc, object, name)?;
-    let made = Cover::plain(node(Kind::MemberExpression, "", flags, nodes)?);
+/// An expression that is no array, no object and no assignment.
+fn simple(alloc: Global, tree: &Tree) -> Result<Item<'static>, Fault> {
+    let made = Cover::plain(read(alloc, tree)?);
     Ok(item(made.node, made.shape))
 }
 
-/// A property of an object that is no method.
-fn property(
-    alloc: Global,
-    name: &'static str,
-    value: Tall<'static>,
-    form: Form,
-) -> Result<Tall<'static>, Fault> {
-    let flags = Flags {
-        form,
-        ..Flags::PLAIN
-    };
-    let nodes = Nodes::two(alloc, leaf(alloc, Kind::Identifier, name)?, value)?;
-    node(Kind::Property, "", flags, nodes)
+/// The only item of a list.
+fn only(list: List<'static>) -> Result<Cover<'static>, Fault> {
+    let shape = list.seen.last;
+    match list.nodes.into_only() {
+        Some(node) => Ok(Cover { node, shape }),
+        None => Err(Fault::Syntax(ASTRAY)),
+    }
 }
 
 /// The array or the object of these.
-fn whole(list: List<'static>) -> Result<Item<'static>, Fault> {
+fn whole(list: List<'static>, kind: Kind) -> Result<Item<'static>, Fault> {
     let shape = list.seen.shape;
-    let kind = match list.listed {
-        Listed::Properties => Kind::ObjectExpression,
-        _ => Kind::ArrayExpression,
-    };
-    Ok(item(node(kind, "", Flags::PLAIN, list.nodes)?, shape))
+    let node = made(kind, "", Flags::PLAIN, SPAN, list.nodes, HIGH)?;
+    Ok(item(node, shape))
 }
 
 /// What stands in these parentheses.
 fn grouped(list: List<'static>) -> Result<Item<'static>, Fault> {
-    let shape = list.seen.last.grouped();
-    match list.nodes.into_only() {
-        Some(node) => Ok(item(node, shape)),
-        None => Err(Fault::Syntax(ASTRAY)),
-    }
-}
-
-/// The only item of a list.
-fn only(list: List<'static>) -> Result<Item<'static>, Fault> {
-    let shape = list.seen.last;
-    match list.nodes.into_only() {
-        Some(node) => Ok(item(node, shape)),
-        None => Err(Fault::Syntax(ASTRAY)),
-    }
+    let inner = only(list)?;
+    Ok(item(inner.node, inner.shape.grouped()))
 }
 
 /// `target = 1`.
-fn assignment(alloc: Global, target: Item<'static>) -> Result<Item<'static>, Fault> {
+fn assignment(alloc: Global, list: List<'static>) -> Result<Item<'static>, Fault> {
+    let target = only(list)?;
     let shape = target.shape.defaulted();
-    let target = cover(target).to_pattern(7)?;
-    Ok(item(assigned(alloc, target)?, shape))
+    let mut nodes = Nodes::one(alloc, target.to_pattern(7)?)?;
+    nodes.push(read(alloc, &NUMBER)?)?;
+    let node = made(
+        Kind::AssignmentExpression,
+        "=",
+        Flags::PLAIN,
+        SPAN,
+        nodes,
+        HIGH,
+    )?;
+    Ok(item(node, shape))
 }
 
 /// `...argument`, in an array or in an object.
-fn spread(alloc: Global, argument: Item<'static>, listed: Listed) -> Result<Item<'static>, Fault> {
+fn spread(list: List<'static>, listed: Listed) -> Result<Item<'static>, Fault> {
     let shape = match listed {
-        Listed::Properties => argument.shape.simple(),
-        _ => argument.shape,
+        Listed::Properties => list.seen.last.simple(),
+        _ => list.seen.last,
     };
-    let nodes = Nodes::one(alloc, argument.node)?;
-    let mut spread = item(node(Kind::SpreadElement, "", Flags::PLAIN, nodes)?, shape);
+    let node = made(
+        Kind::SpreadElement,
+        "",
+        Flags::PLAIN,
+        SPAN,
+        list.nodes,
+        HIGH,
+    )?;
+    let mut spread = item(node, shape);
     spread.spreads = true;
     Ok(spread)
 }
 
-/// `a`, among properties.
-fn short(alloc: Global, name: &'static str) -> Result<Item<'static>, Fault> {
-    let value = leaf(alloc, Kind::Identifier, name)?;
-    Ok(item(property(alloc, name, value, Form::Shorthand)?, Shape::NAME))
-}
-
-/// `a = 1`, among properties.
-fn initialized(alloc: Global, name: &'static str) -> Result<Item<'static>, Fault> {
-    let value = assigned(alloc, leaf(alloc, Kind::Identifier, name)?)?;
-    let shape = Shape::NAME.defaulted().initialized();
-    Ok(item(property(alloc, name, value, Form::Shorthand)?, shape))
-}
-
-/// What is sketched without further sketches in it.
-fn simple(alloc: Global, sketch: &Sketch) -> Result<Item<'static>, Fault> {
-    match sketch {
-        Sketch::Name(text) => Ok(item(leaf(alloc, Kind::Identifier, text)?, Shape::NAME)),
-        Sketch::One => Ok(Item::plain(leaf(alloc, Kind::Literal, "1")?)),
-        Sketch::Member { optional } => member(alloc, *optional),
-        Sketch::Short(name) => short(alloc, name),
-        Sketch::Initialized(name) => initialized(alloc, name),
-        _ => Err(Fault::Syntax(ASTRAY)),
-    }
+/// `key: value`, among properties.
+fn pair(alloc: Global, key: &'static str, list: List<'static>) -> Result<Item<'static>, Fault> {
+    let shape = list.seen.last;
+    let mut nodes = Nodes::one(alloc, read(alloc, &Tree::Name(key))?)?;
+    nodes.append(list.nodes)?;
+    let node = made(Kind::Property, "", Flags::PLAIN, SPAN, nodes, HIGH)?;
+    Ok(item(node, shape))
 }
 
 /// What is sketched, as an item of a list.
@@ -192,17 +189,24 @@ fn simple(alloc: Global, sketch: &Sketch) -> Result<Item<'static>, Fault> {
 fn build(alloc: Global, sketch: &Sketch, listed: Listed) -> Result<Item<'static>, Fault> {
     let elements = Listed::Elements;
     match sketch {
-        Sketch::Group(inner) => grouped(items(alloc, inner, Listed::Covers, false)?),
-        Sketch::Assign(target) => assignment(alloc, only(items(alloc, target, elements, false)?)?),
-        Sketch::Array(inner) => whole(items(alloc, inner, elements, false)?),
-        Sketch::Object(inner) => whole(items(alloc, inner, Listed::Properties, false)?),
-        Sketch::Rest(inner) => spread(alloc, only(items(alloc, inner, elements, false)?)?, listed),
-        Sketch::Pair(name, inner) => {
-            let value = only(items(alloc, inner, elements, false)?)?;
-            let shape = value.shape;
-            Ok(item(property(alloc, name, value.node, Form::Init)?, shape))
+        Sketch::Read(tree) => simple(alloc, tree),
+        Sketch::Short(tree) => Ok(item(read(alloc, tree)?, Shape::NAME)),
+        Sketch::Initialized(tree) => {
+            let shape = Shape::NAME.defaulted().initialized();
+            Ok(item(read(alloc, tree)?, shape))
         }
-        _ => simple(alloc, sketch),
+        Sketch::Group(inner) => grouped(items(alloc, inner, Listed::Covers, false)?),
+        Sketch::Assign(target) => assignment(alloc, items(alloc, target, elements, false)?),
+        Sketch::Array(inner) => {
+            whole(items(alloc, inner, elements, false)?, Kind::ArrayExpression)
+        }
+        Sketch::Object(inner) => {
+            let list = items(alloc, inner, Listed::Properties, false)?;
+            whole(list, Kind::ObjectExpression)
+        }
+        Sketch::Rest(inner) => spread(items(alloc, inner, elements, false)?, listed),
+        Sketch::Pair(key, inner) => pair(alloc, key, items(alloc, inner, elements, false)?),
+        Sketch::Hole => Err(Fault::Syntax(ASTRAY)),
     }
 }
 
@@ -232,36 +236,9 @@ pub(super) fn items(
 
 /// What is sketched, as a cover.
 pub(super) fn cover_of(alloc: Global, sketch: &Sketch) -> Result<Cover<'static>, Fault> {
-    Ok(cover(build(alloc, sketch, Listed::Elements)?))
-}
-
-/// Each node of a tree, its parts behind it: the kind, the text and the number of parts; `_` for a gap.
-pub(super) fn line(alloc: Global, whole: Node) -> Result<String, AllocError> {
-    let mut shown = String::new(alloc);
-    let mut ahead = Vec::new(alloc);
-    ahead.push(Some(whole))?;
-    for _ in 0..1000u32 {
-        let Some(next) = ahead.pop() else {
-            break;
-        };
-        let word = show(alloc, next, &mut ahead)?;
-        shown.push_str(word.as_str())?;
-    }
-    Ok(shown)
-}
-
-/// A node without its parts, which come next.
-fn show<'t, 's>(
-    alloc: Global,
-    next: Option<Node<'t, 's>>,
-    ahead: &mut Vec<Option<Node<'t, 's>>>,
-) -> Result<String, AllocError> {
-    let Some(node) = next else {
-        return String::from_str(alloc, " _");
-    };
-    let count = node.part_count();
-    for index in (0..count).rev() {
-        ahead.push(node.part(index))?;
-    }
-    format!(in alloc; " {:?}:{}/{count}", node.kind(), node.text())
+    let item = build(alloc, sketch, Listed::Elements)?;
+    Ok(Cover {
+        node: item.node,
+        shape: item.shape,
+    })
 }

@@ -1,7 +1,7 @@
 //! Words, operators, members and calls: kind, text, flags and parts.
 
-use super::sketch::{COMPUTED_OPTIONAL, OPTIONAL, PLAIN, PREFIX, Sketch};
-use Sketch::{Name, Node};
+use crate::sketch::{COMPUTED_OPTIONAL, OPTIONAL, PREFIX, Sketch};
+use Sketch::{Flagged, Name, Node, Plain, Word};
 use tree::Kind;
 
 /// A node, and the line of the script that is it.
@@ -11,84 +11,61 @@ pub(super) fn expressions() -> &'static [(Sketch, &'static str)] {
 
 static EXPRESSIONS: [(Sketch, &str); 20] = [
     (
-        Node(Kind::Identifier, "ab", PLAIN, &[]),
+        Word(Kind::Identifier, "ab", &[]),
         "(Program 0-2 (Identifier 0-1 ab))",
     ),
     (
-        Node(Kind::Literal, "'x'", PLAIN, &[]),
+        Word(Kind::Literal, "'x'", &[]),
         "(Program 0-2 (Literal 0-1 'x'))",
     ),
     (
-        Node(Kind::ThisExpression, "", PLAIN, &[]),
+        Plain(Kind::ThisExpression, &[]),
         "(Program 0-2 (ThisExpression 0-1))",
     ),
+    (Plain(Kind::Super, &[]), "(Program 0-2 (Super 0-1))"),
     (
-        Node(Kind::Super, "", PLAIN, &[]),
-        "(Program 0-2 (Super 0-1))",
-    ),
-    (
-        Node(
-            Kind::MetaProperty,
-            "",
-            PLAIN,
-            &[Name("new"), Name("target")],
-        ),
+        Plain(Kind::MetaProperty, &[Name("new"), Name("target")]),
         "(Program 0-4 (MetaProperty 0-3 (Identifier 0-1 new) (Identifier 1-2 target)))",
     ),
     (
-        Node(Kind::MemberExpression, "", PLAIN, &[Name("a"), Name("b")]),
+        Plain(Kind::MemberExpression, &[Name("a"), Name("b")]),
         "(Program 0-4 (MemberExpression 0-3 (Identifier 0-1 a) (Identifier 1-2 b)))",
     ),
     (
-        Node(
+        Flagged(
             Kind::MemberExpression,
-            "",
             COMPUTED_OPTIONAL,
-            &[Name("a"), Node(Kind::Literal, "0", PLAIN, &[])],
+            &[Name("a"), Word(Kind::Literal, "0", &[])],
         ),
         "(Program 0-4 (MemberExpression 0-3 computed optional (Identifier 0-1 a) (Literal 1-2 0)))",
     ),
     (
-        Node(
+        Plain(
             Kind::CallExpression,
-            "",
-            PLAIN,
             &[
                 Name("f"),
                 Name("a"),
-                Node(Kind::SpreadElement, "", PLAIN, &[Name("b")]),
+                Plain(Kind::SpreadElement, &[Name("b")]),
             ],
         ),
         "(Program 0-6 (CallExpression 0-5 (Identifier 0-1 f) (Identifier 1-2 a) (SpreadElement 2-4 (Identifier 2-3 b))))",
     ),
     (
-        Node(Kind::CallExpression, "", OPTIONAL, &[Name("f")]),
+        Flagged(Kind::CallExpression, OPTIONAL, &[Name("f")]),
         "(Program 0-3 (CallExpression 0-2 optional (Identifier 0-1 f)))",
     ),
     (
-        Node(Kind::NewExpression, "", PLAIN, &[Name("A"), Name("a")]),
+        Plain(Kind::NewExpression, &[Name("A"), Name("a")]),
         "(Program 0-4 (NewExpression 0-3 (Identifier 0-1 A) (Identifier 1-2 a)))",
     ),
     (
-        Node(
-            Kind::ImportExpression,
-            "",
-            PLAIN,
-            &[Node(Kind::Literal, "'m'", PLAIN, &[])],
-        ),
+        Plain(Kind::ImportExpression, &[Word(Kind::Literal, "'m'", &[])]),
         "(Program 0-3 (ImportExpression 0-2 (Literal 0-1 'm')))",
     ),
     (
-        Node(
+        Plain(
             Kind::ChainExpression,
-            "",
-            PLAIN,
-            &[Node(
-                Kind::MemberExpression,
-                "",
-                OPTIONAL,
-                &[Name("a"), Name("b")],
-            )],
+            &[Flagged(Kind::MemberExpression, OPTIONAL, &[Name("a"), Name("b")])],
         ),
         "(Program 0-5 (ChainExpression 0-4 (MemberExpression 0-3 optional (Identifier 0-1 a) (Identifier 1-2 b))))",
     ),
@@ -97,56 +74,38 @@ static EXPRESSIONS: [(Sketch, &str); 20] = [
         "(Program 0-3 (UpdateExpression 0-2 ++ prefix (Identifier 0-1 a)))",
     ),
     (
-        Node(Kind::UpdateExpression, "--", PLAIN, &[Name("a")]),
+        Word(Kind::UpdateExpression, "--", &[Name("a")]),
         "(Program 0-3 (UpdateExpression 0-2 -- (Identifier 0-1 a)))",
     ),
     (
-        Node(Kind::UnaryExpression, "typeof", PLAIN, &[Name("a")]),
+        Word(Kind::UnaryExpression, "typeof", &[Name("a")]),
         "(Program 0-3 (UnaryExpression 0-2 typeof (Identifier 0-1 a)))",
     ),
     (
-        Node(
+        Word(
             Kind::BinaryExpression,
             "instanceof",
-            PLAIN,
             &[Name("a"), Name("b")],
         ),
         "(Program 0-4 (BinaryExpression 0-3 instanceof (Identifier 0-1 a) (Identifier 1-2 b)))",
     ),
     (
-        Node(
-            Kind::LogicalExpression,
-            "??",
-            PLAIN,
-            &[Name("a"), Name("b")],
-        ),
+        Word(Kind::LogicalExpression, "??", &[Name("a"), Name("b")]),
         "(Program 0-4 (LogicalExpression 0-3 ?? (Identifier 0-1 a) (Identifier 1-2 b)))",
     ),
     (
-        Node(
+        Plain(
             Kind::ConditionalExpression,
-            "",
-            PLAIN,
             &[Name("a"), Name("b"), Name("c")],
         ),
         "(Program 0-5 (ConditionalExpression 0-4 (Identifier 0-1 a) (Identifier 1-2 b) (Identifier 2-3 c)))",
     ),
     (
-        Node(
-            Kind::AssignmentExpression,
-            "**=",
-            PLAIN,
-            &[Name("a"), Name("b")],
-        ),
+        Word(Kind::AssignmentExpression, "**=", &[Name("a"), Name("b")]),
         "(Program 0-4 (AssignmentExpression 0-3 **= (Identifier 0-1 a) (Identifier 1-2 b)))",
     ),
     (
-        Node(
-            Kind::SequenceExpression,
-            "",
-            PLAIN,
-            &[Name("a"), Name("b"), Name("c")],
-        ),
+        Plain(Kind::SequenceExpression, &[Name("a"), Name("b"), Name("c")]),
         "(Program 0-5 (SequenceExpression 0-4 (Identifier 0-1 a) (Identifier 1-2 b) (Identifier 2-3 c)))",
     ),
 ];

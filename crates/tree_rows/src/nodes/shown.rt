@@ -1,7 +1,8 @@
-//! A node as one line of what its views show: the fields by name, parts by their text.
+//! A node as one line of what its views show: the fields by name, parts by their text, lists last.
 
+use crate::print::write_words;
 use std::alloc::{AllocError, Global};
-use tree::{Node, NodeList};
+use tree::{Node, NodeList, Program};
 use views::{Class, Expression, Function, Pattern, Statement};
 
 /// The text of a part that may be missing.
@@ -12,113 +13,116 @@ fn name<'t>(part: Option<Node<'t, '_>>) -> &'t str {
     }
 }
 
-/// The texts of a list.
-fn names(alloc: Global, list: NodeList) -> Result<String, AllocError> {
-    let mut shown = String::new(alloc);
-    for index in 0..list.len() {
-        shown.push_str(name(list.get(index)))?;
-        shown.push_str(",")?;
+/// Yes or no.
+fn flag<'t>(is_set: bool) -> &'t str {
+    match is_set {
+        true => "true",
+        false => "false",
     }
-    Ok(shown)
 }
 
-fn function(alloc: Global, view: Function) -> Result<String, AllocError> {
-    let params = names(alloc, view.params)?;
-    format!(in alloc;
-        "id={} params={params} body={} {} {}",
-        name(view.id),
-        view.body.text(),
-        view.is_arrow,
-        view.expression
-    )
+/// Words, and the texts of a list behind them.
+fn list(out: &mut String, words: &[&str], list: NodeList) -> Result<(), AllocError> {
+    write_words(out, words)?;
+    for index in 0..list.len() {
+        write_words(out, &[name(list.get(index)), ","])?;
+    }
+    Ok(())
 }
 
-fn class(alloc: Global, view: Class) -> Result<String, AllocError> {
-    format!(in alloc;
-        "id={} superClass={} body={}",
+fn function(out: &mut String, word: &str, view: Function) -> Result<(), AllocError> {
+    out.push_str(word)?;
+    write_words(out, &[" id=", name(view.id), " body="])?;
+    let body = view.body.text();
+    write_words(
+        out,
+        &[body, " ", flag(view.is_arrow), " ", flag(view.expression)],
+    )?;
+    list(out, &[" params="], view.params)
+}
+
+fn class(out: &mut String, view: Class) -> Result<(), AllocError> {
+    let words = [
+        "class id=",
         name(view.id),
+        " superClass=",
         name(view.super_class),
-        view.body.text()
-    )
+        " body=",
+        view.body.text(),
+    ];
+    write_words(out, &words)
 }
 
 /// A word, an operator and its operands.
 fn pair(
-    alloc: Global,
+    out: &mut String,
     word: &str,
     operator: &str,
     left: Node,
     right: Node,
-) -> Result<String, AllocError> {
-    format!(in alloc;
-        "{word} {operator} left={} right={}",
+) -> Result<(), AllocError> {
+    let words = [
+        word,
+        operator,
+        " left=",
         left.text(),
-        right.text()
-    )
+        " right=",
+        right.text(),
+    ];
+    write_words(out, &words)
 }
 
-fn operands(alloc: Global, view: Expression) -> Result<String, AllocError> {
-    match view {
-        Expression::Binary {
-            operator,
-            left,
-            right,
-        } => pair(alloc, "binary", operator, left, right),
-        Expression::Logical {
-            operator,
-            left,
-            right,
-        } => pair(alloc, "logical", operator, left, right),
-        Expression::Assignment {
-            operator,
-            left,
-            right,
-        } => pair(alloc, "assignment", operator, left, right),
-        _ => format!(in alloc; "another"),
-    }
-}
-
-fn operation(alloc: Global, view: Expression) -> Result<String, AllocError> {
+fn operation(out: &mut String, view: Expression) -> Result<(), AllocError> {
     match view {
         Expression::Update {
             operator,
             prefix,
             argument,
-        } => { format!(in alloc; "update {operator} {prefix} argument={}", argument.text()) }
-        Expression::Unary { operator, argument } => {
-            format!(in alloc; "unary {operator} argument={}", argument.text())
-        }
-        Expression::Conditional {
-            test,
-            consequent,
-            alternate,
         } => {
-            format!(in alloc;
-                "conditional {} {} {}",
-                test.text(),
-                consequent.text(),
-                alternate.text()
-            )
+            let words = [
+                "update ",
+                operator,
+                " ",
+                flag(prefix),
+                " argument=",
+                argument.text(),
+            ];
+            write_words(out, &words)
         }
-        _ => operands(alloc, view),
+        Expression::Unary { operator, argument } => {
+            write_words(out, &["unary ", operator, " argument=", argument.text()])
+        }
+        Expression::Binary {
+            operator,
+            left,
+            right,
+        } => pair(out, "binary ", operator, left, right),
+        Expression::Logical {
+            operator,
+            left,
+            right,
+        } => pair(out, "logical ", operator, left, right),
+        Expression::Assignment {
+            operator,
+            left,
+            right,
+        } => pair(out, "assignment ", operator, left, right),
+        _ => write_words(out, &["another"]),
     }
 }
 
-fn member(alloc: Global, view: Expression) -> Result<String, AllocError> {
+fn member(out: &mut String, view: Expression) -> Result<(), AllocError> {
     match view {
-        Expression::TaggedTemplate { tag, quasi } => {
-            format!(in alloc; "tagged tag={} quasi={}", tag.text(), quasi.text())
-        }
         Expression::Member {
             object,
             property,
             computed,
             optional,
         } => {
-            format!(in alloc;
-                "member object={} property={} {computed} {optional}",
-                object.text(),
-                property.text()
+            write_words(out, &["member object=", object.text(), " property="])?;
+            write_words(
+                out,
+                &[property.text(), " ", flag(computed), " ", flag(optional)],
             )
         }
         Expression::Call {
@@ -126,87 +130,88 @@ fn member(alloc: Global, view: Expression) -> Result<String, AllocError> {
             arguments,
             optional,
         } => {
-            let arguments = names(alloc, arguments)?;
-            format!(in alloc;
-                "call callee={} arguments={arguments} {optional}",
-                callee.text()
-            )
+            let words = [
+                "call callee=",
+                callee.text(),
+                " ",
+                flag(optional),
+                " arguments=",
+            ];
+            list(out, &words, arguments)
         }
-        Expression::New { callee, arguments } => {
-            let arguments = names(alloc, arguments)?;
-            format!(in alloc; "new callee={} arguments={arguments}", callee.text())
+        _ => operation(out, view),
+    }
+}
+
+fn short(out: &mut String, view: Expression) -> Result<(), AllocError> {
+    match view {
+        Expression::TaggedTemplate { tag, quasi } => {
+            write_words(out, &["tagged tag=", tag.text(), " quasi=", quasi.text()])
         }
         Expression::MetaProperty { meta, property } => {
-            format!(in alloc; "meta {} {}", meta.text(), property.text())
+            write_words(out, &["meta ", meta.text(), " ", property.text()])
         }
-        Expression::Import { source } => format!(in alloc; "import source={}", source.text()),
-        Expression::Chain { expression } => format!(in alloc; "chain {}", expression.text()),
-        _ => operation(alloc, view),
+        Expression::Import { source } => write_words(out, &["import source=", source.text()]),
+        Expression::Chain { expression } => write_words(out, &["chain ", expression.text()]),
+        Expression::New { callee, arguments } => {
+            list(
+                out,
+                &["new callee=", callee.text(), " arguments="],
+                arguments,
+            )
+        }
+        Expression::Conditional {
+            test,
+            consequent,
+            alternate,
+        } => {
+            write_words(out, &["conditional ", test.text()])?;
+            write_words(out, &[" ", consequent.text(), " ", alternate.text()])
+        }
+        _ => member(out, view),
     }
 }
 
-fn expression(alloc: Global, view: Expression) -> Result<String, AllocError> {
+fn expression(out: &mut String, view: Expression) -> Result<(), AllocError> {
     match view {
-        Expression::Identifier { name } => format!(in alloc; "identifier {name}"),
-        Expression::Literal { raw } => format!(in alloc; "literal {raw}"),
-        Expression::This => format!(in alloc; "this"),
-        Expression::Array { elements } => { format!(in alloc; "array {}", names(alloc, elements)?) }
-        Expression::Object { properties } => {
-            format!(in alloc; "object {}", names(alloc, properties)?)
-        }
-        Expression::Function(view) => format!(in alloc; "function {}", function(alloc, view)?),
-        Expression::ArrowFunction(view) => format!(in alloc; "arrow {}", function(alloc, view)?),
-        Expression::Class(view) => format!(in alloc; "class {}", class(alloc, view)?),
-        Expression::TemplateLiteral { turns } => {
-            format!(in alloc; "template {}", names(alloc, turns)?)
-        }
-        Expression::Sequence { expressions } => {
-            format!(in alloc; "sequence {}", names(alloc, expressions)?)
-        }
-        _ => member(alloc, view),
+        Expression::Identifier { name } => write_words(out, &["identifier ", name]),
+        Expression::Literal { raw } => write_words(out, &["literal ", raw]),
+        Expression::This => write_words(out, &["this"]),
+        Expression::Array { elements } => list(out, &["array "], elements),
+        Expression::Object { properties } => list(out, &["object "], properties),
+        Expression::Function(view) => function(out, "function", view),
+        Expression::ArrowFunction(view) => function(out, "arrow", view),
+        Expression::Class(view) => class(out, view),
+        Expression::TemplateLiteral { turns } => list(out, &["template "], turns),
+        Expression::Sequence { expressions } => list(out, &["sequence "], expressions),
+        _ => short(out, view),
     }
 }
 
-fn pattern(alloc: Global, view: Pattern) -> Result<String, AllocError> {
+fn pattern(out: &mut String, view: Pattern) -> Result<(), AllocError> {
     match view {
-        Pattern::Identifier { name } => format!(in alloc; "identifier {name}"),
+        Pattern::Identifier { name } => write_words(out, &["identifier ", name]),
         Pattern::Member {
             object,
             property,
             computed,
         } => {
-            format!(in alloc;
-                "member object={} property={} {computed}",
-                object.text(),
-                property.text()
+            write_words(out, &["member object=", object.text(), " property="])?;
+            write_words(out, &[property.text(), " ", flag(computed)])
+        }
+        Pattern::Array { elements } => list(out, &["array "], elements),
+        Pattern::Object { properties } => list(out, &["object "], properties),
+        Pattern::Assignment { left, right } => {
+            write_words(
+                out,
+                &["default left=", left.text(), " right=", right.text()],
             )
         }
-        Pattern::Array { elements } => format!(in alloc; "array {}", names(alloc, elements)?),
-        Pattern::Object { properties } => format!(in alloc; "object {}", names(alloc, properties)?),
-        Pattern::Assignment { left, right } => {
-            format!(in alloc; "default left={} right={}", left.text(), right.text())
-        }
-        Pattern::Rest { argument } => format!(in alloc; "rest {}", argument.text()),
+        Pattern::Rest { argument } => write_words(out, &["rest ", argument.text()]),
     }
 }
 
-/// The words of a loop, and its parts.
-fn each(
-    alloc: Global,
-    words: &str,
-    left: Node,
-    right: Node,
-    body: Node,
-) -> Result<String, AllocError> {
-    format!(in alloc;
-        "{words} left={} right={} body={}",
-        left.text(),
-        right.text(),
-        body.text()
-    )
-}
-
-fn counted(alloc: Global, view: Statement) -> Result<String, AllocError> {
+fn repeated(out: &mut String, view: Statement) -> Result<(), AllocError> {
     match view {
         Statement::For {
             init,
@@ -214,118 +219,114 @@ fn counted(alloc: Global, view: Statement) -> Result<String, AllocError> {
             update,
             body,
         } => {
-            format!(in alloc;
-                "for {} {} {} body={}",
-                name(init),
-                name(test),
-                name(update),
-                body.text()
-            )
+            write_words(
+                out,
+                &["for ", name(init), " ", name(test), " ", name(update)],
+            )?;
+            write_words(out, &[" body=", body.text()])
         }
-        Statement::ForIn { left, right, body } => each(alloc, "for in", left, right, body),
-        Statement::ForOf { left, right, body } => each(alloc, "for of", left, right, body),
-        _ => format!(in alloc; "another"),
-    }
-}
-
-fn repeated(alloc: Global, view: Statement) -> Result<String, AllocError> {
-    match view {
+        Statement::ForIn { left, right, body } => {
+            pair(out, "for in", "", left, right)?;
+            write_words(out, &[" body=", body.text()])
+        }
+        Statement::ForOf { left, right, body } => {
+            pair(out, "for of", "", left, right)?;
+            write_words(out, &[" body=", body.text()])
+        }
         Statement::While { test, body } => {
-            format!(in alloc; "while test={} body={}", test.text(), body.text())
+            write_words(out, &["while test=", test.text(), " body=", body.text()])
         }
         Statement::DoWhile { body, test } => {
-            format!(in alloc; "do body={} test={}", body.text(), test.text())
+            write_words(out, &["do body=", body.text(), " test=", test.text()])
         }
-        Statement::VariableDeclaration { kind, declarations } => {
-            format!(in alloc; "variables {kind} {}", names(alloc, declarations)?)
-        }
-        Statement::FunctionDeclaration(view) => {
-            format!(in alloc; "function {}", function(alloc, view)?)
-        }
-        Statement::ClassDeclaration(view) => format!(in alloc; "class {}", class(alloc, view)?),
-        _ => counted(alloc, view),
+        _ => write_words(out, &["another"]),
     }
 }
 
-fn chosen(alloc: Global, view: Statement) -> Result<String, AllocError> {
+fn chosen(out: &mut String, view: Statement) -> Result<(), AllocError> {
     match view {
-        Statement::Switch {
-            discriminant,
-            cases,
-        } => {
-            format!(in alloc;
-                "switch {} cases={}",
-                discriminant.text(),
-                names(alloc, cases)?
-            )
-        }
-        Statement::Try {
-            block,
-            handler,
-            finalizer,
-        } => {
-            format!(in alloc;
-                "try {} handler={} finalizer={}",
-                block.text(),
-                name(handler),
-                name(finalizer)
-            )
-        }
-        _ => repeated(alloc, view),
-    }
-}
-
-fn choice(alloc: Global, view: Statement) -> Result<String, AllocError> {
-    match view {
-        Statement::Throw { argument } => format!(in alloc; "throw {}", argument.text()),
-        Statement::Labeled { label, body } => {
-            format!(in alloc; "labeled label={} body={}", label.text(), body.text())
-        }
         Statement::If {
             test,
             consequent,
             alternate,
         } => {
-            format!(in alloc;
-                "if {} {} else={}",
-                test.text(),
-                consequent.text(),
-                name(alternate)
-            )
+            write_words(out, &["if ", test.text(), " ", consequent.text()])?;
+            write_words(out, &[" else=", name(alternate)])
         }
-        _ => chosen(alloc, view),
+        Statement::Switch {
+            discriminant,
+            cases,
+        } => list(out, &["switch ", discriminant.text(), " cases="], cases),
+        Statement::Try {
+            block,
+            handler,
+            finalizer,
+        } => {
+            write_words(out, &["try ", block.text(), " handler=", name(handler)])?;
+            write_words(out, &[" finalizer=", name(finalizer)])
+        }
+        _ => repeated(out, view),
     }
 }
 
-fn statement(alloc: Global, view: Statement) -> Result<String, AllocError> {
+fn declaration(out: &mut String, view: Statement) -> Result<(), AllocError> {
+    match view {
+        Statement::Throw { argument } => write_words(out, &["throw ", argument.text()]),
+        Statement::Labeled { label, body } => {
+            write_words(
+                out,
+                &["labeled label=", label.text(), " body=", body.text()],
+            )
+        }
+        Statement::VariableDeclaration { kind, declarations } => {
+            list(out, &["variables ", kind, " "], declarations)
+        }
+        Statement::FunctionDeclaration(view) => function(out, "function", view),
+        Statement::ClassDeclaration(view) => class(out, view),
+        _ => chosen(out, view),
+    }
+}
+
+fn statement(out: &mut String, view: Statement) -> Result<(), AllocError> {
     match view {
         Statement::Expression {
             expression,
             directive,
-        } => { format!(in alloc; "expression {} {directive}", expression.text()) }
-        Statement::Block { body } => format!(in alloc; "block {}", names(alloc, body)?),
-        Statement::Empty => format!(in alloc; "empty"),
-        Statement::Debugger => format!(in alloc; "debugger"),
-        Statement::Return { argument } => format!(in alloc; "return {}", name(argument)),
-        Statement::Break { label } => format!(in alloc; "break {}", name(label)),
-        Statement::Continue { label } => format!(in alloc; "continue {}", name(label)),
-        _ => choice(alloc, view),
+        } => write_words(
+            out,
+            &["expression ", expression.text(), " ", flag(directive)],
+        ),
+        Statement::Block { body } => list(out, &["block "], body),
+        Statement::Empty => write_words(out, &["empty"]),
+        Statement::Debugger => write_words(out, &["debugger"]),
+        Statement::Return { argument } => write_words(out, &["return ", name(argument)]),
+        Statement::Break { label } => write_words(out, &["break ", name(label)]),
+        Statement::Continue { label } => write_words(out, &["continue ", name(label)]),
+        _ => declaration(out, view),
     }
 }
 
-/// What the views of a node show: as an expression, a pattern and a statement, each where it is one.
-pub(super) fn views(alloc: Global, node: Node) -> Result<String, AllocError> {
-    let mut shown = String::new(alloc);
+/// A node as an expression, a pattern and a statement, each where it is one.
+fn write_views(out: &mut String, node: Node) -> Result<(), AllocError> {
     if let Some(view) = Expression::of(node) {
-        shown.push_str(expression(alloc, view)?.as_str())?;
+        expression(out, view)?;
     }
-    shown.push_str("|")?;
+    out.push_str("|")?;
     if let Some(view) = Pattern::of(node) {
-        shown.push_str(pattern(alloc, view)?.as_str())?;
+        pattern(out, view)?;
     }
-    shown.push_str("|")?;
+    out.push_str("|")?;
     if let Some(view) = Statement::of(node) {
-        shown.push_str(statement(alloc, view)?.as_str())?;
+        statement(out, view)?;
+    }
+    Ok(())
+}
+
+/// What the views of the only item of a script show.
+pub(super) fn views(alloc: Global, program: &Program) -> Result<String, AllocError> {
+    let mut shown = String::new(alloc);
+    if let Some(node) = program.root().part(0) {
+        write_views(&mut shown, node)?;
     }
     Ok(shown)
 }
