@@ -110,10 +110,12 @@ function run(texts) {
   const folder = copied(path.join(__dirname, 'dump.txt'), ['source_text', 'tree', 'parser']);
   const limit = (file, name, value) => {
     const at = path.join(folder, 'crates', file);
-    fs.writeFileSync(at, fs.readFileSync(at, 'utf8').replace(new RegExp(`(const ${name}: u32 = )\\d+`), '$1' + value));
+    fs.writeFileSync(at, fs.readFileSync(at, 'utf8').replace(new RegExp(`(const ${name}: \\w+ = )\\d+`), '$1' + value));
   };
   limit('descent/src/script.rt', 'MAX_HEIGHT', HIGH);
   limit('token_cursor/src/cursor.rt', 'MAX_OPEN', OPEN);
+  // under small limits a short text may be nested too deep
+  limit('parser/src/script.rt', 'SHORT', 0);
   return answersOf(folder, texts, 4000);
 }
 
