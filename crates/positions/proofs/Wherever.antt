@@ -101,14 +101,17 @@ chain_is : (b : Bool) (x : Outline) → chain_outline b ≡ Some x → b ≡ tru
 chain_is true x h = refl
 chain_is false x h = absurd (cc)
 
+none_is_some : (x : Outline) → None ≡ Some x → ⊥
+none_is_some x h = cc
+
 -- what is above parts of a chain
 pub chain_known : (p : Position) (n : Tree) (x : Outline) → outline_at p n ≡ Some x → chain_above p (kind_of n) x.front ≡ true → first_chained (parts_of n) ≡ true
 chain_known (at.Expression y i f) (node kind.ChainExpression w g s e ps) x h k = chain_is (first_chained ps) x h
-chain_known (at.Expression y i f) (node _ w g s e ps) x h k = absurd (cc)
+chain_known (at.Expression y i f) (node _ w g s e ps) x h k = absurd (false≢true k)
 chain_known (at.Spine f) (node kind.MemberExpression w g s e ps) x h k = spine_known g.optional (first_chained ps) (member_link LeadSpine g) (member_link (Lead Call) g) x refl h k
 chain_known (at.Spine f) (node kind.CallExpression w g s e ps) x h k = spine_known g.optional (first_chained ps) (call_link LeadSpine) (call_link (Lead Call)) x refl h k
-chain_known (at.Spine f) (node _ w g s e ps) x h k = absurd (cc)
-chain_known _ n x h k = absurd (cc)
+chain_known (at.Spine f) (node _ w g s e ps) x h k = absurd (none_is_some x h)
+chain_known _ n x h k = absurd (false≢true k)
 
 -- Any node at any position
 

@@ -7,7 +7,7 @@ use std::process::Abort;
 use std::test::Fail;
 
 /// What `fix_text` answers for a text, as a text.
-fn answer(alloc: Global, text: &str) -> Result<String, AllocError> {
+pub(crate) fn answer(alloc: Global, text: &str) -> Result<String, AllocError> {
     let source = match Source::new(text.as_bytes()) {
         Ok(source) => source,
         Err(fault) => return format!(in alloc; "{fault}"),
@@ -20,14 +20,20 @@ fn answer(alloc: Global, text: &str) -> Result<String, AllocError> {
     }
 }
 
-fn expect(rt: &impl Abort, alloc: Global, text: &str, want: &str) -> Result<(), AllocError> {
+/// Fixing a text answers so.
+pub(crate) fn expect(
+    rt: &impl Abort,
+    alloc: Global,
+    text: &str,
+    want: &str,
+) -> Result<(), AllocError> {
     let answered = answer(alloc, text)?;
     assert_eq!(rt; answered.as_str(), want, "fixing {text:?}");
     Ok(())
 }
 
 /// Each is fixed to the text beside it, and that to itself.
-fn are_fixed(rt: &impl Abort, alloc: Global, rows: &[(&str, &str)]) -> Result<(), Fail> {
+pub(crate) fn are_fixed(rt: &impl Abort, alloc: Global, rows: &[(&str, &str)]) -> Result<(), Fail> {
     for (text, fixed) in rows {
         expect(rt, alloc, text, fixed)?;
         expect(rt, alloc, fixed, fixed)?;

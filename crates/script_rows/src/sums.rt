@@ -1,29 +1,9 @@
 //! Scripts of sums: what is fixed, what is refused, and the limits.
 
-use lint::fix_text;
-use source_text::{Fault, Source};
+use crate::fixes::{answer, are_fixed, expect};
 use std::alloc::{AllocError, Global};
 use std::process::Abort;
 use std::test::Fail;
-
-/// What `fix_text` answers for a text, as a text.
-fn answer(alloc: Global, text: &str) -> Result<String, AllocError> {
-    let source = match Source::new(text.as_bytes()) {
-        Ok(source) => source,
-        Err(fault) => return format!(in alloc; "{fault}"),
-    };
-    match fix_text(alloc, &source) {
-        Ok(fixed) => Ok(fixed),
-        Err(Fault::Syntax(_)) => String::from_str(alloc, "syntax"),
-        Err(fault) => format!(in alloc; "{fault}"),
-    }
-}
-
-fn expect(rt: &impl Abort, alloc: Global, text: &str, want: &str) -> Result<(), AllocError> {
-    let answered = answer(alloc, text)?;
-    assert_eq!(rt; answered.as_str(), want, "reading {text:?}");
-    Ok(())
-}
 
 /// A script, and its fixed text.
 fn scripts() -> &'static [(&'static str, &'static str)] {
@@ -67,11 +47,7 @@ static SCRIPTS: [(&str, &str); 29] = [
 
 #[test]
 fn fixes_sums(rt: HostRuntime) -> Result<(), Fail> {
-    for (text, fixed) in scripts() {
-        expect(&rt, rt.alloc(), text, fixed)?;
-        expect(&rt, rt.alloc(), fixed, fixed)?;
-    }
-    Ok(())
+    are_fixed(&rt, rt.alloc(), scripts())
 }
 
 /// Tokens and statements that derive nothing.

@@ -1,3 +1,4 @@
+use Rattle.std.proofs.lemmas.Grind.{common_steps}
 use Rattle.std.proofs.Common.{◌≡◌, ap, sym, arith, ◌∙◌, Some, None, get_or, set}
 use Rattle.tree.proofs.CopyLemmas.{total-item}
 use Rattle.tree.proofs.PartWalk.{optional_total}
@@ -26,3 +27,9 @@ make_patterns-make_pattern-requires t c =
 -- none is left
 pub make_patterns-returns : goal.make_patterns-returns
 make_patterns-returns t c = past c.loop-index.parts c.loop-index.index (omega (arith, c.loop-index-test.false, c.loop-index.auto.parts)) ∙ c.loop-index.invariant.rest
+
+pub make_pattern-returns-in-ArrayExpression : goal.make_pattern-returns-in-ArrayExpression
+make_pattern-returns-in-ArrayExpression t c = grind (arith, common_steps)
+
+pub make_pattern-returns-in-Property : goal.make_pattern-returns-in-Property
+make_pattern-returns-in-Property t c = grind (arith, common_steps)

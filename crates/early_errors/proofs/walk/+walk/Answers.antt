@@ -180,3 +180,6 @@ walk_scope-returns-clause-vars t c =
     on_ok c.leave.result
     (λ h w. h w ∙ undone-agrees (look c.walk_parts-2.new.walk.vars) (look c.enter.new.clashes) c.in_ok-saved.saved.items c.in_ok-walk_parts-2.ensures.vars w ∙ c.in_ok-saved.ensures.kept w ∙ c.in_ok-walk_parts.ensures.vars w)
     c.leave.ensures
+
+pub walk_label-returns-clause-labels : goal.walk_label-returns-clause-labels
+walk_label-returns-clause-labels t c = search rules

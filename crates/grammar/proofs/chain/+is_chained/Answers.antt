@@ -1,4 +1,4 @@
-use Rattle.std.proofs.Common.{◌≡◌, ◌∙◌, sym, ap, true, false, option_map}
+use Rattle.std.proofs.Common.{◌≡◌, ◌∙◌, sym, ap, true, false, option_map, rules}
 use Rattle.tree.specs.Node.{node_tree}
 use Rattle.tree.specs.Tree.{kind_of, flags_of}
 use Rattle.language.specs.Expressions.{is_spine, chained}
@@ -13,3 +13,6 @@ returns t c =
     let link : is_spine (kind_of n) ≡ true = sym (c.is_link.ensures ∙ ap is_spine c.kind.ensures) ∙ c.if-not-is_link.false in
     let joined : (flags_of n).optional ≡ false = sym (ap (λ g. g.optional) c.flags.ensures) ∙ c.if-flags.false in
     c.is_chained.ensures ∙ chained_below n _ link joined c.part.ensures ∙ sym whole
+
+pub returns-then-flags : goal.returns-then-flags
+returns-then-flags t c = search rules

@@ -1,4 +1,4 @@
-use Rattle.std.proofs.Common.{◌≡◌, Bool, false, not, ◌&&◌, refl, ap, arith}
+use Rattle.std.proofs.Common.{◌≡◌, Bool, false, not, ◌&&◌, refl, ap, arith, rules}
 use Rattle.phrases.specs.Items.{are_some}
 use Rattle.phrases.proofs.Grouping.{some_hole}
 use Rattle.phrases.proofs.openings.grouped.Goals as goal
@@ -7,3 +7,6 @@ pub returns-in-None-clause-made : goal.returns-in-None-clause-made
 returns-in-None-clause-made c =
     let h : are_some c.args.list.nodes ≡ false = some_hole c.args.list.nodes (omega arith) c.in-None.ensures.none in
     (refl, ap (λ (b : Bool). b && (not c.args.list.seen.has_comma && c.args.list.seen.shape.is_expression)) h)
+
+pub returns-in-Some-clause-made : goal.returns-in-Some-clause-made
+returns-in-Some-clause-made c = search rules

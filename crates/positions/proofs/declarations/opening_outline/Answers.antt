@@ -1,4 +1,4 @@
-use Rattle.std.proofs.Common.{◌∙◌, sym}
+use Rattle.std.proofs.Common.{◌∙◌, sym, rules}
 use Rattle.tree.specs.Node.{node_tree}
 use Rattle.tree.specs.Tree.{kind_of, text_of, flags_of, parts_of}
 use Rattle.positions.specs.Entries.{around}
@@ -11,3 +11,6 @@ returns-in_default c =
     let d = c.in_default in
     c.item_outline.ensures ∙ sym (opening_default c.args.returns (kind_of n) (text_of n) (flags_of n) (around (parts_of n))
     (λ h. d.not-ExpressionStatement (c.kind.ensures ∙ h)))
+
+pub returns-in-ExpressionStatement : goal.returns-in-ExpressionStatement
+returns-in-ExpressionStatement c = search rules

@@ -1,4 +1,4 @@
-use Rattle.std.proofs.Common.{◌≡◌, List, ◌++◌, ◌∙◌, ℕ, ap}
+use Rattle.std.proofs.Common.{◌≡◌, List, ◌++◌, ◌∙◌, ℕ, ap, rules}
 use Rattle.source_text.specs.declared.fault.Fault.{Fault}
 use Rattle.streams.specs.Refusal.{fault_words, place_words, refusal_words}
 use Rattle.streams.specs.declared.refused.Refused.{Refused}
@@ -30,3 +30,6 @@ returns-in-BadTable-clause-words c =
     four_pieces _ _ _ _ _ _ _ _ _ _ c.push_text-in-BadTable.ensures c.push_number-in-BadTable.ensures.digits c.push_text-in-BadTable-2.ensures
     (c.push_text-in-BadTable-3.ensures ∙ named)
     (said c.args.refused.now _ c.in-BadTable.is)
+
+pub returns-in-TooDeep-clause-words : goal.returns-in-TooDeep-clause-words
+returns-in-TooDeep-clause-words c = search rules

@@ -1,4 +1,4 @@
-use Rattle.std.proofs.Common.{arith, ◌++◌, length, take, ap, sym, ◌∙◌}
+use Rattle.std.proofs.Common.{arith, ◌++◌, length, take, ap, sym, ◌∙◌, rules}
 use Rattle.std.proofs.lemmas.Bool.{eqb-true}
 use Rattle.source_text.specs.Memory.{Stored}
 use Rattle.source_text.specs.declared.memory.Calls.{Calls}
@@ -16,3 +16,6 @@ returns-clause-bytes c =
       grown ∙ ap (λ (s : Stored). s.bytes ++ take c.min-count.result c.args.piece.now) c.self.view_is,
       ap (λ (k : Calls). k.has_failed) c.next_fails.ensures.counted ∙ ap (λ (s : Stored). s.failed) c.self.view_is ∙ c.requires,
     )
+
+pub returns-clause-exact : goal.returns-clause-exact
+returns-clause-exact c = search rules

@@ -1,4 +1,4 @@
-use Rattle.std.proofs.Common.{arith}
+use Rattle.std.proofs.Common.{arith, rules}
 use Rattle.std.proofs.lemmas.Str.{IsCharBoundary-start}
 use Rattle.token_cursor.proofs.cursor.Cursor.new.Goals as goal
 
@@ -7,3 +7,6 @@ look-requires c = IsCharBoundary-start _ c.text-text.ensures.utf8
 
 pub invariant_of-result : goal.invariant_of-result
 invariant_of-result c = (IsCharBoundary-start _ c.text-text.ensures.utf8, omega arith, c.look.ensures)
+
+pub returns-clause-none : goal.returns-clause-none
+returns-clause-none c = search rules

@@ -1,0 +1,8 @@
+use Rattle.std.proofs.Common.{rules}
+use Rattle.token_cursor.proofs.semicolon.may_miss.Goals as goal
+
+pub returns-then-eq : goal.returns-then-eq
+returns-then-eq c = search rules
+
+pub returns-else-token : goal.returns-else-token
+returns-else-token c = search rules
