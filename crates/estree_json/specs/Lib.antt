@@ -3,3 +3,4 @@ pub mod Texts
 pub mod Fields
 pub mod Json
 pub mod View
+pub mod Table

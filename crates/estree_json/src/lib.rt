@@ -5,6 +5,7 @@
 mod fields;
 mod node;
 mod object;
+mod table;
 mod texts;
 mod types;
 mod write;
