@@ -1,6 +1,7 @@
 pub mod Results
 pub mod Sums
 pub mod Known
+pub mod Free
 pub mod Filled
 pub mod Wrapping
 pub mod Bounds

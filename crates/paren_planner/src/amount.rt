@@ -1,6 +1,6 @@
 //! Numbers of pairs, none where there is no spelling.
 
-ghost use Rattle.std.specs.Prelude.{◌≡◌};
+ghost use Rattle.std.specs.Prelude.{◌≡◌, true, Some};
 ghost use Rattle.language.specs.Cost.{lesser as lesser_cost};
 ghost use Rattle.language.specs.Layout.{exceeds as exceeds_cost};
 ghost use Rattle.paren_planner.specs.Costs.{capped_sum};
@@ -37,4 +37,11 @@ pub(crate) fn exceeds(first: Option<u32>, second: Option<u32>) -> bool
         (Some(_), None) => false,
         (None, _) => true,
     }
+}
+
+/// Whether it is 0.
+pub(crate) fn is_zero(number: Option<u32>) -> bool
+    ensures { result ≡ true → number ≡ Some 0 }
+{
+    matches!(number, Some(0))
 }

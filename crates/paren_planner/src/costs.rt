@@ -1,9 +1,9 @@
 //! What a node costs, at each symbol, In and start that matters.
 
-ghost use Rattle.std.specs.Prelude.{◌≡◌, Option};
+ghost use Rattle.std.specs.Prelude.{◌≡◌, true, Option, Some};
 ghost use Rattle.paren_planner.specs.Costs.{cost_at, started_at, each_start, sums, same_everywhere, capped_sum, eight, of_cells};
 
-use crate::amount::sum;
+use crate::amount::{is_zero, sum};
 use language::{Rank, Start, tightness_of};
 
 /// The numbers at the three starts.
@@ -24,6 +24,13 @@ impl Starts {
             no_brace: number,
             statement: number,
         }
+    }
+
+    /// Whether each is 0.
+    fn is_nothing(self) -> bool
+        ensures { result ≡ true → self ≡ each_start (λ f. Some 0) }
+    {
+        is_zero(self.any) && is_zero(self.no_brace) && is_zero(self.statement)
     }
 
     fn at(self, start: Start) -> Option<u32>
@@ -65,6 +72,13 @@ impl Costs {
             without_in: Starts::same(number),
             at_member: Starts::same(number),
         }
+    }
+
+    /// Whether each number is 0.
+    pub(crate) fn is_nothing(self) -> bool
+        ensures { result ≡ true → self ≡ same_everywhere (Some 0) }
+    {
+        self.with_in.is_nothing() && self.without_in.is_nothing() && self.at_member.is_nothing()
     }
 
     /// The number that counts at a symbol, In and start.

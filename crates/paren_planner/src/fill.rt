@@ -14,7 +14,7 @@ ghost use Rattle.paren_planner.specs.Weighed.{IsWeighed, sums_over};
 
 use crate::costs::Costs;
 use crate::table::CostTable;
-use crate::weighed::{Weighed, fitting, uses, widest};
+use crate::weighed::{Weighed, added, fitting, widest};
 use positions::{Position, Spelled, leads_chain, node_spelling, settled};
 use std::alloc::AllocError;
 use tree::Node;
@@ -93,7 +93,7 @@ fn weigh_parts(
         slots = others;
         let in_chain = leads_chain(spelled.holds_chain, index);
         let weighed = weigh_node(part, settled(own, slot), in_chain, table)?;
-        sums = sums.plus(uses(own, slot, weighed));
+        sums = added(sums, own, slot, weighed);
     }
     Ok(sums)
 }

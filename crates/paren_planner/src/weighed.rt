@@ -1,16 +1,17 @@
 //! A node that is weighed: what it costs at any position.
 
-ghost use Rattle.std.specs.Prelude.{◌≡◌, None, cond};
+ghost use Rattle.std.specs.Prelude.{◌≡◌, true, None, Some, cond};
+ghost use Rattle.language.specs.Pieces.{Role};
 ghost use Rattle.language.specs.Positions.{widest as widest_role};
 ghost use Rattle.positions.specs.Outlines.{role_of, slot_of};
 ghost use Rattle.positions.specs.Spelled.{fits_outline};
 ghost use Rattle.positions.specs.Wherever.{with_own as role_with_own};
-ghost use Rattle.paren_planner.specs.Costs.{each_start, started_at};
-ghost use Rattle.paren_planner.specs.Weighed.{cost_of, direct_cost, least_of, settled_at, uses as uses_of, fitting as fitting_costs};
+ghost use Rattle.paren_planner.specs.Costs.{each_start, started_at, same_everywhere, sums as sums_of};
+ghost use Rattle.paren_planner.specs.Weighed.{cost_of, direct_cost, least_of, settled_at, uses as uses_of, fitting as fitting_costs, suits_any, takes_primary};
 
-use crate::amount::{lesser, sum};
+use crate::amount::{is_zero, lesser, sum};
 use crate::costs::{Costs, Starts};
-use language::{Rank, Start};
+use language::{Rank, Start, position_takes};
 use positions::{Outline, Position, Slot, fits, settled};
 
 /// A node's outline, none where it can't be spelled, and what it costs.
@@ -89,8 +90,63 @@ fn direct_cost(part: Weighed, position: Position) -> Option<u32>
     }
 }
 
+/// Where the fewest expressions may stand without a pair.
+const NARROWEST: Position = Position::Expression {
+    rank: Rank::Primary,
+    with_in: false,
+    start: Start::Statement,
+};
+
+/// Whether a spelling may stand wherever a name may.
+fn suits_anywhere(outline: Outline) -> bool
+    ensures { result ≡ suits_any outline }
+{
+    matches!(outline.rank, Rank::Primary) && fits(NARROWEST, outline)
+}
+
+/// Whether a name may stand without a pair where a node's own symbol, In or start say more of the position.
+fn takes_name(slot: Slot) -> bool
+    ensures { result ≡ takes_primary (slot_of slot) }
+{
+    match slot {
+        Slot::Fixed(_) => false,
+        Slot::Left(rank) | Slot::Lead(rank) | Slot::Tail(rank, _) => {
+            position_takes(rank, Rank::Primary)
+        }
+        _ => true,
+    }
+}
+
+/// Whether a part costs nothing at a slot, wherever its node stands: at a fixed position by its number there, elsewhere as it has no
+/// pairs inside and may stand there as a name may.
+fn is_free(slot: Slot, part: Weighed) -> bool
+    ensures { result ≡ true → (a : Role) → uses_of a (slot_of slot) part ≡ same_everywhere (Some 0) }
+{
+    if let Slot::Fixed(position) = slot {
+        return is_zero(least(part, position));
+    }
+    let Some(outline) = part.outline else {
+        return false;
+    };
+    if !takes_name(slot) || !suits_anywhere(outline) {
+        return false;
+    }
+    part.costs.is_nothing()
+}
+
+/// The sums with what one more part costs in a node, wherever that stands.
+pub(crate) fn added(sums: Costs, own: Position, slot: Slot, part: Weighed) -> Costs
+    requires { sums_of sums (same_everywhere (Some 0)) ≡ sums }
+    ensures { result ≡ sums_of sums (uses_of (role_of own) (slot_of slot) part) }
+{
+    if is_free(slot, part) {
+        return sums;
+    }
+    sums.plus(uses(own, slot, part))
+}
+
 /// What a part costs in a node, wherever that stands.
-pub(crate) fn uses(own: Position, slot: Slot, part: Weighed) -> Costs
+fn uses(own: Position, slot: Slot, part: Weighed) -> Costs
     ensures { result ≡ uses_of (role_of own) (slot_of slot) part }
 {
     if let Slot::Fixed(position) = slot {
@@ -123,6 +179,9 @@ fn use_at(own: Position, slot: Slot, part: Weighed) -> Option<u32>
 pub(crate) fn fitting(own: Position, outline: Outline, costs: Costs) -> Costs
     ensures { result ≡ fitting_costs (role_of own) outline costs }
 {
+    if suits_anywhere(outline) {
+        return costs;
+    }
     Costs {
         with_in: started_fitting(own, Rank::Expression, true, outline, costs.with_in),
         without_in: started_fitting(own, Rank::Expression, false, outline, costs.without_in),

@@ -109,8 +109,8 @@ weigh_parts-loop-index-preserved t c =
     let e = taken_some (left c.loop-index.slots) c.loop-index.slots (c.in-Some-next_slot.slot, c.in-Some-next_slot.others) c.in-Some-next_slot.ensures in
     let q : IsWeighed (settled_at a x) u w = subst (λ b. IsWeighed b u w) c.settled.ensures c.in_ok-weighed.ensures.weighed in
     record {
-      added = sums_turn _ _ _ _ _ u a x (left c.loop-index.slots) (left c.in-Some-next_slot.others) w c.loop-index.invariant.added p e q (c.plus-sums.ensures ∙ ap (sums c.loop-index.sums) c.uses.ensures);
-      whole = whole_turn _ _ _ c.plus-sums.ensures;
+      added = sums_turn _ _ _ _ _ u a x (left c.loop-index.slots) (left c.in-Some-next_slot.others) w c.loop-index.invariant.added p e q c.added-sums.ensures;
+      whole = whole_turn _ _ _ c.added-sums.ensures;
       rows = rows_turn _ _ _ _ _ u a x (left c.loop-index.slots) (left c.in-Some-next_slot.others) c.loop-index.invariant.rows p e (c.in_ok-weighed.ensures.rows ∙ ap (λ b. c.loop-index.table.rows.items ++ table_rows u b) c.settled.ensures);
     }
 
