@@ -5,10 +5,10 @@ use paren_planner::{extra_pairs, plan_if_any};
 use parser::parse;
 use positions::{Grouping, groupings};
 use source_text::{Fault, Source};
-use std::alloc::Global;
+use std::alloc::{AllocError, Global};
 use std::process::Abort;
 use std::test::Fail;
-use tree::{Pair, Span};
+use tree::{Pair, Program, Span};
 
 fn are_groupings(found: &[Grouping], wanted: &[(usize, usize, usize)]) -> bool {
     if found.len() != wanted.len() {
@@ -36,7 +36,24 @@ fn are_spans(found: &[Span], wanted: &[(usize, usize)]) -> bool {
     true
 }
 
-/// Whether a script has these pairs, by their `(`, `)` and row, and these extra ones, by where they start and end.
+/// Whether a script's pairs, where they are these, have these rows, by their `(` and `)`, and these of them are extra, by where they
+/// start and end.
+fn has_rows(
+    alloc: Global,
+    program: &Program,
+    given: &[Pair],
+    pairs: &[(usize, usize, usize)],
+    extra: &[(usize, usize)],
+) -> Result<bool, AllocError> {
+    let found = groupings(alloc, program, given)?;
+    let Some(plan) = plan_if_any(alloc, program)? else {
+        return Ok(false);
+    };
+    let spans = extra_pairs(alloc, &found, &plan)?;
+    Ok(are_groupings(&found, pairs) && are_spans(&spans, extra))
+}
+
+/// The same of a text's own pairs.
 fn is_paired(
     alloc: Global,
     text: &str,
@@ -45,12 +62,8 @@ fn is_paired(
 ) -> Result<bool, Fault> {
     let source = Source::new(text.as_bytes())?;
     let parsed = parse(alloc, &source)?;
-    let found = groupings(alloc, parsed.program(), parsed.grouping_pairs())?;
-    let Some(plan) = plan_if_any(alloc, parsed.program())? else {
-        return Ok(false);
-    };
-    let spans = extra_pairs(alloc, &found, &plan)?;
-    Ok(are_groupings(&found, pairs) && are_spans(&spans, extra))
+    let given = parsed.grouping_pairs();
+    Ok(has_rows(alloc, parsed.program(), given, pairs, extra)?)
 }
 
 fn are_paired(rt: &impl Abort, alloc: Global, scripts: &[Paired]) {
@@ -83,13 +96,9 @@ fn other_pairs(rt: HostRuntime) -> Result<(), Fail> {
             right: last,
         },
     ];
-    let found = groupings(rt.alloc(), parsed.program(), &pairs)?;
-    assert!(rt; are_groupings(&found, &[(3, 5, 3), (0, 1, 3), (4, last, 0)]));
-    let plan = plan_if_any(rt.alloc(), parsed.program())?;
-    let Some(plan) = plan else {
-        return Ok(assert!(rt; false));
-    };
-    let spans = extra_pairs(rt.alloc(), &found, &plan)?;
-    assert!(rt; are_spans(&spans, &[(3, 6), (0, 2), (4, last)]));
+    let rows = [(3, 5, 3), (0, 1, 3), (4, last, 0)];
+    let extra = [(3, 6), (0, 2), (4, last)];
+    let found = has_rows(rt.alloc(), parsed.program(), &pairs, &rows, &extra)?;
+    assert!(rt; found);
     Ok(())
 }
