@@ -7,12 +7,12 @@ use std::process::Abort;
 use std::test::Fail;
 use streams::{Command, Refused, read_up_to, write_refusal};
 
-const WHOLE: Plan = Plan {
+pub(crate) const WHOLE: Plan = Plan {
     per_call: 65536,
     fails_at: None,
 };
 
-fn failing_at(call: u64) -> Plan {
+pub(crate) fn failing_at(call: u64) -> Plan {
     Plan {
         per_call: 1,
         fails_at: Some(call),
@@ -20,7 +20,7 @@ fn failing_at(call: u64) -> Plan {
 }
 
 /// What is written before a call fails, where each call writes a byte.
-fn left_at(text: &[u8], call: u64) -> Option<&[u8]> {
+pub(crate) fn left_at(text: &[u8], call: u64) -> Option<&[u8]> {
     text.get(..call.saturating_sub(1) as usize)
 }
 
@@ -193,16 +193,17 @@ fn reading_a_device(rt: HostRuntime) -> Result<(), Fail> {
 }
 
 /// A run over these bytes answers so, with this written.
-fn expect_run(
+pub(crate) fn expect_run(
     rt: &impl Abort,
     alloc: Global,
+    command: Command,
     bytes: &[u8],
     (want, written): (Result<u8, Refused>, &[u8]),
     (reads, writes): (Plan, Plan),
 ) -> Result<(), AllocError> {
     let mut file = MemoryFeed::new(bytes, reads);
-    let mut writer = MemorySink::new(alloc, 64, writes)?;
-    let got = run(alloc, Command::Fix, &mut file, &mut writer);
+    let mut writer = MemorySink::new(alloc, 4096, writes)?;
+    let got = run(alloc, command, &mut file, &mut writer);
     assert_eq!(rt; got, want, "writing {written:?}");
     assert_eq!(rt; writer.bytes(), written);
     Ok(())
@@ -240,7 +241,14 @@ static RUNS: [(&str, &str, Result<u8, Refused>); 4] = [
 fn runs(rt: HostRuntime) -> Result<(), Fail> {
     for (text, written, want) in answers() {
         let want = (*want, written.as_bytes());
-        expect_run(&rt, rt.alloc(), text.as_bytes(), want, (WHOLE, WHOLE))?;
+        expect_run(
+            &rt,
+            rt.alloc(),
+            Command::Fix,
+            text.as_bytes(),
+            want,
+            (WHOLE, WHOLE),
+        )?;
     }
     Ok(())
 }
@@ -281,10 +289,17 @@ fn runs_whose_reader_fails(rt: HostRuntime) -> Result<(), Fail> {
     let failed = Err(Refused::at_no_place(Fault::ReadFailed));
     for call in 1..5u64 {
         let plans = (failing_at(call), WHOLE);
-        expect_run(&rt, rt.alloc(), b"a;\n", (failed, b""), plans)?;
+        expect_run(&rt, rt.alloc(), Command::Fix, b"a;\n", (failed, b""), plans)?;
     }
     let plans = (failing_at(5), WHOLE);
-    expect_run(&rt, rt.alloc(), b"a;\n", (Ok(0), b"a;\n"), plans)?;
+    expect_run(
+        &rt,
+        rt.alloc(),
+        Command::Fix,
+        b"a;\n",
+        (Ok(0), b"a;\n"),
+        plans,
+    )?;
     Ok(())
 }
 
@@ -293,7 +308,14 @@ fn runs_whose_writer_fails(rt: HostRuntime) -> Result<(), Fail> {
     let failed = Err(Refused::at_no_place(Fault::WriteFailed));
     for (call, left) in [(1, ""), (2, "a"), (3, "a;")] {
         let plans = (WHOLE, failing_at(call));
-        expect_run(&rt, rt.alloc(), b"a;\n", (failed, left.as_bytes()), plans)?;
+        expect_run(
+            &rt,
+            rt.alloc(),
+            Command::Fix,
+            b"a;\n",
+            (failed, left.as_bytes()),
+            plans,
+        )?;
     }
     Ok(())
 }

@@ -1,9 +1,7 @@
 //! Runs of the command `tree`: what is written, or the refusal.
 
-use lint::run::run;
-use source_text::{Fault, MemoryFeed, MemorySink, Plan};
-use std::alloc::Global;
-use std::process::Abort;
+use crate::edge::{WHOLE, expect_run, failing_at, left_at};
+use source_text::{Fault, Plan};
 use std::test::Fail;
 use streams::{Command, Refused};
 
@@ -51,52 +49,22 @@ const REFUSED: [(&str, Fault, u32, u32); 7] = [
     ("\u{feff}eval = 1", Fault::Early(1, 3), 1, 2),
 ];
 
-fn device(per_call: usize) -> Plan {
-    Plan {
-        per_call,
-        fails_at: None,
-    }
-}
-
-// What the command writes for a text, through devices of so many bytes a call.
-fn writes(
-    rt: &impl Abort,
-    alloc: Global,
-    text: &str,
-    json: &str,
-    per_call: usize,
-) -> Result<(), Fail> {
-    let mut file = MemoryFeed::new(text.as_bytes(), device(per_call));
-    let mut writer = MemorySink::new(alloc, 4096, device(per_call))?;
-    assert_eq!(rt;
-        run(alloc, Command::Tree, &mut file, &mut writer),
-        Ok(0),
-        "{text}"
-    );
-    let line = format!(in alloc; "{json}\n")?;
-    assert_eq!(rt; writer.bytes(), line.as_bytes(), "{text}");
-    Ok(())
-}
+// A device that takes or gives a byte a call.
+const SLOW: Plan = Plan {
+    per_call: 1,
+    fails_at: None,
+};
 
 #[test]
 fn trees_are_written(rt: HostRuntime) -> Result<(), Fail> {
+    let alloc = rt.alloc();
     for (text, json) in TREES.iter() {
-        writes(&rt, rt.alloc(), text, json, 65536)?;
-        writes(&rt, rt.alloc(), text, json, 1)?;
+        let text = text.as_bytes();
+        let line = format!(in alloc; "{json}\n")?;
+        let want = (Ok(0), line.as_bytes());
+        expect_run(&rt, alloc, Command::Tree, text, want, (WHOLE, WHOLE))?;
+        expect_run(&rt, alloc, Command::Tree, text, want, (SLOW, SLOW))?;
     }
-    Ok(())
-}
-
-// How the command refuses a text; nothing is written.
-fn refuses(rt: &impl Abort, alloc: Global, text: &str, refused: Refused) -> Result<(), Fail> {
-    let mut file = MemoryFeed::new(text.as_bytes(), device(65536));
-    let mut writer = MemorySink::new(alloc, 64, device(65536))?;
-    assert_eq!(rt;
-        run(alloc, Command::Tree, &mut file, &mut writer),
-        Err(refused),
-        "{text}"
-    );
-    assert!(rt; writer.bytes().is_empty(), "{text}");
     Ok(())
 }
 
@@ -108,34 +76,34 @@ fn texts_are_refused(rt: HostRuntime) -> Result<(), Fail> {
             line: *line,
             column: *column,
         };
-        refuses(&rt, rt.alloc(), text, refused)?;
+        let want = (Err(refused), b"".as_slice());
+        expect_run(
+            &rt,
+            rt.alloc(),
+            Command::Tree,
+            text.as_bytes(),
+            want,
+            (WHOLE, WHOLE),
+        )?;
     }
-    Ok(())
-}
-
-// What a writer that fails at a call has taken, of one byte each: a beginning of the line.
-fn is_cut(rt: &impl Abort, alloc: Global, calls: u64) -> Result<(), Fail> {
-    let (text, json) = TREES[0];
-    let mut file = MemoryFeed::new(text.as_bytes(), device(65536));
-    let plan = Plan {
-        per_call: 1,
-        fails_at: Some(calls),
-    };
-    let mut writer = MemorySink::new(alloc, 4096, plan)?;
-    let refused = Refused::at_no_place(Fault::WriteFailed);
-    assert_eq!(rt;
-        run(alloc, Command::Tree, &mut file, &mut writer),
-        Err(refused)
-    );
-    let taken = json.as_bytes().get(..writer.bytes().len());
-    assert_eq!(rt; Some(writer.bytes()), taken);
     Ok(())
 }
 
 #[test]
 fn a_writer_that_fails(rt: HostRuntime) -> Result<(), Fail> {
-    for calls in 1..40u64 {
-        is_cut(&rt, rt.alloc(), calls)?;
+    let (text, json) = TREES[0];
+    let failed = Err(Refused::at_no_place(Fault::WriteFailed));
+    for call in 1..40u64 {
+        let left = left_at(json.as_bytes(), call).unwrap_or(b"");
+        let plans = (WHOLE, failing_at(call));
+        expect_run(
+            &rt,
+            rt.alloc(),
+            Command::Tree,
+            text.as_bytes(),
+            (failed, left),
+            plans,
+        )?;
     }
     Ok(())
 }
