@@ -7,6 +7,7 @@ ghost use Rattle.views.specs.Expressions.{expression_of, expression_by, member_b
 ghost use Rattle.tree.specs.declared.kind.Kind.TheVariants.{MemberExpression, CallExpression, ConditionalExpression};
 
 use crate::arity::is_whole;
+use crate::fields::two_parts;
 use crate::function::{Class, Function};
 use tree::{Kind, Node, NodeList};
 
@@ -156,8 +157,7 @@ fn member<'t, 's>(node: Node<'t, 's>) -> Option<Expression<'t, 's>>
 {
     match node.kind() {
         Kind::TaggedTemplateExpression => {
-            let tag = node.part(0)?;
-            let quasi = node.part(1)?;
+            let (tag, quasi) = two_parts(node)?;
             Some(Expression::TaggedTemplate { tag, quasi })
         }
         Kind::MemberExpression => selection(node),
@@ -168,8 +168,7 @@ fn member<'t, 's>(node: Node<'t, 's>) -> Option<Expression<'t, 's>>
             Some(Expression::New { callee, arguments })
         }
         Kind::MetaProperty => {
-            let meta = node.part(0)?;
-            let property = node.part(1)?;
+            let (meta, property) = two_parts(node)?;
             Some(Expression::MetaProperty { meta, property })
         }
         Kind::ImportExpression => {
@@ -187,8 +186,7 @@ fn member<'t, 's>(node: Node<'t, 's>) -> Option<Expression<'t, 's>>
 fn selection<'t, 's>(node: Node<'t, 's>) -> Option<Expression<'t, 's>>
     ensures { option_map expression_seen result ≡ member_by MemberExpression (node_tree node.entry) }
 {
-    let object = node.part(0)?;
-    let property = node.part(1)?;
+    let (object, property) = two_parts(node)?;
     let flags = node.flags();
     Some(Expression::Member {
         object,
@@ -252,35 +250,24 @@ fn conditional<'t, 's>(node: Node<'t, 's>) -> Option<Expression<'t, 's>>
 fn operands<'t, 's>(node: Node<'t, 's>) -> Option<Expression<'t, 's>>
     ensures { option_map expression_seen result ≡ operands_by (kind_of (node_tree node.entry)) (node_tree node.entry) }
 {
+    let (left, right) = two_parts(node)?;
     let operator = node.text();
     match node.kind() {
-        Kind::BinaryExpression => {
-            let left = node.part(0)?;
-            let right = node.part(1)?;
-            Some(Expression::Binary {
-                operator,
-                left,
-                right,
-            })
-        }
-        Kind::LogicalExpression => {
-            let left = node.part(0)?;
-            let right = node.part(1)?;
-            Some(Expression::Logical {
-                operator,
-                left,
-                right,
-            })
-        }
-        Kind::AssignmentExpression => {
-            let left = node.part(0)?;
-            let right = node.part(1)?;
-            Some(Expression::Assignment {
-                operator,
-                left,
-                right,
-            })
-        }
+        Kind::BinaryExpression => Some(Expression::Binary {
+            operator,
+            left,
+            right,
+        }),
+        Kind::LogicalExpression => Some(Expression::Logical {
+            operator,
+            left,
+            right,
+        }),
+        Kind::AssignmentExpression => Some(Expression::Assignment {
+            operator,
+            left,
+            right,
+        }),
         _ => None,
     }
 }

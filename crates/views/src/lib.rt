@@ -5,6 +5,7 @@
 
 mod arity;
 mod expression;
+mod fields;
 mod function;
 mod pattern;
 mod pieces;

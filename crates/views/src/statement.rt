@@ -7,6 +7,7 @@ ghost use Rattle.views.specs.Statements.{statement_of, statement_by, choice_by, 
 ghost use Rattle.tree.specs.declared.kind.Kind.TheVariants.{TryStatement, ForStatement, ForInStatement, ForOfStatement};
 
 use crate::arity::is_whole;
+use crate::fields::two_parts;
 use crate::function::{Class, Function};
 use tree::{Kind, Node, NodeList};
 
@@ -142,8 +143,7 @@ fn choice<'t, 's>(node: Node<'t, 's>) -> Option<Statement<'t, 's>>
             Some(Statement::Throw { argument })
         }
         Kind::LabeledStatement => {
-            let label = node.part(0)?;
-            let body = node.part(1)?;
+            let (label, body) = two_parts(node)?;
             Some(Statement::Labeled { label, body })
         }
         Kind::IfStatement => {
@@ -189,13 +189,11 @@ fn repeated<'t, 's>(node: Node<'t, 's>) -> Option<Statement<'t, 's>>
 {
     match node.kind() {
         Kind::WhileStatement => {
-            let test = node.part(0)?;
-            let body = node.part(1)?;
+            let (test, body) = two_parts(node)?;
             Some(Statement::While { test, body })
         }
         Kind::DoWhileStatement => {
-            let body = node.part(0)?;
-            let test = node.part(1)?;
+            let (body, test) = two_parts(node)?;
             Some(Statement::DoWhile { body, test })
         }
         Kind::ForStatement => for_each_step(node),
