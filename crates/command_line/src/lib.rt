@@ -3,5 +3,7 @@
 //! The words of the command line.
 
 mod line;
+mod mistake;
 
 pub use line::{Line, command_line};
+pub use mistake::explain;

@@ -4,11 +4,9 @@
 
 ghost use Rattle.std.specs.Prelude.{◌≡◌, ◌≢◌, IfErr, false};
 ghost use Rattle.source_text.specs.declared.fault.Fault.TheVariants.{Usage};
-ghost use Rattle.clap.specs.Words.{kind_of};
 ghost use Rattle.jslint.specs.Program.{RunsOnFile};
 
-use clap::error::ErrorKind;
-use command_line::{Line, command_line};
+use command_line::{Line, command_line, explain};
 use lint::run::run;
 use source_text::{Device, Fault, Sink};
 use std::process::ExitCode;
@@ -48,24 +46,6 @@ fn open_and_run<R: Files + AllocGlobal, W: Sink>(
             output,
         ),
         Err(_) => Err(Refused::at_no_place(Fault::ReadFailed)),
-    }
-}
-
-/// Shows what `clap` says in place of a command: help on the standard output, else what is wrong with the words.
-fn explain<R: Print + Eprint, W: Sink>(rt: &R, error: &clap::Error, errors: &mut W) -> u8
-    requires { W.failed errors.old ≡ false }
-    ensures { kind_of error.now ≢ ErrorKind.DisplayHelp → kind_of error.now ≢ ErrorKind.DisplayVersion → result ≡ 2 }
-{
-    if error.kind() == ErrorKind::OutOfMemory {
-        return write_refusal(&Refused::at_no_place(Fault::OutOfMemory), errors);
-    }
-    let shown = error.print(rt);
-    if error.use_stderr() {
-        return 2;
-    }
-    match shown {
-        Ok(()) => 0,
-        Err(_) => write_refusal(&Refused::at_no_place(Fault::WriteFailed), errors),
     }
 }
 
