@@ -68,6 +68,12 @@ fn covers_are_what_they_may_be(rt: HostRuntime) -> Result<(), Fail> {
 /// `[[a], ...b]`.
 const WHOLE: Sketch = Array(&[Array(&[A]), Rest(&[B])]);
 
+/// The height and the line of the expression that it is.
+fn whole_line(alloc: Global) -> Result<(u32, String), Fault> {
+    let whole = cover_of(alloc, &WHOLE)?.to_expression(0)?;
+    Ok((whole.height(), line(alloc, whole.node())?))
+}
+
 /// The line of the pattern that it is.
 fn pattern_line(alloc: Global, sketch: &Sketch) -> Result<String, Fault> {
     let pattern = cover_of(alloc, sketch)?.to_pattern(0)?;
@@ -81,12 +87,15 @@ fn covers_become_patterns(rt: HostRuntime) -> Result<(), Fail> {
         let shown = pattern_line(alloc, sketch)?;
         assert_eq!(rt; shown.as_str(), *want);
     }
-    let whole = cover_of(alloc, &WHOLE)?.to_expression(0)?;
-    assert!(rt; whole.height() == 3);
-    let shown = line(alloc, whole.node())?;
+    Ok(())
+}
+
+#[test]
+fn covers_become_expressions(rt: HostRuntime) -> Result<(), Fail> {
+    let (height, shown) = whole_line(rt.alloc())?;
     let want =
         "(ArrayExpression 3-4 (ArrayExpression 3-4 (Identifier 3-4 a)) (SpreadElement 3-4 (Identifier 3-4 b)))";
-    assert_eq!(rt; shown.as_str(), want);
+    assert_eq!(rt; (height, shown.as_str()), (3, want));
     Ok(())
 }
 

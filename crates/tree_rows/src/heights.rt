@@ -76,19 +76,21 @@ fn joined(alloc: Global, first: &[u32], further: &[u32]) -> Result<Nodes<'static
     Ok(nodes)
 }
 
+/// How many parts these are, and the array of them, this high at most: its height and its line.
+fn array(alloc: Global, nodes: Nodes<'_>, high: u32) -> Result<(usize, u32, String), Fault> {
+    let count = nodes.len();
+    let array = plain(Kind::ArrayExpression, SPAN, nodes, high)?;
+    let shown = line(alloc, array.node())?;
+    Ok((count, array.height(), shown))
+}
+
 /// All parts stand behind one another, and the tallest counts.
 #[test]
 fn parts_stand_in_order(rt: HostRuntime) -> Result<(), Fail> {
     let alloc = rt.alloc();
     for (first, further, count, height, want) in &JOINED {
-        let nodes = joined(alloc, first, further)?;
-        let found = nodes.len();
-        let array = plain(Kind::ArrayExpression, SPAN, nodes, *height)?;
-        let shown = line(alloc, array.node())?;
-        assert_eq!(rt;
-            (found, array.height(), shown.as_str()),
-            (*count, *height, *want)
-        );
+        let (found, high, shown) = array(alloc, joined(alloc, first, further)?, *height)?;
+        assert_eq!(rt; (found, high, shown.as_str()), (*count, *height, *want));
     }
     Ok(())
 }
@@ -120,16 +122,32 @@ fn heights_are_limited(rt: HostRuntime) {
     assert!(rt; name(alloc, "a", 1).is_ok());
 }
 
+/// A method of two names.
+fn method(alloc: Global) -> Result<Tall<'static>, Fault> {
+    let nodes = Nodes::two(alloc, name(alloc, "a", 1)?, name(alloc, "b", 1)?)?;
+    made(Kind::Property, "word", METHOD, SPAN, nodes, 2)
+}
+
+/// Its line.
+fn method_line(alloc: Global) -> Result<String, Fault> {
+    let method = method(alloc)?;
+    Ok(line(alloc, method.node())?)
+}
+
+/// Its height, once it is made again of its node.
+fn height_again(alloc: Global) -> Result<u32, Fault> {
+    let method = method(alloc)?;
+    let height = method.height();
+    Ok(Tall::of_height(method.into_syntax(), height).height())
+}
+
 #[test]
 fn nodes_keep_what_they_are_made_of(rt: HostRuntime) -> Result<(), Fail> {
     let alloc = rt.alloc();
-    let nodes = Nodes::two(alloc, name(alloc, "a", 1)?, name(alloc, "b", 1)?)?;
-    let method = made(Kind::Property, "word", METHOD, SPAN, nodes, 2)?;
-    let shown = line(alloc, method.node())?;
+    let shown = method_line(alloc)?;
     let want = "(Property 3-4 word method (Identifier 3-4 a) (Identifier 3-4 b))";
     assert_eq!(rt; shown.as_str(), want);
-    let again = Tall::of_height(method.into_syntax(), 2);
-    assert!(rt; again.height() == 2);
+    assert_eq!(rt; height_again(alloc)?, 2);
     Ok(())
 }
 

@@ -11,18 +11,17 @@ use crate::heights::tower;
 use crate::print::line;
 use crate::sketch::{EMPTY, PLAIN, Sketch, script};
 use Sketch::{Gap, Name, Plain, Word};
-use expressions::expressions;
+use expressions::{expressions, operators};
 use pairs::others;
 use shown::views;
 use source_text::Fault;
-use statements::statements;
+use statements::{branches, loops, simple_statements};
 use std::alloc::{AllocError, Global};
 use std::borrow::CowStr;
 use std::process::Abort;
 use std::test::Fail;
-use structures::structures;
+use structures::{classes, structures};
 use tree::{Kind, Parts, Program, Span, Syntax, height, same_tree, try_copy};
-use viewed::viewed;
 
 /// The height at which scripts are still read.
 const LIMIT: u32 = 500;
@@ -53,18 +52,26 @@ fn script_line(alloc: Global, items: &[Sketch]) -> Result<(String, bool), Fault>
     Ok((line(alloc, program.root())?, is_whole))
 }
 
+/// The script of these items is shown as this line.
+fn expect_line(rt: &impl Abort, alloc: Global, items: &[Sketch], want: &str) -> Result<(), Fault> {
+    let (shown, is_whole) = script_line(alloc, items)?;
+    assert_eq!(rt; (shown.as_str(), is_whole), (want, true));
+    Ok(())
+}
+
+/// Items, and the line of the script of them.
+static PROGRAMS: [(&[Sketch], &str); 2] = [
+    (&[], "(Program 0-1)"),
+    (
+        &[EMPTY, Name("a")],
+        "(Program 0-3 (EmptyStatement 0-1) (Identifier 1-2 a))",
+    ),
+];
+
 #[test]
 fn programs_have_items(rt: HostRuntime) -> Result<(), Fail> {
-    let rows: [(&[Sketch], &str); 2] = [
-        (&[], "(Program 0-1)"),
-        (
-            &[EMPTY, Name("a")],
-            "(Program 0-3 (EmptyStatement 0-1) (Identifier 1-2 a))",
-        ),
-    ];
-    for (items, want) in rows {
-        let (shown, is_whole) = script_line(rt.alloc(), items)?;
-        assert_eq!(rt; (shown.as_str(), is_whole), (want, true));
+    for (items, want) in &PROGRAMS {
+        expect_line(&rt, rt.alloc(), items, want)?;
     }
     Ok(())
 }
@@ -76,17 +83,25 @@ fn expect_lines(
     rows: &[(Sketch, &'static str)],
 ) -> Result<(), Fault> {
     for (sketch, want) in rows {
-        let (shown, is_whole) = script_line(alloc, &[*sketch])?;
-        assert_eq!(rt; (shown.as_str(), is_whole), (*want, true));
+        expect_line(rt, alloc, &[*sketch], want)?;
     }
     Ok(())
 }
 
 #[test]
 fn nodes_have_text_flags_and_parts(rt: HostRuntime) -> Result<(), Fail> {
-    expect_lines(&rt, rt.alloc(), expressions())?;
-    expect_lines(&rt, rt.alloc(), structures())?;
-    expect_lines(&rt, rt.alloc(), statements())?;
+    let alloc = rt.alloc();
+    for rows in [
+        expressions(),
+        operators(),
+        structures(),
+        classes(),
+        simple_statements(),
+        branches(),
+        loops(),
+    ] {
+        expect_lines(&rt, alloc, rows)?;
+    }
     Ok(())
 }
 
@@ -102,27 +117,46 @@ fn parts(alloc: Global) -> Result<Parts<'static>, AllocError> {
     Ok(parts)
 }
 
+/// The array of them in a script.
+fn array_script(alloc: Global) -> Result<Program<'static>, AllocError> {
+    let text = CowStr::Borrowed("");
+    let array = Syntax::new(Kind::ArrayExpression, text, PLAIN, HERE, parts(alloc)?);
+    Ok(Program::new(Parts::one(alloc, array)?, HERE))
+}
+
+/// How many they are.
+fn parts_count(alloc: Global) -> Result<usize, AllocError> {
+    let parts = parts(alloc)?;
+    Ok(parts.len())
+}
+
+/// The line of that script.
+fn array_line(alloc: Global) -> Result<String, AllocError> {
+    let program = array_script(alloc)?;
+    line(alloc, program.root())
+}
+
 /// Parts come behind one another, by each of the calls that make them.
 #[test]
 fn parts_stand_in_order(rt: HostRuntime) -> Result<(), Fail> {
     let alloc = rt.alloc();
-    let parts = parts(alloc)?;
-    assert!(rt; parts.len() == 4);
-    let text = CowStr::Borrowed("");
-    let array = Syntax::new(Kind::ArrayExpression, text, PLAIN, HERE, parts);
-    let program = Program::new(Parts::one(alloc, array)?, HERE);
-    let shown = line(alloc, program.root())?;
+    let (count, shown) = (parts_count(alloc)?, array_line(alloc)?);
     let want =
         "(Program 3-5 (ArrayExpression 3-5 (Identifier 3-5 a) (Identifier 3-5 b) _ (Identifier 3-5 c)))";
-    assert_eq!(rt; shown.as_str(), want);
+    assert_eq!(rt; (count, shown.as_str()), (4, want));
     Ok(())
+}
+
+/// Whether a tree and that of a sketch are the same, whichever comes first.
+fn is_same(alloc: Global, first: &Program, second: Sketch) -> Result<[bool; 2], Fault> {
+    let second = script(alloc, &[second], 7)?;
+    Ok([same_tree(first, &second), same_tree(&second, first)])
 }
 
 /// Whether the trees of two sketches are the same, wherever the second stands and whichever comes first.
 fn are_same(alloc: Global, first: Sketch, second: Sketch) -> Result<[bool; 2], Fault> {
     let first = script(alloc, &[first], 0)?;
-    let second = script(alloc, &[second], 7)?;
-    Ok([same_tree(&first, &second), same_tree(&second, &first)])
+    is_same(alloc, &first, second)
 }
 
 #[test]
@@ -139,52 +173,89 @@ fn trees_are_compared(rt: HostRuntime) -> Result<(), Fail> {
     Ok(())
 }
 
+/// Items, and the height of the script of them.
+static HEIGHTS: [(&[Sketch], u32); 6] = [
+    (&[], 1),
+    (&[EMPTY], 2),
+    (&[SUM], 3),
+    (&[HOLES], 2),
+    (&[DEEP], 4),
+    (&[EMPTY, DEEP, SUM], 4),
+];
+
+/// How high the script of these items is.
+fn script_height(alloc: Global, items: &[Sketch]) -> Result<u32, Fault> {
+    Ok(height(&script(alloc, items, 0)?))
+}
+
 #[test]
 fn heights_count_nodes(rt: HostRuntime) -> Result<(), Fail> {
-    let rows: [(&[Sketch], u32); 6] = [
-        (&[], 1),
-        (&[EMPTY], 2),
-        (&[SUM], 3),
-        (&[HOLES], 2),
-        (&[DEEP], 4),
-        (&[EMPTY, DEEP, SUM], 4),
-    ];
-    for (items, want) in rows {
-        assert_eq!(rt; height(&script(rt.alloc(), items, 0)?), want);
+    for (items, want) in &HEIGHTS {
+        let found = script_height(rt.alloc(), items)?;
+        assert_eq!(rt; found, *want);
     }
     Ok(())
 }
 
-/// What a sketch is made to and its copy, as lines, places included, and whether they are the same.
-fn copied(alloc: Global, sketch: Sketch) -> Result<(String, String, bool), Fault> {
+/// Whether two trees are the same and have the same line, places included.
+fn are_alike(alloc: Global, first: &Program, second: &Program) -> Result<bool, AllocError> {
+    let shown = line(alloc, first.root())?;
+    let want = line(alloc, second.root())?;
+    Ok(shown == want && same_tree(first, second))
+}
+
+/// Whether the copy of a tree is like it.
+fn is_like_copy(alloc: Global, program: &Program) -> Result<bool, AllocError> {
+    let copy = try_copy(alloc, program)?;
+    are_alike(alloc, &copy, program)
+}
+
+/// Whether the copy of what a sketch is made to is like it.
+fn is_copied(alloc: Global, sketch: Sketch) -> Result<bool, Fault> {
     let program = script(alloc, &[sketch], 3)?;
-    let copy = try_copy(alloc, &program)?;
-    let is_same = same_tree(&copy, &program);
-    let shown = line(alloc, copy.root())?;
-    Ok((shown, line(alloc, program.root())?, is_same))
+    let is_like = is_like_copy(alloc, &program)?;
+    Ok(is_like)
+}
+
+/// The copies of all these are like them.
+fn expect_copies(
+    rt: &impl Abort,
+    alloc: Global,
+    rows: &[(Sketch, &'static str)],
+) -> Result<(), Fault> {
+    for (sketch, text) in rows {
+        assert!(rt; is_copied(alloc, *sketch)?, "{text}");
+    }
+    Ok(())
 }
 
 #[test]
 fn copies_are_equal(rt: HostRuntime) -> Result<(), Fail> {
     let alloc = rt.alloc();
-    let (shown, want, is_same) = copied(alloc, DEEP)?;
-    assert!(rt; shown == want && is_same, "{want}");
-    for (sketch, _) in structures() {
-        let (shown, want, is_same) = copied(alloc, *sketch)?;
-        assert!(rt; shown == want && is_same, "{want}");
-    }
+    assert!(rt; is_copied(alloc, DEEP)?);
+    expect_copies(&rt, alloc, structures())?;
+    expect_copies(&rt, alloc, classes())?;
     Ok(())
+}
+
+/// A script whose only node owns its text.
+fn owned_script(alloc: Global) -> Result<Program<'static>, AllocError> {
+    let text = CowStr::Owned(String::from_str(alloc, "café")?);
+    let element = Syntax::leaf(alloc, Kind::TemplateElement, text, HERE);
+    Ok(Program::new(Parts::one(alloc, element)?, HERE))
+}
+
+/// A copy of it, which is dropped before the copy is shown.
+fn owned_copy(alloc: Global) -> Result<Program<'static>, AllocError> {
+    let program = owned_script(alloc)?;
+    try_copy(alloc, &program)
 }
 
 /// A text that its node owns is copied too, and stays when the first goes.
 #[test]
 fn owned_texts_are_copied(rt: HostRuntime) -> Result<(), Fail> {
     let alloc = rt.alloc();
-    let text = CowStr::Owned(String::from_str(alloc, "café")?);
-    let element = Syntax::leaf(alloc, Kind::TemplateElement, text, HERE);
-    let program = Program::new(Parts::one(alloc, element)?, HERE);
-    let copy = try_copy(alloc, &program)?;
-    drop(program);
+    let copy = owned_copy(alloc)?;
     let shown = line(alloc, copy.root())?;
     assert_eq!(rt; shown.as_str(), "(Program 3-5 (TemplateElement 3-5 café))");
     Ok(())
@@ -196,28 +267,59 @@ fn high_script(alloc: Global, nodes: u32) -> Result<Program<'static>, Fault> {
     Ok(Program::new(Parts::one(alloc, whole.into_syntax())?, HERE))
 }
 
+/// Whether a tree is the same as one of this height.
+fn is_as_high(alloc: Global, program: &Program, nodes: u32) -> Result<bool, Fault> {
+    let other = high_script(alloc, nodes)?;
+    Ok(same_tree(program, &other))
+}
+
+/// Whether a tree is the same as its copy.
+fn is_as_copied(alloc: Global, program: &Program) -> Result<bool, AllocError> {
+    let copy = try_copy(alloc, program)?;
+    Ok(same_tree(program, &copy))
+}
+
+/// How high it is, whether it is the same as one that is a node lower, and as its copy.
+fn walked(alloc: Global, nodes: u32) -> Result<(u32, bool, bool), Fault> {
+    let program = high_script(alloc, nodes)?;
+    let is_lower = is_as_high(alloc, &program, nodes.saturating_sub(1))?;
+    let is_copy = is_as_copied(alloc, &program)?;
+    Ok((height(&program), is_lower, is_copy))
+}
+
 /// Measured, compared, copied and dropped on the stack of a process, 8 MiB by default.
 #[test]
 fn trees_at_the_limit_are_walked(rt: HostRuntime) -> Result<(), Fail> {
-    let alloc = rt.alloc();
-    let program = high_script(alloc, LIMIT)?;
-    let lower = high_script(alloc, LIMIT - 1)?;
-    assert!(rt; !same_tree(&program, &lower));
-    let copy = try_copy(alloc, &program)?;
-    assert_eq!(rt;
-        (height(&program), same_tree(&program, &copy)),
-        (LIMIT, true)
-    );
+    let found = walked(rt.alloc(), LIMIT)?;
+    assert_eq!(rt; found, (LIMIT, false, true));
+    Ok(())
+}
+
+/// The views of each node show what its row says.
+fn expect_views(
+    rt: &impl Abort,
+    alloc: Global,
+    rows: &[(Sketch, &'static str)],
+) -> Result<(), Fault> {
+    for (sketch, want) in rows {
+        let program = script(alloc, &[*sketch], 0)?;
+        let shown = views(alloc, &program)?;
+        assert_eq!(rt; shown.as_str(), *want);
+    }
     Ok(())
 }
 
 #[test]
 fn views_show_the_fields_of_each_kind(rt: HostRuntime) -> Result<(), Fail> {
     let alloc = rt.alloc();
-    for (sketch, want) in viewed() {
-        let program = script(alloc, &[*sketch], 0)?;
-        let shown = views(alloc, &program)?;
-        assert_eq!(rt; shown.as_str(), *want);
+    for rows in [
+        viewed::values(),
+        viewed::members(),
+        viewed::operators(),
+        viewed::simple_statements(),
+        viewed::compound_statements(),
+    ] {
+        expect_views(&rt, alloc, rows)?;
     }
     Ok(())
 }

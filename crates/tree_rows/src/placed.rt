@@ -5,6 +5,9 @@ use Asked::{At, Ranked};
 use Sketch::{Flagged, Gap, Name, Plain, Word};
 use language::{Rank, Start};
 use positions::{Position, Positions, expression_positions, node_positions};
+use source_text::Fault;
+use std::alloc::Global;
+use std::process::Abort;
 use std::test::Fail;
 use tree::{Form, Kind, Program};
 
@@ -173,7 +176,12 @@ const LOWEST: Sketch = Flagged(Kind::MemberExpression, OPTIONAL, &[A, B]);
 /// `a?.b.c`.
 const ABOVE: Sketch = Plain(Kind::MemberExpression, &[LOWEST, C]);
 
-static ROWS: [Row; 56] = [
+/// Sums, names, keys, strings and templates.
+fn words() -> &'static [Row] {
+    &WORDS
+}
+
+static WORDS: [Row; 16] = [
     (
         "a sum",
         SUM,
@@ -223,6 +231,14 @@ static ROWS: [Row; 56] = [
         At(Position::Quasi),
         Some(&["chunk", "expression", "chunk"]),
     ),
+];
+
+/// Properties, patterns and spreads.
+fn patterns() -> &'static [Row] {
+    &PATTERNS
+}
+
+static PATTERNS: [Row; 9] = [
     // properties and patterns
     (
         "a property",
@@ -269,6 +285,14 @@ static ROWS: [Row; 56] = [
         At(Position::Spread),
         Some(&["expression"]),
     ),
+];
+
+/// Members of classes, and each else with its if.
+fn members() -> &'static [Row] {
+    &MEMBERS
+}
+
+static MEMBERS: [Row; 9] = [
     // members of a class
     (
         "a getter",
@@ -320,6 +344,14 @@ static ROWS: [Row; 56] = [
         STATEMENT,
         Some(&["expression", "statement", "statement"]),
     ),
+];
+
+/// Heads of for, and the cases of a switch.
+fn loops() -> &'static [Row] {
+    &LOOPS
+}
+
+static LOOPS: [Row; 9] = [
     // heads of for
     ("a for", FOR, STATEMENT, Some(&["expression", "statement"])),
     ("a declarator", DECLARATOR, DECLARED, Some(&["name"])),
@@ -351,6 +383,14 @@ static ROWS: [Row; 56] = [
     ),
     ("a switch", SWITCH, STATEMENT, Some(&["expression", "case"])),
     ("a switch with two defaults", TWO_DEFAULTS, STATEMENT, None),
+];
+
+/// Handlers, directives, and what functions return.
+fn bodies() -> &'static [Row] {
+    &BODIES
+}
+
+static BODIES: [Row; 10] = [
     // handlers of try
     (
         "a block",
@@ -394,6 +434,14 @@ static ROWS: [Row; 56] = [
         At(Position::Body),
         Some(&["opening"]),
     ),
+];
+
+/// Parts of a chain.
+fn chains() -> &'static [Row] {
+    &CHAINS
+}
+
+static CHAINS: [Row; 3] = [
     // parts of a chain
     (
         "the lowest of a chain",
@@ -480,12 +528,20 @@ fn is_placed(program: &Program, asked: Asked, wanted: Option<&[&str]>) -> bool {
     }
 }
 
+/// The parts of each node stand where its row says.
+fn expect_places(rt: &impl Abort, alloc: Global, rows: &[Row]) -> Result<(), Fault> {
+    for (what, sketch, asked, wanted) in rows {
+        let program = script(alloc, &[*sketch], 0)?;
+        assert!(rt; is_placed(&program, *asked, *wanted), "{what}: {wanted:?}");
+    }
+    Ok(())
+}
+
 #[test]
 fn parts_stand_at_their_positions(rt: HostRuntime) -> Result<(), Fail> {
     let alloc = rt.alloc();
-    for (what, sketch, asked, wanted) in &ROWS {
-        let program = script(alloc, &[*sketch], 0)?;
-        assert!(rt; is_placed(&program, *asked, *wanted), "{what}: {wanted:?}");
+    for rows in [words(), patterns(), members(), loops(), bodies(), chains()] {
+        expect_places(&rt, alloc, rows)?;
     }
     Ok(())
 }

@@ -4,12 +4,12 @@ use crate::sketch::{COMPUTED_OPTIONAL, OPTIONAL, PREFIX, Sketch};
 use Sketch::{Flagged, Name, Node, Plain, Word};
 use tree::Kind;
 
-/// A node, and the line of the script that is it.
+/// Words, members and calls; nodes, and the lines of the scripts that they are.
 pub(super) fn expressions() -> &'static [(Sketch, &'static str)] {
     &EXPRESSIONS
 }
 
-static EXPRESSIONS: [(Sketch, &str); 20] = [
+static EXPRESSIONS: [(Sketch, &str); 9] = [
     (
         Word(Kind::Identifier, "ab", &[]),
         "(Program 0-2 (Identifier 0-1 ab))",
@@ -54,6 +54,14 @@ static EXPRESSIONS: [(Sketch, &str); 20] = [
         Flagged(Kind::CallExpression, OPTIONAL, &[Name("f")]),
         "(Program 0-3 (CallExpression 0-2 optional (Identifier 0-1 f)))",
     ),
+];
+
+/// Operators, and what else holds expressions; likewise.
+pub(super) fn operators() -> &'static [(Sketch, &'static str)] {
+    &OPERATORS
+}
+
+static OPERATORS: [(Sketch, &str); 11] = [
     (
         Plain(Kind::NewExpression, &[Name("A"), Name("a")]),
         "(Program 0-4 (NewExpression 0-3 (Identifier 0-1 A) (Identifier 1-2 a)))",

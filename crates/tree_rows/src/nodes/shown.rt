@@ -165,8 +165,15 @@ fn short(out: &mut String, view: Expression) -> Result<(), AllocError> {
             consequent,
             alternate,
         } => {
-            write_words(out, &["conditional ", test.text()])?;
-            write_words(out, &[" ", consequent.text(), " ", alternate.text()])
+            let words = [
+                "conditional ",
+                test.text(),
+                " ",
+                consequent.text(),
+                " ",
+                alternate.text(),
+            ];
+            write_words(out, &words)
         }
         _ => member(out, view),
     }
@@ -211,6 +218,26 @@ fn pattern(out: &mut String, view: Pattern) -> Result<(), AllocError> {
     }
 }
 
+/// A loop over what is on the right.
+fn header(
+    out: &mut String,
+    word: &str,
+    left: Node,
+    right: Node,
+    body: Node,
+) -> Result<(), AllocError> {
+    let words = [
+        word,
+        " left=",
+        left.text(),
+        " right=",
+        right.text(),
+        " body=",
+        body.text(),
+    ];
+    write_words(out, &words)
+}
+
 fn repeated(out: &mut String, view: Statement) -> Result<(), AllocError> {
     match view {
         Statement::For {
@@ -219,20 +246,20 @@ fn repeated(out: &mut String, view: Statement) -> Result<(), AllocError> {
             update,
             body,
         } => {
-            write_words(
-                out,
-                &["for ", name(init), " ", name(test), " ", name(update)],
-            )?;
-            write_words(out, &[" body=", body.text()])
+            let words = [
+                "for ",
+                name(init),
+                " ",
+                name(test),
+                " ",
+                name(update),
+                " body=",
+                body.text(),
+            ];
+            write_words(out, &words)
         }
-        Statement::ForIn { left, right, body } => {
-            pair(out, "for in", "", left, right)?;
-            write_words(out, &[" body=", body.text()])
-        }
-        Statement::ForOf { left, right, body } => {
-            pair(out, "for of", "", left, right)?;
-            write_words(out, &[" body=", body.text()])
-        }
+        Statement::ForIn { left, right, body } => { header(out, "for in", left, right, body) }
+        Statement::ForOf { left, right, body } => { header(out, "for of", left, right, body) }
         Statement::While { test, body } => {
             write_words(out, &["while test=", test.text(), " body=", body.text()])
         }
@@ -250,8 +277,15 @@ fn chosen(out: &mut String, view: Statement) -> Result<(), AllocError> {
             consequent,
             alternate,
         } => {
-            write_words(out, &["if ", test.text(), " ", consequent.text()])?;
-            write_words(out, &[" else=", name(alternate)])
+            let words = [
+                "if ",
+                test.text(),
+                " ",
+                consequent.text(),
+                " else=",
+                name(alternate),
+            ];
+            write_words(out, &words)
         }
         Statement::Switch {
             discriminant,
@@ -262,8 +296,15 @@ fn chosen(out: &mut String, view: Statement) -> Result<(), AllocError> {
             handler,
             finalizer,
         } => {
-            write_words(out, &["try ", block.text(), " handler=", name(handler)])?;
-            write_words(out, &[" finalizer=", name(finalizer)])
+            let words = [
+                "try ",
+                block.text(),
+                " handler=",
+                name(handler),
+                " finalizer=",
+                name(finalizer),
+            ];
+            write_words(out, &words)
         }
         _ => repeated(out, view),
     }

@@ -4,12 +4,12 @@ use crate::sketch::{BLOCK, DIRECTIVE, EMPTY, Sketch};
 use Sketch::{Flagged, Gap, Name, Plain, Word};
 use tree::Kind;
 
-/// A node, and the line of the script that is it.
-pub(super) fn statements() -> &'static [(Sketch, &'static str)] {
-    &STATEMENTS
+/// Statements that end what they stand in, and those of a block; nodes, and the lines of the scripts that they are.
+pub(super) fn simple_statements() -> &'static [(Sketch, &'static str)] {
+    &SIMPLE
 }
 
-static STATEMENTS: [(Sketch, &str); 28] = [
+static SIMPLE: [(Sketch, &str); 11] = [
     (
         Flagged(
             Kind::ExpressionStatement,
@@ -64,6 +64,14 @@ static STATEMENTS: [(Sketch, &str); 28] = [
         Plain(Kind::LabeledStatement, &[Name("a"), EMPTY]),
         "(Program 0-4 (LabeledStatement 0-3 (Identifier 0-1 a) (EmptyStatement 1-2)))",
     ),
+];
+
+/// Choices and handlers; likewise.
+pub(super) fn branches() -> &'static [(Sketch, &'static str)] {
+    &BRANCHES
+}
+
+static BRANCHES: [(Sketch, &str); 7] = [
     (
         Plain(Kind::IfStatement, &[Name("a"), EMPTY, Gap]),
         "(Program 0-4 (IfStatement 0-3 (Identifier 0-1 a) (EmptyStatement 1-2) _))",
@@ -102,6 +110,14 @@ static STATEMENTS: [(Sketch, &str); 28] = [
         Plain(Kind::CatchClause, &[Name("e"), BLOCK]),
         "(Program 0-4 (CatchClause 0-3 (Identifier 0-1 e) (BlockStatement 1-2)))",
     ),
+];
+
+/// Loops and declarations; likewise.
+pub(super) fn loops() -> &'static [(Sketch, &'static str)] {
+    &LOOPS
+}
+
+static LOOPS: [(Sketch, &str); 10] = [
     (
         Plain(Kind::WhileStatement, &[Name("a"), EMPTY]),
         "(Program 0-4 (WhileStatement 0-3 (Identifier 0-1 a) (EmptyStatement 1-2)))",

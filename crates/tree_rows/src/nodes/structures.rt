@@ -7,12 +7,12 @@ use crate::sketch::{
 use Sketch::{Flagged, Gap, Name, Plain, Word};
 use tree::Kind;
 
-/// A node, and the line of the script that is it.
+/// Arrays, objects and functions; nodes, and the lines of the scripts that they are.
 pub(super) fn structures() -> &'static [(Sketch, &'static str)] {
     &STRUCTURES
 }
 
-static STRUCTURES: [(Sketch, &str); 22] = [
+static STRUCTURES: [(Sketch, &str); 11] = [
     (
         Plain(
             Kind::ArrayExpression,
@@ -98,6 +98,14 @@ static STRUCTURES: [(Sketch, &str); 22] = [
         Plain(Kind::ArrowFunctionExpression, &[BLOCK]),
         "(Program 0-3 (ArrowFunctionExpression 0-2 (BlockStatement 0-1)))",
     ),
+];
+
+/// Classes, templates and patterns; likewise.
+pub(super) fn classes() -> &'static [(Sketch, &'static str)] {
+    &CLASSES
+}
+
+static CLASSES: [(Sketch, &str); 11] = [
     (
         Plain(
             Kind::ClassExpression,

@@ -4,11 +4,6 @@ use crate::sketch::{COMPUTED, COMPUTED_OPTIONAL, DIRECTIVE, EXPRESSION, OPTIONAL
 use Sketch::{Flagged, Gap, Name, Node, Plain, Word};
 use tree::Kind;
 
-/// A node, and the line of its views.
-pub(super) fn viewed() -> &'static [(Sketch, &'static str)] {
-    &VIEWED
-}
-
 const A: Sketch = Name("a");
 
 const B: Sketch = Name("b");
@@ -17,7 +12,12 @@ const C: Sketch = Name("c");
 
 const D: Sketch = Name("d");
 
-static VIEWED: [(Sketch, &str); 80] = [
+/// Words, arrays, objects, functions, classes and templates; nodes, and the lines of their views.
+pub(super) fn values() -> &'static [(Sketch, &'static str)] {
+    &VALUES
+}
+
+static VALUES: [(Sketch, &str); 19] = [
     (
         Word(Kind::Identifier, "ab", &[]),
         "identifier ab|identifier ab|",
@@ -58,6 +58,14 @@ static VIEWED: [(Sketch, &str); 80] = [
         "template a,b,c,||",
     ),
     (Plain(Kind::TemplateLiteral, &[A, B]), "||"),
+];
+
+/// Members and calls; likewise.
+pub(super) fn members() -> &'static [(Sketch, &'static str)] {
+    &MEMBERS
+}
+
+static MEMBERS: [(Sketch, &str); 13] = [
     (
         Plain(Kind::TaggedTemplateExpression, &[A, B]),
         "tagged tag=a quasi=b||",
@@ -92,6 +100,14 @@ static VIEWED: [(Sketch, &str); 80] = [
     (Plain(Kind::ImportExpression, &[A]), "import source=a||"),
     (Plain(Kind::ImportExpression, &[Gap]), "||"),
     (Plain(Kind::ChainExpression, &[A]), "chain a||"),
+];
+
+/// Operators and patterns; likewise.
+pub(super) fn operators() -> &'static [(Sketch, &'static str)] {
+    &OPERATORS
+}
+
+static OPERATORS: [(Sketch, &str); 16] = [
     (
         Node(Kind::UpdateExpression, "++", PREFIX, &[A]),
         "update ++ true argument=a||",
@@ -132,6 +148,14 @@ static VIEWED: [(Sketch, &str); 80] = [
         "|default left=a right=b|",
     ),
     (Plain(Kind::RestElement, &[A]), "|rest a|"),
+];
+
+/// Statements with no choice; likewise.
+pub(super) fn simple_statements() -> &'static [(Sketch, &'static str)] {
+    &SIMPLE
+}
+
+static SIMPLE: [(Sketch, &str); 12] = [
     (
         Flagged(Kind::ExpressionStatement, DIRECTIVE, &[A]),
         "||expression a true",
@@ -153,6 +177,14 @@ static VIEWED: [(Sketch, &str); 80] = [
         Plain(Kind::LabeledStatement, &[A, B]),
         "||labeled label=a body=b",
     ),
+];
+
+/// Choices, loops and declarations; likewise.
+pub(super) fn compound_statements() -> &'static [(Sketch, &'static str)] {
+    &COMPOUND
+}
+
+static COMPOUND: [(Sketch, &str); 20] = [
     (Plain(Kind::IfStatement, &[A, B, C]), "||if a b else=c"),
     (Plain(Kind::IfStatement, &[A, B, Gap]), "||if a b else=_"),
     (Plain(Kind::IfStatement, &[A, Gap, B]), "||"),
