@@ -11,7 +11,7 @@ ghost use Rattle.estree_json.specs.Table.{with_line as line_of, with_each as eac
 ghost use Rattle.estree_json.specs.View.{made};
 
 use crate::object::Object;
-use crate::table::{function_fields, Field, Flag};
+use crate::table::{Field, Flag, function_fields};
 use crate::texts::{literal_regex, literal_value, template_value, unquoted};
 use std::alloc::{AllocError, Global};
 use tree::{Form, Kind, Node};

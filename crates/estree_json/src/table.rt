@@ -170,7 +170,11 @@ fn statement_fields(kind: Kind) -> &'static [Field]
             Field::Part("update"),
             Field::Part("body"),
         ],
-        Kind::ForInStatement => &[Field::Part("left"), Field::Part("right"), Field::Part("body")],
+        Kind::ForInStatement => &[
+            Field::Part("left"),
+            Field::Part("right"),
+            Field::Part("body"),
+        ],
         Kind::ForOfStatement => &[
             Field::Part("left"),
             Field::Part("right"),
