@@ -2,16 +2,26 @@
 
 ghost use Rattle.std.specs.Prelude.{◌≡◌, ◌≢◌, false};
 ghost use Rattle.clap.specs.Words.{kind_of};
+ghost use Rattle.source_text.specs.declared.fault.Fault.TheVariants.{OutOfMemory, WriteFailed};
+ghost use Rattle.streams.specs.Refusal.{WritesLine, refusal_line};
 
 use clap::error::ErrorKind;
 use source_text::{Fault, Sink};
 use streams::{Refused, write_refusal};
 
 /// Shows what `clap` says in place of a command: help on the standard output, else what is wrong with the words. Answers the exit
-/// status: 0 for help that was written, else 2.
+/// status: 0 where help was asked for and shown, else 2. `errors` gets a line where memory was refused, or help wasn't shown.
 pub fn explain<R: Print + Eprint, W: Sink>(rt: &R, error: &clap::Error, errors: &mut W) -> u8
     requires { W.failed errors.old ≡ false }
-    ensures { kind_of error.now ≢ ErrorKind.DisplayHelp → kind_of error.now ≢ ErrorKind.DisplayVersion → result ≡ 2 }
+    ensures mistake { kind_of error.now ≢ ErrorKind.DisplayHelp → kind_of error.now ≢ ErrorKind.DisplayVersion → result ≡ 2 }
+    ensures memory { kind_of error.now ≡ ErrorKind.OutOfMemory →
+        WritesLine (refusal_line (record { fault = OutOfMemory; line = 0; column = 0 })) (W.taken errors.old) (W.taken errors.new) (W.failed errors.new) }
+    ensures said { kind_of error.now ≢ ErrorKind.OutOfMemory → kind_of error.now ≢ ErrorKind.DisplayHelp →
+        kind_of error.now ≢ ErrorKind.DisplayVersion → W.taken errors.new ≡ W.taken errors.old }
+    ensures help { result ≡ 0 → W.taken errors.new ≡ W.taken errors.old }
+    ensures lost { kind_of error.now ≡ ErrorKind.DisplayHelp → result ≢ 0 →
+        WritesLine (refusal_line (record { fault = WriteFailed; line = 0; column = 0 })) (W.taken errors.old) (W.taken errors.new) (W.failed errors.new) }
+    ensures status { result ≢ 0 → result ≡ 2 }
 {
     if error.kind() == ErrorKind::OutOfMemory {
         return write_refusal(&Refused::at_no_place(Fault::OutOfMemory), errors);

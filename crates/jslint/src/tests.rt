@@ -59,6 +59,19 @@ fn refusals_go_to_the_errors(rt: HostRuntime) -> Result<(), Fail> {
 }
 
 #[test]
+fn help_is_shown(rt: HostRuntime) -> Result<(), Fail> {
+    let mut output = writer(rt.alloc())?;
+    let mut errors = writer(rt.alloc())?;
+    assert_eq!(rt;
+        obey(&rt, &["jslint", "--help"], &mut output, &mut errors),
+        0
+    );
+    assert!(rt; output.bytes().is_empty());
+    assert!(rt; errors.bytes().is_empty());
+    Ok(())
+}
+
+#[test]
 fn a_command_line(rt: HostRuntime) -> Result<(), Fail> {
     let words = ["jslint", "fix", "a.js"];
     let line = command_line(rt.alloc(), &words)?;
