@@ -6,3 +6,6 @@ returns-then-eq c = search rules
 
 pub returns-else-token : goal.returns-else-token
 returns-else-token c = search rules
+
+pub returns-then-token : goal.returns-then-token
+returns-then-token c = search rules
