@@ -46,6 +46,16 @@ fn script<'s>(
     Ok(Program::new(items, Span { start: 0, end: 13 }))
 }
 
+/// The number and the place of the least error of that script.
+fn least_error(
+    alloc: Global,
+    first: (&str, u8),
+    second: (&str, u8),
+) -> Result<Option<(u8, usize)>, AllocError> {
+    let program = script(alloc, first, second)?;
+    first_early_error(alloc, &program)
+}
+
 /// By place, in whatever order the statements stand.
 #[test]
 fn least_error_is_found(rt: HostRuntime) -> Result<(), Fail> {
@@ -56,12 +66,8 @@ fn least_error_is_found(rt: HostRuntime) -> Result<(), Fail> {
         ("/a/gg", "/b/x", Some((21, 1))),
     ];
     for (first, second, error) in cases {
-        let program = script(rt.alloc(), (first, 7), (second, 1))?;
-        assert_eq!(rt;
-            first_early_error(rt.alloc(), &program)?,
-            error,
-            "{first} {second}"
-        );
+        let found = least_error(rt.alloc(), (first, 7), (second, 1))?;
+        assert_eq!(rt; found, error, "{first} {second}");
     }
     Ok(())
 }

@@ -1,5 +1,6 @@
 //! Rows of texts: how many pairs group, or why there is no script.
 
+mod endings;
 mod operators;
 mod rows;
 

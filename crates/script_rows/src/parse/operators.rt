@@ -2,7 +2,7 @@
 
 use parser::parse;
 use source_text::{Fault, Source};
-use std::alloc::Global;
+use std::alloc::{AllocError, Global};
 use std::process::Abort;
 use std::test::Fail;
 use tree::same_tree;
@@ -36,7 +36,7 @@ const OPERATORS: [(&str, u8); 24] = [
 ];
 
 // Whether two texts have the same tree.
-fn are_alike(alloc: Global, first: &str, second: &str) -> Result<bool, Fault> {
+pub(crate) fn are_alike(alloc: Global, first: &str, second: &str) -> Result<bool, Fault> {
     let first = Source::new(first.as_bytes())?;
     let second = Source::new(second.as_bytes())?;
     let first = parse(alloc, &first)?;
@@ -49,29 +49,36 @@ fn may_meet(one: u8, other: u8) -> bool {
     !(one == 0 && (other == 1 || other == 2))
 }
 
-// Two operators: the text groups to the right where the second binds tighter, or both are `**`; else to the left.
-fn meet(rt: &impl Abort, alloc: Global, one: &(&str, u8), other: &(&str, u8)) -> Result<(), Fail> {
-    let (first, loose) = *one;
-    let (second, tight) = *other;
+// Whether two operators in a row have the tree of the text in which the left one is in a pair; nothing where that is no script.
+fn groups_left(alloc: Global, first: &str, second: &str) -> Result<Option<bool>, AllocError> {
     let plain = format!(in alloc; "a {first} b {second} c")?;
     let left = format!(in alloc; "(a {first} b) {second} c")?;
+    Ok(are_alike(alloc, plain.as_str(), left.as_str()).ok())
+}
+
+// The same where the right one is in a pair.
+fn groups_right(alloc: Global, first: &str, second: &str) -> Result<Option<bool>, AllocError> {
+    let plain = format!(in alloc; "a {first} b {second} c")?;
     let right = format!(in alloc; "a {first} (b {second} c)")?;
-    if !may_meet(loose, tight) || !may_meet(tight, loose) {
-        let found = are_alike(alloc, plain.as_str(), plain.as_str());
-        assert!(rt; found.is_err(), "{plain}");
-        return Ok(());
+    Ok(are_alike(alloc, plain.as_str(), right.as_str()).ok())
+}
+
+// Whether two operators group to the right: where the second binds tighter, or both are `**`. Nothing where they may not meet.
+fn is_right(one: &(&str, u8), other: &(&str, u8)) -> Option<bool> {
+    let (first, loose) = *one;
+    let (second, tight) = *other;
+    if may_meet(loose, tight) && may_meet(tight, loose) {
+        return Some(loose < tight || first == "**" && second == "**");
     }
-    let is_right = loose < tight || first == "**" && second == "**";
-    assert_eq!(rt;
-        are_alike(alloc, plain.as_str(), left.as_str()),
-        Ok(!is_right),
-        "{plain}"
-    );
-    assert_eq!(rt;
-        are_alike(alloc, plain.as_str(), right.as_str()),
-        Ok(is_right),
-        "{plain}"
-    );
+    None
+}
+
+fn meet(rt: &impl Abort, alloc: Global, one: &(&str, u8), other: &(&str, u8)) -> Result<(), Fail> {
+    let right = groups_right(alloc, one.0, other.0)?;
+    let left = groups_left(alloc, one.0, other.0)?;
+    let want = is_right(one, other);
+    assert_eq!(rt; right, want, "{one:?} {other:?}");
+    assert_eq!(rt; left, want.map(|is_right| !is_right), "{one:?} {other:?}");
     Ok(())
 }
 
