@@ -23,7 +23,8 @@ ghost use Rattle.descent.specs.Sides.{left_of, left_symbol, takes_left, sign_of,
 use crate::operators::Onward;
 use crate::position::Parser;
 use covers::{Cover, Item, List, Listed, Shape};
-use language::{Edge, Rank, position_takes};
+use grammar::position_takes;
+use language::{Edge, Rank};
 use phrases::{Operator, Part, Position};
 use productions::{Nodes, Tall, made, plain};
 use source_text::Fault;

@@ -18,7 +18,8 @@ ghost use Rattle.phrases.specs.Refusals.{IsRefusal};
 
 use crate::position::Parser;
 use covers::Listed;
-use language::{Edge, Rank, position_takes};
+use grammar::position_takes;
+use language::{Edge, Rank};
 use phrases::{Part, Position, listed, operator_of};
 use productions::{Nodes, made, plain};
 use source_text::Fault;

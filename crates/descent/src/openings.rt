@@ -27,7 +27,8 @@ ghost use Rattle.phrases.specs.Tokens.{single_node, single_text};
 
 use crate::position::Parser;
 use covers::{List, Listed};
-use language::{Edge, Rank, position_takes};
+use grammar::position_takes;
+use language::{Edge, Rank};
 use phrases::{
     Closure, Opening, Part, Position, goes_behind_super, grouped, grouping_pair, listed, open_pair,
     opening_of, single_text, span_of, stands,

@@ -6,6 +6,7 @@ mod chain;
 mod literals;
 mod operators;
 mod ranks;
+mod symbols;
 mod targets;
 mod words;
 
@@ -13,5 +14,6 @@ pub use chain::{is_chained, is_link};
 pub use literals::{is_literal, literal_class};
 pub use operators::{is_assignment, is_prefix_operator, is_step};
 pub use ranks::rank_of;
+pub use symbols::{position_takes, tightness_of};
 pub use targets::{is_pattern, is_target};
 pub use words::is_reserved;

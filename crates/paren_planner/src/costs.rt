@@ -4,7 +4,8 @@ ghost use Rattle.std.specs.Prelude.{◌≡◌, true, Option, Some};
 ghost use Rattle.paren_planner.specs.Costs.{cost_at, started_at, each_start, sums, same_everywhere, capped_sum, eight, of_cells};
 
 use crate::amount::{is_zero, sum};
-use language::{Rank, Start, tightness_of};
+use grammar::tightness_of;
+use language::{Rank, Start};
 
 /// The numbers at the three starts.
 #[derive(Clone, Copy)]

@@ -11,7 +11,8 @@ ghost use Rattle.paren_planner.specs.Weighed.{cost_of, direct_cost, least_of, se
 
 use crate::amount::{is_zero, lesser, sum};
 use crate::costs::{Costs, Starts};
-use language::{Rank, Start, position_takes};
+use grammar::position_takes;
+use language::{Rank, Start};
 use positions::{Outline, Position, Slot, fits, settled};
 
 /// A node's outline, none where it can't be spelled, and what it costs.

@@ -12,7 +12,8 @@ ghost use Rattle.phrases.specs.Operators.{coded_operator, meant, short_operators
 
 use crate::position::Position;
 use crate::words::{is_head, is_word};
-use language::{Edge, Rank, position_takes, tightness_of};
+use grammar::{position_takes, tightness_of};
+use language::{Edge, Rank};
 use tokens::{Class, Token};
 use tree::Kind;
 

@@ -15,7 +15,8 @@ use crate::outline::{Front, Opens, Outline, Tail};
 use crate::position::{Position, Slot};
 use crate::tail::{is_over, skips_gap};
 use crate::walk::{runs, slot_of_part};
-use language::{Rank, Start, position_takes};
+use grammar::position_takes;
+use language::{Rank, Start};
 use tree::{Flags, Form, Kind, Node};
 
 /// What is left of the positions of a node's parts, in source order.

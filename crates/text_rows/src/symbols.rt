@@ -1,4 +1,5 @@
-use language::{Rank, position_takes, tightness_of};
+use grammar::{position_takes, tightness_of};
+use language::Rank;
 
 /// Whether a position takes a symbol.
 static TAKEN: [(Rank, Rank, bool); 10] = [

@@ -1,5 +1,5 @@
 use Rattle.std.proofs.Common.{rules}
-use Rattle.language.proofs.position_takes.Goals as goal
+use Rattle.grammar.proofs.symbols.position_takes.Goals as goal
 
 pub returns-after-y-eq19 : goal.returns-after-y-eq19
 returns-after-y-eq19 c = search rules
