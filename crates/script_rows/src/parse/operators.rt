@@ -73,10 +73,18 @@ fn is_right(one: &(&str, u8), other: &(&str, u8)) -> Option<bool> {
     None
 }
 
+// Whether two operators in a row are no script.
+fn is_refused(alloc: Global, first: &str, second: &str) -> Result<bool, AllocError> {
+    let plain = format!(in alloc; "a {first} b {second} c")?;
+    Ok(are_alike(alloc, plain.as_str(), plain.as_str()).is_err())
+}
+
 fn meet(rt: &impl Abort, alloc: Global, one: &(&str, u8), other: &(&str, u8)) -> Result<(), Fail> {
     let right = groups_right(alloc, one.0, other.0)?;
     let left = groups_left(alloc, one.0, other.0)?;
     let want = is_right(one, other);
+    let refused = is_refused(alloc, one.0, other.0)?;
+    assert_eq!(rt; refused, want.is_none(), "{one:?} {other:?}");
     assert_eq!(rt; right, want, "{one:?} {other:?}");
     assert_eq!(rt; left, want.map(|is_right| !is_right), "{one:?} {other:?}");
     Ok(())
