@@ -2,6 +2,7 @@
 
 mod endings;
 mod operators;
+mod readings;
 mod rows;
 
 use parser::parse;

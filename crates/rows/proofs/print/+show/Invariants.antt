@@ -1,6 +1,6 @@
 use Rattle.tree.specs.Tree.{node_total}
 use Rattle.tree.specs.Node.{node_tree}
-use Rattle.tree_rows.proofs.print.+show.Given as goal
+use Rattle.rows.proofs.print.+show.Given as goal
 
 abbrev pub invariant-loop-index : goal.invariant-loop-index
 invariant-loop-index l = Unit {0}
