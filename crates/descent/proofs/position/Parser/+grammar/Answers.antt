@@ -54,6 +54,8 @@ use Rattle.descent.proofs.ClosedBy.{closed}
 use Rattle.descent.proofs.Spelled.{turn_on}
 use Rattle.descent.proofs.Defining.{spread_item as rest_item, value_item, map_ok}
 use Rattle.descent.proofs.Valuing.{is_free, pair_value, lone_value, default_value}
+use Rattle.descent.proofs.Passing.{passes_behind, passes_further}
+use Rattle.phrases.specs.Moves.{Passes}
 use Rattle.descent.proofs.Turning.{step_reads, sequence_reads, no_tag_there, in_there, sided_on, chain_there, chain_reads, no_chain_there, linked_reads, meant_symbol}
 use Rattle.descent.proofs.Stating.{all_directive, and_true, still, push_low, statements_first, statements_on}
 use Rattle.descent.proofs.Wholly.{after_inside, after_nodes, after_start, further_first, further_item, item_places, not_a_sequence, same_right}
@@ -938,6 +940,26 @@ linked-returns-clause-derived t c =
           (subst (λ v. Adds c.args.self.now.cursor v.cursor c.args.self.now.pairs.items v.pairs.items (BehindOn c.args.self.now.cursor.text found optional (part template none))) (sym w.self-is)
           (template_read found optional w.in_ok-list-in-Quasi.list w.in_ok-list-in-Quasi-2.list template text opened same w.in-Quasi.is passed w.open.ensures.text w.open.ensures.same_open w.open.ensures.same_pairs w.in_ok-list-in-Quasi.ensures.listed w.in_ok-list-in-Quasi.ensures.begun w.in_ok-list-in-Quasi.ensures.template
           list.same.0 list.same.1 (ap (λ (p : Part). p.cover.node) w.in_ok-listed-in-Quasi.ensures.made.0) list.derived))
+    ]
+
+pub linked-returns-clause-passes : goal.linked-returns-clause-passes
+linked-returns-clause-passes t c =
+    let start = c.args.self.now.cursor in
+    let middle = c.link.new.self.cursor in
+    let forward = c.link.ensures.forward in
+    let text = c.link.ensures.text in
+    elim c.match-found.branch [
+      | linked-in-Name+in_ok-name-in-Name+in_ok-single-in-Name+in_ok-push-in-Name w ↦
+          subst (λ v. Passes start v.cursor) (sym w.self-is) (passes_behind start middle w.word.new.self.cursor forward text w.in_ok-name-in-Name.ensures.passes)
+      | linked-in-Index+in_ok-expect-in-Index+in_ok-index-in-Index+in_ok-settle-in-Index+in_ok-push-in-Index+in_ok-expect-in-Index-2 w ↦
+          let first = passes_behind start middle w.expect.new.self.cursor forward text w.in_ok-expect-in-Index.ensures.passes in
+          let second = passes_further start w.expect.new.self.cursor w.expression.new.self.cursor first w.expression.ensures.forward in
+          subst (λ v. Passes start v.cursor) (sym w.self-is) (passes_further start w.expression.new.self.cursor w.expect-in-Index.new.self.cursor second w.expect-in-Index.ensures.forward)
+      | linked-in-Arguments+in_ok-arguments-in-Arguments+in_ok-append-in-Arguments w ↦
+          subst (λ v. Passes start v.cursor) (sym w.self-is) (passes_behind start middle w.arguments.new.self.cursor forward text w.in_ok-arguments-in-Arguments.ensures.passes)
+      | linked-in-Quasi+in_ok-list-in-Quasi+in_ok-list-in-Quasi-2+in_ok-listed-in-Quasi+in_ok-push-in-Quasi w ↦
+          let first = passes_behind start middle w.open.new.self.cursor forward text (w.in_ok-list-in-Quasi.ensures.passes tt) in
+          subst (λ v. Passes start v.cursor) (sym w.self-is) (passes_further start w.open.new.self.cursor w.list.new.self.cursor first w.list.ensures.forward)
     ]
 
 pub linked-returns-in_err-found-clause-complete : goal.linked-returns-in_err-found-clause-complete
