@@ -36,11 +36,11 @@ impl<'s> Parts<'s> {
         }
     }
 
-    /// One part.
+    /// One part, with room for a second, which most nodes have.
     pub fn one(alloc: Global, only: Syntax<'s>) -> Result<Parts<'s>, AllocError>
         ensures { IfOk result (λ parts. parts ≡ part only.entry none) }
     {
-        let mut items = Vec::with_capacity(alloc, 1)?;
+        let mut items = Vec::with_capacity(alloc, 2)?;
         items.push(Some(only))?;
         Ok(Parts { items })
     }
@@ -86,6 +86,10 @@ impl<'s> Parts<'s> {
         ensures kept { IfErr result (λ _. self.new ≡ self.old) }
     {
         let mut further = further;
+        if self.items.is_empty() {
+            self.items = further.items;
+            return Ok(());
+        }
         self.items.append(&mut further.items)
     }
 
