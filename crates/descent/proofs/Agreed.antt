@@ -1,8 +1,8 @@
 -- What a maker made or refused, against a derivation that is given.
-use Rattle.std.proofs.Common.{◌≡◌, ℕ, suc, ◌≤◌, ◌<◌, Bool, true, List, Result, Ok, Err, refl, sym, ap, ◌∙◌, subst, arith}
+use Rattle.std.proofs.Common.{◌≡◌, ℕ, ◌≤◌, Bool, true, List, Result, Ok, Err, refl, sym, subst}
 use Rattle.source_text.specs.declared.fault.Fault.{Fault}
 use Rattle.tree.specs.declared.kind.Pair.{Pair}
-use Rattle.tree.specs.Tree.{Tree, height}
+use Rattle.tree.specs.Tree.{Tree}
 use Rattle.language.specs.declared.Rank.{Rank}
 use Rattle.language.specs.declared.Rank.TheVariants.{Conditional, New}
 use Rattle.language.specs.declared.Start.{Start}
@@ -10,12 +10,11 @@ use Rattle.language.specs.Covers.{Reading, as_expression}
 use Rattle.language.specs.Pieces.{expr}
 use Rattle.language.specs.Token.{Token}
 use Rattle.language.specs.Places.{SpellsIn}
-use Rattle.productions.specs.Made.{Makes}
 use Rattle.phrases.specs.declared.part.Part.{Part}
 use Rattle.phrases.specs.declared.position.Position.{Position}
 use Rattle.descent.specs.Given.{Agrees, EndsWith, IsFirst, StopsIn, GivenAs, an_expression}
-use Rattle.phrases.specs.Outcomes.{MakesAs, YieldsWhere, RefusedWhere, BecomesHere}
-use Rattle.descent.proofs.Agreeing.{refuses_where, refuses_made_as, refuses_unfit}
+use Rattle.phrases.specs.Outcomes.{MakesAs, YieldsWhere}
+use Rattle.descent.proofs.Agreeing.{refuses_where, refuses_made_as}
 use Rattle.token_cursor.specs.Point.{Point}
 
 -- this where it fits, which it does

@@ -1,5 +1,5 @@
 -- How what was answered, or refused, agrees with a derivation that is given, from how its parts do.
-use Rattle.std.proofs.Common.{◌≡◌, ℕ, suc, ◌≤◌, ◌<◌, ◌-◌, Bool, true, false, List, [], ◌++◌, Result, Ok, Err, refl, sym, ap, ◌∙◌, subst, arith, append_assoc}
+use Rattle.std.proofs.Common.{◌≡◌, ℕ, suc, ◌≤◌, ◌<◌, ◌-◌, Bool, true, List, [], ◌++◌, Result, Ok, Err, refl, sym, ap, ◌∙◌, subst, arith, append_assoc}
 use Rattle.std.specs.Result.{IsErrAnd, IsOkAnd}
 use Rattle.std.proofs.lemmas.Bool.{false≢true}
 use Rattle.std.proofs.lemmas.List.{append-nil}
@@ -17,9 +17,8 @@ use Rattle.language.specs.Derivation.{Reads}
 use Rattle.language.specs.Places.{NextIn, itself}
 use Rattle.language.proofs.TextPlaces.{text_determined}
 use Rattle.productions.specs.Made.{Makes}
-use Rattle.descent.specs.Derived.{grouping}
 use Rattle.descent.specs.Given.{Agrees, Room, EndsWith}
-use Rattle.phrases.specs.Outcomes.{IsSyntaxHere, BecomesHere, MakesAs, Yields, YieldsWhere, RefusedAbove, RefusedUnless, RefusedWhere, RefusedUnder}
+use Rattle.phrases.specs.Outcomes.{IsSyntaxHere, BecomesHere, MakesAs, RefusedAbove, RefusedUnless, RefusedWhere, RefusedUnder}
 use Rattle.phrases.specs.Seen.{ReadsHere, Misses}
 use Rattle.descent.proofs.Deriving.{grouping_both}
 use Rattle.phrases.proofs.Seeing.{mark_by, name_by}

@@ -1,6 +1,6 @@
 -- An optional chain on the spine of what is given: its links from its base on, and the next stage (ECMA-262 12.3.9).
-use Rattle.std.proofs.Common.{◌≡◌, ◌⊎◌, ℕ, suc, ◌≤◌, ◌<◌, ◌-◌, Bool, true, false, cond, List, [], ◌∷◌, ◌++◌, Result, refl, sym, ap, ◌∙◌, subst, inl, inr, arith, append_assoc}
-use Rattle.std.specs.Prelude.{IsTrue, codes, Option, Some, None}
+use Rattle.std.proofs.Common.{◌≡◌, ℕ, ◌≤◌, Bool, true, false, cond, List, [], ◌∷◌, ◌++◌, Result, refl, sym, ap, ◌∙◌, subst, arith, append_assoc}
+use Rattle.std.specs.Prelude.{IsTrue, codes, Some}
 use Rattle.std.proofs.lemmas.Bool.{false≢true}
 use Rattle.std.proofs.lemmas.Bool.Decides.{nat_tests}
 use Rattle.source_text.specs.declared.fault.Fault.{Fault}
@@ -19,22 +19,19 @@ use Rattle.tree.proofs.Lean.{lean_flags, lean_text}
 use Rattle.language.specs.declared.Rank.{Rank}
 use Rattle.language.specs.declared.Rank.TheVariants.{Expression, LeftHandSide, Call, Member}
 use Rattle.language.specs.declared.Start.{Start}
-use Rattle.language.specs.declared.Edge.{Edge}
 use Rattle.language.specs.declared.Edge.TheVariants.{Other}
-use Rattle.language.specs.FirstPart.{others}
 use Rattle.language.specs.Words.{is, takes, takes_number, tightness, Operator, binds, powers, assigns, steps, sequences, asks, selects, calls, indexes, chains, arrows, tags, no_operator}
 use Rattle.language.specs.Token.{Token, as_read}
 use Rattle.language.specs.Edges.{edge, standing}
-use Rattle.language.specs.Expressions.{arguments}
 use Rattle.language.specs.Pieces.{Role, expr, spine, PieceOf, tok, is_tight}
 use Rattle.language.specs.Follow.{operation, symbol_of, holds, stops}
 use Rattle.language.specs.Promises.{ReadBy}
 use Rattle.language.specs.Covers.{Reading}
 use Rattle.language.specs.Derivation.{Placed, placed}
-use Rattle.language.specs.Grammar.{ways, spellings}
+use Rattle.language.specs.Grammar.{spellings}
 use Rattle.language.specs.Places.{NextIn, itself, SpellsIn}
 use Rattle.language.proofs.TextPlaces.{text_determined}
-use Rattle.language.proofs.Begins.{retell, goes_to}
+use Rattle.language.proofs.Begins.{retell}
 use Rattle.language.proofs.Chains.{chains_led}
 use Rattle.language.proofs.Climbing.{Leads, grows_height}
 use Rattle.language.proofs.Led.{Led, led_binary, led_power, led_assign, led_postfix, led_sequence, led_conditional, led_dot, led_index, led_call, led_tag, led_chain, Linked, link_dot, link_index, link_call, link_chained_name, link_chained_index, link_chained_call, led_of, linked_of}
@@ -45,7 +42,7 @@ use Rattle.language.proofs.Running.{run_none}
 use Rattle.language.proofs.Spine.{Grows, grow, grows_on_spine}
 use Rattle.language.proofs.Stepping.{stops_none, no_in, no_spine, goes_where_not}
 use Rattle.language.proofs.Suffixes.{rank_is}
-use Rattle.language.proofs.TwoSides.{same_node, same_places, retold, regrown}
+use Rattle.language.proofs.TwoSides.{same_node, retold, regrown}
 use Rattle.language.proofs.Viewed.{way_of, made}
 use Rattle.descent.specs.declared.links.Linked.{Linked as Link}
 use Rattle.descent.specs.declared.links.Linked.TheVariants as link
@@ -54,7 +51,7 @@ use Rattle.phrases.specs.declared.operators.Operator.TheVariants as code
 use Rattle.phrases.specs.declared.part.Part.{Part}
 use Rattle.phrases.specs.declared.position.Position.{Position}
 use Rattle.descent.specs.Complete.{ChainComplete}
-use Rattle.descent.specs.Derived.{Begins, ReadAt, RunsIn, anywhere}
+use Rattle.descent.specs.Derived.{Begins, RunsIn, anywhere}
 use Rattle.descent.specs.Given.{Room, EndsWith, StopsIn, link_behind, LinksGiven, no_link, one_link, ChainGiven}
 use Rattle.descent.specs.Links.{link_kind, link_flags}
 use Rattle.phrases.specs.Operators.{coded_operator, stops_by}
@@ -63,7 +60,6 @@ use Rattle.descent.specs.Stages.{SpineAs, Serves, StageAs, Staged, TurnComplete}
 use Rattle.phrases.specs.Tests.{links}
 use Rattle.descent.proofs.LinksOn.{same_arguments, plain_next}
 use Rattle.phrases.proofs.Seeing.{ahead_read}
-use Rattle.descent.proofs.Spelled.{placed_at}
 use Rattle.descent.proofs.SpineTurns.{goes_there}
 use Rattle.descent.proofs.TurnBy.{OnSpine, spined, spine_only, agrees_through, staged}
 use Rattle.descent.proofs.Turning.{chains_by}

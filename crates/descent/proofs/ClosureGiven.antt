@@ -21,7 +21,7 @@ use Rattle.language.specs.declared.Rank.TheVariants.{Expression, LeftHandSide}
 use Rattle.language.specs.declared.Start.TheVariants.{Any}
 use Rattle.language.specs.Edges.{edge, standing}
 use Rattle.language.specs.Words.{is_reserved, is_rest, is}
-use Rattle.language.specs.Pieces.{name, body, Piece, absent, put, put_at, sign, sp, with_default, only, parameters}
+use Rattle.language.specs.Pieces.{name, body, absent, put, put_at, sign, sp, with_default, only, parameters}
 use Rattle.language.specs.Token.{Token}
 use Rattle.language.specs.Places.{NextIn, itself, SpellsIn}
 use Rattle.language.specs.Derivation.{Reads, done, step, token}

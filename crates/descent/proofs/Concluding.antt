@@ -1,7 +1,7 @@
 -- The last stage: where nothing goes on, what is given was read.
 use Rattle.std.proofs.Common.{◌≡◌, ◌⊎◌, ℕ, ◌-◌, ◌≤◌, ◌<◌, Bool, true, false, List, [], ◌++◌, refl, sym, ap, ◌∙◌, subst, inl, inr, arith, append_assoc, Result}
 use Rattle.source_text.specs.declared.fault.Fault.{Fault}
-use Rattle.std.specs.Prelude.{IsTrue, codes, Some, not, ◌&&◌, ◌||◌}
+use Rattle.std.specs.Prelude.{IsTrue, not, ◌&&◌, ◌||◌}
 use Rattle.std.proofs.lemmas.Bool.{false≢true}
 use Rattle.tokens.specs.declared.token.Class.TheVariants.{Punctuator}
 use Rattle.tokens.specs.declared.token.Goal.TheVariants.{Div}
@@ -9,33 +9,30 @@ use Rattle.tokens.specs.Goals.{allows}
 use Rattle.tokens.specs.Reading.{any_goal}
 use Rattle.token_cursor.specs.Point.{Point}
 use Rattle.tree.specs.declared.kind.Kind.{Kind}
-use Rattle.tree.specs.declared.kind.Kind.TheVariants.{Identifier, MemberExpression, ArrayExpression, ObjectExpression, ArrayPattern, ObjectPattern, AssignmentExpression, SpreadElement}
+use Rattle.tree.specs.declared.kind.Kind.TheVariants.{Identifier, MemberExpression, ArrayExpression, ObjectExpression, ArrayPattern, ObjectPattern}
 use Rattle.tree.specs.declared.kind.Pair.{Pair}
 use Rattle.tree.specs.Tree.{Tree, node, kind_of, height}
-use Rattle.language.specs.declared.Rank.{Rank}
 use Rattle.language.specs.declared.Rank.TheVariants.{Assignment}
-use Rattle.language.specs.declared.Edge.{Edge}
 use Rattle.language.specs.declared.Edge.TheVariants.{Other}
 use Rattle.language.specs.Words.{is, takes, is_target as is_simple, is_pattern, assigns}
 use Rattle.language.specs.Token.{Token}
 use Rattle.language.specs.Edges.{edge, standing}
 use Rattle.language.specs.Follow.{operation, symbol_of, holds, stops_at}
 use Rattle.language.specs.Promises.{ReadBy}
-use Rattle.language.specs.Covers.{Reading, as_expression, as_pattern}
+use Rattle.language.specs.Covers.{Reading}
 use Rattle.language.specs.Places.{NextIn, itself}
 use Rattle.language.proofs.TextPlaces.{text_determined}
 use Rattle.language.proofs.Onward.{makes}
 use Rattle.language.proofs.Climbing.{whole_where_stops}
 use Rattle.language.proofs.Reaches.{reaches}
 use Rattle.covers.specs.Patterns.{pattern_tree, pattern_kind}
-use Rattle.covers.specs.Shapes.{is_element, is_target, is_pattern as is_listed}
+use Rattle.covers.specs.Shapes.{is_element}
 use Rattle.phrases.specs.declared.part.Part.{Part}
 use Rattle.phrases.specs.declared.position.Position.{Position}
 use Rattle.descent.specs.Derived.{Adds, ReadAt, grouping}
-use Rattle.descent.specs.Given.{Agrees, Room, EndsWith, IsRead, IsFirst, GivenAs, StopsIn}
+use Rattle.descent.specs.Given.{Agrees, Room, EndsWith, IsRead, IsFirst}
 use Rattle.phrases.specs.Operators.{stops_by, StopsHere}
-use Rattle.phrases.specs.Seen.{ReadsHere}
-use Rattle.descent.specs.Stages.{SpineAs, IsLeft, AssignedAs, DefaultAs, EndsOver, Serves, as_it_is, as_element, StageAs, on_spine, at_pattern, at_default, at_end, Staged, TurnComplete}
+use Rattle.descent.specs.Stages.{SpineAs, IsLeft, Serves, as_it_is, as_element, StageAs, on_spine, at_pattern, at_default, at_end, Staged, TurnComplete}
 use Rattle.descent.proofs.Deriving.{grouping_both}
 use Rattle.descent.proofs.Staging.{Starts}
 

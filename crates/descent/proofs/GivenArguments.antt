@@ -1,34 +1,30 @@
 -- Given arguments, as a list that was begun behind its parenthesis (ECMA-262 12.3.6).
-use Rattle.std.proofs.Common.{◌≡◌, ℕ, ◌≤◌, Bool, true, false, List, [], ◌∷◌, ◌++◌, Result, Ok, Err, refl, sym, ap, ◌∙◌, subst}
-use Rattle.std.specs.Prelude.{codes, Some}
-use Rattle.std.specs.Result.{IsErrAnd, IsOkAnd, IfErr}
-use Rattle.std.proofs.lemmas.List.{append-nil}
+use Rattle.std.proofs.Common.{◌≡◌, ℕ, true, List, [], ◌∷◌, ◌++◌, Result, Ok, Err, refl, sym, ap, ◌∙◌, subst}
+use Rattle.std.specs.Prelude.{codes}
+use Rattle.std.specs.Result.{IsErrAnd}
 use Rattle.source_text.specs.declared.fault.Fault.{Fault}
-use Rattle.tokens.specs.Reading.{any_goal}
 use Rattle.tokens.specs.declared.token.Class.TheVariants.{Punctuator}
 use Rattle.token_cursor.specs.Point.{Point}
 use Rattle.tree.specs.declared.kind.Pair.{Pair}
-use Rattle.tree.specs.Tree.{Parts, none, join, parts_height}
+use Rattle.tree.specs.Tree.{Parts, join, parts_height}
 use Rattle.covers.specs.declared.list.Listed.TheVariants as listed
 use Rattle.covers.specs.declared.list.List.{List as ListOf}
 use Rattle.covers.specs.Lists.{opening}
 use Rattle.language.specs.declared.Rank.TheVariants.{Expression}
 use Rattle.language.specs.declared.Start.TheVariants.{Any}
 use Rattle.language.specs.Covers.{as_expression}
-use Rattle.language.specs.Derivation.{Reads, done, step, within, missing, opened, closed, token, Runs}
+use Rattle.language.specs.Derivation.{done, step, within, missing, opened, closed, token}
 use Rattle.language.specs.Expressions.{arguments}
 use Rattle.language.specs.Pieces.{Role, Piece, PieceOf, settle_piece, sign, tok, listed, argument}
-use Rattle.language.specs.Places.{NextIn, itself}
 use Rattle.language.specs.Token.{Token}
-use Rattle.language.proofs.TextPlaces.{text_determined}
 use Rattle.descent.specs.Complete.{ListComplete, ArgumentsComplete}
 use Rattle.descent.specs.Derived.{RunsIn, anywhere}
-use Rattle.descent.specs.Follows.{BegunAt, NotBegun}
-use Rattle.descent.specs.Given.{Agrees, Room, EndsWith}
+use Rattle.descent.specs.Follows.{BegunAt}
+use Rattle.descent.specs.Given.{Room, EndsWith}
 use Rattle.descent.specs.GivenLists.{ListGiven}
 use Rattle.phrases.specs.Items.{list_from}
 use Rattle.phrases.specs.Seen.{ReadsHere}
-use Rattle.descent.proofs.Agreeing.{agrees_on, agrees_ok, read_here, marks_same, ends_same, ends_behind, ends_before, room_part}
+use Rattle.descent.proofs.Agreeing.{agrees_on, read_here, marks_same, ends_behind, room_part}
 
 module _ (text : List ℕ) where
   -- pieces with one more, that is a token, behind them

@@ -1,5 +1,5 @@
 -- An array, an object or the pattern of one, as a list that is given between its brackets (ECMA-262 12.2.5, 12.2.6, 12.15.5, 13.3.3).
-use Rattle.std.proofs.Common.{◌≡◌, ℕ, suc, ◌≤◌, Bool, true, false, List, [], ◌∷◌, ◌++◌, refl, sym, ap, ◌∙◌, subst}
+use Rattle.std.proofs.Common.{◌≡◌, ℕ, Bool, true, List, [], ◌∷◌, ◌++◌, refl, sym, ap, ◌∙◌, subst}
 use Rattle.std.specs.Prelude.{IsTrue, codes}
 use Rattle.tokens.specs.Goals.{allows}
 use Rattle.tokens.specs.Reading.{any_goal}
@@ -9,7 +9,7 @@ use Rattle.tree.specs.declared.kind.Kind.{Kind}
 use Rattle.tree.specs.declared.kind.Kind.TheVariants.{ArrayExpression, ArrayPattern, ObjectExpression, ObjectPattern, TemplateLiteral, AssignmentExpression}
 use Rattle.tree.specs.declared.kind.Flags.{Flags}
 use Rattle.tree.specs.declared.kind.Pair.{Pair}
-use Rattle.tree.specs.Tree.{Tree, node, Parts, none, bare, bare_parts, kind_of, plain}
+use Rattle.tree.specs.Tree.{Tree, node, Parts, bare, bare_parts, kind_of, plain}
 use Rattle.tree.specs.Uses.{is_lean, used_flags, has_text}
 use Rattle.tree.proofs.Lean.{lean_flags, lean_text}
 use Rattle.covers.specs.declared.list.Listed.{Listed}
@@ -20,14 +20,14 @@ use Rattle.language.specs.declared.Start.{Start}
 use Rattle.language.specs.declared.Start.TheVariants.{Any}
 use Rattle.language.specs.Covers.{Reading, as_expression, as_pattern}
 use Rattle.language.specs.Expressions.{object_part, object_pattern_part}
-use Rattle.language.specs.Opening.{Opening, with_bracket, with_brace, with_parenthesis, opening_of, opening_by}
+use Rattle.language.specs.Opening.{Opening, with_bracket, with_brace, opening_of, opening_by}
 use Rattle.language.specs.Pieces.{PieceOf, Role, Piece, tok, sign, expr, pattern, elements, argument, pattern_element, settle_piece}
 use Rattle.language.specs.Pieces.{listed as listing}
 use Rattle.language.specs.Promises.{ReadBy}
 use Rattle.language.specs.Token.{Token}
 use Rattle.language.specs.Words.{takes}
-use Rattle.language.specs.Derivation.{Reads, Runs, Placed, placed, place, done, step, within, missing, opened, closed, token}
-use Rattle.language.specs.Places.{NextIn, itself, SpellsIn}
+use Rattle.language.specs.Derivation.{Reads, Placed, placed, place, done, step, within, missing, opened, closed, token}
+use Rattle.language.specs.Places.{NextIn, itself}
 use Rattle.language.proofs.Begins.{goes_to, retell}
 use Rattle.language.proofs.Cores.{Cored, in_way, core_by}
 use Rattle.language.proofs.Fixed.{Fixed, all_done, one_more, same_pieces, fixed_join, fixed_listed, fixed_elements, fixed_put}
@@ -46,7 +46,6 @@ use Rattle.phrases.specs.Seen.{ReadsHere, Sees}
 use Rattle.descent.proofs.Agreeing.{read_here}
 use Rattle.descent.proofs.Grouped.{listed_bare, elements_bare, element_bare}
 use Rattle.descent.proofs.GivenOpens.{is_named, no_name}
-use Rattle.descent.proofs.GivenPrefix.{placed_ends}
 
 argument_bare : (n : Tree) → argument (bare n) ≡ argument n
 argument_bare (node k w g s e ps) = refl

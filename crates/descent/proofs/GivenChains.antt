@@ -1,13 +1,13 @@
 -- How an optional chain, link by link, agrees with the one that is given (ECMA-262 12.3.9).
-use Rattle.std.proofs.Common.{◌≡◌, ℕ, suc, ◌≤◌, ◌<◌, ◌-◌, Bool, true, false, List, [], ◌∷◌, ◌++◌, Result, Ok, Err, refl, sym, ap, ◌∙◌, subst, arith, append_assoc}
-use Rattle.std.specs.Prelude.{codes, IsTrue, Some, max, if◌then◌else◌}
+use Rattle.std.proofs.Common.{◌≡◌, ℕ, suc, ◌≤◌, ◌<◌, ◌-◌, Bool, true, false, List, [], ◌++◌, Result, Ok, Err, refl, sym, ap, ◌∙◌, subst, arith, append_assoc}
+use Rattle.std.specs.Prelude.{IsTrue, max, if◌then◌else◌}
 use Rattle.std.specs.Result.{IsErrAnd}
 use Rattle.std.proofs.lemmas.Bool.{false≢true}
 use Rattle.std.proofs.lemmas.List.{append-nil}
 use Rattle.source_text.specs.declared.fault.Fault.{Fault}
 use Rattle.source_text.specs.declared.fault.Fault.TheVariants.{TooDeep}
 use Rattle.tokens.specs.Reading.{any_goal}
-use Rattle.tokens.specs.declared.token.Class.TheVariants.{Name, Punctuator, Template}
+use Rattle.tokens.specs.declared.token.Class.TheVariants.{Punctuator, Template}
 use Rattle.tokens.specs.declared.token.Goal.TheVariants.{Div}
 use Rattle.token_cursor.specs.Point.{Point}
 use Rattle.tree.specs.declared.kind.Kind.TheVariants.{ChainExpression}
@@ -15,8 +15,7 @@ use Rattle.tree.specs.declared.kind.Flags.{Flags}
 use Rattle.tree.specs.declared.kind.Pair.{Pair}
 use Rattle.tree.specs.Tree.{Tree, node, plain, Parts, none, part, height, parts_height}
 use Rattle.language.specs.declared.Rank.{Rank}
-use Rattle.language.specs.declared.Rank.TheVariants as rank
-use Rattle.language.specs.declared.Rank.TheVariants.{Call, Member, LeftHandSide}
+use Rattle.language.specs.declared.Rank.TheVariants.{Call, LeftHandSide}
 use Rattle.language.specs.declared.Edge.TheVariants.{Other}
 use Rattle.language.specs.Places.{NextIn, itself}
 use Rattle.language.specs.Promises.{ReadBy}
@@ -30,14 +29,14 @@ use Rattle.descent.specs.declared.links.Linked.TheVariants as link
 use Rattle.phrases.specs.declared.part.Part.{Part}
 use Rattle.descent.specs.Complete.{LinkedComplete, ChainComplete}
 use Rattle.descent.specs.Derived.{RunsIn, anywhere}
-use Rattle.descent.specs.Given.{Agrees, Room, EndsWith, link_behind, ChainGiven, LinksGiven, no_link, one_link}
+use Rattle.descent.specs.Given.{Room, EndsWith, link_behind, ChainGiven, LinksGiven, no_link, one_link}
 use Rattle.descent.specs.Links.{link_kind, link_flags, link_rank, is_calling}
 use Rattle.phrases.specs.Parts.{plain_part}
 use Rattle.phrases.specs.Seen.{ReadsHere, SeesBy, MissesBy}
 use Rattle.phrases.specs.Tests.{is_link, is_template, links}
-use Rattle.descent.proofs.Agreeing.{Refuses, refuses_on, agrees_err, agrees_on, refuses_high, room_part, ends_same, ends_both, ends_before}
+use Rattle.descent.proofs.Agreeing.{agrees_err, agrees_on, refuses_high, room_part, ends_same, ends_both, ends_before}
 use Rattle.descent.proofs.GivenArguments.{arguments_given}
-use Rattle.descent.proofs.GivenLinks.{Further, name_there, index_there, arguments_there, template_there, Front, by_dot, by_mark, by_none, Given, link_given}
+use Rattle.descent.proofs.GivenLinks.{Further, name_there, index_there, arguments_there, template_there, Front, by_dot, by_mark, by_none, link_given}
 use Rattle.phrases.proofs.Seeing.{mark_by}
 
 -- the symbol of a link can be called

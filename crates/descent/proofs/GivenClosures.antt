@@ -1,10 +1,9 @@
 -- A function, a class or the call of `import`, as it is given behind its word (ECMA-262 12.3.10, 14.1, 14.6).
-use Rattle.std.proofs.Common.{◌≡◌, ℕ, suc, ◌≤◌, Bool, true, false, List, [], ◌∷◌, ◌++◌, refl, sym, ap, ◌∙◌, subst}
+use Rattle.std.proofs.Common.{◌≡◌, ℕ, Bool, true, false, List, [], ◌++◌, refl, sym, ap, ◌∙◌, subst}
 use Rattle.std.specs.Prelude.{IsTrue, codes, if◌then◌else◌}
-use Rattle.std.proofs.lemmas.Bool.{false≢true}
 use Rattle.std.proofs.lemmas.List.{append-nil}
 use Rattle.tokens.specs.Reading.{any_goal}
-use Rattle.tokens.specs.declared.token.Class.TheVariants.{Name, Punctuator}
+use Rattle.tokens.specs.declared.token.Class.TheVariants.{Punctuator}
 use Rattle.tokens.specs.declared.token.Goal.TheVariants.{RegExp}
 use Rattle.tree.specs.declared.kind.Kind.{Kind}
 use Rattle.tree.specs.declared.kind.Kind.TheVariants.{Identifier, MemberExpression, FunctionExpression, ClassExpression, ImportExpression}
@@ -39,7 +38,6 @@ use Rattle.language.proofs.TextPlaces.{text_determined}
 use Rattle.language.proofs.TwoSides.{same_node}
 use Rattle.phrases.specs.declared.closures.Closure.{Closure}
 use Rattle.phrases.specs.declared.closures.Closure.TheVariants as closure
-use Rattle.phrases.specs.declared.part.Part.{Part}
 use Rattle.phrases.specs.declared.position.Position.{Position}
 use Rattle.descent.specs.Derived.{RunsIn, anywhere}
 use Rattle.descent.specs.DerivedPieces.{closure_pieces, behind_word}

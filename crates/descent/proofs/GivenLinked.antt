@@ -1,6 +1,6 @@
 -- How what is read behind an object agrees with a member, arguments or a template that is given there (ECMA-262 12.3.2 to 12.3.8).
-use Rattle.std.proofs.Common.{◌≡◌, ℕ, suc, ◌≤◌, ◌<◌, ◌-◌, Bool, true, false, List, [], ◌∷◌, ◌++◌, Result, Ok, Err, refl, sym, ap, ◌∙◌, subst, arith}
-use Rattle.std.specs.Prelude.{codes, IsTrue, max}
+use Rattle.std.proofs.Common.{◌≡◌, ℕ, suc, ◌≤◌, ◌<◌, ◌-◌, Bool, true, false, List, [], Result, Ok, Err, refl, sym, ap, ◌∙◌, subst, arith}
+use Rattle.std.specs.Prelude.{codes, max}
 use Rattle.std.specs.Result.{IsErrAnd}
 use Rattle.std.proofs.lemmas.Bool.{false≢true}
 use Rattle.source_text.specs.declared.fault.Fault.{Fault}
@@ -9,9 +9,9 @@ use Rattle.tokens.specs.Reading.{any_goal}
 use Rattle.tokens.specs.declared.token.Class.TheVariants.{Name, Punctuator, Template}
 use Rattle.tokens.specs.declared.token.Goal.TheVariants.{Div}
 use Rattle.token_cursor.specs.Point.{Point}
-use Rattle.tree.specs.declared.kind.Kind.TheVariants.{Identifier, TemplateLiteral}
+use Rattle.tree.specs.declared.kind.Kind.TheVariants.{Identifier}
 use Rattle.tree.specs.declared.kind.Pair.{Pair}
-use Rattle.tree.specs.Tree.{Tree, node, plain, Parts, none, part, gap, join, height, parts_height}
+use Rattle.tree.specs.Tree.{Tree, node, Parts, none, part, gap, join, height, parts_height}
 use Rattle.covers.specs.declared.list.Listed.{Listed}
 use Rattle.covers.specs.declared.list.Listed.TheVariants as listed
 use Rattle.covers.specs.declared.list.List.{List as ListOf}
@@ -21,14 +21,13 @@ use Rattle.language.specs.declared.Rank.TheVariants.{Expression, Call}
 use Rattle.language.specs.declared.Start.TheVariants.{Any}
 use Rattle.language.specs.declared.Edge.TheVariants.{Other}
 use Rattle.language.specs.Covers.{as_expression}
-use Rattle.language.specs.Derivation.{Reads, Runs}
+use Rattle.language.specs.Derivation.{Runs}
 use Rattle.language.specs.Grammar.{ways}
 use Rattle.language.specs.Pieces.{expr, quasi}
 use Rattle.language.specs.Places.{NextIn, itself, SpellsIn}
 use Rattle.language.specs.Promises.{ReadBy}
 use Rattle.language.specs.Token.{Token, same_class}
-use Rattle.language.specs.Words.{takes}
-use Rattle.language.proofs.Begins.{retell, goes_to}
+use Rattle.language.proofs.Begins.{retell}
 use Rattle.language.proofs.Conditionals.{stops_before}
 use Rattle.language.proofs.Lists.{ChunkForm, last_chunk, more_chunks, chunk_form}
 use Rattle.language.proofs.Running.{run_token}
@@ -42,8 +41,8 @@ use Rattle.phrases.specs.declared.part.Part.{Part}
 use Rattle.phrases.specs.declared.position.Position.{Position}
 use Rattle.descent.specs.Complete.{LinkedComplete, ExpressionComplete, ArgumentsComplete, ListComplete}
 use Rattle.descent.specs.Derived.{RunsIn, anywhere, Adds, ArgumentsAt}
-use Rattle.descent.specs.Follows.{LinkedAt, NotLinked, NotBegun, NoTemplate, BegunAt, TemplateAt, BegunTemplate}
-use Rattle.descent.specs.Given.{Agrees, Room, EndsWith, link_behind, StopsIn, GivenAs, an_expression, IsRead}
+use Rattle.descent.specs.Follows.{LinkedAt, NotLinked, NotBegun, NoTemplate, TemplateAt}
+use Rattle.descent.specs.Given.{Room, EndsWith, link_behind, StopsIn, GivenAs, an_expression}
 use Rattle.descent.specs.GivenLists.{ListGiven}
 use Rattle.phrases.specs.Items.{listed_node, listed_part}
 use Rattle.descent.specs.Links.{link_kind, link_flags, link_rank, is_calling}
@@ -51,12 +50,11 @@ use Rattle.phrases.specs.Outcomes.{MakesAs}
 use Rattle.phrases.specs.Parts.{plain_part}
 use Rattle.phrases.specs.Seen.{ReadsHere, Misses, NoName, is_any}
 use Rattle.phrases.specs.Tokens.{single_node}
-use Rattle.descent.proofs.Agreeing.{Refuses, refuses_on, agrees_err, refuses_high, room_part, marks_same, words_same, not_missed, ends_same}
-use Rattle.descent.proofs.GivenLinks.{once, Further, name_there, index_there, arguments_there, template_there, LinkSame, given_link, behind_given, link_given, not_linked}
+use Rattle.descent.proofs.Agreeing.{Refuses, refuses_on, agrees_err, refuses_high, room_part, marks_same, words_same, not_missed}
+use Rattle.descent.proofs.GivenLinks.{once, Further, name_there, index_there, arguments_there, template_there, given_link, behind_given, link_given, not_linked}
 use Rattle.descent.proofs.GivenTemplates.{quasi_begins, template_given, TemplateGiven, TemplateRest, template_rest}
-use Rattle.descent.proofs.Linking.{Behind, is_call, arguments_bare}
+use Rattle.descent.proofs.Linking.{is_call, arguments_bare}
 use Rattle.descent.proofs.LinkReads.{BehindOn}
-use Rattle.phrases.proofs.Seeing.{seen_by}
 
 -- nothing goes on before a `]`
 before_bracket : (text : List ℕ) (n : Tree) {s e : Token} → ReadsHere text Punctuator (codes "]") s e → StopsIn text Expression true n s

@@ -1,6 +1,6 @@
 -- A member, arguments or a template that is given, against the token that was passed and the one that stands ahead (ECMA-262 12.3.2 to 12.3.8).
-use Rattle.std.proofs.Common.{◌≡◌, ℕ, ◌≤◌, Bool, true, false, List, [], ◌∷◌, ◌++◌, ◌⊎◌, inl, inr, refl, sym, ap, ◌∙◌, subst}
-use Rattle.std.specs.Prelude.{codes, Some, None, ◌&&◌, IsTrue}
+use Rattle.std.proofs.Common.{◌≡◌, ℕ, Bool, true, false, List, [], ◌∷◌, ◌⊎◌, inl, inr, refl, sym, ap, ◌∙◌, subst}
+use Rattle.std.specs.Prelude.{codes, Some, None}
 use Rattle.std.proofs.lemmas.Bool.{false≢true}
 use Rattle.source_text.specs.declared.fault.Fault.{Fault}
 use Rattle.source_text.specs.declared.fault.Fault.TheVariants.{Syntax}
@@ -12,24 +12,19 @@ use Rattle.tokens.specs.declared.token.Goal.TheVariants.{Div}
 use Rattle.token_cursor.specs.Point.{Point, IsAhead}
 use Rattle.tree.specs.declared.kind.Kind.TheVariants.{Identifier}
 use Rattle.tree.specs.declared.kind.Pair.{Pair}
-use Rattle.tree.specs.Tree.{Tree, node, plain, Parts, none, part, height, parts_height, bare_parts}
+use Rattle.tree.specs.Tree.{Tree, node, plain, Parts, none, part}
 use Rattle.language.specs.declared.Rank.TheVariants.{Expression}
 use Rattle.language.specs.declared.Start.TheVariants.{Any}
-use Rattle.language.specs.Derivation.{Reads}
 use Rattle.language.specs.Expressions.{in_brackets}
 use Rattle.language.specs.Pieces.{expr, quasi, word, sub}
 use Rattle.language.specs.Places.{NextIn, itself, SpellsIn}
-use Rattle.language.specs.Promises.{ReadBy, FoundParts}
-use Rattle.language.specs.Token.{Token, as_read, table_text, same_class}
-use Rattle.language.proofs.Begins.{goes_to, retell}
-use Rattle.language.proofs.Conditionals.{stops_before}
+use Rattle.language.specs.Promises.{ReadBy}
+use Rattle.language.specs.Token.{Token, as_read, table_text}
 use Rattle.language.proofs.Leaves.{word_form}
 use Rattle.language.proofs.Running.{run_token, run_never}
 use Rattle.language.proofs.Sides.{one_part, in_bracket}
-use Rattle.language.proofs.Suffixes.{argument_pieces}
 use Rattle.language.proofs.TextAlike.{text_alike}
 use Rattle.language.proofs.TextPlaces.{text_determined}
-use Rattle.unambiguous.proofs.PatternLists.{argument_pieces_unique}
 use Rattle.unambiguous.proofs.Steps.{steps}
 use Rattle.unambiguous.proofs.Tied.{unique}
 use Rattle.unambiguous.proofs.Unique.{Unique}
@@ -37,12 +32,12 @@ use Rattle.descent.specs.declared.links.Linked.{Linked}
 use Rattle.descent.specs.declared.links.Linked.TheVariants as link
 use Rattle.descent.specs.Derived.{RunsIn, anywhere, ArgumentsAt}
 use Rattle.descent.specs.Follows.{LinkedAt, NotLinked, Unlinked, unlinks}
-use Rattle.descent.specs.Given.{link_behind, StopsIn}
+use Rattle.descent.specs.Given.{link_behind}
 use Rattle.descent.specs.Links.{link_by}
 use Rattle.phrases.specs.Outcomes.{IsSyntaxHere}
 use Rattle.phrases.specs.Seen.{ReadsHere, Misses}
 use Rattle.phrases.specs.Tokens.{single_node}
-use Rattle.descent.proofs.Agreeing.{marks_same, words_same, read_here, not_missed}
+use Rattle.descent.proofs.Agreeing.{marks_same, read_here, not_missed}
 use Rattle.descent.proofs.GivenArguments.{arguments_given}
 use Rattle.descent.proofs.GivenTemplates.{quasi_begins}
 use Rattle.descent.proofs.Linking.{Behind, a_name, optional_name, an_index, optional_index, some_arguments, optional_arguments, a_template}

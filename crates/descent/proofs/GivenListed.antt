@@ -1,10 +1,9 @@
 -- What the code makes of a list between brackets is what is given (ECMA-262 12.2.5, 12.2.6).
-use Rattle.std.proofs.Common.{◌≡◌, ℕ, suc, ◌≤◌, ◌-◌, Bool, true, false, List, [], ◌∷◌, ◌++◌, refl, sym, ap, ◌∙◌, subst, arith}
-use Rattle.std.specs.Prelude.{IsTrue, Some, codes, ◌&&◌}
+use Rattle.std.proofs.Common.{◌≡◌, ℕ, suc, ◌≤◌, ◌-◌, Bool, true, false, List, [], ◌++◌, refl, sym, ap, ◌∙◌, subst, arith}
+use Rattle.std.specs.Prelude.{Some}
 use Rattle.std.proofs.lemmas.Bool.{false≢true, and_parts}
 use Rattle.source_text.specs.declared.fault.Fault.{Fault}
 use Rattle.source_text.specs.declared.fault.Fault.TheVariants.{Syntax, TooDeep, OutOfMemory}
-use Rattle.tokens.specs.Reading.{any_goal}
 use Rattle.tokens.specs.Tokens.{LexicalToken}
 use Rattle.tokens.specs.declared.token.Class.TheVariants.{Punctuator}
 use Rattle.tokens.specs.declared.token.Goal.TheVariants.{RegExp}
@@ -19,18 +18,14 @@ use Rattle.covers.specs.Shapes.{is_element, is_pattern as is_listed}
 use Rattle.covers.specs.declared.list.Listed.{Listed}
 use Rattle.covers.specs.declared.list.Listed.TheVariants as listed
 use Rattle.covers.specs.declared.list.List.{List as ListOf}
-use Rattle.covers.specs.Lists.{opening, closing}
+use Rattle.covers.specs.Lists.{opening}
 use Rattle.language.specs.declared.Rank.{Rank}
-use Rattle.language.specs.declared.Rank.TheVariants.{Primary}
 use Rattle.language.specs.declared.Start.{Start}
 use Rattle.language.specs.declared.Start.TheVariants.{Any}
 use Rattle.language.specs.Covers.{Reading, as_expression, as_pattern}
 use Rattle.language.specs.Opening.{Opening, with_bracket, with_brace, with_template, opening_of}
-use Rattle.language.specs.Promises.{ReadBy}
 use Rattle.language.specs.Token.{Token, as_read}
-use Rattle.language.specs.Words.{takes, is_target as is_simple}
-use Rattle.language.specs.Places.{NextIn, itself}
-use Rattle.phrases.specs.declared.part.Part.{Part}
+use Rattle.language.specs.Words.{is_target as is_simple}
 use Rattle.phrases.specs.declared.position.Position.{Position}
 use Rattle.phrases.specs.declared.openings.Opening.TheVariants as code
 use Rattle.descent.specs.Derived.{RunsIn, anywhere, Adds, read_as, all_read_as, fits_as}
@@ -38,7 +33,7 @@ use Rattle.descent.specs.DerivedLists.{ListAt, SoFarAt, SeenRight, is_whole, who
 use Rattle.descent.specs.Follows.{BegunAt, NotBegun}
 use Rattle.descent.specs.Given.{FirstAs, IsFirst}
 use Rattle.descent.specs.GivenLists.{ListGiven}
-use Rattle.phrases.specs.Items.{list_from, listed_kind, listed_shape, listed_node, listed_part}
+use Rattle.phrases.specs.Items.{list_from, listed_kind, listed_shape, listed_part}
 use Rattle.phrases.specs.Openings.{coded_opening}
 use Rattle.phrases.specs.Seen.{ReadsHere}
 use Rattle.descent.proofs.Agreeing.{Refuses, marks_same}

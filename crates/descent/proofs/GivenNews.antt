@@ -1,15 +1,14 @@
 -- What is given behind `new` (ECMA-262 12.3.3, 12.3.8): `target`; a callee and its arguments; or a callee alone.
-use Rattle.std.proofs.Common.{◌≡◌, ℕ, Bool, true, false, List, [], ◌∷◌, ◌++◌, refl, sym, ap, ◌∙◌, subst, arith}
+use Rattle.std.proofs.Common.{◌≡◌, ℕ, true, false, List, [], ◌++◌, refl, sym, ap, ◌∙◌, subst, arith}
 use Rattle.std.specs.Prelude.{IsTrue, codes, ◌&&◌}
 use Prim.Native.String.{String}
 use Rattle.std.proofs.lemmas.Bool.{and_parts}
 use Rattle.std.proofs.lemmas.Slice.Eq.{bytes_eq-Decides}
 use Rattle.tokens.specs.Reading.{any_goal}
-use Rattle.tokens.specs.Tokens.{LexicalToken}
 use Rattle.tokens.specs.declared.token.Class.TheVariants.{Name, Punctuator}
 use Rattle.tokens.specs.declared.token.Goal.TheVariants.{RegExp}
 use Rattle.tree.specs.declared.kind.Kind.{Kind}
-use Rattle.tree.specs.declared.kind.Kind.TheVariants.{Identifier, NewExpression, MetaProperty}
+use Rattle.tree.specs.declared.kind.Kind.TheVariants.{Identifier, NewExpression}
 use Rattle.tree.specs.declared.kind.Flags.{Flags}
 use Rattle.tree.specs.declared.kind.Pair.{Pair}
 use Rattle.tree.specs.Tree.{Tree, node, Parts, none, part, text_of, bare, bare_parts, plain}
@@ -17,16 +16,15 @@ use Rattle.tree.specs.Uses.{is_lean, used_flags, has_text}
 use Rattle.tree.proofs.Lean.{lean_flags, lean_text}
 use Rattle.language.specs.declared.Rank.{Rank}
 use Rattle.language.specs.declared.Rank.TheVariants.{New, Member}
-use Rattle.language.specs.declared.Start.{Start}
 use Rattle.language.specs.declared.Start.TheVariants.{Any}
 use Rattle.language.specs.Covers.{Reading, as_expression}
 use Rattle.language.specs.Edges.{edge, standing}
 use Rattle.language.specs.Expressions.{arguments, lead_is}
 use Rattle.language.specs.FirstPart.{others}
 use Rattle.language.specs.Opening.{with_new, opening_of}
-use Rattle.language.specs.Pieces.{Role, expr, word, PieceOf, listed, argument, sign}
+use Rattle.language.specs.Pieces.{expr}
 use Rattle.language.specs.Promises.{ReadBy}
-use Rattle.language.specs.Token.{Token, as_read}
+use Rattle.language.specs.Token.{Token}
 use Rattle.language.specs.Words.{takes}
 use Rattle.language.specs.Derivation.{Reads, Placed, step, token}
 use Rattle.language.specs.Places.{NextIn, itself, SpellsIn}

@@ -3,7 +3,7 @@ use Rattle.std.proofs.Common.{◌≡◌, ℕ, suc, ◌≤◌, Bool, true, false,
 use Rattle.std.specs.Prelude.{IsTrue, Some}
 use Rattle.tokens.specs.Reading.{any_goal}
 use Rattle.tokens.specs.Tokens.{LexicalToken}
-use Rattle.tokens.specs.declared.token.Class.TheVariants.{Name, Punctuator}
+use Rattle.tokens.specs.declared.token.Class.TheVariants.{Punctuator}
 use Rattle.tokens.specs.declared.token.Goal.TheVariants.{RegExp}
 use Rattle.tokens.specs.Goals.{allows}
 use Rattle.token_cursor.specs.Point.{IsAhead}
@@ -15,21 +15,20 @@ use Rattle.tree.specs.Tree.{Tree, node, Parts, none, part, height, bare, bare_pa
 use Rattle.tree.specs.Uses.{is_lean, used_flags}
 use Rattle.tree.proofs.Lean.{lean_flags}
 use Rattle.covers.specs.Patterns.{pattern_tree}
-use Rattle.covers.specs.Shapes.{is_target}
 use Rattle.language.specs.declared.Rank.{Rank}
 use Rattle.language.specs.declared.Rank.TheVariants.{Conditional, Unary, Update, LeftHandSide, New, Relational}
 use Rattle.language.specs.declared.Start.{Start}
 use Rattle.language.specs.declared.Start.TheVariants.{Any}
 use Rattle.language.specs.declared.Edge.TheVariants.{Other}
 use Rattle.language.specs.FirstPart.{lead as lead_kind}
-use Rattle.language.specs.Words.{is, among, takes, tightness, is_prefix, is_word_operator, operator_of, steps, is_target as is_simple}
+use Rattle.language.specs.Words.{is, among, takes, tightness, is_target as is_simple}
 use Rattle.language.specs.Covers.{Reading, as_expression}
 use Rattle.language.specs.Pieces.{expr, Piece, put, lay, apart}
 use Rattle.language.specs.Token.{Token, as_read, table_text}
 use Rattle.language.specs.Edges.{edge, standing}
-use Rattle.language.specs.Opening.{Opening, with_word, with_sign, with_step, with_bracket, with_brace, with_template, with_name, with_literal, with_this, with_function, with_class, with_parenthesis, with_super, with_new, with_import, no_opening, opening_of}
-use Rattle.language.specs.Promises.{ReadBy, Stops}
-use Rattle.language.specs.Derivation.{Reads, Spells, Runs, Placed, placed}
+use Rattle.language.specs.Opening.{Opening, with_word, with_sign, with_step, opening_of}
+use Rattle.language.specs.Promises.{ReadBy}
+use Rattle.language.specs.Derivation.{Reads, Placed, placed}
 use Rattle.language.specs.Places.{NextIn, itself, SpellsIn}
 use Rattle.language.proofs.Begins.{AllLaid, no_piece, one_laid, goes_to, retell, among_by}
 use Rattle.language.proofs.Headed.{unary_space, head_word, head_sign, head_step, prefix_sign_opens, step_opens}
@@ -41,7 +40,6 @@ use Rattle.language.proofs.Tails.{Tails, tails_unary, tails_step}
 use Rattle.language.proofs.TwoSides.{same_node}
 use Rattle.language.proofs.Starting.{Begun, begun_stops}
 use Rattle.language.proofs.Leaves.{by_name}
-use Rattle.language.proofs.Prefixes.{Steps}
 use Rattle.language.proofs.TextPlaces.{text_determined}
 use Rattle.phrases.specs.declared.part.Part.{Part}
 use Rattle.phrases.specs.declared.position.Position.{Position}

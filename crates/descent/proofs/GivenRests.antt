@@ -1,6 +1,6 @@
 -- A list that is given, from behind what begins it on (ECMA-262 12.2.5, 12.2.6, 12.2.9).
-use Rattle.std.proofs.Common.{◌≡◌, ℕ, suc, ◌≤◌, ◌-◌, max, Bool, true, false, List, [], ◌∷◌, ◌++◌, refl, sym, ap, ◌∙◌, subst, arith}
-use Rattle.std.specs.Prelude.{IsTrue, Some, codes}
+use Rattle.std.proofs.Common.{◌≡◌, ℕ, suc, ◌≤◌, ◌-◌, max, true, false, List, [], refl, sym, ap, ◌∙◌, subst, arith}
+use Rattle.std.specs.Prelude.{IsTrue, Some}
 use Rattle.source_text.specs.declared.fault.Fault.{Fault}
 use Rattle.std.proofs.lemmas.Bool.{false≢true}
 use Rattle.source_text.specs.declared.fault.Fault.TheVariants.{Syntax, TooDeep, OutOfMemory}
@@ -13,16 +13,12 @@ use Rattle.covers.specs.Lists.{shape_with}
 use Rattle.covers.specs.Shapes.{empty}
 use Rattle.language.specs.declared.Rank.TheVariants.{Expression, Primary}
 use Rattle.language.specs.declared.Start.TheVariants.{Any}
-use Rattle.language.specs.Derivation.{done, within}
-use Rattle.language.specs.Expressions.{chunks}
-use Rattle.language.specs.Pieces.{expr, chunk, put}
-use Rattle.language.specs.Places.{NextIn, itself, SpellsIn}
+use Rattle.language.specs.Places.{NextIn, itself}
 use Rattle.language.specs.Promises.{ReadBy}
 use Rattle.language.specs.Words.{takes, is_target as is_simple}
-use Rattle.language.proofs.Begins.{goes_to, retell}
+use Rattle.language.proofs.Begins.{goes_to}
 use Rattle.language.proofs.Lists.{ChunkForm, last_chunk, more_chunks, chunk_form}
 use Rattle.language.proofs.Openers.{template_production}
-use Rattle.language.proofs.Templates.{chunk_found, chunk_not_last, chunk_last_one}
 use Rattle.language.proofs.TextPlaces.{text_determined}
 use Rattle.descent.specs.Derived.{RunsIn, all_read_as}
 use Rattle.descent.specs.DerivedLists.{left_of, SoFarAt}
@@ -42,7 +38,7 @@ use Rattle.tokens.specs.Tokens.{LexicalToken}
 use Rattle.tokens.specs.declared.token.Goal.TheVariants.{RegExp}
 use Rattle.token_cursor.specs.Point.{Point, IsAhead}
 use Rattle.tree.specs.declared.kind.Pair.{Pair}
-use Rattle.tree.specs.Tree.{Tree, node, Parts, part, gap, none, join, height, parts_height, kind_of, bare_parts, plain}
+use Rattle.tree.specs.Tree.{Tree, node, Parts, join, height, parts_height, kind_of, plain}
 use Rattle.covers.specs.declared.list.Listed.{Listed}
 use Rattle.covers.specs.declared.list.Listed.TheVariants as listed
 use Rattle.covers.specs.declared.list.List.{List as ListOf}
@@ -52,7 +48,7 @@ use Rattle.language.specs.Opening.{Opening, with_template, opening_of}
 use Rattle.language.specs.Token.{Token, as_read, same_class}
 use Rattle.phrases.specs.declared.position.Position.{Position}
 use Rattle.phrases.specs.declared.openings.Opening.TheVariants as code
-use Rattle.descent.specs.Follows.{BegunAt, BegunTemplate, FirstChunkAt, NotBegun, NoTemplate, TemplateAt}
+use Rattle.descent.specs.Follows.{BegunAt, BegunTemplate, NotBegun, NoTemplate, TemplateAt}
 use Rattle.descent.specs.Given.{FirstAs, IsFirst, Room}
 use Rattle.phrases.specs.Openings.{coded_opening}
 use Rattle.descent.proofs.Agreeing.{Refuses}

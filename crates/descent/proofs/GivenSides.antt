@@ -1,6 +1,6 @@
 -- How the right sides of an operator, as they are read, agree with those that are given (ECMA-262 12.6 to 12.15).
-use Rattle.std.proofs.Common.{◌≡◌, ℕ, suc, ◌≤◌, ◌<◌, ◌-◌, Bool, true, false, List, [], ◌∷◌, ◌++◌, Result, Ok, Err, refl, sym, ap, ◌∙◌, subst, arith}
-use Rattle.std.specs.Prelude.{codes, IsTrue, Some, max}
+use Rattle.std.proofs.Common.{◌≡◌, ℕ, suc, ◌≤◌, ◌<◌, ◌-◌, Bool, true, false, List, [], ◌++◌, Result, Ok, Err, refl, sym, ap, ◌∙◌, subst, arith}
+use Rattle.std.specs.Prelude.{codes, Some}
 use Rattle.std.specs.Result.{IsErrAnd}
 use Rattle.std.proofs.lemmas.Bool.{false≢true}
 use Rattle.source_text.specs.declared.fault.Fault.{Fault}
@@ -34,10 +34,10 @@ use Rattle.phrases.specs.declared.operators.Operator.TheVariants as code
 use Rattle.phrases.specs.declared.part.Part.{Part}
 use Rattle.phrases.specs.declared.position.Position.{Position}
 use Rattle.descent.specs.Complete.{ExpressionComplete, SidedComplete}
-use Rattle.descent.specs.Given.{Agrees, Room, EndsWith, StopsIn, GivenAs, an_expression, SidesGiven, one_side, two_sides}
+use Rattle.descent.specs.Given.{Room, EndsWith, StopsIn, GivenAs, an_expression, SidesGiven, one_side, two_sides}
 use Rattle.phrases.specs.Operators.{coded_operator}
 use Rattle.phrases.specs.Seen.{ReadsHere, Misses}
-use Rattle.descent.specs.Sides.{left_of, takes_left, sign_of}
+use Rattle.descent.specs.Sides.{left_of, sign_of}
 use Rattle.descent.proofs.Agreeing.{Refuses, refuses_on, agrees_err, refuses_high, room_part, marks_same, not_missed, ends_same, ends_none, ends_both, ends_behind, ends_before}
 use Rattle.descent.proofs.SidedBy.{right_at}
 

@@ -32,8 +32,8 @@ use Rattle.language.specs.Opening.{Opening, with_name, with_literal, with_this, 
 use Rattle.language.specs.Pieces.{Role, expr, body, Piece, sub, tail, put, settle_piece, name}
 use Rattle.language.specs.Promises.{ReadBy, is_free}
 use Rattle.language.specs.Token.{Token, as_read, table_text}
-use Rattle.language.specs.Words.{is, takes, among, is_reserved, is_name, literal_class, arrows}
-use Rattle.language.specs.Derivation.{Reads, Runs, Placed, placed}
+use Rattle.language.specs.Words.{is, takes, among, is_name, literal_class, arrows}
+use Rattle.language.specs.Derivation.{Reads, Placed}
 use Rattle.language.specs.Places.{NextIn, itself, SpellsIn}
 use Rattle.language.proofs.Arrows.{arrow_flags}
 use Rattle.language.proofs.Begins.{goes_to, retell}
@@ -44,7 +44,7 @@ use Rattle.language.proofs.Leaves.{by_name, core_primary, name_form}
 use Rattle.language.proofs.Led.{Led}
 use Rattle.language.proofs.Onward.{makes}
 use Rattle.language.proofs.Reaches.{loose_of}
-use Rattle.language.proofs.Running.{run_none, run_token, run_laid, run_unbroken, run_part}
+use Rattle.language.proofs.Running.{run_token, run_laid, run_unbroken, run_part}
 use Rattle.language.proofs.Sides.{one_part}
 use Rattle.language.proofs.Starting.{Begun, begun_stops, core_spelled}
 use Rattle.language.proofs.Stepping.{goes_where_not}

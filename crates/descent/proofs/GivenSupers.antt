@@ -1,28 +1,26 @@
 -- What is given behind `super` (ECMA-262 12.3.5): a member, or arguments where a call may stand.
 use Rattle.std.proofs.Common.{◌≡◌, ℕ, Bool, true, false, cond, List, [], ◌∷◌, ◌++◌, refl, sym, ap, ◌∙◌, subst}
-use Rattle.std.specs.Prelude.{IsTrue, codes, ◌&&◌, ◌||◌}
+use Rattle.std.specs.Prelude.{IsTrue, codes}
 use Rattle.tokens.specs.Reading.{any_goal}
-use Rattle.tokens.specs.Tokens.{LexicalToken}
 use Rattle.tokens.specs.Goals.{allows}
 use Rattle.tokens.specs.declared.token.Class.TheVariants.{Name, Punctuator}
 use Rattle.tokens.specs.declared.token.Goal.TheVariants.{Div, RegExp}
 use Rattle.tree.specs.declared.kind.Kind.{Kind}
-use Rattle.tree.specs.declared.kind.Kind.TheVariants.{Super, MemberExpression, CallExpression}
+use Rattle.tree.specs.declared.kind.Kind.TheVariants.{Super}
 use Rattle.tree.specs.declared.kind.Flags.{Flags}
 use Rattle.tree.specs.declared.kind.Pair.{Pair}
-use Rattle.tree.specs.Tree.{Tree, node, Parts, none, part, bare, bare_parts, plain}
+use Rattle.tree.specs.Tree.{Tree, node, Parts, part, bare, bare_parts}
 use Rattle.tree.specs.Uses.{is_lean, used_flags, has_text}
 use Rattle.tree.proofs.Lean.{lean_flags, lean_text}
 use Rattle.language.specs.declared.Rank.{Rank}
-use Rattle.language.specs.declared.Rank.TheVariants.{Member, Call}
-use Rattle.language.specs.declared.Start.{Start}
+use Rattle.language.specs.declared.Rank.TheVariants.{Call}
 use Rattle.language.specs.Covers.{Reading, as_expression}
 use Rattle.language.specs.Expressions.{arguments, in_brackets}
 use Rattle.language.specs.FirstPart.{others}
 use Rattle.language.specs.Opening.{with_super, opening_of}
-use Rattle.language.specs.Pieces.{Role, base, word, PieceOf, Piece, tok, sub, put, sign, expr}
+use Rattle.language.specs.Pieces.{base, word, sub, put, sign, expr}
 use Rattle.language.specs.Promises.{ReadBy}
-use Rattle.language.specs.Token.{Token, as_read}
+use Rattle.language.specs.Token.{Token}
 use Rattle.language.specs.Words.{takes}
 use Rattle.language.specs.Grammar.{spellings}
 use Rattle.language.specs.Derivation.{Reads, direct, Placed, placed, step, token}

@@ -1,7 +1,6 @@
 -- A template that is given: its first part, which begins it, and the rest as a list that was begun so (ECMA-262 12.2.9).
-use Rattle.std.proofs.Common.{◌≡◌, ℕ, ◌≤◌, Bool, true, false, List, [], ◌∷◌, ◌++◌, refl, sym, ap, ◌∙◌, subst}
-use Rattle.std.specs.Prelude.{codes, IsTrue}
-use Rattle.std.proofs.lemmas.Bool.{false≢true}
+use Rattle.std.proofs.Common.{◌≡◌, ℕ, Bool, true, false, List, [], ◌∷◌, ◌++◌, refl, sym, ap, ◌∙◌, subst}
+use Rattle.std.specs.Prelude.{IsTrue}
 use Rattle.source_text.specs.declared.fault.Fault.{Fault}
 use Rattle.source_text.specs.declared.fault.Fault.TheVariants.{Syntax}
 use Rattle.tokens.specs.Reading.{any_goal}
@@ -9,7 +8,7 @@ use Rattle.tokens.specs.Goals.{allows}
 use Rattle.tokens.specs.declared.token.Class.TheVariants.{Template, End}
 use Rattle.tokens.specs.declared.token.Goal.TheVariants.{Div}
 use Rattle.token_cursor.specs.Point.{Point, OnlyEnd}
-use Rattle.tree.specs.declared.kind.Kind.TheVariants.{TemplateLiteral, TemplateElement}
+use Rattle.tree.specs.declared.kind.Kind.TheVariants.{TemplateLiteral}
 use Rattle.tree.specs.declared.kind.Pair.{Pair}
 use Rattle.tree.specs.Tree.{Tree, node, plain, Parts, none, part, gap, bare, bare_parts, join}
 use Rattle.tree.specs.Uses.{is_lean}

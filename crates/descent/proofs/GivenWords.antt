@@ -1,9 +1,8 @@
 -- A word that was passed, and how what the code makes behind it agrees with what is given (ECMA-262 12.3, 14.1, 14.6).
-use Rattle.std.proofs.Common.{◌≡◌, ℕ, suc, ◌≤◌, ◌<◌, ◌-◌, max, Bool, true, false, cond, List, [], ◌∷◌, ◌++◌, Result, Ok, Err, refl, sym, ap, ◌∙◌, subst, arith}
-use Rattle.std.specs.Prelude.{IsTrue, Some, codes, nat_eq, slice_index_or}
+use Rattle.std.proofs.Common.{◌≡◌, ℕ, suc, ◌≤◌, max, Bool, true, false, cond, List, [], Result, refl, sym, ap, ◌∙◌, subst, arith}
+use Rattle.std.specs.Prelude.{Some, nat_eq, slice_index_or}
 use Rattle.std.proofs.lemmas.Bool.{false≢true}
 use Rattle.source_text.specs.declared.fault.Fault.{Fault}
-use Rattle.source_text.specs.declared.fault.Fault.TheVariants.{TooDeep}
 use Rattle.tokens.specs.Reading.{any_goal}
 use Rattle.tokens.specs.Tokens.{LexicalToken}
 use Rattle.tokens.specs.declared.token.Class.{Class}
@@ -14,10 +13,9 @@ use Rattle.token_cursor.specs.Point.{Point}
 use Rattle.tree.specs.declared.kind.Kind.{Kind}
 use Rattle.tree.specs.declared.kind.Kind.TheVariants.{ImportExpression, Super}
 use Rattle.tree.specs.declared.kind.Pair.{Pair}
-use Rattle.tree.specs.Tree.{Tree, node, Parts, none, part, height, parts_height, kind_of, plain}
+use Rattle.tree.specs.Tree.{Tree, node, Parts, none, part, height, kind_of, plain}
 use Rattle.language.specs.declared.Rank.{Rank}
-use Rattle.language.specs.declared.Rank.TheVariants.{Assignment, Primary, Call}
-use Rattle.language.specs.declared.Start.TheVariants.{Any}
+use Rattle.language.specs.declared.Rank.TheVariants.{Primary, Call}
 use Rattle.language.specs.declared.Edge.TheVariants.{Other}
 use Rattle.language.specs.Covers.{Reading, as_expression}
 use Rattle.language.specs.Opening.{Opening, with_function, with_class, with_super, with_new, with_import, with_template, no_opening, opening_of, opening_by, opening_signs}
@@ -25,7 +23,7 @@ use Rattle.language.specs.Promises.{ReadBy, is_free}
 use Rattle.language.specs.Token.{Token, as_read, table_text}
 use Rattle.language.specs.Words.{is_target as is_simple}
 use Rattle.language.specs.Derivation.{Reads}
-use Rattle.language.specs.Places.{NextIn, itself, SpellsIn}
+use Rattle.language.specs.Places.{NextIn, itself}
 use Rattle.language.proofs.TextPlaces.{text_determined}
 use Rattle.phrases.specs.declared.openings.Opening.{Opening as Coded}
 use Rattle.phrases.specs.declared.openings.Opening.TheVariants as code
@@ -40,8 +38,7 @@ use Rattle.descent.proofs.GivenOpens.{has_height}
 use Rattle.descent.proofs.GivenSupers.{SuperGiven}
 use Rattle.phrases.specs.declared.closures.Closure.{Closure}
 use Rattle.phrases.specs.declared.part.Part.{Part}
-use Rattle.phrases.specs.declared.position.Position.{Position}
-use Rattle.descent.specs.Given.{Agrees, Room, EndsWith, IsFirst, GivenAs}
+use Rattle.descent.specs.Given.{Agrees, Room, EndsWith, IsFirst}
 use Rattle.phrases.specs.Openings.{coded_opening, is_by_word}
 use Rattle.phrases.specs.Parts.{plain_part}
 use Rattle.phrases.specs.Seen.{ReadsHere, Misses, SeesBy, MissesBy}

@@ -21,7 +21,7 @@ use Rattle.language.specs.declared.Start.TheVariants.{Any}
 use Rattle.language.specs.Covers.{as_expression, as_pattern}
 use Rattle.language.specs.Derivation.{Placed}
 use Rattle.language.specs.Opening.{no_opening, opening_by}
-use Rattle.language.specs.Pieces.{declarator, expr, head, nothing, pattern, sp}
+use Rattle.language.specs.Pieces.{declarator, expr, head, nothing, sp}
 use Rattle.language.specs.Places.{NextIn, itself, SpellsIn}
 use Rattle.language.specs.Promises.{is_free}
 use Rattle.language.specs.Statements.{declarators, is_one}

@@ -18,7 +18,7 @@ use Rattle.language.specs.declared.Start.TheVariants.{Any, Statement}
 use Rattle.language.specs.Words.{is}
 use Rattle.language.specs.Edges.{edge, last_edge}
 use Rattle.language.specs.Following.{Followed, may_follow}
-use Rattle.language.specs.Pieces.{Role, expr, name, quoted, statement, ending, behind}
+use Rattle.language.specs.Pieces.{Role, expr, name, quoted, ending, behind}
 use Rattle.language.specs.Statements.{is_string_literal, first_is_string}
 use Rattle.language.specs.Token.{Token}
 use Rattle.language.specs.Covers.{as_expression}

@@ -1,7 +1,6 @@
 -- What a member, arguments, a template, `++` or `--` makes of an expression on the spine of what is given.
-use Rattle.std.proofs.Common.{◌≡◌, ◌⊎◌, ℕ, suc, ◌≤◌, ◌<◌, ◌-◌, Bool, true, false, cond, List, [], ◌∷◌, ◌++◌, refl, sym, ap, ◌∙◌, subst, inl, inr, arith}
-use Rattle.std.specs.Prelude.{IsTrue, codes, Option, Some, None, not, ◌&&◌, ◌||◌}
-use Rattle.std.proofs.lemmas.Bool.{false≢true}
+use Rattle.std.proofs.Common.{◌≡◌, ℕ, ◌≤◌, Bool, true, false, List, [], ◌∷◌, ◌++◌, refl, sym, ap, ◌∙◌, subst, arith}
+use Rattle.std.specs.Prelude.{IsTrue, codes}
 use Rattle.std.proofs.lemmas.List.{append-nil}
 use Rattle.tokens.specs.declared.token.Class.TheVariants.{Punctuator}
 use Rattle.tokens.specs.declared.token.Goal.TheVariants.{Div}
@@ -10,7 +9,7 @@ use Rattle.tree.specs.declared.kind.Kind.{Kind}
 use Rattle.tree.specs.declared.kind.Kind.TheVariants.{AssignmentExpression, UpdateExpression, MemberExpression, CallExpression, TaggedTemplateExpression}
 use Rattle.tree.specs.declared.kind.Flags.{Flags}
 use Rattle.tree.specs.declared.kind.Pair.{Pair}
-use Rattle.tree.specs.Tree.{Tree, node, plain, Parts, part, none, kind_of, text_of, height, bare, bare_parts}
+use Rattle.tree.specs.Tree.{Tree, node, plain, Parts, part, none, kind_of, height, bare, bare_parts}
 use Rattle.tree.specs.Uses.{has_text, used_flags}
 use Rattle.tree.proofs.Lean.{lean_flags, lean_text}
 use Rattle.language.specs.declared.Rank.{Rank}
@@ -21,26 +20,25 @@ use Rattle.language.specs.declared.Edge.TheVariants.{Other}
 use Rattle.language.specs.FirstPart.{lead as lead_kind, others}
 use Rattle.language.specs.Words.{takes, is_target as is_simple, steps, selects, indexes, calls, tags}
 use Rattle.language.specs.Token.{Token}
-use Rattle.language.specs.Edges.{edge, standing}
-use Rattle.language.specs.Pieces.{Role, expr, PieceOf, unbroken, tok, argument, listed, sign, sub}
+use Rattle.language.specs.Edges.{edge}
+use Rattle.language.specs.Pieces.{Role, expr, PieceOf, unbroken, tok, argument, sign}
 use Rattle.language.specs.Expressions.{arguments}
-use Rattle.language.specs.Follow.{operation, symbol_of, stops}
+use Rattle.language.specs.Follow.{operation, stops}
 use Rattle.language.specs.Promises.{ReadBy}
 use Rattle.language.specs.Covers.{Reading}
 use Rattle.language.specs.Derivation.{step, token, within, done}
-use Rattle.language.specs.Places.{NextIn, itself, SpellsIn}
+use Rattle.language.specs.Places.{NextIn, itself}
 use Rattle.language.proofs.TextPlaces.{text_determined}
 use Rattle.language.proofs.Begins.{retell, goes_to}
 use Rattle.language.proofs.Led.{Led, led_postfix, led_call}
 use Rattle.language.proofs.Growing.{kind_bare}
 use Rattle.language.proofs.Sides.{nothing_more}
-use Rattle.language.proofs.Signs.{reads_dot, reads_call, reads_index}
+use Rattle.language.proofs.Signs.{reads_dot, reads_index}
 use Rattle.language.proofs.Stepping.{goes_where_not, led_text}
 use Rattle.language.proofs.Climbing.{Leads, led_on, grows_height}
 use Rattle.language.proofs.Suffixes.{rank_is, suffix_rank, computed_flags, arguments_fixed, leads_on, call_flags, dot_on}
 use Rattle.language.proofs.Calls.{index_on, tag_on}
-use Rattle.covers.specs.Patterns.{pattern_tree}
-use Rattle.covers.specs.Shapes.{is_element, is_target, shape_of}
+use Rattle.covers.specs.Shapes.{is_target, shape_of}
 use Rattle.phrases.specs.declared.part.Part.{Part}
 use Rattle.phrases.specs.declared.position.Position.{Position}
 use Rattle.descent.specs.declared.links.Linked.{Linked}
@@ -50,7 +48,6 @@ use Rattle.descent.specs.Given.{link_behind}
 use Rattle.descent.specs.Links.{link_kind, link_flags, link_rank, is_calling}
 use Rattle.phrases.specs.Parts.{plain_part}
 use Rattle.descent.specs.Stages.{SpineAs, Serves, StageAs}
-use Rattle.descent.proofs.SplitCores.{here, there}
 use Rattle.descent.proofs.Grouped.{listed_bare}
 use Rattle.descent.proofs.Spelled.{placed_at}
 use Rattle.descent.proofs.SpineTurns.{on_further}

@@ -1,12 +1,11 @@
 -- A given list that was read: where no item follows, and with what closes it (ECMA-262 12.2, 12.16, 13.3, 13.12, 14.1, 14.6).
-use Rattle.std.proofs.Common.{◌+◌, ◌≡◌, ◌⊎◌, inl, inr, ℕ, Bool, true, false, not, cond, List, [], ◌++◌, refl, sym, ap, ◌∙◌, subst}
-use Rattle.std.specs.Prelude.{Option, Some, None, codes, ◌&&◌, ◌||◌}
+use Rattle.std.proofs.Common.{◌≡◌, ◌⊎◌, inl, inr, ℕ, true, List, ◌++◌, refl, sym, ap, ◌∙◌, subst}
+use Rattle.std.specs.Prelude.{Option, Some, None}
 use Rattle.std.proofs.lemmas.List.{append-nil}
-use Rattle.tokens.specs.declared.token.Class.TheVariants.{Punctuator}
 use Rattle.token_cursor.specs.Point.{Point}
 use Rattle.tree.specs.declared.kind.Pair.{Pair}
-use Rattle.tree.specs.Tree.{Tree, Parts, none, part, gap, join, part_count}
-use Rattle.language.specs.Covers.{Reading, as_expression, as_pattern}
+use Rattle.tree.specs.Tree.{Parts, join, part_count}
+use Rattle.language.specs.Covers.{Reading, as_expression}
 use Rattle.language.specs.Token.{Token}
 use Rattle.covers.specs.declared.list.Listed.TheVariants as listed
 use Rattle.covers.specs.declared.list.List.{List as ListOf}
@@ -16,10 +15,9 @@ use Rattle.descent.specs.DerivedLists.{ClosedBy, is_whole}
 use Rattle.descent.specs.Follows.{PassedBefore, FirstMisses, SeesEnd, end_before}
 use Rattle.descent.specs.Given.{EndsWith}
 use Rattle.descent.specs.GivenLists.{ListGiven, LoneRead}
-use Rattle.phrases.specs.Seen.{ReadsHere}
 use Rattle.descent.proofs.Agreeing.{ends_before, ends_same, marks_same}
 use Rattle.descent.proofs.Extending.{join_none}
-use Rattle.descent.proofs.ListLoop.{Reached, Reaches}
+use Rattle.descent.proofs.ListLoop.{Reaches}
 use Rattle.descent.proofs.ListTurns.{EndSeen}
 use Rattle.descent.proofs.ListWhole.{none_there, whole_left}
 use Rattle.descent.proofs.Wholly.{semicolons_before, SemicolonsBefore}

@@ -1,5 +1,5 @@
 -- Behind the last item of a given list: all of it was read, and what closes it is left (ECMA-262 12.2, 12.16, 13.3, 13.12, 14.1, 14.6).
-use Rattle.std.proofs.Common.{◌+◌, ◌≡◌, ◌⊎◌, inl, inr, ℕ, Bool, true, false, not, cond, List, ◌++◌, Result, Ok, refl, sym, ap, ◌∙◌, subst}
+use Rattle.std.proofs.Common.{◌≡◌, ◌⊎◌, inl, inr, ℕ, Bool, true, false, not, cond, List, ◌++◌, Result, Ok, refl, sym, ap, ◌∙◌, subst}
 use Rattle.std.specs.Prelude.{Some, codes, ◌&&◌, ◌||◌, if◌then◌else◌, nat_le}
 use Rattle.std.specs.Result.{IsErrAnd}
 use Rattle.std.proofs.lemmas.Bool.{and_parts}

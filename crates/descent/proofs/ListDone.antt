@@ -1,21 +1,19 @@
 -- Behind an item of a given list: the list that is left of it, and the whole (ECMA-262 12.2, 12.16, 13.3, 13.12).
-use Rattle.std.proofs.Common.{◌+◌, ◌-◌, ◌≤◌, ◌≡◌, ◌⊎◌, inl, inr, ℕ, Bool, true, false, not, cond, List, [], ◌∷◌, ◌++◌, refl, sym, ap, ◌∙◌, subst, append_assoc, arith}
-use Rattle.std.specs.Prelude.{IsTrue, Option, Some, None, codes, ◌&&◌, ◌||◌, if◌then◌else◌, nat_le, nat_lt}
-use Rattle.std.proofs.lemmas.Bool.{and_parts, false≢true}
-use Rattle.std.proofs.lemmas.Bool.Decides.{nat_tests}
+use Rattle.std.proofs.Common.{◌+◌, ◌≡◌, ℕ, Bool, true, false, not, cond, List, refl, sym, ap, ◌∙◌, subst, arith}
+use Rattle.std.specs.Prelude.{Some, codes, ◌&&◌, ◌||◌, if◌then◌else◌, nat_le}
 use Rattle.tokens.specs.Reading.{any_goal}
 use Rattle.tokens.specs.declared.token.Class.TheVariants.{Punctuator}
 use Rattle.tree.specs.declared.kind.Pair.{Pair}
-use Rattle.tree.specs.Tree.{Tree, Parts, none, part, gap, join, part_count}
+use Rattle.tree.specs.Tree.{Parts, join, part_count}
 use Rattle.language.specs.declared.Edge.{Edge}
 use Rattle.language.specs.declared.Edge.TheVariants.{Closed, Arrow, Postfix, Other}
 use Rattle.language.specs.declared.Rank.TheVariants.{Expression, Assignment}
 use Rattle.language.specs.declared.Start.TheVariants.{Any}
-use Rattle.language.specs.Covers.{Reading, as_expression, as_pattern}
+use Rattle.language.specs.Covers.{Reading}
 use Rattle.language.specs.Edges.{edge, standing}
 use Rattle.language.specs.Follow.{operation, symbol_of, stops_at, holds}
 use Rattle.language.specs.Pieces.{Role, expr}
-use Rattle.language.specs.Words.{is, sequences}
+use Rattle.language.specs.Words.{is}
 use Rattle.language.specs.Token.{Token}
 use Rattle.language.specs.Places.{NextIn, itself, SpellsIn}
 use Rattle.language.proofs.Onward.{makes}
@@ -27,13 +25,13 @@ use Rattle.covers.specs.declared.list.Seen.{Seen}
 use Rattle.covers.specs.declared.list.List.{List as ListOf}
 use Rattle.covers.specs.Lists.{closing, is_ended, separated, reads}
 use Rattle.descent.specs.Derived.{RunsIn, all_read_as}
-use Rattle.descent.specs.DerivedLists.{has_reading, seen_fits, stood_in, left_of, ClosedBy, case_count, is_chunked, is_stuck, stuck_at, item_role}
-use Rattle.descent.specs.GivenLists.{ListGiven, RestGiven, LastGiven, ItemGiven, an_item, a_hole, a_chunk, ItemRead, is_left, is_full, is_lone, default_seen, minds_rest}
+use Rattle.descent.specs.DerivedLists.{has_reading, seen_fits, stood_in, left_of, ClosedBy, case_count, is_chunked, is_stuck, stuck_at}
+use Rattle.descent.specs.GivenLists.{ListGiven, LastGiven, ItemGiven, an_item, a_hole, a_chunk, ItemRead, is_full, is_lone, default_seen}
 use Rattle.phrases.specs.Items.{is_unseparated}
-use Rattle.phrases.specs.Seen.{ReadsHere, Misses}
+use Rattle.phrases.specs.Seen.{ReadsHere}
 use Rattle.descent.proofs.Agreeing.{marks_same}
 use Rattle.descent.proofs.ListSteps.{Behind, ended, comma, next}
-use Rattle.descent.proofs.ListTurns.{count_read, count_join, cases_join, lone_less, left_same, signs_apart, unlike}
+use Rattle.descent.proofs.ListTurns.{count_read, count_join, cases_join, left_same, signs_apart, unlike}
 use Rattle.descent.proofs.ListLoop.{moved_given}
 use Rattle.descent.proofs.ListNext.{comma_left, comma_free, next_free, rest_runs, defaults_left}
 use Rattle.phrases.proofs.Seeing.{mark_by}

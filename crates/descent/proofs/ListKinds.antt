@@ -1,35 +1,32 @@
 -- The same of what parentheses hold, of sequences, declarators, templates, cases and members; and of all lists (ECMA-262 12.2, 12.16, 13.3, 13.12, 14.6).
-use Rattle.std.proofs.Common.{◌+◌, ◌-◌, ◌≡◌, ◌⊎◌, inl, inr, ℕ, Bool, true, false, not, cond, List, [], ◌∷◌, ◌++◌, refl, sym, ap, ◌∙◌, subst}
-use Rattle.std.specs.Prelude.{IsTrue, Option, Some, None, codes, ◌&&◌, ◌||◌}
-use Rattle.std.proofs.lemmas.Bool.{false≢true}
-use Rattle.std.proofs.lemmas.List.{append-nil}
+use Rattle.std.proofs.Common.{◌+◌, ◌-◌, ◌≡◌, ◌⊎◌, inl, inr, ℕ, Bool, true, false, not, List, [], ◌∷◌, ◌++◌, refl, sym, ap, ◌∙◌, subst}
+use Rattle.std.specs.Prelude.{Option, Some, None, codes, ◌&&◌, ◌||◌}
 use Rattle.tokens.specs.Reading.{any_goal}
-use Rattle.tokens.specs.declared.token.Class.TheVariants.{Name, Punctuator, Template}
+use Rattle.tokens.specs.declared.token.Class.TheVariants.{Name, Punctuator}
 use Rattle.tokens.specs.declared.token.Goal.TheVariants.{Div}
-use Rattle.tree.specs.declared.kind.Kind.{Kind}
 use Rattle.tree.specs.declared.kind.Kind.TheVariants.{TemplateElement}
 use Rattle.tree.specs.declared.kind.Pair.{Pair}
-use Rattle.tree.specs.Tree.{Tree, node, plain, Parts, none, part, gap, kind_of, join, bare_parts}
+use Rattle.tree.specs.Tree.{Tree, node, plain, Parts, none, part, gap, kind_of, bare_parts}
 use Rattle.language.specs.declared.Rank.{Rank}
 use Rattle.language.specs.declared.Rank.TheVariants.{Expression, Assignment}
 use Rattle.language.specs.declared.Start.TheVariants.{Any}
 use Rattle.language.specs.declared.Edge.{Edge}
 use Rattle.language.specs.Covers.{Reading, as_expression, as_pattern, element_as, property_as}
-use Rattle.language.specs.Edges.{edge, last_edge, standing}
-use Rattle.language.specs.Follow.{operation, symbol_of, stops, stops_at, holds}
-use Rattle.language.specs.Words.{takes, is, is_rest}
-use Rattle.language.specs.Pieces.{Role, expr, chunk, declarator, switch_case, member, Piece, PieceOf, tail, sub, put, put_at, argument, pattern_element, with_default}
+use Rattle.language.specs.Edges.{edge, standing}
+use Rattle.language.specs.Follow.{operation, symbol_of, stops_at, holds}
+use Rattle.language.specs.Words.{takes, is}
+use Rattle.language.specs.Pieces.{expr, chunk, declarator, switch_case, tail, sub, put, argument, pattern_element, with_default}
 use Rattle.language.specs.Expressions.{assignment, chunks, object_part, object_pattern_part}
-use Rattle.language.specs.Statements.{declarators, member_lines}
+use Rattle.language.specs.Statements.{declarators}
 use Rattle.language.specs.Token.{Token}
 use Rattle.language.specs.Promises.{ReadBy}
-use Rattle.language.specs.Derivation.{Reads, Step, Runs, done, step, one_more, no_more}
+use Rattle.language.specs.Derivation.{done, step, one_more, no_more}
 use Rattle.language.specs.Places.{NextIn, itself, SpellsIn}
 use Rattle.language.proofs.Begins.{goes_to, retell}
 use Rattle.language.proofs.Blocks.{one_case, case_pieces}
 use Rattle.language.proofs.DeclaratorLists.{comma_declared}
 use Rattle.language.proofs.OneKind.{one_kind}
-use Rattle.language.proofs.Running.{run_none, run_never, run_laid, run_token, run_the_part, run_the_gap}
+use Rattle.language.proofs.Running.{run_none, run_laid, run_token, run_the_part, run_the_gap}
 use Rattle.language.proofs.Sole.{Anyhow}
 use Rattle.language.proofs.Templates.{chunk_told, before_chunk}
 use Rattle.language.proofs.TextPlaces.{text_determined}
@@ -39,15 +36,15 @@ use Rattle.covers.specs.declared.list.Listed.TheVariants as listed
 use Rattle.covers.specs.Lists.{closing}
 use Rattle.phrases.specs.declared.statements.Until.TheVariants as until
 use Rattle.descent.specs.Derived.{RunsIn}
-use Rattle.descent.specs.DerivedLists.{has_reading, stood_in, left_of, item_role, ClosedBy, several, is_chunked, behind_chunk}
+use Rattle.descent.specs.DerivedLists.{has_reading, stood_in, left_of, item_role, ClosedBy, several}
 use Rattle.descent.specs.Follows.{ChunkAt, FirstMisses}
 use Rattle.descent.specs.Given.{StopsIn, DeclaredIn}
-use Rattle.descent.specs.GivenLists.{LastDeclared, LastGiven, CommaOr, ItemEnds, an_item, a_chunk, is_last_rest}
+use Rattle.descent.specs.GivenLists.{LastDeclared, LastGiven, an_item, a_chunk}
 use Rattle.phrases.specs.Seen.{ReadsHere, Sees, SeesBy, Misses}
 use Rattle.phrases.specs.Tests.{ends}
 use Rattle.descent.proofs.Agreeing.{read_here}
 use Rattle.descent.proofs.ListTails.{Settled, Tail, at_end, and_comma, First, item_then, several_first, declarators_first}
-use Rattle.descent.proofs.ListSteps.{Behind, ended, comma, next, Step as ListStep, over, further, object_piece, pattern_piece, ends_at, with_commas, nothing_there, listed_step, elements_step}
+use Rattle.descent.proofs.ListSteps.{ended, next, Step as ListStep, over, further, object_piece, pattern_piece, ends_at, with_commas, nothing_there, listed_step, elements_step}
 use Rattle.phrases.proofs.Seeing.{mark_by, name_by}
 
 -- what stops a sequence stops each of its expressions

@@ -1,14 +1,14 @@
 -- The loop over a list that is given: what is left of it before each item, and behind the last (ECMA-262 12.2, 12.16, 13.3, 13.12, 14.1, 14.6).
-use Rattle.std.proofs.Common.{◌+◌, ◌-◌, ◌≤◌, ◌≡◌, ◌⊎◌, inl, inr, ℕ, Bool, true, false, not, cond, List, [], ◌∷◌, ◌++◌, refl, sym, ap, ◌∙◌, subst, append_assoc, arith}
-use Rattle.std.specs.Prelude.{IsTrue, Option, Some, None, codes, ◌&&◌, ◌||◌, if◌then◌else◌, nat_le, nat_lt}
-use Rattle.std.proofs.lemmas.Bool.{and_parts, false≢true}
+use Rattle.std.proofs.Common.{◌+◌, ◌≡◌, ◌⊎◌, inl, inr, ℕ, Bool, true, false, not, cond, List, [], ◌++◌, refl, sym, ap, ◌∙◌, subst, arith}
+use Rattle.std.specs.Prelude.{Option, Some, None, ◌&&◌, nat_le, nat_lt}
+use Rattle.std.proofs.lemmas.Bool.{false≢true}
 use Rattle.std.proofs.lemmas.Bool.Decides.{nat_tests}
 use Rattle.std.proofs.lemmas.List.{append-nil}
 use Rattle.tokens.specs.Reading.{any_goal}
 use Rattle.tokens.specs.declared.token.Class.TheVariants.{Punctuator}
 use Rattle.token_cursor.specs.Point.{Point}
 use Rattle.tree.specs.declared.kind.Pair.{Pair}
-use Rattle.tree.specs.Tree.{Tree, Parts, none, part, gap, join, part_count, parts_height, height}
+use Rattle.tree.specs.Tree.{Parts, none, part, gap, join, part_count}
 use Rattle.language.specs.declared.Start.TheVariants.{Any}
 use Rattle.language.specs.Covers.{Reading, as_expression, as_pattern}
 use Rattle.language.specs.Pieces.{is_none}
@@ -19,21 +19,18 @@ use Rattle.covers.specs.declared.list.Listed.{Listed}
 use Rattle.covers.specs.declared.list.Listed.TheVariants as listed
 use Rattle.covers.specs.declared.list.Seen.{Seen}
 use Rattle.covers.specs.declared.list.List.{List as ListOf}
-use Rattle.covers.specs.declared.shape.Shape.{Shape}
-use Rattle.covers.specs.Lists.{closing, is_ended, separated, reads}
+use Rattle.covers.specs.Lists.{closing, is_ended, reads}
 use Rattle.covers.specs.Shapes.{unassigned, is_either, is_element}
 use Rattle.descent.specs.Derived.{RunsIn, all_read_as, fits_as}
-use Rattle.descent.specs.DerivedLists.{has_reading, seen_fits, stood_in, left_of, ClosedBy, case_count, is_chunked, is_stuck, stuck_at, is_whole, whole_of, asks_some}
-use Rattle.descent.specs.Follows.{PassedBefore, FirstMisses, SeesEnd, MissesEnd, CommaAt, end_before}
-use Rattle.descent.specs.Given.{EndsWith, Room}
-use Rattle.descent.specs.GivenLists.{ListGiven, RestGiven, LoneRead, LastGiven, ItemGiven, ItemRead, is_left, is_full, is_lone, default_seen, is_last_rest, minds_rest}
-use Rattle.phrases.specs.Items.{after_item, is_unseparated, are_some}
-use Rattle.phrases.specs.Seen.{ReadsHere, Sees, Misses}
-use Rattle.descent.proofs.Agreeing.{marks_same}
+use Rattle.descent.specs.DerivedLists.{has_reading, seen_fits, stood_in, left_of, ClosedBy, case_count, is_stuck, stuck_at, asks_some}
+use Rattle.descent.specs.Follows.{end_before}
+use Rattle.descent.specs.Given.{EndsWith}
+use Rattle.descent.specs.GivenLists.{ListGiven, RestGiven, LoneRead, LastGiven, ItemGiven, is_left, is_full, is_lone, default_seen}
+use Rattle.phrases.specs.Items.{are_some}
+use Rattle.phrases.specs.Seen.{ReadsHere, Misses}
 use Rattle.descent.proofs.Extending.{join_none}
-use Rattle.descent.proofs.ListSteps.{Behind, ended, comma, next, Step as ListStep, over, further, nothing_there, is_single}
-use Rattle.descent.proofs.ListTurns.{Ahead, stuck, unstuck, ahead_of, EndSeen, item_apart, high_join, join_again, count_join, count_read, cases_join, lone_less, left_same, signs_apart, unlike}
-use Rattle.descent.proofs.Wholly.{SemicolonsBefore, semicolons_before, after_seen, after_nodes, after_listed}
+use Rattle.descent.proofs.ListSteps.{Behind, Step as ListStep, over, further, nothing_there}
+use Rattle.descent.proofs.ListTurns.{Ahead, stuck, unstuck, EndSeen, item_apart}
 
 -- What was read of a given list, and what is left of it.
 pub record Reached (text : List ℕ) (l0 l : ListOf) (a : Reading) (o : ℕ) (ps : Parts) (to : Token) (P : List Pair) (s e : Point) (old new : List Pair) : Type 0 where

@@ -1,29 +1,23 @@
 -- Behind an item of a given list: what is left behind a comma, or where nothing stands between items; and where the list ends (ECMA-262 12.2, 12.16, 13.3, 13.12).
-use Rattle.std.proofs.Common.{◌+◌, ◌-◌, ◌≤◌, ◌≡◌, ◌⊎◌, inl, inr, ℕ, Bool, true, false, not, cond, List, [], ◌∷◌, ◌++◌, refl, sym, ap, ◌∙◌, subst, append_assoc, arith}
-use Rattle.std.specs.Prelude.{IsTrue, Option, Some, None, codes, ◌&&◌, ◌||◌, if◌then◌else◌, nat_le}
-use Rattle.std.proofs.lemmas.Bool.{and_parts, false≢true}
+use Rattle.std.proofs.Common.{◌+◌, ◌≡◌, ℕ, Bool, true, false, List, refl, ap, ◌∙◌, arith}
+use Rattle.std.specs.Prelude.{◌&&◌, ◌||◌, if◌then◌else◌, nat_le}
+use Rattle.std.proofs.lemmas.Bool.{and_parts}
 use Rattle.std.proofs.lemmas.Bool.Decides.{nat_tests}
-use Rattle.tokens.specs.Reading.{any_goal}
-use Rattle.tokens.specs.declared.token.Class.TheVariants.{Punctuator}
-use Rattle.token_cursor.specs.Point.{Point}
 use Rattle.tree.specs.declared.kind.Pair.{Pair}
-use Rattle.tree.specs.Tree.{Tree, Parts, none, part, gap, join, part_count}
+use Rattle.tree.specs.Tree.{Parts}
 use Rattle.language.specs.declared.Start.TheVariants.{Any}
 use Rattle.language.specs.Covers.{Reading, as_expression, as_pattern}
-use Rattle.language.specs.Words.{is}
 use Rattle.language.specs.Token.{Token}
 use Rattle.covers.specs.declared.list.Listed.{Listed}
 use Rattle.covers.specs.declared.list.Listed.TheVariants as listed
-use Rattle.covers.specs.declared.list.Seen.{Seen}
 use Rattle.covers.specs.declared.list.List.{List as ListOf}
 use Rattle.covers.specs.declared.shape.Shape.{Shape}
-use Rattle.covers.specs.Lists.{closing, is_ended, separated, reads}
+use Rattle.covers.specs.Lists.{separated, reads}
 use Rattle.covers.specs.Shapes.{unassigned, is_either, is_element}
-use Rattle.descent.specs.Derived.{RunsIn, all_read_as, fits_as}
-use Rattle.descent.specs.DerivedLists.{has_reading, seen_fits, stood_in, left_of, ClosedBy, case_count, is_chunked, stuck_at}
-use Rattle.descent.specs.GivenLists.{ListGiven, RestGiven, LastGiven, is_left, is_full, is_lone, default_seen, minds_rest}
+use Rattle.descent.specs.Derived.{RunsIn, fits_as}
+use Rattle.descent.specs.DerivedLists.{has_reading, seen_fits, stood_in, left_of, stuck_at}
+use Rattle.descent.specs.GivenLists.{RestGiven, minds_rest}
 use Rattle.phrases.specs.Items.{is_unseparated, are_some}
-use Rattle.phrases.specs.Seen.{ReadsHere, Misses}
 use Rattle.descent.proofs.ListSteps.{is_single}
 
 and_both : {b c : Bool} → b ≡ true → c ≡ true → (b && c) ≡ true

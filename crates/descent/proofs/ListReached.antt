@@ -1,18 +1,15 @@
 -- The loop over a given list, from the points between which its items were read (ECMA-262 12.2, 12.16, 13.3, 13.12, 14.1, 14.6).
-use Rattle.std.proofs.Common.{◌+◌, ◌-◌, ◌≤◌, ◌≡◌, ◌⊎◌, inl, inr, ℕ, Bool, true, false, not, cond, List, [], ◌++◌, Result, Ok, Err, refl, sym, ap, ◌∙◌, subst, append_assoc, arith}
-use Rattle.std.specs.Prelude.{Option, Some, None, codes, ◌&&◌, ◌||◌, if◌then◌else◌, nat_le}
+use Rattle.std.proofs.Common.{◌+◌, ◌-◌, ◌≤◌, ◌≡◌, ℕ, Bool, true, false, List, ◌++◌, Result, Ok, Err, refl, sym, ap, ◌∙◌, subst, append_assoc, arith}
+use Rattle.std.specs.Prelude.{Option, Some, None, codes, if◌then◌else◌, nat_le}
 use Rattle.std.specs.Result.{IsErrAnd}
-use Rattle.std.proofs.lemmas.Bool.{false≢true}
 use Rattle.std.proofs.lemmas.Bool.Decides.{nat_tests}
 use Rattle.source_text.specs.declared.fault.Fault.{Fault}
 use Rattle.tokens.specs.declared.token.Class.TheVariants.{Punctuator}
 use Rattle.token_cursor.specs.Point.{Point}
 use Rattle.tree.specs.declared.kind.Pair.{Pair}
-use Rattle.tree.specs.Tree.{Tree, Parts, none, part, gap, join, part_count, parts_height}
-use Rattle.language.specs.Covers.{Reading, as_expression, as_pattern}
+use Rattle.tree.specs.Tree.{Parts, join, part_count, parts_height}
+use Rattle.language.specs.Covers.{Reading}
 use Rattle.language.specs.Token.{Token}
-use Rattle.covers.specs.declared.list.Listed.{Listed}
-use Rattle.covers.specs.declared.list.Listed.TheVariants as listed
 use Rattle.covers.specs.declared.list.Seen.{Seen}
 use Rattle.covers.specs.declared.list.List.{List as ListOf}
 use Rattle.covers.specs.Lists.{is_ended, separated}
@@ -20,13 +17,13 @@ use Rattle.descent.specs.Complete.{ItemComplete, ListComplete}
 use Rattle.descent.specs.Derived.{all_read_as}
 use Rattle.descent.specs.DerivedLists.{case_count}
 use Rattle.descent.specs.Follows.{PassedBefore, FirstMisses, MissesEnd, CommaAt, end_before}
-use Rattle.descent.specs.Given.{EndsWith, Room, Agrees}
-use Rattle.descent.specs.GivenLists.{ListGiven, LoneRead, ItemGiven, ItemRead, is_lone, default_seen}
+use Rattle.descent.specs.Given.{Room}
+use Rattle.descent.specs.GivenLists.{ListGiven, ItemGiven, is_lone, default_seen}
 use Rattle.phrases.specs.Items.{after_item, is_unseparated}
 use Rattle.phrases.specs.Seen.{ReadsHere}
 use Rattle.descent.proofs.Agreeing.{agrees_on, ends_behind, ends_before, ends_both}
 use Rattle.descent.proofs.ListTurns.{ahead_of, count_join, cases_join, lone_less, join_again, high_join}
-use Rattle.descent.proofs.ListLoop.{Reached, Reaches, ItemHere, item_here, EndMissed}
+use Rattle.descent.proofs.ListLoop.{Reaches, ItemHere, item_here, EndMissed}
 use Rattle.descent.proofs.ListDone.{next_given}
 use Rattle.descent.proofs.Wholly.{semicolons_before, SemicolonsBefore, after_seen, after_nodes, after_listed}
 

@@ -1,42 +1,29 @@
 -- A list that is given is over, or has a first item and what stands behind it, whatever it lists (ECMA-262 12.2, 12.3.6, 12.16, 13.3, 13.12, 14.1, 14.6).
-use Rattle.std.proofs.Common.{◌≡◌, ◌⊎◌, inl, inr, ℕ, Bool, true, false, not, cond, List, [], ◌∷◌, ◌++◌, refl, sym, ap, ◌∙◌, subst, append_assoc, arith}
-use Rattle.std.specs.Prelude.{IsTrue, Option, Some, None, codes, ◌&&◌, ◌||◌}
-use Rattle.std.proofs.lemmas.Bool.{false≢true, or_parts}
-use Rattle.std.proofs.lemmas.List.{append-nil}
+use Rattle.std.proofs.Common.{◌≡◌, inl, inr, ℕ, Bool, true, false, List, [], ◌∷◌, ◌++◌, refl, sym, ◌∙◌, subst}
+use Rattle.std.specs.Prelude.{Option, Some, codes}
 use Rattle.tokens.specs.Reading.{any_goal}
-use Rattle.tokens.specs.declared.token.Class.TheVariants.{Name, Punctuator}
-use Rattle.tokens.specs.declared.token.Goal.TheVariants.{Div}
+use Rattle.tokens.specs.declared.token.Class.TheVariants.{Punctuator}
 use Rattle.tree.specs.declared.kind.Kind.{Kind}
 use Rattle.tree.specs.declared.kind.Kind.TheVariants.{SpreadElement, RestElement, Property}
 use Rattle.tree.specs.declared.kind.Pair.{Pair}
 use Rattle.tree.specs.Tree.{Tree, node, Parts, none, part, gap, kind_of, join}
-use Rattle.language.specs.declared.Rank.{Rank}
-use Rattle.language.specs.declared.Rank.TheVariants.{Expression, Assignment}
 use Rattle.language.specs.declared.Start.TheVariants.{Any}
-use Rattle.language.specs.Covers.{Reading, as_expression, as_pattern, element_as, property_as}
-use Rattle.language.specs.Edges.{edge, last_edge, standing}
-use Rattle.language.specs.Follow.{operation, symbol_of, stops, stops_at, holds}
-use Rattle.language.specs.Words.{takes, tightness, is, is_rest}
-use Rattle.language.specs.Pieces.{Role, expr, declarator, switch_case, member, Piece, PieceOf, never, sub, tail, put, put_at, many, argument, pattern_element, with_default, listed as listed_pieces, elements}
-use Rattle.language.specs.Expressions.{assignment, object_part, object_pattern_part}
-use Rattle.language.specs.Statements.{declarators, lines, member_lines}
+use Rattle.language.specs.Covers.{Reading, as_expression, as_pattern, property_as}
+use Rattle.language.specs.Words.{is_rest}
+use Rattle.language.specs.Pieces.{Role, Piece, PieceOf, never, put_at, listed as listed_pieces, elements}
+use Rattle.language.specs.Expressions.{object_part, object_pattern_part}
 use Rattle.language.specs.Token.{Token}
-use Rattle.language.specs.Promises.{ReadBy}
-use Rattle.language.specs.Derivation.{step, one_more, no_more}
-use Rattle.language.specs.Places.{NextIn, itself, SpellsIn}
-use Rattle.language.proofs.DeclaratorLists.{comma_declared}
-use Rattle.language.proofs.Running.{run_none, run_never, run_laid, run_the_part}
-use Rattle.language.proofs.TextPlaces.{text_determined}
+use Rattle.language.specs.Places.{NextIn, itself}
+use Rattle.language.proofs.Running.{run_none, run_never}
 use Rattle.covers.specs.declared.list.Listed.{Listed}
 use Rattle.covers.specs.declared.list.Listed.TheVariants as listed
 use Rattle.covers.specs.Lists.{closing}
 use Rattle.descent.specs.Derived.{RunsIn}
-use Rattle.descent.specs.DerivedLists.{has_reading, stood_in, left_of, item_role, ClosedBy, several, is_chunked}
-use Rattle.descent.specs.Given.{StopsIn, DeclaredIn}
-use Rattle.descent.specs.GivenLists.{LastDeclared, LastGiven, CommaOr, ItemEnds, ItemGiven, an_item, a_hole, a_chunk, is_last_rest}
+use Rattle.descent.specs.DerivedLists.{stood_in, left_of, item_role, is_chunked}
+use Rattle.descent.specs.GivenLists.{LastGiven, CommaOr, ItemEnds, ItemGiven, an_item, a_hole, is_last_rest}
 use Rattle.phrases.specs.Items.{is_unseparated}
-use Rattle.phrases.specs.Seen.{ReadsHere, Sees, SeesBy, Misses}
-use Rattle.descent.proofs.ListTails.{Settled, Tail, at_end, and_comma, First, listed_first, elements_first, elements_hole, several_first, declarators_first}
+use Rattle.phrases.specs.Seen.{ReadsHere}
+use Rattle.descent.proofs.ListTails.{Settled, Tail, at_end, and_comma, First, listed_first, elements_first, elements_hole}
 
 -- no item stands behind another
 abbrev pub is_single : Listed → Bool

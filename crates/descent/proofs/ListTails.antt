@@ -1,7 +1,6 @@
 -- What runs over the items of a list, inverted: its first item, and what stands behind it (ECMA-262 12.2, 12.3.6, 12.16, 13.3, 14.1).
-use Rattle.std.proofs.Common.{◌≡◌, ℕ, Bool, true, false, cond, List, [], ◌∷◌, ◌++◌, refl, sym, ap, ◌∙◌, subst}
+use Rattle.std.proofs.Common.{◌≡◌, ℕ, Bool, true, false, cond, List, [], ◌∷◌, ◌++◌, refl, sym, subst}
 use Rattle.std.specs.Prelude.{Option, Some, None, codes, map}
-use Rattle.std.proofs.lemmas.List.{append-nil}
 use Rattle.tokens.specs.Reading.{any_goal}
 use Rattle.tokens.specs.declared.token.Class.TheVariants.{Punctuator}
 use Rattle.tree.specs.declared.kind.Kind.{Kind}
@@ -10,7 +9,7 @@ use Rattle.tree.specs.Tree.{Tree, Parts, none, part, gap, kind_of}
 use Rattle.language.specs.declared.Rank.TheVariants.{Expression, Assignment}
 use Rattle.language.specs.declared.Start.TheVariants.{Any}
 use Rattle.language.specs.Words.{is_rest}
-use Rattle.language.specs.Pieces.{Role, Piece, PieceOf, settle_piece, sign, sp, put_at, put, sub, tail, may, nothing, separator, is_none, listed as listed_pieces, elements}
+use Rattle.language.specs.Pieces.{Role, Piece, PieceOf, settle_piece, sign, sp, put_at, sub, tail, may, nothing, separator, is_none, listed as listed_pieces, elements}
 use Rattle.language.specs.Expressions.{sequence}
 use Rattle.language.specs.Statements.{declarators}
 use Rattle.language.specs.Token.{Token}

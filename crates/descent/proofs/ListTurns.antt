@@ -1,46 +1,42 @@
 -- A list that is given, read item by item: what is given before and behind each, and where none follows (ECMA-262 12.2, 12.16, 13.3, 13.12, 14.1, 14.6).
-use Rattle.std.proofs.Common.{◌+◌, ◌≤◌, ◌≡◌, ◌⊎◌, inl, inr, ℕ, Bool, true, false, not, cond, List, [], ◌∷◌, ◌++◌, refl, sym, ap, ◌∙◌, subst, append_assoc, arith}
-use Rattle.std.specs.Prelude.{IsTrue, Option, Some, None, codes, ◌&&◌, ◌||◌, if◌then◌else◌, nat_le, nat_lt, max}
+use Rattle.std.proofs.Common.{◌+◌, ◌≤◌, ◌≡◌, ◌⊎◌, inl, inr, ℕ, Bool, true, false, cond, List, [], ◌∷◌, refl, sym, ap, ◌∙◌, subst, arith}
+use Rattle.std.specs.Prelude.{Option, Some, None, codes, ◌&&◌, nat_le}
 use Rattle.std.proofs.lemmas.Bool.{and_parts, false≢true}
 use Rattle.std.proofs.lemmas.Bool.Decides.{nat_tests}
-use Rattle.std.proofs.lemmas.List.{append-nil}
 use Rattle.tokens.specs.Reading.{any_goal}
 use Rattle.tokens.specs.declared.token.Class.TheVariants.{Name, Punctuator}
 use Rattle.tokens.specs.declared.token.Goal.TheVariants.{Div}
-use Rattle.token_cursor.specs.Point.{Point}
 use Rattle.tree.specs.declared.kind.Pair.{Pair}
-use Rattle.tree.specs.Tree.{Tree, Parts, none, part, gap, kind_of, join, part_count, parts_height, height}
+use Rattle.tree.specs.Tree.{Parts, none, part, gap, join, part_count, parts_height}
 use Rattle.language.specs.declared.Start.TheVariants.{Any}
 use Rattle.language.specs.declared.Rank.TheVariants.{Assignment}
-use Rattle.language.specs.Covers.{Reading, as_expression, as_pattern, element_as}
-use Rattle.language.specs.Pieces.{Role, PieceOf, expr, spread, many, is_none}
+use Rattle.language.specs.Covers.{Reading, as_expression, as_pattern}
+use Rattle.language.specs.Pieces.{Role, PieceOf, expr, spread, many}
 use Rattle.language.specs.Statements.{defaults, member_lines}
 use Rattle.language.specs.Words.{is}
 use Rattle.language.specs.Token.{Token}
-use Rattle.language.specs.Derivation.{step, done, one_more as another, no_more}
+use Rattle.language.specs.Derivation.{step, one_more as another, no_more}
 use Rattle.language.specs.Places.{NextIn, itself, SpellsIn}
 use Rattle.language.proofs.CommaLists.{by_closing}
-use Rattle.language.proofs.CoverEnds.{Closing, a_bracket, a_parenthesis, a_brace}
+use Rattle.language.proofs.CoverEnds.{a_bracket, a_parenthesis, a_brace}
 use Rattle.language.proofs.CoverSpreads.{expression_kind}
 use Rattle.language.proofs.MemberLines.{no_member_begins}
-use Rattle.language.proofs.Running.{run_none, run_never, run_laid, run_the_part}
+use Rattle.language.proofs.Running.{run_none, run_laid, run_the_part}
 use Rattle.language.proofs.TextPlaces.{text_determined}
 use Rattle.unambiguous.proofs.Crossings.{no_element_there, no_property_there}
 use Rattle.covers.specs.declared.list.Listed.{Listed}
 use Rattle.covers.specs.declared.list.Listed.TheVariants as listed
-use Rattle.covers.specs.declared.list.Seen.{Seen}
 use Rattle.covers.specs.declared.list.List.{List as ListOf}
-use Rattle.covers.specs.Lists.{closing, is_ended, separated, reads}
-use Rattle.covers.specs.Patterns.{pattern_tree, pattern_parts}
+use Rattle.covers.specs.Lists.{closing}
+use Rattle.covers.specs.Patterns.{pattern_parts}
 use Rattle.descent.specs.Derived.{RunsIn, all_read_as}
-use Rattle.descent.specs.DerivedLists.{has_reading, seen_fits, stood_in, left_of, left_pieces, item_role, ClosedBy, case_count, is_chunked, is_stuck, stuck_at, is_whole, whole_of, asks_some}
-use Rattle.descent.specs.Follows.{Semicolons, none_passed, one_more, FirstMisses, SeesEnd, MissesEnd, end_before}
-use Rattle.descent.specs.Given.{EndsWith}
-use Rattle.descent.specs.GivenLists.{ListGiven, RestGiven, LoneRead, LastGiven, ItemGiven, an_item, a_hole, a_chunk, ItemRead, is_left, is_full, is_lone, default_seen, is_last_rest, minds_rest}
-use Rattle.phrases.specs.Items.{is_unseparated, are_some}
-use Rattle.phrases.specs.Seen.{ReadsHere, Sees, Misses}
-use Rattle.descent.proofs.Agreeing.{marks_same, read_here}
-use Rattle.descent.proofs.ListSteps.{Behind, ended, comma, next, Step as ListStep, over, further, nothing_there, is_single}
+use Rattle.descent.specs.DerivedLists.{has_reading, seen_fits, stood_in, left_of, ClosedBy, case_count, is_chunked, is_stuck, stuck_at}
+use Rattle.descent.specs.Follows.{Semicolons, none_passed, one_more, FirstMisses, end_before}
+use Rattle.descent.specs.GivenLists.{ListGiven, RestGiven, ItemGiven, an_item, a_hole, a_chunk, is_lone}
+use Rattle.phrases.specs.Items.{is_unseparated}
+use Rattle.phrases.specs.Seen.{ReadsHere, Sees}
+use Rattle.descent.proofs.Agreeing.{marks_same}
+use Rattle.descent.proofs.ListSteps.{Step as ListStep, nothing_there}
 use Rattle.descent.proofs.ListKinds.{list_step, case_begins}
 use Rattle.phrases.proofs.Seeing.{mark_by, name_by}
 use Rattle.descent.proofs.Wholly.{SemicolonsBefore}

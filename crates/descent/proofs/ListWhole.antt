@@ -1,11 +1,11 @@
 -- Where no item of a given list is left: before an item, and behind the last (ECMA-262 12.2, 12.16, 13.3, 13.12, 14.1, 14.6).
-use Rattle.std.proofs.Common.{◌+◌, ◌≡◌, ◌⊎◌, inl, inr, ℕ, Bool, true, false, not, cond, List, [], ◌++◌, refl, sym, ap, ◌∙◌, subst}
-use Rattle.std.specs.Prelude.{Option, Some, None, codes, ◌&&◌, ◌||◌, if◌then◌else◌, nat_lt}
+use Rattle.std.proofs.Common.{◌≡◌, ◌⊎◌, inl, inr, ℕ, Bool, true, false, not, cond, List, [], refl, sym, ap, ◌∙◌, subst}
+use Rattle.std.specs.Prelude.{codes, ◌&&◌, nat_lt}
 use Rattle.std.proofs.lemmas.Bool.{and_parts, false≢true}
 use Rattle.tokens.specs.Reading.{any_goal}
 use Rattle.tokens.specs.declared.token.Class.TheVariants.{Punctuator}
 use Rattle.tree.specs.declared.kind.Pair.{Pair}
-use Rattle.tree.specs.Tree.{Tree, Parts, none, part, gap, join, part_count}
+use Rattle.tree.specs.Tree.{Parts, none, part, gap, part_count}
 use Rattle.language.specs.declared.Start.TheVariants.{Any}
 use Rattle.language.specs.Covers.{Reading, as_expression, as_pattern}
 use Rattle.language.specs.Pieces.{is_none}
@@ -20,12 +20,12 @@ use Rattle.covers.specs.Lists.{closing, is_ended, separated}
 use Rattle.descent.specs.Derived.{RunsIn}
 use Rattle.descent.specs.DerivedLists.{has_reading, seen_fits, stood_in, left_of, ClosedBy, is_stuck, stuck_at, asks_some, is_chunked}
 use Rattle.descent.specs.Follows.{FirstMisses, end_before}
-use Rattle.descent.specs.GivenLists.{ListGiven, RestGiven, ItemRead, is_left, minds_rest, is_last_rest}
+use Rattle.descent.specs.GivenLists.{ListGiven, RestGiven, minds_rest, is_last_rest}
 use Rattle.phrases.specs.Items.{is_unseparated, are_some}
-use Rattle.phrases.specs.Seen.{ReadsHere, Misses}
+use Rattle.phrases.specs.Seen.{Misses}
 use Rattle.descent.proofs.ListKinds.{list_step}
 use Rattle.descent.proofs.ListLoop.{no_item, asked, asked_stuck}
-use Rattle.descent.proofs.ListSteps.{Behind, ended, comma, next, is_single}
+use Rattle.descent.proofs.ListSteps.{Behind, ended, comma, next}
 use Rattle.descent.proofs.ListTurns.{EndSeen, before_item, not_members, stuck_kind}
 use Rattle.descent.proofs.Wholly.{SemicolonsBefore}
 

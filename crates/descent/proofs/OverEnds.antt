@@ -13,13 +13,13 @@ use Rattle.tree.specs.declared.kind.Kind.TheVariants.{AssignmentExpression, Iden
 use Rattle.tree.specs.declared.kind.Pair.{Pair}
 use Rattle.tree.specs.Tree.{Tree, node, plain, part, none, kind_of, height}
 use Rattle.language.specs.declared.Rank.{Rank}
-use Rattle.language.specs.declared.Rank.TheVariants.{Expression, Assignment, LeftHandSide, Primary, Relational, Shift}
+use Rattle.language.specs.declared.Rank.TheVariants.{Expression, Assignment, LeftHandSide, Relational, Shift}
 use Rattle.language.specs.declared.Start.TheVariants.{Any}
 use Rattle.language.specs.declared.Edge.{Edge}
 use Rattle.language.specs.Words.{takes, takes_number, is_target as is_simple, is_pattern, is_identifier, arrows, assigns, among, is, binds, no_operator}
 use Rattle.language.specs.Token.{Token, same_class}
 use Rattle.language.specs.Edges.{edge, standing}
-use Rattle.language.specs.Pieces.{Role, expr, pattern, sub, at, lead, tail}
+use Rattle.language.specs.Pieces.{Role, expr, sub, at, lead, tail}
 use Rattle.language.specs.Follow.{operation, symbol_of, holds, stops_at}
 use Rattle.language.specs.Promises.{ReadBy}
 use Rattle.language.specs.Derivation.{Among}
@@ -42,7 +42,6 @@ use Rattle.covers.specs.declared.shape.Assigned.TheVariants as assigned
 use Rattle.descent.specs.Given.{StopsIn, Over, is_over, Unarrowed}
 use Rattle.phrases.specs.Seen.{ReadsHere, SeesBy}
 use Rattle.phrases.specs.Tests.{is_each}
-use Rattle.descent.proofs.SplitCores.{there}
 
 -- what stands at Primary stands left of `=`
 pub primary_number : (z : ℕ) → IsTrue (takes_number 22 z) → IsTrue (takes_number 18 z)

@@ -1,28 +1,27 @@
 -- At `**` In doesn't matter: its sides have it.
-use Rattle.std.proofs.Common.{◌≡◌, ℕ, ◌≤◌, ◌<◌, Bool, true, false, cond, List, [], ◌∷◌, ◌++◌, refl, sym, ap, ◌∙◌, arith}
-use Rattle.std.specs.Prelude.{IsTrue, nat_le, nat_eq, not, ◌&&◌}
-use Rattle.std.proofs.lemmas.Bool.{and_parts, false≢true}
+use Rattle.std.proofs.Common.{◌≡◌, ℕ, ◌≤◌, ◌<◌, Bool, true, false, cond, List, [], ◌∷◌, ◌++◌, refl, ◌∙◌, arith}
+use Rattle.std.specs.Prelude.{IsTrue}
+use Rattle.std.proofs.lemmas.Bool.{and_parts}
 use Rattle.std.proofs.lemmas.Bool.Decides.{nat_tests}
 use Rattle.tree.specs.declared.kind.Kind.{Kind}
 use Rattle.tree.specs.declared.kind.Kind.TheVariants.{SpreadElement, Property}
 use Rattle.tree.specs.declared.kind.Flags.{Flags}
 use Rattle.tree.specs.declared.kind.Pair.{Pair}
-use Rattle.tree.specs.Tree.{Tree, node, Parts, bare_parts, kind_of}
+use Rattle.tree.specs.Tree.{Tree, node, Parts}
 use Rattle.language.specs.declared.Rank.{Rank}
 use Rattle.language.specs.declared.Rank.TheVariants.{Exponentiation}
 use Rattle.language.specs.declared.Start.{Start}
-use Rattle.language.specs.declared.Start.TheVariants.{Any}
 use Rattle.language.specs.FirstPart.{others}
-use Rattle.language.specs.Words.{is, takes, takes_number, tightness, Operator, binds, operator_of}
+use Rattle.language.specs.Words.{is, takes, takes_number, tightness, binds, operator_of}
 use Rattle.language.specs.Pieces.{Role, expr, PieceOf, Piece, Slot, fixed, left, lead, tail, callee, lead_spine, lead_pattern, sub, settle_piece, Spelling, argument, sign}
 use Rattle.language.specs.Token.{Token}
-use Rattle.language.specs.Expressions.{object_part, selector, in_brackets, after_number, arguments}
+use Rattle.language.specs.Expressions.{object_part, selector, in_brackets, arguments}
 use Rattle.language.specs.Promises.{IsDetermined}
 use Rattle.language.specs.Grammar.{ways}
 use Rattle.language.specs.Derivation.{Spells, direct, grouped}
 use Rattle.language.specs.View.{Made, identifier, literal, this, array, object, function, class, template, short_arrow, arrow, tagged, super_member, member, super_call, call, new_with, new_without, new_target, import_call, chain, prefix, postfix, unary_word, unary_sign, power, binary, logical, conditional, assign, assign_pattern, several}
 use Rattle.language.proofs.Begins.{retell, goes_to, number_laid, AllLaid, no_piece, one_laid}
-use Rattle.language.proofs.Fixed.{Fixed, all_done, one_more, is_fixed, fixed_join, fixed_listed, fixed_elements, fixed_put}
+use Rattle.language.proofs.Fixed.{Fixed, all_done, one_more, is_fixed, fixed_join, fixed_listed, fixed_elements}
 use Rattle.language.proofs.Openers.{fixed_function, fixed_class, fixed_chunks}
 use Rattle.language.proofs.Operators.{binding}
 use Rattle.language.proofs.Productions.{spell}

@@ -1,6 +1,6 @@
 -- A turn of the loop at the first comma of a sequence (ECMA-262 12.16): the list that is given behind it, and what the list's answer, a refusal or the node makes.
-use Rattle.std.proofs.Common.{◌≡◌, ◌⊎◌, ℕ, suc, ◌≤◌, ◌<◌, ◌-◌, Bool, true, false, List, [], ◌∷◌, ◌++◌, Result, Ok, Err, refl, sym, ap, ◌∙◌, subst, arith}
-use Rattle.std.specs.Prelude.{IsTrue, Some, ◌&&◌, max}
+use Rattle.std.proofs.Common.{◌≡◌, ℕ, suc, ◌<◌, ◌-◌, Bool, false, List, [], Result, Ok, Err, refl, sym, ap, ◌∙◌, subst, arith}
+use Rattle.std.specs.Prelude.{Some, ◌&&◌}
 use Rattle.std.specs.Result.{IsErrAnd}
 use Rattle.std.proofs.lemmas.Bool.{and_from}
 use Rattle.source_text.specs.declared.fault.Fault.{Fault}
@@ -11,7 +11,7 @@ use Rattle.tokens.specs.Reading.{any_goal}
 use Rattle.token_cursor.specs.Point.{Point, IsAhead}
 use Rattle.tree.specs.declared.kind.Kind.TheVariants.{SequenceExpression}
 use Rattle.tree.specs.declared.kind.Pair.{Pair}
-use Rattle.tree.specs.Tree.{Tree, node, plain, Parts, part, none, join, height, parts_height}
+use Rattle.tree.specs.Tree.{Tree, node, plain, part, join, height, parts_height}
 use Rattle.language.specs.declared.Edge.{Edge}
 use Rattle.language.specs.declared.Rank.TheVariants.{Expression, Assignment}
 use Rattle.language.specs.Words.{takes, assigns, sequences}

@@ -1,7 +1,7 @@
 -- What stands behind the first comma of a sequence on the spine of what is given (ECMA-262 12.16).
-use Rattle.std.proofs.Common.{◌≡◌, ◌⊎◌, ℕ, suc, ◌≤◌, ◌<◌, ◌-◌, Bool, true, false, cond, List, [], ◌∷◌, ◌++◌, refl, sym, ap, ◌∙◌, subst, inl, inr, arith}
-use Rattle.std.specs.Prelude.{IsTrue, codes, Option, Some, None, ◌&&◌}
-use Rattle.std.proofs.lemmas.Bool.{false≢true, and_from}
+use Rattle.std.proofs.Common.{◌≡◌, ℕ, ◌≤◌, Bool, true, false, cond, List, [], ◌∷◌, ◌++◌, refl, sym, ap, ◌∙◌, subst, arith}
+use Rattle.std.specs.Prelude.{IsTrue, codes}
+use Rattle.std.proofs.lemmas.Bool.{false≢true}
 use Rattle.tokens.specs.declared.token.Class.TheVariants.{Punctuator}
 use Rattle.tokens.specs.declared.token.Goal.TheVariants.{Div}
 use Rattle.tokens.specs.Reading.{any_goal}
@@ -9,23 +9,22 @@ use Rattle.tree.specs.declared.kind.Kind.{Kind}
 use Rattle.tree.specs.declared.kind.Kind.TheVariants.{SequenceExpression, AssignmentExpression}
 use Rattle.tree.specs.declared.kind.Flags.{Flags}
 use Rattle.tree.specs.declared.kind.Pair.{Pair}
-use Rattle.tree.specs.Tree.{Tree, node, plain, Parts, part, gap, none, kind_of, height, parts_height, bare, bare_parts}
+use Rattle.tree.specs.Tree.{Tree, node, plain, Parts, part, gap, none, kind_of, height, bare, bare_parts}
 use Rattle.tree.specs.Uses.{has_text, used_flags}
 use Rattle.tree.proofs.Lean.{lean_flags, lean_text}
 use Rattle.language.specs.declared.Rank.{Rank}
 use Rattle.language.specs.declared.Rank.TheVariants.{Expression, Assignment}
 use Rattle.language.specs.declared.Start.{Start}
 use Rattle.language.specs.declared.Start.TheVariants.{Any}
-use Rattle.language.specs.declared.Edge.{Edge}
 use Rattle.language.specs.FirstPart.{others}
 use Rattle.language.specs.Words.{takes, takes_number, tightness, Operator, sequences}
 use Rattle.language.specs.Token.{Token}
-use Rattle.language.specs.Edges.{edge, last_edge, standing}
-use Rattle.language.specs.Pieces.{Role, expr, spine, Piece, PieceOf, tok, lay, sub, space, is_none, is_tight, sign, sp, tail}
+use Rattle.language.specs.Edges.{edge}
+use Rattle.language.specs.Pieces.{Role, expr, spine, PieceOf, tok, lay, sub, space, is_none, is_tight}
 use Rattle.language.specs.Expressions.{sequence}
-use Rattle.language.specs.Follow.{operation, stops, stops_at, symbol_of}
-use Rattle.language.specs.Promises.{ReadBy, LaterStop, later_parts}
-use Rattle.language.specs.Covers.{Reading, as_expression}
+use Rattle.language.specs.Follow.{operation, stops}
+use Rattle.language.specs.Promises.{ReadBy, LaterStop}
+use Rattle.language.specs.Covers.{Reading}
 use Rattle.language.specs.Grammar.{spellings}
 use Rattle.language.specs.Places.{NextIn, itself}
 use Rattle.language.proofs.TextPlaces.{text_determined}
@@ -33,7 +32,7 @@ use Rattle.language.proofs.Operators.{binding}
 use Rattle.language.proofs.Viewed.{way_of, made}
 use Rattle.language.proofs.Spine.{Grows, whole, grow, grows_on_spine}
 use Rattle.language.proofs.Begins.{retell, goes_to}
-use Rattle.language.proofs.Running.{run_none, run_never, run_token, run_laid}
+use Rattle.language.proofs.Running.{run_never, run_token, run_laid}
 use Rattle.language.proofs.Led.{Led, led_binary, led_power, led_assign, led_postfix, led_sequence, led_conditional, led_dot, led_index, led_call, led_tag, led_chain, led_of, linked_of}
 use Rattle.language.proofs.Reaches.{linked_base, reaches, is_loose}
 use Rattle.language.proofs.Signs.{reads_comma}

@@ -1,27 +1,24 @@
 -- The right sides of an operator that stands ahead, at a stage of what is given, and the next stage.
-use Rattle.std.proofs.Common.{◌≡◌, ◌⊎◌, ℕ, suc, ◌≤◌, ◌<◌, Bool, true, false, cond, List, [], ◌∷◌, ◌++◌, refl, sym, ap, ◌∙◌, subst, inl, inr, arith}
+use Rattle.std.proofs.Common.{◌≡◌, ℕ, ◌≤◌, Bool, true, false, cond, List, [], ◌++◌, refl, sym, ap, ◌∙◌, subst, arith}
 use Rattle.std.specs.Prelude.{IsTrue, codes, Option, Some, None, if◌then◌else◌, not, ◌&&◌, ◌||◌}
 use Rattle.std.proofs.lemmas.Bool.{false≢true, and_from, and_parts}
 use Rattle.std.proofs.lemmas.Slice.Eq.{bytes_eq-Decides}
 use Rattle.tokens.specs.declared.token.Goal.TheVariants.{Div}
-use Rattle.tokens.specs.Tokens.{LexicalToken}
 use Rattle.tokens.specs.Reading.{any_goal}
-use Rattle.tree.specs.declared.kind.Kind.{Kind}
 use Rattle.tree.specs.declared.kind.Kind.TheVariants.{AssignmentPattern, AssignmentExpression, BinaryExpression, LogicalExpression, ConditionalExpression}
 use Rattle.tree.specs.declared.kind.Pair.{Pair}
 use Rattle.tree.specs.Tree.{Tree, node, plain, Parts, part, none, kind_of, text_of, height}
 use Rattle.language.specs.declared.Rank.{Rank}
-use Rattle.language.specs.declared.Rank.TheVariants.{Expression, Assignment, Conditional, ShortCircuit, LeftHandSide, Update, Exponentiation}
+use Rattle.language.specs.declared.Rank.TheVariants.{Assignment, Conditional, ShortCircuit, LeftHandSide, Update, Exponentiation}
 use Rattle.language.specs.declared.Start.TheVariants.{Any}
 use Rattle.language.specs.declared.Edge.{Edge}
-use Rattle.language.specs.Words.{is, takes, tightness, is_target as is_simple, is_pattern, Operator, binds, powers, assigns, steps, sequences, asks, selects, calls, indexes, chains, arrows, tags, no_operator}
-use Rattle.language.specs.Token.{Token, as_read}
+use Rattle.language.specs.Words.{is, takes, is_target as is_simple, is_pattern, binds, powers, assigns, asks}
+use Rattle.language.specs.Token.{Token}
 use Rattle.language.specs.Edges.{edge, standing}
-use Rattle.language.specs.Pieces.{Role, expr}
+use Rattle.language.specs.Pieces.{expr}
 use Rattle.language.specs.Follow.{operation, symbol_of, holds, stops_at, stops}
 use Rattle.language.specs.Promises.{ReadBy}
 use Rattle.language.specs.Covers.{Reading, as_expression, as_pattern}
-use Rattle.language.specs.Derivation.{Reads}
 use Rattle.language.specs.Places.{NextIn, itself, SpellsIn}
 use Rattle.language.proofs.TextPlaces.{text_determined}
 use Rattle.language.proofs.Tails.{tails_conditional}
@@ -30,7 +27,7 @@ use Rattle.language.proofs.Climbing.{Leads, grows_height, stops_inside}
 use Rattle.language.proofs.TwoSides.{two_binds, two_powers, two_assigns}
 use Rattle.language.proofs.Conditionals.{ask_on, read_there}
 use Rattle.covers.specs.Patterns.{pattern_tree}
-use Rattle.covers.specs.Shapes.{is_element, is_bound, is_target, is_pattern as is_listed, defaulted, value}
+use Rattle.covers.specs.Shapes.{is_element, is_bound, is_target, is_pattern as is_listed, defaulted}
 use Rattle.covers.specs.declared.shape.Shape.{Shape}
 use Rattle.covers.specs.declared.shape.Assigned.{Assigned}
 use Rattle.covers.specs.declared.shape.Assigned.TheVariants as assigned
@@ -38,18 +35,15 @@ use Rattle.phrases.specs.declared.part.Part.{Part}
 use Rattle.phrases.specs.declared.position.Position.{Position}
 use Rattle.phrases.specs.declared.operators.Operator.{Operator as Coded}
 use Rattle.phrases.specs.declared.operators.Operator.TheVariants as code
-use Rattle.phrases.specs.declared.operators.Sign.{Sign}
 use Rattle.descent.specs.Derived.{Begins, fits_as}
-use Rattle.descent.specs.Given.{SidesGiven, one_side, two_sides, StopsIn, IsRead}
-use Rattle.phrases.specs.Operators.{coded_operator, stops_by}
+use Rattle.descent.specs.Given.{SidesGiven, one_side, two_sides, StopsIn}
 use Rattle.descent.specs.Sides.{left_of, takes_left, sign_of}
-use Rattle.phrases.specs.Seen.{ReadsHere}
-use Rattle.descent.specs.Stages.{SpineAs, IsLeft, AssignedAs, DefaultAs, Serves, as_it_is, as_element, StageAs, on_spine, at_pattern, at_default, at_end, an_element}
+use Rattle.descent.specs.Stages.{SpineAs, IsLeft, AssignedAs, DefaultAs, Serves, as_it_is, StageAs, on_spine, at_end, an_element}
 use Rattle.descent.proofs.PowersIn.{power_in}
 use Rattle.descent.proofs.SplitCores.{there}
 use Rattle.descent.proofs.OverEnds.{simple_itself, target_listed, over_stopped}
-use Rattle.descent.proofs.TwoSidedOn.{TwoOn, two_on}
-use Rattle.descent.proofs.SpineTurns.{goes_there, on_further, node_there}
+use Rattle.descent.proofs.TwoSidedOn.{two_on}
+use Rattle.descent.proofs.SpineTurns.{on_further, node_there}
 
 coded_same : {a b : Coded} → Some a ≡ Some b → a ≡ b
 coded_same h = cc

@@ -1,33 +1,26 @@
 -- The next stage on the spine of an expression.
-use Rattle.std.proofs.Common.{◌≡◌, ◌⊎◌, ℕ, suc, ◌≤◌, ◌<◌, Bool, true, false, cond, List, [], ◌∷◌, ◌++◌, refl, sym, ap, ◌∙◌, subst, inl, inr, arith}
-use Rattle.std.specs.Prelude.{IsTrue, codes, Some, None, not, ◌&&◌, ◌||◌}
-use Rattle.std.proofs.lemmas.Bool.{false≢true, and_from}
-use Rattle.tokens.specs.declared.token.Goal.TheVariants.{Div}
+use Rattle.std.proofs.Common.{◌≡◌, ◌⊎◌, ℕ, ◌<◌, Bool, true, false, List, refl, ap, ◌∙◌, subst, inl, inr}
+use Rattle.std.specs.Prelude.{IsTrue, codes}
 use Rattle.tokens.specs.Reading.{any_goal}
 use Rattle.tree.specs.declared.kind.Kind.{Kind}
-use Rattle.tree.specs.declared.kind.Kind.TheVariants.{AssignmentExpression, BinaryExpression, LogicalExpression, ConditionalExpression}
+use Rattle.tree.specs.declared.kind.Kind.TheVariants.{AssignmentExpression}
 use Rattle.tree.specs.declared.kind.Pair.{Pair}
-use Rattle.tree.specs.Tree.{Tree, node, plain, Parts, part, none, kind_of, text_of, height}
+use Rattle.tree.specs.Tree.{Tree, node, Parts, kind_of, text_of, height}
 use Rattle.language.specs.declared.Rank.{Rank}
-use Rattle.language.specs.declared.Rank.TheVariants.{Assignment, Conditional, ShortCircuit, LeftHandSide, Update, Exponentiation}
 use Rattle.language.specs.declared.Start.{Start}
-use Rattle.language.specs.declared.Start.TheVariants.{Any}
-use Rattle.language.specs.declared.Edge.{Edge}
-use Rattle.language.specs.Words.{is, takes, tightness, is_target as is_simple, is_pattern, Operator, binds, powers, assigns, asks}
+use Rattle.language.specs.Words.{takes, is_target as is_simple}
 use Rattle.language.specs.Token.{Token}
 use Rattle.language.specs.Edges.{edge, standing}
-use Rattle.language.specs.Pieces.{Role, expr}
-use Rattle.language.specs.Follow.{operation, symbol_of, holds, stops_at, stops}
-use Rattle.language.specs.Promises.{ReadBy}
-use Rattle.language.specs.Covers.{Reading, as_expression, as_pattern}
+use Rattle.language.specs.Pieces.{expr}
+use Rattle.language.specs.Follow.{operation, symbol_of, stops_at, stops}
+use Rattle.language.specs.Covers.{Reading}
 use Rattle.language.specs.Derivation.{Placed}
 use Rattle.language.specs.Places.{NextIn, itself, SpellsIn}
 use Rattle.language.proofs.TextPlaces.{text_determined}
 use Rattle.language.proofs.Spine.{Grows}
-use Rattle.language.proofs.Climbing.{Leads, grows_height}
-use Rattle.language.proofs.TwoSides.{TwoSided, two_binds, two_powers, two_assigns, same_places, replaced, retold, regrown}
-use Rattle.covers.specs.Patterns.{pattern_tree}
-use Rattle.covers.specs.Shapes.{is_element, is_target, is_pattern as is_listed}
+use Rattle.language.proofs.Climbing.{Leads}
+use Rattle.language.proofs.TwoSides.{same_places, retold, regrown}
+use Rattle.covers.specs.Shapes.{is_element, is_target}
 use Rattle.phrases.specs.declared.part.Part.{Part}
 use Rattle.phrases.specs.declared.position.Position.{Position}
 use Rattle.descent.specs.Derived.{Begins}

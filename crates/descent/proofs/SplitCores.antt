@@ -1,11 +1,11 @@
 -- The leftmost part of an expression: an assignment to a pattern, of which the pattern is read first, or another.
-use Rattle.std.proofs.Common.{◌≡◌, ◌⊎◌, ℕ, Bool, true, false, List, [], ◌∷◌, ◌++◌, refl, sym, ap, ◌∙◌, subst, inl, inr}
+use Rattle.std.proofs.Common.{◌≡◌, ℕ, Bool, false, List, [], ◌∷◌, ◌++◌, refl, sym, ap, ◌∙◌, subst}
 use Rattle.std.specs.Prelude.{IsTrue, codes}
 use Rattle.tokens.specs.declared.token.Class.{Class}
 use Rattle.tokens.specs.declared.token.Class.TheVariants.{Punctuator}
 use Rattle.tokens.specs.Reading.{any_goal}
 use Rattle.tree.specs.declared.kind.Kind.{Kind}
-use Rattle.tree.specs.declared.kind.Kind.TheVariants.{ArrayExpression, ObjectExpression, AssignmentExpression}
+use Rattle.tree.specs.declared.kind.Kind.TheVariants.{AssignmentExpression}
 use Rattle.tree.specs.declared.kind.Flags.{Flags}
 use Rattle.tree.specs.declared.kind.Pair.{Pair}
 use Rattle.tree.specs.Tree.{Tree, node, plain, Parts, part, none, kind_of, bare_parts}
@@ -17,7 +17,7 @@ use Rattle.language.specs.FirstPart.{lead as lead_kind}
 use Rattle.language.specs.Words.{takes}
 use Rattle.language.specs.Token.{Token}
 use Rattle.language.specs.Pieces.{Role, expr, pattern, PieceOf, sign}
-use Rattle.language.specs.Opening.{Opening, with_bracket, with_brace, opening_of}
+use Rattle.language.specs.Opening.{Opening, with_bracket, with_brace}
 use Rattle.language.specs.Grammar.{starts}
 use Rattle.language.specs.Derivation.{Reads, Placed}
 use Rattle.language.specs.Places.{NextIn, itself, SpellsIn}
@@ -28,7 +28,7 @@ use Rattle.language.proofs.Growing.{kind_bare}
 use Rattle.language.proofs.Headed.{Headed, head_identifier, head_literal, head_this, head_array, head_object, head_function, head_class, head_template, head_short_arrow, head_arrow, head_super_member, head_super_call, head_new_with, head_new_without, head_new_target, head_import, head_step, head_word, head_sign, head_array_pattern, head_object_pattern, Opens}
 use Rattle.language.proofs.Spine.{Core}
 use Rattle.language.proofs.Cores.{Cored, in_group, in_way, core_of}
-use Rattle.language.proofs.Targets.{Bracketing, by_bracket, by_brace, object_starts}
+use Rattle.language.proofs.Targets.{by_bracket, by_brace, object_starts}
 use Rattle.unambiguous.proofs.BracketForms.{BracketCore, as_list, as_assigned, bracket_of}
 use Rattle.phrases.specs.Seen.{ReadsHere, Sees}
 

@@ -33,7 +33,6 @@ use Rattle.language.proofs.Conditionals.{stops_before}
 use Rattle.language.proofs.Climbing.{grows_height, Leads}
 use Rattle.language.proofs.Starting.{Begun, Begins, begins, core_spelled}
 use Rattle.language.proofs.Reaches.{reaches}
-use Rattle.language.proofs.Productions.{listed}
 use Rattle.language.proofs.Led.{between}
 use Rattle.language.specs.Grammar.{ways}
 use Rattle.language.proofs.Callees.{Uncalled, uncalled_at, member_stops, leads_begun}

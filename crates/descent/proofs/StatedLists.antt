@@ -17,7 +17,7 @@ use Rattle.language.specs.FirstPart.{others}
 use Rattle.language.specs.Words.{is, is_reserved}
 use Rattle.language.specs.Edges.{edge, standing, last_edge}
 use Rattle.language.specs.Following.{Followed, may_follow}
-use Rattle.language.specs.Pieces.{Role, Piece, item, declarator, switch_case, block, handler, lay, line, shallower, ending, behind, sign, sp, nothing}
+use Rattle.language.specs.Pieces.{Role, Piece, item, declarator, switch_case, lay, line, shallower, ending, behind, sign, sp, nothing}
 use Rattle.language.specs.Promises.{is_free}
 use Rattle.language.specs.Statements.{prologue, lines, declarators, defaults, whole}
 use Rattle.language.specs.Token.{Token, same_class}

@@ -18,7 +18,7 @@ use Rattle.language.specs.Words.{among}
 use Rattle.language.specs.Edges.{edge, standing, last_ends_in_if}
 use Rattle.language.specs.Following.{Followed}
 use Rattle.language.specs.Opening.{no_opening, opening_by}
-use Rattle.language.specs.Pieces.{Role, expr, head, statement, bound, put}
+use Rattle.language.specs.Pieces.{Role, expr, head, bound, put}
 use Rattle.language.specs.Statements.{is_declaration}
 use Rattle.language.specs.Token.{Token, same_class}
 use Rattle.language.specs.Derivation.{Reads}

@@ -27,7 +27,7 @@ use Rattle.language.specs.Beginning.{Beginning, an_expression, beginning_of}
 use Rattle.language.specs.Covers.{as_expression}
 use Rattle.language.specs.Edges.{edge, standing}
 use Rattle.language.specs.Grammar.{spellings}
-use Rattle.language.specs.Words.{takes, tightness}
+use Rattle.language.specs.Words.{tightness}
 use Rattle.language.specs.Pieces.{expr, name, quoted}
 use Rattle.language.specs.Promises.{is_free}
 use Rattle.language.specs.Statements.{is_string_literal}

@@ -1,6 +1,6 @@
 -- A turn of the loop: from a stage of what is given to the next, by what the operator that stands ahead makes.
-use Rattle.std.proofs.Common.{◌≡◌, ◌⊎◌, ℕ, suc, ◌≤◌, ◌<◌, ◌-◌, Bool, true, false, cond, List, [], ◌∷◌, ◌++◌, Result, Ok, Err, refl, sym, ap, ◌∙◌, subst, inl, inr, arith}
-use Rattle.std.specs.Prelude.{IsTrue, IfOk, codes, Option, Some, None}
+use Rattle.std.proofs.Common.{◌≡◌, ◌⊎◌, ℕ, Bool, true, false, List, [], ◌++◌, Result, Ok, Err, refl, sym, ap, ◌∙◌, subst, inl, inr, arith}
+use Rattle.std.specs.Prelude.{IfOk, codes, Option, Some}
 use Rattle.std.proofs.lemmas.Bool.{false≢true}
 use Rattle.std.proofs.lemmas.Slice.Eq.{bytes_eq-Decides}
 use Rattle.source_text.specs.declared.fault.Fault.{Fault}
@@ -15,13 +15,13 @@ use Rattle.tree.specs.Tree.{Tree, node, plain, part, height}
 use Rattle.language.specs.declared.Rank.{Rank}
 use Rattle.language.specs.declared.Edge.{Edge}
 use Rattle.language.specs.declared.Edge.TheVariants.{Other}
-use Rattle.language.specs.Words.{is, takes, Operator, binds, powers, assigns, steps, sequences, asks, selects, calls, indexes, chains, arrows, tags, no_operator}
+use Rattle.language.specs.Words.{is, Operator, binds, powers, assigns, steps, sequences, asks, selects, calls, indexes, chains, arrows, tags, no_operator}
 use Rattle.language.specs.Token.{Token, as_read}
 use Rattle.language.specs.Edges.{edge, standing}
-use Rattle.language.specs.Follow.{operation, symbol_of, stops_at}
+use Rattle.language.specs.Follow.{operation, symbol_of}
 use Rattle.language.specs.Promises.{ReadBy}
 use Rattle.language.specs.Covers.{Reading}
-use Rattle.language.specs.Places.{NextIn, next_in, itself}
+use Rattle.language.specs.Places.{NextIn, itself}
 use Rattle.language.proofs.TextPlaces.{text_determined}
 use Rattle.language.proofs.Onward.{makes}
 use Rattle.language.proofs.Conditionals.{read_there}
@@ -30,7 +30,7 @@ use Rattle.phrases.specs.declared.position.Position.{Position}
 use Rattle.phrases.specs.declared.operators.Operator.{Operator as Coded}
 use Rattle.phrases.specs.declared.operators.Operator.TheVariants as code
 use Rattle.phrases.specs.declared.operators.Sign.{Sign}
-use Rattle.descent.specs.Derived.{Begins, ReadAt, grouping}
+use Rattle.descent.specs.Derived.{Begins, grouping}
 use Rattle.descent.specs.Given.{Agrees, Room, EndsWith}
 use Rattle.descent.specs.Complete.{SidedComplete, LinkedComplete}
 use Rattle.phrases.specs.Operators.{coded_operator, meant, stops_by}

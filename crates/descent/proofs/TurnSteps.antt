@@ -1,8 +1,7 @@
 -- A turn of the loop at `++` or `--`, and the texts of operators.
-use Rattle.std.proofs.Common.{◌≡◌, ◌⊎◌, ℕ, suc, ◌≤◌, ◌<◌, ◌-◌, Bool, true, false, cond, List, [], ◌∷◌, ◌++◌, Result, Ok, Err, refl, sym, ap, ◌∙◌, subst, inl, inr, arith}
-use Rattle.std.specs.Prelude.{IsTrue, Option, Some, None}
+use Rattle.std.proofs.Common.{◌≡◌, ℕ, suc, ◌≤◌, ◌<◌, ◌-◌, true, false, List, [], ◌++◌, Result, Err, refl, sym, ap, ◌∙◌, subst, arith}
+use Rattle.std.specs.Prelude.{Some}
 use Rattle.std.specs.Result.{IsErrAnd}
-use Rattle.std.proofs.lemmas.Bool.{false≢true}
 use Rattle.std.proofs.lemmas.List.{append-nil}
 use Rattle.source_text.specs.declared.fault.Fault.{Fault}
 use Rattle.source_text.specs.declared.fault.Fault.TheVariants.{TooDeep, OutOfMemory}
@@ -10,13 +9,13 @@ use Rattle.tokens.specs.declared.token.Goal.TheVariants.{Div}
 use Rattle.tokens.specs.Tokens.{LexicalToken}
 use Rattle.tokens.specs.Reading.{any_goal}
 use Rattle.token_cursor.specs.Point.{Point, IsAhead}
-use Rattle.tree.specs.declared.kind.Kind.TheVariants.{UpdateExpression, AssignmentExpression}
+use Rattle.tree.specs.declared.kind.Kind.TheVariants.{UpdateExpression}
 use Rattle.tree.specs.declared.kind.Pair.{Pair}
-use Rattle.tree.specs.Tree.{Tree, node, plain, Parts, part, none, height, parts_height, kind_of}
+use Rattle.tree.specs.Tree.{Tree, node, plain, Parts, part, none, height, parts_height}
 use Rattle.language.specs.declared.Rank.TheVariants.{Update}
 use Rattle.language.specs.declared.Edge.TheVariants.{Postfix}
-use Rattle.language.specs.Words.{is_word_operator, is_target as is_simple, Operator, assigns, steps, tags}
-use Rattle.language.specs.Token.{Token, as_read, table_text}
+use Rattle.language.specs.Words.{is_word_operator, assigns, steps}
+use Rattle.language.specs.Token.{Token, as_read}
 use Rattle.language.specs.Follow.{operation}
 use Rattle.language.specs.Promises.{ReadBy}
 use Rattle.language.specs.Covers.{Reading}

@@ -1,29 +1,28 @@
 -- The node with an operator with two sides on the spine of a whole that can't go on.
-use Rattle.std.proofs.Common.{◌≡◌, ℕ, ◌-◌, Bool, true, false, cond, List, ◌++◌, refl, sym, ap, ◌∙◌, subst, arith}
+use Rattle.std.proofs.Common.{◌≡◌, ℕ, Bool, true, false, cond, List, ◌++◌, refl, sym, ap, ◌∙◌, subst, arith}
 use Rattle.std.specs.Prelude.{IsTrue, Some}
-use Rattle.std.proofs.lemmas.Bool.{false≢true}
 use Rattle.tokens.specs.declared.token.Class.TheVariants.{Name, Punctuator}
 use Rattle.tokens.specs.declared.token.Goal.TheVariants.{Div}
 use Rattle.tree.specs.declared.kind.Kind.{Kind}
-use Rattle.tree.specs.declared.kind.Kind.TheVariants.{BinaryExpression, LogicalExpression, AssignmentExpression}
+use Rattle.tree.specs.declared.kind.Kind.TheVariants.{BinaryExpression, LogicalExpression}
 use Rattle.language.specs.declared.Rank.{Rank}
-use Rattle.language.specs.declared.Rank.TheVariants.{Assignment, Exponentiation, Update, LeftHandSide, Relational}
+use Rattle.language.specs.declared.Rank.TheVariants.{Relational}
 use Rattle.language.specs.declared.Start.{Start}
 use Rattle.language.specs.declared.Start.TheVariants.{Any}
 use Rattle.tree.specs.declared.kind.Flags.{Flags}
 use Rattle.tree.specs.declared.kind.Pair.{Pair}
 use Rattle.tree.specs.Tree.{Tree, node, Parts, none, part, bare, kind_of, plain}
-use Rattle.tree.specs.Uses.{implies, has_text, used_flags}
+use Rattle.tree.specs.Uses.{has_text, used_flags}
 use Rattle.tree.proofs.Lean.{lean_flags}
 use Rattle.language.specs.FirstPart.{lead as lead_kind}
-use Rattle.language.specs.Words.{is, takes, tightness, is_word_operator, is_target, Operator, binds, powers, assigns, does_assign, operator_of, chains}
+use Rattle.language.specs.Words.{takes, tightness, is_word_operator, is_target, Operator, does_assign, operator_of, chains}
 use Rattle.language.specs.Pieces.{Role, expr, PieceOf}
 use Rattle.language.specs.Token.{Token}
 use Rattle.language.specs.Edges.{edge, standing}
 use Rattle.language.specs.Follow.{operation, symbol_of, stops}
 use Rattle.language.specs.Promises.{IsDetermined, ReadBy, Stops}
 use Rattle.language.specs.Grammar.{ways}
-use Rattle.language.specs.Derivation.{Reads, Spells, Placed, placed}
+use Rattle.language.specs.Derivation.{Spells, Placed}
 use Rattle.language.proofs.Spine.{Grows}
 use Rattle.language.proofs.Operators.{binding}
 use Rattle.language.proofs.Signs.{op_reads}

@@ -20,11 +20,11 @@ use Rattle.covers.specs.declared.shape.Assigned.TheVariants as assigned
 use Rattle.covers.specs.Shapes.{is_pattern, is_target}
 use Rattle.language.specs.declared.Edge.{Edge}
 use Rattle.language.specs.declared.Rank.{Rank}
-use Rattle.language.specs.declared.Rank.TheVariants.{Expression, Assignment, Conditional, New}
+use Rattle.language.specs.declared.Rank.TheVariants.{Expression, Conditional, New}
 use Rattle.language.specs.declared.Start.TheVariants.{Any}
 use Rattle.language.specs.Covers.{Reading, as_expression, as_pattern}
 use Rattle.language.specs.Edges.{edge, standing}
-use Rattle.language.specs.Pieces.{Role, bound, statement}
+use Rattle.language.specs.Pieces.{Role, bound}
 use Rattle.language.specs.Places.{NextIn, itself}
 use Rattle.language.specs.Token.{Token, same_class}
 use Rattle.language.specs.Words.{is_target as is_simple, is_pattern as is_pattern_kind}

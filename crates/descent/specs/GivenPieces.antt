@@ -1,18 +1,18 @@
 -- What is given of statements, functions and classes, piece by piece (ECMA-262 clauses 13 and 14).
-use Rattle.std.specs.Prelude.{◌≡◌, ◌⊎◌, ℕ, Bool, true, false, not, ◌&&◌, ◌||◌, List, [], ◌∷◌, ◌++◌, nat_le, codes, Option, Some, None}
+use Rattle.std.specs.Prelude.{◌≡◌, ◌⊎◌, ℕ, Bool, true, false, not, ◌&&◌, ◌||◌, List, [], ◌∷◌, ◌++◌, nat_le, codes}
 use Rattle.tokens.specs.declared.token.Class.TheVariants.{Name, Punctuator}
 use Rattle.tokens.specs.declared.token.Goal.TheVariants.{Div, RegExp}
 use Rattle.tokens.specs.Reading.{any_goal}
 use Rattle.token_cursor.specs.Ends.{EndsAt}
 use Rattle.token_cursor.specs.declared.semicolon.Ending.TheVariants.{OfDo, Behind}
 use Rattle.tree.specs.declared.kind.Pair.{Pair}
-use Rattle.tree.specs.Tree.{Tree, Parts, none, part, gap, kind_of}
+use Rattle.tree.specs.Tree.{Tree, Parts, none, part}
 use Rattle.language.specs.declared.Rank.{Rank}
 use Rattle.language.specs.declared.Rank.TheVariants.{Expression, Assignment, LeftHandSide}
 use Rattle.language.specs.declared.Start.TheVariants.{Any}
 use Rattle.language.specs.declared.Edge.{Edge}
 use Rattle.language.specs.Token.{Token}
-use Rattle.language.specs.Pieces.{Role, expr, name, statement, block, body, handler, head, switch_case, declarator, class_body, bound, listed, pattern_element, sign}
+use Rattle.language.specs.Pieces.{expr, name, statement, block, body, handler, head, switch_case, declarator, class_body, listed, pattern_element, sign}
 use Rattle.language.specs.Edges.{edge, standing, last_edge}
 use Rattle.language.specs.Statements.{prologue, lines, declarators, defaults}
 use Rattle.language.specs.Promises.{ReadBy}

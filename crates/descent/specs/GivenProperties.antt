@@ -1,5 +1,5 @@
 -- What is given of properties and members, by their names and what stands behind these (ECMA-262 12.2.6, 12.15.5, 14.3, 14.6).
-use Rattle.std.specs.Prelude.{◌≡◌, ℕ, suc, ◌≤◌, Bool, true, false, List, [], Option, Some, None, codes}
+use Rattle.std.specs.Prelude.{◌≡◌, ℕ, suc, ◌≤◌, Bool, true, false, List, Option, Some, None, codes}
 use Rattle.tokens.specs.declared.token.Class.TheVariants.{Name, Punctuator}
 use Rattle.tokens.specs.declared.token.Goal.TheVariants.{Div}
 use Rattle.tokens.specs.declared.token.Token.{Token as Scanned}
@@ -18,7 +18,7 @@ use Rattle.language.specs.Places.{NextIn, itself, SpellsIn}
 use Rattle.language.proofs.TextPlaces.{text_determined}
 use Rattle.language.proofs.CoverProperties.{KeyAt}
 use Rattle.descent.specs.GivenLists.{CommaOr}
-use Rattle.phrases.specs.Seen.{ReadsHere, MissesBy, NameHere, is_free_name}
+use Rattle.phrases.specs.Seen.{ReadsHere, MissesBy, is_free_name}
 use Rattle.phrases.specs.Tests.{begins_key}
 
 -- `get` or `set` before a key, or neither
