@@ -2,7 +2,6 @@
 
 use language::Edge;
 use source_text::{Fault, Source};
-use std::test::Fail;
 use token_cursor::{Cursor, Ending, MAX_OPEN, goes_on};
 use tokens::Goal;
 
@@ -36,16 +35,20 @@ fn tokens_by_goal(rt: HostRuntime) {
     }
 }
 
-#[test]
-fn no_token_by_goal(rt: HostRuntime) -> Result<(), Fail> {
-    let source = Source::new(b"a /b")?;
+/// Behind `a`, where RegExp reads no token: whether none is seen, why none is taken, and where the cursor stands then.
+fn no_token(text: &[u8]) -> Result<(bool, Option<Fault>, usize), Fault> {
+    let source = Source::new(text)?;
     let mut cursor = Cursor::new(&source);
     cursor.take(Goal::Div)?;
     let is_none = cursor.peek(Goal::RegExp).is_none();
     let fault = cursor.take(Goal::RegExp).err();
-    let found = (is_none, fault, cursor.last_end());
-    assert_eq!(rt; found, (true, Some(Fault::Syntax(2)), 1));
-    Ok(())
+    Ok((is_none, fault, cursor.last_end()))
+}
+
+#[test]
+fn no_token_by_goal(rt: HostRuntime) {
+    let want = (true, Some(Fault::Syntax(2)), 1);
+    assert_eq!(rt; no_token(b"a /b"), Ok(want));
 }
 
 /// Whether the `;` may be missing behind the first token of a text.
@@ -89,27 +92,36 @@ fn semicolons(rt: HostRuntime) {
     }
 }
 
-#[test]
-fn going_on(rt: HostRuntime) -> Result<(), Fail> {
-    let source = Source::new(b"/=x/")?;
-    let token = Cursor::new(&source).peek(Goal::RegExp).ok_or("no token")?;
-    assert!(rt; goes_on(Edge::Postfix, &token) && !goes_on(Edge::Arrow, &token));
-    Ok(())
+/// Whether what ends in such an edge goes on with the first token of a text.
+fn is_gone_on(text: &[u8], edge: Edge) -> Option<bool> {
+    let source = Source::new(text).ok()?;
+    let token = Cursor::new(&source).peek(Goal::RegExp)?;
+    Some(goes_on(edge, &token))
 }
 
 #[test]
-fn parentheses(rt: HostRuntime) -> Result<(), Fail> {
+fn going_on(rt: HostRuntime) {
+    for (edge, goes) in [(Edge::Postfix, true), (Edge::Arrow, false)] {
+        assert_eq!(rt; is_gone_on(b"/=x/", edge), Some(goes));
+    }
+}
+
+/// What a cursor answers before `a` when as many parentheses are open as may be: to one more, to one in the place of another, to one
+/// more again; and where it stands.
+fn opened() -> Result<(Option<Fault>, Option<Fault>, Option<Fault>, usize), Fault> {
     let source = Source::new(b"a")?;
     let mut cursor = Cursor::new(&source);
     for _ in 0..MAX_OPEN {
         cursor.enter()?;
     }
-    let refused = cursor.enter();
+    let refused = cursor.enter().err();
     cursor.leave();
-    let found = (refused, cursor.enter(), cursor.enter(), cursor.place());
-    assert_eq!(rt;
-        found,
-        (Err(Fault::TooDeep), Ok(()), Err(Fault::TooDeep), 0)
-    );
-    Ok(())
+    let entered = cursor.enter().err();
+    Ok((refused, entered, cursor.enter().err(), cursor.place()))
+}
+
+#[test]
+fn parentheses(rt: HostRuntime) {
+    let refused = Some(Fault::TooDeep);
+    assert_eq!(rt; opened(), Ok((refused, None, refused, 0)));
 }

@@ -105,6 +105,11 @@ fn height_within(alloc: Global, heights: &[u32], high: u32) -> Result<u32, Fault
     Ok(node.height())
 }
 
+/// The height of a name.
+fn leaf_within(alloc: Global, high: u32) -> Result<u32, Fault> {
+    Ok(name(alloc, "a", high)?.height())
+}
+
 /// A node as high as is allowed is made, and one that is a unit higher is refused.
 #[test]
 fn heights_are_limited(rt: HostRuntime) {
@@ -118,8 +123,8 @@ fn heights_are_limited(rt: HostRuntime) {
         let want = [Ok(*height), Ok(*height), Err(Fault::TooDeep)];
         assert_eq!(rt; found, want, "{heights:?}");
     }
-    assert!(rt; matches!(name(alloc, "a", 0), Err(Fault::TooDeep)));
-    assert!(rt; name(alloc, "a", 1).is_ok());
+    assert_eq!(rt; leaf_within(alloc, 0), Err(Fault::TooDeep));
+    assert_eq!(rt; leaf_within(alloc, 1), Ok(1));
 }
 
 /// A method of two names.

@@ -1,12 +1,11 @@
-//! Grouping pairs of small scripts: the row of each pair's node, and which pairs are extra.
+//! Pairs that no script has, with the rows of their nodes, and which of them are extra. Those of scripts are data of the program
+//! `text_rows`.
 
-use crate::paired::{GROUPS, Paired, STATEMENTS};
 use paren_planner::{extra_pairs, plan_if_any};
 use parser::parse;
 use positions::{Grouping, groupings};
-use source_text::{Fault, Source};
+use source_text::Source;
 use std::alloc::{AllocError, Global};
-use std::process::Abort;
 use std::test::Fail;
 use tree::{Pair, Program, Span};
 
@@ -51,35 +50,6 @@ fn has_rows(
     };
     let spans = extra_pairs(alloc, &found, &plan)?;
     Ok(are_groupings(&found, pairs) && are_spans(&spans, extra))
-}
-
-/// The same of a text's own pairs.
-fn is_paired(
-    alloc: Global,
-    text: &str,
-    pairs: &[(usize, usize, usize)],
-    extra: &[(usize, usize)],
-) -> Result<bool, Fault> {
-    let source = Source::new(text.as_bytes())?;
-    let parsed = parse(alloc, &source)?;
-    let given = parsed.grouping_pairs();
-    Ok(has_rows(alloc, parsed.program(), given, pairs, extra)?)
-}
-
-fn are_paired(rt: &impl Abort, alloc: Global, scripts: &[Paired]) {
-    for (text, pairs, extra) in scripts {
-        assert_eq!(rt; is_paired(alloc, text, pairs, extra), Ok(true), "{text}");
-    }
-}
-
-#[test]
-fn groups(rt: HostRuntime) {
-    are_paired(&rt, rt.alloc(), &GROUPS);
-}
-
-#[test]
-fn statements(rt: HostRuntime) {
-    are_paired(&rt, rt.alloc(), &STATEMENTS);
 }
 
 /// Pairs that no script has: out of order, behind all rows, at the greatest place.
