@@ -73,17 +73,20 @@ fn pairs(alloc: Global, text: &str) -> Result<usize, Fault> {
     Ok(parsed.grouping_pairs().len())
 }
 
+fn push_times(text: &mut String, piece: &str, count: u32) -> Result<(), AllocError> {
+    for _ in 0..count {
+        text.push_str(piece)?;
+    }
+    Ok(())
+}
+
 /// A text so many times, an inner one, and another as often.
 fn nested(alloc: Global, row: &Row) -> Result<String, AllocError> {
     let count = row.text(2).parse::<u32>().unwrap_or(0);
     let mut text = String::new(alloc);
-    for _ in 0..count {
-        text.push_str(row.text(1))?;
-    }
+    push_times(&mut text, row.text(1), count)?;
     text.push_str(row.text(3))?;
-    for _ in 0..count {
-        text.push_str(row.text(4))?;
-    }
+    push_times(&mut text, row.text(4), count)?;
     Ok(text)
 }
 

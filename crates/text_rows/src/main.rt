@@ -21,17 +21,22 @@ fn compare(rt: &(impl Print + AllocGlobal), line: &str, row: &Row) -> anyhow::Re
     Ok(())
 }
 
+/// How many rows a file's text has; each is compared.
+fn compare_all(rt: &(impl Print + AllocGlobal), text: &str) -> anyhow::Result<u32> {
+    let mut count = 0u32;
+    for line in text.lines() {
+        if let Some(row) = Row::of(rt.alloc(), line)? {
+            compare(rt, line, &row)?;
+            count = count.saturating_add(1);
+        }
+    }
+    Ok(count)
+}
+
 fn main(rt: HostRuntime) -> anyhow::Result<()> {
     for path in env::args(&rt)?.skip(1) {
         let text = fs::read_to_string(&rt, path.as_str())?;
-        let mut count = 0u32;
-        for line in text.lines() {
-            let Some(row) = Row::of(rt.alloc(), line)? else {
-                continue;
-            };
-            compare(&rt, line, &row)?;
-            count = count.saturating_add(1);
-        }
+        let count = compare_all(&rt, text.as_str())?;
         println!(rt; "{path}: {count} rows")?;
     }
     Ok(())
