@@ -1,11 +1,9 @@
 ghost use Rattle.std.specs.Prelude.{◌≡◌, IfOk, false};
 
 use super::{obey, open_and_run};
-use clap::error::ErrorKind;
-use command_line::{Line, command_line};
+use command_line::Line;
 use source_text::{Fault, MemorySink, Plan};
 use std::alloc::{AllocError, Global};
-use std::process::Abort;
 use std::test::Fail;
 use streams::{Command, Refused};
 
@@ -69,42 +67,4 @@ fn help_is_shown(rt: HostRuntime) -> Result<(), Fail> {
     assert!(rt; output.bytes().is_empty());
     assert!(rt; errors.bytes().is_empty());
     Ok(())
-}
-
-#[test]
-fn a_command_line(rt: HostRuntime) -> Result<(), Fail> {
-    let words = ["jslint", "fix", "a.js"];
-    let line = command_line(rt.alloc(), &words)?;
-    assert_eq!(rt; line.command, Command::Fix);
-    assert_eq!(rt; line.file, "a.js");
-    Ok(())
-}
-
-/// Words that are no command, and the kind of their refusal.
-fn no_commands() -> &'static [(&'static [&'static str], ErrorKind)] {
-    &NO_COMMANDS
-}
-
-static NO_COMMANDS: [(&[&str], ErrorKind); 7] = [
-    (&["jslint", "fix"], ErrorKind::MissingRequiredArgument),
-    (&["jslint"], ErrorKind::MissingSubcommand),
-    (&["jslint", "nope"], ErrorKind::InvalidSubcommand),
-    (&["jslint", "fix", "a", "b"], ErrorKind::UnknownArgument),
-    (&["jslint", "--help"], ErrorKind::DisplayHelp),
-    (&["jslint", "help"], ErrorKind::DisplayHelp),
-    (&["jslint", "help", "fix"], ErrorKind::DisplayHelp),
-];
-
-fn expect_no_command<'a>(rt: &impl Abort, alloc: Global, words: &'a [&'a str], want: ErrorKind) {
-    match command_line(alloc, words) {
-        Ok(_) => panic!(rt; "{words:?}"),
-        Err(error) => assert_eq!(rt; error.kind(), want, "{words:?}"),
-    }
-}
-
-#[test]
-fn command_lines_that_are_refused(rt: HostRuntime) {
-    for (words, want) in no_commands() {
-        expect_no_command(&rt, rt.alloc(), words, *want);
-    }
 }

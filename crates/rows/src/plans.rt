@@ -1,20 +1,147 @@
-//! A cost table holds what is put in. The plans of scripts are data of the program `text_rows`.
+//! The plan of a script, and its extra pairs.
 
-use paren_planner::CostTable;
-use std::test::Fail;
-use tree::Kind;
+use paren_planner::{CostTable, Plan, extra_pairs, plan_if_any};
+use positions::{Grouping, groupings};
+use std::alloc::{AllocError, Global};
+use tree::{Kind, Pair, Program, Span};
 
-#[test]
-fn tables(rt: HostRuntime) -> Result<(), Fail> {
-    let mut table = CostTable::new(rt.alloc());
-    let (zero, one) = (Some(0u32), Some(1u32));
-    let cells = [zero, None, None, one, None, Some(2u32), None, None];
+/// A cell's number; `-` where it has none.
+fn push_cell(out: &mut String, cell: Option<u32>) -> Result<(), AllocError> {
+    match cell {
+        Some(number) => write!(out, "{number}"),
+        None => out.push_str("-"),
+    }
+}
+
+/// The kind of a row, and its cells.
+fn push_row(out: &mut String, kind: Kind, cells: [Option<u32>; 8]) -> Result<(), AllocError> {
+    write!(out, "{kind:?} ")?;
+    for cell in cells.iter() {
+        push_cell(out, *cell)?;
+    }
+    Ok(())
+}
+
+/// The rows of a plan, and which of them are wrapped.
+fn push_rows(out: &mut String, table: &CostTable, plan: &Plan) -> Result<(), AllocError> {
+    for index in 0..table.row_count() {
+        let (kind, cells) = table.row(index + 1);
+        push_row(out, kind, cells)?;
+        out.push_str(match plan.wrapped(index + 1) {
+            true => " wrapped, ",
+            false => ", ",
+        })?;
+    }
+    Ok(())
+}
+
+/// The rows of a plan, and its total.
+fn push_whole(plan: &Plan, out: &mut String) -> Result<(), AllocError> {
+    push_rows(out, plan.table(), plan)?;
+    write!(out, "total {}", plan.total())
+}
+
+/// The plan of a script, if it has one.
+pub(crate) fn push_plan(
+    alloc: Global,
+    program: &Program,
+    out: &mut String,
+) -> Result<(), AllocError> {
+    match plan_if_any(alloc, program)? {
+        Some(plan) => push_whole(&plan, out),
+        None => Ok(()),
+    }
+}
+
+/// A table with one row.
+fn table(alloc: Global) -> Result<CostTable, AllocError> {
+    let mut table = CostTable::new(alloc);
+    let (zero, one, two) = (Some(0u32), Some(1u32), Some(2u32));
+    let cells = [zero, None, None, one, None, two, None, None];
     table.push_row(Kind::ObjectExpression, cells)?;
     table.set_total(7u32);
-    assert_eq!(rt; table.row_count(), 1usize);
-    assert_eq!(rt; table.total(), 7u32);
-    let (kind, found) = table.row(1);
-    assert_eq!(rt; kind, Kind::ObjectExpression);
-    assert_eq!(rt; found, cells);
+    Ok(table)
+}
+
+fn push_held(table: &CostTable, out: &mut String) -> Result<(), AllocError> {
+    write!(out, "{:?} ", (table.row_count(), table.total()))?;
+    if table.row_count() == 0 {
+        return Ok(());
+    }
+    let (kind, cells) = table.row(1);
+    push_row(out, kind, cells)
+}
+
+/// What it holds: how many rows, the total, and the first row.
+pub(crate) fn push_table(alloc: Global, out: &mut String) -> Result<(), AllocError> {
+    let table = table(alloc)?;
+    push_held(&table, out)
+}
+
+/// Grouping pairs by their `(` and `)`, with the rows of their nodes.
+fn push_groups(out: &mut String, groups: &[Grouping]) -> Result<(), AllocError> {
+    for group in groups {
+        write!(out, "{}-{} of {}, ", group.left, group.right, group.row)?;
+    }
     Ok(())
+}
+
+/// Extra pairs, from where to where.
+fn push_spans(out: &mut String, spans: &[Span]) -> Result<(), AllocError> {
+    for span in spans {
+        write!(out, " {}-{}", span.start, span.end)?;
+    }
+    Ok(())
+}
+
+/// Which of these pairs are extra; none where the script has no plan.
+fn spans_of(
+    alloc: Global,
+    program: &Program,
+    groups: &[Grouping],
+) -> Result<Vec<Span>, AllocError> {
+    match plan_if_any(alloc, program)? {
+        Some(plan) => extra_pairs(alloc, groups, &plan),
+        None => Ok(Vec::new(alloc)),
+    }
+}
+
+fn push_both(groups: &[Grouping], spans: &[Span], out: &mut String) -> Result<(), AllocError> {
+    push_groups(out, groups)?;
+    out.push_str("extra")?;
+    push_spans(out, spans)
+}
+
+/// Grouping pairs, and which of them are extra.
+pub(crate) fn push_extra(
+    alloc: Global,
+    program: &Program,
+    pairs: &[Pair],
+    out: &mut String,
+) -> Result<(), AllocError> {
+    let groups = groupings(alloc, program, pairs)?;
+    let spans = spans_of(alloc, program, &groups)?;
+    push_both(&groups, &spans, out)
+}
+
+fn pair(word: &str) -> Pair {
+    let (left, right) = word.split_once('-').unwrap_or(("", ""));
+    Pair {
+        left: left.parse::<usize>().unwrap_or(0),
+        right: right.parse::<usize>().unwrap_or(0),
+    }
+}
+
+/// The same of pairs that are written down, which the script needn't have.
+pub(crate) fn push_extra_pairs(
+    alloc: Global,
+    program: &Program,
+    words: &str,
+    out: &mut String,
+) -> Result<(), AllocError> {
+    let mut pairs = Vec::new(alloc);
+    for word in words.split(' ') {
+        pairs.push(pair(word))?;
+    }
+    push_extra(alloc, program, &pairs, out)
 }

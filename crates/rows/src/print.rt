@@ -1,18 +1,10 @@
 //! A tree as one line of text.
 
-use std::alloc::{AllocError, Global};
+use std::alloc::AllocError;
 use tree::{Flags, Form, Node, Span};
 
-/// Words one behind the other.
-pub(crate) fn write_words(out: &mut String, words: &[&str]) -> Result<(), AllocError> {
-    for word in words {
-        out.push_str(word)?;
-    }
-    Ok(())
-}
-
 /// A word, if it is to be shown.
-fn word(is_shown: bool, word: &str) -> &str {
+pub(crate) fn word(is_shown: bool, word: &str) -> &str {
     match is_shown {
         true => word,
         false => "",
@@ -30,28 +22,31 @@ fn form_word<'t>(form: Form) -> &'t str {
     }
 }
 
-/// The text of a node and the flags that are set.
-fn show_words(out: &mut String, text: &str, flags: Flags) -> Result<(), AllocError> {
-    let words = [
-        word(!text.is_empty(), " "),
-        word(true, text),
-        word(flags.computed, " computed"),
-        word(flags.optional, " optional"),
-        word(flags.is_static, " static"),
-        word(flags.prefix, " prefix"),
-        word(flags.directive, " directive"),
-        word(flags.expression, " expression"),
-        form_word(flags.form),
-    ];
-    write_words(out, &words)
+/// The flags that are set.
+fn push_flags(flags: Flags, out: &mut String) -> Result<(), AllocError> {
+    out.push_str(word(flags.computed, " computed"))?;
+    out.push_str(word(flags.optional, " optional"))?;
+    out.push_str(word(flags.is_static, " static"))?;
+    out.push_str(word(flags.prefix, " prefix"))?;
+    out.push_str(word(flags.directive, " directive"))?;
+    out.push_str(word(flags.expression, " expression"))?;
+    out.push_str(form_word(flags.form))
 }
 
-/// The kind, the place, the text, the flags that are set and the parts of a node, in parentheses; `_` for a gap.
-#[tactic(auto, using(tree::proofs::PartWalk::part_steps))]
-fn show(node: Node, out: &mut String) -> Result<(), AllocError> {
+/// The kind, the place and the text of a node, and the flags that are set.
+fn push_head(node: Node, out: &mut String) -> Result<(), AllocError> {
     let Span { start, end } = node.span();
-    write!(out, "({:?} {start}-{end}", node.kind())?;
-    show_words(out, node.text(), node.flags())?;
+    write!(out, "{:?} {start}-{end}", node.kind())?;
+    out.push_str(word(!node.text().is_empty(), " "))?;
+    out.push_str(node.text())?;
+    push_flags(node.flags(), out)
+}
+
+/// A node and its parts, in parentheses; `_` for a gap.
+#[tactic(auto, using(tree::proofs::PartWalk::part_steps))]
+pub(crate) fn show(node: Node, out: &mut String) -> Result<(), AllocError> {
+    out.push_str("(")?;
+    push_head(node, out)?;
     for index in 0..node.part_count() {
         out.push_str(" ")?;
         match node.part(index) {
@@ -60,11 +55,4 @@ fn show(node: Node, out: &mut String) -> Result<(), AllocError> {
         }
     }
     out.push_str(")")
-}
-
-/// The node as a line.
-pub(crate) fn line(alloc: Global, node: Node) -> Result<String, AllocError> {
-    let mut shown = String::new(alloc);
-    show(node, &mut shown)?;
-    Ok(shown)
 }

@@ -1,151 +1,126 @@
-//! Trees as data, which tests write down in statics and build.
+//! Trees written down as text: a node is its kind, its flags behind `#`, its text, which is one word, and its parts, in parentheses with a
+//! space before each `)`; `_` is a gap. Each part begins where the one before it ends, or behind `@7` at 7; a node ends a byte behind its
+//! last part, and a gap takes no place.
 
-use productions::{Nodes, Tall, made};
+use crate::kinds::{kind, set_flag};
+use productions::{Nodes, made};
 use source_text::Fault;
 use std::alloc::Global;
-use tree::{Flags, Form, Kind, Program, Span};
+use tree::{Flags, Kind, Program, Span};
 
-/// A part of a node as data; it gets its place where it is built.
-#[derive(Clone, Copy)]
-pub(crate) enum Sketch {
-    /// A hole, or what is missing.
-    Gap,
-    /// An Identifier of this name.
-    Name(&'static str),
-    /// A node of this kind with these parts, without text and flags.
-    Plain(Kind, &'static [Sketch]),
-    /// One with this text.
-    Word(Kind, &'static str, &'static [Sketch]),
-    /// One with these flags.
-    Flagged(Kind, Flags, &'static [Sketch]),
-    /// One with both.
-    Node(Kind, &'static str, Flags, &'static [Sketch]),
+/// A node whose `)` wasn't read yet.
+#[derive(Drop)]
+struct Open<'s> {
+    kind: Kind,
+    text: &'s str,
+    flags: Flags,
+    start: usize,
+    nodes: Nodes<'s>,
 }
 
-pub(crate) const PLAIN: Flags = Flags::PLAIN;
-
-pub(crate) const COMPUTED: Flags = Flags {
-    computed: true,
-    ..PLAIN
-};
-
-pub(crate) const OPTIONAL: Flags = Flags {
-    optional: true,
-    ..PLAIN
-};
-
-pub(crate) const STATIC: Flags = Flags {
-    is_static: true,
-    ..PLAIN
-};
-
-pub(crate) const PREFIX: Flags = Flags {
-    prefix: true,
-    ..PLAIN
-};
-
-pub(crate) const DIRECTIVE: Flags = Flags {
-    directive: true,
-    ..PLAIN
-};
-
-pub(crate) const EXPRESSION: Flags = Flags {
-    expression: true,
-    ..PLAIN
-};
-
-pub(crate) const GET: Flags = Flags {
-    form: Form::Get,
-    ..PLAIN
-};
-
-pub(crate) const SET: Flags = Flags {
-    form: Form::Set,
-    ..PLAIN
-};
-
-pub(crate) const METHOD: Flags = Flags {
-    form: Form::Method,
-    ..PLAIN
-};
-
-pub(crate) const SHORTHAND: Flags = Flags {
-    form: Form::Shorthand,
-    ..PLAIN
-};
-
-pub(crate) const CONSTRUCTOR: Flags = Flags {
-    form: Form::Constructor,
-    ..PLAIN
-};
-
-pub(crate) const COMPUTED_METHOD: Flags = Flags {
-    computed: true,
-    ..METHOD
-};
-
-pub(crate) const COMPUTED_OPTIONAL: Flags = Flags {
-    computed: true,
-    ..OPTIONAL
-};
-
-pub(crate) const STATIC_GET: Flags = Flags {
-    is_static: true,
-    ..GET
-};
-
-pub(crate) const EMPTY: Sketch = Sketch::Plain(Kind::EmptyStatement, &[]);
-
-pub(crate) const BLOCK: Sketch = Sketch::Plain(Kind::BlockStatement, &[]);
-
-/// The parts of a node that begins at a place: each begins where the one before it ends, and a gap takes no place.
-#[cycle(building)]
-fn build_parts(
+/// What was read.
+#[derive(Drop)]
+struct Reader<'s> {
     alloc: Global,
-    sketches: &[Sketch],
-    start: usize,
-) -> Result<(Nodes<'static>, usize), Fault> {
-    let mut nodes = Nodes::new(alloc);
-    let mut end = start;
-    for sketch in sketches {
-        match build(alloc, sketch, end)? {
-            Some(part) => {
-                end = part.node().span().end;
-                nodes.push(part)?;
-            }
-            None => nodes.push_gap()?,
+    /// The greatest height that a node may have.
+    high: u32,
+    /// Where the last part ends.
+    end: usize,
+    /// The innermost node last; the script is the first.
+    opened: Vec<Open<'s>>,
+}
+
+impl<'s> Reader<'s> {
+    fn open(&mut self, kind: Kind) -> Result<(), Fault> {
+        let open = Open {
+            kind,
+            text: "",
+            flags: Flags::PLAIN,
+            start: self.end,
+            nodes: Nodes::new(self.alloc),
+        };
+        self.opened.push(open)?;
+        Ok(())
+    }
+
+    /// A `)`: the innermost node is a part of the one that is open then.
+    fn close(&mut self) -> Result<(), Fault> {
+        let Some(open) = self.opened.pop() else {
+            return Ok(());
+        };
+        self.end = self.end.saturating_add(1);
+        let span = Span {
+            start: open.start,
+            end: self.end,
+        };
+        let node = made(
+            open.kind, open.text, open.flags, span, open.nodes, self.high,
+        )?;
+        if let Some(outer) = self.opened.last_mut() {
+            outer.nodes.push(node)?;
+        }
+        Ok(())
+    }
+
+    fn push_gap(&mut self) -> Result<(), Fault> {
+        match self.opened.last_mut() {
+            Some(open) => open.nodes.push_gap(),
+            None => Ok(()),
         }
     }
-    Ok((nodes, end))
+
+    /// A flag of the innermost node, or its text.
+    fn tell(&mut self, word: &'s str) {
+        if let Some(open) = self.opened.last_mut() {
+            match word.starts_with('#') {
+                true => set_flag(&mut open.flags, word),
+                false => open.text = word,
+            }
+        }
+    }
+
+    fn take(&mut self, word: &'s str) -> Result<(), Fault> {
+        match word.split_at_checked(1) {
+            Some(("(", name)) => self.open(kind(name)),
+            Some((")", _)) => self.close(),
+            Some(("_", _)) => self.push_gap(),
+            Some(("@", place)) => Ok(self.end = place.parse::<usize>().unwrap_or(0)),
+            _ => Ok(self.tell(word)),
+        }
+    }
+
+    /// The parts of a script; the script stays open.
+    fn read(&mut self, text: &'s str) -> Result<(), Fault> {
+        self.open(Kind::Program)?;
+        for word in text.split_whitespace() {
+            self.take(word)?;
+        }
+        Ok(())
+    }
 }
 
-/// What is sketched, from a place on: a node ends a byte behind its last part. None for a gap.
-#[cycle(building)]
-pub(crate) fn build(
+/// The parts of a script, each this high at most, and where the last one ends.
+pub(crate) fn parts<'s>(
     alloc: Global,
-    sketch: &Sketch,
-    start: usize,
-) -> Result<Option<Tall<'static>>, Fault> {
-    let (kind, text, flags, parts): (Kind, &'static str, Flags, &'static [Sketch]) = match *sketch {
-        Sketch::Gap => return Ok(None),
-        Sketch::Name(name) => (Kind::Identifier, name, PLAIN, &[]),
-        Sketch::Plain(kind, parts) => (kind, "", PLAIN, parts),
-        Sketch::Word(kind, text, parts) => (kind, text, PLAIN, parts),
-        Sketch::Flagged(kind, flags, parts) => (kind, "", flags, parts),
-        Sketch::Node(kind, text, flags, parts) => (kind, text, flags, parts),
+    text: &'s str,
+    high: u32,
+) -> Result<(Nodes<'s>, usize), Fault> {
+    let mut reader = Reader {
+        alloc,
+        high,
+        end: 0,
+        opened: Vec::new(alloc),
     };
-    let (nodes, end) = build_parts(alloc, parts, start)?;
-    let end = end.saturating_add(1);
-    Ok(Some(made(kind, text, flags, Span { start, end }, nodes, u32::MAX)?))
+    reader.read(text)?;
+    match reader.opened.pop() {
+        Some(script) => Ok((script.nodes, reader.end)),
+        None => Ok((Nodes::new(alloc), 0)),
+    }
 }
 
-/// The script of these items, from a place on.
-pub(crate) fn script(
-    alloc: Global,
-    items: &[Sketch],
-    start: usize,
-) -> Result<Program<'static>, Fault> {
-    let (nodes, end) = build_parts(alloc, items, start)?;
+/// The script of these parts.
+pub(crate) fn script<'s>(alloc: Global, text: &'s str, high: u32) -> Result<Program<'s>, Fault> {
+    let (nodes, end) = parts(alloc, text, high)?;
     let end = end.saturating_add(1);
-    Ok(Program::new(nodes.into_parts(), Span { start, end }))
+    Ok(Program::new(nodes.into_parts(), Span { start: 0, end }))
 }
