@@ -6,79 +6,92 @@ use positions::{Position, Positions, expression_positions, node_positions};
 use std::alloc::AllocError;
 use tree::{Form, Node};
 
-/// A position by its words; that of a script for all others.
-fn position(words: &str) -> Position {
-    match words {
-        "name" => Position::Name,
-        "word" => Position::Word,
-        "key" => Position::Key,
-        "echo" => Position::Echo,
-        "base" => Position::Base,
-        "quoted" => Position::Quoted,
-        "quasi" => Position::Quasi,
-        "spread" => Position::Spread,
-        "property" => Position::Property,
-        "body" => Position::Body,
-        _ => other_position(words),
-    }
-}
-
-fn other_position(words: &str) -> Position {
-    match words {
-        "class body" => Position::ClassBody,
-        "member" => Position::Member,
-        "getter" => Position::Method(Form::Get),
-        "setter" => Position::Method(Form::Set),
-        "method" => Position::Method(Form::Method),
-        "first chunk" => Position::Chunk {
+/// Positions by their words.
+static POSITIONS: [(&str, Position); 32] = [
+    ("name", Position::Name),
+    ("word", Position::Word),
+    ("key", Position::Key),
+    ("echo", Position::Echo),
+    ("base", Position::Base),
+    ("quoted", Position::Quoted),
+    ("quasi", Position::Quasi),
+    ("spread", Position::Spread),
+    ("property", Position::Property),
+    ("body", Position::Body),
+    ("class body", Position::ClassBody),
+    ("member", Position::Member),
+    ("getter", Position::Method(Form::Get)),
+    ("setter", Position::Method(Form::Set)),
+    ("method", Position::Method(Form::Method)),
+    (
+        "first chunk",
+        Position::Chunk {
             is_first: true,
             is_last: false,
         },
-        "spine" => Position::Spine { start: Start::Any },
-        _ => binding_position(words),
-    }
-}
-
-fn binding_position(words: &str) -> Position {
-    match words {
-        "pattern" => Position::Pattern {
+    ),
+    ("spine", Position::Spine { start: Start::Any }),
+    (
+        "pattern",
+        Position::Pattern {
             binds: true,
             start: Start::Any,
         },
-        "pattern without brace" => Position::Pattern {
+    ),
+    (
+        "pattern without brace",
+        Position::Pattern {
             binds: true,
             start: Start::NoBrace,
         },
-        "pattern property" => Position::PatternProperty { binds: true },
-        "element" => Position::Element { binds: true },
-        "rest" => Position::Rest {
+    ),
+    (
+        "pattern property",
+        Position::PatternProperty { binds: true },
+    ),
+    ("element", Position::Element { binds: true }),
+    (
+        "rest",
+        Position::Rest {
             binds: true,
             of_object: false,
         },
-        "rest of object" => Position::Rest {
+    ),
+    (
+        "rest of object",
+        Position::Rest {
             binds: true,
             of_object: true,
         },
-        "declarator" => Position::Declarator {
+    ),
+    (
+        "declarator",
+        Position::Declarator {
             with_in: false,
             initialised: false,
         },
-        "head" => Position::Head { initialised: false },
-        _ => statement_position(words),
-    }
-}
+    ),
+    ("head", Position::Head { initialised: false }),
+    ("statement", Position::Statement { returns: false }),
+    (
+        "statement of function",
+        Position::Statement { returns: true },
+    ),
+    ("item", Position::Item { returns: false }),
+    ("opening", Position::Opening { returns: false }),
+    ("block", Position::Block { returns: false }),
+    ("case", Position::SwitchCase { returns: false }),
+    ("handler", Position::Handler { returns: false }),
+];
 
-fn statement_position(words: &str) -> Position {
-    match words {
-        "statement" => Position::Statement { returns: false },
-        "statement of function" => Position::Statement { returns: true },
-        "item" => Position::Item { returns: false },
-        "opening" => Position::Opening { returns: false },
-        "block" => Position::Block { returns: false },
-        "case" => Position::SwitchCase { returns: false },
-        "handler" => Position::Handler { returns: false },
-        _ => Position::Script,
+/// The position of these words; that of a script for all others.
+fn position(words: &str) -> Position {
+    for (each, position) in &POSITIONS {
+        if *each == words {
+            return *position;
+        }
     }
+    Position::Script
 }
 
 /// What a position is called here, of those that rows name.
