@@ -1,9 +1,10 @@
-"""Seconds of a check by module and by function, from the times at which it kept its modules.
+"""Seconds of a check by kind of module, by module and by function, from the times at which it kept its modules.
 
     modules.py CRATE [COUNT]
 
-Checks the crate in one job, over a kept folder that is empty, and prints the COUNT dearest modules and functions (30 each). The crates below it
-must be built: `rt check` in the crate's folder does so. What a module is the first to need is counted as its own.
+Checks the crate in one job, over a kept folder that is empty, and prints the kinds and the COUNT dearest modules and functions (30 each). The
+crates below it must be built: `rt check` in the crate's folder does so. What a module is the first to need is counted as its own. Seconds vary by
+a third with what runs beside: compare with what wasn't changed, in the same run.
 """
 import collections
 import os
@@ -31,12 +32,17 @@ def kept(folder):
     return [(time - before, name) for (before, _), (time, name) in zip(found, found[1:])]
 
 
+KINDS = re.compile(r'\.(Proof|Tie|Goals|Answers|Invariants|Reads|Named|Layout|Kinds|Code|Statement|Met|Given|Lts)\b.*')
+
+
 def report(modules, count):
-    by_module, by_function = collections.Counter(), collections.Counter()
+    by_kind, by_module, by_function = collections.Counter(), collections.Counter(), collections.Counter()
     for seconds, name in modules:
+        kind = KINDS.search(name)
+        by_kind[kind[1] if kind else 'lemmas, definitions, types'] += seconds
         by_module[name] += seconds
-        by_function[re.sub(r'\.(Proof|Tie|Goals|Answers|Invariants|Reads|Named|Layout|Kinds|Code|Statement|Met|Given|Lts)\b.*', '', name)] += seconds
-    for found in (by_module, by_function):
+        by_function[KINDS.sub('', name)] += seconds
+    for found in (by_kind, by_module, by_function):
         print(f'\n{sum(found.values()):8.1f} in all')
         for name, seconds in found.most_common(count):
             print(f'{seconds:8.1f} {name}')
