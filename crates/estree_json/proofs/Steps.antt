@@ -1,14 +1,15 @@
 -- What one more member makes of an object.
 use Rattle.std.proofs.Common.{◌≡◌, ℕ, Bool, true, false, not, ◌-◌, List, [], ◌∷◌, length, take, drop, map, Result, Vec, Global, IfOk, refl, subst, arith, rules}
+use Rattle.std.specs.Prelude.{Option, Some, None, codes}
 use Rattle.std.proofs.lemmas.List.{length-map, take-map, drop-map}
 use Rattle.std.specs.declared.alloc.AllocError.{AllocError}
-use Rattle.serde_json.specs.Data.{null, string, Members}
+use Rattle.serde_json.specs.Data.{Data, null, string, Members, member, no_members}
 use Rattle.serde_json.specs.View.{view}
 use Rattle.serde_json.specs.declared.value.Value.{Value, Null, Array, the_lemmas}
 use Rattle.serde_json.proofs.Views.{view-Array}
 use Rattle.estree_json.specs.Json.{Made, with_value, with_part, with_list, with_turns, with_option, odd_ones, even_ones}
 use Rattle.estree_json.specs.Fields.{Label, directive}
-use Rattle.estree_json.specs.Texts.{unquoted}
+use Rattle.estree_json.specs.Texts.{unquoted, with_cooked}
 use Rattle.estree_json.specs.View.{made}
 use Rattle.estree_json.specs.declared.object.Object.{Object}
 
@@ -59,3 +60,13 @@ unset true e = absurd (cc)
 pub is_set : (b : Bool) → not b ≡ false → b ≡ true
 is_set true e = refl
 is_set false e = absurd (cc)
+
+-- the members of a regular expression and of a template's part, one after the other
+pub regex_made : (flags pattern : List ℕ) → (with_value (codes "pattern") (string pattern) (with_value (codes "flags") (string flags) (record { members = no_members; left = [] }))).members ≡ member (codes "flags") (string flags) (member (codes "pattern") (string pattern) no_members)
+unfolding with_value
+regex_made flags pattern = refl
+
+pub template_made : (cooked : Option Data) (raw : List ℕ) → (with_value (codes "raw") (string raw) (with_option (codes "cooked") cooked (record { members = no_members; left = [] }))).members ≡ with_cooked cooked (member (codes "raw") (string raw) no_members)
+unfolding with_value with_option
+template_made None raw = refl
+template_made (Some d) raw = refl

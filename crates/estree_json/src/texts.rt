@@ -6,8 +6,10 @@ ghost use Rattle.serde_json.specs.View.{view};
 ghost use Rattle.tokens.specs.Templates.{cooked_value};
 ghost use Rattle.estree_json.specs.Texts.{text_of_units, cooked_of_units, before_slash, behind_slash, regex_of, literal_value as value_of_literal, literal_regex as regex_of_literal, template_value as value_of_template, unquoted as contents_of, is_quoted as begins_with_quote, without_first as without_first_quote, without_last as without_last_quote};
 
-use serde_json::{Value, json};
+use crate::object::Object;
+use serde_json::Value;
 use std::alloc::{AllocError, Global};
+use std::collections::VecDeque;
 use tokens::quoted_units;
 
 /// `value` of a literal: of strings in well-formed UTF-16, booleans and null.
@@ -41,11 +43,15 @@ pub fn literal_regex(alloc: Global, raw: &str) -> Result<Option<Value>, AllocErr
 }
 
 /// Pattern and flags of what stands behind the first `/`.
+#[tactic(auto, using(crate::proofs::Steps::regex_made))]
 fn regex_value(alloc: Global, rest: &str) -> Result<Value, AllocError>
     ensures { IfOk result (λ v. view v ≡ regex_of rest.now) }
 {
     let (pattern, flags) = regex_parts(rest);
-    json!(in alloc; {"flags": flags, "pattern": pattern})
+    let object = Object::new(alloc, VecDeque::new(alloc))
+        .text("flags", flags)?
+        .text("pattern", pattern)?;
+    Ok(object.into_value())
 }
 
 /// What stands before and behind the last `/`.
@@ -60,13 +66,15 @@ fn regex_parts(rest: &str) -> (&str, &str)
 }
 
 /// `value` of a template's part, of its raw value.
+#[tactic(auto, using(crate::proofs::Steps::template_made))]
 pub fn template_value(alloc: Global, raw: &str) -> Result<Value, AllocError>
     ensures { IfOk result (λ v. view v ≡ value_of_template raw.now) }
 {
-    match cooked_value(alloc, raw)? {
-        Some(cooked) => json!(in alloc; {"cooked": cooked, "raw": raw}),
-        None => json!(in alloc; {"raw": raw}),
-    }
+    let cooked = cooked_value(alloc, raw)?;
+    let object = Object::new(alloc, VecDeque::new(alloc))
+        .option("cooked", cooked)?
+        .text("raw", raw)?;
+    Ok(object.into_value())
 }
 
 /// `cooked`: null where an escape is bad, none where it isn't well-formed UTF-16.

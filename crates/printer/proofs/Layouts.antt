@@ -1,6 +1,7 @@
 -- The layout of a node, mark by mark.
 use Rattle.std.proofs.Common.{◌≡◌, ℕ, zero, suc, ◌+◌, Bool, true, false, not, cond, nat_eq, List, [], ◌∷◌, ◌++◌, refl, ap, ◌∙◌}
 use Rattle.std.specs.Prelude.{slice_index_or, codes}
+use Rattle.std.proofs.lemmas.Bool.{false≢true}
 use Rattle.tree.specs.Tree.{Tree, Parts, none, part, gap}
 use Rattle.language.specs.Pieces.{Role, PieceOf, tok, may, many, ahead, unbroken, ending, open_parameters, close_parameters, sub, absent, never, lay}
 use Rattle.language.specs.Pieces as piece
@@ -134,14 +135,14 @@ module _ (W : ℕ → Bool) where
   -- the pieces of a node's parts as marks
   pub layout_marks : (qs : List (PieceOf Role)) (ps : Parts) (r d : ℕ) (b : Bool) → lines_up qs ps ≡ true → parts_layout W ps qs r d b ≡ marks_text W (marks_of qs) ps (roles qs) r d b
   layout_marks [] none r d b h = at_end r d b
-  layout_marks [] (gap ps) r d b h = absurd (cc)
-  layout_marks [] (part n ps) r d b h = absurd (cc)
-  layout_marks (sub a ∷ qs) none r d b h = absurd (cc)
-  layout_marks (sub a ∷ qs) (gap ps) r d b h = absurd (cc)
+  layout_marks [] (gap ps) r d b h = absurd (false≢true h)
+  layout_marks [] (part n ps) r d b h = absurd (false≢true h)
+  layout_marks (sub a ∷ qs) none r d b h = absurd (false≢true h)
+  layout_marks (sub a ∷ qs) (gap ps) r d b h = absurd (false≢true h)
   layout_marks (sub a ∷ qs) (part n ps) r d b h = here_part a qs n ps r d b ∙ ap (λ t. layout W n a r d ++ t) (layout_marks qs ps (r + rows n a) d (not (W r)) h)
-  layout_marks (absent ∷ qs) none r d b h = absurd (cc)
+  layout_marks (absent ∷ qs) none r d b h = absurd (false≢true h)
   layout_marks (absent ∷ qs) (gap ps) r d b h = here_gap qs ps r d b ∙ layout_marks qs ps r d false h
-  layout_marks (absent ∷ qs) (part n ps) r d b h = absurd (cc)
+  layout_marks (absent ∷ qs) (part n ps) r d b h = absurd (false≢true h)
   layout_marks (lay piece.deeper ∷ qs) ps r d b h = deepened qs ps r d b ∙ layout_marks qs ps r (suc d) b h
   layout_marks (lay piece.shallower ∷ qs) ps r zero b h = kept qs ps r b ∙ layout_marks qs ps r zero b h
   layout_marks (lay piece.shallower ∷ qs) ps r (suc d) b h = raised qs ps r d b ∙ layout_marks qs ps r d b h

@@ -1,6 +1,7 @@
 -- The marks of the table's lists.
 use Rattle.std.proofs.Common.{◌≡◌, ℕ, Bool, true, false, cond, List, [], ◌∷◌, ◌++◌, refl, sym, ap, ◌∙◌, append_assoc}
 use Rattle.std.specs.Prelude.{Option, Some, None, ◌&&◌, map, codes}
+use Rattle.std.proofs.lemmas.Bool.{false≢true}
 use Rattle.tree.specs.declared.kind.Kind.{Kind}
 use Rattle.tree.specs.declared.kind.Kind.TheVariants as kind
 use Rattle.tree.specs.Tree.{Tree, node, Parts, none, part, gap, kind_of}
@@ -81,7 +82,7 @@ module _ (w : List ℕ) where
   one_element close_parameters x k l b qs ms h r = elim x [ ]
   one_element absent x k l b qs ms h r = elim x [ ]
   one_element (lay _) x k l b qs ms h r = elim x [ ]
-  one_element never refused k l b qs ms h r = absurd (cc)
+  one_element never refused k l b qs ms h r = absurd (false≢true r)
   one_element (sub s) stands k true b qs ms h r = of (is_rest k) r
     where
       of : (v : Bool) → can_run (cond v [] (may (codes ",") ∷ []) ++ qs) ≡ true → here ∷ marks_of (cond v [] (may (codes ",") ∷ []) ++ qs) ≡ here ∷ ms
@@ -90,7 +91,7 @@ module _ (w : List ℕ) where
   one_element (sub s) stands k false b qs ms h r = of (is_rest k) r
     where
       of : (v : Bool) → can_run (cond v (never ∷ []) (sign "," ∷ sp ∷ []) ++ qs) ≡ true → here ∷ marks_of (cond v (never ∷ []) (sign "," ∷ sp ∷ []) ++ qs) ≡ here ∷ text (codes ",") ∷ text (codes " ") ∷ ms
-      of true u = absurd (cc)
+      of true u = absurd (false≢true u)
       of false u = ap (λ t. here ∷ text (codes ",") ∷ text (codes " ") ∷ t) (h u)
 
   one_append : (xs ys zs : List Piece) (ms : List Mark) → marks_of (xs ++ (ys ++ zs)) ≡ ms → marks_of ((xs ++ ys) ++ zs) ≡ ms
@@ -104,7 +105,7 @@ module _ (w : List ℕ) where
 
   pub listed-marks : (f : Tree → Piece) → ((n : Tree) → Standing (f n)) → (ps : Parts) (qs : List Piece) → Runs (listed f ps ++ qs) → marks_of (listed f ps ++ qs) ≡ chain_marks w commas ps ++ marks_of qs
   listed-marks f h none qs r = refl
-  listed-marks f h (gap ps) qs r = absurd (cc)
+  listed-marks f h (gap ps) qs r = absurd (false≢true r)
   listed-marks f h (part n ps) qs r =
       one_append (f n ∷ separator (kind_of n) (is_none ps)) (listed f ps) qs _ (
       one_element (f n) (h n) (kind_of n) (is_none ps) (Rattle.positions.specs.Outlines.is_before_last ps) (listed f ps ++ qs) (chain_marks w commas ps ++ marks_of qs) (λ v. listed-marks f h ps qs v)
@@ -127,10 +128,10 @@ module _ (w : List ℕ) where
 
   -- parameters, and what stands behind them
   pub parameters-marks : (xs : List Bit) (after : List Piece) → marks_of after ≡ marks_in w xs ++ here ∷ [] → (ps : Parts) → Runs (parameters after ps) → marks_of (parameters after ps) ≡ chain_marks w (parameter_chain xs) ps
-  parameters-marks xs after e none r = absurd (cc)
-  parameters-marks xs after e (gap ps) r = absurd (cc)
+  parameters-marks xs after e none r = absurd (false≢true r)
+  parameters-marks xs after e (gap ps) r = absurd (false≢true r)
   parameters-marks xs after e (part n none) r = e
-  parameters-marks xs after e (part n (gap ps)) r = absurd (cc)
+  parameters-marks xs after e (part n (gap ps)) r = absurd (false≢true r)
   parameters-marks xs after e (part n (part m ps)) r =
       one_element (pattern_element true n) (element_standing true n) (kind_of n) (is_none ps) false (parameters after (part m ps)) (chain_marks w (parameter_chain xs) (part m ps)) (λ v. parameters-marks xs after e (part m ps) v) r
       ∙ of (is_none ps)
@@ -141,40 +142,40 @@ module _ (w : List ℕ) where
       of false = refl
 
   pub declarators-marks : (a : Role) (ps : Parts) (qs : List Piece) → Runs (declarators a ps ++ qs) → marks_of (declarators a ps ++ qs) ≡ chain_marks w commas ps ++ marks_of qs
-  declarators-marks a none qs r = absurd (cc)
-  declarators-marks a (gap ps) qs r = absurd (cc)
+  declarators-marks a none qs r = absurd (false≢true r)
+  declarators-marks a (gap ps) qs r = absurd (false≢true r)
   declarators-marks a (part n none) qs r = refl
-  declarators-marks a (part n (gap ps)) qs r = absurd (cc)
+  declarators-marks a (part n (gap ps)) qs r = absurd (false≢true r)
   declarators-marks a (part n (part m ps)) qs r = ap (λ t. here ∷ text (codes ",") ∷ text (codes " ") ∷ t) (declarators-marks a (part m ps) qs r)
 
   pub sequence-marks : (ps : Parts) (n : Tree) → Runs (sequence ps) → here ∷ marks_of (sequence ps) ≡ chain_marks w commas (part n ps)
   sequence-marks none n r = refl
-  sequence-marks (gap ps) n r = absurd (cc)
+  sequence-marks (gap ps) n r = absurd (false≢true r)
   sequence-marks (part m ps) n r = ap (λ t. here ∷ text (codes ",") ∷ text (codes " ") ∷ t) (sequence-marks ps m r)
 
   pub chunks-marks : (b : Bool) (ps : Parts) → Runs (chunks b ps) → marks_of (chunks b ps) ≡ chain_marks w joined ps
-  chunks-marks b none r = absurd (cc)
-  chunks-marks b (gap ps) r = absurd (cc)
+  chunks-marks b none r = absurd (false≢true r)
+  chunks-marks b (gap ps) r = absurd (false≢true r)
   chunks-marks b (part q none) r = refl
-  chunks-marks b (part q (gap ps)) r = absurd (cc)
+  chunks-marks b (part q (gap ps)) r = absurd (false≢true r)
   chunks-marks b (part q (part e ps)) r = ap (λ t. here ∷ here ∷ t) (chunks-marks false ps r)
 
   pub lines-marks : (a : Role) (ps : Parts) (qs : List Piece) → Runs (table_lines a ps ++ qs) → marks_of (table_lines a ps ++ qs) ≡ chain_marks w lines ps ++ marks_of qs
   lines-marks a none qs r = refl
-  lines-marks a (gap ps) qs r = absurd (cc)
+  lines-marks a (gap ps) qs r = absurd (false≢true r)
   lines-marks a (part n ps) qs r = ap (λ t. line ∷ here ∷ t) (lines-marks a ps qs r)
 
   pub members-marks : (ps : Parts) (qs : List Piece) → Runs (member_lines ps ++ qs) → marks_of (member_lines ps ++ qs) ≡ chain_marks w lines ps ++ marks_of qs
   members-marks none qs r = refl
-  members-marks (gap ps) qs r = absurd (cc)
+  members-marks (gap ps) qs r = absurd (false≢true r)
   members-marks (part n ps) qs r = ap (λ t. line ∷ here ∷ t) (members-marks ps qs r)
 
   pub body-marks : (r b : Bool) (ps : Parts) (qs : List Piece) → Runs (prologue r b (lay piece.line ∷ []) [] ps ++ qs) → marks_of (prologue r b (lay piece.line ∷ []) [] ps ++ qs) ≡ chain_marks w lines ps ++ marks_of qs
   body-marks r b none qs u = refl
-  body-marks r b (gap ps) qs u = absurd (cc)
+  body-marks r b (gap ps) qs u = absurd (false≢true u)
   body-marks r b (part n ps) qs u = ap (λ t. line ∷ here ∷ t) (body-marks r (b && is_directive n) ps qs u)
 
   pub items-marks : (r b : Bool) (ps : Parts) (qs : List Piece) → Runs (prologue r b [] (lay piece.feed ∷ []) ps ++ qs) → marks_of (prologue r b [] (lay piece.feed ∷ []) ps ++ qs) ≡ chain_marks w feeds ps ++ marks_of qs
   items-marks r b none qs u = refl
-  items-marks r b (gap ps) qs u = absurd (cc)
+  items-marks r b (gap ps) qs u = absurd (false≢true u)
   items-marks r b (part n ps) qs u = ap (λ t. here ∷ feed ∷ t) (items-marks r (b && is_directive n) ps qs u)

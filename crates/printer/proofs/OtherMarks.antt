@@ -1,6 +1,7 @@
 -- The shapes of nodes that are no expressions are those of the table.
 use Rattle.std.proofs.Common.{◌≡◌, ℕ, Bool, true, false, not, List, [], ◌∷◌, ◌++◌, refl, sym, ap, ◌∙◌, append_assoc}
 use Rattle.std.specs.Prelude.{codes, length, nat_le}
+use Rattle.std.proofs.lemmas.Bool.{false≢true}
 use Rattle.tree.specs.declared.kind.Kind.{Kind}
 use Rattle.tree.specs.declared.kind.Kind.TheVariants as kind
 use Rattle.tree.specs.declared.kind.Flags.{Flags}
@@ -41,22 +42,22 @@ module _ (w : List ℕ) where
 
   pub block_means : (g : Flags) (a : Role) (ps : Parts) → Means ps (Of kind.BlockStatement g ps) (at Primary (braced ps (table_lines a ps)))
   block_means g a none r c = refl
-  block_means g a (gap ps) r c = absurd (cc)
+  block_means g a (gap ps) r c = absurd (false≢true r)
   block_means g a (part n ps) r c = ap (λ t. text (codes "{") ∷ deeper ∷ t) (filled_braces (table_lines a (part n ps)) (lay piece.shallower ∷ lay piece.line ∷ []) (sign "}" ∷ []) (part n ps) r (lines-marks w a (part n ps) (lay piece.shallower ∷ lay piece.line ∷ sign "}" ∷ [])))
 
   pub body_means : (g : Flags) (ps : Parts) → Means ps (Of kind.BlockStatement g ps) (at Primary (braced ps (prologue true true (lay piece.line ∷ []) [] ps)))
   body_means g none r c = refl
-  body_means g (gap ps) r c = absurd (cc)
+  body_means g (gap ps) r c = absurd (false≢true r)
   body_means g (part n ps) r c = ap (λ t. text (codes "{") ∷ deeper ∷ t) (filled_braces (prologue true true (lay piece.line ∷ []) [] (part n ps)) (lay piece.shallower ∷ lay piece.line ∷ []) (sign "}" ∷ []) (part n ps) r (body-marks w true true (part n ps) (lay piece.shallower ∷ lay piece.line ∷ sign "}" ∷ [])))
 
   pub class_body_means : (g : Flags) (ps : Parts) → Means ps (Of kind.ClassBody g ps) (at Primary (braced ps (many (codes ";") ∷ member_lines ps)))
   class_body_means g none r c = refl
-  class_body_means g (gap ps) r c = absurd (cc)
+  class_body_means g (gap ps) r c = absurd (false≢true r)
   class_body_means g (part n ps) r c = ap (λ t. text (codes "{") ∷ deeper ∷ t) (filled_braces (member_lines (part n ps)) (lay piece.shallower ∷ lay piece.line ∷ []) (sign "}" ∷ []) (part n ps) r (members-marks w (part n ps) (lay piece.shallower ∷ lay piece.line ∷ sign "}" ∷ [])))
 
   switch_lines : (a : Role) (us : Parts) → can_run (braced us (table_lines a us)) ≡ true → marks_of (braced us (table_lines a us)) ≡ shape_marks w (Rattle.printer.specs.Shapes.braced_shape [] (Rattle.printer.specs.Shapes.spelled "{" ∷ []) (not (is_none us))) us
   switch_lines a none r = refl
-  switch_lines a (gap us) r = absurd (cc)
+  switch_lines a (gap us) r = absurd (false≢true r)
   switch_lines a (part n us) r = ap (λ t. text (codes "{") ∷ deeper ∷ t) (filled_braces (table_lines a (part n us)) (lay piece.shallower ∷ lay piece.line ∷ []) (sign "}" ∷ []) (part n us) r (lines-marks w a (part n us) (lay piece.shallower ∷ lay piece.line ∷ sign "}" ∷ [])))
 
   switch_shape : (ps : Parts) (b : Bool) → text (codes "switch") ∷ text (codes " ") ∷ text (codes "(") ∷ here ∷ text (codes ")") ∷ text (codes " ") ∷ shape_marks w (Rattle.printer.specs.Shapes.braced_shape [] (Rattle.printer.specs.Shapes.spelled "{" ∷ []) b) (others ps)
@@ -80,7 +81,7 @@ module _ (w : List ℕ) where
       go : (p : Piece) → Standing p → can_run (term "for" ∷ sp ∷ sign "(" ∷ p ∷ sp ∷ term v ∷ sp ∷ put q ∷ sign ")" ∷ sp ∷ put a ∷ []) ≡ true → counts_up (marks_of (term "for" ∷ sp ∷ sign "(" ∷ p ∷ sp ∷ term v ∷ sp ∷ put q ∷ sign ")" ∷ sp ∷ put a ∷ [])) ps ≡ true →
           marks_of (term "for" ∷ sp ∷ sign "(" ∷ p ∷ sp ∷ term v ∷ sp ∷ put q ∷ sign ")" ∷ sp ∷ put a ∷ []) ≡ shape_marks w (fronted (Rattle.printer.specs.Shapes.headed "for" ∷ Rattle.printer.specs.Shapes.between v ∷ Rattle.printer.specs.Shapes.close_space ∷ []) []) ps
       go (sub x) stands u y = fixed_shape w (fronted (Rattle.printer.specs.Shapes.headed "for" ∷ Rattle.printer.specs.Shapes.between v ∷ Rattle.printer.specs.Shapes.close_space ∷ []) []) ps (term "for" ∷ sp ∷ sign "(" ∷ sub x ∷ sp ∷ term v ∷ sp ∷ put q ∷ sign ")" ∷ sp ∷ put a ∷ []) refl refl refl y
-      go never refused u y = absurd (cc)
+      go never refused u y = absurd (false≢true u)
       go (tok _ _) x u y = elim x [ ]
       go (may _) x u y = elim x [ ]
       go (many _) x u y = elim x [ ]
@@ -127,10 +128,10 @@ module _ (w : List ℕ) where
   -- a word and what may stand behind it
   word_ways : (k : Kind) (s : Prim.Native.String.String) (g : Flags) (ps : Parts) (p : Piece) (e : piece.Ending) → Standing p → ((qs : Parts) → expression_shape k w g qs ≡ Rattle.printer.specs.Shapes.word_shape s (Rattle.printer.specs.Shapes.has_part qs 0)) →
       Shaped ps (Of k g ps) (only ((term s ∷ Rattle.language.specs.Statements.behind_word ps p) ++ ending e ∷ []))
-  word_ways k s g none p e x h = one (λ r c. absurd (cc))
+  word_ways k s g none p e x h = one (λ r c. absurd (false≢true r))
   word_ways k s g (gap ps) p e x h = one (λ r c. fixed_shape w (Rattle.printer.specs.Shapes.word_shape s false) (gap ps) (term s ∷ absent ∷ ending e ∷ []) refl refl refl c ∙ ap (λ v. shape_marks w v (gap ps)) (sym (h (gap ps))))
   word_ways k s g (part n ps) (sub q) e stands h = one (λ r c. fixed_shape w (Rattle.printer.specs.Shapes.word_shape s true) (part n ps) (term s ∷ sp ∷ unbroken ∷ sub q ∷ ending e ∷ []) refl refl refl c ∙ ap (λ v. shape_marks w v (part n ps)) (sym (h (part n ps))))
-  word_ways k s g (part n ps) never e refused h = one (λ r c. absurd (cc))
+  word_ways k s g (part n ps) never e refused h = one (λ r c. absurd (false≢true r))
   word_ways k s g (part n ps) (tok _ _) e x h = elim x [ ]
   word_ways k s g (part n ps) (may _) e x h = elim x [ ]
   word_ways k s g (part n ps) (many _) e x h = elim x [ ]
@@ -147,13 +148,13 @@ module _ (w : List ℕ) where
       ++ sign ";" ∷ Rattle.language.specs.Expressions.given (others ps) (sp ∷ whole ∷ [])
       ++ sign ";" ∷ Rattle.language.specs.Expressions.given (others (others ps)) (sp ∷ whole ∷ [])
       ++ sign ")" ∷ sp ∷ put b ∷ []))
-  for_ways g none a b = one (λ r c. absurd (cc))
-  for_ways g (part i none) a b = one (λ r c. absurd (cc))
-  for_ways g (gap none) a b = one (λ r c. absurd (cc))
-  for_ways g (part i (part t none)) a b = one (λ r c. absurd (cc))
-  for_ways g (part i (gap none)) a b = one (λ r c. absurd (cc))
-  for_ways g (gap (part t none)) a b = one (λ r c. absurd (cc))
-  for_ways g (gap (gap none)) a b = one (λ r c. absurd (cc))
+  for_ways g none a b = one (λ r c. absurd (false≢true r))
+  for_ways g (part i none) a b = one (λ r c. absurd (false≢true r))
+  for_ways g (gap none) a b = one (λ r c. absurd (false≢true r))
+  for_ways g (part i (part t none)) a b = one (λ r c. absurd (false≢true r))
+  for_ways g (part i (gap none)) a b = one (λ r c. absurd (false≢true r))
+  for_ways g (gap (part t none)) a b = one (λ r c. absurd (false≢true r))
+  for_ways g (gap (gap none)) a b = one (λ r c. absurd (false≢true r))
   for_ways g (part i (part t (part u ps))) a b = plain_one kind.ForStatement g (part i (part t (part u ps))) _ refl refl refl (λ c. c)
   for_ways g (part i (part t (gap ps))) a b = plain_one kind.ForStatement g (part i (part t (gap ps))) _ refl refl refl (λ c. c)
   for_ways g (part i (gap (part u ps))) a b = plain_one kind.ForStatement g (part i (gap (part u ps))) _ refl refl refl (λ c. c)

@@ -1,6 +1,7 @@
 -- The shapes of nodes at each position are those of the table.
 use Rattle.std.proofs.Common.{◌≡◌, ℕ, Bool, true, false, not, cond, List, [], ◌∷◌, ◌++◌, refl, sym, ap, ◌∙◌, append-nil}
 use Rattle.std.specs.Prelude.{Option, Some, None, ◌&&◌, codes, length}
+use Rattle.std.proofs.lemmas.Bool.{false≢true}
 use Rattle.tree.specs.declared.kind.Kind.{Kind}
 use Rattle.tree.specs.declared.kind.Kind.TheVariants as kind
 use Rattle.tree.specs.declared.kind.Form.{Form}
@@ -88,8 +89,8 @@ module _ (w : List ℕ) where
   -- a key, and a value at a position that may be none
   valued : (ps : Parts) (b : Bool) (o : Option Role) → Shaped ps (shape_marks w (property_shape form.Init b) ps) (keyed [] b (sign ":" ∷ sp ∷ put_at o ∷ []))
   valued ps b (Some a) = keyed_shaped ps b [] (sign ":" ∷ sp ∷ put a ∷ []) (property_shape form.Init) (λ u. refl) (λ u. refl) refl refl (λ c. c) (λ c. c)
-  valued ps true None = one (λ r c. absurd (cc))
-  valued ps false None = one (λ r c. absurd (cc))
+  valued ps true None = one (λ r c. absurd (false≢true r))
+  valued ps false None = one (λ r c. absurd (false≢true r))
 
   shorthands : (ps : Parts) (k : Kind) → Shaped ps (shape_marks w (property_shape form.Shorthand false) ps) (shorthand_pattern k)
   shorthands ps kind.Identifier = shape_one (property_shape form.Shorthand false) ps _ refl refl refl (λ c. c)
@@ -145,7 +146,7 @@ module _ (w : List ℕ) where
   elements_shaped b _ g ps = nowhere
 
   rested : (g : Flags) (ps : Parts) (o : Option Role) → Shaped ps (Of w kind.RestElement g ps) (only (sign "..." ∷ put_at o ∷ []))
-  rested g ps None = one (λ r c. absurd (cc))
+  rested g ps None = one (λ r c. absurd (false≢true r))
   rested g ps (Some a) = plain_one w kind.RestElement g ps _ refl refl refl (λ c. c)
 
   rests_shaped : (b o : Bool) (k : Kind) (g : Flags) (ps : Parts) → Shaped ps (Of w k g ps) (rests b o k ps)
@@ -155,7 +156,7 @@ module _ (w : List ℕ) where
   -- Methods
 
   setter_shaped : (n m : Tree) (o : Option Role) → Shaped (gap (part n (part m none))) (shape_marks w method_shape (gap (part n (part m none)))) (only (absent ∷ sign "(" ∷ put_at o ∷ sign ")" ∷ sp ∷ put piece.body ∷ []))
-  setter_shaped n m None = one (λ r c. absurd (cc))
+  setter_shaped n m None = one (λ r c. absurd (false≢true r))
   setter_shaped n m (Some a) = one (λ r c. refl)
 
   plain_method : (ps : Parts) → Shaped (gap ps) (shape_marks w method_shape (gap ps)) (only (absent ∷ sign "(" ∷ parameters (sign ")" ∷ sp ∷ put piece.body ∷ []) ps))
@@ -272,7 +273,7 @@ module _ (w : List ℕ) where
   cases_shaped r _ g ps = nowhere
 
   caught : (p : Tree) (ps : Parts) (r : Bool) (o : Option Role) → Shaped (part p ps) (shape_marks w (catch_shape true) (part p ps)) (only (term "catch" ∷ sp ∷ sign "(" ∷ put_at o ∷ sign ")" ∷ sp ∷ put (piece.block r) ∷ []))
-  caught p ps r None = one (λ u c. absurd (cc))
+  caught p ps r None = one (λ u c. absurd (false≢true u))
   caught p ps r (Some a) = shape_one (catch_shape true) (part p ps) _ refl refl refl (λ c. c)
 
   handlers_shaped : (r : Bool) (k : Kind) (g : Flags) (ps : Parts) → Shaped ps (Of w k g ps) (handlers r k ps)

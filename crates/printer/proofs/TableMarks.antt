@@ -1,6 +1,7 @@
 -- The shapes of expressions are those of the table.
 use Rattle.std.proofs.Common.{◌≡◌, ℕ, Bool, true, false, not, cond, List, [], ◌∷◌, ◌++◌, refl, sym, ap, ap₂, ◌∙◌, append-nil}
 use Rattle.std.specs.Prelude.{Some, None, ◌&&◌, ◌||◌, codes, length}
+use Rattle.std.proofs.lemmas.Bool.{false≢true, true≢false}
 use Rattle.tree.specs.declared.kind.Kind.{Kind}
 use Rattle.tree.specs.declared.kind.Kind.TheVariants as kind
 use Rattle.tree.specs.declared.kind.Flags.{Flags}
@@ -38,8 +39,8 @@ module _ (w : List ℕ) where
 
   ended : (ps : Parts) → is_none ps ≡ true → chain_marks w nothing ps ≡ []
   ended none h = refl
-  ended (part n ps) h = absurd (cc)
-  ended (gap ps) h = absurd (cc)
+  ended (part n ps) h = absurd (false≢true h)
+  ended (gap ps) h = absurd (false≢true h)
 
   -- a node with no parts but its first ones
   pub fixed_shape : (s : Shape) (ps : Parts) (qs : List Piece) → s.chain ≡ nothing → s.opener ≡ [] → marks_of qs ≡ front_marks w s.front (marks_in w s.closer) → is_none (parts_behind (length s.front) ps) ≡ true →
@@ -67,14 +68,14 @@ module _ (w : List ℕ) where
 
   -- functions and classes, as expressions and as declarations
   pub function_means : (g : Flags) (ps : Parts) → Means ps (Of kind.FunctionExpression g ps) (at Primary (function_pieces ps))
-  function_means g none r c = absurd (cc)
+  function_means g none r c = absurd (false≢true r)
   function_means g (gap ps) r c = ap (λ t. text (codes "function") ∷ text (codes " ") ∷ here ∷ text (codes "(") ∷ t) (parameters_of ps r)
   function_means g (part n ps) r c = ap (λ t. text (codes "function") ∷ text (codes " ") ∷ here ∷ text (codes "(") ∷ t) (parameters_of ps r)
 
   pub class_means : (g : Flags) (ps : Parts) → Means ps (Of kind.ClassExpression g ps) (at Primary (class_pieces ps))
-  class_means g none r c = absurd (cc)
-  class_means g (gap none) r c = absurd (cc)
-  class_means g (part n none) r c = absurd (cc)
+  class_means g none r c = absurd (false≢true r)
+  class_means g (gap none) r c = absurd (false≢true r)
+  class_means g (part n none) r c = absurd (false≢true r)
   class_means g (gap (gap ps)) r c = fixed_means kind.ClassExpression g (gap (gap ps)) Primary (class_pieces (gap (gap ps))) refl refl refl same_count r c
   class_means g (gap (part m ps)) r c = fixed_means kind.ClassExpression g (gap (part m ps)) Primary (class_pieces (gap (part m ps))) refl refl refl same_count r c
   class_means g (part n (gap ps)) r c = fixed_means kind.ClassExpression g (part n (gap ps)) Primary (class_pieces (part n (gap ps))) refl refl refl same_count r c
@@ -167,7 +168,7 @@ module _ (w : List ℕ) where
   super_open none h = refl
   super_open (gap ps) h = refl
   super_open (part (node kind.Super v h s e us) ps) x = refl
-  super_open (part (node kind.Literal v h s e us) ps) x = absurd (cc)
+  super_open (part (node kind.Literal v h s e us) ps) x = absurd (false≢true x)
   super_open (part (node _ v h s e us) ps) x = refl
 
   member_fits : (s : Slot) (g : Flags) (ps : Parts) (z : Rank) (qs : List Piece) → g.optional ≡ false → marks_of qs ≡ cond (not g.computed && after_open_number ps) (loose ∷ []) [] ++ marks_of (selector g) → Means ps (Of kind.MemberExpression g ps) (at z (sub s ∷ qs))
@@ -226,7 +227,7 @@ module _ (w : List ℕ) where
 
   halves : (u v : Bool) → (u && v) ≡ true → (u ≡ true) × (v ≡ true)
   halves true v h = (refl, h)
-  halves false v h = absurd (cc)
+  halves false v h = absurd (false≢true h)
 
   none_steps : (rows : Rows) → no_steps rows ≡ true → does_step (operator_among w rows) ≡ true → ⊥
   none_steps [] e h = cc
@@ -247,7 +248,7 @@ module _ (w : List ℕ) where
 
   first_true : (a b : Bool) → not (a && b) ≡ false → a ≡ true
   first_true true b h = refl
-  first_true false b h = absurd (cc)
+  first_true false b h = absurd (true≢false h)
 
   no_step_sign : is_step w ≡ true → sign_of_text w ≡ None → ⊥
   no_step_sign h n =
@@ -307,9 +308,9 @@ module _ (w : List ℕ) where
   sequences g (part n none) = nowhere
   sequences g (gap none) = nowhere
   sequences g (part n (part m ps)) = one (λ r c. closed _ _ (sequence-marks w (part m ps) n r))
-  sequences g (part n (gap ps)) = one (λ r c. absurd (cc))
+  sequences g (part n (gap ps)) = one (λ r c. absurd (false≢true r))
   sequences g (gap (part m ps)) = one (λ r c. closed _ _ (sequence-marks w (part m ps) m r))
-  sequences g (gap (gap ps)) = one (λ r c. absurd (cc))
+  sequences g (gap (gap ps)) = one (λ r c. absurd (false≢true r))
 
   tagged_fixed : (g : Flags) (ps : Parts) → Means ps (Of kind.TaggedTemplateExpression g ps) (at Member (sub piece.callee ∷ put piece.quasi ∷ []))
   tagged_fixed g ps = fixed_means kind.TaggedTemplateExpression g ps Member (sub piece.callee ∷ put piece.quasi ∷ []) refl refl refl same_count

@@ -177,18 +177,28 @@ prefixed : (b : Bool) (w : List ℕ) (s : Sign) → Some s ≡ cond b (sign_of_t
 prefixed true w s h = (refl, h)
 prefixed false w s h = absurd (cc)
 
-signed_shaped : (w : List ℕ) (p : Position) (k : Kind) (g : Flags) (ps : Parts) (s : Sign) → Some s ≡ sign_at k w g → Shaped ps (signed_marks w s) (spellings (role_of p) (node k w g 0 0 ps))
+none_some : {X : Type 0} {x : X} → Some x ≡ None → ⊥
+none_some h = cc
+
+unary_placed : (w : List ℕ) (p : Position) (g : Flags) (ps : Parts) (s : Sign) → Some s ≡ sign_of_text w → Shaped ps (signed_marks w s) (spellings (role_of p) (node kind.UnaryExpression w g 0 0 ps))
 unfolding spellings statements items openings
-signed_shaped w (at.Expression y i f) kind.UnaryExpression g ps s h = unary_signed w s g ps h
-signed_shaped w p kind.UnaryExpression g ps s h = nowhere
-signed_shaped w (at.Expression y i f) kind.UpdateExpression g ps s h = let u = prefixed g.prefix w s h in update_signed w s g ps u.0 u.1
-signed_shaped w p kind.UpdateExpression g ps s h = nowhere
-signed_shaped w p _ g ps s h = absurd (cc)
+unary_placed w (at.Expression y i f) g ps s h = unary_signed w s g ps h
+unary_placed w _ g ps s h = nowhere
+
+update_placed : (w : List ℕ) (p : Position) (g : Flags) (ps : Parts) (s : Sign) → (g.prefix ≡ true) × (Some s ≡ sign_of_text w) → Shaped ps (signed_marks w s) (spellings (role_of p) (node kind.UpdateExpression w g 0 0 ps))
+unfolding spellings statements items openings
+update_placed w (at.Expression y i f) g ps s u = update_signed w s g ps u.0 u.1
+update_placed w _ g ps s u = nowhere
+
+signed_shaped : (w : List ℕ) (p : Position) (k : Kind) (g : Flags) (ps : Parts) (s : Sign) → Some s ≡ sign_at k w g → Shaped ps (signed_marks w s) (spellings (role_of p) (node k w g 0 0 ps))
+signed_shaped w p kind.UnaryExpression g ps s h = unary_placed w p g ps s h
+signed_shaped w p kind.UpdateExpression g ps s h = update_placed w p g ps s (prefixed g.prefix w s h)
+signed_shaped w p _ g ps s h = absurd (none_some h)
 
 pub sign_text : (n : Tree) (s : Sign) → Some s ≡ sign_at (kind_of n) (text_of n) (flags_of n) → sign_of_text (text_of n) ≡ Some s
 sign_text (node kind.UnaryExpression w g b e ps) s h = sym h
 sign_text (node kind.UpdateExpression w g b e ps) s h = sym (prefixed g.prefix w s h).1
-sign_text (node _ w g b e ps) s h = absurd (cc)
+sign_text (node _ w g b e ps) s h = absurd (none_some h)
 
 -- The marks of a node's first way
 

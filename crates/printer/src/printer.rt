@@ -115,13 +115,13 @@ fn print_direct(
     let Some(positions) = node_positions(node, position) else {
         return Ok(());
     };
-    let walk = Walk {
+    let mut walk = Walk {
         positions,
         alone: false,
     };
     match sign_of(node) {
-        Some(sign) => print_signed(node, sign, walk, depth, sheet),
-        None => print_framed(node, frame_of(node, position), walk, depth, sheet),
+        Some(sign) => print_signed(node, sign, &mut walk, depth, sheet),
+        None => print_framed(node, frame_of(node, position), &mut walk, depth, sheet),
     }
 }
 
@@ -151,15 +151,15 @@ fn sign_in(text: &str) -> Option<Sign>
 fn print_signed<'t, 's>(
     node: Node<'t, 's>,
     sign: Sign,
-    walk: Walk<'t, 's>,
+    walk: &mut Walk<'t, 's>,
     depth: usize,
     sheet: &mut Sheet,
 ) -> Result<(), AllocError>
-    ensures { OnOk result ((W : ℕ → Bool) → (r : ℕ) → Reads W r sheet.old.wraps.now → parts_fit W (parts_of (node_tree node.entry)) (remaining walk.entry.positions) r ≡ true → sign_of_text (text_of (node_tree node.entry)) ≡ Some sign → is_none (parts_behind 1 (parts_of (node_tree node.entry))) ≡ true → Written W sheet.old sheet.new (signed_marks (text_of (node_tree node.entry)) sign) (parts_of (node_tree node.entry)) (remaining walk.entry.positions) walk.entry.alone depth r) }
+    ensures { OnOk result ((W : ℕ → Bool) → (r : ℕ) → Reads W r sheet.old.wraps.now → parts_fit W (parts_of (node_tree node.entry)) (remaining walk.old.positions) r ≡ true → sign_of_text (text_of (node_tree node.entry)) ≡ Some sign → is_none (parts_behind 1 (parts_of (node_tree node.entry))) ≡ true → Written W sheet.old sheet.new (signed_marks (text_of (node_tree node.entry)) sign) (parts_of (node_tree node.entry)) (remaining walk.old.positions) walk.old.alone depth r) }
 {
     sheet.push(node.text())?;
     sheet.set_apart(sign);
-    let _walk = print_part(node, 0, walk, depth, sheet)?;
+    print_part(node, 0, walk, depth, sheet)?;
     sheet.join();
     Ok(())
 }
@@ -169,17 +169,17 @@ fn print_signed<'t, 's>(
 fn print_framed<'t, 's>(
     node: Node<'t, 's>,
     frame: Frame,
-    walk: Walk<'t, 's>,
+    walk: &mut Walk<'t, 's>,
     depth: usize,
     sheet: &mut Sheet,
 ) -> Result<(), AllocError>
-    ensures { OnOk result ((W : ℕ → Bool) → (r : ℕ) → Reads W r sheet.old.wraps.now → parts_fit W (parts_of (node_tree node.entry)) (remaining walk.entry.positions) r ≡ true → Written W sheet.old sheet.new (shape_marks (text_of (node_tree node.entry)) (shape_of frame) (parts_of (node_tree node.entry))) (parts_of (node_tree node.entry)) (remaining walk.entry.positions) walk.entry.alone depth r) }
+    ensures { OnOk result ((W : ℕ → Bool) → (r : ℕ) → Reads W r sheet.old.wraps.now → parts_fit W (parts_of (node_tree node.entry)) (remaining walk.old.positions) r ≡ true → Written W sheet.old sheet.new (shape_marks (text_of (node_tree node.entry)) (shape_of frame) (parts_of (node_tree node.entry))) (parts_of (node_tree node.entry)) (remaining walk.old.positions) walk.old.alone depth r) }
 {
     let text = node.text();
-    let walk = print_front(node, frame.front, walk, depth, sheet)?;
+    print_front(node, frame.front, walk, depth, sheet)?;
     sheet.push_all(frame.opener, text, depth, walk.alone)?;
     let inside = inner_depth(frame.series, depth)?;
-    let walk = print_list(node, frame.series, frame.front.len(), walk, inside, sheet)?;
+    print_list(node, frame.series, frame.front.len(), walk, inside, sheet)?;
     sheet.push_all(frame.closer, text, depth, walk.alone)
 }
 
@@ -188,18 +188,17 @@ fn print_framed<'t, 's>(
 fn print_front<'t, 's>(
     node: Node<'t, 's>,
     front: &[&[Piece]],
-    walk: Walk<'t, 's>,
+    walk: &mut Walk<'t, 's>,
     depth: usize,
     sheet: &mut Sheet,
-) -> Result<Walk<'t, 's>, AllocError>
-    ensures { IfOk result (λ v. (W : ℕ → Bool) → (ms : List Mark) → (r : ℕ) → Reads W r sheet.old.wraps.now → parts_fit W (parts_of (node_tree node.entry)) (remaining walk.entry.positions) r ≡ true → Passed W sheet.old sheet.new (front_marks (text_of (node_tree node.entry)) (map (λ p. bits_of p.now) front.now) ms) ms (parts_of (node_tree node.entry)) (parts_behind (length front.now) (parts_of (node_tree node.entry))) (remaining walk.entry.positions) (remaining v.positions) walk.entry.alone v.alone depth r) }
+) -> Result<(), AllocError>
+    ensures { OnOk result ((W : ℕ → Bool) → (ms : List Mark) → (r : ℕ) → Reads W r sheet.old.wraps.now → parts_fit W (parts_of (node_tree node.entry)) (remaining walk.old.positions) r ≡ true → Passed W sheet.old sheet.new (front_marks (text_of (node_tree node.entry)) (map (λ p. bits_of p.now) front.now) ms) ms (parts_of (node_tree node.entry)) (parts_behind (length front.now) (parts_of (node_tree node.entry))) (remaining walk.old.positions) (remaining walk.new.positions) walk.old.alone walk.new.alone depth r) }
 {
-    let mut rest = walk;
     for index in 0..front.len() {
-        sheet.push_all(front[index], node.text(), depth, rest.alone)?;
-        rest = print_part(node, index, rest, depth, sheet)?;
+        sheet.push_all(front[index], node.text(), depth, walk.alone)?;
+        print_part(node, index, walk, depth, sheet)?;
     }
-    Ok(rest)
+    Ok(())
 }
 
 /// The other parts.
@@ -208,18 +207,17 @@ fn print_list<'t, 's>(
     node: Node<'t, 's>,
     series: Series,
     from: usize,
-    walk: Walk<'t, 's>,
+    walk: &mut Walk<'t, 's>,
     depth: usize,
     sheet: &mut Sheet,
-) -> Result<Walk<'t, 's>, AllocError>
-    ensures { IfOk result (λ v. (W : ℕ → Bool) → (ms : List Mark) → (r : ℕ) → Reads W r sheet.old.wraps.now → parts_fit W (parts_behind from (parts_of (node_tree node.entry))) (remaining walk.entry.positions) r ≡ true → Passed W sheet.old sheet.new (chain_marks (text_of (node_tree node.entry)) (chain_of series) (parts_behind from (parts_of (node_tree node.entry))) ++ ms) ms (parts_behind from (parts_of (node_tree node.entry))) none (remaining walk.entry.positions) (remaining v.positions) walk.entry.alone v.alone depth r) }
+) -> Result<(), AllocError>
+    ensures { OnOk result ((W : ℕ → Bool) → (ms : List Mark) → (r : ℕ) → Reads W r sheet.old.wraps.now → parts_fit W (parts_behind from (parts_of (node_tree node.entry))) (remaining walk.old.positions) r ≡ true → Passed W sheet.old sheet.new (chain_marks (text_of (node_tree node.entry)) (chain_of series) (parts_behind from (parts_of (node_tree node.entry))) ++ ms) ms (parts_behind from (parts_of (node_tree node.entry))) none (remaining walk.old.positions) (remaining walk.new.positions) walk.old.alone walk.new.alone depth r) }
 {
-    let mut rest = walk;
     let count = node.part_count();
     for index in from..count {
-        rest = print_item(node, series, index, rest, depth, sheet)?;
+        print_item(node, series, index, walk, depth, sheet)?;
     }
-    Ok(rest)
+    Ok(())
 }
 
 /// One of them, with what stands before it and behind it.
@@ -228,20 +226,19 @@ fn print_item<'t, 's>(
     node: Node<'t, 's>,
     series: Series,
     index: usize,
-    walk: Walk<'t, 's>,
+    walk: &mut Walk<'t, 's>,
     depth: usize,
     sheet: &mut Sheet,
-) -> Result<Walk<'t, 's>, AllocError>
+) -> Result<(), AllocError>
     requires { index < part_count (parts_of (node_tree node)) }
-    ensures { IfOk result (λ v. (W : ℕ → Bool) → (ms : List Mark) → (r : ℕ) → Reads W r sheet.old.wraps.now → parts_fit W (parts_behind index (parts_of (node_tree node.entry))) (remaining walk.entry.positions) r ≡ true → Passed W sheet.old sheet.new (chain_marks (text_of (node_tree node.entry)) (chain_of series) (parts_behind index (parts_of (node_tree node.entry))) ++ ms) (chain_marks (text_of (node_tree node.entry)) (chain_of series) (parts_behind (suc index) (parts_of (node_tree node.entry))) ++ ms) (parts_behind index (parts_of (node_tree node.entry))) (parts_behind (suc index) (parts_of (node_tree node.entry))) (remaining walk.entry.positions) (remaining v.positions) walk.entry.alone v.alone depth r) }
+    ensures { OnOk result ((W : ℕ → Bool) → (ms : List Mark) → (r : ℕ) → Reads W r sheet.old.wraps.now → parts_fit W (parts_behind index (parts_of (node_tree node.entry))) (remaining walk.old.positions) r ≡ true → Passed W sheet.old sheet.new (chain_marks (text_of (node_tree node.entry)) (chain_of series) (parts_behind index (parts_of (node_tree node.entry))) ++ ms) (chain_marks (text_of (node_tree node.entry)) (chain_of series) (parts_behind (suc index) (parts_of (node_tree node.entry))) ++ ms) (parts_behind index (parts_of (node_tree node.entry))) (parts_behind (suc index) (parts_of (node_tree node.entry))) (remaining walk.old.positions) (remaining walk.new.positions) walk.old.alone walk.new.alone depth r) }
 {
     let text = node.text();
     let behind = node.part_count() - index - 1;
     sheet.push_all(before(series, behind == 0), text, depth, walk.alone)?;
-    let walk = print_part(node, index, walk, depth, sheet)?;
+    print_part(node, index, walk, depth, sheet)?;
     let is_gap = node.part(index).is_none();
-    sheet.push_all(after(series, is_gap, behind), text, depth, walk.alone)?;
-    Ok(walk)
+    sheet.push_all(after(series, is_gap, behind), text, depth, walk.alone)
 }
 
 /// How deep the parts of a list stand.
@@ -263,22 +260,20 @@ fn inner_depth(series: Series, depth: usize) -> Result<usize, AllocError>
 fn print_part<'t, 's>(
     node: Node<'t, 's>,
     index: usize,
-    walk: Walk<'t, 's>,
+    walk: &mut Walk<'t, 's>,
     depth: usize,
     sheet: &mut Sheet,
-) -> Result<Walk<'t, 's>, AllocError>
-    ensures { IfOk result (λ v. (W : ℕ → Bool) → (ms : List Mark) → (r : ℕ) → Reads W r sheet.old.wraps.now → parts_fit W (parts_behind index (parts_of (node_tree node.entry))) (remaining walk.entry.positions) r ≡ true → Passed W sheet.old sheet.new (here ∷ ms) ms (parts_behind index (parts_of (node_tree node.entry))) (parts_behind (suc index) (parts_of (node_tree node.entry))) (remaining walk.entry.positions) (remaining v.positions) walk.entry.alone v.alone depth r) }
+) -> Result<(), AllocError>
+    ensures { OnOk result ((W : ℕ → Bool) → (ms : List Mark) → (r : ℕ) → Reads W r sheet.old.wraps.now → parts_fit W (parts_behind index (parts_of (node_tree node.entry))) (remaining walk.old.positions) r ≡ true → Passed W sheet.old sheet.new (here ∷ ms) ms (parts_behind index (parts_of (node_tree node.entry))) (parts_behind (suc index) (parts_of (node_tree node.entry))) (remaining walk.old.positions) (remaining walk.new.positions) walk.old.alone walk.new.alone depth r) }
 {
     let Some(part) = node.part(index) else {
-        return Ok(Walk {
-            alone: false,
-            ..walk
-        });
+        walk.alone = false;
+        return Ok(());
     };
     let Some((position, positions)) = walk.positions.next() else {
-        return Ok(walk);
+        return Ok(());
     };
-    let alone = !sheet.is_wrapped();
-    print_node(part, position, depth, sheet)?;
-    Ok(Walk { positions, alone })
+    walk.positions = positions;
+    walk.alone = !sheet.is_wrapped();
+    print_node(part, position, depth, sheet)
 }

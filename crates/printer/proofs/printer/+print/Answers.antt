@@ -45,7 +45,7 @@ print_framed-returns t c =
     on_ok_weaker c.push_all-2.result (λ o W r h k.
     framed W (text_of n) c.text-text.result.now c.text-text.ensures (map (λ p. bits_of p.now) c.args.frame.front.now) c.args.frame.opener.now c.args.frame.closer.now (chain_of c.args.frame.series) (parts_of n)
     (length c.args.frame.front.now) c.in_ok-inside.inside (sym (length-map c.args.frame.front.now (λ p. bits_of p.now))) c.in_ok-inside.ensures h k
-    (λ ms q a b. c.in_ok-walk.ensures W ms q a b) c.in_ok-push_all.ensures (λ ms q a b. c.in_ok-walk-2.ensures W ms q a b) o)
+    (λ ms q a b. c.in_ok-print_front.ensures W ms q a b) c.in_ok-push_all.ensures (λ ms q a b. c.in_ok-print_list.ensures W ms q a b) o)
     c.push_all-2.ensures
 
 pub print_front-loop-index-preserved : goal.print_front-loop-index-preserved
@@ -55,7 +55,7 @@ print_front-loop-index-preserved t c = λ W ms r h k.
     let i = c.loop-index.index in
     let ns = front_marks (text_of n) (map (λ p. bits_of p.now) (drop (i + 1) fs)) ms in
     stepped W (parts_of n) i
-    (turn W _ c.text.result.now c.text.ensures (fronts-next (text_of n) (λ p. bits_of p.now) fs i _ ms c.loop-index-test.true) (c.loop-index.invariant W ms r h k) c.in_ok-push_all.ensures (λ q u v. c.in_ok-rest.ensures W ns q u v))
+    (turn W _ c.text.result.now c.text.ensures (fronts-next (text_of n) (λ p. bits_of p.now) fs i _ ms c.loop-index-test.true) (c.loop-index.invariant W ms r h k) c.in_ok-push_all.ensures (λ q u v. c.in_ok-print_part.ensures W ns q u v))
 
 pub print_front-returns : goal.print_front-returns
 print_front-returns t c = λ W ms r h k.
@@ -66,7 +66,7 @@ print_front-returns t c = λ W ms r h k.
     fronts_done W (text_of n) (λ p. bits_of p.now) fs (parts_of n) i ms e (c.loop-index.invariant W ms r h k)
 
 pub print_item-returns : goal.print_item-returns
-print_item-returns t c = λ W ms r h k.
+print_item-returns t c = on_ok_weaker c.push_all-2.result (λ f W ms r h k.
     let P = parts_of (node_tree c.args.node) in
     let w = text_of (node_tree c.args.node) in
     let s = chain_of c.args.series in
@@ -79,8 +79,9 @@ print_item-returns t c = λ W ms r h k.
     trail W c.after.result.now c.text-text.result.now c.text-text.ensures refl
     (turn W c.before-2.result.now c.text-text.result.now c.text-text.ensures
     (chain-next w s P i o ms c.part.ensures c.requires ∙ ap₂ (λ x y. marks_in w x ++ here ∷ (marks_in w y ++ rest)) (sym here_before) (sym here_after))
-    (passed_nothing W r h k) c.in_ok-push_all.ensures (λ q u z. c.in_ok-walk.ensures W (marks_in w (bits_of c.after.result.now) ++ rest) q u z))
-    c.in_ok-push_all-2.ensures
+    (passed_nothing W r h k) c.in_ok-push_all.ensures (λ q u z. c.in_ok-print_part.ensures W (marks_in w (bits_of c.after.result.now) ++ rest) q u z))
+    f)
+    c.push_all-2.ensures
 
 pub print_list-loop-index-preserved : goal.print_list-loop-index-preserved
 print_list-loop-index-preserved t c = λ W ms r h k.
@@ -88,7 +89,7 @@ print_list-loop-index-preserved t c = λ W ms r h k.
     let w = text_of (node_tree c.args.node) in
     let s = chain_of c.args.series in
     let p = c.loop-index.invariant W ms r h k in
-    stepped_chain W w s P c.loop-index.index ms (passed_then W p (c.in_ok-rest.ensures W ms p.row p.reads p.fit))
+    stepped_chain W w s P c.loop-index.index ms (passed_then W p (c.in_ok-print_item.ensures W ms p.row p.reads p.fit))
 
 pub print_list-returns : goal.print_list-returns
 print_list-returns t c = λ W ms r h k.
@@ -102,12 +103,13 @@ pub print_part-returns-in_default : goal.print_part-returns-in_default
 print_part-returns-in_default t c = λ W ms r h k. passed_missing W (parts_of (node_tree c.args.node)) c.args.index r c.in_default.ensures h k
 
 pub print_part-returns-in_default-next : goal.print_part-returns-in_default-next
-print_part-returns-in_default-next t c = λ W ms r h k. absurd (part_lost W (parts_of (node_tree c.args.node)) c.args.index r (node_tree c.in-Some.part) (remaining c.args.walk.positions) c.in-Some.ensures c.in_default-next.ensures k)
+print_part-returns-in_default-next t c = λ W ms r h k. absurd (part_lost W (parts_of (node_tree c.args.node)) c.args.index r (node_tree c.in-Some.part) (remaining c.args.walk.now.positions) c.in-Some.ensures c.in_default-next.ensures k)
 
 pub print_part-returns : goal.print_part-returns
-print_part-returns t c = λ W ms r h k.
-    part_turn W (parts_of (node_tree c.args.node)) c.args.index r (node_tree c.in-Some.part) (remaining c.args.walk.positions) (c.in-Some-next.position, c.in-Some-next.positions) _ c.in-Some.ensures c.in-Some-next.ensures h
-    (ap not (sym c.is_wrapped-alone.ensures)) k (λ f. c.in_ok-print_node.ensures W r h f)
+print_part-returns t c = on_ok_weaker c.print_node.result (λ p W ms r h k.
+    part_turn W (parts_of (node_tree c.args.node)) c.args.index r (node_tree c.in-Some.part) (remaining c.args.walk.now.positions) (c.in-Some-next.position, c.in-Some-next.positions) _ c.in-Some.ensures c.in-Some-next.ensures h
+    (ap not (sym c.is_wrapped.ensures)) k (λ f. p W r h f))
+    c.print_node.ensures
 
 pub print_node-returns : goal.print_node-returns
 print_node-returns t c =
@@ -136,5 +138,5 @@ print_signed-returns t c = λ W r h k u v.
     (subst (λ w. Writes c.args.sheet.now c.push.new.self w) c.text.ensures c.in_ok-push.ensures.written)
     (λ z. c.in_ok-push.ensures.parted (λ y. z (sym c.text.ensures ∙ y)))
     c.set_apart.ensures.out c.set_apart.ensures.apart c.set_apart.ensures.wraps h
-    (λ q. c.in_ok-_walk.ensures W [] r q k)
+    (λ q. c.in_ok-print_part.ensures W [] r q k)
     c.join.ensures.out c.join.ensures.apart c.join.ensures.wraps

@@ -13,14 +13,14 @@ abbrev pub invariant-print_front-loop-index : goal.invariant-print_front-loop-in
 invariant-print_front-loop-index l =
     (W : ℕ → Bool) → (ms : List Mark) → (r : ℕ) → Reads W r l.fn.sheet.wraps.now → parts_fit W (parts_of (node_tree l.fn.node)) (remaining l.fn.walk.positions) r ≡ true →
     Passed W l.fn.sheet l.sheet (front_marks (text_of (node_tree l.fn.node)) (map (λ p. bits_of p.now) l.fn.front) ms) (front_marks (text_of (node_tree l.fn.node)) (map (λ p. bits_of p.now) (drop l.index l.fn.front)) ms)
-    (parts_of (node_tree l.fn.node)) (parts_behind l.index (parts_of (node_tree l.fn.node))) (remaining l.fn.walk.positions) (remaining l.rest.positions) l.fn.walk.alone l.rest.alone l.fn.depth r
+    (parts_of (node_tree l.fn.node)) (parts_behind l.index (parts_of (node_tree l.fn.node))) (remaining l.fn.walk.positions) (remaining l.walk.positions) l.fn.walk.alone l.walk.alone l.fn.depth r
 
 -- the same of the others
 abbrev pub invariant-print_list-loop-index : goal.invariant-print_list-loop-index
 invariant-print_list-loop-index l =
     (W : ℕ → Bool) → (ms : List Mark) → (r : ℕ) → Reads W r l.fn.sheet.wraps.now → parts_fit W (parts_behind l.fn.from (parts_of (node_tree l.fn.node))) (remaining l.fn.walk.positions) r ≡ true →
     Passed W l.fn.sheet l.sheet (chain_marks (text_of (node_tree l.fn.node)) (chain_of l.fn.series) (parts_behind l.fn.from (parts_of (node_tree l.fn.node))) ++ ms) (chain_marks (text_of (node_tree l.fn.node)) (chain_of l.fn.series) (parts_behind l.index (parts_of (node_tree l.fn.node))) ++ ms)
-    (parts_behind l.fn.from (parts_of (node_tree l.fn.node))) (parts_behind l.index (parts_of (node_tree l.fn.node))) (remaining l.fn.walk.positions) (remaining l.rest.positions) l.fn.walk.alone l.rest.alone l.fn.depth r
+    (parts_behind l.fn.from (parts_of (node_tree l.fn.node))) (parts_behind l.index (parts_of (node_tree l.fn.node))) (remaining l.fn.walk.positions) (remaining l.walk.positions) l.fn.walk.alone l.walk.alone l.fn.depth r
 
 abbrev pub decreases-print_part : goal.decreases-print_part
 decreases-print_part l = 8 * node_total (node_tree l.node)
