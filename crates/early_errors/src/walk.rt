@@ -18,7 +18,6 @@ use crate::own::own_errors;
 use crate::scopes::{scope_errors, scope_kind, scope_of};
 use crate::table::Table;
 use std::alloc::{AllocError, Global};
-use std::mem;
 use tree::{Form, Kind, Node};
 
 /// What a walk carries.
@@ -154,12 +153,12 @@ fn walk_function<'t>(
     ensures vars { OnOk result (Agree (look walk.new.vars) (look walk.old.vars)) }
     ensures labels { OnOk result (Agree (look walk.new.labels) (look walk.old.labels)) }
 {
-    let vars = mem::replace(&mut walk.vars, Table::new(walk.alloc));
-    let labels = mem::replace(&mut walk.labels, Table::new(walk.alloc));
-    walk_parts(node, 0, node.part_count(), rounds_of(node, around), walk)?;
-    walk.vars = vars;
-    walk.labels = labels;
-    Ok(())
+    let vars = walk.vars.take(walk.alloc);
+    let labels = walk.labels.take(walk.alloc);
+    let done = walk_parts(node, 0, node.part_count(), rounds_of(node, around), walk);
+    walk.vars.put(vars);
+    walk.labels.put(labels);
+    done
 }
 
 /// The key of a method belongs to what surrounds it; its function doesn't.
@@ -178,10 +177,10 @@ fn walk_method<'t>(
 {
     let rounds = rounds_of(node, around);
     walk_parts(node, 0, 1, rounds, walk)?;
-    let labels = mem::replace(&mut walk.labels, Table::new(walk.alloc));
-    walk_parts(node, 1, node.part_count(), rounds, walk)?;
-    walk.labels = labels;
-    Ok(())
+    let labels = walk.labels.take(walk.alloc);
+    let done = walk_parts(node, 1, node.part_count(), rounds, walk);
+    walk.labels.put(labels);
+    done
 }
 
 /// A label stands round the parts of its statement.

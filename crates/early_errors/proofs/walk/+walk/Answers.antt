@@ -16,14 +16,16 @@ use Rattle.early_errors.proofs.walk.+walk.Goals.{walk_label-then-part_count-eq2,
 
 pub walk_function-returns-clause-found : goal.walk_function-returns-clause-found
 walk_function-returns-clause-found t c =
-    λ o ls k e.
+    on_ok c.walk_parts-done.result
+    (λ h o ls k e.
     let t = node_tree c.args.node in
     let z = round c.args.around ls in
     let f = function_facts t z ls c.requires.inside in
     function-found o c.args.walk.now.found (look c.args.walk.now.vars) z (round c.rounds_of.result.first []) (round c.rounds_of.result.others []) t (c.part_count.result - 0)
     (from_start c.part_count.result ∙ c.part_count.ensures) (ap (round c.rounds_of.result.first) (sym f.0.0) ∙ c.rounds_of.ensures.first ls) (ap (round c.rounds_of.result.others) (sym f.0.1.0) ∙ c.rounds_of.ensures.others ls)
-    (look c.replace-vars.new.dest) c.walk_parts.new.walk.found f.0.1.1.1 f.0.1.1.0 f.1 (λ w. ap (λ v. look v w) c.replace-vars.ensures.after ∙ c.new.ensures w) e
-    (c.in_ok-walk_parts.ensures.found [] (λ w. ap (λ v. look v w) c.replace-labels.ensures.after ∙ c.new-2.ensures w))
+    (look c.take-vars.new.self) c.walk_parts-done.new.walk.found f.0.1.1.1 f.0.1.1.0 f.1 c.take-vars.ensures.after e
+    (h [] c.take-labels.ensures.after))
+    c.walk_parts-done.ensures.found
 
 pub walk_label-returns-in_default-clause-found : goal.walk_label-returns-in_default-clause-found
 walk_label-returns-in_default-clause-found t c =
@@ -81,7 +83,8 @@ walk_label-returns-clause-found t c =
 
 pub walk_method-returns-clause-found : goal.walk_method-returns-clause-found
 walk_method-returns-clause-found t c =
-    λ o ls k e.
+    on_ok c.walk_parts-done.result
+    (λ h o ls k e.
     let t = node_tree c.args.node in
     let z = round c.args.around ls in
     let f = method_facts t z ls c.requires.inside in
@@ -89,10 +92,14 @@ walk_method-returns-clause-found t c =
     let others = c.rounds_of-rounds.result.others in
     parts-found o c.args.walk.now.found (look c.args.walk.now.vars) z (round first ls) (round others []) t c.part_count.result
     c.part_count.ensures (ap (round first) (sym f.0) ∙ c.rounds_of-rounds.ensures.first ls) (ap (round others) (sym f.1.0) ∙ c.rounds_of-rounds.ensures.others ls)
-    (look c.args.walk.now.vars) c.walk_parts-2.new.walk.found f.1.1.1 f.1.1.0 (λ w. refl) e
-    (two-goes (look c.args.walk.now.vars) (look c.args.walk.now.vars) (look c.walk_parts.new.walk.vars) c.args.walk.now.found c.walk_parts.new.walk.found c.walk_parts-2.new.walk.found
+    (look c.args.walk.now.vars) c.walk_parts-done.new.walk.found f.1.1.1 f.1.1.0 (λ w. refl) e
+    (two-goes (look c.args.walk.now.vars) (look c.args.walk.now.vars) (look c.walk_parts.new.walk.vars) c.args.walk.now.found c.walk_parts.new.walk.found c.walk_parts-done.new.walk.found
     (round others ls) (round first []) (round first ls) (round others []) (parts_of t) c.part_count.result c.part_count.ensures (λ w. refl) c.in_ok-walk_parts.ensures.vars
-    (c.in_ok-walk_parts.ensures.found ls k) (c.in_ok-walk_parts-2.ensures.found [] (λ w. ap (λ v. look v w) c.replace-labels.ensures.after ∙ c.new.ensures w)))
+    (c.in_ok-walk_parts.ensures.found ls k) (h [] c.take-labels.ensures.after)))
+    c.walk_parts-done.ensures.found
+
+pub walk_method-returns-clause-vars : goal.walk_method-returns-clause-vars
+walk_method-returns-clause-vars t c = on_ok c.walk_parts-done.result (λ h w. h w ∙ c.in_ok-walk_parts.ensures.vars w) c.walk_parts-done.ensures.vars
 
 pub walk_node-returns-in-Function-clause-vars : goal.walk_node-returns-in-Function-clause-vars
 walk_node-returns-in-Function-clause-vars t c = on_ok c.walk_function.result (λ h w. h w ∙ ap (λ v. look v w) c.in_ok-own_errors.ensures.vars) c.walk_function.ensures.vars
