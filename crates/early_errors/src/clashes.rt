@@ -140,23 +140,8 @@ pub(crate) fn hits(clashes: &Clashes, names: &[Named], found: Found) -> Found
     found
 }
 
-/// Lets names clash from here on, each with an error at its place; answers what stood there before.
+/// Lets names clash from here on, each with an error at its place; pushes what stood there before.
 pub(crate) fn enter<'t>(
-    alloc: Global,
-    clashes: &mut Clashes<'t>,
-    names: &[Named<'t>],
-    error: EarlyError,
-) -> Result<Vec<Saved<'t>>, AllocError>
-    ensures entered { OnOk result (Agree (look clashes.new) (clashing (look clashes.old) error (all_named names.now))) }
-    ensures kept { IfOk result (λ saved. Agree (undone (look clashes.new) saved.items) (look clashes.old)) }
-{
-    let mut saved = Vec::new(alloc);
-    enter_each(clashes, names, error, &mut saved)?;
-    Ok(saved)
-}
-
-/// The same; pushes what stood there before.
-fn enter_each<'t>(
     clashes: &mut Clashes<'t>,
     names: &[Named<'t>],
     error: EarlyError,
@@ -176,11 +161,13 @@ fn enter_each<'t>(
     Ok(())
 }
 
-/// Lets names clash as before.
-pub(crate) fn leave<'t>(clashes: &mut Clashes<'t>, saved: Vec<Saved<'t>>) -> Result<(), AllocError>
-    ensures { OnOk result (Agree (look clashes.new) (undone (look clashes.old) saved.entry.items)) }
+/// Lets names clash as before; pops what stood there.
+pub(crate) fn leave<'t>(
+    clashes: &mut Clashes<'t>,
+    saved: &mut Vec<Saved<'t>>,
+) -> Result<(), AllocError>
+    ensures { OnOk result (Agree (look clashes.new) (undone (look clashes.old) saved.old.items)) }
 {
-    let mut saved = saved;
     while let Some(last) = saved.pop() {
         clashes.replace(last.name, last.value)?;
     }

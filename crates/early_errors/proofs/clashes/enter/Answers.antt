@@ -1,6 +1,6 @@
 use Rattle.early_errors.specs.Walk.{look, undone}
 use Rattle.early_errors.proofs.Tables.{entered-turn, kept-turn}
-use Rattle.early_errors.proofs.clashes.enter_each.Goals as goal
+use Rattle.early_errors.proofs.clashes.enter.Goals as goal
 
 pub loop-named-preserved : goal.loop-named-preserved
 loop-named-preserved c = record {

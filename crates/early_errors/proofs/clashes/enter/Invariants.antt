@@ -1,6 +1,6 @@
 use Rattle.std.proofs.Common.{take}
 use Rattle.early_errors.specs.Walk.{Agree, all_named, clashing, look, undone}
-use Rattle.early_errors.proofs.clashes.enter_each.Given as goal
+use Rattle.early_errors.proofs.clashes.enter.Given as goal
 
 abbrev pub invariant-loop-named : goal.invariant-loop-named
 invariant-loop-named l = record {
