@@ -1,9 +1,9 @@
 //! Names that clash with names.
 
-ghost use Rattle.std.specs.Prelude.{◌≡◌, [], ◌∷◌, filter, is_some, IfOk, OnOk};
+ghost use Rattle.std.specs.Prelude.{◌≡◌, [], ◌∷◌, filter, IfOk, None, OnOk};
 ghost use Rattle.language.specs.Words.{among};
 ghost use Rattle.early_errors.specs.Early.{each};
-ghost use Rattle.early_errors.specs.Names.{has_name, places, shared, twice};
+ghost use Rattle.early_errors.specs.Names.{places, shared, twice};
 ghost use Rattle.early_errors.specs.Strict.{is_restricted};
 ghost use Rattle.early_errors.specs.Walk.{Agree, after, all_named, clashing, hits, look, sooner, stands, undone};
 
@@ -54,8 +54,21 @@ pub(crate) fn repeated<'t>(
     if names.len() < 2 {
         return Ok(found);
     }
+    let mut seen = Table::new(alloc);
+    repeated_after(names, &mut seen, error, found)
+}
+
+/// The same, with a table for the names that were seen.
+fn repeated_after<'t>(
+    names: &[Named<'t>],
+    seen: &mut Table<'t, ()>,
+    error: EarlyError,
+    found: Found,
+) -> Result<Found, AllocError>
+    requires { Agree (look seen.now) (λ _. None) }
+    ensures { IfOk result (λ r. r ≡ after found (each error (places (twice (all_named names.now))))) }
+{
     let mut found = found;
-    let mut seen: Table<'t, ()> = Table::new(alloc);
     for named in names {
         if seen.replace(named.name, Some(()))?.is_some() {
             found = with_error(found, error, named.at);
@@ -77,19 +90,25 @@ pub(crate) fn shared<'t>(
     if names.is_empty() {
         return Ok(found);
     }
-    let there = table_of(alloc, others)?;
-    Ok(reported(names, &there, error, found))
+    let mut there = Table::new(alloc);
+    shared_by(names, others, &mut there, error, found)
 }
 
-/// A table of names.
-fn table_of<'t>(alloc: Global, names: &[Named<'t>]) -> Result<Table<'t, ()>, AllocError>
-    ensures { IfOk result (λ t. (w : _) → is_some (look t w) ≡ has_name w (all_named names.now)) }
+/// The same, with a table for the second names.
+fn shared_by<'t>(
+    names: &[Named],
+    others: &[Named<'t>],
+    there: &mut Table<'t, ()>,
+    error: EarlyError,
+    found: Found,
+) -> Result<Found, AllocError>
+    requires { Agree (look there.now) (λ _. None) }
+    ensures { IfOk result (λ r. r ≡ after found (each error (places (shared (all_named names.now) (all_named others.now))))) }
 {
-    let mut there: Table<'t, ()> = Table::new(alloc);
-    for named in names {
+    for named in others {
         there.replace(named.name, Some(()))?;
     }
-    Ok(there)
+    Ok(reported(names, there, error, found))
 }
 
 /// Those of the names that are in a table.
@@ -121,17 +140,16 @@ pub(crate) fn hits(clashes: &Clashes, names: &[Named], found: Found) -> Found
     found
 }
 
-/// Lets names clash from here on, each with an error at its place; answers what stood there before.
+/// Lets names clash from here on, each with an error at its place; pushes what stood there before.
 pub(crate) fn enter<'t>(
-    alloc: Global,
     clashes: &mut Clashes<'t>,
     names: &[Named<'t>],
     error: EarlyError,
-) -> Result<Vec<Saved<'t>>, AllocError>
+    saved: &mut Vec<Saved<'t>>,
+) -> Result<(), AllocError>
     ensures entered { OnOk result (Agree (look clashes.new) (clashing (look clashes.old) error (all_named names.now))) }
-    ensures kept { IfOk result (λ saved. Agree (undone (look clashes.new) saved.items) (look clashes.old)) }
+    ensures kept { OnOk result (Agree (undone (look clashes.new) saved.new.items) (undone (look clashes.old) saved.old.items)) }
 {
-    let mut saved = Vec::new(alloc);
     for named in names {
         let value = clashes.value(named.name);
         clashes.replace(named.name, with_error(value, error, named.at))?;
@@ -140,14 +158,16 @@ pub(crate) fn enter<'t>(
             value,
         })?;
     }
-    Ok(saved)
+    Ok(())
 }
 
-/// Lets names clash as before.
-pub(crate) fn leave<'t>(clashes: &mut Clashes<'t>, saved: Vec<Saved<'t>>) -> Result<(), AllocError>
-    ensures { OnOk result (Agree (look clashes.new) (undone (look clashes.old) saved.entry.items)) }
+/// Lets names clash as before; pops what stood there.
+pub(crate) fn leave<'t>(
+    clashes: &mut Clashes<'t>,
+    saved: &mut Vec<Saved<'t>>,
+) -> Result<(), AllocError>
+    ensures { OnOk result (Agree (look clashes.new) (undone (look clashes.old) saved.old.items)) }
 {
-    let mut saved = saved;
     while let Some(last) = saved.pop() {
         clashes.replace(last.name, last.value)?;
     }

@@ -16,8 +16,9 @@ mod table;
 mod walk;
 
 use around::Around;
+use found::Found;
 use std::alloc::{AllocError, Global};
-use tree::Program;
+use tree::{Node, Program};
 use walk::{Walk, walk_node};
 
 /// An early error, in the order of the numbers 1 to 21 that reports name it by.
@@ -67,8 +68,10 @@ pub enum EarlyError {
     RegExpFlags,
 }
 
-ghost use Rattle.std.specs.Prelude.{◌≡◌, IfOk};
-ghost use Rattle.early_errors.specs.Early.{least_error, number};
+ghost use Rattle.std.specs.Prelude.{◌≡◌, IfOk, None};
+ghost use Rattle.tree.specs.Node.{node_tree};
+ghost use Rattle.early_errors.specs.Early.{errors, least, least_error, number};
+ghost use Rattle.early_errors.specs.Walk.{Agree, look};
 
 /// The number that a report names the early error by: 1 to 21.
 pub fn number_of(error: EarlyError) -> u8
@@ -110,6 +113,18 @@ pub fn first_early_error(
     ensures { IfOk result (λ r. r ≡ least_error program.now) }
 {
     let mut walk = Walk::new(alloc);
-    walk_node(program.root(), Around::OUTSIDE, &mut walk)?;
+    let found = found_from(program.root(), &mut walk);
+    drop(walk);
+    found
+}
+
+/// The same of a tree, by a walk that has found nothing yet.
+fn found_from<'t>(root: Node<'t, '_>, walk: &mut Walk<'t>) -> Result<Found, AllocError>
+    requires found { walk.now.found ≡ None }
+    requires vars { Agree (look walk.now.vars) (λ _. None) }
+    requires labels { Agree (look walk.now.labels) (λ _. None) }
+    ensures { IfOk result (λ r. r ≡ least (errors (node_tree root.entry))) }
+{
+    walk_node(root, Around::OUTSIDE, walk)?;
     Ok(walk.found)
 }

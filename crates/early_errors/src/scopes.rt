@@ -28,15 +28,6 @@ pub(crate) enum ScopeKind {
     Nothing,
 }
 
-/// Names that clash with each `var` of the same name in a node's parts from a place on: the error, which stands at
-/// the name.
-#[derive(Drop)]
-pub(crate) struct Scope<'t> {
-    pub(crate) from: usize,
-    pub(crate) error: EarlyError,
-    pub(crate) names: Vec<Named<'t>>,
-}
-
 pub(crate) fn scope_kind(kind: Kind) -> ScopeKind
     ensures { result ≡ scope_kind kind }
 {
@@ -51,27 +42,8 @@ pub(crate) fn scope_kind(kind: Kind) -> ScopeKind
     }
 }
 
-/// The scope that a node makes.
-pub(crate) fn scope_of<'t>(
-    alloc: Global,
-    kind: ScopeKind,
-    node: Node<'t, '_>,
-    is_body: bool,
-) -> Result<Scope<'t>, AllocError>
-    ensures names { IfOk result (λ s. all_named s.names.items ≡ names_of_scope kind is_body (parts_of (node_tree node.entry))) }
-    ensures place { IfOk result (λ s. s.from ≡ place_of_scope kind (parts_of (node_tree node.entry))) }
-    ensures error { IfOk result (λ s. s.error ≡ scope_error kind) }
-{
-    let mut names = Vec::new(alloc);
-    push_scope(kind, node, is_body, &mut names)?;
-    Ok(Scope {
-        from: place_of_scope(kind, node),
-        error: scope_error(kind),
-        names,
-    })
-}
-
-fn push_scope<'t>(
+/// Pushes the names that clash with each `var` of the same name in a node's parts from a place on.
+pub(crate) fn push_scope<'t>(
     kind: ScopeKind,
     node: Node<'t, '_>,
     is_body: bool,
@@ -107,7 +79,8 @@ fn push_case<'t>(case: Option<Node<'t, '_>>, names: &mut Vec<Named<'t>>) -> Resu
     }
 }
 
-fn scope_error(kind: ScopeKind) -> EarlyError
+/// The error of such a clash, which stands at the name.
+pub(crate) fn scope_error(kind: ScopeKind) -> EarlyError
     ensures { result ≡ scope_error kind }
 {
     match kind {
@@ -117,7 +90,8 @@ fn scope_error(kind: ScopeKind) -> EarlyError
     }
 }
 
-fn place_of_scope(kind: ScopeKind, node: Node) -> usize
+/// The place from which on the names clash.
+pub(crate) fn place_of_scope(kind: ScopeKind, node: Node) -> usize
     ensures { result ≡ place_of_scope kind (parts_of (node_tree node.entry)) }
 {
     match kind {

@@ -5,6 +5,7 @@ ghost use Rattle.early_errors.specs.Walk.{Agree, look, with_value};
 
 use indexmap::IndexMap;
 use std::alloc::{AllocError, Global};
+use std::mem;
 
 /// What names stand for: a name stands for a value or for none.
 #[derive(Drop)]
@@ -20,6 +21,21 @@ impl<'t, V: Copy> Table<'t, V> {
         Table {
             entries: IndexMap::new(alloc),
         }
+    }
+
+    /// Lets no name stand for anything; answers the table as it was.
+    pub(crate) fn take(&mut self, alloc: Global) -> Table<'t, V>
+        ensures before { result ≡ self.old }
+        ensures after { Agree (look self.new) (λ _. None) }
+    {
+        mem::replace(self, Table::new(alloc))
+    }
+
+    /// Lets names stand for what they stand for in another table.
+    pub(crate) fn put(&mut self, table: Table<'t, V>)
+        ensures { self.new ≡ table.entry }
+    {
+        *self = table;
     }
 
     /// What a name stands for.

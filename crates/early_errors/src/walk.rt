@@ -1,6 +1,6 @@
 //! The walk over a tree.
 
-ghost use Rattle.std.specs.Prelude.{◌≡◌, ◌-◌, ◌<◌, None, Some, OnOk};
+ghost use Rattle.std.specs.Prelude.{◌≡◌, [], ◌-◌, ◌<◌, None, Some, OnOk};
 ghost use Rattle.tree.specs.Node.{node_tree};
 ghost use Rattle.tree.specs.Tree.{flags_of, kind_of, part_at, parts_of};
 ghost use Rattle.early_errors.specs.Early.{errors_within};
@@ -10,15 +10,14 @@ ghost use Rattle.early_errors.specs.Walk.{Agree, after, hits, look, sooner};
 ghost use Rattle.early_errors.specs.Walks.{Fits, range_errors, range_vars};
 
 use crate::around::{Around, Rounds, is_method, rounds_of};
-use crate::clashes::{Clashes, enter, leave};
+use crate::clashes::{Clashes, Saved, enter, leave};
 use crate::found::Found;
 use crate::labels::{Labels, is_true, label_is_loop};
 use crate::names::Named;
 use crate::own::own_errors;
-use crate::scopes::{scope_errors, scope_kind, scope_of};
+use crate::scopes::{place_of_scope, push_scope, scope_error, scope_errors, scope_kind};
 use crate::table::Table;
 use std::alloc::{AllocError, Global};
-use std::mem;
 use tree::{Form, Kind, Node};
 
 /// What a walk carries.
@@ -154,12 +153,12 @@ fn walk_function<'t>(
     ensures vars { OnOk result (Agree (look walk.new.vars) (look walk.old.vars)) }
     ensures labels { OnOk result (Agree (look walk.new.labels) (look walk.old.labels)) }
 {
-    let vars = mem::replace(&mut walk.vars, Table::new(walk.alloc));
-    let labels = mem::replace(&mut walk.labels, Table::new(walk.alloc));
-    walk_parts(node, 0, node.part_count(), rounds_of(node, around), walk)?;
-    walk.vars = vars;
-    walk.labels = labels;
-    Ok(())
+    let vars = walk.vars.take(walk.alloc);
+    let labels = walk.labels.take(walk.alloc);
+    let done = walk_parts(node, 0, node.part_count(), rounds_of(node, around), walk);
+    walk.vars.put(vars);
+    walk.labels.put(labels);
+    done
 }
 
 /// The key of a method belongs to what surrounds it; its function doesn't.
@@ -178,10 +177,10 @@ fn walk_method<'t>(
 {
     let rounds = rounds_of(node, around);
     walk_parts(node, 0, 1, rounds, walk)?;
-    let labels = mem::replace(&mut walk.labels, Table::new(walk.alloc));
-    walk_parts(node, 1, node.part_count(), rounds, walk)?;
-    walk.labels = labels;
-    Ok(())
+    let labels = walk.labels.take(walk.alloc);
+    let done = walk_parts(node, 1, node.part_count(), rounds, walk);
+    walk.labels.put(labels);
+    done
 }
 
 /// A label stands round the parts of its statement.
@@ -220,13 +219,37 @@ fn walk_scope<'t>(node: Node<'t, '_>, around: Around, walk: &mut Walk<'t>) -> Re
     ensures vars { OnOk result (Agree (look walk.new.vars) (look walk.old.vars)) }
     ensures labels { OnOk result (Agree (look walk.new.labels) (look walk.old.labels)) }
 {
+    let mut names = Vec::new(walk.alloc);
+    let mut saved = Vec::new(walk.alloc);
+    walk_in_scope(node, around, &mut names, &mut saved, walk)
+}
+
+/// The same, with room for the names and for what stood there before.
+#[cycle(walk)]
+#[tactic(auto, using(tree::proofs::PartWalk::part_steps))]
+fn walk_in_scope<'t>(
+    node: Node<'t, '_>,
+    around: Around,
+    names: &mut Vec<Named<'t>>,
+    saved: &mut Vec<Saved<'t>>,
+    walk: &mut Walk<'t>,
+) -> Result<(), AllocError>
+    requires inside { inside_of (kind_of (node_tree node)) (flags_of (node_tree node)).form ≡ Inside.Scope }
+    requires fits { Fits around (node_tree node) }
+    requires names { names.now.items ≡ [] }
+    requires saved { saved.now.items ≡ [] }
+    ensures found { OnOk result ((o : _) → (ls : _) → Knows (look walk.old.labels) ls → walk.old.found ≡ sooner (after o (plain_errors (round around ls) (node_tree node.entry))) (hits (look walk.old.vars) (vars_of (node_tree node.entry))) → walk.new.found ≡ sooner (after o (errors_within (round around ls) (node_tree node.entry))) (hits (look walk.old.vars) (var_names (node_tree node.entry)))) }
+    ensures vars { OnOk result (Agree (look walk.new.vars) (look walk.old.vars)) }
+    ensures labels { OnOk result (Agree (look walk.new.labels) (look walk.old.labels)) }
+{
     let kind = scope_kind(node.kind());
-    let scope = scope_of(walk.alloc, kind, node, around.is_body)?;
-    let names = scope.names.as_slice();
-    walk.found = scope_errors(walk.alloc, kind, node, around.is_body, names, walk.found)?;
+    push_scope(kind, node, around.is_body, names)?;
+    let declared = names.as_slice();
+    walk.found = scope_errors(walk.alloc, kind, node, around.is_body, declared, walk.found)?;
     let rounds = rounds_of(node, around);
-    walk_parts(node, 0, scope.from, rounds, walk)?;
-    let saved = enter(walk.alloc, &mut walk.vars, names, scope.error)?;
-    walk_parts(node, scope.from, node.part_count(), rounds, walk)?;
+    let from = place_of_scope(kind, node);
+    walk_parts(node, 0, from, rounds, walk)?;
+    enter(&mut walk.vars, declared, scope_error(kind), saved)?;
+    walk_parts(node, from, node.part_count(), rounds, walk)?;
     leave(&mut walk.vars, saved)
 }

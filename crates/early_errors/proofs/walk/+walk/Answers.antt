@@ -1,10 +1,10 @@
-use Rattle.std.proofs.Common.{rules, ◌≡◌, ◌-◌, cond, nat_eq, [], refl, sym, ap, ◌∙◌}
+use Rattle.std.proofs.Common.{rules, ◌≡◌, ◌-◌, ◌++◌, cond, nat_eq, [], refl, sym, ap, ◌∙◌}
 use Rattle.std.specs.Prelude.{◌||◌}
 use Rattle.tree.specs.Tree.{parts_of}
 use Rattle.tree.specs.Node.{node_tree}
 use Rattle.early_errors.specs.Around.{own_label}
-use Rattle.early_errors.specs.Owns.{found_of_scope, inside_of, or_false, round, scope_kind}
-use Rattle.early_errors.specs.Walk.{after, all_named, hits, look, sooner}
+use Rattle.early_errors.specs.Owns.{found_of_scope, inside_of, names_of_scope, or_false, round, scope_kind}
+use Rattle.early_errors.specs.Walk.{after, all_named, hits, look, sooner, undone}
 use Rattle.early_errors.specs.Walks.{range_errors, range_vars}
 use Rattle.early_errors.proofs.Insides.{function_facts, method_facts, plain_facts, label_facts, scope_facts, no_own_label, one_label, the_second, known_fits, unknown_fits}
 use Rattle.early_errors.proofs.Joining.{from_start, part-turn, part-given, part-missing, first-round, other-round, parts-found, function-found, two-goes, scope-found}
@@ -16,14 +16,16 @@ use Rattle.early_errors.proofs.walk.+walk.Goals.{walk_label-then-part_count-eq2,
 
 pub walk_function-returns-clause-found : goal.walk_function-returns-clause-found
 walk_function-returns-clause-found t c =
-    λ o ls k e.
+    on_ok c.walk_parts-done.result
+    (λ h o ls k e.
     let t = node_tree c.args.node in
     let z = round c.args.around ls in
     let f = function_facts t z ls c.requires.inside in
     function-found o c.args.walk.now.found (look c.args.walk.now.vars) z (round c.rounds_of.result.first []) (round c.rounds_of.result.others []) t (c.part_count.result - 0)
     (from_start c.part_count.result ∙ c.part_count.ensures) (ap (round c.rounds_of.result.first) (sym f.0.0) ∙ c.rounds_of.ensures.first ls) (ap (round c.rounds_of.result.others) (sym f.0.1.0) ∙ c.rounds_of.ensures.others ls)
-    (look c.replace-vars.new.dest) c.walk_parts.new.walk.found f.0.1.1.1 f.0.1.1.0 f.1 (λ w. ap (λ v. look v w) c.replace-vars.ensures.after ∙ c.new.ensures w) e
-    (c.in_ok-walk_parts.ensures.found [] (λ w. ap (λ v. look v w) c.replace-labels.ensures.after ∙ c.new-2.ensures w))
+    (look c.take-vars.new.self) c.walk_parts-done.new.walk.found f.0.1.1.1 f.0.1.1.0 f.1 c.take-vars.ensures.after e
+    (h [] c.take-labels.ensures.after))
+    c.walk_parts-done.ensures.found
 
 pub walk_label-returns-in_default-clause-found : goal.walk_label-returns-in_default-clause-found
 walk_label-returns-in_default-clause-found t c =
@@ -81,7 +83,8 @@ walk_label-returns-clause-found t c =
 
 pub walk_method-returns-clause-found : goal.walk_method-returns-clause-found
 walk_method-returns-clause-found t c =
-    λ o ls k e.
+    on_ok c.walk_parts-done.result
+    (λ h o ls k e.
     let t = node_tree c.args.node in
     let z = round c.args.around ls in
     let f = method_facts t z ls c.requires.inside in
@@ -89,10 +92,14 @@ walk_method-returns-clause-found t c =
     let others = c.rounds_of-rounds.result.others in
     parts-found o c.args.walk.now.found (look c.args.walk.now.vars) z (round first ls) (round others []) t c.part_count.result
     c.part_count.ensures (ap (round first) (sym f.0) ∙ c.rounds_of-rounds.ensures.first ls) (ap (round others) (sym f.1.0) ∙ c.rounds_of-rounds.ensures.others ls)
-    (look c.args.walk.now.vars) c.walk_parts-2.new.walk.found f.1.1.1 f.1.1.0 (λ w. refl) e
-    (two-goes (look c.args.walk.now.vars) (look c.args.walk.now.vars) (look c.walk_parts.new.walk.vars) c.args.walk.now.found c.walk_parts.new.walk.found c.walk_parts-2.new.walk.found
+    (look c.args.walk.now.vars) c.walk_parts-done.new.walk.found f.1.1.1 f.1.1.0 (λ w. refl) e
+    (two-goes (look c.args.walk.now.vars) (look c.args.walk.now.vars) (look c.walk_parts.new.walk.vars) c.args.walk.now.found c.walk_parts.new.walk.found c.walk_parts-done.new.walk.found
     (round others ls) (round first []) (round first ls) (round others []) (parts_of t) c.part_count.result c.part_count.ensures (λ w. refl) c.in_ok-walk_parts.ensures.vars
-    (c.in_ok-walk_parts.ensures.found ls k) (c.in_ok-walk_parts-2.ensures.found [] (λ w. ap (λ v. look v w) c.replace-labels.ensures.after ∙ c.new.ensures w)))
+    (c.in_ok-walk_parts.ensures.found ls k) (h [] c.take-labels.ensures.after)))
+    c.walk_parts-done.ensures.found
+
+pub walk_method-returns-clause-vars : goal.walk_method-returns-clause-vars
+walk_method-returns-clause-vars t c = on_ok c.walk_parts-done.result (λ h w. h w ∙ c.in_ok-walk_parts.ensures.vars w) c.walk_parts-done.ensures.vars
 
 pub walk_node-returns-in-Function-clause-vars : goal.walk_node-returns-in-Function-clause-vars
 walk_node-returns-in-Function-clause-vars t c = on_ok c.walk_function.result (λ h w. h w ∙ ap (λ v. look v w) c.in_ok-own_errors.ensures.vars) c.walk_function.ensures.vars
@@ -152,8 +159,8 @@ walk_parts-loop-index-preserved t c =
       }
     ]
 
-pub walk_scope-returns-clause-found : goal.walk_scope-returns-clause-found
-walk_scope-returns-clause-found t c =
+pub walk_in_scope-returns-clause-found : goal.walk_in_scope-returns-clause-found
+walk_in_scope-returns-clause-found t c =
     on_ok c.leave.result
     (λ h o ls k e.
     let t = node_tree c.args.node in
@@ -162,23 +169,24 @@ walk_scope-returns-clause-found t c =
     let first = c.rounds_of-rounds.result.first in
     let others = c.rounds_of-rounds.result.others in
     let kind = c.scope_kind-kind.result in
-    let scope = c.in_ok-scope.scope in
-    let names = all_named c.as_slice-names.result.now in
+    let from = c.place_of_scope-from.result in
+    let error = c.scope_error.result in
+    let names = all_named c.as_slice-declared.result.now in
     let found = found_of_scope kind c.args.around.is_body (parts_of t) names in
-    scope-found o c.args.walk.now.found (look c.args.walk.now.vars) z (round first ls) (round others ls) t c.part_count.result scope.from c.part_count.ensures scope.error names found
+    scope-found o c.args.walk.now.found (look c.args.walk.now.vars) z (round first ls) (round others ls) t c.part_count.result from c.part_count.ensures error names found
     (ap (round first) (sym f.0) ∙ c.rounds_of-rounds.ensures.first ls) (ap (round others) (sym f.1.0) ∙ c.rounds_of-rounds.ensures.others ls)
     (look c.args.walk.now.vars) (look c.walk_parts.new.walk.vars) (look c.enter.new.clashes) c.in_ok-walk.field-0 c.walk_parts.new.walk.found c.walk_parts-2.new.walk.found
-    (split_given z t kind names scope.error scope.from c.part_count.result c.requires.inside (c.scope_kind-kind.ensures ∙ ap scope_kind c.kind.ensures) (ap all_named c.as_slice-names.ensures.value ∙ c.in_ok-scope.ensures.names)
-    c.in_ok-scope.ensures.error c.in_ok-scope.ensures.place c.part_count.ensures)
-    f.1.1.0 f.1.1.1 (λ w. refl) c.in_ok-walk_parts.ensures.vars c.in_ok-saved.ensures.entered e c.in_ok-walk.ensures
-    (c.in_ok-walk_parts.ensures.found ls k ∙ ap (λ n. sooner (after c.in_ok-walk.field-0 (range_errors (round first ls) (round others ls) (parts_of t) 0 n)) (hits (look c.args.walk.now.vars) (range_vars (parts_of t) 0 n))) (from_start scope.from))
+    (split_given z t kind names error from c.part_count.result c.requires.inside (c.scope_kind-kind.ensures ∙ ap scope_kind c.kind.ensures) (ap all_named c.as_slice-declared.ensures.value ∙ c.in_ok-push_scope.ensures ∙ ap (λ l. all_named l ++ names_of_scope kind c.args.around.is_body (parts_of t)) c.requires.names)
+    c.scope_error.ensures c.place_of_scope-from.ensures c.part_count.ensures)
+    f.1.1.0 f.1.1.1 (λ w. refl) c.in_ok-walk_parts.ensures.vars c.in_ok-enter.ensures.entered e c.in_ok-walk.ensures
+    (c.in_ok-walk_parts.ensures.found ls k ∙ ap (λ n. sooner (after c.in_ok-walk.field-0 (range_errors (round first ls) (round others ls) (parts_of t) 0 n)) (hits (look c.args.walk.now.vars) (range_vars (parts_of t) 0 n))) (from_start from))
     (c.in_ok-walk_parts-2.ensures.found ls (λ w. c.in_ok-walk_parts.ensures.labels w ∙ k w)))
     c.leave.ensures
 
-pub walk_scope-returns-clause-vars : goal.walk_scope-returns-clause-vars
-walk_scope-returns-clause-vars t c =
+pub walk_in_scope-returns-clause-vars : goal.walk_in_scope-returns-clause-vars
+walk_in_scope-returns-clause-vars t c =
     on_ok c.leave.result
-    (λ h w. h w ∙ undone-agrees (look c.walk_parts-2.new.walk.vars) (look c.enter.new.clashes) c.in_ok-saved.saved.items c.in_ok-walk_parts-2.ensures.vars w ∙ c.in_ok-saved.ensures.kept w ∙ c.in_ok-walk_parts.ensures.vars w)
+    (λ h w. h w ∙ undone-agrees (look c.walk_parts-2.new.walk.vars) (look c.enter.new.clashes) c.enter.new.saved.items c.in_ok-walk_parts-2.ensures.vars w ∙ c.in_ok-enter.ensures.kept w ∙ ap (λ l. undone (look c.walk_parts.new.walk.vars) l w) c.requires.saved ∙ c.in_ok-walk_parts.ensures.vars w)
     c.leave.ensures
 
 pub walk_label-returns-clause-labels : goal.walk_label-returns-clause-labels

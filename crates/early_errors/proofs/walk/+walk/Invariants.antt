@@ -8,22 +8,25 @@ use Rattle.early_errors.specs.Walks.{range_errors, range_vars}
 use Rattle.early_errors.proofs.walk.+walk.Given as goal
 
 abbrev pub decreases-walk_function : goal.decreases-walk_function
-decreases-walk_function l = 3 * node_total (node_tree l.node) + 1
+decreases-walk_function l = 4 * node_total (node_tree l.node) + 2
+
+abbrev pub decreases-walk_in_scope : goal.decreases-walk_in_scope
+decreases-walk_in_scope l = 4 * node_total (node_tree l.node) + 1
 
 abbrev pub decreases-walk_label : goal.decreases-walk_label
-decreases-walk_label l = 3 * node_total (node_tree l.node) + 1
+decreases-walk_label l = 4 * node_total (node_tree l.node) + 2
 
 abbrev pub decreases-walk_method : goal.decreases-walk_method
-decreases-walk_method l = 3 * node_total (node_tree l.node) + 1
+decreases-walk_method l = 4 * node_total (node_tree l.node) + 2
 
 abbrev pub decreases-walk_node : goal.decreases-walk_node
-decreases-walk_node l = 3 * node_total (node_tree l.node) + 2
+decreases-walk_node l = 4 * node_total (node_tree l.node) + 3
 
 abbrev pub decreases-walk_parts : goal.decreases-walk_parts
-decreases-walk_parts l = 3 * node_total (node_tree l.node)
+decreases-walk_parts l = 4 * node_total (node_tree l.node)
 
 abbrev pub decreases-walk_scope : goal.decreases-walk_scope
-decreases-walk_scope l = 3 * node_total (node_tree l.node) + 1
+decreases-walk_scope l = 4 * node_total (node_tree l.node) + 2
 
 abbrev pub invariant-walk_parts-loop-index : goal.invariant-walk_parts-loop-index
 invariant-walk_parts-loop-index l = record {

@@ -2,7 +2,7 @@ use Rattle.std.proofs.Common.{◌≡◌, ℕ, List, [], take, is_some}
 use Rattle.early_errors.specs.Names.{has_name}
 use Rattle.early_errors.specs.Walk.{after, all_named, look}
 use Rattle.early_errors.proofs.Naming.{behind, doubles}
-use Rattle.early_errors.proofs.clashes.repeated.Given as goal
+use Rattle.early_errors.proofs.clashes.repeated_after.Given as goal
 
 abbrev pub invariant-loop-named : goal.invariant-loop-named
 invariant-loop-named l = record {
