@@ -60,6 +60,14 @@ member_by kind.ImportExpression t = with_one (field 0 t) import_expression
 member_by kind.ChainExpression t = with_one (field 0 t) chain_expression
 member_by k t = operation_by k t
 
+-- of these, what has two parts or more
+abbrev pub paired_by : Kind → Tree → Option ExpressionView
+paired_by kind.TaggedTemplateExpression t = member_by kind.TaggedTemplateExpression t
+paired_by kind.MemberExpression t = member_by kind.MemberExpression t
+paired_by kind.MetaProperty t = member_by kind.MetaProperty t
+paired_by kind.ConditionalExpression t = operation_by kind.ConditionalExpression t
+paired_by k t = operands_by k t
+
 -- names, literals, functions and lists; all else is in the tables above
 abbrev pub expression_by : Kind → Tree → Option ExpressionView
 expression_by kind.Identifier t = Some (identifier (text_of t))

@@ -74,6 +74,28 @@ statement_by kind.BreakStatement t = Some (break_statement (field 0 t))
 statement_by kind.ContinueStatement t = Some (continue_statement (field 0 t))
 statement_by k t = choice_by k t
 
+-- of these, loops over what an object has
+abbrev pub for_each_by : Kind → Tree → Option StatementView
+for_each_by kind.ForInStatement t = loop_by kind.ForInStatement t
+for_each_by kind.ForOfStatement t = loop_by kind.ForOfStatement t
+for_each_by _ t = None
+
+-- what has two parts or more that must be there
+abbrev pub paired_by : Kind → Tree → Option StatementView
+paired_by kind.LabeledStatement t = choice_by kind.LabeledStatement t
+paired_by kind.IfStatement t = choice_by kind.IfStatement t
+paired_by kind.WhileStatement t = loop_by kind.WhileStatement t
+paired_by kind.DoWhileStatement t = loop_by kind.DoWhileStatement t
+paired_by k t = for_each_by k t
+
+-- what has a first part that must be there
+abbrev pub headed_by : Kind → Tree → Option StatementView
+headed_by kind.ExpressionStatement t = statement_by kind.ExpressionStatement t
+headed_by kind.ThrowStatement t = choice_by kind.ThrowStatement t
+headed_by kind.SwitchStatement t = choice_by kind.SwitchStatement t
+headed_by kind.TryStatement t = choice_by kind.TryStatement t
+headed_by k t = paired_by k t
+
 -- the tree as a statement or a declaration
 abbrev pub statement_of : Tree → Option StatementView
 statement_of t = if is_whole t then statement_by (kind_of t) t else None

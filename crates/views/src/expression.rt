@@ -1,13 +1,12 @@
 //! Expressions.
 
-ghost use Rattle.std.specs.Prelude.{◌≡◌, option_map};
+ghost use Rattle.std.specs.Prelude.{◌≡◌, Some, option_map};
 ghost use Rattle.tree.specs.Tree.{kind_of};
 ghost use Rattle.tree.specs.Node.{node_tree};
-ghost use Rattle.views.specs.Expressions.{expression_of, expression_by, member_by, operation_by, operands_by, expression_seen};
-ghost use Rattle.tree.specs.declared.kind.Kind.TheVariants.{MemberExpression, CallExpression, ConditionalExpression};
+ghost use Rattle.tree.specs.Fields.{field};
+ghost use Rattle.views.specs.Expressions.{expression_of, expression_by, member_by, paired_by, operands_by, expression_seen};
 
 use crate::arity::is_whole;
-use crate::fields::two_parts;
 use crate::function::{Class, Function};
 use tree::{Kind, Node, NodeList};
 
@@ -147,110 +146,89 @@ fn any_expression<'t, 's>(node: Node<'t, 's>) -> Option<Expression<'t, 's>>
         Kind::SequenceExpression => Some(Expression::Sequence {
             expressions: node.parts(),
         }),
-        _ => member(node),
+        _ => headed(node),
     }
 }
 
-/// Members and calls, and operations.
-fn member<'t, 's>(node: Node<'t, 's>) -> Option<Expression<'t, 's>>
+/// Expressions whose first part must be there.
+fn headed<'t, 's>(node: Node<'t, 's>) -> Option<Expression<'t, 's>>
     ensures { option_map expression_seen result ≡ member_by (kind_of (node_tree node.entry)) (node_tree node.entry) }
 {
-    match node.kind() {
-        Kind::TaggedTemplateExpression => {
-            let (tag, quasi) = two_parts(node)?;
-            Some(Expression::TaggedTemplate { tag, quasi })
-        }
-        Kind::MemberExpression => selection(node),
-        Kind::CallExpression => call(node),
-        Kind::NewExpression => {
-            let callee = node.part(0)?;
-            let arguments = node.parts().skip(1);
-            Some(Expression::New { callee, arguments })
-        }
-        Kind::MetaProperty => {
-            let (meta, property) = two_parts(node)?;
-            Some(Expression::MetaProperty { meta, property })
-        }
-        Kind::ImportExpression => {
-            let source = node.part(0)?;
-            Some(Expression::Import { source })
-        }
-        Kind::ChainExpression => {
-            let expression = node.part(0)?;
-            Some(Expression::Chain { expression })
-        }
-        _ => operation(node),
-    }
-}
-
-fn selection<'t, 's>(node: Node<'t, 's>) -> Option<Expression<'t, 's>>
-    ensures { option_map expression_seen result ≡ member_by MemberExpression (node_tree node.entry) }
-{
-    let (object, property) = two_parts(node)?;
-    let flags = node.flags();
-    Some(Expression::Member {
-        object,
-        property,
-        computed: flags.computed,
-        optional: flags.optional,
-    })
-}
-
-fn call<'t, 's>(node: Node<'t, 's>) -> Option<Expression<'t, 's>>
-    ensures { option_map expression_seen result ≡ member_by CallExpression (node_tree node.entry) }
-{
-    let callee = node.part(0)?;
-    let flags = node.flags();
-    Some(Expression::Call {
-        callee,
-        arguments: node.parts().skip(1),
-        optional: flags.optional,
-    })
-}
-
-/// Operations.
-fn operation<'t, 's>(node: Node<'t, 's>) -> Option<Expression<'t, 's>>
-    ensures { option_map expression_seen result ≡ operation_by (kind_of (node_tree node.entry)) (node_tree node.entry) }
-{
+    let first = node.part(0)?;
     let operator = node.text();
+    let flags = node.flags();
     match node.kind() {
-        Kind::UpdateExpression => {
-            let argument = node.part(0)?;
-            let flags = node.flags();
-            let prefix = flags.prefix;
-            Some(Expression::Update {
-                operator,
-                prefix,
-                argument,
+        Kind::CallExpression => Some(Expression::Call {
+            callee: first,
+            arguments: node.parts().skip(1),
+            optional: flags.optional,
+        }),
+        Kind::NewExpression => {
+            let arguments = node.parts().skip(1);
+            Some(Expression::New {
+                callee: first,
+                arguments,
             })
         }
-        Kind::UnaryExpression => {
-            let argument = node.part(0)?;
-            Some(Expression::Unary { operator, argument })
-        }
-        Kind::ConditionalExpression => conditional(node),
-        _ => operands(node),
+        Kind::ImportExpression => Some(Expression::Import { source: first }),
+        Kind::ChainExpression => Some(Expression::Chain { expression: first }),
+        Kind::UpdateExpression => Some(Expression::Update {
+            operator,
+            prefix: flags.prefix,
+            argument: first,
+        }),
+        Kind::UnaryExpression => Some(Expression::Unary {
+            operator,
+            argument: first,
+        }),
+        _ => paired(node, first),
     }
 }
 
-fn conditional<'t, 's>(node: Node<'t, 's>) -> Option<Expression<'t, 's>>
-    ensures { option_map expression_seen result ≡ operation_by ConditionalExpression (node_tree node.entry) }
+/// Expressions whose second part must be there too.
+fn paired<'t, 's>(node: Node<'t, 's>, first: Node<'t, 's>) -> Option<Expression<'t, 's>>
+    requires { Some (node_tree first) ≡ field 0 (node_tree node) }
+    ensures { option_map expression_seen result ≡ paired_by (kind_of (node_tree node.entry)) (node_tree node.entry) }
 {
-    let test = node.part(0)?;
-    let consequent = node.part(1)?;
-    let alternate = node.part(2)?;
-    Some(Expression::Conditional {
-        test,
-        consequent,
-        alternate,
-    })
+    let second = node.part(1)?;
+    let flags = node.flags();
+    match node.kind() {
+        Kind::TaggedTemplateExpression => Some(Expression::TaggedTemplate {
+            tag: first,
+            quasi: second,
+        }),
+        Kind::MemberExpression => Some(Expression::Member {
+            object: first,
+            property: second,
+            computed: flags.computed,
+            optional: flags.optional,
+        }),
+        Kind::MetaProperty => Some(Expression::MetaProperty {
+            meta: first,
+            property: second,
+        }),
+        Kind::ConditionalExpression => {
+            let alternate = node.part(2)?;
+            Some(Expression::Conditional {
+                test: first,
+                consequent: second,
+                alternate,
+            })
+        }
+        _ => operands(node, first, second),
+    }
 }
 
 /// Operations with two operands.
-fn operands<'t, 's>(node: Node<'t, 's>) -> Option<Expression<'t, 's>>
+fn operands<'t, 's>(
+    node: Node<'t, 's>,
+    left: Node<'t, 's>,
+    right: Node<'t, 's>,
+) -> Option<Expression<'t, 's>>
+    requires first { Some (node_tree left) ≡ field 0 (node_tree node) }
+    requires second { Some (node_tree right) ≡ field 1 (node_tree node) }
     ensures { option_map expression_seen result ≡ operands_by (kind_of (node_tree node.entry)) (node_tree node.entry) }
 {
-    let (left, right) = two_parts(node)?;
     let operator = node.text();
     match node.kind() {
         Kind::BinaryExpression => Some(Expression::Binary {

@@ -61,31 +61,23 @@ impl<'t, 's> Class<'t, 's> {
 fn any_function<'t, 's>(node: Node<'t, 's>) -> Option<Function<'t, 's>>
     ensures { option_map function_seen result ≡ function_by (kind_of (node_tree node.entry)) (node_tree node.entry) }
 {
-    match node.kind() {
-        Kind::FunctionDeclaration => {
-            let id = node.part(0)?;
-            let params = node.parts().skip(1);
-            let body = params.last()?;
-            Some(Function {
-                id: Some(id),
-                params: params.without_last(),
-                body,
-                is_arrow: false,
-                expression: false,
-            })
-        }
-        Kind::FunctionExpression => {
-            let params = node.parts().skip(1);
-            let body = params.last()?;
-            Some(Function {
-                id: node.part(0),
-                params: params.without_last(),
-                body,
-                is_arrow: false,
-                expression: false,
-            })
-        }
-        Kind::ArrowFunctionExpression => arrow(node),
+    let params = node.parts().skip(1);
+    match (node.kind(), node.part(0), params.last()) {
+        (Kind::FunctionDeclaration, Some(id), Some(body)) => Some(Function {
+            id: Some(id),
+            params: params.without_last(),
+            body,
+            is_arrow: false,
+            expression: false,
+        }),
+        (Kind::FunctionExpression, id, Some(body)) => Some(Function {
+            id,
+            params: params.without_last(),
+            body,
+            is_arrow: false,
+            expression: false,
+        }),
+        (Kind::ArrowFunctionExpression, _, _) => arrow(node),
         _ => None,
     }
 }
@@ -108,24 +100,17 @@ fn arrow<'t, 's>(node: Node<'t, 's>) -> Option<Function<'t, 's>>
 fn any_class<'t, 's>(node: Node<'t, 's>) -> Option<Class<'t, 's>>
     ensures { option_map class_seen result ≡ class_by (kind_of (node_tree node.entry)) (node_tree node.entry) }
 {
-    match node.kind() {
-        Kind::ClassDeclaration => {
-            let id = node.part(0)?;
-            let body = node.part(2)?;
-            Some(Class {
-                id: Some(id),
-                super_class: node.part(1),
-                body,
-            })
-        }
-        Kind::ClassExpression => {
-            let body = node.part(2)?;
-            Some(Class {
-                id: node.part(0),
-                super_class: node.part(1),
-                body,
-            })
-        }
+    match (node.kind(), node.part(0), node.part(2)) {
+        (Kind::ClassDeclaration, Some(id), Some(body)) => Some(Class {
+            id: Some(id),
+            super_class: node.part(1),
+            body,
+        }),
+        (Kind::ClassExpression, id, Some(body)) => Some(Class {
+            id,
+            super_class: node.part(1),
+            body,
+        }),
         _ => None,
     }
 }

@@ -5,7 +5,6 @@
 
 mod arity;
 mod expression;
-mod fields;
 mod function;
 mod pattern;
 mod pieces;

@@ -53,34 +53,26 @@ impl<'t, 's> Pattern<'t, 's> {
 fn any_pattern<'t, 's>(node: Node<'t, 's>) -> Option<Pattern<'t, 's>>
     ensures { option_map pattern_seen result ≡ pattern_by (kind_of (node_tree node.entry)) (node_tree node.entry) }
 {
-    match node.kind() {
-        Kind::Identifier => Some(Pattern::Identifier { name: node.text() }),
-        Kind::MemberExpression => {
-            let object = node.part(0)?;
-            let property = node.part(1)?;
+    match (node.kind(), node.part(0), node.part(1)) {
+        (Kind::Identifier, _, _) => Some(Pattern::Identifier { name: node.text() }),
+        (Kind::MemberExpression, Some(object), Some(property)) => {
             let flags = node.flags();
-            let computed = flags.computed;
             Some(Pattern::Member {
                 object,
                 property,
-                computed,
+                computed: flags.computed,
             })
         }
-        Kind::ArrayPattern => Some(Pattern::Array {
+        (Kind::ArrayPattern, _, _) => Some(Pattern::Array {
             elements: node.parts(),
         }),
-        Kind::ObjectPattern => Some(Pattern::Object {
+        (Kind::ObjectPattern, _, _) => Some(Pattern::Object {
             properties: node.parts(),
         }),
-        Kind::AssignmentPattern => {
-            let left = node.part(0)?;
-            let right = node.part(1)?;
+        (Kind::AssignmentPattern, Some(left), Some(right)) => {
             Some(Pattern::Assignment { left, right })
         }
-        Kind::RestElement => {
-            let argument = node.part(0)?;
-            Some(Pattern::Rest { argument })
-        }
+        (Kind::RestElement, Some(argument), _) => Some(Pattern::Rest { argument }),
         _ => None,
     }
 }

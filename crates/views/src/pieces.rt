@@ -26,11 +26,9 @@ impl<'t, 's> Property<'t, 's> {
         if !is_whole(node) {
             return None;
         }
-        match node.kind() {
-            Kind::Property => {
+        match (node.kind(), node.part(0), node.part(1)) {
+            (Kind::Property, Some(key), Some(value)) => {
                 let flags = node.flags();
-                let key = node.part(0)?;
-                let value = node.part(1)?;
                 Some(Property {
                     key,
                     value,
@@ -57,11 +55,8 @@ impl<'t, 's> SpreadElement<'t, 's> {
         if !is_whole(node) {
             return None;
         }
-        match node.kind() {
-            Kind::SpreadElement => {
-                let argument = node.part(0)?;
-                Some(SpreadElement { argument })
-            }
+        match (node.kind(), node.part(0)) {
+            (Kind::SpreadElement, Some(argument)) => { Some(SpreadElement { argument }) }
             _ => None,
         }
     }
@@ -131,11 +126,9 @@ impl<'t, 's> MethodDefinition<'t, 's> {
         if !is_whole(node) {
             return None;
         }
-        match node.kind() {
-            Kind::MethodDefinition => {
+        match (node.kind(), node.part(0), node.part(1)) {
+            (Kind::MethodDefinition, Some(key), Some(value)) => {
                 let flags = node.flags();
-                let key = node.part(0)?;
-                let value = node.part(1)?;
                 Some(MethodDefinition {
                     key,
                     value,
@@ -165,14 +158,8 @@ impl<'t, 's> VariableDeclarator<'t, 's> {
         if !is_whole(node) {
             return None;
         }
-        match node.kind() {
-            Kind::VariableDeclarator => {
-                let id = node.part(0)?;
-                Some(VariableDeclarator {
-                    id,
-                    init: node.part(1),
-                })
-            }
+        match (node.kind(), node.part(0), node.part(1)) {
+            (Kind::VariableDeclarator, Some(id), init) => { Some(VariableDeclarator { id, init }) }
             _ => None,
         }
     }
@@ -223,14 +210,8 @@ impl<'t, 's> CatchClause<'t, 's> {
         if !is_whole(node) {
             return None;
         }
-        match node.kind() {
-            Kind::CatchClause => {
-                let body = node.part(1)?;
-                Some(CatchClause {
-                    param: node.part(0),
-                    body,
-                })
-            }
+        match (node.kind(), node.part(0), node.part(1)) {
+            (Kind::CatchClause, param, Some(body)) => { Some(CatchClause { param, body }) }
             _ => None,
         }
     }

@@ -1,13 +1,13 @@
 //! Statements and declarations.
 
-ghost use Rattle.std.specs.Prelude.{◌≡◌, option_map};
+ghost use Rattle.std.specs.Prelude.{◌≡◌, Some, option_map};
 ghost use Rattle.tree.specs.Tree.{kind_of};
 ghost use Rattle.tree.specs.Node.{node_tree};
-ghost use Rattle.views.specs.Statements.{statement_of, statement_by, choice_by, loop_by, statement_seen};
-ghost use Rattle.tree.specs.declared.kind.Kind.TheVariants.{TryStatement, ForStatement, ForInStatement, ForOfStatement};
+ghost use Rattle.tree.specs.Fields.{field};
+ghost use Rattle.views.specs.Statements.{statement_of, statement_by, choice_by, loop_by, headed_by, paired_by, for_each_by, statement_seen};
+ghost use Rattle.tree.specs.declared.kind.Kind.TheVariants.{TryStatement, ForStatement};
 
 use crate::arity::is_whole;
-use crate::fields::two_parts;
 use crate::function::{Class, Function};
 use tree::{Kind, Node, NodeList};
 
@@ -103,20 +103,11 @@ impl<'t, 's> Statement<'t, 's> {
     }
 }
 
-/// Simple statements, and all else.
+/// Statements of which no part must be there, declarations, and all else.
 fn any_statement<'t, 's>(node: Node<'t, 's>) -> Option<Statement<'t, 's>>
     ensures { option_map statement_seen result ≡ statement_by (kind_of (node_tree node.entry)) (node_tree node.entry) }
 {
     match node.kind() {
-        Kind::ExpressionStatement => {
-            let expression = node.part(0)?;
-            let flags = node.flags();
-            let directive = flags.directive;
-            Some(Statement::Expression {
-                expression,
-                directive,
-            })
-        }
         Kind::BlockStatement => Some(Statement::Block { body: node.parts() }),
         Kind::EmptyStatement => Some(Statement::Empty),
         Kind::DebuggerStatement => Some(Statement::Debugger),
@@ -129,76 +120,6 @@ fn any_statement<'t, 's>(node: Node<'t, 's>) -> Option<Statement<'t, 's>>
         Kind::ContinueStatement => Some(Statement::Continue {
             label: node.part(0),
         }),
-        _ => choice(node),
-    }
-}
-
-/// What chooses or leaves, and all else that isn't simple.
-fn choice<'t, 's>(node: Node<'t, 's>) -> Option<Statement<'t, 's>>
-    ensures { option_map statement_seen result ≡ choice_by (kind_of (node_tree node.entry)) (node_tree node.entry) }
-{
-    match node.kind() {
-        Kind::ThrowStatement => {
-            let argument = node.part(0)?;
-            Some(Statement::Throw { argument })
-        }
-        Kind::LabeledStatement => {
-            let (label, body) = two_parts(node)?;
-            Some(Statement::Labeled { label, body })
-        }
-        Kind::IfStatement => {
-            let test = node.part(0)?;
-            let consequent = node.part(1)?;
-            let alternate = node.part(2);
-            Some(Statement::If {
-                test,
-                consequent,
-                alternate,
-            })
-        }
-        Kind::SwitchStatement => {
-            let discriminant = node.part(0)?;
-            let cases = node.parts().skip(1);
-            Some(Statement::Switch {
-                discriminant,
-                cases,
-            })
-        }
-        Kind::TryStatement => tried(node),
-        _ => repeated(node),
-    }
-}
-
-fn tried<'t, 's>(node: Node<'t, 's>) -> Option<Statement<'t, 's>>
-    ensures { option_map statement_seen result ≡ choice_by TryStatement (node_tree node.entry) }
-{
-    let block = node.part(0)?;
-    match (node.part(1), node.part(2)) {
-        (None, None) => None,
-        (handler, finalizer) => Some(Statement::Try {
-            block,
-            handler,
-            finalizer,
-        }),
-    }
-}
-
-/// Loops, and declarations.
-fn repeated<'t, 's>(node: Node<'t, 's>) -> Option<Statement<'t, 's>>
-    ensures { option_map statement_seen result ≡ loop_by (kind_of (node_tree node.entry)) (node_tree node.entry) }
-{
-    match node.kind() {
-        Kind::WhileStatement => {
-            let (test, body) = two_parts(node)?;
-            Some(Statement::While { test, body })
-        }
-        Kind::DoWhileStatement => {
-            let (body, test) = two_parts(node)?;
-            Some(Statement::DoWhile { body, test })
-        }
-        Kind::ForStatement => for_each_step(node),
-        Kind::ForInStatement => for_in(node),
-        Kind::ForOfStatement => for_of(node),
         Kind::VariableDeclaration => Some(Statement::VariableDeclaration {
             kind: node.text(),
             declarations: node.parts(),
@@ -211,7 +132,8 @@ fn repeated<'t, 's>(node: Node<'t, 's>) -> Option<Statement<'t, 's>>
             let class = Class::of(node)?;
             Some(Statement::ClassDeclaration(class))
         }
-        _ => None,
+        Kind::ForStatement => for_each_step(node),
+        _ => headed(node),
     }
 }
 
@@ -227,20 +149,89 @@ fn for_each_step<'t, 's>(node: Node<'t, 's>) -> Option<Statement<'t, 's>>
     })
 }
 
-fn for_in<'t, 's>(node: Node<'t, 's>) -> Option<Statement<'t, 's>>
-    ensures { option_map statement_seen result ≡ loop_by ForInStatement (node_tree node.entry) }
+/// Statements whose first part must be there.
+fn headed<'t, 's>(node: Node<'t, 's>) -> Option<Statement<'t, 's>>
+    ensures { option_map statement_seen result ≡ headed_by (kind_of (node_tree node.entry)) (node_tree node.entry) }
 {
-    let left = node.part(0)?;
-    let right = node.part(1)?;
-    let body = node.part(2)?;
-    Some(Statement::ForIn { left, right, body })
+    let first = node.part(0)?;
+    match node.kind() {
+        Kind::ExpressionStatement => {
+            let flags = node.flags();
+            let directive = flags.directive;
+            Some(Statement::Expression {
+                expression: first,
+                directive,
+            })
+        }
+        Kind::ThrowStatement => Some(Statement::Throw { argument: first }),
+        Kind::SwitchStatement => Some(Statement::Switch {
+            discriminant: first,
+            cases: node.parts().skip(1),
+        }),
+        Kind::TryStatement => tried(node, first),
+        _ => paired(node, first),
+    }
 }
 
-fn for_of<'t, 's>(node: Node<'t, 's>) -> Option<Statement<'t, 's>>
-    ensures { option_map statement_seen result ≡ loop_by ForOfStatement (node_tree node.entry) }
+fn tried<'t, 's>(node: Node<'t, 's>, block: Node<'t, 's>) -> Option<Statement<'t, 's>>
+    requires { Some (node_tree block) ≡ field 0 (node_tree node) }
+    ensures { option_map statement_seen result ≡ choice_by TryStatement (node_tree node.entry) }
 {
-    let left = node.part(0)?;
-    let right = node.part(1)?;
+    match (node.part(1), node.part(2)) {
+        (None, None) => None,
+        (handler, finalizer) => Some(Statement::Try {
+            block,
+            handler,
+            finalizer,
+        }),
+    }
+}
+
+/// Statements whose second part must be there too.
+fn paired<'t, 's>(node: Node<'t, 's>, first: Node<'t, 's>) -> Option<Statement<'t, 's>>
+    requires { Some (node_tree first) ≡ field 0 (node_tree node) }
+    ensures { option_map statement_seen result ≡ paired_by (kind_of (node_tree node.entry)) (node_tree node.entry) }
+{
+    let second = node.part(1)?;
+    match node.kind() {
+        Kind::LabeledStatement => Some(Statement::Labeled {
+            label: first,
+            body: second,
+        }),
+        Kind::IfStatement => {
+            let alternate = node.part(2);
+            Some(Statement::If {
+                test: first,
+                consequent: second,
+                alternate,
+            })
+        }
+        Kind::WhileStatement => Some(Statement::While {
+            test: first,
+            body: second,
+        }),
+        Kind::DoWhileStatement => Some(Statement::DoWhile {
+            body: first,
+            test: second,
+        }),
+        _ => for_each(node, first, second),
+    }
+}
+
+/// Loops over what an object has.
+fn for_each<'t, 's>(
+    node: Node<'t, 's>,
+    left: Node<'t, 's>,
+    right: Node<'t, 's>,
+) -> Option<Statement<'t, 's>>
+    requires first { Some (node_tree left) ≡ field 0 (node_tree node) }
+    requires second { Some (node_tree right) ≡ field 1 (node_tree node) }
+    ensures { option_map statement_seen result ≡ for_each_by (kind_of (node_tree node.entry)) (node_tree node.entry) }
+{
     let body = node.part(2)?;
-    Some(Statement::ForOf { left, right, body })
+    match node.kind() {
+        Kind::ForInStatement => Some(Statement::ForIn { left, right, body }),
+        Kind::ForOfStatement => Some(Statement::ForOf { left, right, body }),
+        _ => None,
+    }
 }
