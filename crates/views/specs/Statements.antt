@@ -74,7 +74,7 @@ statement_by kind.BreakStatement t = Some (break_statement (field 0 t))
 statement_by kind.ContinueStatement t = Some (continue_statement (field 0 t))
 statement_by k t = choice_by k t
 
--- of these, loops over what an object has
+-- of these, loops with in and of
 abbrev pub for_each_by : Kind → Tree → Option StatementView
 for_each_by kind.ForInStatement t = loop_by kind.ForInStatement t
 for_each_by kind.ForOfStatement t = loop_by kind.ForOfStatement t

@@ -218,7 +218,7 @@ fn paired<'t, 's>(node: Node<'t, 's>, first: Node<'t, 's>) -> Option<Statement<'
     }
 }
 
-/// Loops over what an object has.
+/// Loops with `in` and `of`.
 fn for_each<'t, 's>(
     node: Node<'t, 's>,
     left: Node<'t, 's>,
