@@ -6,8 +6,8 @@ use Rattle.views.proofs.expression.headed.Goals as goal
 
 pub returns-in_default : goal.returns-in_default
 returns-in_default c =
-  c.paired.ensures
-  ∙ headed_else (kind_of (node_tree c.args.node)) (node_tree c.args.node)
+    c.paired.ensures
+    ∙ headed_else (kind_of (node_tree c.args.node)) (node_tree c.args.node)
     (λ is. c.in_default.not-CallExpression (c.kind.ensures ∙ is))
     (λ is. c.in_default.not-NewExpression (c.kind.ensures ∙ is))
     (λ is. c.in_default.not-ImportExpression (c.kind.ensures ∙ is))

@@ -6,8 +6,8 @@ use Rattle.views.proofs.expression.paired.Goals as goal
 
 pub returns-in_default : goal.returns-in_default
 returns-in_default c =
-  c.operands.ensures
-  ∙ paired_else (kind_of (node_tree c.args.node)) (node_tree c.args.node)
+    c.operands.ensures
+    ∙ paired_else (kind_of (node_tree c.args.node)) (node_tree c.args.node)
     (λ is. c.in_default.not-TaggedTemplateExpression (c.kind.ensures ∙ is))
     (λ is. c.in_default.not-MemberExpression (c.kind.ensures ∙ is))
     (λ is. c.in_default.not-MetaProperty (c.kind.ensures ∙ is))

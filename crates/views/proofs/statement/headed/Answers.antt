@@ -6,8 +6,8 @@ use Rattle.views.proofs.statement.headed.Goals as goal
 
 pub returns-in_default : goal.returns-in_default
 returns-in_default c =
-  c.paired.ensures
-  ∙ headed_statement_else (kind_of (node_tree c.args.node)) (node_tree c.args.node)
+    c.paired.ensures
+    ∙ headed_statement_else (kind_of (node_tree c.args.node)) (node_tree c.args.node)
     (λ is. c.in_default.not-ExpressionStatement (c.kind.ensures ∙ is))
     (λ is. c.in_default.not-ThrowStatement (c.kind.ensures ∙ is))
     (λ is. c.in_default.not-SwitchStatement (c.kind.ensures ∙ is))
