@@ -100,7 +100,15 @@ pub(crate) fn walk_node<'t>(
     ensures vars { OnOk result (Agree (look walk.new.vars) (look walk.old.vars)) }
     ensures labels { OnOk result (Agree (look walk.new.labels) (look walk.old.labels)) }
 {
-    own_errors(node, around, walk)?;
+    walk.found = own_errors(
+        walk.alloc,
+        node,
+        around,
+        &walk.vars,
+        &walk.labels,
+        &mut walk.names,
+        walk.found,
+    )?;
     match inside_of(node.kind(), node.flags().form) {
         Inside::Function => walk_function(node, around, walk),
         Inside::Method => walk_method(node, around, walk),
@@ -245,7 +253,15 @@ fn walk_in_scope<'t>(
     let kind = scope_kind(node.kind());
     push_scope(kind, node, around.is_body, names)?;
     let declared = names.as_slice();
-    walk.found = scope_errors(walk.alloc, kind, node, around.is_body, declared, walk.found)?;
+    walk.found = scope_errors(
+        walk.alloc,
+        kind,
+        node,
+        around.is_body,
+        declared,
+        &mut walk.names,
+        walk.found,
+    )?;
     let rounds = rounds_of(node, around);
     let from = place_of_scope(kind, node);
     walk_parts(node, 0, from, rounds, walk)?;

@@ -101,18 +101,6 @@ walk_method-returns-clause-found t c =
 pub walk_method-returns-clause-vars : goal.walk_method-returns-clause-vars
 walk_method-returns-clause-vars t c = on_ok c.walk_parts-done.result (λ h w. h w ∙ c.in_ok-walk_parts.ensures.vars w) c.walk_parts-done.ensures.vars
 
-pub walk_node-returns-in-Function-clause-vars : goal.walk_node-returns-in-Function-clause-vars
-walk_node-returns-in-Function-clause-vars t c = on_ok c.walk_function.result (λ h w. h w ∙ ap (λ v. look v w) c.in_ok-own_errors.ensures.vars) c.walk_function.ensures.vars
-
-pub walk_node-returns-in-Method-clause-vars : goal.walk_node-returns-in-Method-clause-vars
-walk_node-returns-in-Method-clause-vars t c = on_ok c.walk_method.result (λ h w. h w ∙ ap (λ v. look v w) c.in_ok-own_errors.ensures.vars) c.walk_method.ensures.vars
-
-pub walk_node-returns-in-Label-clause-vars : goal.walk_node-returns-in-Label-clause-vars
-walk_node-returns-in-Label-clause-vars t c = on_ok c.walk_label.result (λ h w. h w ∙ ap (λ v. look v w) c.in_ok-own_errors.ensures.vars) c.walk_label.ensures.vars
-
-pub walk_node-returns-in-Scope-clause-vars : goal.walk_node-returns-in-Scope-clause-vars
-walk_node-returns-in-Scope-clause-vars t c = on_ok c.walk_scope.result (λ h w. h w ∙ ap (λ v. look v w) c.in_ok-own_errors.ensures.vars) c.walk_scope.ensures.vars
-
 pub walk_node-returns-in-Plain-clause-found : goal.walk_node-returns-in-Plain-clause-found
 walk_node-returns-in-Plain-clause-found t c =
     on_ok c.walk_parts.result
@@ -121,14 +109,11 @@ walk_node-returns-in-Plain-clause-found t c =
     let z = round c.args.around ls in
     let kind = (λ i. inside_of (sym c.kind.ensures i) (sym c.flags.ensures i).form) ∙ sym c.inside_of.ensures ∙ c.in-Plain.is in
     let f = plain_facts t z ls kind in
-    parts-found c.args.walk.now.found c.own_errors.new.walk.found (look c.args.walk.now.vars) z (round c.rounds_of.result.first ls) (round c.rounds_of.result.others ls) t (c.part_count.result - 0)
+    parts-found c.args.walk.now.found c.in_ok-walk.field-0 (look c.args.walk.now.vars) z (round c.rounds_of.result.first ls) (round c.rounds_of.result.others ls) t (c.part_count.result - 0)
     (from_start c.part_count.result ∙ c.part_count.ensures) (ap (round c.rounds_of.result.first) (sym f.0) ∙ c.rounds_of.ensures.first ls) (ap (round c.rounds_of.result.others) (sym f.1.0) ∙ c.rounds_of.ensures.others ls)
-    (look c.own_errors.new.walk.vars) c.walk_parts.new.walk.found f.1.1.1 f.1.1.0 (λ w. ap (λ v. look v w) c.in_ok-own_errors.ensures.vars) (c.in_ok-own_errors.ensures.found ls k)
-    (h ls (λ w. ap (λ v. look v w) c.in_ok-own_errors.ensures.labels ∙ k w)))
+    (look c.args.walk.now.vars) c.walk_parts.new.walk.found f.1.1.1 f.1.1.0 (λ w. refl) (c.in_ok-walk.ensures ls k)
+    (h ls k))
     c.walk_parts.ensures.found
-
-pub walk_node-returns-in-Plain-clause-vars : goal.walk_node-returns-in-Plain-clause-vars
-walk_node-returns-in-Plain-clause-vars t c = on_ok c.walk_parts.result (λ h w. h w ∙ ap (λ v. look v w) c.in_ok-own_errors.ensures.vars) c.walk_parts.ensures.vars
 
 pub walk_parts-loop-index-preserved : goal.walk_parts-loop-index-preserved
 walk_parts-loop-index-preserved t c =
