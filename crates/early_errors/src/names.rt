@@ -1,8 +1,8 @@
 //! The names that a tree binds, declares or assigns, each with the place of its identifier.
 
-ghost use Rattle.std.specs.Prelude.{◌≡◌, [], ◌∷◌, ◌++◌, ◌-◌, option_map, OnOk};
+ghost use Rattle.std.specs.Prelude.{◌≡◌, ◌++◌, ◌-◌, option_map, OnOk};
 ghost use Rattle.tree.specs.Node.{node_tree};
-ghost use Rattle.tree.specs.Tree.{part_at, part_count, parts_of, start_of, text_of};
+ghost use Rattle.tree.specs.Tree.{part_at, part_count, parts_of};
 ghost use Rattle.early_errors.specs.Names.{declared_names, each_part, lexical_names, names_in, parameter_names};
 ghost use Rattle.early_errors.specs.Walk.{all_named, at_part, binding_of, declared_by, lexical_of, names_at, parts_drop};
 
@@ -49,17 +49,6 @@ pub(crate) fn last_part<'t, 's>(node: Node<'t, 's>) -> Option<Node<'t, 's>>
     node.part(count - 1)
 }
 
-/// Pushes the text of an identifier.
-fn push_name<'t>(node: Node<'t, '_>, names: &mut Vec<Named<'t>>) -> Result<(), AllocError>
-    ensures { OnOk result (all_named names.new.items ≡ all_named names.old.items ++ (text_of (node_tree node.entry), start_of (node_tree node.entry)) ∷ []) }
-{
-    names.push(Named {
-        name: node.text(),
-        at: node.span().start,
-    })?;
-    Ok(())
-}
-
 /// Pushes the names that a pattern or a target binds or assigns (ECMA-262 13.3.3.1).
 #[cycle(pattern)]
 #[tactic(auto, using(tree::proofs::PartWalk::part_steps))]
@@ -70,7 +59,13 @@ pub(crate) fn push_names<'t>(
     ensures { OnOk result (all_named names.new.items ≡ all_named names.old.items ++ names_in (node_tree node.entry)) }
 {
     match binding_of(node.kind()) {
-        Binding::Name => push_name(node, names),
+        Binding::Name => {
+            names.push(Named {
+                name: node.text(),
+                at: node.span().start,
+            })?;
+            Ok(())
+        }
         Binding::AllParts => push_all_names(node, names),
         Binding::FirstPart => push_part_names(node.part(0), names),
         Binding::LastPart => push_part_names(last_part(node), names),

@@ -138,50 +138,42 @@ fn body_place(node: Node) -> usize
     }
 }
 
-/// Names of a scope, given, that stand twice, or clash with names of the scope other than those of `var`s inside, with
-/// room for the latter.
-pub(crate) fn scope_errors<'t>(
+/// Names of a scope, given, that stand twice, or clash with names of the scope other than those of `var`s inside.
+pub(crate) fn scope_errors(
     alloc: Global,
     kind: ScopeKind,
-    node: Node<'t, '_>,
+    node: Node,
     is_body: bool,
     names: &[Named],
-    room: &mut Vec<Named<'t>>,
     found: Found,
 ) -> Result<Found, AllocError>
     ensures { IfOk result (λ r. r ≡ after found (found_of_scope kind is_body (parts_of (node_tree node.entry)) (all_named names.now))) }
 {
     match kind {
-        ScopeKind::Program => top_errors(alloc, node, names, room, found),
+        ScopeKind::Program => top_errors(alloc, node, names, found),
         ScopeKind::Block => {
             if is_body {
-                top_errors(alloc, node, names, room, found)
+                top_errors(alloc, node, names, found)
             } else {
                 repeated(alloc, names, EarlyError::DuplicateLexicalName, found)
             }
         }
         ScopeKind::Switch => repeated(alloc, names, EarlyError::DuplicateLexicalName, found),
-        ScopeKind::Catch => catch_errors(alloc, node, names, room, found),
+        ScopeKind::Catch => catch_errors(alloc, node, names, found),
         _ => Ok(found),
     }
 }
 
 /// At the top of a Program or body: functions are var names there.
-fn top_errors<'t>(
-    alloc: Global,
-    node: Node<'t, '_>,
-    names: &[Named],
-    functions: &mut Vec<Named<'t>>,
-    found: Found,
-) -> Result<Found, AllocError>
+fn top_errors(alloc: Global, node: Node, names: &[Named], found: Found) -> Result<Found, AllocError>
     ensures { IfOk result (λ r. r ≡ after (after found (each EarlyError.DuplicateLexicalName (places (twice (all_named names.now))))) (each EarlyError.LexicalNameIsVar (places (shared (all_named names.now) (each_part function_names (parts_of (node_tree node.entry))))))) }
 {
     if names.is_empty() {
         return Ok(found);
     }
     let found = repeated(alloc, names, EarlyError::DuplicateLexicalName, found)?;
-    functions.clear();
-    push_functions(node, functions)?;
+    let mut functions = Vec::new(alloc);
+    push_functions(node, &mut functions)?;
     shared(
         alloc,
         names,
@@ -225,19 +217,18 @@ fn is_function(kind: Kind) -> bool
     }
 }
 
-fn catch_errors<'t>(
+fn catch_errors(
     alloc: Global,
-    node: Node<'t, '_>,
+    node: Node,
     names: &[Named],
-    lexical: &mut Vec<Named<'t>>,
     found: Found,
 ) -> Result<Found, AllocError>
     ensures { IfOk result (λ r. r ≡ after (after found (each EarlyError.CatchParameterConflict (places (twice (all_named names.now))))) (each EarlyError.CatchParameterConflict (places (shared (all_named names.now) (each_part (lexical_names true) (body_items (parts_of (node_tree node.entry)))))))) }
 {
     let error = EarlyError::CatchParameterConflict;
     let found = repeated(alloc, names, error, found)?;
-    lexical.clear();
-    push_body(body_of(node), lexical)?;
+    let mut lexical = Vec::new(alloc);
+    push_body(body_of(node), &mut lexical)?;
     shared(alloc, names, lexical.as_slice(), error, found)
 }
 

@@ -1,9 +1,10 @@
-use Rattle.std.proofs.Common.{sym, ap, ◌∙◌, ◌++◌, ◌≤◌, ◌<◌, subst, append-nil}
+use Rattle.std.proofs.Common.{sym, ap, ◌∙◌, ◌++◌, ◌≤◌, ◌<◌, [], ◌∷◌, subst, append-nil}
+use Rattle.std.proofs.lemmas.List.{map-append}
 use Rattle.tree.specs.Node.{node_tree}
 use Rattle.tree.specs.Tree.{parts_of}
 use Rattle.early_errors.specs.declared.names.Binding.TheVariants.{Name, AllParts, FirstPart, LastPart, Nothing}
 use Rattle.early_errors.specs.Names.{names_in}
-use Rattle.early_errors.specs.Walk.{all_named, names_at}
+use Rattle.early_errors.specs.Walk.{all_named, names_at, named}
 use Rattle.early_errors.proofs.Dropping.{push-turn, push-end}
 use Rattle.early_errors.proofs.Bindings.{names_given}
 use Rattle.early_errors.proofs.Results.{on_ok}
@@ -20,10 +21,11 @@ push_all_names-returns t c =
     let ps = parts_of (node_tree c.args.node) in
     push-end names_in ps c.loop-index.index (all_named c.loop-index.names.items) _ (subst (λ n. n ≤ c.loop-index.index) c.part_count-index-end.ensures c.loop-index-test.false) c.loop-index.invariant
 
-pub push_names-returns-in-Name : goal.push_names-returns-in-Name
-push_names-returns-in-Name t c =
+pub push_names-returns-in_ok-push-in-Name : goal.push_names-returns-in_ok-push-in-Name
+push_names-returns-in_ok-push-in-Name t c =
     let e = names_given (node_tree c.args.node) c.kind.result Name c.kind.ensures (sym c.in-Name.is ∙ c.binding_of.ensures) in
-    on_ok c.push_name.result (λ h. h ∙ ap (λ l. all_named c.args.names.now.items ++ l) (sym e)) c.push_name.ensures
+    ap all_named c.in_ok-push-in-Name.ensures.items ∙ map-append named c.args.names.now.items _ ∙ (λ i. all_named c.args.names.now.items ++ (c.text.ensures i, c.span.ensures.starts i) ∷ [])
+    ∙ ap (λ l. all_named c.args.names.now.items ++ l) (sym e)
 
 pub push_names-returns-in-AllParts : goal.push_names-returns-in-AllParts
 push_names-returns-in-AllParts t c =

@@ -12,7 +12,7 @@ use Rattle.early_errors.proofs.scopes.catch_errors.Goals as goal
 
 pub returns : goal.returns
 returns c =
-    let lexical = ap all_named c.as_slice.ensures.value ∙ c.in_ok-push_body.ensures ∙ ap (λ l. all_named l ++ each_part (lexical_names true) (items_at (option_map node_tree c.body_of.result))) c.clear.ensures.items
+    let lexical = ap all_named c.as_slice.ensures.value ∙ c.in_ok-push_body.ensures ∙ ap (λ l. all_named l ++ each_part (lexical_names true) (items_at (option_map node_tree c.body_of.result))) c.new-lexical.ensures.items
     ∙ ap (each_part (lexical_names true)) (body-whole (parts_of (node_tree c.args.node)) (option_map node_tree c.body_of.result) c.body_of.ensures)
     in
     if_ok c.shared.result _ _ (λ r h. h ∙ (λ i. after (c.in_ok-found.ensures i) (each CatchParameterConflict (places (shared (all_named c.args.names.now) (lexical i)))))) c.shared.ensures
