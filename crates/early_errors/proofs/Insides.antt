@@ -36,7 +36,7 @@ abbrev in_label : Inside → Bool
 in_label inside.Label = true
 in_label _ = false
 
-abbrev in_scope : Inside → Bool
+abbrev pub in_scope : Inside → Bool
 in_scope inside.Scope = true
 in_scope _ = false
 
