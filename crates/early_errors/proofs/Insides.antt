@@ -1,44 +1,64 @@
 -- What a node's kind says of the labels round its parts, of its `var`s and of its own errors.
-use Rattle.std.proofs.Common.{rules, ◌≡◌, ℕ, zero, suc, ◌<◌, Bool, true, false, cond, List, [], ◌++◌, Option, Some, None, refl, sym, ap, ◌∙◌, arith}
-use Rattle.std.specs.Prelude.{◌||◌, IfSome}
+use Rattle.std.proofs.Common.{◌≡◌, ℕ, zero, suc, ◌<◌, Bool, true, false, cond, List, [], ◌++◌, Option, Some, None, refl, sym, ap, ◌∙◌, arith}
+use Rattle.std.specs.Prelude.{◌||◌}
 use Rattle.std.specs.Str.{bytes_eq}
+use Rattle.std.proofs.lemmas.Bool.{false≢true}
 use Rattle.std.proofs.lemmas.Slice.Eq.{bytes_eq-Decides}
 use Rattle.tree.specs.declared.kind.Kind.TheVariants.{Program, BlockStatement, SwitchStatement, CatchClause, ForStatement, ForInStatement, ForOfStatement, FunctionDeclaration, FunctionExpression, ArrowFunctionExpression, MethodDefinition, Property, LabeledStatement}
 use Rattle.tree.specs.Tree.{Tree, node, Parts, none, part, gap, kind_of, text_of, flags_of, parts_of, part_at, part_count}
 use Rattle.language.specs.FirstPart.{others}
+use Rattle.early_errors.specs.declared.walk.Inside.{Inside}
 use Rattle.early_errors.specs.declared.walk.Inside.TheVariants as inside
-use Rattle.early_errors.specs.declared.around.Around.{Around as Code}
 use Rattle.early_errors.specs.Around.{Around, Label, is_method, labels_loop, last_loop, own_label}
 use Rattle.early_errors.specs.Names.{Named, var_names, parts_vars}
 use Rattle.early_errors.specs.Early.{own_errors}
 use Rattle.early_errors.specs.Owns.{Knows, label_of, or_false, inside_of, inner_labels, first_labels, plain_errors, vars_of}
 use Rattle.early_errors.specs.Walk.{Agree, with_value}
-use Rattle.early_errors.specs.Walks.{Fits}
 
 -- the labels round the first part, those round the others, the node's own `var`s, all its `var`s, its errors
 abbrev Facts : Tree → Around → List Label → (first others : List Label) → (vars : List Named) → Type 0
 Facts t z ls xs ys vs =
     (first_labels (kind_of t) (flags_of t) (parts_of t) ls ≡ xs) × ((inner_labels (kind_of t) (flags_of t) (parts_of t) ls ≡ ys) × ((var_names t ≡ vs) × (plain_errors z t ≡ own_errors z t)))
 
+abbrev in_function : Inside → Bool
+in_function inside.Function = true
+in_function _ = false
+
+abbrev in_method : Inside → Bool
+in_method inside.Method = true
+in_method _ = false
+
+abbrev in_plain : Inside → Bool
+in_plain inside.Plain = true
+in_plain _ = false
+
+abbrev in_label : Inside → Bool
+in_label inside.Label = true
+in_label _ = false
+
+abbrev pub in_scope : Inside → Bool
+in_scope inside.Scope = true
+in_scope _ = false
+
 never : (b : Bool) → cond b inside.Method inside.Plain ≡ inside.Function → ⊥
-never true h = cc
-never false h = cc
+never true h = false≢true (ap in_function h)
+never false h = false≢true (ap in_function h)
 
 a_method : (b : Bool) (ls : List Label) → cond b inside.Method inside.Plain ≡ inside.Method → cond b [] ls ≡ []
 a_method true ls h = refl
-a_method false ls h = absurd (cc)
+a_method false ls h = absurd (false≢true (ap in_method h))
 
 no_method : (b : Bool) (ls : List Label) → cond b inside.Method inside.Plain ≡ inside.Plain → cond b [] ls ≡ ls
-no_method true ls h = absurd (cc)
+no_method true ls h = absurd (false≢true (ap in_plain h))
 no_method false ls h = refl
 
 pub not_scope : (b : Bool) → cond b inside.Method inside.Plain ≡ inside.Scope → ⊥
-not_scope true h = cc
-not_scope false h = cc
+not_scope true h = false≢true (ap in_scope h)
+not_scope false h = false≢true (ap in_scope h)
 
 not_label : (b : Bool) → cond b inside.Method inside.Plain ≡ inside.Label → ⊥
-not_label true h = cc
-not_label false h = cc
+not_label true h = false≢true (ap in_label h)
+not_label false h = false≢true (ap in_label h)
 
 pub function_facts : (t : Tree) (z : Around) (ls : List Label) → inside_of (kind_of t) (flags_of t).form ≡ inside.Function → Facts t z ls [] [] [] × (vars_of t ≡ [])
 unfolding var_names
@@ -46,28 +66,28 @@ function_facts (node FunctionDeclaration w g s e ps) z ls h = ((refl, (refl, (re
 function_facts (node FunctionExpression w g s e ps) z ls h = ((refl, (refl, (refl, refl))), refl)
 function_facts (node ArrowFunctionExpression w g s e ps) z ls h = ((refl, (refl, (refl, refl))), refl)
 function_facts (node Property w g s e ps) z ls h = absurd (never (is_method g.form) h)
-function_facts (node _ w g s e ps) z ls h = absurd (cc)
+function_facts (node _ w g s e ps) z ls h = absurd (false≢true (ap in_function h))
 
 pub method_facts : (t : Tree) (z : Around) (ls : List Label) → inside_of (kind_of t) (flags_of t).form ≡ inside.Method → Facts t z ls ls [] (vars_of t ++ parts_vars (parts_of t))
 unfolding var_names
 method_facts (node MethodDefinition w g s e ps) z ls h = (refl, (refl, (refl, refl)))
 method_facts (node Property w g s e ps) z ls h = (refl, (a_method (is_method g.form) ls h, (refl, refl)))
-method_facts (node _ w g s e ps) z ls h = absurd (cc)
+method_facts (node _ w g s e ps) z ls h = absurd (false≢true (ap in_method h))
 
 pub plain_facts : (t : Tree) (z : Around) (ls : List Label) → inside_of (kind_of t) (flags_of t).form ≡ inside.Plain → Facts t z ls ls ls (vars_of t ++ parts_vars (parts_of t))
 unfolding var_names
-plain_facts (node FunctionDeclaration w g s e ps) z ls h = absurd (cc)
-plain_facts (node FunctionExpression w g s e ps) z ls h = absurd (cc)
-plain_facts (node ArrowFunctionExpression w g s e ps) z ls h = absurd (cc)
-plain_facts (node MethodDefinition w g s e ps) z ls h = absurd (cc)
-plain_facts (node LabeledStatement w g s e ps) z ls h = absurd (cc)
-plain_facts (node Program w g s e ps) z ls h = absurd (cc)
-plain_facts (node BlockStatement w g s e ps) z ls h = absurd (cc)
-plain_facts (node SwitchStatement w g s e ps) z ls h = absurd (cc)
-plain_facts (node CatchClause w g s e ps) z ls h = absurd (cc)
-plain_facts (node ForStatement w g s e ps) z ls h = absurd (cc)
-plain_facts (node ForInStatement w g s e ps) z ls h = absurd (cc)
-plain_facts (node ForOfStatement w g s e ps) z ls h = absurd (cc)
+plain_facts (node FunctionDeclaration w g s e ps) z ls h = absurd (false≢true (ap in_plain h))
+plain_facts (node FunctionExpression w g s e ps) z ls h = absurd (false≢true (ap in_plain h))
+plain_facts (node ArrowFunctionExpression w g s e ps) z ls h = absurd (false≢true (ap in_plain h))
+plain_facts (node MethodDefinition w g s e ps) z ls h = absurd (false≢true (ap in_plain h))
+plain_facts (node LabeledStatement w g s e ps) z ls h = absurd (false≢true (ap in_plain h))
+plain_facts (node Program w g s e ps) z ls h = absurd (false≢true (ap in_plain h))
+plain_facts (node BlockStatement w g s e ps) z ls h = absurd (false≢true (ap in_plain h))
+plain_facts (node SwitchStatement w g s e ps) z ls h = absurd (false≢true (ap in_plain h))
+plain_facts (node CatchClause w g s e ps) z ls h = absurd (false≢true (ap in_plain h))
+plain_facts (node ForStatement w g s e ps) z ls h = absurd (false≢true (ap in_plain h))
+plain_facts (node ForInStatement w g s e ps) z ls h = absurd (false≢true (ap in_plain h))
+plain_facts (node ForOfStatement w g s e ps) z ls h = absurd (false≢true (ap in_plain h))
 plain_facts (node Property w g s e ps) z ls h = (refl, (no_method (is_method g.form) ls h, (refl, refl)))
 plain_facts (node _ w g s e ps) z ls h = (refl, (refl, (refl, refl)))
 
@@ -76,7 +96,7 @@ pub label_facts : (t : Tree) (z : Around) (ls : List Label) → inside_of (kind_
 unfolding var_names
 label_facts (node LabeledStatement w g s e ps) z ls h = ((refl, (refl, (refl, refl))), refl)
 label_facts (node Property w g s e ps) z ls h = absurd (not_label (is_method g.form) h)
-label_facts (node _ w g s e ps) z ls h = absurd (cc)
+label_facts (node _ w g s e ps) z ls h = absurd (false≢true (ap in_label h))
 
 pub scope_facts : (t : Tree) (z : Around) (ls : List Label) → inside_of (kind_of t) (flags_of t).form ≡ inside.Scope →
     (first_labels (kind_of t) (flags_of t) (parts_of t) ls ≡ ls) × ((inner_labels (kind_of t) (flags_of t) (parts_of t) ls ≡ ls) × ((var_names t ≡ parts_vars (parts_of t)) × (vars_of t ≡ [])))
@@ -89,7 +109,7 @@ scope_facts (node ForStatement w g s e ps) z ls h = (refl, (refl, (refl, refl)))
 scope_facts (node ForInStatement w g s e ps) z ls h = (refl, (refl, (refl, refl)))
 scope_facts (node ForOfStatement w g s e ps) z ls h = (refl, (refl, (refl, refl)))
 scope_facts (node Property w g s e ps) z ls h = absurd (not_scope (is_method g.form) h)
-scope_facts (node _ w g s e ps) z ls h = absurd (cc)
+scope_facts (node _ w g s e ps) z ls h = absurd (false≢true (ap in_scope h))
 
 -- ---- labels
 
@@ -140,19 +160,3 @@ the_second (part t ps) zero u n l e = absurd (omega (arith, l))
 the_second (gap ps) zero u n l e = absurd (omega (arith, l))
 the_second (part t ps) (suc i) u n l e = only ps i u (omega (arith, n)) e
 the_second (gap ps) (suc i) u n l e = only ps i u (omega (arith, n)) e
-
--- ---- what is known of a part
-
-some_fits : (o : Option Bool) (u : Tree) (b : Bool) → o ≡ Some b → b ≡ labels_loop u → IfSome o (λ c. c ≡ labels_loop u)
-some_fits None u b e h = absurd (cc)
-some_fits (Some c) u b e h = cc
-
-none_fits : (o : Option Bool) (u : Tree) → o ≡ None → IfSome o (λ c. c ≡ labels_loop u)
-none_fits None u e = search rules
-none_fits (Some c) u e = absurd (cc)
-
-pub known_fits : (a : Code) (u : Tree) (b : Bool) → a.labels_loop ≡ Some b → b ≡ labels_loop u → Fits a u
-known_fits a u b e h = some_fits a.labels_loop u b e h
-
-pub unknown_fits : (a : Code) (u : Tree) → a.labels_loop ≡ None → Fits a u
-unknown_fits a u e = none_fits a.labels_loop u e

@@ -1,9 +1,9 @@
 -- Flags of regular expressions, and the parts of a template.
-use Rattle.std.proofs.Common.{◌≡◌, ℕ, zero, suc, ◌+◌, ◌<◌, ◌≤◌, Bool, true, false, not, cond, List, [], ◌∷◌, length, drop, get_or, Option, Some, None, is_some, option_map, refl, sym, ap, ◌∙◌, arith, add-one}
+use Rattle.std.proofs.Common.{◌≡◌, ℕ, zero, suc, ◌+◌, ◌-◌, ◌<◌, ◌≤◌, Bool, true, false, not, cond, List, [], ◌∷◌, length, drop, take, get_or, Option, Some, None, is_some, option_map, refl, sym, ap, ◌∙◌, arith, add-one}
 use Rattle.std.specs.Prelude.{◌||◌, ◌&&◌, codes, ◌==◌}
 use Rattle.std.specs.List.{list_any}
 use Rattle.std.specs.Str.{chars}
-use Rattle.std.proofs.lemmas.List.{drop_more}
+use Rattle.std.proofs.lemmas.List.{drop_more, take_rest}
 use Rattle.tokens.specs.Templates.{cooked_value}
 use Rattle.tree.specs.declared.kind.Kind.{Kind}
 use Rattle.tree.specs.declared.kind.Kind.TheVariants.{TemplateElement}
@@ -34,8 +34,20 @@ at-other w start i l e =
     let rest = drop (i + 1) w in
     ap (λ b. flags_part (cond b rest (drop start w)) rest) (sym e) ∙ ap (flags_part (drop start w)) (sym (drop_more w i 0 l))
 
-pub flags-step : (w : List ℕ) (i : ℕ) → i < length w → are_flags (drop i w) ≡ (holds (codes "gimsuy") (get_or w i 0) && (not (holds (drop (i + 1) w) (get_or w i 0)) && are_flags (drop (i + 1) w)))
+flags-step : (w : List ℕ) (i : ℕ) → i < length w → are_flags (drop i w) ≡ (holds (codes "gimsuy") (get_or w i 0) && (not (holds (drop (i + 1) w) (get_or w i 0)) && are_flags (drop (i + 1) w)))
 flags-step w i l = ap are_flags (drop_more w i 0 l)
+
+and-turns : (a b c : Bool) → ((a && b) && c) ≡ (a && (b && c))
+and-turns true b c = refl
+and-turns false b c = refl
+
+pub flags-turn : (w : List ℕ) (i : ℕ) (b c : Bool) → i < length w → b ≡ (holds (codes "gimsuy") (get_or w i 0) && not (holds (take (length w - (i + 1)) (drop (i + 1) w)) (get_or w i 0))) → b ≡ c →
+    are_flags (drop i w) ≡ (c && are_flags (drop (i + 1) w))
+flags-turn w i b c l e h =
+    let flag = get_or w i 0 in
+    let known = holds (codes "gimsuy") flag in
+    let rest = drop (i + 1) w in
+    flags-step w i l ∙ sym (and-turns known (not (holds rest flag)) (are_flags rest)) ∙ ap (λ x. x && are_flags rest) (sym (e ∙ ap (λ v. known && not (holds v flag)) (take_rest w (i + 1))) ∙ h)
 
 more-uncooked : (ps : Parts) (i : ℕ) (o : Option Tree) → i < part_count ps → o ≡ part_at ps i → some_uncooked (parts_drop i ps) ≡ (uncooked_at o || some_uncooked (parts_drop (suc i) ps))
 more-uncooked none i o l e = absurd (omega (arith, l))

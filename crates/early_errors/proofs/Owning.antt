@@ -1,6 +1,7 @@
 -- A node's own errors, kind by kind.
-use Rattle.std.proofs.Common.{◌≡◌, false, not, List, [], ◌∷◌, ◌++◌, filter, refl, sym, ap, ◌∙◌, append-nil}
+use Rattle.std.proofs.Common.{◌≡◌, Bool, true, false, not, List, [], ◌∷◌, ◌++◌, filter, refl, sym, ap, ◌∙◌, append-nil}
 use Rattle.std.specs.Prelude.{◌||◌, ◌&&◌}
+use Rattle.std.proofs.lemmas.Bool.{false≢true}
 use Rattle.tree.specs.declared.kind.Kind.{Kind}
 use Rattle.tree.specs.declared.kind.Kind.TheVariants.{CatchClause, ForInStatement, ForOfStatement, ClassDeclaration, ClassExpression, AssignmentExpression, UpdateExpression, VariableDeclaration, FunctionDeclaration, FunctionExpression, ArrowFunctionExpression, BreakStatement, ContinueStatement, LabeledStatement, UnaryExpression, MemberExpression, CallExpression, MetaProperty, ClassBody, MethodDefinition, TemplateLiteral, Literal}
 use Rattle.tree.specs.Tree.{Tree, node, Parts, kind_of, text_of, flags_of, start_of, stop_of, parts_of}
@@ -20,6 +21,7 @@ use Rattle.early_errors.specs.Classes.{key_places, has_key, super_places, constr
 use Rattle.early_errors.specs.Literals.{some_uncooked, good_flags, uncooked_template, reg_exp_flags}
 use Rattle.early_errors.specs.Early.{Error, each, own_errors}
 use Rattle.early_errors.specs.Owns.{own_of, sort_of, plain_errors, named_errors, nameless, vars_of}
+use Rattle.early_errors.specs.declared.own.Sort.{Sort}
 use Rattle.early_errors.specs.declared.own.Sort.TheVariants as sort
 
 -- a node of a known kind
@@ -89,6 +91,26 @@ small_given o z t e = small_by_kind z t ∙ ap (λ x. small x z t) e
 
 -- ---- which function finds them
 
+abbrev is_declared : Sort → Bool
+is_declared sort.Variables = true
+is_declared _ = false
+
+abbrev is_named : Sort → Bool
+is_named sort.Named = true
+is_named _ = false
+
+abbrev is_nameless : Sort → Bool
+is_nameless sort.Nameless = true
+is_nameless _ = false
+
+abbrev declares : Own → Bool
+declares own.Variables = true
+declares _ = false
+
+abbrev has_first_names : Own → Bool
+has_first_names own.FirstNames = true
+has_first_names _ = false
+
 pub named_plain : (z : Around) (t : Tree) → sort_of (own_of (kind_of t)) ≡ sort.Named → (named_errors (own_of (kind_of t)) z t ≡ plain_errors z t) × (vars_of t ≡ [])
 unfolding own_errors duplicate_lexical_name lexical_name_is_var const_without_initializer catch_parameter_conflict for_name_is_var duplicate_parameter parameter_is_lexical_name use_strict_behind_pattern eval_or_arguments delete_of_identifier misplaced_jump undefined_label duplicate_label super_property_outside_method super_call_outside_constructor new_target_outside_function duplicate_constructor special_constructor static_prototype uncooked_template reg_exp_flags
 named_plain z (node CatchClause w g s e ps) h = (refl, refl)
@@ -101,30 +123,30 @@ named_plain z (node UpdateExpression w g s e ps) h = (sym (append-nil _), refl)
 named_plain z (node BreakStatement w g s e ps) h = (refl, refl)
 named_plain z (node ContinueStatement w g s e ps) h = (refl, refl)
 named_plain z (node LabeledStatement w g s e ps) h = (refl, refl)
-named_plain z (node _ w g s e ps) h = absurd (cc)
+named_plain z (node _ w g s e ps) h = absurd (false≢true (ap is_named h))
 
 pub nameless_plain : (z : Around) (t : Tree) → sort_of (own_of (kind_of t)) ≡ sort.Nameless → (nameless (own_of (kind_of t)) z t ≡ plain_errors z t) × (vars_of t ≡ [])
 unfolding own_errors duplicate_lexical_name lexical_name_is_var const_without_initializer catch_parameter_conflict for_name_is_var duplicate_parameter parameter_is_lexical_name use_strict_behind_pattern eval_or_arguments delete_of_identifier misplaced_jump undefined_label duplicate_label super_property_outside_method super_call_outside_constructor new_target_outside_function duplicate_constructor special_constructor static_prototype uncooked_template reg_exp_flags
-nameless_plain z (node CatchClause w g s e ps) h = absurd (cc)
-nameless_plain z (node ForInStatement w g s e ps) h = absurd (cc)
-nameless_plain z (node ForOfStatement w g s e ps) h = absurd (cc)
-nameless_plain z (node ClassDeclaration w g s e ps) h = absurd (cc)
-nameless_plain z (node ClassExpression w g s e ps) h = absurd (cc)
-nameless_plain z (node AssignmentExpression w g s e ps) h = absurd (cc)
-nameless_plain z (node UpdateExpression w g s e ps) h = absurd (cc)
-nameless_plain z (node BreakStatement w g s e ps) h = absurd (cc)
-nameless_plain z (node ContinueStatement w g s e ps) h = absurd (cc)
-nameless_plain z (node LabeledStatement w g s e ps) h = absurd (cc)
-nameless_plain z (node VariableDeclaration w g s e ps) h = absurd (cc)
+nameless_plain z (node CatchClause w g s e ps) h = absurd (false≢true (ap is_nameless h))
+nameless_plain z (node ForInStatement w g s e ps) h = absurd (false≢true (ap is_nameless h))
+nameless_plain z (node ForOfStatement w g s e ps) h = absurd (false≢true (ap is_nameless h))
+nameless_plain z (node ClassDeclaration w g s e ps) h = absurd (false≢true (ap is_nameless h))
+nameless_plain z (node ClassExpression w g s e ps) h = absurd (false≢true (ap is_nameless h))
+nameless_plain z (node AssignmentExpression w g s e ps) h = absurd (false≢true (ap is_nameless h))
+nameless_plain z (node UpdateExpression w g s e ps) h = absurd (false≢true (ap is_nameless h))
+nameless_plain z (node BreakStatement w g s e ps) h = absurd (false≢true (ap is_nameless h))
+nameless_plain z (node ContinueStatement w g s e ps) h = absurd (false≢true (ap is_nameless h))
+nameless_plain z (node LabeledStatement w g s e ps) h = absurd (false≢true (ap is_nameless h))
+nameless_plain z (node VariableDeclaration w g s e ps) h = absurd (false≢true (ap is_nameless h))
 nameless_plain z (node _ w g s e ps) h = (refl, refl)
 
 pub variables_plain : (z : Around) (t : Tree) → own_of (kind_of t) ≡ own.Variables → own_errors z t ≡ plain_errors z t
 variables_plain z (node VariableDeclaration w g s e ps) h = refl
-variables_plain z (node _ w g s e ps) h = absurd (cc)
+variables_plain z (node _ w g s e ps) h = absurd (false≢true (ap declares h))
 
 pub is_variables : (o : Own) → sort_of o ≡ sort.Variables → o ≡ own.Variables
 is_variables own.Variables h = refl
-is_variables _ h = absurd (cc)
+is_variables _ h = absurd (false≢true (ap is_declared h))
 
 pub first_names_given : (t : Tree) → own_of (kind_of t) ≡ own.FirstNames → names_given (kind_of t) (parts_of t) ≡ first_names (parts_of t)
 first_names_given (node CatchClause w g s e ps) h = refl
@@ -134,7 +156,7 @@ first_names_given (node ClassDeclaration w g s e ps) h = refl
 first_names_given (node ClassExpression w g s e ps) h = refl
 first_names_given (node AssignmentExpression w g s e ps) h = refl
 first_names_given (node UpdateExpression w g s e ps) h = refl
-first_names_given (node _ w g s e ps) h = absurd (cc)
+first_names_given (node _ w g s e ps) h = absurd (false≢true (ap has_first_names h))
 
 pub restricted_given : (t : Tree) → own_of (kind_of t) ≡ own.FirstNames → each EvalOrArguments (places (filter is_restricted (first_names (parts_of t)))) ≡ each EvalOrArguments (eval_or_arguments t)
 unfolding eval_or_arguments

@@ -1,6 +1,7 @@
 -- A scope's own errors: those of its names alone, and those of `var`s inside.
 use Rattle.std.proofs.Common.{◌≡◌, ℕ, ◌+◌, ◌-◌, ◌<◌, ◌≤◌, Bool, true, false, not, cond, List, [], ◌∷◌, ◌++◌, Option, Some, None, filter, ◌⊎◌, inl, inr, is_some, refl, sym, ap, ◌∙◌, arith, append-nil}
 use Rattle.std.proofs.Math.Dec.{leb}
+use Rattle.std.proofs.lemmas.Bool.{false≢true}
 use Rattle.std.proofs.lemmas.Bool.Decides.{leb_tells}
 use Rattle.tree.specs.declared.kind.Kind.TheVariants.{Program, BlockStatement, SwitchStatement, CatchClause, ForStatement, ForInStatement, ForOfStatement, Property}
 use Rattle.tree.specs.Tree.{Tree, node, Parts, none, part, gap, kind_of, flags_of, parts_of, part_at, part_count}
@@ -23,7 +24,7 @@ use Rattle.early_errors.specs.Owns.{inside_of, scope_kind, scope_error, names_of
 use Rattle.early_errors.specs.Walk.{sooner, at_part, parts_drop}
 use Rattle.early_errors.specs.Walks.{vars_at, range_vars}
 use Rattle.early_errors.proofs.Dropping.{first_names-at}
-use Rattle.early_errors.proofs.Insides.{not_scope}
+use Rattle.early_errors.proofs.Insides.{in_scope, not_scope}
 use Rattle.early_errors.proofs.Least.{sooner-twice, least-append}
 use Rattle.early_errors.proofs.Listing.{others-drop, body-whole}
 use Rattle.early_errors.proofs.Ranging.{past, ranged-step, ranged-past, vars_drop}
@@ -90,7 +91,7 @@ behind_three (gap ps) = behind_two ps
 block-vars : (t : Tree) → is_block (kind_of t) ≡ true → var_names t ≡ parts_vars (parts_of t)
 unfolding var_names
 block-vars (node BlockStatement w g s e ps) h = refl
-block-vars (node _ w g s e ps) h = absurd (cc)
+block-vars (node _ w g s e ps) h = absurd (false≢true h)
 
 -- from the body on, where there is one
 abbrev place_at : Option Tree → Parts → ℕ
@@ -165,7 +166,7 @@ module _ (z : Around) where
       head es (head_lexical ps) (parts_vars (others (others ps)))
       ∙ (λ i. sooner (least es) (least (clash_with error.ForNameIsVar (head-at ps i) ((ap parts_vars (behind_two ps) ∙ sym (vars_drop ps 2)) i))))
   scope-split (node Property w g s e ps) h = absurd (not_scope (is_method g.form) h)
-  scope-split (node _ w g s e ps) h = absurd (cc)
+  scope-split (node _ w g s e ps) h = absurd (false≢true (ap in_scope h))
 
   -- by what a walk has of the scope
   pub split_given : (t : Tree) (k : ScopeKind) (ns : List Named) (e : EarlyError) (m n : ℕ) → inside_of (kind_of t) (flags_of t).form ≡ inside.Scope →

@@ -56,6 +56,14 @@ pub undone-agrees : (f g : List ℕ → Option Error) (xs : List Saved) → Agre
 undone-agrees f g [] h w = h w
 undone-agrees f g (x ∷ xs) h w = ap (λ o. cond (bytes_eq x.name.now w) x.value o) (undone-agrees f g xs h w)
 
+-- a table with another value at one name for a while
+pub restored : {V : Type 0} (f g h k : List ℕ → Option V) (n : List ℕ) (v r : Option V) → v ≡ f n → Agree g (with_value f n r) → Agree h g → Agree k (with_value h n v) → Agree k f
+restored f g h k n v r e a b c w = c w ∙ pick (bytes_eq n w) refl
+  where
+    pick : (x : Bool) → bytes_eq n w ≡ x → cond x v (h w) ≡ f w
+    pick true t = e ∙ ap f ((bytes_eq-Decides n w).0 t)
+    pick false t = b w ∙ a w ∙ ap (λ x. cond x r (f w)) t
+
 put_back : (f g : List ℕ → Option Error) (n : List ℕ) (v r : Option Error) → v ≡ f n → Agree g (with_value f n r) → Agree (with_value g n v) f
 put_back f g n v r e h w = pick (bytes_eq n w) refl
   where

@@ -19,18 +19,23 @@ use crate::scopes::body_of;
 use std::alloc::{AllocError, Global};
 use tree::{Kind, Node};
 
-/// The errors of a function's name, parameters and directives.
-pub(crate) fn function_errors(alloc: Global, node: Node, found: Found) -> Result<Found, AllocError>
+/// The errors of a function's name, parameters and directives, with room for the names.
+pub(crate) fn function_errors<'t>(
+    alloc: Global,
+    node: Node<'t, '_>,
+    names: &mut Vec<Named<'t>>,
+    found: Found,
+) -> Result<Found, AllocError>
     requires { own_of (kind_of (node_tree node)) ≡ Own.Function }
     ensures { IfOk result (λ r. (z : _) → r ≡ after found (own_errors z (node_tree node.entry))) }
 {
     let from = parameter_place(node.kind());
-    let mut names = Vec::new(alloc);
-    push_part_names(function_name(node, from), &mut names)?;
+    names.clear();
+    push_part_names(function_name(node, from), names)?;
     let named = restricted(names.as_slice(), found);
-    let mut parameters = Vec::new(alloc);
-    push_parameters(node, from, &mut parameters)?;
-    let bound = parameters.as_slice();
+    names.clear();
+    push_parameters(node, from, names)?;
+    let bound = names.as_slice();
     let found = restricted(bound, named);
     let found = repeated(alloc, bound, EarlyError::DuplicateParameter, found)?;
     let body = body_of_function(node, from);

@@ -1,8 +1,8 @@
 //! `break`, `continue` and labels.
 
-ghost use Rattle.std.specs.Prelude.{◌≡◌, ◌&&◌, filter, not, IfSome};
+ghost use Rattle.std.specs.Prelude.{◌≡◌, ◌<◌, ◌&&◌, filter, not, Some, IfSome};
 ghost use Rattle.tree.specs.Node.{node_tree};
-ghost use Rattle.tree.specs.Tree.{kind_of, parts_of};
+ghost use Rattle.tree.specs.Tree.{kind_of, part_at, parts_of};
 ghost use Rattle.tree.specs.declared.kind.Kind.TheVariants.{LabeledStatement};
 ghost use Rattle.language.specs.FirstPart.{others};
 ghost use Rattle.early_errors.specs.Around.{is_label, labels_loop, last_loop};
@@ -137,6 +137,17 @@ pub(crate) fn label_is_loop(node: Node, known: Option<bool>) -> bool
         Some(is_loop) => is_loop,
         None => labels_loop(node),
     }
+}
+
+/// What is known of a label's statement, by whether it is a loop: of a part behind the first where that is the only one.
+pub(crate) fn known_loop(node: Node, is_loop: bool) -> Option<bool>
+    requires { is_loop ≡ last_loop (others (parts_of (node_tree node))) }
+    ensures { (i : _) → (u : _) → 0 < i → Some u ≡ part_at (parts_of (node_tree node.entry)) i → IfSome result (λ b. b ≡ labels_loop u) }
+{
+    if node.part_count() == 2 {
+        return Some(is_loop);
+    }
+    None
 }
 
 /// Whether something stands there and is true.

@@ -150,7 +150,7 @@ fn are_flags(flags: &[u8]) -> bool
 {
     for index in 0..flags.len() {
         let flag = flags[index];
-        if !is_flag(flag) || holds(&flags[index + 1..], flag) {
+        if !both(is_flag(flag), !holds(&flags[index + 1..], flag)) {
             return false;
         }
     }

@@ -1,6 +1,6 @@
 //! The errors of a node itself, but for those of names that clash with names of `var`s inside.
 
-ghost use Rattle.std.specs.Prelude.{◌≡◌, ◌&&◌, true, false, not, IfOk, OnOk};
+ghost use Rattle.std.specs.Prelude.{◌≡◌, ◌&&◌, true, false, not, IfOk};
 ghost use Rattle.tree.specs.Node.{node_tree};
 ghost use Rattle.tree.specs.Tree.{kind_of, parts_of, text_of};
 ghost use Rattle.language.specs.FirstPart.{lead};
@@ -21,7 +21,6 @@ use crate::labels::{Labels, break_errors, continue_errors};
 use crate::literals::{both, literal_errors, template_errors};
 use crate::names::{Named, push_declared, push_part_names};
 use crate::scopes::without_initializer;
-use crate::walk::Walk;
 use std::alloc::{AllocError, Global};
 use tree::{Kind, Node};
 
@@ -75,24 +74,23 @@ fn own_of(kind: Kind) -> Own
     }
 }
 
-/// Finds the errors of a node itself.
+/// The errors of a node itself and of its `var`s, with room for names.
 pub(crate) fn own_errors<'t>(
+    alloc: Global,
     node: Node<'t, '_>,
     around: Around,
-    walk: &mut Walk<'t>,
-) -> Result<(), AllocError>
-    ensures found { OnOk result ((ls : _) → Knows (look walk.old.labels) ls → walk.new.found ≡ sooner (after walk.old.found (plain_errors (round around ls) (node_tree node.entry))) (hits (look walk.old.vars) (vars_of (node_tree node.entry)))) }
-    ensures vars { OnOk result (walk.new.vars ≡ walk.old.vars) }
-    ensures labels { OnOk result (walk.new.labels ≡ walk.old.labels) }
+    vars: &Clashes,
+    labels: &Labels,
+    names: &mut Vec<Named<'t>>,
+    found: Found,
+) -> Result<Found, AllocError>
+    ensures { IfOk result (λ r. (ls : _) → Knows (look labels.now) ls → r ≡ sooner (after found (plain_errors (round around ls) (node_tree node.entry))) (hits (look vars.now) (vars_of (node_tree node.entry)))) }
 {
     let own = own_of(node.kind());
     match sort_of(own) {
-        Sort::Variables => variable_errors(node, around, walk),
-        Sort::Named => first_name_errors(node, own, around, walk),
-        Sort::Nameless => {
-            walk.found = nameless_errors(walk.alloc, node, own, around, walk.found)?;
-            Ok(())
-        }
+        Sort::Variables => variable_errors(alloc, node, around, vars, names, found),
+        Sort::Named => first_name_errors(node, own, around, labels, names, found),
+        Sort::Nameless => nameless_errors(alloc, node, own, around, names, found),
     }
 }
 
@@ -115,18 +113,19 @@ fn sort_of(own: Own) -> Sort
 }
 
 /// The errors of a node whose first part's names don't matter.
-fn nameless_errors(
+fn nameless_errors<'t>(
     alloc: Global,
-    node: Node,
+    node: Node<'t, '_>,
     own: Own,
     around: Around,
+    names: &mut Vec<Named<'t>>,
     found: Found,
 ) -> Result<Found, AllocError>
     requires { own ≡ own_of (kind_of (node_tree node)) }
     ensures { IfOk result (λ r. (ls : _) → r ≡ after found (nameless own (round around ls) (node_tree node.entry))) }
 {
     match own {
-        Own::Function => function_errors(alloc, node, found),
+        Own::Function => function_errors(alloc, node, names, found),
         Own::Member => member_errors(alloc, node, found),
         Own::Template => template_errors(alloc, node, around, found),
         Own::Delete => Ok(delete_errors(node, found)),
@@ -151,21 +150,21 @@ fn nameless_errors(
 
 /// The names of a declaration: those of a `var` clash with names of the scopes round it.
 fn variable_errors<'t>(
+    alloc: Global,
     node: Node<'t, '_>,
     around: Around,
-    walk: &mut Walk<'t>,
-) -> Result<(), AllocError>
+    vars: &Clashes,
+    names: &mut Vec<Named<'t>>,
+    found: Found,
+) -> Result<Found, AllocError>
     requires { own_of (kind_of (node_tree node)) ≡ Own.Variables }
-    ensures found { OnOk result ((ls : _) → walk.new.found ≡ sooner (after walk.old.found (own_errors (round around ls) (node_tree node.entry))) (hits (look walk.old.vars) (vars_of (node_tree node.entry)))) }
-    ensures vars { OnOk result (walk.new.vars ≡ walk.old.vars) }
-    ensures labels { OnOk result (walk.new.labels ≡ walk.old.labels) }
+    ensures { IfOk result (λ r. (ls : _) → r ≡ sooner (after found (own_errors (round around ls) (node_tree node.entry))) (hits (look vars.now) (vars_of (node_tree node.entry)))) }
 {
-    walk.names.clear();
-    push_declared(node, &mut walk.names)?;
-    let names = walk.names.as_slice();
-    let found = restricted(names, walk.found);
-    walk.found = declared_errors(walk.alloc, node, around.in_head, &walk.vars, names, found)?;
-    Ok(())
+    names.clear();
+    push_declared(node, names)?;
+    let declared = names.as_slice();
+    let found = restricted(declared, found);
+    declared_errors(alloc, node, around.in_head, vars, declared, found)
 }
 
 /// The errors of a declaration of these names.
@@ -196,18 +195,16 @@ fn first_name_errors<'t>(
     node: Node<'t, '_>,
     own: Own,
     around: Around,
-    walk: &mut Walk<'t>,
-) -> Result<(), AllocError>
+    labels: &Labels,
+    names: &mut Vec<Named<'t>>,
+    found: Found,
+) -> Result<Found, AllocError>
     requires { own ≡ own_of (kind_of (node_tree node)) }
-    ensures found { OnOk result ((ls : _) → Knows (look walk.old.labels) ls → walk.new.found ≡ after walk.old.found (named_errors own (round around ls) (node_tree node.entry))) }
-    ensures vars { OnOk result (walk.new.vars ≡ walk.old.vars) }
-    ensures labels { OnOk result (walk.new.labels ≡ walk.old.labels) }
+    ensures { IfOk result (λ r. (ls : _) → Knows (look labels.now) ls → r ≡ after found (named_errors own (round around ls) (node_tree node.entry))) }
 {
-    walk.names.clear();
-    push_part_names(node.part(0), &mut walk.names)?;
-    let names = walk.names.as_slice();
-    walk.found = named_found(node, own, around, &walk.labels, names, walk.found);
-    Ok(())
+    names.clear();
+    push_part_names(node.part(0), names)?;
+    Ok(named_found(node, own, around, labels, names.as_slice(), found))
 }
 
 /// The errors of these names.

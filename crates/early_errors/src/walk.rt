@@ -12,7 +12,8 @@ ghost use Rattle.early_errors.specs.Walks.{Fits, range_errors, range_vars};
 use crate::around::{Around, Rounds, is_method, rounds_of};
 use crate::clashes::{Clashes, Saved, enter, leave};
 use crate::found::Found;
-use crate::labels::{Labels, is_true, label_is_loop};
+use crate::labels::{Labels, is_true, known_loop, label_is_loop};
+use crate::literals::either;
 use crate::names::Named;
 use crate::own::own_errors;
 use crate::scopes::{place_of_scope, push_scope, scope_error, scope_errors, scope_kind};
@@ -100,7 +101,15 @@ pub(crate) fn walk_node<'t>(
     ensures vars { OnOk result (Agree (look walk.new.vars) (look walk.old.vars)) }
     ensures labels { OnOk result (Agree (look walk.new.labels) (look walk.old.labels)) }
 {
-    own_errors(node, around, walk)?;
+    walk.found = own_errors(
+        walk.alloc,
+        node,
+        around,
+        &walk.vars,
+        &walk.labels,
+        &mut walk.names,
+        walk.found,
+    )?;
     match inside_of(node.kind(), node.flags().form) {
         Inside::Function => walk_function(node, around, walk),
         Inside::Method => walk_method(node, around, walk),
@@ -198,15 +207,14 @@ fn walk_label<'t>(node: Node<'t, '_>, around: Around, walk: &mut Walk<'t>) -> Re
         return walk_parts(node, 0, node.part_count(), rounds, walk);
     };
     let is_loop = label_is_loop(node, around.labels_loop);
-    if node.part_count() == 2 {
-        rounds.others.labels_loop = Some(is_loop);
-    }
-    let before = walk.labels.value(label.text());
-    let after = is_loop || is_true(before);
-    walk.labels.replace(label.text(), Some(after))?;
-    walk_parts(node, 0, node.part_count(), rounds, walk)?;
-    walk.labels.replace(label.text(), before)?;
-    Ok(())
+    rounds.others.labels_loop = known_loop(node, is_loop);
+    let name = label.text();
+    let before = walk.labels.value(name);
+    let after = either(is_loop, is_true(before));
+    walk.labels.replace(name, Some(after))?;
+    let done = walk_parts(node, 0, node.part_count(), rounds, walk);
+    walk.labels.replace(name, before)?;
+    done
 }
 
 /// Names of a scope clash with `var`s inside.

@@ -1,19 +1,26 @@
 use Rattle.std.proofs.Common.{sym, ap, ◌∙◌}
 use Rattle.tree.specs.Node.{node_tree}
-use Rattle.early_errors.specs.Owns.{own_of, round}
-use Rattle.early_errors.specs.Walk.{look}
+use Rattle.early_errors.specs.Owns.{own_of, round, vars_of}
+use Rattle.early_errors.specs.Walk.{after, hits, look, sooner}
+use Rattle.early_errors.proofs.Owning.{is_variables, variables_plain}
 use Rattle.early_errors.proofs.OwnErrors.{named_found, nameless_found}
-use Rattle.early_errors.proofs.Results.{on_ok}
+use Rattle.early_errors.proofs.Results.{if_ok}
 use Rattle.early_errors.proofs.own.own_errors.Goals as goal
 
-pub returns-in-Named-clause-found : goal.returns-in-Named-clause-found
-returns-in-Named-clause-found c =
-    on_ok c.first_name_errors.result
-    (λ x ls h. named_found (round c.args.around ls) (node_tree c.args.node) (look c.args.walk.now.vars) c.own_of-own.result c.args.walk.now.found c.first_name_errors.new.walk.found (c.own_of-own.ensures ∙ ap own_of c.kind.ensures)
-    (sym c.sort_of.ensures ∙ c.in-Named.is) (x ls h))
-    c.first_name_errors.ensures.found
+pub returns-in-Variables : goal.returns-in-Variables
+returns-in-Variables c =
+    let t = node_tree c.args.node in
+    let kind = sym (c.own_of-own.ensures ∙ ap own_of c.kind.ensures) ∙ is_variables c.own_of-own.result (sym c.sort_of.ensures ∙ c.in-Variables.is) in
+    if_ok c.variable_errors.result _ _ (λ r x ls h. x ls ∙ ap (λ l. sooner (after c.args.found l) (hits (look c.args.vars.now) (vars_of t))) (variables_plain (round c.args.around ls) t kind)) c.variable_errors.ensures
 
-pub returns-in_ok-walk-in-Nameless-clause-found : goal.returns-in_ok-walk-in-Nameless-clause-found
-returns-in_ok-walk-in-Nameless-clause-found c = λ ls h.
-    nameless_found (round c.args.around ls) (node_tree c.args.node) (look c.args.walk.now.vars) c.own_of-own.result c.args.walk.now.found c.in_ok-walk-in-Nameless.field-0 (c.own_of-own.ensures ∙ ap own_of c.kind.ensures)
-    (sym c.sort_of.ensures ∙ c.in-Nameless.is) (c.in_ok-walk-in-Nameless.ensures ls)
+pub returns-in-Named : goal.returns-in-Named
+returns-in-Named c =
+    if_ok c.first_name_errors.result _ _
+    (λ r x ls h. named_found (round c.args.around ls) (node_tree c.args.node) (look c.args.vars.now) c.own_of-own.result c.args.found r (c.own_of-own.ensures ∙ ap own_of c.kind.ensures) (sym c.sort_of.ensures ∙ c.in-Named.is) (x ls h))
+    c.first_name_errors.ensures
+
+pub returns-in-Nameless : goal.returns-in-Nameless
+returns-in-Nameless c =
+    if_ok c.nameless_errors.result _ _
+    (λ r x ls h. nameless_found (round c.args.around ls) (node_tree c.args.node) (look c.args.vars.now) c.own_of-own.result c.args.found r (c.own_of-own.ensures ∙ ap own_of c.kind.ensures) (sym c.sort_of.ensures ∙ c.in-Nameless.is) (x ls))
+    c.nameless_errors.ensures

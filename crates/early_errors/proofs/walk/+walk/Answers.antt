@@ -1,18 +1,18 @@
-use Rattle.std.proofs.Common.{rules, ◌≡◌, ◌-◌, ◌++◌, cond, nat_eq, [], refl, sym, ap, ◌∙◌}
+use Rattle.std.proofs.Common.{◌≡◌, ◌-◌, ◌++◌, cond, nat_eq, [], Some, refl, sym, ap, ◌∙◌}
 use Rattle.std.specs.Prelude.{◌||◌}
 use Rattle.tree.specs.Tree.{parts_of}
 use Rattle.tree.specs.Node.{node_tree}
 use Rattle.early_errors.specs.Around.{own_label}
-use Rattle.early_errors.specs.Owns.{found_of_scope, inside_of, names_of_scope, or_false, round, scope_kind}
+use Rattle.early_errors.specs.Owns.{found_of_scope, inside_of, names_of_scope, round, scope_kind}
 use Rattle.early_errors.specs.Walk.{after, all_named, hits, look, sooner, undone}
 use Rattle.early_errors.specs.Walks.{range_errors, range_vars}
-use Rattle.early_errors.proofs.Insides.{function_facts, method_facts, plain_facts, label_facts, scope_facts, no_own_label, one_label, the_second, known_fits, unknown_fits}
+use Rattle.early_errors.proofs.Insides.{function_facts, method_facts, plain_facts, label_facts, scope_facts, no_own_label, one_label}
 use Rattle.early_errors.proofs.Joining.{from_start, part-turn, part-given, part-missing, first-round, other-round, parts-found, function-found, two-goes, scope-found}
 use Rattle.early_errors.proofs.ScopeErrors.{split_given}
 use Rattle.early_errors.proofs.Results.{on_ok}
-use Rattle.early_errors.proofs.Tables.{undone-agrees}
+use Rattle.early_errors.proofs.Tables.{restored, undone-agrees}
 use Rattle.early_errors.proofs.walk.+walk.Goals as goal
-use Rattle.early_errors.proofs.walk.+walk.Goals.{walk_label-then-part_count-eq2, walk_label-else-part_count-eq2, walk_label-then-is_loop, walk_label-else-is_loop, walk_parts-in-Some+in_ok-walk_node, walk_parts-then-index-eq0, walk_parts-else-index-eq0, walk_parts-in_default}
+use Rattle.early_errors.proofs.walk.+walk.Goals.{walk_parts-in-Some+in_ok-walk_node, walk_parts-then-index-eq0, walk_parts-else-index-eq0, walk_parts-in_default}
 
 pub walk_function-returns-clause-found : goal.walk_function-returns-clause-found
 walk_function-returns-clause-found t c =
@@ -42,44 +42,34 @@ walk_label-returns-in_default-clause-found t c =
     (look c.args.walk.now.vars) c.walk_parts.new.walk.found f.1.1.1 f.1.1.0 (λ w. refl) e (h ls k))
     c.walk_parts.ensures.found
 
-pub walk_label-walk_parts-requires-2 : goal.walk_label-walk_parts-requires-2
-walk_label-walk_parts-requires-2 t c =
-    let t = node_tree c.args.node in (
-      search rules,
-      (
-        elim c.if-part_count-eq2.branch [
-          | walk_label-then-part_count-eq2 w ↦ ap (λ r. r.first.labels_loop) w.rounds-is ∙ c.rounds_of-rounds.ensures.first_unknown
-          | walk_label-else-part_count-eq2 w ↦ ap (λ r. r.first.labels_loop) w.rounds-is ∙ c.rounds_of-rounds.ensures.first_unknown
-        ],
-        λ i u l e. elim c.if-part_count-eq2.branch [
-          | walk_label-then-part_count-eq2 w ↦ known_fits c.if-part_count-eq2.rounds.others u c.label_is_loop-is_loop.result (ap (λ r. r.others.labels_loop) w.rounds-is)
-              (c.label_is_loop-is_loop.ensures (label_facts t (round c.args.around []) [] c.requires.inside).1 ∙ the_second (parts_of t) i u (sym c.part_count-2.ensures ∙ w.if-part_count-eq2.true) l e)
-          | walk_label-else-part_count-eq2 w ↦ unknown_fits c.if-part_count-eq2.rounds.others u (ap (λ r. r.others.labels_loop) w.rounds-is ∙ c.rounds_of-rounds.ensures.others_unknown)
-        ],
-      ),
-    )
+pub walk_label-known_loop-rounds-requires : goal.walk_label-known_loop-rounds-requires
+walk_label-known_loop-rounds-requires t c = c.label_is_loop-is_loop.ensures (label_facts (node_tree c.args.node) (round c.args.around []) [] c.requires.inside).1
 
 pub walk_label-returns-clause-found : goal.walk_label-returns-clause-found
 walk_label-returns-clause-found t c =
-    λ o ls k e.
+    on_ok c.walk_parts-done.result
+    (λ h o ls k e.
     let t = node_tree c.args.node in
     let z = round c.args.around ls in
     let facts = label_facts t z ls c.requires.inside in
     let f = facts.0 in
     let inner = own_label (parts_of t) ls in
-    let rounds = c.if-part_count-eq2.rounds in
-    let first : round rounds.first inner ≡ round c.rounds_of-rounds.result.first inner =
-    elim c.if-part_count-eq2.branch [ walk_label-then-part_count-eq2 w ↦ ap (λ r. round r.first inner) w.rounds-is | walk_label-else-part_count-eq2 w ↦ ap (λ r. round r.first inner) w.rounds-is ] in
-    let others : round rounds.others inner ≡ round c.rounds_of-rounds.result.others inner =
-    elim c.if-part_count-eq2.branch [ walk_label-then-part_count-eq2 w ↦ ap (λ r. round r.others inner) w.rounds-is | walk_label-else-part_count-eq2 w ↦ ap (λ r. round r.others inner) w.rounds-is ] in
-    let after : c.if-is_loop.after ≡ (c.label_is_loop-is_loop.result || or_false c.value-before.result) =
-    elim c.if-is_loop.branch [ walk_label-then-is_loop w ↦ w.after-is ∙ w.if-is_loop.true ∙ ap (λ b. b || or_false c.value-before.result) (sym w.if-is_loop.true) | walk_label-else-is_loop w ↦ w.after-is ∙ w.is_true-after.ensures ∙ ap (λ b. b || or_false c.value-before.result) (sym w.if-is_loop.false) ] in
-    parts-found o c.args.walk.now.found (look c.args.walk.now.vars) z (round rounds.first inner) (round rounds.others inner) t (c.part_count-3.result - 0)
-    (from_start c.part_count-3.result ∙ c.part_count-3.ensures) (first ∙ ap (round c.rounds_of-rounds.result.first) (sym f.0) ∙ c.rounds_of-rounds.ensures.first ls) (others ∙ ap (round c.rounds_of-rounds.result.others) (sym f.1.0) ∙ c.rounds_of-rounds.ensures.others ls)
-    (look c.args.walk.now.vars) c.walk_parts-2.new.walk.found f.1.1.1 f.1.1.0 (λ w. refl) e
-    (c.in_ok-walk_parts.ensures.found inner
-    (one_label (look c.args.walk.now.labels) (look c.replace.new.self) ls (parts_of t) (node_tree c.in-Some.label) c.text-2.result.now c.label_is_loop-is_loop.result c.if-is_loop.after c.value-before.result c.in-Some.ensures c.text-2.ensures
-    (c.label_is_loop-is_loop.ensures facts.1) (c.value-before.ensures ∙ ap (look c.args.walk.now.labels) (c.text.ensures ∙ sym c.text-2.ensures)) after k c.in_ok-replace.ensures.after))
+    let first = c.rounds_of-rounds.result.first in
+    let others = c.rounds_of-rounds.result.others in
+    parts-found o c.args.walk.now.found (look c.args.walk.now.vars) z (round first inner) (round others inner) t (c.part_count-2.result - 0)
+    (from_start c.part_count-2.result ∙ c.part_count-2.ensures) (ap (round first) (sym f.0) ∙ c.rounds_of-rounds.ensures.first ls) (ap (round others) (sym f.1.0) ∙ c.rounds_of-rounds.ensures.others ls)
+    (look c.args.walk.now.vars) c.walk_parts-done.new.walk.found f.1.1.1 f.1.1.0 (λ w. refl) e
+    (h inner
+    (one_label (look c.args.walk.now.labels) (look c.replace.new.self) ls (parts_of t) (node_tree c.in-Some.label) c.text-name.result.now c.label_is_loop-is_loop.result c.either-after.result c.value-before.result c.in-Some.ensures c.text-name.ensures
+    (c.label_is_loop-is_loop.ensures facts.1) c.value-before.ensures (c.either-after.ensures ∙ ap (λ b. c.label_is_loop-is_loop.result || b) c.is_true.ensures) k c.in_ok-replace.ensures.after)))
+    c.walk_parts-done.ensures.found
+
+pub walk_label-returns-clause-labels : goal.walk_label-returns-clause-labels
+walk_label-returns-clause-labels t c =
+    on_ok c.walk_parts-done.result
+    (λ h. restored (look c.args.walk.now.labels) (look c.replace.new.self) (look c.walk_parts-done.new.walk.labels) (look c.replace-2.new.self) c.text-name.result.now c.value-before.result (Some c.either-after.result) c.value-before.ensures
+    c.in_ok-replace.ensures.after h c.in_ok-replace-2.ensures.after)
+    c.walk_parts-done.ensures.labels
 
 pub walk_method-returns-clause-found : goal.walk_method-returns-clause-found
 walk_method-returns-clause-found t c =
@@ -101,17 +91,17 @@ walk_method-returns-clause-found t c =
 pub walk_method-returns-clause-vars : goal.walk_method-returns-clause-vars
 walk_method-returns-clause-vars t c = on_ok c.walk_parts-done.result (λ h w. h w ∙ c.in_ok-walk_parts.ensures.vars w) c.walk_parts-done.ensures.vars
 
-pub walk_node-returns-in-Function-clause-vars : goal.walk_node-returns-in-Function-clause-vars
-walk_node-returns-in-Function-clause-vars t c = on_ok c.walk_function.result (λ h w. h w ∙ ap (λ v. look v w) c.in_ok-own_errors.ensures.vars) c.walk_function.ensures.vars
+pub walk_node-returns-in-Function-clause-found : goal.walk_node-returns-in-Function-clause-found
+walk_node-returns-in-Function-clause-found t c = on_ok c.walk_function.result (λ h ls k. h c.args.walk.now.found ls k (c.in_ok-walk.ensures ls k)) c.walk_function.ensures.found
 
-pub walk_node-returns-in-Method-clause-vars : goal.walk_node-returns-in-Method-clause-vars
-walk_node-returns-in-Method-clause-vars t c = on_ok c.walk_method.result (λ h w. h w ∙ ap (λ v. look v w) c.in_ok-own_errors.ensures.vars) c.walk_method.ensures.vars
+pub walk_node-returns-in-Method-clause-found : goal.walk_node-returns-in-Method-clause-found
+walk_node-returns-in-Method-clause-found t c = on_ok c.walk_method.result (λ h ls k. h c.args.walk.now.found ls k (c.in_ok-walk.ensures ls k)) c.walk_method.ensures.found
 
-pub walk_node-returns-in-Label-clause-vars : goal.walk_node-returns-in-Label-clause-vars
-walk_node-returns-in-Label-clause-vars t c = on_ok c.walk_label.result (λ h w. h w ∙ ap (λ v. look v w) c.in_ok-own_errors.ensures.vars) c.walk_label.ensures.vars
+pub walk_node-returns-in-Label-clause-found : goal.walk_node-returns-in-Label-clause-found
+walk_node-returns-in-Label-clause-found t c = on_ok c.walk_label.result (λ h ls k. h c.args.walk.now.found ls k (c.in_ok-walk.ensures ls k)) c.walk_label.ensures.found
 
-pub walk_node-returns-in-Scope-clause-vars : goal.walk_node-returns-in-Scope-clause-vars
-walk_node-returns-in-Scope-clause-vars t c = on_ok c.walk_scope.result (λ h w. h w ∙ ap (λ v. look v w) c.in_ok-own_errors.ensures.vars) c.walk_scope.ensures.vars
+pub walk_node-returns-in-Scope-clause-found : goal.walk_node-returns-in-Scope-clause-found
+walk_node-returns-in-Scope-clause-found t c = on_ok c.walk_scope.result (λ h ls k. h c.args.walk.now.found ls k (c.in_ok-walk.ensures ls k)) c.walk_scope.ensures.found
 
 pub walk_node-returns-in-Plain-clause-found : goal.walk_node-returns-in-Plain-clause-found
 walk_node-returns-in-Plain-clause-found t c =
@@ -121,14 +111,11 @@ walk_node-returns-in-Plain-clause-found t c =
     let z = round c.args.around ls in
     let kind = (λ i. inside_of (sym c.kind.ensures i) (sym c.flags.ensures i).form) ∙ sym c.inside_of.ensures ∙ c.in-Plain.is in
     let f = plain_facts t z ls kind in
-    parts-found c.args.walk.now.found c.own_errors.new.walk.found (look c.args.walk.now.vars) z (round c.rounds_of.result.first ls) (round c.rounds_of.result.others ls) t (c.part_count.result - 0)
+    parts-found c.args.walk.now.found c.in_ok-walk.field-0 (look c.args.walk.now.vars) z (round c.rounds_of.result.first ls) (round c.rounds_of.result.others ls) t (c.part_count.result - 0)
     (from_start c.part_count.result ∙ c.part_count.ensures) (ap (round c.rounds_of.result.first) (sym f.0) ∙ c.rounds_of.ensures.first ls) (ap (round c.rounds_of.result.others) (sym f.1.0) ∙ c.rounds_of.ensures.others ls)
-    (look c.own_errors.new.walk.vars) c.walk_parts.new.walk.found f.1.1.1 f.1.1.0 (λ w. ap (λ v. look v w) c.in_ok-own_errors.ensures.vars) (c.in_ok-own_errors.ensures.found ls k)
-    (h ls (λ w. ap (λ v. look v w) c.in_ok-own_errors.ensures.labels ∙ k w)))
+    (look c.args.walk.now.vars) c.walk_parts.new.walk.found f.1.1.1 f.1.1.0 (λ w. refl) (c.in_ok-walk.ensures ls k)
+    (h ls k))
     c.walk_parts.ensures.found
-
-pub walk_node-returns-in-Plain-clause-vars : goal.walk_node-returns-in-Plain-clause-vars
-walk_node-returns-in-Plain-clause-vars t c = on_ok c.walk_parts.result (λ h w. h w ∙ ap (λ v. look v w) c.in_ok-own_errors.ensures.vars) c.walk_parts.ensures.vars
 
 pub walk_parts-loop-index-preserved : goal.walk_parts-loop-index-preserved
 walk_parts-loop-index-preserved t c =
@@ -188,6 +175,3 @@ walk_in_scope-returns-clause-vars t c =
     on_ok c.leave.result
     (λ h w. h w ∙ undone-agrees (look c.walk_parts-2.new.walk.vars) (look c.enter.new.clashes) c.enter.new.saved.items c.in_ok-walk_parts-2.ensures.vars w ∙ c.in_ok-enter.ensures.kept w ∙ ap (λ l. undone (look c.walk_parts.new.walk.vars) l w) c.requires.saved ∙ c.in_ok-walk_parts.ensures.vars w)
     c.leave.ensures
-
-pub walk_label-returns-clause-labels : goal.walk_label-returns-clause-labels
-walk_label-returns-clause-labels t c = search rules
