@@ -1,3 +1,4 @@
 pub mod Chained
 pub mod Lengths
+pub mod Operations
 pub mod Ranked

@@ -12,7 +12,7 @@ mod words;
 
 pub use chain::{is_chained, is_link};
 pub use literals::{is_literal, literal_class};
-pub use operators::{is_assignment, is_prefix_operator, is_step};
+pub use operators::{Operation, is_assignment, is_prefix_operator, is_step, operation_of};
 pub use ranks::rank_of;
 pub use symbols::{position_takes, tightness_of};
 pub use targets::{is_pattern, is_target};

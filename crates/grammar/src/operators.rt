@@ -1,8 +1,11 @@
 //! Operators, by their text.
 
-ghost use Rattle.std.specs.Prelude.{◌≡◌};
+ghost use Rattle.std.specs.Prelude.{◌≡◌, true, false};
 ghost use Rattle.language.specs.Words.{is_prefix, is_step as is_step_text, is_assignment as is_assignment_text, operator_of};
+ghost use Rattle.language.specs.Grammar.{standard};
 ghost use Rattle.grammar.specs.Ranks.{binary_symbol, logical_symbol};
+ghost use Rattle.grammar.specs.Operations.{operation_at, logical_operation, plain_symbol, joined_symbol};
+ghost use Rattle.grammar.specs.declared.operators.Operation.TheVariants;
 
 use language::Rank;
 
@@ -33,21 +36,88 @@ pub fn is_prefix_operator(operator: &str) -> bool
     )
 }
 
+/// What an operator between two operands makes.
+#[derive(Clone, Copy)]
+pub enum Operation {
+    /// A node of this symbol, which is that of its left side.
+    Binds {
+        is_logical: bool,
+        own: Rank,
+        right: Rank,
+    },
+    Powers,
+    Other,
+}
+
+/// What an operator makes.
+#[tactic(auto, unfolding(crate::specs::Operations::operation_at))]
+pub fn operation_of(operator: &str) -> Operation
+    ensures { result ≡ operation_at operator.now }
+{
+    match operator {
+        "|" => binary(Rank::BitwiseOr, Rank::BitwiseXor),
+        "^" => binary(Rank::BitwiseXor, Rank::BitwiseAnd),
+        "&" => binary(Rank::BitwiseAnd, Rank::Equality),
+        "==" | "!=" | "===" | "!==" => binary(Rank::Equality, Rank::Relational),
+        "<" | ">" | "<=" | ">=" | "instanceof" | "in" => binary(Rank::Relational, Rank::Shift),
+        "<<" | ">>" | ">>>" => binary(Rank::Shift, Rank::Additive),
+        "+" | "-" => binary(Rank::Additive, Rank::Multiplicative),
+        "*" | "/" | "%" => binary(Rank::Multiplicative, Rank::Exponentiation),
+        "**" => Operation::Powers,
+        _ => logical_operation_of(operator),
+    }
+}
+
+fn binary(own: Rank, right: Rank) -> Operation
+    ensures { result ≡ TheVariants.Binds false own right }
+{
+    Operation::Binds {
+        is_logical: false,
+        own,
+        right,
+    }
+}
+
+/// What a logical operator makes, and `**` and the others nothing.
+fn logical_operation_of(operator: &str) -> Operation
+    ensures { result ≡ logical_operation (operator_of operator.now) }
+{
+    match operator {
+        "??" => logical(Rank::Coalesce, Rank::BitwiseOr),
+        "||" => logical(Rank::LogicalOr, Rank::LogicalAnd),
+        "&&" => logical(Rank::LogicalAnd, Rank::BitwiseOr),
+        _ => Operation::Other,
+    }
+}
+
+fn logical(own: Rank, right: Rank) -> Operation
+    ensures { result ≡ TheVariants.Binds true own right }
+{
+    Operation::Binds {
+        is_logical: true,
+        own,
+        right,
+    }
+}
+
 /// The symbol of the node that a binary operator makes (12.6 to 12.12).
 pub(crate) fn binary_rank(operator: &str) -> Option<Rank>
     ensures { result ≡ binary_symbol (operator_of operator.now) }
 {
-    match operator {
-        "|" => Some(Rank::BitwiseOr),
-        "^" => Some(Rank::BitwiseXor),
-        "&" => Some(Rank::BitwiseAnd),
-        "==" | "!=" | "===" | "!==" => Some(Rank::Equality),
-        "<" | ">" | "<=" | ">=" | "instanceof" | "in" => Some(Rank::Relational),
-        "<<" | ">>" | ">>>" => Some(Rank::Shift),
-        "+" | "-" => Some(Rank::Additive),
-        "*" | "/" | "%" => Some(Rank::Multiplicative),
-        "**" => Some(Rank::Exponentiation),
-        _ => None,
+    plain_symbol(operation_of(operator))
+}
+
+fn plain_symbol(operation: Operation) -> Option<Rank>
+    ensures { result ≡ plain_symbol operation }
+{
+    match operation {
+        Operation::Binds {
+            is_logical: true,
+            ..
+        } => None,
+        Operation::Binds { own, .. } => Some(standard(own)),
+        Operation::Powers => Some(Rank::Exponentiation),
+        Operation::Other => None,
     }
 }
 
@@ -55,10 +125,28 @@ pub(crate) fn binary_rank(operator: &str) -> Option<Rank>
 pub(crate) fn logical_rank(operator: &str) -> Option<Rank>
     ensures { result ≡ logical_symbol (operator_of operator.now) }
 {
-    match operator {
-        "??" => Some(Rank::ShortCircuit),
-        "||" => Some(Rank::LogicalOr),
-        "&&" => Some(Rank::LogicalAnd),
+    joined_symbol(operation_of(operator))
+}
+
+fn joined_symbol(operation: Operation) -> Option<Rank>
+    ensures { result ≡ joined_symbol operation }
+{
+    match operation {
+        Operation::Binds {
+            is_logical: true,
+            own,
+            ..
+        } => Some(standard(own)),
         _ => None,
+    }
+}
+
+/// The symbol at which the left side of `??` stands by itself is that of its node.
+fn standard(symbol: Rank) -> Rank
+    ensures { result ≡ standard symbol }
+{
+    match symbol {
+        Rank::Coalesce => Rank::ShortCircuit,
+        other => other,
     }
 }

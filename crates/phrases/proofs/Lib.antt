@@ -1,5 +1,6 @@
 pub mod Begun
 pub mod Grouping
+pub mod NoOperators
 pub mod Opened
 pub mod Operating
 pub mod Refused

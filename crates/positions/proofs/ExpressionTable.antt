@@ -24,7 +24,7 @@ use Rattle.positions.specs.declared.outline.Front.TheVariants.{Zero, One, Two, T
 use Rattle.positions.specs.declared.outline.Tail.TheVariants as tails
 use Rattle.positions.specs.Outlines.{slot_of, before, tail_slots, opens_at, assignment_at, whole_at, leaf, fronted, lined}
 use Rattle.positions.specs.Entries.{entry_at, text_at, around}
-use Rattle.positions.specs.Operations.{operation, operation_at}
+use Rattle.grammar.specs.Operations.{operation, operation_at}
 use Rattle.positions.specs.Expressions.{kind_at, is_past, expression_outline, selected, joined_outline, binary_outline, logical_outline, function_outline, class_outline, arrow_outline}
 use Rattle.positions.proofs.Named.{named, named-closed}
 use Rattle.positions.proofs.Lists.{arguments-named, object-named, elements-named, parameters-named, chunks-named, sequence-named}

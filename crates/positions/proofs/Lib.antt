@@ -1,6 +1,5 @@
 pub mod Entering
 pub mod Chained
-pub mod Operations
 pub mod Tables
 pub mod Named
 pub mod Points

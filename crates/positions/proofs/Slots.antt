@@ -32,9 +32,9 @@ use Rattle.positions.specs.declared.outline.Front.TheVariants.{Zero, One, Two, T
 use Rattle.positions.specs.declared.outline.Tail as tails
 use Rattle.positions.specs.declared.outline.Tail.TheVariants as tail_of
 use Rattle.positions.specs.declared.outline.Outline.{Outline}
-use Rattle.positions.specs.declared.words.Operation.{Operation}
-use Rattle.positions.specs.declared.words.Operation.TheVariants.{Binds, Powers}
-use Rattle.positions.specs.Operations.{operation, operation_at}
+use Rattle.grammar.specs.declared.operators.Operation.{Operation}
+use Rattle.grammar.specs.declared.operators.Operation.TheVariants.{Binds, Powers}
+use Rattle.grammar.specs.Operations.{operation, operation_at}
 use Rattle.positions.specs.Outlines.{assignment_at, whole_at, slot_of, bound_at, default_at, element_at, argument_at, object_part_at, pattern_part_at, listed_at, tail_at, tail_slots, before, going, part_of_tail, is_before_last, front_before, parts_behind, outline_slots, is_over, skips_gap, may_end}
 use Rattle.positions.specs.Entries.{around}
 use Rattle.positions.specs.Expressions as expressions

@@ -20,9 +20,9 @@ use Rattle.positions.specs.declared.outline.Front.TheVariants.{Zero, One, Two, T
 use Rattle.positions.specs.declared.outline.Tail.{Tail}
 use Rattle.positions.specs.declared.outline.Tail.TheVariants as tail
 use Rattle.positions.specs.declared.outline.Outline.{Outline}
-use Rattle.positions.specs.declared.words.Operation.{Operation}
-use Rattle.positions.specs.declared.words.Operation.TheVariants.{Binds, Powers}
-use Rattle.positions.specs.Operations.{operation_at}
+use Rattle.grammar.specs.declared.operators.Operation.{Operation}
+use Rattle.grammar.specs.declared.operators.Operation.TheVariants.{Binds, Powers}
+use Rattle.grammar.specs.Operations.{operation_at}
 use Rattle.positions.specs.Outlines.{assignment_at, whole_at, leaf, fronted, lined}
 
 -- what stands where among the parts; the texts of the first two; whether the first is part of a chain with a `?.`; whether the

@@ -1,7 +1,6 @@
 pub mod Entries
 pub mod Expressions
 pub mod Outlines
-pub mod Operations
 pub mod Others
 pub mod Statements
 pub mod Positions

@@ -3,16 +3,15 @@
 ghost use Rattle.std.specs.Prelude.{◌≡◌};
 ghost use Rattle.tree.specs.Node.{node_tree};
 ghost use Rattle.tree.specs.Tree.{kind_of, text_of, flags_of, parts_of};
-ghost use Rattle.positions.specs.Operations.{operation_at};
+ghost use Rattle.grammar.specs.Operations.{operation_at};
 ghost use Rattle.positions.specs.Entries.{around};
 ghost use Rattle.positions.specs.Expressions.{expression_outline as outline_of_expression, definition_outline as outline_of_definition, reference_outline as outline_of_reference, operation_outline as outline_of_operation, identifier_outline as outline_of_identifier, literal_outline as outline_of_literal, function_outline as outline_of_function, class_outline as outline_of_class, member_outline as outline_of_member, call_outline as outline_of_call, update_outline as outline_of_update, unary_outline as outline_of_unary, binary_outline as outline_of_binary, logical_outline as outline_of_logical, assignment_outline as outline_of_assignment, kind_at as kind_of_entry, selected as slot_selected, meta_outline as outline_of_meta, chain_outline as outline_of_chain, new_outline as outline_of_new, power_outline as outline_of_power, conditional_outline as outline_of_conditional, sequence_outline as outline_of_sequence, joined_outline as outline_joined, list_outline as outline_of_list, arrow_outline as outline_of_arrow};
 
 use crate::outline::{Front, Opens, Outline, Tail};
 use crate::position::{ASSIGNMENT, Entry, Position, Slot, WHOLE, entry_of, part_text};
-use crate::words::{Operation, operation_of};
 use grammar::{
-    is_assignment, is_chained, is_literal, is_pattern, is_prefix_operator, is_reserved, is_step,
-    is_target,
+    Operation, is_assignment, is_chained, is_literal, is_pattern, is_prefix_operator, is_reserved,
+    is_step, is_target, operation_of,
 };
 use language::{Rank, Start};
 use tree::{Flags, Kind, Node};

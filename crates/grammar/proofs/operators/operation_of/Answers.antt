@@ -1,7 +1,7 @@
 use Rattle.std.proofs.Common.{◌∙◌}
-use Rattle.positions.specs.Operations.{operation_at}
-use Rattle.positions.proofs.Operations.{no_plain}
-use Rattle.positions.proofs.words.operation_of.Goals as goal
+use Rattle.grammar.specs.Operations.{operation_at}
+use Rattle.grammar.proofs.Operations.{no_plain}
+use Rattle.grammar.proofs.operators.operation_of.Goals as goal
 
 pub returns-in_default : goal.returns-in_default
 unfolding operation_at

@@ -1,12 +1,13 @@
 -- What texts make, where they are none of an operator's.
-use Rattle.std.proofs.Common.{◌≡◌, ℕ, Bool, true, false, List, [], ◌∷◌, refl, sym, ◌∙◌}
+use Rattle.std.proofs.Common.{◌≡◌, ◌⊎◌, inl, inr, ℕ, Bool, true, false, List, [], ◌∷◌, refl, sym, ap, ◌∙◌}
 use Rattle.std.specs.Prelude.{cond, codes, ◌||◌}
 use Rattle.std.proofs.lemmas.Slice.Eq.{bytes_eq-Decides}
 use Rattle.std.proofs.lemmas.Bool.{false≢true}
 use Prim.Native.String.{String}
-use Rattle.language.specs.Words.{is, among, Operator, binds, powers, no_operator, operators, operator_among, operator_of}
-use Rattle.positions.specs.declared.words.Operation.TheVariants.{Other}
-use Rattle.positions.specs.Operations.{operation, logical_operation}
+use Rattle.language.specs.Words.{is, among, Operator, binds, powers, no_operator, does_assign, is_assignment, operators, operator_among, operator_of}
+use Rattle.grammar.specs.declared.operators.Operation.TheVariants.{Other}
+use Rattle.grammar.specs.Ranks.{binary_symbol, logical_symbol}
+use Rattle.grammar.specs.Operations.{operation, logical_operation, operation_at, plain_symbol, joined_symbol}
 
 -- the text is none of these
 abbrev pub NoneOf : List ℕ → List String → Type 0
@@ -92,3 +93,50 @@ pub no_logical : (w : List ℕ) → NoneOf w ("??" ∷ []) → NoneOf w ("||" �
 no_logical w a b c =
     as_other (operator_of w) (quiet is_logical w operators
     ((λ x. refl), ((λ x. refl), ((λ x. refl), ((λ x. refl), ((λ x. refl), ((λ x. refl), ((λ x. refl), ((λ x. refl), (unless w ("??" ∷ []) a, (unless w ("||" ∷ []) b, (unless w ("&&" ∷ []) c, ((λ x. refl), ((λ x. refl), ((λ x. refl), ((λ x. refl), ((λ x. refl), ((λ x. refl), ((λ x. refl), ((λ x. refl), ((λ x. refl), ((λ x. refl), refl))))))))))))))))))))))
+
+-- the symbol of a text's node is that of what it makes
+pub plain_same : (w : List ℕ) → plain_symbol (operation_at w) ≡ binary_symbol (operator_of w)
+unfolding operation_at
+plain_same w = of (operator_of w)
+  where
+    of : (o : Operator) → plain_symbol (operation o) ≡ binary_symbol o
+    of (binds false z q) = refl
+    of (binds true z q) = refl
+    of powers = refl
+    of _ = refl
+
+pub joined_same : (w : List ℕ) → joined_symbol (operation_at w) ≡ logical_symbol (operator_of w)
+unfolding operation_at
+joined_same w = of (operator_of w)
+  where
+    of : (o : Operator) → joined_symbol (operation o) ≡ logical_symbol o
+    of (binds true z q) = refl
+    of (binds false z q) = refl
+    of _ = refl
+
+abbrev pub assignments : List String
+assignments = "=" ∷ "+=" ∷ "-=" ∷ "*=" ∷ "/=" ∷ "%=" ∷ "**=" ∷ "<<=" ∷ ">>=" ∷ ">>>=" ∷ "&=" ∷ "|=" ∷ "^=" ∷ []
+
+-- the text is one of these
+abbrev pub OneOf : List ℕ → List String → Type 0
+OneOf w [] = ⊥
+OneOf w (s ∷ []) = w ≡ codes s
+OneOf w (s ∷ (t ∷ ss)) = (w ≡ codes s) ⊎ OneOf w (t ∷ ss)
+
+abbrev Assign : List String → Type 0
+Assign [] = Unit {0}
+Assign (s ∷ ss) = (true ≡ is_assignment (codes s)) × Assign ss
+
+one_assigns : (w : List ℕ) (ss : List String) → OneOf w ss → Assign ss → true ≡ is_assignment w
+one_assigns w [] h a = absurd h
+one_assigns w (s ∷ []) h a = a.0 ∙ ap is_assignment (sym h)
+one_assigns w (s ∷ (t ∷ ss)) (inl e) a = a.0 ∙ ap is_assignment (sym e)
+one_assigns w (s ∷ (t ∷ ss)) (inr h) a = one_assigns w (t ∷ ss) h a.1
+
+pub assigned : (w : List ℕ) → OneOf w assignments → true ≡ is_assignment w
+assigned w h = one_assigns w assignments h (refl, (refl, (refl, (refl, (refl, (refl, (refl, (refl, (refl, (refl, (refl, (refl, (refl, tt)))))))))))))
+
+pub unassigned : (w : List ℕ) → NoneOf w assignments → false ≡ is_assignment w
+unassigned w h =
+    sym (quiet does_assign w operators
+    ((λ x. refl), ((λ x. refl), ((λ x. refl), ((λ x. refl), ((λ x. refl), ((λ x. refl), ((λ x. refl), ((λ x. refl), ((λ x. refl), ((λ x. refl), ((λ x. refl), ((λ x. refl), ((λ x. refl), (unless w assignments h, ((λ x. refl), ((λ x. refl), ((λ x. refl), ((λ x. refl), ((λ x. refl), ((λ x. refl), ((λ x. refl), refl))))))))))))))))))))))
