@@ -43,6 +43,7 @@ pub mod PieceRuns
 pub mod PrefixCores
 pub mod Properties
 pub mod PropertyForms
+pub mod PropertyKinds
 pub mod PropertySteps
 pub mod Restated
 pub mod StatementEnds
