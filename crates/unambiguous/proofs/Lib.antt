@@ -43,7 +43,6 @@ pub mod PieceRuns
 pub mod PrefixCores
 pub mod Properties
 pub mod PropertyForms
-pub mod PropertyKinds
 pub mod PropertySteps
 pub mod Restated
 pub mod StatementEnds

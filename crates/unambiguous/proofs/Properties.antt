@@ -34,7 +34,7 @@ use Rattle.language.proofs.CoverKeys.{KeyFound, key_at_sign, plain_key_found, co
 use Rattle.language.proofs.CoverObjects.{value_as, property_role, pair_found, shorthand_found, initialized_found}
 use Rattle.language.proofs.CoverMethods.{method_found, accessor_found}
 use Rattle.language.proofs.CoverEnds.{a_brace, item_stops, item_marks}
-use Rattle.unambiguous.proofs.PropertyKinds.{InObject, a_spread, a_property, in_object, InPattern, a_rest, a_property_there, in_pattern}
+use Rattle.language.proofs.KindViews.{InObject, a_spread, a_property, in_object, InPattern, a_rest, a_property_there, in_pattern}
 use Rattle.unambiguous.proofs.Unique.{Unique}
 
 dots_bracket : codes "..." ≡ codes "[" → ⊥

@@ -23,7 +23,7 @@ use Rattle.language.proofs.CoverSpreads.{default_no_rest, expression_kind, sprea
 use Rattle.language.proofs.CoverReadings.{named_unbracketed}
 use Rattle.language.proofs.CoverProperties.{flags_as, accessor_word, KeyAt, plain_key, Valued, Short, PropertyAt, by_value, by_name, by_method, by_accessor, PatternPropertyAt, with_value, with_name, with_element, property_at, pattern_property_at}
 use Rattle.language.proofs.CoverKeys.{name_key, echo_form}
-use Rattle.unambiguous.proofs.PropertyKinds.{InObject, a_spread, a_property, in_object, InPattern, a_rest, a_property_there, in_pattern}
+use Rattle.language.proofs.KindViews.{InObject, a_spread, a_property, in_object, InPattern, a_rest, a_property_there, in_pattern}
 
 some_same : {a b : Role} → Some a ≡ Some b → a ≡ b
 some_same e = cc
