@@ -110,7 +110,7 @@ own_node_text TryStatement g st en ps {w = w} h l e = lean_text (bare (node TryS
 own_node_text DebuggerStatement g st en ps {w = w} h l e = lean_text (bare (node DebuggerStatement w g st en ps)) l refl
 own_node_text FunctionDeclaration g st en ps {w = w} h l e = lean_text (bare (node FunctionDeclaration w g st en ps)) l refl
 own_node_text ClassDeclaration g st en ps {w = w} h l e = lean_text (bare (node ClassDeclaration w g st en ps)) l refl
-own_node_text _ g st en ps h l e = cc
+own_node_text _ g st en ps h l e = absurd (false≢true h)
 
 own_flags : (k : Kind) (g : Flags) → is_own (begins_as k) ≡ true → used_flags k g ≡ plain
 own_flags BlockStatement g h = refl
@@ -131,7 +131,7 @@ own_flags TryStatement g h = refl
 own_flags DebuggerStatement g h = refl
 own_flags FunctionDeclaration g h = refl
 own_flags ClassDeclaration g h = refl
-own_flags _ g h = cc
+own_flags _ g h = absurd (false≢true h)
 
 -- the flags of a directive
 abbrev pub directive_flags : Flags
@@ -191,13 +191,17 @@ settled_at as_statement x = refl
 settled_at as_item x = refl
 settled_at as_opening x = refl
 
+abbrev is_object_pattern : Kind → Bool
+is_object_pattern ObjectPattern = true
+is_object_pattern _ = false
+
 module _ (S : Type 0) (Next : S → Token → S → Type 0) (behind : S → Token) (det : IsDetermined S Next behind) where
   -- no pattern of an object begins a statement
   no_object_pattern : {o : ℕ} {c : Bool} {n : Tree} {s e : S} {P : List Pair} → Spells ways S Next behind o (pattern c Statement) n s e P → kind_of n ≡ ObjectPattern → ⊥
   unfolding spellings
   no_object_pattern {c = c} {n = node ObjectPattern w g st en ps} (direct qs h pl d) k = let v = way_of h in
       false≢true (ap (λ x. fits (pattern c Statement) x) (sym (one v.listed)) ∙ v.fit)
-  no_object_pattern {n = node _ w g st en ps} (direct qs h pl d) k = cc
+  no_object_pattern {n = node _ w g st en ps} (direct qs h pl d) k = absurd (false≢true (ap is_object_pattern k))
 
   kind_bare : (n : Tree) (ps : Parts) {k : Kind} → lead_kind (bare_parts (part n ps)) ≡ k → kind_of n ≡ k
   kind_bare (node k w g s e qs) ps h = h

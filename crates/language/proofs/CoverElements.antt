@@ -1,6 +1,7 @@
 -- An element of a pattern, with a default or without: what spells it, and what of it is an expression too (ECMA-262 12.15.5, 13.3.3).
 use Rattle.std.proofs.Common.{◌≡◌, ℕ, Bool, true, false, cond, List, [], ◌∷◌, ◌++◌, refl, sym, ap, ◌∙◌, subst}
 use Rattle.std.specs.Prelude.{IsTrue, Option, Some, None, codes}
+use Rattle.std.proofs.lemmas.Bool.{false≢true}
 use Rattle.tokens.specs.declared.token.Class.TheVariants.{Name, Punctuator}
 use Rattle.tree.specs.declared.kind.Kind.{Kind}
 use Rattle.tree.specs.declared.kind.Kind.TheVariants.{Identifier, MemberExpression, AssignmentExpression, AssignmentPattern}
@@ -44,13 +45,13 @@ some_is e = cc
 
 pub simple_target : (b : Bool) (k : Kind) → is_simple b k ≡ true → is_target k ≡ true
 simple_target true Identifier h = refl
-simple_target true _ h = cc
+simple_target true _ h = absurd (false≢true h)
 simple_target false k h = h
 
 target_no_pattern : (k : Kind) → is_target k ≡ true → is_pattern k ≡ false
 target_no_pattern Identifier h = refl
 target_no_pattern MemberExpression h = refl
-target_no_pattern _ h = cc
+target_no_pattern _ h = absurd (false≢true h)
 
 -- the position of a pattern, of a name and of a simple target
 pattern_bound : (b : Bool) (k : Kind) → is_pattern k ≡ true → bound b k ≡ Some (pattern b Any)
@@ -104,7 +105,7 @@ module _ (S : Type 0) (Next : S → Token → S → Type 0) (behind : S → Toke
       let v = view_of st en way in identifier_moves y y' tk v.made (way_of way).lean pl (retell S Next behind v.is d)
   target_moves {n = node MemberExpression w g st en ps} y y' tk tm tight h (direct qs way pl d) =
       let v = view_of st en way in member_moves y y' tm tight v.made (way_of way).lean pl (retell S Next behind v.is d)
-  target_moves {n = node _ w g st en ps} y y' tk tm tight h (direct qs way pl d) = cc
+  target_moves {n = node _ w g st en ps} y y' tk tm tight h (direct qs way pl d) = absurd (false≢true h)
 
   -- a name, where names are bound; else a simple target
   pub data Simple (b : Bool) (o : ℕ) (l : Tree) (s e : S) (P : List Pair) : Type 0 where

@@ -31,6 +31,7 @@ use Rattle.language.proofs.CoverElements.{BoundForm, a_pattern, a_simple, a_name
 use Rattle.language.proofs.CoverSpreads.{two_texts, spread_form, rest_form}
 use Rattle.language.proofs.CoverReadings.{named_unbracketed}
 use Rattle.language.proofs.CoverProperties.{flags_as, key_pieces, KeyAt, key_runs, Valued, Short, to_expression, PropertyAt, by_value, by_name, by_method, by_accessor, PatternPropertyAt, with_value, with_name, with_element, property_at, pattern_property_at}
+use Rattle.language.proofs.KindViews.{InObject, a_spread, a_property, in_object, InPattern, a_rest, a_property_there, in_pattern}
 use Rattle.language.proofs.KeyWays.{word_key}
 use Rattle.language.proofs.CoverKeys.{Echo, KeyFound, key_at_sign, name_key, echo_form, echo_spells}
 use Rattle.language.proofs.CoverProperties.{plain_key}
@@ -120,13 +121,16 @@ module _ (S : Type 0) (Next : S → Token → S → Type 0) (behind : S → Toke
 
   module _ {s : S} (no_dots : (t : Token) (k : S) → Reads S Next behind Punctuator (codes "...") s t k → ⊥) where
     pub form_as : (a : Reading) {o : ℕ} {r : Role} (n : Tree) {e : S} {P : List Pair} → property_as a (kind_of n) ≡ Some r → Spells ways S Next behind o r n s e P → FormAs a o n s e P
-    form_as as_expression {o} (node SpreadElement w g st en ps) {e} {P} h d = let u = (spread_form S Next behind det (subst (λ z. Spells ways S Next behind o z (node SpreadElement w g st en ps) s e P) (sym (some_same h)) d)).0 in absurd (no_dots u.sign u.x u.reads)
-    form_as as_expression {o} (node Property w g st en ps) {e} {P} h d = property_at S Next behind det (subst (λ z. Spells ways S Next behind o z (node Property w g st en ps) s e P) (sym (some_same h)) d)
-    form_as as_expression (node _ w g st en ps) h d = cc
-    form_as (as_pattern b) {o} (node RestElement w g st en ps) {e} {P} h d =
-        let u = (rest_form S Next behind det (subst (λ z. Spells ways S Next behind o z (node RestElement w g st en ps) s e P) (sym (some_same h)) d)).dotted in absurd (no_dots u.sign u.x u.reads)
-    form_as (as_pattern b) {o} (node Property w g st en ps) {e} {P} h d = pattern_property_at S Next behind det b (subst (λ z. Spells ways S Next behind o z (node Property w g st en ps) s e P) (sym (some_same h)) d)
-    form_as (as_pattern b) (node _ w g st en ps) h d = cc
+    form_as as_expression {o} {r} (node k w g st en ps) {e} {P} h d = of (in_object k h) h d
+      where
+        of : {k : Kind} → InObject k → property_as as_expression k ≡ Some r → Spells ways S Next behind o r (node k w g st en ps) s e P → PropertyAt S Next behind det o (node k w g st en ps) s e P
+        of a_spread h d = let u = (spread_form S Next behind det (subst (λ z. Spells ways S Next behind o z (node SpreadElement w g st en ps) s e P) (sym (some_same h)) d)).0 in absurd (no_dots u.sign u.x u.reads)
+        of a_property h d = property_at S Next behind det (subst (λ z. Spells ways S Next behind o z (node Property w g st en ps) s e P) (sym (some_same h)) d)
+    form_as (as_pattern b) {o} {r} (node k w g st en ps) {e} {P} h d = of (in_pattern b k h) h d
+      where
+        of : {k : Kind} → InPattern k → property_as (as_pattern b) k ≡ Some r → Spells ways S Next behind o r (node k w g st en ps) s e P → PatternPropertyAt S Next behind det b o (node k w g st en ps) s e P
+        of a_rest h d = let u = (rest_form S Next behind det (subst (λ z. Spells ways S Next behind o z (node RestElement w g st en ps) s e P) (sym (some_same h)) d)).dotted in absurd (no_dots u.sign u.x u.reads)
+        of a_property_there h d = pattern_property_at S Next behind det b (subst (λ z. Spells ways S Next behind o z (node Property w g st en ps) s e P) (sym (some_same h)) d)
 
     -- The key that was read, and the sign that stands behind it
     module _ (Ends : S → Type 0) (marks : (e : S) → Ends e → Mark e) {c : Bool} {o : ℕ} {k : S} {nk : Tree} {PK : List Pair} (found : KeyFound S Next behind det c o s k nk PK) where

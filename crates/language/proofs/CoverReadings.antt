@@ -1,6 +1,8 @@
 -- The one fact about a cover, from what was read: each of its readings is found or absent, by its shape (ECMA-262 12.2.10, 12.15.5, 14.2.1).
 use Rattle.std.proofs.Common.{◌≡◌, ℕ, ◌-◌, Bool, true, false, cond, List, [], ◌++◌, refl, sym, ap, ◌∙◌, subst}
 use Rattle.std.specs.Prelude.{IsTrue, Option, Some, None, codes, ◌&&◌, not}
+use Rattle.std.proofs.lemmas.Bool.{false≢true}
+use Rattle.std.proofs.lemmas.Option.{none-some}
 use Rattle.tokens.specs.declared.token.Class.TheVariants.{Name, Punctuator}
 use Rattle.tokens.specs.declared.token.Goal.TheVariants.{Div}
 use Rattle.tokens.specs.Goals.{allows}
@@ -54,7 +56,7 @@ default_kept ObjectExpression w g st en ps qs vs h = kept ObjectPattern w g st e
 default_kept AssignmentExpression w g st en ps qs vs h = ap (λ c. has_default (kind_of c)) (sym (some_trees (unless_so (is w "=") h)))
 default_kept SpreadElement w g st en ps qs vs h = kept RestElement w g st en qs refl (unless_not (is_default (Rattle.language.specs.FirstPart.lead ps)) h)
 default_kept Property w g st en ps qs vs h = kept Property w g st en vs refl (unless_so (has_value g.form) h)
-default_kept _ w g st en ps qs vs h = cc
+default_kept _ w g st en ps qs vs h = absurd (none-some _ h)
 
 -- the pattern's tree is a default's where the cover's is an assignment's
 pub pattern_default_kind : (n : Tree) {m : Tree} → pattern_of n ≡ Some m → has_default (kind_of m) ≡ is_default (kind_of n)
@@ -71,7 +73,7 @@ module _ (S : Type 0) (Next : S → Token → S → Type 0) (behind : S → Toke
   target_same h (grouped p d q) = target_same h d
   target_same {n = node Identifier w g st en ps} h (direct qs way pl d) = pattern_name w g st en ps
   target_same {n = node MemberExpression w g st en ps} h (direct qs way pl d) = pattern_member w g st en ps (member_plain (view_of st en way).made)
-  target_same {n = node _ w g st en ps} h (direct qs way pl d) = cc
+  target_same {n = node _ w g st en ps} h (direct qs way pl d) = absurd (false≢true h)
 
   -- a name and a sign aren't read at one place
   pub name_or_sign : {w w' : List ℕ} {s e e' : S} {t t' : Token} → IsTrue (allows Div Punctuator w') → Reads S Next behind Name w s t e → Reads S Next behind Punctuator w' s t' e' → ⊥

@@ -2,6 +2,7 @@
 use Rattle.std.proofs.Common.{◌≡◌, ℕ, ◌-◌, Bool, true, false, cond, List, [], refl, sym, ap, ◌∙◌, subst, arith}
 use Rattle.std.specs.Prelude.{Option, Some, None, codes, ◌&&◌, not}
 use Rattle.std.proofs.lemmas.Bool.{false≢true}
+use Rattle.std.proofs.lemmas.Option.{none-some}
 use Rattle.tokens.specs.declared.token.Class.TheVariants.{Punctuator}
 use Rattle.tree.specs.declared.kind.Kind.{Kind}
 use Rattle.tree.specs.declared.kind.Kind.TheVariants.{Identifier, MemberExpression, ArrayExpression, ObjectExpression, AssignmentExpression, SpreadElement, Property, ArrayPattern, ObjectPattern, RestElement}
@@ -26,6 +27,7 @@ use Rattle.language.proofs.CoverTrees.{pattern_rest}
 use Rattle.language.proofs.CoverReadings.{name_or_sign, pattern_default_kind, ReadAs, read, not_read}
 use Rattle.language.proofs.CoverProperties.{KeyAt, PropertyAt, by_value, by_name, by_method, by_accessor, PatternPropertyAt, with_value, with_name, with_element, property_at, pattern_property_at}
 use Rattle.language.proofs.CoverKeys.{key_at_sign, echo_form}
+use Rattle.language.proofs.KindViews.{InObject, a_spread, a_property, in_object, InPattern, a_rest, a_property_there, in_pattern}
 
 some_same : {a b : Role} → Some a ≡ Some b → a ≡ b
 some_same e = cc
@@ -62,7 +64,7 @@ pattern_kept ObjectExpression w g st en ps qs vs h = kept ObjectPattern w g st e
 pattern_kept AssignmentExpression w g st en ps qs vs h = ap (λ c. is_pattern (kind_of c)) (sym (some_trees (unless_so (is w "=") h)))
 pattern_kept SpreadElement w g st en ps qs vs h = kept RestElement w g st en false qs refl (unless_not (is_default (Rattle.language.specs.FirstPart.lead ps)) h)
 pattern_kept Property w g st en ps qs vs h = kept Property w g st en false vs refl (unless_so (has_value g.form) h)
-pattern_kept _ w g st en ps qs vs h = cc
+pattern_kept _ w g st en ps qs vs h = absurd (none-some _ h)
 
 -- the pattern's tree is that of a pattern where the cover's is that of an array or an object
 pub pattern_literal_kind : (n : Tree) {m : Tree} → pattern_of n ≡ Some m → is_pattern (kind_of m) ≡ is_literal (kind_of n)
@@ -92,9 +94,11 @@ module _ (S : Type 0) (Next : S → Token → S → Type 0) (behind : S → Toke
   dotted_same d h k = d.tree ∙ same_node refl refl refl (sym d.starts ∙ ap (λ (v : Token). v.start) (same_sign S Next behind det d.reads dots refl).0) (sym d.stops ∙ ap (λ c. (behind c).stop) h) (ap (λ c. part c none) k)
 
   spread_at : {o : ℕ} {a : Role} (n : Tree) {e : S} {P : List Pair} → property_as as_expression (kind_of n) ≡ Some a → Spells ways S Next behind o a n s e P → (u : Dotted S Next behind det SpreadElement o n s e P) × (u.role ≡ expr Assignment true Any)
-  spread_at {o} (node SpreadElement w g st en ps) {e} {P} h d = spread_form S Next behind det (subst (λ z. Spells ways S Next behind o z (node SpreadElement w g st en ps) s e P) (sym (some_same h)) d)
-  spread_at {o} (node Property w g st en ps) {e} {P} h d = absurd (no_property (property_at S Next behind det (subst (λ z. Spells ways S Next behind o z (node Property w g st en ps) s e P) (sym (some_same h)) d)))
-  spread_at (node _ w g st en ps) h d = cc
+  spread_at {o} {a} (node k w g st en ps) {e} {P} h d = of (in_object k h) h d
+    where
+      of : {k : Kind} → InObject k → property_as as_expression k ≡ Some a → Spells ways S Next behind o a (node k w g st en ps) s e P → (u : Dotted S Next behind det SpreadElement o (node k w g st en ps) s e P) × (u.role ≡ expr Assignment true Any)
+      of a_spread h d = spread_form S Next behind det (subst (λ z. Spells ways S Next behind o z (node SpreadElement w g st en ps) s e P) (sym (some_same h)) d)
+      of a_property h d = absurd (no_property (property_at S Next behind det (subst (λ z. Spells ways S Next behind o z (node Property w g st en ps) s e P) (sym (some_same h)) d)))
 
   record Rested (b : Bool) (o : ℕ) (n : Tree) (e : S) (P : List Pair) : Type 0 where
     dotted : Dotted S Next behind det RestElement o n s e P
@@ -103,10 +107,12 @@ module _ (S : Type 0) (Next : S → Token → S → Type 0) (behind : S → Toke
     value : Spells ways S Next behind o dotted.role dotted.inner x e P
 
   rest_at : (b : Bool) {o : ℕ} {a : Role} (n : Tree) {e : S} {P : List Pair} → property_as (as_pattern b) (kind_of n) ≡ Some a → Spells ways S Next behind o a n s e P → Rested b o n e P
-  rest_at b {o} (node RestElement w g st en ps) {e} {P} h d =
-      let u = rest_form S Next behind det (subst (λ z. Spells ways S Next behind o z (node RestElement w g st en ps) s e P) (sym (some_same h)) d) in record { dotted = u.dotted; it_is = u.it_is; simple = u.fits; value = moved u.dotted.reads u.dotted.value }
-  rest_at b {o} (node Property w g st en ps) {e} {P} h d = absurd (no_pattern_property (pattern_property_at S Next behind det b (subst (λ z. Spells ways S Next behind o z (node Property w g st en ps) s e P) (sym (some_same h)) d)))
-  rest_at b (node _ w g st en ps) h d = cc
+  rest_at b {o} {a} (node k w g st en ps) {e} {P} h d = of (in_pattern b k h) h d
+    where
+      of : {k : Kind} → InPattern k → property_as (as_pattern b) k ≡ Some a → Spells ways S Next behind o a (node k w g st en ps) s e P → Rested b o (node k w g st en ps) e P
+      of a_rest h d =
+          let u = rest_form S Next behind det (subst (λ z. Spells ways S Next behind o z (node RestElement w g st en ps) s e P) (sym (some_same h)) d) in record { dotted = u.dotted; it_is = u.it_is; simple = u.fits; value = moved u.dotted.reads u.dotted.value }
+      of a_property_there h d = absurd (no_pattern_property (pattern_property_at S Next behind det b (subst (λ z. Spells ways S Next behind o z (node Property w g st en ps) s e P) (sym (some_same h)) d)))
 
   spread_read : {o : ℕ} {e : S} {n : Tree} {P : List Pair} {c : Bool} → ReadAs S Next behind det o x e n P c → Decided S Next behind Ends (property_as as_expression) o s e (Some (node SpreadElement [] plain t.start (behind e).stop (part n none))) P c
   spread_read (read found) = it_fits refl (record {

@@ -6,6 +6,7 @@ use Rattle.tokens.specs.declared.token.Class.TheVariants.{Punctuator}
 use Rattle.tokens.specs.declared.token.Goal.{Goal}
 use Rattle.tokens.specs.declared.token.Goal.TheVariants.{Div}
 use Rattle.tokens.specs.Goals.{allows}
+use Rattle.tree.specs.declared.kind.Kind.{Kind}
 use Rattle.tree.specs.declared.kind.Kind.TheVariants.{SpreadElement, RestElement, Property}
 use Rattle.tree.specs.declared.kind.Pair.{Pair}
 use Rattle.tree.specs.Tree.{Tree, node, kind_of}
@@ -28,6 +29,7 @@ use Rattle.language.proofs.CoverElements.{Simple, simple_expression, ElementForm
 use Rattle.language.proofs.CoverSpreads.{two_texts, spread_form, rest_form}
 use Rattle.language.proofs.CoverReadings.{name_or_sign}
 use Rattle.language.proofs.CoverProperties.{PropertyAt, by_value, by_name, by_method, by_accessor, PatternPropertyAt, with_value, with_name, with_element, property_at, pattern_property_at}
+use Rattle.language.proofs.KindViews.{InObject, a_spread, a_property, in_object, InPattern, a_rest, a_property_there, in_pattern}
 use Rattle.language.proofs.CoverKeys.{key_at_sign, echo_form}
 
 some_same : {a b : Role} → Some a ≡ Some b → a ≡ b
@@ -111,9 +113,13 @@ module _ (S : Type 0) (Next : S → Token → S → Type 0) (behind : S → Toke
 
   -- nor a part of an object
   pub no_part_begins : (a : Reading) (o : ℕ) (r : Role) (e : S) (n : Tree) (P : List Pair) → property_as a (kind_of n) ≡ Some r → Spells ways S Next behind o r n s e P → ⊥
-  no_part_begins as_expression o r e (node SpreadElement v g st en ps) P h d = no_spread (subst (λ z. Spells ways S Next behind o z (node SpreadElement v g st en ps) s e P) (sym (some_same h)) d)
-  no_part_begins as_expression o r e (node Property v g st en ps) P h d = no_property (property_at S Next behind det (subst (λ z. Spells ways S Next behind o z (node Property v g st en ps) s e P) (sym (some_same h)) d))
-  no_part_begins as_expression o r e (node _ v g st en ps) P h d = cc
-  no_part_begins (as_pattern b) o r e (node RestElement v g st en ps) P h d = no_rest (subst (λ z. Spells ways S Next behind o z (node RestElement v g st en ps) s e P) (sym (some_same h)) d)
-  no_part_begins (as_pattern b) o r e (node Property v g st en ps) P h d = no_pattern_property (pattern_property_at S Next behind det b (subst (λ z. Spells ways S Next behind o z (node Property v g st en ps) s e P) (sym (some_same h)) d))
-  no_part_begins (as_pattern b) o r e (node _ v g st en ps) P h d = cc
+  no_part_begins as_expression o r e (node k v g st en ps) P h d = of (in_object k h) h d
+    where
+      of : {k : Kind} → InObject k → property_as as_expression k ≡ Some r → Spells ways S Next behind o r (node k v g st en ps) s e P → ⊥
+      of a_spread h d = no_spread (subst (λ z. Spells ways S Next behind o z (node SpreadElement v g st en ps) s e P) (sym (some_same h)) d)
+      of a_property h d = no_property (property_at S Next behind det (subst (λ z. Spells ways S Next behind o z (node Property v g st en ps) s e P) (sym (some_same h)) d))
+  no_part_begins (as_pattern b) o r e (node k v g st en ps) P h d = of (in_pattern b k h) h d
+    where
+      of : {k : Kind} → InPattern k → property_as (as_pattern b) k ≡ Some r → Spells ways S Next behind o r (node k v g st en ps) s e P → ⊥
+      of a_rest h d = no_rest (subst (λ z. Spells ways S Next behind o z (node RestElement v g st en ps) s e P) (sym (some_same h)) d)
+      of a_property_there h d = no_pattern_property (pattern_property_at S Next behind det b (subst (λ z. Spells ways S Next behind o z (node Property v g st en ps) s e P) (sym (some_same h)) d))

@@ -27,6 +27,7 @@ use Rattle.language.proofs.Headed.{opens}
 use Rattle.language.proofs.Supers.{none_begins}
 use Rattle.language.proofs.HeadWays.{head_form}
 use Rattle.language.proofs.Stated.{begins_as, behind_own}
+use Rattle.language.proofs.LoopKinds.{LoopKind, a_loop, a_loop_in, a_loop_of, loop_kind}
 use Rattle.language.proofs.CommaLists.{an_item}
 use Rattle.language.proofs.CoverReadings.{name_or_sign}
 use Rattle.language.proofs.ForHeads.{first_role, left_pieces, initial_pieces, behind_initial}
@@ -69,10 +70,12 @@ module _ (S : Type 0) (Next : S → Token → S → Type 0) (behind : S → Toke
   module _ {Fine : Parts → S → Type 0} {o : ℕ} {mid : S} where
     -- the `(`
     pub loop_opened : (r : Bool) (k : Kind) {m : S} {t : Token} → begins_as k ≡ a_for → Reads S Next behind Punctuator (codes "(") mid t m → Sofar S Next behind det Fine o (λ ps. goes_to Expression true Any (behind_own r k (bare_parts ps))) mid (loop_pieces r k) m (λ ps. ps) []
-    loop_opened r ForStatement is h = and_then S Next behind det (lay_on S Next behind det) (token_on S Next behind det Div refl h)
-    loop_opened r ForInStatement is h = and_then S Next behind det (lay_on S Next behind det) (token_on S Next behind det Div refl h)
-    loop_opened r ForOfStatement is h = and_then S Next behind det (lay_on S Next behind det) (token_on S Next behind det Div refl h)
-    loop_opened r _ is h = cc
+    loop_opened r k {m} is h = of (loop_kind k is)
+      where
+        of : {k : Kind} → LoopKind k → Sofar S Next behind det Fine o (λ ps. goes_to Expression true Any (behind_own r k (bare_parts ps))) mid (loop_pieces r k) m (λ ps. ps) []
+        of a_loop = and_then S Next behind det (lay_on S Next behind det) (token_on S Next behind det Div refl h)
+        of a_loop_in = and_then S Next behind det (lay_on S Next behind det) (token_on S Next behind det Div refl h)
+        of a_loop_of = and_then S Next behind det (lay_on S Next behind det) (token_on S Next behind det Div refl h)
 
     -- no first part
     pub initial_missing : (r : Bool) {t : Token} {k : S} → Reads S Next behind Punctuator (codes ";") mid t k → Sofar S Next behind det Fine o (initial_pieces r) mid (behind_initial r) mid gap []

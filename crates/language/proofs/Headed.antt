@@ -102,7 +102,7 @@ module _ (y : Rank) (i : Bool) (f : Start) where
       qs ≡ sub (pattern false f) ∷ between w (expr Assignment i Any) → HeadedWay y i f AssignmentExpression w g ps qs
   of_pattern ArrayPattern l h o e t q = record { opening = _; headed = head_array_pattern refl o e l t q }
   of_pattern ObjectPattern l h o e t q = record { opening = _; headed = head_object_pattern refl o e l t q }
-  of_pattern _ l h o e t q = cc
+  of_pattern _ l h o e t q = absurd (false≢true h)
 
   -- each way that isn't led is one of these
   pub headed_of : {k : Kind} {w : List ℕ} {g : Flags} {ps : Parts} {qs : List (PieceOf Role)} {x : Spelling} → Made k w g ps x → IsTrue (fits (expr y i f) x) → qs ≡ settled (expr y i f) x → is_led qs ≡ false → HeadedWay y i f k w g ps qs

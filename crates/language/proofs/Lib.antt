@@ -1,4 +1,5 @@
 pub mod Alike
+pub mod LoopKinds
 pub mod Looser
 pub mod LowerBound
 pub mod Frame
@@ -125,6 +126,7 @@ pub mod FirstTokens
 pub mod HeadWays
 pub mod PropertyWays
 pub mod KeyWays
+pub mod KindViews
 pub mod TextAlike
 pub mod ItemTokens
 pub mod LineLists

@@ -80,7 +80,7 @@ follow_makes b Name w h = go (is_word_operator w) refl
     go : (x : Bool) → is_word_operator w ≡ x → Makes Name w (cond x (operator_of w) no_operator)
     go false e = makes_nothing
     go true e = among_by (λ v. may_follow b (as_token Name v) ≡ true → Makes Name v (operator_of v)) w ("delete" ∷ "void" ∷ "typeof" ∷ "in" ∷ "instanceof" ∷ []) e
-        ((λ k. makes_nothing), ((λ k. makes_nothing), ((λ k. makes_nothing), ((λ k. cc), ((λ k. cc), tt))))) h
+        ((λ k. makes_nothing), ((λ k. makes_nothing), ((λ k. makes_nothing), ((λ k. absurd (false≢true k)), ((λ k. absurd (false≢true k)), tt))))) h
 follow_makes b Punctuator w h = of (either _ _ h)
   where
     of : (begins_item (as_token Punctuator w) ≡ true) ⊎ ((ends_list (as_token Punctuator w) || false) ≡ true) → MakesOf Punctuator w
@@ -94,7 +94,7 @@ follow_makes b Punctuator w h = of (either _ _ h)
       where
         go : (x : Bool) → among w ("}" ∷ []) ≡ x → ((x || false) || false) ≡ true → MakesOf Punctuator w
         go true e k = among_by (MakesOf Punctuator) w ("}" ∷ []) e (makes_nothing, tt)
-        go false e k = cc
+        go false e k = absurd (false≢true k)
 follow_makes b Number w h = makes_nothing
 follow_makes b Text w h = makes_nothing
 follow_makes b Class.RegExp w h = makes_nothing
@@ -211,14 +211,14 @@ ended_class t h = go t.class h
   where
     go : (c : Class) → is_end (as_token c []) ≡ true → c ≡ End
     go End h = refl
-    go _ h = cc
+    go _ h = absurd (false≢true h)
 
 pub signed_class : (t : Token) → is_sign t ≡ true → t.class ≡ Punctuator
 signed_class t h = go t.class h
   where
     go : (c : Class) → is_sign (as_token c []) ≡ true → c ≡ Punctuator
     go Punctuator h = refl
-    go _ h = cc
+    go _ h = absurd (false≢true h)
 
 not_true : (b : Bool) → not b ≡ true → b ≡ true → ⊥
 not_true true h k = cc

@@ -42,11 +42,11 @@ bracket_end b named h = refl
 bracket_end b valued h = refl
 bracket_end b stated h = refl
 bracket_end b closed h = refl
-bracket_end b fresh h = cc h
-bracket_end b dotted h = cc h
-bracket_end b signed h = cc h
-bracket_end b echoed h = cc h
-bracket_end b broken h = cc h
+bracket_end b fresh h = absurd (false≢true h)
+bracket_end b dotted h = absurd (false≢true h)
+bracket_end b signed h = absurd (false≢true h)
+bracket_end b echoed h = absurd (false≢true h)
+bracket_end b broken h = absurd (false≢true h)
 
 pub list_brace_end : NeatBehind false (sign "}" ∷ [])
 list_brace_end b apart_from h = refl
@@ -55,11 +55,11 @@ list_brace_end b named h = refl
 list_brace_end b valued h = refl
 list_brace_end b stated h = refl
 list_brace_end b closed h = refl
-list_brace_end b fresh h = cc h
-list_brace_end b dotted h = cc h
-list_brace_end b signed h = cc h
-list_brace_end b echoed h = cc h
-list_brace_end b broken h = cc h
+list_brace_end b fresh h = absurd (false≢true h)
+list_brace_end b dotted h = absurd (false≢true h)
+list_brace_end b signed h = absurd (false≢true h)
+list_brace_end b echoed h = absurd (false≢true h)
+list_brace_end b broken h = absurd (false≢true h)
 
 pub close_end : NeatBehind false (sign ")" ∷ [])
 close_end b apart_from h = refl
@@ -68,11 +68,11 @@ close_end b named h = refl
 close_end b valued h = refl
 close_end b stated h = refl
 close_end b closed h = refl
-close_end b fresh h = cc h
-close_end b dotted h = cc h
-close_end b signed h = cc h
-close_end b echoed h = cc h
-close_end b broken h = cc h
+close_end b fresh h = absurd (false≢true h)
+close_end b dotted h = absurd (false≢true h)
+close_end b signed h = absurd (false≢true h)
+close_end b echoed h = absurd (false≢true h)
+close_end b broken h = absurd (false≢true h)
 
 -- behind parameters: the body
 pub body_end : NeatBehind false (sign ")" ∷ sp ∷ put body ∷ [])
@@ -82,11 +82,11 @@ body_end b named h = refl
 body_end b valued h = refl
 body_end b stated h = refl
 body_end b closed h = refl
-body_end b fresh h = cc h
-body_end b dotted h = cc h
-body_end b signed h = cc h
-body_end b echoed h = cc h
-body_end b broken h = cc h
+body_end b fresh h = absurd (false≢true h)
+body_end b dotted h = absurd (false≢true h)
+body_end b signed h = absurd (false≢true h)
+body_end b echoed h = absurd (false≢true h)
+body_end b broken h = absurd (false≢true h)
 
 -- arguments behind a part
 pub neat_arguments : (b : Bool) (s : Touch) (ps : Parts) → is_item_touch s ≡ true → neat b false s (arguments ps) ≡ true
@@ -96,11 +96,11 @@ neat_arguments b named ps h = neat_listed argument neat_argument ps b false soli
 neat_arguments b valued ps h = neat_listed argument neat_argument ps b false solid (sign ")" ∷ []) refl close_end
 neat_arguments b stated ps h = neat_listed argument neat_argument ps b false solid (sign ")" ∷ []) refl close_end
 neat_arguments b closed ps h = neat_listed argument neat_argument ps b false solid (sign ")" ∷ []) refl close_end
-neat_arguments b fresh ps h = cc h
-neat_arguments b dotted ps h = cc h
-neat_arguments b signed ps h = cc h
-neat_arguments b echoed ps h = cc h
-neat_arguments b broken ps h = cc h
+neat_arguments b fresh ps h = absurd (false≢true h)
+neat_arguments b dotted ps h = absurd (false≢true h)
+neat_arguments b signed ps h = absurd (false≢true h)
+neat_arguments b echoed ps h = absurd (false≢true h)
+neat_arguments b broken ps h = absurd (false≢true h)
 
 pub tight_item : (b : Bool) → is_item_touch (cond b valued closed) ≡ true
 tight_item true = refl
@@ -139,11 +139,11 @@ neat_arrow_end o b s g h = of s g.expression h
     of stated false h = refl
     of closed true h = refl
     of closed false h = refl
-    of fresh t h = cc h
-    of dotted t h = cc h
-    of signed t h = cc h
-    of echoed t h = cc h
-    of broken t h = cc h
+    of fresh t h = absurd (false≢true h)
+    of dotted t h = absurd (false≢true h)
+    of signed t h = absurd (false≢true h)
+    of echoed t h = absurd (false≢true h)
+    of broken t h = absurd (false≢true h)
 
 arrow_closed : (g : Flags) → NeatBehind true (close_parameters ∷ arrow_end g)
 arrow_closed g b apart_from h = neat_arrow_end true b solid g refl
@@ -152,11 +152,11 @@ arrow_closed g b named h = neat_arrow_end true b solid g refl
 arrow_closed g b valued h = neat_arrow_end true b solid g refl
 arrow_closed g b stated h = neat_arrow_end true b solid g refl
 arrow_closed g b closed h = neat_arrow_end true b solid g refl
-arrow_closed g b fresh h = cc h
-arrow_closed g b dotted h = cc h
-arrow_closed g b signed h = cc h
-arrow_closed g b echoed h = cc h
-arrow_closed g b broken h = cc h
+arrow_closed g b fresh h = absurd (false≢true h)
+arrow_closed g b dotted h = absurd (false≢true h)
+arrow_closed g b signed h = absurd (false≢true h)
+arrow_closed g b echoed h = absurd (false≢true h)
+arrow_closed g b broken h = absurd (false≢true h)
 
 open_arrow : (b : Bool) (g : Flags) (ps : Parts) → neat b false fresh (open_parameters ∷ parameters (close_parameters ∷ arrow_end g) ps) ≡ true
 open_arrow b g ps = neat_parameters ps b true solid (close_parameters ∷ arrow_end g) refl (arrow_closed g)
@@ -289,7 +289,7 @@ neat_sign : (b : Bool) (w : List ℕ) → is_prefix w ≡ true → is_word_opera
 neat_sign b w h k =
     among_by (λ v. is_word_operator v ≡ false → neat b false fresh (tok Punctuator v ∷ cond (is v "+") (lay (apart 43) ∷ []) (cond (is v "-") (lay (apart 45) ∷ []) []) ++ put (expr Unary true Any) ∷ []) ≡ true)
     w ("delete" ∷ "void" ∷ "typeof" ∷ "+" ∷ "-" ∷ "~" ∷ "!" ∷ []) h
-    ((λ e. cc e), ((λ e. cc e), ((λ e. cc e), ((λ e. refl), ((λ e. refl), ((λ e. refl), ((λ e. refl), tt))))))) k
+    ((λ e. absurd (true≢false e)), ((λ e. absurd (true≢false e)), ((λ e. absurd (true≢false e)), ((λ e. refl), ((λ e. refl), ((λ e. refl), ((λ e. refl), tt))))))) k
 
 neat_assign : (b : Bool) (w : List ℕ) → neat b false fresh (sub (lead LeftHandSide) ∷ infix_pieces w ++ sub (tail Assignment Any) ∷ []) ≡ true
 neat_assign true w = neat_infix true false valued w (sub (tail Assignment Any) ∷ []) refl refl
@@ -381,11 +381,11 @@ neat_member_link b s g h k = of s g.optional g.computed h k
     of stated true false h k = refl
     of closed true true h k = refl
     of closed true false h k = refl
-    of fresh true c h k = cc h
-    of dotted true c h k = cc h
-    of signed true c h k = cc h
-    of echoed true c h k = cc h
-    of broken true c h k = cc h
+    of fresh true c h k = absurd (false≢true h)
+    of dotted true c h k = absurd (false≢true h)
+    of signed true c h k = absurd (false≢true h)
+    of echoed true c h k = absurd (false≢true h)
+    of broken true c h k = absurd (false≢true h)
 
 dotted_call : (ps : Parts) → neat true false dotted (arguments ps) ≡ true
 dotted_call ps = neat_listed argument neat_argument ps true false solid (sign ")" ∷ []) refl close_end
@@ -401,11 +401,11 @@ neat_call_link s g ps h = of s g.optional h
     of valued true h = dotted_call (others ps)
     of stated true h = dotted_call (others ps)
     of closed true h = dotted_call (others ps)
-    of fresh true h = cc h
-    of dotted true h = cc h
-    of signed true h = cc h
-    of echoed true h = cc h
-    of broken true h = cc h
+    of fresh true h = absurd (false≢true h)
+    of dotted true h = absurd (false≢true h)
+    of signed true h = absurd (false≢true h)
+    of echoed true h = absurd (false≢true h)
+    of broken true h = absurd (false≢true h)
 
 neat_linked : (b c : Bool) (ps : Parts) (qs : List Piece) → neat true false closed qs ≡ true → (c ≡ true → (d : Bool) → neat true false (cond d valued closed) qs ≡ true) → Neat b (linked c ps qs)
 neat_linked b c ps qs h k = neat_cond (first_chained ps) (λ e. one h) (λ e. neat_cond c (λ f. one (k f b)) (λ f. no_spelling))

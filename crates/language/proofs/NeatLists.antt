@@ -1,6 +1,7 @@
 -- Lists of parts are neat.
 use Rattle.std.proofs.Common.{◌≡◌, Bool, true, false, cond, ◌&&◌, List, [], ◌∷◌, ◌++◌, refl, sym, ap, ◌∙◌, subst, append_assoc}
 use Rattle.std.specs.Prelude.{codes, Some, None}
+use Rattle.std.proofs.lemmas.Bool.{false≢true}
 use Rattle.tokens.specs.declared.token.Class.TheVariants.{Punctuator}
 use Rattle.tree.specs.declared.kind.Kind.{Kind}
 use Rattle.tree.specs.declared.kind.Kind.TheVariants as kind
@@ -16,15 +17,15 @@ use Rattle.language.proofs.NeatPieces.{Touch, fresh, apart_from, broken, solid, 
 free_touch : (s : Touch) → is_free s ≡ true → is_item_touch s ≡ true
 free_touch apart_from h = refl
 free_touch solid h = refl
-free_touch fresh h = cc h
+free_touch fresh h = absurd (false≢true h)
 free_touch named h = refl
 free_touch valued h = refl
 free_touch stated h = refl
 free_touch closed h = refl
-free_touch dotted h = cc h
-free_touch signed h = cc h
-free_touch echoed h = cc h
-free_touch broken h = cc h
+free_touch dotted h = absurd (false≢true h)
+free_touch signed h = absurd (false≢true h)
+free_touch echoed h = absurd (false≢true h)
+free_touch broken h = absurd (false≢true h)
 
 -- a separator between items, and behind the last
 comma_between : (o : Bool) (k : Kind) (ys : List Piece) → ((b : Bool) → neat b o apart_from ys ≡ true) → NeatBehind o (separator k false ++ ys)
@@ -219,11 +220,11 @@ brace_end b named h = refl
 brace_end b valued h = refl
 brace_end b stated h = refl
 brace_end b closed h = refl
-brace_end b fresh h = cc h
-brace_end b dotted h = cc h
-brace_end b signed h = cc h
-brace_end b echoed h = cc h
-brace_end b broken h = cc h
+brace_end b fresh h = absurd (false≢true h)
+brace_end b dotted h = absurd (false≢true h)
+brace_end b signed h = absurd (false≢true h)
+brace_end b echoed h = absurd (false≢true h)
+brace_end b broken h = absurd (false≢true h)
 
 pub neat_braced : (ps : Parts) (qs : List Piece) → NeatLines false qs → (b : Bool) (s : Touch) → is_loose s ≡ true → neat b false s (braced ps qs) ≡ true
 neat_braced ps qs f b s h = of (is_none ps) s h
@@ -237,12 +238,12 @@ neat_braced ps qs f b s h = of (is_none ps) s h
     of true apart_from h = inner true b solid refl
     of false fresh h = inner false b solid refl
     of false apart_from h = inner false b solid refl
-    of t solid h = cc h
-    of t named h = cc h
-    of t valued h = cc h
-    of t stated h = cc h
-    of t closed h = cc h
-    of t dotted h = cc h
-    of t signed h = cc h
-    of t echoed h = cc h
-    of t broken h = cc h
+    of t solid h = absurd (false≢true h)
+    of t named h = absurd (false≢true h)
+    of t valued h = absurd (false≢true h)
+    of t stated h = absurd (false≢true h)
+    of t closed h = absurd (false≢true h)
+    of t dotted h = absurd (false≢true h)
+    of t signed h = absurd (false≢true h)
+    of t echoed h = absurd (false≢true h)
+    of t broken h = absurd (false≢true h)

@@ -1,7 +1,7 @@
 -- What touches what in a spelling: a test of pieces, from left to right, and that lists of parts pass it.
 use Rattle.std.proofs.Common.{◌≡◌, ℕ, Bool, true, false, cond, not, ◌&&◌, ◌||◌, nat_eq, List, [], ◌∷◌, ◌++◌, refl, ap, ◌∙◌}
 use Rattle.std.specs.Prelude.{nat_le, slice_index_or, codes}
-use Rattle.std.proofs.lemmas.Bool.{and_from}
+use Rattle.std.proofs.lemmas.Bool.{and_from, false≢true}
 use Rattle.tokens.specs.declared.token.Class.{Class}
 use Rattle.tokens.specs.declared.token.Class.TheVariants.{Name, Punctuator, Template}
 use Rattle.tokens.specs.Lexical.{is_one_of_words}
@@ -302,18 +302,18 @@ free_takes : (s : Touch) (x : Sort) → is_free s ≡ true → takes_part s x �
 free_takes apart_from x h = refl
 free_takes solid x h = refl
 free_takes fresh x h = refl
-free_takes named x h = cc h
-free_takes valued x h = cc h
-free_takes stated x h = cc h
-free_takes closed x h = cc h
-free_takes dotted x h = cc h
-free_takes signed x h = cc h
-free_takes echoed x h = cc h
-free_takes broken x h = cc h
+free_takes named x h = absurd (false≢true h)
+free_takes valued x h = absurd (false≢true h)
+free_takes stated x h = absurd (false≢true h)
+free_takes closed x h = absurd (false≢true h)
+free_takes dotted x h = absurd (false≢true h)
+free_takes signed x h = absurd (false≢true h)
+free_takes echoed x h = absurd (false≢true h)
+free_takes broken x h = absurd (false≢true h)
 
 pub item_followed : (x : Sort) (ys : List Piece) → is_item_sort x ≡ true → echo_followed x ys ≡ true
-item_followed an_echo ys h = cc h
-item_followed a_script ys h = cc h
+item_followed an_echo ys h = absurd (false≢true h)
+item_followed a_script ys h = absurd (false≢true h)
 item_followed an_operand ys h = refl
 item_followed a_tight ys h = refl
 item_followed a_name ys h = refl
@@ -328,16 +328,16 @@ pub neat_item : (b o : Bool) (s : Touch) (q : Piece) (ys : List Piece) → is_fr
 neat_item b o s (sub x) ys h k f =
     and_from (takes_part s (slot_sort x)) _ (free_takes s (slot_sort x) h) (and_from (echo_followed (slot_sort x) ys) _ (item_followed (slot_sort x) ys k) (f true (behind_part b (slot_sort x)) (behind_item b (slot_sort x) k)))
 neat_item b o s never ys h k f = refl
-neat_item b o s (tok c w) ys h k f = cc k
-neat_item b o s (may w) ys h k f = cc k
-neat_item b o s (many w) ys h k f = cc k
-neat_item b o s (ahead w) ys h k f = cc k
-neat_item b o s unbroken ys h k f = cc k
-neat_item b o s (ending e) ys h k f = cc k
-neat_item b o s open_parameters ys h k f = cc k
-neat_item b o s close_parameters ys h k f = cc k
-neat_item b o s absent ys h k f = cc k
-neat_item b o s (lay x) ys h k f = cc k
+neat_item b o s (tok c w) ys h k f = absurd (false≢true k)
+neat_item b o s (may w) ys h k f = absurd (false≢true k)
+neat_item b o s (many w) ys h k f = absurd (false≢true k)
+neat_item b o s (ahead w) ys h k f = absurd (false≢true k)
+neat_item b o s unbroken ys h k f = absurd (false≢true k)
+neat_item b o s (ending e) ys h k f = absurd (false≢true k)
+neat_item b o s open_parameters ys h k f = absurd (false≢true k)
+neat_item b o s close_parameters ys h k f = absurd (false≢true k)
+neat_item b o s absent ys h k f = absurd (false≢true k)
+neat_item b o s (lay x) ys h k f = absurd (false≢true k)
 
 pub item_comma : (s : Touch) → is_item_touch s ≡ true → takes_sign s (codes ",") ≡ true
 item_comma apart_from h = refl
@@ -347,10 +347,10 @@ item_comma valued h = refl
 item_comma stated h = refl
 item_comma closed h = refl
 item_comma fresh h = refl
-item_comma dotted h = cc h
-item_comma signed h = cc h
-item_comma echoed h = cc h
-item_comma broken h = cc h
+item_comma dotted h = absurd (false≢true h)
+item_comma signed h = absurd (false≢true h)
+item_comma echoed h = absurd (false≢true h)
+item_comma broken h = absurd (false≢true h)
 
 pub token_comma : (s : Touch) → is_item_touch s ≡ true → takes_token s Punctuator (codes ",") ≡ true
 token_comma apart_from h = refl
@@ -360,10 +360,10 @@ token_comma named h = refl
 token_comma valued h = refl
 token_comma stated h = refl
 token_comma closed h = refl
-token_comma dotted h = cc h
-token_comma signed h = cc h
-token_comma echoed h = cc h
-token_comma broken h = cc h
+token_comma dotted h = absurd (false≢true h)
+token_comma signed h = absurd (false≢true h)
+token_comma echoed h = absurd (false≢true h)
+token_comma broken h = absurd (false≢true h)
 
 -- a separator, before what is neat at an item and behind one
 pub neat_separator : (o : Bool) (k : Kind) (t : Bool) (ys : List Piece) → NeatBehind o ys → NeatBehind o (separator k t ++ ys)
@@ -382,13 +382,13 @@ neat_separator o k false ys f b s h = of (is_rest k)
 pub line_item : (b o : Bool) (q : Piece) (ys : List Piece) → is_item_piece q ≡ true → NeatBehind o ys → neat b o broken (q ∷ ys) ≡ true
 line_item b o (sub x) ys k f = and_from (echo_followed (slot_sort x) ys) _ (item_followed (slot_sort x) ys k) (f true (behind_part b (slot_sort x)) (behind_item b (slot_sort x) k))
 line_item b o never ys k f = refl
-line_item b o (tok c w) ys k f = cc k
-line_item b o (may w) ys k f = cc k
-line_item b o (many w) ys k f = cc k
-line_item b o (ahead w) ys k f = cc k
-line_item b o unbroken ys k f = cc k
-line_item b o (ending e) ys k f = cc k
-line_item b o open_parameters ys k f = cc k
-line_item b o close_parameters ys k f = cc k
-line_item b o absent ys k f = cc k
-line_item b o (lay x) ys k f = cc k
+line_item b o (tok c w) ys k f = absurd (false≢true k)
+line_item b o (may w) ys k f = absurd (false≢true k)
+line_item b o (many w) ys k f = absurd (false≢true k)
+line_item b o (ahead w) ys k f = absurd (false≢true k)
+line_item b o unbroken ys k f = absurd (false≢true k)
+line_item b o (ending e) ys k f = absurd (false≢true k)
+line_item b o open_parameters ys k f = absurd (false≢true k)
+line_item b o close_parameters ys k f = absurd (false≢true k)
+line_item b o absent ys k f = absurd (false≢true k)
+line_item b o (lay x) ys k f = absurd (false≢true k)

@@ -34,11 +34,11 @@ statement_end e b named h = refl
 statement_end e b valued h = refl
 statement_end e b stated h = refl
 statement_end e b closed h = refl
-statement_end e b fresh h = cc h
-statement_end e b dotted h = cc h
-statement_end e b signed h = cc h
-statement_end e b echoed h = cc h
-statement_end e b broken h = cc h
+statement_end e b fresh h = absurd (false≢true h)
+statement_end e b dotted h = absurd (false≢true h)
+statement_end e b signed h = absurd (false≢true h)
+statement_end e b echoed h = absurd (false≢true h)
+statement_end e b broken h = absurd (false≢true h)
 
 neat_declaration : (b : Bool) (w : List ℕ) (a : Role) → is_item_sort (sort_of a) ≡ true → (ps : Parts) (ys : List Piece) → NeatBehind false ys → neat b false fresh (declaration w a ps ++ ys) ≡ true
 neat_declaration b w a h ps ys k = neat_declarators false a h ps b apart_from ys refl k
@@ -75,11 +75,11 @@ semicolon_then qs k b named h = k b
 semicolon_then qs k b valued h = k b
 semicolon_then qs k b stated h = k b
 semicolon_then qs k b closed h = k b
-semicolon_then qs k b fresh h = cc h
-semicolon_then qs k b dotted h = cc h
-semicolon_then qs k b signed h = cc h
-semicolon_then qs k b echoed h = cc h
-semicolon_then qs k b broken h = cc h
+semicolon_then qs k b fresh h = absurd (false≢true h)
+semicolon_then qs k b dotted h = absurd (false≢true h)
+semicolon_then qs k b signed h = absurd (false≢true h)
+semicolon_then qs k b echoed h = absurd (false≢true h)
+semicolon_then qs k b broken h = absurd (false≢true h)
 
 for_end : (r : Bool) → NeatBehind false (sign ")" ∷ sp ∷ put (statement r) ∷ [])
 for_end r b apart_from h = refl
@@ -88,11 +88,11 @@ for_end r b named h = refl
 for_end r b valued h = refl
 for_end r b stated h = refl
 for_end r b closed h = refl
-for_end r b fresh h = cc h
-for_end r b dotted h = cc h
-for_end r b signed h = cc h
-for_end r b echoed h = cc h
-for_end r b broken h = cc h
+for_end r b fresh h = absurd (false≢true h)
+for_end r b dotted h = absurd (false≢true h)
+for_end r b signed h = absurd (false≢true h)
+for_end r b echoed h = absurd (false≢true h)
+for_end r b broken h = absurd (false≢true h)
 
 neat_for : (b r : Bool) (ps qs rs : Parts) → neat b false solid (given ps (put (cond (is_declaration (lead_kind ps)) (head true) (expr Expression false Any)) ∷ []) ++ (sign ";" ∷ (given qs (sp ∷ whole ∷ []) ++ (sign ";" ∷ (given rs (sp ∷ whole ∷ []) ++ (sign ")" ∷ sp ∷ put (statement r) ∷ [])))))) ≡ true
 neat_for b r ps qs rs =
@@ -126,11 +126,11 @@ for_word w a r i b named h = neat_item b false apart_from (put a) (sign ")" ∷ 
 for_word w a r i b valued h = neat_item b false apart_from (put a) (sign ")" ∷ sp ∷ put (statement r) ∷ []) refl i (for_end r)
 for_word w a r i b stated h = neat_item b false apart_from (put a) (sign ")" ∷ sp ∷ put (statement r) ∷ []) refl i (for_end r)
 for_word w a r i b closed h = neat_item b false apart_from (put a) (sign ")" ∷ sp ∷ put (statement r) ∷ []) refl i (for_end r)
-for_word w a r i b fresh h = cc h
-for_word w a r i b dotted h = cc h
-for_word w a r i b signed h = cc h
-for_word w a r i b echoed h = cc h
-for_word w a r i b broken h = cc h
+for_word w a r i b fresh h = absurd (false≢true h)
+for_word w a r i b dotted h = absurd (false≢true h)
+for_word w a r i b signed h = absurd (false≢true h)
+for_word w a r i b echoed h = absurd (false≢true h)
+for_word w a r i b broken h = absurd (false≢true h)
 
 -- statements
 
@@ -236,11 +236,11 @@ before_default b named h = refl
 before_default b valued h = refl
 before_default b stated h = refl
 before_default b closed h = refl
-before_default b fresh h = cc h
-before_default b dotted h = cc h
-before_default b signed h = cc h
-before_default b echoed h = cc h
-before_default b broken h = cc h
+before_default b fresh h = absurd (false≢true h)
+before_default b dotted h = absurd (false≢true h)
+before_default b signed h = absurd (false≢true h)
+before_default b echoed h = absurd (false≢true h)
+before_default b broken h = absurd (false≢true h)
 
 before_value : (i : Bool) → NeatBehind false (sp ∷ sign "=" ∷ sp ∷ put (expr Assignment i Any) ∷ [])
 before_value i b apart_from h = refl
@@ -249,11 +249,11 @@ before_value i b named h = refl
 before_value i b valued h = refl
 before_value i b stated h = refl
 before_value i b closed h = refl
-before_value i b fresh h = cc h
-before_value i b dotted h = cc h
-before_value i b signed h = cc h
-before_value i b echoed h = cc h
-before_value i b broken h = cc h
+before_value i b fresh h = absurd (false≢true h)
+before_value i b dotted h = absurd (false≢true h)
+before_value i b signed h = absurd (false≢true h)
+before_value i b echoed h = absurd (false≢true h)
+before_value i b broken h = absurd (false≢true h)
 
 neat_only_at : (b : Bool) (a : Option Role) (qs : List Piece) → is_item_piece (put_at a) ≡ true → NeatBehind false qs → Neat b (only_at a qs)
 neat_only_at b (Some a) qs h k = one (and_from (echo_followed (sort_of a) qs) _ (item_followed (sort_of a) qs h) (k true (behind_part b (sort_of a)) (Rattle.language.proofs.NeatPieces.behind_item b (sort_of a) h)))
@@ -285,11 +285,11 @@ neat_handlers b r kind.CatchClause (part p ps) = one (neat_item b false solid (p
     block_end r b valued h = refl
     block_end r b stated h = refl
     block_end r b closed h = refl
-    block_end r b fresh h = cc h
-    block_end r b dotted h = cc h
-    block_end r b signed h = cc h
-    block_end r b echoed h = cc h
-    block_end r b broken h = cc h
+    block_end r b fresh h = absurd (false≢true h)
+    block_end r b dotted h = absurd (false≢true h)
+    block_end r b signed h = absurd (false≢true h)
+    block_end r b echoed h = absurd (false≢true h)
+    block_end r b broken h = absurd (false≢true h)
 neat_handlers b r kind.CatchClause (gap ps) = one refl
 neat_handlers b r _ ps = no_spelling
 

@@ -1,5 +1,6 @@
 -- A statement or declaration whose first token is its own: from what stands behind that token to the statement.
 use Rattle.std.proofs.Common.{◌≡◌, ℕ, Bool, true, false, cond, List, [], ◌∷◌, ◌++◌, refl, sym, ap, ◌∙◌, subst, ◌⊎◌, inl, inr}
+use Rattle.std.proofs.lemmas.Bool.{false≢true}
 use Prim.Native.String.{String}
 use Rattle.tokens.specs.declared.token.Class.{Class}
 use Rattle.tokens.specs.declared.token.Class.TheVariants.{Name, Punctuator}
@@ -23,6 +24,7 @@ use Rattle.language.proofs.Domination.{settled, fits}
 use Rattle.language.proofs.Begins.{Each, among_by, goes_to, retell}
 use Rattle.language.proofs.Productions.{way_from, runs_can}
 use Rattle.language.proofs.Stated.{begins_as, own_class, own_text, may_stand, behind_own, own_pieces, Stands, as_statement, as_item, as_opening, own_listed}
+use Rattle.language.proofs.LoopKinds.{LoopKind, a_loop, a_loop_in, a_loop_of, loop_kind}
 use Rattle.language.proofs.Beginnings.{text_as, settled_at, OwnWay, own_way}
 use Rattle.language.proofs.Sole.{Sole}
 
@@ -65,7 +67,7 @@ only_kind TryStatement h f = refl
 only_kind DebuggerStatement h f = refl
 only_kind FunctionDeclaration h f = refl
 only_kind ClassDeclaration h f = refl
-only_kind _ h f = cc
+only_kind _ h f = absurd (false≢true h)
 
 kind_again : (b : Beginning) → is_own b ≡ true → begins_as (kind_as b) ≡ b
 kind_again a_block h = refl
@@ -219,19 +221,18 @@ token_begun d r Punctuator w = by_row (Row d r Punctuator) w statement_signs non
 token_begun d r _ w = none_begun
 
 same_loop : (j k : Kind) → begins_as j ≡ a_for → begins_as k ≡ a_for → (j ≡ k) ⊎ (j ≡ k → ⊥)
-same_loop ForStatement ForStatement h i = inl refl
-same_loop ForStatement ForInStatement h i = inr (λ e. cc)
-same_loop ForStatement ForOfStatement h i = inr (λ e. cc)
-same_loop ForStatement _ h i = cc
-same_loop ForInStatement ForStatement h i = inr (λ e. cc)
-same_loop ForInStatement ForInStatement h i = inl refl
-same_loop ForInStatement ForOfStatement h i = inr (λ e. cc)
-same_loop ForInStatement _ h i = cc
-same_loop ForOfStatement ForStatement h i = inr (λ e. cc)
-same_loop ForOfStatement ForInStatement h i = inr (λ e. cc)
-same_loop ForOfStatement ForOfStatement h i = inl refl
-same_loop ForOfStatement _ h i = cc
-same_loop _ k h i = cc
+same_loop j k h i = of (loop_kind j h) (loop_kind k i)
+  where
+    of : {j k : Kind} → LoopKind j → LoopKind k → (j ≡ k) ⊎ (j ≡ k → ⊥)
+    of a_loop a_loop = inl refl
+    of a_loop a_loop_in = inr (λ e. cc)
+    of a_loop a_loop_of = inr (λ e. cc)
+    of a_loop_in a_loop = inr (λ e. cc)
+    of a_loop_in a_loop_in = inl refl
+    of a_loop_in a_loop_of = inr (λ e. cc)
+    of a_loop_of a_loop = inr (λ e. cc)
+    of a_loop_of a_loop_in = inr (λ e. cc)
+    of a_loop_of a_loop_of = inl refl
 
 own_lean : (k : Kind) (w : List ℕ) (st en : ℕ) (ps : Parts) → is_own (begins_as k) ≡ true → is_lean (bare (node k (text_as (begins_as k) w) plain st en ps)) ≡ true
 own_lean BlockStatement w st en ps h = refl
@@ -252,7 +253,7 @@ own_lean TryStatement w st en ps h = refl
 own_lean DebuggerStatement w st en ps h = refl
 own_lean FunctionDeclaration w st en ps h = refl
 own_lean ClassDeclaration w st en ps h = refl
-own_lean _ w st en ps h = cc
+own_lean _ w st en ps h = absurd (false≢true h)
 
 -- a statement has the span of its tokens
 pub statement_spans : {a : Role} {p d r : Bool} → Stands a p d r → (t l : Token) → place a t l ≡ (t.start, l.stop)

@@ -1,6 +1,7 @@
 -- The view of the table of statements and declarations: those whose first token is their own, by their kind; labels, expressions, directives.
 use Rattle.std.proofs.Common.{◌≡◌, ℕ, Bool, true, false, cond, List, [], ◌∷◌, ◌++◌, refl, ap}
 use Rattle.std.specs.Prelude.{codes, nat_le, ◌||◌}
+use Rattle.std.proofs.lemmas.Bool.{false≢true}
 use Rattle.tokens.specs.declared.token.Class.{Class}
 use Rattle.tokens.specs.declared.token.Class.TheVariants.{Name, Punctuator}
 use Rattle.tree.specs.declared.kind.Kind.{Kind}
@@ -291,7 +292,7 @@ module _ (r : Bool) (w : List ℕ) (g : Flags) where
           Among (at Primary (term "if" ∷ cond b nothing (condition r (sp ∷ term "else" ∷ sp ∷ put (statement r) ∷ [])))) (cond b [] (only (term "if" ∷ condition r (sp ∷ term "else" ∷ sp ∷ put (statement r) ∷ []))))
       of true c = cc
       of false c = first
-  own_statement IfStatement _ h m c = cc
+  own_statement IfStatement _ h m c = absurd (false≢true c)
   own_statement DoWhileStatement ps h m c = first
   own_statement WhileStatement ps h m c = first
   own_statement ForStatement ps h m c = first
@@ -310,9 +311,11 @@ module _ (r : Bool) (w : List ℕ) (g : Flags) where
   own_statement TryStatement (part b (part h (gap none))) i m c = first
   own_statement TryStatement (part b (part h (part f none))) i m c = first
   own_statement TryStatement (part b (gap (part f none))) i m c = first
-  own_statement TryStatement _ i m c = cc
+  own_statement TryStatement _ i m c = absurd (false≢true c)
   own_statement DebuggerStatement ps h m c = first
-  own_statement _ ps h m c = cc
+  own_statement FunctionDeclaration ps h m c = absurd (false≢true m)
+  own_statement ClassDeclaration ps h m c = absurd (false≢true m)
+  own_statement _ ps h m c = absurd (false≢true h)
 
   own_item : (k : Kind) (ps : Parts) → is_own (begins_as k) ≡ true → may_stand true r (begins_as k) w ≡ true → can_run (own_pieces r k w ps) ≡ true → Among (at Primary (own_pieces r k w ps)) (items r k w g ps)
   unfolding items
@@ -328,7 +331,7 @@ module _ (r : Bool) (w : List ℕ) (g : Flags) where
 
   own_opening : (k : Kind) (ps : Parts) → is_own (begins_as k) ≡ true → may_stand true r (begins_as k) w ≡ true → can_run (own_pieces r k w ps) ≡ true → Among (at Primary (own_pieces r k w ps)) (openings r k w g ps)
   unfolding openings
-  own_opening ExpressionStatement ps h m c = cc
+  own_opening ExpressionStatement ps h m c = absurd (false≢true h)
   own_opening k ps h m c = own_item k ps h m c
 
 -- at its position

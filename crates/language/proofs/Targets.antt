@@ -105,6 +105,10 @@ other_edge : {f : Start} {a : Opening} {K L : Kind} {pieces : Parts → List (Pi
 other_edge st en ps by_bracket = refl
 other_edge st en ps (by_brace b) = refl
 
+abbrev is_object_pattern : Kind → Bool
+is_object_pattern ObjectPattern = true
+is_object_pattern _ = false
+
 module _ (S : Type 0) (Next : S → Token → S → Type 0) (behind : S → Token) where
   -- all that spells it here ends at one place
   abbrev pub EndsAt : Role → S → S → Type 0
@@ -157,7 +161,7 @@ module _ (S : Type 0) (Next : S → Token → S → Type 0) (behind : S → Toke
   pub object_starts : {o : ℕ} {b : Bool} {f : Start} {n : Tree} {s e : S} {P : List Pair} → Spells ways S Next behind o (pattern b f) n s e P → kind_of n ≡ ObjectPattern → IsTrue (starts f (sign "{" ∷ []))
   unfolding spellings
   object_starts {f = f} {n = node ObjectPattern w g st en ps} (direct qs h pl d) k = let v = way_of h in first_starts f _ (subst (λ x. IsTrue (starts f x.pieces)) (one v.listed) (and_parts _ _ v.fit).0)
-  object_starts {n = node _ w g st en ps} (direct qs h pl d) k = cc
+  object_starts {n = node _ w g st en ps} (direct qs h pl d) k = absurd (false≢true (ap is_object_pattern k))
 
 module _ (S : Type 0) (Next : S → Token → S → Type 0) (behind : S → Token) (det : IsDetermined S Next behind) where
   -- A sign behind a leftmost part, whose symbol the position takes, goes on with it.

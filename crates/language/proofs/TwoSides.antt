@@ -64,8 +64,8 @@ record TwoLed (y : Rank) (i : Bool) (k : Kind) (w : List ℕ) (ps : Parts) (h : 
 
 two_led : {y : Rank} {i : Bool} {f : Start} {k : Kind} {w : List ℕ} {g : Flags} {ps : Parts} {h : Rank} {j : Bool} {f' : Start} {rest : List (PieceOf Role)} {x : Operator} {K : Kind} {a z q : Rank} {b : Bool} →
     TwoSided x K a z q b → Led y i f k w g ps (expr h j f') rest x → TwoLed y i k w ps h rest x K a z q b
-two_led two_binds (led_binary k op tk im b e) = record { kind = k; head = rank_is b; stands = tk; target = λ c. cc; rest_is = e }
-two_led two_powers (led_power k op tk b e) = record { kind = k; head = rank_is b; stands = tk; target = λ c. cc; rest_is = e }
+two_led two_binds (led_binary k op tk im b e) = record { kind = k; head = rank_is b; stands = tk; target = λ c. absurd (false≢true c); rest_is = e }
+two_led two_powers (led_power k op tk b e) = record { kind = k; head = rank_is b; stands = tk; target = λ c. absurd (false≢true c); rest_is = e }
 two_led two_assigns (led_assign k op ta tk b e) = record { kind = k; head = rank_is b; stands = tk; target = λ c. ta; rest_is = e }
 
 two_symbol : {x : Operator} {K : Kind} {a z q : Rank} {b : Bool} → (n : Bool) → TwoSided x K a z q b → symbol_of x n ≡ Some z

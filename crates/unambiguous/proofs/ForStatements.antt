@@ -29,6 +29,7 @@ use Rattle.language.proofs.Beginnings.{own_way}
 use Rattle.language.proofs.OwnWays.{for_sole}
 use Rattle.language.proofs.Sole.{sole_found}
 use Rattle.language.proofs.Stated.{as_statement, begins_as, behind_own}
+use Rattle.language.proofs.LoopKinds.{LoopKind, a_loop, a_loop_in, a_loop_of, loop_kind}
 use Rattle.language.proofs.ForHeads.{left_pieces, initial_pieces, Worded, Parted}
 use Rattle.unambiguous.proofs.Unique.{Unique, StatementStep}
 use Rattle.unambiguous.proofs.Restated.{found_as}
@@ -111,9 +112,9 @@ module _ (S : Type 0) (Next : S → Token → S → Type 0) (behind : S → Toke
       (i3.0, b.parts ∙ (λ j. i0.1 j (i1.1 j (i2.1 j (part (i3.1 j) none)))) ∙ sym a.parts, b.pairs ∙ (λ j. i0.2 j ++ (i1.2 j ++ (i2.2 j ++ i3.2 j))) ∙ sym a.pairs)
 
   -- behind the word
-  loop_found : (r : Bool) (c : Kind) {o : ℕ} {ps : Parts} {m e : S} {P : List Pair} → begins_as c ≡ a_for → parts_height ps ≤ h → Runs ways S Next behind o (goes_to Expression true Any (behind_own r c (bare_parts ps))) ps m e P → Finished S Next behind (node c [] plain 0 0 ps) e →
+  found_by : (r : Bool) {c : Kind} {o : ℕ} {ps : Parts} {m e : S} {P : List Pair} → LoopKind c → parts_height ps ≤ h → Runs ways S Next behind o (goes_to Expression true Any (behind_own r c (bare_parts ps))) ps m e P → Finished S Next behind (node c [] plain 0 0 ps) e →
       FoundPartsWhere S Next behind (λ ps e. Finished S Next behind (node c [] plain 0 0 ps) e) o (λ ps. goes_to Expression true Any (behind_own r c (bare_parts ps))) m e ps P
-  loop_found r ForStatement {o} {ps} {m} {e} {P} loop low d fine = record { runs = d; only = λ o' e' ps' P' d' fine'. of ps' d' fine' }
+  found_by r {o} {ps} {m} {e} {P} a_loop low d fine = record { runs = d; only = λ o' e' ps' P' d' fine'. of ps' d' fine' }
     where
       of : {o' : ℕ} {e' : S} (ps' : Parts) {P' : List Pair} → Runs ways S Next behind o' (goes_to Expression true Any (behind_own r ForStatement (bare_parts ps'))) ps' m e' P' → Finished S Next behind (node ForStatement [] plain 0 0 ps') e' → (e' ≡ e) × (ps' ≡ ps) × (P' ≡ P)
       of {o'} {e'} ps' {P'} d' fine' =
@@ -121,7 +122,7 @@ module _ (S : Type 0) (Next : S → Token → S → Type 0) (behind : S → Toke
           let b = run_token S Next behind (run_laid S Next behind d') in
           let same = (same_sign S Next behind det b.reads a.reads refl).1 in
           test_parts low (test_loop S Next behind det {r = r} ps a.runs) fine (test_loop S Next behind det {r = r} ps' (subst (λ v. Runs ways S Next behind o' (initial_pieces r ps') ps' v e' P') same b.runs)) fine'
-  loop_found r ForInStatement {o} {ps} {m} {e} {P} loop low d fine = record { runs = d; only = λ o' e' ps' P' d' fine'. of ps' d' fine' }
+  found_by r {o} {ps} {m} {e} {P} a_loop_in low d fine = record { runs = d; only = λ o' e' ps' P' d' fine'. of ps' d' fine' }
     where
       of : {o' : ℕ} {e' : S} (ps' : Parts) {P' : List Pair} → Runs ways S Next behind o' (goes_to Expression true Any (behind_own r ForInStatement (bare_parts ps'))) ps' m e' P' → Finished S Next behind (node ForInStatement [] plain 0 0 ps') e' → (e' ≡ e) × (ps' ≡ ps) × (P' ≡ P)
       of {o'} {e'} ps' {P'} d' fine' =
@@ -130,7 +131,7 @@ module _ (S : Type 0) (Next : S → Token → S → Type 0) (behind : S → Toke
           let same = (same_sign S Next behind det b.reads a.reads refl).1 in
           left_parts (λ z. cc) (λ z. cc) (λ k w. at_in w) low (left_loop S Next behind det {w = codes "in"} {y = Expression} {r = r} ps a.runs) fine
           (left_loop S Next behind det {w = codes "in"} {y = Expression} {r = r} ps' (subst (λ v. Runs ways S Next behind o' (left_pieces r (codes "in") (put (expr Expression true Any)) ps') ps' v e' P') same b.runs)) fine'
-  loop_found r ForOfStatement {o} {ps} {m} {e} {P} loop low d fine = record { runs = d; only = λ o' e' ps' P' d' fine'. of ps' d' fine' }
+  found_by r {o} {ps} {m} {e} {P} a_loop_of low d fine = record { runs = d; only = λ o' e' ps' P' d' fine'. of ps' d' fine' }
     where
       of : {o' : ℕ} {e' : S} (ps' : Parts) {P' : List Pair} → Runs ways S Next behind o' (goes_to Expression true Any (behind_own r ForOfStatement (bare_parts ps'))) ps' m e' P' → Finished S Next behind (node ForOfStatement [] plain 0 0 ps') e' → (e' ≡ e) × (ps' ≡ ps) × (P' ≡ P)
       of {o'} {e'} ps' {P'} d' fine' =
@@ -139,7 +140,10 @@ module _ (S : Type 0) (Next : S → Token → S → Type 0) (behind : S → Toke
           let same = (same_sign S Next behind det b.reads a.reads refl).1 in
           left_parts (λ z. cc) (λ z. cc) (λ k w. at_of w) low (left_loop S Next behind det {w = codes "of"} {y = Assignment} {r = r} ps a.runs) fine
           (left_loop S Next behind det {w = codes "of"} {y = Assignment} {r = r} ps' (subst (λ v. Runs ways S Next behind o' (left_pieces r (codes "of") (put (expr Assignment true Any)) ps') ps' v e' P') same b.runs)) fine'
-  loop_found r _ loop low d fine = cc
+
+  loop_found : (r : Bool) (c : Kind) {o : ℕ} {ps : Parts} {m e : S} {P : List Pair} → begins_as c ≡ a_for → parts_height ps ≤ h → Runs ways S Next behind o (goes_to Expression true Any (behind_own r c (bare_parts ps))) ps m e P → Finished S Next behind (node c [] plain 0 0 ps) e →
+      FoundPartsWhere S Next behind (λ ps e. Finished S Next behind (node c [] plain 0 0 ps) e) o (λ ps. goes_to Expression true Any (behind_own r c (bare_parts ps))) m e ps P
+  loop_found r c loop low d fine = found_by r (loop_kind c loop) low d fine
 
   -- a `for`
   pub for_statement : StatementStep S Next behind det h a_for

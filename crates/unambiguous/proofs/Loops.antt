@@ -26,6 +26,7 @@ use Rattle.language.proofs.Running.{run_token, run_laid, run_never, run_the_part
 use Rattle.language.proofs.CommaLists.{an_item}
 use Rattle.language.proofs.CoverReadings.{name_or_sign}
 use Rattle.language.proofs.Stated.{begins_as, behind_own}
+use Rattle.language.proofs.LoopKinds.{LoopKind, a_loop, a_loop_in, a_loop_of, loop_kind}
 use Rattle.language.proofs.ForHeads.{first_role, left_role, left_pieces, initial_pieces, Worded, Parted}
 use Rattle.language.proofs.ForLoops.{test_pieces, behind_test, behind_update}
 use Rattle.unambiguous.proofs.Tries.{two_words, last_part}
@@ -290,8 +291,10 @@ module _ (S : Type 0) (Next : S → Token → S → Type 0) (behind : S → Toke
       of {m = m} {t = t} (a_first d) r low = headed (omega arith) (of_first S Next behind det d) (semicolon_token (record { sign = t; mid = m; reads = r }))
       of {m = m} {t = t} no_first r low = unheaded refl (record { sign = t; mid = m; reads = r })
 
+  begins_by : (r : Bool) {o : ℕ} {c : Kind} {ps : Parts} {s e : S} {P : List Pair} → LoopKind c → Runs ways S Next behind o (goes_to Expression true Any (behind_own r c (bare_parts ps))) ps s e P → LoopBegins c (parts_height ps) o s
+  begins_by r {ps} a_loop d = let a = run_token S Next behind (run_laid S Next behind d) in record { sign = a.sign; mid = a.mid; reads = a.reads; begins = test_head (test_loop ps a.runs) }
+  begins_by r {ps} a_loop_in d = let a = run_token S Next behind (run_laid S Next behind d) in record { sign = a.sign; mid = a.mid; reads = a.reads; begins = left_head (λ k w. in_token w) (left_loop {y = Expression} ps a.runs) }
+  begins_by r {ps} a_loop_of d = let a = run_token S Next behind (run_laid S Next behind d) in record { sign = a.sign; mid = a.mid; reads = a.reads; begins = left_head (λ k w. of_token w) (left_loop {y = Assignment} ps a.runs) }
+
   pub loop_begins : (r : Bool) {o : ℕ} (c : Kind) {ps : Parts} {s e : S} {P : List Pair} → begins_as c ≡ a_for → Runs ways S Next behind o (goes_to Expression true Any (behind_own r c (bare_parts ps))) ps s e P → LoopBegins c (parts_height ps) o s
-  loop_begins r ForStatement {ps} loop d = let a = run_token S Next behind (run_laid S Next behind d) in record { sign = a.sign; mid = a.mid; reads = a.reads; begins = test_head (test_loop ps a.runs) }
-  loop_begins r ForInStatement {ps} loop d = let a = run_token S Next behind (run_laid S Next behind d) in record { sign = a.sign; mid = a.mid; reads = a.reads; begins = left_head (λ k w. in_token w) (left_loop {y = Expression} ps a.runs) }
-  loop_begins r ForOfStatement {ps} loop d = let a = run_token S Next behind (run_laid S Next behind d) in record { sign = a.sign; mid = a.mid; reads = a.reads; begins = left_head (λ k w. of_token w) (left_loop {y = Assignment} ps a.runs) }
-  loop_begins r _ loop d = cc
+  loop_begins r c loop d = begins_by r (loop_kind c loop) d

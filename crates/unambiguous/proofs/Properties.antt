@@ -34,6 +34,7 @@ use Rattle.language.proofs.CoverKeys.{KeyFound, key_at_sign, plain_key_found, co
 use Rattle.language.proofs.CoverObjects.{value_as, property_role, pair_found, shorthand_found, initialized_found}
 use Rattle.language.proofs.CoverMethods.{method_found, accessor_found}
 use Rattle.language.proofs.CoverEnds.{a_brace, item_stops, item_marks}
+use Rattle.language.proofs.KindViews.{InObject, a_spread, a_property, in_object, InPattern, a_rest, a_property_there, in_pattern}
 use Rattle.unambiguous.proofs.Unique.{Unique}
 
 dots_bracket : codes "..." ≡ codes "[" → ⊥
@@ -84,14 +85,18 @@ module _ (S : Type 0) (Next : S → Token → S → Type 0) (behind : S → Toke
 
     -- so what stands there is a spread, or a rest
     spread_at : {o : ℕ} {a : Role} (n : Tree) {e : S} {P : List Pair} → property_as as_expression (kind_of n) ≡ Some a → Spells ways S Next behind o a n s e P → (u : Dotted S Next behind det SpreadElement o n s e P) × (u.role ≡ expr Assignment true Any)
-    spread_at {o} (node SpreadElement w g st en ps) {e} {P} h d = spread_form S Next behind det (subst (λ z. Spells ways S Next behind o z (node SpreadElement w g st en ps) s e P) (sym (some_same h)) d)
-    spread_at {o} (node Property w g st en ps) {e} {P} h d = absurd (no_property (property_at S Next behind det (subst (λ z. Spells ways S Next behind o z (node Property w g st en ps) s e P) (sym (some_same h)) d)))
-    spread_at (node _ w g st en ps) h d = cc
+    spread_at {o} {a} (node k w g st en ps) {e} {P} h d = of (in_object k h) h d
+      where
+        of : {k : Kind} → InObject k → property_as as_expression k ≡ Some a → Spells ways S Next behind o a (node k w g st en ps) s e P → (u : Dotted S Next behind det SpreadElement o (node k w g st en ps) s e P) × (u.role ≡ expr Assignment true Any)
+        of a_spread h d = spread_form S Next behind det (subst (λ z. Spells ways S Next behind o z (node SpreadElement w g st en ps) s e P) (sym (some_same h)) d)
+        of a_property h d = absurd (no_property (property_at S Next behind det (subst (λ z. Spells ways S Next behind o z (node Property w g st en ps) s e P) (sym (some_same h)) d)))
 
     rest_at : (b : Bool) {o : ℕ} {a : Role} (n : Tree) {e : S} {P : List Pair} → property_as (as_pattern b) (kind_of n) ≡ Some a → Spells ways S Next behind o a n s e P → RestForm S Next behind det b true o n s e P
-    rest_at b {o} (node RestElement w g st en ps) {e} {P} h d = rest_form S Next behind det (subst (λ z. Spells ways S Next behind o z (node RestElement w g st en ps) s e P) (sym (some_same h)) d)
-    rest_at b {o} (node Property w g st en ps) {e} {P} h d = absurd (no_pattern_property (pattern_property_at S Next behind det b (subst (λ z. Spells ways S Next behind o z (node Property w g st en ps) s e P) (sym (some_same h)) d)))
-    rest_at b (node _ w g st en ps) h d = cc
+    rest_at b {o} {a} (node k w g st en ps) {e} {P} h d = of (in_pattern b k h) h d
+      where
+        of : {k : Kind} → InPattern k → property_as (as_pattern b) k ≡ Some a → Spells ways S Next behind o a (node k w g st en ps) s e P → RestForm S Next behind det b true o (node k w g st en ps) s e P
+        of a_rest h d = rest_form S Next behind det (subst (λ z. Spells ways S Next behind o z (node RestElement w g st en ps) s e P) (sym (some_same h)) d)
+        of a_property_there h d = absurd (no_pattern_property (pattern_property_at S Next behind det b (subst (λ z. Spells ways S Next behind o z (node Property w g st en ps) s e P) (sym (some_same h)) d)))
 
   -- two nodes with `...` before the same part at one place are one
   dotted_same : {K : Kind} {o o' : ℕ} {n n' : Tree} {s e e' : S} {P P' : List Pair} (v : Dotted S Next behind det K o' n' s e' P') (u : Dotted S Next behind det K o n s e P) → e' ≡ e → v.inner ≡ u.inner → n' ≡ n
@@ -219,20 +224,26 @@ module _ (S : Type 0) (Next : S → Token → S → Type 0) (behind : S → Toke
   -- What stands in an object or its pattern, by each reading, is the only thing there.
   pub property_step : (x : Reading) {a : Role} {o : ℕ} {n : Tree} {s e : S} {P : List Pair} → height n ≤ suc h → property_as x (kind_of n) ≡ Some a → Spells ways S Next behind o a n s e P → Separated S Next behind det (codes "}") e →
       FoundItem S Next behind (Separated S Next behind det (codes "}")) (property_as x) o s e n P
-  property_step as_expression {o = o} {n = node SpreadElement w g st en ps} {s} {e} {P} low it d ends = spread_step refl low (subst (λ z. Spells ways S Next behind o z (node SpreadElement w g st en ps) s e P) (sym (some_same it)) d) ends
-  property_step as_expression {o = o} {n = node Property w g st en ps} {s} {e} {P} low it d ends = of (property_at S Next behind det (subst (λ z. Spells ways S Next behind o z (node Property w g st en ps) s e P) (sym (some_same it)) d))
+  property_step as_expression {a} {o} {n = node k w g st en ps} {s} {e} {P} low it d ends = of (in_object k it) low it d
     where
-      of : PropertyAt S Next behind det o (node Property w g st en ps) s e P → FoundItem S Next behind Ends (property_as as_expression) o s e (node Property w g st en ps) P
-      of (by_value v) = valued_step as_expression low v ends
-      of (by_name v) = short_step as_expression v it d ends
-      of (by_method v) = called_step low v ends
-      of (by_accessor f is word v) = accessed_step f is word low v ends
-  property_step as_expression {n = node _ w g st en ps} low it d ends = cc
-  property_step (as_pattern b) {o = o} {n = node RestElement w g st en ps} {s} {e} {P} low it d ends = rest_step b refl low (subst (λ z. Spells ways S Next behind o z (node RestElement w g st en ps) s e P) (sym (some_same it)) d) ends
-  property_step (as_pattern b) {o = o} {n = node Property w g st en ps} {s} {e} {P} low it d ends = of (pattern_property_at S Next behind det b (subst (λ z. Spells ways S Next behind o z (node Property w g st en ps) s e P) (sym (some_same it)) d))
+      with_property : PropertyAt S Next behind det o (node Property w g st en ps) s e P → height (node Property w g st en ps) ≤ suc h → property_as as_expression Property ≡ Some a → Spells ways S Next behind o a (node Property w g st en ps) s e P →
+          FoundItem S Next behind Ends (property_as as_expression) o s e (node Property w g st en ps) P
+      with_property (by_value v) low it d = valued_step as_expression low v ends
+      with_property (by_name v) low it d = short_step as_expression v it d ends
+      with_property (by_method v) low it d = called_step low v ends
+      with_property (by_accessor f is word v) low it d = accessed_step f is word low v ends
+
+      of : {k : Kind} → InObject k → height (node k w g st en ps) ≤ suc h → property_as as_expression k ≡ Some a → Spells ways S Next behind o a (node k w g st en ps) s e P → FoundItem S Next behind Ends (property_as as_expression) o s e (node k w g st en ps) P
+      of a_spread low it d = spread_step refl low (subst (λ z. Spells ways S Next behind o z (node SpreadElement w g st en ps) s e P) (sym (some_same it)) d) ends
+      of a_property low it d = with_property (property_at S Next behind det (subst (λ z. Spells ways S Next behind o z (node Property w g st en ps) s e P) (sym (some_same it)) d)) low it d
+  property_step (as_pattern b) {a} {o} {n = node k w g st en ps} {s} {e} {P} low it d ends = of (in_pattern b k it) low it d
     where
-      of : PatternPropertyAt S Next behind det b o (node Property w g st en ps) s e P → FoundItem S Next behind Ends (property_as (as_pattern b)) o s e (node Property w g st en ps) P
-      of (with_value v) = valued_step (as_pattern b) low v ends
-      of (with_name v) = short_step (as_pattern b) v it d ends
-      of (with_element v) = initialized_step b low v it d ends
-  property_step (as_pattern b) {n = node _ w g st en ps} low it d ends = cc
+      with_property : PatternPropertyAt S Next behind det b o (node Property w g st en ps) s e P → height (node Property w g st en ps) ≤ suc h → property_as (as_pattern b) Property ≡ Some a → Spells ways S Next behind o a (node Property w g st en ps) s e P →
+          FoundItem S Next behind Ends (property_as (as_pattern b)) o s e (node Property w g st en ps) P
+      with_property (with_value v) low it d = valued_step (as_pattern b) low v ends
+      with_property (with_name v) low it d = short_step (as_pattern b) v it d ends
+      with_property (with_element v) low it d = initialized_step b low v it d ends
+
+      of : {k : Kind} → InPattern k → height (node k w g st en ps) ≤ suc h → property_as (as_pattern b) k ≡ Some a → Spells ways S Next behind o a (node k w g st en ps) s e P → FoundItem S Next behind Ends (property_as (as_pattern b)) o s e (node k w g st en ps) P
+      of a_rest low it d = rest_step b refl low (subst (λ z. Spells ways S Next behind o z (node RestElement w g st en ps) s e P) (sym (some_same it)) d) ends
+      of a_property_there low it d = with_property (pattern_property_at S Next behind det b (subst (λ z. Spells ways S Next behind o z (node Property w g st en ps) s e P) (sym (some_same it)) d)) low it d

@@ -23,6 +23,7 @@ use Rattle.language.proofs.CoverSpreads.{default_no_rest, expression_kind, sprea
 use Rattle.language.proofs.CoverReadings.{named_unbracketed}
 use Rattle.language.proofs.CoverProperties.{flags_as, accessor_word, KeyAt, plain_key, Valued, Short, PropertyAt, by_value, by_name, by_method, by_accessor, PatternPropertyAt, with_value, with_name, with_element, property_at, pattern_property_at}
 use Rattle.language.proofs.CoverKeys.{name_key, echo_form}
+use Rattle.language.proofs.KindViews.{InObject, a_spread, a_property, in_object, InPattern, a_rest, a_property_there, in_pattern}
 
 some_same : {a b : Role} → Some a ≡ Some b → a ≡ b
 some_same e = cc
@@ -100,9 +101,13 @@ module _ (S : Type 0) (Next : S → Token → S → Type 0) (behind : S → Toke
 
   -- what stands at a property's position is one of these
   pub property_is : (x : Reading) {a : Role} {o hi : ℕ} (n : Tree) {s e : S} {P : List Pair} → height n ≤ suc hi → property_as x (kind_of n) ≡ Some a → Spells ways S Next behind o a n s e P → PropertyIs x o hi s e
-  property_is as_expression {o = o} (node SpreadElement w g st en ps) {s} {e} {P} low it d = of_spread low (subst (λ z. Spells ways S Next behind o z (node SpreadElement w g st en ps) s e P) (sym (some_same it)) d)
-  property_is as_expression {o = o} (node Property w g st en ps) {s} {e} {P} low it d = of_property low (property_at S Next behind det (subst (λ z. Spells ways S Next behind o z (node Property w g st en ps) s e P) (sym (some_same it)) d))
-  property_is as_expression (node _ w g st en ps) low it d = cc
-  property_is (as_pattern b) {o = o} (node RestElement w g st en ps) {s} {e} {P} low it d = of_rest low b (subst (λ z. Spells ways S Next behind o z (node RestElement w g st en ps) s e P) (sym (some_same it)) d)
-  property_is (as_pattern b) {o = o} (node Property w g st en ps) {s} {e} {P} low it d = of_pattern low b (pattern_property_at S Next behind det b (subst (λ z. Spells ways S Next behind o z (node Property w g st en ps) s e P) (sym (some_same it)) d))
-  property_is (as_pattern b) (node _ w g st en ps) low it d = cc
+  property_is as_expression {a} {o} {hi} (node k w g st en ps) {s} {e} {P} low it d = of (in_object k it) low it d
+    where
+      of : {k : Kind} → InObject k → height (node k w g st en ps) ≤ suc hi → property_as as_expression k ≡ Some a → Spells ways S Next behind o a (node k w g st en ps) s e P → PropertyIs as_expression o hi s e
+      of a_spread low it d = of_spread low (subst (λ z. Spells ways S Next behind o z (node SpreadElement w g st en ps) s e P) (sym (some_same it)) d)
+      of a_property low it d = of_property low (property_at S Next behind det (subst (λ z. Spells ways S Next behind o z (node Property w g st en ps) s e P) (sym (some_same it)) d))
+  property_is (as_pattern b) {a} {o} {hi} (node k w g st en ps) {s} {e} {P} low it d = of (in_pattern b k it) low it d
+    where
+      of : {k : Kind} → InPattern k → height (node k w g st en ps) ≤ suc hi → property_as (as_pattern b) k ≡ Some a → Spells ways S Next behind o a (node k w g st en ps) s e P → PropertyIs (as_pattern b) o hi s e
+      of a_rest low it d = of_rest low b (subst (λ z. Spells ways S Next behind o z (node RestElement w g st en ps) s e P) (sym (some_same it)) d)
+      of a_property_there low it d = of_pattern low b (pattern_property_at S Next behind det b (subst (λ z. Spells ways S Next behind o z (node Property w g st en ps) s e P) (sym (some_same it)) d))

@@ -166,9 +166,9 @@ module _ (S : Type 0) (Next : S → Token → S → Type 0) (behind : S → Toke
         };
   }
 
-  comma_at : {o : ℕ} {i : Bool} {f : Start} {n : Tree} {s0 e : S} {P : List Pair} {c : Rank} {m : Tree} {mid x : S} {Q : List Pair} {t : Token} (y : Rank) → y ≡ Expression → height n ≤ suc h → Spells ways S Next behind o (expr y i f) n s0 e P → Stops S Next behind y i n e →
-      Climbing S Next behind det o y i f c s0 m mid Q → ReadBy S Next behind Div mid t x → operation t ≡ sequences → stops y i (edge m) (behind mid) t ≡ false → Turned S Next behind det o y i f s0 m
-  comma_at {o} {i} {f} {n} {s0} {e} {P} {c} {m} {mid} {x} {Q} {t} Expression is low d st climb r is_op goes =
+  comma_at : {o : ℕ} {i : Bool} {f : Start} {n : Tree} {s0 e : S} {P : List Pair} {c : Rank} {m : Tree} {mid x : S} {Q : List Pair} {t : Token} → height n ≤ suc h → ReadBy S Next behind Div mid t x → operation t ≡ sequences → Spells ways S Next behind o (expr Expression i f) n s0 e P →
+      Stops S Next behind Expression i n e → Climbing S Next behind det o Expression i f c s0 m mid Q → stops Expression i (edge m) (behind mid) t ≡ false → Turned S Next behind det o Expression i f s0 m
+  comma_at {o} {i} {f} {n} {s0} {e} {P} {c} {m} {mid} {x} {Q} {t} low r is_op d st climb goes =
       let fits = by_test (takes Assignment c) (λ k. (climb_comma_unfit S Next behind det r is_op goes climb k).nothing o e n P d st) in
       let w = later_on S Next behind det r is_op goes climb fits d st in
       let below = w.low in
@@ -181,12 +181,12 @@ module _ (S : Type 0) (Next : S → Token → S → Type 0) (behind : S → Toke
         taller = omega arith;
         climbed = record { symbol = Expression; climbing = climb_comma S Next behind det r is_op goes climb fits later.found (place_node S Next behind first) };
       }
-  comma_at _ is low d st climb r is_op goes = cc
 
   comma_turn : Turn S Next behind det h sequences
   comma_turn = record {
     gives = λ {o} {y} {i} {f} {n} {s0} {e} {P} {c} {m} {mid} {x} {Q} {t} no_test no_new low d st climb r is_op goes.
-        comma_at y (comma_position S Next behind det y i m mid t is_op goes) low d st climb r is_op goes;
+        subst (λ v. Spells ways S Next behind o (expr v i f) n s0 e P → Stops S Next behind v i n e → Climbing S Next behind det o v i f c s0 m mid Q → stops v i (edge m) (behind mid) t ≡ false → Turned S Next behind det o v i f s0 m) (sym (comma_position S Next behind det y i m mid t is_op goes))
+        (comma_at low r is_op) d st climb goes;
   }
 
   arrow_turn : Turn S Next behind det h arrows
