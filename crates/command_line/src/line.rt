@@ -1,7 +1,8 @@
 //! The words of the command line.
 
-ghost use Rattle.std.specs.Prelude.{◌≡◌, IfErr, IfOk, IfSome, Some, false, map, true};
-ghost use Rattle.clap.specs.Words.{app_of, kind_of, subcommand_of, subcommand_rows_of, takes};
+ghost use Rattle.std.specs.Prelude.{◌≡◌, IfErr, IfOk, IfSome, Some, codes, false, map, true};
+ghost use Rattle.clap.specs.Simple.{on_top};
+ghost use Rattle.clap.specs.Words.{app_of, kind_of, new_app, subcommand_of, subcommand_rows_of, takes, with_subcommand};
 ghost use Rattle.clap.specs.declared.builder.command.Command.TheViews.{out-Command};
 ghost use Rattle.command_line.specs.CommandLine.{Chooses, file_app, jslint_app};
 
@@ -33,27 +34,51 @@ fn file_command<'a>(
     clap::Command::new(alloc, word).about(about).arg(file)
 }
 
+/// This command with one more, by its word, with its FILE.
+fn with_file_command<'a>(
+    alloc: Global,
+    command: clap::Command<'a>,
+    word: &'a str,
+    about: &'a str,
+) -> Result<clap::Command<'a>, AllocError>
+    ensures { IfOk result (λ c. app_of c ≡ with_subcommand (app_of command.entry) (file_app word.now).top) }
+{
+    match file_command(alloc, word, about) {
+        Ok(added) => command.subcommand(added),
+        Err(error) => {
+            // By a call: with `?` the proof has a step for each part that the command owns.
+            drop(command);
+            Err(error)
+        }
+    }
+}
+
+/// `jslint`, without its commands.
+fn bare_command<'a>(alloc: Global) -> clap::Command<'a>
+    ensures { app_of result ≡ on_top (λ s. record s { subcommand_required = true }) (new_app (codes "jslint")) }
+{
+    clap::Command::new(alloc, "jslint")
+        .about("A linter for ECMAScript 2020 scripts")
+        .after_help("Exit status: 0 where all is well, 1 for a finding, 2 for a refusal")
+        .subcommand_required(true)
+}
+
 /// The whole command line.
 fn jslint_command<'a>(alloc: Global) -> Result<clap::Command<'a>, AllocError>
     ensures shape { IfOk result (λ c. app_of c ≡ jslint_app) }
 {
-    let fix = file_command(
+    let with_fix = with_file_command(
         alloc,
+        bare_command(alloc),
         "fix",
         "Write the script in one layout, with parentheses only where they are needed",
     )?;
-    let tree = file_command(
+    with_file_command(
         alloc,
+        with_fix,
         "tree",
         "Write the tree of the script as JSON, in the form of ESTree",
-    )?;
-    let jslint = clap::Command::new(alloc, "jslint")
-        .about("A linter for ECMAScript 2020 scripts")
-        .after_help("Exit status: 0 where all is well, 1 for a finding, 2 for a refusal")
-        .subcommand_required(true)
-        .subcommand(fix)?
-        .subcommand(tree)?;
-    Ok(jslint)
+    )
 }
 
 /// This command, if it was met, with its file.
