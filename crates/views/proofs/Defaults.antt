@@ -1,8 +1,10 @@
 -- What none of the kinds before it names goes by the next table: the default of a match over kinds.
-use Rattle.std.proofs.Common.{◌≡◌, refl}
+use Rattle.std.proofs.Common.{◌≡◌, refl, None, ap}
 use Rattle.tree.specs.Tree.{Tree}
+use Rattle.tree.specs.Fields.{field}
 use Rattle.tree.specs.declared.kind.Kind.{Kind}
 use Rattle.tree.specs.declared.kind.Kind.TheVariants as kind
+use Rattle.views.proofs.Shown.{one-lacks, two-lack, two-lack-second, three-lack, three-lack-second}
 use Rattle.views.specs.Expressions.{operands_by, paired_by, member_by}
 use Rattle.views.specs.Statements as s
 
@@ -28,3 +30,52 @@ headed_statement_else kind.ThrowStatement t expression throws switch tries = abs
 headed_statement_else kind.SwitchStatement t expression throws switch tries = absurd (switch refl)
 headed_statement_else kind.TryStatement t expression throws switch tries = absurd (tries refl)
 headed_statement_else _ t expression throws switch tries = refl
+
+pub statement_else : (k : Kind) (t : Tree) → (k ≡ kind.BlockStatement → ⊥) → (k ≡ kind.EmptyStatement → ⊥) → (k ≡ kind.DebuggerStatement → ⊥) → (k ≡ kind.VariableDeclaration → ⊥) → s.leaving_by k t ≡ s.statement_by k t
+statement_else kind.BlockStatement t block empties debugger variables = absurd (block refl)
+statement_else kind.EmptyStatement t block empties debugger variables = absurd (empties refl)
+statement_else kind.DebuggerStatement t block empties debugger variables = absurd (debugger refl)
+statement_else kind.VariableDeclaration t block empties debugger variables = absurd (variables refl)
+statement_else _ t block empties debugger variables = refl
+
+pub leaving_else : (k : Kind) (t : Tree) → (k ≡ kind.ReturnStatement → ⊥) → (k ≡ kind.BreakStatement → ⊥) → (k ≡ kind.ContinueStatement → ⊥) → s.declared_by k t ≡ s.leaving_by k t
+leaving_else kind.ReturnStatement t returns breaks continues = absurd (returns refl)
+leaving_else kind.BreakStatement t returns breaks continues = absurd (breaks refl)
+leaving_else kind.ContinueStatement t returns breaks continues = absurd (continues refl)
+leaving_else _ t returns breaks continues = refl
+
+pub declared_else : (k : Kind) (t : Tree) → (k ≡ kind.FunctionDeclaration → ⊥) → (k ≡ kind.ClassDeclaration → ⊥) → (k ≡ kind.ForStatement → ⊥) → s.headed_by k t ≡ s.declared_by k t
+declared_else kind.FunctionDeclaration t function class loops = absurd (function refl)
+declared_else kind.ClassDeclaration t function class loops = absurd (class refl)
+declared_else kind.ForStatement t function class loops = absurd (loops refl)
+declared_else _ t function class loops = refl
+
+pub paired_statement_else : (k : Kind) (t : Tree) → (k ≡ kind.LabeledStatement → ⊥) → (k ≡ kind.IfStatement → ⊥) → (k ≡ kind.WhileStatement → ⊥) → (k ≡ kind.DoWhileStatement → ⊥) → s.for_each_by k t ≡ s.paired_by k t
+paired_statement_else kind.LabeledStatement t labeled choice loops does = absurd (labeled refl)
+paired_statement_else kind.IfStatement t labeled choice loops does = absurd (choice refl)
+paired_statement_else kind.WhileStatement t labeled choice loops does = absurd (loops refl)
+paired_statement_else kind.DoWhileStatement t labeled choice loops does = absurd (does refl)
+paired_statement_else _ t labeled choice loops does = refl
+
+-- without a first part that must be there is no statement, and without a second
+pub headed_missing : (k : Kind) (t : Tree) → None ≡ field 0 t → None ≡ s.headed_by k t
+headed_missing kind.ExpressionStatement t h = one-lacks _ _ h
+headed_missing kind.ThrowStatement t h = one-lacks _ _ h
+headed_missing kind.SwitchStatement t h = one-lacks _ _ h
+headed_missing kind.TryStatement t h = ap (λ o. s.try_by o (field 1 t) (field 2 t)) h
+headed_missing kind.LabeledStatement t h = two-lack _ _ _ h
+headed_missing kind.IfStatement t h = two-lack _ _ _ h
+headed_missing kind.WhileStatement t h = two-lack _ _ _ h
+headed_missing kind.DoWhileStatement t h = two-lack _ _ _ h
+headed_missing kind.ForInStatement t h = three-lack _ _ _ _ h
+headed_missing kind.ForOfStatement t h = three-lack _ _ _ _ h
+headed_missing _ t h = refl
+
+pub paired_missing : (k : Kind) (t : Tree) → None ≡ field 1 t → None ≡ s.paired_by k t
+paired_missing kind.LabeledStatement t h = two-lack-second _ _ _ h
+paired_missing kind.IfStatement t h = two-lack-second _ _ _ h
+paired_missing kind.WhileStatement t h = two-lack-second _ _ _ h
+paired_missing kind.DoWhileStatement t h = two-lack-second _ _ _ h
+paired_missing kind.ForInStatement t h = three-lack-second _ _ _ _ h
+paired_missing kind.ForOfStatement t h = three-lack-second _ _ _ _ h
+paired_missing _ t h = refl

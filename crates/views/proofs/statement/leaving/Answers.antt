@@ -1,0 +1,13 @@
+use Rattle.std.proofs.Common.{◌∙◌}
+use Rattle.tree.specs.Tree.{kind_of}
+use Rattle.tree.specs.Node.{node_tree}
+use Rattle.views.proofs.Defaults.{leaving_else}
+use Rattle.views.proofs.statement.leaving.Goals as goal
+
+pub returns-in_default : goal.returns-in_default
+returns-in_default c =
+    c.declared.ensures
+    ∙ leaving_else (kind_of (node_tree c.args.node)) (node_tree c.args.node)
+    (λ is. c.in_default.not-ReturnStatement (c.kind.ensures ∙ is))
+    (λ is. c.in_default.not-BreakStatement (c.kind.ensures ∙ is))
+    (λ is. c.in_default.not-ContinueStatement (c.kind.ensures ∙ is))
