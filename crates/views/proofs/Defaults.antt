@@ -5,7 +5,7 @@ use Rattle.tree.specs.Fields.{field}
 use Rattle.tree.specs.declared.kind.Kind.{Kind}
 use Rattle.tree.specs.declared.kind.Kind.TheVariants as kind
 use Rattle.views.proofs.Shown.{one-lacks, two-lack, two-lack-second, three-lack, three-lack-second}
-use Rattle.views.specs.Expressions.{operands_by, paired_by, member_by}
+use Rattle.views.specs.Expressions.{operands_by, paired_by, operated_by, member_by, defined_by, listed_by, expression_by}
 use Rattle.views.specs.Statements as s
 
 pub paired_else : (k : Kind) (t : Tree) → (k ≡ kind.TaggedTemplateExpression → ⊥) → (k ≡ kind.MemberExpression → ⊥) → (k ≡ kind.MetaProperty → ⊥) → (k ≡ kind.ConditionalExpression → ⊥) → operands_by k t ≡ paired_by k t
@@ -15,14 +15,36 @@ paired_else kind.MetaProperty t tagged member meta conditional = absurd (meta re
 paired_else kind.ConditionalExpression t tagged member meta conditional = absurd (conditional refl)
 paired_else _ t tagged member meta conditional = refl
 
-pub headed_else : (k : Kind) (t : Tree) → (k ≡ kind.CallExpression → ⊥) → (k ≡ kind.NewExpression → ⊥) → (k ≡ kind.ImportExpression → ⊥) → (k ≡ kind.ChainExpression → ⊥) → (k ≡ kind.UpdateExpression → ⊥) → (k ≡ kind.UnaryExpression → ⊥) → paired_by k t ≡ member_by k t
-headed_else kind.CallExpression t call new import chain update unary = absurd (call refl)
-headed_else kind.NewExpression t call new import chain update unary = absurd (new refl)
-headed_else kind.ImportExpression t call new import chain update unary = absurd (import refl)
-headed_else kind.ChainExpression t call new import chain update unary = absurd (chain refl)
-headed_else kind.UpdateExpression t call new import chain update unary = absurd (update refl)
-headed_else kind.UnaryExpression t call new import chain update unary = absurd (unary refl)
-headed_else _ t call new import chain update unary = refl
+pub operated_else : (k : Kind) (t : Tree) → (k ≡ kind.UpdateExpression → ⊥) → (k ≡ kind.UnaryExpression → ⊥) → paired_by k t ≡ operated_by k t
+operated_else kind.UpdateExpression t update unary = absurd (update refl)
+operated_else kind.UnaryExpression t update unary = absurd (unary refl)
+operated_else _ t update unary = refl
+
+pub headed_else : (k : Kind) (t : Tree) → (k ≡ kind.CallExpression → ⊥) → (k ≡ kind.NewExpression → ⊥) → (k ≡ kind.ImportExpression → ⊥) → (k ≡ kind.ChainExpression → ⊥) → operated_by k t ≡ member_by k t
+headed_else kind.CallExpression t call new import chain = absurd (call refl)
+headed_else kind.NewExpression t call new import chain = absurd (new refl)
+headed_else kind.ImportExpression t call new import chain = absurd (import refl)
+headed_else kind.ChainExpression t call new import chain = absurd (chain refl)
+headed_else _ t call new import chain = refl
+
+pub defined_else : (k : Kind) (t : Tree) → (k ≡ kind.FunctionExpression → ⊥) → (k ≡ kind.ArrowFunctionExpression → ⊥) → (k ≡ kind.ClassExpression → ⊥) → member_by k t ≡ defined_by k t
+defined_else kind.FunctionExpression t function arrow class = absurd (function refl)
+defined_else kind.ArrowFunctionExpression t function arrow class = absurd (arrow refl)
+defined_else kind.ClassExpression t function arrow class = absurd (class refl)
+defined_else _ t function arrow class = refl
+
+pub listed_else : (k : Kind) (t : Tree) → (k ≡ kind.ArrayExpression → ⊥) → (k ≡ kind.ObjectExpression → ⊥) → (k ≡ kind.TemplateLiteral → ⊥) → (k ≡ kind.SequenceExpression → ⊥) → defined_by k t ≡ listed_by k t
+listed_else kind.ArrayExpression t array object template sequence = absurd (array refl)
+listed_else kind.ObjectExpression t array object template sequence = absurd (object refl)
+listed_else kind.TemplateLiteral t array object template sequence = absurd (template refl)
+listed_else kind.SequenceExpression t array object template sequence = absurd (sequence refl)
+listed_else _ t array object template sequence = refl
+
+pub expression_else : (k : Kind) (t : Tree) → (k ≡ kind.Identifier → ⊥) → (k ≡ kind.Literal → ⊥) → (k ≡ kind.ThisExpression → ⊥) → listed_by k t ≡ expression_by k t
+expression_else kind.Identifier t identifier literal this = absurd (identifier refl)
+expression_else kind.Literal t identifier literal this = absurd (literal refl)
+expression_else kind.ThisExpression t identifier literal this = absurd (this refl)
+expression_else _ t identifier literal this = refl
 
 pub headed_statement_else : (k : Kind) (t : Tree) → (k ≡ kind.ExpressionStatement → ⊥) → (k ≡ kind.ThrowStatement → ⊥) → (k ≡ kind.SwitchStatement → ⊥) → (k ≡ kind.TryStatement → ⊥) → s.paired_by k t ≡ s.headed_by k t
 headed_statement_else kind.ExpressionStatement t expression throws switch tries = absurd (expression refl)
@@ -79,3 +101,30 @@ paired_missing kind.DoWhileStatement t h = two-lack-second _ _ _ h
 paired_missing kind.ForInStatement t h = three-lack-second _ _ _ _ h
 paired_missing kind.ForOfStatement t h = three-lack-second _ _ _ _ h
 paired_missing _ t h = refl
+
+-- and no expression
+pub member_missing : (k : Kind) (t : Tree) → None ≡ field 0 t → None ≡ member_by k t
+member_missing kind.CallExpression t h = one-lacks _ _ h
+member_missing kind.NewExpression t h = one-lacks _ _ h
+member_missing kind.ImportExpression t h = one-lacks _ _ h
+member_missing kind.ChainExpression t h = one-lacks _ _ h
+member_missing kind.UpdateExpression t h = one-lacks _ _ h
+member_missing kind.UnaryExpression t h = one-lacks _ _ h
+member_missing kind.TaggedTemplateExpression t h = two-lack _ _ _ h
+member_missing kind.MemberExpression t h = two-lack _ _ _ h
+member_missing kind.MetaProperty t h = two-lack _ _ _ h
+member_missing kind.BinaryExpression t h = two-lack _ _ _ h
+member_missing kind.LogicalExpression t h = two-lack _ _ _ h
+member_missing kind.AssignmentExpression t h = two-lack _ _ _ h
+member_missing kind.ConditionalExpression t h = three-lack _ _ _ _ h
+member_missing _ t h = refl
+
+pub paired_expression_missing : (k : Kind) (t : Tree) → None ≡ field 1 t → None ≡ paired_by k t
+paired_expression_missing kind.TaggedTemplateExpression t h = two-lack-second _ _ _ h
+paired_expression_missing kind.MemberExpression t h = two-lack-second _ _ _ h
+paired_expression_missing kind.MetaProperty t h = two-lack-second _ _ _ h
+paired_expression_missing kind.BinaryExpression t h = two-lack-second _ _ _ h
+paired_expression_missing kind.LogicalExpression t h = two-lack-second _ _ _ h
+paired_expression_missing kind.AssignmentExpression t h = two-lack-second _ _ _ h
+paired_expression_missing kind.ConditionalExpression t h = three-lack-second _ _ _ _ h
+paired_expression_missing _ t h = refl

@@ -6,11 +6,9 @@ use Rattle.views.proofs.expression.headed.Goals as goal
 
 pub returns-in_default : goal.returns-in_default
 returns-in_default c =
-    c.paired.ensures
+    c.operated.ensures
     ∙ headed_else (kind_of (node_tree c.args.node)) (node_tree c.args.node)
     (λ is. c.in_default.not-CallExpression (c.kind.ensures ∙ is))
     (λ is. c.in_default.not-NewExpression (c.kind.ensures ∙ is))
     (λ is. c.in_default.not-ImportExpression (c.kind.ensures ∙ is))
     (λ is. c.in_default.not-ChainExpression (c.kind.ensures ∙ is))
-    (λ is. c.in_default.not-UpdateExpression (c.kind.ensures ∙ is))
-    (λ is. c.in_default.not-UnaryExpression (c.kind.ensures ∙ is))
