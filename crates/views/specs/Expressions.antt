@@ -68,12 +68,6 @@ paired_by kind.MetaProperty t = member_by kind.MetaProperty t
 paired_by kind.ConditionalExpression t = operation_by kind.ConditionalExpression t
 paired_by k t = operands_by k t
 
--- operations with one operand, and what has two parts or more
-abbrev pub operated_by : Kind → Tree → Option ExpressionView
-operated_by kind.UpdateExpression t = operation_by kind.UpdateExpression t
-operated_by kind.UnaryExpression t = operation_by kind.UnaryExpression t
-operated_by k t = paired_by k t
-
 -- names, literals, functions and lists; all else is in the tables above
 abbrev pub expression_by : Kind → Tree → Option ExpressionView
 expression_by kind.Identifier t = Some (identifier (text_of t))
@@ -87,21 +81,6 @@ expression_by kind.ClassExpression t = option_map class_expression (class_of t)
 expression_by kind.TemplateLiteral t = Some (template_literal (parts_of t))
 expression_by kind.SequenceExpression t = Some (sequence_expression (parts_of t))
 expression_by k t = member_by k t
-
--- of these, functions, classes and what is in the tables above
-abbrev pub defined_by : Kind → Tree → Option ExpressionView
-defined_by kind.FunctionExpression t = expression_by kind.FunctionExpression t
-defined_by kind.ArrowFunctionExpression t = expression_by kind.ArrowFunctionExpression t
-defined_by kind.ClassExpression t = expression_by kind.ClassExpression t
-defined_by k t = member_by k t
-
--- lists, and what is in the table above
-abbrev pub listed_by : Kind → Tree → Option ExpressionView
-listed_by kind.ArrayExpression t = expression_by kind.ArrayExpression t
-listed_by kind.ObjectExpression t = expression_by kind.ObjectExpression t
-listed_by kind.TemplateLiteral t = expression_by kind.TemplateLiteral t
-listed_by kind.SequenceExpression t = expression_by kind.SequenceExpression t
-listed_by k t = defined_by k t
 
 -- the tree as an expression
 abbrev pub expression_of : Tree → Option ExpressionView

@@ -96,20 +96,6 @@ headed_by kind.SwitchStatement t = choice_by kind.SwitchStatement t
 headed_by kind.TryStatement t = choice_by kind.TryStatement t
 headed_by k t = paired_by k t
 
--- declarations of functions and classes, loops with steps, and what has a first part that must be there
-abbrev pub declared_by : Kind → Tree → Option StatementView
-declared_by kind.FunctionDeclaration t = loop_by kind.FunctionDeclaration t
-declared_by kind.ClassDeclaration t = loop_by kind.ClassDeclaration t
-declared_by kind.ForStatement t = loop_by kind.ForStatement t
-declared_by k t = headed_by k t
-
--- what leaves, with a part that may be missing, and what is in the table above
-abbrev pub leaving_by : Kind → Tree → Option StatementView
-leaving_by kind.ReturnStatement t = statement_by kind.ReturnStatement t
-leaving_by kind.BreakStatement t = statement_by kind.BreakStatement t
-leaving_by kind.ContinueStatement t = statement_by kind.ContinueStatement t
-leaving_by k t = declared_by k t
-
 -- the tree as a statement or a declaration
 abbrev pub statement_of : Tree → Option StatementView
 statement_of t = if is_whole t then statement_by (kind_of t) t else None

@@ -4,7 +4,7 @@ ghost use Rattle.std.specs.Prelude.{◌≡◌, Some, option_map};
 ghost use Rattle.tree.specs.Tree.{kind_of};
 ghost use Rattle.tree.specs.Node.{node_tree};
 ghost use Rattle.tree.specs.Fields.{field};
-ghost use Rattle.views.specs.Expressions.{expression_of, expression_by, listed_by, defined_by, member_by, operated_by, paired_by, operands_by, expression_seen};
+ghost use Rattle.views.specs.Expressions.{expression_of, expression_by, member_by, paired_by, operands_by, expression_seen};
 
 use crate::arity::is_whole;
 use crate::function::{Class, Function};
@@ -114,7 +114,7 @@ impl<'t, 's> Expression<'t, 's> {
     }
 }
 
-/// Names, literals and `this`, and all else.
+/// Names, literals, functions and lists, and all else.
 fn any_expression<'t, 's>(node: Node<'t, 's>) -> Option<Expression<'t, 's>>
     ensures { option_map expression_seen result ≡ expression_by (kind_of (node_tree node.entry)) (node_tree node.entry) }
 {
@@ -122,53 +122,47 @@ fn any_expression<'t, 's>(node: Node<'t, 's>) -> Option<Expression<'t, 's>>
         Kind::Identifier => Some(Expression::Identifier { name: node.text() }),
         Kind::Literal => Some(Expression::Literal { raw: node.text() }),
         Kind::ThisExpression => Some(Expression::This),
-        _ => listed(node),
-    }
-}
-
-/// Expressions that are a list of parts.
-fn listed<'t, 's>(node: Node<'t, 's>) -> Option<Expression<'t, 's>>
-    ensures { option_map expression_seen result ≡ listed_by (kind_of (node_tree node.entry)) (node_tree node.entry) }
-{
-    let parts = node.parts();
-    match node.kind() {
-        Kind::ArrayExpression => Some(Expression::Array { elements: parts }),
-        Kind::ObjectExpression => Some(Expression::Object { properties: parts }),
-        Kind::TemplateLiteral => Some(Expression::TemplateLiteral { turns: parts }),
-        Kind::SequenceExpression => Some(Expression::Sequence { expressions: parts }),
-        _ => defined(node),
-    }
-}
-
-/// Functions and classes, and expressions whose first part must be there.
-fn defined<'t, 's>(node: Node<'t, 's>) -> Option<Expression<'t, 's>>
-    ensures { option_map expression_seen result ≡ defined_by (kind_of (node_tree node.entry)) (node_tree node.entry) }
-{
-    match node.kind() {
-        Kind::FunctionExpression => Function::of(node).map(Expression::Function),
-        Kind::ArrowFunctionExpression => Function::of(node).map(Expression::ArrowFunction),
-        Kind::ClassExpression => Class::of(node).map(Expression::Class),
-        _ => {
-            let first = node.part(0)?;
-            headed(node, first)
+        Kind::ArrayExpression => Some(Expression::Array {
+            elements: node.parts(),
+        }),
+        Kind::ObjectExpression => Some(Expression::Object {
+            properties: node.parts(),
+        }),
+        Kind::FunctionExpression => {
+            let function = Function::of(node)?;
+            Some(Expression::Function(function))
         }
+        Kind::ArrowFunctionExpression => {
+            let function = Function::of(node)?;
+            Some(Expression::ArrowFunction(function))
+        }
+        Kind::ClassExpression => {
+            let class = Class::of(node)?;
+            Some(Expression::Class(class))
+        }
+        Kind::TemplateLiteral => Some(Expression::TemplateLiteral {
+            turns: node.parts(),
+        }),
+        Kind::SequenceExpression => Some(Expression::Sequence {
+            expressions: node.parts(),
+        }),
+        _ => headed(node),
     }
 }
 
 /// Expressions whose first part must be there.
-fn headed<'t, 's>(node: Node<'t, 's>, first: Node<'t, 's>) -> Option<Expression<'t, 's>>
-    requires { Some (node_tree first) ≡ field 0 (node_tree node) }
+fn headed<'t, 's>(node: Node<'t, 's>) -> Option<Expression<'t, 's>>
     ensures { option_map expression_seen result ≡ member_by (kind_of (node_tree node.entry)) (node_tree node.entry) }
 {
+    let first = node.part(0)?;
+    let operator = node.text();
+    let flags = node.flags();
     match node.kind() {
-        Kind::CallExpression => {
-            let flags = node.flags();
-            Some(Expression::Call {
-                callee: first,
-                arguments: node.parts().skip(1),
-                optional: flags.optional,
-            })
-        }
+        Kind::CallExpression => Some(Expression::Call {
+            callee: first,
+            arguments: node.parts().skip(1),
+            optional: flags.optional,
+        }),
         Kind::NewExpression => {
             let arguments = node.parts().skip(1);
             Some(Expression::New {
@@ -178,60 +172,37 @@ fn headed<'t, 's>(node: Node<'t, 's>, first: Node<'t, 's>) -> Option<Expression<
         }
         Kind::ImportExpression => Some(Expression::Import { source: first }),
         Kind::ChainExpression => Some(Expression::Chain { expression: first }),
-        _ => operated(node, first),
-    }
-}
-
-/// Operations with one operand, and expressions whose second part must be there too.
-fn operated<'t, 's>(node: Node<'t, 's>, first: Node<'t, 's>) -> Option<Expression<'t, 's>>
-    requires { Some (node_tree first) ≡ field 0 (node_tree node) }
-    ensures { option_map expression_seen result ≡ operated_by (kind_of (node_tree node.entry)) (node_tree node.entry) }
-{
-    let operator = node.text();
-    match node.kind() {
-        Kind::UpdateExpression => {
-            let flags = node.flags();
-            Some(Expression::Update {
-                operator,
-                prefix: flags.prefix,
-                argument: first,
-            })
-        }
+        Kind::UpdateExpression => Some(Expression::Update {
+            operator,
+            prefix: flags.prefix,
+            argument: first,
+        }),
         Kind::UnaryExpression => Some(Expression::Unary {
             operator,
             argument: first,
         }),
-        _ => {
-            let second = node.part(1)?;
-            paired(node, first, second)
-        }
+        _ => paired(node, first),
     }
 }
 
 /// Expressions whose second part must be there too.
-fn paired<'t, 's>(
-    node: Node<'t, 's>,
-    first: Node<'t, 's>,
-    second: Node<'t, 's>,
-) -> Option<Expression<'t, 's>>
-    requires first { Some (node_tree first) ≡ field 0 (node_tree node) }
-    requires second { Some (node_tree second) ≡ field 1 (node_tree node) }
+fn paired<'t, 's>(node: Node<'t, 's>, first: Node<'t, 's>) -> Option<Expression<'t, 's>>
+    requires { Some (node_tree first) ≡ field 0 (node_tree node) }
     ensures { option_map expression_seen result ≡ paired_by (kind_of (node_tree node.entry)) (node_tree node.entry) }
 {
+    let second = node.part(1)?;
+    let flags = node.flags();
     match node.kind() {
         Kind::TaggedTemplateExpression => Some(Expression::TaggedTemplate {
             tag: first,
             quasi: second,
         }),
-        Kind::MemberExpression => {
-            let flags = node.flags();
-            Some(Expression::Member {
-                object: first,
-                property: second,
-                computed: flags.computed,
-                optional: flags.optional,
-            })
-        }
+        Kind::MemberExpression => Some(Expression::Member {
+            object: first,
+            property: second,
+            computed: flags.computed,
+            optional: flags.optional,
+        }),
         Kind::MetaProperty => Some(Expression::MetaProperty {
             meta: first,
             property: second,

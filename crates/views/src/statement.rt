@@ -4,7 +4,7 @@ ghost use Rattle.std.specs.Prelude.{◌≡◌, Some, option_map};
 ghost use Rattle.tree.specs.Tree.{kind_of};
 ghost use Rattle.tree.specs.Node.{node_tree};
 ghost use Rattle.tree.specs.Fields.{field};
-ghost use Rattle.views.specs.Statements.{statement_of, statement_by, leaving_by, declared_by, choice_by, loop_by, headed_by, paired_by, for_each_by, statement_seen};
+ghost use Rattle.views.specs.Statements.{statement_of, statement_by, choice_by, loop_by, headed_by, paired_by, for_each_by, statement_seen};
 ghost use Rattle.tree.specs.declared.kind.Kind.TheVariants.{TryStatement, ForStatement};
 
 use crate::arity::is_whole;
@@ -103,7 +103,7 @@ impl<'t, 's> Statement<'t, 's> {
     }
 }
 
-/// Statements without parts or with a list of them, and all else.
+/// Statements of which no part must be there, declarations, and all else.
 fn any_statement<'t, 's>(node: Node<'t, 's>) -> Option<Statement<'t, 's>>
     ensures { option_map statement_seen result ≡ statement_by (kind_of (node_tree node.entry)) (node_tree node.entry) }
 {
@@ -111,39 +111,29 @@ fn any_statement<'t, 's>(node: Node<'t, 's>) -> Option<Statement<'t, 's>>
         Kind::BlockStatement => Some(Statement::Block { body: node.parts() }),
         Kind::EmptyStatement => Some(Statement::Empty),
         Kind::DebuggerStatement => Some(Statement::Debugger),
+        Kind::ReturnStatement => Some(Statement::Return {
+            argument: node.part(0),
+        }),
+        Kind::BreakStatement => Some(Statement::Break {
+            label: node.part(0),
+        }),
+        Kind::ContinueStatement => Some(Statement::Continue {
+            label: node.part(0),
+        }),
         Kind::VariableDeclaration => Some(Statement::VariableDeclaration {
             kind: node.text(),
             declarations: node.parts(),
         }),
-        _ => leaving(node),
-    }
-}
-
-/// Statements whose only part may be missing.
-fn leaving<'t, 's>(node: Node<'t, 's>) -> Option<Statement<'t, 's>>
-    ensures { option_map statement_seen result ≡ leaving_by (kind_of (node_tree node.entry)) (node_tree node.entry) }
-{
-    let only = node.part(0);
-    match node.kind() {
-        Kind::ReturnStatement => Some(Statement::Return { argument: only }),
-        Kind::BreakStatement => Some(Statement::Break { label: only }),
-        Kind::ContinueStatement => Some(Statement::Continue { label: only }),
-        _ => declared(node),
-    }
-}
-
-/// Declarations of functions and classes, loops with steps, and statements whose first part must be there.
-fn declared<'t, 's>(node: Node<'t, 's>) -> Option<Statement<'t, 's>>
-    ensures { option_map statement_seen result ≡ declared_by (kind_of (node_tree node.entry)) (node_tree node.entry) }
-{
-    match node.kind() {
-        Kind::FunctionDeclaration => Function::of(node).map(Statement::FunctionDeclaration),
-        Kind::ClassDeclaration => Class::of(node).map(Statement::ClassDeclaration),
-        Kind::ForStatement => for_each_step(node),
-        _ => {
-            let first = node.part(0)?;
-            headed(node, first)
+        Kind::FunctionDeclaration => {
+            let function = Function::of(node)?;
+            Some(Statement::FunctionDeclaration(function))
         }
+        Kind::ClassDeclaration => {
+            let class = Class::of(node)?;
+            Some(Statement::ClassDeclaration(class))
+        }
+        Kind::ForStatement => for_each_step(node),
+        _ => headed(node),
     }
 }
 
@@ -160,10 +150,10 @@ fn for_each_step<'t, 's>(node: Node<'t, 's>) -> Option<Statement<'t, 's>>
 }
 
 /// Statements whose first part must be there.
-fn headed<'t, 's>(node: Node<'t, 's>, first: Node<'t, 's>) -> Option<Statement<'t, 's>>
-    requires { Some (node_tree first) ≡ field 0 (node_tree node) }
+fn headed<'t, 's>(node: Node<'t, 's>) -> Option<Statement<'t, 's>>
     ensures { option_map statement_seen result ≡ headed_by (kind_of (node_tree node.entry)) (node_tree node.entry) }
 {
+    let first = node.part(0)?;
     match node.kind() {
         Kind::ExpressionStatement => {
             let flags = node.flags();
@@ -179,10 +169,7 @@ fn headed<'t, 's>(node: Node<'t, 's>, first: Node<'t, 's>) -> Option<Statement<'
             cases: node.parts().skip(1),
         }),
         Kind::TryStatement => tried(node, first),
-        _ => {
-            let second = node.part(1)?;
-            paired(node, first, second)
-        }
+        _ => paired(node, first),
     }
 }
 
@@ -201,15 +188,11 @@ fn tried<'t, 's>(node: Node<'t, 's>, block: Node<'t, 's>) -> Option<Statement<'t
 }
 
 /// Statements whose second part must be there too.
-fn paired<'t, 's>(
-    node: Node<'t, 's>,
-    first: Node<'t, 's>,
-    second: Node<'t, 's>,
-) -> Option<Statement<'t, 's>>
-    requires first { Some (node_tree first) ≡ field 0 (node_tree node) }
-    requires second { Some (node_tree second) ≡ field 1 (node_tree node) }
+fn paired<'t, 's>(node: Node<'t, 's>, first: Node<'t, 's>) -> Option<Statement<'t, 's>>
+    requires { Some (node_tree first) ≡ field 0 (node_tree node) }
     ensures { option_map statement_seen result ≡ paired_by (kind_of (node_tree node.entry)) (node_tree node.entry) }
 {
+    let second = node.part(1)?;
     match node.kind() {
         Kind::LabeledStatement => Some(Statement::Labeled {
             label: first,
@@ -245,9 +228,10 @@ fn for_each<'t, 's>(
     requires second { Some (node_tree right) ≡ field 1 (node_tree node) }
     ensures { option_map statement_seen result ≡ for_each_by (kind_of (node_tree node.entry)) (node_tree node.entry) }
 {
-    match (node.kind(), node.part(2)) {
-        (Kind::ForInStatement, Some(body)) => Some(Statement::ForIn { left, right, body }),
-        (Kind::ForOfStatement, Some(body)) => Some(Statement::ForOf { left, right, body }),
+    let body = node.part(2)?;
+    match node.kind() {
+        Kind::ForInStatement => Some(Statement::ForIn { left, right, body }),
+        Kind::ForOfStatement => Some(Statement::ForOf { left, right, body }),
         _ => None,
     }
 }

@@ -1,12 +1,12 @@
 use Rattle.std.proofs.Common.{◌∙◌, ap, option_map}
 use Rattle.tree.specs.Tree.{kind_of}
 use Rattle.tree.specs.Node.{node_tree}
-use Rattle.views.proofs.Defaults.{headed_statement_else, paired_missing}
+use Rattle.views.proofs.Defaults.{headed_statement_else, headed_missing}
 use Rattle.views.specs.Statements.{statement_seen}
 use Rattle.views.proofs.statement.headed.Goals as goal
 
-pub returns-in_ok-second-in_default : goal.returns-in_ok-second-in_default
-returns-in_ok-second-in_default c =
+pub returns-in_default : goal.returns-in_default
+returns-in_default c =
     c.paired.ensures
     ∙ headed_statement_else (kind_of (node_tree c.args.node)) (node_tree c.args.node)
     (λ is. c.in_default.not-ExpressionStatement (c.kind.ensures ∙ is))
@@ -14,12 +14,7 @@ returns-in_ok-second-in_default c =
     (λ is. c.in_default.not-SwitchStatement (c.kind.ensures ∙ is))
     (λ is. c.in_default.not-TryStatement (c.kind.ensures ∙ is))
 
-pub returns-in_err-second-in_default : goal.returns-in_err-second-in_default
-returns-in_err-second-in_default c =
+pub returns-in_err-first : goal.returns-in_err-first
+returns-in_err-first c =
     ap (option_map statement_seen) c.from_residual.ensures
-    ∙ paired_missing (kind_of (node_tree c.args.node)) (node_tree c.args.node) c.in_err-second-in_default.ensures
-    ∙ headed_statement_else (kind_of (node_tree c.args.node)) (node_tree c.args.node)
-    (λ is. c.in_default.not-ExpressionStatement (c.kind.ensures ∙ is))
-    (λ is. c.in_default.not-ThrowStatement (c.kind.ensures ∙ is))
-    (λ is. c.in_default.not-SwitchStatement (c.kind.ensures ∙ is))
-    (λ is. c.in_default.not-TryStatement (c.kind.ensures ∙ is))
+    ∙ headed_missing (kind_of (node_tree c.args.node)) (node_tree c.args.node) c.in_err-first.ensures
