@@ -113,3 +113,14 @@ paired_expression_missing kind.LogicalExpression t h = two-lack-second _ _ _ h
 paired_expression_missing kind.AssignmentExpression t h = two-lack-second _ _ _ h
 paired_expression_missing kind.ConditionalExpression t h = three-lack-second _ _ _ _ h
 paired_expression_missing _ t h = refl
+
+pub operands_else : (k : Kind) (t : Tree) → (k ≡ kind.BinaryExpression → ⊥) → (k ≡ kind.LogicalExpression → ⊥) → (k ≡ kind.AssignmentExpression → ⊥) → None ≡ operands_by k t
+operands_else kind.BinaryExpression t binary logical assignment = absurd (binary refl)
+operands_else kind.LogicalExpression t binary logical assignment = absurd (logical refl)
+operands_else kind.AssignmentExpression t binary logical assignment = absurd (assignment refl)
+operands_else _ t binary logical assignment = refl
+
+pub for_each_else : (k : Kind) (t : Tree) → (k ≡ kind.ForInStatement → ⊥) → (k ≡ kind.ForOfStatement → ⊥) → None ≡ s.for_each_by k t
+for_each_else kind.ForInStatement t keys values = absurd (keys refl)
+for_each_else kind.ForOfStatement t keys values = absurd (values refl)
+for_each_else _ t keys values = refl
