@@ -1,7 +1,8 @@
-use Rattle.std.proofs.Common.{◌∙◌}
+use Rattle.std.proofs.Common.{◌∙◌, ap, option_map}
 use Rattle.tree.specs.Tree.{kind_of}
 use Rattle.tree.specs.Node.{node_tree}
-use Rattle.views.proofs.Defaults.{headed_else}
+use Rattle.views.proofs.Defaults.{headed_else, member_missing}
+use Rattle.views.specs.Expressions.{expression_seen}
 use Rattle.views.proofs.expression.headed.Goals as goal
 
 pub returns-in_default : goal.returns-in_default
@@ -14,3 +15,8 @@ returns-in_default c =
     (λ is. c.in_default.not-ChainExpression (c.kind.ensures ∙ is))
     (λ is. c.in_default.not-UpdateExpression (c.kind.ensures ∙ is))
     (λ is. c.in_default.not-UnaryExpression (c.kind.ensures ∙ is))
+
+pub returns-in_err-first : goal.returns-in_err-first
+returns-in_err-first c =
+    ap (option_map expression_seen) c.from_residual.ensures
+    ∙ member_missing (kind_of (node_tree c.args.node)) (node_tree c.args.node) c.in_err-first.ensures

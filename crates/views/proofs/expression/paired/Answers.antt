@@ -1,7 +1,8 @@
-use Rattle.std.proofs.Common.{◌∙◌}
+use Rattle.std.proofs.Common.{◌∙◌, ap, option_map}
 use Rattle.tree.specs.Tree.{kind_of}
 use Rattle.tree.specs.Node.{node_tree}
-use Rattle.views.proofs.Defaults.{paired_else}
+use Rattle.views.proofs.Defaults.{paired_else, paired_expression_missing}
+use Rattle.views.specs.Expressions.{expression_seen}
 use Rattle.views.proofs.expression.paired.Goals as goal
 
 pub returns-in_default : goal.returns-in_default
@@ -12,3 +13,8 @@ returns-in_default c =
     (λ is. c.in_default.not-MemberExpression (c.kind.ensures ∙ is))
     (λ is. c.in_default.not-MetaProperty (c.kind.ensures ∙ is))
     (λ is. c.in_default.not-ConditionalExpression (c.kind.ensures ∙ is))
+
+pub returns-in_err-second : goal.returns-in_err-second
+returns-in_err-second c =
+    ap (option_map expression_seen) c.from_residual.ensures
+    ∙ paired_expression_missing (kind_of (node_tree c.args.node)) (node_tree c.args.node) c.in_err-second.ensures

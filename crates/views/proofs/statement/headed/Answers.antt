@@ -1,7 +1,8 @@
-use Rattle.std.proofs.Common.{◌∙◌}
+use Rattle.std.proofs.Common.{◌∙◌, ap, option_map}
 use Rattle.tree.specs.Tree.{kind_of}
 use Rattle.tree.specs.Node.{node_tree}
-use Rattle.views.proofs.Defaults.{headed_statement_else}
+use Rattle.views.proofs.Defaults.{headed_statement_else, headed_missing}
+use Rattle.views.specs.Statements.{statement_seen}
 use Rattle.views.proofs.statement.headed.Goals as goal
 
 pub returns-in_default : goal.returns-in_default
@@ -12,3 +13,8 @@ returns-in_default c =
     (λ is. c.in_default.not-ThrowStatement (c.kind.ensures ∙ is))
     (λ is. c.in_default.not-SwitchStatement (c.kind.ensures ∙ is))
     (λ is. c.in_default.not-TryStatement (c.kind.ensures ∙ is))
+
+pub returns-in_err-first : goal.returns-in_err-first
+returns-in_err-first c =
+    ap (option_map statement_seen) c.from_residual.ensures
+    ∙ headed_missing (kind_of (node_tree c.args.node)) (node_tree c.args.node) c.in_err-first.ensures
