@@ -4,6 +4,4 @@ pub mod Quotes
 pub mod Walking
 pub mod Floatless
 pub mod Shown
-mod ScriptRows
-mod ExpressionRows
-mod StatementRows
+mod Rows

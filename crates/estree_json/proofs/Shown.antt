@@ -159,6 +159,9 @@ d38 = decimal_step 38 (lit≤ tt) (lit< tt) ∙ ap (λ ds. ds ++ 56 ∷ []) (dec
 pub d39 : decimal 39 ≡ 51 ∷ 57 ∷ []
 d39 = decimal_step 39 (lit≤ tt) (lit< tt) ∙ ap (λ ds. ds ++ 57 ∷ []) (decimal_digit 3 (lit< tt))
 
+pub d40 : decimal 40 ≡ 52 ∷ 48 ∷ []
+d40 = decimal_step 40 (lit≤ tt) (lit< tt) ∙ ap (λ ds. ds ++ 48 ∷ []) (decimal_digit 4 (lit< tt))
+
 pub d41 : decimal 41 ≡ 52 ∷ 49 ∷ []
 d41 = decimal_step 41 (lit≤ tt) (lit< tt) ∙ ap (λ ds. ds ++ 49 ∷ []) (decimal_digit 4 (lit< tt))
 
@@ -168,26 +171,59 @@ d42 = decimal_step 42 (lit≤ tt) (lit< tt) ∙ ap (λ ds. ds ++ 50 ∷ []) (dec
 pub d43 : decimal 43 ≡ 52 ∷ 51 ∷ []
 d43 = decimal_step 43 (lit≤ tt) (lit< tt) ∙ ap (λ ds. ds ++ 51 ∷ []) (decimal_digit 4 (lit< tt))
 
-pub d44 : decimal 44 ≡ 52 ∷ 52 ∷ []
-d44 = decimal_step 44 (lit≤ tt) (lit< tt) ∙ ap (λ ds. ds ++ 52 ∷ []) (decimal_digit 4 (lit< tt))
+pub d45 : decimal 45 ≡ 52 ∷ 53 ∷ []
+d45 = decimal_step 45 (lit≤ tt) (lit< tt) ∙ ap (λ ds. ds ++ 53 ∷ []) (decimal_digit 4 (lit< tt))
 
 pub d46 : decimal 46 ≡ 52 ∷ 54 ∷ []
 d46 = decimal_step 46 (lit≤ tt) (lit< tt) ∙ ap (λ ds. ds ++ 54 ∷ []) (decimal_digit 4 (lit< tt))
 
+pub d47 : decimal 47 ≡ 52 ∷ 55 ∷ []
+d47 = decimal_step 47 (lit≤ tt) (lit< tt) ∙ ap (λ ds. ds ++ 55 ∷ []) (decimal_digit 4 (lit< tt))
+
 pub d48 : decimal 48 ≡ 52 ∷ 56 ∷ []
 d48 = decimal_step 48 (lit≤ tt) (lit< tt) ∙ ap (λ ds. ds ++ 56 ∷ []) (decimal_digit 4 (lit< tt))
+
+pub d49 : decimal 49 ≡ 52 ∷ 57 ∷ []
+d49 = decimal_step 49 (lit≤ tt) (lit< tt) ∙ ap (λ ds. ds ++ 57 ∷ []) (decimal_digit 4 (lit< tt))
+
+pub d50 : decimal 50 ≡ 53 ∷ 48 ∷ []
+d50 = decimal_step 50 (lit≤ tt) (lit< tt) ∙ ap (λ ds. ds ++ 48 ∷ []) (decimal_digit 5 (lit< tt))
+
+pub d51 : decimal 51 ≡ 53 ∷ 49 ∷ []
+d51 = decimal_step 51 (lit≤ tt) (lit< tt) ∙ ap (λ ds. ds ++ 49 ∷ []) (decimal_digit 5 (lit< tt))
 
 pub d53 : decimal 53 ≡ 53 ∷ 51 ∷ []
 d53 = decimal_step 53 (lit≤ tt) (lit< tt) ∙ ap (λ ds. ds ++ 51 ∷ []) (decimal_digit 5 (lit< tt))
 
-pub d54 : decimal 54 ≡ 53 ∷ 52 ∷ []
-d54 = decimal_step 54 (lit≤ tt) (lit< tt) ∙ ap (λ ds. ds ++ 52 ∷ []) (decimal_digit 5 (lit< tt))
-
 pub d55 : decimal 55 ≡ 53 ∷ 53 ∷ []
 d55 = decimal_step 55 (lit≤ tt) (lit< tt) ∙ ap (λ ds. ds ++ 53 ∷ []) (decimal_digit 5 (lit< tt))
+
+pub d56 : decimal 56 ≡ 53 ∷ 54 ∷ []
+d56 = decimal_step 56 (lit≤ tt) (lit< tt) ∙ ap (λ ds. ds ++ 54 ∷ []) (decimal_digit 5 (lit< tt))
 
 pub d57 : decimal 57 ≡ 53 ∷ 55 ∷ []
 d57 = decimal_step 57 (lit≤ tt) (lit< tt) ∙ ap (λ ds. ds ++ 55 ∷ []) (decimal_digit 5 (lit< tt))
 
+pub d58 : decimal 58 ≡ 53 ∷ 56 ∷ []
+d58 = decimal_step 58 (lit≤ tt) (lit< tt) ∙ ap (λ ds. ds ++ 56 ∷ []) (decimal_digit 5 (lit< tt))
+
 pub d59 : decimal 59 ≡ 53 ∷ 57 ∷ []
 d59 = decimal_step 59 (lit≤ tt) (lit< tt) ∙ ap (λ ds. ds ++ 57 ∷ []) (decimal_digit 5 (lit< tt))
+
+pub d61 : decimal 61 ≡ 54 ∷ 49 ∷ []
+d61 = decimal_step 61 (lit≤ tt) (lit< tt) ∙ ap (λ ds. ds ++ 49 ∷ []) (decimal_digit 6 (lit< tt))
+
+pub d62 : decimal 62 ≡ 54 ∷ 50 ∷ []
+d62 = decimal_step 62 (lit≤ tt) (lit< tt) ∙ ap (λ ds. ds ++ 50 ∷ []) (decimal_digit 6 (lit< tt))
+
+pub d63 : decimal 63 ≡ 54 ∷ 51 ∷ []
+d63 = decimal_step 63 (lit≤ tt) (lit< tt) ∙ ap (λ ds. ds ++ 51 ∷ []) (decimal_digit 6 (lit< tt))
+
+pub d64 : decimal 64 ≡ 54 ∷ 52 ∷ []
+d64 = decimal_step 64 (lit≤ tt) (lit< tt) ∙ ap (λ ds. ds ++ 52 ∷ []) (decimal_digit 6 (lit< tt))
+
+pub d65 : decimal 65 ≡ 54 ∷ 53 ∷ []
+d65 = decimal_step 65 (lit≤ tt) (lit< tt) ∙ ap (λ ds. ds ++ 53 ∷ []) (decimal_digit 6 (lit< tt))
+
+pub d66 : decimal 66 ≡ 54 ∷ 54 ∷ []
+d66 = decimal_step 66 (lit≤ tt) (lit< tt) ∙ ap (λ ds. ds ++ 54 ∷ []) (decimal_digit 6 (lit< tt))
