@@ -2,6 +2,7 @@ pub mod Steps
 pub mod Tables
 pub mod Quotes
 pub mod Walking
+pub mod Turns
 pub mod Floatless
 pub mod Shown
 mod Rows
