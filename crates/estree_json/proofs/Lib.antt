@@ -4,5 +4,4 @@ pub mod Quotes
 pub mod Walking
 pub mod Turns
 pub mod Floatless
-pub mod Shown
 mod Rows
