@@ -1,5 +1,5 @@
 -- Values that are taken in turns.
-use Rattle.std.proofs.Common.{◌≡◌, ◌<◌, List, [], ◌∷◌, ◌++◌, length, map, refl, sym, ap, ◌∙◌, arith}
+use Rattle.std.proofs.Common.{◌≡◌, ◌<◌, List, [], ◌∷◌, ◌++◌, length, map, refl, ap, ◌∙◌, arith}
 use Rattle.serde_json.specs.Data.{Data}
 use Rattle.serde_json.specs.View.{view}
 use Rattle.serde_json.specs.declared.value.Value.{Value}
@@ -25,8 +25,8 @@ pub two_turns : (old mid new odd more_odd even more_even : List Value) (v w : Va
     → (map view more_odd ++ odd_ones (map view new) ≡ firsts) × (map view more_even ++ even_ones (map view new) ≡ seconds)
 two_turns old mid new odd more_odd even more_even v w firsts seconds e f g h i j =
     let both : map view old ≡ view v ∷ view w ∷ map view new = ap (map view) (e ∙ ap (λ vs. v ∷ vs) f) in (
-      one_more odd more_odd v (view v) (odd_ones (map view new)) (odd_ones (map view old)) firsts (sym g) refl (ap odd_ones both) i,
-      one_more even more_even w (view w) (even_ones (map view new)) (even_ones (map view old)) seconds (sym h) refl (ap even_ones both ∙ next_turn (view w) (map view new)) j,
+      one_more odd more_odd v (view v) (odd_ones (map view new)) (odd_ones (map view old)) firsts g refl (ap odd_ones both) i,
+      one_more even more_even w (view w) (even_ones (map view new)) (even_ones (map view old)) seconds h refl (ap even_ones both ∙ next_turn (view w) (map view new)) j,
     )
 
 -- the last value is taken
@@ -35,7 +35,7 @@ pub last_turn : (old mid new odd more_odd even : List Value) (v : Value) (firsts
     → (map view more_odd ++ odd_ones (map view new) ≡ firsts) × (map view even ++ even_ones (map view new) ≡ seconds)
 last_turn old mid new odd more_odd even v firsts seconds e f n g i j =
     let last : old ≡ v ∷ [] = e ∙ ap (λ vs. v ∷ vs) (f ∙ n) in
-    let first : map view more_odd ++ [] ≡ firsts = one_more odd more_odd v (view v) [] (odd_ones (map view old)) firsts (sym g) refl (ap (λ vs. odd_ones (map view vs)) last) i in
+    let first : map view more_odd ++ [] ≡ firsts = one_more odd more_odd v (view v) [] (odd_ones (map view old)) firsts g refl (ap (λ vs. odd_ones (map view vs)) last) i in
     let second : map view even ++ [] ≡ seconds = rw last at j in
     rw n (first, second)
 
