@@ -2,8 +2,6 @@ pub mod Steps
 pub mod Tables
 pub mod Quotes
 pub mod Walking
+pub mod Turns
 pub mod Floatless
-pub mod Shown
-mod ScriptRows
-mod ExpressionRows
-mod StatementRows
+mod Rows

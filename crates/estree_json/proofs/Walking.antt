@@ -37,10 +37,10 @@ unfolding parts_json
 left_none ps i l = ap parts_json (parts_drop-past ps i l)
 
 -- one more value
-pub one_more : (old new : List Value) (v : Value) (d : Data) (rest left whole : List Data) → old ++ v ∷ [] ≡ new → view v ≡ d → left ≡ d ∷ rest → map view old ++ left ≡ whole
+pub one_more : (old new : List Value) (v : Value) (d : Data) (rest left whole : List Data) → new ≡ old ++ v ∷ [] → view v ≡ d → left ≡ d ∷ rest → map view old ++ left ≡ whole
     → map view new ++ rest ≡ whole
 one_more old new v d rest left whole n e l w =
-    rw (← n, map-append view old (v ∷ []), append_assoc, e, ← l) w
+    rw (n, map-append view old (v ∷ []), append_assoc, e, ← l) w
 
 pub all_found : (vs : List Value) (left whole : List Data) → left ≡ [] → map view vs ++ left ≡ whole → map view vs ≡ whole
 all_found vs left whole e w = sym (append-nil (map view vs)) ∙ rw e at w

@@ -1,11 +1,11 @@
 //! The fields of a node: those of names, literals and templates, and by the tables those of all else.
 
 ghost use Rattle.std.specs.Prelude.{◌≡◌, IfOk, codes};
-ghost use Rattle.serde_json.specs.Data.{string};
+ghost use Rattle.serde_json.specs.Data.{boolean, string};
 ghost use Rattle.tree.specs.Node.{node_tree};
 ghost use Rattle.tree.specs.Tree.{kind_of, parts_of};
 ghost use Rattle.estree_json.specs.Fields.{fields as all_fields, directive, first_text as text_of_first, property_kind as kind_of_property, method_kind as kind_of_method};
-ghost use Rattle.estree_json.specs.Texts.{literal_value as value_of_literal, literal_regex as regex_of_literal};
+ghost use Rattle.estree_json.specs.Texts.{literal_value as value_of_literal, literal_regex as regex_of_literal, template_value as value_of_template};
 ghost use Rattle.estree_json.specs.Json.{with_fields, with_value, with_option, label_of};
 ghost use Rattle.estree_json.specs.Table.{with_line as line_of, with_each as each_of, flag_of};
 ghost use Rattle.estree_json.specs.View.{made};
@@ -30,11 +30,23 @@ pub fn with_all(
         Kind::Identifier => object.text("name", node.text()),
         Kind::Literal => with_literal(alloc, object, node.text()),
         Kind::TemplateLiteral => object.turns("quasis", "expressions"),
-        Kind::TemplateElement => object
-            .value("value", template_value(alloc, node.text())?)?
-            .flag("tail", is_last),
+        Kind::TemplateElement => with_template(alloc, object, node.text(), is_last),
         _ => with_each(object, node, function_fields(kind)),
     }
+}
+
+/// A part of a template.
+fn with_template(
+    alloc: Global,
+    object: Object,
+    raw: &str,
+    is_last: bool,
+) -> Result<Object, AllocError>
+    ensures { IfOk result (λ o. made o ≡ with_value (codes "tail") (boolean is_last) (with_value (codes "value") (value_of_template raw.now) (made object))) }
+{
+    object
+        .value("value", template_value(alloc, raw)?)?
+        .flag("tail", is_last)
 }
 
 /// A literal.

@@ -43,7 +43,6 @@ pub fn literal_regex(alloc: Global, raw: &str) -> Result<Option<Value>, AllocErr
 }
 
 /// Pattern and flags of what stands behind the first `/`.
-#[tactic(auto, using(crate::proofs::Steps::regex_made))]
 fn regex_value(alloc: Global, rest: &str) -> Result<Value, AllocError>
     ensures { IfOk result (λ v. view v ≡ regex_of rest.now) }
 {
@@ -66,7 +65,6 @@ fn regex_parts(rest: &str) -> (&str, &str)
 }
 
 /// `value` of a template's part, of its raw value.
-#[tactic(auto, using(crate::proofs::Steps::template_made))]
 pub fn template_value(alloc: Global, raw: &str) -> Result<Value, AllocError>
     ensures { IfOk result (λ v. view v ≡ value_of_template raw.now) }
 {

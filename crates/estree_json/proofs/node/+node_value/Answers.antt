@@ -1,4 +1,4 @@
-use Rattle.std.proofs.Common.{◌≡◌, ◌+◌, ◌<◌, ◌∙◌, ap, arith, sym, None, rules, nat_eq}
+use Rattle.std.proofs.Common.{◌≡◌, ◌+◌, ◌<◌, ◌∙◌, ap, arith, None, rules, nat_eq}
 use Rattle.tree.specs.Tree.{parts_of, part_at, part_count}
 use Rattle.tree.specs.Node.{node_tree}
 use Rattle.tree.proofs.PartWalk.{parts_drop, part_smaller}
@@ -28,11 +28,11 @@ loop-index-preserved t c =
           let last = ap (λ k. nat_eq (index + 1) k) c.part_count-count.ensures ∙ is_end ps index here in
           let seen = ap view w.value-is ∙ w.in_ok-value-in-Some.ensures ∙ ap (λ b. node_json b u) last in
           one_more old new c.match-part.value (node_json (ends_parts (parts_drop (index + 1) ps)) u) rest left (parts_json ps)
-          (sym c.in_ok-push_back.ensures.items) seen (left_some ps index u w.in-Some.ensures) c.loop-index.invariant
+          c.in_ok-push_back.ensures.items seen (left_some ps index u w.in-Some.ensures) c.loop-index.invariant
       | in-None w ↦
           let missing : None ≡ part_at ps index = search rules in
           one_more old new c.match-part.value null rest left (parts_json ps)
-          (sym c.in_ok-push_back.ensures.items) (ap view w.value-is ∙ view_null) (left_gap ps index missing here) c.loop-index.invariant
+          c.in_ok-push_back.ensures.items (ap view w.value-is ∙ view_null) (left_gap ps index missing here) c.loop-index.invariant
     ]
 
 pub returns : goal.returns
