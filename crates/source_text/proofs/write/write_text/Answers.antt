@@ -1,4 +1,4 @@
-use Rattle.std.proofs.Common.{◌-◌, ◌≤◌, length, take, drop, arith, length-take, length-drop}
+use Rattle.std.proofs.Common.{◌-◌, ◌≤◌, length, take, drop, arith, rules, length-take, length-drop}
 use Rattle.source_text.proofs.Pieces.{written_more}
 use Rattle.source_text.proofs.write.write_text.Goals as goal
 
@@ -15,3 +15,6 @@ loop-at-preserved g c =
       taken = written_more _ _ _ t c.loop-at.at m n here c.loop-at.invariant.taken put.2;
       sound = put.3;
     }
+
+pub put-requires : goal.put-requires
+put-requires g c = search rules
