@@ -18,10 +18,10 @@ sys.path.insert(0, '/opt/rattle/bin')
 import rtlib  # noqa: E402
 
 
-def check(crate, folder):
-    """Checks the crate over the folder, and keeps there what it proved."""
-    words = [rtlib.RATTLE, 'check', *crate.words(['--jobs', '1'], keeps=True), '--incremental', folder]
-    done = subprocess.run(words, cwd=crate.folder, stdout=subprocess.PIPE, stderr=subprocess.STDOUT, text=True)
+def check(crate, folder, sources=None, *flags):
+    """Checks the crate, or these sources in place of its own, over the folder, and keeps there what it proved."""
+    words = [rtlib.RATTLE, 'check', *crate.words(['--jobs', '1'], keeps=True), '--incremental', folder, *flags]
+    done = subprocess.run(words, cwd=sources or crate.folder, stdout=subprocess.PIPE, stderr=subprocess.STDOUT, text=True)
     print(done.stdout.strip().split('\n')[-1])
 
 
