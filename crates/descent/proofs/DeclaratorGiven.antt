@@ -89,7 +89,7 @@ module _ (text : List ℕ) where
 -- a pattern that may be bound
 target_listed : (x : Assigned) → is_target x ≡ true → is_pattern x ≡ true
 target_listed assigned.Target h = refl
-target_listed _ h = cc
+target_listed _ h = absurd (false≢true h)
 
 name_simple : (k : Kind) → k ≡ Identifier → Rattle.language.specs.Words.is_target k ≡ true
 name_simple k e = ap Rattle.language.specs.Words.is_target e

@@ -50,7 +50,7 @@ is_elements _ = false
 
 -- they are no parts of a template
 pub elements_plain : (x : Listed) → is_elements x ≡ true → is_chunked x ≡ false
-elements_plain listed.Template h = cc
+elements_plain listed.Template h = absurd (false≢true h)
 elements_plain _ h = refl
 
 -- in each of them but for an expression in parentheses and a setter's parameter `...` may stand before one
@@ -76,7 +76,7 @@ element_ends text listed.Elements n e h d = d
 element_ends text listed.Covers n e h d = d
 element_ends text listed.Parameters n e h d = d
 element_ends text listed.OneParameter n e h d = d
-element_ends text _ n e h d = cc
+element_ends text _ n e h d = absurd (false≢true h)
 
 -- a spread of an expression, a rest of a pattern
 abbrev pub dotted_node : Reading → ℕ → ℕ → Tree → Tree

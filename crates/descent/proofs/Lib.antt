@@ -38,6 +38,7 @@ pub mod PieceBy
 pub mod PieceLists
 pub mod PieceParts
 pub mod PieceTokens
+pub mod PieceViews
 pub mod Parting
 pub mod Passing
 pub mod Righted

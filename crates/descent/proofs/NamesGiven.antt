@@ -54,13 +54,13 @@ key_class : (c : Class) → ways.is_key_class c ≡ true → is_key_class c ≡ 
 key_class Name h = refl
 key_class Number h = refl
 key_class Text h = refl
-key_class _ h = cc
+key_class _ h = absurd (false≢true h)
 
 class_key : (c : Class) → is_key_class c ≡ true → ways.is_key_class c ≡ true
 class_key Name h = refl
 class_key Number h = refl
 class_key Text h = refl
-class_key _ h = cc
+class_key _ h = absurd (false≢true h)
 
 or_true : (b : Bool) → (b || true) ≡ true
 or_true true = refl
