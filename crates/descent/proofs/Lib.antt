@@ -39,6 +39,7 @@ pub mod PieceLists
 pub mod PieceParts
 pub mod PieceTokens
 pub mod PieceViews
+pub mod FreeRanks
 pub mod Parting
 pub mod Passing
 pub mod Righted

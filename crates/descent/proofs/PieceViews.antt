@@ -15,7 +15,7 @@ use Rattle.descent.specs.declared.pieces.Wanted.TheVariants as wanted
 use Rattle.descent.specs.Wants.{WantedAt}
 
 -- a test of what is wanted, where something is
-abbrev of_some : (Wanted → Bool) → Option Wanted → Bool
+abbrev pub of_some : (Wanted → Bool) → Option Wanted → Bool
 of_some f None = false
 of_some f (Some w) = f w
 
@@ -221,3 +221,12 @@ is_something _ = true
 
 pub something : (want : Wanted) → is_something want ≡ true → want ≡ wanted.Nothing → ⊥
 something want h e = true≢false (sym h ∙ ap is_something e)
+
+-- nothing, and a part that is missing
+abbrev pub is_nothing : Wanted → Bool
+is_nothing wanted.Nothing = true
+is_nothing _ = false
+
+abbrev pub is_gap : Wanted → Bool
+is_gap wanted.Gap = true
+is_gap _ = false

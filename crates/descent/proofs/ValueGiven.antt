@@ -49,23 +49,12 @@ use Rattle.phrases.specs.Seen.{NoName, Sees, SeesBy, MissesBy, declares}
 use Rattle.phrases.specs.Stated.{put_node, takes_put, with_part}
 use Rattle.phrases.specs.Tests.{is_each}
 use Rattle.descent.specs.Wants.{WantedAt, HeadAt}
+use Rattle.descent.proofs.FreeRanks.{no_conditional, no_new}
 use Rattle.descent.proofs.Agreeing.{refuses_on, refuses_unless, room_part, ends_behind, words_same}
 use Rattle.descent.proofs.PieceParts.{position_of, each_at, wanted_nodes}
 use Rattle.descent.proofs.PieceViews.{something, ExpressionPiece, expression_of_expression, expression_of_assignment, expression_of_test, expression_of_update, expression_of_argument, expression_of_heritage, expression_of_head, wants_expression}
 use Rattle.descent.proofs.PiecesLeft.{SameOf, RefusedOf}
 use Rattle.phrases.proofs.Seeing.{mark_by}
-
--- neither a conditional's test nor what stands behind `new`
-abbrev is_free : Rank → Bool
-is_free Conditional = false
-is_free New = false
-is_free _ = true
-
-no_conditional : {y : Rank} → is_free y ≡ true → y ≡ Conditional → ⊥
-no_conditional h e = false≢true (sym (ap is_free e) ∙ h)
-
-no_new : {y : Rank} → is_free y ≡ true → y ≡ New → ⊥
-no_new h e = false≢true (sym (ap is_free e) ∙ h)
 
 -- an expression that a piece wants, in its reading
 record ValueGiven (text : List ℕ) (p : Coded) (pos : Position) (o : ℕ) (m e : Token) (y : Edge) (put : Parts) (P : List Pair) : Type 0 where
