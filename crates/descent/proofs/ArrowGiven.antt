@@ -39,6 +39,7 @@ use Rattle.phrases.specs.Parts.{plain_part}
 use Rattle.phrases.specs.Pieces as Piece
 use Rattle.phrases.specs.Seen.{ReadsHere, Sees, Misses}
 use Rattle.phrases.specs.Stated.{built_of}
+use Rattle.descent.proofs.FreeRanks.{no_conditional, no_new}
 use Rattle.descent.proofs.Agreeing.{read_here, refuses_on, agrees_err, refuses_high, not_missed, ends_behind}
 use Rattle.descent.proofs.Arrowed.{concise, join_one}
 
@@ -174,7 +175,7 @@ module _ (s m : Point) (old mid : List Pair) (high inner : ℕ) (parameters : Pa
 
     -- an expression is refused
     value_given : {o : ℕ} {u : Tree} {to : Token} {P : List Pair} (p : Position) → p ≡ record { rank = Assignment; has_in = i; start = NoBrace } → SpellsIn m.text o (expr Assignment i NoBrace) u m.last to P → StopsIn m.text Assignment i u to → GivenAs m.text p o u m.last to P as_expression
-    value_given {o} {u} {to} {P} p is d stops = subst (λ x. GivenAs m.text x o u m.last to P as_expression) (sym is) (an_expression (λ h. cc) (λ h. cc) d stops)
+    value_given {o} {u} {to} {P} p is d stops = subst (λ x. GivenAs m.text x o u m.last to P as_expression) (sym is) (an_expression (no_conditional refl) (no_new refl) d stops)
 
     pub arrow_value_refused : (e : Point) (new : List Pair) (result : Result Part Fault) (fault : Fault) (p : Position) → IsErrAnd result (λ x. x ≡ fault) → Misses m.text Punctuator (codes "{") m.last → p ≡ record { rank = Assignment; has_in = i; start = NoBrace } →
         ExpressionComplete m e mid new inner p (Err fault) → ArrowComplete s e old new high parameters start i result

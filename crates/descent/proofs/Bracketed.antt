@@ -170,7 +170,7 @@ module _ (text : List ℕ) where
     where
       second : (a : Bool) → (a && is_element x.assigned) ≡ true → is_element x.assigned ≡ true
       second true k = k
-      second false k = cc
+      second false k = absurd (false≢true k)
 
   no_bare : {A : Type 0} {a : Role} → None ≡ Some a → A
   no_bare h = cc
@@ -213,8 +213,8 @@ module _ (text : List ℕ) where
       (template_at tk (placed_at text begins) (subst (λ x. RunsIn text o (goes_to Expression true Any (chunks true l.nodes)) l.nodes s x P) (sym w.closes) (w.runs as_expression refl))))
     where
       no_pattern : (b : Bool) → fits_as value (as_pattern b) ≡ true → ⊥
-      no_pattern true h = cc
-      no_pattern false h = cc
+      no_pattern true h = absurd (false≢true h)
+      no_pattern false h = absurd (false≢true h)
 
   -- the first part of a template, behind which it goes on
   first_spelled : (o : ℕ) (last : Bool) (n : Tree) {s e : Token} → FirstChunkAt text s e n last → SpellsIn text o (chunk true last) n s e []

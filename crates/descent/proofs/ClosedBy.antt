@@ -2,6 +2,7 @@
 use Rattle.std.proofs.Common.{◌≡◌, inl, inr, ℕ, Bool, true, false, not, cond, List, [], ◌∷◌, ◌++◌, Option, Some, None, Result, Ok, Err, refl, sym, ap, ◌∙◌, subst}
 use Rattle.std.specs.Prelude.{IfOk}
 use Rattle.std.proofs.lemmas.List.{append-nil}
+use Rattle.std.proofs.lemmas.Bool.{false≢true, true≢false}
 use Rattle.source_text.specs.declared.fault.Fault.{Fault}
 use Rattle.tokens.specs.Reading.{any_goal}
 use Rattle.token_cursor.specs.Point.{Point}
@@ -76,7 +77,7 @@ no_rest RestElement h = cc
 no_rest _ h = refl
 
 not_true : (b : Bool) → not b ≡ true → b ≡ false
-not_true true h = cc
+not_true true h = absurd (false≢true h)
 not_true false h = refl
 
 module _ (text : List ℕ) {o : ℕ} where
@@ -170,8 +171,8 @@ name_of c s e high ps (inl h) = subst (NameOf s.text c s.last e.last) (sym h.2) 
 name_of c s e high ps (inr h) = subst (NameOf s.text c s.last e.last) (sym h.2) (no_name (declared c h.0) h.3)
   where
     declared : (c : Closure) → asks_name c ≡ false → is_declared c ≡ false
-    declared closure.FunctionDeclaration h = cc
-    declared closure.ClassDeclaration h = cc
+    declared closure.FunctionDeclaration h = absurd (true≢false h)
+    declared closure.ClassDeclaration h = absurd (true≢false h)
     declared _ h = refl
 
 module _ (text : List ℕ) {o : ℕ} where

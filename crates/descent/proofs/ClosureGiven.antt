@@ -253,7 +253,7 @@ closure_high text r o s e x z ps P (closure.Method form.Constructor) g = last_hi
 asks_declared : (c : Closure) → asks_name c ≡ true → is_declared c ≡ true
 asks_declared closure.FunctionDeclaration h = refl
 asks_declared closure.ClassDeclaration h = refl
-asks_declared _ h = cc
+asks_declared _ h = absurd (false≢true h)
 
 -- no name, or it is too high
 pub name_refused : (s e : Point) (old new : List Pair) (high inner : ℕ) (c : Closure) (start : ℕ) (result : Result Tree Fault) (fault : Fault) → IsErrAnd result (λ x. x ≡ fault) → inner ≡ high - 1 → NotNamed c s inner fault → ClosureComplete s e old new high c start result

@@ -44,13 +44,13 @@ left_edge (node ArrayExpression w g s e ps) h = refl
 left_edge (node ObjectExpression w g s e ps) h = refl
 left_edge (node ArrayPattern w g s e ps) h = refl
 left_edge (node ObjectPattern w g s e ps) h = refl
-left_edge (node _ w g s e ps) h = cc
+left_edge (node _ w g s e ps) h = absurd (false≢true h)
 
 -- what is a simple target as a pattern is one as an expression
 simple_back : (k : Kind) → is_simple (pattern_kind k) ≡ true → is_simple k ≡ true
 simple_back Identifier h = refl
 simple_back MemberExpression h = refl
-simple_back _ h = cc
+simple_back _ h = absurd (false≢true h)
 
 tree_kind : (n : Tree) → kind_of (pattern_tree n) ≡ pattern_kind (kind_of n)
 tree_kind (node k w g s e ps) = refl

@@ -46,6 +46,7 @@ use Rattle.descent.specs.GivenLists.{declarator_as}
 use Rattle.phrases.specs.Outcomes.{BecomesHere}
 use Rattle.phrases.specs.Parts.{is_group}
 use Rattle.phrases.specs.Seen.{ReadsHere, Misses}
+use Rattle.descent.proofs.FreeRanks.{no_conditional, no_new}
 use Rattle.descent.proofs.Agreeing.{agrees_on, agrees_err, refuses_memory, refuses_unfit, refuses_made, marks_same, ends_both, ends_before, ends_same, ends_behind}
 use Rattle.descent.proofs.Listing.{bound_first, place_of}
 
@@ -89,7 +90,7 @@ module _ (text : List ℕ) where
 -- a pattern that may be bound
 target_listed : (x : Assigned) → is_target x ≡ true → is_pattern x ≡ true
 target_listed assigned.Target h = refl
-target_listed _ h = cc
+target_listed _ h = absurd (false≢true h)
 
 name_simple : (k : Kind) → k ≡ Identifier → Rattle.language.specs.Words.is_target k ≡ true
 name_simple k e = ap Rattle.language.specs.Words.is_target e
@@ -210,7 +211,7 @@ module _ (s e : Point) (old new : List Pair) (high : ℕ) (i : Bool) where
       -- its value is refused
       module _ (y : Point) (next last : List Pair) {r : Position} (r_is : r ≡ value_position i) (x_text : x.text ≡ s.text) where
         given_value : {a : Reading} {o : ℕ} {n : Tree} {to : Token} {P : List Pair} (v : Valued a o n to P) → GivenAs x.text r o v.value x.last to v.more as_expression
-        given_value {o = o} {to = to} v = subst (λ z. GivenAs z r o v.value x.last to v.more as_expression) (sym x_text) (subst (λ z. GivenAs s.text z o v.value x.last to v.more as_expression) (sym r_is) (an_expression (λ h. cc) (λ h. cc) v.spelled v.stopped))
+        given_value {o = o} {to = to} v = subst (λ z. GivenAs z r o v.value x.last to v.more as_expression) (sym x_text) (subst (λ z. GivenAs s.text z o v.value x.last to v.more as_expression) (sym r_is) (an_expression (no_conditional refl) (no_new refl) v.spelled v.stopped))
 
         pub declarator_value : (answer : Result Item Fault) (fault : Fault) → IsErrAnd answer (λ z. z ≡ fault) → inner ≡ high - 1 → x.opened ≡ s.opened → ExpressionComplete x y next last inner r (Err fault) → Whole answer
         declarator_value answer fault err inner_is opened complete = λ a o n to P d fine.

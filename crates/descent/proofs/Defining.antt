@@ -2,6 +2,7 @@
 use Rattle.std.proofs.Common.{◌≡◌, ℕ, Bool, true, false, cond, List, [], ◌++◌, refl, sym, ap, ◌∙◌, subst}
 use Rattle.std.specs.Prelude.{IsTrue, Some, codes, ◌&&◌, Result, Ok, Err, IfOk}
 use Rattle.std.proofs.lemmas.Bool.{false≢true}
+use Rattle.std.proofs.lemmas.Option.{none-some}
 use Rattle.tokens.specs.Tokens.{LexicalToken}
 use Rattle.tokens.specs.Reading.{any_goal, Reads as Scans}
 use Rattle.tokens.specs.Goals.{allows}
@@ -53,10 +54,10 @@ spread_of r st en = record { node = node SpreadElement [] plain st en (part r.co
 -- a target behind `...` among properties is no pattern
 target_bound : (b : Bool) (k : Kind) {a : Role} → target_at Any b k ≡ Some a → (bound b k ≡ Some a) × ((true && is_pattern k) ≡ false)
 target_bound true Identifier h = (h, refl)
-target_bound true _ h = cc
+target_bound true _ h = absurd (none-some _ h)
 target_bound false Identifier h = (h, refl)
 target_bound false MemberExpression h = (h, refl)
-target_bound false _ h = cc
+target_bound false _ h = absurd (none-some _ h)
 
 -- such a part has a target's shape
 record TargetShape (s : Shape) (b : Bool) : Type 0 where
@@ -65,17 +66,17 @@ record TargetShape (s : Shape) (b : Bool) : Type 0 where
 
 simple_target : (x : Assigned) → shapes.is_pattern (shapes.simple (record { is_expression = true; assigned = x; binds = true })).assigned ≡ true → x ≡ assigned.Target
 simple_target assigned.Target h = refl
-simple_target assigned.Nothing h = cc
-simple_target assigned.Pattern h = cc
-simple_target assigned.Defaulted h = cc
+simple_target assigned.Nothing h = absurd (false≢true h)
+simple_target assigned.Pattern h = absurd (false≢true h)
+simple_target assigned.Defaulted h = absurd (false≢true h)
 
 and_left : (a b : Bool) → (a && b) ≡ true → a ≡ true
 and_left true b h = refl
-and_left false b h = cc
+and_left false b h = absurd (false≢true h)
 
 and_right : (a b : Bool) → (a && b) ≡ true → b ≡ true
 and_right true b h = h
-and_right false b h = cc
+and_right false b h = absurd (false≢true h)
 
 both : (a b : Bool) → a ≡ true → b ≡ true → (a && b) ≡ true
 both true b h k = k

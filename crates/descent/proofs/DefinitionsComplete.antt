@@ -3,7 +3,7 @@ use Rattle.std.proofs.Common.{◌≡◌, ◌⊎◌, inl, inr, ℕ, suc, ◌-◌,
 use Rattle.std.specs.Prelude.{IfOk, Some, codes, not, ◌&&◌, if◌then◌else◌}
 use Rattle.std.specs.Bool.{OnTrue, OnFalse}
 use Rattle.std.specs.Result.{IsErrAnd}
-use Rattle.std.proofs.lemmas.Bool.{false≢true, and_parts}
+use Rattle.std.proofs.lemmas.Bool.{false≢true, and_parts, true≢false}
 use Rattle.source_text.specs.declared.fault.Fault.{Fault}
 use Rattle.source_text.specs.declared.fault.Fault.TheVariants.{Syntax, TooDeep, OutOfMemory}
 use Rattle.tokens.specs.declared.token.Class.TheVariants.{Punctuator}
@@ -57,11 +57,11 @@ agrees_map (Err _) d h g f = absurd h
 -- a test that was true, or false
 pub when_true : {X : Type 0} (b : Bool) → b ≡ true → OnTrue b X → X
 when_true true h x = x
-when_true false h x = cc
+when_true false h x = absurd (false≢true h)
 
 pub when_false : {X : Type 0} (b : Bool) → b ≡ false → OnFalse b X → X
 when_false false h x = x
-when_false true h x = cc
+when_false true h x = absurd (true≢false h)
 
 -- what stands behind `...` among properties fits as it did alone
 rest_fits : (a : Reading) (s : Shape) → fits_as s a ≡ true → ((b : Bool) → a ≡ as_pattern b → shapes.is_target s.assigned ≡ true) → fits_rest listed.Properties (shapes.simple s) a ≡ true

@@ -1,12 +1,14 @@
 -- Given properties of objects and members of classes, by their names and what stands behind these (ECMA-262 12.2.6, 12.15.5, 14.3, 14.6).
 use Rattle.std.proofs.Common.{◌≡◌, inl, inr, ℕ, suc, ◌≤◌, Bool, true, false, cond, List, [], ◌∷◌, refl, sym, ap, ◌∙◌, subst, arith}
 use Rattle.std.specs.Prelude.{Option, Some, codes, ◌&&◌, ◌||◌}
-use Rattle.std.proofs.lemmas.Bool.{false≢true}
+use Rattle.std.proofs.lemmas.Bool.{false≢true, true≢false}
+use Rattle.std.proofs.lemmas.Option.{none-some, same_Some}
 use Rattle.tokens.specs.Reading.{any_goal}
 use Rattle.tokens.specs.declared.token.Class.TheVariants.{Name, Punctuator}
 use Rattle.tokens.specs.declared.token.Goal.TheVariants.{Div}
 use Rattle.tree.specs.declared.kind.Kind.{Kind}
-use Rattle.tree.specs.declared.kind.Kind.TheVariants.{FunctionExpression, Property, SpreadElement, RestElement, AssignmentPattern, MethodDefinition}
+use Rattle.tree.specs.declared.kind.Kind.TheVariants.{Identifier, MemberExpression, ArrayPattern, ObjectPattern, FunctionExpression, Property, SpreadElement, RestElement, AssignmentPattern, MethodDefinition}
+use Rattle.tree.specs.declared.kind.Flags.{Flags}
 use Rattle.tree.specs.declared.kind.Form.{Form}
 use Rattle.tree.specs.declared.kind.Form.TheVariants.{Get, Set, Method, Init, Shorthand, Constructor}
 use Rattle.tree.specs.declared.kind.Pair.{Pair}
@@ -25,6 +27,7 @@ use Rattle.language.proofs.CoverProperties.{KeyAt, plain_key, accessor_word, fla
 use Rattle.language.proofs.CoverReadings.{name_or_sign, named_unbracketed}
 use Rattle.language.proofs.CoverSpreads.{spread_form, rest_form}
 use Rattle.language.proofs.KeyWays.{is_accessor}
+use Rattle.language.proofs.KindViews.{InObject, a_spread, a_property, in_object, InPattern, a_rest, a_property_there, in_pattern}
 use Rattle.language.proofs.Leaves.{name_form}
 use Rattle.language.proofs.Members.{function_form, Prefix, no_word, static_alone, accessor_alone, both_words, member_at}
 use Rattle.language.proofs.OneKind.{one_kind}
@@ -48,7 +51,7 @@ use Rattle.phrases.proofs.Seeing.{mark_by}
 use Rattle.descent.proofs.ValuesGiven.{separated_there}
 
 some_same : {a b : Role} → Some a ≡ Some b → a ≡ b
-some_same e = cc
+some_same {a} {b} e = same_Some a b e
 
 -- the pieces of a method's function are those of its one way
 pieces_same : (f : Form) (ps : Parts) → is_called f ≡ true → method_pieces f ps ≡ pieces_of (methods f ps)
@@ -75,17 +78,17 @@ pieces_same Set (gap (part n (part b (gap ps)))) h = refl
 pieces_same Method none h = refl
 pieces_same Method (part n ps) h = refl
 pieces_same Method (gap ps) h = refl
-pieces_same Init ps h = cc
-pieces_same Shorthand ps h = cc
-pieces_same Constructor ps h = cc
+pieces_same Init ps h = absurd (false≢true h)
+pieces_same Shorthand ps h = absurd (false≢true h)
+pieces_same Constructor ps h = absurd (false≢true h)
 
 called_same : (f : Form) → is_called f ≡ true → method_form f ≡ f
 called_same Get h = refl
 called_same Set h = refl
 called_same Method h = refl
-called_same Init h = cc
-called_same Shorthand h = cc
-called_same Constructor h = cc
+called_same Init h = absurd (false≢true h)
+called_same Shorthand h = absurd (false≢true h)
+called_same Constructor h = absurd (false≢true h)
 
 function_called : (f : Form) → is_called (function_form f) ≡ true
 function_called Get = refl
@@ -96,14 +99,14 @@ function_called Shorthand = refl
 function_called Constructor = refl
 
 plain_function : (f : Form) → is_accessor f ≡ false → function_form f ≡ Method
-plain_function Get h = cc
-plain_function Set h = cc
+plain_function Get h = absurd (true≢false h)
+plain_function Set h = absurd (true≢false h)
 plain_function _ h = refl
 
 accessor_called : (f : Form) → is_accessor f ≡ true → is_called f ≡ true
 accessor_called Get h = refl
 accessor_called Set h = refl
-accessor_called _ h = cc
+accessor_called _ h = absurd (false≢true h)
 
 module _ (text : List ℕ) where
   abbrev Key_ : ℕ → Tree → Token → Token → List Pair → Bool → Type 0
@@ -206,7 +209,7 @@ module _ (text : List ℕ) where
 
         of : (z : Defaulted Token (NextIn text any_goal) itself (text_determined text) (BoundForm Token (NextIn text any_goal) itself (text_determined text) true) o v.value s e v.more) → BoundForm Token (NextIn text any_goal) itself (text_determined text) true o z.left s z.mid z.one → DefinitionGiven false a o (height n) s e
         of z (a_pattern p) = absurd ((named_unbracketed Token (NextIn text any_goal) itself (text_determined text) (echo_form Token (NextIn text any_goal) itself (text_determined text) v.echoes).reads).nothing o z.mid z.left z.one p)
-        of z (a_simple (a_target c k p)) = cc
+        of z (a_simple (a_target c k p)) = absurd (true≢false c)
         of z (a_simple (name_simple c p)) =
             let outer : height n ≡ height (node Property [] (flags_as false Shorthand) v.st v.en (part v.key (part v.value none))) = ap height v.tree in
             let inner : height v.value ≡ height (node AssignmentPattern [] plain z.st z.en (part z.left (part z.right none))) = ap height z.tree in
@@ -223,7 +226,7 @@ module _ (text : List ℕ) where
   access_words : (f : Form) {s t z : Token} → is_accessor f ≡ true → Reads Token (NextIn text any_goal) itself Name (accessor_word f) s t z → AccessGiven text s z f
   access_words Get h r = gets (read_here text r)
   access_words Set h r = sets (read_here text r)
-  access_words _ h r = cc
+  access_words _ h r = absurd (false≢true h)
 
   of_property : {o : ℕ} {n : Tree} {s e : Token} {P : List Pair} → CommaOr text (codes "}") e → PropertyAt Token (NextIn text any_goal) itself (text_determined text) o n s e P → DefinitionGiven false as_expression o (height n) s e
   of_property ends (by_value v) = of_value ends v v.it_is
@@ -240,27 +243,46 @@ module _ (text : List ℕ) where
   of_pattern b ends (with_name v) = of_name ends v
   of_pattern b ends (with_element v) = of_element ends refl v
 
-  bound_simple : (b : Bool) (k : Kind) {r : Role} → bound b k ≡ Some r → (true && is_pattern_kind k) ≡ false → is_simple k ≡ true
-  bound_simple true Rattle.tree.specs.declared.kind.Kind.TheVariants.Identifier h f = refl
-  bound_simple false Rattle.tree.specs.declared.kind.Kind.TheVariants.Identifier h f = refl
-  bound_simple false Rattle.tree.specs.declared.kind.Kind.TheVariants.MemberExpression h f = refl
-  bound_simple true _ h f = cc
-  bound_simple false _ h f = cc
+  pattern_no_expression : (b : Bool) → as_expression ≡ as_pattern b → ⊥
+  pattern_no_expression b h = cc
 
-  -- what stands in an object or its pattern
-  object_given : (a : Reading) {r : Role} {o : ℕ} (n : Tree) {s e : Token} {P : List Pair} → property_as a (kind_of n) ≡ Some r → SpellsIn text o r n s e P → CommaOr text (codes "}") e → DefinitionGiven false a o (height n) s e
-  object_given as_expression {o = o} (node SpreadElement w g st en ps) {s} {e} {P} it d ends =
+  bound_simple : (b : Bool) (k : Kind) {r : Role} → bound b k ≡ Some r → (true && is_pattern_kind k) ≡ false → is_simple k ≡ true
+  bound_simple true Identifier h f = refl
+  bound_simple false Identifier h f = refl
+  bound_simple false MemberExpression h f = refl
+  bound_simple true ArrayPattern h f = absurd (true≢false f)
+  bound_simple true ObjectPattern h f = absurd (true≢false f)
+  bound_simple true _ h f = absurd (none-some _ h)
+  bound_simple false ArrayPattern h f = absurd (true≢false f)
+  bound_simple false ObjectPattern h f = absurd (true≢false f)
+  bound_simple false _ h f = absurd (none-some _ h)
+
+  -- `...` and a value, in an object
+  spread_given : {r : Role} {o : ℕ} {w : List ℕ} {g : Flags} {st en : ℕ} {ps : Parts} {s e : Token} {P : List Pair} → property_as as_expression SpreadElement ≡ Some r → SpellsIn text o r (node SpreadElement w g st en ps) s e P → CommaOr text (codes "}") e → DefinitionGiven false as_expression o (height (node SpreadElement w g st en ps)) s e
+  spread_given {o = o} {w} {g} {st} {en} {ps} {s} {e} {P} it d ends =
       let v = spread_form Token (NextIn text any_goal) itself (text_determined text) (subst (λ z. SpellsIn text o z (node SpreadElement w g st en ps) s e P) (sym (some_same it)) d) in
       let tall : height (node SpreadElement w g st en ps) ≡ height (node SpreadElement [] plain v.0.st v.0.en (part v.0.inner none)) = ap height v.0.tree in
-      dotted refl (read_here text v.0.reads) (omega arith) refl (subst (λ c. SpellsIn text o c v.0.inner v.0.x e P) v.1 v.0.value) (λ b h. cc) ends
-  object_given as_expression {o = o} (node Property w g st en ps) {s} {e} {P} it d ends = of_property ends (property_at Token (NextIn text any_goal) itself (text_determined text) (subst (λ z. SpellsIn text o z (node Property w g st en ps) s e P) (sym (some_same it)) d))
-  object_given as_expression (node _ w g st en ps) it d ends = cc
-  object_given (as_pattern b) {o = o} (node RestElement w g st en ps) {s} {e} {P} it d ends =
+      dotted refl (read_here text v.0.reads) (omega arith) refl (subst (λ c. SpellsIn text o c v.0.inner v.0.x e P) v.1 v.0.value) (λ b h. absurd (pattern_no_expression b h)) ends
+
+  -- `...` and what is assigned to, in a pattern
+  rest_given : (b : Bool) {r : Role} {o : ℕ} {w : List ℕ} {g : Flags} {st en : ℕ} {ps : Parts} {s e : Token} {P : List Pair} → property_as (as_pattern b) RestElement ≡ Some r → SpellsIn text o r (node RestElement w g st en ps) s e P → CommaOr text (codes "}") e → DefinitionGiven false (as_pattern b) o (height (node RestElement w g st en ps)) s e
+  rest_given b {o = o} {w} {g} {st} {en} {ps} {s} {e} {P} it d ends =
       let v = rest_form Token (NextIn text any_goal) itself (text_determined text) (subst (λ z. SpellsIn text o z (node RestElement w g st en ps) s e P) (sym (some_same it)) d) in
       let tall : height (node RestElement w g st en ps) ≡ height (node RestElement [] plain v.dotted.st v.dotted.en (part v.dotted.inner none)) = ap height v.dotted.tree in
       dotted refl (read_here text v.dotted.reads) (omega arith) (bound_defaults b (kind_of v.dotted.inner) v.it_is) v.dotted.value (λ c h. bound_simple b (kind_of v.dotted.inner) v.it_is v.fits) ends
-  object_given (as_pattern b) {o = o} (node Property w g st en ps) {s} {e} {P} it d ends = of_pattern b ends (pattern_property_at Token (NextIn text any_goal) itself (text_determined text) b (subst (λ z. SpellsIn text o z (node Property w g st en ps) s e P) (sym (some_same it)) d))
-  object_given (as_pattern b) (node _ w g st en ps) it d ends = cc
+
+  -- what stands in an object or its pattern
+  object_given : (a : Reading) {r : Role} {o : ℕ} (n : Tree) {s e : Token} {P : List Pair} → property_as a (kind_of n) ≡ Some r → SpellsIn text o r n s e P → CommaOr text (codes "}") e → DefinitionGiven false a o (height n) s e
+  object_given as_expression {r} {o} (node k w g st en ps) {s} {e} {P} it d ends = of (in_object k it) it d
+    where
+      of : {k : Kind} → InObject k → property_as as_expression k ≡ Some r → SpellsIn text o r (node k w g st en ps) s e P → DefinitionGiven false as_expression o (height (node k w g st en ps)) s e
+      of a_spread it d = spread_given it d ends
+      of a_property it d = of_property ends (property_at Token (NextIn text any_goal) itself (text_determined text) (subst (λ z. SpellsIn text o z (node Property w g st en ps) s e P) (sym (some_same it)) d))
+  object_given (as_pattern b) {r} {o} (node k w g st en ps) {s} {e} {P} it d ends = of (in_pattern b k it) it d
+    where
+      of : {k : Kind} → InPattern k → property_as (as_pattern b) k ≡ Some r → SpellsIn text o r (node k w g st en ps) s e P → DefinitionGiven false (as_pattern b) o (height (node k w g st en ps)) s e
+      of a_rest it d = rest_given b it d ends
+      of a_property_there it d = of_pattern b ends (pattern_property_at Token (NextIn text any_goal) itself (text_determined text) b (subst (λ z. SpellsIn text o z (node Property w g st en ps) s e P) (sym (some_same it)) d))
 
   -- the words before a member's key
   prefix_words : {s z : Token} {b : Bool} {f : Form} → Prefix Token (NextIn text any_goal) itself (text_determined text) s b f z → WordsGiven text true s z b (function_form f)
@@ -268,10 +290,10 @@ module _ (text : List ℕ) where
   prefix_words {s} {z} (static_alone {f} h r) = subst (λ g. WordsGiven text true s z true g) (sym (plain_function f h)) (static refl (read_here text r) (neither refl))
   prefix_words (accessor_alone {f = Get} h r) = not_static (gets (read_here text r))
   prefix_words (accessor_alone {f = Set} h r) = not_static (sets (read_here text r))
-  prefix_words (accessor_alone {f = _} h r) = cc
+  prefix_words (accessor_alone {f = _} h r) = absurd (false≢true h)
   prefix_words (both_words {f = Get} h q r) = static refl (read_here text q) (gets (read_here text r))
   prefix_words (both_words {f = Set} h q r) = static refl (read_here text q) (sets (read_here text r))
-  prefix_words (both_words {f = _} h q r) = cc
+  prefix_words (both_words {f = _} h q r) = absurd (false≢true h)
 
   prefix_dots : {s z : Token} {b c : Bool} {f : Form} {o : ℕ} {k : Tree} {e : Token} {P : List Pair} → Prefix Token (NextIn text any_goal) itself (text_determined text) s b f z → Key_ o k z e P c → Misses text Punctuator (codes "...") s
   prefix_dots (no_word h) at_key = no_dots_key at_key

@@ -151,8 +151,8 @@ record Closing (cs : List ℕ) : Type 0 where
   split : cs ≡ word ++ back last
 
 closing : (taken : Bool) (cs : List ℕ) → closes_template taken cs ≡ true → Closing cs
-closing true [] h = cc
-closing false [] h = cc
+closing true [] h = absurd (false≢true h)
+closing false [] h = absurd (false≢true h)
 closing true (c ∷ cs) h = let r = closing false cs h in record { last = r.last; word = c ∷ r.word; split = ap (λ x. c ∷ x) r.split }
 closing false (c ∷ cs) h = by (λ k. closing (one_of "\\" c) cs k) (one_of "`" c) (one_of "$" c && begins_with (one_of "{") cs) refl refl h
   where
@@ -161,7 +161,7 @@ closing false (c ∷ cs) h = by (λ k. closing (one_of "\\" c) cs k) (one_of "`"
 
     nothing : (ds : List ℕ) → is_empty ds ≡ true → ds ≡ []
     nothing [] e = refl
-    nothing (d ∷ ds) e = cc
+    nothing (d ∷ ds) e = absurd (false≢true e)
 
     brace : (ds : List ℕ) → begins_with (one_of "{") ds ≡ true → is_empty (drop 1 ds) ≡ true → ds ≡ 123 ∷ []
     brace [] e f = cc
@@ -207,7 +207,7 @@ pub held : (text : List ℕ) (g : Goal) (at : ℕ) (u : LexicalToken) → IsAhea
 held text g at u a h = of a.read.word a.read.text (subst (λ c. IsTrue (is_of c a.read.word)) h (token_is u.class a.read.word (behind text u.stop) a.read.longest))
   where
     of : (cs : List ℕ) → u.text ≡ encode_utf8_all cs → is_template cs ≡ true → Held u.text
-    of [] e k = cc
+    of [] e k = absurd (false≢true k)
     of (c ∷ cs) e k =
         let v = and_parts (one_of "`}" c) (closes_template false cs) k in
         let o = opened c v.0 in

@@ -25,7 +25,7 @@ use Rattle.language.specs.Derivation.{Step, first, direct, grouped, done, step, 
 use Rattle.language.proofs.BareEdges.{edge_bare}
 use Rattle.language.proofs.Beginnings.{made_rank, too_tight}
 use Rattle.language.proofs.Viewed.{way_of, made}
-use Rattle.std.proofs.lemmas.Bool.{and_parts}
+use Rattle.std.proofs.lemmas.Bool.{and_parts, false≢true}
 use Rattle.language.proofs.Domination.{settled}
 use Rattle.language.proofs.Productions.{way_from, in_true, in_false}
 use Rattle.phrases.specs.declared.part.Part.{Part}
@@ -41,15 +41,15 @@ use Rattle.descent.proofs.StatementWays.{end_standing}
 -- a string literal
 pub literal_role : (n : Tree) → is_string_literal (kind_of n) (text_of n) ≡ true → bare_role n ≡ Some quoted
 literal_role (node Literal w g s e ps) h = ap (λ b. cond b (Some quoted) None) h
-literal_role (node _ w g s e ps) h = cc
+literal_role (node _ w g s e ps) h = absurd (false≢true h)
 
 literal_edge : (n : Tree) → is_string_literal (kind_of n) (text_of n) ≡ true → edge n ≡ Other
 literal_edge (node Literal w g s e ps) h = refl
-literal_edge (node _ w g s e ps) h = cc
+literal_edge (node _ w g s e ps) h = absurd (false≢true h)
 
 pub group_taken : (r : Rank) → is_group r ≡ true → IsTrue (takes Grouped r)
 group_taken Grouped h = refl
-group_taken _ h = cc
+group_taken _ h = absurd (false≢true h)
 
 -- where a group begins doesn't matter
 grouped_any : {text : List ℕ} {o : ℕ} {n : Tree} {s e : Token} {P : List Pair} → SpellsIn text o (expr Grouped true Statement) n s e P → SpellsIn text o (expr Grouped true Any) n s e P

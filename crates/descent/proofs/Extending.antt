@@ -2,6 +2,7 @@
 use Rattle.std.proofs.Common.{◌≡◌, ℕ, Bool, true, false, cond, List, [], ◌∷◌, ◌++◌, refl, sym, ap, ◌∙◌, subst}
 use Rattle.std.specs.Prelude.{Option, Some, None, codes, map}
 use Rattle.std.proofs.lemmas.List.{append-nil}
+use Rattle.std.proofs.lemmas.Bool.{true≢false}
 use Rattle.tokens.specs.Reading.{any_goal}
 use Rattle.tokens.specs.declared.token.Class.TheVariants.{Punctuator}
 use Rattle.tree.specs.declared.kind.Kind.{Kind}
@@ -99,12 +100,12 @@ module _ (text : List ℕ) (i : Bool) (f : Start) where
     listed_comma g k none h d = of (is_rest k) h
       where
         of : (c : Bool) → c ≡ false → RunsIn text o (Settled (cond c [] (may (codes ",") ∷ []) ++ [])) none m e R
-        of true h = cc
+        of true h = absurd (true≢false h)
         of false h = step (with_mark comma) d
     listed_comma g k (part n ps) h d = of (is_rest k) h
       where
         of : (c : Bool) → c ≡ false → RunsIn text o (Settled (cond c nothing (sign "," ∷ sp ∷ []) ++ listed_pieces g (part n ps))) (part n ps) m e R
-        of true h = cc
+        of true h = absurd (true≢false h)
         of false h = step (token comma) (step laid d)
     listed_comma g k (gap ps) h d = absurd (run_never Token (NextIn text any_goal) itself d)
 
@@ -112,17 +113,17 @@ module _ (text : List ℕ) (i : Bool) (f : Start) where
     elements_comma g k none h d = of (is_rest k) h
       where
         of : (c : Bool) → c ≡ false → RunsIn text o (Settled (cond c [] (may (codes ",") ∷ []) ++ [])) none m e R
-        of true h = cc
+        of true h = absurd (true≢false h)
         of false h = step (with_mark comma) d
     elements_comma g k (part n ps) h d = of (is_rest k) h
       where
         of : (c : Bool) → c ≡ false → RunsIn text o (Settled (cond c nothing (sign "," ∷ sp ∷ []) ++ elements g (part n ps))) (part n ps) m e R
-        of true h = cc
+        of true h = absurd (true≢false h)
         of false h = step (token comma) (step laid d)
     elements_comma g k (gap ps) h d = of (is_rest k) h
       where
         of : (c : Bool) → c ≡ false → RunsIn text o (Settled (cond c nothing (sign "," ∷ sp ∷ []) ++ elements g (gap ps))) (gap ps) m e R
-        of true h = cc
+        of true h = absurd (true≢false h)
         of false h = step (token comma) (step laid d)
 
     -- a hole

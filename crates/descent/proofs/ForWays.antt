@@ -1,8 +1,9 @@
 -- The three kinds of `for`, from the pieces in their two parts (ECMA-262 13.7).
 use Rattle.std.proofs.Common.{◌≡◌, ◌⊎◌, inl, inr, ℕ, Bool, true, false, cond, List, [], ◌∷◌, ◌++◌, Some, refl, sym, ap, ◌∙◌, subst}
 use Rattle.std.specs.Prelude.{codes, ◌&&◌}
-use Rattle.std.proofs.lemmas.Bool.{false≢true}
+use Rattle.std.proofs.lemmas.Bool.{false≢true, true≢false}
 use Rattle.std.proofs.lemmas.List.{append-nil}
+use Rattle.std.proofs.lemmas.Option.{none-some}
 use Rattle.tokens.specs.declared.token.Class.TheVariants.{Name, Punctuator}
 use Rattle.tokens.specs.declared.token.Goal.TheVariants.{Div}
 use Rattle.tokens.specs.Goals.{allows}
@@ -47,7 +48,7 @@ use Rattle.descent.proofs.StatementWays.{StatedBy, read_then, expression_then}
 
 -- what is assigned to is no declaration
 bound_undeclared : (k : Kind) {a : Role} → bound false k ≡ Some a → is_declaration k ≡ false
-bound_undeclared kind.VariableDeclaration h = cc
+bound_undeclared kind.VariableDeclaration h = absurd (none-some _ h)
 bound_undeclared _ h = refl
 
 bare_others : (ps : Parts) → others (bare_parts ps) ≡ bare_parts (others ps)
@@ -88,7 +89,7 @@ loop_told r (gap (gap (gap ps))) = refl
 
 -- what is behind a part or a gap ends as the whole does
 part_skipped : (n : Tree) (ps : Parts) → is_none ps ≡ false → last_ends_in_if (part n ps) ≡ last_ends_in_if ps
-part_skipped n none h = cc
+part_skipped n none h = absurd (true≢false h)
 part_skipped n (part m ps) h = refl
 part_skipped n (gap ps) h = refl
 
@@ -263,7 +264,7 @@ module _ (text : List ℕ) where
       }
     where
       left_over : (ps : Parts) → is_none (others ps) ≡ false → is_none ps ≡ false
-      left_over none h = cc
+      left_over none h = absurd (true≢false h)
       left_over (part n ps) h = refl
       left_over (gap ps) h = refl
 

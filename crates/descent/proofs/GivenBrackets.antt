@@ -1,6 +1,7 @@
 -- An array, an object or the pattern of one, as a list that is given between its brackets (ECMA-262 12.2.5, 12.2.6, 12.15.5, 13.3.3).
-use Rattle.std.proofs.Common.{◌≡◌, ℕ, Bool, true, List, [], ◌∷◌, ◌++◌, refl, sym, ap, ◌∙◌, subst}
+use Rattle.std.proofs.Common.{◌≡◌, ℕ, Bool, true, false, List, [], ◌∷◌, ◌++◌, refl, sym, ap, ◌∙◌, subst}
 use Rattle.std.specs.Prelude.{IsTrue, codes}
+use Rattle.std.proofs.lemmas.Bool.{true≢false}
 use Rattle.tokens.specs.Goals.{allows}
 use Rattle.tokens.specs.Reading.{any_goal}
 use Rattle.tokens.specs.declared.token.Class.TheVariants.{Punctuator}
@@ -89,6 +90,15 @@ pub record BracketsGiven (text : List ℕ) (o : ℕ) (what : Listed) (a : Readin
   pub runs : RunsIn text o (anywhere (item_pieces what a parts)) parts first mid Q
   pub right : ReadsHere text Punctuator (right_sign what) mid to
 
+-- what begins with a bracket, and with a brace
+abbrev begins_square : Opening → Bool
+begins_square with_bracket = true
+begins_square _ = false
+
+abbrev begins_curly : Opening → Bool
+begins_curly with_brace = true
+begins_curly _ = false
+
 module _ (text : List ℕ) where
   record LastToken (o : ℕ) (qs : List (PieceOf Role)) (w : List ℕ) (ps : Parts) (s e : Token) (P : List Pair) : Type 0 where
     mid : Token
@@ -146,7 +156,7 @@ module _ (text : List ℕ) where
       let same : n ≡ node ArrayExpression [] plain st en ps = tree ∙ same_node kind (lean_text (bare (node k0 w g st en ps)) bares (ap has_text kind)) (lean_flags (bare (node k0 w g st en ps)) bares ∙ ap (λ v. used_flags v g) kind) refl refl refl in
       brackets same (spans {r = expr h j f} (λ t l. refl) (subst (λ c. Placed Token (NextIn text any_goal) itself (expr h j f) c s to) tree pl)) tk
       (split (codes "[") (codes "]") (elements argument ps) (retell Token (NextIn text any_goal) itself (q ∙ same_pieces h Expression j true f Any (fixed_array (bare_parts ps)) ∙ ap (λ x. goes_to Expression true Any ((sign "[" ∷ x) ++ sign "]" ∷ [])) (elements_bare argument argument_bare ps)) d))
-  array_cored tk r opens lone (in_way tree (head_array_pattern kind op e l tk2 q) lean pl d) = let u = lone (ap kind_of tree ∙ kind) in let clash = sign_opening r opens u.1 refl refl in cc
+  array_cored tk r opens lone (in_way tree (head_array_pattern kind op e l tk2 q) lean pl d) = let u = lone (ap kind_of tree ∙ kind) in absurd (true≢false (ap begins_square (sign_opening r opens u.1 refl refl)))
 
   object_cored : {o : ℕ} {h : Rank} {j : Bool} {f : Start} {n : Tree} {s to u : Token} {Q : List Pair} → IsTrue (takes h Primary) → ReadBy Token (NextIn text any_goal) itself RegExp s u u → opening_of u ≡ with_brace → (kind_of n ≡ AssignmentExpression → Sees text Punctuator (codes "(") s) → Cored Token (NextIn text any_goal) itself (text_determined text) o h j f n s to Q with_brace →
       BracketsGiven text o listed.Properties as_expression h n s to Q
@@ -156,27 +166,27 @@ module _ (text : List ℕ) where
       let names : listing (item_piece object_role) (bare_parts ps) ≡ listing object_part ps = listed_bare (item_piece object_role) object_bare ps ∙ sym (object_pieces ps) in
       brackets same (spans {r = expr h j f} (λ t l. refl) (subst (λ c. Placed Token (NextIn text any_goal) itself (expr h j f) c s to) tree pl)) tk
       (split (codes "{") (codes "}") (listing object_part ps) (retell Token (NextIn text any_goal) itself (q ∙ ap (λ v. goes_to h j f ((sign "{" ∷ v) ++ sign "}" ∷ [])) (object_pieces (bare_parts ps)) ∙ same_pieces h Expression j true f Any (fixed_object (bare_parts ps)) ∙ ap (λ x. goes_to Expression true Any ((sign "{" ∷ x) ++ sign "}" ∷ [])) names) d))
-  object_cored tk r opens lone (in_way tree (head_object_pattern kind op e l tk2 q) lean pl d) = let u = lone (ap kind_of tree ∙ kind) in let clash = sign_opening r opens u.1 refl refl in cc
+  object_cored tk r opens lone (in_way tree (head_object_pattern kind op e l tk2 q) lean pl d) = let u = lone (ap kind_of tree ∙ kind) in absurd (true≢false (ap begins_curly (sign_opening r opens u.1 refl refl)))
 
   pattern_array : {o : ℕ} {b : Bool} {f : Start} {n : Tree} {s to u : Token} {Q : List Pair} → ReadBy Token (NextIn text any_goal) itself RegExp s u u → opening_of u ≡ with_bracket → PatternCore Token (NextIn text any_goal) itself (text_determined text) o b f n s to Q → BracketsGiven text o listed.Elements (as_pattern b) Primary n s to Q
   pattern_array {o} {b} {f} {n} {s} {to} {u} {Q} r opens (as_array {ps = ps} tree pl d) = brackets tree (spans {r = pattern b f} (λ t l. refl) pl) refl
       (split (codes "[") (codes "]") (elements (pattern_element b) ps) (retell Token (NextIn text any_goal) itself (ap (λ x. goes_to Expression true Any ((sign "[" ∷ x) ++ sign "]" ∷ [])) (elements_bare (pattern_element b) (element_bare b) ps)) d))
-  pattern_array r opens (as_object tree begins pl d) = let a = run_token Token (NextIn text any_goal) itself d in let clash = sign_opening r opens a.reads refl refl in cc
+  pattern_array r opens (as_object tree begins pl d) = let a = run_token Token (NextIn text any_goal) itself d in absurd (true≢false (ap begins_square (sign_opening r opens a.reads refl refl)))
 
   pattern_object : {o : ℕ} {b : Bool} {f : Start} {n : Tree} {s to u : Token} {Q : List Pair} → ReadBy Token (NextIn text any_goal) itself RegExp s u u → opening_of u ≡ with_brace → PatternCore Token (NextIn text any_goal) itself (text_determined text) o b f n s to Q → BracketsGiven text o listed.Properties (as_pattern b) Primary n s to Q
   pattern_object {o} {b} {f} {n} {s} {to} {u} {Q} r opens (as_object {ps = ps} tree begins pl d) =
       let names : listing (item_piece (object_pattern_role b)) (bare_parts ps) ≡ listing (object_pattern_part b) ps = listed_bare (item_piece (object_pattern_role b)) (property_bare b) ps ∙ sym (object_pattern_pieces b ps) in
       brackets tree (spans {r = pattern b f} (λ t l. refl) pl) refl
       (split (codes "{") (codes "}") (listing (object_pattern_part b) ps) (retell Token (NextIn text any_goal) itself (ap (λ x. goes_to Expression true Any ((sign "{" ∷ x) ++ sign "}" ∷ [])) names) d))
-  pattern_object r opens (as_array tree pl d) = let a = run_token Token (NextIn text any_goal) itself d in let clash = sign_opening r opens a.reads refl refl in cc
+  pattern_object r opens (as_array tree pl d) = let a = run_token Token (NextIn text any_goal) itself d in absurd (true≢false (ap begins_curly (sign_opening r opens a.reads refl refl)))
 
   -- what begins with a bracket or a brace, that is read
   pub array_given : {p : Position} {o : ℕ} {n : Tree} {s u to : Token} {Q : List Pair} {a : Reading} {h : Rank} → ReadBy Token (NextIn text any_goal) itself RegExp s u u → opening_of u ≡ with_bracket → FirstAs text p o n s to Q a h → BracketsGiven text o listed.Elements a h n s to Q
-  array_given r opens (a_core other same b called lone) = array_cored (core_primary Token (NextIn text any_goal) itself (text_determined text) b.core r (λ e. (let z = sym opens ∙ e in cc))) r opens lone (core_by Token (NextIn text any_goal) itself (text_determined text) r opens b.core)
+  array_given r opens (a_core other same b called lone) = array_cored (core_primary Token (NextIn text any_goal) itself (text_determined text) b.core r (λ e. true≢false (ap begins_square (sym opens ∙ e)))) r opens lone (core_by Token (NextIn text any_goal) itself (text_determined text) r opens b.core)
   array_given r opens (a_pattern d) = pattern_array r opens (pattern_core Token (NextIn text any_goal) itself (text_determined text) d)
   array_given r opens (a_name d arrow) = no_name text r (ap is_named opens) d
 
   pub object_given : {p : Position} {o : ℕ} {n : Tree} {s u to : Token} {Q : List Pair} {a : Reading} {h : Rank} → ReadBy Token (NextIn text any_goal) itself RegExp s u u → opening_of u ≡ with_brace → FirstAs text p o n s to Q a h → BracketsGiven text o listed.Properties a h n s to Q
-  object_given r opens (a_core other same b called lone) = object_cored (core_primary Token (NextIn text any_goal) itself (text_determined text) b.core r (λ e. (let z = sym opens ∙ e in cc))) r opens lone (core_by Token (NextIn text any_goal) itself (text_determined text) r opens b.core)
+  object_given r opens (a_core other same b called lone) = object_cored (core_primary Token (NextIn text any_goal) itself (text_determined text) b.core r (λ e. true≢false (ap begins_curly (sym opens ∙ e)))) r opens lone (core_by Token (NextIn text any_goal) itself (text_determined text) r opens b.core)
   object_given r opens (a_pattern d) = pattern_object r opens (pattern_core Token (NextIn text any_goal) itself (text_determined text) d)
   object_given r opens (a_name d arrow) = no_name text r (ap is_named opens) d

@@ -50,6 +50,7 @@ use Rattle.phrases.specs.Outcomes.{MakesAs}
 use Rattle.phrases.specs.Parts.{plain_part}
 use Rattle.phrases.specs.Seen.{ReadsHere, Misses, NoName, is_any}
 use Rattle.phrases.specs.Tokens.{single_node}
+use Rattle.descent.proofs.FreeRanks.{no_conditional, no_new}
 use Rattle.descent.proofs.Agreeing.{Refuses, refuses_on, agrees_err, refuses_high, room_part, marks_same, words_same, not_missed}
 use Rattle.descent.proofs.GivenLinks.{once, Further, name_there, index_there, arguments_there, template_there, given_link, behind_given, link_given, not_linked}
 use Rattle.descent.proofs.GivenTemplates.{quasi_begins, template_given, TemplateGiven, TemplateRest, template_rest}
@@ -223,7 +224,7 @@ module _ (s m e : Point) (old new : List Pair) (high : ℕ) (left : Part) (found
         let at : v.from ≡ x.last = (marks_same m.text v.opens read).1 in
         let spelled : SpellsIn m.text o (expr Expression true Any) v.inner x.last v.to P = subst (λ t. SpellsIn m.text o (expr Expression true Any) v.inner t v.to P) at v.spelled in
         let stops : StopsIn m.text Expression true v.inner v.to = before_bracket m.text v.inner v.closes in
-        an_expression (λ h. cc) (λ h. cc) (subst (λ t. SpellsIn t o (expr Expression true Any) v.inner x.last v.to P) (sym text2) spelled) (subst (λ t. StopsIn t Expression true v.inner v.to) (sym text2) stops)
+        an_expression (no_conditional refl) (no_new refl) (subst (λ t. SpellsIn t o (expr Expression true Any) v.inner x.last v.to P) (sym text2) spelled) (subst (λ t. StopsIn t Expression true v.inner v.to) (sym text2) stops)
 
     -- a refusal of the index
     pub index_refused : ExpressionComplete x z mid more inner whole (Err fault) → Complete

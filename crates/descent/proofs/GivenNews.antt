@@ -2,7 +2,7 @@
 use Rattle.std.proofs.Common.{◌≡◌, ℕ, true, false, List, [], ◌++◌, refl, sym, ap, ◌∙◌, subst, arith}
 use Rattle.std.specs.Prelude.{IsTrue, codes, ◌&&◌}
 use Prim.Native.String.{String}
-use Rattle.std.proofs.lemmas.Bool.{and_parts}
+use Rattle.std.proofs.lemmas.Bool.{and_parts, false≢true}
 use Rattle.std.proofs.lemmas.Slice.Eq.{bytes_eq-Decides}
 use Rattle.tokens.specs.Reading.{any_goal}
 use Rattle.tokens.specs.declared.token.Class.TheVariants.{Name, Punctuator}
@@ -93,7 +93,7 @@ module _ (text : List ℕ) where
       let same = made_node tree k refl refl lean ends.0 ends.1 b.parts in
       let spelled : SpellsIn text o (expr New true Any) b.operand u mid Q = subst (λ c. SpellsIn text o (expr New true Any) b.operand c mid Q) here.1 b.spelled in
       new_alone same tk spelled
-      (begun_stops Token (NextIn text any_goal) itself (text_determined text) New New true b.operand tails_new (λ l. omega arith) tk (λ k. cc) (ap (λ v. standing (edge v) mid) same ∙ sym (standing_tight (edged Token (NextIn text any_goal) itself (text_determined text) spelled) (omega arith))) v.begun)
+      (begun_stops Token (NextIn text any_goal) itself (text_determined text) New New true b.operand tails_new (λ l. omega arith) tk (λ k. absurd (false≢true k)) (ap (λ v. standing (edge v) mid) same ∙ sym (standing_tight (edged Token (NextIn text any_goal) itself (text_determined text) spelled) (omega arith))) v.begun)
       (v.uncalled tk (ap edge same))
   new_cored {p} {o} {m} {s} {u} {mid} {Q} {a} {h} r v (in_way {k = k0} {w = w} {g = g} {st = st} {en = en} {ps = ps} tree (head_new_target k c tk q) lean pl d) =
       let f = p.start in

@@ -47,12 +47,12 @@ starts_open Statement qs h = cc
 function_open : (f : Start) → IsTrue (starts f (term "function" ∷ [])) → takes_closure f ≡ true
 function_open Any h = refl
 function_open NoBrace h = refl
-function_open Statement h = cc
+function_open Statement h = absurd (false≢true h)
 
 class_open : (f : Start) → IsTrue (starts f (term "class" ∷ [])) → takes_closure f ≡ true
 class_open Any h = refl
 class_open NoBrace h = refl
-class_open Statement h = cc
+class_open Statement h = absurd (false≢true h)
 
 -- the token with which something begins at a position, which takes it
 pub record OpensHere (text : List ℕ) (y : Rank) (f : Start) (s : Token) : Type 0 where

@@ -26,8 +26,8 @@ other_word true = refl
 other_word false = refl
 
 other_part : {A : Type 0} (b : Bool) → is_parenthesis (cond b with_template no_opening) ≡ true → A
-other_part true h = cc
-other_part false h = cc
+other_part true h = absurd (false≢true h)
+other_part false h = absurd (false≢true h)
 
 -- its class and its text
 parenthesis_of : (c : Class) (w : List ℕ) → opening_by c w ≡ with_parenthesis → (c ≡ Punctuator) × (w ≡ codes "(")

@@ -1,6 +1,7 @@
 -- An operator before its operand, as it is given (ECMA-262 12.4, 12.5).
 use Rattle.std.proofs.Common.{◌≡◌, ℕ, suc, ◌≤◌, Bool, true, false, cond, List, [], ◌∷◌, ◌++◌, refl, sym, ap, ◌∙◌, subst, arith}
 use Rattle.std.specs.Prelude.{IsTrue, Some}
+use Rattle.std.proofs.lemmas.Bool.{false≢true}
 use Rattle.tokens.specs.Reading.{any_goal}
 use Rattle.tokens.specs.Tokens.{LexicalToken}
 use Rattle.tokens.specs.declared.token.Class.TheVariants.{Punctuator}
@@ -55,7 +56,7 @@ use Rattle.phrases.proofs.Seeing.{ahead_read}
 target_edge : (u : Tree) → is_simple (kind_of u) ≡ true → edge u ≡ Other
 target_edge (node Identifier w g st en ps) h = refl
 target_edge (node MemberExpression w g st en ps) h = refl
-target_edge (node k0 w g st en ps) h = cc
+target_edge (node k0 w g st en ps) h = absurd (false≢true h)
 
 unary_laid : (w : List ℕ) → AllLaid (unary_space w)
 unary_laid w = of (is w "+") (is w "-")
@@ -98,8 +99,8 @@ no_conditional true e = omega arith
 no_conditional false e = omega arith
 
 no_relation : (b : Bool) {j : Bool} → takes (operand_rank b) Relational ≡ true → true ≡ j
-no_relation true e = cc
-no_relation false e = cc
+no_relation true e = absurd (false≢true e)
+no_relation false e = absurd (false≢true e)
 
 operand_edge : (b : Bool) (w : List ℕ) (st en : ℕ) (v : Tree) → (b ≡ true → is_simple (kind_of v) ≡ true) → edge (with_operand b w st en v) ≡ edge v
 operand_edge true w st en v s = sym (target_edge v (s refl))
@@ -223,7 +224,7 @@ operand_symbols false = (λ e. cc, λ e. cc)
 simple_same : (v : Tree) → is_simple (kind_of v) ≡ true → (q : Tree) → q ≡ v → pattern_tree q ≡ v
 simple_same (node Identifier w g st en ps) h q e = ap pattern_tree e
 simple_same (node MemberExpression w g st en ps) h q e = ap pattern_tree e
-simple_same (node _ w g st en ps) h q e = cc
+simple_same (node _ w g st en ps) h q e = absurd (false≢true h)
 
 node_same : (b : Bool) (w : List ℕ) (st en : ℕ) {q v : Tree} → q ≡ v → (b ≡ true → is_simple (kind_of v) ≡ true) → prefixed_node b w st en q ≡ with_operand b w st en v
 node_same true w st en {q} {v} e s = ap (λ c. node UpdateExpression w before st en (part c none)) (simple_same v (s refl) q e)

@@ -1,6 +1,6 @@
 -- How the right sides of an operator, as they are read, agree with those that are given (ECMA-262 12.6 to 12.15).
 use Rattle.std.proofs.Common.{◌≡◌, ℕ, suc, ◌≤◌, ◌<◌, ◌-◌, Bool, true, false, List, [], ◌++◌, Result, Ok, Err, refl, sym, ap, ◌∙◌, subst, arith}
-use Rattle.std.specs.Prelude.{codes, Some}
+use Rattle.std.specs.Prelude.{codes, Option, Some}
 use Rattle.std.specs.Result.{IsErrAnd}
 use Rattle.std.proofs.lemmas.Bool.{false≢true}
 use Rattle.source_text.specs.declared.fault.Fault.{Fault}
@@ -38,6 +38,7 @@ use Rattle.descent.specs.Given.{Room, EndsWith, StopsIn, GivenAs, an_expression,
 use Rattle.phrases.specs.Operators.{coded_operator}
 use Rattle.phrases.specs.Seen.{ReadsHere, Misses}
 use Rattle.descent.specs.Sides.{left_of, sign_of}
+use Rattle.descent.proofs.FreeRanks.{no_conditional, no_new}
 use Rattle.descent.proofs.Agreeing.{Refuses, refuses_on, agrees_err, refuses_high, room_part, marks_same, not_missed, ends_same, ends_none, ends_both, ends_behind, ends_before}
 use Rattle.descent.proofs.SidedBy.{right_at}
 
@@ -118,7 +119,7 @@ module _ (s m b : Point) (old mid new : List Pair) (t : Scanned) (x : Coded) (i 
       let v = two_given asks d in
       let stops : StopsIn m.text Assignment true v.first v.mid = subst (λ z. StopsIn z Assignment true v.first v.mid) (sym text) (before_colon s.text v.first v.colon) in
       let spelled : SpellsIn m.text o (expr Assignment true Any) v.first m.last v.mid v.one = subst (λ z. SpellsIn z o (expr Assignment true Any) v.first m.last v.mid v.one) (sym text) (subst (λ z. SpellsIn s.text o (expr Assignment true Any) v.first z v.mid v.one) (is ∙ sym last) v.spelled) in
-      (v, an_expression (λ h. cc) (λ h. cc) spelled stops)
+      (v, an_expression (no_conditional refl) (no_new refl) spelled stops)
 
   pub ready_two : {e : Point} {newer : List Pair} {q : Rank} {first n : Tree} {nodes : Parts} (p : Part) → FirstComplete (Ok p) → n ≡ p.cover.node → q ≡ Assignment → b.text ≡ m.text → b.opened ≡ m.opened → e.text ≡ b.text → e.opened ≡ b.opened → newer ≡ new → ReadsHere b.text Punctuator (codes ":") b.last e.last →
       nodes ≡ push (part first none) n → Ready s e old newer t x i q first nodes
@@ -181,20 +182,24 @@ module _ (s e : Point) (old new : List Pair) (high : ℕ) (left : Part) (t : Sca
 joined : {a b : Sign} → Some (code.Joins a) ≡ Some (code.Joins b) → b ≡ a
 joined h = cc
 
+abbrev is_joining : Option Coded → Bool
+is_joining (Some (code.Joins sign)) = true
+is_joining _ = false
+
 joined_rank : (z : Operator) (v : LexicalToken) (sign : Sign) → operation (as_read v) ≡ z → coded_operator z v.text ≡ Some (code.Joins sign) → (sign.right ≡ Conditional → ⊥) × (sign.right ≡ New → ⊥)
 joined_rank (binds b y q) v sign is op =
     let r = op_reads (as_read v) is (λ e. cc) (λ e. cc) in
     let same : sign.right ≡ q = ap (λ (g : Sign). g.right) (joined op) in
     let free = right_position (as_read v).text r.1 (two_binds {l = b} {z = y} {q = q}) in
     ((λ h. free.0 (ap tightness (sym same ∙ h))), (λ h. free.1 (sym same ∙ h)))
-joined_rank powers v sign is op = let same : sign.right ≡ Exponentiation = ap (λ (g : Sign). g.right) (joined op) in ((λ h. (let clash : Exponentiation ≡ Conditional = sym same ∙ h in cc)), (λ h. (let clash : Exponentiation ≡ New = sym same ∙ h in cc)))
-joined_rank _ v sign is op = cc
+joined_rank powers v sign is op = let same : sign.right ≡ Exponentiation = ap (λ (g : Sign). g.right) (joined op) in ((λ h. no_conditional refl (sym same ∙ h)), (λ h. no_new refl (sym same ∙ h)))
+joined_rank _ v sign is op = absurd (false≢true (ap is_joining op))
 
 pub right_rank : (v : LexicalToken) (x : Coded) (l : Part) → coded_operator (operation (as_read v)) v.text ≡ Some x → ((left_of x l).right ≡ Conditional → ⊥) × ((left_of x l).right ≡ New → ⊥)
 right_rank v (code.Joins sign) l op = joined_rank (operation (as_read v)) v sign refl op
-right_rank v (code.Assigns true) l op = ((λ h. cc), (λ h. cc))
-right_rank v (code.Assigns false) l op = ((λ h. cc), (λ h. cc))
-right_rank v _ l op = ((λ h. cc), (λ h. cc))
+right_rank v (code.Assigns true) l op = (no_conditional refl, no_new refl)
+right_rank v (code.Assigns false) l op = (no_conditional refl, no_new refl)
+right_rank v _ l op = (no_conditional refl, no_new refl)
 
 push_height : (ps : Parts) (n : Tree) → height n ≤ parts_height (push ps n)
 push_height none n = omega arith

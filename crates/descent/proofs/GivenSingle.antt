@@ -77,7 +77,7 @@ token_text : (c : Class) (w : List ℕ) → is_literal_class c ≡ true → tabl
 token_text Text w h = refl
 token_text Number w h = refl
 token_text class.RegExp w h = refl
-token_text _ w h = cc
+token_text _ w h = absurd (false≢true h)
 
 -- what is one token
 data SingleBegun : Opening → Kind → Type 0 where
@@ -116,7 +116,7 @@ module _ (text : List ℕ) where
 
   arrow_edge : (mid : Token) (t l : Tree) (st en : ℕ) (c : Bool) → c ≡ true → standing (edge (node ArrowFunctionExpression [] (arrow_flags c) st en (part t (part l none)))) mid ≡ standing (edge l) mid
   arrow_edge mid t l st en true e = refl
-  arrow_edge mid t l st en false e = cc
+  arrow_edge mid t l st en false e = absurd (false≢true e)
 
   -- the symbol of the whole takes an assignment where that of the position does
   wholly_back : {y r : Rank} → Wholly y r → IsTrue (takes r Assignment) → IsTrue (takes y Assignment)

@@ -3,6 +3,7 @@ use Rattle.std.proofs.Common.{◌≡◌, ℕ, ◌≤◌, Bool, true, false, List
 use Rattle.std.specs.Prelude.{IsTrue, codes}
 use Rattle.std.specs.Result.{IfOk}
 use Rattle.std.proofs.lemmas.List.{append-nil}
+use Rattle.std.proofs.lemmas.Bool.{false≢true}
 use Rattle.source_text.specs.declared.fault.Fault.{Fault}
 use Rattle.tokens.specs.Reading.{any_goal}
 use Rattle.tokens.specs.Tokens.{LexicalToken}
@@ -44,7 +45,7 @@ value_kind _ w st en = refl
 target_kind : (k : Kind) (w : List ℕ) (st en : ℕ) → is_simple k ≡ true → is_target (shape_of (node k w plain st en none)).assigned ≡ true
 target_kind Identifier w st en h = refl
 target_kind MemberExpression w st en h = refl
-target_kind _ w st en h = cc
+target_kind _ w st en h = absurd (false≢true h)
 
 bound_first : {h : Rank} {n : Tree} (u : LexicalToken) → n ≡ single_node Identifier u → IsTrue (takes h Primary) → IsFirst (as_pattern true) h (plain_part (single_node Identifier u) Primary Other) n
 bound_first u is tk = record { read = record { fits = refl; tree = sym is; target = λ k. refl; pattern = λ b e k. (let z = sym (ap (λ c. is_pattern (kind_of c)) is) ∙ k in cc) }; taken = tk; alone = λ b e. refl }

@@ -57,17 +57,17 @@ is_worded with_import = true
 is_worded _ = false
 
 other_part : {A : Type 0} (b : Bool) → is_worded (cond b with_template no_opening) ≡ true → A
-other_part true h = cc
-other_part false h = cc
+other_part true h = absurd (false≢true h)
+other_part false h = absurd (false≢true h)
 
 word_class : (c : Class) (w : List ℕ) → is_worded (opening_by c w) ≡ true → c ≡ Name
 word_class Name w h = refl
 word_class Punctuator w h = absurd (false≢true (by_texts is_worded w opening_signs no_opening refl h))
-word_class Number w h = cc
-word_class Text w h = cc
-word_class RegExp w h = cc
+word_class Number w h = absurd (false≢true h)
+word_class Text w h = absurd (false≢true h)
+word_class RegExp w h = absurd (false≢true h)
 word_class Template w h = other_part (nat_eq (slice_index_or w 0 0) 96) h
-word_class End w h = cc
+word_class End w h = absurd (false≢true h)
 
 -- what the code has for each word
 pub function_coded : (x : Opening) → coded_opening x ≡ Some code.Function → x ≡ with_function
@@ -142,8 +142,8 @@ by_word (code.Prefix own side) a b c d = absurd (d own side refl)
 link_simple : (l : Linked) (st en : ℕ) (ps : Parts) → is_simple (link_kind l) ≡ true → is_target (shape_of (node (link_kind l) [] (link_flags l false) st en ps)).assigned ≡ true
 link_simple link.Name st en ps k = refl
 link_simple link.Index st en ps k = refl
-link_simple link.Arguments st en ps k = cc
-link_simple link.Quasi st en ps k = cc
+link_simple link.Arguments st en ps k = absurd (false≢true k)
+link_simple link.Quasi st en ps k = absurd (false≢true k)
 
 link_tall : (l : Linked) (st en : ℕ) (b : Tree) (ps : Parts) → suc (height b) ≤ height (node (link_kind l) [] (link_flags l false) st en (part b ps))
 link_tall l st en b ps = omega arith
@@ -172,10 +172,10 @@ other_word code.Class h a b c d e = absurd (b refl)
 other_word code.Super h a b c d e = absurd (c refl)
 other_word code.New h a b c d e = absurd (d refl)
 other_word code.Import h a b c d e = absurd (e refl)
-other_word (code.Single k) h a b c d e = cc
-other_word (code.List w) h a b c d e = cc
-other_word code.Parenthesis h a b c d e = cc
-other_word (code.Prefix own side) h a b c d e = cc
+other_word (code.Single k) h a b c d e = absurd (false≢true h)
+other_word (code.List w) h a b c d e = absurd (false≢true h)
+other_word code.Parenthesis h a b c d e = absurd (false≢true h)
+other_word (code.Prefix own side) h a b c d e = absurd (false≢true h)
 
 -- a sign that goes on behind `super` is seen
 pub super_missed : {text : List ℕ} {s : Token} {A : Type 0} (k j : Bool) → k ≡ j → MissesBy text Div (goes_behind_super k) s → SeesBy text Div (goes_behind_super j) s → A

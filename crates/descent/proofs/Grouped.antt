@@ -84,23 +84,23 @@ goes_on y i f (q ∷ qs) rs = ap (λ x. settle_piece y i f q ∷ x) (goes_on y i
 pub simple_pattern : (n : Tree) → words.is_target (kind_of n) ≡ true → pattern_tree n ≡ n
 simple_pattern (node Identifier w g s e ps) h = refl
 simple_pattern (node MemberExpression w g s e ps) h = refl
-simple_pattern (node k w g s e ps) h = cc
+simple_pattern (node k w g s e ps) h = absurd (false≢true h)
 
 pub and_three : (a b c : Bool) → (a && (b && c)) ≡ true → ((true && c) && (a && b)) ≡ true
 and_three true true true h = refl
-and_three true true false h = cc
-and_three true false c h = cc
-and_three false b c h = cc
+and_three true true false h = absurd (false≢true h)
+and_three true false c h = absurd (false≢true h)
+and_three false b c h = absurd (false≢true h)
 
 last_true : (a b c : Bool) → (a && (b && c)) ≡ true → c ≡ true
 last_true true true true h = refl
-last_true true true false h = cc
-last_true true false c h = cc
-last_true false b c h = cc
+last_true true true false h = absurd (false≢true h)
+last_true true false c h = absurd (false≢true h)
+last_true false b c h = absurd (false≢true h)
 
 first_true : (a b : Bool) → (a && b) ≡ true → a ≡ true
 first_true true b h = refl
-first_true false b h = cc
+first_true false b h = absurd (false≢true h)
 
 module _ (text : List ℕ) where
   -- the right edge of a group
@@ -131,14 +131,14 @@ module _ (text : List ℕ) where
 
       as_target : (b : Bool) → (b ≡ true → words.is_target (kind_of n) ≡ true) → (a : Bool) → fits_as (record { is_expression = c; assigned = if b then assigned.Target else assigned.Nothing; binds = false }) (as_pattern a) ≡ true → ((if b then assigned.Target else assigned.Nothing) ≡ assigned.Defaulted → (f ≡ Any) × (i ≡ true)) →
           SpelledAs (assigned_at (if b then assigned.Target else assigned.Nothing) f a) text (suc o) (pattern_tree n) s e (pair_of m e ∷ P)
-      as_target b simple true h w = cc
+      as_target b simple true h w = absurd (false≢true h)
       as_target true simple false h w = at_target (simple refl)
-      as_target false simple false h w = cc
+      as_target false simple false h w = absurd (false≢true h)
 
   -- the expression in parentheses
   inner_at : {o : ℕ} {m k : Token} {P : List Pair} (start end : ℕ) (ps : Parts) → are_some ps ≡ true → end ≡ k.stop → ((t e : Token) → ReadBy Token (NextIn text any_goal) itself RegExp m t e → start ≡ t.start) → RunsIn text o (stood_in Any listed.Covers (several assignment ps)) ps m k P →
       SpellsIn text o (expr Expression true Any) (group_node ps start end) m k P
-  inner_at start end none some ends begins d = cc
+  inner_at start end none some ends begins d = absurd (false≢true some)
   inner_at start end (gap ps) some ends begins d = absurd (run_never Token (NextIn text any_goal) itself d)
   inner_at {o} {m} {k} {P} start end (part n none) some ends begins d =
       let a = run_the_part Token (NextIn text any_goal) itself d in

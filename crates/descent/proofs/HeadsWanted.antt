@@ -59,7 +59,7 @@ word_opens w h = among_by (λ v. opening_by Name v ≡ no_opening) w ("var" ∷ 
 
 is_name : (c : Class) → same_class Name c ≡ true → c ≡ Name
 is_name Name h = refl
-is_name _ h = cc
+is_name _ h = absurd (false≢true h)
 
 one_at_most : (n : ℕ) → n ≡ 1 → nat_le n 1 ≡ true
 one_at_most n h = ap (λ k. nat_le k 1) h

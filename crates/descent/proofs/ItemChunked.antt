@@ -43,6 +43,7 @@ use Rattle.phrases.specs.Items.{item_from, with_item}
 use Rattle.phrases.specs.Outcomes.{BecomesHere}
 use Rattle.phrases.specs.Seen.{ReadsHere}
 use Rattle.phrases.specs.Tests.{is_later_part}
+use Rattle.descent.proofs.FreeRanks.{no_conditional, no_new}
 use Rattle.descent.proofs.Agreeing.{Refuses, agrees_on, agrees_err, refuses_unfit, ends_before}
 use Rattle.descent.proofs.Extending.{join_none, read_push}
 use Rattle.descent.proofs.ItemDeclared.{is_covers}
@@ -132,7 +133,7 @@ two_pushed qs n m = sym (join_none (push (push qs n) m)) ∙ sym (read_push as_e
 module _ (s : Point) (old : List Pair) (l k : ListOf) (high : ℕ) (is : l.listed ≡ listed.Template) (q : Position) (q_is : q ≡ record { rank = Expression; has_in = true; start = Any }) where
   -- the expression is given where one may stand
   value_there : (o : ℕ) (to : Token) (P : List Pair) (last : Bool) (one : Parts) (v : Chunk s.text o s.last to P last one) → GivenAs s.text q o v.value s.last v.mid P as_expression
-  value_there o to P last one v = subst (λ (z : Position). GivenAs s.text z o v.value s.last v.mid P as_expression) (sym q_is) (an_expression (λ h. cc) (λ h. cc) v.spelled v.stopped)
+  value_there o to P last one v = subst (λ (z : Position). GivenAs s.text z o v.value s.last v.mid P as_expression) (sym q_is) (an_expression (no_conditional refl) (no_new refl) v.spelled v.stopped)
 
   -- the whole is as high as its parts
   chunk_high : {o : ℕ} {to : Token} {P : List Pair} {last : Bool} {one : Parts} (v : Chunk s.text o s.last to P last one) → parts_height one ≤ high → (height v.value ≤ high) × (1 ≤ high)

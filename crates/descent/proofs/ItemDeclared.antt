@@ -2,7 +2,7 @@
 use Rattle.std.proofs.Common.{◌+◌, ◌≡◌, ℕ, Bool, true, false, List, Result, Ok, Err, refl, sym, ap, ◌∙◌, subst}
 use Rattle.std.specs.Prelude.{IfOk, ◌||◌, nat_le, Some}
 use Rattle.std.specs.Result.{IsErrAnd}
-use Rattle.std.proofs.lemmas.Bool.{false≢true}
+use Rattle.std.proofs.lemmas.Bool.{false≢true, true≢false}
 use Rattle.source_text.specs.declared.fault.Fault.{Fault}
 use Rattle.tokens.specs.Reading.{any_goal}
 use Rattle.token_cursor.specs.Point.{Point}
@@ -55,7 +55,7 @@ is_covers _ = false
 
 -- no other list counts defaults
 other_counts : (x : Listed) (ps : Parts) (b c : Bool) → is_cases x ≡ false → nat_le (default_seen x b) (case_count x ps + default_seen x c) ≡ true
-other_counts (listed.Cases r) ps b c h = cc
+other_counts (listed.Cases r) ps b c h = absurd (true≢false h)
 other_counts _ ps b c h = refl
 
 -- an item of a list of no cases

@@ -32,6 +32,7 @@ use Rattle.descent.specs.Given.{GivenAs, an_expression, an_element, Over, is_ove
 use Rattle.descent.specs.GivenLists.{CommaOr, ItemEnds, is_last_rest, minds_rest}
 use Rattle.descent.specs.GivenProperties.{value_as}
 use Rattle.phrases.specs.Seen.{ReadsHere, Misses}
+use Rattle.descent.proofs.FreeRanks.{no_conditional, no_new}
 use Rattle.descent.proofs.Agreeing.{read_here, marks_same}
 use Rattle.phrases.proofs.Seeing.{mark_by}
 
@@ -50,7 +51,7 @@ is_elements _ = false
 
 -- they are no parts of a template
 pub elements_plain : (x : Listed) → is_elements x ≡ true → is_chunked x ≡ false
-elements_plain listed.Template h = cc
+elements_plain listed.Template h = absurd (false≢true h)
 elements_plain _ h = refl
 
 -- in each of them but for an expression in parentheses and a setter's parameter `...` may stand before one
@@ -76,7 +77,7 @@ element_ends text listed.Elements n e h d = d
 element_ends text listed.Covers n e h d = d
 element_ends text listed.Parameters n e h d = d
 element_ends text listed.OneParameter n e h d = d
-element_ends text _ n e h d = cc
+element_ends text _ n e h d = absurd (false≢true h)
 
 -- a spread of an expression, a rest of a pattern
 abbrev pub dotted_node : Reading → ℕ → ℕ → Tree → Tree
@@ -225,5 +226,5 @@ module _ (text : List ℕ) where
   pub value_given : (a : Reading) {q : Position} {r : Role} {w : List ℕ} {o : ℕ} {n : Tree} {s e : Token} {P : List Pair} → Closing w → q ≡ record { rank = Assignment; has_in = true; start = Any } → value_as a n ≡ Some r → SpellsIn text o r n s e P → CommaOr text w e → GivenAs text q o n s e P a
   value_given as_expression {q} {r} {w} {o} {n} {s} {e} {P} c q_is it d ends =
       subst (λ (z : Position). GivenAs text z o n s e P as_expression) (sym q_is)
-      (an_expression (λ h. cc) (λ h. cc) (subst (λ z. SpellsIn text o z n s e P) (sym (some_same it)) d) (item_stops Token (NextIn text any_goal) itself (text_determined text) c Assignment n e refl (separated ends)))
+      (an_expression (no_conditional refl) (no_new refl) (subst (λ z. SpellsIn text o z n s e P) (sym (some_same it)) d) (item_stops Token (NextIn text any_goal) itself (text_determined text) c Assignment n e refl (separated ends)))
   value_given (as_pattern b) c q_is it d ends = an_element q_is it d (over_there c ends)

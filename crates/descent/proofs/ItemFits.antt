@@ -152,7 +152,7 @@ fits_at listed.Parameters l it as_expression c some h k plain lone = cc
 fits_at listed.OneParameter l it (as_pattern true) c some h k plain lone = of it.spreads k
   where
     of : (sp : Bool) → cond sp false (fits_as it.shape (as_pattern true)) ≡ true → (fits_as (shape_with sp listed.OneParameter l.seen.shape it.shape) (as_pattern true) && fits_as (shape_with sp listed.OneParameter l.seen.shape it.shape) (as_pattern true)) ≡ true
-    of true q = cc
+    of true q = absurd (false≢true q)
     of false q = let v = alone_fits l.seen.shape it.shape (as_pattern true) (and_parts (fits_as l.seen.shape (as_pattern true)) _ h).0 q in and_both v v
 fits_at listed.OneParameter l it (as_pattern false) c some h k plain lone = cc
 fits_at listed.OneParameter l it as_expression c some h k plain lone = cc
@@ -179,7 +179,7 @@ takes_at x l it a g k h once = of (is_excess x l.seen it) (excess x k once) (and
     of false e f = f
 
     spread_not : (sp c : Bool) → cond sp false c ≡ true → sp ≡ false
-    spread_not true c e = cc
+    spread_not true c e = absurd (false≢true e)
     spread_not false c e = refl
 
     excess : (x : Listed) → item_fits x it a ≡ true → ((r : Bool) → x ≡ listed.Cases r → (l.seen.is_marked && it.is_marked) ≡ false) → is_excess x l.seen it ≡ false

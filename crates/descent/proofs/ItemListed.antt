@@ -3,6 +3,7 @@ use Rattle.std.proofs.Common.{◌+◌, ◌-◌, ◌≤◌, ◌≡◌, ℕ, suc, 
 use Rattle.std.specs.Prelude.{IfOk, IfErr, ◌&&◌, ◌||◌, nat_le, Some, None, codes}
 use Rattle.std.specs.Result.{IsErrAnd}
 use Rattle.std.proofs.lemmas.Bool.{false≢true, and_parts}
+use Rattle.std.proofs.lemmas.Option.{none-some}
 use Rattle.source_text.specs.declared.fault.Fault.{Fault}
 use Rattle.source_text.specs.declared.fault.Fault.TheVariants.{OutOfMemory}
 use Rattle.tokens.specs.Reading.{Reads, any_goal}
@@ -60,18 +61,18 @@ bound_kind true k {r} h = of (is_pattern_kind k) (is_identifier k) refl h
     of : (x y : Bool) → is_identifier k ≡ y → cond x (Some (pattern true Any)) (cond y (Some name) None) ≡ Some r → (x || is_simple k) ≡ true
     of true y i q = refl
     of false true i q = simple_target true k i
-    of false false i q = cc
+    of false false i q = absurd (none-some _ q)
 bound_kind false k {r} h = of (is_pattern_kind k) (is_simple k) h
   where
     of : (x y : Bool) → cond x (Some (pattern false Any)) (cond y (Some (expr LeftHandSide true Any)) None) ≡ Some r → (x || y) ≡ true
     of true y q = refl
     of false true q = refl
-    of false false q = cc
+    of false false q = absurd (none-some _ q)
 
 -- what stands behind `...` fits as it did alone, without a default
 target_pattern : (x : Assigned) → is_target x ≡ true → is_pattern x ≡ true
 target_pattern assigned.Target h = refl
-target_pattern _ h = cc
+target_pattern _ h = absurd (false≢true h)
 
 -- so what was read fits as one
 bound_fits : (b : Bool) (n : Tree) (r : Part) → IsRead (as_pattern b) r n → (is_pattern_kind (kind_of n) || is_simple (kind_of n)) ≡ true → is_pattern r.cover.shape.assigned ≡ true
@@ -119,12 +120,12 @@ dotted_read (as_pattern b) s e n = refl
 
 -- what such a list isn't
 elements_no_cases : (x : Listed) → is_elements x ≡ true → is_cases x ≡ false
-elements_no_cases (listed.Cases r) h = cc
+elements_no_cases (listed.Cases r) h = absurd (false≢true h)
 elements_no_cases _ h = refl
 
 elements_no_values : (x : Listed) → is_elements x ≡ true → is_plainly x ≡ false
-elements_no_values (listed.Cases r) h = cc
-elements_no_values (listed.Declarators i) h = cc
+elements_no_values (listed.Cases r) h = absurd (false≢true h)
+elements_no_values (listed.Declarators i) h = absurd (false≢true h)
 elements_no_values _ h = refl
 
 covers_dotless : (x : Listed) (a : Reading) → x ≡ listed.Covers → a ≡ as_expression → is_dotted x a ≡ true → ⊥

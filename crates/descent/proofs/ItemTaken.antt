@@ -134,12 +134,12 @@ definition_trails false as_expression it n f h m = cc
 definition_trails true (as_pattern b) it n f h m = of it.spreads (f h)
   where
     of : (c : Bool) → not c ≡ true → c ≡ false
-    of true q = cc
+    of true q = absurd (false≢true q)
     of false q = refl
 definition_trails false (as_pattern b) it n f h m = of it.spreads (f h)
   where
     of : (c : Bool) → not c ≡ true → c ≡ false
-    of true q = cc
+    of true q = absurd (false≢true q)
     of false q = refl
 
 defined_counts : (c : Bool) (x : ℕ) (b d : Bool) → nat_le (default_seen (defined c) b) (x + default_seen (defined c) d) ≡ true
@@ -167,8 +167,8 @@ definition_taken s e old new l k high c it at answer is put taken h = item_taken
     })
   where
     never_plain : (c : Bool) → is_plainly (defined c) ≡ true → ⊥
-    never_plain true h = cc
-    never_plain false h = cc
+    never_plain true h = absurd (false≢true h)
+    never_plain false h = absurd (false≢true h)
 
     never_cases : {X : Type 0} (c : Bool) {r : Bool} → defined c ≡ listed.Cases r → X
     never_cases true h = cc

@@ -54,7 +54,7 @@ brace_so w h = among_by (λ v. EndsSo Punctuator v) w ("}" ∷ []) h (record { e
 
 one_of : (b : Bool) → b ≡ true → (b || false) ≡ true
 one_of true h = refl
-one_of false h = cc
+one_of false h = absurd (false≢true h)
 
 either_one : (a b : Bool) → (a || b) ≡ true → (a ≡ true) ⊎ (b ≡ true)
 either_one true b h = inl refl
@@ -62,12 +62,12 @@ either_one false b h = inr h
 
 ends_so : (u : Until) (c : Class) (w : List ℕ) → ends u (record { class = c; text = w; start = 0; stop = 0; after_break = false }) ≡ true → EndsSo c w
 ends_so until.Brace Punctuator w h = brace_so w (one_of _ h)
-ends_so until.Brace _ w h = cc
+ends_so until.Brace _ w h = absurd (false≢true h)
 ends_so until.Case Punctuator w h = elim (either_one _ false h) [ inl k ↦ brace_so w (one_of _ k) | inr k ↦ absurd (false≢true k) ]
 ends_so until.Case Name w h = among_by (λ v. EndsSo Name v) w ("case" ∷ "default" ∷ []) h (record { ends = refl; allowed = inl refl }, (record { ends = refl; allowed = inl refl }, tt))
-ends_so until.Case _ w h = cc
+ends_so until.Case _ w h = absurd (false≢true h)
 ends_so until.End End w h = record { ends = refl; allowed = inl refl }
-ends_so until.End _ w h = cc
+ends_so until.End _ w h = absurd (false≢true h)
 
 ends_token : (u : Until) (t : Token) → ends u t ≡ true → ends u (record { class = t.class; text = t.text; start = 0; stop = 0; after_break = false }) ≡ true
 ends_token until.Brace t h = h

@@ -3,7 +3,8 @@ use Rattle.std.proofs.Common.{arith, ◌≡◌, ℕ, ◌-◌, ◌≤◌, Result,
 use Rattle.std.specs.Prelude.{IsTrue, Some, codes, not, max, ◌&&◌, nat_le}
 use Rattle.std.specs.Result.{IfOk}
 use Rattle.source_text.specs.declared.fault.Fault.{Fault}
-use Rattle.std.proofs.lemmas.Bool.{and_parts, false≢true}
+use Rattle.std.proofs.lemmas.Bool.{and_parts, false≢true, true≢false}
+use Rattle.std.proofs.lemmas.Option.{none-some}
 use Rattle.tokens.specs.Reading.{Reads, any_goal}
 use Rattle.tokens.specs.Tokens.{LexicalToken}
 use Rattle.tokens.specs.declared.token.Class.TheVariants.{Punctuator}
@@ -17,7 +18,7 @@ use Rattle.language.specs.declared.Rank.TheVariants.{Expression, Assignment}
 use Rattle.language.specs.declared.Start.{Start}
 use Rattle.language.specs.declared.Start.TheVariants.{Any}
 use Rattle.language.specs.declared.Edge.TheVariants.{Closed}
-use Rattle.language.specs.Words.{takes as takes_rank, is_target as is_simple, is_rest}
+use Rattle.language.specs.Words.{takes as takes_rank, is_target as is_simple, is_rest, is_spread}
 use Rattle.language.specs.Covers.{Reading, as_expression, as_pattern, element_as}
 use Rattle.language.specs.Grammar.{ways}
 use Rattle.language.specs.Pieces.{Role, expr, spread, rest, bound, with_default}
@@ -67,27 +68,27 @@ is_covers _ = false
 -- a target, a pattern, or either with a default, by its kind: an element of a pattern, which is no rest
 target_element : (b : Bool) (k : Kind) {a : Role} → target_at Any b k ≡ Some a → (with_default b k ≡ Some a) × (is_rest k ≡ false)
 target_element true Identifier h = (h, refl)
-target_element true _ h = cc
+target_element true _ h = absurd (none-some _ h)
 target_element false Identifier h = (h, refl)
 target_element false MemberExpression h = (h, refl)
-target_element false _ h = cc
+target_element false _ h = absurd (none-some _ h)
 
 pattern_element_of : (b : Bool) (k : Kind) {a : Role} → pattern_at Any b k ≡ Some a → (with_default b k ≡ Some a) × (is_rest k ≡ false)
 pattern_element_of true ArrayPattern h = (h, refl)
 pattern_element_of true ObjectPattern h = (h, refl)
-pattern_element_of true _ h = cc
+pattern_element_of true _ h = absurd (none-some _ h)
 pattern_element_of false ArrayPattern h = (h, refl)
 pattern_element_of false ObjectPattern h = (h, refl)
-pattern_element_of false _ h = cc
+pattern_element_of false _ h = absurd (none-some _ h)
 
 default_element : (b : Bool) (k : Kind) {a : Role} → default_at b k ≡ Some a → (with_default b k ≡ Some a) × (is_rest k ≡ false)
 default_element true AssignmentPattern h = (h, refl)
-default_element true _ h = cc
+default_element true _ h = absurd (none-some _ h)
 default_element false AssignmentPattern h = (h, refl)
-default_element false _ h = cc
+default_element false _ h = absurd (none-some _ h)
 
 element_of : (x : Assigned) (b : Bool) (k : Kind) {a : Role} → assigned_at x Any b k ≡ Some a → (with_default b k ≡ Some a) × (is_rest k ≡ false)
-element_of assigned.Nothing b k h = cc
+element_of assigned.Nothing b k h = absurd (none-some _ h)
 element_of assigned.Target b k h = target_element b k h
 element_of assigned.Pattern b k h = pattern_element_of b k h
 element_of assigned.Defaulted b k h = default_element b k h
@@ -95,23 +96,23 @@ element_of assigned.Defaulted b k h = default_element b k h
 -- and without a default what is bound or assigned to
 target_bound : (b : Bool) (k : Kind) {a : Role} → target_at Any b k ≡ Some a → bound b k ≡ Some a
 target_bound true Identifier h = h
-target_bound true _ h = cc
+target_bound true _ h = absurd (none-some _ h)
 target_bound false Identifier h = h
 target_bound false MemberExpression h = h
-target_bound false _ h = cc
+target_bound false _ h = absurd (none-some _ h)
 
 pattern_bound : (b : Bool) (k : Kind) {a : Role} → pattern_at Any b k ≡ Some a → bound b k ≡ Some a
 pattern_bound true ArrayPattern h = h
 pattern_bound true ObjectPattern h = h
-pattern_bound true _ h = cc
+pattern_bound true _ h = absurd (none-some _ h)
 pattern_bound false ArrayPattern h = h
 pattern_bound false ObjectPattern h = h
-pattern_bound false _ h = cc
+pattern_bound false _ h = absurd (none-some _ h)
 
 bound_of : (x : Assigned) (b : Bool) (k : Kind) {a : Role} → is_pattern x ≡ true → assigned_at x Any b k ≡ Some a → bound b k ≡ Some a
 bound_of assigned.Target b k p h = target_bound b k h
 bound_of assigned.Pattern b k p h = pattern_bound b k h
-bound_of _ b k p h = cc
+bound_of _ b k p h = absurd (false≢true p)
 
 -- what is a rest or has no default is an element
 rest_element : (s : Shape) (b : Bool) → cond b (s.binds && is_pattern s.assigned) (is_pattern s.assigned) ≡ true → (is_pattern s.assigned ≡ true) × (fits_as s (as_pattern b) ≡ true)
@@ -120,18 +121,18 @@ rest_element s true h = let u = and_parts s.binds (is_pattern s.assigned) h in (
     of : (x : Assigned) → is_pattern x ≡ true → is_element x ≡ true
     of assigned.Target h = refl
     of assigned.Pattern h = refl
-    of _ h = cc
+    of _ h = absurd (false≢true h)
 
     both : (a b : Bool) → a ≡ true → b ≡ true → (a && b) ≡ true
     both true true h k = refl
-    both true false h k = cc
-    both false b h k = cc
+    both true false h k = absurd (false≢true k)
+    both false b h k = absurd (false≢true h)
 rest_element s false h = (h, of s.assigned h)
   where
     of : (x : Assigned) → is_pattern x ≡ true → is_element x ≡ true
     of assigned.Target h = refl
     of assigned.Pattern h = refl
-    of _ h = cc
+    of _ h = absurd (false≢true h)
 
 -- the target of a pattern is that of the expression
 simple_tree : (n : Tree) → is_simple (kind_of (pattern_tree n)) ≡ true → is_simple (kind_of n) ≡ true
@@ -142,7 +143,7 @@ simple_tree (node _ w g s e ps) h = h
 target_simple : (k : Kind) {a : Role} → target_at Any false k ≡ Some a → is_simple k ≡ true
 target_simple Identifier h = refl
 target_simple MemberExpression h = refl
-target_simple _ h = cc
+target_simple _ h = absurd (none-some _ h)
 
 module _ (text : List ℕ) where
   -- no expression is a rest
@@ -169,26 +170,28 @@ module _ (text : List ℕ) where
             let fits : is_element p.cover.shape.assigned ≡ true = ap is_element q in
             let u = an_element false in_true fits in
             simple_tree p.cover.node (target_simple (kind_of (pattern_tree p.cover.node)) (ap (λ x. assigned_at x Any false (kind_of (pattern_tree p.cover.node))) (sym q) ∙ u.it_is))
-        of _ q h = cc
+        of _ q h = absurd (false≢true h)
 
 -- where the list has patterns, its items are read with In
 pattern_in : (l : Listed) (b : Bool) → has_reading l (as_pattern b) ≡ true → list_in l ≡ true
-pattern_in (listed.Sequence i) b h = cc
+pattern_in (listed.Sequence i) b h = absurd (false≢true h)
 pattern_in _ b h = refl
 
 none_counted : (l : Listed) (n : Tree) → lists_elements l ≡ true → nat_le (case_count l (part n none)) 0 ≡ true
-none_counted (listed.Cases r) n h = cc
+none_counted (listed.Cases r) n h = absurd (false≢true h)
 none_counted _ n h = refl
 
 module _ (at : ℕ) (p : Part) (stop : ℕ) where
   alone_fits : (l : Listed) (a : Reading) → lists_elements l ≡ true → item_fits l (element_item false at stop p) a ≡ true → fits_as p.cover.shape a ≡ true
-  alone_fits (listed.Declarators i) a h k = cc
+  alone_fits (listed.Declarators i) a h k = absurd (false≢true h)
   alone_fits (listed.OneParameter) a h k = k
   alone_fits _ a h k = k
 
 module _ (text : List ℕ) (p : Part) {o : ℕ} {s e : Token} {P : List Pair} where
   expression_element : {n : Tree} → SpellsIn text o (expr Assignment true Any) n s e P → SpelledAs (element_as as_expression) text o n s e P
-  expression_element {n} d = record { role = expr Assignment true Any; it_is = ap (λ c. Some (cond c spread (expr Assignment true Any))) (expression_kind Token (NextIn text any_goal) itself (text_determined text) d); spelled = d }
+  expression_element {n} d =
+      let no_spread : is_spread (kind_of n) ≡ false = expression_kind Token (NextIn text any_goal) itself (text_determined text) d in
+      record { role = expr Assignment true Any; it_is = ap (λ c. Some (cond c spread (expr Assignment true Any))) no_spread; spelled = d }
 
   default_there : (b : Bool) (n : Tree) → SpelledAs (assigned_at p.cover.shape.assigned Any b) text o n s e P → SpelledAs (with_default b) text o n s e P
   default_there b n u = record { role = u.role; it_is = (element_of p.cover.shape.assigned b (kind_of n) u.it_is).0; spelled = u.spelled }
@@ -201,20 +204,20 @@ module _ (text : List ℕ) (p : Part) {o : ℕ} {s e : Token} {P : List Pair} wh
   -- an element alone
   alone_reads : (l : Listed) → lists_elements l ≡ true → PartAt text (list_in l) Any p o s e P → IsTrue (takes_rank Assignment p.rank) → (a : Reading) → has_reading l a ≡ true → fits_as p.cover.shape a ≡ true → SpelledAs (item_role l a) text o (read_as a p.cover.node) s e P
   alone_reads listed.Arguments h r tk as_expression k fits = expression_element (an_expression text r tk fits)
-  alone_reads listed.Arguments h r tk (as_pattern b) k fits = cc
+  alone_reads listed.Arguments h r tk (as_pattern b) k fits = absurd (false≢true k)
   alone_reads listed.Elements h r tk as_expression k fits = expression_element (an_expression text r tk fits)
   alone_reads listed.Elements h r tk (as_pattern b) k fits = element_there b (pattern_tree p.cover.node) (an_element text r tk b refl fits)
   alone_reads listed.Covers h r tk as_expression k fits = record { role = expr Assignment true Any; it_is = refl; spelled = an_expression text r tk fits }
   alone_reads listed.Covers h r tk (as_pattern b) k fits = element_there b (pattern_tree p.cover.node) (an_element text r tk b refl fits)
-  alone_reads listed.Parameters h r tk as_expression k fits = cc
+  alone_reads listed.Parameters h r tk as_expression k fits = absurd (false≢true k)
   alone_reads listed.Parameters h r tk (as_pattern b) k fits = element_there b (pattern_tree p.cover.node) (an_element text r tk b refl fits)
-  alone_reads listed.NoParameter h r tk as_expression k fits = cc
+  alone_reads listed.NoParameter h r tk as_expression k fits = absurd (false≢true k)
   alone_reads listed.NoParameter h r tk (as_pattern b) k fits = element_there b (pattern_tree p.cover.node) (an_element text r tk b refl fits)
-  alone_reads listed.OneParameter h r tk as_expression k fits = cc
+  alone_reads listed.OneParameter h r tk as_expression k fits = absurd (false≢true k)
   alone_reads listed.OneParameter h r tk (as_pattern b) k fits = default_there b (pattern_tree p.cover.node) (an_element text r tk b refl fits)
   alone_reads (listed.Sequence i) h r tk as_expression k fits = record { role = expr Assignment i Any; it_is = refl; spelled = an_expression text r tk fits }
-  alone_reads (listed.Sequence i) h r tk (as_pattern b) k fits = cc
-  alone_reads _ h r tk a k fits = cc
+  alone_reads (listed.Sequence i) h r tk (as_pattern b) k fits = absurd (false≢true k)
+  alone_reads _ h r tk a k fits = absurd (false≢true h)
 
   pub element_alone : (l : Listed) (at : ℕ) → lists_elements l ≡ true → PartAt text (list_in l) Any p o s e P → IsTrue (takes_rank Assignment p.rank) → ItemReads text l (element_item false at e.stop p) o s e P
   element_alone l at h r tk = record {
@@ -265,17 +268,18 @@ module _ (text : List ℕ) (p : Part) {o : ℕ} {s m e : Token} {P : List Pair} 
 
     spread_reads : (l : Listed) → lists_elements l ≡ true → asks_edge l ≡ false → (a : Reading) → has_reading l a ≡ true → item_fits l (element_item true at e.stop p) a ≡ true → SpelledAs (item_role l a) text o (read_as a (element_item true at e.stop p).node) s e P
     spread_reads listed.Arguments h n as_expression k fits = a_spread (an_expression text r tk fits)
-    spread_reads listed.Arguments h n (as_pattern b) k fits = cc
+    spread_reads listed.Arguments h n (as_pattern b) k fits = absurd (false≢true k)
     spread_reads listed.Elements h n as_expression k fits = a_spread (an_expression text r tk fits)
     spread_reads listed.Elements h n (as_pattern b) k fits = rest_reads b fits
-    spread_reads listed.Covers h n as_expression k fits = cc
+    spread_reads listed.Covers h n as_expression k fits = absurd (false≢true fits)
     spread_reads listed.Covers h n (as_pattern b) k fits = rest_reads b (fit_cover b fits)
-    spread_reads listed.Parameters h n as_expression k fits = cc
+    spread_reads listed.Parameters h n as_expression k fits = absurd (false≢true k)
     spread_reads listed.Parameters h n (as_pattern b) k fits = rest_reads b (fit_parameter b fits)
-    spread_reads listed.NoParameter h n as_expression k fits = cc
+    spread_reads listed.NoParameter h n as_expression k fits = absurd (false≢true k)
     spread_reads listed.NoParameter h n (as_pattern b) k fits = rest_reads b (fit_none b fits)
-    spread_reads listed.OneParameter h n a k fits = cc
-    spread_reads _ h n a k fits = cc
+    spread_reads listed.OneParameter h n a k fits = absurd (false≢true fits)
+    spread_reads (listed.Sequence i) h n a k fits = absurd (true≢false n)
+    spread_reads _ h n a k fits = absurd (false≢true h)
 
     pub element_spread : (l : Listed) → lists_elements l ≡ true → asks_edge l ≡ false → ItemReads text l (element_item true at e.stop p) o s e P
     element_spread l h n = record {
@@ -287,7 +291,7 @@ module _ (text : List ℕ) (p : Part) {o : ℕ} {s m e : Token} {P : List Pair} 
       where
         no_rest : (a : Reading) → has_reading l a ≡ true → item_fits l (element_item true at e.stop p) a ≡ true → may_trail (element_item true at e.stop p) a ≡ true → is_rest (kind_of (read_as a (element_item true at e.stop p).node)) ≡ false
         no_rest as_expression k fits t = refl
-        no_rest (as_pattern b) k fits t = cc
+        no_rest (as_pattern b) k fits t = absurd (false≢true t)
 
 -- What is pushed onto the list, from the points between which it was read.
 pub taken_item : {s e : Point} {old new : List Pair} (l k : ListOf) (it : Item) (at : ℕ) (r : Result (Unit {0}) Fault) → is_chunked l.listed ≡ false → IfOk r (λ u. k ≡ with_item l it) → IsTaken (takes l.listed l.seen it) at r →
@@ -373,10 +377,10 @@ elements_only listed.Covers h = (refl, refl, refl)
 elements_only listed.Parameters h = (refl, refl, refl)
 elements_only listed.NoParameter h = (refl, refl, refl)
 elements_only listed.OneParameter h = (refl, refl, refl)
-elements_only _ h = cc
+elements_only _ h = absurd (false≢true h)
 
 pub with_in : (l : Listed) → asks_edge l ≡ false → lists_elements l ≡ true → list_in l ≡ true
-with_in (listed.Sequence i) h k = cc
+with_in (listed.Sequence i) h k = absurd (true≢false h)
 with_in _ h k = refl
 
 pub never_spreads : {X : Type 0} (s e : ℕ) (p : Part) (it : Item) → it ≡ element_item true s e p → it.spreads ≡ false → X

@@ -1,7 +1,7 @@
 -- Names of properties and members, with the words before them (ECMA-262 12.2.6, 14.3, 14.6).
 use Rattle.std.proofs.Common.{◌≡◌, ℕ, Bool, true, false, List, [], ◌∷◌, refl, sym, ap, ◌∙◌, subst}
 use Rattle.std.specs.Prelude.{Option, Some, None, codes, ◌&&◌, ◌||◌}
-use Rattle.std.proofs.lemmas.Bool.{false≢true}
+use Rattle.std.proofs.lemmas.Bool.{false≢true, true≢false}
 use Rattle.std.proofs.lemmas.List.{append-nil}
 use Rattle.tokens.specs.Scanned.{token_of}
 use Rattle.tokens.specs.Tokens.{LexicalToken}
@@ -53,25 +53,25 @@ constructor_same : (c : Class) (t : LexicalToken) → is_key_class c ≡ true �
 constructor_same Name t h k = sym (or_nothing (is t.text "constructor"))
 constructor_same Text t h k = sym ((λ i. is_string (k refl i) && is (string_units (points_are_chars t.text i)) "constructor"))
 constructor_same Number t h k = sym (ap (λ c. is_string c && is (literal_units t.text) "constructor") (k refl))
-constructor_same Punctuator t h k = cc
-constructor_same Template t h k = cc
-constructor_same RegExp t h k = cc
-constructor_same End t h k = cc
+constructor_same Punctuator t h k = absurd (false≢true h)
+constructor_same Template t h k = absurd (false≢true h)
+constructor_same RegExp t h k = absurd (false≢true h)
+constructor_same End t h k = absurd (false≢true h)
 
 key_literal : (c : Class) → is_key_class c ≡ true → same_class Name c ≡ false → is_literal_class c ≡ true
 key_literal Text h k = refl
 key_literal Number h k = refl
 key_literal Name h k = cc
-key_literal _ h k = cc
+key_literal _ h k = absurd (false≢true h)
 
 no_template : (c : Class) → is_key_class c ≡ true → same_class Template c ≡ false
 no_template Text h = refl
 no_template Number h = refl
 no_template Name h = refl
-no_template Punctuator h = cc
-no_template Template h = cc
-no_template RegExp h = cc
-no_template End h = cc
+no_template Punctuator h = absurd (false≢true h)
+no_template Template h = absurd (false≢true h)
+no_template RegExp h = absurd (false≢true h)
+no_template End h = absurd (false≢true h)
 
 module _ (text : List ℕ) where
   -- a key of one token
@@ -84,10 +84,10 @@ module _ (text : List ℕ) where
           (literal_key_found Token (NextIn text any_goal) itself (text_determined text) Number refl refl (literal_read next (ap is_literal_class h) ∙ h) (record { next = next; class = h; text = refl })).spelled
       of Text h k = subst (λ n. SpellsIn text o key n s e []) (single_read Literal t e is_t (ap (same_class Template) h))
           (literal_key_found Token (NextIn text any_goal) itself (text_determined text) Text refl refl (literal_read next (ap is_literal_class h) ∙ h) (record { next = next; class = h; text = refl })).spelled
-      of Punctuator h k = cc
-      of Template h k = cc
-      of RegExp h k = cc
-      of End h k = cc
+      of Punctuator h k = absurd (false≢true k)
+      of Template h k = absurd (false≢true k)
+      of RegExp h k = absurd (false≢true k)
+      of End h k = absurd (false≢true k)
 
   key_text : (t : LexicalToken) (e : Token) → e ≡ as_read t → is_key_class t.class ≡ true → e.text ≡ t.text
   key_text t e is_t kind = ap (λ (x : Token). x.text) is_t ∙ no_template_text t.class t.text (no_template t.class kind)
@@ -142,7 +142,7 @@ module _ (text : List ℕ) where
   modifiers_read (static h a) = let w = accessor_read a in record { mid = w.mid; runs = λ o. step (token h.read) (w.runs o); no_static = λ h. absurd (false≢true (sym h)); rest = w.rest; called = w.called }
 
   no_constructor : (in_class : Bool) (b : Bool) → b ≡ false → false ≡ (in_class && (b || false))
-  no_constructor true true h = cc
+  no_constructor true true h = absurd (true≢false h)
   no_constructor true false h = refl
   no_constructor false b h = refl
 

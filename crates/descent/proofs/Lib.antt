@@ -38,6 +38,8 @@ pub mod PieceBy
 pub mod PieceLists
 pub mod PieceParts
 pub mod PieceTokens
+pub mod PieceViews
+pub mod FreeRanks
 pub mod Parting
 pub mod Passing
 pub mod Righted

@@ -1,7 +1,7 @@
 -- What a function reads behind the object of a member, a callee or a tag, step by step (ECMA-262 12.3.2 to 12.3.9).
 use Rattle.std.proofs.Common.{◌≡◌, ℕ, Bool, true, false, cond, List, [], ◌∷◌, ◌++◌, refl, sym, ap, ◌∙◌, subst}
 use Rattle.std.specs.Prelude.{IsTrue, Some, None, codes}
-use Rattle.std.proofs.lemmas.Bool.{false≢true}
+use Rattle.std.proofs.lemmas.Bool.{false≢true, true≢false}
 use Rattle.tokens.specs.Tokens.{LexicalToken}
 use Rattle.tokens.specs.Reading.{any_goal}
 use Rattle.tokens.specs.declared.token.Class.{Class}
@@ -74,7 +74,7 @@ no_template_text Number w h = refl
 no_template_text Text w h = refl
 no_template_text RegExp w h = refl
 no_template_text End w h = refl
-no_template_text Template w h = cc
+no_template_text Template w h = absurd (true≢false h)
 
 pub single_read : (k : Kind) (t : LexicalToken) (e : Token) → e ≡ as_read t → same_class Template e.class ≡ false → single_node k e ≡ single_node k t
 single_read k t e is other =

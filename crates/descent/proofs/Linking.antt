@@ -6,6 +6,7 @@ use Rattle.std.proofs.lemmas.Bool.{false≢true}
 use Rattle.std.proofs.lemmas.Bool.Decides.{nat_tests}
 use Rattle.std.proofs.lemmas.List.{append-nil}
 use Rattle.std.proofs.lemmas.Slice.Eq.{bytes_eq-Decides}
+use Rattle.std.proofs.lemmas.Option.{none-some}
 use Rattle.tokens.specs.Goals.{allows}
 use Rattle.tokens.specs.Reading.{any_goal}
 use Rattle.tokens.specs.declared.token.Class.{Class}
@@ -98,26 +99,26 @@ link_suffix rank.Call h = refl
 link_suffix rank.Member h = refl
 link_suffix rank.Primary h = refl
 link_suffix rank.Grouped h = refl
-link_suffix rank.Expression h = cc
-link_suffix rank.Assignment h = cc
-link_suffix rank.Conditional h = cc
-link_suffix rank.ShortCircuit h = cc
-link_suffix rank.Coalesce h = cc
-link_suffix rank.LogicalOr h = cc
-link_suffix rank.LogicalAnd h = cc
-link_suffix rank.BitwiseOr h = cc
-link_suffix rank.BitwiseXor h = cc
-link_suffix rank.BitwiseAnd h = cc
-link_suffix rank.Equality h = cc
-link_suffix rank.Relational h = cc
-link_suffix rank.Shift h = cc
-link_suffix rank.Additive h = cc
-link_suffix rank.Multiplicative h = cc
-link_suffix rank.Exponentiation h = cc
-link_suffix rank.Unary h = cc
-link_suffix rank.Update h = cc
-link_suffix rank.LeftHandSide h = cc
-link_suffix rank.New h = cc
+link_suffix rank.Expression h = absurd (false≢true h)
+link_suffix rank.Assignment h = absurd (false≢true h)
+link_suffix rank.Conditional h = absurd (false≢true h)
+link_suffix rank.ShortCircuit h = absurd (false≢true h)
+link_suffix rank.Coalesce h = absurd (false≢true h)
+link_suffix rank.LogicalOr h = absurd (false≢true h)
+link_suffix rank.LogicalAnd h = absurd (false≢true h)
+link_suffix rank.BitwiseOr h = absurd (false≢true h)
+link_suffix rank.BitwiseXor h = absurd (false≢true h)
+link_suffix rank.BitwiseAnd h = absurd (false≢true h)
+link_suffix rank.Equality h = absurd (false≢true h)
+link_suffix rank.Relational h = absurd (false≢true h)
+link_suffix rank.Shift h = absurd (false≢true h)
+link_suffix rank.Additive h = absurd (false≢true h)
+link_suffix rank.Multiplicative h = absurd (false≢true h)
+link_suffix rank.Exponentiation h = absurd (false≢true h)
+link_suffix rank.Unary h = absurd (false≢true h)
+link_suffix rank.Update h = absurd (false≢true h)
+link_suffix rank.LeftHandSide h = absurd (false≢true h)
+link_suffix rank.New h = absurd (false≢true h)
 
 -- the symbol of what is no call
 abbrev pub rank_behind : Linked → Rank → Rank
@@ -170,11 +171,11 @@ some_is e = cc
 
 tag_symbol : (b n : Bool) {z : Rank} → symbol_of (cond b tags no_operator) n ≡ Some z → z ≡ Member
 tag_symbol true n e = some_is e
-tag_symbol false n e = cc
+tag_symbol false n e = absurd (none-some _ e)
 
 not_loose : (b : Bool) → minds_in (cond b Member Call) ≡ true → ⊥
-not_loose true h = cc
-not_loose false h = cc
+not_loose true h = absurd (false≢true h)
+not_loose false h = absurd (false≢true h)
 
 suffix_target : (c : Rank) → IsTrue (takes LeftHandSide (suffix_rank c))
 suffix_target c = of (takes Member c)
@@ -191,8 +192,8 @@ suffix_not_new {A} c h = of (takes Member c) h
     of false h = cc
 
 behind_super : (c : Class) (x y z b : Bool) → ((same_class Punctuator c && x) || ((same_class Punctuator c && y) || (b && (same_class Punctuator c && z)))) ≡ true → same_class Template c ≡ false
-behind_super Template x y z true h = cc
-behind_super Template x y z false h = cc
+behind_super Template x y z true h = absurd (false≢true h)
+behind_super Template x y z false h = absurd (false≢true h)
 behind_super _ x y z b h = refl
 
 module _ (text : List ℕ) where

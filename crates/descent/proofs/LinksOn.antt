@@ -2,6 +2,7 @@
 use Rattle.std.proofs.Common.{◌≡◌, ℕ, ◌≤◌, Bool, true, false, List, [], ◌∷◌, ◌++◌, refl, sym, ap, ◌∙◌, subst, arith}
 use Rattle.std.specs.Prelude.{IsTrue, codes}
 use Rattle.std.proofs.lemmas.List.{append-nil}
+use Rattle.std.proofs.lemmas.Bool.{false≢true}
 use Rattle.tokens.specs.declared.token.Class.TheVariants.{Punctuator}
 use Rattle.tokens.specs.declared.token.Goal.TheVariants.{Div}
 use Rattle.tokens.specs.Reading.{any_goal}
@@ -61,7 +62,7 @@ calling Call h = refl
 calling Member h = refl
 calling Primary h = refl
 calling Grouped h = refl
-calling _ h = cc
+calling _ h = absurd (false≢true h)
 
 index_rank : (b : Bool) → link_rank link.Index b ≡ link_rank link.Name b
 index_rank true = refl

@@ -1,6 +1,7 @@
 -- Behind an item of a given list: the list that is left of it, and the whole (ECMA-262 12.2, 12.16, 13.3, 13.12).
 use Rattle.std.proofs.Common.{◌+◌, ◌≡◌, ℕ, Bool, true, false, not, cond, List, refl, sym, ap, ◌∙◌, subst, arith}
 use Rattle.std.specs.Prelude.{Some, codes, ◌&&◌, ◌||◌, if◌then◌else◌, nat_le}
+use Rattle.std.proofs.lemmas.Bool.{false≢true}
 use Rattle.tokens.specs.Reading.{any_goal}
 use Rattle.tokens.specs.declared.token.Class.TheVariants.{Punctuator}
 use Rattle.tree.specs.declared.kind.Pair.{Pair}
@@ -141,6 +142,6 @@ module _ (text : List ℕ) where
       unlast listed.Members h = tt
       unlast (listed.Cases r) h = tt
       unlast listed.Template h = tt
-      unlast (listed.Sequence i) h = cc
-      unlast (listed.Declarators i) h = cc
+      unlast (listed.Sequence i) h = absurd (false≢true h)
+      unlast (listed.Declarators i) h = absurd (false≢true h)
       unlast _ h = tt

@@ -1,7 +1,7 @@
 -- The end of a list: its items up to where none follows, and what closes it (ECMA-262 12.2, 12.3.6, 12.16, 13.3, 13.12, 14.1, 14.6).
 use Rattle.std.proofs.Common.{◌≡◌, ℕ, ◌-◌, Bool, true, false, cond, List, [], ◌++◌, ◌⊎◌, inl, inr, refl, sym, ap, ◌∙◌, subst, append_assoc}
 use Rattle.std.specs.Prelude.{not, ◌&&◌, ◌||◌, if◌then◌else◌, nat_lt, codes}
-use Rattle.std.proofs.lemmas.Bool.{and_parts, false≢true}
+use Rattle.std.proofs.lemmas.Bool.{and_parts, false≢true, true≢false}
 use Rattle.std.proofs.lemmas.List.{append-nil}
 use Rattle.tokens.specs.declared.token.Class.TheVariants.{Punctuator}
 use Rattle.token_cursor.specs.Point.{Point}
@@ -52,7 +52,7 @@ pushed_edge (gap ps) n = pushed_edge ps n
 
 unless_never : (X : Type 0) (b : Bool) → b ≡ true → Unless b X → ⊥
 unless_never X true h u = u
-unless_never X false h u = cc
+unless_never X false h u = absurd (false≢true h)
 
 or_second : (b c : Bool) → c ≡ true → (b || c) ≡ true
 or_second true c h = refl
@@ -72,7 +72,7 @@ abbrev IsOver : Listed → ListOf → Point → Type 0
 IsOver x l t = (is_ended x l.seen (part_count l.nodes) ≡ true) ⊎ SeesEnd (end_before x) t
 
 some_counted : (ps : Parts) → nat_lt 0 (part_count ps) ≡ true → not (is_none ps) ≡ true
-some_counted none h = cc
+some_counted none h = absurd (false≢true h)
 some_counted (part n ps) h = refl
 some_counted (gap ps) h = refl
 
@@ -82,7 +82,7 @@ module _ (text : List ℕ) (f : Start) {o : ℕ} where
 
   marked_still : (b : Bool) (a : Reading) {m t : Token} → b ≡ true → t ≡ m → RunsIn text o (stood_in f listed.Template (left_of listed.Template b a none)) none m t []
   marked_still true a h k = still k
-  marked_still false a h k = cc
+  marked_still false a h k = absurd (false≢true h)
 
   -- nothing is left then, or the list was stuck
   nothing_left : (x : Listed) (l : ListOf) (a : Reading) (m : Token) (t : Point) → whole_of x l a ≡ true → IsOver x l t → SemicolonsBefore text x m t.last → (stuck_at x a l.nodes l.seen.has_comma ≡ true) ⊎ RunsIn text o (stood_in f x (left_of x l.seen.is_marked a none)) none m t.last []
@@ -118,7 +118,7 @@ over_stuck : (x : Listed) (l : ListOf) (t : Point) → IsOver x l t → asks_las
 over_stuck listed.Covers l t over k w = (and_parts (has_reading listed.Covers as_expression && seen_fits listed.Covers l as_expression) _ w).1
 over_stuck (listed.Sequence i) l t over k w = over_edge (listed.Sequence i) l t over refl
 over_stuck (listed.Declarators i) l t over k w = over_edge (listed.Declarators i) l t over refl
-over_stuck _ l t over k w = cc
+over_stuck _ l t over k w = absurd (false≢true k)
 
 -- where the list is over, all its items were read
 pub over_there : (text : List ℕ) (f : Start) (l : ListOf) (o : ℕ) (s m : Token) (t : Point) (P : List Pair) → SoFarAt text f l o s m P → SemicolonsBefore text l.listed m t.last → IsOver l.listed l t → ItemsAt text f l o s t.last (P ++ [])
@@ -176,7 +176,7 @@ seen_none x s it = of (is_unseparated x)
 
 -- a list that isn't ended may have items
 may_have : (x : Listed) (s : Seen) (c : ℕ) → is_ended x s c ≡ false → has_items x ≡ true
-may_have listed.NoParameter s c h = cc
+may_have listed.NoParameter s c h = absurd (true≢false h)
 may_have _ s c h = refl
 
 -- the last item, whatever it is

@@ -1,6 +1,7 @@
 -- The same of what parentheses hold, of sequences, declarators, templates, cases and members; and of all lists (ECMA-262 12.2, 12.16, 13.3, 13.12, 14.6).
 use Rattle.std.proofs.Common.{◌+◌, ◌-◌, ◌≡◌, ◌⊎◌, inl, inr, ℕ, Bool, true, false, not, List, [], ◌∷◌, ◌++◌, refl, sym, ap, ◌∙◌, subst}
 use Rattle.std.specs.Prelude.{Option, Some, None, codes, ◌&&◌, ◌||◌}
+use Rattle.std.proofs.lemmas.Bool.{false≢true}
 use Rattle.tokens.specs.Reading.{any_goal}
 use Rattle.tokens.specs.declared.token.Class.TheVariants.{Name, Punctuator}
 use Rattle.tokens.specs.declared.token.Goal.TheVariants.{Div}
@@ -210,22 +211,22 @@ module _ (text : List ℕ) where
   -- each list
   pub list_step : (x : Listed) (marked : Bool) (a : Reading) {o : ℕ} (ps : Parts) {s e : Token} (to : Token) {P : List Pair} → has_reading x a ≡ true → FirstMisses text x s → ClosedBy text (closing x) e to → LastGiven text x ps e → RunsIn text o (stood_in Any x (left_of x marked a ps)) ps s e P → ListStep text x marked a o ps s e P
   list_step listed.Arguments marked as_expression ps to h f closed l d = listed_step text listed.Arguments marked as_expression (element_as as_expression) argument ps refl refl refl (λ k. refl) (λ n. refl) (λ n. refl) (λ n m c. c) (λ qs. tt) (λ qs k Q r. r) done closed d
-  list_step listed.Arguments marked (as_pattern b) ps to h f closed l d = cc
+  list_step listed.Arguments marked (as_pattern b) ps to h f closed l d = absurd (false≢true h)
   list_step listed.Elements marked as_expression ps to h f closed l d = elements_step text marked as_expression (element_as as_expression) argument ps (λ k. refl) (λ n. refl) (λ n. refl) (λ qs k Q r. r) done closed d
   list_step listed.Elements marked (as_pattern b) ps to h f closed l d = elements_step text marked (as_pattern b) (element_as (as_pattern b)) (pattern_element b) ps (λ k. refl) (λ n. refl) (λ n. refl) (λ qs k Q r. r) done closed d
   list_step listed.Properties marked as_expression ps to h f closed l d = listed_step text listed.Properties marked as_expression (property_as as_expression) object_part ps refl refl refl (λ k. refl) object_piece (λ n. refl) (λ n m c. c) (λ qs. tt) (λ qs k Q r. r) done closed d
   list_step listed.Properties marked (as_pattern b) ps to h f closed l d = listed_step text listed.Properties marked (as_pattern b) (property_as (as_pattern b)) (object_pattern_part b) ps refl refl refl (λ k. refl) (pattern_piece b) (λ n. refl) (λ n m c. c) (λ qs. tt) (λ qs k Q r. r) done closed d
   list_step listed.Covers marked as_expression ps to h f closed l d = covers_step marked ps closed d
   list_step listed.Covers marked (as_pattern b) ps to h f closed l d = listed_step text listed.Covers marked (as_pattern b) (element_as (as_pattern b)) (pattern_element b) ps refl refl refl (λ k. refl) (λ n. refl) (λ n. refl) (λ n m c. c) (λ qs. tt) (λ qs k Q r. r) done closed d
-  list_step listed.Parameters marked as_expression ps to h f closed l d = cc
+  list_step listed.Parameters marked as_expression ps to h f closed l d = absurd (false≢true h)
   list_step listed.Parameters marked (as_pattern true) ps to h f closed l d = listed_step text listed.Parameters marked (as_pattern true) (element_as (as_pattern true)) (pattern_element true) ps refl refl refl (λ k. refl) (λ n. refl) (λ n. refl) (λ n m c. c) (λ qs. tt) (λ qs k Q r. r) done closed d
-  list_step listed.Parameters marked (as_pattern false) ps to h f closed l d = cc
+  list_step listed.Parameters marked (as_pattern false) ps to h f closed l d = absurd (false≢true h)
   list_step listed.NoParameter marked a none to h f closed l d = let z = run_none Token (NextIn text any_goal) itself d in over refl (sym z.place) z.pairs done
   list_step listed.NoParameter marked a (part n ps) to h f closed l d = nothing_there text d
   list_step listed.NoParameter marked a (gap ps) to h f closed l d = nothing_there text d
-  list_step listed.OneParameter marked as_expression ps to h f closed l d = cc
+  list_step listed.OneParameter marked as_expression ps to h f closed l d = absurd (false≢true h)
   list_step listed.OneParameter marked (as_pattern true) ps to h f closed l d = lone_step marked ps closed d
-  list_step listed.OneParameter marked (as_pattern false) ps to h f closed l d = cc
+  list_step listed.OneParameter marked (as_pattern false) ps to h f closed l d = absurd (false≢true h)
   list_step listed.Template marked a ps to h f closed l d = template_step marked a ps d
   list_step (listed.Sequence i) marked a ps to h f closed l d = sequence_step marked i a ps l d
   list_step (listed.Declarators i) marked as_expression ps to h f closed l d = declarators_step marked i as_expression true (λ k. refl) ps l (λ qs k Q r. r) d

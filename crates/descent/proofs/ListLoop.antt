@@ -1,7 +1,7 @@
 -- The loop over a list that is given: what is left of it before each item, and behind the last (ECMA-262 12.2, 12.16, 13.3, 13.12, 14.1, 14.6).
 use Rattle.std.proofs.Common.{◌+◌, ◌≡◌, ◌⊎◌, inl, inr, ℕ, Bool, true, false, not, cond, List, [], ◌++◌, refl, sym, ap, ◌∙◌, subst, arith}
 use Rattle.std.specs.Prelude.{Option, Some, None, ◌&&◌, nat_le, nat_lt}
-use Rattle.std.proofs.lemmas.Bool.{false≢true}
+use Rattle.std.proofs.lemmas.Bool.{false≢true, true≢false}
 use Rattle.std.proofs.lemmas.Bool.Decides.{nat_tests}
 use Rattle.std.proofs.lemmas.List.{append-nil}
 use Rattle.tokens.specs.Reading.{any_goal}
@@ -118,7 +118,7 @@ pub record ItemHere (text : List ℕ) (l : ListOf) (a : Reading) (o : ℕ) (ps :
   pub pairs : P ≡ pairs_one ++ pairs_more
 
 counted : (ps : Parts) → not (is_none ps) ≡ true → nat_lt 0 (part_count ps) ≡ true
-counted none h = cc
+counted none h = absurd (false≢true h)
 counted (part n ps) h = positive (part_count ps)
   where
     positive : (c : ℕ) → nat_lt 0 (c + 1) ≡ true
@@ -141,10 +141,10 @@ module _ (text : List ℕ) where
   not_stuck : (x : Listed) (a : Reading) (ps : Parts) (c : Bool) (u : Seen) (m t to : Token) → is_ended x u (part_count ps) ≡ false → EndMissed (end_before x) t → ClosedBy text (closing x) m to → m ≡ t → stuck_at x a ps c ≡ true → ⊥
   not_stuck listed.Covers a ps c u m t to open_list miss closed at h = closes_there miss at closed
   not_stuck listed.OneParameter a ps c u m t to open_list miss closed at h = false≢true (sym open_list ∙ counted ps h)
-  not_stuck _ a ps c u m t to open_list miss closed at h = cc
+  not_stuck _ a ps c u m t to open_list miss closed at h = absurd (false≢true h)
 
   not_over : (x : Listed) (a : Reading) (count : ℕ) (u : Seen) {o : ℕ} (m t to : Token) → is_ended x u count ≡ false → EndMissed (end_before x) t → ClosedBy text (closing x) m to → m ≡ t → RunsIn text o (stood_in Any x (left_of x u.is_marked a none)) none t t [] → ⊥
-  not_over listed.NoParameter a count u m t to open_list miss closed at d = cc
+  not_over listed.NoParameter a count u m t to open_list miss closed at d = absurd (true≢false open_list)
   not_over listed.OneParameter a count u m t to open_list miss closed at d = nothing_there text d
   not_over listed.Template a count u {o} m t to open_list miss closed at d = nothing_there text (subst (λ b. RunsIn text o (stood_in Any listed.Template (left_of listed.Template b a none)) none t t []) open_list d)
   not_over (listed.Sequence i) a count u m t to open_list miss closed at d = nothing_there text d

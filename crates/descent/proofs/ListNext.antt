@@ -1,7 +1,7 @@
 -- Behind an item of a given list: what is left behind a comma, or where nothing stands between items; and where the list ends (ECMA-262 12.2, 12.16, 13.3, 13.12).
 use Rattle.std.proofs.Common.{◌+◌, ◌≡◌, ℕ, Bool, true, false, List, refl, ap, ◌∙◌, arith}
 use Rattle.std.specs.Prelude.{◌&&◌, ◌||◌, if◌then◌else◌, nat_le}
-use Rattle.std.proofs.lemmas.Bool.{and_parts}
+use Rattle.std.proofs.lemmas.Bool.{and_parts, false≢true, true≢false}
 use Rattle.std.proofs.lemmas.Bool.Decides.{nat_tests}
 use Rattle.tree.specs.declared.kind.Pair.{Pair}
 use Rattle.tree.specs.Tree.{Parts}
@@ -57,12 +57,12 @@ both_shaped : (x : Listed) (l : ListOf) (a : Reading) → l.seen.is_rest ≡ fal
 both_shaped x l a h k = of l.seen.is_rest h
   where
     of : (b : Bool) → b ≡ false → (fits_as (comma_shape b l.seen.shape) a && reads x (comma_shape b l.seen.shape)) ≡ true
-    of true q = cc
+    of true q = absurd (true≢false q)
     of false q = k
 
 pub comma_left : (x : Listed) (l : ListOf) (a : Reading) → (minds_rest x a ≡ true → l.seen.is_rest ≡ false) → left_at x l a ≡ true → left_at x (with_comma l) a ≡ true
 comma_left listed.Arguments l as_expression rest h = kept_value l.seen.is_rest l.seen.shape ∙ h
-comma_left listed.Arguments l (as_pattern b) rest h = cc
+comma_left listed.Arguments l (as_pattern b) rest h = absurd (false≢true h)
 comma_left listed.Elements l as_expression rest h =
     let v = kept_value l.seen.is_rest l.seen.shape ∙ (and_parts l.seen.shape.is_expression (is_either l.seen.shape) h).0 in
     and_both v (value_either (comma_shape l.seen.is_rest l.seen.shape) v)
@@ -73,27 +73,27 @@ comma_left listed.Properties l as_expression rest h =
 comma_left listed.Properties l (as_pattern b) rest h = both_shaped listed.Properties l (as_pattern b) (rest refl) h
 comma_left listed.Covers l as_expression rest h = both_shaped listed.Covers l as_expression (rest refl) h
 comma_left listed.Covers l (as_pattern true) rest h = both_shaped listed.Covers l (as_pattern true) (rest refl) h
-comma_left listed.Covers l (as_pattern false) rest h = cc
-comma_left listed.Parameters l as_expression rest h = cc
+comma_left listed.Covers l (as_pattern false) rest h = absurd (false≢true h)
+comma_left listed.Parameters l as_expression rest h = absurd (false≢true h)
 comma_left listed.Parameters l (as_pattern true) rest h = both_shaped listed.Parameters l (as_pattern true) (rest refl) h
-comma_left listed.Parameters l (as_pattern false) rest h = cc
-comma_left listed.NoParameter l as_expression rest h = cc
+comma_left listed.Parameters l (as_pattern false) rest h = absurd (false≢true h)
+comma_left listed.NoParameter l as_expression rest h = absurd (false≢true h)
 comma_left listed.NoParameter l (as_pattern true) rest h = both_shaped listed.NoParameter l (as_pattern true) (rest refl) h
-comma_left listed.NoParameter l (as_pattern false) rest h = cc
-comma_left listed.OneParameter l as_expression rest h = cc
+comma_left listed.NoParameter l (as_pattern false) rest h = absurd (false≢true h)
+comma_left listed.OneParameter l as_expression rest h = absurd (false≢true h)
 comma_left listed.OneParameter l (as_pattern true) rest h = both_shaped listed.OneParameter l (as_pattern true) (rest refl) h
-comma_left listed.OneParameter l (as_pattern false) rest h = cc
+comma_left listed.OneParameter l (as_pattern false) rest h = absurd (false≢true h)
 comma_left listed.Template l as_expression rest h = kept_value l.seen.is_rest l.seen.shape ∙ h
-comma_left listed.Template l (as_pattern b) rest h = cc
+comma_left listed.Template l (as_pattern b) rest h = absurd (false≢true h)
 comma_left (listed.Sequence i) l as_expression rest h = kept_value l.seen.is_rest l.seen.shape ∙ h
-comma_left (listed.Sequence i) l (as_pattern b) rest h = cc
+comma_left (listed.Sequence i) l (as_pattern b) rest h = absurd (false≢true h)
 comma_left (listed.Declarators i) l as_expression rest h = let u = and_parts _ l.seen.shape.is_expression h in and_both u.0 (kept_value l.seen.is_rest l.seen.shape ∙ u.1)
 comma_left (listed.Declarators i) l (as_pattern true) rest h = let u = and_parts _ l.seen.shape.is_expression h in and_both u.0 (kept_value l.seen.is_rest l.seen.shape ∙ u.1)
-comma_left (listed.Declarators i) l (as_pattern false) rest h = cc
+comma_left (listed.Declarators i) l (as_pattern false) rest h = absurd (false≢true h)
 comma_left (listed.Cases r) l as_expression rest h = kept_value l.seen.is_rest l.seen.shape ∙ h
-comma_left (listed.Cases r) l (as_pattern b) rest h = cc
+comma_left (listed.Cases r) l (as_pattern b) rest h = absurd (false≢true h)
 comma_left listed.Members l as_expression rest h = kept_value l.seen.is_rest l.seen.shape ∙ h
-comma_left listed.Members l (as_pattern b) rest h = cc
+comma_left listed.Members l (as_pattern b) rest h = absurd (false≢true h)
 
 -- behind a comma no list but a setter's is stuck
 pub comma_free : (x : Listed) (a : Reading) (ps : Parts) → is_single x ≡ false → stuck_at x a ps true ≡ false
@@ -103,8 +103,8 @@ comma_free listed.Covers as_expression ps h = no_and (are_some ps)
     no_and true = refl
     no_and false = refl
 comma_free listed.Covers (as_pattern b) ps h = refl
-comma_free listed.OneParameter a ps h = cc
-comma_free listed.NoParameter a ps h = cc
+comma_free listed.OneParameter a ps h = absurd (true≢false h)
+comma_free listed.NoParameter a ps h = absurd (true≢false h)
 comma_free _ a ps h = refl
 
 -- where nothing stands between items none is stuck either
@@ -112,11 +112,11 @@ pub next_free : (x : Listed) (a : Reading) (ps : Parts) (c : Bool) → is_unsepa
 next_free listed.Members a ps c h = refl
 next_free (listed.Cases r) a ps c h = refl
 next_free listed.Template a ps c h = refl
-next_free _ a ps c h = cc
+next_free _ a ps c h = absurd (false≢true h)
 
 -- what runs is what is left, where the list isn't stuck
 pub rest_runs : (text : List ℕ) (b : Bool) (l : ListOf) (a : Reading) (o : ℕ) (ps : Parts) (s e : Token) (P : List Pair) → b ≡ false → RunsIn text o (stood_in Any l.listed (left_of l.listed l.seen.is_marked a ps)) ps s e P → RestGiven text b l a o ps s e P
-rest_runs text true l a o ps s e P h d = cc
+rest_runs text true l a o ps s e P h d = absurd (true≢false h)
 rest_runs text false l a o ps s e P h d = d
 
 -- no more than one default is left

@@ -1,7 +1,7 @@
 -- A list that is given, read item by item: what is given before and behind each, and where none follows (ECMA-262 12.2, 12.16, 13.3, 13.12, 14.1, 14.6).
 use Rattle.std.proofs.Common.{◌+◌, ◌≤◌, ◌≡◌, ◌⊎◌, inl, inr, ℕ, Bool, true, false, cond, List, [], ◌∷◌, refl, sym, ap, ◌∙◌, subst, arith}
 use Rattle.std.specs.Prelude.{Option, Some, None, codes, ◌&&◌, nat_le}
-use Rattle.std.proofs.lemmas.Bool.{and_parts, false≢true}
+use Rattle.std.proofs.lemmas.Bool.{and_parts, false≢true, true≢false}
 use Rattle.std.proofs.lemmas.Bool.Decides.{nat_tests}
 use Rattle.tokens.specs.Reading.{any_goal}
 use Rattle.tokens.specs.declared.token.Class.TheVariants.{Name, Punctuator}
@@ -199,9 +199,9 @@ module _ (text : List ℕ) where
     unstuck : is_stuck l a ≡ false → ListStep text l.listed l.seen.is_marked a o ps t e P → Ahead l a o ps t e P
 
   pub not_members : (x : Listed) (s t : Token) → is_unseparated x ≡ false → SemicolonsBefore text x s t → t ≡ s
-  not_members listed.Members s t h p = cc
-  not_members (listed.Cases r) s t h p = cc
-  not_members listed.Template s t h p = cc
+  not_members listed.Members s t h p = absurd (true≢false h)
+  not_members (listed.Cases r) s t h p = absurd (true≢false h)
+  not_members listed.Template s t h p = absurd (true≢false h)
   not_members listed.Arguments s t h p = p
   not_members listed.Elements s t h p = p
   not_members listed.Properties s t h p = p
@@ -215,9 +215,9 @@ module _ (text : List ℕ) where
   pub stuck_kind : (x : Listed) (a : Reading) (ps : Parts) (c : Bool) → stuck_at x a ps c ≡ true → is_unseparated x ≡ false
   stuck_kind listed.Covers a ps c h = refl
   stuck_kind listed.OneParameter a ps c h = refl
-  stuck_kind listed.Members a ps c h = cc
-  stuck_kind (listed.Cases r) a ps c h = cc
-  stuck_kind listed.Template a ps c h = cc
+  stuck_kind listed.Members a ps c h = absurd (false≢true h)
+  stuck_kind (listed.Cases r) a ps c h = absurd (false≢true h)
+  stuck_kind listed.Template a ps c h = absurd (false≢true h)
   stuck_kind _ a ps c h = refl
 
   pub ahead_of : (l : ListOf) (a : Reading) {o : ℕ} {ps : Parts} {s t to : Token} {P : List Pair} → (g : ListGiven text l a o ps s to P) → SemicolonsBefore text l.listed s t → FirstMisses text l.listed t → Ahead l a o ps t g.mid P

@@ -1,7 +1,7 @@
 -- Where no item of a given list is left: before an item, and behind the last (ECMA-262 12.2, 12.16, 13.3, 13.12, 14.1, 14.6).
 use Rattle.std.proofs.Common.{◌≡◌, ◌⊎◌, inl, inr, ℕ, Bool, true, false, not, cond, List, [], refl, sym, ap, ◌∙◌, subst}
 use Rattle.std.specs.Prelude.{codes, ◌&&◌, nat_lt}
-use Rattle.std.proofs.lemmas.Bool.{and_parts, false≢true}
+use Rattle.std.proofs.lemmas.Bool.{and_parts, false≢true, true≢false}
 use Rattle.tokens.specs.Reading.{any_goal}
 use Rattle.tokens.specs.declared.token.Class.TheVariants.{Punctuator}
 use Rattle.tree.specs.declared.kind.Pair.{Pair}
@@ -35,8 +35,8 @@ Nothing l a ps t e P = (ps ≡ none) × (e ≡ t) × (P ≡ []) × (cond (asks_s
 
 uncounted : (ps : Parts) → not (is_none ps) ≡ false → nat_lt 0 (part_count ps) ≡ false
 uncounted none h = refl
-uncounted (part n ps) h = cc
-uncounted (gap ps) h = cc
+uncounted (part n ps) h = absurd (true≢false h)
+uncounted (gap ps) h = absurd (true≢false h)
 
 module _ (text : List ℕ) where
   -- before an item, where none stands

@@ -3,6 +3,7 @@ use Rattle.std.proofs.Common.{◌≡◌, ℕ, ◌-◌, Bool, true, false, cond, 
 use Rattle.std.specs.Prelude.{IsTrue, Option, Some, None, codes, not, ◌&&◌, nat_le}
 use Rattle.std.specs.Bool.{OnTrue}
 use Rattle.std.proofs.lemmas.Bool.{and_parts, false≢true}
+use Rattle.std.proofs.lemmas.Option.{none-some}
 use Rattle.tokens.specs.Reading.{Reads, any_goal}
 use Rattle.tokens.specs.Tokens.{LexicalToken}
 use Rattle.tokens.specs.declared.token.Class.TheVariants.{Punctuator}
@@ -49,21 +50,21 @@ bound_pattern k h = of (is_pattern_kind k) (cond (is_identifier k) (Some name) N
   where
     of : {a : Role} (b : Bool) (x : Option Role) → cond b (Some (pattern true Any)) None ≡ Some a → cond b (Some (pattern true Any)) x ≡ Some a
     of true x h = h
-    of false x h = cc
+    of false x h = absurd (none-some _ h)
 
 bound_name : (k : Kind) {a : Role} → cond (is_identifier k) (Some name) None ≡ Some a → bound true k ≡ Some a
 bound_name Identifier h = h
-bound_name _ h = cc
+bound_name _ h = absurd (none-some _ h)
 
 bound_role : (x : Assigned) (k : Kind) {a : Role} → is_pattern x ≡ true → assigned_at x Any true k ≡ Some a → bound true k ≡ Some a
 bound_role assigned.Target k p h = bound_name k h
 bound_role assigned.Pattern k p h = bound_pattern k h
-bound_role _ k p h = cc
+bound_role _ k p h = absurd (false≢true p)
 
 binds_element : (x : Assigned) → is_pattern x ≡ true → is_element x ≡ true
 binds_element assigned.Target h = refl
 binds_element assigned.Pattern h = refl
-binds_element _ h = cc
+binds_element _ h = absurd (false≢true h)
 
 not_defaulted : {X : Type 0} (x : Assigned) → is_pattern x ≡ true → x ≡ assigned.Defaulted → X
 not_defaulted assigned.Target h d = cc
@@ -184,7 +185,7 @@ module _ (text : List ℕ) where
 
       not_marked : (b : Bool) → not b ≡ true → b ≡ false
       not_marked false h = refl
-      not_marked true h = cc
+      not_marked true h = absurd (false≢true h)
 
       reads : (a : Reading) → has_reading (listed.Declarators i) a ≡ true → item_fits (listed.Declarators i) (record { node = n; shape = value; spreads = false; is_marked = marked; edge = Closed }) a ≡ true →
           SpelledAs (item_role (listed.Declarators i) a) text o (read_as a n) s e A

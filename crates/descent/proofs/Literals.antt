@@ -3,6 +3,7 @@ use Rattle.std.proofs.Common.{◌≡◌, ℕ, ◌<◌, Bool, true, false, cond, 
 use Rattle.std.specs.Prelude.{IsTrue, nat_eq, nat_le, encode_utf8_all, ◌&&◌, ◌||◌}
 use Rattle.std.proofs.lemmas.Bool.Decides.{nat_tests}
 use Rattle.std.proofs.lemmas.Str.{byte_from_char}
+use Rattle.std.proofs.lemmas.Bool.{false≢true}
 use Rattle.tokens.specs.declared.token.Class.{Class}
 use Rattle.tokens.specs.declared.token.Class.TheVariants.{Name, Punctuator, Number, Text, Template, RegExp, End}
 use Rattle.tokens.specs.Alphabet.{one_of, begins_with, is_decimal_digit}
@@ -89,10 +90,10 @@ literal_text : (c : Class) (w : List ℕ) → is_literal_class c ≡ true → ta
 literal_text Text w h = refl
 literal_text Number w h = refl
 literal_text RegExp w h = refl
-literal_text Name w h = cc
-literal_text Punctuator w h = cc
-literal_text Template w h = cc
-literal_text End w h = cc
+literal_text Name w h = absurd (false≢true h)
+literal_text Punctuator w h = absurd (false≢true h)
+literal_text Template w h = absurd (false≢true h)
+literal_text End w h = absurd (false≢true h)
 
 -- so a token of such a class is told by its text
 pub literal_read : {text : List ℕ} {s t e : Token} → NextIn text any_goal s t e → is_literal_class t.class ≡ true → literal_class t.text ≡ t.class

@@ -1,7 +1,7 @@
 -- What is left of the readings of a list with one more item, and what runs then (ECMA-262 12.2, 12.15.5, 13.3, 13.12).
 use Rattle.std.proofs.Common.{arith, ◌≡◌, ℕ, ◌+◌, Bool, true, false, cond, refl, sym, ap, ◌∙◌, subst}
 use Rattle.std.specs.Prelude.{not, ◌&&◌, ◌||◌, if◌then◌else◌, nat_le}
-use Rattle.std.proofs.lemmas.Bool.{and_parts}
+use Rattle.std.proofs.lemmas.Bool.{and_parts, false≢true}
 use Rattle.std.proofs.lemmas.Bool.Decides.{nat_tests}
 use Rattle.tree.specs.Tree.{Tree, Parts, none, part, gap, push, part_count}
 use Rattle.language.specs.Covers.{Reading, as_expression, as_pattern}
@@ -24,7 +24,7 @@ use Rattle.phrases.specs.Stated.{is_closed}
 
 picked : (b : Bool) (y : Assigned) → is_element (if b then y else assigned.Nothing) ≡ true → (is_element y ≡ true) × (b ≡ true)
 picked true y h = (h, refl)
-picked false y h = cc
+picked false y h = absurd (false≢true h)
 
 both : (a b : Bool) → a ≡ true → b ≡ true → (a && b) ≡ true
 both true true h k = refl
@@ -53,8 +53,8 @@ rest_step s p (as_pattern true) h =
 
 -- where a comma follows it, no pattern is left
 unpatterned : (s : Shape) (b : Bool) {X : Type 0} → fits_as (unassigned s) (as_pattern b) ≡ true → X
-unpatterned s false h = cc
-unpatterned s true h = cc
+unpatterned s false h = absurd (false≢true h)
+unpatterned s true h = absurd (false≢true h)
 
 abbrev pub stepped : Bool → Bool → Listed → Shape → Shape → Shape
 stepped comma sp x s p = if comma && sp then unassigned (shape_with sp x s p) else shape_with sp x s p
@@ -100,7 +100,7 @@ value_step true x s p h = (and_parts s.is_expression p.is_expression h).1
 value_step false x s p h = (and_parts s.is_expression p.is_expression h).1
 
 if_not : (b y : Bool) → (if b then false else y) ≡ true → (b ≡ false) × (y ≡ true)
-if_not true y h = cc
+if_not true y h = absurd (false≢true h)
 if_not false y h = (refl, h)
 
 or_right : (b c : Bool) → c ≡ true → (b || c) ≡ true
@@ -108,7 +108,7 @@ or_right true c h = refl
 or_right false c h = h
 
 or_false : (b c : Bool) → not (b || c) ≡ true → (not b ≡ true) × (not c ≡ true)
-or_false true c h = cc
+or_false true c h = absurd (false≢true h)
 or_false false c h = (refl, h)
 
 pushed_count : (ps : Parts) (n : Tree) → part_count (push ps n) ≡ part_count ps + 1
@@ -133,7 +133,7 @@ seen_step comma x s it = if is_unseparated x then seen_with s it x else separate
 
 or_left : (b c : Bool) → b ≡ true → (b || c) ≡ true
 or_left true c h = refl
-or_left false c h = cc
+or_left false c h = absurd (false≢true h)
 
 abbrev pub FitsBefore : Bool → Listed → ListOf → Item → Reading → Type 0
 FitsBefore comma x l it a = ((is_none l.nodes || seen_fits x l a) ≡ true) × (item_fits x it a ≡ true) × ((trails_at x ≡ true) → (comma ≡ true) → may_trail it a ≡ true)

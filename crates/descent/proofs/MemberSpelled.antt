@@ -1,5 +1,6 @@
 -- A member of a class (ECMA-262 14.6), from the words before its key, the key and the function.
 use Rattle.std.proofs.Common.{◌≡◌, ℕ, Bool, true, false, List, [], ◌∷◌, ◌++◌, refl}
+use Rattle.std.proofs.lemmas.Bool.{false≢true}
 use Rattle.tree.specs.declared.kind.Kind.TheVariants.{MethodDefinition}
 use Rattle.tree.specs.declared.kind.Form.{Form}
 use Rattle.tree.specs.declared.kind.Form.TheVariants.{Init, Get, Set, Method, Shorthand, Constructor}
@@ -36,12 +37,12 @@ member_listed true true Method n ps h = in_true [] _ h first
 member_listed true false Method n ps h = in_true [] _ h first
 member_listed false true Method n ps h = in_true [] _ h first
 member_listed false false Method n ps h = in_true [] _ h first
-member_listed true true Constructor n ps h = cc
-member_listed true false Constructor n ps h = cc
-member_listed false true Constructor n ps h = cc
+member_listed true true Constructor n ps h = absurd (false≢true h)
+member_listed true false Constructor n ps h = absurd (false≢true h)
+member_listed false true Constructor n ps h = absurd (false≢true h)
 member_listed false false Constructor n ps h = in_true [] _ h first
-member_listed c s Init n ps h = cc
-member_listed c s Shorthand n ps h = cc
+member_listed c s Init n ps h = absurd (false≢true h)
+member_listed c s Shorthand n ps h = absurd (false≢true h)
 
 member_lean : (c s : Bool) (f : Form) (st en : ℕ) (ps : Parts) → is_lean (bare (node MethodDefinition [] (member_flags c s f) st en ps)) ≡ true
 member_lean true true Init st en ps = refl

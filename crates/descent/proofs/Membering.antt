@@ -1,6 +1,7 @@
 -- Methods of objects and members of classes, whole (ECMA-262 14.3, 14.6).
 use Rattle.std.proofs.Common.{◌≡◌, ℕ, Bool, true, false, List, [], refl, sym}
 use Rattle.std.specs.Prelude.{not, ◌&&◌}
+use Rattle.std.proofs.lemmas.Bool.{false≢true}
 use Rattle.tokens.specs.Reading.{any_goal}
 use Rattle.tree.specs.declared.kind.Form.{Form}
 use Rattle.tree.specs.declared.kind.Form.TheVariants.{Get, Set, Method, Init, Shorthand, Constructor}
@@ -23,9 +24,9 @@ function_same b Set con h = refl
 function_same true Method con h = refl
 function_same false Method true h = refl
 function_same false Method false h = refl
-function_same b Init con h = cc
-function_same b Shorthand con h = cc
-function_same b Constructor con h = cc
+function_same b Init con h = absurd (false≢true h)
+function_same b Shorthand con h = absurd (false≢true h)
+function_same b Constructor con h = absurd (false≢true h)
 
 module _ (text : List ℕ) where
   -- the words before the key
@@ -37,9 +38,9 @@ module _ (text : List ℕ) where
   words_known false Set con h (step (token r) done) = accessor_alone refl r
   words_known false Method true h done = no_word refl
   words_known false Method false h done = no_word refl
-  words_known b Init con h d = cc
-  words_known b Shorthand con h d = cc
-  words_known b Constructor con h d = cc
+  words_known b Init con h d = absurd (false≢true h)
+  words_known b Shorthand con h d = absurd (false≢true h)
+  words_known b Constructor con h d = absurd (false≢true h)
 
 both_no : (c x : Bool) → true ≡ (not c && x) → ((not c && true) && x) ≡ true
 both_no true x e = cc
@@ -61,6 +62,6 @@ form_of_key c b Set con n ps h e = refl
 form_of_key c true Method con (node k w g s t qs) ps h e = static_no c _
 form_of_key c false Method true (node k w g s t qs) ps h e = both_no c _ e
 form_of_key c false Method false (node k w g s t qs) ps h e = none_no c _ e
-form_of_key c b Init con n ps h e = cc
-form_of_key c b Shorthand con n ps h e = cc
-form_of_key c b Constructor con n ps h e = cc
+form_of_key c b Init con n ps h e = absurd (false≢true h)
+form_of_key c b Shorthand con n ps h e = absurd (false≢true h)
+form_of_key c b Constructor con n ps h e = absurd (false≢true h)

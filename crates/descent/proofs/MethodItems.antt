@@ -73,18 +73,18 @@ object_listed true Set h = first
 object_listed false Set h = first
 object_listed true Method h = first
 object_listed false Method h = first
-object_listed c Init h = cc
-object_listed c Shorthand h = cc
-object_listed c Constructor h = cc
+object_listed c Init h = absurd (false≢true h)
+object_listed c Shorthand h = absurd (false≢true h)
+object_listed c Constructor h = absurd (false≢true h)
 
 -- the function of a method keeps the form, and so does the method of an object, where no key is its constructor
 form_kept : (f : Form) → is_called f ≡ true → pieces.method_form f ≡ f
 form_kept Get h = refl
 form_kept Set h = refl
 form_kept Method h = refl
-form_kept Init h = cc
-form_kept Shorthand h = cc
-form_kept Constructor h = cc
+form_kept Init h = absurd (false≢true h)
+form_kept Shorthand h = absurd (false≢true h)
+form_kept Constructor h = absurd (false≢true h)
 
 object_form : (b : Bool) (f : Form) → method_form b f false ≡ f
 object_form b Get = refl
@@ -113,9 +113,9 @@ module _ (text : List ℕ) where
   object_spells c Set {o} {st} {nk} {u} {e = e} h (step (token r) done) key d begins =
       direct (settled property (object_way c Set)) (way_from property (node Property [] (flags_as c Set) st e.stop (part nk (part u none))) (object_way c Set) (flags_lean c Set st e.stop (part nk (part u none))) (object_listed c Set h) (key_can c Set)) (placed begins.next (ap (λ (x : ℕ). (x, e.stop)) begins.start))
       (step (token r) (step laid (key_runs Token (NextIn text any_goal) itself (text_determined text) c (put (method Set) ∷ []) key (last_runs Token (NextIn text any_goal) itself d))))
-  object_spells c Init h d key u begins = cc
-  object_spells c Shorthand h d key u begins = cc
-  object_spells c Constructor h d key u begins = cc
+  object_spells c Init h d key u begins = absurd (false≢true h)
+  object_spells c Shorthand h d key u begins = absurd (false≢true h)
+  object_spells c Constructor h d key u begins = absurd (false≢true h)
 
   -- a method of an object
   object_method : {m : Modifiers} {k : Key} {u : Tree} {o st : ℕ} {s y e : Token} {P Q : List Pair} → Begins text st s → NamedSo text false m k o s y P → SpellsIn text o (method (pieces.method_form m.form)) u y e Q →

@@ -1,6 +1,7 @@
 -- Methods, getters and setters of objects and of classes (ECMA-262 14.3, 14.6), from their names and functions.
 use Rattle.std.proofs.Common.{◌≡◌, ℕ, Bool, true, false, cond, List, [], ◌∷◌, ◌++◌, refl, sym, ap, subst}
 use Rattle.std.specs.Prelude.{codes}
+use Rattle.std.proofs.lemmas.Bool.{false≢true}
 use Rattle.tokens.specs.Tokens.{LexicalToken}
 use Rattle.tokens.specs.Reading.{any_goal, Reads as Scans}
 use Rattle.tokens.specs.declared.token.Class.TheVariants.{Punctuator}
@@ -61,9 +62,9 @@ methods_bare Set (gap (part n (part b (gap ps)))) h = refl
 methods_bare Method none h = refl
 methods_bare Method (part n ps) h = refl
 methods_bare Method (gap ps) h = ap (λ qs. only (absent ∷ sign "(" ∷ qs)) (parameters_bare (sign ")" ∷ sp ∷ put body ∷ []) ps)
-methods_bare Init ps h = cc
-methods_bare Shorthand ps h = cc
-methods_bare Constructor ps h = cc
+methods_bare Init ps h = absurd (false≢true h)
+methods_bare Shorthand ps h = absurd (false≢true h)
+methods_bare Constructor ps h = absurd (false≢true h)
 
 method_form_called : (f : Form) → is_called (method_form f) ≡ true
 method_form_called Get = refl
@@ -108,9 +109,9 @@ module _ (text : List ℕ) where
   method_opens Method none h d = absurd (run_never Token (NextIn text any_goal) itself d)
   method_opens Method (part n ps) h d = absurd (run_never Token (NextIn text any_goal) itself d)
   method_opens Method (gap ps) h d = opens d
-  method_opens Init ps h d = cc
-  method_opens Shorthand ps h d = cc
-  method_opens Constructor ps h d = cc
+  method_opens Init ps h d = absurd (false≢true h)
+  method_opens Shorthand ps h d = absurd (false≢true h)
+  method_opens Constructor ps h d = absurd (false≢true h)
 
   record OneWay (xs : List Spelling) (o : ℕ) (ps : Parts) (s e : Token) (P : List Pair) : Type 0 where
     way : Spelling

@@ -44,6 +44,7 @@ use Rattle.descent.specs.Modifiers.{Accessed, gets, sets, get_named, set_named, 
 use Rattle.phrases.specs.Outcomes.{BecomesHere, IsSyntaxHere}
 use Rattle.phrases.specs.Seen.{ReadsHere, Misses, SeesBy, MissesBy, TokenHere}
 use Rattle.phrases.specs.Tests.{begins_key, is_key, is_key_class}
+use Rattle.descent.proofs.FreeRanks.{no_conditional, no_new}
 use Rattle.descent.proofs.Agreeing.{Refuses, agrees_on, agrees_err, refuses_unfit, refuses_high, refuses_syntax, marks_same, words_same}
 use Rattle.phrases.proofs.Seeing.{mark_by, name_by}
 
@@ -54,13 +55,13 @@ key_class : (c : Class) → ways.is_key_class c ≡ true → is_key_class c ≡ 
 key_class Name h = refl
 key_class Number h = refl
 key_class Text h = refl
-key_class _ h = cc
+key_class _ h = absurd (false≢true h)
 
 class_key : (c : Class) → is_key_class c ≡ true → ways.is_key_class c ≡ true
 class_key Name h = refl
 class_key Number h = refl
 class_key Text h = refl
-class_key _ h = cc
+class_key _ h = absurd (false≢true h)
 
 or_true : (b : Bool) → (b || true) ≡ true
 or_true true = refl
@@ -242,7 +243,7 @@ module _ (s e : Point) (old new : List Pair) (high : ℕ) (in_class : Bool) wher
         module _ (x : Point) (next last : List Pair) {q : Position} (q_is : q ≡ element_position) (there : z.text ≡ s.text) where
           given_index : {c : Bool} {o : ℕ} {k : Tree} {to : Token} {P : List Pair} (v : Inside c o k to P) → GivenAs z.text q o k z.last v.mid P as_expression
           given_index {o = o} {k} {P = P} v = subst (λ w. GivenAs w q o k z.last v.mid P as_expression) (sym there) (subst (λ w. GivenAs s.text w o k z.last v.mid P as_expression) (sym q_is)
-              (an_expression (λ h. cc) (λ h. cc) v.spelled (stops_before Token (NextIn s.text any_goal) itself (text_determined s.text) Assignment true k v.closes refl refl (λ c u. refl))))
+              (an_expression (no_conditional refl) (no_new refl) v.spelled (stops_before Token (NextIn s.text any_goal) itself (text_determined s.text) Assignment true k v.closes refl refl (λ c u. refl))))
 
           pub name_index : (answer : Result (Modifiers × Key) Fault) (fault : Fault) → IsErrAnd answer (λ w. w ≡ fault) → z.opened ≡ s.opened → ExpressionComplete z x next last high q (Err fault) → Whole answer
           name_index answer fault err opened complete = λ b f c o k to P d.

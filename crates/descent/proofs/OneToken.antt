@@ -2,6 +2,7 @@
 use Rattle.std.proofs.Common.{◌≡◌, ℕ, Bool, true, false, cond, List, [], ◌∷◌, refl, sym, ap, ◌∙◌, subst}
 use Rattle.std.specs.Prelude.{IsTrue, Some, None, codes, not, ◌&&◌}
 use Rattle.std.proofs.lemmas.Bool.{false≢true}
+use Rattle.std.proofs.lemmas.Option.{none-some}
 use Rattle.tokens.specs.Reading.{any_goal}
 use Rattle.tokens.specs.Tokens.{LexicalToken}
 use Rattle.tokens.specs.declared.token.Class.{Class}
@@ -74,8 +75,8 @@ starts_token NoBrace RegExp w h = refl
 starts_token Statement Text w h = refl
 starts_token Statement Number w h = refl
 starts_token Statement RegExp w h = refl
-starts_token NoBrace _ w h = cc
-starts_token Statement _ w h = cc
+starts_token NoBrace _ w h = absurd (false≢true h)
+starts_token Statement _ w h = absurd (false≢true h)
 
 starts_word : (f : Start) (w : List ℕ) → among w ("true" ∷ "false" ∷ "null" ∷ []) ≡ true → starts f (tok Name w ∷ []) ≡ true
 starts_word Any w h = refl
@@ -86,11 +87,11 @@ literal_same : (c : Class) (w : List ℕ) → is_literal_class c ≡ true → (t
 literal_same Text w h = (refl, refl)
 literal_same Number w h = (refl, refl)
 literal_same RegExp w h = (refl, refl)
-literal_same _ w h = cc
+literal_same _ w h = absurd (false≢true h)
 
 string_class : (c : Class) → is_string c ≡ true → c ≡ Text
 string_class Text h = refl
-string_class _ h = cc
+string_class _ h = absurd (false≢true h)
 
 -- What a literal's token is: of the class that its text has, and no name but three.
 record LiteralRead (f : Start) (c : Class) (w v : List ℕ) : Type 0 where
@@ -174,12 +175,12 @@ module _ (text : List ℕ) where
       here = subst (λ x. ReadsHere text x w s m) (sym l.class) (subst (λ x. ReadsHere text c x s m) l.text r)
 
       no_pattern : (b : Bool) → fits_as shapes.value (as_pattern b) ≡ true → ⊥
-      no_pattern true h = cc
-      no_pattern false h = cc
+      no_pattern true h = absurd (false≢true h)
+      no_pattern false h = absurd (false≢true h)
 
       as_quoted : (a : Role) (b : Bool) → is_string (literal_class w) ≡ b → cond b (Some quoted) None ≡ Some a → SpellsIn text o a (node Literal w plain m.start m.stop none) s m []
       as_quoted a true h is = let same : quoted ≡ a = cc in subst (λ x. SpellsIn text o x (node Literal w plain m.start m.stop none) s m []) same (quoted_at (subst (λ x. ReadsHere text x w s m) (string_class (literal_class w) h) here) h)
-      as_quoted a false h is = cc
+      as_quoted a false h is = absurd (none-some _ is)
 
 -- what is one token
 data SingleBegun : Opening → Kind → Type 0 where
@@ -234,7 +235,7 @@ single_read s m {old} {mid} p t k open_same same next token_is coded = adds_none
 -- the kind of a name
 pub name_kind : (k : Kind) → is_identifier k ≡ true → k ≡ Identifier
 name_kind Identifier h = refl
-name_kind _ h = cc
+name_kind _ h = absurd (false≢true h)
 
 -- an arrow function whose parameter is a name
 pub name_arrow : (s m e : Point) {old mid new : List Pair} (p : Position) (t : LexicalToken) (k : Kind) (ps : Parts) (from : ℕ) (r : Part) (x : Token) → m.text ≡ s.text → m.opened ≡ s.opened → mid ≡ old → NextIn s.text any_goal s.last m.last m.last → m.last ≡ as_read t → coded_opening (opening_of (as_read t)) ≡ Some (code.Single k) → k ≡ Identifier →

@@ -18,7 +18,7 @@ texts p [] = []
 texts p (r ∷ rows) = cond (p r.1) (r.0 ++ texts p rows) (texts p rows)
 
 among_left : (w : List ℕ) (ss ts : List String) → among w ss ≡ true → among w (ss ++ ts) ≡ true
-among_left w [] ts h = cc
+among_left w [] ts h = absurd (false≢true h)
 among_left w (s ∷ ss) ts h = go (is w s) h (among_left w ss ts)
   where
     go : (b : Bool) → (b || among w ss) ≡ true → (among w ss ≡ true → among w (ss ++ ts) ≡ true) → (b || among w (ss ++ ts)) ≡ true
@@ -145,7 +145,7 @@ literal_of End w h = cc
 
 -- the first part of a template is read by the goal behind operands too
 starts_template : (w : List ℕ) → nat_eq (slice_index_or w 0 0) 96 ≡ true → IsTrue (allows goal.Div Template w)
-starts_template [] h = cc
+starts_template [] h = absurd (false≢true h)
 starts_template (c ∷ cs) h = let e : c ≡ 96 = grind (arith, nat_tests) in subst (λ x. IsTrue (allows goal.Div Template (x ∷ cs))) (sym e) refl
 
 pub template_of : (c : Class) (w : List ℕ) → opening_by c w ≡ with_template → (c ≡ Template) × IsTrue (allows goal.Div Template w)
@@ -158,5 +158,5 @@ template_of Template w h = (refl, starts_template w (go (nat_eq (slice_index_or 
   where
     go : (b : Bool) → is_template (cond b with_template no_opening) ≡ true → b ≡ true
     go true k = refl
-    go false k = cc
+    go false k = absurd (false≢true k)
 template_of End w h = cc

@@ -2,6 +2,7 @@
 use Rattle.std.proofs.Common.{◌≡◌, ℕ, true, List, [], ◌++◌, refl, sym, ap, ◌∙◌, subst, arith}
 use Rattle.std.proofs.lemmas.Bool.Decides.{nat_tests}
 use Rattle.std.specs.Prelude.{IsTrue, Some, codes}
+use Rattle.std.proofs.lemmas.Bool.{false≢true}
 use Rattle.tokens.specs.Reading.{any_goal}
 use Rattle.tokens.specs.Tokens.{LexicalToken}
 use Rattle.tokens.specs.declared.token.Class.TheVariants.{Template}
@@ -83,8 +84,8 @@ properties_seen from = record { together = refl; target = λ n is h v t. cc; one
 
 any_start : (f : Start) → takes_brace f ≡ true → start.Any ≡ f
 any_start start.Any h = refl
-any_start start.NoBrace h = cc
-any_start start.Statement h = cc
+any_start start.NoBrace h = absurd (false≢true h)
+any_start start.Statement h = absurd (false≢true h)
 
 pub list_read : (s m e : Point) {old mid new : List Pair} (l0 l : ListOf) (p : Position) (u : LexicalToken) (what : Listed) → m.text ≡ s.text → m.opened ≡ s.opened → mid ≡ old → IsAhead RegExp s.text s.last.stop u → coded_opening (opening_of (as_read u)) ≡ Some (code.List what) → opens_at p (as_read u) ≡ true → l0.listed ≡ what → BegunAt s m l0 → TemplateAt s m l0 →
     Adds m e mid new (λ o a b Q. (f : Start) (z : Token) (P : List Pair) → SoFarAt m.text f l0 o z a P → ListAt m.text f l o z b (P ++ Q)) → (l.listed ≡ l0.listed) × (l.span.start ≡ l0.span.start) → (SeenRight l0 → SeenRight l) → Adds s e old new (ReadAt s.text p (listed_part l))

@@ -1,7 +1,7 @@
 -- Where a pattern or a name ends, and before `in`, `of` and `=`, nothing goes on.
 use Rattle.std.proofs.Common.{◌≡◌, ◌⊎◌, ℕ, ◌<◌, Bool, true, false, List, [], ◌∷◌, ◌++◌, refl, sym, ap, ◌∙◌, subst, inl, inr, arith}
 use Rattle.std.specs.Prelude.{IsTrue, codes, Option, Some, None, not, ◌&&◌, ◌||◌}
-use Rattle.std.proofs.lemmas.Bool.{and_parts}
+use Rattle.std.proofs.lemmas.Bool.{and_parts, false≢true}
 use Rattle.std.proofs.lemmas.Slice.Eq.{bytes_eq-Decides}
 use Rattle.std.proofs.lemmas.Bool.Decides.{nat_tests}
 use Rattle.tokens.specs.declared.token.Class.{Class}
@@ -49,36 +49,36 @@ primary_number z h = grind (arith, nat_tests)
 
 pub target_listed : (a : Assigned) → is_target a ≡ true → is_listed a ≡ true
 target_listed assigned.Target h = refl
-target_listed _ h = cc
+target_listed _ h = absurd (false≢true h)
 
 pub target_element : (a : Assigned) → is_target a ≡ true → is_element a ≡ true
 target_element assigned.Target h = refl
-target_element _ h = cc
+target_element _ h = absurd (false≢true h)
 
 pub simple_no_pattern : (k : Kind) → is_simple k ≡ true → is_pattern k ≡ false
 simple_no_pattern Identifier h = refl
 simple_no_pattern MemberExpression h = refl
-simple_no_pattern _ h = cc
+simple_no_pattern _ h = absurd (false≢true h)
 
 -- a simple target is its own pattern
 pub simple_itself : (n : Tree) → is_simple (kind_of n) ≡ true → pattern_tree n ≡ n
 simple_itself (node Identifier w g s e ps) h = refl
 simple_itself (node MemberExpression w g s e ps) h = refl
-simple_itself (node _ w g s e ps) h = cc
+simple_itself (node _ w g s e ps) h = absurd (false≢true h)
 
 pub identifier_simple : (k : Kind) → is_identifier k ≡ true → is_simple k ≡ true
 identifier_simple Identifier h = refl
-identifier_simple _ h = cc
+identifier_simple _ h = absurd (false≢true h)
 
 -- nothing but a comma goes on there: nothing does at Assignment
 pub over_stops : (i : Bool) (x : Edge) (t : Token) (z : Option Rank) → is_over z ≡ true → stops_at Assignment i x t z ≡ true
 over_stops i x t None h = refl
 over_stops i x t (Some Expression) h = refl
-over_stops i x t (Some _) h = cc
+over_stops i x t (Some _) h = absurd (false≢true h)
 
 pub over_arrow : (b : Bool) → is_over (symbol_of arrows b) ≡ true → b ≡ true
 over_arrow true h = refl
-over_arrow false h = cc
+over_arrow false h = absurd (false≢true h)
 
 -- the position doesn't take it either, if it takes no sequence
 pub over_stops_at : (y : Rank) (i : Bool) (x : Edge) (t : Token) (z : Option Rank) → takes y Expression ≡ false → is_over z ≡ true → stops_at y i x t z ≡ true
@@ -97,12 +97,12 @@ pub data IsEach (t : Token) : Type 0 where
 
 pub name_class : (c : Class) → same_class Name c ≡ true → c ≡ Name
 name_class Name h = refl
-name_class _ h = cc
+name_class _ h = absurd (false≢true h)
 
 pub or_parts : (a b : Bool) → (a || (b || false)) ≡ true → (a ≡ true) ⊎ (b ≡ true)
 or_parts true b h = inl refl
 or_parts false true h = inr refl
-or_parts false false h = cc
+or_parts false false h = absurd (false≢true h)
 
 pub each_of : (t : Token) → is_each t ≡ true → IsEach t
 each_of t h = let both = and_parts (same_class Name t.class) (among t.text ("in" ∷ "of" ∷ [])) h in of (or_parts (is t.text "in") (is t.text "of") both.1)

@@ -1,6 +1,7 @@
 -- Statements and declarations whose first token is their own, at the position of their context (ECMA-262 13, 14.1, 14.6).
 use Rattle.std.proofs.Common.{◌≡◌, ◌⊎◌, inl, inr, ℕ, Bool, true, false, cond, List, ◌∷◌, Result, Ok, Err, refl, sym, ap, subst}
 use Rattle.std.specs.Prelude.{IfOk, ◌&&◌}
+use Rattle.std.proofs.lemmas.Bool.{false≢true}
 use Rattle.source_text.specs.declared.fault.Fault.{Fault}
 use Rattle.tokens.specs.declared.token.Goal.TheVariants.{RegExp}
 use Rattle.tokens.specs.declared.token.Token.{Token as Scanned}
@@ -57,15 +58,15 @@ coded_closure c _ h = cc
 module _ (text : List ℕ) {o : ℕ} {e : Token} {P : List Pair} where
   declared_function : (r : Bool) {m : Token} (ps : Parts) → begins_with_part ps ≡ true → RunsIn text o (anywhere (behind_word (function_pieces ps))) ps m e P → StatedBy text r kind.FunctionDeclaration ps o m e P
   declared_function r (part n ps) h run = record { runs = step laid (retell Token (NextIn text any_goal) itself (ap (λ x. anywhere (put name ∷ sign "(" ∷ x)) (sym (parameters_bare closing_and_body ps))) run); dangles = λ h. cc }
-  declared_function r none h run = cc
-  declared_function r (gap ps) h run = cc
+  declared_function r none h run = absurd (false≢true h)
+  declared_function r (gap ps) h run = absurd (false≢true h)
 
   declared_class : (r : Bool) {m : Token} (ps : Parts) → begins_with_part ps ≡ true → RunsIn text o (anywhere (behind_word (class_pieces ps))) ps m e P → StatedBy text r kind.ClassDeclaration ps o m e P
   declared_class r (part n none) h run = record { runs = step laid run; dangles = λ h. cc }
   declared_class r (part n (gap ps)) h run = record { runs = step laid run; dangles = λ h. cc }
   declared_class r (part n (part k ps)) h run = record { runs = step laid run; dangles = λ h. cc }
-  declared_class r none h run = cc
-  declared_class r (gap ps) h run = cc
+  declared_class r none h run = absurd (false≢true h)
+  declared_class r (gap ps) h run = absurd (false≢true h)
 
 module _ (text : List ℕ) {o : ℕ} {s e : Token} {P : List Pair} where
   -- with its first token

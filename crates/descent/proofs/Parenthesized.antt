@@ -186,8 +186,8 @@ module _ (text : List ℕ) where
       no_new h = cc
 
       no_both : (b : Bool) → (b && false) ≡ true → ⊥
-      no_both true h = cc
-      no_both false h = cc
+      no_both true h = absurd (false≢true h)
+      no_both false h = absurd (false≢true h)
 
       nothing : {A : Type 0} (b c : Bool) → fits_as r.cover.shape (as_pattern b) ≡ true → A
       nothing true c h = absurd (no_both r.cover.shape.binds (ap (λ x. r.cover.shape.binds && is_element x) (sym w.simple.1) ∙ h))

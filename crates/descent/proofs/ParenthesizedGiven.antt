@@ -71,7 +71,7 @@ agrees_as Inner W D SameInner Same (Err fault) d h room f = refuses_on Inner W f
 
 true_last : (b : Bool) → (b && true) ≡ true → b ≡ true
 true_last true h = refl
-true_last false h = cc
+true_last false h = absurd (false≢true h)
 
 -- the list has both readings as its shape says
 whole_bound : (l : ListOf) → l.listed ≡ listed.Covers → is_whole l (as_pattern true) ≡ true → is_bound l.seen.shape ≡ true
@@ -79,9 +79,9 @@ whole_bound l is h = true_last (is_bound l.seen.shape) (sym (ap (λ x. whole_of 
 
 three_and : (a b c : Bool) → (a && (b && c)) ≡ true → (b && (c && a)) ≡ true
 three_and true true true h = refl
-three_and true true false h = cc
-three_and true false c h = cc
-three_and false b c h = cc
+three_and true true false h = absurd (false≢true h)
+three_and true false c h = absurd (false≢true h)
+three_and false b c h = absurd (false≢true h)
 
 whole_group : (l : ListOf) → l.listed ≡ listed.Covers → is_whole l as_expression ≡ true → is_grouped l ≡ true
 whole_group l is h = three_and l.seen.shape.is_expression (are_some l.nodes) (not l.seen.has_comma) (sym (ap (λ x. whole_of x l as_expression) is) ∙ h)

@@ -1,5 +1,6 @@
 -- What is given of a piece that is bound, a statement, or statements (ECMA-262 13.1, 13.2, 13.3, 13.6, 13.15).
 use Rattle.std.proofs.Common.{◌≡◌, ℕ, Bool, true, false, ◌&&◌, List, Result, Ok, Err, Some, refl, sym, ap, ◌∙◌, subst, inl, inr}
+use Rattle.std.proofs.lemmas.Bool.{false≢true, true≢false}
 use Rattle.source_text.specs.declared.fault.Fault.{Fault}
 use Rattle.tokens.specs.Reading.{any_goal}
 use Rattle.token_cursor.specs.Point.{Point}
@@ -38,33 +39,25 @@ use Rattle.descent.proofs.Agreeing.{refuses_on, refuses_unless, room_part, ends_
 use Rattle.descent.proofs.PieceParts.{wanted_nodes}
 use Rattle.descent.proofs.PiecesLeft.{SameOf, RefusedOf}
 use Rattle.descent.proofs.ValueGiven.{read_shape, one_high}
-
-bound_position : Position
-bound_position = record { rank = Primary; has_in = true; start = Any }
+use Rattle.descent.proofs.PieceViews.{something, BindingPiece, binding_of_binding, wants_binding, StatementPiece, statement_of_statement, statement_of_else, wants_statement, ItemsPiece, items_of_items, items_of_consequent, wants_items}
 
 -- a name or a pattern, as it is read first
 first_bound : {text : List ℕ} {o : ℕ} {s e : Token} {P : List Pair} {n : Tree} {pos : Position} → pos ≡ record { rank = Primary; has_in = true; start = Any } → BoundForm Token (NextIn text any_goal) itself (text_determined text) true o n s e P → FirstAs text pos o n s e P (as_pattern true) Primary
 first_bound {text} {o} {s} {e} {P} {n} is (form.a_pattern d) = subst (λ z. FirstAs text z o n s e P (as_pattern true) Primary) (sym is) (given.a_pattern d)
 first_bound {text} {o} {s} {e} {P} {n} is (form.a_simple (form.a_name b d)) = subst (λ z. FirstAs text z o n s e P (as_pattern true) Primary) (sym is) (given.a_name d (λ h. cc))
-first_bound is (form.a_simple (form.a_target b t d)) = cc
+first_bound is (form.a_simple (form.a_target b t d)) = absurd (true≢false b)
 
 both_are : (a b c : Bool) → (a && b) ≡ true → c ≡ true → (a && c) ≡ true
 both_are true b c h k = k
-both_are false b c h k = cc
+both_are false b c h k = absurd (false≢true h)
 
 -- what is bound
 binding_given : (r : Bool) (s m : Point) (b c : Built) (high : ℕ) (p : Coded) → WantedAt p r s m b c high wanted.Binding → (o : ℕ) (to : Token) (x y : Edge) (put : Parts) (P : List Pair) → PieceGiven s.text r o (piece_of p) s.last to x y put P →
     TargetPut s.text o true m.last to put P × (p ≡ code.Binding)
-binding_given r s m b c high code.Binding h o to x y put P g = (subst (λ z. TargetPut s.text o true z to put P) (sym h.1.0) g, refl)
-binding_given r s m b c high code.Test h o to x y put P g = absurd h.0
-binding_given r s m b c high code.Update h o to x y put P g = absurd h.0
-binding_given r s m b c high code.Argument h o to x y put P g = absurd h.0
-binding_given r s m b c high code.Head h o to x y put P g = absurd h.0
-binding_given r s m b c high code.Else h o to x y put P g = absurd h.0
-binding_given r s m b c high code.Finally h o to x y put P g = absurd h.0
-binding_given r s m b c high code.Catch h o to x y put P g = absurd h.0
-binding_given r s m b c high code.Heritage h o to x y put P g = absurd h.0
-binding_given r s m b c high _ h o to x y put P g = cc
+binding_given r s m b c high p h o to x y put P g = of (wants_binding p r s m b c high h) h g
+  where
+    of : {p : Coded} → BindingPiece p → WantedAt p r s m b c high wanted.Binding → PieceGiven s.text r o (piece_of p) s.last to x y put P → TargetPut s.text o true m.last to put P × (p ≡ code.Binding)
+    of binding_of_binding h g = (subst (λ z. TargetPut s.text o true z to put P) (sym h.1.0) g, refl)
 
 module _ (r : Bool) (s m : Point) (b c : Built) (high : ℕ) (pos : Position) (p : Coded) (same : m.text ≡ s.text) (h : WantedAt p r s m b c high wanted.Binding) (is_position : pos ≡ record { rank = Primary; has_in = true; start = Any }) where
   bound_first : (o : ℕ) (to : Token) (x y : Edge) (put : Parts) (P : List Pair) (g : PieceGiven s.text r o (piece_of p) s.last to x y put P) → FirstAs m.text pos o (binding_given r s m b c high p h o to x y put P g).0.put m.last to P (as_pattern true) Primary
@@ -93,7 +86,7 @@ module _ (r : Bool) (s m : Point) (b c : Built) (high : ℕ) (pos : Position) (p
         let w = binding_given r s m b c high p h o to x y put P g in
         let v = bound_read o to x y put P g in
         record {
-          nodes = ap (λ (z : Built). z.nodes) is ∙ (λ i. push (wanted_nodes p r s m b c high wanted.Binding (λ u. cc) h i) (v.0 i)) ∙ push-join b.nodes w.0.put ∙ ap (join b.nodes) (sym w.0.parts);
+          nodes = ap (λ (z : Built). z.nodes) is ∙ (λ i. push (wanted_nodes p r s m b c high wanted.Binding (something wanted.Binding refl) h i) (v.0 i)) ∙ push-join b.nodes w.0.put ∙ ap (join b.nodes) (sym w.0.parts);
           ends = ends_behind {m = m} pairs (record { place = v.2.place; more = v.2.more; added = v.2.added; pairs = v.2.pairs });
           edge = λ known. (let no : Rattle.descent.specs.GivenPieces.knows_edge (piece_of code.Binding) ≡ true = ap (λ z. Rattle.descent.specs.GivenPieces.knows_edge (piece_of z)) (sym w.1) ∙ known in cc);
         }
@@ -101,17 +94,12 @@ module _ (r : Bool) (s m : Point) (b c : Built) (high : ℕ) (pos : Position) (p
 -- a statement
 statement_given : (r : Bool) (s m : Point) (b c : Built) (high : ℕ) (p : Coded) → WantedAt p r s m b c high wanted.Statement → (o : ℕ) (to : Token) (x y : Edge) (put : Parts) (P : List Pair) → PieceGiven s.text r o (piece_of p) s.last to x y put P →
     StatementGiven s.text r o m.last to put P × (Rattle.descent.specs.GivenPieces.knows_edge (piece_of p) ≡ false)
-statement_given r s m b c high code.Statement h o to x y put P g = (subst (λ z. StatementGiven s.text r o z to put P) (sym h.1.0) g, refl)
-statement_given r s m b c high code.Else h o to x y put P (inl g) = (subst (λ z. StatementGiven s.text r o z to put P) (words_same s.text g.1 h.0).1 g.2, refl)
-statement_given r s m b c high code.Else h o to x y put P (inr g) = absurd (g.1 m.last m.last h.0)
-statement_given r s m b c high code.Test h o to x y put P g = absurd h.0
-statement_given r s m b c high code.Update h o to x y put P g = absurd h.0
-statement_given r s m b c high code.Argument h o to x y put P g = absurd h.0
-statement_given r s m b c high code.Head h o to x y put P g = absurd h.0
-statement_given r s m b c high code.Finally h o to x y put P g = absurd h.0
-statement_given r s m b c high code.Catch h o to x y put P g = absurd h.0
-statement_given r s m b c high code.Heritage h o to x y put P g = absurd h.0
-statement_given r s m b c high _ h o to x y put P g = cc
+statement_given r s m b c high p h o to x y put P g = of (wants_statement p r s m b c high h) h g
+  where
+    of : {p : Coded} → StatementPiece p → WantedAt p r s m b c high wanted.Statement → PieceGiven s.text r o (piece_of p) s.last to x y put P → StatementGiven s.text r o m.last to put P × (Rattle.descent.specs.GivenPieces.knows_edge (piece_of p) ≡ false)
+    of statement_of_statement h g = (subst (λ z. StatementGiven s.text r o z to put P) (sym h.1.0) g, refl)
+    of statement_of_else h (inl g) = (subst (λ z. StatementGiven s.text r o z to put P) (words_same s.text g.1 h.0).1 g.2, refl)
+    of statement_of_else h (inr g) = absurd (g.1 m.last m.last h.0)
 
 module _ (r : Bool) (s m : Point) (b c : Built) (high : ℕ) (context : Context) (p : Coded) (same : m.text ≡ s.text) (h : WantedAt p r s m b c high wanted.Statement) (is_context : context ≡ inner_context r) where
   statement_agrees : (e : Point) (mid new : List Pair) (result : Result Tree Fault) → StatementComplete m e mid new high context result → StatementComplete m e mid new high (inner_context r) result
@@ -129,9 +117,9 @@ module _ (r : Bool) (s m : Point) (b c : Built) (high : ℕ) (context : Context)
       let v = w.0 in
       let u = statement_agrees e mid new (Ok n) complete o v.put to P (subst (λ z. SpellsIn z o (Rattle.language.specs.Pieces.statement r) v.put m.last to P) (sym same) v.spelled) (subst (λ z. given.FinishedIn z v.put to) (sym same) v.finished) in
       record {
-        nodes = ap (λ (z : Built). z.nodes) is ∙ (λ i. push (wanted_nodes p r s m b c high wanted.Statement (λ u. cc) h i) (u.0 i)) ∙ push-join b.nodes v.put ∙ ap (join b.nodes) (sym v.parts);
+        nodes = ap (λ (z : Built). z.nodes) is ∙ (λ i. push (wanted_nodes p r s m b c high wanted.Statement (something wanted.Statement refl) h i) (u.0 i)) ∙ push-join b.nodes v.put ∙ ap (join b.nodes) (sym v.parts);
         ends = ends_behind {m = m} pairs (record { place = u.1.place; more = u.1.more; added = u.1.added; pairs = u.1.pairs });
-        edge = λ known. absurd (Rattle.std.proofs.lemmas.Bool.false≢true (sym w.1 ∙ known));
+        edge = λ known. absurd (false≢true (sym w.1 ∙ known));
       }
 
 -- the statements of a block or a case
@@ -140,17 +128,11 @@ until_of k = cc
 
 items_given : (r : Bool) (s m : Point) (b c : Built) (high : ℕ) (u : Until) (p : Coded) → WantedAt p r s m b c high (wanted.Items u) → (o : ℕ) (to : Token) (x y : Edge) (put : Parts) (P : List Pair) → PieceGiven s.text r o (piece_of p) s.last to x y put P →
     ItemsGiven s.text u r false o put m.last to P × (Rattle.descent.specs.GivenPieces.knows_edge (piece_of p) ≡ false)
-items_given r s m b c high u code.Items h o to x y put P g = (subst (λ z. ItemsGiven s.text z r false o put m.last to P) (until_of h.0) (subst (λ z. ItemsGiven s.text until.Brace r false o put z to P) (sym h.1.0) g), refl)
-items_given r s m b c high u code.Consequent h o to x y put P g = (subst (λ z. ItemsGiven s.text z r false o put m.last to P) (until_of h.0) (subst (λ z. ItemsGiven s.text until.Case r false o put z to P) (sym h.1.0) g), refl)
-items_given r s m b c high u code.Test h o to x y put P g = absurd h.0
-items_given r s m b c high u code.Update h o to x y put P g = absurd h.0
-items_given r s m b c high u code.Argument h o to x y put P g = absurd h.0
-items_given r s m b c high u code.Head h o to x y put P g = absurd h.0
-items_given r s m b c high u code.Else h o to x y put P g = absurd h.0
-items_given r s m b c high u code.Finally h o to x y put P g = absurd h.0
-items_given r s m b c high u code.Catch h o to x y put P g = absurd h.0
-items_given r s m b c high u code.Heritage h o to x y put P g = absurd h.0
-items_given r s m b c high u _ h o to x y put P g = cc
+items_given r s m b c high u p h o to x y put P g = of (wants_items p r s m b c high u h) h g
+  where
+    of : {p : Coded} → ItemsPiece p → WantedAt p r s m b c high (wanted.Items u) → PieceGiven s.text r o (piece_of p) s.last to x y put P → ItemsGiven s.text u r false o put m.last to P × (Rattle.descent.specs.GivenPieces.knows_edge (piece_of p) ≡ false)
+    of items_of_items h g = (subst (λ z. ItemsGiven s.text z r false o put m.last to P) (until_of h.0) (subst (λ z. ItemsGiven s.text until.Brace r false o put z to P) (sym h.1.0) g), refl)
+    of items_of_consequent h g = (subst (λ z. ItemsGiven s.text z r false o put m.last to P) (until_of h.0) (subst (λ z. ItemsGiven s.text until.Case r false o put z to P) (sym h.1.0) g), refl)
 
 module _ (r : Bool) (s m : Point) (b c : Built) (high : ℕ) (u : Until) (context : Context) (p : Coded) (same : m.text ≡ s.text) (h : WantedAt p r s m b c high (wanted.Items u)) (is_context : context ≡ item_context r) where
   items_agree : (e : Point) (mid new : List Pair) (result : Result Parts Fault) → StatementsComplete m e mid new high u context result → StatementsComplete m e mid new high u (item_context r) result
@@ -167,7 +149,7 @@ module _ (r : Bool) (s m : Point) (b c : Built) (high : ℕ) (u : Until) (contex
       let v = subst (λ z. ItemsGiven z u r false o put m.last to P) (sym same) w.0 in
       let w1 = items_agree e mid new (Ok ps) complete put o to P refl v.0 v.1 in
       record {
-        nodes = is ∙ (λ i. join (wanted_nodes p r s m b c high (wanted.Items u) (λ e. cc) h i) (w1.0 i));
+        nodes = is ∙ (λ i. join (wanted_nodes p r s m b c high (wanted.Items u) (something (wanted.Items u) refl) h i) (w1.0 i));
         ends = ends_behind {m = m} pairs (record { place = w1.1.place; more = w1.1.more; added = w1.1.added; pairs = w1.1.pairs });
-        edge = λ known. absurd (Rattle.std.proofs.lemmas.Bool.false≢true (sym w.1 ∙ known));
+        edge = λ known. absurd (false≢true (sym w.1 ∙ known));
       }

@@ -67,7 +67,7 @@ first_by text s u true last w a k h long n m r q = (
 
 template_class : (c : Class) → same_class Template c ≡ true → c ≡ Template
 template_class Template h = refl
-template_class _ h = cc
+template_class _ h = absurd (false≢true h)
 
 -- the first part, from the token ahead
 pub first_read : (text : List ℕ) (s e : Token) (u : LexicalToken) (answer : Result Item Fault) → IsAhead Div text s.stop u → e ≡ as_read u → IfOk answer (λ item. (first last : Bool) (word : List ℕ) → Holds u.text first last word → u.stop ≡ u.start + length u.text → (item.node ≡ part_node u.start word) × (item.is_marked ≡ last)) →

@@ -18,7 +18,6 @@ use Rattle.language.specs.Token.{Token}
 use Rattle.language.proofs.Begins.{div_allows}
 use Rattle.phrases.specs.declared.pieces.Built.{Built}
 use Rattle.phrases.specs.declared.pieces.Piece.{Piece as Coded}
-use Rattle.phrases.specs.declared.pieces.Piece.TheVariants as code
 use Rattle.descent.specs.declared.pieces.Wanted.TheVariants as wanted
 use Rattle.phrases.specs.declared.statements.Context.{Context}
 use Rattle.descent.specs.Derived.{Adds, grouping}
@@ -32,6 +31,7 @@ use Rattle.descent.proofs.Deriving.{adds_behind}
 use Rattle.descent.proofs.Enclosed.{block_spelled, body_spelled, handler_spelled}
 use Rattle.descent.proofs.PieceBy.{OnePiece}
 use Rattle.descent.proofs.PieceParts.{one_part}
+use Rattle.descent.proofs.PieceViews.{something, BlockPiece, block_of_block, block_of_body, block_of_finally, wants_block, HandlerPiece, handler_of_catch, wants_handler}
 
 -- between what adds nothing to the pairs
 pub adds_within : {m x k e : Point} {old mid more new : List Pair} {A B : ℕ → Token → Token → List Pair → Type 0} → x.opened ≡ m.opened → mid ≡ old → Adds x k mid more A → e.opened ≡ k.opened → new ≡ more → ((o : ℕ) (P : List Pair) → A o x.last k.last P → B o m.last e.last P) → Adds m e old new B
@@ -51,20 +51,15 @@ module _ (text : List ℕ) (r : Bool) (s m : Point) (b c : Built) (high : ℕ) (
     whole_block : context ≡ item_context r → SpellsIn text o (block r) (node BlockStatement [] plain at e.stop ps) m.last e P
     whole_block is = block_spelled text r ps left start (subst (λ z. StatementsAt text z ps o x k P) is items refl) right
 
-    block_put : (p : Coded) → WantedAt p r s m b c high (wanted.Block context) → PieceAt text r o (piece_of p) s.last e b.edge y (part (node BlockStatement [] plain at e.stop ps) none) P
-    block_put code.Block h = record { put = node BlockStatement [] plain at e.stop ps; parts = refl; spelled = subst (λ z. SpellsIn text o (block r) (node BlockStatement [] plain at e.stop ps) z e P) h.1.0 (whole_block (context_of h.0)) }
-    block_put code.Body h =
+    put_by : {p : Coded} → BlockPiece p → WantedAt p r s m b c high (wanted.Block context) → PieceAt text r o (piece_of p) s.last e b.edge y (part (node BlockStatement [] plain at e.stop ps) none) P
+    put_by block_of_block h = record { put = node BlockStatement [] plain at e.stop ps; parts = refl; spelled = subst (λ z. SpellsIn text o (block r) (node BlockStatement [] plain at e.stop ps) z e P) h.1.0 (whole_block (context_of h.0)) }
+    put_by block_of_body h =
         let whole = body_spelled text ps left start (subst (λ z. StatementsAt text z ps o x k P) (context_of h.0) items refl) right in
         (record { put = node BlockStatement [] plain at e.stop ps; parts = refl; spelled = subst (λ z. SpellsIn text o body (node BlockStatement [] plain at e.stop ps) z e P) h.1.0 whole }, right.text)
-    block_put code.Finally h = inl (m.last, subst (λ z. ReadsHere z Name (codes "finally") s.last m.last) (sym same) h.0.0, record { put = node BlockStatement [] plain at e.stop ps; parts = refl; spelled = whole_block h.0.1 })
-    block_put code.Test h = absurd h.0
-    block_put code.Update h = absurd h.0
-    block_put code.Argument h = absurd h.0
-    block_put code.Head h = absurd h.0
-    block_put code.Else h = absurd h.0
-    block_put code.Catch h = absurd h.0
-    block_put code.Heritage h = absurd h.0
-    block_put _ h = cc
+    put_by block_of_finally h = inl (m.last, subst (λ z. ReadsHere z Name (codes "finally") s.last m.last) (sym same) h.0.0, record { put = node BlockStatement [] plain at e.stop ps; parts = refl; spelled = whole_block h.0.1 })
+
+    block_put : (p : Coded) → WantedAt p r s m b c high (wanted.Block context) → PieceAt text r o (piece_of p) s.last e b.edge y (part (node BlockStatement [] plain at e.stop ps) none) P
+    block_put p h = put_by (wants_block p r s m b c high context h) h
 
 pub block_piece : {s m x k e : Point} {old q0 q1 q2 new : List Pair} {r : Bool} (p : Coded) {b : Built} (c : Built) {d : Built} {high at : ℕ} {n : Tree} {ps : Parts} (context : Context) → m.text ≡ s.text → x.text ≡ m.text → k.text ≡ x.text → m.opened ≡ s.opened → q0 ≡ old → x.opened ≡ m.opened → q1 ≡ q0 → e.opened ≡ k.opened → new ≡ q2 →
     WantedAt p r s m b c high (wanted.Block context) → ReadsHere m.text Punctuator (codes "{") m.last x.last → x.last.start ≡ at → Adds x k q1 q2 (StatementsAt x.text context ps) → ReadsHere k.text Punctuator (codes "}") k.last e.last →
@@ -72,7 +67,7 @@ pub block_piece : {s m x k e : Point} {old q0 q1 q2 new : List Pair} {r : Bool} 
 block_piece {s} {m} {x} {k} {e} {q0 = q0} {new = new} {r = r} p {b} c {d} {high} {at} {n} {ps} context t0 t1 t2 o0 p0 o1 p1 o2 p2 h left start a right made is low =
     let left' = subst (λ z. ReadsHere z Punctuator (codes "{") m.last x.last) t0 left in
     let right' = subst (λ z. ReadsHere z Punctuator (codes "}") k.last e.last) (t2 ∙ t1 ∙ t0) right in
-    one_part p c n c.edge o0 p0 (λ u. cc) h is low
+    one_part p c n c.edge o0 p0 (something (wanted.Block context) refl) h is low
     (λ edges. adds_within o1 p1 a o2 p2 (λ o P v.
     subst (λ z. PieceAt s.text r o (piece_of p) s.last e.last b.edge c.edge (part z none) P) (sym made)
     (block_put s.text r s m b c high context o x.last k.last e.last at ps P c.edge refl left' start (subst (λ z. StatementsAt z context ps o x.last k.last P) (t1 ∙ t0) v) right' p h)))
@@ -109,22 +104,17 @@ place_mark p {at = at} here r = of r.next r.class here.1
 -- a handler
 handler_put : (text : List ℕ) (r : Bool) (s m : Point) (b c : Built) (high at : ℕ) (ps : Parts) (o : ℕ) (e : Token) (P : List Pair) (z y : Edge) {pieces : List Piece} (p : Coded) → text ≡ s.text → WantedAt p r s m b c high (wanted.Handler at) → CatchParts text m.last pieces → Rattle.descent.specs.DerivedPieces.PiecesAt text r o pieces m.last e Rattle.language.specs.declared.Edge.TheVariants.Closed z ps P →
     PieceAt text r o (piece_of p) s.last e b.edge y (part (node CatchClause [] plain at e.stop ps) none) P
-handler_put text r s m b c high at ps o e P z y code.Catch same h parts d =
-    let read = subst (λ v. ReadsHere v Name (codes "catch") s.last m.last) (sym same) h.0.0 in
-    inl (record { put = node CatchClause [] plain at e.stop ps; parts = refl; spelled = handler_spelled text r _ z read (sym (place_name s h.0.1 h.0.0)) parts d })
-handler_put text r s m b c high at ps o e P z y code.Test same h parts d = absurd h.0
-handler_put text r s m b c high at ps o e P z y code.Update same h parts d = absurd h.0
-handler_put text r s m b c high at ps o e P z y code.Argument same h parts d = absurd h.0
-handler_put text r s m b c high at ps o e P z y code.Head same h parts d = absurd h.0
-handler_put text r s m b c high at ps o e P z y code.Else same h parts d = absurd h.0
-handler_put text r s m b c high at ps o e P z y code.Finally same h parts d = absurd h.0
-handler_put text r s m b c high at ps o e P z y code.Heritage same h parts d = absurd h.0
-handler_put text r s m b c high at ps o e P z y _ same h parts d = cc
+handler_put text r s m b c high at ps o e P z y p same h parts d = of (wants_handler p r s m b c high at h) h
+  where
+    of : {p : Coded} → HandlerPiece p → WantedAt p r s m b c high (wanted.Handler at) → PieceAt text r o (piece_of p) s.last e b.edge y (part (node CatchClause [] plain at e.stop ps) none) P
+    of handler_of_catch h =
+        let read = subst (λ v. ReadsHere v Name (codes "catch") s.last m.last) (sym same) h.0.0 in
+        inl (record { put = node CatchClause [] plain at e.stop ps; parts = refl; spelled = handler_spelled text r _ z read (sym (place_name s h.0.1 h.0.0)) parts d })
 
 pub handler_piece : {s m e : Point} {old mid new : List Pair} {r : Bool} (p : Coded) {b : Built} (c : Built) {d : Built} {high : ℕ} {n : Tree} (at : ℕ) (first caught : Built) {pieces : List Piece} → m.text ≡ s.text → m.opened ≡ s.opened → mid ≡ old →
     WantedAt p r s m b c high (wanted.Handler at) → CatchParts m.text m.last pieces → first ≡ built_of none → Adds m e mid new (BuiltAt m.text r pieces first caught) → n ≡ node CatchClause [] plain at e.last.stop caught.nodes → d ≡ with_part c n c.edge → height n ≤ high → OnePiece s e old new r (piece_of p) b d high
 handler_piece {s} {m} {e} {r = r} p {b} c {d} {high} {n} at first caught {pieces} t0 o0 p0 h parts is_first a made is low =
-    one_part p c n c.edge o0 p0 (λ u. cc) h is low
+    one_part p c n c.edge o0 p0 (something (wanted.Handler at) refl) h is low
     (λ edges. adds_behind refl refl a (λ o P v.
     let u = subst (λ z. BuiltAt z r pieces (built_of none) caught o m.last e.last P) t0 (subst (λ z. BuiltAt m.text r pieces z caught o m.last e.last P) is_first v) in
     let tree : n ≡ node CatchClause [] plain at e.last.stop u.added = made ∙ ap (λ qs. node CatchClause [] plain at e.last.stop qs) u.nodes in

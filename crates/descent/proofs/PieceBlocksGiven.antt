@@ -33,6 +33,7 @@ use Rattle.descent.proofs.PieceBlocks.{place_name}
 use Rattle.descent.proofs.PieceParts.{wanted_nodes}
 use Rattle.descent.proofs.PiecesLeft.{SameOf, RefusedOf}
 use Rattle.phrases.proofs.Seeing.{mark_by}
+use Rattle.descent.proofs.PieceViews.{something, BlockPiece, block_of_block, block_of_body, block_of_finally, wants_block, HandlerPiece, handler_of_catch, wants_handler}
 
 context_of : {a b : Context} → Some (wanted.Block a) ≡ Some (wanted.Block b) → b ≡ a
 context_of h = cc
@@ -49,18 +50,13 @@ plain_block : {text : List ℕ} (p : Coded) (r : Bool) {context : Context} {o : 
 plain_block {text} p r {o = o} {m} {e} {put} {P} edge is g = subst (λ z. BlockWanted text p z o m e put P) (sym is) (record { tree = g.put; parts = g.parts; braced = block_given text r g.spelled; items = refl; edge = edge })
 
 block_wanted : (r : Bool) (s m : Point) (b c : Built) (high : ℕ) (context : Context) (p : Coded) → WantedAt p r s m b c high (wanted.Block context) → (o : ℕ) (to : Token) (x y : Edge) (put : Parts) (P : List Pair) → PieceGiven s.text r o (piece_of p) s.last to x y put P → BlockWanted s.text p context o m.last to put P
-block_wanted r s m b c high context code.Block h o to x y put P g = subst (λ z. BlockWanted s.text code.Block context o z to put P) (sym h.1.0) (plain_block code.Block r refl (context_of h.0) g)
-block_wanted r s m b c high context code.Body h o to x y put P g = subst (λ z. BlockWanted s.text code.Body context o z to put P) (sym h.1.0) (subst (λ z. BlockWanted s.text code.Body z o s.last to put P) (sym (context_of h.0)) (record { tree = g.put; parts = g.parts; braced = body_given s.text g.spelled; items = refl; edge = refl }))
-block_wanted r s m b c high context code.Finally h o to x y put P (inl g) = subst (λ z. BlockWanted s.text code.Finally context o z to put P) (words_same s.text g.1 h.0.0).1 (plain_block code.Finally r refl h.0.1 g.2)
-block_wanted r s m b c high context code.Finally h o to x y put P (inr g) = absurd (g.1 m.last m.last h.0.0)
-block_wanted r s m b c high context code.Test h o to x y put P g = absurd h.0
-block_wanted r s m b c high context code.Update h o to x y put P g = absurd h.0
-block_wanted r s m b c high context code.Argument h o to x y put P g = absurd h.0
-block_wanted r s m b c high context code.Head h o to x y put P g = absurd h.0
-block_wanted r s m b c high context code.Else h o to x y put P g = absurd h.0
-block_wanted r s m b c high context code.Catch h o to x y put P g = absurd h.0
-block_wanted r s m b c high context code.Heritage h o to x y put P g = absurd h.0
-block_wanted r s m b c high context _ h o to x y put P g = cc
+block_wanted r s m b c high context p h o to x y put P g = of (wants_block p r s m b c high context h) h g
+  where
+    of : {p : Coded} → BlockPiece p → WantedAt p r s m b c high (wanted.Block context) → PieceGiven s.text r o (piece_of p) s.last to x y put P → BlockWanted s.text p context o m.last to put P
+    of block_of_block h g = subst (λ z. BlockWanted s.text code.Block context o z to put P) (sym h.1.0) (plain_block code.Block r refl (context_of h.0) g)
+    of block_of_body h g = subst (λ z. BlockWanted s.text code.Body context o z to put P) (sym h.1.0) (subst (λ z. BlockWanted s.text code.Body z o s.last to put P) (sym (context_of h.0)) (record { tree = g.put; parts = g.parts; braced = body_given s.text g.spelled; items = refl; edge = refl }))
+    of block_of_finally h (inl g) = subst (λ z. BlockWanted s.text code.Finally context o z to put P) (words_same s.text g.1 h.0.0).1 (plain_block code.Finally r refl h.0.1 g.2)
+    of block_of_finally h (inr g) = absurd (g.1 m.last m.last h.0.0)
 
 sees_brace : (text : List ℕ) {s e : Token} → ReadsHere text Punctuator (codes "}") s e → SeesBy text Div (ends until.Brace) s
 sees_brace text {e = e} r = (e, (mark_by text r, λ i. is_mark (codes "}") (record { class = r.class i; text = r.text i; start = e.start; stop = e.stop; after_break = e.after_break })))
@@ -116,7 +112,7 @@ module _ (r : Bool) (s m : Point) (b c : Built) (high : ℕ) (context : Context)
           let from : v.braced.left.start ≡ at = ap (λ (w : Token). w.start) first ∙ start in
           let tree : n ≡ v.tree = made ∙ (λ i. node BlockStatement [] plain (sym from i) ((last i).stop) (u.0 i)) ∙ sym v.braced.tree in
           record {
-            nodes = ap (λ (w : Built). w.nodes) is ∙ (λ i. push (wanted_nodes p r s m b c high (wanted.Block context) (λ u. cc) h i) (tree i)) ∙ push-join b.nodes v.tree ∙ ap (join b.nodes) (sym v.parts);
+            nodes = ap (λ (w : Built). w.nodes) is ∙ (λ i. push (wanted_nodes p r s m b c high (wanted.Block context) (something (wanted.Block context) refl) h i) (tree i)) ∙ push-join b.nodes v.tree ∙ ap (join b.nodes) (sym v.parts);
             ends = record { place = last; more = u.1.more; added = p2 ∙ u.1.added ∙ ap (λ w. Rattle.std.proofs.Common.◌++◌ w u.1.more) (p1 ∙ p0); pairs = u.1.pairs };
             edge = λ known. absurd (false≢true (sym v.edge ∙ known));
           }
@@ -131,16 +127,11 @@ record HandlerWanted (text : List ℕ) (p : Coded) (r : Bool) (o : ℕ) (s m e :
 
 handler_wanted : (r : Bool) (s m : Point) (b c : Built) (high at : ℕ) (p : Coded) → WantedAt p r s m b c high (wanted.Handler at) → (o : ℕ) (to : Token) (x y : Edge) (put : Parts) (P : List Pair) → PieceGiven s.text r o (piece_of p) s.last to x y put P →
     HandlerWanted s.text p r o s.last m.last to put P × (m.last.start ≡ at)
-handler_wanted r s m b c high at code.Catch h o to x y put P (inl g) = (let v = handler_given s.text r g.spelled in record { tree = g.put; parts = g.parts; handler = v; at = (words_same s.text v.reads h.0.0).1; edge = refl }, sym (place_name s h.0.1 h.0.0))
-handler_wanted r s m b c high at code.Catch h o to x y put P (inr g) = absurd (false≢true (ap (λ w. Rattle.language.specs.Words.is w "catch") (sym g.1.1.text ∙ ap (λ (z : Token). z.text) (words_same s.text g.1.1 h.0.0).0 ∙ h.0.0.text)))
-handler_wanted r s m b c high at code.Test h o to x y put P g = absurd h.0
-handler_wanted r s m b c high at code.Update h o to x y put P g = absurd h.0
-handler_wanted r s m b c high at code.Argument h o to x y put P g = absurd h.0
-handler_wanted r s m b c high at code.Head h o to x y put P g = absurd h.0
-handler_wanted r s m b c high at code.Else h o to x y put P g = absurd h.0
-handler_wanted r s m b c high at code.Finally h o to x y put P g = absurd h.0
-handler_wanted r s m b c high at code.Heritage h o to x y put P g = absurd h.0
-handler_wanted r s m b c high at _ h o to x y put P g = cc
+handler_wanted r s m b c high at p h o to x y put P g = of (wants_handler p r s m b c high at h) h g
+  where
+    of : {p : Coded} → HandlerPiece p → WantedAt p r s m b c high (wanted.Handler at) → PieceGiven s.text r o (piece_of p) s.last to x y put P → HandlerWanted s.text p r o s.last m.last to put P × (m.last.start ≡ at)
+    of handler_of_catch h (inl g) = (let v = handler_given s.text r g.spelled in record { tree = g.put; parts = g.parts; handler = v; at = (words_same s.text v.reads h.0.0).1; edge = refl }, sym (place_name s h.0.1 h.0.0))
+    of handler_of_catch h (inr g) = absurd (false≢true (ap (λ w. Rattle.language.specs.Words.is w "catch") (sym g.1.1.text ∙ ap (λ (z : Token). z.text) (words_same s.text g.1.1 h.0.0).0 ∙ h.0.0.text)))
 
 module _ (r : Bool) (s m : Point) (b c : Built) (high at inner : ℕ) (first : Built) (pieces : List Piece) (p : Coded) (same : m.text ≡ s.text) (open_same : m.opened ≡ s.opened) (h : WantedAt p r s m b c high (wanted.Handler at)) (is_first : first ≡ built_of none) (caught : CatchParts m.text m.last pieces) (lower : inner ≡ high - 1) where
   record HandlerAgrees (e : Point) (mid new : List Pair) (d : Built) (result : Result (Unit {0}) Fault) (o : ℕ) (to : Token) (put : Parts) (P : List Pair) : Type 0 where
@@ -179,7 +170,7 @@ module _ (r : Bool) (s m : Point) (b c : Built) (high at inner : ℕ) (first : B
       let from : w.handler.word.start ≡ at = ap (λ (z : Token). z.start) w.at ∙ (handler_wanted r s m b c high at p h o to x y put P g).1 in
       let tree : n ≡ w.tree = made ∙ (λ i. node CatchClause [] plain (sym from i) ((v.agrees.1.place i).stop) (handler_nodes d v.agrees.0 i)) ∙ sym w.handler.tree in
       record {
-        nodes = ap (λ (z : Built). z.nodes) is ∙ (λ i. push (wanted_nodes p r s m b c high (wanted.Handler at) (λ u. cc) h i) (tree i)) ∙ push-join b.nodes w.tree ∙ ap (join b.nodes) (sym w.parts);
+        nodes = ap (λ (z : Built). z.nodes) is ∙ (λ i. push (wanted_nodes p r s m b c high (wanted.Handler at) (something (wanted.Handler at) refl) h i) (tree i)) ∙ push-join b.nodes w.tree ∙ ap (join b.nodes) (sym w.parts);
         ends = ends_behind {m = m} pairs (record { place = v.agrees.1.place; more = v.agrees.1.more; added = v.agrees.1.added; pairs = v.agrees.1.pairs });
         edge = λ known. absurd (false≢true (sym w.edge ∙ known));
       }

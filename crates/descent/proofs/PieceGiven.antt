@@ -44,6 +44,7 @@ use Rattle.phrases.specs.Pieces.{Piece, piece_of}
 use Rattle.phrases.specs.Seen.{NoName, Sees, is_free_name}
 use Rattle.phrases.specs.Tokens.{single_node}
 use Rattle.descent.specs.Wants.{WantedAt, LabelAt, IsBroken, NotLabel, NotWanted}
+use Rattle.descent.proofs.PieceViews.{something, of_some, is_nothing, is_gap}
 use Rattle.descent.proofs.Agreeing.{ends_none, ends_same, marks_same, words_same, read_here}
 use Rattle.descent.proofs.PieceBy.{gap_join}
 use Rattle.descent.proofs.PieceTokens.{token_edge, nodes_of, name_spelled}
@@ -114,7 +115,8 @@ nothing_same code.Else r high same h o to x y put P g at = absurd h.0
 nothing_same code.Finally r high same h o to x y put P g at = absurd h.0
 nothing_same code.Catch r high same h o to x y put P g at = absurd h.0
 nothing_same code.Heritage r high same h o to x y put P g at = absurd h.0
-nothing_same _ r high same h o to x y put P g at = cc
+nothing_same code.Missing r high same h o to x y put P g at = absurd (something wanted.Gap refl (sym h.0))
+nothing_same _ r high same h o to x y put P g at = absurd (false≢true (ap (of_some is_nothing) h.0))
 
 -- what a handler begins with
 pub catch_begins : {text : List ℕ} {r : Bool} {o : ℕ} {n : Tree} {s e : Token} {P : List Pair} → SpellsIn text o (handler r) n s e P → Sees text Name (codes "catch") s
@@ -138,12 +140,12 @@ head_part {text} (a_target at p) = (p.put, of (bound_form Token (NextIn text any
 
 -- a part that is missing
 pub gap_missing : (p : Coded) (r : Bool) (high : ℕ) {s e : Point} {old new : List Pair} {b : Built} (c : Built) {d : Built} → new ≡ old → WantedAt p r s e b c high wanted.Gap → d ≡ record c { nodes = push_gap c.nodes } → SameOf s.text r (piece_of p) s e old new b d
-gap_missing (code.Mark w) r high c same h is o to x y put P g at = cc
-gap_missing (code.Word w) r high c same h is o to x y put P g at = cc
-gap_missing code.Unbroken r high c same h is o to x y put P g at = cc
-gap_missing code.EndOfDo r high c same h is o to x y put P g at = cc
-gap_missing code.End r high c same h is o to x y put P g at = cc
-gap_missing code.Label r high c same h is o to x y put P g at = cc
+gap_missing (code.Mark w) r high c same h is o to x y put P g at = absurd (something wanted.Gap refl h.1)
+gap_missing (code.Word w) r high c same h is o to x y put P g at = absurd (something wanted.Gap refl h.1)
+gap_missing code.Unbroken r high c same h is o to x y put P g at = absurd (something wanted.Gap refl h.1)
+gap_missing code.EndOfDo r high c same h is o to x y put P g at = absurd (something wanted.Gap refl h.1)
+gap_missing code.End r high c same h is o to x y put P g at = absurd (something wanted.Gap refl h.1)
+gap_missing code.Label r high c same h is o to x y put P g at = absurd (something wanted.Gap refl h.1)
 gap_missing code.Test r high c same h is o to x y put P (inl g) at = absurd (g.1 h.0.0 h.0.0 h.0.1)
 gap_missing code.Test r high c same h is o to x y put P (inr g) at = gap_same refl same h.1.0 (nodes_of h.1.1) (token_edge h.1.1) is g.0
 gap_missing code.Update r high c same h is o to x y put P (inl g) at = absurd (g.1 h.0.0 h.0.0 h.0.1)
@@ -161,7 +163,7 @@ gap_missing code.Catch r high c same h is o to x y put P (inr g) at = gap_same r
 gap_missing code.Heritage r high c same h is o to x y put P (inl g) at = absurd (h.0.0 g.0 g.0 g.1)
 gap_missing code.Heritage r high c same h is o to x y put P (inr g) at = gap_same refl same h.0.1 (nodes_of h.1) (token_edge h.1) is g.0
 gap_missing code.Missing r high c same h is o to x y put P g at = gap_same refl same h.1.0 (nodes_of h.1.1) (token_edge h.1.1) is g
-gap_missing _ r high c same h is o to x y put P g at = cc
+gap_missing _ r high c same h is o to x y put P g at = absurd (false≢true (ap (of_some is_gap) h.0))
 
 -- no label is too high
 label_refused : (s : Point) (b : Built) (r : Bool) (high : ℕ) (fault : Fault) → NotLabel s high fault → RefusedOf s.text r (piece_of code.Label) s b high fault

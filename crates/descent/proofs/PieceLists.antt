@@ -3,6 +3,7 @@ use Rattle.std.proofs.Common.{◌≡◌, ℕ, ◌-◌, ◌≤◌, Bool, true, fa
 use Rattle.std.specs.Prelude.{codes, not, ◌&&◌, ◌||◌, nat_le, nat_eq, Option, Some, None}
 use Rattle.std.specs.Bool.{OnTrue, OnFalse}
 use Rattle.std.proofs.lemmas.Bool.Decides.{nat_tests}
+use Rattle.std.proofs.lemmas.Bool.{false≢true}
 use Rattle.tokens.specs.Reading.{any_goal}
 use Rattle.tokens.specs.declared.token.Class.TheVariants.{Name, Punctuator}
 use Rattle.tokens.specs.declared.token.Goal.TheVariants.{Div}
@@ -38,7 +39,6 @@ use Rattle.language.proofs.Blocks.{one_declarator}
 use Rattle.language.proofs.OneKind.{one_kind}
 use Rattle.phrases.specs.declared.pieces.Built.{Built}
 use Rattle.phrases.specs.declared.pieces.Piece.{Piece as Coded}
-use Rattle.phrases.specs.declared.pieces.Piece.TheVariants as code
 use Rattle.descent.specs.declared.pieces.Wanted.TheVariants as wanted
 use Rattle.descent.specs.Derived.{RunsIn, anywhere, Adds, all_read_as}
 use Rattle.descent.specs.DerivedLists.{SoFarAt, ListAt, SeenRight, whole_of, stood_in, item_pieces, ClosedBy, part_alone, no_part, case_count, asks_edge}
@@ -54,6 +54,7 @@ use Rattle.descent.proofs.Deriving.{runs_on}
 use Rattle.descent.proofs.Enclosed.{class_body_spelled}
 use Rattle.descent.proofs.PieceBlocks.{place_mark, adds_within}
 use Rattle.descent.proofs.PieceBy.{OnePiece}
+use Rattle.descent.proofs.PieceViews.{something, ListPiece, list_of_list, list_of_head, wants_list}
 use Rattle.descent.proofs.PieceParts.{wanted_nodes, each_at}
 
 -- the lists that are pieces
@@ -80,12 +81,12 @@ empty_list text at o m listed.OneParameter is as_expression = λ fits ps e Q d. 
 empty_list text at o m listed.OneParameter is (as_pattern b) = λ fits ps e Q d. d
 empty_list text at o m listed.Parameters is as_expression = λ fits ps e Q d. d
 empty_list text at o m listed.Parameters is (as_pattern b) = λ fits ps e Q d. d
-empty_list text at o m listed.Arguments is a = cc
-empty_list text at o m listed.Elements is a = cc
-empty_list text at o m listed.Properties is a = cc
-empty_list text at o m listed.Covers is a = cc
-empty_list text at o m listed.Template is a = cc
-empty_list text at o m (listed.Sequence i) is a = cc
+empty_list text at o m listed.Arguments is a = absurd (false≢true is)
+empty_list text at o m listed.Elements is a = absurd (false≢true is)
+empty_list text at o m listed.Properties is a = absurd (false≢true is)
+empty_list text at o m listed.Covers is a = absurd (false≢true is)
+empty_list text at o m listed.Template is a = absurd (false≢true is)
+empty_list text at o m (listed.Sequence i) is a = absurd (false≢true is)
 
 -- what such a list adds to the parts before it
 abbrev pub list_added : Listed → Option Scanned → ℕ → Span → Parts → Parts
@@ -121,8 +122,8 @@ one_most n false h = grind (arith, nat_tests)
 
 and_parts : (a b : Bool) → (a && b) ≡ true → (a ≡ true) × (b ≡ true)
 and_parts true true h = (refl, refl)
-and_parts true false h = cc
-and_parts false b h = cc
+and_parts true false h = absurd (false≢true h)
+and_parts false b h = absurd (false≢true h)
 
 and_true : (a : Bool) → (a && true) ≡ a
 and_true true = refl
@@ -243,7 +244,7 @@ taken_put listed.Members word each l h = refl
 taken_put listed.NoParameter word each l h = refl
 taken_put listed.OneParameter word each l h = refl
 taken_put listed.Parameters word each l h = refl
-taken_put _ word each l h = cc
+taken_put _ word each l h = absurd (false≢true h)
 
 -- such a list begins without items
 pub begun_list : (m : Listed) (s x : Point) {l : ListOf} → is_put m ≡ true → l.listed ≡ m → BegunAt s x l → l ≡ list_from m l.span.start
@@ -253,12 +254,12 @@ begun_list listed.Members s x {l = l} h is begun = (begun.1 (codes "{") (ap open
 begun_list listed.NoParameter s x {l = l} h is begun = (begun.1 (codes "(") (ap opening is)).1 ∙ ap (λ z. list_from z l.span.start) is
 begun_list listed.OneParameter s x {l = l} h is begun = (begun.1 (codes "(") (ap opening is)).1 ∙ ap (λ z. list_from z l.span.start) is
 begun_list listed.Parameters s x {l = l} h is begun = (begun.1 (codes "(") (ap opening is)).1 ∙ ap (λ z. list_from z l.span.start) is
-begun_list listed.Arguments s x h is begun = cc
-begun_list listed.Elements s x h is begun = cc
-begun_list listed.Properties s x h is begun = cc
-begun_list listed.Covers s x h is begun = cc
-begun_list listed.Template s x h is begun = cc
-begun_list (listed.Sequence i) s x h is begun = cc
+begun_list listed.Arguments s x h is begun = absurd (false≢true h)
+begun_list listed.Elements s x h is begun = absurd (false≢true h)
+begun_list listed.Properties s x h is begun = absurd (false≢true h)
+begun_list listed.Covers s x h is begun = absurd (false≢true h)
+begun_list listed.Template s x h is begun = absurd (false≢true h)
+begun_list (listed.Sequence i) s x h is begun = absurd (false≢true h)
 
 pub stays_before : (m : Listed) (s x : Point) {l : ListOf} → is_put m ≡ true → l.listed ≡ m → BegunAt s x l → opening m ≡ None → x.last ≡ s.last
 stays_before (listed.Declarators i) s x h is begun sign_missing = (begun.2 (ap opening is) (ap is_unseparated is)).0
@@ -352,19 +353,14 @@ module _ (text : List ℕ) (r : Bool) (s m x : Point) (b c : Built) (high o : �
     head_list None _ is' there h = absurd h
     head_list (Some t) _ is' there h = absurd h
 
-    list_put : (p : Coded) → WantedAt p r s m b c high (wanted.List which) → PieceAt text r o (piece_of p) s.last e b.edge l.seen.edge (list_added which c.word e.stop l.span l.nodes) P
-    list_put (code.List k) h =
+    put_by : {p : Coded} → ListPiece p → WantedAt p r s m b c high (wanted.List which) → PieceAt text r o (piece_of p) s.last e b.edge l.seen.edge (list_added which c.word e.stop l.span l.nodes) P
+    put_by (list_of_list {k}) h =
         let put = put_listed text l o m.last x.last e P whole_list which c.word each (kept ∙ is) taken seen_whole sign_there (stays_before which m x {l = l0} (taken_put which c.word each l taken) is begun) start_there in
         subst (λ z. ListPut text o z s.last e l.seen.edge (list_added which c.word e.stop l.span l.nodes) P) (list_of h.0) (subst (λ z. ListPut text o which z e l.seen.edge (list_added which c.word e.stop l.span l.nodes) P) h.1.0 put)
-    list_put code.Head h = inl (head_list c.word which refl refl h.0)
-    list_put code.Test h = absurd h.0
-    list_put code.Update h = absurd h.0
-    list_put code.Argument h = absurd h.0
-    list_put code.Else h = absurd h.0
-    list_put code.Finally h = absurd h.0
-    list_put code.Catch h = absurd h.0
-    list_put code.Heritage h = absurd h.0
-    list_put _ h = cc
+    put_by list_of_head h = inl (head_list c.word which refl refl h.0)
+
+    list_put : (p : Coded) → WantedAt p r s m b c high (wanted.List which) → PieceAt text r o (piece_of p) s.last e b.edge l.seen.edge (list_added which c.word e.stop l.span l.nodes) P
+    list_put p h = put_by (wants_list p r s m b c high which h) h
 
 pub list_piece : {s m x e : Point} {old q0 q1 new : List Pair} {r : Bool} (p : Coded) {b : Built} (c : Built) {d : Built} {high : ℕ} (l0 l : ListOf) (which : Listed) (each : Bool) (limit : ℕ) → m.text ≡ s.text → x.text ≡ m.text → e.text ≡ x.text → m.opened ≡ s.opened → q0 ≡ old → x.opened ≡ m.opened → q1 ≡ q0 →
     WantedAt p r s m b c high (wanted.List which) → l0.listed ≡ which → BegunAt m x l0 → (l.listed ≡ l0.listed) × (l.span.start ≡ l0.span.start) → (SeenRight l0 → SeenRight l) →
@@ -377,7 +373,7 @@ list_piece {s} {m} {x} {e} {r = r} p {b} c {d} {high} l0 l which each limit t0 t
     let none_high : parts_height l0.nodes ≡ 0 = ap (λ (z : ListOf). parts_height z.nodes) first in
     let parts_low = low (omega arith) in
     let levels : listed_levels which l.nodes ≤ high = subst (λ z. listed_levels z l.nodes ≤ high) (kept.0 ∙ is) fits.1 in
-    let parts : d.nodes ≡ join b.nodes (list_added which c.word e.last.stop l.span l.nodes) = ap (λ (z : Built). z.nodes) put ∙ ap (λ z. list_parts z c.word e.last.stop l.span c.nodes l.nodes) (kept.0 ∙ is) ∙ list_joined which c.word e.last.stop l.span c.nodes l.nodes ∙ ap (λ z. join z (list_added which c.word e.last.stop l.span l.nodes)) (wanted_nodes p r s m b c high (wanted.List which) (λ u. cc) h) in
+    let parts : d.nodes ≡ join b.nodes (list_added which c.word e.last.stop l.span l.nodes) = ap (λ (z : Built). z.nodes) put ∙ ap (λ z. list_parts z c.word e.last.stop l.span c.nodes l.nodes) (kept.0 ∙ is) ∙ list_joined which c.word e.last.stop l.span c.nodes l.nodes ∙ ap (λ z. join z (list_added which c.word e.last.stop l.span l.nodes)) (wanted_nodes p r s m b c high (wanted.List which) (something (wanted.List which) refl) h) in
     record {
       put = list_added which c.word e.last.stop l.span l.nodes;
       nodes = parts;

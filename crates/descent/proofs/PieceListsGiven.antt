@@ -2,6 +2,7 @@
 use Rattle.std.proofs.Common.{◌≡◌, ℕ, ◌-◌, Bool, true, false, List, [], ◌++◌, Ok, Err, refl, sym, ap, ◌∙◌, subst, inl, inr, arith}
 use Rattle.std.specs.Prelude.{Option, Some, None}
 use Rattle.std.specs.Bool.{OnTrue, OnFalse}
+use Rattle.std.proofs.lemmas.Bool.{false≢true}
 use Rattle.source_text.specs.declared.fault.Fault.{Fault}
 use Rattle.source_text.specs.declared.fault.Fault.TheVariants.{Syntax, TooDeep, OutOfMemory}
 use Rattle.tokens.specs.declared.token.Class.TheVariants.{Punctuator}
@@ -44,6 +45,7 @@ use Rattle.descent.proofs.ListsWanted.{ListSame, ListWanted, list_wanted, levels
 use Rattle.descent.proofs.PieceBlocks.{place_mark}
 use Rattle.descent.proofs.PieceLists.{is_put, list_added, list_joined, begun_list, stays_before, empty_list, list_of}
 use Rattle.descent.proofs.PieceParts.{each_at, wanted_nodes}
+use Rattle.descent.proofs.PieceViews.{something, ListPiece, list_of_list, list_of_head, wants_list}
 use Rattle.descent.proofs.PiecesLeft.{SameOf, RefusedOf}
 
 -- no template is such a list
@@ -54,27 +56,19 @@ no_template which put is = let no : false ≡ true = ap is_put (sym is) ∙ put 
 ends_itself : (which : Listed) (text : List ℕ) {m e : Token} → asks_edge which ≡ true → ClosedBy text (closing which) m e → e ≡ m
 ends_itself (listed.Sequence i) text asks h = h
 ends_itself (listed.Declarators i) text asks h = h
-ends_itself _ text asks h = cc
+ends_itself _ text asks h = absurd (false≢true asks)
 
 module _ (r : Bool) (s m : Point) (b c : Built) (high : ℕ) (which : Listed) (p : Coded) (same : m.text ≡ s.text) (h : WantedAt p r s m b c high (wanted.List which)) where
   -- what is given of the list
   list_given : (o : ℕ) (to : Token) (x y : Edge) (put : Parts) (P : List Pair) → PieceGiven s.text r o (piece_of p) s.last to x y put P → ListWanted s.text p which c.word o m.last to y put P
-  list_given o to x y put P g = of p h g
+  list_given o to x y put P g = of (wants_list p r s m b c high which h) h g
     where
-      of : (p : Coded) → WantedAt p r s m b c high (wanted.List which) → PieceGiven s.text r o (piece_of p) s.last to x y put P → ListWanted s.text p which c.word o m.last to y put P
-      of (code.List k) h g =
+      of : {p : Coded} → ListPiece p → WantedAt p r s m b c high (wanted.List which) → PieceGiven s.text r o (piece_of p) s.last to x y put P → ListWanted s.text p which c.word o m.last to y put P
+      of (list_of_list {k}) h g =
           subst (λ z. ListWanted s.text (code.List z) which c.word o m.last to y put P) (list_of h.0)
           (subst (λ z. ListWanted s.text (code.List which) which c.word o z to y put P) (sym h.1.0) (list_wanted s.text o which c.word s.last to x y put P (subst (λ z. ListPieceGiven s.text o z s.last to x y put P) (sym (list_of h.0)) g)))
-      of code.Head h (inl g) = head_wanted s.text o c.word which s m to y put P refl h.0 g
-      of code.Head h (inr g) = absurd (head_some s.text o c.word which s m refl h.0 g.1)
-      of code.Test h g = absurd h.0
-      of code.Update h g = absurd h.0
-      of code.Argument h g = absurd h.0
-      of code.Else h g = absurd h.0
-      of code.Finally h g = absurd h.0
-      of code.Catch h g = absurd h.0
-      of code.Heritage h g = absurd h.0
-      of _ h g = cc
+      of list_of_head h (inl g) = head_wanted s.text o c.word which s m to y put P refl h.0 g
+      of list_of_head h (inr g) = absurd (head_some s.text o c.word which s m refl h.0 g.1)
 
   -- its sign stands there
   pub list_unopened : (limit : ℕ) (fault : Fault) → NotBegun which m limit fault → Unopened which fault → RefusedOf s.text r (piece_of p) s b high fault
@@ -154,7 +148,7 @@ module _ (r : Bool) (s m : Point) (b c : Built) (high : ℕ) (which : Listed) (p
             let v = list_read o to z y put P g in
             record {
               nodes = ap (λ (k : Built). k.nodes) made ∙ ap (λ k. list_parts k c.word e.last.stop l.span c.nodes l.nodes) (kept.0 ∙ is) ∙ list_joined which c.word e.last.stop l.span c.nodes l.nodes
-                  ∙ ap (join c.nodes) (ap (λ (t : Token). list_added which c.word t.stop l.span l.nodes) v.ends.place ∙ v.read.added) ∙ ap (λ k. join k put) (wanted_nodes p r s m b c high (wanted.List which) (λ u. cc) h);
+                  ∙ ap (join c.nodes) (ap (λ (t : Token). list_added which c.word t.stop l.span l.nodes) v.ends.place ∙ v.read.added) ∙ ap (λ k. join k put) (wanted_nodes p r s m b c high (wanted.List which) (something (wanted.List which) refl) h);
               ends = ends_behind {m = x} (p1 ∙ p0) v.ends;
               edge = λ known f. v.read.edge known ∙ sym (ap (λ (k : Built). k.edge) made);
             }

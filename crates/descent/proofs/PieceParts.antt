@@ -2,6 +2,8 @@
 use Rattle.std.proofs.Common.{◌≡◌, ℕ, ◌≤◌, Bool, true, false, cond, List, [], refl, sym, ap, ◌∙◌, subst, inl, arith}
 use Rattle.std.specs.Prelude.{IsTrue, codes, Option, Some, None, ◌&&◌}
 use Rattle.std.specs.Bool.{OnTrue, OnFalse}
+use Rattle.std.proofs.lemmas.Bool.{false≢true, true≢false}
+use Rattle.std.proofs.lemmas.Option.{none-some}
 use Rattle.tokens.specs.declared.token.Class.TheVariants.{Name}
 use Rattle.tokens.specs.declared.token.Goal.TheVariants.{Div, RegExp}
 use Rattle.tokens.specs.declared.token.Token.{Token as Scanned}
@@ -43,26 +45,27 @@ use Rattle.descent.specs.Wants.{WantedAt, HeadAt}
 use Rattle.descent.proofs.Deriving.{adds_behind}
 use Rattle.descent.proofs.PieceBy.{OnePiece}
 use Rattle.descent.proofs.PieceTokens.{nodes_of, token_edge}
+use Rattle.descent.proofs.PieceViews.{something, ExpressionPiece, expression_of_expression, expression_of_assignment, expression_of_test, expression_of_update, expression_of_argument, expression_of_heritage, expression_of_head, wants_expression, BindingPiece, binding_of_binding, wants_binding, StatementPiece, statement_of_statement, statement_of_else, wants_statement, ItemsPiece, items_of_items, items_of_consequent, wants_items}
 
 and_both : (a b : Bool) → (a && b) ≡ true → (a ≡ true) × (b ≡ true)
 and_both true true h = (refl, refl)
-and_both true false h = cc
-and_both false b h = cc
+and_both true false h = absurd (false≢true h)
+and_both false b h = absurd (false≢true h)
 
 both_are : (a b : Bool) → a ≡ true → b ≡ true → (a && b) ≡ true
 both_are true b h k = k
-both_are false b h k = cc
+both_are false b h k = absurd (false≢true h)
 
 or_false : (a b : Bool) → Rattle.std.specs.Prelude.◌||◌ a b ≡ false → a ≡ false
-or_false true b h = cc
+or_false true b h = absurd (true≢false h)
 or_false false b h = refl
 
 -- a pattern, or a simple target, is no element with a default
 plainly : (a : Assigned) → is_pattern a ≡ true → (is_element a ≡ true) × (a ≡ assigned.Defaulted → ⊥)
-plainly assigned.Nothing h = cc
+plainly assigned.Nothing h = absurd (false≢true h)
 plainly assigned.Target h = (refl, λ e. cc)
 plainly assigned.Pattern h = (refl, λ e. cc)
-plainly assigned.Defaulted h = cc
+plainly assigned.Defaulted h = absurd (false≢true h)
 
 -- the position of what is bound or assigned to
 pattern_bound : (b : Bool) (k : Kind) {a : Role} → pattern_at Any b k ≡ Some a → bound b k ≡ Some a
@@ -70,25 +73,25 @@ pattern_bound true k h = of (is_pattern_kind k) h
   where
     of : (c : Bool) {a : Role} → cond c (Some (pattern true Any)) None ≡ Some a → cond c (Some (pattern true Any)) (cond (is_identifier k) (Some name) None) ≡ Some a
     of true h = h
-    of false h = cc
+    of false h = absurd (none-some _ h)
 pattern_bound false k h = of (is_pattern_kind k) h
   where
     of : (c : Bool) {a : Role} → cond c (Some (pattern false Any)) None ≡ Some a → cond c (Some (pattern false Any)) (cond (is_simple k) (Some (expr LeftHandSide true Any)) None) ≡ Some a
     of true h = h
-    of false h = cc
+    of false h = absurd (none-some _ h)
 
 target_bound : (b : Bool) (k : Kind) {a : Role} → target_at Any b k ≡ Some a → bound b k ≡ Some a
 target_bound true Rattle.tree.specs.declared.kind.Kind.TheVariants.Identifier h = h
-target_bound true _ h = cc
+target_bound true _ h = absurd (none-some _ h)
 target_bound false Rattle.tree.specs.declared.kind.Kind.TheVariants.Identifier h = h
 target_bound false Rattle.tree.specs.declared.kind.Kind.TheVariants.MemberExpression h = h
-target_bound false _ h = cc
+target_bound false _ h = absurd (none-some _ h)
 
 assigned_bound : (a : Assigned) (b : Bool) (k : Kind) {x : Role} → is_pattern a ≡ true → assigned_at a Any b k ≡ Some x → bound b k ≡ Some x
-assigned_bound assigned.Nothing b k p h = cc
+assigned_bound assigned.Nothing b k p h = absurd (false≢true p)
 assigned_bound assigned.Target b k p h = target_bound b k h
 assigned_bound assigned.Pattern b k p h = pattern_bound b k h
-assigned_bound assigned.Defaulted b k p h = cc
+assigned_bound assigned.Defaulted b k p h = absurd (false≢true p)
 
 pub position_of : {a b : Position} → Some (wanted.Expression a) ≡ Some (wanted.Expression b) → b ≡ a
 position_of h = cc
@@ -129,33 +132,26 @@ module _ (text : List ℕ) (r : Bool) (s m : Point) (b c : Built) (high : ℕ) (
 
   -- an expression that a piece wanted
   expression_put : (p : Coded) (each : Bool) → WantedAt p r s m b c high (wanted.Expression pos) → EachAt text each e → takes_put p each k.cover.shape ≡ true → PieceAt text r o (piece_of p) s.last e b.edge k.edge (part (put_node p each k.cover.node) none) P
-  expression_put code.Expression each h at fits = an_expression_put (position_of h.0) refl fits h.1.0
-  expression_put code.Assignment each h at fits = an_expression_put (position_of h.0) refl fits h.1.0
-  expression_put code.Test each h at fits = inl (an_expression_put h.0.1 refl fits h.1.0)
-  expression_put code.Update each h at fits = inl (an_expression_put h.0.1 refl fits h.1.0)
-  expression_put code.Argument each h at fits = inl ((λ t n read. or_false t.after_break _ (subst (λ x. MissesBy x RegExp ends_word s.last) (sym same) h.0.0 t n read)), an_expression_put h.0.1 refl fits h.1.0)
-  expression_put code.Heritage each h at fits = inl (m.last, subst (λ x. ReadsHere x Name (codes "extends") s.last m.last) (sym same) h.0.0, as_put text d h.0.1 refl fits)
-  expression_put code.Head each h at fits = inl (head_put c.word each h.0 at fits)
-  expression_put code.Else each h at fits = absurd h.0
-  expression_put code.Finally each h at fits = absurd h.0
-  expression_put code.Catch each h at fits = absurd h.0
-  expression_put _ each h at fits = cc
+  expression_put p each h at fits = of (wants_expression p r s m b c high pos h) h fits
+    where
+      of : {p : Coded} → ExpressionPiece p → WantedAt p r s m b c high (wanted.Expression pos) → takes_put p each k.cover.shape ≡ true → PieceAt text r o (piece_of p) s.last e b.edge k.edge (part (put_node p each k.cover.node) none) P
+      of expression_of_expression h fits = an_expression_put (position_of h.0) refl fits h.1.0
+      of expression_of_assignment h fits = an_expression_put (position_of h.0) refl fits h.1.0
+      of expression_of_test h fits = inl (an_expression_put h.0.1 refl fits h.1.0)
+      of expression_of_update h fits = inl (an_expression_put h.0.1 refl fits h.1.0)
+      of expression_of_argument h fits = inl ((λ t n read. or_false t.after_break _ (subst (λ x. MissesBy x RegExp ends_word s.last) (sym same) h.0.0 t n read)), an_expression_put h.0.1 refl fits h.1.0)
+      of expression_of_heritage h fits = inl (m.last, subst (λ x. ReadsHere x Name (codes "extends") s.last m.last) (sym same) h.0.0, as_put text d h.0.1 refl fits)
+      of expression_of_head h fits = inl (head_put c.word each h.0 at fits)
 
   -- what is bound
   binding_put : (p : Coded) → WantedAt p r s m b c high wanted.Binding → pos ≡ record { rank = Primary; has_in = true; start = Any } → takes_put p false k.cover.shape ≡ true → PieceAt text r o (piece_of p) s.last e b.edge k.edge (part (put_node p false k.cover.node) none) P
-  binding_put code.Binding h is fits =
-      let part_here = (subst (λ x. ReadAt text x k o m.last e P) is d).part in
-      let both = and_both k.cover.shape.binds (is_pattern k.cover.shape.assigned) fits in
-      subst (λ x. TargetPut text o true x e (part (pattern_tree k.cover.node) none) P) h.1.0 (as_target text true part_here both.1 (both_are k.cover.shape.binds (is_element k.cover.shape.assigned) both.0 (plainly k.cover.shape.assigned both.1).0))
-  binding_put code.Test h is fits = absurd h.0
-  binding_put code.Update h is fits = absurd h.0
-  binding_put code.Argument h is fits = absurd h.0
-  binding_put code.Head h is fits = absurd h.0
-  binding_put code.Else h is fits = absurd h.0
-  binding_put code.Finally h is fits = absurd h.0
-  binding_put code.Catch h is fits = absurd h.0
-  binding_put code.Heritage h is fits = absurd h.0
-  binding_put _ h is fits = cc
+  binding_put p h is fits = of (wants_binding p r s m b c high h) h fits
+    where
+      of : {p : Coded} → BindingPiece p → WantedAt p r s m b c high wanted.Binding → takes_put p false k.cover.shape ≡ true → PieceAt text r o (piece_of p) s.last e b.edge k.edge (part (put_node p false k.cover.node) none) P
+      of binding_of_binding h fits =
+          let part_here = (subst (λ x. ReadAt text x k o m.last e P) is d).part in
+          let both = and_both k.cover.shape.binds (is_pattern k.cover.shape.assigned) fits in
+          subst (λ x. TargetPut text o true x e (part (pattern_tree k.cover.node) none) P) h.1.0 (as_target text true part_here both.1 (both_are k.cover.shape.binds (is_element k.cover.shape.assigned) both.0 (plainly k.cover.shape.assigned both.1).0))
 
 -- what a piece leaves of the parts before it
 pub wanted_nodes : (p : Coded) (r : Bool) (s m : Point) (b c : Built) (high : ℕ) (want : Wanted) → (want ≡ wanted.Nothing → ⊥) → WantedAt p r s m b c high want → c.nodes ≡ b.nodes
@@ -206,53 +202,42 @@ pub expression_piece : {s m e : Point} {old mid new : List Pair} {r : Bool} (p :
     OnTrue each (SeesBy e.text Div is_each e.last) → OnFalse each (MissesBy e.text Div is_each e.last) → takes_put p each k.cover.shape ≡ true → d ≡ with_part c (put_node p each k.cover.node) k.edge → height k.cover.node ≤ high → OnePiece s e old new r (piece_of p) b d high
 expression_piece {s} {m} {e} {r = r} p {b} c {d} {high} {pos} {k} each same after open_same same_pairs h a seen missed fits is low =
     let at : EachAt s.text each e.last = subst (λ x. EachAt x each e.last) (after ∙ same) (each_at e.text e.last each seen missed) in
-    one_part p c (put_node p each k.cover.node) k.edge open_same same_pairs (λ u. cc) h is (subst (λ x. x ≤ high) (sym (put_height p each k.cover.node)) low)
+    one_part p c (put_node p each k.cover.node) k.edge open_same same_pairs (something (wanted.Expression pos) refl) h is (subst (λ x. x ≤ high) (sym (put_height p each k.cover.node)) low)
     (λ edges. adds_behind refl refl a (λ o P v. expression_put s.text r s m b c high pos k o e.last P refl (subst (λ x. ReadAt x pos k o m.last e.last P) same v) p each h at fits))
 
 pub binding_piece : {s m e : Point} {old mid new : List Pair} {r : Bool} (p : Coded) {b : Built} (c : Built) {d : Built} {high : ℕ} {pos : Position} {k : Part} → m.text ≡ s.text → m.opened ≡ s.opened → mid ≡ old → WantedAt p r s m b c high wanted.Binding → pos ≡ record { rank = Primary; has_in = true; start = Any } → Adds m e mid new (ReadAt m.text pos k) →
     takes_put p false k.cover.shape ≡ true → d ≡ with_part c (put_node p false k.cover.node) k.edge → height k.cover.node ≤ high → OnePiece s e old new r (piece_of p) b d high
 binding_piece {s} {m} {e} {r = r} p {b} c {d} {high} {pos} {k} same open_same same_pairs h at a fits is low =
-    one_part p c (put_node p false k.cover.node) k.edge open_same same_pairs (λ u. cc) h is (subst (λ x. x ≤ high) (sym (put_height p false k.cover.node)) low)
+    one_part p c (put_node p false k.cover.node) k.edge open_same same_pairs (something wanted.Binding refl) h is (subst (λ x. x ≤ high) (sym (put_height p false k.cover.node)) low)
     (λ edges. adds_behind refl refl a (λ o P v. binding_put s.text r s m b c high pos k o e.last P refl (subst (λ x. ReadAt x pos k o m.last e.last P) same v) p h at fits))
 
 -- a statement
 statement_put : (text : List ℕ) (p : Coded) (r : Bool) (s m : Point) (b c : Built) (high : ℕ) (n : Tree) (o : ℕ) (e : Token) (P : List Pair) (x : Edge) → text ≡ s.text → WantedAt p r s m b c high wanted.Statement → StatementAt text (statement r) n o m.last e P → PieceAt text r o (piece_of p) s.last e b.edge x (part n none) P
-statement_put text code.Statement r s m b c high n o e P x same h d = record { put = n; parts = refl; statement = subst (λ y. StatementAt text (statement r) n o y e P) h.1.0 d }
-statement_put text code.Else r s m b c high n o e P x same h d = inl (m.last, subst (λ y. ReadsHere y Name (codes "else") s.last m.last) (sym same) h.0, record { put = n; parts = refl; statement = d })
-statement_put text code.Test r s m b c high n o e P x same h d = absurd h.0
-statement_put text code.Update r s m b c high n o e P x same h d = absurd h.0
-statement_put text code.Argument r s m b c high n o e P x same h d = absurd h.0
-statement_put text code.Head r s m b c high n o e P x same h d = absurd h.0
-statement_put text code.Finally r s m b c high n o e P x same h d = absurd h.0
-statement_put text code.Catch r s m b c high n o e P x same h d = absurd h.0
-statement_put text code.Heritage r s m b c high n o e P x same h d = absurd h.0
-statement_put text _ r s m b c high n o e P x same h d = cc
+statement_put text p r s m b c high n o e P x same h d = of (wants_statement p r s m b c high h) h
+  where
+    of : {p : Coded} → StatementPiece p → WantedAt p r s m b c high wanted.Statement → PieceAt text r o (piece_of p) s.last e b.edge x (part n none) P
+    of statement_of_statement h = record { put = n; parts = refl; statement = subst (λ y. StatementAt text (statement r) n o y e P) h.1.0 d }
+    of statement_of_else h = inl (m.last, subst (λ y. ReadsHere y Name (codes "else") s.last m.last) (sym same) h.0, record { put = n; parts = refl; statement = d })
 
 pub statement_piece : {s m e : Point} {old mid new : List Pair} {r : Bool} (p : Coded) {b : Built} (c : Built) {d : Built} {high : ℕ} {n : Tree} {context : Context} → m.text ≡ s.text → m.opened ≡ s.opened → mid ≡ old → WantedAt p r s m b c high wanted.Statement → context ≡ inner_context r → Adds m e mid new (StatementAt m.text (context_role context) n) →
     d ≡ with_part c n c.edge → height n ≤ high → OnePiece s e old new r (piece_of p) b d high
 statement_piece {s} {m} {e} {r = r} p {b} c {d} {high} {n} {context} same open_same same_pairs h at a is low =
-    one_part p c n c.edge open_same same_pairs (λ u. cc) h is low
+    one_part p c n c.edge open_same same_pairs (something wanted.Statement refl) h is low
     (λ edges. adds_behind refl refl a (λ o P v. statement_put s.text p r s m b c high n o e.last P c.edge refl h (subst (λ x. StatementAt s.text (context_role x) n o m.last e.last P) at (subst (λ x. StatementAt x (context_role context) n o m.last e.last P) same v))))
 
 -- statements
 items_put : (text : List ℕ) (p : Coded) (r : Bool) (s m : Point) (b c : Built) (high : ℕ) (until : Until) (ps : Parts) (o : ℕ) (e : Token) (P : List Pair) (x : Edge) → WantedAt p r s m b c high (wanted.Items until) → RunsIn text o (anywhere (prologue r false [] [] ps)) ps m.last e P → PieceAt text r o (piece_of p) s.last e b.edge x ps P
-items_put text code.Items r s m b c high until ps o e P x h d = subst (λ y. RunsIn text o (anywhere (prologue r false [] [] ps)) ps y e P) h.1.0 d
-items_put text code.Consequent r s m b c high until ps o e P x h d = subst (λ y. RunsIn text o (anywhere (prologue r false [] [] ps)) ps y e P) h.1.0 d
-items_put text code.Test r s m b c high until ps o e P x h d = absurd h.0
-items_put text code.Update r s m b c high until ps o e P x h d = absurd h.0
-items_put text code.Argument r s m b c high until ps o e P x h d = absurd h.0
-items_put text code.Head r s m b c high until ps o e P x h d = absurd h.0
-items_put text code.Else r s m b c high until ps o e P x h d = absurd h.0
-items_put text code.Finally r s m b c high until ps o e P x h d = absurd h.0
-items_put text code.Catch r s m b c high until ps o e P x h d = absurd h.0
-items_put text code.Heritage r s m b c high until ps o e P x h d = absurd h.0
-items_put text _ r s m b c high until ps o e P x h d = cc
+items_put text p r s m b c high until ps o e P x h d = of (wants_items p r s m b c high until h) h
+  where
+    of : {p : Coded} → ItemsPiece p → WantedAt p r s m b c high (wanted.Items until) → PieceAt text r o (piece_of p) s.last e b.edge x ps P
+    of items_of_items h = subst (λ y. RunsIn text o (anywhere (prologue r false [] [] ps)) ps y e P) h.1.0 d
+    of items_of_consequent h = subst (λ y. RunsIn text o (anywhere (prologue r false [] [] ps)) ps y e P) h.1.0 d
 
 pub items_piece : {s m e : Point} {old mid new : List Pair} {r : Bool} (p : Coded) {b : Built} (c : Built) {d : Built} {high : ℕ} {ps : Parts} (until : Until) {context : Context} → m.text ≡ s.text → m.opened ≡ s.opened → mid ≡ old → WantedAt p r s m b c high (wanted.Items until) → context ≡ item_context r → Adds m e mid new (StatementsAt m.text context ps) →
     d.nodes ≡ join c.nodes ps → d.edge ≡ c.edge → parts_height ps ≤ high → OnePiece s e old new r (piece_of p) b d high
 items_piece {s} {m} {e} {r = r} p {b} c {d} {high} {ps} until {context} same open_same same_pairs h at a is right low = record {
   put = ps;
-  nodes = is ∙ ap (λ qs. join qs ps) (wanted_nodes p r s m b c high (wanted.Items until) (λ u. cc) h);
+  nodes = is ∙ ap (λ qs. join qs ps) (wanted_nodes p r s m b c high (wanted.Items until) (something (wanted.Items until) refl) h);
   low = low;
   adds = adds_behind open_same same_pairs a (λ o P v. items_put s.text p r s m b c high until ps o e.last P d.edge h ((subst (λ x. StatementsAt s.text x ps o m.last e.last P) at (subst (λ x. StatementsAt x context ps o m.last e.last P) same v)) refl));
 }

@@ -1,5 +1,6 @@
 -- A piece that is tokens alone, or missing (ECMA-262 13.7 to 13.15, 14.6).
 use Rattle.std.proofs.Common.{◌≡◌, ℕ, ◌≤◌, Bool, List, [], refl, sym, ap, ◌∙◌, inl, inr, arith}
+use Rattle.std.proofs.lemmas.Bool.{false≢true}
 use Rattle.token_cursor.specs.Point.{Point}
 use Rattle.tree.specs.declared.kind.Kind.TheVariants.{Identifier}
 use Rattle.tree.specs.declared.kind.Pair.{Pair}
@@ -23,6 +24,7 @@ use Rattle.phrases.specs.Tokens.{single_node}
 use Rattle.descent.specs.Wants.{WantedAt, LabelAt}
 use Rattle.descent.proofs.Deriving.{adds_none}
 use Rattle.descent.proofs.PieceBy.{OnePiece, gap_join}
+use Rattle.descent.proofs.PieceViews.{something, of_some, is_nothing, is_gap}
 use Rattle.phrases.proofs.Seeing.{not_true}
 
 -- what was passed, and what it puts
@@ -77,7 +79,8 @@ nothing_passed code.Else h = absurd h.0
 nothing_passed code.Finally h = absurd h.0
 nothing_passed code.Catch h = absurd h.0
 nothing_passed code.Heritage h = absurd h.0
-nothing_passed _ h = cc
+nothing_passed code.Missing h = absurd (something wanted.Gap refl (sym h.0))
+nothing_passed _ h = absurd (false≢true (ap (of_some is_nothing) h.0))
 
 -- a part that is missing
 gap_passed : {s e : Point} {r : Bool} {q : Piece} {b c d : Built} {high : ℕ} → ((o : ℕ) → e.last ≡ s.last → d.edge ≡ b.edge → PieceAt s.text r o q s.last e.last b.edge d.edge (gap none) []) → e.last ≡ s.last → c.nodes ≡ b.nodes → c.edge ≡ b.edge → d ≡ record c { nodes = push_gap c.nodes } →
@@ -93,12 +96,12 @@ pub nodes_of : {b c : Built} → c ≡ b → c.nodes ≡ b.nodes
 nodes_of h = ap (λ (x : Built). x.nodes) h
 
 pub gap_wanted : (p : Coded) {r : Bool} {s e : Point} {b : Built} (c : Built) {d : Built} {high : ℕ} → WantedAt p r s e b c high wanted.Gap → d ≡ record c { nodes = push_gap c.nodes } → Passed s e r (piece_of p) b d high
-gap_wanted (code.Mark w) c h is = cc
-gap_wanted (code.Word w) c h is = cc
-gap_wanted code.Unbroken c h is = cc
-gap_wanted code.EndOfDo c h is = cc
-gap_wanted code.End c h is = cc
-gap_wanted code.Label c h is = cc
+gap_wanted (code.Mark w) c h is = absurd (something wanted.Gap refl h.1)
+gap_wanted (code.Word w) c h is = absurd (something wanted.Gap refl h.1)
+gap_wanted code.Unbroken c h is = absurd (something wanted.Gap refl h.1)
+gap_wanted code.EndOfDo c h is = absurd (something wanted.Gap refl h.1)
+gap_wanted code.End c h is = absurd (something wanted.Gap refl h.1)
+gap_wanted code.Label c h is = absurd (something wanted.Gap refl h.1)
 gap_wanted code.Test c h is = gap_passed (λ o u v. inr (u, v, refl, refl)) h.1.0 (nodes_of h.1.1) (token_edge h.1.1) is
 gap_wanted code.Update c h is = gap_passed (λ o u v. inr (u, v, refl, refl)) h.1.0 (nodes_of h.1.1) (token_edge h.1.1) is
 gap_wanted code.Argument c h is = gap_passed (λ o u v. inr (u, v, refl, refl)) h.1.0 (nodes_of h.1.1) (token_edge h.1.1) is
@@ -108,4 +111,4 @@ gap_wanted code.Finally c h is = gap_passed (λ o u v. inr ((u, v, refl, refl), 
 gap_wanted code.Catch c h is = gap_passed (λ o u v. inr ((u, v, refl, refl), h.0.1)) h.0.2 (nodes_of h.1) (token_edge h.1) is
 gap_wanted code.Heritage c h is = gap_passed (λ o u v. inr (u, v, refl, refl)) h.0.1 (nodes_of h.1) (token_edge h.1) is
 gap_wanted code.Missing c h is = gap_passed (λ o u v. (u, v, refl, refl)) h.1.0 (nodes_of h.1.1) (token_edge h.1.1) is
-gap_wanted _ c h is = cc
+gap_wanted _ c h is = absurd (false≢true (ap (of_some is_gap) h.0))

@@ -3,6 +3,7 @@ use Rattle.std.proofs.Common.{◌≡◌, ℕ, suc, ◌+◌, ◌<◌, ◌≤◌, 
 use Rattle.std.specs.Prelude.{map, not, ◌&&◌, ◌||◌}
 use Rattle.std.specs.Result.{IsErrAnd}
 use Rattle.std.proofs.lemmas.List.{append-nil}
+use Rattle.std.proofs.lemmas.Bool.{false≢true}
 use Rattle.source_text.specs.declared.fault.Fault.{Fault}
 use Rattle.source_text.specs.declared.fault.Fault.TheVariants.{OutOfMemory}
 use Rattle.token_cursor.specs.Point.{Point}
@@ -141,8 +142,8 @@ pub record SamePiece (q : Piece) (m e : Point) (mid new : List Pair) (c d : Buil
 
 both_true : (a b : Bool) → (a && b) ≡ true → (a ≡ true) × (b ≡ true)
 both_true true true h = (refl, refl)
-both_true true false h = cc
-both_true false b h = cc
+both_true true false h = absurd (false≢true h)
+both_true false b h = absurd (false≢true h)
 
 known_there : (a b : Bool) → (a || not b) ≡ true → b ≡ true → a ≡ true
 known_there true b h k = refl
@@ -175,9 +176,9 @@ SameOf text r q m e mid new c d = (o : ℕ) (to : Token) (x y : Edge) (put : Par
 
 asks_first : (q : Piece) (qs : List Piece) → asks_edge (q ∷ []) ≡ true → asks_edge (q ∷ qs) ≡ true
 asks_first Given.end qs h = refl
-asks_first (Given.list (listed.Declarators true)) qs h = cc
-asks_first (Given.list _) qs h = cc
-asks_first _ qs h = cc
+asks_first (Given.list (listed.Declarators true)) qs h = absurd (false≢true h)
+asks_first (Given.list _) qs h = absurd (false≢true h)
+asks_first _ qs h = absurd (false≢true h)
 
 pub pieces_on : {s m e : Point} {old mid new : List Pair} {r : Bool} {b c d : Built} (xs : List Coded) (none_there : Coded) (i : ℕ) → m.text ≡ s.text → i < length xs → LeftOf r (map piece_of xs) (map piece_of (drop i xs)) s m old mid b c →
     SameOf m.text r (piece_of (get_or xs i none_there)) m e mid new c d → LeftOf r (map piece_of xs) (map piece_of (drop (i + 1) xs)) s e old new b d

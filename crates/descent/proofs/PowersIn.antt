@@ -1,7 +1,7 @@
 -- At `**` In doesn't matter: its sides have it.
 use Rattle.std.proofs.Common.{◌≡◌, ℕ, ◌≤◌, ◌<◌, Bool, true, false, cond, List, [], ◌∷◌, ◌++◌, refl, ◌∙◌, arith}
 use Rattle.std.specs.Prelude.{IsTrue}
-use Rattle.std.proofs.lemmas.Bool.{and_parts}
+use Rattle.std.proofs.lemmas.Bool.{and_parts, false≢true, true≢false}
 use Rattle.std.proofs.lemmas.Bool.Decides.{nat_tests}
 use Rattle.tree.specs.declared.kind.Kind.{Kind}
 use Rattle.tree.specs.declared.kind.Kind.TheVariants.{SpreadElement, Property}
@@ -45,9 +45,9 @@ data Held : List Piece → Type 0 where
 
 piece_same : (y : Rank) (i j : Bool) (f : Start) (p : Piece) → is_held p ≡ true → settle_piece y i f p ≡ settle_piece y j f p
 piece_same y i j f (sub (fixed a)) h = refl
-piece_same y i j f (sub (left z)) h = cc
+piece_same y i j f (sub (left z)) h = absurd (false≢true h)
 piece_same y i j f (sub (lead z)) h = refl
-piece_same y i j f (sub (tail z x)) h = cc
+piece_same y i j f (sub (tail z x)) h = absurd (false≢true h)
 piece_same y i j f (sub callee) h = refl
 piece_same y i j f (sub lead_spine) h = refl
 piece_same y i j f (sub lead_pattern) h = refl
@@ -59,9 +59,9 @@ held_same y i j f (held_more {p = p} h u) = λ k. piece_same y i j f p h k ∷ h
 
 fixed_held : (p : Piece) → is_fixed p ≡ true → is_held p ≡ true
 fixed_held (sub (fixed a)) h = refl
-fixed_held (sub (left z)) h = cc
+fixed_held (sub (left z)) h = absurd (false≢true h)
 fixed_held (sub (lead z)) h = refl
-fixed_held (sub (tail z x)) h = cc
+fixed_held (sub (tail z x)) h = absurd (false≢true h)
 fixed_held (sub callee) h = refl
 fixed_held (sub lead_spine) h = refl
 fixed_held (sub lead_pattern) h = refl
@@ -115,8 +115,8 @@ stays (object {ps = ps}) tk = record { needs = refl; pieces = held (one_more ref
 stays (function {ps = ps}) tk = record { needs = refl; pieces = held (fixed_function ps) }
 stays (class {ps = ps}) tk = record { needs = refl; pieces = held (fixed_class ps) }
 stays (template {ps = ps}) tk = record { needs = refl; pieces = held (fixed_chunks true ps) }
-stays (short_arrow h) tk = cc
-stays arrow tk = cc
+stays (short_arrow h) tk = absurd (false≢true tk)
+stays arrow tk = absurd (false≢true tk)
 stays tagged tk = record { needs = refl; pieces = held_more refl (held (one_more refl all_done)) }
 stays (super_member {g = g} h k) tk = record { needs = refl; pieces = held (one_more refl (fixed_selector g)) }
 stays (member {g = g} {ps = ps} h k) tk = record { needs = refl; pieces = held_more refl (held (fixed_join (fixed_laid (number_laid ps g)) (fixed_selector g))) }
@@ -134,14 +134,14 @@ stays (unary_sign {w = w} h v) tk = record { needs = refl; pieces = held (one_mo
 stays (power h) tk = record { needs = refl; pieces = held_more refl (held (one_more refl (one_more refl (one_more refl (one_more refl all_done))))) }
 stays (binary {w = w} h) tk = absurd (no_join w h tk)
 stays (logical {w = w} h) tk = absurd (no_join w h tk)
-stays conditional tk = cc
-stays (assign h t) tk = cc
-stays (assign_pattern h e p) tk = cc
-stays (several h) tk = cc
+stays conditional tk = absurd (false≢true tk)
+stays (assign h t) tk = absurd (false≢true tk)
+stays (assign_pattern h e p) tk = absurd (false≢true tk)
+stays (several h) tk = absurd (false≢true tk)
 
 needs_none : (b i : Bool) → b ≡ false → IsTrue (Rattle.tree.specs.Uses.implies b i)
 needs_none false i h = refl
-needs_none true i h = cc
+needs_none true i h = absurd (true≢false h)
 
 module _ (S : Type 0) (Next : S → Token → S → Type 0) (behind : S → Token) (det : IsDetermined S Next behind) where
   pub power_in : {o : ℕ} {f : Start} {n : Tree} {s e : S} {P : List Pair} (i j : Bool) → Spells ways S Next behind o (expr Exponentiation i f) n s e P → Spells ways S Next behind o (expr Exponentiation j f) n s e P

@@ -1,6 +1,8 @@
 -- Operators before their operand (ECMA-262 12.4, 12.5).
 use Rattle.std.proofs.Common.{◌≡◌, ℕ, ◌≤◌, Bool, true, false, cond, List, [], ◌∷◌, ◌++◌, refl, sym, ap, ◌∙◌, subst}
 use Rattle.std.specs.Prelude.{IsTrue, Some, None, not}
+use Rattle.std.proofs.lemmas.Bool.{false≢true}
+use Rattle.std.proofs.lemmas.Option.{none-some}
 use Rattle.tokens.specs.Reading.{any_goal}
 use Rattle.tokens.specs.Tokens.{LexicalToken}
 use Rattle.tokens.specs.declared.token.Class.{Class}
@@ -62,13 +64,13 @@ starts_mark Statement w qs h = h
 -- a target, from its shape
 target_kind : (b : Bool) {a : Role} → cond b (Some (expr LeftHandSide true Any)) None ≡ Some a → (b ≡ true) × (a ≡ expr LeftHandSide true Any)
 target_kind true k = (refl, cc)
-target_kind false k = cc
+target_kind false k = absurd (none-some _ k)
 
 target_is : (a : Assigned) → is_target a ≡ true → a ≡ assigned.Target
 target_is assigned.Target k = refl
-target_is assigned.Nothing k = cc
-target_is assigned.Pattern k = cc
-target_is assigned.Defaulted k = cc
+target_is assigned.Nothing k = absurd (false≢true k)
+target_is assigned.Pattern k = absurd (false≢true k)
+target_is assigned.Defaulted k = absurd (false≢true k)
 
 target_spelled : {text : List ℕ} {i : Bool} {q : Part} {o : ℕ} {s e : Token} {P : List Pair} → PartAt text i Any q o s e P → is_target q.cover.shape.assigned ≡ true →
     (words.is_target (kind_of (pattern_tree q.cover.node)) ≡ true) × SpellsIn text o (expr LeftHandSide true Any) (pattern_tree q.cover.node) s e P

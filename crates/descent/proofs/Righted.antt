@@ -65,7 +65,7 @@ none_le true = refl
 none_le false = refl
 
 not_excess : (b y : Bool) → (if b then false else y) ≡ true → b ≡ false
-not_excess true y h = cc
+not_excess true y h = absurd (false≢true h)
 not_excess false y h = refl
 
 counted_item : (x : Listed) (l : ListOf) (it : Item) → takes x l.seen it ≡ true → nat_le (case_count x l.nodes) (cond l.seen.is_marked 1 0) ≡ true → nat_le (case_count x (part it.node none)) (cond it.is_marked 1 0) ≡ true → nat_le (case_count x (push l.nodes it.node)) (cond (l.seen.is_marked || it.is_marked) 1 0) ≡ true

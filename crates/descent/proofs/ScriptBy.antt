@@ -5,6 +5,7 @@ use Rattle.std.specs.Str.{chars, IsUtf8}
 use Rattle.std.specs.Str.{encode_utf8_all}
 use Rattle.std.proofs.lemmas.Str.{IsCharBoundary-start, IsUtf8-drop, encodes-chars}
 use Rattle.std.proofs.lemmas.List.{length-drop}
+use Rattle.std.proofs.lemmas.Bool.{false≢true}
 use Rattle.source_text.specs.Source.{IsPlace}
 use Rattle.tokens.specs.declared.token.Class.{Class}
 use Rattle.tokens.specs.declared.token.Class.TheVariants.{End}
@@ -86,9 +87,9 @@ module _ (text : List ℕ) (utf8 : IsUtf8 text) where
     where
       of : (word rest : List ℕ) → behind text t.stop ≡ rest → IsTrue (is_token End word rest) → t.text ≡ Rattle.std.specs.Str.encode_utf8_all word → (t.text ≡ []) × (t.stop ≡ length text)
       of [] [] r k w = (w, nothing_behind t.stop (token_places text goal at t utf8 p h).1 r)
-      of [] (c ∷ cs) r k w = cc
-      of (c ∷ cs) [] r k w = cc
-      of (c ∷ cs) (b ∷ bs) r k w = cc
+      of [] (c ∷ cs) r k w = absurd (false≢true k)
+      of (c ∷ cs) [] r k w = absurd (false≢true k)
+      of (c ∷ cs) (b ∷ bs) r k w = absurd (false≢true k)
 
   pub end_read : {s t e : Token} → NextIn text any_goal s t e → t.class ≡ End → IsPlace text s.stop → (t.text ≡ []) × (e.stop ≡ length text)
   end_read (next_in {s = s} {t = u} goal g h) class p = let v = end_token goal s.stop u p h class in ((λ i. table_text (class i) u.text) ∙ v.0, v.1)
@@ -98,7 +99,7 @@ ended_class t h = of t.class h
   where
     of : (c : Class) → Rattle.language.specs.Edges.is_end (record t { class = c }) ≡ true → c ≡ End
     of End h = refl
-    of _ h = cc
+    of _ h = absurd (false≢true h)
 
 module _ (text : List ℕ) where
   -- what spells a node begins with a token

@@ -79,7 +79,7 @@ comma_led (led_sequence k c tk b e) = record { kind = k; some = c; head = rank_i
 
 expression_only : (y : Rank) → IsTrue (takes y Expression) → y ≡ Expression
 expression_only Expression h = refl
-expression_only _ h = cc
+expression_only _ h = absurd (false≢true h)
 
 -- the pieces behind a comma ask for neither the start nor the parts
 same_commas : (i : Bool) (f : Start) (ps : Parts) → goes_to Expression i f (sequence (bare_parts ps)) ≡ goes_to Expression i Any (sequence ps)

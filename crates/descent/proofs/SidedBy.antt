@@ -5,6 +5,7 @@ use Rattle.std.proofs.lemmas.Bool.{and_parts, false≢true}
 use Rattle.std.proofs.lemmas.Bool.Decides.{nat_tests}
 use Rattle.std.proofs.lemmas.List.{append-nil}
 use Rattle.std.proofs.lemmas.Slice.Eq.{bytes_eq-Decides}
+use Rattle.std.proofs.lemmas.Option.{none-some}
 use Rattle.tokens.specs.Reading.{any_goal}
 use Rattle.tokens.specs.Tokens.{LexicalToken}
 use Rattle.tokens.specs.declared.token.Class.{Class}
@@ -120,7 +121,7 @@ binds_new w {q = q} op = new_number (tightness q) (binding w op).most
 element_fits : (a : Assigned) (m b : Bool) → shapes.is_pattern a ≡ true → cond b (m && true) true ≡ true → cond b (m && is_element a) (is_element a) ≡ true
 element_fits assigned.Target m b p h = h
 element_fits assigned.Pattern m b p h = h
-element_fits _ m b p h = cc
+element_fits _ m b p h = absurd (false≢true p)
 
 no_default : (a : Assigned) → shapes.is_pattern a ≡ true → a ≡ assigned.Defaulted → ⊥
 no_default assigned.Defaulted p e = cc
@@ -130,16 +131,16 @@ no_default assigned.Nothing p e = cc
 
 pub target_is_pattern : (a : Assigned) → shapes.is_target a ≡ true → shapes.is_pattern a ≡ true
 target_is_pattern assigned.Target h = refl
-target_is_pattern _ h = cc
+target_is_pattern _ h = absurd (false≢true h)
 
 identifier_no_pattern : (k : Kind) → is_identifier k ≡ true → is_pattern k ≡ false
 identifier_no_pattern Identifier h = refl
-identifier_no_pattern _ h = cc
+identifier_no_pattern _ h = absurd (false≢true h)
 
 target_no_pattern : (k : Kind) → is_target k ≡ true → is_pattern k ≡ false
 target_no_pattern Identifier h = refl
 target_no_pattern MemberExpression h = refl
-target_no_pattern _ h = cc
+target_no_pattern _ h = absurd (false≢true h)
 
 -- what a position by a test says
 chosen : {b : Bool} {a r : Role} → cond b (Some r) None ≡ Some a → (b ≡ true) × (r ≡ a)
@@ -150,7 +151,7 @@ chosen {b} {a} {r} h = go b refl h
 
     go : (c : Bool) → b ≡ c → cond c (Some r) None ≡ Some a → (b ≡ true) × (r ≡ a)
     go true e k = (e, same k)
-    go false e k = cc
+    go false e k = absurd (none-some _ k)
 
 -- the position of what is assigned to, and of the left part of a default
 pub bound_at : (a : Assigned) (b : Bool) (k : Kind) {r : Role} → shapes.is_pattern a ≡ true → assigned_at a Any b k ≡ Some r → bound b k ≡ Some r
@@ -158,7 +159,7 @@ bound_at assigned.Target true k p h = ap (λ x. cond x (Some (pattern true Any))
 bound_at assigned.Target false k p h = ap (λ x. cond x (Some (pattern false Any)) (cond (is_target k) (Some (expr LeftHandSide true Any)) None)) (target_no_pattern k (chosen h).0) ∙ h
 bound_at assigned.Pattern true k p h = let c = chosen h in ap (λ x. cond x (Some (pattern true Any)) (cond (is_identifier k) (Some name) None)) c.0 ∙ ap Some c.1
 bound_at assigned.Pattern false k p h = let c = chosen h in ap (λ x. cond x (Some (pattern false Any)) (cond (is_target k) (Some (expr LeftHandSide true Any)) None)) c.0 ∙ ap Some c.1
-bound_at _ b k p h = cc
+bound_at _ b k p h = absurd (false≢true p)
 
 -- with a default
 abbrev pub with_default : Shape → Shape
@@ -169,7 +170,7 @@ defaulted_is s h = ap (λ v. let r : Shape = record { is_expression = true; assi
 
 no_target : (f : Start) (a : Assigned) (k : Kind) {r : Role} → shapes.is_target a ≡ true → assigned_at a f false k ≡ Some r → is_pattern k ≡ true → ⊥
 no_target f assigned.Target k t h p = false≢true (sym (target_no_pattern k (chosen h).0) ∙ p)
-no_target f _ k t h p = cc
+no_target f _ k t h p = absurd (false≢true t)
 
 module _ (text : List ℕ) where
   -- a target or a pattern, where one is assigned to
@@ -180,7 +181,7 @@ module _ (text : List ℕ) where
   assigned_to : {f : Start} {o : ℕ} {n : Tree} {s m : Token} {P : List Pair} (a : Assigned) → shapes.is_pattern a ≡ true → SpelledAs (assigned_at a f false) text o n s m P → AssignedTo f o n s m P
   assigned_to {f} {o} {n} {s} {m} {P} assigned.Target p v = let c = chosen v.it_is in a_target c.0 (subst (λ r. SpellsIn text o r n s m P) (sym c.1) v.spelled)
   assigned_to {f} {o} {n} {s} {m} {P} assigned.Pattern p v = let c = chosen v.it_is in a_pattern c.0 (subst (λ r. SpellsIn text o r n s m P) (sym c.1) v.spelled)
-  assigned_to _ p v = cc
+  assigned_to _ p v = absurd (false≢true p)
 
   module _ {i : Bool} {f : Start} {l : Part} {o : ℕ} {s m : Token} {P : List Pair} (left : PartAt text i f l o s m P) (is_left : shapes.is_pattern l.cover.shape.assigned ≡ true) where
     left_as : (b : Bool) → cond b (l.cover.shape.binds && true) true ≡ true → SpelledAs (assigned_at l.cover.shape.assigned f b) text o (pattern_tree l.cover.node) s m P

@@ -1,7 +1,7 @@
 -- Parts of expressions, from what they are made of.
 use Rattle.std.proofs.Common.{◌≡◌, ℕ, ◌≤◌, arith, Bool, true, false, cond, List, [], ◌++◌, refl, sym, ap, ◌∙◌, subst}
 use Rattle.std.specs.Prelude.{IsTrue, Some, None, codes, not, ◌&&◌, nat_le}
-use Rattle.std.proofs.lemmas.Bool.{false≢true}
+use Rattle.std.proofs.lemmas.Bool.{false≢true, true≢false}
 use Rattle.std.proofs.lemmas.Bool.Decides.{nat_tests}
 use Rattle.std.proofs.lemmas.List.{append-nil}
 use Rattle.tokens.specs.Reading.{any_goal}
@@ -58,7 +58,7 @@ no_pattern false = refl
 -- In is the same where it matters, and isn't asked for where it doesn't
 in_of : (a b : Bool) → (a && not b) ≡ false → implies a b ≡ true
 in_of true true h = refl
-in_of true false h = cc
+in_of true false h = absurd (true≢false h)
 in_of false b h = refl
 
 -- what takes a symbol at which In matters is one
@@ -75,8 +75,8 @@ binds_minds : (w : List ℕ) {b : Bool} {z q : Rank} → operator_of w ≡ binds
 binds_minds w {z = z} {q = q} op = let v = binding w op in below_fifteen (tightness z) (tightness q) v.rises v.most
 
 callee_tight : (b : Bool) → minds_in (cond b Member Call) ≡ true → ⊥
-callee_tight true h = cc
-callee_tight false h = cc
+callee_tight true h = absurd (false≢true h)
+callee_tight false h = absurd (false≢true h)
 
 member_target : (c : Rank) → IsTrue (takes LeftHandSide (suffix_rank c))
 member_target c = of (takes Member c)
@@ -122,7 +122,7 @@ module _ (text : List ℕ) where
       })
     where
       as_target : (b : Bool) → fits_as target (as_pattern b) ≡ true → (target.assigned ≡ Rattle.covers.specs.declared.shape.Assigned.TheVariants.Defaulted → (f ≡ Any) × (i ≡ true)) → SpelledAs (assigned_at target.assigned f b) text o (pattern_tree (node MemberExpression [] g at e.stop ps)) s e P
-      as_target true h d = cc
+      as_target true h d = absurd (false≢true h)
       as_target false h d = record { role = expr LeftHandSide true f; it_is = refl; spelled = st LeftHandSide true tk }
 
   module _ {i : Bool} {f : Start} {l : Part} {o : ℕ} {s m : Token} {P : List Pair} (left : PartAt text i f l o s m P) (value : l.cover.shape.is_expression ≡ true) (object : IsTrue (takes Call l.rank)) where

@@ -1,6 +1,7 @@
 -- The leftmost part of an expression: an assignment to a pattern, of which the pattern is read first, or another.
-use Rattle.std.proofs.Common.{◌≡◌, ℕ, Bool, false, List, [], ◌∷◌, ◌++◌, refl, sym, ap, ◌∙◌, subst}
+use Rattle.std.proofs.Common.{◌≡◌, ℕ, Bool, true, false, List, [], ◌∷◌, ◌++◌, refl, sym, ap, ◌∙◌, subst}
 use Rattle.std.specs.Prelude.{IsTrue, codes}
+use Rattle.std.proofs.lemmas.Bool.{true≢false}
 use Rattle.tokens.specs.declared.token.Class.{Class}
 use Rattle.tokens.specs.declared.token.Class.TheVariants.{Punctuator}
 use Rattle.tokens.specs.Reading.{any_goal}
@@ -38,26 +39,33 @@ data Assigning (k : Kind) (x : Opening) : Type 0 where
   brace : x ≡ with_brace → Assigning k x
   another : (k ≡ AssignmentExpression → ⊥) → Assigning k x
 
+abbrev is_assigning : Kind → Bool
+is_assigning AssignmentExpression = true
+is_assigning _ = false
+
+other_kind : {k m : Kind} → k ≡ m → is_assigning m ≡ false → k ≡ AssignmentExpression → ⊥
+other_kind is other e = true≢false (sym (ap is_assigning e) ∙ ap is_assigning is ∙ other)
+
 assigning : {y : Rank} {i : Bool} {f : Start} {k : Kind} {w : List ℕ} {g : Flags} {ps : Parts} {qs : List (PieceOf Role)} {x : Opening} → Headed y i f k w g ps qs x → Assigning k x
-assigning (head_identifier k a q) = another (λ e. let u = sym k ∙ e in cc)
-assigning (head_literal k a q) = another (λ e. let u = sym k ∙ e in cc)
-assigning (head_this k q) = another (λ e. let u = sym k ∙ e in cc)
-assigning (head_array k q) = another (λ e. let u = sym k ∙ e in cc)
-assigning (head_object k b q) = another (λ e. let u = sym k ∙ e in cc)
-assigning (head_function k b q) = another (λ e. let u = sym k ∙ e in cc)
-assigning (head_class k b q) = another (λ e. let u = sym k ∙ e in cc)
-assigning (head_template k q) = another (λ e. let u = sym k ∙ e in cc)
-assigning (head_short_arrow k a b c q) = another (λ e. let u = sym k ∙ e in cc)
-assigning (head_arrow k a q) = another (λ e. let u = sym k ∙ e in cc)
-assigning (head_super_member k a b c q) = another (λ e. let u = sym k ∙ e in cc)
-assigning (head_super_call k a b c q) = another (λ e. let u = sym k ∙ e in cc)
-assigning (head_new_with k a q) = another (λ e. let u = sym k ∙ e in cc)
-assigning (head_new_without k a b q) = another (λ e. let u = sym k ∙ e in cc)
-assigning (head_new_target k a b q) = another (λ e. let u = sym k ∙ e in cc)
-assigning (head_import k a q) = another (λ e. let u = sym k ∙ e in cc)
-assigning (head_step k a b c d q) = another (λ e. let u = sym k ∙ e in cc)
-assigning (head_word k a b c q) = another (λ e. let u = sym k ∙ e in cc)
-assigning (head_sign k a b c q) = another (λ e. let u = sym k ∙ e in cc)
+assigning (head_identifier k a q) = another (other_kind k refl)
+assigning (head_literal k a q) = another (other_kind k refl)
+assigning (head_this k q) = another (other_kind k refl)
+assigning (head_array k q) = another (other_kind k refl)
+assigning (head_object k b q) = another (other_kind k refl)
+assigning (head_function k b q) = another (other_kind k refl)
+assigning (head_class k b q) = another (other_kind k refl)
+assigning (head_template k q) = another (other_kind k refl)
+assigning (head_short_arrow k a b c q) = another (other_kind k refl)
+assigning (head_arrow k a q) = another (other_kind k refl)
+assigning (head_super_member k a b c q) = another (other_kind k refl)
+assigning (head_super_call k a b c q) = another (other_kind k refl)
+assigning (head_new_with k a q) = another (other_kind k refl)
+assigning (head_new_without k a b q) = another (other_kind k refl)
+assigning (head_new_target k a b q) = another (other_kind k refl)
+assigning (head_import k a q) = another (other_kind k refl)
+assigning (head_step k a b c d q) = another (other_kind k refl)
+assigning (head_word k a b c q) = another (other_kind k refl)
+assigning (head_sign k a b c q) = another (other_kind k refl)
 assigning (head_array_pattern k a b c d q) = bracket refl
 assigning (head_object_pattern k a b c d q) = brace refl
 

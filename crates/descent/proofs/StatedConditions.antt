@@ -41,9 +41,9 @@ follows_any false t h = of (begins_item t) (ends_list t) (same_class Name t.clas
     of : (p q c d : Bool) → (p || (q || (c && (d && false)))) ≡ true → (p || (q || (c && (d && true)))) ≡ true
     of true q c d h = refl
     of false true c d h = refl
-    of false false true true h = cc
-    of false false true false h = cc
-    of false false false d h = cc
+    of false false true true h = absurd (false≢true h)
+    of false false true false h = absurd (false≢true h)
+    of false false false d h = absurd (false≢true h)
 
 module _ (text : List ℕ) where
   abbrev FollowedBy : Bool → Token → Type 0

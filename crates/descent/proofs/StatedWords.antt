@@ -111,7 +111,7 @@ module _ (text : List ℕ) where
 
   or_first : (a b : Bool) → a ≡ true → (a || b) ≡ true
   or_first true b h = refl
-  or_first false b h = cc
+  or_first false b h = absurd (false≢true h)
 
   ended_seen : {s : Token} → EndedAt s → SeesBy text goal.RegExp ends_word s
   ended_seen (by_sign {w} {t} al div it r) = (

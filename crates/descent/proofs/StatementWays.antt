@@ -1,6 +1,7 @@
 -- Statements whose first token is their own, from the pieces behind it (ECMA-262 13).
 use Rattle.std.proofs.Common.{◌≡◌, inl, inr, ℕ, Bool, true, false, not, cond, List, [], ◌∷◌, ◌++◌, refl, sym, ap, ◌∙◌, subst, append_assoc}
 use Rattle.std.specs.Prelude.{IsTrue, codes, ◌&&◌, ◌||◌}
+use Rattle.std.proofs.lemmas.Bool.{false≢true}
 use Rattle.std.proofs.lemmas.List.{append-nil}
 use Rattle.tokens.specs.declared.token.Class.{Class}
 use Rattle.tokens.specs.declared.token.Class.TheVariants.{Name, Punctuator}
@@ -117,13 +118,13 @@ module _ (text : List ℕ) {o : ℕ} where
       let pairs : P ≡ u.put_pairs = u.pairs ∙ ap (λ Q. u.put_pairs ++ Q) v.1.2 ∙ append-nil u.put_pairs in
       record {
         runs = subst (λ k. RunsIn text o (anywhere (behind_own r kind.BlockStatement (bare_parts k))) k s e P) (sym parts) (subst (λ Q. RunsIn text o (anywhere (behind_own r kind.BlockStatement (bare_parts u.put))) u.put s e Q) (sym pairs) (block_runs text r u.put u.first v.0));
-        dangles = λ h. cc;
+        dangles = λ h. absurd (false≢true h);
       }
 
   pub an_empty : (r : Bool) (x : Edge) {z : Edge} {s e : Token} {ps : Parts} {P : List Pair} → PiecesAt text r o (statement_parts headed.Empty r) s e x z ps P → StatedBy text r kind.EmptyStatement ps o s e P
   an_empty r x {z} {s} {e} {ps} {P} u = record {
     runs = subst (λ t. RunsIn text o [] ps s t P) (sym u.0) (subst (λ k. RunsIn text o [] k s s P) (sym u.2) (subst (λ Q. RunsIn text o [] none s s Q) (sym u.3) done));
-    dangles = λ h. cc;
+    dangles = λ h. absurd (false≢true h);
   }
 
   pub a_variable : (r : Bool) (x : Edge) {z : Edge} {s e : Token} {ps : Parts} {P : List Pair} → PiecesAt text r o (statement_parts headed.Variable r) s e x z ps P → StatedBy text r kind.VariableDeclaration ps o s e P
@@ -136,7 +137,7 @@ module _ (text : List ℕ) {o : ℕ} where
       let run = step laid (retell Token (NextIn text any_goal) itself (sym (settled_on (declarators (declarator true true) (bare_parts u.put)) (end_of (last_edge (bare_parts u.put))))) (runs_on text list end)) in
       record {
         runs = subst (λ k. RunsIn text o (anywhere (behind_own r kind.VariableDeclaration (bare_parts k))) k s e P) (sym parts) (subst (λ Q. RunsIn text o (anywhere (behind_own r kind.VariableDeclaration (bare_parts u.put))) u.put s e Q) (sym pairs) run);
-        dangles = λ h. cc;
+        dangles = λ h. absurd (false≢true h);
       }
 
   pub a_debugger : (r : Bool) {z : Edge} {s e : Token} {ps : Parts} {P : List Pair} → PiecesAt text r o (statement_parts headed.Debugger r) s e Closed z ps P → StatedBy text r kind.DebuggerStatement ps o s e P
@@ -144,7 +145,7 @@ module _ (text : List ℕ) {o : ℕ} where
       let v = last_one u in
       record {
         runs = subst (λ k. RunsIn text o (anywhere (behind_own r kind.DebuggerStatement (bare_parts k))) k s e P) (sym v.1.1) (subst (λ Q. RunsIn text o (anywhere (behind_own r kind.DebuggerStatement none)) none s e Q) (sym v.1.2) (step v.0 done));
-        dangles = λ h. cc;
+        dangles = λ h. absurd (false≢true h);
       }
 
   -- an expression in parentheses, and a statement
@@ -174,7 +175,7 @@ module _ (text : List ℕ) {o : ℕ} where
       record {
         runs = subst (λ k. RunsIn text o (anywhere (behind_own r kind.DoWhileStatement (bare_parts k))) k s e P) (sym parts)
             (step laid (part_runs text refl refl a.pairs a.first.spelled (step laid (step (token b.first) (step laid (step (token c.first) (part_runs text refl refl (d.pairs ∙ ap (λ Q. d.one ++ Q) pairs) d.first.1 (step (token f.first) (step g.0 done)))))))));
-        dangles = λ h. cc;
+        dangles = λ h. absurd (false≢true h);
       }
 
   -- an `if`, with `else` or without
@@ -215,14 +216,14 @@ module _ (text : List ℕ) {o : ℕ} where
                   record {
                     runs = subst (λ j. RunsIn text o (anywhere (behind_own r kind.TryStatement (bare_parts j))) j s e P) (sym parts)
                         (step laid (part_runs text refl refl a.pairs a.first (step laid (part_runs text refl refl c.pairs c.first (step laid (step (token k.1) (step laid (part_runs text refl refl (sym (append-nil _)) k.2.spelled done))))))));
-                    dangles = λ j. cc;
+                    dangles = λ j. absurd (false≢true j);
                   })
               | inr k ↦ (let parts : ps ≡ part a.item (part c.item (gap none)) = a.parts ∙ ap (part a.item) (c.parts ∙ ap (part c.item) k.0.2) in
                   let here = subst (λ t. RunsIn text o (absent ∷ []) (gap none) c.mid t c.more) (sym k.0.0) (subst (λ Q. RunsIn text o (absent ∷ []) (gap none) c.mid c.mid Q) (sym k.0.3) (missing done)) in
                   record {
                     runs = subst (λ j. RunsIn text o (anywhere (behind_own r kind.TryStatement (bare_parts j))) j s e P) (sym parts)
                         (step laid (part_runs text refl refl a.pairs a.first (step laid (part_runs text refl refl c.pairs c.first here))));
-                    dangles = λ j. cc;
+                    dangles = λ j. absurd (false≢true j);
                   })
             ])
         | inr h ↦ (let c = gap_then b h.0 in
@@ -231,7 +232,7 @@ module _ (text : List ℕ) {o : ℕ} where
                   record {
                     runs = subst (λ j. RunsIn text o (anywhere (behind_own r kind.TryStatement (bare_parts j))) j s e P) (sym parts)
                         (step laid (part_runs text refl refl a.pairs a.first (missing (step laid (step (token k.1) (step laid (part_runs text refl refl (sym (append-nil _)) k.2.spelled done)))))));
-                    dangles = λ j. cc;
+                    dangles = λ j. absurd (false≢true j);
                   })
               | inr k ↦ absurd (k.1 h.1.0 h.1.0 h.1.1)
             ])

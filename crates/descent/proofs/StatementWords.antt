@@ -1,6 +1,7 @@
 -- Statements behind `break`, `continue`, `return`, `throw`, `switch` and a label, from their pieces (ECMA-262 13.8 to 13.14).
 use Rattle.std.proofs.Common.{◌≡◌, inl, inr, ℕ, ◌+◌, Bool, true, false, cond, List, [], ◌∷◌, ◌++◌, refl, sym, ap, ◌∙◌, subst, append_assoc}
 use Rattle.std.specs.Prelude.{nat_le}
+use Rattle.std.proofs.lemmas.Bool.{false≢true}
 use Rattle.tokens.specs.declared.token.Goal.{Goal}
 use Rattle.tokens.specs.Reading.{any_goal}
 use Rattle.token_cursor.specs.Ends.{EndsAt}
@@ -80,10 +81,10 @@ module _ (text : List ℕ) where
       ]
 
   pub a_continue : {o : ℕ} (r : Bool) {z : Edge} {s e : Token} {ps : Parts} {P : List Pair} → PiecesAt text r o (statement_parts headed.Continue r) s e Closed z ps P → StatedBy text r kind.ContinueStatement ps o s e P
-  a_continue r u = record { runs = label_runs r u; dangles = λ h. cc }
+  a_continue r u = record { runs = label_runs r u; dangles = λ h. absurd (false≢true h) }
 
   pub a_break : {o : ℕ} (r : Bool) {z : Edge} {s e : Token} {ps : Parts} {P : List Pair} → PiecesAt text r o (statement_parts headed.Break r) s e Closed z ps P → StatedBy text r kind.BreakStatement ps o s e P
-  a_break r u = record { runs = label_runs r u; dangles = λ h. cc }
+  a_break r u = record { runs = label_runs r u; dangles = λ h. absurd (false≢true h) }
 
   -- an expression or none, and the end
   argument_runs : {o : ℕ} (r : Bool) {z : Edge} {s e : Token} {ps : Parts} {P : List Pair} → PiecesAt text r o (Coded.argument ∷ Coded.end ∷ []) s e Closed z ps P → RunsIn text o (anywhere (behind_word (bare_parts ps) whole ++ end_of (last_edge (bare_parts ps)) ∷ [])) ps s e P
@@ -103,7 +104,7 @@ module _ (text : List ℕ) where
       ]
 
   pub a_return : {o : ℕ} (r : Bool) {z : Edge} {s e : Token} {ps : Parts} {P : List Pair} → PiecesAt text r o (statement_parts headed.Return r) s e Closed z ps P → StatedBy text r kind.ReturnStatement ps o s e P
-  a_return r u = record { runs = argument_runs r u; dangles = λ h. cc }
+  a_return r u = record { runs = argument_runs r u; dangles = λ h. absurd (false≢true h) }
 
   pub a_throw : {o : ℕ} (r : Bool) (x : Edge) {z : Edge} {s e : Token} {ps : Parts} {P : List Pair} → PiecesAt text r o (statement_parts headed.Throw r) s e x z ps P → StatedBy text r kind.ThrowStatement ps o s e P
   a_throw {o} r x {z} {s} {e} {ps} {P} u =
@@ -117,7 +118,7 @@ module _ (text : List ℕ) where
       record {
         runs = subst (λ k. RunsIn text o (anywhere (behind_own r kind.ThrowStatement (bare_parts k))) k s e P) (sym parts)
             (step laid (step (expression_on_line u.first.0 b.first.1) (part_runs text refl refl pairs b.first.1 (step end done))));
-        dangles = λ h. cc;
+        dangles = λ h. absurd (false≢true h);
       }
 
   -- cases, with the brace behind them
@@ -147,7 +148,7 @@ module _ (text : List ℕ) where
       (λ i. cond (sym one i) (sp ∷ sign "(" ∷ whole ∷ sign ")" ∷ sp ∷ brace) nothing) ∙ ap (λ k. behind_own r kind.SwitchStatement (bare_parts k)) (sym b.parts) in
       record {
         runs = retell Token (NextIn text any_goal) itself (ap anywhere told) (step laid (step (token a.first) (part_runs text refl b.parts b.pairs b.first.1 (step (token c.first) (step laid (braces_behind (switch_case r) b.rest v.0))))));
-        dangles = λ h. cc;
+        dangles = λ h. absurd (false≢true h);
       }
     where
       braces_behind : {o : ℕ} (a : Role) (ps : Parts) {s e : Token} {P : List Pair} → RunsIn text o (anywhere (sign "{" ∷ lines a ps ++ sign "}" ∷ [])) ps s e P → RunsIn text o (anywhere (sign "{" ∷ behind_brace (bare_parts ps) (lines a (bare_parts ps)))) ps s e P

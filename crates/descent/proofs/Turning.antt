@@ -1,8 +1,9 @@
 -- What goes on with an expression, turn by turn (ECMA-262 12.3, 12.4, 12.16).
 use Rattle.std.proofs.Common.{◌≡◌, ℕ, Bool, true, false, cond, List, [], ◌∷◌, ◌++◌, refl, sym, ap, ◌∙◌, subst, ◌⊎◌, inl, inr, Result, Ok, Err}
 use Rattle.std.specs.Prelude.{IsTrue, IfOk, Option, Some, None, codes, not, ◌&&◌, ◌||◌}
-use Rattle.std.proofs.lemmas.Bool.{and_parts}
+use Rattle.std.proofs.lemmas.Bool.{and_parts, false≢true, true≢false}
 use Rattle.std.proofs.lemmas.Slice.Eq.{bytes_eq-Decides}
+use Rattle.std.proofs.lemmas.Option.{none-some}
 use Rattle.source_text.specs.declared.fault.Fault.{Fault}
 use Rattle.tokens.specs.Reading.{any_goal}
 use Rattle.tokens.specs.Tokens.{LexicalToken}
@@ -106,14 +107,14 @@ record GoesBy (p : Position) (x : Edge) (t : Token) : Type 0 where
 
 both_fit : (a b d : Bool) → (not a || (b || not d)) ≡ false → (a ≡ true) × (b ≡ false)
 both_fit true false d h = (refl, refl)
-both_fit true true d h = cc
-both_fit false b d h = cc
+both_fit true true d h = absurd (true≢false h)
+both_fit false b d h = absurd (true≢false h)
 
 goes_by : (p : Position) (x : Edge) (t : Token) → stops_by p x t ≡ false → GoesBy p x t
 goes_by p x t h = go (symbol_of (operation t) t.after_break) refl h
   where
     go : (z : Option Rank) → symbol_of (operation t) t.after_break ≡ z → Rattle.language.specs.Follow.stops_at p.rank p.has_in x t z ≡ false → GoesBy p x t
-    go None e k = cc
+    go None e k = absurd (true≢false k)
     go (Some z) e k = let u = both_fit (takes p.rank z) (is t.text "in" && not p.has_in) (holds x z) k in record { symbol = z; makes_it = e; taken = u.0; has_in = u.1 }
 
 -- an operator with a right side is no tag
@@ -210,7 +211,7 @@ step_sign w h = go (is w ")") refl
 -- they go on with what stands on the same line
 same_line : (b : Bool) {z : Rank} → cond b None (Some Update) ≡ Some z → b ≡ false
 same_line false h = refl
-same_line true h = cc
+same_line true h = absurd (none-some _ h)
 
 -- the right edge of what isn't nothing is open
 open_standing : (x : Edge) (last : Token) → (x ≡ Closed → ⊥) → is_closed (standing x last) ≡ false
@@ -229,7 +230,7 @@ open_standing Postfix last h = of (is last.text ")")
 
 expression_only : (h : Rank) → IsTrue (takes h Expression) → h ≡ Expression
 expression_only Expression t = refl
-expression_only _ t = cc
+expression_only _ t = absurd (false≢true t)
 
 -- the pieces behind a comma don't ask for the parts
 same_sequence : (ps : Parts) → sequence (bare_parts ps) ≡ sequence ps

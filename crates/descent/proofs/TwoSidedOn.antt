@@ -1,6 +1,7 @@
 -- The node with an operator with two sides on the spine of a whole that can't go on.
 use Rattle.std.proofs.Common.{◌≡◌, ℕ, Bool, true, false, cond, List, ◌++◌, refl, sym, ap, ◌∙◌, subst, arith}
 use Rattle.std.specs.Prelude.{IsTrue, Some}
+use Rattle.std.proofs.lemmas.Bool.{false≢true}
 use Rattle.tokens.specs.declared.token.Class.TheVariants.{Name, Punctuator}
 use Rattle.tokens.specs.declared.token.Goal.TheVariants.{Div}
 use Rattle.tree.specs.declared.kind.Kind.{Kind}
@@ -78,7 +79,7 @@ two_conditional w op two_assigns h = omega arith
 
 two_in : {x : Operator} {K : Kind} {a z q : Rank} {b : Bool} → TwoSided x K a z q b → (i : Bool) → takes q Relational ≡ true → cond b i true ≡ i
 two_in two_binds i h = refl
-two_in two_powers i h = cc
+two_in two_powers i h = absurd (false≢true h)
 two_in two_assigns i h = refl
 
 two_text : {x : Operator} {K : Kind} {a z q : Rank} {b : Bool} → TwoSided x K a z q b → has_text K ≡ true

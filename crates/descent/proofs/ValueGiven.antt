@@ -3,6 +3,7 @@ use Rattle.std.proofs.Common.{◌≡◌, ◌⊎◌, ℕ, ◌≤◌, Bool, true, 
 use Rattle.std.specs.Prelude.{codes, Option, None}
 use Rattle.std.specs.Bool.{OnTrue, OnFalse}
 use Rattle.std.proofs.lemmas.Bool.{false≢true}
+use Rattle.std.proofs.lemmas.Option.{none-some}
 use Rattle.source_text.specs.declared.fault.Fault.{Fault}
 use Rattle.tokens.specs.declared.token.Class.TheVariants.{Name, Punctuator}
 use Rattle.tokens.specs.declared.token.Goal.TheVariants.{Div}
@@ -48,8 +49,10 @@ use Rattle.phrases.specs.Seen.{NoName, Sees, SeesBy, MissesBy, declares}
 use Rattle.phrases.specs.Stated.{put_node, takes_put, with_part}
 use Rattle.phrases.specs.Tests.{is_each}
 use Rattle.descent.specs.Wants.{WantedAt, HeadAt}
+use Rattle.descent.proofs.FreeRanks.{no_conditional, no_new}
 use Rattle.descent.proofs.Agreeing.{refuses_on, refuses_unless, room_part, ends_behind, words_same}
 use Rattle.descent.proofs.PieceParts.{position_of, each_at, wanted_nodes}
+use Rattle.descent.proofs.PieceViews.{something, ExpressionPiece, expression_of_expression, expression_of_assignment, expression_of_test, expression_of_update, expression_of_argument, expression_of_heritage, expression_of_head, wants_expression}
 use Rattle.descent.proofs.PiecesLeft.{SameOf, RefusedOf}
 use Rattle.phrases.proofs.Seeing.{mark_by}
 
@@ -67,16 +70,16 @@ bound_shape : (b : Bool) (k : Kind) {a : Role} → bound b k ≡ Some a → (is_
 bound_shape true Identifier h = inr refl
 bound_shape true ArrayPattern h = inl refl
 bound_shape true ObjectPattern h = inl refl
-bound_shape true _ h = cc
+bound_shape true _ h = absurd (none-some _ h)
 bound_shape false Identifier h = inr refl
 bound_shape false MemberExpression h = inr refl
 bound_shape false ArrayPattern h = inl refl
 bound_shape false ObjectPattern h = inl refl
-bound_shape false _ h = cc
+bound_shape false _ h = absurd (none-some _ h)
 
 target_pattern : (a : Assigned) → is_target a ≡ true → is_pattern a ≡ true
 target_pattern assigned.Target h = refl
-target_pattern _ h = cc
+target_pattern _ h = absurd (false≢true h)
 
 pub read_shape : {b : Bool} {a : Role} {k : Part} {n : Tree} → bound b (kind_of n) ≡ Some a → IsRead (as_pattern b) k n → is_pattern k.cover.shape.assigned ≡ true
 read_shape {b} {a} {k} {n} h read = of (bound_shape b (kind_of n) h)
@@ -87,7 +90,7 @@ read_shape {b} {a} {k} {n} h read = of (bound_shape b (kind_of n) h)
 
 binds_also : (a b c : Bool) → (a && b) ≡ true → c ≡ true → (a && c) ≡ true
 binds_also true b c h k = k
-binds_also false b c h k = cc
+binds_also false b c h k = absurd (false≢true h)
 
 module _ (text : List ℕ) where
   -- behind an expression before `;` stands no `in` and no `of`
@@ -120,9 +123,9 @@ module _ (text : List ℕ) where
     reading = as_expression;
     tree = g.put;
     parts = g.parts;
-    spelled = subst (λ z. GivenAs text z o g.put s e P as_expression) (sym is) (given.an_expression (λ h. cc) (λ h. cc) g.spelled g.stopped);
+    spelled = subst (λ z. GivenAs text z o g.put s e P as_expression) (sym is) (given.an_expression (no_conditional refl) (no_new refl) g.spelled g.stopped);
     fits = λ each at k read. of each at k read;
-    right = λ known. cc;
+    right = λ known. absurd (false≢true known);
   }
     where
       of : (each : Bool) → EachAt text each e → (k : Part) → IsRead as_expression k g.put → (put_node code.Head each k.cover.node ≡ g.put) × (takes_put code.Head each k.cover.shape ≡ true)
@@ -134,7 +137,7 @@ module _ (text : List ℕ) where
     parts = g.parts;
     spelled = given.a_target is g.target.it_is g.target.spelled seen;
     fits = λ each at k read. of each at k read;
-    right = λ known. cc;
+    right = λ known. absurd (false≢true known);
   }
     where
       of : (each : Bool) → EachAt text each e → (k : Part) → IsRead (as_pattern false) k g.put → (put_node code.Head each k.cover.node ≡ g.put) × (takes_put code.Head each k.cover.shape ≡ true)
@@ -143,30 +146,29 @@ module _ (text : List ℕ) where
 
 module _ (r : Bool) (s m : Point) (b c : Built) (high : ℕ) (pos : Position) (same : m.text ≡ s.text) where
   value_given : (p : Coded) → WantedAt p r s m b c high (wanted.Expression pos) → (o : ℕ) (to : Token) (x y : Edge) (put : Parts) (P : List Pair) → PieceGiven s.text r o (piece_of p) s.last to x y put P → ValueGiven s.text p pos o m.last to y put P
-  value_given code.Expression h o to x y put P g = subst (λ z. ValueGiven s.text code.Expression pos o z to y put P) (sym h.1.0) (plain_given s.text code.Expression (position_of h.0) (λ e. cc) (λ e. cc) (λ each n at. refl) (λ each n at. refl) g)
-  value_given code.Assignment h o to x y put P g = subst (λ z. ValueGiven s.text code.Assignment pos o z to y put P) (sym h.1.0) (plain_given s.text code.Assignment (position_of h.0) (λ e. cc) (λ e. cc) (λ each n at. refl) (λ each n at. refl) g)
-  value_given code.Test h o to x y put P (inl g) = subst (λ z. ValueGiven s.text code.Test pos o z to y put P) (sym h.1.0) (plain_given s.text code.Test h.0.1 (λ e. cc) (λ e. cc) (λ each n at. refl) (λ each n at. refl) g.0)
-  value_given code.Test h o to x y put P (inr g) = absurd (h.0.0 g.1.0 g.1.0 g.1.1)
-  value_given code.Update h o to x y put P (inl g) = subst (λ z. ValueGiven s.text code.Update pos o z to y put P) (sym h.1.0) (plain_given s.text code.Update h.0.1 (λ e. cc) (λ e. cc) (λ each n at. refl) (λ each n at. refl) g.0)
-  value_given code.Update h o to x y put P (inr g) = absurd (h.0.0 g.1.0 g.1.0 g.1.1)
-  value_given code.Argument h o to x y put P (inl g) = subst (λ z. ValueGiven s.text code.Argument pos o z to y put P) (sym h.1.0) (plain_given s.text code.Argument h.0.1 (λ e. cc) (λ e. cc) (λ each n at. refl) (λ each n at. refl) g.1)
-  value_given code.Argument h o to x y put P (inr g) = absurd (false≢true (sym (h.0.0 g.1.0 g.1.0 g.1.1.0) ∙ g.1.1.1))
-  value_given code.Heritage h o to x y put P (inl g) = subst (λ z. ValueGiven s.text code.Heritage pos o z to y put P) (words_same s.text g.1 h.0.0).1 (plain_given s.text code.Heritage h.0.1 (λ e. cc) (λ e. cc) (λ each n at. refl) (λ each n at. refl) g.2)
-  value_given code.Heritage h o to x y put P (inr g) = absurd (g.1 m.last m.last h.0.0)
-  value_given code.Head h o to x y put P (inl g) = head_wanted c.word h.0 g
+  value_given p h o to x y put P g = of (wants_expression p r s m b c high pos h) h g
     where
-      head_wanted : (word : Option Scanned) → HeadAt s m (wanted.Expression pos) word → HeadGiven s.text o s.last to put P → ValueGiven s.text code.Head pos o m.last to y put P
-      head_wanted (Some word) k f = absurd k
-      head_wanted None k f = subst (λ z. ValueGiven s.text code.Head pos o z to y put P) (sym k.3) (head_value s.text k.2 k.1 f)
-  value_given code.Head h o to x y put P (inr g) = head_gap c.word h.0
-    where
-      head_gap : (word : Option Scanned) → HeadAt s m (wanted.Expression pos) word → ValueGiven s.text code.Head pos o m.last to y put P
-      head_gap (Some word) k = absurd k
-      head_gap None k = absurd (k.0 g.1.0 g.1.0 g.1.1)
-  value_given code.Else h o to x y put P g = absurd h.0
-  value_given code.Finally h o to x y put P g = absurd h.0
-  value_given code.Catch h o to x y put P g = absurd h.0
-  value_given _ h o to x y put P g = cc
+      of : {p : Coded} → ExpressionPiece p → WantedAt p r s m b c high (wanted.Expression pos) → PieceGiven s.text r o (piece_of p) s.last to x y put P → ValueGiven s.text p pos o m.last to y put P
+      of expression_of_expression h g = subst (λ z. ValueGiven s.text code.Expression pos o z to y put P) (sym h.1.0) (plain_given s.text code.Expression (position_of h.0) (no_conditional refl) (no_new refl) (λ each n at. refl) (λ each n at. refl) g)
+      of expression_of_assignment h g = subst (λ z. ValueGiven s.text code.Assignment pos o z to y put P) (sym h.1.0) (plain_given s.text code.Assignment (position_of h.0) (no_conditional refl) (no_new refl) (λ each n at. refl) (λ each n at. refl) g)
+      of expression_of_test h (inl g) = subst (λ z. ValueGiven s.text code.Test pos o z to y put P) (sym h.1.0) (plain_given s.text code.Test h.0.1 (no_conditional refl) (no_new refl) (λ each n at. refl) (λ each n at. refl) g.0)
+      of expression_of_test h (inr g) = absurd (h.0.0 g.1.0 g.1.0 g.1.1)
+      of expression_of_update h (inl g) = subst (λ z. ValueGiven s.text code.Update pos o z to y put P) (sym h.1.0) (plain_given s.text code.Update h.0.1 (no_conditional refl) (no_new refl) (λ each n at. refl) (λ each n at. refl) g.0)
+      of expression_of_update h (inr g) = absurd (h.0.0 g.1.0 g.1.0 g.1.1)
+      of expression_of_argument h (inl g) = subst (λ z. ValueGiven s.text code.Argument pos o z to y put P) (sym h.1.0) (plain_given s.text code.Argument h.0.1 (no_conditional refl) (no_new refl) (λ each n at. refl) (λ each n at. refl) g.1)
+      of expression_of_argument h (inr g) = absurd (false≢true (sym (h.0.0 g.1.0 g.1.0 g.1.1.0) ∙ g.1.1.1))
+      of expression_of_heritage h (inl g) = subst (λ z. ValueGiven s.text code.Heritage pos o z to y put P) (words_same s.text g.1 h.0.0).1 (plain_given s.text code.Heritage h.0.1 (no_conditional refl) (no_new refl) (λ each n at. refl) (λ each n at. refl) g.2)
+      of expression_of_heritage h (inr g) = absurd (g.1 m.last m.last h.0.0)
+      of expression_of_head h (inl g) = head_wanted c.word h.0 g
+        where
+          head_wanted : (word : Option Scanned) → HeadAt s m (wanted.Expression pos) word → HeadGiven s.text o s.last to put P → ValueGiven s.text code.Head pos o m.last to y put P
+          head_wanted (Some word) k f = absurd k
+          head_wanted None k f = subst (λ z. ValueGiven s.text code.Head pos o z to y put P) (sym k.3) (head_value s.text k.2 k.1 f)
+      of expression_of_head h (inr g) = head_gap c.word h.0
+        where
+          head_gap : (word : Option Scanned) → HeadAt s m (wanted.Expression pos) word → ValueGiven s.text code.Head pos o m.last to y put P
+          head_gap (Some word) k = absurd k
+          head_gap None k = absurd (k.0 g.1.0 g.1.0 g.1.1)
 
 pub one_high : {put : Parts} {n : Tree} {high : ℕ} → put ≡ part n none → parts_height put ≤ high → height n ≤ high
 one_high {put} {n} is low = let whole : parts_height put ≡ parts_height (part n none) = ap parts_height is in omega arith
@@ -205,7 +207,7 @@ module _ (r : Bool) (s m e : Point) (mid new : List Pair) (b c : Built) (high : 
     value_same pairs a is o to x y put P g at =
         let v = value_read o to x y put P g in
         record {
-          nodes = ap (λ (z : Built). z.nodes) is ∙ (λ i. push (wanted_nodes p r s m b c high (wanted.Expression pos) (λ u. cc) h i) (v.puts i)) ∙ push-join b.nodes v.value.tree ∙ ap (join b.nodes) (sym v.value.parts);
+          nodes = ap (λ (z : Built). z.nodes) is ∙ (λ i. push (wanted_nodes p r s m b c high (wanted.Expression pos) (something (wanted.Expression pos) refl) h i) (v.puts i)) ∙ push-join b.nodes v.value.tree ∙ ap (join b.nodes) (sym v.value.parts);
           ends = ends_behind {m = m} pairs (record { place = v.ends.place; more = v.ends.more; added = v.ends.added; pairs = v.ends.pairs });
           edge = λ known f. v.value.right known k v.read (a.is.part.edge ∙ ap (standing (edge k.cover.node)) v.ends.place) ∙ sym (ap (λ (z : Built). z.edge) is);
         }

@@ -43,6 +43,7 @@ use Rattle.descent.specs.GivenLists.{CommaOr}
 use Rattle.descent.specs.GivenProperties.{TokenIs, value_as, ValueGiven, a_value, a_name, a_default}
 use Rattle.phrases.specs.Outcomes.{BecomesHere}
 use Rattle.phrases.specs.Seen.{ReadsHere, Misses, is_free_name}
+use Rattle.descent.proofs.FreeRanks.{no_conditional, no_new}
 use Rattle.descent.proofs.Agreeing.{agrees_on, agrees_err, refuses_unfit, refuses_high, refuses_made, marks_same}
 use Rattle.descent.proofs.NamesGiven.{element_position}
 use Rattle.phrases.proofs.Seeing.{mark_by}
@@ -78,7 +79,7 @@ module _ (text : List ℕ) where
   pub element_given : (a : Reading) {q : Position} {r : Role} {o : ℕ} {n : Tree} {s e : Token} {P : List Pair} → q ≡ element_position → value_as a n ≡ Some r → SpellsIn text o r n s e P → CommaOr text (codes "}") e → GivenAs text q o n s e P a
   element_given as_expression {q} {r} {o} {n} {s} {e} {P} q_is it d ends =
       subst (λ z. GivenAs text z o n s e P as_expression) (sym q_is)
-      (an_expression (λ h. cc) (λ h. cc) (subst (λ z. SpellsIn text o z n s e P) (sym (some_same it)) d) (item_stops Token (NextIn text any_goal) itself (text_determined text) a_brace Assignment n e refl (separated_there ends)))
+      (an_expression (no_conditional refl) (no_new refl) (subst (λ z. SpellsIn text o z n s e P) (sym (some_same it)) d) (item_stops Token (NextIn text any_goal) itself (text_determined text) a_brace Assignment n e refl (separated_there ends)))
   element_given (as_pattern b) q_is it d ends = an_element q_is it d (over_there ends)
 
 -- a name fits each reading, a name with a default each pattern

@@ -3,6 +3,7 @@ use Rattle.std.proofs.Common.{◌≡◌, ℕ, Bool, true, false, List, [], ◌�
 use Rattle.std.specs.Prelude.{Some, IfSome, codes, not, ◌&&◌}
 use Rattle.std.proofs.lemmas.Bool.{false≢true}
 use Rattle.std.proofs.lemmas.List.{append-nil}
+use Rattle.std.proofs.lemmas.Option.{none-some}
 use Rattle.tokens.specs.Scanned.{token_of}
 use Rattle.tokens.specs.Reading.{any_goal}
 use Rattle.tokens.specs.declared.token.Token.{Token as Scanned}
@@ -59,20 +60,20 @@ at_assignment = record { rank = Assignment; has_in = true; start = Any }
 
 -- where a target, a pattern or either with a default stands, an element does
 pub with_default_of : (x : Assigned) (b : Bool) (k : Kind) {a : Role} → assigned_at x Any b k ≡ Some a → with_default b k ≡ Some a
-with_default_of assigned.Nothing b k h = cc
+with_default_of assigned.Nothing b k h = absurd (none-some _ h)
 with_default_of assigned.Target true Identifier h = h
-with_default_of assigned.Target true _ h = cc
+with_default_of assigned.Target true _ h = absurd (none-some _ h)
 with_default_of assigned.Target false Identifier h = h
 with_default_of assigned.Target false MemberExpression h = h
-with_default_of assigned.Target false _ h = cc
+with_default_of assigned.Target false _ h = absurd (none-some _ h)
 with_default_of assigned.Pattern true ArrayPattern h = h
 with_default_of assigned.Pattern true ObjectPattern h = h
-with_default_of assigned.Pattern true _ h = cc
+with_default_of assigned.Pattern true _ h = absurd (none-some _ h)
 with_default_of assigned.Pattern false ArrayPattern h = h
 with_default_of assigned.Pattern false ObjectPattern h = h
-with_default_of assigned.Pattern false _ h = cc
+with_default_of assigned.Pattern false _ h = absurd (none-some _ h)
 with_default_of assigned.Defaulted b AssignmentPattern h = h
-with_default_of assigned.Defaulted b _ h = cc
+with_default_of assigned.Defaulted b _ h = absurd (none-some _ h)
 
 -- a name that is key and value, and one with a default
 data Short : Reading → Tree → Role → Type 0 where
@@ -156,7 +157,7 @@ module _ (text : List ℕ) where
 
   not_free : (b : Bool) → not b ≡ true → b ≡ false
   not_free false h = refl
-  not_free true h = cc
+  not_free true h = absurd (false≢true h)
 
   lone_key : {k : Key} {o : ℕ} {s m : Token} {P : List Pair} (t : Scanned) → k.token ≡ Some t → t.class ≡ Name → is_free_name t.text.now ≡ true → KeyAt text false k o s m P → Lone k t s m P
   lone_key {k} {o} {s} {m} {P} t is class free d =

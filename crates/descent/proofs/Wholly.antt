@@ -1,7 +1,7 @@
 -- A list as far as it is read, with one more item; and the whole (ECMA-262 12.2, 12.3.6, 12.16, 13.3, 13.12, 14.1, 14.6).
 use Rattle.std.proofs.Common.{arith, ◌≡◌, ℕ, ◌+◌, ◌-◌, Bool, true, false, List, [], ◌++◌, refl, sym, ap, ◌∙◌, subst, append_assoc}
 use Rattle.std.specs.Prelude.{not, ◌&&◌, ◌||◌, if◌then◌else◌, nat_le, nat_lt, codes}
-use Rattle.std.proofs.lemmas.Bool.{and_parts, false≢true}
+use Rattle.std.proofs.lemmas.Bool.{and_parts, false≢true, true≢false}
 use Rattle.std.proofs.lemmas.Bool.Decides.{nat_tests}
 use Rattle.std.proofs.lemmas.List.{append-nil}
 use Rattle.tokens.specs.Reading.{any_goal}
@@ -43,7 +43,7 @@ unless_is true h = absurd h
 unless_is false h = h
 
 pub unless_not : {X : Type 0} (b : Bool) → b ≡ false → X → Unless b X
-unless_not true h x = cc
+unless_not true h x = absurd (true≢false h)
 unless_not false h x = x
 
 -- the semicolons that were passed
@@ -90,7 +90,7 @@ or_false_left true c h k = cc
 or_false_left false c h k = k
 
 no_and : (b c : Bool) → c ≡ false → (b && c) ≡ false
-no_and true true h = cc
+no_and true true h = absurd (true≢false h)
 no_and true false h = refl
 no_and false c h = refl
 
@@ -98,14 +98,14 @@ no_and false c h = refl
 not_stuck : (x : Listed) (a : Reading) (ps : Parts) (has_comma : Bool) → goes_on_at x ≡ true → (x ≡ listed.Covers → has_comma ≡ true) → stuck_at x a ps has_comma ≡ false
 not_stuck listed.Covers as_expression ps has_comma g h = no_and (are_some ps) (not has_comma) (ap not (h refl))
 not_stuck listed.Covers (as_pattern b) ps has_comma g h = refl
-not_stuck listed.OneParameter a ps has_comma g h = cc
+not_stuck listed.OneParameter a ps has_comma g h = absurd (false≢true g)
 not_stuck _ a ps has_comma g h = refl
 
 seen_comma : (x : Listed) (it : Item) (s : Seen) → is_unseparated x ≡ false → (seen_step true x s it).has_comma ≡ true
 seen_comma x it s h = of (is_unseparated x) h
   where
     of : (b : Bool) → b ≡ false → (if b then seen_with s it x else separated (seen_with s it x) true).has_comma ≡ true
-    of true q = cc
+    of true q = absurd (true≢false q)
     of false q = refl
 
 covers_separated : (x : Listed) → x ≡ listed.Covers → is_unseparated x ≡ false
@@ -218,7 +218,7 @@ pub after_seen : (k : ListOf) (b : Bool) → is_ended k.listed k.seen (part_coun
 after_seen k b h = of (is_ended k.listed k.seen (part_count k.nodes)) (is_unseparated k.listed) h
   where
     of : (c d : Bool) → c ≡ false → (if c || d then k else record k { seen = separated k.seen b }).seen ≡ (if d then k.seen else separated k.seen b)
-    of true d q = cc
+    of true d q = absurd (true≢false q)
     of false true q = refl
     of false false q = refl
 

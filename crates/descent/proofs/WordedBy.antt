@@ -6,6 +6,7 @@ use Prim.Native.String.{String}
 use Rattle.std.proofs.lemmas.Bool.Decides.{nat_tests}
 use Rattle.std.proofs.lemmas.List.{append-nil}
 use Rattle.std.proofs.lemmas.Slice.Eq.{bytes_eq-Decides}
+use Rattle.std.proofs.lemmas.Bool.{false≢true}
 use Rattle.source_text.specs.declared.fault.Fault.{Fault}
 use Rattle.tokens.specs.declared.token.Class.{Class}
 use Rattle.tokens.specs.declared.token.Class.TheVariants.{Name, Punctuator, Number, Text, Template, RegExp, End}
@@ -144,12 +145,12 @@ member_taken y h = member_number (Rattle.language.specs.Words.tightness y) h
 function_starts : (f : Start) → takes_closure f ≡ true → IsTrue (starts f (term "function" ∷ []))
 function_starts Any h = refl
 function_starts NoBrace h = refl
-function_starts Statement h = cc
+function_starts Statement h = absurd (false≢true h)
 
 class_starts : (f : Start) → takes_closure f ≡ true → IsTrue (starts f (term "class" ∷ []))
 class_starts Any h = refl
 class_starts NoBrace h = refl
-class_starts Statement h = cc
+class_starts Statement h = absurd (false≢true h)
 
 starts_new : (f : Start) (qs : List Piece) → IsTrue (starts f (term "new" ∷ qs))
 starts_new Any qs = refl
@@ -240,7 +241,7 @@ new_member New t h = absurd (h refl)
 new_member Member t h = refl
 new_member Primary t h = refl
 new_member rank.Grouped t h = refl
-new_member _ t h = cc
+new_member _ t h = absurd (false≢true t)
 
 module _ (text : List ℕ) {p : Position} {t : Scanned} {o : ℕ} {s m x e : Token} {P Q : List Pair} where
   -- `new` with arguments
