@@ -1,0 +1,232 @@
+"""Wrong bodies that the prover must refuse, beside those few of the gate: `CRATE/NAME.edit` is one, in the form of `crates/CRATE/must-fail/NAME.edit`.
+
+    run.py [--built] [CRATE..]
+
+Tries those of the crates named, or of all, and says of each why it was refused. The exit status is 0 where each is.
+
+`rt must-fail` makes a check of each. Here wrong bodies of different functions share one. A function is proved by its own body and the
+contracts of what it calls, never their bodies, so no wrong body can break or mend the proof of another, and the prover says of each function by itself
+whether it is proved. What counts is an error at a goal of the function itself: one that only waits for the proof of what it calls, or
+that has another wrong body in this check, is tried in the next. An edit outside functions, one that none of these checks refuses, and all of a
+check that refuses a function with no wrong body, are tried alone, as `rt must-fail` does.
+
+A crate is proved beside its wrong bodies, so it takes what its check takes; kept work of `rt check` is taken where there is any, from a copy. With
+`--built` the libraries are those that a gate left in the working tree a moment ago, and nothing else is taken.
+"""
+import collections
+import concurrent.futures
+import glob
+import importlib.machinery
+import importlib.util
+import os
+import re
+import shutil
+import sys
+import tempfile
+
+HERE = os.path.dirname(os.path.abspath(__file__))
+ROOT = os.path.dirname(HERE)
+ONE_JOB = ['--jobs', '1']
+
+# What a proof file says where the edit took a name away: that says little of the contract.
+MISSING = re.compile(r'has no field|is not in scope|has no `|was not admitted')
+ERROR = re.compile(r'^(?:\./)?proofs/(\S+)/[^/\s]+\.antt:\d+:\d+: error: (?:`([^`]*)`: )?(.*)', re.M)
+NOTE = re.compile(r'^note: (?:\./)?(src/\S+):(\d+):\d+: (.*)', re.M)
+FUNCTION = re.compile(r'^( *)(?:#\[(?:(?!\]\n).|\n(?!\n))*\]\n\1)*(?:pub(?:\([^)]*\))? )?(?:const )?fn (\w+)', re.M)
+IMPL = re.compile(r'^impl\b(.*?)\{', re.M | re.S)
+
+Edit = collections.namedtuple('Edit', 'name file pairs function')
+
+
+def loaded():
+    """The toolchain's command, as a module."""
+    loader = importlib.machinery.SourceFileLoader('rt', os.path.realpath(shutil.which('rt')))
+    module = importlib.util.module_from_spec(importlib.util.spec_from_loader('rt', loader))
+    loader.exec_module(module)
+    return module
+
+
+RT = loaded()
+
+
+def pairs_of(file):
+    """The edit's replacements: path in the crate, old text, new text."""
+    found, path, old = [], None, None
+    with open(file, encoding='utf-8') as lines:
+        for line in lines.read().split('\n'):
+            word, _, rest = line.partition(':')
+            text = rest[1:] if rest.startswith(' ') else rest
+            if word == 'file':
+                path = text.strip()
+            elif word == 'old':
+                old = text
+            elif word == 'new':
+                found.append((path, old, text))
+    return found
+
+
+def of_impl(head):
+    """The name that the prover gives an impl, from the text behind the word: of a trait's it is only the beginning."""
+    head = head.strip()
+    depth = 0
+    for at, c in enumerate(head if head.startswith('<') else ''):
+        depth += (c == '<') - (c == '>' and head[at - 1] != '-')
+        if depth == 0:
+            head = head[at + 1:]
+            break
+    first, is_trait, last = head.partition(' for ')
+    words = re.findall(r'\w+', first)
+    if not is_trait:
+        return words[0], True
+    return re.findall(r'\w+', last)[0] + ''.join(words[:2]), False
+
+
+def text_of(crate, path):
+    """The crate's own text of that path."""
+    with open(f'{crate.folder}/{path}', encoding='utf-8') as file:
+        return file.read()
+
+
+def function_at(crate, path, text, at):
+    """A pattern of the prover's name for the function of the text in which that place stands, if it stands in one."""
+    begun = [it for it in FUNCTION.finditer(text) if it.start() <= at]
+    if not path.startswith('src/') or not begun or f'\n{begun[-1][1]}}}\n' in text[begun[-1].start():at]:
+        return None
+    module = path[len('src/'):-len('.rt')].replace('/', '::')
+    name = ''.join(f'{it}::' for it in (crate.name, module) if it not in ('lib', 'main'))
+    if begun[-1][1]:
+        owner, is_whole = of_impl([it for it in IMPL.finditer(text) if it.start() < at][-1][1])
+        name += f'{owner}{"" if is_whole else "[A-Za-z0-9]*"}::'
+    return name + begun[-1][2]
+
+
+def edits_of(crate):
+    """The crate's edits here."""
+    found = []
+    for file in sorted(glob.glob(f'{HERE}/{crate.name}/*.edit')):
+        pairs = pairs_of(file)
+        functions = {function_at(crate, path, text_of(crate, path), text_of(crate, path).find(old)) for path, old, _ in pairs}
+        found.append(Edit(os.path.basename(file), file, pairs, functions.pop() if len(functions) == 1 else None))
+    return found
+
+
+def edited(crate, edits):
+    """The texts that the edits make, by their paths."""
+    texts = {}
+    for path, old, new in (pair for edit in edits for pair in edit.pairs):
+        texts[path] = texts.get(path, text_of(crate, path)).replace(old, new)
+    return texts
+
+
+def group_of(edits, waits):
+    """Edits for one check: of each function at most one, and none of a function that another of them waited for."""
+    group, taken, barred = [], set(), set()
+    for edit in sorted(edits, key=lambda it: it.function not in waits):
+        if edit.function not in taken and not any(re.fullmatch(edit.function, it) for it in barred):
+            group.append(edit)
+            taken.add(edit.function)
+            barred |= waits.get(edit.function, set())
+    return group
+
+
+def own_errors(name, said, paths):
+    """What proof files of the function are refused for: the goal and the rest of its line."""
+    folder, last = '/'.join(name.split('::')[1:]), name.split('::')[-1]
+    for at, goal, rest in ERROR.findall(said):
+        above, is_cycle, cycle = at.rpartition('+')
+        # (the proof of a cycle is a folder above its functions, and its goals begin with the function's name; that of one that calls itself is its own)
+        is_one = is_cycle and f'{above}{cycle}' in paths
+        of_cycle = is_cycle and not is_one and folder.startswith(above) and goal.startswith(f'{last}-')
+        if of_cycle or f'{at.replace("+", "")}/'.startswith(f'{folder}/') and (is_one or not is_cycle):
+            yield f'`{goal}`: {rest}'
+
+
+def own_notes(crate, name, texts, said):
+    """What else isn't proved in the function's text."""
+    for path, line, rest in NOTE.findall(said):
+        text = texts.get(path) or text_of(crate, path)
+        at = sum(len(it) + 1 for it in text.split('\n')[:int(line) - 1])
+        if re.fullmatch(function_at(crate, path, text, at) or '', name):
+            yield rest
+
+
+def refusals(crate, texts, said):
+    """Functions that the prover refuses for a goal of their own, and why; what each that isn't proved waits for; and the names of all."""
+    refused, waits = {}, {}
+    states = re.findall(r'^fn (\S+): (.*)', said, re.M)
+    paths = {'/'.join(name.split('::')[1:]) for name, _ in states}
+    for name, state in states:
+        if state == 'proved':
+            continue
+        waits[name] = set(re.findall(r'`([^`]+::[^`]+)`', state)) if ' calls ' in state else set()
+        why = [it for it in own_errors(name, said, paths) if not MISSING.search(it)] + [*own_notes(crate, name, texts, said)]
+        if why:
+            refused[name] = why[0]
+    return refused, waits, [name for name, _ in states]
+
+
+def tried_together(crate, group, names, kept):
+    """Why each of the edits was refused, and what each of the others waits for, by function: nothing where a function with no edit was refused too.
+    And the names of the crate's functions: where they are known, only those with an edit are proved, and what they call."""
+    texts = edited(crate, group)
+    ours = [name for name in names if any(re.fullmatch(edit.function, name) for edit in group)]
+    said = RT.checked(crate, texts, ONE_JOB + [it for name in ours for it in ('--only', name.partition('::')[2])], kept).stdout
+    refused, waits, found = refusals(crate, texts, said)
+    others = [name for name in refused if not any(re.fullmatch(edit.function, name) for edit in group)]
+    if others or RT.rtlib.STALE.search(said):
+        print(f'{crate.name}: refused with no edit of their own, so each is tried alone: {" ".join(others)}', flush=True)
+        refused, waits = {}, {}
+    of_edits = [{edit.function: it for edit in group for name, it in all.items() if re.fullmatch(edit.function, name)} for all in (refused, waits)]
+    return *of_edits, names or found
+
+
+def tried(crate, kept):
+    """Of each edit of the crate its name, whether it was refused, and why."""
+    left, waits, names = [it for it in edits_of(crate) if it.function], {}, []
+    alone = [it for it in edits_of(crate) if not it.function]
+    while left:
+        group = group_of(left, waits)
+        why, waits, names = tried_together(crate, group, names, kept)
+        for edit in group:
+            if edit.function in why:
+                yield edit.name, True, why[edit.function]
+        done = [it for it in group if it.function in why]
+        alone += [] if done else group
+        left = [it for it in left if it not in (done or group)]
+    for edit in alone:
+        well, said = RT.must_fail(crate, edit.file, ONE_JOB, kept)
+        yield edit.name, well and 'only because a proof file' not in said, said.partition(': ')[2]
+
+
+def tried_crate(crate, is_built):
+    """Tries the crate's edits, over a copy of what its check kept, if it may be taken; prints each, and counts those refused and those not."""
+    with tempfile.TemporaryDirectory(prefix='jslint-edits-') as room:
+        kept = f'{room}/kept'
+        if os.path.isdir(f'{crate.folder}/out/incremental') and not is_built:
+            shutil.copytree(f'{crate.folder}/out/incremental', kept)
+        counts = collections.Counter()
+        for name, well, why in tried(crate, kept):
+            print(f'{crate.name}/{name}: {"refused" if well else "NOT REFUSED"}: {why[:160]}', flush=True)
+            counts[well] += 1
+    return counts
+
+
+def main(words):
+    is_built = '--built' in words
+    names = [it for it in words if it != '--built'] or sorted(it for it in os.listdir(HERE) if os.path.isdir(f'{HERE}/{it}'))
+    RT.rtlib.guarded()
+    crates = [it for it in RT.rtlib.crates_below(ROOT) if it.name in names]
+    if len(crates) != len(names):
+        sys.exit(f'no such crates: {names}')
+    for crate in crates if not is_built else []:
+        if any(it.build_rlib(ONE_JOB, anew=False) for it in crate.below()):
+            sys.exit(f'{crate.name}: a library below it is not proved')
+    crates.sort(key=lambda it: -it.count(b'\n'))
+    with concurrent.futures.ThreadPoolExecutor(int(os.environ.get('RT_JOBS') or RT.processors())) as pool:
+        counts = sum(pool.map(lambda it: tried_crate(it, is_built), crates), collections.Counter())
+    print(f'{counts[True]} refused, {counts[False]} not')
+    return 1 if counts[False] else 0
+
+
+if __name__ == '__main__':
+    sys.exit(main(sys.argv[1:]))
