@@ -101,20 +101,23 @@ def function_at(crate, path, text, at):
 
 
 def edits_of(crate):
-    """The crate's edits here."""
+    """The crate's edits here. One whose texts don't stand in one function, each once, has none."""
     found = []
     for file in sorted(glob.glob(f'{HERE}/{crate.name}/*.edit')):
         pairs = pairs_of(file)
-        functions = {function_at(crate, path, text_of(crate, path), text_of(crate, path).find(old)) for path, old, _ in pairs}
+        texts = [(path, text_of(crate, path), old) for path, old, _ in pairs]
+        functions = {function_at(crate, path, text, text.find(old)) if text.count(old) == 1 else None for path, text, old in texts}
         found.append(Edit(os.path.basename(file), file, pairs, functions.pop() if len(functions) == 1 else None))
     return found
 
 
 def edited(crate, edits):
     """The texts that the edits make, by their paths."""
-    texts = {}
-    for path, old, new in (pair for edit in edits for pair in edit.pairs):
-        texts[path] = texts.get(path, text_of(crate, path)).replace(old, new)
+    texts = {path: text_of(crate, path) for edit in edits for path, _, _ in edit.pairs}
+    # (from the last place to the first, since what one edit writes may be what another looks for)
+    places = sorted(((texts[path].index(old), path, old, new) for edit in edits for path, old, new in edit.pairs), reverse=True)
+    for at, path, old, new in places:
+        texts[path] = texts[path][:at] + new + texts[path][at + len(old):]
     return texts
 
 

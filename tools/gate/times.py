@@ -1,5 +1,5 @@
-"""Processor seconds of a gate, by crate: run beside `rt ci`, it looks once a second at each process of the prover, and prints a table when
-the gate ends, or when it is interrupted.
+"""Processor seconds of a gate, by crate: run beside `rt ci` or `edits/run.py --built`, it looks once a second at each process of the prover, and
+prints a table when that ends, or when it is interrupted.
 
     times.py FOLDER
 
@@ -37,12 +37,12 @@ def processes(folder):
 
 
 def is_running(folder):
-    """Whether a gate runs in the folder."""
+    """Whether a gate, or what tries the edits behind it, runs in the folder."""
     for number in filter(str.isdigit, os.listdir('/proc')):
         try:
             with open(f'/proc/{number}/cmdline') as file:
                 words = re.split('[\0 ]', file.read())
-            if 'ci' in words and os.readlink(f'/proc/{number}/cwd').startswith(folder):
+            if ('ci' in words or any(it.endswith('edits/run.py') for it in words)) and os.readlink(f'/proc/{number}/cwd').startswith(folder):
                 return True
         except OSError:
             continue
