@@ -1,8 +1,8 @@
 """Wrong bodies that the prover must refuse, beside those few of the gate: `CRATE/NAME.edit` is one, in the form of `crates/CRATE/must-fail/NAME.edit`.
 
-    run.py [--built] [CRATE..]
+    run.py [--built] [CRATE | CRATE/NAME.edit ..]
 
-Tries those of the crates named, or of all, and says of each why it was refused. The exit status is 0 where each is.
+Tries those that are named, or all, and says of each why it was refused. The exit status is 0 where each is.
 
 `rt must-fail` makes a check of each. Here wrong bodies of different functions share one. A function is proved by its own body and the
 contracts of what it calls, never their bodies, so no wrong body can break or mend the proof of another, and the prover says of each function by itself
@@ -100,10 +100,12 @@ def function_at(crate, path, text, at):
     return name + begun[-1][2]
 
 
-def edits_of(crate):
-    """The crate's edits here. One whose texts don't stand in one function, each once, has none."""
+def edits_of(crate, words):
+    """The crate's edits here, or those that are named. One whose texts don't stand in one function, each once, has none."""
     found = []
     for file in sorted(glob.glob(f'{HERE}/{crate.name}/*.edit')):
+        if words and not {crate.name, os.path.relpath(file, HERE)} & {*words}:
+            continue
         pairs = pairs_of(file)
         texts = [(path, text_of(crate, path), old) for path, old, _ in pairs]
         functions = {function_at(crate, path, text, text.find(old)) if text.count(old) == 1 else None for path, text, old in texts}
@@ -168,12 +170,18 @@ def refusals(crate, texts, said):
     return refused, waits, [name for name, _ in states]
 
 
+def names_of(group, names):
+    """The names of the functions that the edits are in, so that only those are proved, and what they call: none where one isn't known."""
+    found = [[edit.function] if '[' not in edit.function else [name for name in names if re.fullmatch(edit.function, name)] for edit in group]
+    return [name for each in found for name in each] if all(found) else []
+
+
 def tried_together(crate, group, names, kept):
     """Why each of the edits was refused, and what each of the others waits for, by function: nothing where a function with no edit was refused too.
-    And the names of the crate's functions: where they are known, only those with an edit are proved, and what they call."""
+    And names of the crate's functions."""
     texts = edited(crate, group)
-    ours = [name for name in names if any(re.fullmatch(edit.function, name) for edit in group)]
-    said = RT.checked(crate, texts, ONE_JOB + [it for name in ours for it in ('--only', name.partition('::')[2])], kept).stdout
+    only = [it for name in names_of(group, names) for it in ('--only', name.partition('::')[2])]
+    said = RT.checked(crate, texts, ONE_JOB + only, kept).stdout
     refused, waits, found = refusals(crate, texts, said)
     others = [name for name in refused if not any(re.fullmatch(edit.function, name) for edit in group)]
     if others or RT.rtlib.STALE.search(said):
@@ -183,10 +191,10 @@ def tried_together(crate, group, names, kept):
     return *of_edits, names or found
 
 
-def tried(crate, kept):
+def tried(crate, words, kept):
     """Of each edit of the crate its name, whether it was refused, and why."""
-    left, waits, names = [it for it in edits_of(crate) if it.function], {}, []
-    alone = [it for it in edits_of(crate) if not it.function]
+    left, waits, names = [it for it in edits_of(crate, words) if it.function], {}, []
+    alone = [it for it in edits_of(crate, words) if not it.function]
     while left:
         group = group_of(left, waits)
         why, waits, names = tried_together(crate, group, names, kept)
@@ -201,14 +209,14 @@ def tried(crate, kept):
         yield edit.name, well and 'only because a proof file' not in said, said.partition(': ')[2]
 
 
-def tried_crate(crate, is_built):
+def tried_crate(crate, words, is_built):
     """Tries the crate's edits, over a copy of what its check kept, if it may be taken; prints each, and counts those refused and those not."""
     with tempfile.TemporaryDirectory(prefix='jslint-edits-') as room:
         kept = f'{room}/kept'
         if os.path.isdir(f'{crate.folder}/out/incremental') and not is_built:
             shutil.copytree(f'{crate.folder}/out/incremental', kept)
         counts = collections.Counter()
-        for name, well, why in tried(crate, kept):
+        for name, well, why in tried(crate, words, kept):
             print(f'{crate.name}/{name}: {"refused" if well else "NOT REFUSED"}: {why[:160]}', flush=True)
             counts[well] += 1
     return counts
@@ -216,17 +224,18 @@ def tried_crate(crate, is_built):
 
 def main(words):
     is_built = '--built' in words
-    names = [it for it in words if it != '--built'] or sorted(it for it in os.listdir(HERE) if os.path.isdir(f'{HERE}/{it}'))
+    words = [it for it in words if it != '--built']
+    names = {it.partition('/')[0] for it in words} or {it for it in os.listdir(HERE) if os.path.isdir(f'{HERE}/{it}')}
     RT.rtlib.guarded()
     crates = [it for it in RT.rtlib.crates_below(ROOT) if it.name in names]
-    if len(crates) != len(names):
-        sys.exit(f'no such crates: {names}')
+    if len(crates) != len(names) or not all(os.path.exists(f'{HERE}/{it}') for it in words):
+        sys.exit(f'no such crates or edits: {words}')
     for crate in crates if not is_built else []:
         if any(it.build_rlib(ONE_JOB, anew=False) for it in crate.below()):
             sys.exit(f'{crate.name}: a library below it is not proved')
     crates.sort(key=lambda it: -it.count(b'\n'))
     with concurrent.futures.ThreadPoolExecutor(int(os.environ.get('RT_JOBS') or RT.processors())) as pool:
-        counts = sum(pool.map(lambda it: tried_crate(it, is_built), crates), collections.Counter())
+        counts = sum(pool.map(lambda it: tried_crate(it, words, is_built), crates), collections.Counter())
     print(f'{counts[True]} refused, {counts[False]} not')
     return 1 if counts[False] else 0
 
