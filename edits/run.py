@@ -6,8 +6,8 @@ Tries those that are named, or all, and says of each why it was refused. The exi
 
 `rt must-fail` makes a check of each. Here wrong bodies of different functions share one. A function is proved by its own body and the
 contracts of what it calls, never their bodies, so no wrong body can break or mend the proof of another, and the prover says of each function by itself
-whether it is proved. What counts is an error at a goal of the function itself: one that only waits for the proof of what it calls, or
-that has another wrong body in this check, is tried in the next. An edit outside functions, one that none of these checks refuses, and all of a
+whether it is proved. Functions that call one another have one proof, so of those one has a wrong body in a check. What counts is an error at a goal of
+the function itself: one that only waits for the proof of what it calls, or that has another wrong body in this check, is tried in the next. An edit outside functions, one that none of these checks refuses, and all of a
 check that refuses a function with no wrong body, are tried alone, as `rt must-fail` does.
 
 A crate is proved beside its wrong bodies, so it takes what its check takes; kept work of `rt check` is taken where there is any, from a copy. With
@@ -35,7 +35,9 @@ NOTE = re.compile(r'^note: (?:\./)?(src/\S+):(\d+):\d+: (.*)', re.M)
 FUNCTION = re.compile(r'^( *)(?:#\[(?:(?!\]\n).|\n(?!\n))*\]\n\1)*(?:pub(?:\([^)]*\))? )?(?:const )?fn (\w+)', re.M)
 IMPL = re.compile(r'^impl\b(.*?)\{', re.M | re.S)
 
-Edit = collections.namedtuple('Edit', 'name file pairs function')
+CYCLE = re.compile(r'#\[cycle\((\w+)\)\]')
+
+Edit = collections.namedtuple('Edit', 'name file pairs function cycle')
 
 
 def loaded():
@@ -87,30 +89,39 @@ def text_of(crate, path):
         return file.read()
 
 
-def function_at(crate, path, text, at):
-    """A pattern of the prover's name for the function of the text in which that place stands, if it stands in one."""
+def head_at(text, at):
+    """The head, with its attributes, of the function of the text in which that place stands, if it stands in one."""
     begun = [it for it in FUNCTION.finditer(text) if it.start() <= at]
-    if not path.startswith('src/') or not begun or f'\n{begun[-1][1]}}}\n' in text[begun[-1].start():at]:
+    return begun[-1] if begun and f'\n{begun[-1][1]}}}\n' not in text[begun[-1].start():at] else None
+
+
+def function_at(crate, path, text, at):
+    """A pattern of the prover's name for that function."""
+    head = head_at(text, at)
+    if not path.startswith('src/') or not head:
         return None
     module = path[len('src/'):-len('.rt')].replace('/', '::')
     name = ''.join(f'{it}::' for it in (crate.name, module) if it not in ('lib', 'main'))
-    if begun[-1][1]:
+    if head[1]:
         owner, is_whole = of_impl([it for it in IMPL.finditer(text) if it.start() < at][-1][1])
         name += f'{owner}{"" if is_whole else "[A-Za-z0-9]*"}::'
-    return name + begun[-1][2]
+    return name + head[2]
+
+
+def edit_of(crate, file):
+    """The edit of a file. One whose texts don't stand in one function, each once, has none."""
+    pairs = pairs_of(file)
+    texts = [(path, text_of(crate, path), old) for path, old, _ in pairs]
+    functions = {function_at(crate, path, text, text.find(old)) if text.count(old) == 1 else None for path, text, old in texts}
+    function = functions.pop() if len(functions) == 1 else None
+    cycle = CYCLE.search(head_at(texts[0][1], texts[0][1].find(texts[0][2]))[0]) if function else None
+    return Edit(os.path.basename(file), file, pairs, function, cycle and cycle[1])
 
 
 def edits_of(crate, words):
-    """The crate's edits here, or those that are named. One whose texts don't stand in one function, each once, has none."""
-    found = []
-    for file in sorted(glob.glob(f'{HERE}/{crate.name}/*.edit')):
-        if words and not {crate.name, os.path.relpath(file, HERE)} & {*words}:
-            continue
-        pairs = pairs_of(file)
-        texts = [(path, text_of(crate, path), old) for path, old, _ in pairs]
-        functions = {function_at(crate, path, text, text.find(old)) if text.count(old) == 1 else None for path, text, old in texts}
-        found.append(Edit(os.path.basename(file), file, pairs, functions.pop() if len(functions) == 1 else None))
-    return found
+    """The crate's edits here, or those that are named."""
+    files = sorted(glob.glob(f'{HERE}/{crate.name}/*.edit'))
+    return [edit_of(crate, it) for it in files if not words or {crate.name, os.path.relpath(it, HERE)} & {*words}]
 
 
 def edited(crate, edits):
@@ -124,12 +135,12 @@ def edited(crate, edits):
 
 
 def group_of(edits, waits):
-    """Edits for one check: of each function at most one, and none of a function that another of them waited for."""
+    """Edits for one check: of each function and each cycle of calls at most one, and none of a function that another of them waited for."""
     group, taken, barred = [], set(), set()
     for edit in sorted(edits, key=lambda it: it.function not in waits):
-        if edit.function not in taken and not any(re.fullmatch(edit.function, it) for it in barred):
+        if not {edit.function, edit.cycle} & taken and not any(re.fullmatch(edit.function, it) for it in barred):
             group.append(edit)
-            taken.add(edit.function)
+            taken |= {edit.function, edit.cycle} - {None}
             barred |= waits.get(edit.function, set())
     return group
 
