@@ -115,7 +115,7 @@ joined_same w = of (operator_of w)
     of _ = refl
 
 abbrev pub assignments : List String
-assignments = "=" ∷ "+=" ∷ "-=" ∷ "*=" ∷ "/=" ∷ "%=" ∷ "**=" ∷ "<<=" ∷ ">>=" ∷ ">>>=" ∷ "&=" ∷ "|=" ∷ "^=" ∷ []
+assignments = "=" ∷ "+=" ∷ "-=" ∷ "*=" ∷ "/=" ∷ "%=" ∷ "**=" ∷ "<<=" ∷ ">>=" ∷ ">>>=" ∷ "&=" ∷ "|=" ∷ "^=" ∷ "&&=" ∷ "||=" ∷ "??=" ∷ []
 
 -- the text is one of these
 abbrev pub OneOf : List ℕ → List String → Type 0
@@ -134,7 +134,7 @@ one_assigns w (s ∷ (t ∷ ss)) (inl e) a = a.0 ∙ ap is_assignment (sym e)
 one_assigns w (s ∷ (t ∷ ss)) (inr h) a = one_assigns w (t ∷ ss) h a.1
 
 pub assigned : (w : List ℕ) → OneOf w assignments → true ≡ is_assignment w
-assigned w h = one_assigns w assignments h (refl, (refl, (refl, (refl, (refl, (refl, (refl, (refl, (refl, (refl, (refl, (refl, (refl, tt)))))))))))))
+assigned w h = one_assigns w assignments h (refl, (refl, (refl, (refl, (refl, (refl, (refl, (refl, (refl, (refl, (refl, (refl, (refl, (refl, (refl, (refl, tt))))))))))))))))
 
 pub unassigned : (w : List ℕ) → NoneOf w assignments → false ≡ is_assignment w
 unassigned w h =

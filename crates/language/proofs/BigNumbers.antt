@@ -7,7 +7,7 @@ use Rattle.std.proofs.lemmas.Bool.{cases_lt, false≢true, true≢false}
 use Rattle.std.proofs.lemmas.Bool.Decides.{nat_tests}
 use Rattle.std.proofs.lemmas.Str.{encode_ascii, encodes-chars, length-encode, len_utf8_bounds}
 use Rattle.tokens.specs.Alphabet.{one_of, is_identifier_start, is_decimal_digit, is_non_zero_digit, is_hex_digit}
-use Rattle.tokens.specs.Numbers.{Numeral, Base, unread, nought, integer, leading_point, point, fraction, exponent_mark, exponent_sign, exponent, prefix, digits, suffix, no_numeral, binary, octal, hexadecimal, is_digit_of, behind_integer, next_numeral, numeral_behind, is_complete}
+use Rattle.tokens.specs.Numbers.{Numeral, Base, unread, nought, integer, leading_point, point, fraction, exponent_mark, exponent_sign, exponent, prefix, digits, integer_separator, fraction_separator, exponent_separator, digits_separator, suffix, no_numeral, binary, octal, hexadecimal, is_digit_of, behind_integer, next_numeral, numeral_behind, is_complete}
 use Rattle.tokens.specs.declared.token.Class.TheVariants.{Number}
 use Rattle.tokens.specs.declared.token.Goal.TheVariants.{Div}
 use Rattle.tokens.specs.Lexical.{is_of, is_token}
@@ -49,6 +49,9 @@ high_dies s c h = of s
         oct c h = grind (arith, nat_tests)
     digit hexadecimal = hex c h
 
+    separator : (c : ℕ) → 128 ≤ c → one_of "_" c ≡ false
+    separator c h = grind (arith, nat_tests)
+
     dot : (c : ℕ) → 128 ≤ c → one_of "." c ≡ false
     dot c h = grind (arith, nat_tests)
 
@@ -76,15 +79,19 @@ high_dies s c h = of s
     of : (s : Numeral) → next_numeral s c ≡ no_numeral
     of unread = choose (one_of "0" c) _ (zero_code c h) ∙ (choose (is_non_zero_digit c) _ (others c h) ∙ choose (one_of "." c) _ (dot c h))
     of nought = let u = bases c h in choose (one_of "bB" c) _ u.0 ∙ (choose (one_of "oO" c) _ u.1.0 ∙ (choose (one_of "xX" c) _ u.1.1 ∙ whole))
-    of integer = choose (is_decimal_digit c) _ (ten c h) ∙ whole
+    of integer = choose (is_decimal_digit c) _ (ten c h) ∙ (choose (one_of "_" c) _ (separator c h) ∙ whole)
     of leading_point = choose (is_decimal_digit c) _ (ten c h)
     of point = choose (is_decimal_digit c) _ (ten c h) ∙ choose (one_of "eE" c) _ (mark c h)
-    of fraction = choose (is_decimal_digit c) _ (ten c h) ∙ choose (one_of "eE" c) _ (mark c h)
+    of fraction = choose (one_of "_" c) _ (separator c h) ∙ choose (is_decimal_digit c) _ (ten c h) ∙ choose (one_of "eE" c) _ (mark c h)
     of exponent_mark = choose (is_decimal_digit c) _ (ten c h) ∙ choose (one_of "+-" c) _ (signs c h)
     of exponent_sign = choose (is_decimal_digit c) _ (ten c h)
-    of exponent = choose (is_decimal_digit c) _ (ten c h)
+    of exponent = choose (is_decimal_digit c) _ (ten c h) ∙ choose (one_of "_" c) _ (separator c h)
     of (prefix b) = choose (is_digit_of b c) _ (digit b)
-    of (digits b) = choose (is_digit_of b c) _ (digit b) ∙ choose (one_of "n" c) _ (big c h)
+    of (digits b) = choose (is_digit_of b c) _ (digit b) ∙ (choose (one_of "n" c) _ (big c h) ∙ choose (one_of "_" c) _ (separator c h))
+    of integer_separator = choose (is_decimal_digit c) _ (ten c h)
+    of fraction_separator = choose (is_decimal_digit c) _ (ten c h)
+    of exponent_separator = choose (is_decimal_digit c) _ (ten c h)
+    of (digits_separator b) = choose (is_digit_of b c) _ (digit b)
     of suffix = refl
     of no_numeral = refl
 
@@ -105,6 +112,12 @@ n_ends (prefix hexadecimal) k = absurd (true_false _ k refl)
 n_ends (digits binary) k = refl
 n_ends (digits octal) k = refl
 n_ends (digits hexadecimal) k = refl
+n_ends integer_separator k = absurd (true_false _ k refl)
+n_ends fraction_separator k = absurd (true_false _ k refl)
+n_ends exponent_separator k = absurd (true_false _ k refl)
+n_ends (digits_separator binary) k = absurd (true_false _ k refl)
+n_ends (digits_separator octal) k = absurd (true_false _ k refl)
+n_ends (digits_separator hexadecimal) k = absurd (true_false _ k refl)
 n_ends suffix k = absurd (true_false _ k refl)
 n_ends no_numeral k = absurd (true_false _ k refl)
 

@@ -1,6 +1,6 @@
 -- Examples: expressions that tokens spell, with these pairs and in this one way; and trees that they do not spell.
 use Rattle.std.specs.Prelude.{◌≡◌, refl, [], ◌∷◌}
-use Rattle.tree.specs.declared.kind.Kind.TheVariants.{ArrayExpression, AssignmentExpression, AssignmentPattern, BinaryExpression, CallExpression, ChainExpression, ConditionalExpression, EmptyStatement, Identifier, ImportExpression, LogicalExpression, MemberExpression, NewExpression, ObjectExpression, Property, SequenceExpression, SpreadElement, TaggedTemplateExpression, TemplateElement, TemplateLiteral, ThisExpression, UnaryExpression, UpdateExpression}
+use Rattle.tree.specs.declared.kind.Kind.TheVariants.{ArrayExpression, ArrayPattern, AssignmentExpression, AssignmentPattern, BinaryExpression, CallExpression, ChainExpression, ConditionalExpression, EmptyStatement, Identifier, ImportExpression, LogicalExpression, MemberExpression, NewExpression, ObjectExpression, Property, SequenceExpression, SpreadElement, TaggedTemplateExpression, TemplateElement, TemplateLiteral, ThisExpression, UnaryExpression, UpdateExpression}
 use Rattle.tree.specs.declared.kind.Form.TheVariants.{Shorthand}
 use Rattle.tree.specs.Tree.{gap, none, part}
 use Rattle.language.proofs.Sources.{tokens, tokens_with_regexps}
@@ -130,6 +130,14 @@ pub relations : found (tokens "a in b instanceof c < d;") (program 24 (one (st 0
 unfolding computing
 relations = refl
 
+pub logical_assignments : found (tokens "a &&= (b ??= c)") (program 15 (one (st 0 15 (t AssignmentExpression "&&=" 0 15 (two (id "a" 0) (t AssignmentExpression "??=" 7 14 (two (id "b" 7) (id "c" 13)))))))) ≡ once (pair 6 14 ∷ [])
+unfolding computing
+logical_assignments = refl
+
+pub logical_assignment_in_or : found (tokens "(a ||= b) || c") (program 14 (one (st 0 14 (t LogicalExpression "||" 0 14 (two (t AssignmentExpression "||=" 1 8 (two (id "a" 1) (id "b" 7))) (id "c" 13)))))) ≡ once (pair 0 8 ∷ [])
+unfolding computing
+logical_assignment_in_or = refl
+
 pub assignments : found (tokens "a = b += c -= d *= e /= f %= g **= h <<= i >>= j >>>= k &= l |= m ^= n") (program 70 (one (st 0 70 (t AssignmentExpression "=" 0 70 (two (id "a" 0) (t AssignmentExpression "+=" 4 70 (two (id "b" 4) (t AssignmentExpression "-=" 9 70 (two (id "c" 9) (t AssignmentExpression "*=" 14 70 (two (id "d" 14) (t AssignmentExpression "/=" 19 70 (two (id "e" 19) (t AssignmentExpression "%=" 24 70 (two (id "f" 24) (t AssignmentExpression "**=" 29 70 (two (id "g" 29) (t AssignmentExpression "<<=" 35 70 (two (id "h" 35) (t AssignmentExpression ">>=" 41 70 (two (id "i" 41) (t AssignmentExpression ">>>=" 47 70 (two (id "j" 47) (t AssignmentExpression "&=" 54 70 (two (id "k" 54) (t AssignmentExpression "|=" 59 70 (two (id "l" 59) (t AssignmentExpression "^=" 64 70 (two (id "m" 64) (id "n" 69)))))))))))))))))))))))))))))) ≡ once []
 unfolding computing
 assignments = refl
@@ -167,6 +175,11 @@ update_of_update = refl
 pub minus_before_power : found (tokens "-a ** b;") (program 8 (one (st 0 8 (t BinaryExpression "**" 0 7 (two (t UnaryExpression "-" 0 2 (one (id "a" 1))) (id "b" 6)))))) ≡ []
 unfolding computing
 minus_before_power = refl
+
+-- a logical assignment has no pattern on its left
+pub logical_assignment_to_pattern : found (tokens "[a] &&= b") (program 9 (one (st 0 9 (t AssignmentExpression "&&=" 0 9 (two (n ArrayPattern 0 3 (one (id "a" 1))) (id "b" 8)))))) ≡ []
+unfolding computing
+logical_assignment_to_pattern = refl
 
 -- `??` and `&&` go together in groups alone
 pub coalesce_with_and : found (tokens "a ?? b && c;") (program 12 (one (st 0 12 (t LogicalExpression "??" 0 11 (two (id "a" 0) (t LogicalExpression "&&" 5 11 (two (id "b" 5) (id "c" 10)))))))) ≡ []

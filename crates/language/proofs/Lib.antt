@@ -176,5 +176,9 @@ pub mod CoverExamples
 pub mod Shorthands
 pub mod EchoPieces
 pub mod EchoTable
+pub mod LogicalPieces
+pub mod LogicalTable
+pub mod EarlierTokens
+pub mod EarlierScripts
 pub mod TextWorded
 pub mod FixedReads

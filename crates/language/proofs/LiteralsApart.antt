@@ -5,7 +5,7 @@ use Rattle.std.specs.Str.{chars}
 use Rattle.std.proofs.lemmas.Bool.Decides.{nat_tests}
 use Rattle.std.proofs.lemmas.Bool.{false≢true}
 use Rattle.tokens.specs.Alphabet.{one_of, begins_with, is_identifier_start, is_identifier_part, is_decimal_digit, is_hex_digit}
-use Rattle.tokens.specs.Numbers.{Numeral, Base, unread, nought, integer, leading_point, point, fraction, exponent_mark, exponent_sign, exponent, prefix, digits, suffix, no_numeral, binary, octal, hexadecimal, is_digit_of, behind_integer, behind_nought, next_numeral, numeral_behind, is_complete}
+use Rattle.tokens.specs.Numbers.{Numeral, Base, unread, nought, integer, leading_point, point, fraction, exponent_mark, exponent_sign, exponent, prefix, digits, integer_separator, fraction_separator, exponent_separator, digits_separator, suffix, no_numeral, binary, octal, hexadecimal, is_digit_of, behind_integer, behind_nought, next_numeral, numeral_behind, is_complete}
 use Rattle.tokens.specs.Strings.{closes_string}
 use Rattle.tokens.specs.Templates.{closes_template}
 use Rattle.tokens.specs.RegularExpressions.{RegularExpression, opened, body, brackets, flags, body_backslash, brackets_backslash, no_expression, next_in_body, next_expression, has_flags, expression_behind}
@@ -62,6 +62,9 @@ no_digit_of binary c h = grind (arith, nat_tests)
 no_digit_of octal c h = grind (arith, nat_tests)
 no_digit_of hexadecimal c h = no_hex c h
 
+no_separator : (c : ℕ) → is_closer c ≡ true → one_of "_" c ≡ false
+no_separator c h = grind (arith, nat_tests)
+
 no_exponent : (c : ℕ) → is_closer c ≡ true → one_of "eE" c ≡ false
 no_exponent c h = grind (arith, nat_tests)
 
@@ -79,17 +82,21 @@ nought_stops c h = pick (one_of "bB" c) _ (a c h) ∙ (pick (one_of "oO" c) _ (b
 
 number_stops : (s : Numeral) (c : ℕ) → IsTrue (is_complete s) → is_closer c ≡ true → next_numeral s c ≡ no_numeral
 number_stops nought c k h = nought_stops c h
-number_stops integer c k h = pick (is_decimal_digit c) _ (no_digit c h) ∙ integer_stops c h
+number_stops integer c k h = pick (is_decimal_digit c) _ (no_digit c h) ∙ (pick (one_of "_" c) _ (no_separator c h) ∙ integer_stops c h)
 number_stops point c k h = pick (is_decimal_digit c) _ (no_digit c h) ∙ pick (one_of "eE" c) _ (no_exponent c h)
-number_stops fraction c k h = pick (is_decimal_digit c) _ (no_digit c h) ∙ pick (one_of "eE" c) _ (no_exponent c h)
-number_stops exponent c k h = pick (is_decimal_digit c) _ (no_digit c h)
-number_stops (digits b) c k h = pick (is_digit_of b c) _ (no_digit_of b c h) ∙ pick (one_of "n" c) _ (no_n c h)
+number_stops fraction c k h = pick (one_of "_" c) _ (no_separator c h) ∙ pick (is_decimal_digit c) _ (no_digit c h) ∙ pick (one_of "eE" c) _ (no_exponent c h)
+number_stops exponent c k h = pick (is_decimal_digit c) _ (no_digit c h) ∙ pick (one_of "_" c) _ (no_separator c h)
+number_stops (digits b) c k h = pick (is_digit_of b c) _ (no_digit_of b c h) ∙ (pick (one_of "n" c) _ (no_n c h) ∙ pick (one_of "_" c) _ (no_separator c h))
 number_stops suffix c k h = refl
 number_stops unread c k h = absurd (true_false _ k refl)
 number_stops leading_point c k h = absurd (true_false _ k refl)
 number_stops exponent_mark c k h = absurd (true_false _ k refl)
 number_stops exponent_sign c k h = absurd (true_false _ k refl)
 number_stops (prefix b) c k h = absurd (true_false _ k refl)
+number_stops integer_separator c k h = absurd (true_false _ k refl)
+number_stops fraction_separator c k h = absurd (true_false _ k refl)
+number_stops exponent_separator c k h = absurd (true_false _ k refl)
+number_stops (digits_separator b) c k h = absurd (true_false _ k refl)
 number_stops no_numeral c k h = absurd (true_false _ k refl)
 
 no_start : (c : ℕ) → is_closer c ≡ true → is_identifier_start c ≡ false

@@ -38,7 +38,7 @@ is_word_character c = is_digit c || ((nat_le 97 c && nat_le c 122) || ((nat_le 6
 
 -- the punctuators of more than one character, and what they begin with
 abbrev pub is_longer_mark : List ℕ → Bool
-is_longer_mark w = among w (".." ∷ "..." ∷ "<=" ∷ ">=" ∷ "==" ∷ "!=" ∷ "===" ∷ "!==" ∷ "**" ∷ "++" ∷ "--" ∷ "<<" ∷ ">>" ∷ ">>>" ∷ "&&" ∷ "||" ∷ "??" ∷ "?." ∷ "+=" ∷ "-=" ∷ "*=" ∷ "%=" ∷ "**=" ∷ "<<=" ∷ ">>=" ∷ ">>>=" ∷ "&=" ∷ "|=" ∷ "^=" ∷ "=>" ∷ "/=" ∷ [])
+is_longer_mark w = among w (".." ∷ "..." ∷ "<=" ∷ ">=" ∷ "==" ∷ "!=" ∷ "===" ∷ "!==" ∷ "**" ∷ "++" ∷ "--" ∷ "<<" ∷ ">>" ∷ ">>>" ∷ "&&" ∷ "||" ∷ "??" ∷ "?." ∷ "+=" ∷ "-=" ∷ "*=" ∷ "%=" ∷ "**=" ∷ "<<=" ∷ ">>=" ∷ ">>>=" ∷ "&=" ∷ "|=" ∷ "^=" ∷ "&&=" ∷ "||=" ∷ "??=" ∷ "=>" ∷ "/=" ∷ [])
 
 abbrev pub behind_last : List ℕ → ℕ
 behind_last [] = 0

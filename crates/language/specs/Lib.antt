@@ -26,3 +26,4 @@ pub mod Printed
 pub mod Readable
 pub mod Claims
 pub mod Laws
+pub mod Earlier

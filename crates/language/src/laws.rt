@@ -1,5 +1,6 @@
 //! What is proved of the definitions: each contract is a theorem, and the body does nothing.
 
+ghost use Rattle.language.specs.Earlier.{EarlierScriptsStay};
 ghost use Rattle.language.specs.Laws.{AtMostOneWay, DerivedFits, FindsDerivations, FixedTextDerives, FixedTextWithinLimits, LayoutDerives, LayoutIsItems, LayoutIsSpelled, NoFewerPairs, NoFewerPairsOfTokens, PlacesChangeNoLayout, PlacesChangeNoWay, ReadingsAreDerived, StaysWithMoreTokens};
 
 /// A node has at most one way at a position, but for an arrow with one plain parameter and a `new` without arguments.
@@ -70,4 +71,10 @@ pub fn fixed_text_within_limits()
 /// The same tree, wherever its nodes stand, has the same wrapped nodes and the same fixed text.
 pub fn places_change_no_layout()
     ensures { PlacesChangeNoLayout }
+{}
+
+/// What a text derived by the 11th edition, without separators in numbers and without logical assignments, it derives today: the same
+/// tree, places and pairs.
+pub fn earlier_scripts_stay()
+    ensures { EarlierScriptsStay }
 {}

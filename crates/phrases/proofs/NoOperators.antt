@@ -49,4 +49,4 @@ pub assigns_alone : (w : List ℕ) → NoneIn w earlier → NoneIn w later →
     coded_operator (operator_among w assignment_operators) w ≡ coded_operator (operator_among w long_operators) w
 assigns_alone w h k =
     sym (ap (λ o. coded_operator o w)
-    (between w earlier later ("+=" ∷ "-=" ∷ "*=" ∷ "/=" ∷ "%=" ∷ "**=" ∷ "<<=" ∷ ">>=" ∷ ">>>=" ∷ "&=" ∷ "|=" ∷ "^=" ∷ [], assigns) h k))
+    (between w earlier later ("+=" ∷ "-=" ∷ "*=" ∷ "/=" ∷ "%=" ∷ "**=" ∷ "<<=" ∷ ">>=" ∷ ">>>=" ∷ "&=" ∷ "|=" ∷ "^=" ∷ "&&=" ∷ "||=" ∷ "??=" ∷ [], assigns) h k))

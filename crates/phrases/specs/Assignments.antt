@@ -4,4 +4,4 @@ use Prim.Native.String.{String}
 use Rattle.language.specs.Words.{Operator, assigns}
 
 abbrev pub assignment_operators : List (List String × Operator)
-assignment_operators = ("+=" ∷ "-=" ∷ "*=" ∷ "/=" ∷ "%=" ∷ "**=" ∷ "<<=" ∷ ">>=" ∷ ">>>=" ∷ "&=" ∷ "|=" ∷ "^=" ∷ [], assigns) ∷ []
+assignment_operators = ("+=" ∷ "-=" ∷ "*=" ∷ "/=" ∷ "%=" ∷ "**=" ∷ "<<=" ∷ ">>=" ∷ ">>>=" ∷ "&=" ∷ "|=" ∷ "^=" ∷ "&&=" ∷ "||=" ∷ "??=" ∷ [], assigns) ∷ []

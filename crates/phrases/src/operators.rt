@@ -183,6 +183,7 @@ fn assignment_of(text: &str) -> Option<Operator>
         "+=" | "-=" | "*=" | "/=" | "%=" | "**=" => Some(Operator::Assigns { is_plain: false }),
         "<<=" | ">>=" | ">>>=" => Some(Operator::Assigns { is_plain: false }),
         "&=" | "|=" | "^=" => Some(Operator::Assigns { is_plain: false }),
+        "&&=" | "||=" | "??=" => Some(Operator::Assigns { is_plain: false }),
         _ => None,
     }
 }

@@ -215,7 +215,7 @@ module _ (w : List ℕ) where
   before_steps = ("|" ∷ [], binds false BitwiseOr BitwiseXor) ∷ ("^" ∷ [], binds false BitwiseXor BitwiseAnd) ∷ ("&" ∷ [], binds false BitwiseAnd Equality) ∷ ("==" ∷ "!=" ∷ "===" ∷ "!==" ∷ [], binds false Equality Relational) ∷ ("<" ∷ ">" ∷ "<=" ∷ ">=" ∷ "instanceof" ∷ "in" ∷ [], binds false Relational Shift) ∷ ("<<" ∷ ">>" ∷ ">>>" ∷ [], binds false Shift Additive) ∷ ("+" ∷ "-" ∷ [], binds false Additive Multiplicative) ∷ ("*" ∷ "/" ∷ "%" ∷ [], binds false Multiplicative Exponentiation) ∷ ("??" ∷ [], binds true Coalesce BitwiseOr) ∷ ("||" ∷ [], binds true LogicalOr LogicalAnd) ∷ ("&&" ∷ [], binds true LogicalAnd BitwiseOr) ∷ ("**" ∷ [], powers) ∷ []
 
   abbrev behind_steps : Rows
-  behind_steps = ("=" ∷ "+=" ∷ "-=" ∷ "*=" ∷ "/=" ∷ "%=" ∷ "**=" ∷ "<<=" ∷ ">>=" ∷ ">>>=" ∷ "&=" ∷ "|=" ∷ "^=" ∷ [], assigns) ∷ ("," ∷ [], makes_sequence) ∷ ("?" ∷ [], asks) ∷ ("." ∷ [], selects) ∷ ("(" ∷ [], calls_on) ∷ ("[" ∷ [], indexes) ∷ ("?." ∷ [], chains) ∷ ("=>" ∷ [], makes_arrow) ∷ []
+  behind_steps = ("=" ∷ "+=" ∷ "-=" ∷ "*=" ∷ "/=" ∷ "%=" ∷ "**=" ∷ "<<=" ∷ ">>=" ∷ ">>>=" ∷ "&=" ∷ "|=" ∷ "^=" ∷ "&&=" ∷ "||=" ∷ "??=" ∷ [], assigns) ∷ ("," ∷ [], makes_sequence) ∷ ("?" ∷ [], asks) ∷ ("." ∷ [], selects) ∷ ("(" ∷ [], calls_on) ∷ ("[" ∷ [], indexes) ∷ ("?." ∷ [], chains) ∷ ("=>" ∷ [], makes_arrow) ∷ []
 
   abbrev no_steps : Rows → Bool
   no_steps [] = true

@@ -1,5 +1,5 @@
 -- Worked examples of tokens, right and wrong ones.
-use Rattle.std.specs.Prelude.{◌≡◌, ℕ, Bool, true, false, not, ◌&&◌, List, [], ◌∷◌, ◌++◌, Some, None, codes, refl}
+use Rattle.std.specs.Prelude.{◌≡◌, ℕ, Bool, true, false, not, ◌&&◌, ◌||◌, List, [], ◌∷◌, ◌++◌, Some, None, codes, refl}
 use Rattle.std.specs.List.{list_all, list_any}
 use Prim.Native.String.{String}
 use Rattle.unicode_ident.proofs.Computing.{unicode_ident}
@@ -9,7 +9,8 @@ use Rattle.tokens.specs.Numbers.{is_number}
 use Rattle.tokens.specs.Strings.{is_string, string_units}
 use Rattle.tokens.specs.Templates.{is_template, raw_value, cooked_value}
 use Rattle.tokens.specs.RegularExpressions.{is_regular_expression}
-use Rattle.tokens.specs.Lexical.{is_name, is_punctuator}
+use Rattle.tokens.specs.Lexical.{Punctuator, Number, is_name, is_punctuator, is_token}
+use Rattle.tokens.specs.Earlier.{earlier_is_token}
 
 -- all of the texts pass the test, and none does
 abbrev all_are : (List ℕ → Bool) → List String → Bool
@@ -21,10 +22,10 @@ none_are test [] = true
 none_are test (s ∷ ss) = not (test (codes s)) && none_are test ss
 
 numbers : all_are is_number ("0" ∷ "7" ∷ "10" ∷ "1." ∷ "0." ∷ "1.5" ∷ ".5" ∷ "1e3" ∷ "1E3" ∷ "1.5E3" ∷ "1.e-3" ∷ ".5E+10" ∷ "0e0" ∷ "0n" ∷ "12n" ∷ "0x1F" ∷ "0Xabn" ∷ "0o17" ∷ "0O7n" ∷ "0b01"
-    ∷ "0B1n" ∷ []) ≡ true
+    ∷ "0B1n" ∷ "1_0" ∷ "1_000_000" ∷ "1_0n" ∷ "1_0.5_0e1_0" ∷ ".5_0e+1_0" ∷ "0.1_0" ∷ "0xF_F" ∷ "0b1_0n" ∷ "0o1_7" ∷ []) ≡ true
 numbers = refl
 
-no_numbers : none_are is_number ("" ∷ "." ∷ ".a" ∷ "010" ∷ "08" ∷ "1e" ∷ "1e+" ∷ "1.5n" ∷ "1.n" ∷ "1e3n" ∷ ".5n" ∷ "0x" ∷ "0xn" ∷ "0xg" ∷ "0o8" ∷ "0b2" ∷ "1_0" ∷ "1..5" ∷ "-1" ∷ "0x1nn"
+no_numbers : none_are is_number ("" ∷ "." ∷ ".a" ∷ "010" ∷ "08" ∷ "1e" ∷ "1e+" ∷ "1.5n" ∷ "1.n" ∷ "1e3n" ∷ ".5n" ∷ "0x" ∷ "0xn" ∷ "0xg" ∷ "0o8" ∷ "0b2" ∷ "1__0" ∷ "1_" ∷ "_1" ∷ "0_1" ∷ "0_" ∷ "0_1n" ∷ "0x_F" ∷ "0xF_" ∷ "0xF__F" ∷ "0_xF" ∷ "1_.5" ∷ "1._5" ∷ "1.5_" ∷ "._5" ∷ "1_e5" ∷ "1e_5" ∷ "1e5_" ∷ "1e+_5" ∷ "1_n" ∷ "0x1_n" ∷ "0b1_2" ∷ "1..5" ∷ "-1" ∷ "0x1nn"
     ∷ "1.5.5" ∷ "0x1.5" ∷ "1e1.5" ∷ []) ≡ true
 no_numbers = refl
 
@@ -50,11 +51,22 @@ no_expressions : none_are is_regular_expression ("" ∷ "/" ∷ "//" ∷ "/a" �
 unfolding unicode_ident
 no_expressions = refl
 
-punctuators : all_are is_punctuator ("{" ∷ "}" ∷ "(" ∷ "..." ∷ "." ∷ "?." ∷ "??" ∷ "?" ∷ "**=" ∷ ">>>=" ∷ "=>" ∷ "/" ∷ "/=" ∷ "!==" ∷ []) ≡ true
+punctuators : all_are is_punctuator ("{" ∷ "}" ∷ "(" ∷ "..." ∷ "." ∷ "?." ∷ "??" ∷ "?" ∷ "**=" ∷ ">>>=" ∷ "=>" ∷ "/" ∷ "/=" ∷ "!==" ∷ "&&=" ∷ "||=" ∷ "??=" ∷ []) ≡ true
 punctuators = refl
 
-no_punctuators : none_are is_punctuator ("" ∷ ".." ∷ "&&=" ∷ "||=" ∷ "??=" ∷ "<!--" ∷ "=>>" ∷ "//" ∷ "/*" ∷ "#" ∷ "@" ∷ "a" ∷ "\\" ∷ "?.." ∷ "<>" ∷ []) ≡ true
+no_punctuators : none_are is_punctuator ("" ∷ ".." ∷ "&&==" ∷ "|||=" ∷ "?=" ∷ "?.=" ∷ "<!--" ∷ "=>>" ∷ "//" ∷ "/*" ∷ "#" ∷ "@" ∷ "a" ∷ "\\" ∷ "?.." ∷ "<>" ∷ []) ≡ true
 no_punctuators = refl
+
+-- earlier tokens: what follows each is the second text
+earlier_ones : earlier_is_token Punctuator (codes "&&") (codes "=b") && earlier_is_token Punctuator (codes "??") (codes "=") && earlier_is_token Number (codes "10") (codes ";")
+    && not (is_token Punctuator (codes "&&") (codes "=b")) && not (is_token Punctuator (codes "??") (codes "=")) ≡ true
+unfolding unicode_ident
+earlier_ones = refl
+
+no_earlier_ones : earlier_is_token Punctuator (codes "&&=") (codes "b") || earlier_is_token Punctuator (codes "&") (codes "&=") || earlier_is_token Number (codes "1_0") (codes ";")
+    || earlier_is_token Number (codes "1") (codes "_0") || earlier_is_token Number (codes "1") (codes ".5_0") || earlier_is_token Number (codes "1.5") (codes "_0") ≡ false
+unfolding unicode_ident
+no_earlier_ones = refl
 
 names : all_are is_name ("a" ∷ "$" ∷ "_" ∷ "if" ∷ "a1" ∷ "$_9" ∷ "é" ∷ "ℵ" ∷ "𝒜" ∷ "℘" ∷ "let" ∷ "constructor" ∷ "aé" ∷ []) ≡ true
 unfolding unicode_ident

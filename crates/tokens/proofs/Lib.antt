@@ -20,3 +20,5 @@ pub mod Punctuators
 pub mod Scanning
 pub mod Bounds
 pub mod Expressions
+pub mod EarlierWords
+pub mod EarlierClasses

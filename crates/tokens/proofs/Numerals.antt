@@ -5,7 +5,7 @@ use Rattle.std.proofs.lemmas.Bool.Decides.{nat_tests}
 use Rattle.unicode_ident.specs.Ident.{is_xid_start}
 use Rattle.unicode_ident.proofs.IdentLemmas.{is_xid_start-ascii}
 use Rattle.tokens.specs.Alphabet.{one_of, is_identifier_start, is_decimal_digit}
-use Rattle.tokens.specs.Numbers.{binary, octal, hexadecimal, Numeral, unread, nought, integer, leading_point, point, fraction, exponent_mark, exponent_sign, exponent, prefix, digits, suffix, no_numeral, is_digit_of, next_numeral, is_complete, numeral_behind}
+use Rattle.tokens.specs.Numbers.{binary, octal, hexadecimal, Numeral, unread, nought, integer, leading_point, point, fraction, exponent_mark, exponent_sign, exponent, prefix, digits, integer_separator, fraction_separator, exponent_separator, digits_separator, suffix, no_numeral, is_digit_of, next_numeral, is_complete, numeral_behind}
 use Rattle.tokens.specs.Lexical.{Number, is_at, none_longer, ends_well, is_token}
 use Rattle.tokens.specs.States.{is_dead}
 use Rattle.tokens.specs.Reading.{behind}
@@ -21,7 +21,7 @@ pub behind_append : (s : Numeral) (v w : List ℕ) → numeral_behind s (v ++ w)
 behind_append s [] w = refl
 behind_append s (c ∷ v) w = behind_append (next_numeral s c) v w
 
-dead_is : (s : Numeral) → IsTrue (is_dead s) → s ≡ no_numeral
+pub dead_is : (s : Numeral) → IsTrue (is_dead s) → s ≡ no_numeral
 dead_is no_numeral h = refl
 dead_is unread h = absurd (true_false _ h refl)
 dead_is nought h = absurd (true_false _ h refl)
@@ -34,6 +34,10 @@ dead_is exponent_sign h = absurd (true_false _ h refl)
 dead_is exponent h = absurd (true_false _ h refl)
 dead_is (prefix b) h = absurd (true_false _ h refl)
 dead_is (digits b) h = absurd (true_false _ h refl)
+dead_is integer_separator h = absurd (true_false _ h refl)
+dead_is fraction_separator h = absurd (true_false _ h refl)
+dead_is exponent_separator h = absurd (true_false _ h refl)
+dead_is (digits_separator b) h = absurd (true_false _ h refl)
 dead_is suffix h = absurd (true_false _ h refl)
 
 dead_on : (s : Numeral) (w : List ℕ) → IsTrue (is_dead s) → IsTrue (is_dead (numeral_behind s w))
@@ -52,9 +56,13 @@ complete_alive exponent_sign h = refl
 complete_alive exponent h = refl
 complete_alive (prefix b) h = refl
 complete_alive (digits b) h = refl
+complete_alive integer_separator h = refl
+complete_alive fraction_separator h = refl
+complete_alive exponent_separator h = refl
+complete_alive (digits_separator b) h = refl
 complete_alive suffix h = refl
 
--- the letters that go on with a number without completing one
+-- the letters that go on with a number without completing one, and the separator
 letter : (c : ℕ) → IsTrue (one_of "bBoOxXeE" c) → IsTrue (is_identifier_start c)
 letter c h = starts c (is_xid_start c) (is_xid_start-ascii c (small c h)) h where
   small : (c : ℕ) → IsTrue (one_of "bBoOxXeE" c) → c < 128
@@ -63,8 +71,13 @@ letter c h = starts c (is_xid_start c) (is_xid_start-ascii c (small c h)) h wher
   starts : (c : ℕ) (x : Bool) → x ≡ is_ascii_alphabetic c → IsTrue (one_of "bBoOxXeE" c) → IsTrue (one_of "$_" c || x)
   starts c x e h = grind (arith, nat_tests)
 
+separator : (c : ℕ) → one_of "_" c ≡ true → IsTrue (is_identifier_start c)
+separator c h = starts c (is_xid_start c) h where
+  starts : (c : ℕ) (x : Bool) → one_of "_" c ≡ true → IsTrue (one_of "$_" c || x)
+  starts c x h = grind (arith, nat_tests)
+
 -- behind a whole number a character ends it, completes a longer one, or is one that may not follow
-abbrev ends_or_goes_on : Numeral → ℕ → Bool
+abbrev pub ends_or_goes_on : Numeral → ℕ → Bool
 ends_or_goes_on s c = is_dead s || is_complete s || is_identifier_start c
 
 integer_kind : (c : ℕ) (a b d : Bool) → (b ≡ true → IsTrue (is_identifier_start c)) →
@@ -98,29 +111,42 @@ fraction_kind c true b f = refl
 fraction_kind c false true f = f refl
 fraction_kind c false false f = refl
 
-whole_kind : (s : Numeral) (c : ℕ) → IsTrue (is_complete s) → IsTrue (ends_or_goes_on (next_numeral s c) c)
+pub whole_kind : (s : Numeral) (c : ℕ) → IsTrue (is_complete s) → IsTrue (ends_or_goes_on (next_numeral s c) c)
 whole_kind nought c h = nought_kind c (one_of "bB" c) (one_of "oO" c) (one_of "xX" c) (λ e. letter c (prefix_letter_b c e)) (λ e. letter c (prefix_letter_o c e)) (λ e. letter c (prefix_letter_x c e))
-whole_kind integer c h = at_integer (is_decimal_digit c) where
-  at_integer : (a : Bool) → IsTrue (ends_or_goes_on (if a then integer else if one_of "." c then point else if one_of "eE" c then exponent_mark else if one_of "n" c then suffix else no_numeral) c)
-  at_integer true = refl
-  at_integer false = integer_kind c (one_of "." c) (one_of "eE" c) (one_of "n" c) (λ e. letter c (exponent_letter c e))
+whole_kind integer c h = at_integer (is_decimal_digit c) (one_of "_" c) (separator c) where
+  at_integer : (a u : Bool) → (u ≡ true → IsTrue (is_identifier_start c)) →
+      IsTrue (ends_or_goes_on (if a then integer else if u then integer_separator else if one_of "." c then point else if one_of "eE" c then exponent_mark else if one_of "n" c then suffix else no_numeral) c)
+  at_integer true u f = refl
+  at_integer false true f = f refl
+  at_integer false false f = integer_kind c (one_of "." c) (one_of "eE" c) (one_of "n" c) (λ e. letter c (exponent_letter c e))
 whole_kind point c h = fraction_kind c (is_decimal_digit c) (one_of "eE" c) (λ e. letter c (exponent_letter c e))
-whole_kind fraction c h = fraction_kind c (is_decimal_digit c) (one_of "eE" c) (λ e. letter c (exponent_letter c e))
-whole_kind exponent c h = at_exponent (is_decimal_digit c) where
-  at_exponent : (a : Bool) → IsTrue (ends_or_goes_on (if a then exponent else no_numeral) c)
-  at_exponent true = refl
-  at_exponent false = refl
-whole_kind (digits base) c h = at_digits (is_digit_of base c) (one_of "n" c) where
-  at_digits : (a b : Bool) → IsTrue (ends_or_goes_on (if a then digits base else if b then suffix else no_numeral) c)
-  at_digits true b = refl
-  at_digits false true = refl
-  at_digits false false = refl
+whole_kind fraction c h = at_fraction (one_of "_" c) (separator c) where
+  at_fraction : (u : Bool) → (u ≡ true → IsTrue (is_identifier_start c)) →
+      IsTrue (ends_or_goes_on (if u then fraction_separator else if is_decimal_digit c then fraction else if one_of "eE" c then exponent_mark else no_numeral) c)
+  at_fraction true f = f refl
+  at_fraction false f = fraction_kind c (is_decimal_digit c) (one_of "eE" c) (λ e. letter c (exponent_letter c e))
+whole_kind exponent c h = at_exponent (is_decimal_digit c) (one_of "_" c) (separator c) where
+  at_exponent : (a u : Bool) → (u ≡ true → IsTrue (is_identifier_start c)) → IsTrue (ends_or_goes_on (if a then exponent else if u then exponent_separator else no_numeral) c)
+  at_exponent true u f = refl
+  at_exponent false true f = f refl
+  at_exponent false false f = refl
+whole_kind (digits base) c h = at_digits (is_digit_of base c) (one_of "n" c) (one_of "_" c) (separator c) where
+  at_digits : (a b u : Bool) → (u ≡ true → IsTrue (is_identifier_start c)) →
+      IsTrue (ends_or_goes_on (if a then digits base else if b then suffix else if u then digits_separator base else no_numeral) c)
+  at_digits true b u f = refl
+  at_digits false true u f = refl
+  at_digits false false true f = f refl
+  at_digits false false false f = refl
 whole_kind suffix c h = refl
 whole_kind unread c h = absurd (true_false _ h refl)
 whole_kind leading_point c h = absurd (true_false _ h refl)
 whole_kind exponent_mark c h = absurd (true_false _ h refl)
 whole_kind exponent_sign c h = absurd (true_false _ h refl)
 whole_kind (prefix base) c h = absurd (true_false _ h refl)
+whole_kind integer_separator c h = absurd (true_false _ h refl)
+whole_kind fraction_separator c h = absurd (true_false _ h refl)
+whole_kind exponent_separator c h = absurd (true_false _ h refl)
+whole_kind (digits_separator base) c h = absurd (true_false _ h refl)
 whole_kind no_numeral c h = absurd (true_false _ h refl)
 
 -- ---- a number is complete, and the next character ends it

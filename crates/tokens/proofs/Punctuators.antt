@@ -72,7 +72,8 @@ triple_is b c d =
     same_tests _ _ (tested (b ∷ c ∷ d ∷ []))
     (among_if (d == 61) b _ _ P
     (λ e. among_if (c == 61) b _ _ P (triple_at b c d 61 61 refl e) (among_if (c == 42) b _ _ P (triple_at b c d 42 61 refl e) (among_if (c == 60) b _ _ P (triple_at b c d 60 61 refl e)
-    (among_if (c == 62) b _ _ P (triple_at b c d 62 61 refl e) none))))
+    (among_if (c == 62) b _ _ P (triple_at b c d 62 61 refl e) (among_if (c == 38) b _ _ P (triple_at b c d 38 61 refl e) (among_if (c == 124) b _ _ P (triple_at b c d 124 61 refl e)
+    (among_if (c == 63) b _ _ P (triple_at b c d 63 61 refl e) none)))))))
     (among_if (d == 46) b _ _ P (λ e. among_if (c == 46) b _ _ P (triple_at b c d 46 46 refl e) none)
     (among_if (d == 62) b _ _ P (λ e. among_if (c == 62) b _ _ P (triple_at b c d 62 62 refl e) none) none)))
 
@@ -445,7 +446,8 @@ alone_pair b c h =
 alone_triple : (b c d : ℕ) → IsTrue (is_among b alone) → is_triple b c d ≡ false
 alone_triple b c d h =
     apart_if (d == 61) b _ _ (apart_if (c == 61) b _ _ (apart b (codes "=!") h refl) (apart_if (c == 42) b _ _ (apart b (codes "*") h refl) (apart_if (c == 60) b _ _ (apart b (codes "<") h refl)
-    (apart_if (c == 62) b _ _ (apart b (codes ">") h refl) refl))))
+    (apart_if (c == 62) b _ _ (apart b (codes ">") h refl) (apart_if (c == 38) b _ _ (apart b (codes "&") h refl) (apart_if (c == 124) b _ _ (apart b (codes "|") h refl)
+    (apart_if (c == 63) b _ _ (apart b (codes "?") h refl) refl)))))))
     (apart_if (d == 46) b _ _ (apart_if (c == 46) b _ _ (apart b (codes ".") h refl) refl) (apart_if (d == 62) b _ _ (apart_if (c == 62) b _ _ (apart b (codes ">") h refl) refl) refl))
 
 alone_no : (b k : ℕ) → IsTrue (is_among b alone) → IsTrue (list_all (λ x. not (x == k)) alone) → (b == k) ≡ false
@@ -479,7 +481,8 @@ stops_pair b c h =
 stops_triple : (b c d : ℕ) → goes_on c ≡ false → is_triple b c d ≡ false
 stops_triple b c d h =
     let n : (k : ℕ) → IsTrue (goes_on k) → (c == k) ≡ false = λ k l. other goes_on c k h l in
-    ap (is_among b) (if_none (d == 61) _ _ (if_false (c == 61) _ _ (n 61 refl) ∙ if_false (c == 42) _ _ (n 42 refl) ∙ if_false (c == 60) _ _ (n 60 refl) ∙ if_false (c == 62) _ _ (n 62 refl))
+    ap (is_among b) (if_none (d == 61) _ _ (if_false (c == 61) _ _ (n 61 refl) ∙ if_false (c == 42) _ _ (n 42 refl) ∙ if_false (c == 60) _ _ (n 60 refl) ∙ if_false (c == 62) _ _ (n 62 refl)
+    ∙ if_false (c == 38) _ _ (n 38 refl) ∙ if_false (c == 124) _ _ (n 124 refl) ∙ if_false (c == 63) _ _ (n 63 refl))
     (if_none (d == 46) _ _ (if_false (c == 46) _ _ (n 46 refl)) (if_none (d == 62) _ _ (if_false (c == 62) _ _ (n 62 refl)) refl)))
 
 pub found_plain : (text : List ℕ) (at b c p q : ℕ) → IsUtf8 text → Looks text at b p → Looks text p c q → is_single b ≡ true → goes_on c ≡ false → IsWordAt Punctuator text at p

@@ -78,7 +78,7 @@ no_string : (token : LexicalToken) (rest : List ℕ) → ¬ (IsTokenAt Div 0 (co
 unfolding unicode_ident
 no_string token rest = none_begins Div 0 (codes "'\\08'") token rest refl refl
 
-refused : refuses "3in" && refuses "010" && refuses "08" && refuses "\\u0061" && refuses "'\\08'" && refuses "1.a" && refuses "1_0" && refuses "0x1nin" && refuses "0b12" && refuses "1e" && refuses "1n1" && refuses ".5a"
+refused : refuses "3in" && refuses "010" && refuses "08" && refuses "\\u0061" && refuses "'\\08'" && refuses "1.a" && refuses "1_" && refuses "1__0" && refuses "0_1" && refuses "0x_F" && refuses "1_.5" && refuses "1._5" && refuses "1e_5" && refuses "0x1nin" && refuses "0b12" && refuses "1e" && refuses "1n1" && refuses ".5a"
     && refuses "'abc" && refuses "`abc" && refuses "#" && refuses "@a" && refuses "/*" && refuses "/* a" && refuses "/*/" && refuses "²" ≡ true
 unfolding unicode_ident
 refused = refl
@@ -89,13 +89,13 @@ by_goal : none_fronts Goal.RegExp (codes "/[/") && none_fronts Goal.RegExp (code
 unfolding unicode_ident
 by_goal = refl
 
-longest_ones : reads Div Punctuator ">>>=" "a" && reads Div Punctuator "." "." && reads Div Punctuator "." ".5" && reads Div Punctuator "..." "5" && reads Div Number "1." ".5" && reads Div Number "1." "/2"
+longest_ones : reads Div Punctuator ">>>=" "a" && reads Div Punctuator "&&=" "=" && reads Div Punctuator "??=" "a" && reads Div Punctuator "||" "|=" && reads Div Number "1_0" ";_" && reads Div Number "1_0." "/2_" && reads Div Punctuator "." "." && reads Div Punctuator "." ".5" && reads Div Punctuator "..." "5" && reads Div Number "1." ".5" && reads Div Number "1." "/2"
     && reads Div Number "0" "?" && reads Div Name "a" "\\" && reads Div Name "if" "(" && reads Goal.RegExp RegExp "/[\\]/]/" "]/" && reads Goal.RegExp RegExp "/a/g" "-i" && reads Div Text "'a'" "'b'"
     && reads Div Template "`a${" "b}`" && reads TemplateTail Template "}`" "`" && reads Div Punctuator "/" "[/" && reads Goal.RegExp Punctuator "}" "`" && reads Goal.RegExp Punctuator "+" "/" && reads TemplateTail Punctuator "/" "a/" ≡ true
 unfolding unicode_ident
 longest_ones = refl
 
-shorter_ones : reads Div Punctuator ">>" ">=" || reads Div Name "a" "b" || reads Div Number "1" "0" || reads Div Number "1" "." || reads Goal.RegExp RegExp "/a/" "g" || reads Div Punctuator "." "5" || reads Div Punctuator "?." "5"
+shorter_ones : reads Div Punctuator ">>" ">=" || reads Div Punctuator "&&" "=" || reads Div Punctuator "??" "=a" || reads Div Number "1" "_0" || reads Div Number "1_0" "_" || reads Div Name "a" "b" || reads Div Number "1" "0" || reads Div Number "1" "." || reads Goal.RegExp RegExp "/a/" "g" || reads Div Punctuator "." "5" || reads Div Punctuator "?." "5"
     || reads Div Punctuator "/" "/a" || reads Div RegExp "/a/" "" || reads Goal.RegExp Punctuator "/" "a/" || reads Goal.RegExp Punctuator "/=" "a/" || reads TemplateTail Punctuator "}" "`" || reads Div Template "}`" "" ≡ false
 unfolding unicode_ident
 shorter_ones = refl

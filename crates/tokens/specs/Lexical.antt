@@ -21,11 +21,11 @@ abbrev pub is_one_of_words : List String → List ℕ → Bool
 is_one_of_words [] text = false
 is_one_of_words (word ∷ words) text = bytes_eq text (codes word) || is_one_of_words words text
 
--- Punctuator, DivPunctuator and RightBracePunctuator (11.7)
+-- Punctuator, DivPunctuator and RightBracePunctuator (11.7), with the three logical assignments of the 12th edition
 abbrev pub punctuators : List String
 punctuators = "{" ∷ "(" ∷ ")" ∷ "[" ∷ "]" ∷ "." ∷ "..." ∷ ";" ∷ "," ∷ "<" ∷ ">" ∷ "<=" ∷ ">=" ∷ "==" ∷ "!="
     ∷ "===" ∷ "!==" ∷ "+" ∷ "-" ∷ "*" ∷ "%" ∷ "**" ∷ "++" ∷ "--" ∷ "<<" ∷ ">>" ∷ ">>>" ∷ "&" ∷ "|" ∷ "^" ∷ "!" ∷ "~" ∷ "&&" ∷ "||" ∷ "??"
-    ∷ "?" ∷ "?." ∷ ":" ∷ "=" ∷ "+=" ∷ "-=" ∷ "*=" ∷ "%=" ∷ "**=" ∷ "<<=" ∷ ">>=" ∷ ">>>=" ∷ "&=" ∷ "|=" ∷ "^=" ∷ "=>" ∷ "/" ∷ "/=" ∷ "}" ∷ []
+    ∷ "?" ∷ "?." ∷ ":" ∷ "=" ∷ "+=" ∷ "-=" ∷ "*=" ∷ "%=" ∷ "**=" ∷ "<<=" ∷ ">>=" ∷ ">>>=" ∷ "&=" ∷ "|=" ∷ "^=" ∷ "&&=" ∷ "||=" ∷ "??=" ∷ "=>" ∷ "/" ∷ "/=" ∷ "}" ∷ []
 
 abbrev pub is_punctuator : List ℕ → Bool
 is_punctuator text = is_one_of_words punctuators text

@@ -17,3 +17,4 @@ pub mod Sets
 pub mod Scanned
 pub mod Escaped
 pub mod Laws
+pub mod Earlier

@@ -34,7 +34,8 @@ is_pair b c = is_among b (firsts c)
 -- what may stand before the second and the third
 abbrev pub firsts_of_three : ℕ → ℕ → List ℕ
 firsts_of_three c d =
-    if d == 61 then (if c == 61 then codes "=!" else if c == 42 then codes "*" else if c == 60 then codes "<" else if c == 62 then codes ">" else [])
+    if d == 61 then (if c == 61 then codes "=!" else if c == 42 then codes "*" else if c == 60 then codes "<" else if c == 62 then codes ">"
+    else if c == 38 then codes "&" else if c == 124 then codes "|" else if c == 63 then codes "?" else [])
     else if d == 46 then (if c == 46 then codes "." else []) else if d == 62 then (if c == 62 then codes ">" else []) else []
 
 abbrev pub is_triple : ℕ → ℕ → ℕ → Bool

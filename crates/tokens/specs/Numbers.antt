@@ -1,4 +1,4 @@
--- NumericLiteral (ECMA-262 11.8.3), by how far a literal has been read.
+-- NumericLiteral (ECMA-262 11.8.3) with the NumericLiteralSeparator of the 12th edition, by how far a literal has been read.
 use Rattle.std.specs.Prelude.{ℕ, Bool, true, false, List, [], ◌∷◌, if◌then◌else◌}
 use Rattle.tokens.specs.Alphabet.{one_of, is_decimal_digit, is_non_zero_digit, is_binary_digit, is_octal_digit, is_hex_digit}
 
@@ -21,6 +21,9 @@ pub data Numeral : Type 0 where
   exponent_mark exponent_sign exponent : Numeral
   -- BinaryIntegerLiteral, OctalIntegerLiteral, HexIntegerLiteral: `0` and a letter, and digits behind it
   prefix digits : Base → Numeral
+  -- NumericLiteralSeparator: one `_` behind a digit, which a digit of the same run must follow; none stands behind a leading `0`
+  integer_separator fraction_separator exponent_separator : Numeral
+  digits_separator : Base → Numeral
   -- BigIntLiteralSuffix: `n`
   suffix : Numeral
   -- no beginning of a literal
@@ -39,15 +42,19 @@ behind_fraction c = if is_decimal_digit c then fraction else if one_of "eE" c th
 abbrev pub next_numeral : Numeral → ℕ → Numeral
 next_numeral unread c = if one_of "0" c then nought else if is_non_zero_digit c then integer else if one_of "." c then leading_point else no_numeral
 next_numeral nought c = behind_nought c
-next_numeral integer c = if is_decimal_digit c then integer else behind_integer c
+next_numeral integer c = if is_decimal_digit c then integer else if one_of "_" c then integer_separator else behind_integer c
 next_numeral leading_point c = if is_decimal_digit c then fraction else no_numeral
 next_numeral point c = behind_fraction c
-next_numeral fraction c = behind_fraction c
+next_numeral fraction c = if one_of "_" c then fraction_separator else behind_fraction c
 next_numeral exponent_mark c = if is_decimal_digit c then exponent else if one_of "+-" c then exponent_sign else no_numeral
 next_numeral exponent_sign c = if is_decimal_digit c then exponent else no_numeral
-next_numeral exponent c = if is_decimal_digit c then exponent else no_numeral
+next_numeral exponent c = if is_decimal_digit c then exponent else if one_of "_" c then exponent_separator else no_numeral
 next_numeral (prefix base) c = if is_digit_of base c then digits base else no_numeral
-next_numeral (digits base) c = if is_digit_of base c then digits base else if one_of "n" c then suffix else no_numeral
+next_numeral (digits base) c = if is_digit_of base c then digits base else if one_of "n" c then suffix else if one_of "_" c then digits_separator base else no_numeral
+next_numeral integer_separator c = if is_decimal_digit c then integer else no_numeral
+next_numeral fraction_separator c = if is_decimal_digit c then fraction else no_numeral
+next_numeral exponent_separator c = if is_decimal_digit c then exponent else no_numeral
+next_numeral (digits_separator base) c = if is_digit_of base c then digits base else no_numeral
 next_numeral suffix c = no_numeral
 next_numeral no_numeral c = no_numeral
 
@@ -65,6 +72,10 @@ is_complete leading_point = false
 is_complete exponent_mark = false
 is_complete exponent_sign = false
 is_complete (prefix base) = false
+is_complete integer_separator = false
+is_complete fraction_separator = false
+is_complete exponent_separator = false
+is_complete (digits_separator base) = false
 is_complete no_numeral = false
 
 abbrev pub numeral_behind : Numeral → List ℕ → Numeral

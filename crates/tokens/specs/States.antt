@@ -3,10 +3,10 @@ use Rattle.std.specs.Prelude.{Bool, true, false}
 use Rattle.tokens.specs.declared.number.Base.{Base as ReaderBase}
 use Rattle.tokens.specs.declared.number.Base.TheVariants.{Binary, Octal, Hexadecimal}
 use Rattle.tokens.specs.declared.number.State.{State as NumberState}
-use Rattle.tokens.specs.declared.number.State.TheVariants.{Unread, Nought, Integer, LeadingPoint, Point, Fraction, ExponentMark, ExponentSign, Exponent, Prefix, Digits, Suffix, Dead}
+use Rattle.tokens.specs.declared.number.State.TheVariants.{Unread, Nought, Integer, LeadingPoint, Point, Fraction, ExponentMark, ExponentSign, Exponent, Prefix, Digits, IntegerSeparator, FractionSeparator, ExponentSeparator, DigitsSeparator, Suffix, Dead}
 use Rattle.tokens.specs.declared.regexp.Part.{Part}
 use Rattle.tokens.specs.declared.regexp.Part.TheVariants.{Opened, Body, Brackets, Flags, BodyBackslash, BracketsBackslash, NoPart}
-use Rattle.tokens.specs.Numbers.{Base, binary, octal, hexadecimal, Numeral, unread, nought, integer, leading_point, point, fraction, exponent_mark, exponent_sign, exponent, prefix, digits, suffix, no_numeral}
+use Rattle.tokens.specs.Numbers.{Base, binary, octal, hexadecimal, Numeral, unread, nought, integer, leading_point, point, fraction, exponent_mark, exponent_sign, exponent, prefix, digits, integer_separator, fraction_separator, exponent_separator, digits_separator, suffix, no_numeral}
 use Rattle.tokens.specs.RegularExpressions.{RegularExpression, opened, body, brackets, flags, body_backslash, brackets_backslash, no_expression}
 
 abbrev pub base_of : ReaderBase → Base
@@ -26,6 +26,10 @@ numeral_of ExponentSign = exponent_sign
 numeral_of Exponent = exponent
 numeral_of (Prefix base) = prefix (base_of base)
 numeral_of (Digits base) = digits (base_of base)
+numeral_of IntegerSeparator = integer_separator
+numeral_of FractionSeparator = fraction_separator
+numeral_of ExponentSeparator = exponent_separator
+numeral_of (DigitsSeparator base) = digits_separator (base_of base)
 numeral_of Suffix = suffix
 numeral_of Dead = no_numeral
 

@@ -1,4 +1,4 @@
-//! Numbers (ECMA-262 11.8.3), by how far one has been read.
+//! Numbers (ECMA-262 11.8.3, with the separators of the 12th edition), by how far one has been read.
 
 ghost use Rattle.std.specs.Prelude.{◌≡◌, ◌||◌, IfSome, IfNone, if◌then◌else◌};
 ghost use Rattle.source_text.specs.Source.{IsPlace};
@@ -33,6 +33,10 @@ enum State {
     Exponent,
     Prefix(Base),
     Digits(Base),
+    IntegerSeparator,
+    FractionSeparator,
+    ExponentSeparator,
+    DigitsSeparator(Base),
     Suffix,
     Dead,
 }
@@ -90,13 +94,21 @@ fn next_state(state: State, c: char) -> State
         State::Integer => {
             if c.is_ascii_digit() {
                 State::Integer
+            } else if c == '_' {
+                State::IntegerSeparator
             } else {
                 behind_integer(c)
             }
         }
         State::LeadingPoint => digit_or_dead(c, State::Fraction),
         State::Point => behind_fraction(c),
-        State::Fraction => behind_fraction(c),
+        State::Fraction => {
+            if c == '_' {
+                State::FractionSeparator
+            } else {
+                behind_fraction(c)
+            }
+        }
         State::ExponentMark => {
             if c == '+' || c == '-' {
                 State::ExponentSign
@@ -105,17 +117,29 @@ fn next_state(state: State, c: char) -> State
             }
         }
         State::ExponentSign => digit_or_dead(c, State::Exponent),
-        State::Exponent => digit_or_dead(c, State::Exponent),
+        State::Exponent => {
+            if c == '_' {
+                State::ExponentSeparator
+            } else {
+                digit_or_dead(c, State::Exponent)
+            }
+        }
         State::Prefix(base) => behind_prefix(base, c),
         State::Digits(base) => {
             if is_digit_of(base, c) {
                 State::Digits(base)
             } else if c == 'n' {
                 State::Suffix
+            } else if c == '_' {
+                State::DigitsSeparator(base)
             } else {
                 State::Dead
             }
         }
+        State::IntegerSeparator => digit_or_dead(c, State::Integer),
+        State::FractionSeparator => digit_or_dead(c, State::Fraction),
+        State::ExponentSeparator => digit_or_dead(c, State::Exponent),
+        State::DigitsSeparator(base) => behind_prefix(base, c),
         State::Suffix => State::Dead,
         State::Dead => State::Dead,
     }
@@ -133,7 +157,7 @@ fn digit_or_dead(c: char, state: State) -> State
     }
 }
 
-// Behind a prefix and perhaps digits.
+// Behind a prefix, or a separator of its digits.
 #[inline]
 fn behind_prefix(base: Base, c: char) -> State
     ensures { numeral_of result ≡ (if is_digit_of (base_of base) c then digits (base_of base) else no_numeral) }
@@ -173,6 +197,10 @@ fn is_complete(state: State) -> bool
         | State::ExponentMark
         | State::ExponentSign
         | State::Prefix(_)
+        | State::IntegerSeparator
+        | State::FractionSeparator
+        | State::ExponentSeparator
+        | State::DigitsSeparator(_)
         | State::Dead => false,
     }
 }

@@ -4,10 +4,16 @@ use Rattle.std.specs.Str.{IsUtf8}
 use Rattle.tree.specs.declared.kind.Pair.{Pair}
 use Rattle.tree.specs.Tree.{Tree}
 use Rattle.language.specs.Claims.{Derives, WithinLimits}
+use Rattle.language.specs.Earlier.{EarlierDerivesOpen}
 
 -- any two derivations of a text agree in tree, places and pairs
 abbrev pub AtMostOneScript : Type 0
 AtMostOneScript = (text : List ℕ) (n m : Tree) (P Q : List Pair) → Derives text n P → Derives text m Q → (m ≡ n) × (Q ≡ P)
+
+-- what a text derived by the 11th edition is all that it derives today
+abbrev pub EarlierScriptIsTheOne : Type 0
+EarlierScriptIsTheOne =
+    (o : ℕ) (text : List ℕ) (n m : Tree) (P Q : List Pair) → IsUtf8 text → EarlierDerivesOpen o text n P → Derives text m Q → (m ≡ n) × (Q ≡ P)
 
 -- a script of a text with fewer than 250 bytes is within the limits
 abbrev pub ShortScriptsFit : Type 0

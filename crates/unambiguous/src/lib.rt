@@ -2,11 +2,16 @@
 
 //! The grammar is unambiguous, short scripts are within the limits, and grouping pairs come in order: what is proved of its definitions. Each contract is a theorem, and the body does nothing.
 
-ghost use Rattle.unambiguous.specs.Laws.{AtMostOneScript, ShortScriptsFit, PairsInOrder};
+ghost use Rattle.unambiguous.specs.Laws.{AtMostOneScript, EarlierScriptIsTheOne, ShortScriptsFit, PairsInOrder};
 
 /// A text derives at most one script: any two derivations of it agree in tree, places and pairs.
 pub fn at_most_one_script()
     ensures { AtMostOneScript }
+{}
+
+/// What a text derived by the 11th edition, without separators in numbers and without logical assignments, is all that it derives today.
+pub fn earlier_script_is_the_one()
+    ensures { EarlierScriptIsTheOne }
 {}
 
 /// A script of a text with fewer than 250 bytes is within the limits: no tree that such a text derives is too high, and none asks
