@@ -13,3 +13,4 @@ pub mod Heavy
 pub mod Bytes
 pub mod Plans
 mod ExtraExamples
+pub mod PairRows

@@ -6,3 +6,4 @@ pub mod Laws
 pub mod Tables
 pub mod Plans
 pub mod Extra
+pub mod PairNodes

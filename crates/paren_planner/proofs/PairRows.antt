@@ -1,0 +1,395 @@
+-- The row of each grouping pair is that of its node.
+use Rattle.std.proofs.Common.{◌≡◌, ℕ, zero, suc, ◌+◌, ◌≤◌, ◌<◌, Bool, true, false, cond, List, [], ◌∷◌, ◌++◌, refl, sym, ap, ap₂, ◌∙◌, subst, arith, append_assoc, append-nil, Option, Some, None, ◌⊎◌, inl, inr}
+use Rattle.std.specs.Prelude.{map, filter, nat_lt, slice_get, drop, IsTrue}
+use Rattle.std.specs.Str.{IsUtf8, IsCharBoundary}
+use Rattle.std.proofs.lemmas.Bool.{and_parts, and_from}
+use Rattle.std.proofs.lemmas.Bool.Decides.{nat_tests}
+use Rattle.std.proofs.lemmas.List.{map-append}
+use Rattle.std.proofs.lemmas.Str.{IsCharBoundary-from_drop}
+use Rattle.tokens.specs.declared.token.Class.{Class}
+use Rattle.tokens.specs.declared.token.Class.TheVariants.{Punctuator, End}
+use Rattle.tokens.specs.Reading.{any_goal}
+use Rattle.tokens.proofs.Bounds.{IsWithin, token_within, token_places, token_goes_on}
+use Rattle.tree.specs.declared.kind.Pair.{Pair}
+use Rattle.tree.specs.Tree.{Tree, node, Parts, none, part, gap, parts_of, start_of, stop_of, bare}
+use Rattle.tree.specs.Uses.{implies, is_lean}
+use Rattle.language.specs.declared.Rank.{Rank}
+use Rattle.language.specs.declared.Rank.TheVariants.{Expression}
+use Rattle.language.specs.declared.Start.{Start}
+use Rattle.language.specs.declared.Start.TheVariants.{Any}
+use Rattle.language.specs.Pieces.{Role, expr, script, spine, pattern, Slot, fixed, left, lead, tail, callee, lead_spine, lead_pattern, PieceOf, Piece, tok, may, many, ahead, unbroken, ending, open_parameters, close_parameters, sub, absent, never, lay, Spelling, settle, settle_piece}
+use Rattle.language.specs.Token.{Token}
+use Rattle.language.specs.Places.{NextIn, next_in, itself, SpellsIn}
+use Rattle.language.specs.Cursor.{beginning}
+use Rattle.language.specs.Derivation.{Among, place, Reads, Step, token, with_mark, without_mark, one_more, no_more, seen, same_line, explicit, implicit, laid, Placed, placed, Spells, direct, grouped, Runs, done, step, opened, closed, within, missing}
+use Rattle.language.specs.Grammar.{ways, ways_bare, spellings, fits_position, can_run, own_rank, own_in, own_start}
+use Rattle.language.specs.Positions.{roles, first_roles, widest, has_row}
+use Rattle.language.specs.Claims.{row_nodes, parts_row_nodes}
+use Rattle.language.proofs.Looser.{Looser, same, looser, looser_spine, looser_pattern, AllLooser, end, next}
+use Rattle.language.proofs.Domination.{settled, fits, ways_of, Tidy, none_at_all, one_way, two_ways, Among-one, Among-two}
+use Rattle.language.proofs.TidyTable.{tidy_table}
+use Rattle.language.proofs.LowerBound.{Step-roles}
+use Rattle.language.proofs.TextPlaces.{text_determined}
+use Rattle.positions.specs.Groupings.{grouping, row_starts, row_behind}
+use Rattle.positions.proofs.Slots.{is_wide, all_pass, parts_wide}
+use Rattle.paren_planner.proofs.Known.{takes_all}
+use Rattle.paren_planner.proofs.Celled.{wide_itself, wide_start}
+use Rattle.paren_planner.specs.PairNodes.{pair_nodes, run_pair_nodes, node_of_row, PairsHaveTheirRows}
+
+-- The rows of a node don't depend on the way in which it is spelled.
+
+slot-wide : (a b : Role) (s : Slot) → widest (settle (own_rank a) (own_in a) (own_start a) s) ≡ widest (settle (own_rank b) (own_in b) (own_start b) s)
+slot-wide a b (fixed c) = refl
+slot-wide a b (left y) = refl
+slot-wide a b (lead y) = refl
+slot-wide a b (tail y x) = refl
+slot-wide a b callee = refl
+slot-wide a b lead_spine = refl
+slot-wide a b lead_pattern = refl
+
+pieces-wide : (a b : Role) (qs : List Piece) → map widest (roles (map (settle_piece (own_rank a) (own_in a) (own_start a)) qs)) ≡ map widest (roles (map (settle_piece (own_rank b) (own_in b) (own_start b)) qs))
+pieces-wide a b [] = refl
+pieces-wide a b (tok c w ∷ qs) = pieces-wide a b qs
+pieces-wide a b (may w ∷ qs) = pieces-wide a b qs
+pieces-wide a b (many w ∷ qs) = pieces-wide a b qs
+pieces-wide a b (ahead w ∷ qs) = pieces-wide a b qs
+pieces-wide a b (unbroken ∷ qs) = pieces-wide a b qs
+pieces-wide a b (ending e ∷ qs) = pieces-wide a b qs
+pieces-wide a b (open_parameters ∷ qs) = pieces-wide a b qs
+pieces-wide a b (close_parameters ∷ qs) = pieces-wide a b qs
+pieces-wide a b (sub s ∷ qs) = ap₂ (λ u v. u ∷ v) (slot-wide a b s) (pieces-wide a b qs)
+pieces-wide a b (absent ∷ qs) = pieces-wide a b qs
+pieces-wide a b (never ∷ qs) = pieces-wide a b qs
+pieces-wide a b (lay h ∷ qs) = pieces-wide a b qs
+
+looser-wide : {a b : Role} → Looser a b → widest a ≡ widest b
+looser-wide same = refl
+looser-wide (looser u v x) = refl
+looser-wide (looser_spine x) = refl
+looser-wide (looser_pattern x) = refl
+
+all-wide : {xs ys : List Role} → AllLooser xs ys → map widest xs ≡ map widest ys
+all-wide end = refl
+all-wide (next l h) = ap₂ (λ u v. u ∷ v) (looser-wide l) (all-wide h)
+
+implies_true : (b : Bool) → IsTrue (implies b true)
+implies_true true = refl
+implies_true false = refl
+
+fits-widest : (a : Role) (x : Spelling) → IsTrue (fits a x) → IsTrue (fits (widest a) x)
+fits-widest (expr y i f) x h =
+    and_from _ _ (and_from _ _ (takes_all x.rank) (and_from _ _ (implies_true x.needs_in) refl)) (and_parts (fits_position (expr y i f) x) (can_run x.pieces) h).1
+fits-widest (spine f) x h = h
+fits-widest (pattern b f) x h = and_from _ _ refl (and_parts (fits_position (pattern b f) x) (can_run x.pieces) h).1
+fits-widest _ x h = h
+
+first_fits : (b : Role) (x : Spelling) (v : Bool) (A B : List Spelling) → v ≡ true → first_roles (map (settled b) (cond v (x ∷ A) B)) ≡ roles (settled b x)
+first_fits b x true A B h = refl
+first_fits b x false A B h = absurd (cc)
+
+spelled-wide : {t : Bool} (a : Role) (xs : List Spelling) (qs : List (PieceOf Role)) → Tidy t xs → Among qs (ways_of a xs) → map widest (first_roles (ways_of (widest a) xs)) ≡ map widest (roles qs)
+spelled-wide a _ qs none_at_all h = elim h [ ]
+spelled-wide a _ qs (one_way {x = x} n) h =
+    let p = Among-one a x (fits a x) refl h in
+    ap (map widest) (first_fits (widest a) x (fits (widest a) x) [] [] (fits-widest a x p.0)) ∙ pieces-wide (widest a) a x.pieces ∙ ap (λ u. map widest (roles u)) (sym p.1)
+spelled-wide a _ qs (two_ways {x = x} {y = y} n covers alike) h = of (Among-two a x y (fits a x) (fits a y) refl refl h)
+  where
+    whole : IsTrue (fits a x) → map widest (first_roles (ways_of (widest a) (x ∷ y ∷ []))) ≡ map widest (roles (settled a x))
+    whole p = ap (map widest) (first_fits (widest a) x (fits (widest a) x) (filter (fits (widest a)) (y ∷ [])) (filter (fits (widest a)) (y ∷ [])) (fits-widest a x p)) ∙ pieces-wide (widest a) a x.pieces
+
+    of : (IsTrue (fits a x) × (qs ≡ settled a x)) ⊎ (IsTrue (fits a y) × (qs ≡ settled a y)) → map widest (first_roles (ways_of (widest a) (x ∷ y ∷ []))) ≡ map widest (roles qs)
+    of (inl p) = whole p.0 ∙ ap (λ u. map widest (roles u)) (sym p.1)
+    of (inr p) = whole (covers a a same p.0).0 ∙ sym (all-wide (covers a a same p.0).1) ∙ ap (λ u. map widest (roles u)) (sym p.1)
+
+spellings-widest : (a : Role) (n : Tree) → spellings (widest a) n ≡ spellings a n
+unfolding spellings
+spellings-widest (expr y i f) (node k w g s e ps) = refl
+spellings-widest (spine f) (node k w g s e ps) = refl
+spellings-widest (pattern b f) (node k w g s e ps) = refl
+spellings-widest _ n = refl
+
+way-wide : (a : Role) (n : Tree) (qs : List (PieceOf Role)) → Among qs (ways a n) → map widest (first_roles (ways (widest a) n)) ≡ map widest (roles qs)
+unfolding ways ways_bare
+way-wide a n qs h = of (is_lean (bare n)) h
+  where
+    of : (t : Bool) → Among qs (cond t (ways_of a (spellings a (bare n))) []) → map widest (first_roles (cond t (ways_of (widest a) (spellings (widest a) (bare n))) [])) ≡ map widest (roles qs)
+    of true k = ap (λ u. map widest (first_roles (ways_of (widest a) u))) (spellings-widest a (bare n)) ∙ spelled-wide a (spellings a (bare n)) qs (tidy_table a (bare n)) k
+    of false k = elim k [ ]
+
+-- The nodes with rows in a node at a position, and in parts at theirs.
+
+nodes : Tree → Role → List Tree
+nodes n a = row_nodes n (widest a)
+
+parts_nodes : Parts → List Role → List Tree
+parts_nodes ps xs = parts_row_nodes ps (map widest xs)
+
+own : Role → Tree → List Tree
+own (expr y i f) n = n ∷ []
+own _ n = []
+
+node-widest : (n : Tree) (a : Role) → is_wide a ≡ true → row_nodes n a ≡ row_nodes n (widest a)
+unfolding row_nodes
+node-widest (node k w g s e ps) (expr y i f) h = refl
+node-widest n a h = ap (row_nodes n) (sym (wide_itself a h refl))
+
+parts-widest : (ps : Parts) (xs : List Role) → all_pass is_wide xs ≡ true → parts_row_nodes ps xs ≡ parts_row_nodes ps (map widest xs)
+unfolding parts_row_nodes
+parts-widest none xs h = refl
+parts-widest (gap ps) xs h = parts-widest ps xs h
+parts-widest (part n ps) [] h = refl
+parts-widest (part n ps) (a ∷ xs) h = let u = and_parts _ _ h in ap₂ (λ u v. u ++ v) (node-widest n a u.0) (parts-widest ps xs u.1)
+
+node-split : (n : Tree) (a : Role) → row_nodes n (widest a) ≡ own a n ++ parts_row_nodes (parts_of n) (first_roles (ways (widest a) n))
+unfolding row_nodes own
+node-split (node k w g s e ps) (expr y i f) = refl
+node-split (node k w g s e ps) (spine f) = refl
+node-split (node k w g s e ps) (pattern b f) = refl
+node-split (node k w g s e ps) _ = refl
+
+way-split : (a : Role) (n : Tree) (qs : List (PieceOf Role)) → Among qs (ways a n) → nodes n a ≡ own a n ++ parts_nodes (parts_of n) (roles qs)
+unfolding nodes parts_nodes
+way-split a n qs h =
+    node-split n a ∙ ap (λ u. own a n ++ u) (parts-widest (parts_of n) (first_roles (ways (widest a) n)) (parts_wide (widest a) n (wide_start a)) ∙ ap (parts_row_nodes (parts_of n)) (way-wide a n qs h))
+
+-- The first of nodes that starts behind a place.
+
+first_behind : List Tree → ℕ → Option Tree
+first_behind [] at = None
+first_behind (n ∷ ns) at = cond (nat_lt at (start_of n)) (Some n) (first_behind ns at)
+
+AllUpTo : List Tree → ℕ → Type 0
+AllUpTo [] k = Unit {0}
+AllUpTo (n ∷ ns) k = (start_of n ≤ k) × AllUpTo ns k
+
+up_to_more : (ns : List Tree) (k l : ℕ) → k ≤ l → AllUpTo ns k → AllUpTo ns l
+unfolding AllUpTo
+up_to_more [] k l h u = tt
+up_to_more (n ∷ ns) k l h u = let x = u.0 in (omega (arith, x, h), up_to_more ns k l h u.1)
+
+up_to_one : (n : Tree) (k : ℕ) → start_of n ≤ k → AllUpTo (n ∷ []) k
+unfolding AllUpTo
+up_to_one n k h = (h, tt)
+
+up_to_append : (ms ns : List Tree) (k : ℕ) → AllUpTo ms k → AllUpTo ns k → AllUpTo (ms ++ ns) k
+unfolding AllUpTo
+up_to_append [] ns k u v = v
+up_to_append (m ∷ ms) ns k u v = (u.0, up_to_append ms ns k u.1 v)
+
+not_before : (k s : ℕ) → s ≤ k → nat_lt k s ≡ false
+not_before k s h = grind (arith, nat_tests)
+
+before : (k s : ℕ) → k < s → nat_lt k s ≡ true
+before k s h = grind (arith, nat_tests)
+
+cond_false : {X : Type 0} (b : Bool) (x y : X) → b ≡ false → cond b x y ≡ y
+cond_false false x y h = refl
+cond_false true x y h = absurd (cc)
+
+cond_true : {X : Type 0} (b : Bool) (x y : X) → b ≡ true → cond b x y ≡ x
+cond_true true x y h = refl
+cond_true false x y h = absurd (cc)
+
+first_skips : (ms ns : List Tree) (k : ℕ) → AllUpTo ms k → first_behind (ms ++ ns) k ≡ first_behind ns k
+unfolding first_behind AllUpTo
+first_skips [] ns k u = refl
+first_skips (m ∷ ms) ns k u = cond_false (nat_lt k (start_of m)) (Some m) (first_behind (ms ++ ns) k) (not_before k (start_of m) u.0) ∙ first_skips ms ns k u.1
+
+first_here : (n : Tree) (ns : List Tree) (k : ℕ) → k < start_of n → first_behind (n ∷ ns) k ≡ Some n
+unfolding first_behind
+first_here n ns k h = cond_true (nat_lt k (start_of n)) (Some n) (first_behind ns k) (before k (start_of n) h)
+
+-- it is the node of the row that starts first behind the place
+
+at_number : List Tree → ℕ → Option Tree
+at_number L zero = None
+at_number L (suc r) = slice_get L r
+
+number_is : (n : Tree) (r : ℕ) → node_of_row n r ≡ at_number (row_nodes n script) r
+unfolding at_number
+number_is n zero = refl
+number_is n (suc r) = refl
+
+got : (L : List Tree) (k : ℕ) (n : Tree) (ns : List Tree) → drop k L ≡ n ∷ ns → slice_get L k ≡ Some n
+got [] zero n ns h = cc
+got [] (suc k) n ns h = cc
+got (x ∷ L) zero n ns h = ap Some (cc)
+got (x ∷ L) (suc k) n ns h = got L k n ns h
+
+later_drop : (L : List Tree) (k : ℕ) (n : Tree) (ns : List Tree) → drop k L ≡ n ∷ ns → drop (suc k) L ≡ ns
+later_drop [] zero n ns h = cc
+later_drop [] (suc k) n ns h = cc
+later_drop (x ∷ L) zero n ns h = cc
+later_drop (x ∷ L) (suc k) n ns h = later_drop L k n ns h
+
+numbered : (L ns : List Tree) (k at : ℕ) → drop k L ≡ ns → at_number L (row_behind (map start_of ns) at (suc k)) ≡ first_behind ns at
+unfolding at_number first_behind
+numbered L [] k at h = refl
+numbered L (n ∷ ns) k at h = of (nat_lt at (start_of n)) (numbered L ns (suc k) at (later_drop L k n ns h))
+  where
+    of : (b : Bool) → at_number L (row_behind (map start_of ns) at (suc (suc k))) ≡ first_behind ns at → at_number L (cond b (suc k) (row_behind (map start_of ns) at (suc (suc k)))) ≡ cond b (Some n) (first_behind ns at)
+    of true e = got L k n ns h
+    of false e = e
+
+-- Places go forward; what is read at a place starts there or behind it, whatever the goal at the same place.
+
+record Past (S : Type 0) (Ok : S → Type 0) (at : S → ℕ) (s e : S) (t : Token) : Type 0 where
+  ok : Ok e
+  from : at s ≤ t.start
+  on : t.start ≤ at e
+  further : t.class ≡ Punctuator → t.start < at e
+
+module _ (S : Type 0) (Next : S → Token → S → Type 0) (behind : S → Token) (Ok : S → Type 0) (at : S → ℕ) (reads : (s e : S) (t : Token) → Next s t e → Ok s → Past S Ok at s e t) (same_start : (s : S) (t u : Token) (e f : S) → Next s t e → Next s u f → t.start ≡ u.start) where
+  -- the nodes start no later than what is read next
+  UpTo : List Tree → S → Type 0
+  UpTo B s = (t : Token) (e : S) → Next s t e → AllUpTo B t.start
+
+  read_upto : {s : S} (B : List Tree) (t : Token) (e : S) → Next s t e → UpTo B s → AllUpTo B t.start
+  unfolding UpTo
+  read_upto B t e n u = u t e n
+
+  record On (B : List Tree) (e : S) : Type 0 where
+    ok : Ok e
+    upto : UpTo B e
+
+  next_on : {s e : S} {t : Token} (B : List Tree) → Next s t e → Ok s → UpTo B s → On B e
+  unfolding UpTo
+  next_on {s = s} {e = e} {t = t} B n k u =
+      let p = reads s e t n k in
+      let x = p.on in
+      record { ok = p.ok; upto = λ t' e' n'. let q = reads e e' t' n' p.ok in let y = q.from in up_to_more B t.start t'.start (omega (arith, x, y)) (u t e n) }
+
+  step_on : {q : PieceOf Role} {s e : S} (B : List Tree) → Step S Next behind q s e → Ok s → UpTo B s → On B e
+  step_on B (token r) k u = next_on B r.next k u
+  step_on B (with_mark r) k u = next_on B r.next k u
+  step_on B without_mark k u = record { ok = k; upto = u }
+  step_on B (one_more r d) k u = let f = next_on B r.next k u in step_on B d f.ok f.upto
+  step_on B no_more k u = record { ok = k; upto = u }
+  step_on B (seen r) k u = record { ok = k; upto = u }
+  step_on B (same_line r h) k u = record { ok = k; upto = u }
+  step_on B (explicit r) k u = next_on B r.next k u
+  step_on B (implicit r h) k u = record { ok = k; upto = u }
+  step_on B laid k u = record { ok = k; upto = u }
+
+  -- an expression's node starts where its first token does
+  started : {y : Rank} {i : Bool} {f : Start} {n : Tree} {s e : S} → Placed S Next behind (expr y i f) n s e → (t : Token) (m : S) → Next s t m → start_of n ≡ t.start
+  started {s = s} (placed {t = u} {m = k} p h) t m q = sym (ap (λ x. x.0) h) ∙ same_start s u t k m p q
+
+  starts_from : {o : ℕ} {y : Rank} {i : Bool} {f : Start} {n : Tree} {s e : S} {P : List Pair} → Spells ways S Next behind o (expr y i f) n s e P → Ok s → at s ≤ start_of n
+  starts_from {s = s} (direct qs h (placed {t = u} {m = k} p q) d) ok =
+      let x = (reads s k u p ok).from in
+      let e : u.start ≡ _ = ap (λ x. x.0) q in
+      omega (arith, x, e)
+  starts_from {s = s} (grouped {left = l} {m = m} p d q) ok =
+      let u = reads s m l p.next ok in
+      let x = u.from in
+      let y = u.on in
+      let z = starts_from d u.ok in
+      omega (arith, x, y, z)
+
+  -- between two places, behind the nodes B, the nodes N have rows: of each pair the first of all that starts behind its `(` is its own node
+  record Found (s e : S) (B N : List Tree) (P : List Pair) (M : List Tree) : Type 0 where
+    ok : Ok e
+    past : UpTo (B ++ N) e
+    rows : (C : List Tree) → map (λ p. first_behind (B ++ (N ++ C)) p.left) P ≡ map Some M
+
+  own_upto : (a : Role) (n : Tree) {s e : S} (B : List Tree) → Placed S Next behind a n s e → UpTo B s → UpTo (B ++ own a n) s
+  unfolding UpTo own
+  own_upto (expr y i f) n B p u = λ t m q. up_to_append B (n ∷ []) t.start (u t m q) (let x : start_of n ≡ t.start = started p t m q in up_to_one n t.start (omega (arith, x)))
+  own_upto _ n B p u = λ t m q. subst (λ x. AllUpTo x t.start) (sym (append-nil B)) (u t m q)
+
+  joined : {s e : S} (B X Y N : List Tree) {P : List Pair} {M : List Tree} → N ≡ X ++ Y → Found s e (B ++ X) Y P M → Found s e B N P M
+  joined {e = e} B X Y N {P = P} {M = M} h f = record {
+    ok = f.ok;
+    past = subst (λ u. UpTo u e) (append_assoc B X Y ∙ ap (λ u. B ++ u) (sym h)) f.past;
+    rows = λ C. ap (λ u. map (λ p. first_behind u p.left) P) (ap (λ u. B ++ (u ++ C)) h ∙ ap (λ u. B ++ u) (append_assoc X Y C) ∙ sym (append_assoc B X (Y ++ C))) ∙ f.rows C;
+  }
+
+  -- a group's pair is its node's
+  group_row : (n : Tree) (y : Rank) (i : Bool) (f : Start) (B C : List Tree) (k : ℕ) → AllUpTo B k → k < start_of n → first_behind (B ++ (nodes n (expr y i f) ++ C)) k ≡ Some n
+  unfolding nodes own
+  group_row n y i f B C k u h =
+      first_skips B (nodes n (expr y i f) ++ C) k u ∙ ap (λ v. first_behind (v ++ C) k) (node-split n (expr y i f))
+      ∙ first_here n (parts_row_nodes (parts_of n) (first_roles (ways (expr Expression true Any) n)) ++ C) k h
+
+  mutual
+    unfolding nodes parts_nodes parts_row_nodes own
+
+    spells_found : {o : ℕ} {a : Role} {n : Tree} {s e : S} {P : List Pair} (d : Spells ways S Next behind o a n s e P) → Ok s → (B : List Tree) → UpTo B s → Found s e B (nodes n a) P (pair_nodes ways S Next behind d)
+    spells_found {a = a} {n = n} (direct qs h p d) k B u =
+        joined B (own a n) (parts_nodes (parts_of n) (roles qs)) (nodes n a) (way-split a n qs h) (runs_found d k (B ++ own a n) (own_upto a n B p u))
+    spells_found {n = n} {s = s} (grouped {y = y} {i = i} {f = f} {left = l} {m = m} {P = P} p d q) k B u =
+        let v = next_on B p.next k u in
+        let w = spells_found d v.ok B v.upto in
+        let x = next_on (B ++ nodes n (expr Expression true Any)) q.next w.ok w.past in
+        let g = reads s m l p.next k in
+        let c = g.further p.class in
+        let z = starts_from d v.ok in
+        record {
+          ok = x.ok;
+          past = x.upto;
+          rows = λ C. ap₂ (λ a b. a ∷ b) (group_row n y i f B C l.start (read_upto B l m p.next u) (omega (arith, c, z))) (w.rows C);
+        }
+
+    runs_found : {o : ℕ} {qs : List (PieceOf Role)} {ps : Parts} {s e : S} {P : List Pair} (d : Runs ways S Next behind o qs ps s e P) → Ok s → (B : List Tree) → UpTo B s → Found s e B (parts_nodes ps (roles qs)) P (run_pair_nodes ways S Next behind d)
+    runs_found {e = e} done k B u = record { ok = k; past = subst (λ x. UpTo x e) (sym (append-nil B)) u; rows = λ C. refl }
+    runs_found {s = s} {e = e} {P = P} (step {qs = qs} {ps = ps} p d) k B u =
+        let v = step_on B p k u in
+        let w = runs_found d v.ok B v.upto in
+        subst (λ x. Found s e B (parts_nodes ps x) P (run_pair_nodes ways S Next behind d)) (sym (Step-roles S Next behind qs p)) record { ok = w.ok; past = w.past; rows = w.rows }
+    runs_found (opened p d) k B u =
+        let v = next_on B p.next k u in
+        let w = runs_found d v.ok B v.upto in
+        record { ok = w.ok; past = w.past; rows = w.rows }
+    runs_found (closed p d) k B u =
+        let v = next_on B p.next k u in
+        let w = runs_found d v.ok B v.upto in
+        record { ok = w.ok; past = w.past; rows = w.rows }
+    runs_found {e = e} (within {a = a} {qs = qs} {n = n} {ps = ps} {P = P} {Q = Q} p d) k B u =
+        let N = nodes n a in
+        let M = parts_nodes ps (roles qs) in
+        let v = spells_found p k B u in
+        let w = runs_found d v.ok (B ++ N) v.past in
+        record {
+          ok = w.ok;
+          past = subst (λ x. UpTo x e) (append_assoc B N M) w.past;
+          rows = λ C.
+              map-append (λ p. first_behind (B ++ ((N ++ M) ++ C)) p.left) P Q
+              ∙ ap₂ (λ x y. x ++ y)
+                (ap (λ x. map (λ p. first_behind (B ++ x) p.left) P) (append_assoc N M C) ∙ v.rows (M ++ C))
+                (ap (λ x. map (λ p. first_behind x p.left) Q) (ap (λ x. B ++ x) (append_assoc N M C) ∙ sym (append_assoc B N (M ++ C))) ∙ w.rows C)
+              ∙ sym (map-append Some (pair_nodes ways S Next behind p) (run_pair_nodes ways S Next behind d));
+        }
+    runs_found (missing d) k B u =
+        let w = runs_found d k B u in
+        record { ok = w.ok; past = w.past; rows = w.rows }
+
+-- In a text
+
+no_end : (c : Class) → c ≡ Punctuator → c ≡ End → ⊥
+no_end c p q = let e : Punctuator ≡ End = sym p ∙ q in absurd (cc)
+
+text_past : (text : List ℕ) → IsUtf8 text → (s e t : Token) → NextIn text any_goal s t e → IsCharBoundary text s.stop → Past Token (λ p. IsCharBoundary text p.stop) (λ p. p.stop) s e t
+text_past text u s _ _ (next_in {t = t} goal g h) p =
+    let w : IsWithin text s.stop t = token_within text goal s.stop t u p h in
+    record {
+      ok = (token_places text goal s.stop t u p h).1;
+      from = w.behind_place;
+      on = w.ordered;
+      further = λ c. token_goes_on text goal s.stop t u p h (λ f. no_end t.class c f);
+    }
+
+-- the nodes in the pairs, by the first that start behind the `(`
+first_rows : (text : List ℕ) (o : ℕ) (n : Tree) (last : Token) (P : List Pair) → IsUtf8 text → (d : SpellsIn text o script n beginning last P) →
+    map (λ p. first_behind (row_nodes n script) p.left) P ≡ map Some (pair_nodes ways Token (NextIn text any_goal) itself d)
+unfolding nodes UpTo AllUpTo
+first_rows text o n last P u d =
+    let first : IsCharBoundary text 0 = IsCharBoundary-from_drop text 0 (omega arith) u in
+    let f = spells_found Token (NextIn text any_goal) itself (λ p. IsCharBoundary text p.stop) (λ p. p.stop) (text_past text u) ((text_determined text).start) d first [] (λ t e q. tt) in
+    ap (λ x. map (λ p. first_behind x p.left) P) (sym (append-nil (row_nodes n script))) ∙ f.rows []
+
+row_found : (n : Tree) (p : Pair) → node_of_row n (grouping (row_starts n) p).row ≡ first_behind (row_nodes n script) p.left
+row_found n p = number_is n (row_behind (row_starts n) p.left 1) ∙ numbered (row_nodes n script) (row_nodes n script) 0 p.left refl
+
+pub pairs_have_rows : PairsHaveTheirRows
+pairs_have_rows text o n last P u d = (λ j. map (λ p. row_found n p j) P) ∙ first_rows text o n last P u d
