@@ -203,7 +203,7 @@ split_at (x ∷ xs) ys (suc r) m G h f g = split_at xs ys r m G h f (λ q e i. g
 mutual
   unfolding row_nodes rows parts_rows table_rows
 
-  nodes-length : (n : Tree) (a : Role) → is_wide a ≡ true → length (row_nodes n a) ≡ rows n a
+  pub nodes-length : (n : Tree) (a : Role) → is_wide a ≡ true → length (row_nodes n a) ≡ rows n a
   nodes-length (node j w g s e ps) (expr y i f) h =
       let u : length (parts_row_nodes ps (first_roles (ways (expr Expression true Any) (node j w g s e ps)))) ≡ parts_rows ps (first_roles (ways (expr Expression true Any) (node j w g s e ps))) =
       parts-nodes-length ps (first_roles (ways (expr Expression true Any) (node j w g s e ps))) (parts_wide (expr Expression true Any) (node j w g s e ps) refl) in

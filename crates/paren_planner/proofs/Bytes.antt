@@ -108,7 +108,7 @@ spellings-widest (spine f) (node k w g s e ps) = refl
 spellings-widest (pattern b f) (node k w g s e ps) = refl
 spellings-widest _ n = refl
 
-way-rows : (a : Role) (n : Tree) (ps : Parts) (qs : List (PieceOf Role)) → Among qs (ways a n) → parts_rows ps (first_roles (ways (widest a) n)) ≡ parts_rows ps (roles qs)
+pub way-rows : (a : Role) (n : Tree) (ps : Parts) (qs : List (PieceOf Role)) → Among qs (ways a n) → parts_rows ps (first_roles (ways (widest a) n)) ≡ parts_rows ps (roles qs)
 unfolding ways ways_bare
 way-rows a n ps qs h = of (is_lean (bare n)) h
   where
@@ -116,11 +116,11 @@ way-rows a n ps qs h = of (is_lean (bare n)) h
     of true k = ap (λ u. parts_rows ps (first_roles (ways_of (widest a) u))) (spellings-widest a (bare n)) ∙ spelled-rows ps a (spellings a (bare n)) qs (tidy_table a (bare n)) k
     of false k = elim k [ ]
 
-node-rows : (n : Tree) (a : Role) → rows n a ≡ has_row a + parts_rows (parts_of n) (first_roles (ways (widest a) n))
+pub node-rows : (n : Tree) (a : Role) → rows n a ≡ has_row a + parts_rows (parts_of n) (first_roles (ways (widest a) n))
 unfolding rows
 node-rows (node k w g s e ps) a = refl
 
-group-rows : (n : Tree) (y : Rank) (i : Bool) (f : Start) → rows n (expr y i f) ≡ rows n (expr Expression true Any)
+pub group-rows : (n : Tree) (y : Rank) (i : Bool) (f : Start) → rows n (expr y i f) ≡ rows n (expr Expression true Any)
 unfolding rows
 group-rows (node k w g s e ps) y i f = refl
 

@@ -1,17 +1,17 @@
 -- The row of each grouping pair is that of its node.
 use Rattle.std.proofs.Common.{◌≡◌, ℕ, zero, suc, ◌+◌, ◌≤◌, ◌<◌, Bool, true, false, cond, List, [], ◌∷◌, ◌++◌, refl, sym, ap, ap₂, ◌∙◌, subst, arith, append_assoc, append-nil, Option, Some, None, ◌⊎◌, inl, inr}
-use Rattle.std.specs.Prelude.{map, filter, nat_lt, slice_get, drop, IsTrue}
+use Rattle.std.specs.Prelude.{map, filter, nat_lt, nat_eq, not, ◌&&◌, slice_get, drop, length, IsTrue}
 use Rattle.std.specs.Str.{IsUtf8, IsCharBoundary}
 use Rattle.std.proofs.lemmas.Bool.{and_parts, and_from}
 use Rattle.std.proofs.lemmas.Bool.Decides.{nat_tests}
-use Rattle.std.proofs.lemmas.List.{map-append}
+use Rattle.std.proofs.lemmas.List.{map-append, length-append}
 use Rattle.std.proofs.lemmas.Str.{IsCharBoundary-from_drop}
 use Rattle.tokens.specs.declared.token.Class.{Class}
 use Rattle.tokens.specs.declared.token.Class.TheVariants.{Punctuator, End}
 use Rattle.tokens.specs.Reading.{any_goal}
 use Rattle.tokens.proofs.Bounds.{IsWithin, token_within, token_places, token_goes_on}
 use Rattle.tree.specs.declared.kind.Pair.{Pair}
-use Rattle.tree.specs.Tree.{Tree, node, Parts, none, part, gap, parts_of, start_of, stop_of, bare}
+use Rattle.tree.specs.Tree.{Tree, node, Parts, none, part, gap, parts_of, start_of, bare}
 use Rattle.tree.specs.Uses.{implies, is_lean}
 use Rattle.language.specs.declared.Rank.{Rank}
 use Rattle.language.specs.declared.Rank.TheVariants.{Expression}
@@ -21,9 +21,9 @@ use Rattle.language.specs.Pieces.{Role, expr, script, spine, pattern, Slot, fixe
 use Rattle.language.specs.Token.{Token}
 use Rattle.language.specs.Places.{NextIn, next_in, itself, SpellsIn}
 use Rattle.language.specs.Cursor.{beginning}
-use Rattle.language.specs.Derivation.{Among, place, Reads, Step, token, with_mark, without_mark, one_more, no_more, seen, same_line, explicit, implicit, laid, Placed, placed, Spells, direct, grouped, Runs, done, step, opened, closed, within, missing}
+use Rattle.language.specs.Derivation.{Among, Step, token, with_mark, without_mark, one_more, no_more, seen, same_line, explicit, implicit, laid, Placed, placed, Spells, direct, grouped, Runs, done, step, opened, closed, within, missing}
 use Rattle.language.specs.Grammar.{ways, ways_bare, spellings, fits_position, can_run, own_rank, own_in, own_start}
-use Rattle.language.specs.Positions.{roles, first_roles, widest, has_row}
+use Rattle.language.specs.Positions.{roles, first_roles, widest, has_row, rows, parts_rows}
 use Rattle.language.specs.Claims.{row_nodes, parts_row_nodes}
 use Rattle.language.proofs.Looser.{Looser, same, looser, looser_spine, looser_pattern, AllLooser, end, next}
 use Rattle.language.proofs.Domination.{settled, fits, ways_of, Tidy, none_at_all, one_way, two_ways, Among-one, Among-two}
@@ -34,7 +34,11 @@ use Rattle.positions.specs.Groupings.{grouping, row_starts, row_behind}
 use Rattle.positions.proofs.Slots.{is_wide, all_pass, parts_wide}
 use Rattle.paren_planner.proofs.Known.{takes_all}
 use Rattle.paren_planner.proofs.Celled.{wide_itself, wide_start}
-use Rattle.paren_planner.specs.PairNodes.{pair_nodes, run_pair_nodes, node_of_row, PairsHaveTheirRows}
+use Rattle.paren_planner.specs.PairNodes.{pair_nodes, run_pair_nodes, node_of_row, PairsHaveTheirRows, is_direct, pair_rows, run_pair_rows, spans_but_needed, ExtraPairsAreExtra}
+use Rattle.paren_planner.specs.Extra.{extra_spans, span_of, is_innermost}
+use Rattle.paren_planner.specs.Wrapped.{is_flagged}
+use Rattle.paren_planner.proofs.Bounded.{nodes-length}
+use Rattle.paren_planner.proofs.Bytes.{way-rows, node-rows}
 
 -- The rows of a node don't depend on the way in which it is spelled.
 
@@ -231,6 +235,40 @@ numbered L (n ∷ ns) k at h = of (nat_lt at (start_of n)) (numbered L ns (suc k
     of true e = got L k n ns h
     of false e = e
 
+-- The numbers of the rows
+
+row_skips : (ms ns : List Tree) (k r : ℕ) → AllUpTo ms k → row_behind (map start_of (ms ++ ns)) k r ≡ row_behind (map start_of ns) k (r + length ms)
+unfolding AllUpTo
+row_skips [] ns k r u = ap (row_behind (map start_of ns) k) (let e : r ≡ r + 0 = omega arith in e)
+row_skips (m ∷ ms) ns k r u =
+    cond_false (nat_lt k (start_of m)) r (row_behind (map start_of (ms ++ ns)) k (suc r)) (not_before k (start_of m) u.0)
+    ∙ row_skips ms ns k (suc r) u.1 ∙ ap (row_behind (map start_of ns) k) (let e : suc r + length ms ≡ r + suc (length ms) = omega arith in e)
+
+row_here : (n : Tree) (ns : List Tree) (k r : ℕ) → k < start_of n → row_behind (map start_of (n ∷ ns)) k r ≡ r
+row_here n ns k r h = cond_true (nat_lt k (start_of n)) r (row_behind (map start_of ns) k (suc r)) (before k (start_of n) h)
+
+own_length : (a : Role) (n : Tree) → length (own a n) ≡ has_row a
+unfolding own
+own_length (expr y i f) n = refl
+own_length _ n = refl
+
+wide_widest : (a : Role) → is_wide (widest a) ≡ true
+wide_widest (expr y i f) = refl
+wide_widest (spine f) = refl
+wide_widest (pattern b f) = refl
+wide_widest _ = refl
+
+rows_widest : (n : Tree) (a : Role) → rows n (widest a) ≡ rows n a
+unfolding rows
+rows_widest (node k w g s e ps) (expr y i f) = refl
+rows_widest (node k w g s e ps) (spine f) = refl
+rows_widest (node k w g s e ps) (pattern b f) = refl
+rows_widest (node k w g s e ps) _ = refl
+
+nodes_count : (n : Tree) (a : Role) → length (nodes n a) ≡ rows n a
+unfolding nodes
+nodes_count n a = nodes-length n (widest a) (wide_widest a) ∙ rows_widest n a
+
 -- Places go forward; what is read at a place starts there or behind it, whatever the goal at the same place.
 
 record Past (S : Type 0) (Ok : S → Type 0) (at : S → ℕ) (s e : S) (t : Token) : Type 0 where
@@ -356,13 +394,64 @@ module _ (S : Type 0) (Next : S → Token → S → Type 0) (behind : S → Toke
           rows = λ C.
               map-append (λ p. first_behind (B ++ ((N ++ M) ++ C)) p.left) P Q
               ∙ ap₂ (λ x y. x ++ y)
-                (ap (λ x. map (λ p. first_behind (B ++ x) p.left) P) (append_assoc N M C) ∙ v.rows (M ++ C))
-                (ap (λ x. map (λ p. first_behind x p.left) Q) (ap (λ x. B ++ x) (append_assoc N M C) ∙ sym (append_assoc B N (M ++ C))) ∙ w.rows C)
+              (ap (λ x. map (λ p. first_behind (B ++ x) p.left) P) (append_assoc N M C) ∙ v.rows (M ++ C))
+              (ap (λ x. map (λ p. first_behind x p.left) Q) (ap (λ x. B ++ x) (append_assoc N M C) ∙ sym (append_assoc B N (M ++ C))) ∙ w.rows C)
               ∙ sym (map-append Some (pair_nodes ways S Next behind p) (run_pair_nodes ways S Next behind d));
         }
     runs_found (missing d) k B u =
         let w = runs_found d k B u in
         record { ok = w.ok; past = w.past; rows = w.rows }
+
+  -- so the number of each pair's row is that of its node
+  Numbered : (B N : List Tree) (P : List Pair) (X : List (ℕ × Bool)) → Type 0
+  Numbered B N P X = (C : List Tree) → map (λ p. row_behind (map start_of (B ++ (N ++ C))) p.left 1) P ≡ map (λ x. x.0) X
+
+  group_number : (n : Tree) (y : Rank) (i : Bool) (f : Start) (B C : List Tree) (k r : ℕ) → AllUpTo B k → k < start_of n → r ≡ suc (length B) → row_behind (map start_of (B ++ (nodes n (expr y i f) ++ C))) k 1 ≡ r
+  unfolding nodes own
+  group_number n y i f B C k r u h e =
+      row_skips B (nodes n (expr y i f) ++ C) k 1 u ∙ ap (λ v. row_behind (map start_of (v ++ C)) k (1 + length B)) (node-split n (expr y i f))
+      ∙ row_here n (parts_row_nodes (parts_of n) (first_roles (ways (expr Expression true Any) n)) ++ C) k (1 + length B) h ∙ (let g : 1 + length B ≡ r = omega (arith, e) in g)
+
+  mutual
+    unfolding Numbered nodes parts_nodes parts_row_nodes own
+
+    spells_numbered : {o : ℕ} {a : Role} {n : Tree} {s e : S} {P : List Pair} (d : Spells ways S Next behind o a n s e P) → Ok s → (B : List Tree) → UpTo B s → (r : ℕ) → r ≡ suc (length B) → Numbered B (nodes n a) P (pair_rows ways S Next behind d r)
+    spells_numbered {a = a} {n = n} {P = P} (direct qs h p d) k B u r e =
+        let N = parts_nodes (parts_of n) (roles qs) in
+        let l = length-append B (own a n) in
+        let m = own_length a n in
+        let w = runs_numbered d k (B ++ own a n) (own_upto a n B p u) (has_row a + r) (omega (arith, e, l, m)) in
+        λ C. ap (λ x. map (λ p. row_behind (map start_of x) p.left 1) P) (ap (λ x. B ++ (x ++ C)) (way-split a n qs h) ∙ ap (λ x. B ++ x) (append_assoc (own a n) N C) ∙ sym (append_assoc B (own a n) (N ++ C))) ∙ w C
+    spells_numbered {n = n} {s = s} (grouped {y = y} {i = i} {f = f} {left = l} {m = m} p d q) k B u r e =
+        let v = next_on B p.next k u in
+        let w = spells_numbered d v.ok B v.upto r e in
+        let c = (reads s m l p.next k).further p.class in
+        let z = starts_from d v.ok in
+        λ C. ap₂ (λ a b. a ∷ b) (group_number n y i f B C l.start r (read_upto B l m p.next u) (omega (arith, c, z)) e) (w C)
+
+    runs_numbered : {o : ℕ} {qs : List (PieceOf Role)} {ps : Parts} {s e : S} {P : List Pair} (d : Runs ways S Next behind o qs ps s e P) → Ok s → (B : List Tree) → UpTo B s → (r : ℕ) → r ≡ suc (length B) → Numbered B (parts_nodes ps (roles qs)) P (run_pair_rows ways S Next behind d r)
+    runs_numbered done k B u r e = λ C. refl
+    runs_numbered {P = P} (step {qs = qs} {ps = ps} p d) k B u r e =
+        let v = step_on B p k u in
+        let w = runs_numbered d v.ok B v.upto r e in
+        λ C. ap (λ x. map (λ p. row_behind (map start_of (B ++ (parts_nodes ps x ++ C))) p.left 1) P) (Step-roles S Next behind qs p) ∙ w C
+    runs_numbered (opened p d) k B u r e = let v = next_on B p.next k u in runs_numbered d v.ok B v.upto r e
+    runs_numbered (closed p d) k B u r e = let v = next_on B p.next k u in runs_numbered d v.ok B v.upto r e
+    runs_numbered (within {a = a} {qs = qs} {n = n} {ps = ps} {P = P} {Q = Q} p d) k B u r e =
+        let N = nodes n a in
+        let M = parts_nodes ps (roles qs) in
+        let f = spells_found p k B u in
+        let l = length-append B N in
+        let c = nodes_count n a in
+        let v = spells_numbered p k B u r e in
+        let w = runs_numbered d f.ok (B ++ N) f.past (r + rows n a) (omega (arith, e, l, c)) in
+        λ C.
+        map-append (λ p. row_behind (map start_of (B ++ ((N ++ M) ++ C))) p.left 1) P Q
+        ∙ ap₂ (λ x y. x ++ y)
+        (ap (λ x. map (λ p. row_behind (map start_of (B ++ x)) p.left 1) P) (append_assoc N M C) ∙ v (M ++ C))
+        (ap (λ x. map (λ p. row_behind (map start_of x) p.left 1) Q) (ap (λ x. B ++ x) (append_assoc N M C) ∙ sym (append_assoc B N (M ++ C))) ∙ w C)
+        ∙ sym (map-append (λ x. x.0) (pair_rows ways S Next behind p r) (run_pair_rows ways S Next behind d (r + rows n a)))
+    runs_numbered (missing d) k B u r e = runs_numbered d k B u r e
 
 -- In a text
 
@@ -393,3 +482,142 @@ row_found n p = number_is n (row_behind (row_starts n) p.left 1) ∙ numbered (r
 
 pub pairs_have_rows : PairsHaveTheirRows
 pairs_have_rows text o n last P u d = (λ j. map (λ p. row_found n p j) P) ∙ first_rows text o n last P u d
+
+-- Which pair is the innermost of its node, by the rows of neighbours
+
+-- the next pair stands round another node
+stands_alone : ℕ → List (ℕ × Bool) → Bool
+stands_alone r [] = true
+stands_alone r (x ∷ xs) = not (nat_eq x.0 r)
+
+Told : List (ℕ × Bool) → Type 0
+Told [] = Unit {0}
+Told (x ∷ xs) = (x.1 ≡ stands_alone x.0 xs) × Told xs
+
+-- the rows have this number or greater ones
+AllFrom : ℕ → List (ℕ × Bool) → Type 0
+AllFrom k [] = Unit {0}
+AllFrom k (x ∷ xs) = (k ≤ x.0) × AllFrom k xs
+
+from_less : (j k : ℕ) (xs : List (ℕ × Bool)) → j ≤ k → AllFrom k xs → AllFrom j xs
+unfolding AllFrom
+from_less j k [] h u = tt
+from_less j k (x ∷ xs) h u = let y = u.0 in (omega (arith, y, h), from_less j k xs h u.1)
+
+from_append : (k : ℕ) (xs ys : List (ℕ × Bool)) → AllFrom k xs → AllFrom k ys → AllFrom k (xs ++ ys)
+unfolding AllFrom
+from_append k [] ys u v = v
+from_append k (x ∷ xs) ys u v = (u.0, from_append k xs ys u.1 v)
+
+not_same : (k r : ℕ) → suc r ≤ k → not (nat_eq k r) ≡ true
+not_same k r h = grind (arith, nat_tests)
+
+is_same : (r : ℕ) → not (nat_eq r r) ≡ false
+is_same r = grind (arith, nat_tests)
+
+alone_from : (r : ℕ) (xs : List (ℕ × Bool)) → AllFrom (suc r) xs → stands_alone r xs ≡ true
+unfolding AllFrom stands_alone
+alone_from r [] u = refl
+alone_from r (x ∷ xs) u = not_same x.0 r u.0
+
+module _ (S : Type 0) (Next : S → Token → S → Type 0) (behind : S → Token) where
+  mutual
+    unfolding AllFrom
+
+    rows_from : {o : ℕ} {a : Role} {n : Tree} {s e : S} {P : List Pair} (d : Spells ways S Next behind o a n s e P) (r : ℕ) → AllFrom r (pair_rows ways S Next behind d r)
+    rows_from {a = a} (direct qs h p d) r = from_less r (has_row a + r) (run_pair_rows ways S Next behind d (has_row a + r)) (omega arith) (runs_from d (has_row a + r))
+    rows_from (grouped p d q) r = (omega arith, rows_from d r)
+
+    runs_from : {o : ℕ} {qs : List (PieceOf Role)} {ps : Parts} {s e : S} {P : List Pair} (d : Runs ways S Next behind o qs ps s e P) (r : ℕ) → AllFrom r (run_pair_rows ways S Next behind d r)
+    runs_from done r = tt
+    runs_from (step p d) r = runs_from d r
+    runs_from (opened p d) r = runs_from d r
+    runs_from (closed p d) r = runs_from d r
+    runs_from (within {a = a} {n = n} p d) r =
+        from_append r (pair_rows ways S Next behind p r) (run_pair_rows ways S Next behind d (r + rows n a)) (rows_from p r)
+        (from_less r (r + rows n a) (run_pair_rows ways S Next behind d (r + rows n a)) (omega arith) (runs_from d (r + rows n a)))
+    runs_from (missing d) r = runs_from d r
+
+  -- a pair round a node at an expression's position, with what follows in the node and behind it
+  first_told : {o : ℕ} {y : Rank} {i : Bool} {f : Start} {n : Tree} {s e : S} {P : List Pair} (d : Spells ways S Next behind o (expr y i f) n s e P) (r : ℕ) (F : List (ℕ × Bool)) → AllFrom (suc r) F →
+      is_direct ways S Next behind d ≡ stands_alone r (pair_rows ways S Next behind d r ++ F)
+  unfolding stands_alone
+  first_told (direct qs h p d) r F u =
+      let X = run_pair_rows ways S Next behind d (1 + r) in
+      sym (alone_from r (X ++ F) (from_append (suc r) X F (from_less (suc r) (1 + r) X (omega arith) (runs_from d (1 + r))) u))
+  first_told (grouped p d q) r F u = sym (is_same r)
+
+  rows_at : (n : Tree) (y : Rank) (i : Bool) (f : Start) → 1 ≤ rows n (expr y i f)
+  rows_at n y i f = let e = node-rows n (expr y i f) in omega (arith, e)
+
+  rows_alike : (n : Tree) (y : Rank) (i : Bool) (f : Start) → rows n (expr y i f) ≡ rows n (expr Expression true Any)
+  unfolding rows
+  rows_alike (node k w g s e ps) y i f = refl
+
+  mutual
+    unfolding Told parts_rows
+
+    rows_told : {o : ℕ} {a : Role} {n : Tree} {s e : S} {P : List Pair} (d : Spells ways S Next behind o a n s e P) (r : ℕ) (F : List (ℕ × Bool)) → AllFrom (r + rows n a) F → Told F → Told (pair_rows ways S Next behind d r ++ F)
+    rows_told {a = a} {n = n} (direct qs h p d) r F u t =
+        let x = node-rows n a in
+        let y = way-rows a n (parts_of n) qs h in
+        runs_told d (has_row a + r) F (from_less (has_row a + r + parts_rows (parts_of n) (roles qs)) (r + rows n a) F (omega (arith, x, y)) u) t
+    rows_told {n = n} (grouped {y = y} {i = i} {f = f} p d q) r F u t =
+        let x = rows_alike n y i f in
+        let z = rows_at n y i f in (
+          first_told d r F (from_less (suc r) (r + rows n (expr y i f)) F (omega (arith, z)) u),
+          rows_told d r F (from_less (r + rows n (expr Expression true Any)) (r + rows n (expr y i f)) F (omega (arith, x)) u) t,
+        )
+
+    runs_told : {o : ℕ} {qs : List (PieceOf Role)} {ps : Parts} {s e : S} {P : List Pair} (d : Runs ways S Next behind o qs ps s e P) (r : ℕ) (F : List (ℕ × Bool)) → AllFrom (r + parts_rows ps (roles qs)) F → Told F → Told (run_pair_rows ways S Next behind d r ++ F)
+    runs_told done r F u t = t
+    runs_told (step {qs = qs} {ps = ps} p d) r F u t = runs_told d r F (subst (λ x. AllFrom (r + parts_rows ps x) F) (Step-roles S Next behind qs p) u) t
+    runs_told (opened p d) r F u t = runs_told d r F u t
+    runs_told (closed p d) r F u t = runs_told d r F u t
+    runs_told (within {a = a} {qs = qs} {n = n} {ps = ps} p d) r F u t =
+        let X = pair_rows ways S Next behind p r in
+        let Y = run_pair_rows ways S Next behind d (r + rows n a) in
+        let e : r + rows n a + parts_rows ps (roles qs) ≡ r + (rows n a + parts_rows ps (roles qs)) = omega arith in
+        let v = subst (λ k. AllFrom k F) (sym e) u in
+        subst Told (sym (append_assoc X Y F))
+        (rows_told p r (Y ++ F) (from_append (r + rows n a) Y F (runs_from d (r + rows n a)) (from_less (r + rows n a) (r + rows n a + parts_rows ps (roles qs)) F (omega arith) v)) (runs_told d (r + rows n a) F v t))
+    runs_told (missing d) r F u t = runs_told d r F u t
+
+-- The extra pairs
+
+row_in : List ℕ → Pair → ℕ
+row_in ss p = row_behind ss p.left 1
+
+innermost_told : (ss : List ℕ) (p : Pair) (P : List Pair) (x : ℕ × Bool) (X : List (ℕ × Bool)) → row_in ss p ≡ x.0 → map (row_in ss) P ≡ map (λ z. z.0) X → is_innermost (map (grouping ss) (p ∷ P)) ≡ stands_alone x.0 X
+unfolding row_in stands_alone
+innermost_told ss p [] x [] e h = refl
+innermost_told ss p [] x (z ∷ X) e h = absurd (cc)
+innermost_told ss p (q ∷ P) x [] e h = absurd (cc)
+innermost_told ss p (q ∷ P) x (z ∷ X) e h = let f : row_behind ss q.left 1 ≡ z.0 = cc in ap₂ (λ u v. not (nat_eq u v)) f e
+
+extra_told : (wrapped : List Bool) (ss : List ℕ) (P : List Pair) (X : List (ℕ × Bool)) → map (row_in ss) P ≡ map (λ x. x.0) X → Told X → extra_spans wrapped (map (grouping ss) P) ≡ spans_but_needed wrapped P X
+unfolding row_in Told
+extra_told wrapped ss [] X h t = refl
+extra_told wrapped ss (p ∷ P) [] h t = absurd (cc)
+extra_told wrapped ss (p ∷ P) (x ∷ X) h t =
+    let e : row_behind ss p.left 1 ≡ x.0 = cc in
+    let f : map (row_in ss) P ≡ map (λ z. z.0) X = cc in
+    ap₂ (λ u v. cond (u && is_flagged wrapped v) [] (span_of (grouping ss p) ∷ []) ++ extra_spans wrapped (map (grouping ss) P)) (innermost_told ss p P x X e f ∙ sym t.0) e
+    ∙ ap (λ u. cond (x.1 && is_flagged wrapped x.0) [] (span_of (grouping ss p) ∷ []) ++ u) (extra_told wrapped ss P X f t.1)
+
+-- the rows of a script's pairs, by number
+script_rows : (text : List ℕ) (o : ℕ) (n : Tree) (last : Token) (P : List Pair) → IsUtf8 text → (d : SpellsIn text o script n beginning last P) →
+    map (row_in (row_starts n)) P ≡ map (λ x. x.0) (pair_rows ways Token (NextIn text any_goal) itself d 1)
+unfolding nodes UpTo AllUpTo Numbered row_in
+script_rows text o n last P u d =
+    let first : IsCharBoundary text 0 = IsCharBoundary-from_drop text 0 (omega arith) u in
+    let f = spells_numbered Token (NextIn text any_goal) itself (λ p. IsCharBoundary text p.stop) (λ p. p.stop) (text_past text u) ((text_determined text).start) d first [] (λ t e q. tt) 1 refl in
+    ap (λ x. map (λ p. row_behind (map start_of x) p.left 1) P) (sym (append-nil (row_nodes n script))) ∙ f []
+
+script_told : (text : List ℕ) (o : ℕ) (n : Tree) (last : Token) (P : List Pair) → (d : SpellsIn text o script n beginning last P) → Told (pair_rows ways Token (NextIn text any_goal) itself d 1)
+unfolding AllFrom Told
+script_told text o n last P d = subst Told (append-nil _) (rows_told Token (NextIn text any_goal) itself d 1 [] tt tt)
+
+pub extra_pairs_are_extra : ExtraPairsAreExtra
+extra_pairs_are_extra text o n last P u d wrapped =
+    extra_told wrapped (row_starts n) P (pair_rows ways Token (NextIn text any_goal) itself d 1) (script_rows text o n last P u d) (script_told text o n last P d)

@@ -1,5 +1,5 @@
 -- The node in each grouping pair of a derivation, and what a row's number says of it.
-use Rattle.std.specs.Prelude.{◌≡◌, ℕ, zero, suc, List, [], ◌∷◌, ◌++◌, Option, Some, None, map, slice_get}
+use Rattle.std.specs.Prelude.{◌≡◌, ℕ, zero, suc, ◌+◌, Bool, true, false, cond, ◌&&◌, List, [], ◌∷◌, ◌++◌, Option, Some, None, map, slice_get}
 use Rattle.std.specs.Str.{IsUtf8}
 use Rattle.tree.specs.declared.kind.Pair.{Pair}
 use Rattle.tree.specs.Tree.{Tree, Parts}
@@ -9,8 +9,12 @@ use Rattle.language.specs.Pieces.{Role, PieceOf, script}
 use Rattle.language.specs.Cursor.{beginning}
 use Rattle.language.specs.Places.{SpellsIn, NextIn, itself}
 use Rattle.language.specs.Derivation.{Spells, direct, grouped, Runs, done, step, opened, closed, within, missing}
+use Rattle.language.specs.Positions.{has_row, rows}
 use Rattle.language.specs.Claims.{row_nodes}
+use Rattle.tree.specs.declared.kind.Span.{Span}
 use Rattle.positions.specs.Groupings.{grouping, row_starts}
+use Rattle.paren_planner.specs.Wrapped.{is_flagged}
+use Rattle.paren_planner.specs.Extra.{extra_spans, span_of}
 
 module _ (Ways : Role → Tree → List (List (PieceOf Role))) (S : Type 0) (Next : S → Token → S → Type 0) (behind : S → Token) where
   abbrev mutual
@@ -27,6 +31,25 @@ module _ (Ways : Role → Tree → List (List (PieceOf Role))) (S : Type 0) (Nex
     run_pair_nodes (within p d) = pair_nodes p ++ run_pair_nodes d
     run_pair_nodes (missing d) = run_pair_nodes d
 
+  -- no pair stands round the node
+  abbrev pub is_direct : {o : ℕ} {a : Role} {n : Tree} {s e : S} {P : List Pair} → Spells Ways S Next behind o a n s e P → Bool
+  is_direct (direct qs h p d) = true
+  is_direct (grouped p d q) = false
+
+  abbrev mutual
+    -- of each grouping pair, where the first row has this number: the row of its node, and whether it is the innermost of the node's pairs
+    pub pair_rows : {o : ℕ} {a : Role} {n : Tree} {s e : S} {P : List Pair} → Spells Ways S Next behind o a n s e P → ℕ → List (ℕ × Bool)
+    pair_rows {a = a} (direct qs h p d) r = run_pair_rows d (has_row a + r)
+    pair_rows (grouped p d q) r = (r, is_direct d) ∷ pair_rows d r
+
+    pub run_pair_rows : {o : ℕ} {qs : List (PieceOf Role)} {ps : Parts} {s e : S} {P : List Pair} → Runs Ways S Next behind o qs ps s e P → ℕ → List (ℕ × Bool)
+    run_pair_rows done r = []
+    run_pair_rows (step p d) r = run_pair_rows d r
+    run_pair_rows (opened p d) r = run_pair_rows d r
+    run_pair_rows (closed p d) r = run_pair_rows d r
+    run_pair_rows (within {a = a} {n = n} p d) r = pair_rows p r ++ run_pair_rows d (r + rows n a)
+    run_pair_rows (missing d) r = run_pair_rows d r
+
 -- the node with a row's number, counted from 1
 abbrev pub node_of_row : Tree → ℕ → Option Tree
 node_of_row n zero = None
@@ -37,3 +60,16 @@ abbrev pub PairsHaveTheirRows : Type 0
 PairsHaveTheirRows =
     (text : List ℕ) (o : ℕ) (n : Tree) (last : Token) (P : List Pair) → IsUtf8 text → (d : SpellsIn text o script n beginning last P) →
     map (λ p. node_of_row n (grouping (row_starts n) p).row) P ≡ map Some (pair_nodes Rattle.language.specs.Grammar.ways Token (NextIn text any_goal) itself d)
+
+-- the spans of the pairs but for the innermost of each wrapped node
+abbrev pub spans_but_needed : List Bool → List Pair → List (ℕ × Bool) → List Span
+spans_but_needed wrapped [] xs = []
+spans_but_needed wrapped (p ∷ P) [] = []
+spans_but_needed wrapped (p ∷ P) (x ∷ xs) =
+    cond (x.1 && is_flagged wrapped x.0) [] (span_of (record { left = p.left; right = p.right; row = x.0 }) ∷ []) ++ spans_but_needed wrapped P xs
+
+-- the extra pairs of a script are all but the innermost of each wrapped node
+abbrev pub ExtraPairsAreExtra : Type 0
+ExtraPairsAreExtra =
+    (text : List ℕ) (o : ℕ) (n : Tree) (last : Token) (P : List Pair) → IsUtf8 text → (d : SpellsIn text o script n beginning last P) → (wrapped : List Bool) →
+    extra_spans wrapped (map (grouping (row_starts n)) P) ≡ spans_but_needed wrapped P (pair_rows Rattle.language.specs.Grammar.ways Token (NextIn text any_goal) itself d 1)
