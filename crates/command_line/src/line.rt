@@ -2,7 +2,7 @@
 
 ghost use Rattle.std.specs.Prelude.{◌≡◌, IfErr, IfOk, IfSome, Some, codes, false, map, true};
 ghost use Rattle.clap.specs.Simple.{on_top};
-ghost use Rattle.clap.specs.Words.{app_of, kind_of, new_app, subcommand_of, subcommand_rows_of, takes, with_subcommand};
+ghost use Rattle.clap.specs.Words.{FailsBy, app_of, fault_of, kind_of, new_app, subcommand_of, subcommand_rows_of, takes, with_subcommand};
 ghost use Rattle.clap.specs.declared.builder.command.Command.TheViews.{out-Command};
 ghost use Rattle.command_line.specs.CommandLine.{Chooses, file_app, jslint_app};
 
@@ -108,6 +108,7 @@ fn chosen_line<'a>(matches: &ArgMatches<'a>) -> Option<Line<'a>>
 /// error's text is for the user.
 pub fn command_line<'a>(alloc: Global, words: &'a [&'a str]) -> Result<Line<'a>, Error>
     ensures ok { IfOk result (λ line. Chooses (subcommand_of jslint_app (map (λ w. w.now) words.entry.now)) line) }
+    ensures kinds { FailsBy (fault_of jslint_app (map (λ w. w.now) words.entry.now)) result }
     ensures passes { IfErr result (λ e. takes jslint_app (map (λ w. w.now) words.entry.now) ≡ true → kind_of e ≡ ErrorKind.OutOfMemory) }
 {
     let jslint = jslint_command(alloc)?;
