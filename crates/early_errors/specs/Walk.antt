@@ -1,7 +1,9 @@
 -- What the program's own calls say on the way: the least error so far, tables of names, and what a `var` clashes with.
 use Rattle.std.specs.Prelude.{◌≡◌, ℕ, zero, suc, Bool, cond, List, [], ◌∷◌, map, Option, Some, None, is_some}
+use Rattle.std.specs.BTreeMap.{get_by}
+use Rattle.std.specs.Cmp.Lexicographic.{slice_cmp}
+use Rattle.std.specs.Ordering.{nat_cmp}
 use Rattle.std.specs.Str.{bytes_eq}
-use Rattle.indexmap.specs.IndexMap.{get_by}
 use Rattle.tree.specs.declared.kind.Kind.{Kind}
 use Rattle.tree.specs.declared.kind.Kind.TheVariants.{Identifier, ArrayPattern, ObjectPattern, RestElement, AssignmentPattern, Property, VariableDeclaration, ClassDeclaration, FunctionDeclaration}
 use Rattle.tree.specs.Tree.{Tree, node, Parts, none, part, gap, parts_of}
@@ -39,7 +41,7 @@ value_of (Some o) = o
 
 -- what a name stands for in a table
 abbrev pub look : {V : Type 0} → Table V → List ℕ → Option V
-look t w = value_of (get_by (λ k. bytes_eq w k.now) t.entries)
+look t w = value_of (get_by (λ k. slice_cmp nat_cmp w k.now) t.entries)
 
 -- the same, with another value at one name
 abbrev pub with_value : {V : Type 0} → (List ℕ → Option V) → List ℕ → Option V → List ℕ → Option V

@@ -3,14 +3,15 @@
 ghost use Rattle.std.specs.Prelude.{◌≡◌, IfOk, OnOk, None};
 ghost use Rattle.early_errors.specs.Walk.{Agree, look, with_value};
 
-use indexmap::IndexMap;
 use std::alloc::{AllocError, Global};
+use std::collections::BTreeMap;
 use std::mem;
 
-/// What names stand for: a name stands for a value or for none.
+/// What names stand for: a name stands for a value or for none. In a tree by order, not by hash: who writes the text
+/// chooses the names, and could choose them to collide.
 #[derive(Drop)]
 pub(crate) struct Table<'t, V> {
-    entries: IndexMap<&'t str, Option<V>>,
+    entries: BTreeMap<&'t str, Option<V>>,
 }
 
 impl<'t, V: Copy> Table<'t, V> {
@@ -19,7 +20,7 @@ impl<'t, V: Copy> Table<'t, V> {
         ensures { Agree (look result) (λ _. None) }
     {
         Table {
-            entries: IndexMap::new(alloc),
+            entries: BTreeMap::new(alloc),
         }
     }
 
