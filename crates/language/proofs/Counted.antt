@@ -33,7 +33,7 @@ module _ (W : ℕ → Bool) where
         own_pair (nat_eq (has_row a) 1 && W r) (wants_pair n a) r _ _ m.0
         (ap (λ b. parts_pair_count W ps (first_roles (ways (inside b a) n)) (has_row a + r)) m.0 ∙ parts_counted ps (first_roles (ways (inside (wants_pair n a) a) n)) (has_row a + r) m.1)
 
-    parts_counted : (ps : Parts) (xs : List Role) (r : ℕ) → PartsMark W ps xs r → parts_pair_count W ps xs r ≡ length (parts_wrapped ps xs r)
+    pub parts_counted : (ps : Parts) (xs : List Role) (r : ℕ) → PartsMark W ps xs r → parts_pair_count W ps xs r ≡ length (parts_wrapped ps xs r)
     parts_counted none xs r m = refl
     parts_counted (gap ps) xs r m = parts_counted ps xs r m
     parts_counted (part n ps) [] r m = refl

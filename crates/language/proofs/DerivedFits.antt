@@ -216,7 +216,7 @@ module _ (S : Type 0) (Next : S → Token → S → Type 0) (behind : S → Toke
   near_parts (within p d) (x ∷ xs) [] l u h = elim l [ ]
   near_parts (missing d) xs ys l u h = near_parts d xs ys l u h
 
-  runs_line_up : {o : ℕ} {qs : List (PieceOf Role)} {ps : Parts} {s e : S} {P : List Pair} → Runs ways S Next behind o qs ps s e P → lines_up qs ps ≡ true
+  pub runs_line_up : {o : ℕ} {qs : List (PieceOf Role)} {ps : Parts} {s e : S} {P : List Pair} → Runs ways S Next behind o qs ps s e P → lines_up qs ps ≡ true
   runs_line_up done = refl
   runs_line_up (step p d) = step_lines _ _ p (runs_line_up d)
     where

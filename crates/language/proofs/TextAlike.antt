@@ -14,12 +14,12 @@ use Rattle.language.specs.Places.{NextIn, next_in, itself}
 use Rattle.language.specs.Following.{IsAlike}
 use Rattle.language.proofs.TextPlaces.{begins_same, turned_same, same_gap}
 
-cancel : (g a b : List ℕ) → g ++ a ≡ g ++ b → a ≡ b
+pub cancel : (g a b : List ℕ) → g ++ a ≡ g ++ b → a ≡ b
 cancel [] a b h = h
 cancel (c ∷ g) a b h = cancel g a b (cc)
 
 -- what stands at a token's place begins as the token does
-word_begins : (test : ℕ → Bool) (class : Class) (word rest : List ℕ) → IsTrue (is_token class word rest) → begins_with test (word ++ rest) ≡ begins_with test word
+pub word_begins : (test : ℕ → Bool) (class : Class) (word rest : List ℕ) → IsTrue (is_token class word rest) → begins_with test (word ++ rest) ≡ begins_with test word
 word_begins test class (c ∷ cs) rest h = refl
 word_begins test End [] [] h = refl
 word_begins test End [] (c ∷ rest) h = let u = token_may End [] (c ∷ rest) h in cc
@@ -39,7 +39,7 @@ read_begins : {g : Goal} {at : ℕ} {cs : List ℕ} {t : LexicalToken} {rest : L
 read_begins {t = t} {rest = rest} x =
     table_begins t.class t.text ∙ ap (begins_with (one_of "}")) x.text ∙ begins_same 125 (omega arith) x.word ∙ sym (word_begins (one_of "}") t.class x.word rest x.longest)
 
-same_rest : {g h : Goal} {at : ℕ} {cs : List ℕ} {a b : LexicalToken} {ra rb : List ℕ} (x : IsTokenAt g at cs a ra) (y : IsTokenAt h at cs b rb) → x.word ++ ra ≡ y.word ++ rb
+pub same_rest : {g h : Goal} {at : ℕ} {cs : List ℕ} {a b : LexicalToken} {ra rb : List ℕ} (x : IsTokenAt g at cs a ra) (y : IsTokenAt h at cs b rb) → x.word ++ ra ≡ y.word ++ rb
 same_rest {ra = ra} {rb = rb} x y = cancel x.gap (x.word ++ ra) (y.word ++ rb) (sym (append_assoc x.gap x.word ra) ∙ sym x.split ∙ y.split ∙ append_assoc y.gap y.word rb ∙ ap (λ g. g ++ (y.word ++ rb)) (sym (same_gap x y)))
 
 same_brace : (text : List ℕ) (s a b e f : Token) → NextIn text any_goal s a e → NextIn text any_goal s b f → begins_with (one_of "}") a.text ≡ begins_with (one_of "}") b.text

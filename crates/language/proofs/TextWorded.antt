@@ -123,7 +123,7 @@ module _ (text : List ℕ) (u : IsUtf8 text) where
 
   mutual
     -- a node ends at a place of the text
-    spells_place : {o : ℕ} {a : Role} {n : Tree} {s e : Token} {P : List Pair} → Spells ways Token (NextIn text any_goal) itself o a n s e P → IsPlace text s.stop → IsPlace text e.stop
+    pub spells_place : {o : ℕ} {a : Role} {n : Tree} {s e : Token} {P : List Pair} → Spells ways Token (NextIn text any_goal) itself o a n s e P → IsPlace text s.stop → IsPlace text e.stop
     spells_place (direct qs h pl d) p = runs_place d p
     spells_place (grouped x d y) p = read_place u (spells_place d (read_place u p x.next)) y.next
 

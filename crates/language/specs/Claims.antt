@@ -112,15 +112,3 @@ pub record Sound (t : Table) (n : Tree) : Type 0 where
 -- the tokens between the cursors spell the node directly at the position
 abbrev pub SpellsDirectly : Role → Tree → List Token → List Token → List Pair → Type 0
 SpellsDirectly a n ts us P = (m : Tree) × (o : ℕ) × (qs : List (PieceOf Role)) × SameTree m n × Among qs (ways a m) × Runs ways (List Token) Next behind o qs (parts_of m) ts us P
-
--- the cell is the least number of pairs over all direct spellings, none where there is none
-abbrev pub IsLeast : Role → Tree → Option ℕ → Type 0
-IsLeast a n None = (ts us : List Token) (P : List Pair) → SpellsDirectly a n ts us P → ⊥
-IsLeast a n (Some c) =
-    ((ts us : List Token) (P : List Pair) → SpellsDirectly a n ts us P → c ≤ length P) ×
-    ((ts : List Token) × (us : List Token) × (P : List Pair) × SpellsDirectly a n ts us P × (length P ≡ c))
-
-pub record Exact (t : Table) (n : Tree) : Type 0 where
-  pub shape : Rattle.std.specs.Prelude.map (λ x. x.0) t.rows ≡ Rattle.std.specs.Prelude.map kind_of (row_nodes n script)
-  pub cells : (r : ℕ) (m : Tree) → slice_get (row_nodes n script) r ≡ Some m → (c : ℕ) (a : Role) → slice_get contexts c ≡ Some a → IsLeast a m (table_cell t (suc r) c)
-  pub total : Fewest n t.total

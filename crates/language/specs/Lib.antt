@@ -25,5 +25,6 @@ pub mod Fits
 pub mod Printed
 pub mod Readable
 pub mod Claims
+pub mod Laid
 pub mod Laws
 pub mod Earlier

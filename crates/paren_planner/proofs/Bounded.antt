@@ -195,7 +195,7 @@ behind_first : (T : List Row) (k : ℕ) (x : Row) (xs : List Row) → HasRows T 
 behind_first T k x xs h = rows_behind T k (suc k) (x ∷ []) xs (let e : suc k ≡ k + 1 = omega arith in e) h
 
 -- an element of two lists is one of the first or of the second
-split_at : (xs ys : List Tree) (r : ℕ) (m : Tree) (G : Type 0) → slice_get (xs ++ ys) r ≡ Some m → (slice_get xs r ≡ Some m → G) → ((q : ℕ) → length xs + q ≡ r → slice_get ys q ≡ Some m → G) → G
+pub split_at : (xs ys : List Tree) (r : ℕ) (m : Tree) (G : Type 0) → slice_get (xs ++ ys) r ≡ Some m → (slice_get xs r ≡ Some m → G) → ((q : ℕ) → length xs + q ≡ r → slice_get ys q ≡ Some m → G) → G
 split_at [] ys r m G h f g = g r (let e : 0 + r ≡ r = omega arith in e) h
 split_at (x ∷ xs) ys zero m G h f g = f h
 split_at (x ∷ xs) ys (suc r) m G h f g = split_at xs ys r m G h f (λ q e i. g q (let z : suc (length xs) + q ≡ suc r = omega (arith, e) in z) i)

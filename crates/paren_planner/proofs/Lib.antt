@@ -14,3 +14,8 @@ pub mod Bytes
 pub mod Plans
 mod ExtraExamples
 pub mod PairRows
+pub mod Tighter
+pub mod Somewhere
+pub mod LaidTokens
+pub mod CellsAttained
+pub mod ExactPlans

@@ -17,6 +17,7 @@ use Rattle.paren_planner.proofs.Turns.{total_is, table-length}
 use Rattle.paren_planner.proofs.Totals.{wrapped_count}
 use Rattle.paren_planner.proofs.Celled.{script_shown}
 use Rattle.paren_planner.proofs.Bounded.{plan_bounds}
+use Rattle.paren_planner.proofs.ExactPlans.{exact_cells}
 
 capped_some : (x : Option ℕ) → IsSome (capped x) → IsSome x
 unfolding capped
@@ -48,4 +49,5 @@ is_plan n p rows_are few total wrapped = record {
   total = total;
   count = sym (wrapped_count n p.table.total (sym total));
   wrapped = wrapped;
+  exact = exact_cells p.table.rows.items p.table.total n (ap (map shown) rows_are ∙ script_shown n few) (plan_bounds p.table.rows.items p.table.total n rows_are few total).shape total (sym (wrapped_count n p.table.total (sym total)));
 }

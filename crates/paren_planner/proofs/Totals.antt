@@ -173,7 +173,7 @@ mutual
   node_count (node k w g s e ps) a r c p h =
       plain_count (node k w g s e ps) a (0 + r) c h (λ m q. parts_count ps (first_roles (ways a (node k w g s e ps))) (0 + r) m (parts_plain a (node k w g s e ps)) q)
 
-  parts_count : (ps : Parts) (xs : List Role) (r c : ℕ) → all_pass is_plain xs ≡ true → parts_least ps xs ≡ Some c → length (parts_wrapped ps xs r) ≡ c
+  pub parts_count : (ps : Parts) (xs : List Role) (r c : ℕ) → all_pass is_plain xs ≡ true → parts_least ps xs ≡ Some c → length (parts_wrapped ps xs r) ≡ c
   parts_count none xs r c p h = cc
   parts_count (gap ps) xs r c p h = parts_count ps xs r c p h
   parts_count (part n ps) [] r c p h = absurd (cc)

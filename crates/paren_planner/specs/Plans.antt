@@ -1,11 +1,15 @@
 -- Which scripts have a plan, and what a plan says.
-use Rattle.std.specs.Prelude.{◌≡◌, ℕ, ◌≤◌, Some, map, length, IsSome}
+use Rattle.std.specs.Prelude.{◌≡◌, ℕ, ◌≤◌, List, Some, map, length, IsSome}
+use Rattle.std.specs.Str.{IsUtf8}
+use Rattle.tree.specs.declared.kind.Pair.{Pair}
 use Rattle.tree.specs.Tree.{Tree}
 use Rattle.language.specs.Pieces.{script}
 use Rattle.language.specs.Cost.{least}
 use Rattle.language.specs.Layout.{has_number, wrapped_rows}
+use Rattle.language.specs.Claims.{Derives}
 use Rattle.language.specs.Positions.{rows}
 use Rattle.paren_planner.specs.declared.planned.Plan.{Plan}
+use Rattle.language.specs.Laid.{Exact}
 use Rattle.paren_planner.specs.Rows.{cell_rows, shown}
 use Rattle.paren_planner.specs.Tables.{MeetsBounds, table_of}
 use Rattle.paren_planner.specs.Wrapped.{is_flagged}
@@ -15,10 +19,12 @@ abbrev pub HasPlan : Tree → Type 0
 HasPlan n = IsSome (least n script) × (rows n script ≤ 16777216)
 
 -- The table's rows have the definition's cells, each cell meets its bound, the total is the script's least cost and the number of its
--- wrapped nodes, and the flags are those of these nodes.
+-- wrapped nodes, and the flags are those of these nodes. Where some text derives the script, each cell is the least number of pairs over all
+-- direct spellings of its node there, attained by the node's layout, and the total is the fewest.
 pub record IsPlan (n : Tree) (p : Plan) : Type 0 where
   pub cells : map shown p.table.rows.items ≡ cell_rows n
   pub bounds : MeetsBounds (table_of p.table.rows.items p.table.total) n
   pub total : Some p.table.total ≡ least n script
   pub count : p.table.total ≡ length (wrapped_rows n script 1)
   pub wrapped : (r : ℕ) → is_flagged p.wrapped.items r ≡ has_number (wrapped_rows n script 1) r
+  pub exact : (text : List ℕ) (P : List Pair) → IsUtf8 text → Derives text n P → Exact (table_of p.table.rows.items p.table.total) n

@@ -9,7 +9,7 @@ use language::{Rank, Start};
 
 /// The numbers at the three starts.
 #[derive(Clone, Copy)]
-pub(crate) struct Starts {
+pub struct Starts {
     pub any: Option<u32>,
     pub no_brace: Option<u32>,
     pub statement: Option<u32>,
@@ -57,7 +57,7 @@ impl Starts {
 
 /// The pairs inside a node, spelled directly: with In, without In, and where only what is at Member may stand; none where it can't be.
 #[derive(Clone, Copy)]
-pub(crate) struct Costs {
+pub struct Costs {
     pub with_in: Starts,
     pub without_in: Starts,
     pub at_member: Starts,
@@ -65,7 +65,7 @@ pub(crate) struct Costs {
 
 impl Costs {
     /// The same number everywhere.
-    pub(crate) fn same(number: Option<u32>) -> Costs
+    pub fn same(number: Option<u32>) -> Costs
         ensures { result ≡ same_everywhere number }
     {
         Costs {
@@ -83,7 +83,7 @@ impl Costs {
     }
 
     /// The number that counts at a symbol, In and start.
-    pub(crate) fn at(self, rank: Rank, with_in: bool, start: Start) -> Option<u32>
+    pub fn at(self, rank: Rank, with_in: bool, start: Start) -> Option<u32>
         ensures { result ≡ cost_at self rank with_in start }
     {
         if tightness_of(rank) >= 21 {

@@ -13,7 +13,9 @@ mod table;
 mod weighed;
 mod wrap;
 
+pub use costs::{Costs, Starts};
 pub use extra::extra_pairs;
 pub use planned::Plan;
 pub use planner::{plan, plan_if_any};
 pub use table::CostTable;
+pub use weighed::{Weighed, added, fitting, least, widest};

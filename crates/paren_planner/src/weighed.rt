@@ -17,7 +17,7 @@ use positions::{Outline, Position, Slot, fits, settled};
 
 /// A node's outline, none where it can't be spelled, and what it costs.
 #[derive(Clone, Copy)]
-pub(crate) struct Weighed {
+pub struct Weighed {
     pub outline: Option<Outline>,
     pub costs: Costs,
 }
@@ -39,7 +39,7 @@ pub(crate) fn with_own(position: Position, rank: Rank, with_in: bool, start: Sta
 }
 
 /// The position with all that a spelling may depend on left open.
-pub(crate) fn widest(position: Position) -> Position
+pub fn widest(position: Position) -> Position
     ensures { role_of result ≡ widest_role (role_of position) }
 {
     with_own(position, Rank::Expression, true, Start::Any)
@@ -63,7 +63,7 @@ pub(crate) fn cost_at(costs: Costs, position: Position) -> Option<u32>
 }
 
 /// The least number of pairs of a node at a position, with a pair round it or without.
-fn least(part: Weighed, position: Position) -> Option<u32>
+pub fn least(part: Weighed, position: Position) -> Option<u32>
     ensures { result ≡ least_of part (role_of position) }
 {
     let direct = direct_cost(part, position);
@@ -136,7 +136,7 @@ fn is_free(slot: Slot, part: Weighed) -> bool
 }
 
 /// The sums with what one more part costs in a node, wherever that stands.
-pub(crate) fn added(sums: Costs, own: Position, slot: Slot, part: Weighed) -> Costs
+pub fn added(sums: Costs, own: Position, slot: Slot, part: Weighed) -> Costs
     requires { sums_of sums (same_everywhere (Some 0)) ≡ sums }
     ensures { result ≡ sums_of sums (uses_of (role_of own) (slot_of slot) part) }
 {
@@ -177,7 +177,7 @@ fn use_at(own: Position, slot: Slot, part: Weighed) -> Option<u32>
 }
 
 /// What a node costs, of the sums over its parts: none where its spelling doesn't fit.
-pub(crate) fn fitting(own: Position, outline: Outline, costs: Costs) -> Costs
+pub fn fitting(own: Position, outline: Outline, costs: Costs) -> Costs
     ensures { result ≡ fitting_costs (role_of own) outline costs }
 {
     if suits_anywhere(outline) {

@@ -21,7 +21,7 @@ mod walk;
 mod words;
 
 pub use nodes::node_positions;
-pub use outline::Outline;
+pub use outline::{Opens, Outline};
 pub use pairs::{Grouping, groupings};
 pub use position::{Position, Slot};
 pub use spelled::{Spelled, leads_chain, node_spelling};

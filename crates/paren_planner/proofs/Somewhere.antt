@@ -1,0 +1,134 @@
+-- Each node that has a row is spelled directly somewhere in the text.
+use Rattle.std.proofs.Common.{◌≡◌, ℕ, zero, suc, Bool, true, false, List, [], ◌∷◌, Some, refl, sym, subst}
+use Rattle.std.specs.Prelude.{slice_get}
+use Rattle.std.specs.Str.{IsUtf8}
+use Rattle.std.proofs.lemmas.Bool.{and_parts}
+use Rattle.std.proofs.lemmas.Str.{IsCharBoundary-start}
+use Rattle.source_text.specs.Source.{IsPlace}
+use Rattle.tokens.specs.Reading.{any_goal}
+use Rattle.tree.specs.declared.kind.Pair.{Pair}
+use Rattle.tree.specs.Tree.{Tree, node, Parts, parts_of}
+use Rattle.language.specs.declared.Rank.{Rank}
+use Rattle.language.specs.declared.Rank.TheVariants.{Expression}
+use Rattle.language.specs.declared.Start.{Start}
+use Rattle.language.specs.declared.Start.TheVariants.{Any}
+use Rattle.language.specs.Pieces.{Role, expr, script, PieceOf}
+use Rattle.language.specs.Token.{Token}
+use Rattle.language.specs.Places.{NextIn, itself}
+use Rattle.language.specs.Grammar.{ways}
+use Rattle.language.specs.Positions.{roles, first_roles, widest}
+use Rattle.language.specs.Derivation.{Among, Placed, Spells, direct, grouped, Runs, done, step, opened, closed, within, missing, Step, token, with_mark, without_mark, one_more, no_more, seen, same_line, explicit, implicit, laid}
+use Rattle.language.specs.Claims.{row_nodes, parts_row_nodes, Derives}
+use Rattle.language.proofs.LowerBound.{Step-roles}
+use Rattle.language.proofs.Alike.{Like, same, at_expressions, AllLike, next}
+use Rattle.language.proofs.TokenWords.{read_place}
+use Rattle.positions.proofs.Slots.{is_wide, all_pass, parts_wide}
+use Rattle.paren_planner.proofs.Celled.{wide_itself, wide_start}
+use Rattle.paren_planner.proofs.Bounded.{split_at}
+use Rattle.paren_planner.proofs.Tighter.{parts_alike}
+
+-- directly, at an expression's position
+pub record Somewhere (text : List ℕ) (n : Tree) : Type 0 where
+  pub most : ℕ
+  pub rank : Rank
+  pub with_in : Bool
+  pub start : Start
+  pub from : Token
+  pub to : Token
+  pub pairs : List Pair
+  pub way : List (PieceOf Role)
+  pub among : Among way (ways (expr rank with_in start) n)
+  pub stands : Placed Token (NextIn text any_goal) itself (expr rank with_in start) n from to
+  pub runs : Runs ways Token (NextIn text any_goal) itself most way (parts_of n) from to pairs
+  pub place : IsPlace text from.stop
+
+module _ (text : List ℕ) (u : IsUtf8 text) where
+  -- Places at which reading goes on
+
+  step_place : {q : PieceOf Role} {s e : Token} → Step Token (NextIn text any_goal) itself q s e → IsPlace text s.stop → IsPlace text e.stop
+  step_place (token x) p = read_place u p x.next
+  step_place (with_mark x) p = read_place u p x.next
+  step_place without_mark p = p
+  step_place (one_more x y) p = step_place y (read_place u p x.next)
+  step_place no_more p = p
+  step_place (seen x) p = p
+  step_place (same_line x y) p = p
+  step_place (explicit x) p = read_place u p x.next
+  step_place (implicit x y) p = p
+  step_place laid p = p
+
+  mutual
+    spells_place : {o : ℕ} {a : Role} {n : Tree} {s e : Token} {P : List Pair} → Spells ways Token (NextIn text any_goal) itself o a n s e P → IsPlace text s.stop → IsPlace text e.stop
+    spells_place (direct qs h pl d) p = runs_place d p
+    spells_place (grouped x d y) p = read_place u (spells_place d (read_place u p x.next)) y.next
+
+    runs_place : {o : ℕ} {qs : List (PieceOf Role)} {ps : Parts} {s e : Token} {P : List Pair} → Runs ways Token (NextIn text any_goal) itself o qs ps s e P → IsPlace text s.stop → IsPlace text e.stop
+    runs_place done p = p
+    runs_place (step q d) p = runs_place d (step_place q p)
+    runs_place (opened x d) p = runs_place d (read_place u p x.next)
+    runs_place (closed x d) p = runs_place d (read_place u p x.next)
+    runs_place (within d e) p = runs_place e (spells_place d p)
+    runs_place (missing d) p = runs_place d p
+
+  -- what is spelled at an expression's position is spelled directly, maybe in pairs
+  itself_somewhere : {o : ℕ} {y : Rank} {i : Bool} {f : Start} {n : Tree} {s e : Token} {P : List Pair} → Spells ways Token (NextIn text any_goal) itself o (expr y i f) n s e P → IsPlace text s.stop → Somewhere text n
+  itself_somewhere {o = o} {y = y} {i = i} {f = f} {s = s} {e = e} {P = P} (direct qs h pl d) p =
+      record { most = o; rank = y; with_in = i; start = f; from = s; to = e; pairs = P; way = qs; among = h; stands = pl; runs = d; place = p }
+  itself_somewhere (grouped x d y) p = itself_somewhere d (read_place u p x.next)
+
+  -- at a position of its sort
+  at_expression : {o : ℕ} {s e : Token} {P : List Pair} (a : Role) (n : Tree) {y : Rank} {i : Bool} {f : Start} → Like false a (expr y i f) → Spells ways Token (NextIn text any_goal) itself o a n s e P → IsPlace text s.stop → Somewhere text n
+  at_expression (expr z j g) n l d p = itself_somewhere d p
+  at_expression _ n l d p = elim l [ ]
+
+  -- the first row of a node that has one is its own
+  own_or_below : (n : Tree) (y : Rank) (i : Bool) (f : Start) (k : ℕ) (m : Tree) (G : Type 0) → slice_get (row_nodes n (expr y i f)) k ≡ Some m → (n ≡ m → G) →
+      ((q : ℕ) → slice_get (parts_row_nodes (parts_of n) (first_roles (ways (expr Expression true Any) n))) q ≡ Some m → G) → G
+  unfolding row_nodes
+  own_or_below (node k w g s e ps) y i f zero m G h own below = own (cc)
+  own_or_below (node k w g s e ps) y i f (suc q) m G h own below = below q h
+
+  other_below : (n : Tree) (b : Role) (k : ℕ) (m : Tree) → is_wide b ≡ true → Rattle.language.specs.Positions.has_row b ≡ 0 → slice_get (row_nodes n b) k ≡ Some m →
+      slice_get (parts_row_nodes (parts_of n) (first_roles (ways (widest b) n))) k ≡ Some m
+  unfolding row_nodes
+  other_below n (expr y i f) k m v z h = absurd (cc)
+  other_below (node j w g s e ps) b k m v z h = subst (λ c. slice_get (parts_row_nodes ps (first_roles (ways c (node j w g s e ps)))) k ≡ Some m) (sym (wide_itself b v z)) h
+
+  -- the rows of a node that is spelled directly, by those of its parts
+  directly_somewhere : {o : ℕ} {s e : Token} {P : List Pair} (a : Role) (n : Tree) (qs : List (PieceOf Role)) → Among qs (ways a n) → Placed Token (NextIn text any_goal) itself a n s e →
+      Runs ways Token (NextIn text any_goal) itself o qs (parts_of n) s e P → IsPlace text s.stop →
+      ((xs : List Role) → AllLike false (roles qs) xs → all_pass is_wide xs ≡ true → (q : ℕ) (m : Tree) → slice_get (parts_row_nodes (parts_of n) xs) q ≡ Some m → Somewhere text m) →
+      (b : Role) → Like false a b → is_wide b ≡ true → (k : ℕ) (m : Tree) → slice_get (row_nodes n b) k ≡ Some m → Somewhere text m
+  directly_somewhere {o} {s} {e} {P} a n qs h pl d p go b l v k m x = of b l v x
+    where
+      inner : (c : Role) → Like false a c → (q : ℕ) → slice_get (parts_row_nodes (parts_of n) (first_roles (ways (widest c) n))) q ≡ Some m → Somewhere text m
+      inner c l q y = go (first_roles (ways (widest c) n)) (parts_alike n a c l h) (parts_wide (widest c) n (wide_start c)) q m y
+
+      of : (c : Role) → Like false a c → is_wide c ≡ true → slice_get (row_nodes n c) k ≡ Some m → Somewhere text m
+      of (expr z j g) l v x = own_or_below n z j g k m (Somewhere text m) x (λ i. subst (Somewhere text) i (at_expression a n l (direct qs h pl d) p)) (λ q y. inner (expr z j g) l q y)
+      of c l v x = inner c l k (other_below n c k m v refl x)
+
+  mutual
+    unfolding parts_row_nodes
+
+    pub rows_somewhere : {o : ℕ} {a : Role} {n : Tree} {s e : Token} {P : List Pair} → Spells ways Token (NextIn text any_goal) itself o a n s e P → IsPlace text s.stop →
+        (b : Role) → Like false a b → is_wide b ≡ true → (k : ℕ) (m : Tree) → slice_get (row_nodes n b) k ≡ Some m → Somewhere text m
+    rows_somewhere {a = a} {n = n} (direct qs h pl d) p b l v k m x = directly_somewhere a n qs h pl d p (λ xs ls w q j y. parts_somewhere d p xs ls w q j y) b l v k m x
+    rows_somewhere (grouped x d y) p b same v k m h = rows_somewhere d (read_place u p x.next) b at_expressions v k m h
+    rows_somewhere (grouped x d y) p b at_expressions v k m h = rows_somewhere d (read_place u p x.next) b at_expressions v k m h
+
+    pub parts_somewhere : {o : ℕ} {qs : List (PieceOf Role)} {ps : Parts} {s e : Token} {P : List Pair} → Runs ways Token (NextIn text any_goal) itself o qs ps s e P → IsPlace text s.stop →
+        (xs : List Role) → AllLike false (roles qs) xs → all_pass is_wide xs ≡ true → (k : ℕ) (m : Tree) → slice_get (parts_row_nodes ps xs) k ≡ Some m → Somewhere text m
+    parts_somewhere done p xs l v k m h = absurd (cc)
+    parts_somewhere (step {qs = qs} q d) p xs l v k m h = parts_somewhere d (step_place q p) xs (subst (λ zs. AllLike false zs xs) (Step-roles Token (NextIn text any_goal) itself qs q) l) v k m h
+    parts_somewhere (opened x d) p xs l v k m h = parts_somewhere d (read_place u p x.next) xs l v k m h
+    parts_somewhere (closed x d) p xs l v k m h = parts_somewhere d (read_place u p x.next) xs l v k m h
+    parts_somewhere (within {n = n} {ps = ps} d e) p (b ∷ xs) (next l ls) v k m h =
+        let w = and_parts (is_wide b) (all_pass is_wide xs) v in
+        split_at (row_nodes n b) (parts_row_nodes ps xs) k m (Somewhere text m) h (λ i. rows_somewhere d p b l w.0 k m i) (λ q z i. parts_somewhere e (spells_place d p) xs ls w.1 q m i)
+    parts_somewhere (within d e) p [] l v k m h = elim l [ ]
+    parts_somewhere (missing d) p xs l v k m h = parts_somewhere d p xs l v k m h
+
+-- each node with a row in a script that some text derives
+pub row_somewhere : (text : List ℕ) (n : Tree) (P : List Pair) → IsUtf8 text → Derives text n P → (k : ℕ) (m : Tree) → slice_get (row_nodes n script) k ≡ Some m → Somewhere text m
+row_somewhere text n P u d k m h = rows_somewhere text u d.1.1 (IsCharBoundary-start text u) script same refl k m h
