@@ -306,3 +306,51 @@ meta_scopes = refl
 pub meta_references : references_shown meta_tree ≡ []
 unfolding computing
 meta_references = refl
+
+-- `a &&= b; c ||= d; e ??= f`
+abbrev logical_assignment_tree : Tree
+logical_assignment_tree = program 25 (three (st 0 8 (t AssignmentExpression "&&=" 0 7 (two (id "a" 0) (id "b" 6)))) (st 9 17 (t AssignmentExpression "||=" 9 16 (two (id "c" 9) (id "d" 15)))) (st 18 25 (t AssignmentExpression "??=" 18 25 (two (id "e" 18) (id "f" 24)))))
+
+pub logical_assignment_scopes : scopes_shown logical_assignment_tree ≡ (None, []) ∷ []
+unfolding computing
+logical_assignment_scopes = refl
+
+pub logical_assignment_references : references_shown logical_assignment_tree ≡ (0, 0, ReadWrite, None) ∷ (6, 0, Read, None) ∷ (9, 0, ReadWrite, None) ∷ (15, 0, Read, None) ∷ (18, 0, ReadWrite, None) ∷ (24, 0, Read, None) ∷ []
+unfolding computing
+logical_assignment_references = refl
+
+-- `switch (a) { case 1: let a; function f() {} case a: f }`
+abbrev cases_tree : Tree
+cases_tree = program 55 (one (n SwitchStatement 0 55 (three (id "a" 8) (n SwitchCase 13 43 (three (lit "1" 18) (t VariableDeclaration "let" 21 27 (one (n VariableDeclarator 25 26 (part (id "a" 25) (gap none))))) (n FunctionDeclaration 28 43 (two (id "f" 37) (n BlockStatement 41 43 none))))) (n SwitchCase 44 53 (two (id "a" 49) (st 52 53 (id "f" 52)))))))
+
+pub cases_scopes : scopes_shown cases_tree ≡ (None, []) ∷ (Some 0, (codes "a", Let, 25) ∷ (codes "f", Function, 37) ∷ []) ∷ (Some 1, []) ∷ []
+unfolding computing
+cases_scopes = refl
+
+pub cases_references : references_shown cases_tree ≡ (8, 0, Read, None) ∷ (49, 1, Read, Some (1, 0)) ∷ (52, 1, Read, Some (1, 1)) ∷ []
+unfolding computing
+cases_references = refl
+
+-- `for (let i of i) { () => i; }`
+abbrev captured_tree : Tree
+captured_tree = program 29 (one (n ForOfStatement 0 29 (three (t VariableDeclaration "let" 5 10 (one (n VariableDeclarator 9 10 (part (id "i" 9) (gap none))))) (id "i" 14) (n BlockStatement 17 29 (one (st 19 27 (short (n ArrowFunctionExpression 19 26 (one (id "i" 25))))))))))
+
+pub captured_scopes : scopes_shown captured_tree ≡ (None, []) ∷ (Some 0, (codes "i", Let, 9) ∷ []) ∷ (Some 1, []) ∷ (Some 2, []) ∷ []
+unfolding computing
+captured_scopes = refl
+
+pub captured_references : references_shown captured_tree ≡ (14, 1, Read, Some (1, 0)) ∷ (25, 3, Read, Some (1, 0)) ∷ []
+unfolding computing
+captured_references = refl
+
+-- `({a}); [b = a, {a: c}] = []; function f({a, b = a}) {}`
+abbrev shorthands_tree : Tree
+shorthands_tree = program 54 (three (st 0 6 (n ObjectExpression 1 4 (one (formed Shorthand (n Property 2 3 (two (id "a" 2) (id "a" 2))))))) (st 7 28 (t AssignmentExpression "=" 7 27 (two (n ArrayPattern 7 22 (two (n AssignmentPattern 8 13 (two (id "b" 8) (id "a" 12))) (n ObjectPattern 15 21 (one (n Property 16 20 (two (id "a" 16) (id "c" 19))))))) (n ArrayExpression 25 27 none)))) (n FunctionDeclaration 29 54 (three (id "f" 38) (n ObjectPattern 40 50 (two (formed Shorthand (n Property 41 42 (two (id "a" 41) (id "a" 41)))) (formed Shorthand (n Property 44 49 (two (id "b" 44) (n AssignmentPattern 44 49 (two (id "b" 44) (id "a" 48)))))))) (n BlockStatement 52 54 none))))
+
+pub shorthands_scopes : scopes_shown shorthands_tree ≡ (None, (codes "f", Function, 38) ∷ []) ∷ (Some 0, (codes "a", Param, 41) ∷ (codes "b", Param, 44) ∷ []) ∷ []
+unfolding computing
+shorthands_scopes = refl
+
+pub shorthands_references : references_shown shorthands_tree ≡ (2, 0, Read, None) ∷ (8, 0, Write, None) ∷ (12, 0, Read, None) ∷ (19, 0, Write, None) ∷ (48, 1, Read, Some (1, 0)) ∷ []
+unfolding computing
+shorthands_references = refl

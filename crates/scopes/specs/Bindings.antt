@@ -1,4 +1,4 @@
--- Bindings: what a pattern, a declaration or an item declares, in order of places.
+-- What a pattern, a declaration or a statement list item declares, in the order of the tree.
 use Rattle.std.specs.Prelude.{ℕ, Bool, true, false, cond, ◌||◌, List, [], ◌∷◌, ◌++◌}
 use Rattle.std.specs.Str.{bytes_eq}
 use Rattle.tree.specs.declared.kind.Kind.{Kind}
@@ -11,8 +11,8 @@ use Rattle.scopes.specs.declared.names.DeclaredIn.{DeclaredIn}
 use Rattle.scopes.specs.declared.names.DeclaredIn.TheVariants.{Statement, ForHead, ForInOfHead}
 use Rattle.scopes.specs.declared.kind.BindingKind.TheVariants.{Var, Let, Const, Function, Class}
 
--- `settled`: of a `let`, the declarator has an initialiser or stands in a for-in or for-of head, and not in that of a plain
--- `for`. `shadows`: a scope round that of the binding declares the name too.
+-- A name that a scope declares, with the place of its identifier. `settled`: the declarator has an initializer, or stands in a
+-- for-in or for-of head; never in the head of a plain `for`. `shadows`: a scope further out declares the name too.
 pub record Binding : Type 0 where
   pub name : List ℕ
   pub kind : BindingKind
@@ -27,7 +27,7 @@ each_part f (part t ps) = f t ++ each_part f ps
 each_part f (gap ps) = each_part f ps
 
 unfoldable mutual
-  -- the names of a pattern
+  -- the names of a pattern (BoundNames, 12.1.2, 13.3.3.1)
   pub names_in : BindingKind → Bool → Tree → List Binding
   names_in k b (node Identifier w g s e ps) = record { name = w; kind = k; start = s; stop = e; settled = b; shadows = false } ∷ []
   names_in k b (node ArrayPattern w g s e ps) = all_names k b ps
@@ -58,7 +58,7 @@ abbrev pub is_initialised : Parts → Bool
 is_initialised (part t ps) = true
 is_initialised _ = false
 
--- a declarator, by where its declaration stands: as a statement, in a plain `for`, in a for-in or for-of
+-- whether a declarator gives its names a value, by where its declaration stands; in the head of a plain `for` it doesn't count
 abbrev pub settles : DeclaredIn → Parts → Bool
 settles Statement ps = is_initialised (others ps)
 settles ForHead ps = false
@@ -67,11 +67,11 @@ settles ForInOfHead ps = true
 abbrev pub word_kind : List ℕ → BindingKind
 word_kind w = cond (is w "var") Var (cond (is w "let") Let Const)
 
--- the names of a declaration, whose parts are its declarators
+-- the names of a declaration, whose parts are its declarators (13.3.1.2, 13.3.2.1)
 abbrev pub declared : DeclaredIn → List ℕ → Parts → List Binding
 declared h w ps = each_part (λ d. first_names (word_kind w) (settles h (parts_of d)) (parts_of d)) ps
 
--- what a node declares in the scope that it stands in: `let`, `const`, a function, a class
+-- what a node declares in the scope that it stands in: `let`, `const`, a function, a class (LexicallyDeclaredNames, 13.2.5)
 abbrev pub lexical : DeclaredIn → Tree → List Binding
 lexical h (node VariableDeclaration w g s e ps) = cond (is w "var") [] (declared h w ps)
 lexical h (node FunctionDeclaration w g s e ps) = first_names Function false ps
@@ -99,7 +99,7 @@ own_vars VariableDeclaration w ps = cond (is w "var") (declared Statement w ps) 
 own_vars _ w ps = []
 
 unfoldable mutual
-  -- the names of `var` in a statement, at any depth, functions in it aside
+  -- the names of `var` in a statement at any depth, but not in functions inside it (VarDeclaredNames, 13.1.5, 13.2.11)
   pub vars_in : Tree → List Binding
   vars_in (node k w g s e ps) = own_vars k w ps ++ cond (holds_statements k) (parts_vars ps) []
 

@@ -1,4 +1,4 @@
--- What the code's own calls gather of the names of a scope.
+-- The definitions of names by the cases that the code distinguishes, tied to `Bindings` by proofs.
 use Rattle.std.specs.Prelude.{ℕ, Bool, false, cond, List, [], Option, Some, None}
 use Rattle.tree.specs.declared.kind.Kind.{Kind}
 use Rattle.tree.specs.declared.kind.Kind.TheVariants.{Identifier, ArrayPattern, ObjectPattern, RestElement, AssignmentPattern, Property, VariableDeclaration, FunctionDeclaration, ClassDeclaration}

@@ -1,4 +1,4 @@
--- What a node is to the one above it: how an identifier that stands there is used.
+-- What a node is to its parent: how an identifier that stands there is used.
 use Rattle.std.specs.Prelude.{ℕ, Bool, true, false, cond, nat_eq, List}
 use Rattle.tree.specs.declared.kind.Kind.{Kind}
 use Rattle.tree.specs.declared.kind.Kind.TheVariants.{ArrayPattern, ObjectPattern, RestElement, AssignmentPattern, Property, MethodDefinition, FunctionExpression, ArrowFunctionExpression, FunctionDeclaration, ClassExpression, ClassDeclaration, MetaProperty, MemberExpression, UpdateExpression, UnaryExpression, AssignmentExpression, BreakStatement, ContinueStatement, LabeledStatement, CatchClause, ForInStatement, ForOfStatement, VariableDeclarator}
@@ -9,23 +9,24 @@ use Rattle.scopes.specs.declared.roles.PartRoles.{PartRoles}
 use Rattle.scopes.specs.declared.roles.PartRoles.TheVariants.{Same, All, First, Function}
 use Rattle.scopes.specs.declared.roles.Role.TheVariants.{Read, Write, ReadWrite, Typeof, NoReference, Body}
 
--- the first part so, the others so
+-- one role for the first part, another for the others
 abbrev pub first_else : ℕ → Role → Role → Role
 first_else i u v = cond (nat_eq i 0) u v
 
--- a key is an expression where it is computed, else a name
+-- a key in brackets is an expression; any other is a name (12.2.6, 12.3.2)
 abbrev pub key_role : Flags → Role
 key_role g = cond g.computed Read NoReference
 
--- a target of `=` is written, one of another assignment is read too
+-- the target of `=` is written, that of any other assignment operator is read too (12.15.4)
 abbrev pub target_role : List ℕ → Role
 target_role w = cond (is w "=") Write ReadWrite
 
--- an operand of `typeof` is read without being there
+-- the operand of `typeof` may be a name that nothing declares (12.5.5)
 abbrev pub operand_role : List ℕ → Role
 operand_role w = cond (is w "typeof") Typeof Read
 
--- what each part of a node is, by what the node is, its kind, text and flags
+-- the roles of a node's parts, by its own role, its kind, text and flags. A pattern hands its role down to its targets
+-- (12.15.5, 13.7.5); labels (13.8, 13.9, 13.13), names that are bound and `new.target` (12.3) are no references.
 abbrev pub part_roles : Role → Kind → List ℕ → Flags → PartRoles
 part_roles u ArrayPattern w g = Same
 part_roles u ObjectPattern w g = Same
@@ -52,7 +53,7 @@ part_roles u ForOfStatement w g = First Write Read
 part_roles u VariableDeclarator w g = First NoReference Read
 part_roles u k w g = All Read
 
--- what the part at a place is, by the place of the last part
+-- the role of the part at a place
 abbrev pub role_by : PartRoles → Role → (last i : ℕ) → Role
 role_by Same u last i = u
 role_by (All v) u last i = v

@@ -1,4 +1,4 @@
--- What the code's own values say, in the words of the definitions.
+-- The code's own values as those of the definitions.
 use Rattle.std.specs.Prelude.{◌≡◌, ◌<◌, ℕ, Bool, nat_eq, List, map, Option, Some, None, IfSome, false}
 use Rattle.scopes.specs.declared.binding.Binding.{Binding as CodeBinding}
 use Rattle.scopes.specs.declared.binding.Reference.{Reference as CodeReference}
@@ -24,21 +24,21 @@ found_of ss rs = record { scopes = map scope_shown ss; references = map referenc
 abbrev pub frame : ℕ → List Binding → Frame
 frame n bs = record { number = n; bindings = bs }
 
--- a table that says what each name means
+-- a table says what each name means
 abbrev pub Meant : (List ℕ → Option (ℕ × ℕ)) → List Frame → Type 0
 Meant f fs = (w : List ℕ) → f w ≡ nearest w fs
 
--- what is meant lies in scopes of lesser numbers
+-- all meanings lie in scopes with a number below this
 abbrev pub Below : ℕ → List Frame → Type 0
 Below n fs = (w : List ℕ) → IfSome (nearest w fs) (λ p. p.0 < n)
 
--- what a walk knows of the scopes round a node
+-- what the walk knows of the scopes round a node: its table says what each name means, in scopes below the next number
 pub record Knows (f : List ℕ → Option (ℕ × ℕ)) (n : ℕ) (s : Option ℕ) (fs : List Frame) : Type 0 where
   pub meant : Meant f fs
   pub below : Below n fs
   pub nearest_is : s ≡ scope_of fs
 
--- a meaning lies in the scope of this number
+-- whether a meaning lies in the scope of this number
 abbrev pub is_of : Option (ℕ × ℕ) → ℕ → Bool
 is_of None n = false
 is_of (Some p) n = nat_eq p.0 n

@@ -1,4 +1,4 @@
--- What a walk has found so far, and what it is given.
+-- What the walk has found so far, and what it is given, in the words of `Found`.
 use Rattle.std.specs.Prelude.{ℕ, Bool, cond, ◌-◌, List}
 use Rattle.tree.specs.Tree.{Tree, kind_of, text_of, flags_of, parts_of, part_count, start_of, stop_of, parts_drop}
 use Rattle.std.specs.Prelude.{unwrap_or}
@@ -19,11 +19,11 @@ round a fs = record { frames = fs; in_function = a.in_function; role = a.role }
 abbrev pub inside_of : Role → Tree → Inside
 inside_of u t = record { role = u; kind = kind_of t; text = text_of t; flags = flags_of t; last = part_count (parts_of t) - 1 }
 
--- the reference that an identifier is where it is one
+-- the reference that an identifier makes
 abbrev pub reference_at : Around → Tree → Reference
 reference_at z t = record { name = text_of t; scope = unwrap_or (scope_of z.frames) 0; reads = does_read z.role; writes = does_write z.role; start = start_of t; stop = stop_of t; typeof_operand = is_typeof_operand z.role; meaning = nearest (text_of t) z.frames }
 
--- ---- what is found in a node's parts behind the first, in all of them, in the one or the other
+-- ---- what is found in a node's parts: in those behind the first, in all, in either
 
 abbrev pub others_within : Role → Tree → Around → ℕ → Found
 others_within u t z n = parts_from (inside_of u t) z 1 n (parts_drop 1 (parts_of t))

@@ -1,34 +1,36 @@
-//! What a name is bound to, and what refers to it.
+//! Bindings and references.
 
 pub use crate::kind::BindingKind;
 
-/// A name that a scope declares, with its first declaring identifier.
+/// A name that a scope declares, with the first identifier that declares it there.
 #[derive(Clone, Copy)]
 pub struct Binding<'t> {
     pub name: &'t str,
     pub kind: BindingKind,
-    /// Where the identifier stands, in bytes.
+    /// Where the identifier begins and ends, in bytes.
     pub start: usize,
     pub end: usize,
-    /// Of a `let`: its declarator has an initialiser or stands in a for-in or for-of head, and not in that of a plain `for`.
+    /// Of `let` and `const`: the declarator has an initializer, or stands in a for-in or for-of head; false in the head of a
+    /// plain `for`. Of `var`: it has an initializer. False of all others.
     pub settled: bool,
     /// A scope further out declares the name too.
     pub shadows: bool,
 }
 
-/// An identifier that means a binding, or nothing that the script declares.
+/// An identifier that stands for the value or the target of a name, declared in the script or not.
 #[derive(Clone, Copy)]
 pub struct Reference<'t> {
     pub name: &'t str,
-    /// The nearest scope round it.
+    /// The number of the nearest scope round it.
     pub scope: usize,
     pub reads: bool,
     pub writes: bool,
     pub start: usize,
     pub end: usize,
-    /// It is itself the operand of `typeof`.
+    /// It is itself the operand of `typeof`, so it may be a name that nothing declares (12.5.5).
     pub typeof_operand: bool,
-    /// The scope that declares what it means, and the place among its bindings.
+    /// The binding of its name in the nearest scope that declares it, as the scope's number and the place among its bindings;
+    /// none where no scope round it does.
     pub meaning: Option<(usize, usize)>,
 }
 

@@ -16,17 +16,17 @@ use crate::roles::{Role, is_body};
 use std::alloc::AllocError;
 use tree::{Kind, Node};
 
-/// What a scope is of.
+/// Kinds of scopes.
 #[derive(Clone, Copy)]
 pub(crate) enum ScopeKind {
     /// The items of a Program.
     Script,
     /// A function, whose parameters begin at this place.
     Function(usize),
-    /// Its first part, as a pattern.
+    /// The names of its first part, as a pattern.
     FirstPart(BindingKind),
     Block,
-    /// Its first part, as a declaration.
+    /// A loop, whose first part may be a `let` or `const` declaration.
     For(DeclaredIn),
     Switch,
     NoScope,
@@ -54,7 +54,7 @@ fn opens_all(role: Role, kind: Kind) -> ScopeKind
     }
 }
 
-/// The scope that it makes round all but the first.
+/// The scope that a node makes round all its parts but the first.
 fn opens_others(kind: Kind) -> ScopeKind
     ensures { result ≡ opens_others kind }
 {
@@ -78,7 +78,7 @@ pub(crate) fn push_round_all<'t>(
     push_scope(opens_all(role, node.kind()), node, names)
 }
 
-/// The same of the scope round all but the first.
+/// Pushes the names of the scope that a node makes round all its parts but the first; answers whether it makes one.
 pub(crate) fn push_round_others<'t>(
     node: Node<'t, '_>,
     names: &mut Vec<Binding<'t>>,
@@ -158,7 +158,7 @@ fn push_head<'t>(
     Ok(true)
 }
 
-/// Pushes what the items of a Program or of a body declare there.
+/// Pushes what the items of a Program or of a function's body declare there.
 fn push_items<'t>(node: Node<'t, '_>, names: &mut Vec<Binding<'t>>) -> Result<(), AllocError>
     ensures { OnOk result (all_shown names.new.items ≡ all_shown names.old.items ++ each_part item_names (parts_of (node_tree node.entry))) }
 {
@@ -178,7 +178,7 @@ fn push_item<'t>(item: Option<Node<'t, '_>>, names: &mut Vec<Binding<'t>>) -> Re
     push_vars(item, names)
 }
 
-/// Pushes what the items of a block or of a case declare, from a place on.
+/// Pushes what the items of a block or of a case declare there, from a place on.
 fn push_block<'t>(
     node: Node<'t, '_>,
     from: usize,

@@ -1,4 +1,4 @@
-//! The names that patterns and items declare, in order of places.
+//! The names that patterns and statement list items declare, in the order of the tree.
 
 ghost use Rattle.std.specs.Prelude.{◌≡◌, ◌++◌, ◌∷◌, [], ◌-◌, option_map, OnOk};
 ghost use Rattle.tree.specs.Node.{node_tree};
@@ -23,13 +23,13 @@ pub(crate) struct DeclaredAs {
 pub(crate) enum DeclaredIn {
     /// As a statement.
     Statement,
-    /// In a plain `for`.
+    /// In the head of a plain `for`.
     ForHead,
-    /// In a for-in or for-of.
+    /// In the head of a for-in or for-of.
     ForInOfHead,
 }
 
-/// How a node binds names, as a pattern.
+/// Which parts of a node have the names that it binds as a pattern.
 #[derive(Clone, Copy)]
 pub(crate) enum Pattern {
     Name,
@@ -51,7 +51,7 @@ fn pattern_of(kind: Kind) -> Pattern
     }
 }
 
-/// The part that stands last, where it isn't missing.
+/// The last part, where it isn't missing.
 pub(crate) fn last_part<'t, 's>(node: Node<'t, 's>) -> Option<Node<'t, 's>>
     ensures { option_map node_tree result ≡ part_at (parts_of (node_tree node.entry)) (part_count (parts_of (node_tree node.entry)) - 1) }
 {
@@ -115,7 +115,7 @@ fn push_all_names<'t>(
     Ok(())
 }
 
-/// The same of a part that may be missing.
+/// Pushes the names of a part that may be missing.
 #[cycle(pattern)]
 #[tactic(auto, using(tree::proofs::PartWalk::part_steps))]
 pub(crate) fn push_part_names<'t>(
@@ -143,7 +143,7 @@ fn word_kind(word: &str) -> BindingKind
     }
 }
 
-/// Whether a declarator settles what it declares.
+/// Whether a declarator gives its names a value.
 fn settles(head: DeclaredIn, declarator: Node) -> bool
     ensures { result ≡ settles head (parts_of (node_tree declarator.entry)) }
 {
@@ -187,8 +187,9 @@ fn push_declarator<'t>(
 /// What an item declares in the scope that it stands in, or in the function round it.
 #[derive(Clone, Copy)]
 pub(crate) enum Item {
-    /// The names of its declarators, with `let` or `const`, or with `var`.
+    /// The names of its declarators, by `let` or `const`.
     Lexical,
+    /// The same, by `var`.
     Var,
     /// Its first part.
     First(BindingKind),
@@ -197,7 +198,7 @@ pub(crate) enum Item {
     Nothing,
 }
 
-/// Whether nodes of this kind have statements among their parts, the Program and functions aside.
+/// Whether nodes of this kind have statements among their parts; not the Program, not functions.
 fn holds_statements(kind: Kind) -> bool
     ensures { result ≡ holds_statements kind }
 {
@@ -263,7 +264,7 @@ pub(crate) fn push_lexical<'t>(
     }
 }
 
-/// Pushes the names of `var` in a statement, at any depth.
+/// Pushes the names of `var` in a statement at any depth, but not in functions inside it.
 #[cycle(vars)]
 #[tactic(auto, using(tree::proofs::PartWalk::part_steps))]
 pub(crate) fn push_vars<'t>(

@@ -1,4 +1,4 @@
-//! How an identifier is used.
+//! How identifiers are used.
 
 ghost use Rattle.std.specs.Prelude.{◌≡◌, ◌-◌};
 ghost use Rattle.tree.specs.Node.{node_tree};
@@ -8,18 +8,18 @@ ghost use Rattle.scopes.specs.Roles.{is_typeof_operand, does_read, does_write, f
 
 use tree::{Flags, Kind, Node};
 
-/// What a node is to the one above it: how an identifier that stands there is used.
+/// What a node is to its parent: how an identifier that stands there is used.
 #[derive(Clone, Copy, Debug, PartialEq, Eq)]
 pub enum Role {
     /// An expression.
     Read,
-    /// A target of `=`, of a pattern, of a for-in or for-of head.
+    /// A target of `=`, of a pattern, or of a for-in or for-of head.
     Write,
-    /// A target of another assignment, of `++` or `--`.
+    /// A target of any other assignment operator, of `++` or of `--`.
     ReadWrite,
     /// The operand of `typeof`.
     Typeof,
-    /// No reference: a name that is bound, a key, a label; in a pattern that binds, the pattern.
+    /// No reference: a name that is bound, a key, a label; a pattern that binds.
     NoReference,
     /// The body of a function: a block, or an expression that is read.
     Body,
@@ -61,16 +61,16 @@ fn operand_role(operator: &str) -> Role
     }
 }
 
-/// What each part of a node is, told by the node's kind.
+/// The roles of a node's parts.
 #[derive(Clone, Copy)]
 pub(crate) enum PartRoles {
-    /// As the node.
+    /// That of the node.
     Same,
-    /// All so.
+    /// This of all.
     All(Role),
-    /// The first so, the others so.
+    /// One of the first, another of all others.
     First(Role, Role),
-    /// Names, but for the last, which is a body.
+    /// Bound names, and a body behind them.
     Function,
 }
 
@@ -101,7 +101,7 @@ fn part_roles(role: Role, node: Node) -> PartRoles
     }
 }
 
-/// What the part at a place is.
+/// The role of the part at a place.
 fn role_by(parts: PartRoles, role: Role, last: usize, index: usize) -> Role
     ensures { result ≡ role_by parts role last index }
 {
@@ -119,7 +119,7 @@ fn role_by(parts: PartRoles, role: Role, last: usize, index: usize) -> Role
     }
 }
 
-/// What the part at a place of a node of this role is.
+/// The role of the part at a place, of a node of this role.
 pub(crate) fn part_role(role: Role, node: Node, index: usize) -> Role
     ensures { result ≡ part_role role (kind_of (node_tree node.entry)) (text_of (node_tree node.entry)) (flags_of (node_tree node.entry)) (part_count (parts_of (node_tree node.entry)) - 1) index }
 {

@@ -11,8 +11,8 @@ use std::alloc::{AllocError, Global};
 use std::marker::Model;
 use tree::Program;
 
-/// The scopes of a script, numbered in order of their places, outer before inner; what each declares; and what each
-/// reference means. Contracts see what is found in the script.
+/// The scopes of a script, what each declares, and all references. Scopes have numbers from 0, in the order of the tree, outer
+/// before inner: 0 is the script's. Contracts see the definition's value (`Found`).
 #[derive(Drop)]
 pub struct Scopes<'t> {
     scopes: Vec<Scope<'t>>,
@@ -28,7 +28,8 @@ impl<'t> Model for Scopes<'t> {
     ghost view = { λ s. found_of s.scopes.items s.references.items };
 }
 
-/// Finds the scopes of a script and what its references mean.
+/// Finds the scopes of a script, what they declare, and what its references mean. The only error is want of memory. Takes
+/// time and memory in proportion to the script, but for a look-up in a tree of names at each name.
 pub fn resolve<'t>(alloc: Global, program: &'t Program<'_>) -> Result<Scopes<'t>, AllocError>
     ensures { IfOk result (λ s. s ≡ found program.now) }
 {
@@ -62,7 +63,7 @@ impl<'t> Scopes<'t> {
         self.scopes.len()
     }
 
-    /// The scope round a scope: none for the first, which is the script's.
+    /// The number of the scope round a scope; none of the first, which is the script's.
     pub fn parent(&self, scope: usize) -> Option<usize>
         requires { scope < length self.now.scopes }
         ensures { Some result ≡ option_map (λ s. s.parent) (slice_get self.now.scopes scope) }
@@ -70,7 +71,7 @@ impl<'t> Scopes<'t> {
         self.scopes[scope].parent
     }
 
-    /// What a scope declares, in order of places.
+    /// What a scope declares: a name once, in the order of the first identifiers.
     pub fn bindings(&self, scope: usize) -> &[Binding<'t>]
         requires { scope < length self.now.scopes }
         ensures { Some (all_shown result.now) ≡ option_map (λ s. s.bindings) (slice_get self.now.scopes scope) }
@@ -78,14 +79,15 @@ impl<'t> Scopes<'t> {
         self.scopes[scope].bindings.as_slice()
     }
 
-    /// All references, in order of places.
+    /// All references, in the order of the tree.
     pub fn references(&self) -> &[Reference<'t>]
         ensures { map reference_shown result.now ≡ self.now.references }
     {
         self.references.as_slice()
     }
 
-    /// The scope that declares what a reference means, and the place among its bindings; none where no scope round it does.
+    /// The binding that a reference means: the number of the scope that declares it, and the place among that scope's bindings;
+    /// none where no scope round it declares the name. Takes no search.
     pub fn binding_of(&self, reference: usize) -> Option<(usize, usize)>
         requires { reference < length self.now.references }
         ensures { Some result ≡ option_map (λ r. r.meaning) (slice_get self.now.references reference) }

@@ -1,4 +1,4 @@
-//! Names with values.
+//! A table of names.
 
 ghost use Rattle.std.specs.Prelude.{◌≡◌, IfOk, OnOk, None};
 ghost use Rattle.scopes.specs.Tables.{Agree, look, with_value};
@@ -6,8 +6,8 @@ ghost use Rattle.scopes.specs.Tables.{Agree, look, with_value};
 use std::alloc::{AllocError, Global};
 use std::collections::BTreeMap;
 
-/// What names stand for: a name stands for a value or for none. In a tree by order, not by hash: who writes the text
-/// chooses the names, and could choose them to collide.
+/// What names stand for: a name stands for a value or for none. A tree by the order of bytes, not a hash table: who writes the
+/// text chooses the names, and could choose them to collide.
 #[derive(Drop)]
 pub(crate) struct Table<'t, V> {
     entries: BTreeMap<&'t str, Option<V>>,

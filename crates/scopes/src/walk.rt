@@ -19,7 +19,7 @@ use crate::table::Table;
 use std::alloc::{AllocError, Global};
 use tree::{Kind, Node};
 
-/// What a walk carries.
+/// What the walk has found, and what it needs to go on.
 #[derive(Drop)]
 pub(crate) struct Walk<'t> {
     pub(crate) alloc: Global,
@@ -31,8 +31,8 @@ pub(crate) struct Walk<'t> {
     pub(crate) names: Vec<Binding<'t>>,
 }
 
-/// What stands round a node: the nearest scope; whether a function round it, arrows aside, has `arguments`; what the node is
-/// to the one above it.
+/// What stands round a node: the nearest scope; whether the node stands in a function that isn't an arrow, and so has an
+/// `arguments` of its own; what the node is to its parent.
 #[derive(Clone, Copy)]
 pub(crate) struct Around {
     pub(crate) scope: Option<usize>,
@@ -75,7 +75,7 @@ fn refers(node: Node, around: Around) -> bool
     }
 }
 
-/// Notes the reference that a node is, if it is one.
+/// Pushes the reference that a node is, if it is one.
 fn refer<'t>(
     node: Node<'t, '_>,
     around: Around,
@@ -102,7 +102,7 @@ fn refer<'t>(
     Ok(())
 }
 
-/// Opens a scope of the names that were gathered; what stands in it is round the answer.
+/// Opens a scope of the names that were gathered; answers what stands round the nodes in it.
 fn open<'t>(
     around: Around,
     saved: &mut Vec<Saved<'t>>,
@@ -154,7 +154,7 @@ pub(crate) fn walk_node<'t>(
     }
 }
 
-/// Finds what is in a node's parts: the first, and the others in their scope.
+/// Finds what is in a node's parts: in the first, and in the others within their scope.
 #[cycle(walk)]
 #[tactic(auto, using(tree::proofs::PartWalk::part_steps))]
 fn walk_all<'t>(node: Node<'t, '_>, around: Around, walk: &mut Walk<'t>) -> Result<(), AllocError>
