@@ -12,10 +12,12 @@ const { spawnSync } = require('node:child_process');
 const at = process.argv.indexOf('--n');
 const n = at < 0 ? '600' : process.argv[at + 1];
 const CRATES = path.join(__dirname, '../../crates');
+const NAMES = ['scopes', 'rules'].filter((crate) => fs.existsSync(path.join(CRATES, crate)));
 
 // what, file, old, new
 const FAULTS = [
   ['a target of = reads too', 'scopes/specs/Roles.antt', 'cond (is w "=") Write ReadWrite', 'ReadWrite'],
+  ['a logical assignment writes alone', 'scopes/specs/Roles.antt', 'cond (is w "=") Write ReadWrite', 'cond (is w "??=") Write (cond (is w "=") Write ReadWrite)'],
   ['typeof reads', 'scopes/specs/Roles.antt', 'cond (is w "typeof") Typeof Read', 'Read'],
   ['a key is a name', 'scopes/specs/Roles.antt', 'cond g.computed Read NoReference', 'NoReference'],
   ['a label is read', 'scopes/specs/Roles.antt', 'part_roles u LabeledStatement w g = First NoReference Read', 'part_roles u LabeledStatement w g = All Read'],
@@ -49,9 +51,10 @@ const FAULTS = [
 ];
 
 let bad = 0;
-for (const [what, file, old, other] of FAULTS) {
+const faults = FAULTS.filter(([, file]) => NAMES.includes(file.split('/')[0]));
+for (const [what, file, old, other] of faults) {
   const folder = fs.mkdtempSync(path.join(os.tmpdir(), 'plant-'));
-  for (const crate of ['scopes', 'rules']) for (const part of ['src', 'specs']) fs.cpSync(path.join(CRATES, crate, part), path.join(folder, crate, part), { recursive: true });
+  for (const crate of NAMES) for (const part of ['src', 'specs']) fs.cpSync(path.join(CRATES, crate, part), path.join(folder, crate, part), { recursive: true });
   const target = path.join(folder, file);
   const text = fs.readFileSync(target, 'utf8');
   if (!text.includes(old)) { console.log(`not found: ${what}`); bad += 1; continue; }
@@ -60,5 +63,5 @@ for (const [what, file, old, other] of FAULTS) {
   if (run.status !== 1 || !/disagreements/.test(run.stdout)) { console.log(`not seen: ${what}\n${run.stdout}${run.stderr.slice(0, 300)}`); bad += 1; }
   fs.rmSync(folder, { recursive: true });
 }
-console.log(`${FAULTS.length} faults, ${bad} not seen`);
+console.log(`${faults.length} faults, ${bad} not seen`);
 process.exitCode = bad === 0 ? 0 : 1;
