@@ -71,7 +71,12 @@ def pinned(words):
     return ["taskset", "-c", os.environ["CPU"], *words] if "CPU" in os.environ else list(words)
 
 
-def process(words, runs=5):
+def checked(words, runs=5):
+    """As `process`, of a linter: status 1 says that it reports something."""
+    return process(words, runs, (0, 1))
+
+
+def process(words, runs=5, well=(0,)):
     """The least seconds of some runs of a process, and its peak memory in KiB, by GNU time; none where it refuses."""
     words = pinned(words)
     best = float("inf")
@@ -79,8 +84,8 @@ def process(words, runs=5):
         start = time.perf_counter()
         done = subprocess.run(words, stdout=subprocess.DEVNULL, stderr=subprocess.DEVNULL)
         best = min(best, time.perf_counter() - start)
-        if done.returncode != 0:
+        if done.returncode not in well:
             return None, None
     with tempfile.NamedTemporaryFile("r") as said:
-        subprocess.run(["/usr/bin/time", "-f", "%M", "-o", said.name, *words], check=True, stdout=subprocess.DEVNULL)
+        subprocess.run(["/usr/bin/time", "-f", "%M", "-q", "-o", said.name, *words], stdout=subprocess.DEVNULL, stderr=subprocess.DEVNULL)
         return best, int(said.read())

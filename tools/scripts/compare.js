@@ -1,10 +1,12 @@
 'use strict';
-// Holds `jslint tree` and `jslint fix` against the plain model, byte for byte, over scripts of Debian's packages.
+// Holds the commands of `jslint` against the plain model, byte for byte, over scripts of Debian's packages.
 //
-//   node compare.js tree|fix [FILE..]
+//   node compare.js check|tree|fix|cost|verify [FILE..]
 //
 // Without files: every .js file of the packages named below, as far as they are installed; what the model refuses must be refused
-// with the same line. Of `fix` also: fixing the fixed text gives it again. Exit status 1 where anything disagrees.
+// with the same line. Of `fix` also: fixing the fixed text gives it again. `verify` is given the table that `cost` writes, and its
+// two numbers are the pairs of the script and those of its fixed text. JSLINT names another program than bin/jslint, which the
+// launcher builds. Exit status 1 where anything disagrees.
 
 const fs = require('node:fs');
 const os = require('node:os');
@@ -12,19 +14,30 @@ const path = require('node:path');
 const { spawnSync } = require('node:child_process');
 const { parse } = require('../reference/parse.js');
 const { treeJson } = require('../reference/json.js');
-const { plan } = require('../reference/plan.js');
+const { extraPairs, plan, writeTable } = require('../reference/plan.js');
 const { layout } = require('../reference/print.js');
+const { defaultSettings, runRules } = require('../reference/rules.js');
+const { resolve } = require('../reference/scopes.js');
 const { runInBigStack } = require('../reference/bigstack.js');
 const TOP = path.join(__dirname, '..', '..');
 const PACKAGES = ['libjs-jquery', 'libjs-d3', 'libjs-three', 'node-react-dom', 'node-react', 'node-acorn', 'libjs-underscore', 'libjs-highlight.js'];
 
+// What each command writes of an accepted script, from its tree, its grouping pairs and its bytes, and the exit status.
 const ANSWERS = {
-  tree: (tree) => treeJson(tree) + '\n',
-  fix: (tree) => layout(tree, plan(tree).wrapped),
+  check: (tree, pairs, bytes) => {
+    const reports = runRules({ tree, scopes: resolve(tree), extra: extraPairs(pairs, plan(tree).wrapped), settings: defaultSettings() });
+    const places = linesColumns(bytes, reports.map((it) => it.start));
+    return [reports.map((it, i) => `${places[i]} ${it.rule} ${it.text}\n`).join(''), reports.length > 0 ? 1 : 0];
+  },
+  tree: (tree) => [treeJson(tree) + '\n', 0],
+  fix: (tree) => [layout(tree, plan(tree).wrapped), 0],
+  cost: (tree) => [writeTable(plan(tree)), 0],
+  verify: (tree, pairs) => [`pairs ${pairs.length} least ${plan(tree).total}\n`, 0],
 };
 
-function files() {
-  if (process.argv.length > 3) return process.argv.slice(3);
+// The files of the command line, from this word on, or those of the packages.
+function files(from = 3) {
+  if (process.argv.length > from) return process.argv.slice(from);
   const found = new Set();
   for (const name of PACKAGES) {
     const listed = spawnSync('dpkg', ['-L', name], { encoding: 'utf8' });
@@ -45,6 +58,27 @@ function lineColumn(bytes, at) {
   return `${lines.length}:${[...lines[lines.length - 1]].length + 1 + (inside ? 1 : 0)}`;
 }
 
+// The same of places in ascending order, in one pass.
+function linesColumns(bytes, places) {
+  const found = [];
+  let line = 1, column = 1, at = 0;
+  for (const place of places) {
+    for (; at < place; at++) {
+      const c = bytes[at];
+      const separator = c === 0xe2 && bytes[at + 1] === 0x80 && (bytes[at + 2] === 0xa8 || bytes[at + 2] === 0xa9);
+      if (c === 0x0a || separator || (c === 0x0d && bytes[at + 1] !== 0x0a)) {
+        line += 1;
+        column = 1;
+        at += separator ? 2 : 0;
+      } else if ((c & 0xc0) !== 0x80) {
+        column += 1;
+      }
+    }
+    found.push(`${line}:${column}`);
+  }
+  return found;
+}
+
 function words(fault, bytes) {
   switch (fault.kind) {
     case 'NotUtf8': return `not UTF-8 at byte ${fault.at}`;
@@ -59,13 +93,27 @@ function words(fault, bytes) {
 function model(command, file) {
   const bytes = fs.readFileSync(file);
   const parsed = parse(bytes, { maxHeight: 500, maxParens: 1000 });
-  if (parsed.ok) return { status: 0, out: ANSWERS[command](parsed.tree), err: '' };
+  if (parsed.ok) {
+    const [out, status] = ANSWERS[command](parsed.tree, parsed.pairs, bytes);
+    return { status, out, err: '' };
+  }
   return { status: 2, out: '', err: `jslint: ${words(parsed.fault, bytes)}\n` };
 }
 
-function jslint(command, file) {
-  const done = spawnSync(path.join(TOP, 'bin', 'jslint'), [command, file], { encoding: 'utf8', maxBuffer: 1 << 30 });
+const PROGRAM = process.env.JSLINT ?? path.join(TOP, 'bin', 'jslint');
+
+function jslint(...words) {
+  const done = spawnSync(PROGRAM, words, { encoding: 'utf8', maxBuffer: 1 << 30 });
   return { status: done.status, out: done.stdout, err: done.stderr };
+}
+
+// What the program answers: `verify` of the table that `cost` wrote.
+function answer(command, file, folder) {
+  if (command !== 'verify') return jslint(command, file);
+  const table = path.join(folder, 'table');
+  const written = jslint('cost', file);
+  fs.writeFileSync(table, written.out);
+  return jslint('verify', file, table);
 }
 
 // Whether the fixed text is fixed to itself.
@@ -77,17 +125,17 @@ function isStable(fixed, folder) {
 
 function main() {
   const command = process.argv[2];
-  if (!(command in ANSWERS)) throw new Error('tree or fix?');
-  spawnSync(path.join(TOP, 'jslint'), ['--help'], { stdio: ['ignore', 'ignore', 'inherit'] });
+  if (!(command in ANSWERS)) throw new Error('check, tree, fix, cost or verify?');
+  if (!process.env.JSLINT) spawnSync(path.join(TOP, 'jslint'), ['--help'], { stdio: ['ignore', 'ignore', 'inherit'] });
   const folder = fs.mkdtempSync(path.join(os.tmpdir(), 'scripts-'));
   let written = 0, refused = 0, apart = 0, size = 0;
   for (const file of files()) {
-    const ours = jslint(command, file);
+    const ours = answer(command, file, folder);
     const theirs = runInBigStack(__filename, 'model', [command, file]);
     if (ours.status !== theirs.status || ours.out !== theirs.out || ours.err !== theirs.err) {
       apart += 1;
       console.log(`${file}: status ${ours.status} and ${theirs.status}; ${ours.err.trim()} | ${theirs.err.trim()}`);
-    } else if (ours.status !== 0) {
+    } else if (ours.status === 2) {
       refused += 1;
     } else if (command === 'fix' && !isStable(ours.out, folder)) {
       apart += 1;
@@ -101,5 +149,5 @@ function main() {
   return apart === 0 ? 0 : 1;
 }
 
-module.exports = { model };
+module.exports = { files, lineColumn, linesColumns, model, words };
 if (require.main === module) process.exitCode = main();

@@ -1,0 +1,85 @@
+'use strict';
+// Holds `jslint check` against the plain model over generated texts, each with settings of its own: the lines, the status, and the
+// refusal where the text or the settings are refused.
+//
+//   node compare.js [--n COUNT] [--seed S] [--show K]
+//
+// JSLINT names the program (default: bin/jslint of this repository, which the launcher builds). Exit status 1 where anything disagrees.
+
+const fs = require('node:fs');
+const os = require('node:os');
+const path = require('node:path');
+const { spawnSync } = require('node:child_process');
+const { option } = require('../dump.js');
+const { makeTexts, nested } = require('../parser/compare.js');
+const { parse } = require('../reference/parse.js');
+const { extraPairs, plan } = require('../reference/plan.js');
+const { randomSource } = require('../reference/random.js');
+const { RULE_NAMES, fromToml, runRules } = require('../reference/rules.js');
+const { resolve } = require('../reference/scopes.js');
+const { linesColumns, words } = require('../scripts/compare.js');
+const { OWN, scopeScript } = require('../scopes/texts.js');
+
+const TOP = path.join(__dirname, '..', '..');
+const PROGRAM = process.env.JSLINT ?? path.join(TOP, 'bin', 'jslint');
+const LIMITS = { maxHeight: 500, maxParens: 1000 };
+
+// A settings file: mostly a right one.
+function settingsText(source) {
+  const lines = [];
+  const wrong = source.below(12);
+  if (source.below(2)) lines.push(`globals = [${['a', 'b', 'zz', 'Math'].filter(() => source.below(2)).map((it) => JSON.stringify(it)).join(', ')}]`);
+  if (source.below(2)) lines.push(`allow-null = ${source.below(2) === 1}`);
+  if (source.below(2)) lines.push(`ignore-underscore = ${source.below(2) === 1}`);
+  if (wrong === 0) lines.push(source.pick(['rule = 1', 'allow-null = "yes"', 'globals = [1]', 'globals = ["a"', 'ignore-underscore = 1', 'x', 'allow-null = true\nallow-null = true']));
+  if (source.below(2)) {
+    lines.push('[rules]');
+    for (const name of RULE_NAMES) if (source.below(3) === 0) lines.push(`${name} = ${source.below(2) === 1}`);
+    if (wrong === 1) lines.push(source.pick(['no-such = true', 'no-var = 1', 'eqeqeq = "off"']));
+  }
+  return lines.join('\n') + (lines.length > 0 && source.below(4) ? '\n' : '');
+}
+
+// The model's answer for a text and a settings file.
+function model(text, settings) {
+  const bytes = Buffer.from(text);
+  const parsed = parse(bytes, LIMITS);
+  if (!parsed.ok) return { status: 2, out: '', err: `jslint: ${words(parsed.fault, bytes)}\n` };
+  const read = fromToml(Buffer.from(settings));
+  if (read === null) return { status: 2, out: '', err: 'jslint: bad settings\n' };
+  const reports = runRules({ tree: parsed.tree, scopes: resolve(parsed.tree), extra: extraPairs(parsed.pairs, plan(parsed.tree).wrapped), settings: read });
+  const places = linesColumns(bytes, reports.map((it) => it.start));
+  return { status: reports.length > 0 ? 1 : 0, out: reports.map((it, i) => `${places[i]} ${it.rule} ${it.text}\n`).join(''), err: '' };
+}
+
+function main() {
+  const source = randomSource(Number(option('seed', 1)));
+  const count = Number(option('n', 500));
+  const texts = [...OWN, ...makeTexts(count, Number(option('seed', 1)))];
+  for (let k = 0; k < count; k++) texts.push(nested(source), scopeScript(source), scopeScript(source));
+  if (!process.env.JSLINT) spawnSync(path.join(TOP, 'jslint'), ['--help'], { stdio: ['ignore', 'ignore', 'inherit'] });
+  const folder = fs.mkdtempSync(path.join(os.tmpdir(), 'rules-'));
+  const file = path.join(folder, 'a.js'), second = path.join(folder, 'settings.toml');
+  const counts = { reports: 0, clean: 0, refused: 0, apart: 0 };
+  for (const text of texts) {
+    const settings = settingsText(source);
+    fs.writeFileSync(file, text);
+    fs.writeFileSync(second, settings);
+    const words = source.below(2) || settings !== '' ? ['check', file, '--settings', second] : ['check', file];
+    const done = spawnSync(PROGRAM, words, { encoding: 'utf8', maxBuffer: 1 << 28 });
+    const wanted = model(text, settings);
+    if (done.status === wanted.status && done.stdout === wanted.out && done.stderr === wanted.err) {
+      counts[['clean', 'reports', 'refused'][wanted.status]] += 1;
+      continue;
+    }
+    counts.apart += 1;
+    if (counts.apart <= Number(option('show', 5))) {
+      console.log(`${JSON.stringify(text)} with ${JSON.stringify(settings)}\n  program ${done.status} ${JSON.stringify(done.stdout + done.stderr)}\n  model   ${wanted.status} ${JSON.stringify(wanted.out + wanted.err)}`);
+    }
+  }
+  fs.rmSync(folder, { recursive: true });
+  console.log(`${texts.length} texts: ${counts.reports} with reports, ${counts.clean} without, ${counts.refused} refused, ${counts.apart} disagreements`);
+  return counts.apart === 0 ? 0 : 1;
+}
+
+if (require.main === module) process.exitCode = main();
