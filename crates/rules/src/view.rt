@@ -8,25 +8,25 @@ use tree::{Program, Span};
 /// those of an equal script, places included; no contract of this crate needs that, but what is reported is only then what
 /// the rules mean.
 #[derive(Clone, Copy)]
-pub struct View<'v, 's> {
+pub struct View<'v, 't, 's> {
     pub program: &'v Program<'s>,
-    pub scopes: &'v Scopes<'v>,
+    pub scopes: &'v Scopes<'t>,
     /// The extra pairs, each from its `(` to behind its `)`.
     pub extra: &'v [Span],
     pub settings: &'v Settings,
 }
 
-impl<'v, 's> View<'v, 's> {
+impl<'v, 't, 's> View<'v, 't, 's> {
     ghost use Rattle.std.specs.Prelude.{◌≡◌};
     ghost use Rattle.rules.specs.Views.{seen};
 
     /// A view of these. Takes no memory.
     pub fn new(
         program: &'v Program<'s>,
-        scopes: &'v Scopes<'v>,
+        scopes: &'v Scopes<'t>,
         extra: &'v [Span],
         settings: &'v Settings,
-    ) -> View<'v, 's>
+    ) -> View<'v, 't, 's>
         ensures { seen result ≡ record { tree = program.now; found = scopes.now; extra = extra.now; settings = settings.now } }
     {
         View {
