@@ -16,8 +16,8 @@ class AnttError extends Error {}
 
 // Modules that aren't loaded: they speak of the program's own values (its trees, devices, code of trees).
 // Of proofs/, only examples and the words that they are written with.
-const EXAMPLES = /\/(language|early_errors)\/proofs\/(Trees|Sources|Nest|Tables|\w*Examples|\w*Rows)\.antt$/;
-const LEFT_OUT = /^Rattle\.(language\.specs\.Promises|tree\.specs\.(TreeCode|Sizes|Node|Fields)|source_text\.specs\.(Io|Memory|Source|LineBytes|Writing)|tokens\.specs\.(Scanned|Reading|Closing|Fronts|States|Marks|Sets|Escaped|Laws)|early_errors\.(specs\.(Owns|Walk|Walks)|proofs\.Tables))$/;
+const EXAMPLES = /\/(language|early_errors|scopes)\/proofs\/(Trees|Sources|Nest|Tables|\w*Examples|\w*Rows)\.antt$/;
+const LEFT_OUT = /^Rattle\.(language\.specs\.Promises|tree\.specs\.(TreeCode|Sizes|Node|Fields)|source_text\.specs\.(Io|Memory|Source|LineBytes|Writing)|tokens\.specs\.(Scanned|Reading|Closing|Fronts|States|Marks|Sets|Escaped|Laws)|rules\.specs\.(Toml|Order|Run|Views|Marks|Nodes|Grows)|scopes\.(specs\.(Shown|Walks|Gathered|Tables)|proofs\.Tables)|early_errors\.(specs\.(Owns|Walk|Walks)|proofs\.Tables))$/;
 
 // ---------------------------------------------------------------- values
 
@@ -417,8 +417,8 @@ class Spec {
         else if (/\.r[st]$/.test(e.name)) {
           const source = fs.readFileSync(p, 'utf8').replace(/\/\/[^\n]*/g, '');
           for (const m of source.matchAll(/\benum\s+(\w+)\s*\{([^}]*)\}/g)) {
-            const variants = m[2].replace(/#\[[^\]]*\]/g, '').split(',').map((s) => s.trim()).filter(Boolean);
-            if (variants.some((v) => !/^\w+$/.test(v))) continue;          // variants with fields: made when used, by name
+            const variants = m[2].replace(/#\[[^\]]*\]/g, '').split(/,(?![^(]*\))/).map((s) => s.trim()).filter(Boolean);
+            if (variants.some((v) => !/^\w+(\((\w+(, *\w+)*)\))?$/.test(v))) continue;          // others: made when used, by name
             this.declare(crate, m[1], variants);
           }
           for (const m of source.matchAll(/\bstruct\s+(\w+)\s*\{([^}]*)\}/g)) this.records.set(crate + '.' + m[1], m[2]);
@@ -429,7 +429,8 @@ class Spec {
   }
   declare(crate, type, variants) {
     if (this.enums.has(crate + '.' + type)) return;
-    this.enums.set(crate + '.' + type, new Map(variants.map((v) => [v, new Constructor(v, 0, type, crate)])));
+    const fields = (v) => (v.includes('(') ? v.split(',').length : 0);
+    this.enums.set(crate + '.' + type, new Map(variants.map((v) => [v.replace(/\(.*/, ''), new Constructor(v.replace(/\(.*/, ''), fields(v), type, crate)])));
   }
 
   readModules() {

@@ -1,0 +1,85 @@
+-- What a pattern or an item declares, by its kind.
+use Rattle.std.proofs.Common.{◌≡◌, ◌-◌, Bool, true, false, cond, List, [], ◌∷◌, ◌++◌, refl, sym, ap, ◌∙◌, append-nil}
+use Rattle.tree.specs.declared.kind.Kind.{Kind}
+use Rattle.tree.specs.declared.kind.Kind.TheVariants.{Identifier, ArrayPattern, ObjectPattern, RestElement, AssignmentPattern, Property, VariableDeclaration, ClassDeclaration, FunctionDeclaration}
+use Rattle.tree.specs.Tree.{Tree, Parts, none, part, gap, node, kind_of, text_of, parts_of, part_at, part_count}
+use Rattle.language.specs.Words.{is}
+use Rattle.scopes.specs.declared.kind.BindingKind.{BindingKind}
+use Rattle.scopes.specs.declared.names.DeclaredIn.{DeclaredIn}
+use Rattle.scopes.specs.declared.names.DeclaredIn.TheVariants.{Statement}
+use Rattle.scopes.specs.declared.names.Pattern.{Pattern}
+use Rattle.scopes.specs.declared.names.Pattern.TheVariants.{Name, AllParts, FirstPart, LastPart, Nothing}
+use Rattle.scopes.specs.declared.names.Item.{Item}
+use Rattle.scopes.specs.declared.names.Item.TheVariants as item
+use Rattle.scopes.specs.Bindings.{Binding, each_part, names_in, declared, lexical, vars_in, parts_vars, holds_statements}
+use Rattle.scopes.specs.Gathered.{name_of, names_at, pattern_of, item_of}
+use Rattle.scopes.proofs.Dropping.{all_names-each, first_names-at, last_names-at}
+
+abbrev given_by : BindingKind → Bool → Pattern → Tree → List Binding
+given_by k b Name t = name_of k b t ∷ []
+given_by k b AllParts t = each_part (names_in k b) (parts_of t)
+given_by k b FirstPart t = names_at k b (part_at (parts_of t) 0)
+given_by k b LastPart t = names_at k b (part_at (parts_of t) (part_count (parts_of t) - 1))
+given_by k b Nothing t = []
+
+names_by_kind : (k : BindingKind) (b : Bool) (t : Tree) → names_in k b t ≡ given_by k b (pattern_of (kind_of t)) t
+unfolding names_in
+names_by_kind k b (node Identifier w g s e ps) = refl
+names_by_kind k b (node ArrayPattern w g s e ps) = all_names-each k b ps
+names_by_kind k b (node ObjectPattern w g s e ps) = all_names-each k b ps
+names_by_kind k b (node RestElement w g s e ps) = all_names-each k b ps
+names_by_kind k b (node AssignmentPattern w g s e ps) = first_names-at k b ps
+names_by_kind k b (node Property w g s e ps) = last_names-at k b ps
+names_by_kind k b (node _ w g s e ps) = refl
+
+pub names_given : (k : BindingKind) (b : Bool) (t : Tree) (i : Kind) (p : Pattern) → i ≡ kind_of t → p ≡ pattern_of i → names_in k b t ≡ given_by k b p t
+names_given k b t i p e f = names_by_kind k b t ∙ ap (λ x. given_by k b x t) (sym (f ∙ ap pattern_of e))
+
+-- ---- items
+
+abbrev lexical_by : DeclaredIn → Item → Tree → List Binding
+lexical_by h item.Lexical t = declared h (text_of t) (parts_of t)
+lexical_by h (item.First k) t = names_at k false (part_at (parts_of t) 0)
+lexical_by h _ t = []
+
+lexical_by_kind : (h : DeclaredIn) (t : Tree) → lexical h t ≡ lexical_by h (item_of (kind_of t) (text_of t)) t
+lexical_by_kind h (node VariableDeclaration w g s e ps) = pick (is w "var")
+  where
+    pick : (v : Bool) → cond v [] (declared h w ps) ≡ lexical_by h (cond v item.Var item.Lexical) (node VariableDeclaration w g s e ps)
+    pick true = refl
+    pick false = refl
+lexical_by_kind h (node FunctionDeclaration w g s e ps) = first_names-at _ false ps
+lexical_by_kind h (node ClassDeclaration w g s e ps) = first_names-at _ false ps
+lexical_by_kind h (node _ w g s e ps) = refl
+
+pub lexical_given : (h : DeclaredIn) (t : Tree) (i : Item) → i ≡ item_of (kind_of t) (text_of t) → lexical h t ≡ lexical_by h i t
+lexical_given h t i e = lexical_by_kind h t ∙ ap (λ x. lexical_by h x t) (sym e)
+
+vars-each : (ps : Parts) → parts_vars ps ≡ each_part vars_in ps
+unfolding parts_vars
+vars-each none = refl
+vars-each (part t ps) = ap (λ l. vars_in t ++ l) (vars-each ps)
+vars-each (gap ps) = vars-each ps
+
+abbrev pub vars_by : Item → Tree → List Binding
+vars_by item.Var t = declared Statement (text_of t) (parts_of t)
+vars_by item.Parts t = each_part vars_in (parts_of t)
+vars_by _ t = []
+
+held : (b : Bool) (t : Tree) → cond b (parts_vars (parts_of t)) [] ≡ vars_by (cond b item.Parts item.Nothing) t
+held true t = vars-each (parts_of t)
+held false t = refl
+
+vars_by_kind : (t : Tree) → vars_in t ≡ vars_by (item_of (kind_of t) (text_of t)) t
+unfolding vars_in
+vars_by_kind (node VariableDeclaration w g s e ps) = append-nil (cond (is w "var") (declared Statement w ps) []) ∙ pick (is w "var")
+  where
+    pick : (v : Bool) → cond v (declared Statement w ps) [] ≡ vars_by (cond v item.Var item.Lexical) (node VariableDeclaration w g s e ps)
+    pick true = refl
+    pick false = refl
+vars_by_kind (node FunctionDeclaration w g s e ps) = refl
+vars_by_kind (node ClassDeclaration w g s e ps) = refl
+vars_by_kind (node k w g s e ps) = held (holds_statements k) (node k w g s e ps)
+
+pub vars_given : (t : Tree) (i : Item) → i ≡ item_of (kind_of t) (text_of t) → vars_in t ≡ vars_by i t
+vars_given t i e = vars_by_kind t ∙ ap (λ x. vars_by x t) (sym e)

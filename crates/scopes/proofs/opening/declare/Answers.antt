@@ -1,0 +1,39 @@
+use Rattle.std.proofs.Common.{◌≡◌, [], ◌∷◌, ◌++◌, Some, refl, sym, ap, ◌∙◌, false}
+use Rattle.std.specs.Prelude.{is_some}
+use Rattle.std.proofs.lemmas.List.{map-append, length-map}
+use Rattle.scopes.specs.Bindings.{has_name}
+use Rattle.scopes.specs.Found.{here_or_outer, index_of, nearest}
+use Rattle.scopes.specs.Shown.{all_shown, is_of, shown}
+use Rattle.scopes.specs.Tables.{look, undone, with_value}
+use Rattle.scopes.proofs.Nearest.{is_of-here, meant-further_out, one-more, added-stands, added-new}
+use Rattle.scopes.proofs.Tables.{kept-turn}
+use Rattle.scopes.proofs.opening.declare.Goals as goal
+
+-- a name that is declared here already
+pub returns-then-is_of-clause-bindings : goal.returns-then-is_of-clause-bindings
+returns-then-is_of-clause-bindings c = λ fs m b.
+    let bs = all_shown c.args.bindings.now.items in
+    let w = c.args.binding.name.now in
+    sym (added-stands fs bs (shown c.args.binding) (sym (is_of-here c.args.number w bs fs b) ∙ ap (λ o. is_of o c.args.number) (sym (c.value-before.ensures ∙ m w)) ∙ sym c.is_of.ensures ∙ c.if-is_of.true))
+
+pub returns-clause-bindings : goal.returns-clause-bindings
+returns-clause-bindings c = λ fs m b.
+    let bs = all_shown c.args.bindings.now.items in
+    let w = c.args.binding.name.now in
+    let new : has_name w bs ≡ false = sym (is_of-here c.args.number w bs fs b) ∙ ap (λ o. is_of o c.args.number) (sym (c.value-before.ensures ∙ m w)) ∙ sym c.is_of.ensures ∙ c.if-is_of.false in
+    let out = c.is_some.ensures ∙ ap is_some (c.value-before.ensures ∙ m w ∙ meant-further_out c.args.number w bs fs new) in
+    ap all_shown c.in_ok-push-2.ensures.items ∙ map-append shown c.args.bindings.now.items _ ∙ ap (λ s. bs ++ record (shown c.args.binding) { shadows = s } ∷ []) out ∙ sym (added-new fs bs (shown c.args.binding) new)
+
+pub returns-clause-meanings : goal.returns-clause-meanings
+returns-clause-meanings c = λ fs m b.
+    let bs = all_shown c.args.bindings.now.items in
+    let w = c.args.binding.name.now in
+    let new : has_name w bs ≡ false = sym (is_of-here c.args.number w bs fs b) ∙ ap (λ o. is_of o c.args.number) (sym (c.value-before.ensures ∙ m w)) ∙ sym c.is_of.ensures ∙ c.if-is_of.false in
+    let long = c.len.ensures ∙ c.args.bindings.now.ok.0 ∙ sym (length-map c.args.bindings.now.items shown) in
+    let pushed = ap all_shown c.in_ok-push-2.ensures.items ∙ map-append shown c.args.bindings.now.items _ in
+    λ v. one-more (look c.args.meanings.now) (look c.replace.new.self) c.args.number bs _ fs new m (λ u. c.in_ok-replace.ensures.after u ∙ ap (λ k. with_value (look c.args.meanings.now) w (Some (c.args.number, k)) u) long) v
+    ∙ ap (λ x. here_or_outer c.args.number (index_of v x) (nearest v fs)) (sym pushed)
+
+pub returns-clause-kept : goal.returns-clause-kept
+returns-clause-kept c = kept-turn (undone (look c.args.meanings.now) c.args.saved.now.items) (look c.args.meanings.now) (look c.replace.new.self) _ c.args.saved.now.items c.push.new.self.items _ c.in_ok-push.ensures.items
+    c.value-before.ensures c.in_ok-replace.ensures.after (λ w. refl)

@@ -1,0 +1,113 @@
+-- What a pattern, a declaration or a statement list item declares, in the order of the tree.
+use Rattle.std.specs.Prelude.{ℕ, Bool, true, false, cond, ◌||◌, List, [], ◌∷◌, ◌++◌}
+use Rattle.std.specs.Str.{bytes_eq}
+use Rattle.tree.specs.declared.kind.Kind.{Kind}
+use Rattle.tree.specs.declared.kind.Kind.TheVariants.{Identifier, ArrayPattern, ObjectPattern, AssignmentPattern, RestElement, Property, BlockStatement, VariableDeclaration, FunctionDeclaration, ClassDeclaration, LabeledStatement, IfStatement, SwitchStatement, SwitchCase, TryStatement, CatchClause, WhileStatement, DoWhileStatement, ForStatement, ForInStatement, ForOfStatement}
+use Rattle.tree.specs.Tree.{Tree, node, Parts, none, part, gap, parts_of}
+use Rattle.language.specs.FirstPart.{others}
+use Rattle.language.specs.Words.{is}
+use Rattle.scopes.specs.declared.kind.BindingKind.{BindingKind}
+use Rattle.scopes.specs.declared.names.DeclaredIn.{DeclaredIn}
+use Rattle.scopes.specs.declared.names.DeclaredIn.TheVariants.{Statement, ForHead, ForInOfHead}
+use Rattle.scopes.specs.declared.kind.BindingKind.TheVariants.{Var, Let, Const, Function, Class}
+
+-- A name that a scope declares, with the place of its identifier. `settled`: the declarator has an initializer, or stands in a
+-- for-in or for-of head; never in the head of a plain `for`. `shadows`: a scope further out declares the name too.
+pub record Binding : Type 0 where
+  pub name : List ℕ
+  pub kind : BindingKind
+  pub start : ℕ
+  pub stop : ℕ
+  pub settled : Bool
+  pub shadows : Bool
+
+abbrev pub each_part : {B : Type 0} → (Tree → List B) → Parts → List B
+each_part f none = []
+each_part f (part t ps) = f t ++ each_part f ps
+each_part f (gap ps) = each_part f ps
+
+unfoldable mutual
+  -- the names of a pattern (BoundNames, 12.1.2, 13.3.3.1)
+  pub names_in : BindingKind → Bool → Tree → List Binding
+  names_in k b (node Identifier w g s e ps) = record { name = w; kind = k; start = s; stop = e; settled = b; shadows = false } ∷ []
+  names_in k b (node ArrayPattern w g s e ps) = all_names k b ps
+  names_in k b (node ObjectPattern w g s e ps) = all_names k b ps
+  names_in k b (node RestElement w g s e ps) = all_names k b ps
+  names_in k b (node AssignmentPattern w g s e ps) = first_names k b ps
+  names_in k b (node Property w g s e ps) = last_names k b ps
+  names_in k b (node _ w g s e ps) = []
+
+  pub all_names : BindingKind → Bool → Parts → List Binding
+  all_names k b none = []
+  all_names k b (part t ps) = names_in k b t ++ all_names k b ps
+  all_names k b (gap ps) = all_names k b ps
+
+  pub first_names : BindingKind → Bool → Parts → List Binding
+  first_names k b none = []
+  first_names k b (part t ps) = names_in k b t
+  first_names k b (gap ps) = []
+
+  pub last_names : BindingKind → Bool → Parts → List Binding
+  last_names k b none = []
+  last_names k b (part t none) = names_in k b t
+  last_names k b (part t (part u ps)) = last_names k b (part u ps)
+  last_names k b (part t (gap ps)) = last_names k b ps
+  last_names k b (gap ps) = last_names k b ps
+
+abbrev pub is_initialised : Parts → Bool
+is_initialised (part t ps) = true
+is_initialised _ = false
+
+-- whether a declarator gives its names a value, by where its declaration stands; in the head of a plain `for` it doesn't count
+abbrev pub settles : DeclaredIn → Parts → Bool
+settles Statement ps = is_initialised (others ps)
+settles ForHead ps = false
+settles ForInOfHead ps = true
+
+abbrev pub word_kind : List ℕ → BindingKind
+word_kind w = cond (is w "var") Var (cond (is w "let") Let Const)
+
+-- the names of a declaration, whose parts are its declarators (13.3.1.2, 13.3.2.1)
+abbrev pub declared : DeclaredIn → List ℕ → Parts → List Binding
+declared h w ps = each_part (λ d. first_names (word_kind w) (settles h (parts_of d)) (parts_of d)) ps
+
+-- what a node declares in the scope that it stands in: `let`, `const`, a function, a class (LexicallyDeclaredNames, 13.2.5)
+abbrev pub lexical : DeclaredIn → Tree → List Binding
+lexical h (node VariableDeclaration w g s e ps) = cond (is w "var") [] (declared h w ps)
+lexical h (node FunctionDeclaration w g s e ps) = first_names Function false ps
+lexical h (node ClassDeclaration w g s e ps) = first_names Class false ps
+lexical h (node _ w g s e ps) = []
+
+-- the kinds that have statements among their parts, the Program and functions aside
+abbrev pub holds_statements : Kind → Bool
+holds_statements BlockStatement = true
+holds_statements LabeledStatement = true
+holds_statements IfStatement = true
+holds_statements SwitchStatement = true
+holds_statements SwitchCase = true
+holds_statements TryStatement = true
+holds_statements CatchClause = true
+holds_statements WhileStatement = true
+holds_statements DoWhileStatement = true
+holds_statements ForStatement = true
+holds_statements ForInStatement = true
+holds_statements ForOfStatement = true
+holds_statements _ = false
+
+abbrev pub own_vars : Kind → List ℕ → Parts → List Binding
+own_vars VariableDeclaration w ps = cond (is w "var") (declared Statement w ps) []
+own_vars _ w ps = []
+
+unfoldable mutual
+  -- the names of `var` in a statement at any depth, but not in functions inside it (VarDeclaredNames, 13.1.5, 13.2.11)
+  pub vars_in : Tree → List Binding
+  vars_in (node k w g s e ps) = own_vars k w ps ++ cond (holds_statements k) (parts_vars ps) []
+
+  pub parts_vars : Parts → List Binding
+  parts_vars none = []
+  parts_vars (part t ps) = vars_in t ++ parts_vars ps
+  parts_vars (gap ps) = parts_vars ps
+
+abbrev pub has_name : List ℕ → List Binding → Bool
+has_name w [] = false
+has_name w (b ∷ bs) = bytes_eq w b.name || has_name w bs

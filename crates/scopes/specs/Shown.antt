@@ -1,0 +1,44 @@
+-- The code's own values as those of the definitions.
+use Rattle.std.specs.Prelude.{◌≡◌, ◌<◌, ℕ, Bool, nat_eq, List, map, Option, Some, None, IfSome, false}
+use Rattle.scopes.specs.declared.binding.Binding.{Binding as CodeBinding}
+use Rattle.scopes.specs.declared.binding.Reference.{Reference as CodeReference}
+use Rattle.scopes.specs.declared.binding.Scope.{Scope as CodeScope}
+use Rattle.scopes.specs.Bindings.{Binding}
+use Rattle.scopes.specs.Found.{Frame, Reference, Scope, Found, nearest, scope_of}
+
+abbrev pub shown : CodeBinding → Binding
+shown b = record { name = b.name.now; kind = b.kind; start = b.start; stop = b.end; settled = b.settled; shadows = b.shadows }
+
+abbrev pub all_shown : List CodeBinding → List Binding
+all_shown bs = map shown bs
+
+abbrev pub reference_shown : CodeReference → Reference
+reference_shown r = record { name = r.name.now; scope = r.scope; reads = r.reads; writes = r.writes; start = r.start; stop = r.end; typeof_operand = r.typeof_operand; meaning = r.meaning }
+
+abbrev pub scope_shown : CodeScope → Scope
+scope_shown s = record { parent = s.parent; bindings = all_shown s.bindings.items }
+
+abbrev pub found_of : List CodeScope → List CodeReference → Found
+found_of ss rs = record { scopes = map scope_shown ss; references = map reference_shown rs }
+
+abbrev pub frame : ℕ → List Binding → Frame
+frame n bs = record { number = n; bindings = bs }
+
+-- a table says what each name means
+abbrev pub Meant : (List ℕ → Option (ℕ × ℕ)) → List Frame → Type 0
+Meant f fs = (w : List ℕ) → f w ≡ nearest w fs
+
+-- all meanings lie in scopes with a number below this
+abbrev pub Below : ℕ → List Frame → Type 0
+Below n fs = (w : List ℕ) → IfSome (nearest w fs) (λ p. p.0 < n)
+
+-- what the walk knows of the scopes round a node: its table says what each name means, in scopes below the next number
+pub record Knows (f : List ℕ → Option (ℕ × ℕ)) (n : ℕ) (s : Option ℕ) (fs : List Frame) : Type 0 where
+  pub meant : Meant f fs
+  pub below : Below n fs
+  pub nearest_is : s ≡ scope_of fs
+
+-- whether a meaning lies in the scope of this number
+abbrev pub is_of : Option (ℕ × ℕ) → ℕ → Bool
+is_of None n = false
+is_of (Some p) n = nat_eq p.0 n

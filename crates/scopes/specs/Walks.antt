@@ -1,0 +1,35 @@
+-- What the walk has found so far, and what it is given, in the words of `Found`.
+use Rattle.std.specs.Prelude.{ℕ, Bool, cond, ◌-◌, List}
+use Rattle.tree.specs.Tree.{Tree, kind_of, text_of, flags_of, parts_of, part_count, start_of, stop_of, parts_drop}
+use Rattle.std.specs.Prelude.{unwrap_or}
+use Rattle.scopes.specs.declared.roles.Role.{Role}
+use Rattle.scopes.specs.declared.walk.Around.{Around as CodeAround}
+use Rattle.scopes.specs.declared.walk.Walk.{Walk}
+use Rattle.scopes.specs.Roles.{does_read, does_write, is_typeof_operand}
+use Rattle.scopes.specs.Found.{Frame, Around, Inside, Found, Reference, nearest, scope_of, all_parts, parts_from}
+use Rattle.scopes.specs.Openings.{scope_round_others}
+use Rattle.scopes.specs.Shown.{found_of}
+
+abbrev pub seen : Walk → Found
+seen w = found_of w.scopes.items w.references.items
+
+abbrev pub round : CodeAround → List Frame → Around
+round a fs = record { frames = fs; in_function = a.in_function; role = a.role }
+
+abbrev pub inside_of : Role → Tree → Inside
+inside_of u t = record { role = u; kind = kind_of t; text = text_of t; flags = flags_of t; last = part_count (parts_of t) - 1 }
+
+-- the reference that an identifier makes
+abbrev pub reference_at : Around → Tree → Reference
+reference_at z t = record { name = text_of t; scope = unwrap_or (scope_of z.frames) 0; reads = does_read z.role; writes = does_write z.role; start = start_of t; stop = stop_of t; typeof_operand = is_typeof_operand z.role; meaning = nearest (text_of t) z.frames }
+
+-- ---- what is found in a node's parts: in those behind the first, in all, in either
+
+abbrev pub others_within : Role → Tree → Around → ℕ → Found
+others_within u t z n = parts_from (inside_of u t) z 1 n (parts_drop 1 (parts_of t))
+
+abbrev pub all_within : Role → Tree → Around → ℕ → Found
+all_within u t z n = all_parts (inside_of u t) z n (scope_round_others (kind_of t) (parts_of t)) (parts_of t)
+
+abbrev pub parts_within : Bool → Role → Tree → Around → ℕ → Found
+parts_within others u t z n = cond others (others_within u t z n) (all_within u t z n)

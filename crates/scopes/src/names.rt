@@ -1,0 +1,294 @@
+//! The names that patterns and statement list items declare, in the order of the tree.
+
+ghost use Rattle.std.specs.Prelude.{◌≡◌, ◌++◌, ◌∷◌, [], ◌-◌, option_map, OnOk};
+ghost use Rattle.tree.specs.Node.{node_tree};
+ghost use Rattle.tree.specs.Tree.{kind_of, part_at, part_count, parts_of, parts_drop, text_of};
+ghost use Rattle.scopes.specs.Bindings.{declared, each_part, holds_statements, lexical, names_in, settles, vars_in, word_kind};
+ghost use Rattle.scopes.specs.Gathered.{at_part, declared_by, item_of, name_of, names_at, pattern_of};
+ghost use Rattle.scopes.specs.Shown.{all_shown};
+
+use crate::binding::{Binding, BindingKind};
+use std::alloc::AllocError;
+use tree::{Kind, Node};
+
+/// What names are declared as.
+#[derive(Clone, Copy)]
+pub(crate) struct DeclaredAs {
+    pub(crate) kind: BindingKind,
+    pub(crate) settled: bool,
+}
+
+/// Where a declaration stands.
+#[derive(Clone, Copy)]
+pub(crate) enum DeclaredIn {
+    /// As a statement.
+    Statement,
+    /// In the head of a plain `for`.
+    ForHead,
+    /// In the head of a for-in or for-of.
+    ForInOfHead,
+}
+
+/// Which parts of a node have the names that it binds as a pattern.
+#[derive(Clone, Copy)]
+pub(crate) enum Pattern {
+    Name,
+    AllParts,
+    FirstPart,
+    LastPart,
+    Nothing,
+}
+
+fn pattern_of(kind: Kind) -> Pattern
+    ensures { result ≡ pattern_of kind }
+{
+    match kind {
+        Kind::Identifier => Pattern::Name,
+        Kind::ArrayPattern | Kind::ObjectPattern | Kind::RestElement => Pattern::AllParts,
+        Kind::AssignmentPattern => Pattern::FirstPart,
+        Kind::Property => Pattern::LastPart,
+        _ => Pattern::Nothing,
+    }
+}
+
+/// The last part, where it isn't missing.
+pub(crate) fn last_part<'t, 's>(node: Node<'t, 's>) -> Option<Node<'t, 's>>
+    ensures { option_map node_tree result ≡ part_at (parts_of (node_tree node.entry)) (part_count (parts_of (node_tree node.entry)) - 1) }
+{
+    let count = node.part_count();
+    if count == 0 {
+        return None;
+    }
+    node.part(count - 1)
+}
+
+/// Pushes the names of a pattern.
+#[cycle(pattern)]
+#[tactic(auto, using(tree::proofs::PartWalk::part_steps))]
+pub(crate) fn push_names<'t>(
+    node: Node<'t, '_>,
+    how: DeclaredAs,
+    names: &mut Vec<Binding<'t>>,
+) -> Result<(), AllocError>
+    ensures { OnOk result (all_shown names.new.items ≡ all_shown names.old.items ++ names_in how.kind how.settled (node_tree node.entry)) }
+{
+    match pattern_of(node.kind()) {
+        Pattern::Name => push_name(node, how, names),
+        Pattern::AllParts => push_all_names(node, how, names),
+        Pattern::FirstPart => push_part_names(node.part(0), how, names),
+        Pattern::LastPart => push_part_names(last_part(node), how, names),
+        Pattern::Nothing => Ok(()),
+    }
+}
+
+fn push_name<'t>(
+    node: Node<'t, '_>,
+    how: DeclaredAs,
+    names: &mut Vec<Binding<'t>>,
+) -> Result<(), AllocError>
+    ensures { OnOk result (all_shown names.new.items ≡ all_shown names.old.items ++ name_of how.kind how.settled (node_tree node.entry) ∷ []) }
+{
+    let span = node.span();
+    names.push(Binding {
+        name: node.text(),
+        kind: how.kind,
+        start: span.start,
+        end: span.end,
+        settled: how.settled,
+        shadows: false,
+    })?;
+    Ok(())
+}
+
+#[cycle(pattern)]
+#[tactic(auto, using(tree::proofs::PartWalk::part_steps))]
+fn push_all_names<'t>(
+    node: Node<'t, '_>,
+    how: DeclaredAs,
+    names: &mut Vec<Binding<'t>>,
+) -> Result<(), AllocError>
+    ensures { OnOk result (all_shown names.new.items ≡ all_shown names.old.items ++ each_part (names_in how.kind how.settled) (parts_of (node_tree node.entry))) }
+{
+    for index in 0..node.part_count() {
+        push_part_names(node.part(index), how, names)?;
+    }
+    Ok(())
+}
+
+/// Pushes the names of a part that may be missing.
+#[cycle(pattern)]
+#[tactic(auto, using(tree::proofs::PartWalk::part_steps))]
+pub(crate) fn push_part_names<'t>(
+    part: Option<Node<'t, '_>>,
+    how: DeclaredAs,
+    names: &mut Vec<Binding<'t>>,
+) -> Result<(), AllocError>
+    ensures { OnOk result (all_shown names.new.items ≡ all_shown names.old.items ++ names_at how.kind how.settled (option_map node_tree part.entry)) }
+{
+    match part {
+        Some(part) => push_names(part, how, names),
+        None => Ok(()),
+    }
+}
+
+fn word_kind(word: &str) -> BindingKind
+    ensures { result ≡ word_kind word.now }
+{
+    if word == "var" {
+        BindingKind::Var
+    } else if word == "let" {
+        BindingKind::Let
+    } else {
+        BindingKind::Const
+    }
+}
+
+/// Whether a declarator gives its names a value.
+fn settles(head: DeclaredIn, declarator: Node) -> bool
+    ensures { result ≡ settles head (parts_of (node_tree declarator.entry)) }
+{
+    match head {
+        DeclaredIn::Statement => declarator.part(1).is_some(),
+        DeclaredIn::ForHead => false,
+        DeclaredIn::ForInOfHead => true,
+    }
+}
+
+/// Pushes the names of a declaration, whose parts are its declarators.
+pub(crate) fn push_declared<'t>(
+    head: DeclaredIn,
+    node: Node<'t, '_>,
+    names: &mut Vec<Binding<'t>>,
+) -> Result<(), AllocError>
+    ensures { OnOk result (all_shown names.new.items ≡ all_shown names.old.items ++ declared head (text_of (node_tree node.entry)) (parts_of (node_tree node.entry))) }
+{
+    let kind = word_kind(node.text());
+    for index in 0..node.part_count() {
+        push_declarator(head, kind, node.part(index), names)?;
+    }
+    Ok(())
+}
+
+fn push_declarator<'t>(
+    head: DeclaredIn,
+    kind: BindingKind,
+    declarator: Option<Node<'t, '_>>,
+    names: &mut Vec<Binding<'t>>,
+) -> Result<(), AllocError>
+    ensures { OnOk result (all_shown names.new.items ≡ all_shown names.old.items ++ at_part (declared_by head kind) (option_map node_tree declarator.entry)) }
+{
+    let Some(declarator) = declarator else {
+        return Ok(());
+    };
+    let settled = settles(head, declarator);
+    push_part_names(declarator.part(0), DeclaredAs { kind, settled }, names)
+}
+
+/// What an item declares in the scope that it stands in, or in the function round it.
+#[derive(Clone, Copy)]
+pub(crate) enum Item {
+    /// The names of its declarators, by `let` or `const`.
+    Lexical,
+    /// The same, by `var`.
+    Var,
+    /// Its first part.
+    First(BindingKind),
+    /// Those of `var` in its parts.
+    Parts,
+    Nothing,
+}
+
+/// Whether nodes of this kind have statements among their parts; not the Program, not functions.
+fn holds_statements(kind: Kind) -> bool
+    ensures { result ≡ holds_statements kind }
+{
+    match kind {
+        Kind::BlockStatement
+        | Kind::LabeledStatement
+        | Kind::IfStatement
+        | Kind::SwitchStatement
+        | Kind::SwitchCase
+        | Kind::TryStatement
+        | Kind::CatchClause
+        | Kind::WhileStatement
+        | Kind::DoWhileStatement
+        | Kind::ForStatement
+        | Kind::ForInStatement
+        | Kind::ForOfStatement => true,
+        _ => false,
+    }
+}
+
+fn item_of(node: Node) -> Item
+    ensures { result ≡ item_of (kind_of (node_tree node.entry)) (text_of (node_tree node.entry)) }
+{
+    match node.kind() {
+        Kind::VariableDeclaration => {
+            if node.text() == "var" {
+                Item::Var
+            } else {
+                Item::Lexical
+            }
+        }
+        Kind::FunctionDeclaration => Item::First(BindingKind::Function),
+        Kind::ClassDeclaration => Item::First(BindingKind::Class),
+        kind => {
+            if holds_statements(kind) {
+                Item::Parts
+            } else {
+                Item::Nothing
+            }
+        }
+    }
+}
+
+/// Pushes what an item declares in the scope that it stands in: `let`, `const`, a function, a class.
+pub(crate) fn push_lexical<'t>(
+    head: DeclaredIn,
+    item: Node<'t, '_>,
+    names: &mut Vec<Binding<'t>>,
+) -> Result<(), AllocError>
+    ensures { OnOk result (all_shown names.new.items ≡ all_shown names.old.items ++ lexical head (node_tree item.entry)) }
+{
+    match item_of(item) {
+        Item::Lexical => push_declared(head, item, names),
+        Item::First(kind) => push_part_names(
+            item.part(0),
+            DeclaredAs {
+                kind,
+                settled: false,
+            },
+            names,
+        ),
+        _ => Ok(()),
+    }
+}
+
+/// Pushes the names of `var` in a statement at any depth, but not in functions inside it.
+#[cycle(vars)]
+#[tactic(auto, using(tree::proofs::PartWalk::part_steps))]
+pub(crate) fn push_vars<'t>(
+    item: Node<'t, '_>,
+    names: &mut Vec<Binding<'t>>,
+) -> Result<(), AllocError>
+    ensures { OnOk result (all_shown names.new.items ≡ all_shown names.old.items ++ vars_in (node_tree item.entry)) }
+{
+    match item_of(item) {
+        Item::Var => push_declared(DeclaredIn::Statement, item, names),
+        Item::Parts => push_parts_vars(item, names),
+        Item::Lexical | Item::First(_) | Item::Nothing => Ok(()),
+    }
+}
+
+#[cycle(vars)]
+#[tactic(auto, using(tree::proofs::PartWalk::part_steps))]
+fn push_parts_vars<'t>(node: Node<'t, '_>, names: &mut Vec<Binding<'t>>) -> Result<(), AllocError>
+    ensures { OnOk result (all_shown names.new.items ≡ all_shown names.old.items ++ each_part vars_in (parts_of (node_tree node.entry))) }
+{
+    for index in 0..node.part_count() {
+        if let Some(part) = node.part(index) {
+            push_vars(part, names)?;
+        }
+    }
+    Ok(())
+}

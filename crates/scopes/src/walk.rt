@@ -1,0 +1,232 @@
+//! The walk over a tree.
+
+ghost use Rattle.std.specs.Prelude.{◌≡◌, ◌∷◌, ◌++◌, ◌-◌, [], List, length, map, IfOk, OnOk, Some, None, cond};
+ghost use Rattle.tree.specs.Node.{node_tree};
+ghost use Rattle.tree.specs.Tree.{flags_of, kind_of, parts_of, part_count, text_of};
+ghost use Rattle.scopes.specs.Found.{Frame, all_parts, at_place, collected, enter, found_in, in_scope, joined, opened, own_reference, parts_from, round_others};
+ghost use Rattle.scopes.specs.Openings.{scope_round_all, scope_round_others};
+ghost use Rattle.scopes.specs.Shown.{Knows, all_shown, frame, reference_shown};
+ghost use Rattle.scopes.specs.Walks.{all_within, inside_of, others_within, parts_within, reference_at, round, seen};
+ghost use Rattle.scopes.specs.Tables.{Agree, look, undone};
+
+use crate::binding::{Binding, Reference, Scope};
+use crate::gather::{push_round_all, push_round_others};
+use crate::opening::{Meanings, Saved, close, declare_all};
+use crate::roles::{
+    Role, does_read, does_write, has_arguments, is_reference, is_typeof_operand, part_role,
+};
+use crate::table::Table;
+use std::alloc::{AllocError, Global};
+use tree::{Kind, Node};
+
+/// What the walk has found, and what it needs to go on.
+#[derive(Drop)]
+pub(crate) struct Walk<'t> {
+    pub(crate) alloc: Global,
+    pub(crate) scopes: Vec<Scope<'t>>,
+    pub(crate) references: Vec<Reference<'t>>,
+    /// What names mean here.
+    pub(crate) meanings: Meanings<'t>,
+    /// Room for the names of one scope.
+    pub(crate) names: Vec<Binding<'t>>,
+}
+
+/// What stands round a node: the nearest scope; whether the node stands in a function that isn't an arrow, and so has an
+/// `arguments` of its own; what the node is to its parent.
+#[derive(Clone, Copy)]
+pub(crate) struct Around {
+    pub(crate) scope: Option<usize>,
+    pub(crate) in_function: bool,
+    pub(crate) role: Role,
+}
+
+/// Round the part at a place.
+fn at_place(node: Node, around: Around, index: usize) -> Around
+    ensures round { (fs : List Frame) → round result fs ≡ at_place (inside_of around.role (node_tree node.entry)) (round around fs) index }
+    ensures scope { result.scope ≡ around.scope }
+{
+    Around {
+        role: part_role(around.role, node, index),
+        ..around
+    }
+}
+
+/// Round the parts behind the first.
+fn round_others(node: Node, around: Around) -> Around
+    ensures round { (fs : List Frame) → round result fs ≡ round_others (inside_of around.role (node_tree node.entry)) (round around fs) }
+    ensures scope { result.scope ≡ around.scope }
+    ensures role { result.role ≡ around.role }
+{
+    Around {
+        in_function: around.in_function || has_arguments(node.kind()),
+        ..around
+    }
+}
+
+/// Whether a node is a reference.
+fn refers(node: Node, around: Around) -> bool
+    ensures { (fs : List Frame) → own_reference (round around fs) (node_tree node.entry) ≡ cond result (reference_at (round around fs) (node_tree node.entry) ∷ []) [] }
+{
+    match node.kind() {
+        Kind::Identifier => {
+            is_reference(around.role) && !(around.in_function && node.text() == "arguments")
+        }
+        _ => false,
+    }
+}
+
+/// Pushes the reference that a node is, if it is one.
+fn refer<'t>(
+    node: Node<'t, '_>,
+    around: Around,
+    meanings: &Meanings<'t>,
+    references: &mut Vec<Reference<'t>>,
+) -> Result<(), AllocError>
+    ensures { OnOk result ((n : _) → (fs : List Frame) → Knows (look meanings.now) n around.scope fs → map reference_shown references.new.items ≡ map reference_shown references.old.items ++ own_reference (round around fs) (node_tree node.entry)) }
+{
+    if !refers(node, around) {
+        return Ok(());
+    }
+    let name = node.text();
+    let span = node.span();
+    references.push(Reference {
+        name,
+        scope: around.scope.unwrap_or(0),
+        reads: does_read(around.role),
+        writes: does_write(around.role),
+        start: span.start,
+        end: span.end,
+        typeof_operand: is_typeof_operand(around.role),
+        meaning: meanings.value(name),
+    })?;
+    Ok(())
+}
+
+/// Opens a scope of the names that were gathered; answers what stands round the nodes in it.
+fn open<'t>(
+    around: Around,
+    saved: &mut Vec<Saved<'t>>,
+    walk: &mut Walk<'t>,
+) -> Result<Around, AllocError>
+    requires { saved.now.items ≡ [] }
+    ensures found { OnOk result ((fs : List Frame) → Knows (look walk.old.meanings) (length walk.old.scopes.items) around.scope fs → seen walk.new ≡ joined (seen walk.old) (opened (round around fs) (all_shown walk.old.names.items))) }
+    ensures known { IfOk result (λ inner. (fs : List Frame) → Knows (look walk.old.meanings) (length walk.old.scopes.items) around.scope fs → Knows (look walk.new.meanings) (length walk.new.scopes.items) inner.scope (frame (length walk.old.scopes.items) (collected fs [] (all_shown walk.old.names.items)) ∷ fs)) }
+    ensures inner { IfOk result (λ inner. (fs : List Frame) → round inner (frame (length walk.old.scopes.items) (collected fs [] (all_shown walk.old.names.items)) ∷ fs) ≡ enter (round around fs) (length walk.old.scopes.items) (all_shown walk.old.names.items)) }
+    ensures role { IfOk result (λ inner. inner.role ≡ around.role) }
+    ensures kept { OnOk result (Agree (undone (look walk.new.meanings) saved.new.items) (look walk.old.meanings)) }
+{
+    let number = walk.scopes.len();
+    let mut bindings = Vec::new(walk.alloc);
+    declare_all(
+        walk.names.as_slice(),
+        number,
+        &mut walk.meanings,
+        &mut bindings,
+        saved,
+    )?;
+    walk.scopes.push(Scope {
+        parent: around.scope,
+        bindings,
+    })?;
+    Ok(Around {
+        scope: Some(number),
+        ..around
+    })
+}
+
+/// Finds what is in a node and below it.
+#[cycle(walk)]
+#[tactic(auto, using(tree::proofs::PartWalk::part_steps))]
+pub(crate) fn walk_node<'t>(
+    node: Node<'t, '_>,
+    around: Around,
+    walk: &mut Walk<'t>,
+) -> Result<(), AllocError>
+    ensures found { OnOk result ((fs : List Frame) → Knows (look walk.old.meanings) (length walk.old.scopes.items) around.scope fs → seen walk.new ≡ joined (seen walk.old) (found_in (round around fs) (length walk.old.scopes.items) (node_tree node.entry))) }
+    ensures meanings { OnOk result (Agree (look walk.new.meanings) (look walk.old.meanings)) }
+{
+    refer(node, around, &walk.meanings, &mut walk.references)?;
+    walk.names.clear();
+    if push_round_all(around.role, node, &mut walk.names)? {
+        walk_in_scope(node, around, false, walk)
+    } else {
+        walk_all(node, around, walk)
+    }
+}
+
+/// Finds what is in a node's parts: in the first, and in the others within their scope.
+#[cycle(walk)]
+#[tactic(auto, using(tree::proofs::PartWalk::part_steps))]
+fn walk_all<'t>(node: Node<'t, '_>, around: Around, walk: &mut Walk<'t>) -> Result<(), AllocError>
+    ensures found { OnOk result ((fs : List Frame) → Knows (look walk.old.meanings) (length walk.old.scopes.items) around.scope fs → seen walk.new ≡ joined (seen walk.old) (all_within around.role (node_tree node.entry) (round around fs) (length walk.old.scopes.items))) }
+    ensures meanings { OnOk result (Agree (look walk.new.meanings) (look walk.old.meanings)) }
+{
+    if let Some(part) = node.part(0) {
+        walk_node(part, at_place(node, around, 0), walk)?;
+    }
+    let others = round_others(node, around);
+    walk.names.clear();
+    if push_round_others(node, &mut walk.names)? {
+        walk_in_scope(node, others, true, walk)
+    } else {
+        walk_others(node, others, walk)
+    }
+}
+
+/// Finds what is in a node's parts behind the first.
+#[cycle(walk)]
+#[tactic(auto, using(tree::proofs::PartWalk::part_steps))]
+fn walk_others<'t>(
+    node: Node<'t, '_>,
+    around: Around,
+    walk: &mut Walk<'t>,
+) -> Result<(), AllocError>
+    ensures found { OnOk result ((fs : List Frame) → Knows (look walk.old.meanings) (length walk.old.scopes.items) around.scope fs → seen walk.new ≡ joined (seen walk.old) (others_within around.role (node_tree node.entry) (round around fs) (length walk.old.scopes.items))) }
+    ensures meanings { OnOk result (Agree (look walk.new.meanings) (look walk.old.meanings)) }
+{
+    for index in 1..node.part_count() {
+        if let Some(part) = node.part(index) {
+            walk_node(part, at_place(node, around, index), walk)?;
+        }
+    }
+    Ok(())
+}
+
+/// Finds what is in a node's parts, or in those behind the first, in a scope of the names that were gathered.
+#[cycle(walk)]
+#[tactic(auto, using(tree::proofs::PartWalk::part_steps))]
+fn walk_in_scope<'t>(
+    node: Node<'t, '_>,
+    around: Around,
+    others: bool,
+    walk: &mut Walk<'t>,
+) -> Result<(), AllocError>
+    ensures found { OnOk result ((fs : List Frame) → Knows (look walk.old.meanings) (length walk.old.scopes.items) around.scope fs → seen walk.new ≡ joined (seen walk.old) (in_scope (Some (all_shown walk.old.names.items)) (round around fs) (length walk.old.scopes.items) (parts_within others around.role (node_tree node.entry)))) }
+    ensures meanings { OnOk result (Agree (look walk.new.meanings) (look walk.old.meanings)) }
+{
+    let mut saved = Vec::new(walk.alloc);
+    walk_opened(node, around, others, &mut saved, walk)
+}
+
+/// The same, with room for what names meant before.
+#[cycle(walk)]
+#[tactic(auto, using(tree::proofs::PartWalk::part_steps))]
+fn walk_opened<'t>(
+    node: Node<'t, '_>,
+    around: Around,
+    others: bool,
+    saved: &mut Vec<Saved<'t>>,
+    walk: &mut Walk<'t>,
+) -> Result<(), AllocError>
+    requires { saved.now.items ≡ [] }
+    ensures found { OnOk result ((fs : List Frame) → Knows (look walk.old.meanings) (length walk.old.scopes.items) around.scope fs → seen walk.new ≡ joined (seen walk.old) (in_scope (Some (all_shown walk.old.names.items)) (round around fs) (length walk.old.scopes.items) (parts_within others around.role (node_tree node.entry)))) }
+    ensures meanings { OnOk result (Agree (look walk.new.meanings) (look walk.old.meanings)) }
+{
+    let inner = open(around, saved, walk)?;
+    if others {
+        walk_others(node, inner, walk)?;
+    } else {
+        walk_all(node, inner, walk)?;
+    }
+    close(&mut walk.meanings, saved)
+}

@@ -1,0 +1,67 @@
+#!/usr/bin/env node
+'use strict';
+// Does compare.js see faults? Plants one fault at a time into a copy of the definitions of scopes and rules, and runs it:
+//   node plant.js [--n N]
+// Exit status 1 where a fault isn't seen, or where its text isn't found any more.
+
+const fs = require('node:fs');
+const os = require('node:os');
+const path = require('node:path');
+const { spawnSync } = require('node:child_process');
+
+const at = process.argv.indexOf('--n');
+const n = at < 0 ? '600' : process.argv[at + 1];
+const CRATES = path.join(__dirname, '../../crates');
+const NAMES = ['scopes', 'rules'].filter((crate) => fs.existsSync(path.join(CRATES, crate)));
+
+// what, file, old, new
+const FAULTS = [
+  ['a target of = reads too', 'scopes/specs/Roles.antt', 'cond (is w "=") Write ReadWrite', 'ReadWrite'],
+  ['a logical assignment writes alone', 'scopes/specs/Roles.antt', 'cond (is w "=") Write ReadWrite', 'cond (is w "??=") Write (cond (is w "=") Write ReadWrite)'],
+  ['typeof reads', 'scopes/specs/Roles.antt', 'cond (is w "typeof") Typeof Read', 'Read'],
+  ['a key is a name', 'scopes/specs/Roles.antt', 'cond g.computed Read NoReference', 'NoReference'],
+  ['a label is read', 'scopes/specs/Roles.antt', 'part_roles u LabeledStatement w g = First NoReference Read', 'part_roles u LabeledStatement w g = All Read'],
+  ['a break reads', 'scopes/specs/Roles.antt', 'part_roles u BreakStatement w g = All NoReference', 'part_roles u BreakStatement w g = All Read'],
+  ['new.target reads', 'scopes/specs/Roles.antt', 'part_roles u MetaProperty w g = All NoReference', 'part_roles u MetaProperty w g = All Read'],
+  ['++ reads alone', 'scopes/specs/Roles.antt', 'part_roles u UpdateExpression w g = All ReadWrite', 'part_roles u UpdateExpression w g = All Read'],
+  ['a for-in target reads', 'scopes/specs/Roles.antt', 'part_roles u ForInStatement w g = First Write Read', 'part_roles u ForInStatement w g = All Read'],
+  ['a default is a target', 'scopes/specs/Roles.antt', 'part_roles u AssignmentPattern w g = First u Read', 'part_roles u AssignmentPattern w g = Same'],
+  ['a shorthand reads in a pattern', 'scopes/specs/Roles.antt', 'part_roles u Property w g = First (key_role g) u', 'part_roles u Property w g = First (key_role g) Read'],
+  ['a body is a scope', 'scopes/specs/Openings.antt', 'cond (is_body u) NoScope Block', 'Block'],
+  ['a switch head is in a scope', 'scopes/specs/Openings.antt', 'opens_all u _ = NoScope', 'opens_all u SwitchStatement = Switch\nopens_all u _ = NoScope'],
+  ['an expression has no name inside', 'scopes/specs/Openings.antt', 'opens_all u FunctionExpression = FirstPart Itself', 'opens_all u FunctionExpression = NoScope'],
+  ['a class has no name inside', 'scopes/specs/Openings.antt', 'opens_others ClassDeclaration = FirstPart Itself', 'opens_others ClassDeclaration = NoScope'],
+  ['a catch clause is no scope', 'scopes/specs/Openings.antt', 'opens_all u CatchClause = FirstPart Catch', 'opens_all u CatchClause = NoScope'],
+  ['a for head with var is a scope', 'scopes/specs/Openings.antt', 'not (is w "var")', 'true'],
+  ['var stays in its block', 'scopes/specs/Bindings.antt', 'holds_statements BlockStatement = true', 'holds_statements BlockStatement = false'],
+  ['var in a label stays', 'scopes/specs/Bindings.antt', 'holds_statements LabeledStatement = true', 'holds_statements LabeledStatement = false'],
+  ['var in a case stays', 'scopes/specs/Bindings.antt', 'holds_statements SwitchCase = true', 'holds_statements SwitchCase = false'],
+  ['a plain for settles', 'scopes/specs/Bindings.antt', 'settles ForHead ps = false', 'settles ForHead ps = is_initialised (others ps)'],
+  ['the last of a name stays', 'scopes/specs/Found.antt', 'cond (has_name b.name bs) bs (bs ++', 'cond false bs (bs ++'],
+  ['the outermost is meant', 'scopes/specs/Found.antt', 'here_or_outer n (Some i) o = Some (n, i)', 'here_or_outer n (Some i) None = Some (n, i)\nhere_or_outer n (Some i) (Some p) = Some p'],
+  ['arrows have arguments', 'scopes/specs/Openings.antt', 'has_arguments FunctionExpression = true', 'has_arguments FunctionExpression = true\nhas_arguments ArrowFunctionExpression = true'],
+  ['arguments is a reference', 'scopes/specs/Found.antt', 'is_reference z.role && not (z.in_function && is w "arguments")', 'is_reference z.role'],
+  ['eqeqeq ignores allow-null', 'rules/specs/Rules.antt', 'not (null && has_null ps)', 'true'],
+  ['bodies count as empty', 'rules/specs/Rules.antt', 'is_empty ps && not b', 'is_empty ps'],
+  ['typeof counts as use', 'rules/specs/Rules.antt', 'not (r.typeof_operand || is_known s r.name)', 'not (is_known s r.name)'],
+  ['parameters are looked at', 'rules/specs/Rules.antt', 'is_for_reading Param = false', 'is_for_reading Param = true'],
+  ['underscore is always ignored', 'rules/specs/Rules.antt', 'not (ignore && begins_with_underscore b.name)', 'not (begins_with_underscore b.name)'],
+  ['self shadows', 'rules/specs/Rules.antt', 'b.shadows && not (is_itself b.kind)', 'b.shadows'],
+  ['const without value', 'rules/specs/Rules.antt', 'b.settled && not (written m)', 'not (written m)'],
+];
+
+let bad = 0;
+const faults = FAULTS.filter(([, file]) => NAMES.includes(file.split('/')[0]));
+for (const [what, file, old, other] of faults) {
+  const folder = fs.mkdtempSync(path.join(os.tmpdir(), 'plant-'));
+  for (const crate of NAMES) for (const part of ['src', 'specs']) fs.cpSync(path.join(CRATES, crate, part), path.join(folder, crate, part), { recursive: true });
+  const target = path.join(folder, file);
+  const text = fs.readFileSync(target, 'utf8');
+  if (!text.includes(old)) { console.log(`not found: ${what}`); bad += 1; continue; }
+  fs.writeFileSync(target, text.replace(old, () => other));
+  const run = spawnSync(process.execPath, ['--stack-size=30000', path.join(__dirname, 'compare.js'), '--n', n, '--show', '0', '--crates', folder], { encoding: 'utf8' });
+  if (run.status !== 1 || !/disagreements/.test(run.stdout)) { console.log(`not seen: ${what}\n${run.stdout}${run.stderr.slice(0, 300)}`); bad += 1; }
+  fs.rmSync(folder, { recursive: true });
+}
+console.log(`${faults.length} faults, ${bad} not seen`);
+process.exitCode = bad === 0 ? 0 : 1;

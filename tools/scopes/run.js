@@ -1,0 +1,37 @@
+'use strict';
+// Holds the reports of the nine rules, as the program makes them, against the plain model.
+//
+//   node run.js [--n COUNT] [--seed S] [--show K] [--keep FOLDER]
+//
+// All grouping pairs count as extra here. Exit status 1 where anything disagrees.
+
+const path = require('node:path');
+const { answersOf, copied, option } = require('../dump.js');
+const { parseOnly } = require('../reference/parse.js');
+const { randomSource } = require('../reference/random.js');
+const { resolve } = require('../reference/scopes.js');
+const { RULE_NAMES, runRules } = require('../reference/rules.js');
+const { OWN, scopeScript } = require('./texts.js');
+
+const source = randomSource(Number(option('seed', 1)));
+const texts = [...OWN];
+for (let k = 0; k < Number(option('n', 1000)); k++) texts.push(scopeScript(source));
+
+function answer(text) {
+  const result = parseOnly(text, { edition2021: true });
+  if (!result.ok) return 'refused';
+  const settings = { rules: Object.fromEntries(RULE_NAMES.map((r) => [r, r !== 'no-var'])), globals: ['a', 'zz'], allowNull: true, ignoreUnderscore: false };
+  const extra = result.pairs.map((p) => ({ start: p.left, end: p.right + 1 }));
+  return runRules({ tree: result.tree, scopes: resolve(result.tree), extra, settings }).map((r) => `${r.start}-${r.end} ${r.rule} ${r.text}\n`).join('');
+}
+
+const answers = answersOf(copied(path.join(__dirname, 'dump.txt'), ['source_text', 'tree', 'parser', 'scopes', 'rules']), texts, 8000);
+let differ = 0;
+answers.forEach((given, i) => {
+  const wanted = answer(texts[i]);
+  if (given === wanted) return;
+  differ += 1;
+  if (differ <= Number(option('show', 5))) console.log(JSON.stringify(texts[i]) + '\n  program ' + JSON.stringify(given) + '\n  model   ' + JSON.stringify(wanted));
+});
+console.log(`${answers.length} texts, ${differ} disagreements`);
+process.exitCode = differ === 0 && answers.length === texts.length ? 0 : 1;
