@@ -295,11 +295,6 @@ function work({ o, job }) {
     for (let k = 0; k < share * 2; k++) {
       const g = new trees.Generator(random.below(1e9) + 1);
       const program = g.program(3 + random.below(14));
-      const fix = (n) => {
-        if (Array.isArray(n)) n.forEach(fix);
-        else if (n !== null && typeof n === 'object') { if (['&&=', '||=', '??='].includes(n.operator)) n.operator = '='; Object.values(n).forEach(fix); }
-      };
-      fix(program);
       const pl = planner.plan(program);
       const wrapped = new Set(pl.wrapped);
       for (const r of pl.rows) if (random.chance(10)) wrapped.add(r.node);

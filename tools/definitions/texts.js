@@ -92,7 +92,7 @@ const LIKE = [['ArrayExpression', 'ArrayPattern'], ['ObjectExpression', 'ObjectP
   ['FunctionExpression', 'FunctionDeclaration', 'ArrowFunctionExpression'], ['ClassExpression', 'ClassDeclaration'], ['Identifier', 'Literal', 'ThisExpression', 'Super'],
   ['Property', 'MethodDefinition'], ['ForInStatement', 'ForOfStatement', 'ForStatement'], ['BreakStatement', 'ContinueStatement', 'ReturnStatement', 'ThrowStatement'],
   ['WhileStatement', 'DoWhileStatement'], ['ConditionalExpression', 'IfStatement'], ['BlockStatement', 'ClassBody', 'Program'], ['EmptyStatement', 'DebuggerStatement'], ['SequenceExpression', 'ArrayExpression']];
-const OPERATORS = '+ - * / % ** | ^ & == != === !== < > <= >= in instanceof << >> >>> || && ?? = += **= >>>= ++ -- ! ~ typeof void delete &&= , ?. =>'.split(' ');
+const OPERATORS = '+ - * / % ** | ^ & == != === !== < > <= >= in instanceof << >> >>> || && ?? = += **= >>>= ++ -- ! ~ typeof void delete &&= ||= ??= , ?. =>'.split(' ');
 const NAMES = ['a', 'b', 'of', 'get', 'async', 'await', 'let', 'if', 'yield', 'static', 'this', 'null', 'true', 'super', 'constructor', 'eval', 'target', 'new', 'in', 'prototype', 'é', ''];
 const RAWS = ['1', '1.', '.5', '0x1n', '1n', "'s'", '"constructor"', "'\\x63onstructor'", '/r/', '/=/g', 'null', 'true', 'false', 'this', 'a', '`t`', '', 'nul', '01', '1_0', "'use strict'", '}', '// c'];
 const CHUNKS = ['', 'x', '\n', '`', '${', '\\`', '$', '}', '\\u'];

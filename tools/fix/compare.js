@@ -19,7 +19,7 @@ const { layout } = require('../reference/print.js');
 const { randomSource } = require('../reference/random.js');
 const { plainTree } = require('../definitions/model.js');
 
-const LIMITS = { edition2021: false, maxHeight: 500, maxParens: 1000 };
+const LIMITS = { maxHeight: 500, maxParens: 1000 };
 
 function someTexts(count, seed) {
   const source = randomSource(seed);

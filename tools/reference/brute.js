@@ -4,7 +4,7 @@
 // without covers, goals or lookahead. derivations(text) enumerates every (tree, places,
 // pairs) that the text derives. Ranks and the two limits are left out.
 //
-//   derivations(text, {edition2021}) -> [{tree, pairs, key}]    (places are string indexes; use ASCII texts)
+//   derivations(text, {edition}) -> [{tree, pairs, key}]    (places are string indexes; use ASCII texts)
 //   keyOf(tree, pairs) -> string                 (the same for an answer of parse.js)
 //
 // node brute.js TEXT prints the number of derivations and their trees.
@@ -14,7 +14,7 @@
 const SEPARATORS = /(?:[\t\v\f \u00a0\ufeff\u1680\u2000-\u200a\u202f\u205f\u3000]|[\n\r\u2028\u2029]|\/\/[^\n\r\u2028\u2029]*|\/\*[^]*?\*\/)*/y;
 const LINE_TERMINATOR = /[\n\r\u2028\u2029]/;
 const ESCAPE = String.raw`\\(?:[btnvfr'"\\]|0(?![0-9])|x[0-9a-fA-F]{2}|u[0-9a-fA-F]{4}|u\{0*(?:10|[0-9a-fA-F])?[0-9a-fA-F]{1,4}\}|\r\n|[^0-9xu])`;
-const CLASSES = {
+const CLASSES_2020 = {
   name: /[$_\p{XID_Start}][$\u200c\u200d\p{XID_Continue}]*/uy,
   number: /(?:0[xX][0-9a-fA-F]+n?|0[oO][0-7]+n?|0[bB][01]+n?|(?:0|[1-9][0-9]*)n|(?:(?:0|[1-9][0-9]*)(?:\.[0-9]*)?|\.[0-9]+)(?:[eE][+-]?[0-9]+)?)/uy,
   string: new RegExp(`'(?:[^'\\\\\\n\\r]|${ESCAPE})*'|"(?:[^"\\\\\\n\\r]|${ESCAPE})*"`, 'y'),
@@ -26,10 +26,10 @@ const CLASSES = {
 const run = (digit) => `${digit}(?:_?${digit})*`;
 const INTEGER_2021 = `(?:0|[1-9](?:_?[0-9])*)`;
 const CLASSES_2021 = {
-  ...CLASSES,
+  ...CLASSES_2020,
   number: new RegExp(`(?:0[xX]${run('[0-9a-fA-F]')}n?|0[oO]${run('[0-7]')}n?|0[bB]${run('[01]')}n?|${INTEGER_2021}n|` +
     `(?:${INTEGER_2021}(?:\\.(?:${run('[0-9]')})?)?|\\.${run('[0-9]')})(?:[eE][+-]?${run('[0-9]')})?)`, 'uy'),
-  punctuator: new RegExp(`&&=|\\|\\|=|\\?\\?=|${CLASSES.punctuator.source}`, 'y'),
+  punctuator: new RegExp(`&&=|\\|\\|=|\\?\\?=|${CLASSES_2020.punctuator.source}`, 'y'),
 };
 const FOLLOWS_NUMBER = /[0-9$_\p{XID_Start}]/uy;
 const RESERVED = new Set((
@@ -94,7 +94,7 @@ const BINARY = {
   Shift: ['<<', '>>', '>>>'], Additive: ['+', '-'], Multiplicative: ['*', '/', '%'],
 };
 const COMPOUND = ['+=', '-=', '*=', '/=', '%=', '**=', '<<=', '>>=', '>>>=', '&=', '|=', '^=',
-  '&&=', '||=', '??=']; // the last three are tokens with edition2021 alone
+  '&&=', '||=', '??=']; // the last three are no tokens in 2020
 const tighter = (symbol) => SYMBOLS[SYMBOLS.indexOf(symbol) + 1];
 const operator = (words) => tok((t) => (t.cls === 'punctuator' || t.cls === 'name') && words.includes(t.text), ...words);
 const anyName = tok((t) => t.cls === 'name', 'a', 'b', 'if', 'get', 'constructor');
@@ -744,8 +744,8 @@ function sorted(value) {
 }
 const keyOf = (tree, pairs) => JSON.stringify([sorted(tree), pairs.map(pairKey)]);
 
-function derivations(text, { edition2021 = false } = {}) {
-  const d = new Derivations(text, edition2021 ? CLASSES_2021 : CLASSES);
+function derivations(text, { edition = 2021 } = {}) {
+  const d = new Derivations(text, edition === 2021 ? CLASSES_2021 : CLASSES_2020);
   const found = new Map();
   if (d.positions.length <= 25 && !d.balanced()) return [];
   for (const q of d.positions) {

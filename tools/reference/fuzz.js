@@ -9,7 +9,7 @@
 //   node fuzz.js beginnings                         every beginning of every program
 //   node fuzz.js limits COUNT SEED                  heights and open parentheses at the limit
 //   node fuzz.js list                               the alphabets
-// With EDITION=2021 in the environment: with the two additions of the 12th edition.
+// With EDITION=2020 in the environment: without the two additions of the 12th edition.
 // Prints counts and every disagreement and ambiguity, minimised by leaving out tokens.
 
 const { parseOnly, parse } = require('./parse.js');
@@ -133,8 +133,8 @@ function v8Accepts(text) {
   try { new vm.Script('"use strict";\n' + text); return true; } catch (error) { return !(error instanceof SyntaxError); }
 }
 
-const EDITION_2021 = process.env.EDITION === '2021';
-const EDITION = { edition2021: EDITION_2021 };
+const EDITION_2021 = process.env.EDITION !== '2020';
+const EDITION = { edition: EDITION_2021 ? 2021 : 2020 };
 if (EDITION_2021) ACORN_OPTIONS.ecmaVersion = 2021;
 
 function compare(text, stats) {
@@ -150,7 +150,7 @@ function compare(text, stats) {
   if (ours.ok !== (all.length === 1)) return ours.ok ? 'parse.js accepts, no derivation' : 'parse.js refuses, derives';
   if (ours.ok && keyOf(ours.tree, ours.pairs) !== all[0].key) return 'another tree';
   if (EDITION_2021) { // what derived before has the same tree and pairs now
-    const before = parseOnly(text);
+    const before = parseOnly(text, { edition: 2020 });
     if (before.ok && keyOf(before.tree, before.pairs) !== all[0]?.key) return 'another tree than in 2020';
   }
   if (acorn && !OUTSIDE_DIFFERS.test(text)) {

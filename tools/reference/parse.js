@@ -5,7 +5,7 @@
 //   parse(textOrBuffer, options)      the whole front end (`read_script`): refusals 2, 1, 3, 4, 5
 //   parseOnly(textOrBuffer, options)  the same without early errors (`parser::parse`)
 //
-// options: edition2021 (two additions of the 12th edition), maxHeight (500), maxParens (1000).
+// options: edition (2021: with two additions of the 12th edition; 2020: without), maxHeight (500), maxParens (1000).
 // Answers {ok:true, tree, pairs, height, openParens, text} or
 // {ok:false, fault:{kind, at, number}, text}.
 
@@ -41,7 +41,7 @@ class Parser {
     this.text = source.text;
     this.byteAt = source.byteAt;
     this.byteLength = source.byteLength;
-    this.edition = options.edition2021 ? 2021 : 2020;
+    this.edition = options.edition ?? 2021;
     this.maxHeight = options.maxHeight ?? 500;
     this.maxParens = options.maxParens ?? 1000;
 

@@ -257,7 +257,7 @@ function readPunctuator(text, at, edition) {
 
 // The token at `at` for the goal: {cls, text, start, end, afterBreak}. cls is one of
 // name, number, string, template, regexp, punctuator, end, or `fault` where none begins.
-function scan(text, at, goal, edition = 2020) {
+function scan(text, at, goal, edition = 2021) {
   const gap = skip(text, at);
   const start = gap.at;
   const token = (cls, end, more) =>

@@ -58,7 +58,7 @@ function words(fault, bytes) {
 
 function model(command, file) {
   const bytes = fs.readFileSync(file);
-  const parsed = parse(bytes, { edition2021: false, maxHeight: 500, maxParens: 1000 });
+  const parsed = parse(bytes, { maxHeight: 500, maxParens: 1000 });
   if (parsed.ok) return { status: 0, out: ANSWERS[command](parsed.tree), err: '' };
   return { status: 2, out: '', err: `jslint: ${words(parsed.fault, bytes)}\n` };
 }
