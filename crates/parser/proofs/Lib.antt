@@ -1,1 +1,2 @@
 pub mod ShortTexts
+pub mod Refused

@@ -1,5 +1,5 @@
 -- A text of fewer than 250 bytes that is nested too deep is no script.
-use Rattle.std.proofs.Common.{◌≡◌, ◌<◌, ◌≤◌, ℕ, List, length, Result, Err, subst, arith}
+use Rattle.std.proofs.Common.{◌≡◌, ◌<◌, ℕ, List, length, Result, Err, subst, arith}
 use Rattle.std.specs.Str.{IsUtf8}
 use Rattle.source_text.specs.declared.fault.Fault.{Fault}
 use Rattle.source_text.specs.declared.fault.Fault.TheVariants.{TooDeep}

@@ -6,7 +6,7 @@ ghost use Rattle.std.specs.Str.{IsUtf8};
 ghost use Rattle.language.specs.Claims.{WithinLimits};
 ghost use Rattle.unambiguous.specs.Laws.{InOrder};
 ghost use Rattle.phrases.specs.Refusals.{IsRefusal};
-ghost use Rattle.parser.specs.Scripts.{IsAnswered};
+ghost use Rattle.parser.specs.Scripts.{IsAnswered, IsAnsweredAsBefore};
 
 use descent::{Script, read};
 use source_text::{Fault, Source};
@@ -39,7 +39,8 @@ impl<'s> Parsed<'s> {
     }
 }
 
-/// The script that a text is.
+/// The script that a text is. What was one by the 11th edition of ECMA-262 still is the same one, with the same pairs: separators in numbers
+/// and logical assignments, of the 12th, change no other text.
 ///
 /// # Errors
 /// `Syntax` with a place, a byte offset, where no derivation exists; `TooDeep` where none exists within the limits (a height
@@ -49,6 +50,7 @@ pub fn parse<'s>(alloc: Global, source: &Source<'s>) -> Result<Parsed<'s>, Fault
     ensures source { IfOk result (λ _. IsUtf8 source.now × (length source.now ≤ 16777216)) }
     ensures derived { IfOk result (λ parsed. WithinLimits source.now parsed.program parsed.pairs.items) }
     ensures complete { IsAnswered source.now result }
+    ensures earlier { IsAnsweredAsBefore source.now result }
     ensures ordered { IfOk result (λ parsed. InOrder parsed.pairs.items) }
     ensures long { IfErr result (λ fault. fault ≡ Fault.TooDeep → 250 ≤ length source.now) }
     ensures refused { IfErr result (IsRefusal source.now) }
