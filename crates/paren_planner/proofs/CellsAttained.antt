@@ -1,11 +1,11 @@
 -- A cell is the least number of pairs over all direct spellings, and the node's own layout attains it.
-use Rattle.std.proofs.Common.{◌≡◌, ℕ, ◌+◌, ◌≤◌, Bool, true, false, cond, nat_le, List, [], ◌∷◌, ◌++◌, length, Option, Some, None, refl, sym, ap, ◌∙◌, subst, arith, length-append, is_some}
+use Rattle.std.proofs.Common.{◌≡◌, ℕ, ◌≤◌, Bool, true, false, cond, nat_le, List, [], ◌∷◌, ◌++◌, length, Option, Some, None, refl, sym, ap, ◌∙◌, subst, arith, is_some}
 use Rattle.std.specs.Prelude.{◌&&◌, codes}
 use Rattle.std.specs.Str.{IsUtf8}
 use Rattle.std.proofs.lemmas.Bool.{and_from, false≢true}
 use Rattle.tokens.specs.Reading.{any_goal}
 use Rattle.tree.specs.declared.kind.Pair.{Pair}
-use Rattle.tree.specs.Tree.{Tree, node, Parts, none, part, gap, parts_of, bare_parts, SameTree}
+use Rattle.tree.specs.Tree.{Tree, node, Parts, parts_of, bare_parts, SameTree}
 use Rattle.language.specs.declared.Rank.{Rank}
 use Rattle.language.specs.declared.Rank.TheVariants.{Expression}
 use Rattle.language.specs.declared.Start.{Start}
@@ -16,10 +16,10 @@ use Rattle.language.specs.Token.{Token}
 use Rattle.language.specs.Cursor.{beginning, Next, next, behind}
 use Rattle.language.specs.Places.{NextIn, itself}
 use Rattle.language.specs.Grammar.{ways}
-use Rattle.language.specs.Positions.{rows, roles, first_roles}
-use Rattle.language.specs.Derivation.{Among, direct, Runs, done, step, opened, closed, within, missing, Step, token, with_mark, without_mark, one_more, no_more, seen, same_line, explicit, implicit, laid}
+use Rattle.language.specs.Positions.{roles, first_roles}
+use Rattle.language.specs.Derivation.{Among, direct, Runs}
 use Rattle.language.specs.Cost.{AtMost, at_most, if_any, cell, parts_least}
-use Rattle.language.specs.Layout.{some_way, inside, wrapped_rows, parts_wrapped, has_number, first_way}
+use Rattle.language.specs.Layout.{some_way, inside, has_number, first_way}
 use Rattle.language.specs.Fits.{lines_up, fits, parts_fit, PartsMark}
 use Rattle.language.specs.Printed.{Item, word, blank, name_ahead, joined, items_text, printed, parts_printed, parts_open, parts_pair_count, Follows, over, reads, passes, sees, stays, GoesOn}
 use Rattle.language.specs.Claims.{SpellsDirectly}
@@ -27,9 +27,9 @@ use Rattle.language.proofs.Looser.{same}
 use Rattle.language.proofs.LowerBound.{parts_lower_bound}
 use Rattle.language.proofs.SameLayouts.{cell-bare}
 use Rattle.language.proofs.Alike.{at_expressions}
-use Rattle.language.proofs.DerivedFits.{first_alike, first_among, first_roles_are, runs_fit}
+use Rattle.language.proofs.DerivedFits.{first_alike, first_among, first_roles_are, runs_fit, runs_line_up}
 use Rattle.language.proofs.Marked.{parts_mark, parts_between}
-use Rattle.language.proofs.Counted.{counted_rows}
+use Rattle.language.proofs.Counted.{parts_counted}
 use Rattle.language.proofs.PrintedSpells.{parts_run, way_runs, same_ways}
 use Rattle.language.proofs.ReadItems.{Readable, ends, a_word, text_is_read}
 use Rattle.language.proofs.LaidItems.{text_join, parts_printed_text}
@@ -77,39 +77,9 @@ cell_given : (n : Tree) (a : Role) (c : ℕ) → cell n a ≡ Some c → (some_w
 unfolding cell
 cell_given n a c h = way_given (ways a n) _ c h
 
-parts_counted : (W : ℕ → Bool) (ps : Parts) (xs : List Role) (r : ℕ) → PartsMark W ps xs r → parts_pair_count W ps xs r ≡ length (parts_wrapped ps xs r)
-unfolding PartsMark parts_pair_count parts_wrapped
-parts_counted W none xs r m = refl
-parts_counted W (gap ps) xs r m = parts_counted W ps xs r m
-parts_counted W (part n ps) [] r m = refl
-parts_counted W (part n ps) (a ∷ xs) r m =
-    let h = counted_rows W n a r m.0 in let k = parts_counted W ps xs (r + rows n a) m.1 in let l = length-append (wrapped_rows n a r) (parts_wrapped ps xs (r + rows n a)) in omega (arith, h, k, l)
-
 not_true : (x : Bool) → (x ≡ true → ⊥) → x ≡ false
 not_true true h = absurd (h refl)
 not_true false h = refl
-
--- the pieces of a way that is run name the parts
-module _ (S : Type 0) (Next : S → Token → S → Type 0) (behind : S → Token) where
-  step_lines : {q : PieceOf Role} (qs : List (PieceOf Role)) (ps : Parts) {s m : S} → Step S Next behind q s m → lines_up qs ps ≡ true → lines_up (q ∷ qs) ps ≡ true
-  step_lines qs ps (token x) h = h
-  step_lines qs ps (with_mark x) h = h
-  step_lines qs ps without_mark h = h
-  step_lines qs ps (one_more x y) h = h
-  step_lines qs ps no_more h = h
-  step_lines qs ps (seen x) h = h
-  step_lines qs ps (same_line x y) h = h
-  step_lines qs ps (explicit x) h = h
-  step_lines qs ps (implicit x y) h = h
-  step_lines qs ps laid h = h
-
-  runs_line_up : {o : ℕ} {qs : List (PieceOf Role)} {ps : Parts} {s e : S} {P : List Pair} → Runs ways S Next behind o qs ps s e P → lines_up qs ps ≡ true
-  runs_line_up done = refl
-  runs_line_up (step {qs = qs} {ps = ps} p d) = step_lines qs ps p (runs_line_up d)
-  runs_line_up (opened p d) = runs_line_up d
-  runs_line_up (closed p d) = runs_line_up d
-  runs_line_up (within p d) = runs_line_up d
-  runs_line_up (missing d) = runs_line_up d
 
 -- a node whose own row isn't wrapped can be laid out where its parts can
 fits_unwrapped : (W : ℕ → Bool) (n : Tree) (y : Rank) (i : Bool) (f : Start) → W 1 ≡ false → some_way (ways (expr y i f) n) ≡ true → lines_up (first_way (ways (expr y i f) n)) (parts_of n) ≡ true →

@@ -22,6 +22,7 @@ use Rattle.language.specs.Claims.{row_nodes, parts_row_nodes, Derives}
 use Rattle.language.proofs.LowerBound.{Step-roles}
 use Rattle.language.proofs.Alike.{Like, same, at_expressions, AllLike, next}
 use Rattle.language.proofs.TokenWords.{read_place}
+use Rattle.language.proofs.TextWorded.{spells_place}
 use Rattle.positions.proofs.Slots.{is_wide, all_pass, parts_wide}
 use Rattle.paren_planner.proofs.Celled.{wide_itself, wide_start}
 use Rattle.paren_planner.proofs.Bounded.{split_at}
@@ -56,19 +57,6 @@ module _ (text : List ℕ) (u : IsUtf8 text) where
   step_place (explicit x) p = read_place u p x.next
   step_place (implicit x y) p = p
   step_place laid p = p
-
-  mutual
-    spells_place : {o : ℕ} {a : Role} {n : Tree} {s e : Token} {P : List Pair} → Spells ways Token (NextIn text any_goal) itself o a n s e P → IsPlace text s.stop → IsPlace text e.stop
-    spells_place (direct qs h pl d) p = runs_place d p
-    spells_place (grouped x d y) p = read_place u (spells_place d (read_place u p x.next)) y.next
-
-    runs_place : {o : ℕ} {qs : List (PieceOf Role)} {ps : Parts} {s e : Token} {P : List Pair} → Runs ways Token (NextIn text any_goal) itself o qs ps s e P → IsPlace text s.stop → IsPlace text e.stop
-    runs_place done p = p
-    runs_place (step q d) p = runs_place d (step_place q p)
-    runs_place (opened x d) p = runs_place d (read_place u p x.next)
-    runs_place (closed x d) p = runs_place d (read_place u p x.next)
-    runs_place (within d e) p = runs_place e (spells_place d p)
-    runs_place (missing d) p = runs_place d p
 
   -- what is spelled at an expression's position is spelled directly, maybe in pairs
   itself_somewhere : {o : ℕ} {y : Rank} {i : Bool} {f : Start} {n : Tree} {s e : Token} {P : List Pair} → Spells ways Token (NextIn text any_goal) itself o (expr y i f) n s e P → IsPlace text s.stop → Somewhere text n
@@ -125,7 +113,7 @@ module _ (text : List ℕ) (u : IsUtf8 text) where
     parts_somewhere (closed x d) p xs l v k m h = parts_somewhere d (read_place u p x.next) xs l v k m h
     parts_somewhere (within {n = n} {ps = ps} d e) p (b ∷ xs) (next l ls) v k m h =
         let w = and_parts (is_wide b) (all_pass is_wide xs) v in
-        split_at (row_nodes n b) (parts_row_nodes ps xs) k m (Somewhere text m) h (λ i. rows_somewhere d p b l w.0 k m i) (λ q z i. parts_somewhere e (spells_place d p) xs ls w.1 q m i)
+        split_at (row_nodes n b) (parts_row_nodes ps xs) k m (Somewhere text m) h (λ i. rows_somewhere d p b l w.0 k m i) (λ q z i. parts_somewhere e (spells_place text u d p) xs ls w.1 q m i)
     parts_somewhere (within d e) p [] l v k m h = elim l [ ]
     parts_somewhere (missing d) p xs l v k m h = parts_somewhere d p xs l v k m h
 
