@@ -1,23 +1,56 @@
 -- The command line, by clap's own definitions.
-use Rattle.std.specs.Prelude.{◌≡◌, codes, true, List, Option, Some}
+use Rattle.std.specs.Prelude.{◌≡◌, Bool, codes, false, true, List, Option, Some, None, is_some, option_map}
 use Rattle.clap.specs.Words.{App, Row, Rule, Text, first_of, new_app, new_rule, with_rule, with_subcommand}
 use Rattle.clap.specs.Simple.{on_top}
+use Rattle.clap.specs.declared.error.kind.ErrorKind.{ErrorKind}
+use Rattle.clap.specs.declared.error.kind.ErrorKind.TheVariants.{DisplayHelp, DisplayVersion}
 use Rattle.streams.specs.Commands.{word_of}
-use Rattle.streams.specs.declared.command.Command.TheVariants.{Fix, Tree}
+use Rattle.streams.specs.declared.command.Command.{Command}
+use Rattle.streams.specs.declared.command.Command.TheVariants.{Check, Tree, Fix, Cost, Verify}
 use Rattle.command_line.specs.declared.line.Line.{Line}
 
--- the argument FILE
-abbrev pub file_rule : Rule
-file_rule = record (new_rule (codes "file")) { required = true; value_names = 1 }
+-- an argument that must stand there, by its id: FILE and TABLE
+abbrev pub required_rule : Text → Rule
+required_rule id = record (new_rule id) { required = true; value_names = 1 }
+
+-- `--settings FILE`
+abbrev pub settings_rule : Rule
+settings_rule = record (new_rule (codes "settings")) { long = Some (codes "settings"); value_names = 1 }
 
 -- a command, by its word, with its FILE
 abbrev pub file_app : Text → App
-file_app word = with_rule (new_app word) file_rule
+file_app word = with_rule (new_app word) (required_rule (codes "file"))
 
--- `jslint`, which wants one of its commands
+-- a command with its arguments
+abbrev pub command_app : Command → App
+command_app Check = with_rule (file_app (word_of Check)) settings_rule
+command_app Verify = with_rule (file_app (word_of Verify)) (required_rule (codes "table"))
+command_app other = file_app (word_of other)
+
+abbrev pub with_command : App → Command → App
+with_command app command = with_subcommand app (command_app command).top
+
+-- `jslint`, which has a version, wants one of its commands, and answers no words with help
+abbrev pub bare_app : App
+bare_app = on_top (λ s. record s { has_version = true; subcommand_required = true; arg_required_else_help = true }) (new_app (codes "jslint"))
+
+-- with its commands
 abbrev pub jslint_app : App
-jslint_app = with_subcommand (with_subcommand (on_top (λ s. record s { subcommand_required = true }) (new_app (codes "jslint"))) (file_app (word_of Fix)).top) (file_app (word_of Tree)).top
+jslint_app = with_command (with_command (with_command (with_command (with_command bare_app Check) Tree) Fix) Cost) Verify
 
--- the subcommand that was met is the line's command, and the first value of its FILE is the line's file
+-- the second file of a command by what its words matched: `check` has one where settings are named, `verify` always, no other has one
+abbrev pub HasSecond : Command → List Row → Option Text → Type 0
+HasSecond Check rows second = second ≡ first_of (codes "settings") rows
+HasSecond Verify rows second = (second ≡ first_of (codes "table") rows) × (is_some second ≡ true)
+HasSecond other rows second = second ≡ None
+
+-- the subcommand that was met is the line's command, and the line's files are the first values of its arguments
 abbrev pub Chooses : Option (Text × List Row) → Line → Type 0
 Chooses met line = (rows : List Row) × (met ≡ Some (word_of line.command, rows)) × (first_of (codes "file") rows ≡ Some line.file.now)
+    × HasSecond line.command rows (option_map (λ s. s.now) line.second)
+
+-- help or the version was asked for: no mistake
+abbrev pub is_asked_for : ErrorKind → Bool
+is_asked_for DisplayHelp = true
+is_asked_for DisplayVersion = true
+is_asked_for other = false

@@ -2,6 +2,7 @@
 
 //! The words of the command line.
 
+mod help;
 mod line;
 mod mistake;
 

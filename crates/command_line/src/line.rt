@@ -1,21 +1,25 @@
 //! The words of the command line.
 
-ghost use Rattle.std.specs.Prelude.{◌≡◌, IfErr, IfOk, IfSome, Some, codes, false, map, true};
-ghost use Rattle.clap.specs.Simple.{on_top};
-ghost use Rattle.clap.specs.Words.{FailsBy, app_of, fault_of, kind_of, new_app, subcommand_of, subcommand_rows_of, takes, with_subcommand};
+ghost use Rattle.std.specs.Prelude.{◌≡◌, IfErr, IfOk, IfSome, IsOkAnd, false, map, true};
+ghost use Rattle.clap.specs.Words.{FailsBy, app_of, fault_of, kind_of, subcommand_of, subcommand_rows_of, takes, with_subcommand};
 ghost use Rattle.clap.specs.declared.builder.command.Command.TheViews.{out-Command};
-ghost use Rattle.command_line.specs.CommandLine.{Chooses, file_app, jslint_app};
+ghost use Rattle.streams.specs.declared.command.Command.TheVariants.{Check, Verify};
+ghost use Rattle.command_line.specs.CommandLine.{Chooses, bare_app, command_app, file_app, jslint_app};
 
+use crate::help;
 use clap::error::ErrorKind;
 use clap::{Arg, ArgMatches, Error};
 use std::alloc::{AllocError, Global};
 use streams::Command;
 
-/// What a command line asks for: a command, and the file that it is to read.
+/// What a command line asks for.
 #[derive(Clone, Copy, Debug, PartialEq, Eq)]
 pub struct Line<'a> {
     pub command: Command,
+    /// The script.
     pub file: &'a str,
+    /// The settings of `check`, where they are given, and the table of `verify`. No other command has a second file.
+    pub second: Option<&'a str>,
 }
 
 /// A command by its word, with its FILE.
@@ -30,20 +34,43 @@ fn file_command<'a>(
     let file = Arg::new(alloc, "file")
         .required(true)
         .value_name("FILE")
-        .help("The script to read: UTF-8, at most 16777216 bytes");
+        .help(help::FILE);
     clap::Command::new(alloc, word).about(about).arg(file)
 }
 
-/// This command with one more, by its word, with its FILE.
-fn with_file_command<'a>(
-    alloc: Global,
-    command: clap::Command<'a>,
-    word: &'a str,
-    about: &'a str,
-) -> Result<clap::Command<'a>, AllocError>
-    ensures { IfOk result (λ c. app_of c ≡ with_subcommand (app_of command.entry) (file_app word.now).top) }
+/// `check`, with its settings.
+fn check_command<'a>(alloc: Global) -> Result<clap::Command<'a>, AllocError>
+    ensures shape { IfOk result (λ c. app_of c ≡ command_app Check) }
+    ensures local { IfOk result (λ c. (out-Command c).has_globals ≡ false) }
 {
-    match file_command(alloc, word, about) {
+    let settings = Arg::new(alloc, "settings")
+        .long("settings")
+        .value_name("FILE")
+        .help(help::SETTINGS);
+    file_command(alloc, "check", help::CHECK)?.arg(settings)
+}
+
+/// `verify`, with its TABLE.
+fn verify_command<'a>(alloc: Global) -> Result<clap::Command<'a>, AllocError>
+    ensures shape { IfOk result (λ c. app_of c ≡ command_app Verify) }
+    ensures local { IfOk result (λ c. (out-Command c).has_globals ≡ false) }
+{
+    let table = Arg::new(alloc, "table")
+        .required(true)
+        .value_name("TABLE")
+        .help(help::TABLE);
+    file_command(alloc, "verify", help::VERIFY)?.arg(table)
+}
+
+/// This command with one more below it, if there is one.
+fn with_command<'a>(
+    command: clap::Command<'a>,
+    added: Result<clap::Command<'a>, AllocError>,
+) -> Result<clap::Command<'a>, AllocError>
+    requires { IfOk added (λ c. (out-Command c).has_globals ≡ false) }
+    ensures { IfOk result (λ c. IsOkAnd added.entry (λ a. app_of c ≡ with_subcommand (app_of command.entry) (app_of a).top)) }
+{
+    match added {
         Ok(added) => command.subcommand(added),
         Err(error) => {
             // By a call: with `?` the proof has a step for each part that the command owns.
@@ -55,56 +82,62 @@ fn with_file_command<'a>(
 
 /// `jslint`, without its commands.
 fn bare_command<'a>(alloc: Global) -> clap::Command<'a>
-    ensures { app_of result ≡ on_top (λ s. record s { subcommand_required = true }) (new_app (codes "jslint")) }
+    ensures { app_of result ≡ bare_app }
 {
     clap::Command::new(alloc, "jslint")
-        .about("A linter for ECMAScript 2020 scripts")
-        .after_help("Exit status: 0 where all is well, 1 for a finding, 2 for a refusal")
+        .version(help::VERSION)
+        .about(help::ABOUT)
+        .after_help(help::AFTER)
         .subcommand_required(true)
+        .arg_required_else_help(true)
 }
 
 /// The whole command line.
 fn jslint_command<'a>(alloc: Global) -> Result<clap::Command<'a>, AllocError>
     ensures shape { IfOk result (λ c. app_of c ≡ jslint_app) }
 {
-    let with_fix = with_file_command(
-        alloc,
-        bare_command(alloc),
-        "fix",
-        "Write the script in one layout, with parentheses only where they are needed",
-    )?;
-    with_file_command(
-        alloc,
-        with_fix,
-        "tree",
-        "Write the tree of the script as JSON, in the form of ESTree",
-    )
+    let jslint = with_command(bare_command(alloc), check_command(alloc))?;
+    let jslint = with_command(jslint, file_command(alloc, "tree", help::TREE))?;
+    let jslint = with_command(jslint, file_command(alloc, "fix", help::FIX))?;
+    let jslint = with_command(jslint, file_command(alloc, "cost", help::COST))?;
+    with_command(jslint, verify_command(alloc))
 }
 
-/// This command, if it was met, with its file.
+/// This command, if it was met, with its files.
 fn line_of<'a>(matches: &ArgMatches<'a>, command: Command) -> Option<Line<'a>>
     ensures { IfSome result (λ line. Chooses (subcommand_rows_of matches.now) line) }
 {
     let met = matches.subcommand_matches(command.word())?;
     let file = met.get_str("file")?;
-    Some(Line { command, file })
+    let second = match command {
+        Command::Check => met.get_str("settings"),
+        Command::Verify => Some(met.get_str("table")?),
+        Command::Tree | Command::Fix | Command::Cost => None,
+    };
+    Some(Line {
+        command,
+        file,
+        second,
+    })
 }
 
-/// The command that was met, with its file.
+/// The command that was met, with its files.
 fn chosen_line<'a>(matches: &ArgMatches<'a>) -> Option<Line<'a>>
     ensures { IfSome result (λ line. Chooses (subcommand_rows_of matches.now) line) }
 {
-    match line_of(matches, Command::Fix) {
-        Some(line) => Some(line),
-        None => line_of(matches, Command::Tree),
+    for command in Command::ALL {
+        if let Some(line) = line_of(matches, command) {
+            return Some(line);
+        }
     }
+    None
 }
 
 /// Reads all words of a command line, the program's name first.
 ///
 /// # Errors
 ///
-/// Help that was asked for, a command line that is not understood, or no memory: `kind()` says which, and the
+/// Help or the version that was asked for, a command line that is not understood, or no memory: `kind()` says which, and the
 /// error's text is for the user.
 pub fn command_line<'a>(alloc: Global, words: &'a [&'a str]) -> Result<Line<'a>, Error>
     ensures ok { IfOk result (λ line. Chooses (subcommand_of jslint_app (map (λ w. w.now) words.entry.now)) line) }
@@ -113,7 +146,7 @@ pub fn command_line<'a>(alloc: Global, words: &'a [&'a str]) -> Result<Line<'a>,
 {
     let jslint = jslint_command(alloc)?;
     let matches = jslint.try_get_matches_from(words)?;
-    // A parse that succeeds has met a command with its file; clap's clauses do not say so of a subcommand.
+    // A parse that succeeds has met a command with its files; clap's clauses do not say so of a subcommand.
     match chosen_line(&matches) {
         Some(line) => Ok(line),
         None => Err(Error::from(AllocError)),

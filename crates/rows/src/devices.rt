@@ -70,7 +70,10 @@ pub(crate) fn push_place(source: &Source, row: &Row, out: &mut String) -> Result
 
 fn command(word: &str) -> Command {
     match word {
+        "check" => Command::Check,
         "tree" => Command::Tree,
+        "cost" => Command::Cost,
+        "verify" => Command::Verify,
         _ => Command::Fix,
     }
 }

@@ -70,7 +70,7 @@ pub(crate) fn push_number(word: &str, out: &mut String) -> Result<(), AllocError
 /// What a command line asks for, or the kind of its refusal.
 fn push_asked(alloc: Global, words: &[&str], out: &mut String) -> Result<(), AllocError> {
     match command_line(alloc, words) {
-        Ok(line) => write!(out, "{:?}", (line.command, line.file)),
+        Ok(line) => write!(out, "{:?}", (line.command, line.file, line.second)),
         Err(error) => write!(out, "{:?}", error.kind()),
     }
 }

@@ -3,6 +3,7 @@
 ghost use Rattle.std.specs.Prelude.{◌≡◌};
 
 use source_text::Fault;
+use std::alloc::{AllocError, AllocFailed};
 
 /// A refusal, and the place that it speaks of: its line and its column from 1, both 0 where there is none.
 #[derive(Clone, Copy, Debug, PartialEq, Eq)]
@@ -22,5 +23,27 @@ impl Refused {
             line: 0,
             column: 0,
         }
+    }
+}
+
+impl From<AllocError> for Refused {
+    ghost use Rattle.std.specs.Prelude.{◌≡◌};
+    ghost use Rattle.streams.specs.Refused.{no_memory};
+
+    ghost from_gives = { λ _ e. e ≡ no_memory };
+
+    fn from(_error: AllocError) -> Refused {
+        Refused::at_no_place(Fault::OutOfMemory)
+    }
+}
+
+impl<T: Drop> From<AllocFailed<T>> for Refused {
+    ghost use Rattle.std.specs.Prelude.{◌≡◌};
+    ghost use Rattle.streams.specs.Refused.{no_memory};
+
+    ghost from_gives = { λ _ e. e ≡ no_memory };
+
+    fn from(_error: AllocFailed<T>) -> Refused {
+        Refused::at_no_place(Fault::OutOfMemory)
     }
 }

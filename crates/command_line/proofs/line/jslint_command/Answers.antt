@@ -1,0 +1,26 @@
+use Rattle.std.proofs.Common.{◌≡◌, refl, Result, Ok, Err, IfOk, IsOkAnd}
+use Rattle.clap.specs.Words.{App, app_of, with_subcommand}
+use Rattle.streams.specs.declared.command.Command.TheVariants.{Check, Tree, Fix, Cost, Verify}
+use Rattle.command_line.specs.CommandLine.{bare_app, command_app}
+use Rattle.command_line.proofs.line.jslint_command.Goals as goal
+
+-- one command more, where it was made
+one_more : {X E : Type 0} (of : X → App) (added : Result X E) (app known before after : App) → before ≡ known
+    → IfOk added (λ a. of a ≡ app) → IsOkAnd added (λ a. after ≡ with_subcommand before (of a).top) → after ≡ with_subcommand known app.top
+one_more of (Ok a) app known before after p q r = rw (r, p, q) refl
+one_more of (Err e) app known before after p q r = absurd r
+
+-- the last
+last : {X E Y F : Type 0} (of : X → App) (to : Y → App) (added : Result X E) (result : Result Y F) (app known before : App) → before ≡ known
+    → IfOk added (λ a. of a ≡ app) → IfOk result (λ r. IsOkAnd added (λ a. to r ≡ with_subcommand before (of a).top))
+    → IfOk result (λ r. to r ≡ with_subcommand known app.top)
+last of to added (Ok r) app known before p q h = one_more of added app known before (to r) p q h
+last of to added (Err e) app known before p q h = h
+
+pub returns : goal.returns
+returns c =
+    let one = one_more app_of c.check_command.result (command_app Check) bare_app _ _ c.bare_command.ensures c.check_command.ensures.shape c.in_ok-jslint.ensures in
+    let two = one_more app_of c.file_command.result (command_app Tree) _ _ _ one c.file_command.ensures.shape c.in_ok-jslint-2.ensures in
+    let three = one_more app_of c.file_command-2.result (command_app Fix) _ _ _ two c.file_command-2.ensures.shape c.in_ok-jslint-3.ensures in
+    let four = one_more app_of c.file_command-3.result (command_app Cost) _ _ _ three c.file_command-3.ensures.shape c.in_ok-jslint-4.ensures in
+    record { shape = last app_of app_of c.verify_command.result c.with_command-5.result (command_app Verify) _ _ four c.verify_command.ensures.shape c.with_command-5.ensures }

@@ -1,0 +1,43 @@
+//! What help and the version say.
+
+/// The version, and the toolchain that proves it (`rt version`).
+pub const VERSION: &str = "1.0.0 (proved with rattle-kit-13f)";
+
+pub const ABOUT: &str =
+    "A linter for ECMAScript scripts in strict code, whose every answer is proved";
+
+pub const CHECK: &str = "Report what the rules find, a line each: LINE:COLUMN RULE TEXT";
+
+pub const TREE: &str = "Write the tree of the script as JSON, in the form of ESTree";
+
+pub const FIX: &str = "Write the script in one layout, with as few parentheses as its tree needs";
+
+pub const COST: &str = "Write the cost table: how many parentheses each part of the script needs";
+
+pub const VERIFY: &str =
+    "Check a cost table: how many pairs the script has, how many it needs at least";
+
+pub const FILE: &str = "The script";
+
+pub const SETTINGS: &str = "Rules and options, as TOML; without it every rule is on";
+
+pub const TABLE: &str = "A cost table, as `cost` writes it";
+
+/// What stands below the commands.
+pub const AFTER: &str = "\
+Examples:
+  jslint check app.js
+  jslint check app.js --settings jslint.toml
+  jslint tree app.js
+  jslint fix app.js > fixed.js
+  jslint cost app.js > app.cost
+  jslint verify app.js app.cost
+
+Limits: 16,777,216 bytes of a script in UTF-8, and of settings; a tree of height
+500; 1,000 parentheses open at one point that group or hold an arrow's
+parameters. /dev/stdin reads standard input; `-` is the name of a file.
+
+Exit status:
+  0  done, and `check` had no report
+  1  `check` had a report, or `verify` found the table wrong
+  2  refused: standard error says why";
