@@ -1,5 +1,5 @@
 -- The shapes of expressions are those of the table.
-use Rattle.std.proofs.Common.{◌≡◌, ℕ, Bool, true, false, not, cond, List, [], ◌∷◌, ◌++◌, refl, sym, ap, ap₂, ◌∙◌, append-nil}
+use Rattle.std.proofs.Common.{◌≡◌, ℕ, Bool, true, false, not, cond, List, [], ◌∷◌, ◌++◌, take, drop, refl, sym, ap, ap₂, ◌∙◌, append-nil}
 use Rattle.std.specs.Prelude.{Some, None, ◌&&◌, ◌||◌, codes, length}
 use Rattle.std.proofs.lemmas.Bool.{false≢true, true≢false}
 use Rattle.tree.specs.declared.kind.Kind.{Kind}
@@ -9,9 +9,9 @@ use Rattle.tree.specs.Tree.{Tree, node, Parts, none, part, gap}
 use Rattle.tokens.specs.declared.token.Class.TheVariants as class
 use Rattle.language.specs.declared.Rank.{Rank}
 use Rattle.language.specs.declared.Start.TheVariants.{Any, NoBrace}
-use Rattle.language.specs.declared.Rank.TheVariants.{Assignment, Conditional, Coalesce, LogicalOr, LogicalAnd, BitwiseOr, BitwiseXor, BitwiseAnd, Equality, Relational, Shift, Additive, Multiplicative, Exponentiation, Unary, Update, LeftHandSide, Call, Member, Primary}
+use Rattle.language.specs.declared.Rank.TheVariants.{Assignment, Conditional, Exponentiation, Unary, Update, LeftHandSide, Call, Member, Primary}
 use Rattle.language.specs.FirstPart.{lead, others}
-use Rattle.language.specs.Words.{is, among, Operator, binds, powers, steps, assigns, sequences as makes_sequence, asks, selects, calls as calls_on, indexes, chains, arrows as makes_arrow, does_step, operator_among, operator_of, is_assignment, is_step, is_prefix, is_reserved, literal_class, is_name, is_target, is_pattern, is_super, is_word_operator, is_open_number}
+use Rattle.language.specs.Words.{is, among, Operator, binds, powers, steps, does_step, operators, operator_among, operator_of, is_assignment, is_step, is_prefix, is_reserved, literal_class, is_name, is_target, is_pattern, is_super, is_word_operator, is_open_number}
 use Rattle.language.specs.Pieces as piece
 use Rattle.language.specs.Pieces.{Piece, Slot, Spelling, at, only, put, sub, tok, lay, sign, term, sp, is_none, listed, elements, argument, parameters, unbroken, open_parameters, close_parameters}
 use Rattle.language.specs.Expressions.{expressions, arguments, selector, after_number, in_brackets, chunks, object_part, function_pieces, class_pieces, arrow_end, arrows, joined as joined_spelling, sequence, first_chained, binary_ways, logical_ways, infix_pieces}
@@ -211,11 +211,12 @@ module _ (w : List ℕ) where
   abbrev Rows : Type 0
   Rows = List (List Prim.Native.String.String × Operator)
 
+  -- the rows of the table before and behind that of `++` and `--`
   abbrev before_steps : Rows
-  before_steps = ("|" ∷ [], binds false BitwiseOr BitwiseXor) ∷ ("^" ∷ [], binds false BitwiseXor BitwiseAnd) ∷ ("&" ∷ [], binds false BitwiseAnd Equality) ∷ ("==" ∷ "!=" ∷ "===" ∷ "!==" ∷ [], binds false Equality Relational) ∷ ("<" ∷ ">" ∷ "<=" ∷ ">=" ∷ "instanceof" ∷ "in" ∷ [], binds false Relational Shift) ∷ ("<<" ∷ ">>" ∷ ">>>" ∷ [], binds false Shift Additive) ∷ ("+" ∷ "-" ∷ [], binds false Additive Multiplicative) ∷ ("*" ∷ "/" ∷ "%" ∷ [], binds false Multiplicative Exponentiation) ∷ ("??" ∷ [], binds true Coalesce BitwiseOr) ∷ ("||" ∷ [], binds true LogicalOr LogicalAnd) ∷ ("&&" ∷ [], binds true LogicalAnd BitwiseOr) ∷ ("**" ∷ [], powers) ∷ []
+  before_steps = take 12 operators
 
   abbrev behind_steps : Rows
-  behind_steps = ("=" ∷ "+=" ∷ "-=" ∷ "*=" ∷ "/=" ∷ "%=" ∷ "**=" ∷ "<<=" ∷ ">>=" ∷ ">>>=" ∷ "&=" ∷ "|=" ∷ "^=" ∷ "&&=" ∷ "||=" ∷ "??=" ∷ [], assigns) ∷ ("," ∷ [], makes_sequence) ∷ ("?" ∷ [], asks) ∷ ("." ∷ [], selects) ∷ ("(" ∷ [], calls_on) ∷ ("[" ∷ [], indexes) ∷ ("?." ∷ [], chains) ∷ ("=>" ∷ [], makes_arrow) ∷ []
+  behind_steps = drop 13 operators
 
   abbrev no_steps : Rows → Bool
   no_steps [] = true
