@@ -1,5 +1,5 @@
 -- The table of a plan has a text, which is read back.
-use Rattle.std.proofs.Common.{◌≡◌, ℕ, zero, suc, ◌+◌, ◌≤◌, Bool, true, false, cond, ◌&&◌, nat_le, List, [], ◌∷◌, ◌++◌, length, Option, Some, None, refl, sym, ap, ◌∙◌, subst, arith}
+use Rattle.std.proofs.Common.{◌≡◌, ℕ, zero, suc, ◌+◌, ◌≤◌, Bool, true, false, cond, List, [], ◌∷◌, length, Option, Some, None, refl, sym, ap, ◌∙◌, subst, arith}
 use Rattle.std.specs.Prelude.{map, slice_get}
 use Rattle.std.specs.Str.{IsUtf8}
 use Rattle.std.proofs.lemmas.Bool.{and_parts, and_from, true≢false}
@@ -25,14 +25,14 @@ use Rattle.language.proofs.Domination.{ways_of}
 use Rattle.positions.proofs.Slots.{is_wide, all_pass, parts_wide}
 use Rattle.paren_planner.specs.declared.planned.Plan.{Plan}
 use Rattle.paren_planner.specs.Plans.{IsPlan}
-use Rattle.paren_planner.specs.Rows.{shown, celled, cell_rows}
+use Rattle.paren_planner.specs.Rows.{shown, celled}
 use Rattle.paren_planner.specs.Tables.{table_of}
 use Rattle.paren_planner.proofs.Bounded.{split_at, nodes-length}
 use Rattle.paren_planner.proofs.Bounds.{Below, nothing, something, below_more, least_below, cell_below}
 use Rattle.paren_planner.proofs.Celled.{wide_itself, wide_start}
-use Rattle.paren_planner.proofs.Somewhere.{Somewhere, row_somewhere}
+use Rattle.paren_planner.proofs.Somewhere.{row_somewhere}
 use Rattle.cost_certificate.specs.Types.{has_type}
-use Rattle.cost_certificate.specs.Forms.{limit, is_small, all_small, is_row, all_rows, is_formed}
+use Rattle.cost_certificate.specs.Forms.{is_small, is_row, all_rows, is_formed}
 use Rattle.cost_certificate.proofs.Reading.{small_number}
 
 -- Types

@@ -1,21 +1,20 @@
 -- A table whose cells are no greater than their bounds bounds every derivation from below.
 use Rattle.std.proofs.Common.{◌≡◌, ℕ, zero, suc, ◌+◌, ◌≤◌, Bool, true, false, cond, nat_le, List, [], ◌∷◌, ◌++◌, length, Option, Some, None, refl, sym, ap, ap₂, ◌∙◌, subst, arith, length-append}
 use Rattle.std.specs.Prelude.{IsTrue, slice_get}
-use Rattle.std.proofs.lemmas.Bool.{and_parts, false≢true}
+use Rattle.std.proofs.lemmas.Bool.{and_parts}
 use Rattle.tree.specs.declared.kind.Pair.{Pair}
 use Rattle.tree.specs.Tree.{Tree, node, Parts, none, part, gap, parts_of, bare, bare_parts, SameTree}
-use Rattle.tree.specs.Uses.{implies, is_lean}
+use Rattle.tree.specs.Uses.{implies}
 use Rattle.language.specs.declared.Rank.{Rank}
 use Rattle.language.specs.declared.Rank.TheVariants.{Expression, Member}
 use Rattle.language.specs.declared.Start.{Start}
 use Rattle.language.specs.declared.Start.TheVariants.{Any, NoBrace, Statement}
 use Rattle.language.specs.Words.{tightness}
-use Rattle.language.specs.Pieces.{Role, expr, spine, pattern, script, PieceOf}
+use Rattle.language.specs.Pieces.{Role, expr, script, PieceOf}
 use Rattle.language.specs.Token.{Token}
-use Rattle.language.specs.Grammar.{ways, ways_bare, spellings}
+use Rattle.language.specs.Grammar.{ways}
 use Rattle.language.specs.Positions.{roles, first_roles, widest, rows}
-use Rattle.language.specs.Layout.{some_way}
-use Rattle.language.specs.Derivation.{Among, first, later, Spells, direct, grouped, Runs, done, step, opened, closed, within, missing}
+use Rattle.language.specs.Derivation.{Among, Spells, direct, grouped, Runs, done, step, opened, closed, within, missing}
 use Rattle.language.specs.Places.{NextIn, itself}
 use Rattle.tokens.specs.Reading.{any_goal}
 use Rattle.language.specs.Cost.{add_cost, lesser, AtMost, at_most, if_any, cell_position}
