@@ -1,0 +1,16 @@
+use Rattle.std.proofs.Common.{◌≡◌, ◌++◌}
+use Rattle.tree.specs.Node.{node_tree}
+use Rattle.tree.specs.Tree.{node_total, parts_of, parts_drop}
+use Rattle.rules.specs.Grows.{Grows}
+use Rattle.rules.specs.Nodes.{of_node}
+use Rattle.rules.specs.Rules.{over_nodes, over_parts}
+use Rattle.rules.proofs.walk.+push_nodes.Given as goal
+
+abbrev pub decreases-push_nodes : goal.decreases-push_nodes
+decreases-push_nodes l = node_total (node_tree l.node)
+
+abbrev pub invariant-loop-index : goal.invariant-loop-index
+invariant-loop-index l = record {
+  found : l.out.items ++ over_parts (of_node l.rule l.allow_null) l.inner (parts_drop l.index (parts_of (node_tree l.node))) ≡ l.fn.out.items ++ over_nodes (of_node l.rule l.allow_null) l.of_function (node_tree l.node);
+  kept : Grows l.fn.out.items l.out.items;
+}

@@ -1,0 +1,12 @@
+pub mod Reports
+pub mod Order
+pub mod Settings
+pub mod Toml
+pub mod Refusals
+pub mod BuiltIn
+pub mod Rules
+pub mod Grows
+pub mod Nodes
+pub mod Used
+pub mod Views
+pub mod Run

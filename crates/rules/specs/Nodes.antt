@@ -1,0 +1,27 @@
+-- What the code's own calls say of single nodes.
+use Rattle.std.specs.Prelude.{Bool, false, ◌||◌, List, Option, Some, None}
+use Rattle.tree.specs.declared.kind.Kind.TheVariants.{BinaryExpression}
+use Rattle.tree.specs.Tree.{Tree, node}
+use Rattle.language.specs.Words.{is}
+use Rattle.rules.specs.declared.walk.NodeRule.{NodeRule}
+use Rattle.rules.specs.declared.walk.NodeRule.TheVariants.{Equality, Debugger, Empty, Var}
+use Rattle.scopes.specs.Found.{Reference}
+use Rattle.rules.specs.Reports.{Report}
+use Rattle.rules.specs.Rules.{is_null, of_debugger, of_empty, of_equality, of_var, quoted, report}
+
+abbrev pub of_node : NodeRule → Bool → Bool → Tree → List Report
+of_node Equality null b t = of_equality null t
+of_node Debugger null b t = of_debugger t
+of_node Empty null b t = of_empty b t
+of_node Var null b t = of_var t
+
+abbrev pub is_equality : Tree → Bool
+is_equality (node BinaryExpression w g s e ps) = is w "==" || is w "!="
+is_equality (node _ w g s e ps) = false
+
+abbrev pub null_at : Option Tree → Bool
+null_at None = false
+null_at (Some t) = is_null t
+
+abbrev pub undefined_at : Reference → Report
+undefined_at r = report "no-undef" r.start r.stop (quoted r.name "is not defined")

@@ -1,0 +1,183 @@
+-- What each of the nine rules reports. Names of rules and texts are bytes.
+use Rattle.std.specs.Prelude.{ℕ, Bool, true, false, not, cond, ◌+◌, ◌&&◌, ◌||◌, nat_eq, List, [], ◌∷◌, ◌++◌, map, Option, Some, None, is_none, codes}
+use Rattle.std.specs.List.{list_any}
+use Rattle.std.specs.Str.{bytes_eq}
+use Prim.Native.String.{String}
+use Rattle.tree.specs.declared.kind.Kind.{Kind}
+use Rattle.tree.specs.declared.kind.Kind.TheVariants.{BinaryExpression, BlockStatement, DebuggerStatement, Literal, SwitchStatement, VariableDeclaration, FunctionExpression, FunctionDeclaration, ArrowFunctionExpression}
+use Rattle.tree.specs.declared.kind.Span.{Span}
+use Rattle.tree.specs.Tree.{Tree, node, Parts, none, part, gap}
+use Rattle.language.specs.FirstPart.{others}
+use Rattle.language.specs.Words.{is}
+use Rattle.scopes.specs.declared.kind.BindingKind.{BindingKind}
+use Rattle.scopes.specs.declared.kind.BindingKind.TheVariants.{Let, Param, Catch, Itself}
+use Rattle.scopes.specs.Bindings.{Binding}
+use Rattle.scopes.specs.Found.{Found, Reference, Scope}
+use Rattle.rules.specs.BuiltIn.{is_built_in}
+use Rattle.rules.specs.Reports.{Report}
+use Rattle.rules.specs.Settings.{Settings}
+
+-- what rules look at: the script, its scopes, the spans of the extra pairs, the settings
+pub record View : Type 0 where
+  pub tree : Tree
+  pub found : Found
+  pub extra : List Span
+  pub settings : Settings
+
+abbrev pub report : String → ℕ → ℕ → List ℕ → Report
+report rule s e text = record { start = s; stop = e; rule = codes rule; text = text }
+
+-- a name between quotes, and words behind it
+abbrev pub quoted : List ℕ → String → List ℕ
+quoted w rest = codes "'" ++ (w ++ (codes "' " ++ codes rest))
+
+-- Rules that look at single nodes.
+
+abbrev pub is_function : Kind → Bool
+is_function FunctionExpression = true
+is_function FunctionDeclaration = true
+is_function ArrowFunctionExpression = true
+is_function _ = false
+
+unfoldable mutual
+  -- what is reported of a node and of all below it, in the order of the tree; the flag says that the node is a part of a function
+  pub over_nodes : (Bool → Tree → List Report) → Bool → Tree → List Report
+  over_nodes f b (node k w g s e ps) = f b (node k w g s e ps) ++ over_parts f (is_function k) ps
+
+  pub over_parts : (Bool → Tree → List Report) → Bool → Parts → List Report
+  over_parts f b none = []
+  over_parts f b (part t ps) = over_nodes f b t ++ over_parts f b ps
+  over_parts f b (gap ps) = over_parts f b ps
+
+abbrev pub is_null : Tree → Bool
+is_null (node Literal w g s e ps) = is w "null"
+is_null (node _ w g s e ps) = false
+
+abbrev pub has_null : Parts → Bool
+has_null none = false
+has_null (part t ps) = is_null t || has_null ps
+has_null (gap ps) = has_null ps
+
+abbrev pub of_equality : Bool → Tree → List Report
+of_equality null (node BinaryExpression w g s e ps) =
+    cond ((is w "==" || is w "!=") && not (null && has_null ps))
+    (report "eqeqeq" s e (codes "use '" ++ (w ++ (codes "=' instead of '" ++ (w ++ codes "'")))) ∷ []) []
+of_equality null (node _ w g s e ps) = []
+
+abbrev pub of_debugger : Tree → List Report
+of_debugger (node DebuggerStatement w g s e ps) = report "no-debugger" s e (codes "debugger statement") ∷ []
+of_debugger (node _ w g s e ps) = []
+
+abbrev pub is_empty : Parts → Bool
+is_empty none = true
+is_empty _ = false
+
+abbrev pub of_empty : Bool → Tree → List Report
+of_empty b (node BlockStatement w g s e ps) = cond (is_empty ps && not b) (report "no-empty" s e (codes "empty block") ∷ []) []
+of_empty b (node SwitchStatement w g s e ps) = cond (is_empty (others ps)) (report "no-empty" s e (codes "empty switch") ∷ []) []
+of_empty b (node _ w g s e ps) = []
+
+abbrev pub of_var : Tree → List Report
+of_var (node VariableDeclaration w g s e ps) = cond (is w "var") (report "no-var" s e (codes "use let or const instead of var") ∷ []) []
+of_var (node _ w g s e ps) = []
+
+abbrev pub eqeqeq : View → List Report
+eqeqeq v = over_nodes (λ b t. of_equality v.settings.allow_null t) false v.tree
+
+abbrev pub no_debugger : View → List Report
+no_debugger v = over_nodes (λ b t. of_debugger t) false v.tree
+
+abbrev pub no_empty : View → List Report
+no_empty v = over_nodes of_empty false v.tree
+
+abbrev pub no_var : View → List Report
+no_var v = over_nodes (λ b t. of_var t) false v.tree
+
+abbrev pub of_extra : Span → Report
+of_extra p = report "no-extra-parens" p.start p.end (codes "unnecessary parentheses")
+
+abbrev pub no_extra_parens : View → List Report
+no_extra_parens v = map of_extra v.extra
+
+-- Rules that look at scopes, bindings and references.
+
+abbrev pub is_known : Settings → List ℕ → Bool
+is_known s w = is_built_in w || list_any (λ x. bytes_eq w x) s.globals
+
+abbrev pub of_undefined : Settings → Reference → List Report
+of_undefined s r = cond (is_none r.meaning && not (r.typeof_operand || is_known s r.name)) (report "no-undef" r.start r.stop (quoted r.name "is not defined") ∷ []) []
+
+abbrev pub each_undefined : Settings → List Reference → List Report
+each_undefined s [] = []
+each_undefined s (r ∷ rs) = of_undefined s r ++ each_undefined s rs
+
+abbrev pub no_undef : View → List Report
+no_undef v = each_undefined v.settings v.found.references
+
+-- what is said of each binding, by what it is called in `meaning`
+abbrev pub of_bindings : (ℕ × ℕ → Binding → List Report) → ℕ → ℕ → List Binding → List Report
+of_bindings f n i [] = []
+of_bindings f n i (b ∷ bs) = f (n, i) b ++ of_bindings f n (i + 1) bs
+
+abbrev pub of_scopes : (ℕ × ℕ → Binding → List Report) → ℕ → List Scope → List Report
+of_scopes f n [] = []
+of_scopes f n (s ∷ ss) = of_bindings f n 0 s.bindings ++ of_scopes f (n + 1) ss
+
+abbrev pub over_bindings : (ℕ × ℕ → Binding → List Report) → View → List Report
+over_bindings f v = of_scopes f 0 v.found.scopes
+
+abbrev pub means : Reference → ℕ × ℕ → Bool
+means r m = is_it r.meaning
+  where
+    is_it : Option (ℕ × ℕ) → Bool
+    is_it None = false
+    is_it (Some x) = nat_eq x.0 m.0 && nat_eq x.1 m.1
+
+-- a reference reads, or writes
+abbrev pub uses : Bool → Reference → Bool
+uses writes r = cond writes r.writes r.reads
+
+-- some reference reads a binding, or writes it
+abbrev pub is_used : Bool → List Reference → ℕ × ℕ → Bool
+is_used writes rs m = list_any (λ r. uses writes r && means r m) rs
+
+abbrev pub is_itself : BindingKind → Bool
+is_itself Itself = true
+is_itself _ = false
+
+-- the script's scope has none round it, so nothing in it shadows
+abbrev pub of_shadow : Binding → List Report
+of_shadow b = cond (b.shadows && not (is_itself b.kind)) (report "no-shadow" b.start b.stop (quoted b.name "shadows an outer name") ∷ []) []
+
+abbrev pub is_for_reading : BindingKind → Bool
+is_for_reading Param = false
+is_for_reading Catch = false
+is_for_reading Itself = false
+is_for_reading _ = true
+
+abbrev pub begins_with_underscore : List ℕ → Bool
+begins_with_underscore [] = false
+begins_with_underscore (c ∷ cs) = nat_eq c 95
+
+-- by which bindings are read
+abbrev pub of_unused : Bool → (ℕ × ℕ → Bool) → ℕ × ℕ → Binding → List Report
+of_unused ignore read m b =
+    cond (is_for_reading b.kind && (not (read m) && not (ignore && begins_with_underscore b.name)))
+    (report "no-unused-vars" b.start b.stop (quoted b.name "is never read") ∷ []) []
+
+abbrev pub is_let : BindingKind → Bool
+is_let Let = true
+is_let _ = false
+
+-- by which bindings are written
+abbrev pub of_const : (ℕ × ℕ → Bool) → ℕ × ℕ → Binding → List Report
+of_const written m b = cond (is_let b.kind && (b.settled && not (written m))) (report "prefer-const" b.start b.stop (quoted b.name "is never reassigned") ∷ []) []
+
+abbrev pub no_shadow : View → List Report
+no_shadow v = over_bindings (λ m b. of_shadow b) v
+
+abbrev pub no_unused_vars : View → List Report
+no_unused_vars v = over_bindings (of_unused v.settings.ignore_underscore (is_used false v.found.references)) v
+
+abbrev pub prefer_const : View → List Report
+prefer_const v = over_bindings (of_const (is_used true v.found.references)) v

@@ -1,0 +1,25 @@
+-- Settings, and which rules they let run.
+use Rattle.std.specs.Prelude.{ℕ, Bool, false, not, List, [], ◌∷◌, map, codes}
+use Rattle.std.specs.List.{list_any}
+use Rattle.std.specs.Str.{bytes_eq}
+use Rattle.language.specs.Words.{among}
+
+-- the names of the rules that are off; the global names, in order of their bytes, each once; the two options
+pub record Settings : Type 0 where
+  pub off : List (List ℕ)
+  pub globals : List (List ℕ)
+  pub allow_null : Bool
+  pub ignore_underscore : Bool
+
+-- where nothing is said
+abbrev pub default_settings : Settings
+default_settings = record { off = []; globals = []; allow_null = false; ignore_underscore = false }
+
+abbrev pub is_on : List ℕ → Settings → Bool
+is_on name s = not (list_any (λ w. bytes_eq w name) s.off)
+
+abbrev pub rule_names : List (List ℕ)
+rule_names = map codes ("eqeqeq" ∷ "no-debugger" ∷ "no-empty" ∷ "no-extra-parens" ∷ "no-shadow" ∷ "no-undef" ∷ "no-unused-vars" ∷ "no-var" ∷ "prefer-const" ∷ [])
+
+unfoldable pub is_rule : List ℕ → Bool
+is_rule w = among w ("eqeqeq" ∷ "no-debugger" ∷ "no-empty" ∷ "no-extra-parens" ∷ "no-shadow" ∷ "no-undef" ∷ "no-unused-vars" ∷ "no-var" ∷ "prefer-const" ∷ [])

@@ -1,0 +1,69 @@
+-- The settings that a TOML text gives; what is TOML is the reading of the crate `toml`.
+use Rattle.std.specs.Prelude.{ℕ, Bool, true, false, cond, ◌&&◌, ◌||◌, nat_le, List, [], ◌∷◌, length, Option, Some, None, option_map, option_and_then, codes}
+use Rattle.toml.specs.Data.{Data, Items, no_items, item, Members, no_members, member, get_member, as_bool, as_str, as_array, as_table}
+use Rattle.toml.specs.Parse.{parse_document}
+use Rattle.std.specs.BTreeSet.{insert_key}
+use Rattle.std.specs.Cmp.Lexicographic.{slice_cmp}
+use Rattle.std.specs.Ordering.{nat_cmp}
+use Rattle.std.specs.Str.{bytes_eq}
+use Rattle.rules.specs.Settings.{Settings, is_rule, rule_names}
+
+unfoldable pub is_key : List ℕ → Bool
+is_key w = bytes_eq w (codes "rules") || (bytes_eq w (codes "globals") || (bytes_eq w (codes "allow-null") || bytes_eq w (codes "ignore-underscore")))
+
+abbrev pub knows_keys : Members → Bool
+knows_keys no_members = true
+knows_keys (member k d ms) = is_key k && knows_keys ms
+
+-- a flag that is left out is false
+abbrev pub flag_of : Option Data → Option Bool
+flag_of None = Some false
+flag_of (Some d) = as_bool d
+
+abbrev pub strings_of : Items → Option (List (List ℕ))
+strings_of no_items = Some []
+strings_of (item d xs) = option_and_then (λ w. option_map (λ ws. w ∷ ws) (strings_of xs)) (as_str d)
+
+-- with more names, one by one, each at its place in the order of bytes, and once
+abbrev pub with_names : List (List ℕ) → List (List ℕ) → List (List ℕ)
+with_names set [] = set
+with_names set (w ∷ ws) = with_names (insert_key (slice_cmp nat_cmp) set w) ws
+
+-- the strings of an array, in order, each once
+abbrev pub set_of : Items → Option (List (List ℕ))
+set_of xs = option_map (with_names []) (strings_of xs)
+
+abbrev pub globals_of : Option Data → Option (List (List ℕ))
+globals_of None = Some []
+globals_of (Some d) = option_and_then set_of (as_array d)
+
+abbrev pub knows_rules : Members → Bool
+knows_rules no_members = true
+knows_rules (member k d ms) = is_rule k && knows_rules ms
+
+-- a rule that is left out is on
+abbrev pub on_of : Option Data → Option Bool
+on_of None = Some true
+on_of (Some d) = as_bool d
+
+-- those of these rules that are false, where each is true, false or left out
+abbrev pub off_among : List (List ℕ) → Members → Option (List (List ℕ))
+off_among [] ms = Some []
+off_among (k ∷ ks) ms = option_and_then (λ b. option_map (λ ws. cond b ws (k ∷ ws)) (off_among ks ms)) (on_of (get_member k ms))
+
+abbrev pub off_of_members : Members → Option (List (List ℕ))
+off_of_members ms = cond (knows_rules ms) (off_among rule_names ms) None
+
+abbrev pub off_of : Option Data → Option (List (List ℕ))
+off_of None = Some []
+off_of (Some d) = option_and_then off_of_members (as_table d)
+
+abbrev pub settings_of : Members → Option Settings
+settings_of ms = cond (knows_keys ms)
+    (option_and_then (λ o. option_and_then (λ g. option_and_then (λ a. option_map (λ u. record { off = o; globals = g; allow_null = a; ignore_underscore = u })
+    (flag_of (get_member (codes "ignore-underscore") ms))) (flag_of (get_member (codes "allow-null") ms))) (globals_of (get_member (codes "globals") ms))) (off_of (get_member (codes "rules") ms)))
+    None
+
+-- the settings that a text gives: none where it is refused
+abbrev pub settings_of_text : List ℕ → Option Settings
+settings_of_text text = cond (nat_le (length text) 16777216) (option_and_then settings_of (parse_document text)) None

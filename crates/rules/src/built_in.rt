@@ -1,0 +1,101 @@
+//! The names that every script has without declaring them (ECMA-262 clause 18).
+
+ghost use Rattle.std.specs.Prelude.{◌≡◌};
+ghost use Rattle.rules.specs.BuiltIn.{is_array, is_built_in, is_error, is_further_object, is_global_function, is_other_object, is_value};
+
+fn is_value(name: &str) -> bool
+    ensures { result ≡ is_value name.now }
+{
+    name == "globalThis" || name == "Infinity" || name == "NaN" || name == "undefined"
+}
+
+fn is_global_function(name: &str) -> bool
+    ensures { result ≡ is_global_function name.now }
+{
+    name == "eval"
+        || name == "isFinite"
+        || name == "isNaN"
+        || name == "parseFloat"
+        || name == "parseInt"
+        || name == "decodeURI"
+        || name == "decodeURIComponent"
+        || name == "encodeURI"
+        || name == "encodeURIComponent"
+}
+
+fn is_error(name: &str) -> bool
+    ensures { result ≡ is_error name.now }
+{
+    name == "Error"
+        || name == "EvalError"
+        || name == "RangeError"
+        || name == "ReferenceError"
+        || name == "SyntaxError"
+        || name == "TypeError"
+        || name == "URIError"
+}
+
+/// `Array`, and the objects that hold or view bytes.
+fn is_array(name: &str) -> bool
+    ensures { result ≡ is_array name.now }
+{
+    name == "Array"
+        || name == "ArrayBuffer"
+        || name == "BigInt64Array"
+        || name == "BigUint64Array"
+        || name == "DataView"
+        || name == "Float32Array"
+        || name == "Float64Array"
+        || name == "Int8Array"
+        || name == "Int16Array"
+        || name == "Int32Array"
+        || name == "SharedArrayBuffer"
+        || name == "Uint8Array"
+        || name == "Uint8ClampedArray"
+        || name == "Uint16Array"
+        || name == "Uint32Array"
+}
+
+/// The first half of the other objects.
+fn is_other_object(name: &str) -> bool
+    ensures { result ≡ is_other_object name.now }
+{
+    name == "BigInt"
+        || name == "Boolean"
+        || name == "Date"
+        || name == "Function"
+        || name == "Map"
+        || name == "Number"
+        || name == "Object"
+        || name == "Promise"
+        || name == "Proxy"
+}
+
+/// The second half.
+fn is_further_object(name: &str) -> bool
+    ensures { result ≡ is_further_object name.now }
+{
+    name == "Reflect"
+        || name == "RegExp"
+        || name == "Set"
+        || name == "String"
+        || name == "Symbol"
+        || name == "WeakMap"
+        || name == "WeakSet"
+        || name == "Atomics"
+        || name == "JSON"
+        || name == "Math"
+}
+
+/// Whether every script has the name.
+#[tactic(auto, unfolding(crate::specs::BuiltIn::is_built_in))]
+pub(crate) fn is_built_in(name: &str) -> bool
+    ensures { result ≡ is_built_in name.now }
+{
+    is_value(name)
+        || is_global_function(name)
+        || is_error(name)
+        || is_array(name)
+        || is_other_object(name)
+        || is_further_object(name)
+}

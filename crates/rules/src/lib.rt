@@ -1,0 +1,39 @@
+//! The nine rules of this linter, rules of others in boxes, and the settings that both look at.
+#![tactic(auto)]
+
+mod bindings;
+mod built_in;
+mod eqeqeq;
+mod keys;
+mod no_debugger;
+mod no_empty;
+mod no_extra_parens;
+mod no_shadow;
+mod no_undef;
+mod no_unused_vars;
+mod no_var;
+mod prefer_const;
+mod push;
+mod reading;
+mod report;
+mod rule;
+mod run;
+mod settings;
+mod used;
+mod view;
+mod walk;
+
+pub use eqeqeq::EqEqEq;
+pub use no_debugger::NoDebugger;
+pub use no_empty::NoEmpty;
+pub use no_extra_parens::NoExtraParens;
+pub use no_shadow::NoShadow;
+pub use no_undef::NoUndef;
+pub use no_unused_vars::NoUnusedVars;
+pub use no_var::NoVar;
+pub use prefer_const::PreferConst;
+pub use report::Report;
+pub use rule::Rule;
+pub use run::run_rules;
+pub use settings::Settings;
+pub use view::View;

@@ -1,0 +1,77 @@
+//! `no-debugger`: no debugger statements.
+
+ghost use Rattle.std.specs.Prelude.{◌≡◌, ◌++◌, OnOk};
+ghost use Rattle.tree.specs.Node.{node_tree};
+ghost use Rattle.rules.specs.Grows.{Grows};
+ghost use Rattle.rules.specs.Rules.{of_debugger};
+
+use crate::push::push_words;
+use crate::report::Report;
+use crate::rule::Rule;
+use crate::view::View;
+use crate::walk::{NodeRule, push_nodes};
+use std::alloc::{AllocError, Global};
+use tree::{Kind, Node};
+
+/// Reports each debugger statement, at its start.
+///
+/// Wrong: `debugger;`, `if (a) debugger;`. Right: `a.debugger;`, `({ debugger: a });`.
+///
+/// ESLint's rule reports the same.
+#[derive(Drop)]
+pub struct NoDebugger {
+    alloc: Global,
+}
+
+impl NoDebugger {
+    /// The rule; its reports take their memory from here.
+    pub fn new(alloc: Global) -> NoDebugger {
+        NoDebugger { alloc }
+    }
+}
+
+impl Rule for NoDebugger {
+    ghost use Rattle.std.specs.Prelude.{codes};
+    ghost use Rattle.rules.specs.Rules.{no_debugger};
+    ghost use Rattle.rules.specs.Views.{seen};
+
+    ghost called = { λ _. codes "no-debugger" };
+
+    ghost finds = { λ _ v. no_debugger v };
+
+    fn name(&self) -> &str {
+        "no-debugger"
+    }
+
+    fn check(&self, view: &View, out: &mut Vec<Report>) -> Result<(), AllocError> {
+        push_nodes(
+            NodeRule::Debugger,
+            self.alloc,
+            false,
+            view.program.root(),
+            false,
+            out,
+        )
+    }
+}
+
+/// Appends a report of a debugger statement.
+pub(crate) fn push_debugger(
+    alloc: Global,
+    node: Node,
+    out: &mut Vec<Report>,
+) -> Result<(), AllocError>
+    ensures found { OnOk result (out.new.items ≡ out.old.items ++ of_debugger (node_tree node.entry)) }
+    ensures kept { Grows out.old.items out.new.items }
+{
+    match node.kind() {
+        Kind::DebuggerStatement => push_words(
+            alloc,
+            "no-debugger",
+            node.span(),
+            "debugger statement",
+            out,
+        ),
+        _ => Ok(()),
+    }
+}

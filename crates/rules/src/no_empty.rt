@@ -1,0 +1,87 @@
+//! `no-empty`: no empty blocks.
+
+ghost use Rattle.std.specs.Prelude.{◌≡◌, ◌++◌, OnOk};
+ghost use Rattle.tree.specs.Node.{node_tree};
+ghost use Rattle.rules.specs.Grows.{Grows};
+ghost use Rattle.rules.specs.Rules.{of_empty};
+
+use crate::push::push_words;
+use crate::report::Report;
+use crate::rule::Rule;
+use crate::view::View;
+use crate::walk::{NodeRule, push_nodes};
+use std::alloc::{AllocError, Global};
+use tree::{Kind, Node};
+
+/// Reports each block without statements that isn't the body of a function, and each switch without cases, at its start.
+///
+/// Wrong: `if (a) {}`, `try { a; } catch (e) { /* nothing */ }`, `switch (a) {}`. Right: `if (a) { b; }`,
+/// `function f() {}`, `a = () => {};`, `if (a);`.
+///
+/// ESLint's rule doesn't report a block that holds a comment, nor an empty `catch` where the option `allowEmptyCatch` is
+/// on. Here a comment doesn't count, and there are no options.
+#[derive(Drop)]
+pub struct NoEmpty {
+    alloc: Global,
+}
+
+impl NoEmpty {
+    /// The rule; its reports take their memory from here.
+    pub fn new(alloc: Global) -> NoEmpty {
+        NoEmpty { alloc }
+    }
+}
+
+impl Rule for NoEmpty {
+    ghost use Rattle.std.specs.Prelude.{codes};
+    ghost use Rattle.rules.specs.Rules.{no_empty};
+    ghost use Rattle.rules.specs.Views.{seen};
+
+    ghost called = { λ _. codes "no-empty" };
+
+    ghost finds = { λ _ v. no_empty v };
+
+    fn name(&self) -> &str {
+        "no-empty"
+    }
+
+    fn check(&self, view: &View, out: &mut Vec<Report>) -> Result<(), AllocError> {
+        push_nodes(
+            NodeRule::Empty,
+            self.alloc,
+            false,
+            view.program.root(),
+            false,
+            out,
+        )
+    }
+}
+
+/// Appends a report of an empty block or switch. `of_function`: the node is a part of a function, so a block is its body.
+pub(crate) fn push_empty(
+    alloc: Global,
+    node: Node,
+    of_function: bool,
+    out: &mut Vec<Report>,
+) -> Result<(), AllocError>
+    ensures found { OnOk result (out.new.items ≡ out.old.items ++ of_empty of_function (node_tree node.entry)) }
+    ensures kept { Grows out.old.items out.new.items }
+{
+    match node.kind() {
+        Kind::BlockStatement => {
+            if node.part_count() == 0 && !of_function {
+                push_words(alloc, "no-empty", node.span(), "empty block", out)
+            } else {
+                Ok(())
+            }
+        }
+        Kind::SwitchStatement => {
+            if node.part_count() < 2 {
+                push_words(alloc, "no-empty", node.span(), "empty switch", out)
+            } else {
+                Ok(())
+            }
+        }
+        _ => Ok(()),
+    }
+}

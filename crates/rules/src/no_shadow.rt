@@ -1,0 +1,85 @@
+//! `no-shadow`: no name that hides another.
+
+ghost use Rattle.std.specs.Prelude.{◌≡◌, ◌++◌, OnOk};
+ghost use Rattle.scopes.specs.Shown.{shown};
+ghost use Rattle.rules.specs.Grows.{Grows};
+ghost use Rattle.rules.specs.Rules.{is_itself, of_shadow};
+
+use crate::bindings::{BindingRule, push_bindings, push_named};
+use crate::report::Report;
+use crate::rule::Rule;
+use crate::used::Used;
+use crate::view::View;
+use scopes::{Binding, BindingKind};
+use std::alloc::{AllocError, Global};
+
+/// Reports each binding whose name a scope further out declares, at its first declaring identifier; not the own name of a
+/// function expression or of a class.
+///
+/// Wrong: `let a; { let a; }`, `let a; function f(a) {}`, `function f() { let f; }`. Right: `let a; { let b; }`,
+/// `let a; (function a() {});`, `{ let a; } { let a; }`.
+///
+/// ESLint's rule doesn't report where the outer name is declared further down, unless that is a function; here the order
+/// doesn't matter. It has options for built-in names and for names that may be hidden; there are none here.
+#[derive(Drop)]
+pub struct NoShadow {
+    alloc: Global,
+}
+
+impl NoShadow {
+    /// The rule; its reports take their memory from here.
+    pub fn new(alloc: Global) -> NoShadow {
+        NoShadow { alloc }
+    }
+}
+
+impl Rule for NoShadow {
+    ghost use Rattle.std.specs.Prelude.{codes};
+    ghost use Rattle.rules.specs.Rules.{no_shadow};
+    ghost use Rattle.rules.specs.Views.{seen};
+
+    ghost called = { λ _. codes "no-shadow" };
+
+    ghost finds = { λ _ v. no_shadow v };
+
+    fn name(&self) -> &str {
+        "no-shadow"
+    }
+
+    fn check(&self, view: &View, out: &mut Vec<Report>) -> Result<(), AllocError> {
+        push_bindings(
+            BindingRule::Shadow,
+            self.alloc,
+            false,
+            &Used::new(self.alloc),
+            view.scopes,
+            out,
+        )
+    }
+}
+
+/// Appends a report of a binding that hides another.
+pub(crate) fn push_shadow(
+    alloc: Global,
+    binding: Binding,
+    out: &mut Vec<Report>,
+) -> Result<(), AllocError>
+    ensures found { OnOk result (out.new.items ≡ out.old.items ++ of_shadow (shown binding.entry)) }
+    ensures kept { Grows out.old.items out.new.items }
+{
+    if binding.shadows && !is_itself(binding.kind) {
+        push_named(alloc, "no-shadow", binding, "shadows an outer name", out)
+    } else {
+        Ok(())
+    }
+}
+
+/// Whether a binding is the own name of a function expression or of a class.
+fn is_itself(kind: BindingKind) -> bool
+    ensures { result ≡ is_itself kind }
+{
+    match kind {
+        BindingKind::Itself => true,
+        _ => false,
+    }
+}

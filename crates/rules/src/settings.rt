@@ -1,0 +1,100 @@
+//! Settings.
+
+ghost use Rattle.std.specs.Prelude.{◌≡◌, string_bytes};
+ghost use Rattle.std.specs.List.{list_any};
+ghost use Rattle.std.specs.Str.{bytes_eq};
+
+use std::alloc::Global;
+use std::collections::BTreeSet;
+use std::marker::Model;
+
+/// Which rules are on, which names a script may use without declaring them, and two options of rules.
+///
+/// The global names stand in a tree by order, not by hash: settings may be a stranger's, who could choose names that hash
+/// alike.
+#[derive(Drop)]
+pub struct Settings {
+    off: Vec<String>,
+    globals: BTreeSet<String>,
+    allow_null: bool,
+    ignore_underscore: bool,
+}
+
+impl Model for Settings {
+    ghost use Rattle.std.specs.Prelude.{map, string_bytes};
+    ghost use Rattle.rules.specs.Settings.{Settings};
+
+    ghost Value = { Settings };
+
+    ghost view = { λ s. record { off = map string_bytes s.off.items; globals = map string_bytes s.globals.keys; allow_null = s.allow_null; ignore_underscore = s.ignore_underscore } };
+}
+
+fn stands_in(name: &str, names: &[String]) -> bool
+    ensures { result ≡ list_any (λ x. bytes_eq (string_bytes x) name.now) names.now }
+{
+    names.iter().any(|other| other.as_str() == name)
+}
+
+impl Settings {
+    ghost use Rattle.std.specs.Prelude.{◌≡◌, map, string_bytes};
+    ghost use Rattle.std.specs.List.{list_any};
+    ghost use Rattle.std.specs.Str.{bytes_eq};
+    ghost use Rattle.rules.specs.Settings.{default_settings, is_on};
+
+    pub(crate) fn new(
+        off: Vec<String>,
+        globals: BTreeSet<String>,
+        allow_null: bool,
+        ignore_underscore: bool,
+    ) -> Settings
+        ensures { result ≡ record { off = map string_bytes off.items; globals = map string_bytes globals.keys; allow_null = allow_null; ignore_underscore = ignore_underscore } }
+    {
+        Settings {
+            off,
+            globals,
+            allow_null,
+            ignore_underscore,
+        }
+    }
+
+    /// The settings where nothing is said: every rule is on, there are no global names, both options are off. Takes no
+    /// memory.
+    pub fn default_settings(alloc: Global) -> Settings
+        ensures { result ≡ default_settings }
+    {
+        Settings {
+            off: Vec::new(alloc),
+            globals: BTreeSet::new(alloc),
+            allow_null: false,
+            ignore_underscore: false,
+        }
+    }
+
+    /// Whether a rule of this name is on: each name that isn't turned off is, also one that is none of the nine.
+    pub fn is_on(&self, name: &str) -> bool
+        ensures { result ≡ is_on name.now self.now }
+    {
+        !stands_in(name, self.off.as_slice())
+    }
+
+    /// Whether `globals` has the name.
+    pub fn is_global(&self, name: &str) -> bool
+        ensures { result ≡ list_any (λ x. bytes_eq name.now x) self.now.globals }
+    {
+        self.globals.contains(name)
+    }
+
+    /// Whether `eqeqeq` leaves comparisons with `null` alone.
+    pub fn allows_null(&self) -> bool
+        ensures { result ≡ self.now.allow_null }
+    {
+        self.allow_null
+    }
+
+    /// Whether `no-unused-vars` leaves names alone that begin with `_`.
+    pub fn ignores_underscore(&self) -> bool
+        ensures { result ≡ self.now.ignore_underscore }
+    {
+        self.ignore_underscore
+    }
+}
