@@ -17,7 +17,7 @@ class AnttError extends Error {}
 // Modules that aren't loaded: they speak of the program's own values (its trees, devices, code of trees).
 // Of proofs/, only examples and the words that they are written with.
 const EXAMPLES = /\/(language|early_errors|scopes)\/proofs\/(Trees|Sources|Nest|Tables|\w*Examples|\w*Rows)\.antt$/;
-const LEFT_OUT = /^Rattle\.(language\.specs\.Promises|tree\.specs\.(TreeCode|Sizes|Node|Fields)|source_text\.specs\.(Io|Memory|Source|LineBytes|Writing)|tokens\.specs\.(Scanned|Reading|Closing|Fronts|States|Marks|Sets|Escaped|Laws)|rules\.specs\.(Toml|Refusals|Order|Run|Views|Used|Nodes|Grows)|scopes\.(specs\.(Shown|Walks|Gathered|Tables)|proofs\.Tables)|early_errors\.(specs\.(Owns|Walk|Walks)|proofs\.Tables))$/;
+const LEFT_OUT = /^Rattle\.(language\.specs\.Promises|tree\.specs\.(TreeCode|Sizes|Node|Fields)|source_text\.specs\.(Io|Memory|Source|LineBytes|Writing)|tokens\.specs\.(Scanned|Reading|Closing|Fronts|States|Marks|Sets|Escaped|Laws)|rules\.specs\.(Toml|Order|Run|Views|Used|Nodes|Grows|Refusals)|scopes\.(specs\.(Shown|Walks|Gathered|Tables)|proofs\.Tables)|early_errors\.(specs\.(Owns|Walk|Walks)|proofs\.Tables))$/;
 
 // ---------------------------------------------------------------- values
 
