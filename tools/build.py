@@ -267,6 +267,8 @@ def install(program, stamp, begun):
 def crates_of_program():
     """The crates that the program stands on, each after those below it, and the program's own, the last."""
     found = RT.rtlib.crates_below(f'{TOP}/crates/jslint')
+    # (as `rt run` does: its sum of a program has the files args and status)
+    RT.read_files(found[-1])
     return [it for it in found if not it.is_program], found[-1]
 
 
