@@ -4,6 +4,7 @@
 
 ghost use Rattle.std.specs.Prelude.{◌≡◌, ◌≢◌, IfErr, IfOk, false};
 ghost use Rattle.source_text.specs.declared.fault.Fault.TheVariants.{Usage};
+ghost use Rattle.streams.specs.declared.command.Command.TheVariants.{Check};
 ghost use Rattle.jslint.specs.Program.{RunsByRules, RunsOnFiles, no_file};
 
 use command_line::{Line, command_line, explain};
@@ -44,6 +45,40 @@ fn open<R: Files>(rt: &R, name: &str) -> Result<Device<R::File>, Refused>
     }
 }
 
+/// Runs `check` with the nine rules.
+fn check<F: Feed, S: Feed, W: Sink>(
+    alloc: Global,
+    file: &mut F,
+    settings: &mut S,
+    output: &mut W,
+) -> Result<u8, Refused>
+    requires reads { F.failed file.old ≡ false }
+    requires reads_settings { S.failed settings.old ≡ false }
+    requires writes { W.failed output.old ≡ false }
+    ensures told { IfErr result (λ refused. refused.fault ≢ Usage) }
+    ensures answer { RunsByRules Check (record {
+      given = F.left file.old;
+      second = S.left settings.old;
+      before = W.taken output.old;
+      after = W.taken output.new;
+      reader_failed = F.failed file.new;
+      second_failed = S.failed settings.new;
+      writer_failed = W.failed output.new;
+    }) result }
+{
+    let mut rules: Vec<Box<dyn Rule>> = Vec::new(alloc);
+    rules.push(Box::new(alloc, EqEqEq::new(alloc))?)?;
+    rules.push(Box::new(alloc, NoDebugger::new(alloc))?)?;
+    rules.push(Box::new(alloc, NoEmpty::new(alloc))?)?;
+    rules.push(Box::new(alloc, NoExtraParens::new(alloc))?)?;
+    rules.push(Box::new(alloc, NoShadow::new(alloc))?)?;
+    rules.push(Box::new(alloc, NoUndef::new(alloc))?)?;
+    rules.push(Box::new(alloc, NoUnusedVars::new(alloc))?)?;
+    rules.push(Box::new(alloc, NoVar::new(alloc))?)?;
+    rules.push(Box::new(alloc, PreferConst::new(alloc))?)?;
+    run(alloc, Command::Check, &rules, file, settings, output)
+}
+
 /// Runs the command, with its rules where it is `check`.
 fn run_with_rules<F: Feed, S: Feed, W: Sink>(
     alloc: Global,
@@ -66,19 +101,10 @@ fn run_with_rules<F: Feed, S: Feed, W: Sink>(
       writer_failed = W.failed output.new;
     }) result }
 {
-    let mut rules: Vec<Box<dyn Rule>> = Vec::new(alloc);
-    if command == Command::Check {
-        rules.push(Box::new(alloc, EqEqEq::new(alloc))?)?;
-        rules.push(Box::new(alloc, NoDebugger::new(alloc))?)?;
-        rules.push(Box::new(alloc, NoEmpty::new(alloc))?)?;
-        rules.push(Box::new(alloc, NoExtraParens::new(alloc))?)?;
-        rules.push(Box::new(alloc, NoShadow::new(alloc))?)?;
-        rules.push(Box::new(alloc, NoUndef::new(alloc))?)?;
-        rules.push(Box::new(alloc, NoUnusedVars::new(alloc))?)?;
-        rules.push(Box::new(alloc, NoVar::new(alloc))?)?;
-        rules.push(Box::new(alloc, PreferConst::new(alloc))?)?;
+    match command {
+        Command::Check => check(alloc, file, second, output),
+        _ => run(alloc, command, &[], file, second, output),
     }
-    run(alloc, command, &rules, file, second, output)
 }
 
 /// Opens the files, the script first, and runs the command.
@@ -89,7 +115,7 @@ fn open_and_run<R: Files + AllocGlobal, W: Sink>(
 ) -> Result<u8, Refused>
     requires { W.failed output.old ≡ false }
     ensures told { IfErr result (λ refused. refused.fault ≢ Usage) }
-    ensures answer { RunsOnFiles line.entry.command (W.taken output.old) (W.taken output.new) (W.failed output.new) result }
+    ensures answer { RunsOnFiles line.entry (W.taken output.old) (W.taken output.new) (W.failed output.new) result }
 {
     let mut file = open(rt, line.file)?;
     match line.second {

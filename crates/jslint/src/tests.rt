@@ -19,17 +19,18 @@ fn writer(alloc: Global) -> Result<MemorySink, AllocError>
 
 #[test]
 fn files_that_cannot_be_read(rt: HostRuntime) -> Result<(), Fail> {
-    for (file, second) in [
-        ("no such file", None),
-        ("no such folder/a.js", None),
-        (".", None),
-        ("", None),
-        ("/dev/null", Some("no such file")),
-        ("no such file", Some("/dev/null")),
+    for (command, file, second) in [
+        (Command::Fix, "no such file", None),
+        (Command::Fix, "no such folder/a.js", None),
+        (Command::Fix, ".", None),
+        (Command::Fix, "", None),
+        (Command::Check, "/dev/null", Some("no such file")),
+        (Command::Verify, "/dev/null", Some("no such file")),
+        (Command::Verify, "no such file", Some("/dev/null")),
     ] {
         let mut output = writer(rt.alloc())?;
         let line = Line {
-            command: Command::Verify,
+            command,
             file,
             second,
         };
