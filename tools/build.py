@@ -34,6 +34,8 @@ STAMP = f'{PROGRAM}.stamp'
 DISK = 3
 # A second processor for one crate adds this much of the first.
 SHARE = 0.5
+# Minutes of a build as measured, to those that are computed from tools/gate/seconds.txt.
+PACE = 1.0
 WIDEST = 4
 # The toolchain's command, as a module.
 RT = None
@@ -124,7 +126,7 @@ class Order:
 
 
 def minutes(seconds):
-    found = max(1, round(seconds / 60))
+    found = max(1, round(PACE * seconds / 60))
     return f'{found} minute{"s" * (found > 1)}'
 
 
@@ -165,8 +167,8 @@ class Status:
 
     def draw(self, runs):
         if self.is_shown:
-            now = ', '.join(f'{it.name} {time.time() - it.begun:.0f} s' for it in runs)
-            print(f'\r\033[Kjslint: proving {now}', end='', file=sys.stderr, flush=True)
+            now = 'jslint: proving ' + ', '.join(f'{it.name} {time.time() - it.begun:.0f} s' for it in runs)
+            print(f'\r\033[K{now[:(os.get_terminal_size(2).columns or 80) - 1]}', end='', file=sys.stderr, flush=True)
 
     def clear(self):
         if self.is_shown:
@@ -265,6 +267,8 @@ def install(program, stamp, begun):
 def crates_of_program():
     """The crates that the program stands on, each after those below it, and the program's own, the last."""
     found = RT.rtlib.crates_below(f'{TOP}/crates/jslint')
+    # (as `rt run` does: its sum of a program has the files args and status)
+    RT.read_files(found[-1])
     return [it for it in found if not it.is_program], found[-1]
 
 

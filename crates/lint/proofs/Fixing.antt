@@ -1,5 +1,5 @@
 -- From the planner's flags to the printer's, and to what `fix` promises.
-use Rattle.std.proofs.Common.{◌≡◌, ℕ, zero, suc, Bool, true, false, List, [], ◌∷◌, refl, sym, ap, subst, ◌∙◌, get_or, ◌≤◌, length, Option, Some, None, arith}
+use Rattle.std.proofs.Common.{◌≡◌, ℕ, zero, suc, Bool, false, List, [], ◌∷◌, refl, sym, ap, subst, ◌∙◌, get_or, ◌≤◌, length, Option, Some, None, arith}
 use Rattle.tree.specs.Tree.{Tree, SameTree}
 use Rattle.tree.specs.declared.kind.Pair.{Pair}
 use Rattle.std.specs.Str.{IsUtf8}

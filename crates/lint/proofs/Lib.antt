@@ -1,3 +1,6 @@
 pub mod Fixing
 pub mod Running
 pub mod OneScript
+pub mod Verifying
+pub mod Checking
+pub mod Planning

@@ -1,3 +1,5 @@
 pub mod ReadScripts
 pub mod Fixes
+pub mod Outputs
 pub mod Run
+pub mod Steps

@@ -8,11 +8,17 @@ use Rattle.source_text.specs.declared.fault.Fault.TheVariants.{Syntax, TooDeep, 
 use Rattle.tree.specs.declared.kind.Pair.{Pair}
 use Rattle.tree.specs.Tree.{Tree}
 use Rattle.language.specs.Claims.{Derives, WithinLimits}
+use Rattle.early_errors.specs.Accepted.{Accepted}
 use Rattle.early_errors.specs.Early.{errors, least_error}
 
 -- any script that the text derives, of any height and nesting, is this one, with these pairs
 abbrev pub IsOnly : List ℕ → Tree → List Pair → Type 0
 IsOnly text n P = (m : Tree) (Q : List Pair) → Derives text m Q → (m ≡ n) × (Q ≡ P)
+
+-- The text is accepted with this tree and these grouping pairs, and derives nothing else.
+pub record IsReading (text : List ℕ) (n : Tree) (P : List Pair) : Type 0 where
+  pub accepted : Accepted text n P
+  pub only : IsOnly text n P
 
 -- the text derives no script, of whatever height and nesting
 abbrev pub NoScript : List ℕ → Type 0

@@ -1,57 +1,46 @@
 -- A run of a command: what was read, what was written, and what the answer says of both.
-use Rattle.std.specs.Prelude.{◌≡◌, ◌≤◌, ℕ, List, [], ◌∷◌, ◌++◌, Bool, true, false, length, Option, IfSome, Result, Ok, Err, String, string_bytes}
+use Rattle.std.specs.Prelude.{◌≡◌, ◌≤◌, ℕ, List, Bool, true, false, length, Option, IfSome, IsSome, Result, Ok, Err, ◌⊎◌}
 use Rattle.std.specs.Str.{IsUtf8}
-use Rattle.std.specs.declared.alloc.Global.{Global}
 use Rattle.std.specs.Io.KnownBytes.{Appends, Keeps}
 use Rattle.source_text.specs.Source.{IsRefusal, max_bytes}
 use Rattle.source_text.specs.Writing.{AppendsBeginning}
 use Rattle.source_text.specs.declared.fault.Fault.{Fault}
-use Rattle.source_text.specs.declared.fault.Fault.TheVariants.{NotUtf8, TooLong, OutOfMemory, ReadFailed, WriteFailed}
+use Rattle.source_text.specs.declared.fault.Fault.TheVariants.{NotUtf8, TooLong, OutOfMemory, ReadFailed, WriteFailed, BadSettings, BadTable}
 use Rattle.streams.specs.declared.command.Command.{Command}
-use Rattle.streams.specs.declared.command.Command.TheVariants.{Fix, Tree}
 use Rattle.streams.specs.declared.refused.Refused.{Refused}
+use Rattle.streams.specs.Refused.{place_of}
 use Rattle.tree.specs.Tree.{Tree as SyntaxTree}
 use Rattle.tree.specs.declared.kind.Pair.{Pair}
-use Rattle.early_errors.specs.Accepted.{Accepted}
-use Rattle.estree_json.specs.Json.{json_text}
-use Rattle.lint.specs.ReadScripts.{IsOnly, RefusesReading}
-use Rattle.lint.specs.Fixes.{Fixes}
-use Rattle.streams.specs.Refused.{place_of}
-
--- ---- a text and its answer
+use Rattle.rules.specs.Reports.{Report}
+use Rattle.rules.specs.Rules.{View}
+use Rattle.lint.specs.ReadScripts.{IsReading, RefusesReading}
+use Rattle.lint.specs.Outputs.{second_limit, IsSecond, IsOutput, RefusesSecond}
 
 -- the bytes are source text: UTF-8, and not too long
 abbrev pub IsSource : List ℕ → Type 0
 IsSource text = IsUtf8 text × (length text ≤ max_bytes)
 
--- the JSON of the tree that the text is accepted with, which is the only one that it derives, and a line feed
-abbrev pub IsJson : List ℕ → List ℕ → Type 0
-IsJson text answer = (n : SyntaxTree) × (P : List Pair) × Accepted text n P × IsOnly text n P × (answer ≡ json_text n ++ 10 ∷ [])
-
--- what the command is to write for a text
-abbrev pub IsAnswer : Command → List ℕ → List ℕ → Type 0
-IsAnswer Fix text answer = IsSource text × Fixes text answer
-IsAnswer Tree text answer = IsSource text × IsJson text answer
-
--- why the command refuses a text: it is source text that it refuses, or it is none
-abbrev pub RefusesText : Command → List ℕ → Fault → Type 0
-RefusesText command text (NotUtf8 at) = IsRefusal text (NotUtf8 at)
-RefusesText command text TooLong = IsRefusal text TooLong
-RefusesText command text fault = IsSource text × RefusesReading text fault
+-- why a text is refused: it is source text that is refused, or it is none
+abbrev pub RefusesText : List ℕ → Fault → Type 0
+RefusesText text (NotUtf8 at) = IsRefusal text (NotUtf8 at)
+RefusesText text TooLong = IsRefusal text TooLong
+RefusesText text fault = IsSource text × RefusesReading text fault
 
 -- ---- the devices
 
--- What is seen of the two devices: the bytes that the reader has to give, the bytes that the writer took before and after, where
--- they tell them, and which of the two has failed.
+-- What is seen of the three devices: the bytes that each reader has to give, the bytes that the writer took before and after, where
+-- they tell them, and which of them has failed.
 pub record Seen : Type 0 where
   pub given : Option (List ℕ)
+  pub second : Option (List ℕ)
   pub before : Option (List ℕ)
   pub after : Option (List ℕ)
   pub reader_failed : Bool
+  pub second_failed : Bool
   pub writer_failed : Bool
 
 abbrev pub NoneFailed : Seen → Type 0
-NoneFailed seen = (seen.reader_failed ≡ false) × (seen.writer_failed ≡ false)
+NoneFailed seen = (seen.reader_failed ≡ false) × (seen.second_failed ≡ false) × (seen.writer_failed ≡ false)
 
 abbrev pub NothingWritten : Seen → Type 0
 NothingWritten seen = Keeps seen.before seen.after
@@ -60,35 +49,63 @@ NothingWritten seen = Keeps seen.before seen.after
 abbrev pub IsGiven : Option (List ℕ) → List ℕ → Type 0
 IsGiven given text = IfSome given (λ bytes. text ≡ bytes)
 
+-- ---- what was read
+
+-- The first reader gave the text of a script, which derives this tree with these pairs and no other.
+pub record ReadsScript (given : Option (List ℕ)) : Type 0 where
+  pub text : List ℕ
+  pub is_given : IsGiven given text
+  pub source : IsSource text
+  pub tree : SyntaxTree
+  pub pairs : List Pair
+  pub reading : IsReading text tree pairs
+
+-- That script was read, and so much of the second file as the command takes.
+pub record ReadsBoth (command : Command) (given given_second : Option (List ℕ)) : Type 0 where
+  pub script : ReadsScript given
+  pub second : List ℕ
+  pub is_second : IsSecond command given_second second
+
 -- ---- the run
 
--- the whole answer was written
-abbrev pub WritesAnswer : Command → Seen → Type 0
-WritesAnswer command seen = (text : List ℕ) × (answer : List ℕ) × IsGiven seen.given text × IsAnswer command text answer × Appends seen.before seen.after answer
+-- a command's output for what was read
+pub record HasOutput (finds : View → List Report) (command : Command) (given given_second : Option (List ℕ)) (output : List ℕ) (status : ℕ) : Type 0 where
+  pub read : ReadsBoth command given given_second
+  pub is_output : IsOutput finds command read.script.text read.script.tree read.script.pairs read.second output status
 
--- a beginning of the answer was written
-abbrev pub BeginsAnswer : Command → Seen → Type 0
-BeginsAnswer command seen = (text : List ℕ) × (answer : List ℕ) × IsGiven seen.given text × IsAnswer command text answer × AppendsBeginning seen.before seen.after answer
+-- the whole output was written
+abbrev pub WritesOutput : (View → List Report) → Command → Seen → ℕ → Type 0
+WritesOutput finds command seen status = (output : List ℕ) × HasOutput finds command seen.given seen.second output status × Appends seen.before seen.after output
+
+-- a beginning of the output was written
+abbrev pub BeginsOutput : (View → List Report) → Command → Seen → Type 0
+BeginsOutput finds command seen = (output : List ℕ) × (status : ℕ) × HasOutput finds command seen.given seen.second output status × AppendsBeginning seen.before seen.after output
+
+-- one reader failed: the first, or behind a script the second, where the command reads it
+abbrev pub FailsToRead : Command → Seen → Type 0
+FailsToRead command seen =
+    ((seen.reader_failed ≡ true) × (seen.second_failed ≡ false))
+    ⊎ ((seen.reader_failed ≡ false) × (seen.second_failed ≡ true) × IsSome (second_limit command) × ReadsScript seen.given)
+
+-- the second file is refused, behind a script
+abbrev pub RefusesBehind : Command → Seen → Fault → Type 0
+RefusesBehind command seen fault = (read : ReadsBoth command seen.given seen.second) × RefusesSecond command read.script.tree read.second fault
+
+-- the text of the first file is refused, at this place
+abbrev pub RefusesFirst : Seen → Fault → ℕ × ℕ → Type 0
+RefusesFirst seen fault place = (text : List ℕ) × IsGiven seen.given text × RefusesText text fault × (place ≡ place_of text fault)
 
 -- a refusal by its fault, with the line and the column of its place
-abbrev pub Refuses : Command → Seen → Fault → ℕ × ℕ → Type 0
-Refuses command seen ReadFailed place = (seen.reader_failed ≡ true) × (seen.writer_failed ≡ false) × NothingWritten seen × (place ≡ (0, 0))
-Refuses command seen WriteFailed place = (seen.reader_failed ≡ false) × (seen.writer_failed ≡ true) × BeginsAnswer command seen × (place ≡ (0, 0))
-Refuses command seen OutOfMemory place = NoneFailed seen × NothingWritten seen × (place ≡ (0, 0))
-Refuses command seen fault place = NoneFailed seen × NothingWritten seen
-    × ((text : List ℕ) × IsGiven seen.given text × RefusesText command text fault × (place ≡ place_of text fault))
+abbrev pub Refuses : (View → List Report) → Command → Seen → Fault → ℕ × ℕ → Type 0
+Refuses finds command seen ReadFailed place = (seen.writer_failed ≡ false) × NothingWritten seen × FailsToRead command seen × (place ≡ (0, 0))
+Refuses finds command seen WriteFailed place =
+    (seen.reader_failed ≡ false) × (seen.second_failed ≡ false) × (seen.writer_failed ≡ true) × BeginsOutput finds command seen × (place ≡ (0, 0))
+Refuses finds command seen OutOfMemory place = NoneFailed seen × NothingWritten seen × (place ≡ (0, 0))
+Refuses finds command seen BadSettings place = NoneFailed seen × NothingWritten seen × RefusesBehind command seen BadSettings × (place ≡ (0, 0))
+Refuses finds command seen (BadTable row why) place = NoneFailed seen × NothingWritten seen × RefusesBehind command seen (BadTable row why) × (place ≡ (0, 0))
+Refuses finds command seen fault place = NoneFailed seen × NothingWritten seen × RefusesFirst seen fault place
 
--- a run: status 0 and the whole answer, or a refusal
-abbrev pub Runs : Command → Seen → Result ℕ Refused → Type 0
-Runs command seen (Ok status) = (status ≡ 0) × NoneFailed seen × WritesAnswer command seen
-Runs command seen (Err refused) = Refuses command seen refused.fault (refused.line, refused.column)
-
--- ---- the middle step: from the bytes that were read to the answer
-
-abbrev pub RefusesBytes : Command → List ℕ → Fault → ℕ × ℕ → Type 0
-RefusesBytes command bytes OutOfMemory place = place ≡ (0, 0)
-RefusesBytes command bytes fault place = RefusesText command bytes fault × (place ≡ place_of bytes fault)
-
-abbrev pub Answers : Command → List ℕ → Result (String Global) Refused → Type 0
-Answers command bytes (Ok answer) = IsAnswer command bytes (string_bytes answer)
-Answers command bytes (Err refused) = RefusesBytes command bytes refused.fault (refused.line, refused.column)
+-- a run: the whole output and its status, or a refusal
+abbrev pub Runs : (View → List Report) → Command → Seen → Result ℕ Refused → Type 0
+Runs finds command seen (Ok status) = NoneFailed seen × WritesOutput finds command seen status
+Runs finds command seen (Err refused) = Refuses finds command seen refused.fault (refused.line, refused.column)

@@ -1,7 +1,11 @@
 #![tactic(auto)]
 
-//! Whole calls over a script: reading it, fixing it, and a run of a command over a reader and a writer.
+//! Whole calls over a script: reading it, fixing it, and a run of a command over two readers and a writer.
 
+mod answer;
+mod certificate;
+mod checker;
+mod commands;
 mod fixer;
 mod reader;
 pub mod run;

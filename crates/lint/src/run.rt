@@ -1,29 +1,21 @@
 //! A run of a command: read all, answer, write all.
 
-ghost use Rattle.std.specs.Prelude.{IfErr, IfOk, ◌≡◌, ◌≢◌, false, string_bytes};
+ghost use Rattle.std.specs.Prelude.{IfErr, IfOk, ◌≡◌, ◌≢◌, None, false};
 ghost use Rattle.streams.specs.Refused.{HasPlace, place_of};
-ghost use Rattle.lint.specs.ReadScripts.{RefusesReading};
-ghost use Rattle.lint.specs.Run.{Answers, IsJson, Runs};
+ghost use Rattle.rules.specs.Run.{all_found};
+ghost use Rattle.lint.specs.Outputs.{second_limit};
+ghost use Rattle.lint.specs.Run.{Runs};
+ghost use Rattle.lint.specs.Steps.{AnswersBytes, IsShort};
 
-use crate::fixer::fix_text;
+use crate::answer::Answer;
+use crate::commands::answer;
 use crate::reader::read_script;
-use estree_json::tree_text;
-use source_text::{DeviceFault, Fault, Feed, MAX_BYTES, Sink, Source, write_text};
+use rules::Rule;
+use source_text::{DeviceFault, Fault, Feed, MAX_BYTES, Sink, Source};
 use std::alloc::Global;
 use streams::{Command, Refused, read_up_to};
 
-// The tree of a script as JSON, and a line feed.
-fn tree_line(alloc: Global, source: &Source<'_>) -> Result<String, Fault>
-    ensures json { IfOk result (λ line. IsJson source.now (string_bytes line)) }
-    ensures refused { IfErr result (RefusesReading source.now) }
-{
-    let parsed = read_script(alloc, source)?;
-    let mut line = tree_text(alloc, parsed.program())?;
-    line.push('\n')?;
-    Ok(line)
-}
-
-// A refusal of a text, with the line and the column of its place.
+/// A refusal of a text, with the line and the column of its place.
 fn refused_at(source: &Source<'_>, fault: Fault) -> Refused
     requires { HasPlace source.now fault }
     ensures fault { result.fault ≡ fault }
@@ -42,45 +34,64 @@ fn refused_at(source: &Source<'_>, fault: Fault) -> Refused
     }
 }
 
-/// What the command answers for the bytes of a file.
-fn answer(alloc: Global, command: Command, bytes: &[u8]) -> Result<String, Refused>
-    ensures { Answers command bytes.now result }
+/// What a command answers for the bytes of the first file: the script is read before the second file.
+fn answer_bytes<'s, S: Feed>(
+    alloc: Global,
+    command: Command,
+    rules: &[Box<dyn Rule>],
+    bytes: &'s [u8],
+    second: &mut S,
+) -> Result<Answer<'s>, Refused>
+    requires ready { S.failed second.old ≡ false }
+    ensures answer { AnswersBytes (all_found (λ b. called b) (λ b. finds b) rules.now) command bytes.now (S.left second.old) result (S.failed second.new) }
+    ensures short { IfOk result IsShort }
+    ensures told { IfErr result (λ refused. refused.fault ≢ Fault.Usage) }
+    ensures unread { second_limit command ≡ None → second.new ≡ second.old }
 {
     let source = match Source::new(bytes) {
         Ok(source) => source,
         Err(fault) => return Err(Refused::at_no_place(fault)),
     };
-    let answered = match command {
-        Command::Fix => fix_text(alloc, &source),
-        Command::Tree => tree_line(alloc, &source),
+    let parsed = match read_script(alloc, &source) {
+        Ok(parsed) => parsed,
+        Err(fault) => return Err(refused_at(&source, fault)),
     };
-    match answered {
-        Ok(text) => Ok(text),
-        Err(fault) => Err(refused_at(&source, fault)),
+    match answer(alloc, command, rules, &source, parsed, second) {
+        Ok(answer) => Ok(answer),
+        Err(fault) => Err(Refused::at_no_place(fault)),
     }
 }
 
-/// Reads the file to its end, or to one byte past the longest text, then answers, and only then writes: status 0.
+/// Runs a command. The first file is read to its end, or to one byte past the longest text, and has to be a script; then `check` reads its
+/// settings and `verify` its table, which is no other command's matter. All is made in memory before anything is written, and no
+/// memory is taken while it is written. The rules of `check` are those that are handed in. Answers the exit status: 1 where `check` has a
+/// report, else 0.
 ///
 /// # Errors
 ///
-/// `ReadFailed` and `WriteFailed` where that device fails; `TooLong` and `NotUtf8` where the file holds no source
-/// text; `Syntax` and `Early`, with line and column, and `TooDeep` where it is no script; `OutOfMemory`. Nothing is written
-/// but where the writer fails: then a beginning of the answer.
-pub fn run<R: Feed, W: Sink>(
+/// `ReadFailed` and `WriteFailed` where a device fails; `TooLong` and `NotUtf8` where the first file holds no source text; `Syntax` and
+/// `Early`, with line and column, and `TooDeep` where it is no script; `BadSettings` and `BadTable` where the second file is refused;
+/// `OutOfMemory`. The first of these is answered. Nothing is written but where the writer fails: then a beginning of the output.
+pub fn run<R: Feed, S: Feed, W: Sink>(
     alloc: Global,
     command: Command,
+    rules: &[Box<dyn Rule>],
     file: &mut R,
+    second: &mut S,
     writer: &mut W,
 ) -> Result<u8, Refused>
     requires reads { R.failed file.old ≡ false }
+    requires reads_second { S.failed second.old ≡ false }
     requires writes { W.failed writer.old ≡ false }
     ensures told { IfErr result (λ refused. refused.fault ≢ Fault.Usage) }
-    ensures answer { Runs command (record {
+    ensures unread { second_limit command ≡ None → second.new ≡ second.old }
+    ensures answer { Runs (all_found (λ b. called b) (λ b. finds b) rules.now) command (record {
       given = R.left file.old;
+      second = S.left second.old;
       before = W.taken writer.old;
       after = W.taken writer.new;
       reader_failed = R.failed file.new;
+      second_failed = S.failed second.new;
       writer_failed = W.failed writer.new;
     }) result }
 {
@@ -88,12 +99,12 @@ pub fn run<R: Feed, W: Sink>(
         Ok(bytes) => bytes,
         Err(fault) => return Err(Refused::at_no_place(fault)),
     };
-    let text = match answer(alloc, command, &bytes) {
-        Ok(text) => text,
+    let answer = match answer_bytes(alloc, command, rules, &bytes, second) {
+        Ok(answer) => answer,
         Err(refused) => return Err(refused),
     };
-    match write_text(text.as_bytes(), writer) {
-        Ok(()) => Ok(0),
+    match answer.write(writer) {
+        Ok(()) => Ok(answer.status()),
         Err(DeviceFault) => Err(Refused::at_no_place(Fault::WriteFailed)),
     }
 }

@@ -2,7 +2,7 @@
 
 use crate::refusals::push_refusal;
 use crate::rows::Row;
-use crate::{cursors, devices, heights, lexemes, nodes, parsed, plans, refusals, words};
+use crate::{cursors, devices, heights, lexemes, nodes, parsed, plans, refusals, runs, words};
 use source_text::Source;
 use std::alloc::{AllocError, Global};
 
@@ -34,12 +34,22 @@ fn of_devices(alloc: Global, row: &Row, out: &mut String) -> Result<(), AllocErr
         "message" => refusals::push_message(row, out),
         "refuse" => refusals::push_line(alloc, row, out),
         "source" => devices::push_source(alloc, row, out),
-        "run" => devices::push_run(alloc, row, row.text(2).as_bytes(), out),
-        "run bytes" => devices::push_run_bytes(alloc, row, out),
         "write" => devices::push_written(alloc, row, out),
         "write device" => devices::push_device(row.text(1), out),
         "read" => devices::push_read(alloc, row, out),
         "read device" => devices::push_read_device(alloc, row.text(1), out),
+        _ => of_commands(alloc, row, out),
+    }
+}
+
+/// Runs of the commands.
+fn of_commands(alloc: Global, row: &Row, out: &mut String) -> Result<(), AllocError> {
+    match row.text(0) {
+        "run" => runs::push_run(alloc, row, row.text(2).as_bytes(), out),
+        "run bytes" => runs::push_run_bytes(alloc, row, out),
+        "check" | "cost" | "verify" => runs::push_command(alloc, row, out),
+        "check bytes" => runs::push_second_bytes(alloc, row, out),
+        "check by ten" => runs::push_with_tenth(alloc, row, out),
         _ => of_trees(alloc, row, out),
     }
 }

@@ -1,12 +1,11 @@
 //! Bytes, and devices that take or give little, or fail.
 
 use crate::rows::Row;
-use lint::run::run;
 use source_text::{Device, Fault, MemoryFeed, MemorySink, Plan, Source, write_text};
 use std::alloc::{AllocError, Global};
 use std::fmt::Debug;
 use std::str::from_utf8;
-use streams::{Command, read_up_to};
+use streams::read_up_to;
 
 /// A plan: how many bytes pass in a call, all of them where it doesn't say, and behind a space the call that fails.
 pub(crate) fn plan(text: &str) -> Plan {
@@ -29,7 +28,8 @@ pub(crate) fn push_answer(
     push_bytes(bytes, out)
 }
 
-fn push_bytes(bytes: &[u8], out: &mut String) -> Result<(), AllocError> {
+/// Bytes that are a text: of a long one how many, and the last 49.
+pub(crate) fn push_bytes(bytes: &[u8], out: &mut String) -> Result<(), AllocError> {
     let text = from_utf8(bytes).unwrap_or("no text");
     if text.len() < 1000 {
         return out.push_str(text);
@@ -46,7 +46,8 @@ fn push_digits(text: &str, bytes: &mut Vec<u8>) -> Result<(), AllocError> {
     Ok(())
 }
 
-fn bytes_of(alloc: Global, text: &str) -> Result<Vec<u8>, AllocError> {
+/// The bytes that are written so.
+pub(crate) fn bytes_of(alloc: Global, text: &str) -> Result<Vec<u8>, AllocError> {
     let mut bytes = Vec::new(alloc);
     push_digits(text, &mut bytes)?;
     Ok(bytes)
@@ -66,35 +67,6 @@ pub(crate) fn push_place(source: &Source, row: &Row, out: &mut String) -> Result
     }
     let (line, column) = source.line_column(at);
     write!(out, "{:?}", (line, column, source.len(), source.is_empty()))
-}
-
-fn command(word: &str) -> Command {
-    match word {
-        "check" => Command::Check,
-        "tree" => Command::Tree,
-        "cost" => Command::Cost,
-        "verify" => Command::Verify,
-        _ => Command::Fix,
-    }
-}
-
-/// What a run over bytes answers, and what it writes: the command, the bytes, the plans of the reader and of the writer.
-pub(crate) fn push_run(
-    alloc: Global,
-    row: &Row,
-    bytes: &[u8],
-    out: &mut String,
-) -> Result<(), AllocError> {
-    let mut file = MemoryFeed::new(bytes, plan(row.text(3)));
-    let mut writer = MemorySink::new(alloc, 4096, plan(row.text(4)))?;
-    let answered = run(alloc, command(row.text(1)), &mut file, &mut writer);
-    push_answer(&answered, writer.bytes(), out)
-}
-
-/// The same of bytes that are no text.
-pub(crate) fn push_run_bytes(alloc: Global, row: &Row, out: &mut String) -> Result<(), AllocError> {
-    let bytes = bytes_of(alloc, row.text(2))?;
-    push_run(alloc, row, &bytes, out)
 }
 
 /// Whether a text is written whole where there is so much room, and what is written.

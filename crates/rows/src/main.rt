@@ -17,6 +17,7 @@ mod print;
 mod ranks;
 mod refusals;
 mod rows;
+mod runs;
 mod seen;
 mod sketch;
 mod words;

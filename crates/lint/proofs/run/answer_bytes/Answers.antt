@@ -1,0 +1,29 @@
+use Rattle.lint.specs.ReadScripts.{IsReading}
+use Rattle.lint.proofs.Running.{refused_bytes, refused_text, refused_behind, answers_behind}
+use Rattle.lint.proofs.run.answer_bytes.Goals as goal
+
+pub returns-in-Err-clause-answer : goal.returns-in-Err-clause-answer
+returns-in-Err-clause-answer g c = λ seen before.
+    rw c.at_no_place.ensures (refused_bytes _ c.args.command c.args.bytes.now _ c.in-Err.fault _ seen c.requires.ready c.in-Err.ensures.refused before)
+
+pub returns-in-Err-read_script-clause-answer : goal.returns-in-Err-read_script-clause-answer
+returns-in-Err-read_script-clause-answer g c = λ seen before.
+    let ok = c.in-Ok.ensures.ok in
+    rw c.refused_at.ensures.fault
+    (refused_text _ c.args.command c.args.bytes.now _ c.in-Err-read_script.fault _ _ seen c.in-Ok.source ok.0 c.requires.ready (ok.1, ok.2) c.in-Err-read_script.ensures.refused c.refused_at.ensures.place before)
+
+pub returns-in-Ok-answer-clause-answer : goal.returns-in-Ok-answer-clause-answer
+returns-in-Ok-answer-clause-answer g c =
+    let ok = c.in-Ok.ensures.ok in
+    let parsed = c.in-Ok-read_script.parsed in
+    let reading : IsReading c.in-Ok.source parsed.program parsed.pairs.items = record { accepted = c.in-Ok-read_script.ensures.accepted; only = c.in-Ok-read_script.ensures.only } in
+    let answers = c.in-Ok-answer.ensures.answer in
+    (answers.0, λ given read. answers_behind _ c.args.command c.args.bytes.now _ parsed.program parsed.pairs.items c.in-Ok-answer.answer _ given c.in-Ok.source ok.0 (ok.1, ok.2) reading answers read)
+
+pub returns-in-Err-answer-clause-answer : goal.returns-in-Err-answer-clause-answer
+returns-in-Err-answer-clause-answer g c = λ seen before.
+    let ok = c.in-Ok.ensures.ok in
+    let parsed = c.in-Ok-read_script.parsed in
+    let reading : IsReading c.in-Ok.source parsed.program parsed.pairs.items = record { accepted = c.in-Ok-read_script.ensures.accepted; only = c.in-Ok-read_script.ensures.only } in
+    rw c.at_no_place-in-Err-answer.ensures
+    (refused_behind _ c.args.command c.args.bytes.now _ parsed.program parsed.pairs.items c.in-Err-answer.fault _ seen c.in-Ok.source ok.0 (ok.1, ok.2) reading c.in-Err-answer.ensures.answer before)

@@ -1,0 +1,135 @@
+-- What each command writes of a script, its exit status, and what is refused of its second file.
+use Rattle.std.specs.Prelude.{◌≡◌, ◌≤◌, ◌+◌, ℕ, Bool, List, [], ◌∷◌, ◌++◌, length, take, codes, Option, Some, None, IfSome, ◌⊎◌}
+use Rattle.std.specs.Fmt.{decimal}
+use Rattle.std.specs.Str.{IsUtf8}
+use Rattle.std.specs.List.Sorted.{IsPermutation, IsSorted}
+use Rattle.source_text.specs.Source.{max_bytes}
+use Rattle.source_text.specs.declared.fault.Fault.{Fault}
+use Rattle.source_text.specs.declared.fault.Fault.TheVariants.{BadSettings, BadTable}
+use Rattle.source_text.specs.declared.fault.Reason.{Reason}
+use Rattle.source_text.specs.declared.fault.Reason.TheVariants as reason
+use Rattle.streams.specs.declared.command.Command.{Command}
+use Rattle.streams.specs.declared.command.Command.TheVariants.{Check, Tree, Fix, Cost, Verify}
+use Rattle.tree.specs.declared.kind.Pair.{Pair}
+use Rattle.tree.specs.declared.kind.Span.{Span}
+use Rattle.tree.specs.Tree.{Tree as SyntaxTree, SameTree}
+use Rattle.tokens.specs.Reading.{any_goal}
+use Rattle.language.specs.Token.{Token}
+use Rattle.language.specs.Pieces.{script}
+use Rattle.language.specs.Grammar.{ways}
+use Rattle.language.specs.Cursor.{beginning}
+use Rattle.language.specs.Places.{SpellsIn, NextIn, itself}
+use Rattle.language.specs.Layout.{has_number, wrapped_rows}
+use Rattle.language.specs.Claims.{Table, Derives, Sound}
+use Rattle.language.specs.Laid.{Exact}
+use Rattle.estree_json.specs.Json.{json_text}
+use Rattle.paren_planner.specs.Tables.{MeetsBounds}
+use Rattle.paren_planner.specs.Wrapped.{is_flagged}
+use Rattle.paren_planner.specs.PairNodes.{pair_rows, spans_but_needed}
+use Rattle.scopes.specs.Found.{found}
+use Rattle.rules.specs.Reports.{Report}
+use Rattle.rules.specs.Order.{report_cmp}
+use Rattle.rules.specs.Settings.{Settings}
+use Rattle.rules.specs.Toml.{settings_of_text}
+use Rattle.rules.specs.Rules.{View}
+use Rattle.reporting.specs.Lines.{report_lines, report_status}
+use Rattle.cost_certificate.specs.Forms.{IsTable, IsBadLine, short, table_text}
+use Rattle.cost_certificate.specs.Faults.{first_fault}
+use Rattle.lint.specs.Fixes.{Fixes}
+
+-- ---- check
+
+-- All grouping pairs of a script's derivation but the innermost of each node that the fixer wraps.
+pub record IsExtra (text : List ℕ) (n : SyntaxTree) (P : List Pair) (extra : List Span) : Type 0 where
+  pub wrapped : List Bool
+  pub is_wrapped : (r : ℕ) → is_flagged wrapped r ≡ has_number (wrapped_rows n script 1) r
+  pub but_needed : (o : ℕ) (last : Token) (d : SpellsIn text o script n beginning last P) → extra ≡ spans_but_needed wrapped P (pair_rows ways Token (NextIn text any_goal) itself d 1)
+
+-- What rules look at in a script: its tree, its scopes, its extra pairs, and the settings.
+pub record IsView (text : List ℕ) (n : SyntaxTree) (P : List Pair) (settings : Settings) (view : View) : Type 0 where
+  pub of_tree : view.tree ≡ n
+  pub of_scopes : view.found ≡ found n
+  pub of_extra : IsExtra text n P view.extra
+  pub of_settings : view.settings ≡ settings
+
+-- All that the rules find in that view, by start, rule, end and text.
+pub record Reports (finds : View → List Report) (text : List ℕ) (n : SyntaxTree) (P : List Pair) (settings : Settings) (reports : List Report) : Type 0 where
+  pub view : View
+  pub is_view : IsView text n P settings view
+  pub all : IsPermutation (finds view) reports
+  pub sorted : IsSorted report_cmp reports
+
+-- A line for each report under the settings of the second file; the status says whether there is one.
+pub record Checks (finds : View → List Report) (text : List ℕ) (n : SyntaxTree) (P : List Pair) (second output : List ℕ) (status : ℕ) : Type 0 where
+  pub settings : Settings
+  pub utf8 : IsUtf8 second
+  pub are_settings : settings_of_text second ≡ Some settings
+  pub reports : List Report
+  pub are_reports : Reports finds text n P settings reports
+  pub are_lines : output ≡ report_lines text reports
+  pub is_status : status ≡ report_status reports
+
+-- the settings are not UTF-8, or refused
+abbrev pub RefusesSettings : List ℕ → Type 0
+RefusesSettings second = IsUtf8 second → settings_of_text second ≡ None
+
+-- ---- tree, cost, verify
+
+-- the JSON of the tree, and a line feed
+abbrev pub tree_line : SyntaxTree → List ℕ
+tree_line n = json_text n ++ 10 ∷ []
+
+-- The text of the cost table: each cell meets its bound and is the least number of pairs of its node there; the total is the fewest.
+pub record Costs (n : SyntaxTree) (output : List ℕ) : Type 0 where
+  pub table : Table
+  pub bounds : MeetsBounds table n
+  pub exact : Exact table n
+  pub is_text : output ≡ table_text short table
+
+-- `pairs P least T` and a line feed
+abbrev pub pairs_line : ℕ → ℕ → List ℕ
+pairs_line pairs least = codes "pairs " ++ decimal pairs ++ codes " least " ++ decimal least ++ 10 ∷ []
+
+-- The second file is the text of a table that is sound for the script. The line has the number of the script's grouping pairs, and the
+-- table's total: no text with the same tree has fewer pairs than that.
+pub record Verifies (n : SyntaxTree) (P : List Pair) (second output : List ℕ) : Type 0 where
+  pub table : Table
+  pub is_table : IsTable second table
+  pub sound : Sound table n
+  pub least : (text : List ℕ) (m : SyntaxTree) (Q : List Pair) → SameTree m n → Derives text m Q → table.total ≤ length Q
+  pub line : output ≡ pairs_line (length P) table.total
+
+-- The second file is no table's text, and this is its first line, counted from 0, that no table's text has there; or it is that of a
+-- table of which this is the first fault.
+abbrev pub RefusesTable : SyntaxTree → List ℕ → ℕ → Reason → Type 0
+RefusesTable n second row why = ((why ≡ reason.Form) × IsBadLine second row) ⊎ ((table : Table) × IsTable second table × (first_fault table n ≡ Some (row, why)))
+
+-- ---- each command
+
+-- the most bytes of its second file that a command takes; none where it reads no second file
+abbrev pub second_limit : Command → Option ℕ
+second_limit Check = Some max_bytes
+second_limit Verify = Some 2147483648
+second_limit other = None
+
+-- what was read of a second file: all that its reader has to give, but no more than one byte past the limit
+abbrev pub IsSecondTo : Option ℕ → Option (List ℕ) → List ℕ → Type 0
+IsSecondTo None given second = second ≡ []
+IsSecondTo (Some limit) given second = IfSome given (λ bytes. second ≡ take (limit + 1) bytes)
+
+abbrev pub IsSecond : Command → Option (List ℕ) → List ℕ → Type 0
+IsSecond command given second = IsSecondTo (second_limit command) given second
+
+-- what a command writes of a script that a text derives with these pairs, and its status; `finds` is what the boxed rules find in a view
+abbrev pub IsOutput : (View → List Report) → Command → List ℕ → SyntaxTree → List Pair → (second output : List ℕ) (status : ℕ) → Type 0
+IsOutput finds Check text n P second output status = Checks finds text n P second output status
+IsOutput finds Tree text n P second output status = (output ≡ tree_line n) × (status ≡ 0)
+IsOutput finds Fix text n P second output status = Fixes text output × (status ≡ 0)
+IsOutput finds Cost text n P second output status = Costs n output × (status ≡ 0)
+IsOutput finds Verify text n P second output status = Verifies n P second output × (status ≡ 0)
+
+-- how a command refuses its second file
+abbrev pub RefusesSecond : Command → SyntaxTree → List ℕ → Fault → Type 0
+RefusesSecond command n second BadSettings = (command ≡ Check) × RefusesSettings second
+RefusesSecond command n second (BadTable row why) = (command ≡ Verify) × RefusesTable n second row why
+RefusesSecond command n second fault = ⊥

@@ -1,0 +1,99 @@
+-- The steps of a run, from what was read to what is written.
+use Rattle.std.specs.Prelude.{◌≡◌, ◌≤◌, ◌+◌, ℕ, List, Bool, true, false, length, take, Option, Some, IfSome, IsSome, Result, Ok, Err, string_bytes}
+use Rattle.std.specs.Str.{IsUtf8}
+use Rattle.source_text.specs.Source.{max_bytes}
+use Rattle.source_text.specs.declared.fault.Fault.{Fault}
+use Rattle.source_text.specs.declared.fault.Fault.TheVariants.{OutOfMemory, ReadFailed, BadSettings, BadTable}
+use Rattle.source_text.specs.declared.fault.Reason.TheVariants as reason
+use Rattle.streams.specs.declared.command.Command.{Command}
+use Rattle.streams.specs.declared.command.Command.TheVariants.{Check, Verify}
+use Rattle.streams.specs.declared.refused.Refused.{Refused}
+use Rattle.tree.specs.Tree.{Tree as SyntaxTree}
+use Rattle.tree.specs.declared.kind.Pair.{Pair}
+use Rattle.rules.specs.Reports.{Report}
+use Rattle.rules.specs.Rules.{View}
+use Rattle.rules.specs.Settings.{Settings}
+use Rattle.rules.specs.Toml.{settings_of_text}
+use Rattle.reporting.specs.Lines.{report_lines, report_status}
+use Rattle.paren_planner.specs.Tables.{table_of}
+use Rattle.paren_planner.specs.declared.table.CostTable.{CostTable}
+use Rattle.cost_certificate.specs.Forms.{short, table_text, IsTable, IsBadLine}
+use Rattle.lint.specs.declared.answer.Answer.{Answer}
+use Rattle.lint.specs.declared.answer.Answer.TheVariants.{Text, Table}
+use Rattle.lint.specs.Outputs.{second_limit, IsSecond, IsOutput, RefusesSecond, RefusesSettings, Reports}
+use Rattle.lint.specs.Run.{Seen, NothingWritten, HasOutput, Refuses}
+
+-- what an answer writes, and its status
+abbrev pub output_of : Answer → List ℕ
+output_of (Text text status) = string_bytes text
+output_of (Table parsed plan) = table_text short (table_of plan.table.rows.items plan.table.total)
+
+abbrev pub status_of : Answer → ℕ
+status_of (Text text status) = status
+status_of (Table parsed plan) = 0
+
+-- a table has no more rows than a text may have bytes
+abbrev pub IsShort : Answer → Type 0
+IsShort (Text text status) = Unit {0}
+IsShort (Table parsed plan) = length plan.table.rows.items ≤ 16777216
+
+-- why bytes give no settings
+abbrev pub RefusesSettingsBy : List ℕ → Fault → Type 0
+RefusesSettingsBy bytes BadSettings = RefusesSettings bytes
+RefusesSettingsBy bytes OutOfMemory = Unit {0}
+RefusesSettingsBy bytes fault = ⊥
+
+-- The lines of a script's reports under settings, and the status.
+pub record ReportsLines (finds : View → List Report) (text : List ℕ) (n : SyntaxTree) (P : List Pair) (settings : Settings) (answer : Answer) : Type 0 where
+  pub reports : List Report
+  pub are_reports : Reports finds text n P settings reports
+  pub are_lines : output_of answer ≡ report_lines text reports
+  pub is_status : status_of answer ≡ report_status reports
+
+-- settings, from what the second reader has to give
+abbrev pub ReadsSettings : Option (List ℕ) → Result Settings Fault → Bool → Type 0
+ReadsSettings given (Ok settings) failed = (failed ≡ false) × ((second : List ℕ) × IsSecond Check given second × IsUtf8 second × (settings_of_text second ≡ Some settings))
+ReadsSettings given (Err ReadFailed) failed = failed ≡ true
+ReadsSettings given (Err OutOfMemory) failed = failed ≡ false
+ReadsSettings given (Err BadSettings) failed = (failed ≡ false) × ((second : List ℕ) × IsSecond Check given second × RefusesSettings second)
+ReadsSettings given (Err fault) failed = ⊥
+
+-- a table, from what the second reader has to give
+abbrev pub ReadsTable : Option (List ℕ) → Result CostTable Fault → Bool → Type 0
+ReadsTable given (Ok table) failed = (failed ≡ false) × ((second : List ℕ) × IsSecond Verify given second × IsTable second (table_of table.rows.items table.total))
+ReadsTable given (Err ReadFailed) failed = failed ≡ true
+ReadsTable given (Err OutOfMemory) failed = failed ≡ false
+ReadsTable given (Err (BadTable row why)) failed = (failed ≡ false) × (why ≡ reason.Form) × ((second : List ℕ) × IsSecond Verify given second × IsBadLine second row)
+ReadsTable given (Err fault) failed = ⊥
+
+-- what a command answers of a script, by what its second reader has to give
+abbrev pub Answers : (View → List Report) → Command → List ℕ → SyntaxTree → List Pair → Option (List ℕ) → Result Answer Fault → Bool → Type 0
+Answers finds command text n P given (Ok answer) failed =
+    (failed ≡ false) × ((second : List ℕ) × IsSecond command given second × IsOutput finds command text n P second (output_of answer) (status_of answer))
+Answers finds command text n P given (Err ReadFailed) failed = (failed ≡ true) × IsSome (second_limit command)
+Answers finds command text n P given (Err OutOfMemory) failed = failed ≡ false
+Answers finds command text n P given (Err fault) failed = (failed ≡ false) × ((second : List ℕ) × IsSecond command given second × RefusesSecond command n second fault)
+
+-- the same of a command that reads no second file
+abbrev pub AnswersAlone : Command → List ℕ → SyntaxTree → List Pair → Result Answer Fault → Type 0
+AnswersAlone command text n P result = (finds : View → List Report) (given : Option (List ℕ)) → Answers finds command text n P given result false
+
+-- bytes that were read up to one byte past the longest text
+abbrev pub IsRead : Option (List ℕ) → List ℕ → Type 0
+IsRead given bytes = IfSome given (λ xs. bytes ≡ take (max_bytes + 1) xs)
+
+-- Before anything is written: the bytes were read of the first reader, and the second one has or hasn't failed.
+pub record IsBefore (bytes : List ℕ) (second : Option (List ℕ)) (failed : Bool) (seen : Seen) : Type 0 where
+  pub read : IsRead seen.given bytes
+  pub of_second : seen.second ≡ second
+  pub of_failed : seen.second_failed ≡ failed
+  pub reader : seen.reader_failed ≡ false
+  pub writer : seen.writer_failed ≡ false
+  pub kept : NothingWritten seen
+
+-- what a command answers for the bytes of the first file, before anything is written
+abbrev pub AnswersBytes : (View → List Report) → Command → List ℕ → Option (List ℕ) → Result Answer Refused → Bool → Type 0
+AnswersBytes finds command bytes second (Ok answer) failed =
+    (failed ≡ false) × ((given : Option (List ℕ)) → IsRead given bytes → HasOutput finds command given second (output_of answer) (status_of answer))
+AnswersBytes finds command bytes second (Err refused) failed =
+    (seen : Seen) → IsBefore bytes second failed seen → Refuses finds command seen refused.fault (refused.line, refused.column)

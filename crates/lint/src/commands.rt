@@ -1,0 +1,81 @@
+//! What each command answers of a script.
+
+ghost use Rattle.std.specs.Prelude.{◌≡◌, ◌≤◌, false, length, IfOk, None, string_bytes};
+ghost use Rattle.streams.specs.declared.command.Command.TheVariants.{Fix, Tree};
+ghost use Rattle.rules.specs.Run.{all_found};
+ghost use Rattle.lint.specs.ReadScripts.{IsReading};
+ghost use Rattle.lint.specs.Outputs.{second_limit, tree_line as tree_line_of};
+ghost use Rattle.lint.specs.Steps.{Answers, AnswersAlone, IsShort};
+
+use crate::answer::Answer;
+use crate::certificate::{cost, verify};
+use crate::checker::check;
+use crate::fixer::fix;
+use estree_json::tree_text;
+use parser::Parsed;
+use rules::Rule;
+use source_text::{Fault, Feed, Source};
+use std::alloc::{AllocError, Global};
+use streams::Command;
+
+/// The tree of a script as JSON, and a line feed.
+fn tree_line(alloc: Global, parsed: &Parsed<'_>) -> Result<String, AllocError>
+    ensures { IfOk result (λ line. string_bytes line ≡ tree_line_of parsed.now.program) }
+{
+    let mut line = tree_text(alloc, parsed.program())?;
+    line.push('\n')?;
+    Ok(line)
+}
+
+/// What `tree` answers.
+fn tree<'s>(alloc: Global, parsed: &Parsed<'_>) -> Result<Answer<'s>, Fault>
+    ensures answer { (text : _) → AnswersAlone Tree text parsed.now.program parsed.now.pairs.items result }
+    ensures short { IfOk result IsShort }
+{
+    match tree_line(alloc, parsed) {
+        Ok(line) => Ok(Answer::Text(line, 0)),
+        Err(AllocError) => Err(Fault::OutOfMemory),
+    }
+}
+
+/// What `fix` answers: the fixed text.
+fn fixed<'s>(alloc: Global, source: &Source<'_>, parsed: &Parsed<'_>) -> Result<Answer<'s>, Fault>
+    requires reading { IsReading source.now parsed.now.program parsed.now.pairs.items }
+    requires small { length source.now ≤ 16777216 }
+    ensures answer { AnswersAlone Fix source.now parsed.now.program parsed.now.pairs.items result }
+    ensures short { IfOk result IsShort }
+{
+    match fix(alloc, parsed) {
+        Ok(text) => Ok(Answer::Text(text, 0)),
+        Err(AllocError) => Err(Fault::OutOfMemory),
+    }
+}
+
+/// What a command answers of the script that a text is. The second file is read by `check` and by `verify` alone.
+///
+/// # Errors
+///
+/// `BadSettings` and `BadTable` where the second file is refused; `ReadFailed` where its reader fails; `OutOfMemory`.
+pub fn answer<'s, S: Feed>(
+    alloc: Global,
+    command: Command,
+    rules: &[Box<dyn Rule>],
+    source: &Source<'s>,
+    parsed: Parsed<'s>,
+    second: &mut S,
+) -> Result<Answer<'s>, Fault>
+    requires reading { IsReading source.now parsed.program parsed.pairs.items }
+    requires small { length source.now ≤ 16777216 }
+    requires ready { S.failed second.old ≡ false }
+    ensures answer { Answers (all_found (λ b. called b) (λ b. finds b) rules.now) command source.now parsed.entry.program parsed.entry.pairs.items (S.left second.old) result (S.failed second.new) }
+    ensures short { IfOk result IsShort }
+    ensures unread { second_limit command ≡ None → second.new ≡ second.old }
+{
+    match command {
+        Command::Check => check(alloc, rules, source, &parsed, second),
+        Command::Tree => tree(alloc, &parsed),
+        Command::Fix => fixed(alloc, source, &parsed),
+        Command::Cost => cost(alloc, parsed),
+        Command::Verify => verify(alloc, &parsed, second),
+    }
+}

@@ -1,0 +1,32 @@
+use Rattle.std.proofs.Common.{◌≡◌, ◌+◌, ◌<◌, ◌≤◌, ℕ, List, length, sym, ap, ◌∙◌, arith}
+use Rattle.source_text.proofs.Lines.{turn_inside, turn_at_end, turn_on_line}
+use Rattle.reporting.proofs.cursor.Located.moved.Goals as goal
+use Rattle.reporting.proofs.cursor.Located.moved.Goals.{then-ends_line, else-ends_line}
+
+inside : (bytes text : List ℕ) (place i : ℕ) → bytes ≡ text → place ≤ length text → i < place → i < length bytes
+inside bytes text place i same within lt = let e = ap length same in omega arith
+
+pub loop-i-preserved-then-continues_character : goal.loop-i-preserved-then-continues_character
+loop-i-preserved-then-continues_character d =
+    record {
+      walked = turn_inside (d.loop-i.line, d.loop-i.column) d.loop-i.i d.bytes-bytes.result.now (inside _ _ d.args.place d.loop-i.i d.bytes-bytes.ensures.value d.requires.within d.loop-i-test.true) d.loop-i.invariant.walked (sym d.continues_character.ensures ∙ d.if-continues_character.true);
+      few_lines = omega arith;
+      few_columns = omega arith;
+    }
+
+pub loop-i-preserved : goal.loop-i-preserved
+loop-i-preserved d =
+    let i = d.loop-i.i in
+    let bytes = d.bytes-bytes.result.now in
+    let lt = inside _ _ d.args.place i d.bytes-bytes.ensures.value d.requires.within d.loop-i-test.true in
+    let begins = sym d.continues_character.ensures ∙ d.if-continues_character.false in
+    elim d.if-ends_line.branch [
+      | then-ends_line w ↦
+          let h = turn_at_end (d.loop-i.line, d.loop-i.column) i bytes lt d.loop-i.invariant.walked begins (sym d.ends_line.ensures ∙ w.if-ends_line.true) in
+          let e : ◌≡◌ {A = ℕ × ℕ} (d.if-ends_line.line, d.if-ends_line.column) (d.loop-i.line + 1, 1) = cc in
+          record { walked = e ∙ h; few_lines = omega arith; few_columns = omega arith }
+      | else-ends_line w ↦
+          let h = turn_on_line (d.loop-i.line, d.loop-i.column) i bytes lt d.loop-i.invariant.walked begins (sym d.ends_line.ensures ∙ w.if-ends_line.false) in
+          let e : ◌≡◌ {A = ℕ × ℕ} (d.if-ends_line.line, d.if-ends_line.column) (d.loop-i.line, d.loop-i.column + 1) = cc in
+          record { walked = e ∙ h; few_lines = omega arith; few_columns = omega arith }
+    ]

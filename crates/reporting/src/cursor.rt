@@ -1,0 +1,93 @@
+//! Lines and columns of ascending places, in one walk over the text.
+
+ghost use Rattle.std.specs.Prelude.{◌≡◌, ◌≤◌, ◌<◌, ◌+◌, length, slice_index};
+ghost use Rattle.source_text.specs.LineBytes.{continues, ends_line_at};
+ghost use Rattle.reporting.specs.Located.{IsLocated};
+
+use source_text::Source;
+
+/// A place of a text, with its line and column, which count from 1.
+#[derive(Clone, Copy)]
+pub struct Located {
+    /// The place, an offset in bytes.
+    pub at: usize,
+    pub line: u32,
+    pub column: u32,
+}
+
+impl Located {
+    /// Before the first character.
+    pub fn first() -> Located
+        ensures { result ≡ record { at = 0; line = 1; column = 1 } }
+    {
+        Located {
+            at: 0,
+            line: 1,
+            column: 1,
+        }
+    }
+
+    /// From where to go on to a place: from the beginning where the place lies before this one.
+    pub fn resumed(self, place: usize) -> Located
+        ensures ahead { result.at ≤ place }
+        ensures there { (text : _) → IsLocated text self → IsLocated text result }
+    {
+        if place < self.at {
+            return Located::first();
+        }
+        self
+    }
+
+    /// A later place of the text, by a walk over what stands between the two.
+    pub fn moved(self, source: &Source<'_>, place: usize) -> Located
+        requires here { IsLocated source.now self }
+        requires ahead { self.at ≤ place }
+        requires within { place ≤ length source.now }
+        ensures there { IsLocated source.now result }
+        ensures place { result.at ≡ place }
+    {
+        let bytes = source.bytes();
+        let mut line = self.line;
+        let mut column = self.column;
+        for i in self.at..place {
+            if continues_character(bytes[i]) {
+                continue;
+            }
+            if ends_line(bytes, i) {
+                line += 1;
+                column = 1;
+            } else {
+                column += 1;
+            }
+        }
+        Located {
+            at: place,
+            line,
+            column,
+        }
+    }
+}
+
+/// Whether a byte of UTF-8 begins no character.
+#[inline]
+fn continues_character(byte: u8) -> bool
+    ensures { result ≡ continues byte }
+{
+    matches!(byte, 0x80..=0xBF)
+}
+
+/// Whether the character that begins at `at` ends a line.
+#[inline]
+fn ends_line(bytes: &[u8], at: usize) -> bool
+    requires { at < length bytes.now }
+    ensures { result ≡ ends_line_at (slice_index bytes.now at) (slice_index bytes.now (at + 1)) (slice_index bytes.now (at + 2)) }
+{
+    match bytes[at] {
+        b'\n' => true,
+        b'\r' => at + 1 >= bytes.len() || bytes[at + 1] != b'\n',
+        0xE2 => at + 2 < bytes.len()
+            && bytes[at + 1] == 0x80
+            && matches!(bytes[at + 2], 0xA8 | 0xA9),
+        _ => false,
+    }
+}

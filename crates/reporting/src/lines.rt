@@ -1,0 +1,56 @@
+//! The lines of reports.
+
+ghost use Rattle.std.specs.Prelude.{◌≡◌, ◌++◌, IfOk, OnOk, string_bytes};
+ghost use Rattle.reporting.specs.Lines.{line_of, report_lines as lines_of, report_status as status_of};
+ghost use Rattle.reporting.specs.Located.{IsLocated};
+
+use crate::cursor::Located;
+use rules::Report;
+use source_text::Source;
+use std::alloc::{AllocError, Global};
+use std::fmt::Write;
+
+/// The lines of reports: each as `LINE:COLUMN RULE TEXT` and a line feed, in their order. Line and column count from 1, columns in
+/// characters, and are those of the last place at or before the report's start. Reports in order of their starts cost one walk over the
+/// text.
+///
+/// # Errors
+///
+/// `AllocError` where memory is refused.
+pub fn report_lines(
+    alloc: Global,
+    source: &Source<'_>,
+    reports: &[Report],
+) -> Result<String, AllocError>
+    ensures { IfOk result (λ lines. string_bytes lines ≡ lines_of source.now reports.now) }
+{
+    let mut lines = String::new(alloc);
+    let mut here = Located::first();
+    for report in reports {
+        let place = source.text().floor_char_boundary(report.start());
+        here = here.resumed(place).moved(source, place);
+        push_line(here, report, &mut lines)?;
+    }
+    Ok(lines)
+}
+
+/// Appends the line of a report.
+fn push_line(here: Located, report: &Report, lines: &mut String) -> Result<(), AllocError>
+    ensures { OnOk result (string_bytes lines.new ≡ string_bytes lines.old ++ line_of (here.line, here.column) report.now) }
+{
+    writeln!(
+        lines,
+        "{}:{} {} {}",
+        here.line,
+        here.column,
+        report.rule(),
+        report.text()
+    )
+}
+
+/// The exit status of a check: 1 where there is a report, else 0.
+pub fn report_status(reports: &[Report]) -> u8
+    ensures { result ≡ status_of reports.now }
+{
+    if reports.is_empty() { 0 } else { 1 }
+}
