@@ -1,18 +1,24 @@
 #![tactic(auto)]
 
-//! The program `jslint`: its words, its file, its streams and its exit status.
+//! The program `jslint`: its words, its files, its rules, its streams and its exit status.
 
-ghost use Rattle.std.specs.Prelude.{◌≡◌, ◌≢◌, IfErr, false};
+ghost use Rattle.std.specs.Prelude.{◌≡◌, ◌≢◌, IfErr, IfOk, false};
 ghost use Rattle.source_text.specs.declared.fault.Fault.TheVariants.{Usage};
-ghost use Rattle.jslint.specs.Program.{RunsOnFile};
+ghost use Rattle.streams.specs.declared.command.Command.TheVariants.{Check};
+ghost use Rattle.jslint.specs.Program.{RunsByRules, RunsOnFiles, no_file};
 
 use command_line::{Line, command_line, explain};
 use lint::run::run;
-use source_text::{Device, Fault, Sink};
+use rules::{
+    EqEqEq, NoDebugger, NoEmpty, NoExtraParens, NoShadow, NoUndef, NoUnusedVars, NoVar,
+    PreferConst, Rule,
+};
+use source_text::{Device, Fault, Feed, Sink};
+use std::alloc::Global;
 use std::process::ExitCode;
 use std::rt::{Env, Files};
 use std::{env, fs, io};
-use streams::{Refused, write_refusal};
+use streams::{Command, Refused, write_refusal};
 
 /// The words of the command line, the program's name first. Words that are not UTF-8 name no file that can be read.
 fn own_words<R: Env + AllocGlobal>(rt: &R) -> Result<Vec<String>, Fault>
@@ -28,7 +34,80 @@ fn own_words<R: Env + AllocGlobal>(rt: &R) -> Result<Vec<String>, Fault>
     }
 }
 
-/// Opens the file and runs the command.
+/// Opens a file for reading.
+fn open<R: Files>(rt: &R, name: &str) -> Result<Device<R::File>, Refused>
+    ensures told { IfErr result (λ refused. refused ≡ no_file) }
+    ensures ready { IfOk result (λ file. ⟦<Device<R::File> as Feed>⟧.failed file ≡ false) }
+{
+    match fs::open(rt, name) {
+        Ok(file) => Ok(Device::of_reader(file)),
+        Err(_) => Err(Refused::at_no_place(Fault::ReadFailed)),
+    }
+}
+
+/// Runs `check` with the nine rules.
+fn check<F: Feed, S: Feed, W: Sink>(
+    alloc: Global,
+    file: &mut F,
+    settings: &mut S,
+    output: &mut W,
+) -> Result<u8, Refused>
+    requires reads { F.failed file.old ≡ false }
+    requires reads_settings { S.failed settings.old ≡ false }
+    requires writes { W.failed output.old ≡ false }
+    ensures told { IfErr result (λ refused. refused.fault ≢ Usage) }
+    ensures answer { RunsByRules Check (record {
+      given = F.left file.old;
+      second = S.left settings.old;
+      before = W.taken output.old;
+      after = W.taken output.new;
+      reader_failed = F.failed file.new;
+      second_failed = S.failed settings.new;
+      writer_failed = W.failed output.new;
+    }) result }
+{
+    let mut rules: Vec<Box<dyn Rule>> = Vec::new(alloc);
+    rules.push(Box::new(alloc, EqEqEq::new(alloc))?)?;
+    rules.push(Box::new(alloc, NoDebugger::new(alloc))?)?;
+    rules.push(Box::new(alloc, NoEmpty::new(alloc))?)?;
+    rules.push(Box::new(alloc, NoExtraParens::new(alloc))?)?;
+    rules.push(Box::new(alloc, NoShadow::new(alloc))?)?;
+    rules.push(Box::new(alloc, NoUndef::new(alloc))?)?;
+    rules.push(Box::new(alloc, NoUnusedVars::new(alloc))?)?;
+    rules.push(Box::new(alloc, NoVar::new(alloc))?)?;
+    rules.push(Box::new(alloc, PreferConst::new(alloc))?)?;
+    run(alloc, Command::Check, &rules, file, settings, output)
+}
+
+/// Runs the command, with its rules where it is `check`.
+fn run_with_rules<F: Feed, S: Feed, W: Sink>(
+    alloc: Global,
+    command: Command,
+    file: &mut F,
+    second: &mut S,
+    output: &mut W,
+) -> Result<u8, Refused>
+    requires reads { F.failed file.old ≡ false }
+    requires reads_second { S.failed second.old ≡ false }
+    requires writes { W.failed output.old ≡ false }
+    ensures told { IfErr result (λ refused. refused.fault ≢ Usage) }
+    ensures answer { RunsByRules command (record {
+      given = F.left file.old;
+      second = S.left second.old;
+      before = W.taken output.old;
+      after = W.taken output.new;
+      reader_failed = F.failed file.new;
+      second_failed = S.failed second.new;
+      writer_failed = W.failed output.new;
+    }) result }
+{
+    match command {
+        Command::Check => check(alloc, file, second, output),
+        _ => run(alloc, command, &[], file, second, output),
+    }
+}
+
+/// Opens the files, the script first, and runs the command.
 fn open_and_run<R: Files + AllocGlobal, W: Sink>(
     rt: &R,
     line: Line,
@@ -36,16 +115,18 @@ fn open_and_run<R: Files + AllocGlobal, W: Sink>(
 ) -> Result<u8, Refused>
     requires { W.failed output.old ≡ false }
     ensures told { IfErr result (λ refused. refused.fault ≢ Usage) }
-    ensures answer { RunsOnFile line.entry.command (W.taken output.old) (W.taken output.new) (W.failed output.new) result }
+    ensures answer { RunsOnFiles line.entry (W.taken output.old) (W.taken output.new) (W.failed output.new) result }
 {
-    match fs::open(rt, line.file) {
-        Ok(file) => run(
-            rt.alloc(),
-            line.command,
-            &mut Device::of_reader(file),
-            output,
-        ),
-        Err(_) => Err(Refused::at_no_place(Fault::ReadFailed)),
+    let mut file = open(rt, line.file)?;
+    match line.second {
+        Some(name) => {
+            let mut second = open(rt, name)?;
+            run_with_rules(rt.alloc(), line.command, &mut file, &mut second, output)
+        }
+        None => {
+            let mut second = Device::of_reader(io::empty());
+            run_with_rules(rt.alloc(), line.command, &mut file, &mut second, output)
+        }
     }
 }
 

@@ -19,19 +19,28 @@ fn writer(alloc: Global) -> Result<MemorySink, AllocError>
 
 #[test]
 fn files_that_cannot_be_read(rt: HostRuntime) -> Result<(), Fail> {
-    for file in ["no such file", "no such folder/a.js", ".", ""] {
+    for (command, file, second) in [
+        (Command::Fix, "no such file", None),
+        (Command::Fix, "no such folder/a.js", None),
+        (Command::Fix, ".", None),
+        (Command::Fix, "", None),
+        (Command::Check, "/dev/null", Some("no such file")),
+        (Command::Verify, "/dev/null", Some("no such file")),
+        (Command::Verify, "no such file", Some("/dev/null")),
+    ] {
         let mut output = writer(rt.alloc())?;
         let line = Line {
-            command: Command::Fix,
+            command,
             file,
+            second,
         };
         let got = open_and_run(&rt, line, &mut output);
         assert_eq!(rt;
             got,
             Err(Refused::at_no_place(Fault::ReadFailed)),
-            "{file:?}"
+            "{line:?}"
         );
-        assert!(rt; output.bytes().is_empty(), "{file:?}");
+        assert!(rt; output.bytes().is_empty(), "{line:?}");
     }
     Ok(())
 }
