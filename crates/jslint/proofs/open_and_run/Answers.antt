@@ -10,3 +10,6 @@ returns-clause-answer g c = (_, _, _, _, (λ none. refl), c.run_with_rules-in-No
 
 pub returns-in_err-file-clause-answer : goal.returns-in_err-file-clause-answer
 returns-in_err-file-clause-answer g c = no_first c.args.line _ _ _ (search rules) c.requires
+
+pub returns-in_err-second-in-Some-clause-answer : goal.returns-in_err-second-in-Some-clause-answer
+returns-in_err-second-in-Some-clause-answer g c = no_first c.args.line _ _ _ (search rules) c.requires

@@ -1,0 +1,4 @@
+use Rattle.jslint.proofs.run_with_rules.Goals as goal
+
+pub returns-in_default : goal.returns-in_default
+returns-in_default g c = record { told = c.run.ensures.told; answer = (_, c.run.ensures.answer) }
