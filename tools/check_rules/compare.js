@@ -1,6 +1,6 @@
 'use strict';
 // Holds `jslint check` against the plain model over generated texts, each with settings of its own: the lines, the status, and the
-// refusal where the text or the settings are refused.
+// refusal where the text or the settings are refused, but for the place of a syntax error.
 //
 //   node compare.js [--n COUNT] [--seed S] [--show K]
 //
@@ -52,6 +52,9 @@ function model(text, settings) {
   return { status: reports.length > 0 ? 1 : 0, out: reports.map((it, i) => `${places[i]} ${it.rule} ${it.text}\n`).join(''), err: '' };
 }
 
+// A refusal's line; which place a syntax error names isn't fixed.
+const placed = (line) => line.replace(/^(jslint: syntax error) at \d+:\d+\n$/, '$1\n');
+
 function main() {
   const source = randomSource(Number(option('seed', 1)));
   const count = Number(option('n', 500));
@@ -68,7 +71,7 @@ function main() {
     const words = source.below(2) || settings !== '' ? ['check', file, '--settings', second] : ['check', file];
     const done = spawnSync(PROGRAM, words, { encoding: 'utf8', maxBuffer: 1 << 28 });
     const wanted = model(text, settings);
-    if (done.status === wanted.status && done.stdout === wanted.out && done.stderr === wanted.err) {
+    if (done.status === wanted.status && done.stdout === wanted.out && placed(done.stderr) === placed(wanted.err)) {
       counts[['clean', 'reports', 'refused'][wanted.status]] += 1;
       continue;
     }
