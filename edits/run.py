@@ -217,7 +217,7 @@ def tried(crate, words, kept):
         left = [it for it in left if it not in (done or group)]
     for edit in alone:
         well, said = RT.must_fail(crate, edit.file, ONE_JOB, kept)
-        yield edit.name, well and 'only because a proof file' not in said, said.partition(': ')[2]
+        yield edit.name, well and 'only because a proof file' not in said and 'BAD EDIT' not in said, said.partition(': ')[2]
 
 
 def tried_crate(crate, words, is_built):
