@@ -1,6 +1,7 @@
 """Programs that measure: built outside the repository from copies of its crates, since in it each `.rt` file is one of the gate's."""
 import os
 import shutil
+import statistics
 import subprocess
 import sys
 import tempfile
@@ -8,7 +9,8 @@ import time
 
 TOP = os.path.dirname(os.path.dirname(os.path.abspath(__file__)))
 PARTS = ("src", "specs", "proofs")
-PACKAGES = ("libjs-jquery", "libjs-d3", "libjs-three", "node-react-dom", "node-acorn", "node-escodegen", "esbuild", "terser", "time")
+PACKAGES = ("libjs-jquery", "libjs-d3", "libjs-three", "node-react-dom", "node-acorn", "node-escodegen", "esbuild", "minify", "terser", "time", "valgrind")
+PROGRAMS = ("esbuild", "minify", "terser", "time", "valgrind")
 SCRIPTS = (
     "/usr/share/javascript/jquery/jquery.js",
     "/usr/share/javascript/jquery/jquery.min.js",
@@ -21,13 +23,16 @@ SCRIPTS = (
 )
 
 
-def scripts():
-    """The files of the command line, or those of Debian's packages, which are installed where they are missing."""
-    if sys.argv[1:]:
-        return sys.argv[1:]
-    if not (all(os.path.exists(it) for it in SCRIPTS) and shutil.which("esbuild") and shutil.which("terser") and os.path.exists("/usr/bin/time")):
+def install():
+    """Installs Debian's packages where something of them is missing."""
+    if not all(map(os.path.exists, SCRIPTS)) or not all(map(shutil.which, PROGRAMS)):
         subprocess.run(["apt-get", "install", "-y", "--no-install-recommends", *PACKAGES], check=True, stdout=sys.stderr)
-    return list(SCRIPTS)
+
+
+def scripts():
+    """The files of the command line, or those of Debian's packages."""
+    install()
+    return sys.argv[1:] or list(SCRIPTS)
 
 
 def below(names):
@@ -77,7 +82,7 @@ def checked(words, runs=5):
 
 
 def process(words, runs=5, well=(0,)):
-    """The least seconds of some runs of a process, and its peak memory in KiB, by GNU time; none where it refuses."""
+    """The least seconds of some runs of a process, and its peak memory in KiB; none where it refuses."""
     words = pinned(words)
     best = float("inf")
     for _ in range(runs):
@@ -86,6 +91,53 @@ def process(words, runs=5, well=(0,)):
         best = min(best, time.perf_counter() - start)
         if done.returncode not in well:
             return None, None
+    return best, peak(words)
+
+
+def peak(words):
+    """The peak memory of a process in KiB, by GNU time: what `wait4` says of a child has the size of its parent before it began."""
     with tempfile.NamedTemporaryFile("r") as said:
         subprocess.run(["/usr/bin/time", "-f", "%M", "-q", "-o", said.name, *words], stdout=subprocess.DEVNULL, stderr=subprocess.DEVNULL)
-        return best, int(said.read())
+        return int(said.read())
+
+
+def timed(words, cpus, runs):
+    """The processor and the wall milliseconds of some runs on these processors; none where it refuses."""
+    found = []
+    for _ in range(runs):
+        start = time.perf_counter()
+        child = subprocess.Popen(words, stdout=subprocess.DEVNULL, stderr=subprocess.DEVNULL, preexec_fn=lambda: os.sched_setaffinity(0, cpus))
+        _, status, usage = os.wait4(child.pid, 0)
+        child.returncode = status
+        if status:
+            return None
+        found.append(((usage.ru_utime + usage.ru_stime) * 1e3, (time.perf_counter() - start) * 1e3))
+    return [*zip(*found)]
+
+
+def print_beside(tools, files, runs=7):
+    """Prints what our program, the first of these tools, and the others take for each file, and then how ours compares with the second.
+
+    Times are in milliseconds, the least and the median of some runs, on one processor (that CPU names, or the last) and on all.
+    """
+    every = os.sched_getaffinity(0)
+    one = {int(os.environ["CPU"])} if "CPU" in os.environ else {max(every)}
+    print("| Script | bytes | program | one processor: processor | wall | all: processor | wall | MiB |\n|---|---|---|---|---|---|---|---|")
+    ratios = []
+    for path in files:
+        least = []
+        for name, words in tools(path).items():
+            times = [it for cpus in (one, every) for it in timed(words, cpus, runs) or [None]]
+            cells, size = ["refused", "", "", ""], ""
+            if None not in times:
+                cells, size = [f"{min(it):.1f} {statistics.median(it):.1f}" for it in times], peak(words) / 1024
+                least.append([*map(min, times), size])
+                size = f"{size:.0f}"
+            print(f"| {os.path.basename(path)} | {os.path.getsize(path)} | {name} | {' | '.join(cells)} | {size} |", flush=True)
+        if len(least) > 1:
+            ratios.append((os.path.basename(path), [ours / theirs for ours, theirs in zip(*least[:2])]))
+    names = [*tools("")]
+    print(f"\n| {names[0]} to {names[1]} | one processor: processor | wall | all: processor | wall | memory |\n|---|---|---|---|---|---|")
+    ratios.append(("mean", [statistics.mean(it) for it in zip(*(it for _, it in ratios))]))
+    for name, found in ratios:
+        print(f"| {name} | " + " | ".join(f"{it:.2f}" for it in found) + " |")

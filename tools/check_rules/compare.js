@@ -12,7 +12,7 @@ const path = require('node:path');
 const { spawnSync } = require('node:child_process');
 const { option } = require('../dump.js');
 const { makeTexts, nested } = require('../parser/compare.js');
-const { parse } = require('../reference/parse.js');
+const { LIMITS, parse } = require('../reference/parse.js');
 const { extraPairs, plan } = require('../reference/plan.js');
 const { randomSource } = require('../reference/random.js');
 const { RULE_NAMES, fromToml, runRules } = require('../reference/rules.js');
@@ -22,7 +22,6 @@ const { OWN, scopeScript } = require('../scopes/texts.js');
 
 const TOP = path.join(__dirname, '..', '..');
 const PROGRAM = process.env.JSLINT ?? path.join(TOP, 'bin', 'jslint');
-const LIMITS = { maxHeight: 500, maxParens: 1000 };
 
 // A settings file: mostly a right one.
 function settingsText(source) {

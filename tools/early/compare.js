@@ -13,7 +13,7 @@ const { answersOf, copied, option, pieces } = require('../dump.js');
 const { sample } = require('../reference/brute.js');
 const { earlyErrors } = require('../reference/early.js');
 const { PROGRAMS } = require('../reference/fuzz-programs.js');
-const { parseOnly } = require('../reference/parse.js');
+const { LIMITS, parseOnly } = require('../reference/parse.js');
 const { randomSource } = require('../reference/random.js');
 
 // ---------------------------------------------------------------- scripts dense in early errors
@@ -123,7 +123,7 @@ function makeTexts(count, seed) {
 function answer(text) {
   const result = parseOnly(text, { maxHeight: 1e6, maxParens: 1e6 });
   if (!result.ok) return result.fault.kind;
-  if (result.height > 500 || result.openParens > 1000) return 'TooDeep';
+  if (result.height > LIMITS.maxHeight || result.openParens > LIMITS.maxParens) return 'TooDeep';
   const first = earlyErrors(result.tree, text)[0];
   return first === undefined ? 'none' : `E${first.number} ${first.at}`;
 }

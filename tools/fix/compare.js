@@ -13,13 +13,11 @@ const path = require('node:path');
 const { answersOf, copied, option } = require('../dump.js');
 const { makeScript } = require('../early/compare.js');
 const { makeTexts, nested } = require('../parser/compare.js');
-const { parse } = require('../reference/parse.js');
+const { LIMITS, parse } = require('../reference/parse.js');
 const { plan } = require('../reference/plan.js');
 const { layout } = require('../reference/print.js');
 const { randomSource } = require('../reference/random.js');
 const { plainTree } = require('../definitions/model.js');
-
-const LIMITS = { maxHeight: 500, maxParens: 1000 };
 
 function someTexts(count, seed) {
   const source = randomSource(seed);

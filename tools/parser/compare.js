@@ -8,7 +8,7 @@
 // the crates that the parser stands on and the program dump.txt to a temporary folder, runs the program there by `rt try`
 // (it needs no proof; the environment's RT may name another command) and compares its answers with parse.js.
 // --nested: that many texts in which constructs stand in each other, and no others.
-// --file: texts of one's own, with U+0000 between them. --high H --open M: with these limits in place of 500 and 1000, so
+// --file: texts of one's own, with U+0000 between them. --high H --open M: with these limits in place of the usual ones, so
 // that small texts meet them; a text that derives nothing may then be too deep too. Exit status 1 where anything disagrees.
 
 const fs = require('node:fs');
@@ -16,7 +16,7 @@ const path = require('node:path');
 const { answersOf, copied, option, pieces } = require('../dump.js');
 const { sample } = require('../reference/brute.js');
 const { PROGRAMS } = require('../reference/fuzz-programs.js');
-const { parseOnly } = require('../reference/parse.js');
+const { LIMITS, parseOnly } = require('../reference/parse.js');
 const { randomSource } = require('../reference/random.js');
 const { plainTree } = require('../definitions/model.js');
 
@@ -95,8 +95,8 @@ function show(n) {
   const form = n.flags.form === 'init' ? '' : ':' + n.flags.form;
   return `(${n.kind} ${n.start} ${n.stop} [${n.text}] ${flags}${form}${n.parts.map(show).join('')})`;
 }
-const HIGH = Number(option('high', 500));
-const OPEN = Number(option('open', 1000));
+const HIGH = Number(option('high', LIMITS.maxHeight));
+const OPEN = Number(option('open', LIMITS.maxParens));
 function answer(text) {
   const result = parseOnly(text, { maxHeight: 1e6, maxParens: 1e6 });
   if (!result.ok) return result.fault.kind;
@@ -108,14 +108,14 @@ function answer(text) {
 
 function run(texts) {
   const folder = copied(path.join(__dirname, 'dump.txt'), ['source_text', 'tree', 'parser']);
-  const limit = (file, name, value) => {
-    const at = path.join(folder, 'crates', file);
+  const at = path.join(folder, 'crates/language/src/limits.rt');
+  const limit = (name, value) => {
     fs.writeFileSync(at, fs.readFileSync(at, 'utf8').replace(new RegExp(`(const ${name}: \\w+ = )\\d+`), '$1' + value));
   };
-  limit('descent/src/script.rt', 'MAX_HEIGHT', HIGH);
-  limit('token_cursor/src/cursor.rt', 'MAX_OPEN', OPEN);
+  limit('MAX_HEIGHT', HIGH);
+  limit('MAX_OPEN', OPEN);
   // under small limits a short text may be nested too deep
-  limit('parser/src/script.rt', 'SHORT', 0);
+  limit('SHORT_BYTES', 0);
   return answersOf(folder, texts, 4000);
 }
 
@@ -134,7 +134,7 @@ function main() {
     if (wanted.endsWith(')')) accepted += 1;
     if (wanted === 'TooDeep') deep += 1;
     if (wanted === answers[i]) continue;
-    if (wanted === 'Syntax' && answers[i] === 'TooDeep' && HIGH < 500) continue;
+    if (wanted === 'Syntax' && answers[i] === 'TooDeep' && HIGH < LIMITS.maxHeight) continue;
     differ += 1;
     if (differ > Number(option('show', 20))) continue;
     console.log(JSON.stringify(texts[i]) + '\n  model:  ' + wanted + '\n  parser: ' + answers[i]);
@@ -143,5 +143,5 @@ function main() {
   if (differ > 0) process.exitCode = 1;
 }
 
-module.exports = { makeTexts, nested };
+module.exports = { HOLDERS, makeTexts, nested };
 if (require.main === module) main();

@@ -5,13 +5,16 @@
 //   parse(textOrBuffer, options)      the whole front end (`read_script`): refusals 2, 1, 3, 4, 5
 //   parseOnly(textOrBuffer, options)  the same without early errors (`parser::parse`)
 //
-// options: edition (2021: with two additions of the 12th edition; 2020: without), maxHeight (500), maxParens (1000).
+// options: edition (2021: with two additions of the 12th edition; 2020: without), maxHeight and maxParens (LIMITS).
 // Answers {ok:true, tree, pairs, height, openParens, text} or
 // {ok:false, fault:{kind, at, number}, text}.
 
 const { isMainThread } = require('node:worker_threads');
 const { runInBigStack } = require('./bigstack.js');
 const { GOAL, RESERVED, makeSource, scan, stringValue, templateValue } = require('./scan.js');
+
+// The limits of the height of a tree, and of the parentheses open at one point that group or hold an arrow's parameters.
+const LIMITS = { maxHeight: 600, maxParens: 1200 };
 
 class Refusal extends Error {
   constructor(kind, at) {
@@ -42,8 +45,8 @@ class Parser {
     this.byteAt = source.byteAt;
     this.byteLength = source.byteLength;
     this.edition = options.edition ?? 2021;
-    this.maxHeight = options.maxHeight ?? 500;
-    this.maxParens = options.maxParens ?? 1000;
+    this.maxHeight = options.maxHeight ?? LIMITS.maxHeight;
+    this.maxParens = options.maxParens ?? LIMITS.maxParens;
 
     this.position = 0; // behind the last token taken
     this.lastEnd = 0;
@@ -1160,4 +1163,4 @@ function parse(input, options = {}) {
   return { ok: false, fault: { kind: 'Early', number: first.number, at: first.at }, text: result.text };
 }
 
-module.exports = { parse, parseOnly, children, height };
+module.exports = { LIMITS, parse, parseOnly, children, height };

@@ -12,7 +12,7 @@ const fs = require('node:fs');
 const os = require('node:os');
 const path = require('node:path');
 const { spawnSync } = require('node:child_process');
-const { parse } = require('../reference/parse.js');
+const { LIMITS, parse } = require('../reference/parse.js');
 const { treeJson } = require('../reference/json.js');
 const { extraPairs, plan, writeTable } = require('../reference/plan.js');
 const { layout } = require('../reference/print.js');
@@ -20,6 +20,7 @@ const { defaultSettings, runRules } = require('../reference/rules.js');
 const { resolve } = require('../reference/scopes.js');
 const { runInBigStack } = require('../reference/bigstack.js');
 const TOP = path.join(__dirname, '..', '..');
+const LIMITS = { maxHeight: 500, maxParens: 1000 };
 const PACKAGES = ['libjs-jquery', 'libjs-d3', 'libjs-three', 'node-react-dom', 'node-react', 'node-acorn', 'libjs-underscore', 'libjs-highlight.js'];
 
 // What each command writes of an accepted script, from its tree, its grouping pairs and its bytes, and the exit status.
@@ -91,8 +92,11 @@ function words(fault, bytes) {
 }
 
 function model(command, file) {
-  const bytes = fs.readFileSync(file);
-  const parsed = parse(bytes, { maxHeight: 500, maxParens: 1000 });
+  return modelOf(command, fs.readFileSync(file), LIMITS);
+}
+
+function modelOf(command, bytes, limits) {
+  const parsed = parse(bytes, limits);
   if (parsed.ok) {
     const [out, status] = ANSWERS[command](parsed.tree, parsed.pairs, bytes);
     return { status, out, err: '' };
@@ -149,5 +153,5 @@ function main() {
   return apart === 0 ? 0 : 1;
 }
 
-module.exports = { files, lineColumn, linesColumns, model, words };
+module.exports = { files, lineColumn, linesColumns, model, modelOf, words };
 if (require.main === module) process.exitCode = main();

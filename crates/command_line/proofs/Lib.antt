@@ -1,0 +1,2 @@
+mod Memory
+mod ShownMore

@@ -4,7 +4,7 @@
 pub const VERSION: &str = "1.0.0 (proved with rattle-kit-13f)";
 
 pub const ABOUT: &str =
-    "A linter for ECMAScript scripts in strict code, whose every answer is proved";
+    "A linter for ECMAScript scripts in strict code, with proofs of what its answers mean";
 
 pub const CHECK: &str = "Report what the rules find, a line each: LINE:COLUMN RULE TEXT";
 
@@ -34,7 +34,7 @@ Examples:
   jslint verify app.js app.cost
 
 Limits: 16,777,216 bytes of a script in UTF-8, and of settings; a tree of height
-500; 1,000 parentheses open at one point that group or hold an arrow's
+600; 1,200 parentheses open at one point that group or hold an arrow's
 parameters. /dev/stdin reads standard input; `-` is the name of a file.
 
 Exit status:

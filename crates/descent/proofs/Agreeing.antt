@@ -15,6 +15,7 @@ use Rattle.tree.specs.Tree.{Tree, height}
 use Rattle.language.specs.Token.{Token}
 use Rattle.language.specs.Derivation.{Reads}
 use Rattle.language.specs.Places.{NextIn, itself}
+use Rattle.language.specs.Claims.{max_open}
 use Rattle.language.proofs.TextPlaces.{text_determined}
 use Rattle.productions.specs.Made.{Makes}
 use Rattle.descent.specs.Given.{Agrees, Room, EndsWith}
@@ -88,15 +89,15 @@ refuses_unless W At fits OutOfMemory h fit = tt
 refuses_unless W At fits _ h fit = absurd h
 
 -- no more parentheses may be open
-pub refuses_under : (W : Type 0) (opened : ℕ) (fault : Fault) → RefusedUnder opened fault → (W → suc opened ≤ 1000) → Refuses W fault
+pub refuses_under : (W : Type 0) (opened : ℕ) (fault : Fault) → RefusedUnder opened fault → (W → suc opened ≤ max_open) → Refuses W fault
 refuses_under W opened (Syntax at) h f = absurd h
-refuses_under W opened TooDeep h f = λ (w : W). let u : suc opened ≤ 1000 = f w in absurd (omega arith)
+refuses_under W opened TooDeep h f = λ (w : W). let u : suc opened ≤ max_open = f w in absurd (omega arith)
 refuses_under W opened OutOfMemory h f = tt
 refuses_under W opened _ h f = absurd h
 
 -- a part lies within the limits where the whole does: as many parentheses are open, and it is lower
 pub room_part : (s m : Point) {o levels high less lower : ℕ} → m.opened ≡ s.opened → (levels ≤ high → less ≤ lower) → Room s o levels high → Room m o less lower
-room_part s m {o} same f room = (subst (λ k. o ≤ 1000 - k) (sym same) room.0, f room.1)
+room_part s m {o} same f room = (subst (λ k. o ≤ max_open - k) (sym same) room.0, f room.1)
 
 -- where a token is read that another doesn't miss
 pub not_missed : {text : List ℕ} {c : Class} {w : List ℕ} {s t e : Token} → Misses text c w s → Reads Token (NextIn text any_goal) itself c w s t e → ⊥

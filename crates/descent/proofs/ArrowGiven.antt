@@ -22,6 +22,7 @@ use Rattle.language.specs.Expressions.{arrow_end}
 use Rattle.language.specs.Pieces.{Role, expr, body, sub, put, tail, settle_piece}
 use Rattle.language.specs.Token.{Token}
 use Rattle.language.specs.Places.{NextIn, itself, SpellsIn}
+use Rattle.language.specs.Claims.{max_open}
 use Rattle.language.proofs.Closures.{braced_absent, body_begins}
 use Rattle.language.proofs.Conditionals.{same_sign}
 use Rattle.language.proofs.Running.{run_token, run_laid, run_unbroken, run_the_part, run_none}
@@ -118,7 +119,7 @@ module _ (s m : Point) (old mid : List Pair) (high inner : ℕ) (parameters : Pa
       let all = parts_height-push parameters u in
       let high_is : height (node ArrowFunctionExpression [] flags start to.stop (push parameters u)) ≡ suc (parts_height (push parameters u)) = refl in
       let below = room.1 in
-      (subst (λ k. o ≤ 1000 - k) (sym same) room.0, omega arith)
+      (subst (λ k. o ≤ max_open - k) (sym same) room.0, omega arith)
 
   -- no `=>` there
   pub arrow_unsigned : (e : Point) (new : List Pair) (result : Result Part Fault) (fault : Fault) → IsErrAnd result (λ x. x ≡ fault) → Misses s.text Punctuator (codes "=>") s.last → ArrowComplete s e old new high parameters start i result

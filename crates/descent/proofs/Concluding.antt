@@ -21,6 +21,7 @@ use Rattle.language.specs.Follow.{operation, symbol_of, holds, stops_at}
 use Rattle.language.specs.Promises.{ReadBy}
 use Rattle.language.specs.Covers.{Reading}
 use Rattle.language.specs.Places.{NextIn, itself}
+use Rattle.language.specs.Claims.{max_open}
 use Rattle.language.proofs.TextPlaces.{text_determined}
 use Rattle.language.proofs.Onward.{makes}
 use Rattle.language.proofs.Climbing.{whole_where_stops}
@@ -127,9 +128,9 @@ stage_next {text} {p} {o} {s} {to} {m} {P} {old = old} {r = r} {a = a} {n = n} u
 pub stage_turned : {s m : Point} {old mid : List Pair} {p : Position} {l : Part} (e : Point) (new : List Pair) (high : ℕ) (result : Result Part Fault) {a : Reading} {o : ℕ} {n : Tree} {to : Token} {P : List Pair} → m.text ≡ s.text → Adds s m old mid (ReadAt s.text p l) → (u : Staged s.text p o s.last to P l m.last [] old mid a n) →
     TurnComplete m e mid new high p l result → Agrees (Room m o (height n) high) (λ r. Staged s.text p o s.last to P r e.last (grouping u.more) mid new a n) result
 stage_turned {s} {m} {old} {mid} {p} {l} e new high result {a} {o} {n} {to} {P} same at u turn =
-    let read : ReadAt m.text p l (1000 - m.opened) s.last m.last (grouping at.more) = subst (λ v. ReadAt v p l (1000 - m.opened) s.last m.last (grouping at.more)) (sym same) (subst (λ v. ReadAt s.text p l (1000 - v) s.last m.last (grouping at.more)) (sym at.same_open) at.is) in
+    let read : ReadAt m.text p l (max_open - m.opened) s.last m.last (grouping at.more) = subst (λ v. ReadAt v p l (max_open - m.opened) s.last m.last (grouping at.more)) (sym same) (subst (λ v. ReadAt s.text p l (max_open - v) s.last m.last (grouping at.more)) (sym at.same_open) at.is) in
     let stage = subst (λ v. StageAs v p o s.last to P l m.last (grouping u.more) a n) (sym same) u.stage in
     subst (λ v. Agrees (Room m o (height n) high) (λ r. Staged v p o s.last to P r e.last (grouping u.more) mid new a n) result) same (turn a o n s.last to P (grouping u.more) (grouping at.more) read stage)
 
 pub same_room : (s m : Point) {o levels high : ℕ} → m.opened ≡ s.opened → Room s o levels high → Room m o levels high
-same_room s m {o} same room = (subst (λ v. o ≤ 1000 - v) (sym same) room.0, room.1)
+same_room s m {o} same room = (subst (λ v. o ≤ max_open - v) (sym same) room.0, room.1)

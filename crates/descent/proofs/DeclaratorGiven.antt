@@ -26,6 +26,7 @@ use Rattle.language.specs.Token.{Token}
 use Rattle.language.specs.Covers.{Reading, as_expression, as_pattern}
 use Rattle.language.specs.Places.{NextIn, itself, SpellsIn}
 use Rattle.language.specs.Derivation.{Reads, Placed, placed}
+use Rattle.language.specs.Claims.{max_open}
 use Rattle.language.proofs.CoverElements.{BoundForm, a_pattern, a_simple, a_name, a_target, bound_form}
 use Rattle.language.proofs.Declarators.{Target, DeclaratorForm, with_value, alone, declarator_form}
 use Rattle.language.proofs.Leaves.{name_form}
@@ -218,7 +219,7 @@ module _ (s e : Point) (old new : List Pair) (high : ℕ) (i : Bool) where
             let v = valued a d fine in
             let low = v.low in
             agrees_on (Room x o (height v.value) inner) (Room s o (height n) high) (Same a n to P) answer fault err (complete as_expression o v.value to v.more (given_value v))
-            (λ room. (subst (λ k. o ≤ 1000 - k) (sym opened) room.0, (let within : height n ≤ high = room.1 in omega arith)))
+            (λ room. (subst (λ k. o ≤ max_open - k) (sym opened) room.0, (let within : height n ≤ high = room.1 in omega arith)))
 
         -- its value was read
         module _ (part2 : Part) (value_read : ExpressionComplete x y next last inner r (Ok part2)) where

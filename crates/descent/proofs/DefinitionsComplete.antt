@@ -19,6 +19,7 @@ use Rattle.language.specs.Pieces.{Role}
 use Rattle.language.specs.Token.{Token}
 use Rattle.language.specs.Covers.{Reading, as_expression, as_pattern}
 use Rattle.language.specs.Places.{SpellsIn}
+use Rattle.language.specs.Claims.{max_open}
 use Rattle.covers.specs.declared.list.Item.{Item}
 use Rattle.covers.specs.declared.list.Listed.TheVariants as listed
 use Rattle.covers.specs.declared.shape.Shape.{Shape}
@@ -89,7 +90,7 @@ module _ (s e : Point) (old new : List Pair) (high : ℕ) (in_class : Bool) wher
   answered : (a : Reading) {r : Role} {o : ℕ} (n : Tree) {to : Token} {P : List Pair} → has_reading (defined in_class) a ≡ true → item_role (defined in_class) a (kind_of n) ≡ Some r → SpellsIn s.text o r n s.last to P → DefinitionEnds s.text in_class to →
       (it : Item) → Adds s e old new (ItemReads s.text (defined in_class) it) → item_fits (defined in_class) it a ≡ true → (is_rest (kind_of n) ≡ false → may_trail it a ≡ true) → e.last ≡ to → Same a n to P it
   answered a n has it d ends item adds fits trail place =
-      let same = definition_same s.text in_class a n has it d ends item (subst (λ z. ItemReads s.text (defined in_class) item (1000 - s.opened) s.last z (grouping adds.more)) place adds.is) fits in
+      let same = definition_same s.text in_class a n has it d ends item (subst (λ z. ItemReads s.text (defined in_class) item (max_open - s.opened) s.last z (grouping adds.more)) place adds.is) fits in
       (fits, same.0, trail, record { place = place; more = adds.more; added = adds.pairs; pairs = same.1 })
 
   -- `...` was read
@@ -112,7 +113,7 @@ module _ (s e : Point) (old new : List Pair) (high : ℕ) (in_class : Bool) wher
         let v = dots_given (definition_given s.text in_class a n has it d ends) in
         let low = v.low in
         agrees_on (Room x o (height v.value) inner) (Room s o (height n) high) (Same a n to P) answer fault err (complete a o v.value to v.more v.given)
-        (λ room. (subst (λ z. o ≤ 1000 - z) (sym opened) room.0, (let within : height n ≤ high = room.1 in omega arith)))
+        (λ room. (subst (λ z. o ≤ max_open - z) (sym opened) room.0, (let within : height n ≤ high = room.1 in omega arith)))
 
     module _ (inner : ℕ) (part1 : Part) (read : ExpressionComplete x y next last inner q (Ok part1)) where
       pub definition_element : (answer : Result Item Fault) (fault : Fault) → IsErrAnd answer (λ z. z ≡ fault) → RefusedAbove (element_levels true part1.cover.node) high fault → Whole answer
@@ -129,7 +130,7 @@ module _ (s e : Point) (old new : List Pair) (high : ℕ) (in_class : Bool) wher
           let w = read a o v.value to v.more v.given in
           let fits : item_fits (defined in_class) item a ≡ true = fits_there in_class not_class a (λ b h. w.0.target (v.target b h)) w.0.fits in
           let place = stays ∙ w.1.place in
-          let same = definition_same s.text in_class a n has it d ends item (subst (λ z. ItemReads s.text (defined in_class) item (1000 - s.opened) s.last z (grouping adds.more)) place adds.is) fits in
+          let same = definition_same s.text in_class a n has it d ends item (subst (λ z. ItemReads s.text (defined in_class) item (max_open - s.opened) s.last z (grouping adds.more)) place adds.is) fits in
           answered a n has it d ends item adds fits (λ h. trail a (ap (λ z. is_rest (kind_of z)) same.0 ∙ h)) place
         where
           fits_there : (c : Bool) → c ≡ false → (a : Reading) → ((b : Bool) → a ≡ as_pattern b → shapes.is_target part1.cover.shape.assigned ≡ true) → fits_as part1.cover.shape a ≡ true → item_fits (defined c) item a ≡ true
@@ -164,7 +165,7 @@ module _ (s e : Point) (old new : List Pair) (high : ℕ) (in_class : Bool) wher
           let v = keyed_given (definition_given s.text in_class a n has it d ends) in
           let low = v.low in
           agrees_on (Room h o (height v.name) inner) (Room s o (height n) high) (Same a n to P) answer fault err (complete v.is_static v.form v.computed o v.name v.mid v.one v.given)
-          (λ room. (subst (λ z. o ≤ 1000 - z) (sym h_opened) room.0, (let within : height n ≤ high = room.1 in omega arith)))
+          (λ room. (subst (λ z. o ≤ max_open - z) (sym h_opened) room.0, (let within : height n ≤ high = room.1 in omega arith)))
 
       -- the name was read
       module _ (words : Modifiers) (key : Key) (read : NameComplete h m from mid inner in_class (Ok (words, key))) (m_text : m.text ≡ s.text) (m_opened : m.opened ≡ s.opened) where
@@ -175,7 +176,7 @@ module _ (s e : Point) (old new : List Pair) (high : ℕ) (in_class : Bool) wher
             let place : m.last ≡ v.mid = w.4 in
             let value : ValueGiven m.text key.computed a o (height n) m.last to = subst (λ z. ValueGiven z key.computed a o (height n) m.last to) (sym m_text) (subst (λ z. ValueGiven s.text z a o (height n) m.last to) (sym w.2) (subst (λ z. ValueGiven s.text v.computed a o (height n) z to) (sym place) (of v.form v.behind (subst (λ z. Misses z Punctuator (codes "(") v.mid) m_text (subst (λ z. Misses m.text Punctuator (codes "(") z) place no_call))))) in
             agrees_map answer derived (complete a o (height n) to (omega arith) (λ c. subst (λ z. TokenIs key.token z) (sym place) (w.3 (sym w.2 ∙ c))) value)
-            (λ room. (subst (λ z. o ≤ 1000 - z) (sym m_opened) room.0, room.1))
+            (λ room. (subst (λ z. o ≤ max_open - z) (sym m_opened) room.0, room.1))
             (λ item adds u. answered a n has it d ends item adds (fits_there in_class not_class item a u.0) (λ k. trail a item u.1) u.2)
           where
             of : {a : Reading} {o levels : ℕ} {c : Bool} {b to : Token} (f : Form) → BehindGiven s.text in_class c a o levels b to f → Misses s.text Punctuator (codes "(") b → ValueGiven s.text c a o levels b to
@@ -214,7 +215,7 @@ module _ (s e : Point) (old new : List Pair) (high : ℕ) (in_class : Bool) wher
                 let v = (function_of (keyed_given (definition_given s.text in_class a n has it d ends))).function in
                 let low = v.low in
                 agrees_on (Room m o (suc (parts_height v.parts)) inner) (Room s o (height n) high) (Same a n to P) answer fault err (complete v.parts o to v.pairs v.runs (λ k. absurd (false≢true k)))
-                (λ room. (subst (λ z. o ≤ 1000 - z) (sym m_opened) room.0, (let within : height n ≤ high = room.1 in omega arith)))
+                (λ room. (subst (λ z. o ≤ max_open - z) (sym m_opened) room.0, (let within : height n ≤ high = room.1 in omega arith)))
 
             pub definition_made : (function tree : Tree) {k : Kind} {w : List ℕ} {g : Flags} {st en : ℕ} (answer : Result Item Fault) (fault : Fault) → IsErrAnd answer (λ z. z ≡ fault) → tree ≡ node k w g st en (part key.node (part function none)) → height key.node ≤ inner → height function ≤ inner → Makes tree high (Err fault) → Whole answer
             definition_made function tree answer fault err is key_low low makes = λ a o r n to P has it d ends.

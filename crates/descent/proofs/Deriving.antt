@@ -19,6 +19,7 @@ use Rattle.language.specs.Pieces.{Role, Piece, PieceOf, settle_piece, sign, list
 use Rattle.language.specs.Token.{Token}
 use Rattle.language.specs.Places.{NextIn, itself}
 use Rattle.language.specs.Derivation.{done, step, opened, closed, within, missing, Step, token}
+use Rattle.language.specs.Claims.{max_open}
 use Rattle.descent.specs.Derived.{RunsIn, anywhere, groups, grouping, Adds, ArgumentsAt}
 use Rattle.descent.specs.DerivedLists.{SoFarAt, ListAt, is_whole, whole_of, stood_in, item_pieces, ClosedBy}
 use Rattle.descent.specs.Follows.{BegunAt}
@@ -35,7 +36,7 @@ adds_behind {s} {m} {e} {A = A} {B = B} open_same same a f = record {
   more = a.more;
   same_open = a.same_open ∙ open_same;
   pairs = a.pairs ∙ ap (λ x. x ++ a.more) same;
-  is = f (1000 - s.opened) (grouping a.more) (subst (λ x. A (1000 - x) m.last e.last (grouping a.more)) open_same a.is);
+  is = f (max_open - s.opened) (grouping a.more) (subst (λ x. A (max_open - x) m.last e.last (grouping a.more)) open_same a.is);
 }
 
 -- one behind the other
@@ -44,13 +45,13 @@ adds_both {s} {m} {e} {old} {A = A} {B = B} {C = C} a b f = record {
   more = a.more ++ b.more;
   same_open = b.same_open ∙ a.same_open;
   pairs = b.pairs ∙ ap (λ x. x ++ b.more) a.pairs ∙ append_assoc old a.more b.more;
-  is = subst (λ x. C (1000 - s.opened) s.last e.last x) (sym (grouping_both a.more b.more))
-      (f (1000 - s.opened) (grouping a.more) (grouping b.more) a.is (subst (λ x. B (1000 - x) m.last e.last (grouping b.more)) a.same_open b.is));
+  is = subst (λ x. C (max_open - s.opened) s.last e.last x) (sym (grouping_both a.more b.more))
+      (f (max_open - s.opened) (grouping a.more) (grouping b.more) a.is (subst (λ x. B (max_open - x) m.last e.last (grouping b.more)) a.same_open b.is));
 }
 
 -- what added nothing
 pub adds_none : {s e : Point} {old new : List Pair} {C : ℕ → Token → Token → List Pair → Type 0} → e.opened ≡ s.opened → new ≡ old → ((o : ℕ) → C o s.last e.last []) → Adds s e old new C
-adds_none {s} {old = old} open_same same f = record { more = []; same_open = open_same; pairs = same ∙ sym (append-nil old); is = f (1000 - s.opened) }
+adds_none {s} {old = old} open_same same f = record { more = []; same_open = open_same; pairs = same ∙ sym (append-nil old); is = f (max_open - s.opened) }
 
 module _ (text : List ℕ) where
   -- one more piece that is no node

@@ -26,6 +26,7 @@ use Rattle.language.specs.Covers.{Reading, as_expression, as_pattern}
 use Rattle.language.specs.Opening.{Opening, with_bracket, with_brace, with_template, opening_of}
 use Rattle.language.specs.Token.{Token, as_read}
 use Rattle.language.specs.Words.{is_target as is_simple}
+use Rattle.language.specs.Claims.{max_open}
 use Rattle.phrases.specs.declared.position.Position.{Position}
 use Rattle.phrases.specs.declared.openings.Opening.TheVariants as code
 use Rattle.descent.specs.Derived.{RunsIn, anywhere, Adds, read_as, all_read_as, fits_as}
@@ -171,7 +172,7 @@ brackets_rest s m {what} {z} l text by is begun {o} {n} {to} {Q} {a} {h} v =
       start_low = omega arith;
       first = λ e old new whole d seen same whole_is nodes place.
           list_first v whole by (same.0 ∙ is) whole_is (nodes ∙ ap (λ x. join x v.parts) (nothing_read s m l text by is begun a)) (same.1 ∙ place_mark s begun.0 (sign_read s m l text by is begun) ∙ ap (λ (x : Token). x.start) (sym (marks_same s.text v.left (sign_read s m l text by is begun)).0))
-          ((d.is Any m.last [] (so_far s m l text by is begun (1000 - m.opened))).ends ∙ ap (λ (x : Token). x.stop) place) (seen (seen_right s m l text by is begun)).together;
+          ((d.is Any m.last [] (so_far s m l text by is begun (max_open - m.opened))).ends ∙ ap (λ (x : Token). x.stop) place) (seen (seen_right s m l text by is begun)).together;
     }
 
 -- what begins as a list in the code

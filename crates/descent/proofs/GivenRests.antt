@@ -46,6 +46,7 @@ use Rattle.language.specs.declared.Rank.{Rank}
 use Rattle.language.specs.Covers.{Reading, as_expression}
 use Rattle.language.specs.Opening.{Opening, with_template, opening_of}
 use Rattle.language.specs.Token.{Token, as_read, same_class}
+use Rattle.language.specs.Claims.{max_open}
 use Rattle.phrases.specs.declared.position.Position.{Position}
 use Rattle.phrases.specs.declared.openings.Opening.TheVariants as code
 use Rattle.descent.specs.Follows.{BegunAt, BegunTemplate, NotBegun, NoTemplate, TemplateAt}
@@ -103,7 +104,7 @@ template_rest s m l u text ahead opens is begun b {p} {o} {n} {to} {Q} {a} {h} g
       start_low = omega arith;
       first = λ e old new whole d seen same whole_is nodes place.
           let from : whole.span.start ≡ u.start = same.1 ∙ place_token s begun.0 (template_ahead u ahead opens (template_of u.class (as_read u).text opens).0) in
-          let end : whole.span.end ≡ to.stop = (d.is Any s.last [] (subst (λ k. SoFarAt k Any l (1000 - m.opened) s.last m.last []) (sym text) (begun_so_far s m l Any (1000 - m.opened) b))).ends ∙ ap (λ (k : Token). k.stop) place in
+          let end : whole.span.end ≡ to.stop = (d.is Any s.last [] (subst (λ k. SoFarAt k Any l (max_open - m.opened) s.last m.last []) (sym text) (begun_so_far s m l Any (max_open - m.opened) b))).ends ∙ ap (λ (k : Token). k.stop) place in
           let whole_nodes : whole.nodes ≡ w.parts = subst (λ k. all_read_as k whole.nodes ≡ join (all_read_as k l.nodes) x.rest) v.reading nodes ∙ ap (λ (k : ListOf). join k.nodes x.rest) b.list ∙ sym x.parts in
           template_first whole (same.0 ∙ is) v.reading (w.tree ∙ (λ i. node TemplateLiteral [] plain (sym from i) (sym end i) (sym whole_nodes i))) w.taken;
     }

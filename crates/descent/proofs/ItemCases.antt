@@ -25,6 +25,7 @@ use Rattle.language.specs.Places.{NextIn, itself, SpellsIn}
 use Rattle.language.specs.Statements.{prologue, lines}
 use Rattle.language.specs.Token.{Token}
 use Rattle.language.specs.Words.{is}
+use Rattle.language.specs.Claims.{max_open}
 use Rattle.language.proofs.Blocks.{case_pieces, one_case}
 use Rattle.language.proofs.Conditionals.{stops_before}
 use Rattle.language.proofs.OneKind.{one_kind}
@@ -263,7 +264,7 @@ module _ (s e : Point) (old new : List Pair) (l k : ListOf) (high : ℕ) (r : Bo
         let w = behind_word o v.tree to P v.given in
         let low = w.low in
         agrees_on (Room m o (parts_height w.inside) inner) (Room s o (parts_height one) high) (λ u. ItemRead a l k last one × EndsWith s e old new to P) answer fault err (h o w.right w.inside to P w.edges w.pieces)
-        (λ room. (subst (λ z. o ≤ 1000 - z) (sym opened) room.0, (let within_high : height v.tree ≤ high = one_high v.tree v.parts room.1 in omega arith)))
+        (λ room. (subst (λ z. o ≤ max_open - z) (sym opened) room.0, (let within_high : height v.tree ≤ high = one_high v.tree v.parts room.1 in omega arith)))
 
     module _ (c : Built) (u : Unit {0}) (empty : b.nodes ≡ case_nodes d none) (read : PiecesComplete m e mid new inner parts x.returns b c (Ok u)) where
       -- the node is what is given

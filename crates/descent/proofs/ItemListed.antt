@@ -21,6 +21,7 @@ use Rattle.language.specs.Pieces.{Role, expr, name, pattern, bound}
 use Rattle.language.specs.Places.{NextIn, itself, SpellsIn}
 use Rattle.language.specs.Token.{Token}
 use Rattle.language.specs.Words.{is, is_target as is_simple, is_pattern as is_pattern_kind, is_identifier}
+use Rattle.language.specs.Claims.{max_open}
 use Rattle.language.proofs.CoverElements.{simple_target}
 use Rattle.language.proofs.CoverSigns.{comma_separates, no_element_begins}
 use Rattle.language.proofs.TextPlaces.{text_determined}
@@ -174,7 +175,7 @@ module _ (s e : Point) (old new : List Pair) (l k : ListOf) (high : ℕ) (kind :
         let v = behind_given a o last one to P (left_reads l a left) g in
         let low = v.low in
         agrees_on (Room x o (height v.value.value) inner) (Room s o (parts_height one) high) (λ u. ItemRead a l k last one × EndsWith s e old new to P) answer fault err (h a o v.value.value to P v.expression)
-        (λ room. (subst (λ z. o ≤ 1000 - z) (sym opened) room.0, (let within : height v.given.tree ≤ high = one_high v.given.tree v.given.parts room.1 in omega arith)))
+        (λ room. (subst (λ z. o ≤ max_open - z) (sym opened) room.0, (let within : height v.given.tree ≤ high = one_high v.given.tree v.given.parts room.1 in omega arith)))
 
     pub dotted_taken : (r : Part) (it : Item) (start at : ℕ) (answer : Result (Unit {0}) Fault) → ((u : LexicalToken) → Reads s.text Div s.last.stop u → start ≡ u.start) → it ≡ element_item true start e.last.stop r → mid ≡ old →
         IfOk answer (λ u. k ≡ with_item l it) → IsTaken (takes l.listed l.seen it) at answer → ExpressionComplete x e mid new inner q (Ok r) → ItemComplete s e old new high l k answer
@@ -215,7 +216,7 @@ module _ (s e : Point) (old new : List Pair) (l k : ListOf) (high : ℕ) (kind :
     alone_refused answer fault opened err h = λ a o last one to P some left lone once g.
         let v = here_given a o last one to P (left_reads l a left) g in
         agrees_on (Room x o (height v.given.tree) high) (Room s o (parts_height one) high) (λ u. ItemRead a l k last one × EndsWith s e old new to P) answer fault err (h a o v.given.tree to P v.expression)
-        (λ room. (subst (λ z. o ≤ 1000 - z) (sym opened) room.0, one_high v.given.tree v.given.parts room.1))
+        (λ room. (subst (λ z. o ≤ max_open - z) (sym opened) room.0, one_high v.given.tree v.given.parts room.1))
 
     pub alone_taken : (r : Part) (it : Item) (start stop at : ℕ) (answer : Result (Unit {0}) Fault) → it ≡ element_item false start stop r → mid ≡ old →
         IfOk answer (λ u. k ≡ with_item l it) → IsTaken (takes l.listed l.seen it) at answer → ExpressionComplete x e mid new high q (Ok r) → ItemComplete s e old new high l k answer

@@ -21,6 +21,7 @@ use Rattle.language.specs.Places.{NextIn, itself, SpellsIn}
 use Rattle.language.specs.Statements.{prologue, is_directive}
 use Rattle.language.specs.Following.{Followed, ListEnds, ends_list}
 use Rattle.language.specs.Derivation.{done}
+use Rattle.language.specs.Claims.{max_open}
 use Rattle.language.proofs.Begins.{among_by}
 use Rattle.language.proofs.ItemTokens.{item_starts}
 use Rattle.language.proofs.LineLists.{case_closes, started_follows}
@@ -174,7 +175,7 @@ module _ (s m e : Point) (old mid new : List Pair) (high : ℕ) (u : Until) (c d
     all_here = here.parts ∙ ap (join nodes) next_item.parts
 
     room_here : m.opened ≡ s.opened → Room s o (parts_height ps) high → Room m o (height next_item.item_is) high
-    room_here same_open room = (subst (λ k. o ≤ 1000 - k) (sym same_open) room.0, join_high nodes next_item.item_is next_item.others high (subst (λ x. parts_height x ≤ high) all_here room.1))
+    room_here same_open room = (subst (λ k. o ≤ max_open - k) (sym same_open) room.0, join_high nodes next_item.item_is next_item.others high (subst (λ x. parts_height x ≤ high) all_here room.1))
 
   -- one more item was read
   pub all_on : (d' : Context) (n : Tree) → d'.is_prologue ≡ (d.is_prologue && is_directive n) → StatementComplete m e mid new high d (Ok n) → AllLeft s e old new u c d' (push nodes n)

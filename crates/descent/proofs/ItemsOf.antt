@@ -25,6 +25,7 @@ use Rattle.language.specs.Pieces.{Role, expr, spread, rest, bound, with_default}
 use Rattle.language.specs.Token.{Token}
 use Rattle.language.specs.Places.{NextIn, itself, SpellsIn}
 use Rattle.language.specs.Derivation.{direct, grouped}
+use Rattle.language.specs.Claims.{max_open}
 use Rattle.language.proofs.CoverSpreads.{spread_spells, rest_spells, expression_kind}
 use Rattle.language.proofs.TextPlaces.{text_determined}
 use Rattle.language.proofs.Viewed.{way_of}
@@ -321,7 +322,7 @@ chunk_item {s} {m} e l l1 k' {q = q} p c (Ok u) q_is template first k here a fit
   same_open = open_same ∙ a.same_open;
   pairs = same ∙ a.pairs;
   is =
-      let read : ReadAt s.text (record { rank = Expression; has_in = true; start = Any }) p (1000 - s.opened) s.last m.last (grouping a.more) = subst (λ (x : Position). ReadAt s.text x p (1000 - s.opened) s.last m.last (grouping a.more)) q_is a.is in
+      let read : ReadAt s.text (record { rank = Expression; has_in = true; start = Any }) p (max_open - s.opened) s.last m.last (grouping a.more) = subst (λ (x : Position). ReadAt s.text x p (max_open - s.opened) s.last m.last (grouping a.more)) q_is a.is in
       a_chunk template p.cover.node c m.last (k ∙ ap (λ x. with_item x c) first) (read.part.stands fits Expression true (read.taken refl) (λ h. refl)) (subst (λ t. ChunkAt t m.last e.last c.node c.is_marked) here chunk);
 }
 
@@ -340,7 +341,7 @@ spread_item {s} {m} {e} l {q = q} at p it q_is el bare is starts dots here open_
 -- an expression that is a target is a name or a member
 pub simple_part : {s e : Point} {old new : List Pair} {q : Position} (p : Part) → q ≡ record { rank = Assignment; has_in = true; start = Any } → Adds s e old new (ReadAt s.text q p) → is_target p.cover.shape.assigned ≡ true → is_simple (kind_of p.cover.node) ≡ true
 simple_part {s} {e} {q = q} p q_is a target =
-    let read : ReadAt s.text (record { rank = Assignment; has_in = true; start = Any }) p (1000 - s.opened) s.last e.last (grouping a.more) = subst (λ (x : Position). ReadAt s.text x p (1000 - s.opened) s.last e.last (grouping a.more)) q_is a.is in
+    let read : ReadAt s.text (record { rank = Assignment; has_in = true; start = Any }) p (max_open - s.opened) s.last e.last (grouping a.more) = subst (λ (x : Position). ReadAt s.text x p (max_open - s.opened) s.last e.last (grouping a.more)) q_is a.is in
     simple_item s.text read.part (read.taken refl) target refl
 
 pub not_covers : {X : Type 0} (l x : Listed) → l ≡ x → is_covers x ≡ false → l ≡ listed.Covers → X

@@ -44,6 +44,7 @@ pub mod Parting
 pub mod Passing
 pub mod Righted
 pub mod ScriptBy
+pub mod Shorts
 pub mod SidedBy
 pub mod Spelled
 pub mod StatementWays

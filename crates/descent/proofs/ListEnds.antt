@@ -17,6 +17,7 @@ use Rattle.language.specs.Edges.{edge, last_edge, standing}
 use Rattle.language.specs.Pieces.{expr, is_none}
 use Rattle.language.specs.Places.{SpellsIn}
 use Rattle.language.specs.Token.{Token}
+use Rattle.language.specs.Claims.{max_open}
 use Rattle.covers.specs.declared.list.Item.{Item}
 use Rattle.covers.specs.declared.list.Seen.{Seen}
 use Rattle.covers.specs.declared.list.Listed.{Listed}
@@ -141,8 +142,8 @@ none_follows {s} {m} {t} l0 l before here passed open_same same over = record {
   more = before.more;
   same_open = open_same ∙ before.same_open;
   pairs = same ∙ before.pairs;
-  is = λ f z R h. subst (λ y. ItemsAt s.text f l (1000 - s.opened) z t.last y) (append-nil (R ++ grouping before.more))
-      (over_there s.text f l (1000 - s.opened) z m.last t (R ++ grouping before.more) (before.is f z R h) (subst (λ y. SemicolonsBefore y l.listed m.last t.last) here (semicolons_before l.listed m t passed)) over);
+  is = λ f z R h. subst (λ y. ItemsAt s.text f l (max_open - s.opened) z t.last y) (append-nil (R ++ grouping before.more))
+      (over_there s.text f l (max_open - s.opened) z m.last t (R ++ grouping before.more) (before.is f z R h) (subst (λ y. SemicolonsBefore y l.listed m.last t.last) here (semicolons_before l.listed m t passed)) over);
 }
 
 -- behind the last item stands no comma
@@ -231,7 +232,7 @@ last_follows {s} {m} {t} {e} {x} l0 l k1 k2 k before here passed there open_same
       more = item.more;
       same_open = open_after ∙ item.same_open;
       pairs = after ∙ item.pairs;
-      is = subst (λ y. ItemAt y l k1 (1000 - t.opened) t.last e.last (grouping item.more)) text item.is;
+      is = subst (λ y. ItemAt y l k1 (max_open - t.opened) t.last e.last (grouping item.more)) text item.is;
     } in
     adds_both before (adds_behind {B = λ o _ z Q. ItemAt s.text l k1 o t.last e.last Q} open_same same more (λ o P h. h)) (λ o P Q u v f z R h.
     subst (λ y. ItemsAt s.text f k o z x.last y) (append_assoc R P Q) (last_there s.text f l k1 k2 k z m.last t.last e x (R ++ P) Q (u f z R h) passed' goes v (further_on ∙ text) a b c inside comma is))

@@ -10,6 +10,7 @@ use Rattle.tree.specs.declared.kind.Pair.{Pair}
 use Rattle.tree.specs.Tree.{Parts, join, part_count, parts_height}
 use Rattle.language.specs.Covers.{Reading}
 use Rattle.language.specs.Token.{Token}
+use Rattle.language.specs.Claims.{max_open}
 use Rattle.covers.specs.declared.list.Seen.{Seen}
 use Rattle.covers.specs.declared.list.List.{List as ListOf}
 use Rattle.covers.specs.Lists.{is_ended, separated}
@@ -108,4 +109,4 @@ item_refused s m t e x old mid tmid emid new high l0 l k answer fault before her
     let whole : parts_height v.rest ≤ parts_height ps = subst (λ y. parts_height v.rest ≤ parts_height y) (sym v.parts) (high_join v.done v.rest).1 in
     agrees_on (Room t o (parts_height w.one) high) _ _ answer fault err
     (item a o w.last w.one w.mid w.pairs_one open_list v.left.left q.lone q.once (subst (λ y. ItemGiven y l.listed a o t.last w.mid w.pairs_one w.last w.one) (sym (there ∙ here)) w.given))
-    (λ room. (subst (λ y. o ≤ 1000 - y) (sym opened) room.0, let high' = room.1 in omega arith))
+    (λ room. (subst (λ y. o ≤ max_open - y) (sym opened) room.0, let high' = room.1 in omega arith))

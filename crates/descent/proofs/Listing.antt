@@ -23,6 +23,7 @@ use Rattle.language.specs.Token.{Token, as_read}
 use Rattle.language.specs.Promises.{ReadBy}
 use Rattle.language.specs.Places.{NextIn, next_in, itself}
 use Rattle.language.specs.Derivation.{Placed, placed}
+use Rattle.language.specs.Claims.{max_open}
 use Rattle.language.proofs.CoverElements.{a_name, a_target, a_pattern, a_simple, bound_form, BoundForm}
 use Rattle.language.proofs.Declarators.{Target, valued_spells, alone_spells}
 use Rattle.language.proofs.Leaves.{name_form}
@@ -224,8 +225,8 @@ declared_valueless {s} {m} {e} {old} {mid} {new} {i} {marked} {at} {p} {q} it st
   more = a.more;
   same_open = open_same ∙ a.same_open;
   pairs = same ∙ a.pairs;
-  is = subst (λ z. ItemReads s.text (listed.Declarators i) it (1000 - s.opened) s.last z (grouping a.more)) (sym still)
-      (valueless_item s.text {marked = marked} starts (subst (λ (c : Position). PartAt s.text c.has_in c.start p (1000 - s.opened) s.last m.last (grouping a.more)) q_is a.is.part) fits named it
+  is = subst (λ z. ItemReads s.text (listed.Declarators i) it (max_open - s.opened) s.last z (grouping a.more)) (sym still)
+      (valueless_item s.text {marked = marked} starts (subst (λ (c : Position). PartAt s.text c.has_in c.start p (max_open - s.opened) s.last m.last (grouping a.more)) q_is a.is.part) fits named it
       (is ∙ ap (λ z. record { node = node VariableDeclarator [] plain at z.stop (part (pattern_tree p.cover.node) (gap none)); shape = value; spreads = false; is_marked = marked; edge = Closed }) still));
 }
 

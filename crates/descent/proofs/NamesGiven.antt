@@ -25,6 +25,7 @@ use Rattle.language.specs.Token.{Token, as_read, is_mark}
 use Rattle.language.specs.Covers.{as_expression}
 use Rattle.language.specs.Places.{NextIn, itself, SpellsIn}
 use Rattle.language.specs.Derivation.{Reads}
+use Rattle.language.specs.Claims.{max_open}
 use Rattle.language.proofs.CoverKeys.{key_or_sign}
 use Rattle.language.proofs.CoverProperties.{KeyAt, plain_key, computed_key}
 use Rattle.language.proofs.CoverReadings.{name_or_sign}
@@ -248,7 +249,7 @@ module _ (s e : Point) (old new : List Pair) (high : ℕ) (in_class : Bool) wher
           pub name_index : (answer : Result (Modifiers × Key) Fault) (fault : Fault) → IsErrAnd answer (λ w. w ≡ fault) → z.opened ≡ s.opened → ExpressionComplete z x next last high q (Err fault) → Whole answer
           name_index answer fault err opened complete = λ b f c o k to P d.
               let v = inside d in
-              agrees_on (Room z o (height k) high) (Room s o (height k) high) (Same b f c to) answer fault err (complete as_expression o k v.mid P (given_index v)) (λ room. (subst (λ w. o ≤ 1000 - w) (sym opened) room.0, room.1))
+              agrees_on (Room z o (height k) high) (Room s o (height k) high) (Same b f c to) answer fault err (complete as_expression o k v.mid P (given_index v)) (λ room. (subst (λ w. o ≤ max_open - w) (sym opened) room.0, room.1))
 
           module _ (r : Part) (read : ExpressionComplete z x next last high q (Ok r)) where
             pub name_settled : (p : Point) (answer : Result (Modifiers × Key) Fault) (fault : Fault) → IsErrAnd answer (λ w. w ≡ fault) → BecomesHere r.cover.node r.cover.shape.is_expression p (Err fault) → Whole answer

@@ -34,6 +34,7 @@ use Rattle.language.specs.Places.{NextIn, itself, SpellsIn}
 use Rattle.language.specs.Promises.{ReadBy}
 use Rattle.language.specs.Derivation.{opened, closed, token, pair_of}
 use Rattle.language.specs.View.{arrow}
+use Rattle.language.specs.Claims.{max_open}
 use Rattle.language.proofs.Begins.{goes_to}
 use Rattle.language.proofs.Groups.{takes_group}
 use Rattle.language.proofs.ParameterLists.{parameter_list, Closer, parameters_join}
@@ -84,12 +85,12 @@ pub record InParens (text : List ℕ) (s m e : Token) (less : ℕ) (l : ListOf) 
 
 pub in_parens : (s0 s1 s2 s3 : Point) {p1 p2 p3 : List Pair} (l0 l : ListOf) → s1.text ≡ s0.text → s1.last ≡ s0.last → s2.text ≡ s1.text → s2.opened ≡ s1.opened → p2 ≡ p1 → l0.listed ≡ listed.Covers → BegunAt s1 s2 l0 →
     Adds s2 s3 p2 p3 (λ o a b Q. (f : Start) (z : Token) (P : List Pair) → SoFarAt s2.text f l0 o z a P → ListAt s2.text f l o z b (P ++ Q)) → (l.listed ≡ l0.listed) × (l.span.start ≡ l0.span.start) → (SeenRight l0 → SeenRight l) → (l0.listed ≡ listed.Covers → BeginsBy s2 l.inside.start) →
-    InParens s0.text s0.last s2.last s3.last (1000 - s1.opened) l p1 p3 × (s3.opened ≡ s1.opened)
+    InParens s0.text s0.last s2.last s3.last (max_open - s1.opened) l p1 p3 × (s3.opened ≡ s1.opened)
 in_parens s0 s1 s2 s3 l0 l text last text2 opened2 same is begun a kept seen inner =
     let here = begun.1 (codes "(") (ap opening is) in
     let empty : l0 ≡ list_from listed.Covers l0.span.start = here.1 ∙ ap (λ x. list_from x l0.span.start) is in
     let texts : s2.text ≡ s0.text = text2 ∙ text in
-    let d : ListAt s2.text Any l (1000 - s2.opened) s2.last s3.last (grouping a.more) = a.is Any s2.last [] (subst (λ k. SoFarAt s2.text Any k (1000 - s2.opened) s2.last s2.last []) (sym empty) (covers_so_far s2.text l0.span.start (1000 - s2.opened) s2.last)) in (
+    let d : ListAt s2.text Any l (max_open - s2.opened) s2.last s3.last (grouping a.more) = a.is Any s2.last [] (subst (λ k. SoFarAt s2.text Any k (max_open - s2.opened) s2.last s2.last []) (sym empty) (covers_so_far s2.text l0.span.start (max_open - s2.opened) s2.last)) in (
       record {
         more = a.more;
         pairs = a.pairs ∙ ap (λ x. x ++ a.more) same;
@@ -98,7 +99,7 @@ in_parens s0 s1 s2 s3 l0 l text last text2 opened2 same is begun a kept seen inn
         is = kept.0 ∙ is;
         right = seen (subst SeenRight (sym empty) (covers_seen l0.span.start));
         inner = subst (λ x. (t k : Token) → ReadBy Token (NextIn x any_goal) itself RegExp s2.last t k → l.inside.start ≡ t.start) texts (inner is);
-        list = subst (λ x. ListAt x Any l (1000 - s1.opened) s2.last s3.last (grouping a.more)) texts (subst (λ x. ListAt s2.text Any l (1000 - x) s2.last s3.last (grouping a.more)) opened2 d);
+        list = subst (λ x. ListAt x Any l (max_open - s1.opened) s2.last s3.last (grouping a.more)) texts (subst (λ x. ListAt s2.text Any l (max_open - x) s2.last s3.last (grouping a.more)) opened2 d);
       },
       a.same_open ∙ opened2,
     )
@@ -117,7 +118,7 @@ some_groups : (p : Pair) (ps : List Pair) → p.left < p.right → grouping (p �
 some_groups p ps l = let h : nat_lt p.left p.right ≡ true = grind (arith, nat_tests) in ap (λ b. cond b (p ∷ grouping ps) (grouping ps)) h
 
 -- a group
-pub group_read : (s0 s1 e : Point) {old p1 p3 new : List Pair} {m k : Token} (l : ListOf) (p : Position) (place start end : ℕ) → s0.opened < 1000 → s1.opened ≡ s0.opened + 1 → IsPlaceHere s0 start → p1 ≡ old ++ record { left = start; right = start } ∷ [] → InParens s0.text s0.last m k (1000 - s1.opened) l p1 p3 →
+pub group_read : (s0 s1 e : Point) {old p1 p3 new : List Pair} {m k : Token} (l : ListOf) (p : Position) (place start end : ℕ) → s0.opened < max_open → s1.opened ≡ s0.opened + 1 → IsPlaceHere s0 start → p1 ≡ old ++ record { left = start; right = start } ∷ [] → InParens s0.text s0.last m k (max_open - s1.opened) l p1 p3 →
     e.last ≡ k → e.opened ≡ s0.opened → end ≡ k.stop - 1 → length old ≡ place → new ≡ set p3 place (record { left = start; right = end }) → is_grouped l ≡ true → Adds s0 e old new (ReadAt s0.text p (list_group l))
 group_read s0 s1 e {old} {p1} {p3} {new} {m} {k} l p place start end room more_open here pushed w last open_same ends long closed_pair fits =
     let text = s0.text in
@@ -133,8 +134,8 @@ group_read s0 s1 e {old} {p1} {p3} {new} {m} {k} l p place start end room more_o
     let pair : Pair = record { left = start; right = end } in
     let same_pair : pair ≡ pair_of m k = λ i. record { left = begin i; right = end_is i } in
     let before : p3 ≡ old ++ record { left = start; right = start } ∷ w.more = w.pairs ∙ ap (λ x. x ++ w.more) pushed ∙ append_assoc old (record { left = start; right = start } ∷ []) w.more in
-    let levels : 1000 - s0.opened ≡ suc (1000 - s1.opened) = omega arith in
-    let group : PartAt text p.has_in p.start (list_group l) (suc (1000 - s1.opened)) s0.last k (pair_of m k ∷ grouping w.more) = group_list text l w.is fits w.right w.span w.inner w.left w.list in
+    let levels : max_open - s0.opened ≡ suc (max_open - s1.opened) = omega arith in
+    let group : PartAt text p.has_in p.start (list_group l) (suc (max_open - s1.opened)) s0.last k (pair_of m k ∷ grouping w.more) = group_list text l w.is fits w.right w.span w.inner w.left w.list in
     let all : pair_of m k ∷ grouping w.more ≡ grouping (pair ∷ w.more) = ap (λ x. x ∷ grouping w.more) (sym same_pair) ∙ sym (some_groups pair w.more wide) in
     record {
       more = pair ∷ w.more;
@@ -142,9 +143,9 @@ group_read s0 s1 e {old} {p1} {p3} {new} {m} {k} l p place start end room more_o
       pairs = closed_pair ∙ ap (λ x. set x place pair) before ∙ set_at old (record { left = start; right = start }) w.more pair place long;
       is = record {
         taken = λ h. takes_group p.rank;
-        part = subst (λ x. PartAt text p.has_in p.start (list_group l) (1000 - s0.opened) s0.last x (grouping (pair ∷ w.more))) (sym last)
+        part = subst (λ x. PartAt text p.has_in p.start (list_group l) (max_open - s0.opened) s0.last x (grouping (pair ∷ w.more))) (sym last)
             (subst (λ x. PartAt text p.has_in p.start (list_group l) x s0.last k (grouping (pair ∷ w.more))) (sym levels)
-            (subst (λ x. PartAt text p.has_in p.start (list_group l) (suc (1000 - s1.opened)) s0.last k x) all group));
+            (subst (λ x. PartAt text p.has_in p.start (list_group l) (suc (max_open - s1.opened)) s0.last k x) all group));
       };
     }
 
@@ -232,23 +233,23 @@ module _ (text : List ℕ) where
       (opened left (parameters_join Token (NextIn text any_goal) itself (arrow_end g) (arrow_closer h j f o) ps d (subst (λ qs. RunsIn text (suc o) qs (part u none) k e Q) (end_same h j f g) runs))))) line
 
 -- an arrow with its parameters in parentheses, whole
-pub arrow_read : (s0 s1 k e : Point) {old p1 p3 p4 new : List Pair} {m : Token} (l : ListOf) (p : Position) (ps : Parts) (start : ℕ) (r : Part) (t : Token) → s0.opened < 1000 → s1.opened ≡ s0.opened + 1 → IsPlaceHere s0 start → p1 ≡ old ++ record { left = start; right = start } ∷ [] →
-    InParens s0.text s0.last m k.last (1000 - s1.opened) l p1 p3 → k.text ≡ s0.text → k.opened ≡ s0.opened → p4 ≡ p3 → ps ≡ pattern_parts 0 l.nodes → is_bound l.seen.shape ≡ true → ReadsHere k.text Punctuator (codes "=>") k.last t → t.after_break ≡ false → takes p.rank Assignment ≡ true →
+pub arrow_read : (s0 s1 k e : Point) {old p1 p3 p4 new : List Pair} {m : Token} (l : ListOf) (p : Position) (ps : Parts) (start : ℕ) (r : Part) (t : Token) → s0.opened < max_open → s1.opened ≡ s0.opened + 1 → IsPlaceHere s0 start → p1 ≡ old ++ record { left = start; right = start } ∷ [] →
+    InParens s0.text s0.last m k.last (max_open - s1.opened) l p1 p3 → k.text ≡ s0.text → k.opened ≡ s0.opened → p4 ≡ p3 → ps ≡ pattern_parts 0 l.nodes → is_bound l.seen.shape ≡ true → ReadsHere k.text Punctuator (codes "=>") k.last t → t.after_break ≡ false → takes p.rank Assignment ≡ true →
     Adds k e p4 new (ArrowAt k.text p.has_in ps start r) → Adds s0 e old new (ReadAt s0.text p r)
 arrow_read s0 s1 k e {old} {p1} {p3} {p4} {new} {m} l p ps start r t room more_open here pushed w texts open_same same given bound sign line tk a =
     let text = s0.text in
     let begin : start ≡ m.start = place_mark s0 here w.left in
-    let levels : 1000 - s0.opened ≡ suc (1000 - s1.opened) = omega arith in
+    let levels : max_open - s0.opened ≡ suc (max_open - s1.opened) = omega arith in
     let whole : is_whole l (as_pattern true) ≡ true = ap (λ x. whole_of x l (as_pattern true)) w.is ∙ ap (λ b. (true && b) && true) bound in
-    let runs : RunsIn text (1000 - s1.opened) (stood_in Any listed.Covers (item_pieces listed.Covers (as_pattern true) (pattern_parts 0 l.nodes))) (pattern_parts 0 l.nodes) m w.list.mid (grouping w.more) =
-    subst (λ x. RunsIn text (1000 - s1.opened) (stood_in Any x (item_pieces x (as_pattern true) (pattern_parts 0 l.nodes))) (pattern_parts 0 l.nodes) m w.list.mid (grouping w.more)) w.is (w.list.runs (as_pattern true) whole) in
+    let runs : RunsIn text (max_open - s1.opened) (stood_in Any listed.Covers (item_pieces listed.Covers (as_pattern true) (pattern_parts 0 l.nodes))) (pattern_parts 0 l.nodes) m w.list.mid (grouping w.more) =
+    subst (λ x. RunsIn text (max_open - s1.opened) (stood_in Any x (item_pieces x (as_pattern true) (pattern_parts 0 l.nodes))) (pattern_parts 0 l.nodes) m w.list.mid (grouping w.more)) w.is (w.list.runs (as_pattern true) whole) in
     let close : ReadsHere text Punctuator (codes ")") w.list.mid k.last = subst (λ x. ClosedBy text (closing x) w.list.mid k.last) w.is w.list.closes in
-    let d : RunsIn text (1000 - s1.opened) (parameter_list ps) ps m k.last (grouping w.more) = subst (λ x. RunsIn text (1000 - s1.opened) (parameter_list x) x m k.last (grouping w.more)) (sym given) (parameters_at text (pattern_parts 0 l.nodes) runs close) in
-    let v : ArrowAt text p.has_in ps start r (suc (1000 - s1.opened)) k.last e.last (grouping a.more) = subst (λ x. ArrowAt x p.has_in ps start r (suc (1000 - s1.opened)) k.last e.last (grouping a.more)) texts
-    (subst (λ x. ArrowAt k.text p.has_in ps start r x k.last e.last (grouping a.more)) levels (subst (λ x. ArrowAt k.text p.has_in ps start r (1000 - x) k.last e.last (grouping a.more)) open_same a.is)) in
+    let d : RunsIn text (max_open - s1.opened) (parameter_list ps) ps m k.last (grouping w.more) = subst (λ x. RunsIn text (max_open - s1.opened) (parameter_list x) x m k.last (grouping w.more)) (sym given) (parameters_at text (pattern_parts 0 l.nodes) runs close) in
+    let v : ArrowAt text p.has_in ps start r (suc (max_open - s1.opened)) k.last e.last (grouping a.more) = subst (λ x. ArrowAt x p.has_in ps start r (suc (max_open - s1.opened)) k.last e.last (grouping a.more)) texts
+    (subst (λ x. ArrowAt k.text p.has_in ps start r x k.last e.last (grouping a.more)) levels (subst (λ x. ArrowAt k.text p.has_in ps start r (max_open - x) k.last e.last (grouping a.more)) open_same a.is)) in
     let here_sign : ReadsHere text Punctuator (codes "=>") k.last t = subst (λ x. ReadsHere x Punctuator (codes "=>") k.last t) texts sign in
     let on_line : (u x : Token) → NextIn text any_goal k.last u x → u.after_break ≡ false = λ u x n. (text_determined text).break k.last u t x t n here_sign.next ∙ line in
-    let read : PartAt text p.has_in p.start r (suc (1000 - s1.opened)) s0.last e.last (grouping w.more ++ grouping a.more) = paren_arrow text ps begin w.left d v on_line in
+    let read : PartAt text p.has_in p.start r (suc (max_open - s1.opened)) s0.last e.last (grouping w.more ++ grouping a.more) = paren_arrow text ps begin w.left d v on_line in
     let first : Pair = record { left = start; right = start } in
     let all : grouping w.more ++ grouping a.more ≡ grouping (first ∷ (w.more ++ a.more)) = sym (none_groups start (w.more ++ a.more) ∙ grouping_both w.more a.more) in
     record {
@@ -257,6 +258,6 @@ arrow_read s0 s1 k e {old} {p1} {p3} {p4} {new} {m} l p ps start r t room more_o
       pairs = a.pairs ∙ ap (λ x. x ++ a.more) (same ∙ w.pairs ∙ ap (λ x. x ++ w.more) pushed ∙ append_assoc old (first ∷ []) w.more) ∙ append_assoc old (first ∷ w.more) a.more;
       is = record {
         taken = λ h. subst (λ x. IsTrue (takes p.rank x)) (sym v.rank) tk;
-        part = subst (λ x. PartAt text p.has_in p.start r x s0.last e.last (grouping (first ∷ (w.more ++ a.more)))) (sym levels) (subst (λ x. PartAt text p.has_in p.start r (suc (1000 - s1.opened)) s0.last e.last x) all read);
+        part = subst (λ x. PartAt text p.has_in p.start r x s0.last e.last (grouping (first ∷ (w.more ++ a.more)))) (sym levels) (subst (λ x. PartAt text p.has_in p.start r (suc (max_open - s1.opened)) s0.last e.last x) all read);
       };
     }

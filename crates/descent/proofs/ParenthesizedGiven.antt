@@ -28,6 +28,7 @@ use Rattle.language.specs.Token.{Token}
 use Rattle.language.specs.Expressions.{arrow_end}
 use Rattle.language.specs.Places.{NextIn, itself, SpellsIn}
 use Rattle.language.specs.Derivation.{Reads, grouped, step, token, laid, same_line}
+use Rattle.language.specs.Claims.{max_open}
 use Rattle.language.proofs.Arrows.{arrow_flags}
 use Rattle.language.proofs.Growing.{last_runs}
 use Rattle.language.proofs.Groups.{takes_group}
@@ -62,7 +63,7 @@ paren_unopened s e old new high p result fault is under = λ sees a h o t to P f
     let less = less_of g.1 in
     let more = less.1 in
     agrees_err (Room s o (height t) high) (λ (r : Part). IsFirst a h r t × EndsWith s e old new to P) result fault is
-    (refuses_under (Room s o (height t) high) s.opened fault under (λ room. let fits : o ≤ 1000 - s.opened = room.0 in omega arith))
+    (refuses_under (Room s o (height t) high) s.opened fault under (λ room. let fits : o ≤ max_open - s.opened = room.0 in omega arith))
 
 -- an answer agrees where what is asked of it does
 agrees_as : {X : Type 0} (Inner W : Type 0) (D SameInner Same : X → Type 0) (result : Result X Fault) → IfOk result D → Agrees Inner SameInner result → (W → Inner) → ((x : X) → D x → SameInner x → Same x) → Agrees W Same result
@@ -115,7 +116,7 @@ module _ (s m : Point) (old mid : List Pair) (high : ℕ) (p : Position) (l : Li
 
   inner_room : (o less levels tall : ℕ) → o ≡ suc less → levels ≤ tall → Room s o tall high → Room m less levels high
   inner_room o less levels tall more low room =
-      let fits : o ≤ 1000 - s.opened = room.0 in
+      let fits : o ≤ max_open - s.opened = room.0 in
       let below : tall ≤ high = room.1 in
       (omega arith, omega arith)
 
@@ -195,7 +196,7 @@ module _ (s m : Point) (old mid : List Pair) (high : ℕ) (p : Position) (l : Li
           let levels : height made ≡ height t = ap height alike in
           let first : Pair = record { left = start; right = start } in
           agrees_as (Room j (suc less) (height made) high) (Room s o (height t) high) (λ r. Adds j e older new (ArrowAt j.text p.has_in parameters start r)) (λ r. (r.cover.node ≡ made) × EndsWith j e older new to R) (λ r. IsFirst as_expression y r t × EndsWith s e old new to P) result derived answer
-          (λ room. let fits : o ≤ 1000 - s.opened = room.0 in let below : height t ≤ high = room.1 in (omega arith, omega arith))
+          (λ room. let fits : o ≤ max_open - s.opened = room.0 in let below : height t ≤ high = room.1 in (omega arith, omega arith))
           (λ r a v. (
             record {
               read = record {

@@ -9,6 +9,7 @@ use Rattle.language.specs.Pieces.{Role, PieceOf, sub, absent}
 use Rattle.language.specs.Token.{Token}
 use Rattle.language.specs.Places.{SpellsIn}
 use Rattle.language.specs.Derivation.{within, missing}
+use Rattle.language.specs.Claims.{max_open}
 use Rattle.token_cursor.specs.Point.{Point}
 use Rattle.descent.specs.Derived.{RunsIn, Adds, grouping}
 use Rattle.descent.specs.DerivedPieces.{OneMore, IsToken, IsGap}
@@ -104,5 +105,5 @@ adds_before {s} a open_same same f = record {
   more = a.more;
   same_open = open_same ∙ a.same_open;
   pairs = same ∙ a.pairs;
-  is = f (1000 - s.opened) (grouping a.more) a.is;
+  is = f (max_open - s.opened) (grouping a.more) a.is;
 }

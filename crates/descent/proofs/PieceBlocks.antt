@@ -15,6 +15,7 @@ use Rattle.language.specs.declared.Edge.{Edge}
 use Rattle.language.specs.Pieces.{block, body}
 use Rattle.language.specs.Places.{NextIn, next_in, SpellsIn}
 use Rattle.language.specs.Token.{Token}
+use Rattle.language.specs.Claims.{max_open}
 use Rattle.language.proofs.Begins.{div_allows}
 use Rattle.phrases.specs.declared.pieces.Built.{Built}
 use Rattle.phrases.specs.declared.pieces.Piece.{Piece as Coded}
@@ -39,7 +40,7 @@ adds_within {m} {x} {k} {e} {A = A} o1 p1 a o2 p2 f = record {
   more = a.more;
   same_open = o2 ∙ a.same_open ∙ o1;
   pairs = p2 ∙ a.pairs ∙ ap (λ y. y ++ a.more) p1;
-  is = f (1000 - m.opened) (grouping a.more) (subst (λ y. A (1000 - y) x.last k.last (grouping a.more)) o1 a.is);
+  is = f (max_open - m.opened) (grouping a.more) (subst (λ y. A (max_open - y) x.last k.last (grouping a.more)) o1 a.is);
 }
 
 context_of : {a b : Context} → Some (wanted.Block a) ≡ Some (wanted.Block b) → b ≡ a

@@ -20,6 +20,7 @@ use Rattle.language.specs.declared.Start.TheVariants.{Any}
 use Rattle.language.specs.Covers.{Reading, as_expression, as_pattern}
 use Rattle.language.specs.Edges.{last_edge, standing}
 use Rattle.language.specs.Token.{Token}
+use Rattle.language.specs.Claims.{max_open}
 use Rattle.phrases.specs.declared.pieces.Built.{Built}
 use Rattle.phrases.specs.declared.pieces.Piece.{Piece as Coded}
 use Rattle.phrases.specs.declared.pieces.Piece.TheVariants as code
@@ -119,7 +120,7 @@ module _ (r : Bool) (s m : Point) (b c : Built) (high : ℕ) (which : Listed) (p
             let u = complete v.reading o v.items to P (items_given v) in
             let at : EachAt s.text each to = subst (λ k. EachAt s.text each k) u.2.place (subst (λ k. EachAt k each e.last) (after ∙ text ∙ same) (each_at e.text e.last each seen missed)) in
             let first = list_is v.is_piece in
-            let whole = a.is Any x.last [] (subst (λ k. SoFarAt x.text Any k (1000 - x.opened) x.last x.last []) (sym first) (empty_list x.text l0.span.start (1000 - x.opened) x.last which v.is_piece)) in
+            let whole = a.is Any x.last [] (subst (λ k. SoFarAt x.text Any k (max_open - x.opened) x.last x.last []) (sym first) (empty_list x.text l0.span.start (max_open - x.opened) x.last which v.is_piece)) in
             let listed_same : l.listed ≡ which = kept.0 ∙ is in
             let nothing_before : all_read_as v.reading l0.nodes ≡ none = ap (λ (k : ListOf). all_read_as v.reading k.nodes) first ∙ none_read v.reading in
             record {

@@ -21,7 +21,7 @@ use Rattle.tree.specs.declared.kind.Pair.{Pair}
 use Rattle.tree.specs.Tree.{Tree, node, Parts, none, part, gap, plain, bare_parts, program_tree, height, parts_height}
 use Rattle.language.specs.declared.Rank.TheVariants.{Expression, Primary}
 use Rattle.language.specs.declared.Start.TheVariants.{Any}
-use Rattle.language.specs.Claims.{WithinLimits}
+use Rattle.language.specs.Claims.{WithinLimits, max_height, max_open}
 use Rattle.language.specs.Cursor.{beginning}
 use Rattle.language.specs.Edges.{is_end}
 use Rattle.language.specs.Pieces.{Role, script, PieceOf, Spelling, at, tok, lay, feed}
@@ -130,13 +130,13 @@ module _ (text : List ℕ) where
 
 -- the whole, as it is returned
 pub parsed : {s e : Point} {old new kept : List Pair} (text : List ℕ) (nodes : Parts) (program : Tree) → IsUtf8 text → s.text ≡ text → s.last ≡ beginning → s.opened ≡ 0 → old ≡ [] → Adds s e old new (StatementsAt s.text (record { is_item = true; is_prologue = true; returns = false }) nodes) →
-    e.text ≡ s.text → SeesBy e.text Div (ends until.End) e.last → kept ≡ grouping new → program ≡ program_tree nodes (record { start = 0; end = length text }) → parts_height nodes ≤ 499 → WithinLimits text program kept
+    e.text ≡ s.text → SeesBy e.text Div (ends until.End) e.last → kept ≡ grouping new → program ≡ program_tree nodes (record { start = 0; end = length text }) → parts_height nodes ≤ max_height - 1 → WithinLimits text program kept
 parsed {s} {e} {old} {new} {kept} text nodes program utf8 text_is last_is open_is old_is a same sees kept_is tree low =
     let P = grouping a.more in
-    let runs : RunsIn text 1000 (anywhere (prologue false true [] [] nodes)) nodes beginning e.last P =
-    subst (λ t. RunsIn t 1000 (anywhere (prologue false true [] [] nodes)) nodes beginning e.last P) text_is
-    (subst (λ m. RunsIn s.text 1000 (anywhere (prologue false true [] [] nodes)) nodes m e.last P) last_is
-    (subst (λ o. RunsIn s.text (1000 - o) (anywhere (prologue false true [] [] nodes)) nodes s.last e.last P) open_is (a.is refl))) in
+    let runs : RunsIn text max_open (anywhere (prologue false true [] [] nodes)) nodes beginning e.last P =
+    subst (λ t. RunsIn t max_open (anywhere (prologue false true [] [] nodes)) nodes beginning e.last P) text_is
+    (subst (λ m. RunsIn s.text max_open (anywhere (prologue false true [] [] nodes)) nodes m e.last P) last_is
+    (subst (λ o. RunsIn s.text (max_open - o) (anywhere (prologue false true [] [] nodes)) nodes s.last e.last P) open_is (a.is refl))) in
     let place : IsPlace text e.last.stop = runs_place text utf8 runs (IsCharBoundary-start text utf8) in
     let end = sees.0 in
     let next : NextIn text any_goal e.last end end = subst (λ t. NextIn t any_goal e.last end end) (same ∙ text_is) sees.1.0.next in
@@ -146,4 +146,4 @@ parsed {s} {e} {old} {new} {kept} text nodes program utf8 text_is last_is open_i
     let tree_is : node Program [] plain 0 end.stop nodes ≡ program = ap (λ x. node Program [] plain 0 x nodes) read.1 ∙ sym tree in
     let pairs_are : P ≡ kept = sym (kept_is ∙ ap grouping (a.pairs ∙ ap (λ x. x ++ a.more) old_is)) in
     let high : height program ≡ suc (parts_height nodes) = ap height tree in
-    (omega arith, (end, subst (λ x. SpellsIn text 1000 script program beginning end x) pairs_are (subst (λ n. SpellsIn text 1000 script n beginning end P) tree_is spelled)))
+    (omega arith, (end, subst (λ x. SpellsIn text max_open script program beginning end x) pairs_are (subst (λ n. SpellsIn text max_open script n beginning end P) tree_is spelled)))

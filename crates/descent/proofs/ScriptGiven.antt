@@ -15,7 +15,7 @@ use Rattle.tree.specs.declared.kind.Kind.TheVariants.{Program}
 use Rattle.tree.specs.declared.kind.Pair.{Pair}
 use Rattle.tree.specs.Tree.{Tree, node, Parts, none, part, gap, plain, bare, bare_parts, program_tree, height, parts_height}
 use Rattle.tree.proofs.Lean.{lean_flags, lean_text}
-use Rattle.language.specs.Claims.{DerivesOpen}
+use Rattle.language.specs.Claims.{DerivesOpen, max_height, max_open}
 use Rattle.language.specs.Cursor.{beginning}
 use Rattle.language.specs.Edges.{is_end}
 use Rattle.language.specs.Pieces.{script, tok, lay, feed}
@@ -100,14 +100,14 @@ module _ (s e : Point) (old new : List Pair) (text : List ℕ) (text_is : s.text
     high = ap height form.tree
 
   -- its items are refused
-  pub script_refused : {X : Type 0} (Same : Tree → List Pair → X → Type 0) (result : Result X Fault) (fault : Fault) → s.opened ≡ 0 → IsErrAnd result (λ x. x ≡ fault) → StatementsComplete s e old new 499 until.End (record { is_item = true; is_prologue = true; returns = false }) (Err fault) →
-      (o : ℕ) (n : Tree) (P : List Pair) → DerivesOpen o text n P → Agrees ((o ≤ 1000) × (height n ≤ 500)) (Same n P) result
+  pub script_refused : {X : Type 0} (Same : Tree → List Pair → X → Type 0) (result : Result X Fault) (fault : Fault) → s.opened ≡ 0 → IsErrAnd result (λ x. x ≡ fault) → StatementsComplete s e old new (max_height - 1) until.End (record { is_item = true; is_prologue = true; returns = false }) (Err fault) →
+      (o : ℕ) (n : Tree) (P : List Pair) → DerivesOpen o text n P → Agrees ((o ≤ max_open) × (height n ≤ max_height)) (Same n P) result
   script_refused Same result fault open_is is complete o n P given =
-      agrees_on (Room s o (parts_height (form o n P given).parts) 499) ((o ≤ 1000) × (height n ≤ 500)) (Same n P) result fault is (complete (form o n P given).parts o (items o n P given).mid P refl (items_run o n P given) (items_end o n P given))
-      (λ w. let tall = high o n P given in let low = w.1 in (subst (λ k. o ≤ 1000 - k) (sym open_is) w.0, omega arith))
+      agrees_on (Room s o (parts_height (form o n P given).parts) (max_height - 1)) ((o ≤ max_open) × (height n ≤ max_height)) (Same n P) result fault is (complete (form o n P given).parts o (items o n P given).mid P refl (items_run o n P given) (items_end o n P given))
+      (λ w. let tall = high o n P given in let low = w.1 in (subst (λ k. o ≤ max_open - k) (sym open_is) w.0, omega arith))
 
   -- the whole, as it is returned
-  pub script_read : (nodes : Parts) (program : Tree) (kept : List Pair) → IsUtf8 text → old ≡ [] → kept ≡ grouping new → program ≡ program_tree nodes (record { start = 0; end = length text }) → StatementsComplete s e old new 499 until.End (record { is_item = true; is_prologue = true; returns = false }) (Ok nodes) →
+  pub script_read : (nodes : Parts) (program : Tree) (kept : List Pair) → IsUtf8 text → old ≡ [] → kept ≡ grouping new → program ≡ program_tree nodes (record { start = 0; end = length text }) → StatementsComplete s e old new (max_height - 1) until.End (record { is_item = true; is_prologue = true; returns = false }) (Ok nodes) →
       (o : ℕ) (n : Tree) (P : List Pair) → DerivesOpen o text n P → (program ≡ n) × (kept ≡ P)
   script_read nodes program kept utf8 old_is kept_is tree complete o n P given =
       let f = form o n P given in

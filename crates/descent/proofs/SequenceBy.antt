@@ -20,6 +20,7 @@ use Rattle.language.specs.Follow.{operation}
 use Rattle.language.specs.Promises.{ReadBy}
 use Rattle.language.specs.Covers.{Reading, as_expression}
 use Rattle.language.specs.Places.{NextIn, itself}
+use Rattle.language.specs.Claims.{max_open}
 use Rattle.covers.specs.declared.list.Listed.TheVariants as listed
 use Rattle.covers.specs.declared.list.List.{List as ListOf}
 use Rattle.phrases.specs.declared.part.Part.{Part}
@@ -48,7 +49,7 @@ first_list i l = with_item (list_from (listed.Sequence i) l.start) (item_from l.
 
 module _ (s : Point) (high : ℕ) (p : Position) (l : Part) (v : LexicalToken) {c : Coded} (ahead : IsAhead Div s.text s.last.stop v) (coded : coded_operator (operation (as_read v)) v.text ≡ Some c) (is : c ≡ code.Sequences) (goes : stops_by p l.edge (as_read v) ≡ false) where
   -- the parts behind the comma
-  commas : (a : Reading) (o : ℕ) (n : Tree) (from to : Token) (P Q R : List Pair) → ReadAt s.text p l (1000 - s.opened) from s.last R → StageAs s.text p o from to P l s.last Q a n → CommasOn s.text p o from to P l s.last Q a n (as_read v)
+  commas : (a : Reading) (o : ℕ) (n : Tree) (from to : Token) (P Q R : List Pair) → ReadAt s.text p l (max_open - s.opened) from s.last R → StageAs s.text p o from to P l s.last Q a n → CommasOn s.text p o from to P l s.last Q a n (as_read v)
   commas a o n from to P Q R read stage = of (spine_only s.text p o from to P l s.last Q a n read.part.begins read.part.edge r goes (λ h. let k : sequences ≡ assigns = sym op ∙ h in cc) stage)
     where
       r : ReadBy Token (NextIn s.text any_goal) itself Div s.last (as_read v) (as_read v)

@@ -18,6 +18,7 @@ use Rattle.language.specs.Beginning.{beginning_of}
 use Rattle.language.specs.Words.{is}
 use Rattle.language.specs.Token.{Token, as_read}
 use Rattle.language.specs.Places.{SpellsIn}
+use Rattle.language.specs.Claims.{max_open}
 use Rattle.language.proofs.TextPlaces.{text_determined}
 use Rattle.phrases.specs.declared.part.Part.{Part}
 use Rattle.phrases.specs.declared.pieces.Built.{Built}
@@ -110,7 +111,7 @@ module _ (s e : Point) (old new : List Pair) (c : Context) (t : Scanned) (d : Bu
       let tall : height n ≡ suc (parts_height (join d.nodes u.added)) = ap height u.tree in
       let low = (join_low d.nodes u.added (parts_height (join d.nodes u.added)) (omega arith)).1 in
       agrees_on (Room e o (parts_height u.added) inner) (Room s o (height n) high) (λ k. (k ≡ n) × EndsWith s z old last to P) result fault is (complete o v.right u.added to u.more known (pieces_there what e d same its refl v))
-      (λ room. let most = room.1 in (subst (λ k. o ≤ 1000 - k) (sym same_open) room.0, subst (λ k. parts_height u.added ≤ k) (sym less) (omega arith)))
+      (λ room. let most = room.1 in (subst (λ k. o ≤ max_open - k) (sym same_open) room.0, subst (λ k. parts_height u.added ≤ k) (sym less) (omega arith)))
 
   -- they were read
   pub for_done : (k : Point) (newer : List Pair) (b : Built) → PiecesComplete e k new newer inner pieces c.returns d b (Ok tt) →

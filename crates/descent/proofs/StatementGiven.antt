@@ -20,6 +20,7 @@ use Rattle.language.specs.Token.{Token, as_read}
 use Rattle.language.specs.Derivation.{Placed}
 use Rattle.language.specs.Following.{Finished}
 use Rattle.language.specs.Places.{NextIn, itself, SpellsIn}
+use Rattle.language.specs.Claims.{max_open}
 use Rattle.language.proofs.Beginnings.{text_as, own_way}
 use Rattle.language.proofs.Begins.{retell}
 use Rattle.language.proofs.ItemTokens.{item_starts}
@@ -199,7 +200,7 @@ closure_stated_given s m e old mid new high c t w result ahead coded text last s
         let tree : n ≡ node (closure_kind w) [] plain t.start to.stop ps = told.tree ∙ (λ i. node (kinds i) (word (as_read (token_of t)).text i) plain (place.0 i) (place.1 i) ps) in
         let tall : height n ≡ suc (parts_height ps) = ap height told.tree in
         agrees_as (Room m o (suc (parts_height ps)) high) (Room s o (height n) high) (λ k. (k ≡ node (closure_kind w) [] plain t.start to.stop ps) × EndsWith m e mid new to P) (λ k. (k ≡ n) × EndsWith s e old new to P) result
-        (λ room. (subst (λ k. o ≤ 1000 - k) (sym same_open) room.0, subst (λ k. k ≤ high) tall room.1)) (λ k h. (h.0 ∙ sym tree, ends_behind same h.1)) (complete ps o to P run (λ h. g.0))
+        (λ room. (subst (λ k. o ≤ max_open - k) (sym same_open) room.0, subst (λ k. k ≤ high) tall room.1)) (λ k h. (h.0 ∙ sym tree, ends_behind same h.1)) (complete ps o to P run (λ h. g.0))
 
 one_high : (n : Tree) → 0 < height n
 one_high (node k w g s e ps) = omega arith

@@ -34,6 +34,7 @@ use Rattle.language.specs.Statements.{is_string_literal}
 use Rattle.language.specs.Token.{Token, as_read}
 use Rattle.language.specs.Derivation.{Reads, Placed, direct, grouped}
 use Rattle.language.specs.Places.{NextIn, itself, SpellsIn}
+use Rattle.language.specs.Claims.{max_open}
 use Rattle.language.proofs.AsExpressions.{quoted_form}
 use Rattle.language.proofs.Beginnings.{made_rank, too_tight, other_way}
 use Rattle.language.proofs.Leaves.{name_form}
@@ -178,7 +179,7 @@ module _ (s m : Point) (old mid : List Pair) (inner high : ℕ) (c : Context) (t
         tree_is : p.cover.node ≡ v.item
         tree_is = agrees.0.tree
 
-        here : ReadAt s.text at_statement p (1000 - s.opened) s.last m.last (grouping read.more)
+        here : ReadAt s.text at_statement p (max_open - s.opened) s.last m.last (grouping read.more)
         here = read.is
 
         of : LedOn s.text (c.is_item && c.is_prologue) c.returns o (context_role c) n v.item s.last v.mid to v.one P → (result : Result Tree Fault) → IfOk result (λ n. n ≡ evaluated_node (c.is_item && (c.is_prologue && is_lone_string p)) p.start e.last.stop p.cover.node) → IfOk result (λ _. IsEnd m.text (Behind p.edge) m.last e.last) →

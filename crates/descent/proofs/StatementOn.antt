@@ -14,6 +14,7 @@ use Rattle.language.specs.declared.Edge.TheVariants.{Closed}
 use Rattle.language.specs.Token.{Token, as_read}
 use Rattle.language.specs.Places.{SpellsIn}
 use Rattle.language.specs.Beginning.{beginning_of}
+use Rattle.language.specs.Claims.{max_open}
 use Rattle.phrases.specs.declared.pieces.Built.{Built}
 use Rattle.phrases.specs.declared.statements.Beginning.TheVariants as code
 use Rattle.phrases.specs.declared.statements.Context.{Context}
@@ -123,7 +124,7 @@ module _ (s m : Point) (old mid : List Pair) (c : Context) (t : Scanned) (h : He
   room_of : (o : ℕ) (n : Tree) (less_high : ℕ) → (parts_height none ≤ less_high) → Room s o (height n) high → (suc less_high ≤ height n) → Room m o less_high inner
   room_of o n low any room tall =
       let most = room.1 in
-      (subst (λ k. o ≤ 1000 - k) (sym there.same_open) room.0, subst (λ k. low ≤ k) (sym less) (omega arith))
+      (subst (λ k. o ≤ max_open - k) (sym there.same_open) room.0, subst (λ k. low ≤ k) (sym less) (omega arith))
 
   tall_once : (n : Tree) (k : Rattle.tree.specs.declared.kind.Kind.Kind) (w : List ℕ) (st en : ℕ) (added : Parts) → n ≡ node k w plain st en (join b.nodes added) → suc (parts_height added) ≤ height n
   tall_once n k w st en added tree =

@@ -18,6 +18,7 @@ use Rattle.language.specs.Follow.{operation}
 use Rattle.language.specs.Promises.{ReadBy}
 use Rattle.language.specs.Covers.{Reading}
 use Rattle.language.specs.Places.{NextIn, itself}
+use Rattle.language.specs.Claims.{max_open}
 use Rattle.language.proofs.TextPlaces.{text_determined}
 use Rattle.language.proofs.Led.{Led}
 use Rattle.language.proofs.Stepping.{goes_where_not}
@@ -42,7 +43,7 @@ arrows_led : {y : Rank} {i : Bool} {f : Start} {k : Kind} {w : List ℕ} {g : Fl
 arrows_led l = elim l [ ]
 
 pub no_arrow : (s : Point) (p : Position) (l : Part) (v : LexicalToken) {c : Coded} → IsAhead Div s.text s.last.stop v → coded_operator (operation (as_read v)) v.text ≡ Some c → c ≡ code.Arrows → stops_by p l.edge (as_read v) ≡ false →
-    (a : Reading) (o : ℕ) (n : Tree) (from to : Token) (P Q R : List Pair) → ReadAt s.text p l (1000 - s.opened) from s.last R → StageAs s.text p o from to P l s.last Q a n → ⊥
+    (a : Reading) (o : ℕ) (n : Tree) (from to : Token) (P Q R : List Pair) → ReadAt s.text p l (max_open - s.opened) from s.last R → StageAs s.text p o from to P l s.last Q a n → ⊥
 no_arrow s p l v ahead coded is goes a o n from to P Q R read stage = of (spine_only s.text p o from to P l s.last Q a n read.part.begins read.part.edge r goes (λ h. let k : arrows ≡ assigns = sym op ∙ h in cc) stage)
   where
     r : ReadBy Token (NextIn s.text any_goal) itself Div s.last (as_read v) (as_read v)

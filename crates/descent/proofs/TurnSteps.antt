@@ -20,6 +20,7 @@ use Rattle.language.specs.Follow.{operation}
 use Rattle.language.specs.Promises.{ReadBy}
 use Rattle.language.specs.Covers.{Reading}
 use Rattle.language.specs.Places.{NextIn, itself}
+use Rattle.language.specs.Claims.{max_open}
 use Rattle.language.proofs.TextPlaces.{text_determined}
 use Rattle.language.proofs.Signs.{op_reads}
 use Rattle.language.proofs.Climbing.{Leads, grows_height}
@@ -63,7 +64,7 @@ module _ (s : Point) (p : Position) (l : Part) (v : LexicalToken) {c : Coded} (a
     pub low : height stepped ≤ height n
     pub next : StageAs s.text p o from to P (plain_part stepped Update Postfix) (as_read v) (Q ++ []) a n
 
-  pub stepping : (a : Reading) (o : ℕ) (n : Tree) (from to : Token) (P Q R : List Pair) → ReadAt s.text p l (1000 - s.opened) from s.last R → StageAs s.text p o from to P l s.last Q a n → Stepping o from to P Q a n
+  pub stepping : (a : Reading) (o : ℕ) (n : Tree) (from to : Token) (P Q R : List Pair) → ReadAt s.text p l (max_open - s.opened) from s.last R → StageAs s.text p o from to P l s.last Q a n → Stepping o from to P Q a n
   stepping a o n from to P Q R read stage = of (spine_only s.text p o from to P l s.last Q a n read.part.begins read.part.edge r goes (λ h. let k : steps ≡ assigns = sym op ∙ h in cc) stage)
     where
       r : ReadBy Token (NextIn s.text any_goal) itself Div s.last (as_read v) (as_read v)

@@ -25,6 +25,7 @@ use Rattle.language.specs.Token.{Token, as_read, same_class}
 use Rattle.language.specs.Covers.{Reading, as_expression, as_pattern}
 use Rattle.language.specs.Places.{NextIn, itself, SpellsIn}
 use Rattle.language.specs.Derivation.{Reads}
+use Rattle.language.specs.Claims.{max_open}
 use Rattle.language.proofs.CommaLists.{Separated, by_comma, by_closing}
 use Rattle.language.proofs.CoverEnds.{a_brace, item_stops}
 use Rattle.language.proofs.TextPlaces.{text_determined}
@@ -140,7 +141,7 @@ module _ (s e : Point) (old new : List Pair) (high : ℕ) (key : Key) where
           let v = valued d in
           let low = v.low in
           agrees_on (Room x o (height v.value) inner) (Room s o levels high) (Same a to) answer fault err (complete a o v.value to v.more (given_value v))
-          (λ room. (subst (λ z. o ≤ 1000 - z) (sym opened) room.0, (let within : levels ≤ high = room.1 in omega arith)))
+          (λ room. (subst (λ z. o ≤ max_open - z) (sym opened) room.0, (let within : levels ≤ high = room.1 in omega arith)))
 
       pub value_answered : (inner : ℕ) (r : Part) (it : Item) → ExpressionComplete x y next last inner q (Ok r) → e.last ≡ y.last → it.shape ≡ r.cover.shape → it.spreads ≡ false → Whole (Ok it)
       value_answered inner r it read stays shape_is spreads_is = λ a o levels to key_low token d.
@@ -223,7 +224,7 @@ module _ (s e : Point) (old new : List Pair) (high : ℕ) (key : Key) where
             let v = default d in
             let low = v.low in
             agrees_on (Room x o (height v.value) less) (Room s o levels high) (Same a to) answer fault err (complete as_expression o v.value to v.more (given_default v))
-            (λ room. (subst (λ z. o ≤ 1000 - z) (sym opened) room.0, (let within : levels ≤ high = room.1 in omega arith)))
+            (λ room. (subst (λ z. o ≤ max_open - z) (sym opened) room.0, (let within : levels ≤ high = room.1 in omega arith)))
 
         module _ (less : ℕ) (r : Part) (read : ExpressionComplete x y next last less q (Ok r)) where
           pub value_settled : (p : Point) (answer : Result Item Fault) (fault : Fault) → IsErrAnd answer (λ z. z ≡ fault) → BecomesHere r.cover.node r.cover.shape.is_expression p (Err fault) → Whole answer

@@ -17,6 +17,7 @@ use Rattle.language.specs.Expressions.{chunks}
 use Rattle.language.specs.Token.{Token}
 use Rattle.language.specs.Places.{NextIn, itself, SpellsIn}
 use Rattle.language.specs.Derivation.{within}
+use Rattle.language.specs.Claims.{max_open}
 use Rattle.language.proofs.Running.{run_never}
 use Rattle.language.proofs.Templates.{chunk_found}
 use Rattle.language.proofs.TextPlaces.{text_determined}
@@ -350,7 +351,7 @@ further_item {s} {m} {t} {e} {x} l0 l k1 k2 k before here passed there open_same
       more = item.more;
       same_open = open_after ∙ item.same_open;
       pairs = after ∙ item.pairs;
-      is = subst (λ y. ItemAt y l k1 (1000 - t.opened) t.last e.last (grouping item.more)) text item.is;
+      is = subst (λ y. ItemAt y l k1 (max_open - t.opened) t.last e.last (grouping item.more)) text item.is;
     } in
     adds_both before (adds_behind {B = λ o _ z Q. ItemAt s.text l k1 o t.last e.last Q} open_same same more (λ o P h. h)) (λ o P Q u v f z R h.
     subst (λ y. SoFarAt s.text f k o z x.last y) (append_assoc R P Q) (further s.text f l k1 k2 k z m.last t.last e x (R ++ P) Q (u f z R h) passed' goes v (further_on ∙ text) a b c comma is))

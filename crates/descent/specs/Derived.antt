@@ -28,6 +28,7 @@ use Rattle.language.specs.Follow.{operation, symbol_of}
 use Rattle.language.specs.Promises.{ReadBy}
 use Rattle.language.specs.Opening.{opening_of}
 use Rattle.language.specs.Places.{NextIn, itself, SpellsIn}
+use Rattle.language.specs.Claims.{max_open}
 use Rattle.covers.specs.declared.shape.Shape.{Shape}
 use Rattle.covers.specs.declared.shape.Assigned.{Assigned}
 use Rattle.covers.specs.declared.shape.Assigned.TheVariants as assigned
@@ -63,7 +64,7 @@ pub record Adds (s e : Point) (old new : List Pair) (Is : ℕ → Token → Toke
   pub more : List Pair
   pub same_open : e.opened ≡ s.opened
   pub pairs : new ≡ old ++ more
-  pub is : Is (1000 - s.opened) s.last e.last (grouping more)
+  pub is : Is (max_open - s.opened) s.last e.last (grouping more)
 
 -- the first token behind a place begins here
 pub record Begins (text : List ℕ) (at : ℕ) (s : Token) : Type 0 where

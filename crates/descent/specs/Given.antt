@@ -22,6 +22,7 @@ use Rattle.language.specs.Promises.{ReadBy, Stops, Callee}
 use Rattle.language.specs.Following.{Finished, Declared}
 use Rattle.language.specs.Covers.{Reading, as_expression, as_pattern}
 use Rattle.language.specs.Places.{NextIn, itself, SpellsIn}
+use Rattle.language.specs.Claims.{max_open}
 use Rattle.language.proofs.TextPlaces.{text_determined}
 use Rattle.language.proofs.Starting.{Begun}
 use Rattle.language.proofs.Callees.{Uncalled}
@@ -47,7 +48,7 @@ Agrees W Same (Err _) = ⊥
 
 -- as many parentheses are left as are open at one point, and the tree is no higher than allowed
 abbrev pub Room : Point → ℕ → ℕ → ℕ → Type 0
-Room s o levels high = (o ≤ 1000 - s.opened) × (levels ≤ high)
+Room s o levels high = (o ≤ max_open - s.opened) × (levels ≤ high)
 
 -- what was read ends there, and these pairs group in it
 pub record EndsWith (s e : Point) (old new : List Pair) (to : Token) (P : List Pair) : Type 0 where

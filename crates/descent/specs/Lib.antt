@@ -1,3 +1,4 @@
+pub mod Arms
 pub mod Chunks
 pub mod Derived
 pub mod DerivedLists

@@ -3,7 +3,7 @@ use Rattle.std.specs.Prelude.{◌≡◌, ◌≤◌, ℕ, List, Result}
 use Rattle.source_text.specs.declared.fault.Fault.{Fault}
 use Rattle.tree.specs.declared.kind.Pair.{Pair}
 use Rattle.tree.specs.Tree.{Tree, height}
-use Rattle.language.specs.Claims.{DerivesOpen}
+use Rattle.language.specs.Claims.{DerivesOpen, max_height, max_open}
 use Rattle.descent.specs.declared.script.Script.{Script}
 use Rattle.descent.specs.Given.{Agrees}
 
@@ -11,4 +11,4 @@ use Rattle.descent.specs.Given.{Agrees}
 -- where the derivation isn't within the limits.
 abbrev pub IsAnswered : List ℕ → Result Script Fault → Type 0
 IsAnswered text result = (o : ℕ) (n : Tree) (P : List Pair) → DerivesOpen o text n P →
-    Agrees ((o ≤ 1000) × (height n ≤ 500)) (λ script. (script.program ≡ n) × (script.pairs.items ≡ P)) result
+    Agrees ((o ≤ max_open) × (height n ≤ max_height)) (λ script. (script.program ≡ n) × (script.pairs.items ≡ P)) result

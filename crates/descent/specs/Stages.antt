@@ -17,6 +17,7 @@ use Rattle.language.specs.Pieces.{expr}
 use Rattle.language.specs.Derivation.{Placed}
 use Rattle.language.specs.Covers.{Reading, as_expression, as_pattern}
 use Rattle.language.specs.Places.{NextIn, itself, SpellsIn}
+use Rattle.language.specs.Claims.{max_open}
 use Rattle.language.proofs.TextPlaces.{text_determined}
 use Rattle.language.proofs.Spine.{Grows}
 use Rattle.language.proofs.Climbing.{Leads}
@@ -110,5 +111,5 @@ pub record Staged (text : List ℕ) (p : Position) (o : ℕ) (s e : Token) (P : 
 
 -- an operator that stands ahead: from one stage to the next
 abbrev pub TurnComplete : Point → Point → List Pair → List Pair → ℕ → Position → Part → Result Part Fault → Type 0
-TurnComplete s e old new high p left result = (a : Reading) (o : ℕ) (n : Tree) (from to : Token) (P Q R : List Pair) → ReadAt s.text p left (1000 - s.opened) from s.last R → StageAs s.text p o from to P left s.last Q a n →
+TurnComplete s e old new high p left result = (a : Reading) (o : ℕ) (n : Tree) (from to : Token) (P Q R : List Pair) → ReadAt s.text p left (max_open - s.opened) from s.last R → StageAs s.text p o from to P left s.last Q a n →
     Agrees (Room s o (height n) high) (λ r. Staged s.text p o from to P r e.last Q old new a n) result

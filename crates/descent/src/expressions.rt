@@ -3,7 +3,7 @@
 
 ghost use Rattle.descent.specs.Complete.{ExpressionComplete, SidedComplete};
 ghost use Rattle.descent.specs.Stages.{TurnComplete};
-ghost use Rattle.std.specs.Prelude.{◌≡◌, ◌≢◌, ◌≤◌, true, false, IfOk, IfErr, ◌&&◌, not};
+ghost use Rattle.std.specs.Prelude.{◌≡◌, ◌≢◌, ◌≤◌, true, false, IfOk, IfErr, ◌&&◌, ◌⊎◌, not};
 ghost use Rattle.tree.specs.Tree.{height};
 ghost use Rattle.covers.specs.Patterns.{pattern_tree};
 ghost use Rattle.covers.specs.Shapes.{is_target};
@@ -97,11 +97,44 @@ impl<'t, 's> Parser<'t, 's> {
         ensures complete { TurnComplete self.old.cursor self.new.cursor self.old.pairs.items self.new.pairs.items high position left.entry result }
         ensures refused { IfErr result (IsRefusal self.new.cursor.text) }
     {
-        let start = left.start;
         match next.operator {
             Operator::Joins(_) | Operator::Assigns { .. } | Operator::Asks => {
                 self.sided(left, next, position.has_in, high)
             }
+            Operator::Steps | Operator::Sequences => self.other_turn(left, next, position, high),
+            Operator::Chains => self.chain(left, high),
+            Operator::Selects | Operator::Calls | Operator::Indexes | Operator::Tags => {
+                self.linked(left, high)
+            }
+            Operator::Arrows => Err(self.refusal()),
+        }
+    }
+
+    // What `++` or `--` behind an expression makes of it, or a comma.
+    #[cycle(grammar)]
+    #[inline(never)]
+    fn other_turn(
+        &mut self,
+        left: Part<'s>,
+        next: Onward<'s>,
+        position: Position,
+        high: u32,
+    ) -> Result<Part<'s>, Fault>
+        requires other { (next.operator ≡ Operator.Steps) ⊎ (next.operator ≡ Operator.Sequences) }
+        requires ahead { IsAhead Goal.Div self.old.cursor.text self.old.cursor.last.stop (token_of next.token) }
+        requires real { next.token.class ≢ Class.End }
+        requires coded { coded_operator (operation (as_read (token_of next.token))) next.token.text.now ≡ Some next.operator }
+        requires goes { stops_by position left.edge (as_read (token_of next.token)) ≡ false }
+        ensures text { self.new.cursor.text ≡ self.old.cursor.text }
+        ensures forward { self.old.cursor.last.stop ≤ self.new.cursor.last.stop }
+        ensures passes { IfOk result (λ _. Passes self.old.cursor self.new.cursor) }
+        ensures derived { IfOk result (λ part. Adds self.old.cursor self.new.cursor self.old.pairs.items self.new.pairs.items (ReadsOn self.old.cursor.text position left.entry part)) }
+        ensures low { IfOk result (λ part. height part.cover.node ≤ high) }
+        ensures complete { TurnComplete self.old.cursor self.new.cursor self.old.pairs.items self.new.pairs.items high position left.entry result }
+        ensures refused { IfErr result (IsRefusal self.new.cursor.text) }
+    {
+        let start = left.start;
+        match next.operator {
             Operator::Steps => {
                 let operand = self.stepped(left)?;
                 self.pass(next.token);
@@ -127,11 +160,7 @@ impl<'t, 's> Parser<'t, 's> {
                 let node = plain(Kind::SequenceExpression, span, list.nodes, high)?;
                 Ok(Part::plain(node, Rank::Expression, edge))
             }
-            Operator::Chains => self.chain(left, high),
-            Operator::Selects | Operator::Calls | Operator::Indexes | Operator::Tags => {
-                self.linked(left, high)
-            }
-            Operator::Arrows => Err(self.refusal()),
+            _ => Err(self.refusal()),
         }
     }
 

@@ -17,4 +17,4 @@ mod script;
 mod statements;
 mod words;
 
-pub use script::{MAX_HEIGHT, Script, read};
+pub use script::{Script, read};

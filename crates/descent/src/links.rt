@@ -2,7 +2,7 @@
 #![tactic(auto, using(phrases::proofs::Refused::refusals, crate::proofs::Moves::moves))]
 
 ghost use Rattle.descent.specs.Complete.{LinkedComplete, ArgumentsComplete, ChainComplete};
-ghost use Rattle.std.specs.Prelude.{◌≡◌, ◌≤◌, IfOk, IfErr, Bool, codes};
+ghost use Rattle.std.specs.Prelude.{◌≡◌, ◌≤◌, IfOk, IfErr, IfSome, Bool, codes, false};
 ghost use Rattle.std.specs.Bool.{OnTrue, OnFalse};
 ghost use Rattle.tokens.specs.Scanned.{token_of};
 ghost use Rattle.tokens.specs.declared.token.Goal.TheVariants.{Div};
@@ -118,6 +118,22 @@ impl<'t, 's> Parser<'t, 's> {
         }
     }
 
+    // Arguments or an index, where they stand ahead.
+    fn enclosed(&self) -> Option<Linked>
+        ensures linked { IfSome result (λ found. LinkedAt self.now.cursor self.now.cursor found false) }
+    {
+        let Some(token) = self.cursor.peek(Goal::Div) else {
+            return None;
+        };
+        let Some(found) = linked_of(&token) else {
+            return None;
+        };
+        match found {
+            Linked::Arguments | Linked::Index => Some(found),
+            _ => None,
+        }
+    }
+
     // What follows, and whether behind a `?.`; a `.` and `?.` are passed.
     fn link(&mut self) -> Result<(Linked, bool), Fault>
         ensures text { self.new.cursor.text ≡ self.old.cursor.text }
@@ -147,6 +163,78 @@ impl<'t, 's> Parser<'t, 's> {
     #[cycle(grammar)]
     #[inline(never)]
     pub(crate) fn linked(&mut self, left: Part<'s>, high: u32) -> Result<Part<'s>, Fault>
+        ensures text { self.new.cursor.text ≡ self.old.cursor.text }
+        ensures forward { self.old.cursor.last.stop ≤ self.new.cursor.last.stop }
+        ensures passes { IfOk result (λ _. Passes self.old.cursor self.new.cursor) }
+        ensures derived { IfOk result (λ part. Adds self.old.cursor self.new.cursor self.old.pairs.items self.new.pairs.items (Links self.old.cursor.text left.entry part)) }
+        ensures low { IfOk result (λ part. height part.cover.node ≤ high) }
+        ensures complete { LinkedComplete self.old.cursor self.new.cursor self.old.pairs.items self.new.pairs.items high left.entry result }
+        ensures refused { IfErr result (IsRefusal self.new.cursor.text) }
+    {
+        match self.enclosed() {
+            Some(Linked::Arguments) => self.called(left, high),
+            Some(Linked::Index) => self.indexed(left, high),
+            _ => self.selected(left, high),
+        }
+    }
+
+    // What was read with arguments, which stand ahead (12.3.6).
+    #[cycle(grammar)]
+    #[inline(never)]
+    fn called(&mut self, left: Part<'s>, high: u32) -> Result<Part<'s>, Fault>
+        requires calls { LinkedAt self.old.cursor self.old.cursor Linked.Arguments false }
+        ensures text { self.new.cursor.text ≡ self.old.cursor.text }
+        ensures forward { self.old.cursor.last.stop ≤ self.new.cursor.last.stop }
+        ensures passes { IfOk result (λ _. Passes self.old.cursor self.new.cursor) }
+        ensures derived { IfOk result (λ part. Adds self.old.cursor self.new.cursor self.old.pairs.items self.new.pairs.items (Links self.old.cursor.text left.entry part)) }
+        ensures low { IfOk result (λ part. height part.cover.node ≤ high) }
+        ensures complete { LinkedComplete self.old.cursor self.new.cursor self.old.pairs.items self.new.pairs.items high left.entry result }
+        ensures refused { IfErr result (IsRefusal self.new.cursor.text) }
+    {
+        if !position_takes(Rank::Call, left.rank) {
+            return Err(self.refusal());
+        }
+        let start = left.start;
+        let mut nodes = Nodes::one(self.alloc, self.settle(left)?)?;
+        nodes.append(self.arguments(high.saturating_sub(1))?)?;
+        let node = plain(Kind::CallExpression, self.span_from(start), nodes, high)?;
+        Ok(Part::plain(node, Rank::Call, Edge::Other))
+    }
+
+    // What was read with an index in its brackets, which stand ahead (12.3.2).
+    #[cycle(grammar)]
+    #[inline(never)]
+    fn indexed(&mut self, left: Part<'s>, high: u32) -> Result<Part<'s>, Fault>
+        requires indexes { LinkedAt self.old.cursor self.old.cursor Linked.Index false }
+        ensures text { self.new.cursor.text ≡ self.old.cursor.text }
+        ensures forward { self.old.cursor.last.stop ≤ self.new.cursor.last.stop }
+        ensures passes { IfOk result (λ _. Passes self.old.cursor self.new.cursor) }
+        ensures derived { IfOk result (λ part. Adds self.old.cursor self.new.cursor self.old.pairs.items self.new.pairs.items (Links self.old.cursor.text left.entry part)) }
+        ensures low { IfOk result (λ part. height part.cover.node ≤ high) }
+        ensures complete { LinkedComplete self.old.cursor self.new.cursor self.old.pairs.items self.new.pairs.items high left.entry result }
+        ensures refused { IfErr result (IsRefusal self.new.cursor.text) }
+    {
+        if !position_takes(Rank::Call, left.rank) {
+            return Err(self.refusal());
+        }
+        let start = left.start;
+        let is_call = matches!(left.rank, Rank::Call);
+        let inner = high.saturating_sub(1);
+        let mut nodes = Nodes::one(self.alloc, self.settle(left)?)?;
+        self.expect("[")?;
+        let index = self.expression(Position::EXPRESSION, inner)?;
+        nodes.push(self.settle(index)?)?;
+        self.expect("]")?;
+        let span = self.span_from(start);
+        let flags = Linked::Index.flags(false);
+        let node = made(Kind::MemberExpression, "", flags, span, nodes, high)?;
+        Ok(Part::plain(node, Linked::Index.rank(is_call), Edge::Other))
+    }
+
+    // What was read with a member, a template, or what stands behind `?.`.
+    #[cycle(grammar)]
+    #[inline(never)]
+    fn selected(&mut self, left: Part<'s>, high: u32) -> Result<Part<'s>, Fault>
         ensures text { self.new.cursor.text ≡ self.old.cursor.text }
         ensures forward { self.old.cursor.last.stop ≤ self.new.cursor.last.stop }
         ensures passes { IfOk result (λ _. Passes self.old.cursor self.new.cursor) }

@@ -14,9 +14,10 @@ ghost use Rattle.language.specs.Token.{as_read, Token as Read};
 ghost use Rattle.tree.specs.Tree.{part_count, height, parts_height};
 ghost use Rattle.covers.specs.Lists.{is_ended};
 ghost use Rattle.phrases.specs.Tests.{is_later_part, is_template};
-ghost use Rattle.phrases.specs.Seen.{ReadsHere, Misses, MissesBy, SeesBy, TokenHere};
+ghost use Rattle.phrases.specs.Seen.{ReadsHere, Sees, Misses, MissesBy, SeesBy, TokenHere};
 ghost use Rattle.phrases.specs.Beginnings.{case_word};
 ghost use Rattle.descent.specs.Follows.{Semicolons, PassedBefore, MissesEnd, SeesEnd, end_before, NoChunk, ChunkAt, FirstChunkAt, TemplateAt, BegunAt, NotBegun, CommaAt, NoTemplate, FirstMisses, Unopened};
+ghost use Rattle.descent.specs.Arms.{is_apart};
 ghost use Rattle.descent.specs.Derived.{Adds};
 ghost use Rattle.descent.specs.DerivedLists.{SoFarAt, ListAt, ItemAt, ItemReads, SeenRight};
 ghost use Rattle.language.specs.declared.Start.{Start};
@@ -160,7 +161,7 @@ impl<'t, 's> Parser<'t, 's> {
         Ok(list)
     }
 
-    // One item of a list.
+    // One item of a list; what is no expression has functions of its own, so that this one, of each level, takes little of the stack.
     #[cycle(grammar)]
     #[inline(never)]
     fn item(&mut self, list: &mut List<'s>, high: u32) -> Result<(), Fault>
@@ -174,9 +175,42 @@ impl<'t, 's> Parser<'t, 's> {
         ensures refused { IfErr result (IsRefusal self.new.cursor.text) }
     {
         let start = self.cursor.place();
-        let inner = high.saturating_sub(1);
         match list.listed {
             Listed::Elements if self.sees(",") => list.push_hole(),
+            Listed::Properties
+            | Listed::Members
+            | Listed::Template
+            | Listed::Declarators { .. }
+            | Listed::Cases { .. }
+            | Listed::Sequence { .. } => self.other_item(list, high),
+            _ => {
+                if self.sees("...") {
+                    return self.spread_item(list, high);
+                }
+                let part = self.expression(Position::ASSIGNMENT, high)?;
+                let item = self.element(part, false, start, high)?;
+                list.push(item, self.cursor.place())
+            }
+        }
+    }
+
+    // An item of a list that isn't of elements alone.
+    #[cycle(grammar)]
+    #[inline(never)]
+    fn other_item(&mut self, list: &mut List<'s>, high: u32) -> Result<(), Fault>
+        requires apart { is_apart list.old.listed ≡ true }
+        ensures text { self.new.cursor.text ≡ self.old.cursor.text }
+        ensures forward { self.old.cursor.last.stop ≤ self.new.cursor.last.stop }
+        ensures passes { IfOk result (λ _. IsUnseparated list.old.listed → Passes self.old.cursor self.new.cursor) }
+        ensures listed { list.new.listed ≡ list.old.listed }
+        ensures derived { IfOk result (λ _. Adds self.old.cursor self.new.cursor self.old.pairs.items self.new.pairs.items (ItemAt self.old.cursor.text list.old list.new)) }
+        ensures low { IfOk result (λ _. parts_height list.old.nodes ≤ high → parts_height list.new.nodes ≤ high) }
+        ensures complete { ItemComplete self.old.cursor self.new.cursor self.old.pairs.items self.new.pairs.items high list.old list.new result }
+        ensures refused { IfErr result (IsRefusal self.new.cursor.text) }
+    {
+        let start = self.cursor.place();
+        let inner = high.saturating_sub(1);
+        match list.listed {
             Listed::Properties => {
                 let item = self.definition(false, high)?;
                 list.push(item, self.cursor.place())
@@ -212,17 +246,30 @@ impl<'t, 's> Parser<'t, 's> {
                 let item = self.element(part, false, start, high)?;
                 list.push(item, self.cursor.place())
             }
-            _ => {
-                if self.accept("...") {
-                    let part = self.expression(Position::ASSIGNMENT, inner)?;
-                    let item = self.element(part, true, start, high)?;
-                    return list.push(item, self.cursor.place());
-                }
-                let part = self.expression(Position::ASSIGNMENT, high)?;
-                let item = self.element(part, false, start, high)?;
-                list.push(item, self.cursor.place())
-            }
+            _ => Err(self.refusal()),
         }
+    }
+
+    // An item behind `...`, which stands ahead.
+    #[cycle(grammar)]
+    #[inline(never)]
+    fn spread_item(&mut self, list: &mut List<'s>, high: u32) -> Result<(), Fault>
+        requires element { is_apart list.old.listed ≡ false }
+        requires spreads { Sees self.old.cursor.text Class.Punctuator (codes "...") self.old.cursor.last }
+        ensures text { self.new.cursor.text ≡ self.old.cursor.text }
+        ensures forward { self.old.cursor.last.stop ≤ self.new.cursor.last.stop }
+        ensures passes { IfOk result (λ _. IsUnseparated list.old.listed → Passes self.old.cursor self.new.cursor) }
+        ensures listed { list.new.listed ≡ list.old.listed }
+        ensures derived { IfOk result (λ _. Adds self.old.cursor self.new.cursor self.old.pairs.items self.new.pairs.items (ItemAt self.old.cursor.text list.old list.new)) }
+        ensures low { IfOk result (λ _. parts_height list.old.nodes ≤ high → parts_height list.new.nodes ≤ high) }
+        ensures complete { ItemComplete self.old.cursor self.new.cursor self.old.pairs.items self.new.pairs.items high list.old list.new result }
+        ensures refused { IfErr result (IsRefusal self.new.cursor.text) }
+    {
+        let start = self.cursor.place();
+        self.expect("...")?;
+        let part = self.expression(Position::ASSIGNMENT, high.saturating_sub(1))?;
+        let item = self.element(part, true, start, high)?;
+        list.push(item, self.cursor.place())
     }
 
     // What stands between commas; `...` stands before it where it spreads.

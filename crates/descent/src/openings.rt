@@ -8,6 +8,7 @@ ghost use Rattle.source_text.specs.Source.{IsPlace};
 ghost use Rattle.language.specs.Token.{as_read};
 ghost use Rattle.language.specs.Words.{is_identifier};
 ghost use Rattle.language.specs.Opening.{opening_of};
+ghost use Rattle.language.specs.Claims.{max_open};
 ghost use Rattle.phrases.specs.Openings.{coded_opening, opens_at, OpensNothing};
 ghost use Rattle.std.specs.Bool.{OnTrue, OnFalse};
 ghost use Rattle.tokens.specs.Scanned.{token_of};
@@ -18,6 +19,7 @@ ghost use Rattle.phrases.specs.Seen.{SeesBy, MissesBy};
 ghost use Rattle.phrases.specs.Tests.{goes_behind_super};
 ghost use Rattle.phrases.specs.Moves.{Passes, BeginsList};
 ghost use Rattle.descent.specs.Follows.{target_node, NotTarget};
+ghost use Rattle.descent.specs.Arms.{is_short};
 ghost use Rattle.phrases.specs.Seen.{ReadsHere};
 ghost use Rattle.phrases.specs.Outcomes.{BeginsBy, IsPlaceHere, RefusedUnder};
 ghost use Rattle.phrases.specs.Parts.{plain_part};
@@ -80,12 +82,69 @@ impl<'t, 's> Parser<'t, 's> {
             return Err(Fault::TooDeep);
         }
         match opening {
-            Opening::List(what) => {
-                let list = self.open(what, high.saturating_sub(1))?;
-                let list = self.list(list, high.saturating_sub(1))?;
-                listed(list, high)
-            }
+            Opening::List(what) => self.bracketed(token, what, position, high),
             Opening::Parenthesis => self.parenthesized(position, high),
+            Opening::Prefix(_, _) | Opening::Single(_) => {
+                self.short(token, opening, position, high)
+            }
+            _ => {
+                self.pass(token);
+                self.worded(token, opening, position, high)
+            }
+        }
+    }
+
+    // An array, an object or a template, which stands ahead (12.2.5, 12.2.6, 12.2.9).
+    #[cycle(grammar)]
+    #[inline(never)]
+    fn bracketed(
+        &mut self,
+        token: Token<'s>,
+        what: Listed,
+        position: Position,
+        high: u32,
+    ) -> Result<Part<'s>, Fault>
+        requires ahead { IsAhead Goal.RegExp self.old.cursor.text self.old.cursor.last.stop (token_of token) }
+        requires list { BeginsList (Opening.List what) }
+        requires coded { coded_opening (opening_of (as_read (token_of token))) ≡ Some (Opening.List what) }
+        requires stands { opens_at position (as_read (token_of token)) ≡ true }
+        ensures text { self.new.cursor.text ≡ self.old.cursor.text }
+        ensures forward { self.old.cursor.last.stop ≤ self.new.cursor.last.stop }
+        ensures passes { IfOk result (λ _. Passes self.old.cursor self.new.cursor) }
+        ensures derived { IfOk result (λ part. Adds self.old.cursor self.new.cursor self.old.pairs.items self.new.pairs.items (ReadAt self.old.cursor.text position part)) }
+        ensures low { IfOk result (λ part. height part.cover.node ≤ high) }
+        ensures complete { OpeningComplete self.old.cursor self.new.cursor self.old.pairs.items self.new.pairs.items high position result }
+        ensures refused { IfErr result (IsRefusal self.new.cursor.text) }
+    {
+        let list = self.open(what, high.saturating_sub(1))?;
+        let list = self.list(list, high.saturating_sub(1))?;
+        listed(list, high)
+    }
+
+    // A prefix with its operand, or a node that is one token, where it is no parameter of an arrow function.
+    #[cycle(grammar)]
+    #[inline(never)]
+    fn short(
+        &mut self,
+        token: Token<'s>,
+        opening: Opening,
+        position: Position,
+        high: u32,
+    ) -> Result<Part<'s>, Fault>
+        requires ahead { IsAhead Goal.RegExp self.old.cursor.text self.old.cursor.last.stop (token_of token) }
+        requires real { token.class ≢ Class.End }
+        requires coded { coded_opening (opening_of (as_read (token_of token))) ≡ Some opening }
+        requires stands { opens_at position (as_read (token_of token)) ≡ true }
+        requires short { is_short opening ≡ true }
+        ensures text { self.new.cursor.text ≡ self.old.cursor.text }
+        ensures forward { self.old.cursor.last.stop ≤ self.new.cursor.last.stop }
+        ensures passes { IfOk result (λ _. Passes self.old.cursor self.new.cursor) }
+        ensures derived { IfOk result (λ part. Adds self.old.cursor self.new.cursor self.old.pairs.items self.new.pairs.items (ReadAt self.old.cursor.text position part)) }
+        ensures low { IfOk result (λ part. height part.cover.node ≤ high) }
+        ensures complete { OpeningComplete self.old.cursor self.new.cursor self.old.pairs.items self.new.pairs.items high position result }
+        ensures refused { IfErr result (IsRefusal self.new.cursor.text) }
+    {
+        match opening {
             Opening::Prefix(_, side) => {
                 self.pass(token);
                 let side = Position::at(side, true);
@@ -104,10 +163,7 @@ impl<'t, 's> Parser<'t, 's> {
                 }
                 Ok(Part::plain(node, Rank::Primary, Edge::Other))
             }
-            _ => {
-                self.pass(token);
-                self.worded(token, opening, position, high)
-            }
+            _ => Err(self.refusal()),
         }
     }
 
@@ -154,8 +210,6 @@ impl<'t, 's> Parser<'t, 's> {
         ensures refused { IfErr result (IsRefusal self.new.cursor.text) }
     {
         let start = token.start;
-        let inner = high.saturating_sub(1);
-        let takes_call = position_takes(position.rank, Rank::Call);
         match opening {
             Opening::Function => {
                 let node = self.closure(Closure::Function, start, high)?;
@@ -165,32 +219,95 @@ impl<'t, 's> Parser<'t, 's> {
                 let node = self.closure(Closure::Class, start, high)?;
                 Ok(Part::plain(node, Rank::Primary, Edge::Other))
             }
-            Opening::Super if self.sees_base(takes_call) => {
-                let node = self.single(Kind::Super, token, inner)?;
-                self.linked(Part::plain(node, Rank::Primary, Edge::Other), high)
-            }
-            Opening::New if self.accept(".") => self.new_target(token, high),
-            Opening::New => {
-                let callee = self.expression(Position::at(Rank::New, true), inner)?;
-                let mut nodes = Nodes::one(self.alloc, self.settle(callee)?)?;
-                let mut rank = Rank::New;
-                if self.sees("(") {
-                    nodes.append(self.arguments(inner)?)?;
-                    rank = Rank::Member;
-                }
-                let node = plain(Kind::NewExpression, self.span_from(start), nodes, high)?;
-                Ok(Part::plain(node, rank, Edge::Other))
-            }
-            Opening::Import => {
-                self.expect("(")?;
-                let source = self.expression(Position::ASSIGNMENT, inner)?;
-                let nodes = Nodes::one(self.alloc, self.settle(source)?)?;
-                self.expect(")")?;
-                let node = plain(Kind::ImportExpression, self.span_from(start), nodes, high)?;
-                Ok(Part::plain(node, Rank::Call, Edge::Other))
-            }
+            Opening::Super => self.based(token, position, high),
+            Opening::New => self.created(token, position, high),
+            Opening::Import => self.imported(token, position, high),
             _ => Err(self.refusal()),
         }
+    }
+
+    // A member of `super`, or its call (12.3.5).
+    #[cycle(grammar)]
+    #[inline(never)]
+    fn based(&mut self, token: Token<'s>, position: Position, high: u32) -> Result<Part<'s>, Fault>
+        ensures text { self.new.cursor.text ≡ self.old.cursor.text }
+        ensures forward { self.old.cursor.last.stop ≤ self.new.cursor.last.stop }
+        ensures derived { IfOk result (λ part. Adds self.old.cursor self.new.cursor self.old.pairs.items self.new.pairs.items (WordedAt self.old.cursor.text position token.entry Opening.Super part)) }
+        ensures low { IfOk result (λ part. height part.cover.node ≤ high) }
+        ensures complete { WordedComplete self.old.cursor self.new.cursor self.old.pairs.items self.new.pairs.items high token.entry Opening.Super position result }
+        ensures refused { IfErr result (IsRefusal self.new.cursor.text) }
+    {
+        if !self.sees_base(position_takes(position.rank, Rank::Call)) {
+            return Err(self.refusal());
+        }
+        let node = self.single(Kind::Super, token, high.saturating_sub(1))?;
+        self.linked(Part::plain(node, Rank::Primary, Edge::Other), high)
+    }
+
+    // What `new` makes, or `new.target` (12.3.3, 12.3.8).
+    #[cycle(grammar)]
+    #[inline(never)]
+    fn created(
+        &mut self,
+        token: Token<'s>,
+        position: Position,
+        high: u32,
+    ) -> Result<Part<'s>, Fault>
+        ensures text { self.new.cursor.text ≡ self.old.cursor.text }
+        ensures forward { self.old.cursor.last.stop ≤ self.new.cursor.last.stop }
+        ensures derived { IfOk result (λ part. Adds self.old.cursor self.new.cursor self.old.pairs.items self.new.pairs.items (WordedAt self.old.cursor.text position token.entry Opening.New part)) }
+        ensures low { IfOk result (λ part. height part.cover.node ≤ high) }
+        ensures complete { WordedComplete self.old.cursor self.new.cursor self.old.pairs.items self.new.pairs.items high token.entry Opening.New position result }
+        ensures refused { IfErr result (IsRefusal self.new.cursor.text) }
+    {
+        if self.accept(".") {
+            return self.new_target(token, high);
+        }
+        let inner = high.saturating_sub(1);
+        let callee = self.expression(Position::at(Rank::New, true), inner)?;
+        let mut nodes = Nodes::one(self.alloc, self.settle(callee)?)?;
+        let mut rank = Rank::New;
+        if self.sees("(") {
+            nodes.append(self.arguments(inner)?)?;
+            rank = Rank::Member;
+        }
+        let node = plain(
+            Kind::NewExpression,
+            self.span_from(token.start),
+            nodes,
+            high,
+        )?;
+        Ok(Part::plain(node, rank, Edge::Other))
+    }
+
+    // ImportCall (12.3.10).
+    #[cycle(grammar)]
+    #[inline(never)]
+    fn imported(
+        &mut self,
+        token: Token<'s>,
+        position: Position,
+        high: u32,
+    ) -> Result<Part<'s>, Fault>
+        ensures text { self.new.cursor.text ≡ self.old.cursor.text }
+        ensures forward { self.old.cursor.last.stop ≤ self.new.cursor.last.stop }
+        ensures derived { IfOk result (λ part. Adds self.old.cursor self.new.cursor self.old.pairs.items self.new.pairs.items (WordedAt self.old.cursor.text position token.entry Opening.Import part)) }
+        ensures low { IfOk result (λ part. height part.cover.node ≤ high) }
+        ensures complete { WordedComplete self.old.cursor self.new.cursor self.old.pairs.items self.new.pairs.items high token.entry Opening.Import position result }
+        ensures refused { IfErr result (IsRefusal self.new.cursor.text) }
+    {
+        let inner = high.saturating_sub(1);
+        self.expect("(")?;
+        let source = self.expression(Position::ASSIGNMENT, inner)?;
+        let nodes = Nodes::one(self.alloc, self.settle(source)?)?;
+        self.expect(")")?;
+        let node = plain(
+            Kind::ImportExpression,
+            self.span_from(token.start),
+            nodes,
+            high,
+        )?;
+        Ok(Part::plain(node, Rank::Call, Edge::Other))
     }
 
     // `new.target`, behind its `.` (12.3.8).
@@ -251,7 +368,7 @@ impl<'t, 's> Parser<'t, 's> {
     fn enter(&mut self) -> Result<(usize, usize), Fault>
         ensures text { self.new.cursor.text ≡ self.old.cursor.text }
         ensures last { self.new.cursor.last ≡ self.old.cursor.last }
-        ensures opened { IfOk result (λ _. (self.old.cursor.opened < 1000) × (self.new.cursor.opened ≡ self.old.cursor.opened + 1)) }
+        ensures opened { IfOk result (λ _. (self.old.cursor.opened < max_open) × (self.new.cursor.opened ≡ self.old.cursor.opened + 1)) }
         ensures place { IfOk result (λ places. (places.0 ≡ vec_len self.old.pairs) × IsPlaceHere self.old.cursor places.1) }
         ensures pairs { IfOk result (λ places. self.new.pairs.items ≡ self.old.pairs.items ++ (record { left = places.1; right = places.1 }) ∷ []) }
         ensures too_deep { IfErr result (RefusedUnder self.old.cursor.opened) }

@@ -8,14 +8,12 @@ ghost use Rattle.phrases.specs.Refusals.{IsRefusal};
 ghost use Rattle.descent.specs.Scripts.{IsAnswered};
 
 use crate::position::Parser;
+use language::limits::MAX_HEIGHT;
 use phrases::{Context, Until};
 use source_text::{Fault, Source};
 use std::alloc::Global;
 use token_cursor::Cursor;
 use tree::{Pair, Program, Span};
-
-/// The greatest height of a tree, the Program's own node counted.
-pub const MAX_HEIGHT: u32 = 500;
 
 /// A script, with the pairs of parentheses that group, in order of their `(`.
 #[derive(Drop)]
@@ -28,7 +26,7 @@ pub struct Script<'s> {
 ///
 /// # Errors
 /// `Syntax` with a place, a byte offset, where no derivation exists; `TooDeep` where none exists within the limits: a height of `MAX_HEIGHT`, and
-/// `token_cursor::MAX_OPEN` parentheses that are open at one point and group or hold an arrow's parameters; `OutOfMemory`.
+/// `MAX_OPEN` parentheses that are open at one point and group or hold an arrow's parameters; `OutOfMemory`.
 pub fn read<'s>(alloc: Global, source: &Source<'s>) -> Result<Script<'s>, Fault>
     ensures source { IfOk result (λ _. IsUtf8 source.now × (length source.now ≤ 16777216)) }
     ensures derived { IfOk result (λ script. WithinLimits source.now script.program script.pairs.items) }
@@ -51,6 +49,6 @@ pub fn read<'s>(alloc: Global, source: &Source<'s>) -> Result<Script<'s>, Fault>
         start: 0,
         end: source.text().len(),
     };
-    let program = Program::new(items.into_parts(), span);
+    let program = Program::build(alloc, items.into_parts(), span)?;
     Ok(Script { program, pairs })
 }

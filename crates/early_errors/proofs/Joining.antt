@@ -46,11 +46,6 @@ part-given f g x y z ps i u q r a e k h =
     h ∙ (λ j. sooner (after q (errors_within (k j) u)) (hits-agree g f (var_names u) a j))
     ∙ ap (λ o. sooner (after q (at_part (errors_within (cond (nat_eq i 0) y z)) o)) (hits f (at_part var_names o))) e
 
-pub part-missing : (f : List ℕ → Option Error) (y z : Around) (ps : Parts) (i : ℕ) (q r : Option Error) → None ≡ part_at ps i → r ≡ q → r ≡ sooner (after q (errors_at y z ps i)) (hits f (vars_at ps i))
-part-missing f y z ps i q r e h =
-    h ∙ sym (sooner-none q) ∙ sym (sooner-none (sooner q None))
-    ∙ ap (λ o. sooner (after q (at_part (errors_within (cond (nat_eq i 0) y z)) o)) (hits f (at_part var_names o))) e
-
 -- what holds round the part at a place
 pub first-round : (first others around : Code) (i : ℕ) (ls : List Label) → i ≡ 0 → around ≡ first → round around ls ≡ cond (nat_eq i 0) (round first ls) (round others ls)
 first-round first others around i ls e h =
@@ -134,3 +129,7 @@ module _ (o q : Option Error) (f : List ℕ → Option Error) (z y w : Around) (
       ∙ rearranged o clashes (least (plain_errors z t)) (least ds) (least (range_errors y w (parts_of t) 0 n)) (hits f (var_names t))
       ∙ ap (λ x. sooner (sooner (sooner o x) (least (range_errors y w (parts_of t) 0 n))) (hits f (var_names t))) (sym own)
       ∙ ap (λ x. sooner x (hits f (var_names t))) (sym (after-append o (own_errors z t) (range_errors y w (parts_of t) 0 n)) ∙ ap (after o) ((λ l. own_errors z t ++ range_errors (first l) (others l) (parts_of t) 0 n) ∙ sym (errors_whole z t n count)))
+
+-- where no `var` stands behind the place, names that clash change nothing
+pub none-clash : (h k : List ℕ → Option Error) (r s : Option Error) (ys : List Error) (vs : List Named) → vs ≡ [] → s ≡ sooner (after r ys) (hits h vs) → s ≡ sooner (after r ys) (hits k vs)
+none-clash h k r s ys vs e j = j ∙ ap (λ v. sooner (after r ys) (hits h v)) e ∙ sym (ap (λ v. sooner (after r ys) (hits k v)) e)

@@ -28,6 +28,8 @@ pub mod OwnErrors
 pub mod Turning
 pub mod Surrounds
 pub mod Ranging
+pub mod VarFree
+pub mod Silent
 pub mod Insides
 pub mod Joining
 pub mod ScopeErrors

@@ -1,9 +1,13 @@
 -- What a walk says of a node's parts from a place on.
-use Rattle.std.specs.Prelude.{◌≡◌, ℕ, zero, suc, cond, nat_eq, List, [], ◌++◌, IfSome}
+use Rattle.std.specs.Prelude.{◌≡◌, ℕ, zero, suc, Bool, true, false, not, cond, nat_eq, Option, Some, None, List, [], ◌++◌, IfSome}
+use Rattle.tree.specs.declared.kind.Kind.{Kind}
+use Rattle.tree.specs.declared.kind.Kind.TheVariants.{Identifier, Literal, VariableDeclaration}
+use Rattle.language.specs.Words.{is, literal_class}
 use Rattle.tree.specs.Tree.{Tree, Parts, part_at}
 use Rattle.early_errors.specs.declared.around.Around.{Around as Code}
 use Rattle.early_errors.specs.Around.{Around, labels_loop}
 use Rattle.early_errors.specs.Names.{Named, var_names}
+use Rattle.early_errors.specs.Literals.{is_reg_exp}
 use Rattle.early_errors.specs.Early.{Error, errors_within}
 use Rattle.early_errors.specs.Walk.{at_part}
 
@@ -15,6 +19,11 @@ ranged f i (suc n) = f i ++ ranged f (suc i) n
 -- the errors of a part, by its place
 abbrev pub errors_at : Around → Around → Parts → ℕ → List Error
 errors_at y z ps i = at_part (errors_within (cond (nat_eq i 0) y z)) (part_at ps i)
+
+-- a declaration by `var`
+abbrev pub is_var : Kind → List ℕ → Bool
+is_var VariableDeclaration w = is w "var"
+is_var _ w = false
 
 abbrev pub vars_at : Parts → ℕ → List Named
 vars_at ps i = at_part var_names (part_at ps i)
@@ -28,3 +37,22 @@ range_vars ps from n = ranged (vars_at ps) from n
 -- what is known of a label's statement holds of the node
 abbrev pub Fits : Code → Tree → Type 0
 Fits a t = IfSome a.labels_loop (λ b. b ≡ labels_loop t)
+
+-- a node that has no errors whatever stands round it, and no `var`s
+abbrev pub IsQuiet : Tree → Type 0
+IsQuiet t = ((z : Around) → errors_within z t ≡ []) × (var_names t ≡ [])
+
+-- a part that may be missing
+abbrev pub IsSilent : Option Tree → Type 0
+IsSilent o = ((z : Around) → at_part (errors_within z) o ≡ []) × (at_part var_names o ≡ [])
+
+-- the part, or none where it is silent
+abbrev pub ShowsLoud : Option Tree → Option Tree → Type 0
+ShowsLoud None o = IsSilent o
+ShowsLoud (Some t) o = Some t ≡ o
+
+-- a leaf is quiet that is a name, or a literal but for a regular expression
+abbrev pub is_quiet : Kind → List ℕ → Bool
+is_quiet Identifier w = true
+is_quiet Literal w = not (is_reg_exp (literal_class w))
+is_quiet _ w = false

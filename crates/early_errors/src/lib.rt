@@ -11,8 +11,10 @@ pub mod laws;
 mod literals;
 mod names;
 mod own;
+mod quiet;
 mod scopes;
 mod table;
+mod vars;
 mod walk;
 
 use around::Around;

@@ -124,7 +124,7 @@ pub(crate) fn begins_with_quote(text: &str) -> bool
 }
 
 /// Whether a literal's text is that of a regular expression.
-fn begins_with_slash(text: &str) -> bool
+pub(crate) fn begins_with_slash(text: &str) -> bool
     ensures { result ≡ is_reg_exp (literal_class text.now) }
 {
     first_byte(text) == b'/'

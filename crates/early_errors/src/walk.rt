@@ -16,10 +16,15 @@ use crate::labels::{Labels, is_true, known_loop, label_is_loop};
 use crate::literals::either;
 use crate::names::Named;
 use crate::own::own_errors;
+use crate::quiet::loud_part;
 use crate::scopes::{place_of_scope, push_scope, scope_error, scope_errors, scope_kind};
 use crate::table::Table;
+use crate::vars::has_no_var;
 use std::alloc::{AllocError, Global};
 use tree::{Form, Kind, Node};
+
+/// For each name of a scope so many nodes are looked at for a `var`: less than the name costs where it is kept for one.
+const NODES_PER_NAME: usize = 8;
 
 /// What a walk carries.
 #[derive(Drop)]
@@ -136,7 +141,7 @@ fn walk_parts<'t>(
     ensures labels { OnOk result (Agree (look walk.new.labels) (look walk.old.labels)) }
 {
     for index in from..to {
-        if let Some(part) = node.part(index) {
+        if let Some(part) = loud_part(node, index) {
             let around = if index == 0 {
                 rounds.first
             } else {
@@ -256,8 +261,12 @@ fn walk_in_scope<'t>(
     walk.found = scope_errors(walk.alloc, kind, node, around.is_body, declared, walk.found)?;
     let rounds = rounds_of(node, around);
     let from = place_of_scope(kind, node);
+    let to = node.part_count();
     walk_parts(node, 0, from, rounds, walk)?;
+    if has_no_var(node, from, declared.len().saturating_mul(NODES_PER_NAME)) {
+        return walk_parts(node, from, to, rounds, walk);
+    }
     enter(&mut walk.vars, declared, scope_error(kind), saved)?;
-    walk_parts(node, from, node.part_count(), rounds, walk)?;
+    walk_parts(node, from, to, rounds, walk)?;
     leave(&mut walk.vars, saved)
 }

@@ -1,7 +1,8 @@
 pub mod Steps
-pub mod Tables
 pub mod Quotes
-pub mod Walking
-pub mod Turns
-pub mod Floatless
 mod Rows
+pub mod Lines
+pub mod Tokens
+pub mod Lists
+pub mod Objects
+pub mod Written

@@ -2,5 +2,6 @@ pub mod Types
 pub mod Texts
 pub mod Fields
 pub mod Json
-pub mod View
 pub mod Table
+pub mod Tokens
+pub mod Primitives

@@ -1,12 +1,25 @@
--- What a line of the tables adds to an object.
-use Rattle.std.specs.Prelude.{Bool, true, false, List, [], ◌∷◌, codes}
-use Rattle.serde_json.specs.Data.{null, boolean, string}
-use Rattle.estree_json.specs.declared.table.Field.{Field}
-use Rattle.estree_json.specs.declared.table.Field.TheVariants as line
+-- What a line of the table of members makes of an object.
+use Rattle.std.specs.Prelude.{◌≡◌, ℕ, zero, suc, ◌-◌, Bool, true, false, List, [], ◌∷◌, length, take, drop, Option, Some, None, codes}
+use Rattle.tree.specs.declared.kind.Kind.{Kind}
+use Rattle.serde_json.specs.Data.{Data, null, boolean, number, unsigned, string, array, Members, no_members, member, put}
+use Rattle.serde_json.specs.View.{items_of}
+use Rattle.estree_json.specs.declared.table.Line.{Line}
+use Rattle.estree_json.specs.declared.table.Line.TheVariants as line
 use Rattle.estree_json.specs.declared.table.Flag.{Flag}
 use Rattle.estree_json.specs.declared.table.Flag.TheVariants.{Never, Always, Computed, Expression, Method, Optional, Prefix, Shorthand, Static}
-use Rattle.estree_json.specs.Fields.{Label, property_kind, method_kind, is_method, is_shorthand, directive}
-use Rattle.estree_json.specs.Json.{Made, with_part, with_list, with_value, with_option}
+use Rattle.estree_json.specs.Types.{type_name}
+use Rattle.estree_json.specs.Texts.{literal_value, literal_regex, template_value}
+use Rattle.estree_json.specs.Fields.{Label, fields, property_kind, method_kind, is_method, is_shorthand, directive}
+use Rattle.estree_json.specs.Json.{first_or_null, odd_ones, begun, with_fields}
+
+-- a node, as its lines see it: its parts are their values
+pub record Subject : Type 0 where
+  pub is_last : Bool
+  pub kind : Kind
+  pub label : Label
+  pub start : ℕ
+  pub stop : ℕ
+  pub values : List Data
 
 abbrev pub flag_of : Flag → Label → Bool
 flag_of Never l = false
@@ -19,17 +32,85 @@ flag_of Prefix l = l.flags.prefix
 flag_of Shorthand l = is_shorthand l.flags.form
 flag_of Static l = l.flags.is_static
 
-abbrev pub with_line : Label → Field → Made → Made
-with_line l (line.Part name) m = with_part name.now m
-with_line l (line.List name behind) m = with_list name.now behind m
-with_line l (line.Null name) m = with_value name.now null m
-with_line l (line.Word name word) m = with_value name.now (string word.now) m
-with_line l (line.Text name) m = with_value name.now (string l.text) m
-with_line l (line.Flag name flag) m = with_value name.now (boolean (flag_of flag l)) m
-with_line l line.PropertyKind m = with_value (codes "kind") (string (property_kind l.flags.form)) m
-with_line l line.MethodKind m = with_value (codes "kind") (string (method_kind l.flags.form)) m
-with_line l line.Directive m = with_option (codes "directive") (directive l) m
+-- the values from one on
+abbrev pub from : ℕ → List Data → List Data
+from zero ds = ds
+from (suc n) ds = drop 1 (from n ds)
 
-abbrev pub with_each : Label → List Field → Made → Made
-with_each l [] m = m
-with_each l (line ∷ more) m = with_each l more (with_line l line m)
+-- a line's key
+abbrev pub key_of : Line → List ℕ
+key_of line.Type = codes "type"
+key_of line.Start = codes "start"
+key_of line.End = codes "end"
+key_of (line.Part name skip) = name.now
+key_of (line.List name skip behind) = name.now
+key_of (line.Behind name skip behind) = name.now
+key_of (line.Turns name skip) = name.now
+key_of (line.Null name) = name.now
+key_of (line.Word name word) = name.now
+key_of (line.Text name) = name.now
+key_of (line.Boolean name flag) = name.now
+key_of line.PropertyKind = codes "kind"
+key_of line.MethodKind = codes "kind"
+key_of line.Directive = codes "directive"
+key_of line.LiteralValue = codes "value"
+key_of line.LiteralRegex = codes "regex"
+key_of line.TemplateValue = codes "value"
+key_of line.Tail = codes "tail"
+
+-- its value, none where the node has no such member
+abbrev pub value_of : Subject → Line → Option Data
+value_of x line.Type = Some (string (type_name x.kind))
+value_of x line.Start = Some (number (unsigned x.start))
+value_of x line.End = Some (number (unsigned x.stop))
+value_of x (line.Part name skip) = Some (first_or_null (from skip x.values))
+value_of x (line.List name skip behind) = Some (array (items_of (take (length (from skip x.values) - behind) (from skip x.values))))
+value_of x (line.Behind name skip behind) = Some (first_or_null (drop (length (from skip x.values) - behind) (from skip x.values)))
+value_of x (line.Turns name skip) = Some (array (items_of (odd_ones (from skip x.values))))
+value_of x (line.Null name) = Some null
+value_of x (line.Word name word) = Some (string word.now)
+value_of x (line.Text name) = Some (string x.label.text)
+value_of x (line.Boolean name flag) = Some (boolean (flag_of flag x.label))
+value_of x line.PropertyKind = Some (string (property_kind x.label.flags.form))
+value_of x line.MethodKind = Some (string (method_kind x.label.flags.form))
+value_of x line.Directive = directive x.label
+value_of x line.LiteralValue = literal_value x.label.text
+value_of x line.LiteralRegex = literal_regex x.label.text
+value_of x line.TemplateValue = Some (template_value x.label.text)
+value_of x line.Tail = Some (boolean x.is_last)
+
+-- before the members of the lines behind it
+abbrev pub option_member : List ℕ → Option Data → Members → Members
+option_member name None ms = ms
+option_member name (Some d) ms = member name d ms
+
+abbrev pub by_line : Subject → Line → Members → Members
+by_line x l ms = option_member (key_of l) (value_of x l) ms
+
+abbrev pub by_lines : Subject → List Line → Members
+by_lines x [] = no_members
+by_lines x (l ∷ ls) = by_line x l (by_lines x ls)
+
+-- and put to the members that are there, by its key
+abbrev pub option_put : List ℕ → Option Data → Members → Members
+option_put name None ms = ms
+option_put name (Some d) ms = put name d ms
+
+abbrev pub put_line : Subject → Line → Members → Members
+put_line x l ms = option_put (key_of l) (value_of x l) ms
+
+abbrev pub put_lines : Subject → List Line → Members → Members
+put_lines x [] ms = ms
+put_lines x (l ∷ ls) ms = put_lines x ls (put_line x l ms)
+
+-- The lines of a kind: one after the other they are the members that the definition gives its nodes, and so is what they put into an
+-- object
+abbrev pub InOrder : Kind → List Line → Type 0
+InOrder kind lines =
+    (b : Bool) (l : Label) (start stop : ℕ) (values : List Data)
+    → by_lines (record { is_last = b; kind = kind; label = l; start = start; stop = stop; values = values }) lines ≡ (with_fields (fields b kind l) (begun kind start stop values)).members
+
+abbrev pub PutsAll : Kind → List Line → Type 0
+PutsAll kind lines =
+    (b : Bool) (l : Label) (start stop : ℕ) (values : List Data)
+    → put_lines (record { is_last = b; kind = kind; label = l; start = start; stop = stop; values = values }) lines no_members ≡ (with_fields (fields b kind l) (begun kind start stop values)).members

@@ -1,18 +1,20 @@
 //! The value of a tree, node by node.
 
-ghost use Rattle.std.specs.Prelude.{◌≡◌, IfOk, map};
-ghost use Rattle.serde_json.specs.View.{view};
+ghost use Rattle.std.specs.Prelude.{◌≡◌, ◌≤◌, ◌-◌, Some, IfOk, OnOk, option_map, take, drop};
+ghost use Rattle.serde_json.specs.Data.{array};
+ghost use Rattle.serde_json.specs.View.{view, items_of, members_view};
 ghost use Rattle.tree.specs.Node.{node_tree};
-ghost use Rattle.tree.specs.Tree.{kind_of, start_of, stop_of};
-ghost use Rattle.estree_json.specs.Json.{begun as begun_of, node_json, json_of};
-ghost use Rattle.estree_json.specs.View.{made};
+ghost use Rattle.tree.specs.Tree.{part_count, parts_of};
+ghost use Rattle.estree_json.specs.Json.{first_or_null, odd_ones, node_json, parts_json, json_of};
+ghost use Rattle.estree_json.specs.Table.{value_of, put_line as with_line, from as parts_from};
+ghost use Rattle.estree_json.specs.Tokens.{subject_of};
 
-use crate::fields::with_all;
-use crate::object::Object;
+use crate::fields::{is_set, method_kind, property_kind};
+use crate::table::{Line, lines};
 use crate::types::type_name;
-use serde_json::Value;
+use crate::values::{directive_value, literal_regex, literal_value, template_value, text_value};
+use serde_json::{Map, Value};
 use std::alloc::{AllocError, Global};
-use std::collections::VecDeque;
 use tree::{Node, Program};
 
 /// The value of a script, as ESTree has it: an object for each node, with its `type`, its place in bytes (`start`, `end`) and the fields
@@ -27,31 +29,116 @@ pub fn to_value(alloc: Global, program: &Program) -> Result<Value, AllocError>
     node_value(alloc, program.root(), true)
 }
 
-/// The value of a node; `is_last` says whether it is the last part of the node that it is in.
-#[tactic(auto, using(tree::proofs::PartWalk::part_steps))]
+/// The object of a node; `is_last` says whether it is the last part of the node that it is in.
+#[cycle(value)]
 fn node_value(alloc: Global, node: Node, is_last: bool) -> Result<Value, AllocError>
     ensures { IfOk result (λ v. view v ≡ node_json is_last (node_tree node.entry)) }
 {
-    let count = node.part_count();
-    let mut parts = VecDeque::with_capacity(alloc, count)?;
-    for index in 0..count {
-        let value = match node.part(index) {
-            Some(part) => node_value(alloc, part, index + 1 == count)?,
-            None => Value::Null,
-        };
-        parts.push_back(value)?;
+    let mut members = Map::new(alloc);
+    for line in lines(node.kind()) {
+        put_line(&mut members, alloc, node, is_last, line)?;
     }
-    let object = begun(alloc, node, parts)?;
-    Ok(with_all(alloc, object, node, is_last)?.into_value())
+    Ok(Value::Object(members))
 }
 
-/// Type and place.
-fn begun(alloc: Global, node: Node, parts: VecDeque<Value>) -> Result<Object, AllocError>
-    ensures { IfOk result (λ o. made o ≡ begun_of (kind_of (node_tree node.entry)) (start_of (node_tree node.entry)) (stop_of (node_tree node.entry)) (map view parts.items)) }
+/// One more member of a node's object, or none.
+#[cycle(value)]
+fn put_line(
+    members: &mut Map<String, Value>,
+    alloc: Global,
+    node: Node,
+    is_last: bool,
+    line: &Line,
+) -> Result<(), AllocError>
+    ensures { OnOk result (members_view members.new.entries ≡ with_line (subject_of is_last (node_tree node.entry)) line.now (members_view members.old.entries)) }
 {
-    let span = node.span();
-    Object::new(alloc, parts)
-        .text("type", type_name(node.kind()))?
-        .place("start", span.start)?
-        .place("end", span.end)
+    match line_value(alloc, node, is_last, line)? {
+        Some(value) => serde_json::put(members, alloc, line.key(), value),
+        None => Ok(()),
+    }
+}
+
+/// The value of a member, none where the node has no such member.
+#[cycle(value)]
+fn line_value(
+    alloc: Global,
+    node: Node,
+    is_last: bool,
+    line: &Line,
+) -> Result<Option<Value>, AllocError>
+    ensures { IfOk result (λ o. option_map view o ≡ value_of (subject_of is_last (node_tree node.entry)) line.now) }
+{
+    match line {
+        Line::Type => text_value(alloc, type_name(node.kind())),
+        Line::Start => Ok(Some(Value::from(node.span().start))),
+        Line::End => Ok(Some(Value::from(node.span().end))),
+        Line::Part(_, index) => Ok(Some(part_value(alloc, node, *index)?)),
+        Line::List(_, from, behind) => {
+            let to = node.part_count().saturating_sub(*behind);
+            list_value(alloc, node, *from, to)
+        }
+        Line::Behind(_, from, behind) => {
+            let index = node.part_count().saturating_sub(*behind);
+            Ok(Some(part_value(alloc, node, index.max(*from))?))
+        }
+        Line::Turns(_, from) => turns_value(alloc, node, *from),
+        Line::Null(_) => Ok(Some(Value::Null)),
+        Line::Word(_, word) => text_value(alloc, word),
+        Line::Text(_) => text_value(alloc, node.text()),
+        Line::Boolean(_, flag) => Ok(Some(Value::Bool(is_set(flag, node)))),
+        Line::PropertyKind => text_value(alloc, property_kind(node.flags().form)),
+        Line::MethodKind => text_value(alloc, method_kind(node.flags().form)),
+        Line::Directive => directive_value(alloc, node),
+        Line::LiteralValue => literal_value(alloc, node.text()),
+        Line::LiteralRegex => literal_regex(alloc, node.text()),
+        Line::TemplateValue => template_value(alloc, node.text()),
+        Line::Tail => Ok(Some(Value::Bool(is_last))),
+    }
+}
+
+/// The parts from one on, up to another.
+#[cycle(value)]
+fn list_value(
+    alloc: Global,
+    node: Node,
+    from: usize,
+    to: usize,
+) -> Result<Option<Value>, AllocError>
+    requires { to ≤ part_count (parts_of (node_tree node)) }
+    ensures { IfOk result (λ o. option_map view o ≡ Some (array (items_of (take (to - from) (drop from (parts_json (parts_of (node_tree node.entry)))))))) }
+{
+    let mut items = Vec::with_capacity(alloc, to.saturating_sub(from))?;
+    for index in from..to {
+        let value = part_value(alloc, node, index)?;
+        items.push(value)?;
+    }
+    Ok(Some(Value::Array(items)))
+}
+
+/// Every other part, from one on.
+#[cycle(value)]
+fn turns_value(alloc: Global, node: Node, from: usize) -> Result<Option<Value>, AllocError>
+    ensures { IfOk result (λ o. option_map view o ≡ Some (array (items_of (odd_ones (drop from (parts_json (parts_of (node_tree node.entry)))))))) }
+{
+    let mut items = Vec::new(alloc);
+    let mut takes = true;
+    for index in from..node.part_count() {
+        if takes {
+            let value = part_value(alloc, node, index)?;
+            items.push(value)?;
+        }
+        takes = !takes;
+    }
+    Ok(Some(Value::Array(items)))
+}
+
+/// A part, null where it is missing.
+#[cycle(value)]
+fn part_value(alloc: Global, node: Node, index: usize) -> Result<Value, AllocError>
+    ensures { IfOk result (λ v. view v ≡ first_or_null (parts_from index (parts_json (parts_of (node_tree node.entry))))) }
+{
+    match node.part(index) {
+        Some(part) => node_value(alloc, part, node.part_count().saturating_sub(1) == index),
+        None => Ok(Value::Null),
+    }
 }

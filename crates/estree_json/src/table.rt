@@ -1,11 +1,13 @@
-//! The fields of each type of node (ESTree, es5 to es2020), parts in source order, as tables. Each function has the kinds of one table
-//! and goes on with the next.
+//! The members of a node's object by its kind (ESTree, es5 to es2020), in the order of their keys: each line has the key and where
+//! the value is.
 
 ghost use Rattle.std.specs.Prelude.{◌≡◌};
-ghost use Rattle.estree_json.specs.Fields.{Label, function_fields as fields_of_function, expression_fields as fields_of_expression, statement_fields as fields_of_statement};
-ghost use Rattle.estree_json.specs.Json.{Made, with_fields};
-ghost use Rattle.estree_json.specs.Table.{with_each};
+ghost use Rattle.estree_json.specs.Table.{InOrder, PutsAll, key_of};
 
+use self::Line::{
+    Behind, Boolean, Directive, End, List, LiteralRegex, LiteralValue, MethodKind, Null, Part,
+    PropertyKind, Start, Tail, TemplateValue, Text, Turns, Type, Word,
+};
 use tree::Kind;
 
 /// What says yes or no of a node.
@@ -21,12 +23,22 @@ pub enum Flag {
     Static,
 }
 
-/// A field, by its name and where its value comes from.
-pub enum Field {
-    /// The next part, null where it is missing.
-    Part(&'static str),
-    /// An array of the next parts, all but the last so many.
-    List(&'static str, usize),
+/// A member, by its key and where its value is. Parts are counted from 0 in source order.
+pub enum Line {
+    /// The node's type.
+    Type,
+    /// Where it begins.
+    Start,
+    /// Where it ends.
+    End,
+    /// A part, null where it is missing.
+    Part(&'static str, usize),
+    /// An array of the parts from one on, all but the last so many.
+    List(&'static str, usize, usize),
+    /// The part behind such an array.
+    Behind(&'static str, usize, usize),
+    /// An array of every other part, from one on.
+    Turns(&'static str, usize),
     /// Null.
     Null(&'static str),
     /// A word.
@@ -34,155 +46,250 @@ pub enum Field {
     /// The node's text.
     Text(&'static str),
     /// Yes or no.
-    Flag(&'static str, Flag),
+    Boolean(&'static str, Flag),
     /// `kind` of a property.
     PropertyKind,
     /// `kind` of a method.
     MethodKind,
     /// The text of a directive, where the statement is one.
     Directive,
+    /// `value` of a literal, where it has one.
+    LiteralValue,
+    /// `regex` of a literal, where it is a regular expression.
+    LiteralRegex,
+    /// `value` of a template's part.
+    TemplateValue,
+    /// Whether it is the last part of its template.
+    Tail,
 }
 
-/// Functions, classes and properties.
-pub fn function_fields(kind: Kind) -> &'static [Field]
-    ensures { (l : Label) (m : Made) → with_each l result.now m ≡ with_fields (fields_of_function kind l) m }
+impl Line {
+    /// The key.
+    pub fn key(&self) -> &'static str
+        ensures { result.now ≡ key_of self.now }
+    {
+        match self {
+            Type => "type",
+            Start => "start",
+            End => "end",
+            Part(key, _)
+            | List(key, _, _)
+            | Behind(key, _, _)
+            | Turns(key, _)
+            | Null(key)
+            | Word(key, _)
+            | Text(key)
+            | Boolean(key, _) => key,
+            PropertyKind | MethodKind => "kind",
+            Directive => "directive",
+            LiteralValue | TemplateValue => "value",
+            LiteralRegex => "regex",
+            Tail => "tail",
+        }
+    }
+}
+
+/// The members of a node of a kind: what stands in the text one after the other, and what an object holds once each is put into it.
+#[tactic(auto, unfolding(crate::proofs::Lines::lines_computed))]
+pub fn lines(kind: Kind) -> &'static [Line]
+    ensures in_order { InOrder kind result.now }
+    ensures put { PutsAll kind result.now }
 {
     match kind {
+        Kind::Identifier => &[End, Text("name"), Start, Type],
+        Kind::Literal => &[End, Text("raw"), LiteralRegex, Start, Type, LiteralValue],
+        Kind::TemplateLiteral => &[
+            End,
+            Turns("expressions", 1),
+            Turns("quasis", 0),
+            Start,
+            Type,
+        ],
+        Kind::TemplateElement => &[End, Start, Tail, Type, TemplateValue],
         Kind::FunctionDeclaration | Kind::FunctionExpression => &[
-            Field::Part("id"),
-            Field::List("params", 1),
-            Field::Part("body"),
-            Field::Flag("generator", Flag::Never),
-            Field::Flag("async", Flag::Never),
+            Boolean("async", Flag::Never),
+            Behind("body", 1, 1),
+            End,
+            Boolean("generator", Flag::Never),
+            Part("id", 0),
+            List("params", 1, 1),
+            Start,
+            Type,
         ],
         Kind::ArrowFunctionExpression => &[
-            Field::Null("id"),
-            Field::List("params", 1),
-            Field::Part("body"),
-            Field::Flag("expression", Flag::Expression),
-            Field::Flag("generator", Flag::Never),
-            Field::Flag("async", Flag::Never),
+            Boolean("async", Flag::Never),
+            Behind("body", 0, 1),
+            End,
+            Boolean("expression", Flag::Expression),
+            Boolean("generator", Flag::Never),
+            Null("id"),
+            List("params", 0, 1),
+            Start,
+            Type,
         ],
         Kind::ClassDeclaration | Kind::ClassExpression => &[
-            Field::Part("id"),
-            Field::Part("superClass"),
-            Field::Part("body"),
+            Part("body", 2),
+            End,
+            Part("id", 0),
+            Start,
+            Part("superClass", 1),
+            Type,
         ],
-        Kind::ClassBody => &[Field::List("body", 0)],
+        Kind::ClassBody => &[List("body", 0, 0), End, Start, Type],
         Kind::MethodDefinition => &[
-            Field::Part("key"),
-            Field::Part("value"),
-            Field::MethodKind,
-            Field::Flag("computed", Flag::Computed),
-            Field::Flag("static", Flag::Static),
+            Boolean("computed", Flag::Computed),
+            End,
+            Part("key", 0),
+            MethodKind,
+            Start,
+            Boolean("static", Flag::Static),
+            Type,
+            Part("value", 1),
         ],
         Kind::Property => &[
-            Field::Part("key"),
-            Field::Part("value"),
-            Field::PropertyKind,
-            Field::Flag("method", Flag::Method),
-            Field::Flag("shorthand", Flag::Shorthand),
-            Field::Flag("computed", Flag::Computed),
+            Boolean("computed", Flag::Computed),
+            End,
+            Part("key", 0),
+            PropertyKind,
+            Boolean("method", Flag::Method),
+            Boolean("shorthand", Flag::Shorthand),
+            Start,
+            Type,
+            Part("value", 1),
         ],
-        _ => expression_fields(kind),
-    }
-}
-
-/// Expressions and patterns.
-fn expression_fields(kind: Kind) -> &'static [Field]
-    ensures { (l : Label) (m : Made) → with_each l result.now m ≡ with_fields (fields_of_expression kind l) m }
-{
-    match kind {
-        Kind::ArrayExpression | Kind::ArrayPattern => &[Field::List("elements", 0)],
-        Kind::ObjectExpression | Kind::ObjectPattern => &[Field::List("properties", 0)],
-        Kind::SpreadElement | Kind::RestElement => &[Field::Part("argument")],
-        Kind::AssignmentPattern => &[Field::Part("left"), Field::Part("right")],
-        Kind::SequenceExpression => &[Field::List("expressions", 0)],
+        Kind::ArrayExpression | Kind::ArrayPattern => &[List("elements", 0, 0), End, Start, Type],
+        Kind::ObjectExpression | Kind::ObjectPattern => &[
+            End,
+            List("properties", 0, 0),
+            Start,
+            Type,
+        ],
+        Kind::SpreadElement | Kind::RestElement => &[Part("argument", 0), End, Start, Type],
+        Kind::AssignmentPattern => &[End, Part("left", 0), Part("right", 1), Start, Type],
+        Kind::SequenceExpression => &[End, List("expressions", 0, 0), Start, Type],
         Kind::ConditionalExpression => &[
-            Field::Part("test"),
-            Field::Part("consequent"),
-            Field::Part("alternate"),
+            Part("alternate", 2),
+            Part("consequent", 1),
+            End,
+            Start,
+            Part("test", 0),
+            Type,
         ],
         Kind::UnaryExpression => &[
-            Field::Part("argument"),
-            Field::Text("operator"),
-            Field::Flag("prefix", Flag::Always),
+            Part("argument", 0),
+            End,
+            Text("operator"),
+            Boolean("prefix", Flag::Always),
+            Start,
+            Type,
         ],
         Kind::UpdateExpression => &[
-            Field::Part("argument"),
-            Field::Text("operator"),
-            Field::Flag("prefix", Flag::Prefix),
+            Part("argument", 0),
+            End,
+            Text("operator"),
+            Boolean("prefix", Flag::Prefix),
+            Start,
+            Type,
         ],
         Kind::BinaryExpression | Kind::LogicalExpression | Kind::AssignmentExpression => &[
-            Field::Part("left"),
-            Field::Part("right"),
-            Field::Text("operator"),
+            End,
+            Part("left", 0),
+            Text("operator"),
+            Part("right", 1),
+            Start,
+            Type,
         ],
-        Kind::ChainExpression => &[Field::Part("expression")],
+        Kind::ChainExpression => &[End, Part("expression", 0), Start, Type],
         Kind::CallExpression => &[
-            Field::Part("callee"),
-            Field::List("arguments", 0),
-            Field::Flag("optional", Flag::Optional),
+            List("arguments", 1, 0),
+            Part("callee", 0),
+            End,
+            Boolean("optional", Flag::Optional),
+            Start,
+            Type,
         ],
-        Kind::NewExpression => &[Field::Part("callee"), Field::List("arguments", 0)],
-        Kind::ImportExpression => &[Field::Part("source")],
+        Kind::NewExpression => &[List("arguments", 1, 0), Part("callee", 0), End, Start, Type],
+        Kind::ImportExpression => &[End, Part("source", 0), Start, Type],
         Kind::MemberExpression => &[
-            Field::Part("object"),
-            Field::Part("property"),
-            Field::Flag("computed", Flag::Computed),
-            Field::Flag("optional", Flag::Optional),
+            Boolean("computed", Flag::Computed),
+            End,
+            Part("object", 0),
+            Boolean("optional", Flag::Optional),
+            Part("property", 1),
+            Start,
+            Type,
         ],
-        Kind::MetaProperty => &[Field::Part("meta"), Field::Part("property")],
-        Kind::TaggedTemplateExpression => &[Field::Part("tag"), Field::Part("quasi")],
-        _ => statement_fields(kind),
-    }
-}
-
-/// Statements and the parts of them.
-fn statement_fields(kind: Kind) -> &'static [Field]
-    ensures { (l : Label) (m : Made) → with_each l result.now m ≡ with_fields (fields_of_statement kind l) m }
-{
-    match kind {
-        Kind::Program => &[Field::List("body", 0), Field::Word("sourceType", "script")],
-        Kind::ExpressionStatement => &[Field::Part("expression"), Field::Directive],
-        Kind::BlockStatement => &[Field::List("body", 0)],
-        Kind::ReturnStatement | Kind::ThrowStatement => &[Field::Part("argument")],
-        Kind::BreakStatement | Kind::ContinueStatement => &[Field::Part("label")],
-        Kind::LabeledStatement => &[Field::Part("label"), Field::Part("body")],
+        Kind::MetaProperty => &[End, Part("meta", 0), Part("property", 1), Start, Type],
+        Kind::TaggedTemplateExpression => &[End, Part("quasi", 1), Start, Part("tag", 0), Type],
+        Kind::Program => &[
+            List("body", 0, 0),
+            End,
+            Word("sourceType", "script"),
+            Start,
+            Type,
+        ],
+        Kind::ExpressionStatement => &[Directive, End, Part("expression", 0), Start, Type],
+        Kind::BlockStatement => &[List("body", 0, 0), End, Start, Type],
+        Kind::ReturnStatement | Kind::ThrowStatement => &[Part("argument", 0), End, Start, Type],
+        Kind::BreakStatement | Kind::ContinueStatement => &[End, Part("label", 0), Start, Type],
+        Kind::LabeledStatement => &[Part("body", 1), End, Part("label", 0), Start, Type],
         Kind::IfStatement => &[
-            Field::Part("test"),
-            Field::Part("consequent"),
-            Field::Part("alternate"),
+            Part("alternate", 2),
+            Part("consequent", 1),
+            End,
+            Start,
+            Part("test", 0),
+            Type,
         ],
-        Kind::SwitchStatement => &[Field::Part("discriminant"), Field::List("cases", 0)],
-        Kind::SwitchCase => &[Field::Part("test"), Field::List("consequent", 0)],
+        Kind::SwitchStatement => &[
+            List("cases", 1, 0),
+            Part("discriminant", 0),
+            End,
+            Start,
+            Type,
+        ],
+        Kind::SwitchCase => &[List("consequent", 1, 0), End, Start, Part("test", 0), Type],
         Kind::TryStatement => &[
-            Field::Part("block"),
-            Field::Part("handler"),
-            Field::Part("finalizer"),
+            Part("block", 0),
+            End,
+            Part("finalizer", 2),
+            Part("handler", 1),
+            Start,
+            Type,
         ],
-        Kind::CatchClause => &[Field::Part("param"), Field::Part("body")],
-        Kind::WhileStatement => &[Field::Part("test"), Field::Part("body")],
-        Kind::DoWhileStatement => &[Field::Part("body"), Field::Part("test")],
+        Kind::CatchClause => &[Part("body", 1), End, Part("param", 0), Start, Type],
+        Kind::WhileStatement => &[Part("body", 1), End, Start, Part("test", 0), Type],
+        Kind::DoWhileStatement => &[Part("body", 0), End, Start, Part("test", 1), Type],
         Kind::ForStatement => &[
-            Field::Part("init"),
-            Field::Part("test"),
-            Field::Part("update"),
-            Field::Part("body"),
+            Part("body", 3),
+            End,
+            Part("init", 0),
+            Start,
+            Part("test", 1),
+            Type,
+            Part("update", 2),
         ],
         Kind::ForInStatement => &[
-            Field::Part("left"),
-            Field::Part("right"),
-            Field::Part("body"),
+            Part("body", 2),
+            End,
+            Part("left", 0),
+            Part("right", 1),
+            Start,
+            Type,
         ],
         Kind::ForOfStatement => &[
-            Field::Part("left"),
-            Field::Part("right"),
-            Field::Part("body"),
-            Field::Flag("await", Flag::Never),
+            Boolean("await", Flag::Never),
+            Part("body", 2),
+            End,
+            Part("left", 0),
+            Part("right", 1),
+            Start,
+            Type,
         ],
-        Kind::VariableDeclaration => &[Field::List("declarations", 0), Field::Text("kind")],
-        Kind::VariableDeclarator => &[Field::Part("id"), Field::Part("init")],
-        _ => &[],
+        Kind::VariableDeclaration => &[List("declarations", 0, 0), End, Text("kind"), Start, Type],
+        Kind::VariableDeclarator => &[End, Part("id", 0), Part("init", 1), Start, Type],
+        Kind::ThisExpression | Kind::Super | Kind::EmptyStatement | Kind::DebuggerStatement => &[
+            End, Start, Type,
+        ],
     }
 }

@@ -1,10 +1,10 @@
 //! Operators, by their text.
 
-ghost use Rattle.std.specs.Prelude.{◌≡◌, true, false};
+ghost use Rattle.std.specs.Prelude.{◌≡◌, true, false, length, [], ◌∷◌};
 ghost use Rattle.language.specs.Words.{is_prefix, is_step as is_step_text, is_assignment as is_assignment_text, operator_of};
 ghost use Rattle.language.specs.Grammar.{standard};
 ghost use Rattle.grammar.specs.Ranks.{binary_symbol, logical_symbol};
-ghost use Rattle.grammar.specs.Operations.{operation_at, logical_operation, plain_symbol, joined_symbol};
+ghost use Rattle.grammar.specs.Operations.{operation_at, plain_symbol, joined_symbol};
 ghost use Rattle.grammar.specs.declared.operators.Operation.TheVariants;
 
 use language::Rank;
@@ -63,22 +63,71 @@ pub enum Operation {
     Other,
 }
 
-/// What an operator makes.
-#[tactic(auto, unfolding(crate::specs::Operations::operation_at))]
+/// What an operator makes: looked for among the operators of its length, and those of one byte by that byte.
 pub fn operation_of(operator: &str) -> Operation
     ensures { result ≡ operation_at operator.now }
 {
+    match operator.len() {
+        1 => operation_of_one(operator.as_bytes()[0]),
+        2 => operation_of_two(operator),
+        3 => operation_of_three(operator),
+        10 => operation_of_ten(operator),
+        _ => Operation::Other,
+    }
+}
+
+#[tactic(auto, unfolding(crate::specs::Operations::operation_at))]
+fn operation_of_one(operator: u8) -> Operation
+    ensures { result ≡ operation_at (operator ∷ []) }
+{
     match operator {
-        "|" => binary(Rank::BitwiseOr, Rank::BitwiseXor),
-        "^" => binary(Rank::BitwiseXor, Rank::BitwiseAnd),
-        "&" => binary(Rank::BitwiseAnd, Rank::Equality),
-        "==" | "!=" | "===" | "!==" => binary(Rank::Equality, Rank::Relational),
-        "<" | ">" | "<=" | ">=" | "instanceof" | "in" => binary(Rank::Relational, Rank::Shift),
-        "<<" | ">>" | ">>>" => binary(Rank::Shift, Rank::Additive),
-        "+" | "-" => binary(Rank::Additive, Rank::Multiplicative),
-        "*" | "/" | "%" => binary(Rank::Multiplicative, Rank::Exponentiation),
+        b'|' => binary(Rank::BitwiseOr, Rank::BitwiseXor),
+        b'^' => binary(Rank::BitwiseXor, Rank::BitwiseAnd),
+        b'&' => binary(Rank::BitwiseAnd, Rank::Equality),
+        b'<' | b'>' => binary(Rank::Relational, Rank::Shift),
+        b'+' | b'-' => binary(Rank::Additive, Rank::Multiplicative),
+        b'*' | b'/' | b'%' => binary(Rank::Multiplicative, Rank::Exponentiation),
+        _ => Operation::Other,
+    }
+}
+
+#[tactic(auto, unfolding(crate::specs::Operations::operation_at))]
+fn operation_of_two(operator: &str) -> Operation
+    requires { length operator.now ≡ 2 }
+    ensures { result ≡ operation_at operator.now }
+{
+    match operator {
+        "==" | "!=" => binary(Rank::Equality, Rank::Relational),
+        "<=" | ">=" | "in" => binary(Rank::Relational, Rank::Shift),
+        "<<" | ">>" => binary(Rank::Shift, Rank::Additive),
         "**" => Operation::Powers,
-        _ => logical_operation_of(operator),
+        "??" => logical(Rank::Coalesce, Rank::BitwiseOr),
+        "||" => logical(Rank::LogicalOr, Rank::LogicalAnd),
+        "&&" => logical(Rank::LogicalAnd, Rank::BitwiseOr),
+        _ => Operation::Other,
+    }
+}
+
+#[tactic(auto, unfolding(crate::specs::Operations::operation_at))]
+fn operation_of_three(operator: &str) -> Operation
+    requires { length operator.now ≡ 3 }
+    ensures { result ≡ operation_at operator.now }
+{
+    match operator {
+        "===" | "!==" => binary(Rank::Equality, Rank::Relational),
+        ">>>" => binary(Rank::Shift, Rank::Additive),
+        _ => Operation::Other,
+    }
+}
+
+#[tactic(auto, unfolding(crate::specs::Operations::operation_at))]
+fn operation_of_ten(operator: &str) -> Operation
+    requires { length operator.now ≡ 10 }
+    ensures { result ≡ operation_at operator.now }
+{
+    match operator {
+        "instanceof" => binary(Rank::Relational, Rank::Shift),
+        _ => Operation::Other,
     }
 }
 
@@ -89,18 +138,6 @@ fn binary(own: Rank, right: Rank) -> Operation
         is_logical: false,
         own,
         right,
-    }
-}
-
-/// What a logical operator makes, and `**` and the others nothing.
-fn logical_operation_of(operator: &str) -> Operation
-    ensures { result ≡ logical_operation (operator_of operator.now) }
-{
-    match operator {
-        "??" => logical(Rank::Coalesce, Rank::BitwiseOr),
-        "||" => logical(Rank::LogicalOr, Rank::LogicalAnd),
-        "&&" => logical(Rank::LogicalAnd, Rank::BitwiseOr),
-        _ => Operation::Other,
     }
 }
 

@@ -4,7 +4,7 @@ use Rattle.std.specs.Str.{IsUtf8}
 use Rattle.tree.specs.declared.kind.Pair.{Pair}
 use Rattle.tree.specs.Tree.{Tree, SameTree}
 use Rattle.language.specs.Pieces.{script}
-use Rattle.language.specs.Claims.{Derives, DerivesOpen, WithinLimits}
+use Rattle.language.specs.Claims.{Derives, DerivesOpen, WithinLimits, max_open}
 use Rattle.language.specs.Layout.{wrapped_rows, has_number, fixed_text}
 use Rattle.language.specs.Fits.{fits}
 use Rattle.language.specs.Printed.{printed, open_in}
@@ -25,4 +25,4 @@ module _ (readable : (W : ℕ → Bool) (n : Tree) → fits W n script 1 ≡ tru
 
   pub within_always : (other : List ℕ) (n : Tree) (P : List Pair) → IsUtf8 other → WithinLimits other n P →
       (m : Tree) × (Q : List Pair) × SameTree m n × WithinLimits (fixed_text n) m Q × (length Q ≡ length (wrapped_rows n script 1))
-  within_always other n P u d = read_within other n P d (derived_readable other n P u (1000, d.1))
+  within_always other n P u d = read_within other n P d (derived_readable other n P u (max_open, d.1))

@@ -6,6 +6,7 @@ use Rattle.language.specs.declared.Start.TheVariants.{Any}
 use Rattle.tree.specs.Tree.{Tree, height, none}
 use Rattle.language.specs.Pieces.{expr}
 use Rattle.language.specs.Cost.{least}
+use Rattle.language.specs.Claims.{max_height}
 use Rattle.language.proofs.Trees.{id, t, n, one, two, st, program, computing}
 
 -- a - (a - (a - ..)), with so many operators
@@ -31,15 +32,15 @@ abbrev pub arrays_in : ℕ → Tree
 arrays_in zero = n ArrayExpression 0 0 none
 arrays_in (suc m) = n ArrayExpression 0 0 (one (arrays_in m))
 
--- the heights of `[` 498 times and closed, and 499 times; of `a` and then ` + a` 497 times, and 498 times
-pub arrays_at_the_limit : height (program 0 (one (st 0 0 (arrays_in 497)))) ≡ 500
+-- the heights of `[` 598 times and closed, and 599 times; of `a` and then ` + a` 597 times, and 598 times
+pub arrays_at_the_limit : height (program 0 (one (st 0 0 (arrays_in 597)))) ≡ max_height
 arrays_at_the_limit = refl
 
-pub arrays_above_the_limit : height (program 0 (one (st 0 0 (arrays_in 498)))) ≡ 501
+pub arrays_above_the_limit : height (program 0 (one (st 0 0 (arrays_in 598)))) ≡ suc max_height
 arrays_above_the_limit = refl
 
-pub sum_at_the_limit : height (program 0 (one (st 0 0 (sum_of 497)))) ≡ 500
+pub sum_at_the_limit : height (program 0 (one (st 0 0 (sum_of 597)))) ≡ max_height
 sum_at_the_limit = refl
 
-pub sum_above_the_limit : height (program 0 (one (st 0 0 (sum_of 498)))) ≡ 501
+pub sum_above_the_limit : height (program 0 (one (st 0 0 (sum_of 598)))) ≡ suc max_height
 sum_above_the_limit = refl

@@ -3,7 +3,7 @@ use Rattle.std.proofs.Common.{◌≡◌, ℕ, suc, ◌+◌, ◌≤◌, max, List
 use Rattle.tree.specs.declared.kind.Pair.{Pair}
 use Rattle.tree.specs.Tree.{Tree, node, Parts, none, part, gap, bare, bare_parts, height, parts_height, SameTree}
 use Rattle.language.specs.Pieces.{script}
-use Rattle.language.specs.Claims.{DerivesOpen, WithinLimits}
+use Rattle.language.specs.Claims.{DerivesOpen, WithinLimits, max_height, max_open}
 use Rattle.language.specs.Layout.{wrapped_rows, has_number, fixed_text}
 use Rattle.language.specs.Printed.{items_text, printed}
 use Rattle.language.proofs.LaidItems.{fixed_items}
@@ -36,8 +36,8 @@ fixed_read_within o other n P d h l low =
 
 pub read_within : (other : List ℕ) (n : Tree) (P : List Pair) → WithinLimits other n P → Readable (printed (has_number (wrapped_rows n script 1)) n script 1 0) →
     (m : Tree) × (Q : List Pair) × SameTree m n × WithinLimits (fixed_text n) m Q × (length Q ≡ length (wrapped_rows n script 1))
-read_within other n P d h = limited (fixed_read_within 1000 other n P d.1 h 1000 (let low = d.0 in omega (arith, low)))
+read_within other n P d h = limited (fixed_read_within max_open other n P d.1 h max_open (let low = d.0 in omega (arith, low)))
   where
-    limited : (m : Tree) × (Q : List Pair) × SameTree m n × DerivesOpen 1000 (fixed_text n) m Q × (length Q ≡ length (wrapped_rows n script 1)) →
+    limited : (m : Tree) × (Q : List Pair) × SameTree m n × DerivesOpen max_open (fixed_text n) m Q × (length Q ≡ length (wrapped_rows n script 1)) →
         (m : Tree) × (Q : List Pair) × SameTree m n × WithinLimits (fixed_text n) m Q × (length Q ≡ length (wrapped_rows n script 1))
-    limited (m, Q, same, x, counted) = (m, Q, same, (subst (λ k. k ≤ 500) (sym (same_height m n same)) d.0, x), counted)
+    limited (m, Q, same, x, counted) = (m, Q, same, (subst (λ k. k ≤ max_height) (sym (same_height m n same)) d.0, x), counted)

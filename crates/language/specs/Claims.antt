@@ -22,8 +22,19 @@ DerivesOpen o text n P = (last : Token) × SpellsIn text o script n beginning la
 abbrev pub Derives : List ℕ → Tree → List Pair → Type 0
 Derives text n P = (o : ℕ) × DerivesOpen o text n P
 
+-- the greatest height of a tree, and the most parentheses that are open at one point
+abbrev pub max_height : ℕ
+max_height = 600
+
+abbrev pub max_open : ℕ
+max_open = 1200
+
+-- a text with fewer bytes is too short to be nested too deep
+abbrev pub short_bytes : ℕ
+short_bytes = 300
+
 abbrev pub WithinLimits : List ℕ → Tree → List Pair → Type 0
-WithinLimits text n P = (height n ≤ 500) × DerivesOpen 1000 text n P
+WithinLimits text n P = (height n ≤ max_height) × DerivesOpen max_open text n P
 
 -- some text derives the tree with this number of pairs, and none derives it with fewer
 pub record Fewest (n : Tree) (count : ℕ) : Type 0 where

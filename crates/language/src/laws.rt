@@ -1,7 +1,18 @@
 //! What is proved of the definitions: each contract is a theorem, and the body does nothing.
 
+ghost use Rattle.std.specs.Prelude.{◌≡◌};
+ghost use Rattle.language.specs.Claims.{max_height, max_open, short_bytes};
 ghost use Rattle.language.specs.Earlier.{EarlierScriptsStay};
 ghost use Rattle.language.specs.Laws.{AtMostOneWay, DerivedFits, FindsDerivations, FixedTextDerives, FixedTextWithinLimits, LayoutDerives, LayoutIsItems, LayoutIsSpelled, NoFewerPairs, NoFewerPairsOfTokens, PlacesChangeNoLayout, PlacesChangeNoWay, ReadingsAreDerived, StaysWithMoreTokens};
+
+use crate::limits::{MAX_HEIGHT, MAX_OPEN, SHORT_BYTES};
+
+/// The limits of the code are those of the definitions.
+pub fn limits_are_the_defined_ones()
+    ensures height { MAX_HEIGHT ≡ max_height }
+    ensures open { MAX_OPEN ≡ max_open }
+    ensures short { SHORT_BYTES ≡ short_bytes }
+{}
 
 /// A node has at most one way at a position, but for an arrow with one plain parameter and a `new` without arguments.
 pub fn at_most_one_way()

@@ -2,6 +2,7 @@
 #![tactic(auto)]
 
 pub mod laws;
+pub mod limits;
 
 /// The symbols of the expression grammar, loosest first.
 #[derive(Clone, Copy, Debug, PartialEq, Eq)]

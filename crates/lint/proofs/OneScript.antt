@@ -5,7 +5,7 @@ use Rattle.source_text.specs.declared.fault.Fault.{Fault}
 use Rattle.source_text.specs.declared.fault.Fault.TheVariants.{Syntax, TooDeep, OutOfMemory}
 use Rattle.tree.specs.declared.kind.Pair.{Pair}
 use Rattle.tree.specs.Tree.{Tree, height}
-use Rattle.language.specs.Claims.{DerivesOpen, WithinLimits}
+use Rattle.language.specs.Claims.{DerivesOpen, WithinLimits, max_height, max_open, short_bytes}
 use Rattle.early_errors.specs.Early.{Error, least, least_error}
 use Rattle.unambiguous.proofs.Steps.{one_script}
 use Rattle.descent.specs.Given.{Agrees}
@@ -16,7 +16,7 @@ unlike : {x : Error} → None ≡ Some x → ⊥
 unlike h = cc
 
 pub only_script : (text : List ℕ) (n : Tree) (P : List Pair) → WithinLimits text n P → IsOnly text n P
-only_script text n P within = λ m Q d. one_script text n m P Q (1000, within.1) d
+only_script text n P within = λ m Q d. one_script text n m P Q (max_open, within.1) d
 
 -- the least early error of a tree that the text derives
 pub has_early_error : (text : List ℕ) (n : Tree) (P : List Pair) (number at : ℕ) → WithinLimits text n P → least_error n ≡ Some (number, at) → HasEarlyError text number at
@@ -33,9 +33,9 @@ has_early_error text n P number at within is =
 
 -- a refusal that agrees with each derivation of the text: a syntax error, where there is none; too deep, where none is within the limits, of a text that is long
 pub refused_reading : (text : List ℕ) (fault : Fault) → IsRefusal text fault →
-    ((o : ℕ) (n : Tree) (P : List Pair) → DerivesOpen o text n P → Agrees {X = Unit {0}} ((o ≤ 1000) × (height n ≤ 500)) (λ x. Unit {0}) (Err fault)) → (fault ≡ TooDeep → 250 ≤ length text) → RefusesReading text fault
+    ((o : ℕ) (n : Tree) (P : List Pair) → DerivesOpen o text n P → Agrees {X = Unit {0}} ((o ≤ max_open) × (height n ≤ max_height)) (λ x. Unit {0}) (Err fault)) → (fault ≡ TooDeep → short_bytes ≤ length text) → RefusesReading text fault
 refused_reading text (Syntax at) is agrees long = (is, λ n P d. agrees d.0 n P d.1)
-refused_reading text TooDeep is agrees long = (long refl, λ n P within. agrees 1000 n P within.1 (omega arith, within.0))
+refused_reading text TooDeep is agrees long = (long refl, λ n P within. agrees max_open n P within.1 (omega arith, within.0))
 refused_reading text OutOfMemory is agrees long = tt
 refused_reading text _ is agrees long = absurd is
 

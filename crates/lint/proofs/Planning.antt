@@ -6,17 +6,18 @@ use Rattle.tree.specs.Tree.{Tree}
 use Rattle.language.specs.Pieces.{script}
 use Rattle.language.specs.Positions.{rows}
 use Rattle.language.specs.Cost.{least}
+use Rattle.language.specs.Claims.{max_open}
 use Rattle.paren_planner.proofs.Bytes.{rows_within, derived_least}
 use Rattle.lint.specs.ReadScripts.{IsReading, IsScript}
 
 -- some number of pairs spells it
 pub script_spelled : (n : Tree) (P : List Pair) → IsScript n P → IsSome (least n script)
-script_spelled n P is = derived_least is.text n P (1000, is.derived.1)
+script_spelled n P is = derived_least is.text n P (max_open, is.derived.1)
 
 -- it has no more rows than a text may have bytes
 pub script_few : (n : Tree) (P : List Pair) → IsScript n P → rows n script ≤ 16777216
 script_few n P is =
-    let within : rows n script ≤ length is.text = rows_within is.text n P is.utf8 (1000, is.derived.1) in
+    let within : rows n script ≤ length is.text = rows_within is.text n P is.utf8 (max_open, is.derived.1) in
     let short = is.short in
     omega (arith, within, short)
 

@@ -9,7 +9,7 @@ use Rattle.streams.specs.declared.command.Command.TheVariants.{Cost, Verify}
 use Rattle.tree.specs.declared.kind.Kind.{Kind}
 use Rattle.tree.specs.declared.kind.Pair.{Pair}
 use Rattle.tree.specs.Tree.{Tree, SameTree}
-use Rattle.language.specs.Claims.{Table, Derives}
+use Rattle.language.specs.Claims.{Table, Derives, max_open}
 use Rattle.paren_planner.specs.declared.table.CostTable.{CostTable}
 use Rattle.paren_planner.specs.Tables.{table_of}
 use Rattle.cost_certificate.specs.declared.check.BadTable.{BadTable as Bad}
@@ -183,7 +183,7 @@ planned text n P parsed plan is meets = λ finds given. (
       record {
         table = table_of plan.table.rows.items plan.table.total;
         bounds = meets.bounds;
-        exact = meets.exact is.text P is.utf8 (1000, is.derived.1);
+        exact = meets.exact is.text P is.utf8 (max_open, is.derived.1);
         is_text = refl;
       },
       refl,

@@ -7,7 +7,7 @@ use Rattle.source_text.specs.declared.fault.Fault.{Fault}
 use Rattle.source_text.specs.declared.fault.Fault.TheVariants.{Syntax, TooDeep, Early, OutOfMemory}
 use Rattle.tree.specs.declared.kind.Pair.{Pair}
 use Rattle.tree.specs.Tree.{Tree}
-use Rattle.language.specs.Claims.{Derives, WithinLimits}
+use Rattle.language.specs.Claims.{Derives, WithinLimits, short_bytes}
 use Rattle.early_errors.specs.Accepted.{Accepted}
 use Rattle.early_errors.specs.Early.{errors, least_error}
 
@@ -38,11 +38,11 @@ pub record HasEarlyError (text : List ℕ) (number at : ℕ) : Type 0 where
   pub least : least_error tree ≡ Some (number, at)
   pub unlawful : (m : Tree) (Q : List Pair) → Derives text m Q → errors m ≡ [] → ⊥
 
--- A syntax error names a place of a text that is no script; a text that is nested too deep is no script within the limits, and has 250 bytes at least; an early
+-- A syntax error names a place of a text that is no script; a text that is nested too deep is no script within the limits, and isn't short; an early
 -- error is the least of the one tree that the text derives, and names a place of it; else memory is refused.
 abbrev pub RefusesReading : List ℕ → Fault → Type 0
 RefusesReading text (Syntax at) = IsPlace text at × NoScript text
-RefusesReading text TooDeep = (250 ≤ length text) × NoneWithin text
+RefusesReading text TooDeep = (short_bytes ≤ length text) × NoneWithin text
 RefusesReading text (Early number at) = IsPlace text at × HasEarlyError text number at
 RefusesReading text OutOfMemory = Unit {0}
 RefusesReading text other = ⊥

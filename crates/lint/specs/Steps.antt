@@ -15,27 +15,33 @@ use Rattle.rules.specs.Rules.{View}
 use Rattle.rules.specs.Settings.{Settings}
 use Rattle.rules.specs.Toml.{settings_of_text}
 use Rattle.reporting.specs.Lines.{report_lines, report_status}
+use Rattle.language.specs.Layout.{fixed_text}
+use Rattle.paren_planner.specs.Plans.{IsPlan}
 use Rattle.paren_planner.specs.Tables.{table_of}
 use Rattle.paren_planner.specs.declared.table.CostTable.{CostTable}
 use Rattle.cost_certificate.specs.Forms.{short, table_text, IsTable, IsBadLine}
 use Rattle.lint.specs.declared.answer.Answer.{Answer}
-use Rattle.lint.specs.declared.answer.Answer.TheVariants.{Text, Table}
+use Rattle.lint.specs.declared.answer.Answer.TheVariants.{Text, Fixed, Table}
+use Rattle.lint.specs.ReadScripts.{IsScript}
 use Rattle.lint.specs.Outputs.{second_limit, IsSecond, IsOutput, RefusesSecond, RefusesSettings, Reports}
 use Rattle.lint.specs.Run.{Seen, NothingWritten, HasOutput, Refuses}
 
 -- what an answer writes, and its status
 abbrev pub output_of : Answer → List ℕ
 output_of (Text text status) = string_bytes text
+output_of (Fixed parsed plan) = fixed_text parsed.program
 output_of (Table parsed plan) = table_text short (table_of plan.table.rows.items plan.table.total)
 
 abbrev pub status_of : Answer → ℕ
 status_of (Text text status) = status
+status_of (Fixed parsed plan) = 0
 status_of (Table parsed plan) = 0
 
--- a table has no more rows than a text may have bytes
-abbrev pub IsShort : Answer → Type 0
-IsShort (Text text status) = Unit {0}
-IsShort (Table parsed plan) = length plan.table.rows.items ≤ 16777216
+-- what is made as it is written: a script's text by its plan, and a table that has no more rows than a text may have bytes
+abbrev pub IsWritable : Answer → Type 0
+IsWritable (Text text status) = Unit {0}
+IsWritable (Fixed parsed plan) = IsScript parsed.program parsed.pairs.items × IsPlan parsed.program plan
+IsWritable (Table parsed plan) = length plan.table.rows.items ≤ 16777216
 
 -- why bytes give no settings
 abbrev pub RefusesSettingsBy : List ℕ → Fault → Type 0

@@ -2,8 +2,9 @@
 
 ghost use Rattle.std.specs.Prelude.{◌≡◌, false};
 ghost use Rattle.source_text.specs.Writing.{WritesText};
-ghost use Rattle.lint.specs.Steps.{output_of, status_of, IsShort};
+ghost use Rattle.lint.specs.Steps.{output_of, status_of, IsWritable};
 
+use crate::fixer::write_fixed;
 use cost_certificate::write_table;
 use paren_planner::Plan;
 use parser::Parsed;
@@ -14,6 +15,8 @@ use source_text::{DeviceFault, Sink, write_text};
 pub enum Answer<'s> {
     /// A text that is made, and its status.
     Text(String, u8),
+    /// The fixed text of a script, which is made as it is written; status 0.
+    Fixed(Parsed<'s>, Plan),
     /// The text of a script's cost table, which is made as it is written; status 0.
     Table(Parsed<'s>, Plan),
 }
@@ -25,7 +28,7 @@ impl<'s> Answer<'s> {
     {
         match self {
             Answer::Text(_, status) => *status,
-            Answer::Table(..) => 0,
+            Answer::Fixed(..) | Answer::Table(..) => 0,
         }
     }
 
@@ -36,11 +39,12 @@ impl<'s> Answer<'s> {
     /// A `DeviceFault` where the writer fails; it is not asked again.
     pub fn write<W: Sink>(&self, writer: &mut W) -> Result<(), DeviceFault>
         requires ready { W.failed writer.old ≡ false }
-        requires short { IsShort self.now }
+        requires writable { IsWritable self.now }
         ensures { WritesText (output_of self.now) result (W.taken writer.old) (W.taken writer.new) (W.failed writer.new) }
     {
         match self {
             Answer::Text(text, _) => write_text(text.as_bytes(), writer),
+            Answer::Fixed(parsed, plan) => write_fixed(parsed, plan, writer),
             Answer::Table(parsed, plan) => match write_table(
                 parsed.program(),
                 plan.table(),

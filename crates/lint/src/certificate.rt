@@ -4,7 +4,7 @@ ghost use Rattle.std.specs.Prelude.{◌≡◌, ◌≤◌, false, length, IfOk, s
 ghost use Rattle.streams.specs.declared.command.Command.TheVariants.{Cost, Verify};
 ghost use Rattle.lint.specs.ReadScripts.{IsScript};
 ghost use Rattle.lint.specs.Outputs.{pairs_line as pairs_line_of};
-ghost use Rattle.lint.specs.Steps.{Answers, AnswersAlone, IsShort, ReadsTable};
+ghost use Rattle.lint.specs.Steps.{Answers, AnswersAlone, IsWritable, ReadsTable};
 
 use crate::answer::Answer;
 use cost_certificate::{BadTable, check_table, read_table};
@@ -26,7 +26,7 @@ const MAX_TABLE: usize = 2_147_483_648;
 pub fn cost<'s>(alloc: Global, parsed: Parsed<'s>) -> Result<Answer<'s>, Fault>
     requires script { IsScript parsed.program parsed.pairs.items }
     ensures answer { (text : _) → AnswersAlone Cost text parsed.entry.program parsed.entry.pairs.items result }
-    ensures short { IfOk result IsShort }
+    ensures writable { IfOk result IsWritable }
 {
     match plan(alloc, parsed.program()) {
         Ok(plan) => Ok(Answer::Table(parsed, plan)),
@@ -74,7 +74,7 @@ pub fn verify<'s, S: Feed>(
     requires script { IsScript parsed.now.program parsed.now.pairs.items }
     requires ready { S.failed second.old ≡ false }
     ensures answer { (finds text : _) → Answers finds Verify text parsed.now.program parsed.now.pairs.items (S.left second.old) result (S.failed second.new) }
-    ensures short { IfOk result IsShort }
+    ensures writable { IfOk result IsWritable }
 {
     let table = match read_second(alloc, second) {
         Ok(table) => table,

@@ -7,7 +7,7 @@ ghost use Rattle.rules.specs.Run.{all_found};
 ghost use Rattle.rules.specs.Toml.{settings_of_text};
 ghost use Rattle.lint.specs.ReadScripts.{IsReading, IsScript};
 ghost use Rattle.lint.specs.Outputs.{IsExtra, Reports};
-ghost use Rattle.lint.specs.Steps.{Answers, ReadsSettings, IsShort, RefusesSettingsBy, ReportsLines};
+ghost use Rattle.lint.specs.Steps.{Answers, ReadsSettings, IsWritable, RefusesSettingsBy, ReportsLines};
 
 use crate::answer::Answer;
 use paren_planner::{extra_pairs, plan};
@@ -93,7 +93,7 @@ fn report<'s>(
     requires script { IsScript parsed.now.program parsed.now.pairs.items }
     requires utf8 { IsUtf8 source.now }
     ensures lines { IfOk result (ReportsLines (all_found (λ b. called b) (λ b. finds b) rules.now) source.now parsed.now.program parsed.now.pairs.items settings.now) }
-    ensures short { IfOk result IsShort }
+    ensures writable { IfOk result IsWritable }
 {
     let reports = reports(alloc, rules, parsed, settings)?;
     let lines = report_lines(alloc, source, &reports)?;
@@ -117,7 +117,7 @@ pub fn check<'s, S: Feed>(
     requires small { length source.now ≤ 16777216 }
     requires ready { S.failed second.old ≡ false }
     ensures answer { Answers (all_found (λ b. called b) (λ b. finds b) rules.now) Check source.now parsed.now.program parsed.now.pairs.items (S.left second.old) result (S.failed second.new) }
-    ensures short { IfOk result IsShort }
+    ensures writable { IfOk result IsWritable }
 {
     let settings = match read_settings(alloc, second) {
         Ok(settings) => settings,

@@ -5,13 +5,13 @@ ghost use Rattle.streams.specs.declared.command.Command.TheVariants.{Fix, Tree};
 ghost use Rattle.rules.specs.Run.{all_found};
 ghost use Rattle.lint.specs.ReadScripts.{IsReading};
 ghost use Rattle.lint.specs.Outputs.{second_limit, tree_line as tree_line_of};
-ghost use Rattle.lint.specs.Steps.{Answers, AnswersAlone, IsShort};
+ghost use Rattle.lint.specs.Steps.{Answers, AnswersAlone, IsWritable};
 
 use crate::answer::Answer;
 use crate::certificate::{cost, verify};
 use crate::checker::check;
-use crate::fixer::fix;
 use estree_json::tree_text;
+use paren_planner::plan;
 use parser::Parsed;
 use rules::Rule;
 use source_text::{Fault, Feed, Source};
@@ -30,7 +30,7 @@ fn tree_line(alloc: Global, parsed: &Parsed<'_>) -> Result<String, AllocError>
 /// What `tree` answers.
 fn tree<'s>(alloc: Global, parsed: &Parsed<'_>) -> Result<Answer<'s>, Fault>
     ensures answer { (text : _) → AnswersAlone Tree text parsed.now.program parsed.now.pairs.items result }
-    ensures short { IfOk result IsShort }
+    ensures writable { IfOk result IsWritable }
 {
     match tree_line(alloc, parsed) {
         Ok(line) => Ok(Answer::Text(line, 0)),
@@ -38,15 +38,15 @@ fn tree<'s>(alloc: Global, parsed: &Parsed<'_>) -> Result<Answer<'s>, Fault>
     }
 }
 
-/// What `fix` answers: the fixed text.
-fn fixed<'s>(alloc: Global, source: &Source<'_>, parsed: &Parsed<'_>) -> Result<Answer<'s>, Fault>
-    requires reading { IsReading source.now parsed.now.program parsed.now.pairs.items }
+/// What `fix` answers: the fixed text, which is made as it is written.
+fn fixed<'s>(alloc: Global, source: &Source<'_>, parsed: Parsed<'s>) -> Result<Answer<'s>, Fault>
+    requires reading { IsReading source.now parsed.program parsed.pairs.items }
     requires small { length source.now ≤ 16777216 }
-    ensures answer { AnswersAlone Fix source.now parsed.now.program parsed.now.pairs.items result }
-    ensures short { IfOk result IsShort }
+    ensures answer { AnswersAlone Fix source.now parsed.entry.program parsed.entry.pairs.items result }
+    ensures writable { IfOk result IsWritable }
 {
-    match fix(alloc, parsed) {
-        Ok(text) => Ok(Answer::Text(text, 0)),
+    match plan(alloc, parsed.program()) {
+        Ok(plan) => Ok(Answer::Fixed(parsed, plan)),
         Err(AllocError) => Err(Fault::OutOfMemory),
     }
 }
@@ -68,13 +68,13 @@ pub fn answer<'s, S: Feed>(
     requires small { length source.now ≤ 16777216 }
     requires ready { S.failed second.old ≡ false }
     ensures answer { Answers (all_found (λ b. called b) (λ b. finds b) rules.now) command source.now parsed.entry.program parsed.entry.pairs.items (S.left second.old) result (S.failed second.new) }
-    ensures short { IfOk result IsShort }
+    ensures writable { IfOk result IsWritable }
     ensures unread { second_limit command ≡ None → second.new ≡ second.old }
 {
     match command {
         Command::Check => check(alloc, rules, source, &parsed, second),
         Command::Tree => tree(alloc, &parsed),
-        Command::Fix => fixed(alloc, source, &parsed),
+        Command::Fix => fixed(alloc, source, parsed),
         Command::Cost => cost(alloc, parsed),
         Command::Verify => verify(alloc, &parsed, second),
     }

@@ -12,9 +12,9 @@ use std::alloc::Global;
 /// The script that a text is, with its grouping pairs.
 ///
 /// # Errors
-/// `Syntax` with a place, a byte offset, where the text is no script; `TooDeep` where it is none within the limits (height
-/// 500, and 1000 parentheses open at one point that group or hold an arrow's parameters); `Early` with the number and the
-/// place of the first early error; `OutOfMemory`.
+/// `Syntax` with a place, a byte offset, where the text is no script; `TooDeep` where it is none within the limits of
+/// `language::limits` (the height, and the parentheses open at one point that group or hold an arrow's parameters); `Early` with
+/// the number and the place of the first early error; `OutOfMemory`.
 pub fn read_script<'s>(alloc: Global, source: &Source<'s>) -> Result<Parsed<'s>, Fault>
     ensures short { IfOk result (λ _. length source.now ≤ 16777216) }
     ensures accepted { IfOk result (λ parsed. Accepted source.now parsed.program parsed.pairs.items) }

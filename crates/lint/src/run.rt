@@ -5,7 +5,7 @@ ghost use Rattle.streams.specs.Refused.{HasPlace, place_of};
 ghost use Rattle.rules.specs.Run.{all_found};
 ghost use Rattle.lint.specs.Outputs.{second_limit};
 ghost use Rattle.lint.specs.Run.{Runs};
-ghost use Rattle.lint.specs.Steps.{AnswersBytes, IsShort};
+ghost use Rattle.lint.specs.Steps.{AnswersBytes, IsWritable};
 
 use crate::answer::Answer;
 use crate::commands::answer;
@@ -44,7 +44,7 @@ fn answer_bytes<'s, S: Feed>(
 ) -> Result<Answer<'s>, Refused>
     requires ready { S.failed second.old ≡ false }
     ensures answer { AnswersBytes (all_found (λ b. called b) (λ b. finds b) rules.now) command bytes.now (S.left second.old) result (S.failed second.new) }
-    ensures short { IfOk result IsShort }
+    ensures writable { IfOk result IsWritable }
     ensures told { IfErr result (λ refused. refused.fault ≢ Fault.Usage) }
     ensures unread { second_limit command ≡ None → second.new ≡ second.old }
 {
@@ -63,8 +63,8 @@ fn answer_bytes<'s, S: Feed>(
 }
 
 /// Runs a command. The first file is read to its end, or to one byte past the longest text, and has to be a script; then `check` reads its
-/// settings and `verify` its table, which is no other command's matter. All is made in memory before anything is written, and no
-/// memory is taken while it is written. The rules of `check` are those that are handed in. Answers the exit status: 1 where `check` has a
+/// settings and `verify` its table, which is no other command's matter. All that takes memory is done before anything is written: the
+/// texts of `fix` and `cost` are made by a plan as they are written. The rules of `check` are those that are handed in. Answers the exit status: 1 where `check` has a
 /// report, else 0.
 ///
 /// # Errors

@@ -1,14 +1,11 @@
 -- The rows and the numbers of a node, from those of its parts.
-use Rattle.std.proofs.Common.{◌≡◌, ℕ, ◌+◌, ◌<◌, Bool, true, false, cond, List, [], ◌∷◌, ◌++◌, length, Option, Some, None, refl, sym, ap, ◌∙◌, subst, append_assoc, append-nil, arith}
-use Rattle.std.specs.Prelude.{set, ◌&&◌, nat_eq}
-use Rattle.std.proofs.lemmas.List.{set_at, length-append}
+use Rattle.std.proofs.Common.{◌≡◌, ℕ, Bool, true, false, cond, List, [], ◌∷◌, ◌++◌, Option, Some, None, refl, sym, ap, ◌∙◌, subst, arith}
+use Rattle.std.specs.Prelude.{◌&&◌, nat_eq}
 use Rattle.std.proofs.lemmas.Bool.{false≢true}
 use Rattle.std.proofs.lemmas.Bool.Decides.{nat_tests}
-use Rattle.tree.specs.Tree.{Tree, node, Parts, none, part, gap, kind_of, parts_of, part_at}
+use Rattle.tree.specs.Tree.{Tree, node, Parts, none, part, gap, parts_of, part_at}
 use Rattle.language.specs.declared.Rank.{Rank}
-use Rattle.language.specs.declared.Rank.TheVariants.{Expression}
 use Rattle.language.specs.declared.Start.{Start}
-use Rattle.language.specs.declared.Start.TheVariants.{Any}
 use Rattle.language.specs.Pieces.{Role, expr, PieceOf, Slot}
 use Rattle.language.specs.Expressions.{chained, first_chained}
 use Rattle.language.specs.Grammar.{ways}
@@ -22,11 +19,10 @@ use Rattle.positions.specs.Wherever.{with_own, spelled_roles, IsSpelledWherever}
 use Rattle.positions.proofs.Walked.{spelled_here}
 use Rattle.paren_planner.specs.declared.costs.Costs as own
 use Rattle.paren_planner.specs.declared.weighed.Weighed.{Weighed}
-use Rattle.paren_planner.specs.declared.table.Row.{Row}
 use Rattle.paren_planner.specs.Costs.{capped, capped_sum, each, sums, same_everywhere, cells_at}
 use Rattle.paren_planner.specs.Weighed.{fits_any, settled_at, uses, fitting, sums_over, IsWeighed}
-use Rattle.paren_planner.specs.Rows.{row_with, row_of, is_expression, table_rows, parts_table}
-use Rattle.paren_planner.proofs.Sums.{capped-add, sums-assoc, sums-zero, sums-none}
+use Rattle.paren_planner.specs.Rows.{is_expression, table_rows, parts_table}
+use Rattle.paren_planner.proofs.Sums.{capped-add, sums-zero}
 use Rattle.paren_planner.proofs.Known.{own_widest, fits_widest, use_known}
 
 -- Steps over parts
@@ -132,15 +128,6 @@ unfolding table_rows
 rows_inside (node k w g s e ps) (expr y i f) h = absurd (cc)
 rows_inside (node k w g s e ps) _ h = refl
 
--- the row of a node, pushed before its parts and set behind them
-pub rows_own : (n : Tree) (a : Role) (w : Weighed) (old new : List Row) (r : Row) → is_expression a ≡ true → IsWeighed a n w →
-    new ≡ (old ++ r ∷ []) ++ parts_table (parts_of n) (first_roles (ways (widest a) n)) → set new (length old) (row_with (kind_of n) w.costs) ≡ old ++ table_rows n a
-unfolding table_rows row_of cells_at
-rows_own (node k t x s e ps) (expr y i f) w old new r h q g =
-    ap (λ u. set u (length old) (row_with k w.costs)) (g ∙ append_assoc old (r ∷ []) _) ∙ set_at old r _ (row_with k w.costs) (length old) refl
-    ∙ ap (λ c. old ++ row_with k c ∷ parts_table ps (first_roles (ways (expr Expression true Any) (node k t x s e ps)))) q.costs
-rows_own n _ w old new r h q g = absurd (cc)
-
 -- the first part of what is above parts of a chain
 pub chained_part : (n u : Tree) → first_chained (parts_of n) ≡ true → Some u ≡ part_at (parts_of n) 0 → chained u ≡ true
 chained_part (node k w g s e none) u h p = absurd (cc)
@@ -149,56 +136,10 @@ chained_part (node k w g s e (part t ps)) u h p = let same : u ≡ t = cc in ap 
 
 -- The turns of the loop over parts
 
-pub sums_turn : (s t T : own.Costs) (P Q : Parts) (u : Tree) (a : Role) (x : Slot) (xs ys : List Slot) (w : Weighed) →
-    sums s (sums_over P a xs) ≡ T → P ≡ part u Q → xs ≡ x ∷ ys → IsWeighed (settled_at a x) u w → t ≡ sums s (uses a x w) → sums t (sums_over Q a ys) ≡ T
-sums_turn s t T P Q u a x xs ys w h p e q k =
-    ap (λ c. sums c (sums_over Q a ys)) k ∙ sums-assoc s (uses a x w) (sums_over Q a ys) ∙ ap (sums s) (sums-part u Q a x ys w q ∙ (λ j. sums_over (sym p j) a (sym e j))) ∙ h
-
 pub whole_turn : (s t u : own.Costs) → t ≡ sums s u → sums t (same_everywhere (Some 0)) ≡ t
 whole_turn s t u k = ap (λ c. sums c (same_everywhere (Some 0))) k ∙ sums-zero s u ∙ sym k
 
-pub sums_skip : (s T : own.Costs) (P Q : Parts) (a : Role) (xs : List Slot) → sums s (sums_over P a xs) ≡ T → P ≡ gap Q → sums s (sums_over Q a xs) ≡ T
-sums_skip s T P Q a xs h p = ap (sums s) (sym (sums-gap Q a xs) ∙ (λ j. sums_over (sym p j) a xs)) ∙ h
-
-pub sums_stop : (s T : own.Costs) (P Q : Parts) (u : Tree) (a : Role) (xs : List Slot) → sums s (sums_over P a xs) ≡ T → P ≡ part u Q → xs ≡ [] → same_everywhere None ≡ T
-sums_stop s T P Q u a xs h p e = sym (sums-none s) ∙ ap (sums s) (sym (sums-stop u Q a) ∙ (λ j. sums_over (sym p j) a (sym e j))) ∙ h
-
-pub sums_finish : (s T : own.Costs) (P : Parts) (a : Role) (xs : List Slot) → sums s (sums_over P a xs) ≡ T → P ≡ none → sums s (same_everywhere (Some 0)) ≡ s → s ≡ T
-sums_finish s T P a xs h p k = sym k ∙ ap (sums s) (sym (sums-end a xs) ∙ (λ j. sums_over (sym p j) a xs)) ∙ h
-
-pub rows_turn : (t v R : List Row) (P Q : Parts) (u : Tree) (a : Role) (x : Slot) (xs ys : List Slot) →
-    t ++ parts_table P (settled_roles a xs) ≡ R → P ≡ part u Q → xs ≡ x ∷ ys → v ≡ t ++ table_rows u (settled_at a x) → v ++ parts_table Q (settled_roles a ys) ≡ R
-rows_turn t v R P Q u a x xs ys h p e k =
-    ap (λ r. r ++ parts_table Q (settled_roles a ys)) k ∙ append_assoc t (table_rows u (settled_at a x)) _
-    ∙ ap (λ r. t ++ r) (sym (table-part u Q a x ys) ∙ (λ j. parts_table (sym p j) (settled_roles a (sym e j)))) ∙ h
-
-pub rows_skip : (t R : List Row) (P Q : Parts) (a : Role) (xs : List Slot) → t ++ parts_table P (settled_roles a xs) ≡ R → P ≡ gap Q → t ++ parts_table Q (settled_roles a xs) ≡ R
-rows_skip t R P Q a xs h p = ap (λ r. t ++ r) (sym (table-gap Q (settled_roles a xs)) ∙ (λ j. parts_table (sym p j) (settled_roles a xs))) ∙ h
-
-pub rows_stop : (t R : List Row) (P Q : Parts) (u : Tree) (a : Role) (xs : List Slot) → t ++ parts_table P (settled_roles a xs) ≡ R → P ≡ part u Q → xs ≡ [] → t ≡ R
-rows_stop t R P Q u a xs h p e = sym (append-nil t) ∙ ap (λ r. t ++ r) (sym (table-stop u Q) ∙ (λ j. parts_table (sym p j) (settled_roles a (sym e j)))) ∙ h
-
-pub rows_finish : (t R : List Row) (P : Parts) (a : Role) (xs : List Slot) → t ++ parts_table P (settled_roles a xs) ≡ R → P ≡ none → t ≡ R
-rows_finish t R P a xs h p = sym (append-nil t) ∙ ap (λ r. t ++ r) (sym (table-end (settled_roles a xs)) ∙ (λ j. parts_table (sym p j) (settled_roles a xs))) ∙ h
-
 -- A node, where its own position is the widest
-
-pub inside_none : (a b : Role) (n : Tree) → b ≡ widest a → IsSpelledWherever b n None → IsWeighed a n (record { outline = None; costs = same_everywhere None })
-inside_none a b n q h = weighed_none a n (subst (λ u. IsSpelledWherever u n None) q h)
-
-pub inside_none_rows : (a b : Role) (n : Tree) (t : List Row) → b ≡ widest a → IsSpelledWherever b n None → t ≡ t ++ parts_table (parts_of n) (first_roles (ways (widest a) n))
-inside_none_rows a b n t q h = sym (append-nil t) ∙ ap (λ r. t ++ r) (sym (ap (parts_table (parts_of n)) (roles_none a n (subst (λ u. IsSpelledWherever u n None) q h)) ∙ table-empty (parts_of n)))
-
-pub inside_some : (a b : Role) (n : Tree) (x : Spelled) → b ≡ widest a → IsSpelledWherever b n (Some x) → (c d : own.Costs) → c ≡ sums_over (parts_of n) b (left x.slots) → d ≡ fitting b x.outline c →
-    IsWeighed a n (record { outline = Some x.outline; costs = d })
-inside_some a b n x q h c d e g = weighed_some a n x (subst (λ u. IsSpelledWherever u n (Some x)) q h) c d (e ∙ ap (λ u. sums_over (parts_of n) u (left x.slots)) q) (g ∙ ap (λ u. fitting u x.outline c) q)
-
-pub inside_some_rows : (a b : Role) (n : Tree) (x : Spelled) (t v : List Row) → b ≡ widest a → IsSpelledWherever b n (Some x) → v ≡ t ++ parts_table (parts_of n) (settled_roles b (left x.slots)) →
-    v ≡ t ++ parts_table (parts_of n) (first_roles (ways (widest a) n))
-inside_some_rows a b n x t v q h k = k ∙ ap (λ r. t ++ parts_table (parts_of n) r) (ap (λ u. settled_roles u (left x.slots)) q ∙ sym (roles_some a n x (subst (λ u. IsSpelledWherever u n (Some x)) q h)))
-
-pub row_within : (t v : List Row) (r : Row) (rs : List Row) → v ≡ (t ++ r ∷ []) ++ rs → length t < length v
-row_within t v r rs h = let e : length v ≡ (length t + 1) + length rs = ap length h ∙ length-append (t ++ r ∷ []) rs ∙ ap (λ m. m + length rs) (length-append t (r ∷ [])) in omega (arith, e)
 
 is_zero : (i : ℕ) → nat_eq i 0 ≡ true → i ≡ 0
 is_zero i e = grind (arith, nat_tests)

@@ -60,10 +60,10 @@ either true i s = refl
 either false true s = refl
 either false false s = refl
 
-zero_at : (y : Rank) (i : Bool) (f : Start) → cost_at (same_everywhere (Some 0)) y i f ≡ Some 0
+pub zero_at : (y : Rank) (i : Bool) (f : Start) → cost_at (same_everywhere (Some 0)) y i f ≡ Some 0
 zero_at y i f = either (nat_le 21 (tightness y)) i (started_at (each_start (λ g. Some 0)) f) ∙ zero_started f
 
-zero_or_one : lesser (Some 0) (capped_sum (Some 1) (Some 0)) ≡ Some 0
+pub zero_or_one : lesser (Some 0) (capped_sum (Some 1) (Some 0)) ≡ Some 0
 unfolding lesser capped_sum capped add_cost
 zero_or_one = refl
 

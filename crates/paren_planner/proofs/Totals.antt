@@ -61,7 +61,7 @@ cell_known n y i f x = of (nat_le 21 (tightness y))
     of false = x.known Expression i f
 
 -- what is spelled at a plain position has the same positions of its parts as at that of its cell
-cell_roles : (n : Tree) (y : Rank) (i : Bool) (f : Start) → is_plain (expr y i f) ≡ true → some_way (ways (expr y i f) n) ≡ true →
+pub cell_roles : (n : Tree) (y : Rank) (i : Bool) (f : Start) → is_plain (expr y i f) ≡ true → some_way (ways (expr y i f) n) ≡ true →
     (some_way (ways (cell_position (expr y i f)) n) ≡ true) × (first_roles (ways (cell_position (expr y i f)) n) ≡ first_roles (ways (expr y i f) n))
 cell_roles n y i f p h = of s.found (s.known y i f) (cell_known n y i f s)
   where

@@ -1,15 +1,15 @@
--- The turns of the walk that wraps.
+-- Rows and flags of a node, as a pass over the steps of a walk meets them.
 use Rattle.std.proofs.Common.{◌≡◌, ℕ, zero, suc, ◌+◌, ◌≤◌, ◌<◌, Bool, true, false, cond, List, [], ◌∷◌, ◌++◌, length, drop, get_or, Option, Some, None, refl, sym, ap, ap₂, ◌∙◌, subst, append_assoc, append-nil, arith}
 use Rattle.std.specs.Prelude.{◌&&◌, IsSome}
-use Rattle.std.proofs.lemmas.List.{length-replicate, length-append, drop-drop, drop_at, replicate-append-replicate}
+use Rattle.std.proofs.lemmas.List.{length-replicate, length-append, drop-drop, drop_at}
 use Rattle.tree.specs.Tree.{Tree, node, Parts, none, part, gap, parts_of}
 use Rattle.language.specs.declared.Rank.TheVariants.{Expression}
 use Rattle.language.specs.declared.Start.TheVariants.{Any}
-use Rattle.language.specs.Pieces.{Role, expr, script, Slot}
+use Rattle.language.specs.Pieces.{Role, expr}
 use Rattle.language.specs.Grammar.{ways}
 use Rattle.language.specs.Positions.{first_roles, widest, has_row, rows, parts_rows}
 use Rattle.language.specs.Layout.{some_way, exceeds, wants_pair, inside}
-use Rattle.language.specs.Cost.{add_cost, least, cell, cell_position}
+use Rattle.language.specs.Cost.{add_cost, cell, cell_position}
 use Rattle.positions.specs.declared.spelled.Spelled.{Spelled}
 use Rattle.positions.specs.Spelled.{fits_outline, settled_roles, Verdict}
 use Rattle.positions.specs.Remaining.{left}
@@ -17,13 +17,13 @@ use Rattle.positions.specs.Wherever.{spelled_roles, IsSpelledWherever}
 use Rattle.positions.proofs.Walked.{spelled_here}
 use Rattle.paren_planner.specs.declared.costs.Costs as own
 use Rattle.paren_planner.specs.declared.table.Row.{Row}
-use Rattle.paren_planner.specs.Costs.{capped, capped_sum, cells_at}
-use Rattle.paren_planner.specs.Weighed.{settled_at, cost_of, fits_spelled}
+use Rattle.paren_planner.specs.Costs.{capped_sum, cells_at}
+use Rattle.paren_planner.specs.Weighed.{cost_of, fits_spelled}
 use Rattle.paren_planner.specs.Rows.{row_of, is_expression, own_row, table_rows, parts_table}
 use Rattle.paren_planner.specs.Wrapped.{unwrapped, flags, parts_flags, inner_flags, HasRows}
 use Rattle.paren_planner.proofs.Known.{fits_widest, counted}
 use Rattle.paren_planner.proofs.Filled.{way_when, rows_inside}
-use Rattle.paren_planner.proofs.Bounds.{Below, below_more, cell_below, least_below, widest-cell, capped_below, sum_below, rows_inner}
+use Rattle.paren_planner.proofs.Bounds.{Below, below_more, cell_below, widest-cell, capped_below, sum_below, rows_inner}
 use Rattle.paren_planner.proofs.Wrapping.{parts-rows, parts-table, widest_own, flags-length, rows-empty}
 
 -- Rows from a place on
@@ -78,69 +78,6 @@ given-length false n a = length-replicate (rows n a) false
 -- behind a part
 pub table_turn : (t : List Row) (ws vs : List Bool) (lives : Bool) (n : Tree) (a : Role) (ys : List Row) → vs ≡ ws ++ cond lives (flags n a) (unwrapped (rows n a)) → HasRows t (length ws) (table_rows n a ++ ys) → HasRows t (length vs) ys
 table_turn t ws vs lives n a ys e h = rows_behind t (length ws) (length vs) (table_rows n a) ys (ap length e ∙ length-append ws _ ∙ ap (λ m. length ws + m) (given-length lives n a ∙ sym (table-length n a))) h
-
-pub flags_turn : (ws vs : List Bool) (lives : Bool) (n : Tree) (a : Role) (ps : Parts) (xs : List Role) → vs ≡ ws ++ cond lives (flags n a) (unwrapped (rows n a)) →
-    vs ++ cond lives (parts_flags ps xs) (unwrapped (parts_rows ps xs)) ≡ ws ++ cond lives (parts_flags (part n ps) (a ∷ xs)) (unwrapped (parts_rows (part n ps) (a ∷ xs)))
-unfolding parts_flags parts_rows
-flags_turn ws vs true n a ps xs e = ap (λ u. u ++ parts_flags ps xs) e ∙ append_assoc ws (flags n a) (parts_flags ps xs)
-flags_turn ws vs false n a ps xs e = ap (λ u. u ++ unwrapped (parts_rows ps xs)) e ∙ append_assoc ws (unwrapped (rows n a)) (unwrapped (parts_rows ps xs)) ∙ ap (λ u. ws ++ u) (replicate-append-replicate (rows n a) (parts_rows ps xs) false)
-
-pub rows_of_part : (n : Tree) (a : Role) (ps : Parts) (xs : List Role) → parts_rows (part n ps) (a ∷ xs) ≡ rows n a + parts_rows ps xs
-unfolding parts_rows
-rows_of_part n a ps xs = refl
-
--- The turns of the loop over parts
-
-abbrev pub given : Bool → Parts → List Role → List Bool
-given lives ps xs = cond lives (parts_flags ps xs) (unwrapped (parts_rows ps xs))
-
-given-gap : (lives : Bool) (ps : Parts) (xs : List Role) → given lives (gap ps) xs ≡ given lives ps xs
-unfolding parts_flags parts_rows
-given-gap true ps xs = refl
-given-gap false ps xs = refl
-
-given-none : (lives : Bool) (xs : List Role) → given lives none xs ≡ []
-unfolding parts_flags parts_rows
-given-none true xs = refl
-given-none false xs = refl
-
-given-stop : (lives : Bool) (n : Tree) (ps : Parts) → given lives (part n ps) [] ≡ []
-unfolding parts_flags parts_rows
-given-stop true n ps = refl
-given-stop false n ps = refl
-
-pub flags_skip : (ws R : List Bool) (lives : Bool) (P Q : Parts) (xs : List Role) → ws ++ given lives P xs ≡ R → P ≡ gap Q → ws ++ given lives Q xs ≡ R
-flags_skip ws R lives P Q xs h p = ap (λ u. ws ++ u) (sym (given-gap lives Q xs) ∙ (λ j. given lives (sym p j) xs)) ∙ h
-
-pub flags_stop : (ws R : List Bool) (lives : Bool) (P Q : Parts) (n : Tree) (a : Role) (xs : List Slot) → ws ++ given lives P (settled_roles a xs) ≡ R → P ≡ part n Q → xs ≡ [] → ws ≡ R
-flags_stop ws R lives P Q n a xs h p e = sym (append-nil ws) ∙ ap (λ u. ws ++ u) (sym (given-stop lives n Q) ∙ (λ j. given lives (sym p j) (settled_roles a (sym e j)))) ∙ h
-
-pub flags_finish : (ws R : List Bool) (lives : Bool) (P : Parts) (xs : List Role) → ws ++ given lives P xs ≡ R → P ≡ none → ws ≡ R
-flags_finish ws R lives P xs h p = sym (append-nil ws) ∙ ap (λ u. ws ++ u) (sym (given-none lives xs) ∙ (λ j. given lives (sym p j) xs)) ∙ h
-
-pub flags_next : (ws vs R : List Bool) (lives : Bool) (P Q : Parts) (n : Tree) (a : Role) (x : Slot) (xs ys : List Slot) → ws ++ given lives P (settled_roles a xs) ≡ R → P ≡ part n Q → xs ≡ x ∷ ys →
-    vs ≡ ws ++ cond lives (flags n (settled_at a x)) (unwrapped (rows n (settled_at a x))) → vs ++ given lives Q (settled_roles a ys) ≡ R
-flags_next ws vs R lives P Q n a x xs ys h p e k =
-    flags_turn ws vs lives n (settled_at a x) Q (settled_roles a ys) k ∙ ap (λ u. ws ++ u) (λ j. given lives (sym p j) (settled_roles a (sym e j))) ∙ h
-
-pub table_skip : (t : List Row) (k : ℕ) (P Q : Parts) (xs : List Role) → HasRows t k (parts_table P xs) → P ≡ gap Q → HasRows t k (parts_table Q xs)
-unfolding parts_table
-table_skip t k P Q xs h p = subst (λ u. HasRows t k (parts_table u xs)) p h
-
-pub table_here : (t : List Row) (k : ℕ) (P Q : Parts) (n : Tree) (a : Role) (x : Slot) (xs ys : List Slot) → HasRows t k (parts_table P (settled_roles a xs)) → P ≡ part n Q → xs ≡ x ∷ ys →
-    HasRows t k (table_rows n (settled_at a x) ++ parts_table Q (settled_roles a ys))
-unfolding parts_table
-table_here t k P Q n a x xs ys h p e = let E : parts_table P (settled_roles a xs) ≡ parts_table (part n Q) (settled_roles a (x ∷ ys)) = λ j. parts_table (p j) (settled_roles a (e j)) in subst (HasRows t k) E h
-
-pub few_skip : (P Q : Parts) (xs : List Role) (m : ℕ) → parts_rows P xs ≤ m → P ≡ gap Q → parts_rows Q xs ≤ m
-unfolding parts_rows
-few_skip P Q xs m h p = subst (λ u. parts_rows u xs ≤ m) p h
-
-pub few_here : (P Q : Parts) (n : Tree) (a : Role) (x : Slot) (xs ys : List Slot) (m : ℕ) → parts_rows P (settled_roles a xs) ≤ m → P ≡ part n Q → xs ≡ x ∷ ys → (rows n (settled_at a x) ≤ m) × (parts_rows Q (settled_roles a ys) ≤ m)
-unfolding parts_rows
-few_here P Q n a x xs ys m h p e =
-    let E : parts_rows P (settled_roles a xs) ≡ rows n (settled_at a x) + parts_rows Q (settled_roles a ys) = λ j. parts_rows (p j) (settled_roles a (e j)) in
-    (omega (arith, E, h), omega (arith, E, h))
 
 -- Below a node
 
@@ -252,31 +189,11 @@ own_flags n _ lives ws vs h q = absurd (cc)
 pub all_rows : (t rows : List Row) → t ≡ rows → HasRows t 0 rows
 all_rows t rows h = record { rest = []; stand = h ∙ sym (append-nil rows) }
 
-cell_script : (n : Tree) → cell n script ≡ least n script
-unfolding cell least
-cell_script (node k w g s e ps) = refl
-
-pub script_cost : (n : Tree) (c : own.Costs) → c ≡ cells_at n script → c.with_in.any ≡ capped (least n script)
-unfolding cells_at
-script_cost n c e = ap (λ d. d.with_in.any) e ∙ ap capped (cell_script n)
-
-pub script_least : (n : Tree) (c : own.Costs) → c ≡ cells_at n script → rows n script ≤ 16777216 → c.with_in.any ≡ least n script
-script_least n c e l = script_cost n c e ∙ capped_below (below_more (least_below n script) l)
-
 pub total_is : (o l : Option ℕ) (t : ℕ) → IsSome l → o ≡ l → ((s : ℕ) → o ≡ Some s → t ≡ s) → Some t ≡ l
 total_is o None t h e k = absurd (cc)
 total_is o (Some s) t h e k = ap (λ m. Some m) (k s e)
 
 -- An expression, step by step
-
-pub own_cost : (t : List Row) (ws : List Bool) (n : Tree) (a : Role) (i : ℕ) (c : own.Costs) → is_expression a ≡ true → HasRows t (length ws) (table_rows n a) → i ≡ length ws → ((r : Row) → c ≡ (get_or t i r).costs) → c ≡ cells_at n (expr Expression true Any)
-unfolding row_of
-own_cost t ws n a i c h s e k =
-    let found : get_or t (length ws) (row_of n) ≡ row_of n = (first_row t (length ws) n a h s).1 (row_of n) in
-    k (row_of n) ∙ ap (λ m. (get_or t m (row_of n)).costs) e ∙ ap (λ r. r.costs) found
-
-pub own_index : (t : List Row) (ws : List Bool) (n : Tree) (a : Role) (i : ℕ) → is_expression a ≡ true → HasRows t (length ws) (table_rows n a) → i ≡ length ws → i < length t
-own_index t ws n a i h s e = let found : length ws < length t = (first_row t (length ws) n a h s).0 in omega (arith, found, e)
 
 pub own_standing : (t : List Row) (ws vs : List Bool) (n : Tree) (a o : Role) (b : Bool) → is_expression a ≡ true → o ≡ inside b a → vs ≡ ws ++ b ∷ [] → HasRows t (length ws) (table_rows n a) →
     HasRows t (length vs) (parts_table (parts_of n) (first_roles (ways (widest o) n)))

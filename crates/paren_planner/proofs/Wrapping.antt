@@ -138,6 +138,12 @@ pub numbers : ℕ → List Bool → List ℕ
 numbers r [] = []
 numbers r (b ∷ bs) = cond b (r ∷ []) [] ++ numbers (suc r) bs
 
+pub no_number : (bs : List Bool) (r : ℕ) → length (numbers r bs) ≡ 0 → bs ≡ unwrapped (length bs)
+unfolding numbers
+no_number [] r h = refl
+no_number (true ∷ bs) r h = absurd (let z : suc (length (numbers (suc r) bs)) ≡ 0 = h in omega (arith, z))
+no_number (false ∷ bs) r h = ap (λ u. false ∷ u) (no_number bs (suc r) h)
+
 numbers-append : (r : ℕ) (xs ys : List Bool) → numbers r (xs ++ ys) ≡ numbers r xs ++ numbers (r + length xs) ys
 unfolding numbers
 numbers-append r [] ys = ap (λ m. numbers m ys) (let e : r ≡ r + 0 = omega arith in e)

@@ -1,5 +1,8 @@
 pub mod Costs
 pub mod Weighed
+pub mod Steps
+pub mod Noted
+pub mod Marked
 pub mod Rows
 pub mod Wrapped
 pub mod Laws

@@ -4,6 +4,7 @@ ghost use Rattle.std.specs.Prelude.{◌≡◌, true, Some};
 ghost use Rattle.language.specs.Cost.{lesser as lesser_cost};
 ghost use Rattle.language.specs.Layout.{exceeds as exceeds_cost};
 ghost use Rattle.paren_planner.specs.Costs.{capped_sum};
+ghost use Rattle.paren_planner.specs.Marked.{is_free};
 
 /// The sum of both, none where one is none.
 #[tactic(auto, unfolding(crate::specs::Costs::capped_sum, crate::specs::Costs::capped, language::specs::Cost::add_cost))]
@@ -41,7 +42,8 @@ pub(crate) fn exceeds(first: Option<u32>, second: Option<u32>) -> bool
 
 /// Whether it is 0.
 pub(crate) fn is_zero(number: Option<u32>) -> bool
-    ensures { result ≡ true → number ≡ Some 0 }
+    ensures zero { result ≡ true → number ≡ Some 0 }
+    ensures is { result ≡ is_free number }
 {
     matches!(number, Some(0))
 }

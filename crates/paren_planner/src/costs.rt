@@ -17,7 +17,7 @@ pub struct Starts {
 
 impl Starts {
     /// The same number at each.
-    fn same(number: Option<u32>) -> Starts
+    pub(crate) fn same(number: Option<u32>) -> Starts
         ensures { result ≡ each_start (λ f. number) }
     {
         Starts {

@@ -5,13 +5,15 @@
 mod amount;
 mod costs;
 mod extra;
-mod fill;
 pub mod laws;
 mod planned;
 mod planner;
+mod steps;
 mod table;
+mod visits;
 mod weighed;
-mod wrap;
+mod weighing;
+mod wraps;
 
 pub use costs::{Costs, Starts};
 pub use extra::extra_pairs;

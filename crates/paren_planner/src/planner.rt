@@ -1,25 +1,29 @@
 //! The plan of a script.
 
 ghost use Rattle.std.specs.Prelude.{◌≡◌, ◌≤◌, ◌↔◌, Option, Some, IfOk, IfSome, IfNone, IsSome, IsTrue};
-ghost use Rattle.language.specs.Pieces.{script};
+ghost use Rattle.language.specs.Pieces.{script, fixed};
 ghost use Rattle.language.specs.Cost.{least};
 ghost use Rattle.language.specs.Positions.{rows};
 ghost use Rattle.paren_planner.specs.Costs.{capped};
+ghost use Rattle.paren_planner.specs.Noted.{Steps};
 ghost use Rattle.paren_planner.specs.Plans.{HasPlan, IsPlan};
 ghost use Rattle.paren_planner.specs.Rows.{table_rows};
 
-use crate::fill::weigh_node;
 use crate::planned::Plan;
+use crate::steps::Step;
 use crate::table::CostTable;
-use crate::wrap::wrap_node;
-use language::{Rank, Start};
-use positions::Position;
+use crate::visits::visit_node;
+use crate::weighing::weigh_steps;
+use crate::wraps::wrap_steps;
+use positions::{Position, Slot};
 use std::alloc::{AllocError, Global};
 use tree::Program;
 
 /// What the nodes of a script cost.
 #[derive(Drop)]
 struct Weights {
+    /// The steps of a walk over it.
+    steps: Vec<Step>,
     /// A row for each node that has one.
     table: CostTable,
     /// The number of pairs of the whole, where some number spells it.
@@ -29,36 +33,38 @@ struct Weights {
 fn weigh(alloc: Global, program: &Program) -> Result<Weights, AllocError>
     ensures rows { IfOk result (λ w. w.table.rows.items ≡ table_rows program.now script) }
     ensures total { IfOk result (λ w. w.total ≡ capped (least program.now script)) }
+    ensures steps { IfOk result (λ w. Steps script (fixed script) program.now w.steps.items) }
 {
+    let mut steps = Vec::new(alloc);
+    let slot = Slot::Fixed(Position::Script);
+    visit_node(program.root(), Position::Script, slot, false, &mut steps)?;
     let mut table = CostTable::new(alloc);
-    let weighed = weigh_node(program.root(), Position::Script, false, &mut table)?;
-    let total = weighed.costs.at(Rank::Expression, true, Start::Any);
-    Ok(Weights { table, total })
+    let sums = weigh_steps(alloc, &steps, &mut table)?;
+    let total = sums.with_in.any;
+    Ok(Weights {
+        steps,
+        table,
+        total,
+    })
 }
 
 /// The plan of a script, from its rows and its total.
 fn planned(
     alloc: Global,
     program: &Program,
-    table: CostTable,
+    weights: Weights,
     total: u32,
 ) -> Result<Plan, AllocError>
-    requires rows { table.rows.items ≡ table_rows program.now script }
+    requires rows { weights.table.rows.items ≡ table_rows program.now script }
+    requires steps { Steps script (fixed script) program.now weights.steps.items }
     requires few { rows program.now script ≤ 16777216 }
     requires total { Some total ≡ least program.now script }
     ensures { IfOk result (IsPlan program.now) }
 {
-    let mut table = table;
+    let mut table = weights.table;
     table.set_total(total);
     let mut wrapped = Vec::with_capacity(alloc, table.row_count())?;
-    wrap_node(
-        program.root(),
-        Position::Script,
-        false,
-        true,
-        &table,
-        &mut wrapped,
-    )?;
+    wrap_steps(alloc, &weights.steps, &table, &mut wrapped)?;
     Ok(Plan { table, wrapped })
 }
 
@@ -74,7 +80,7 @@ pub fn plan(alloc: Global, program: &Program) -> Result<Plan, AllocError>
 {
     let weights = weigh(alloc, program)?;
     let total = number(weights.total);
-    planned(alloc, program, weights.table, total)
+    planned(alloc, program, weights, total)
 }
 
 /// The plan of a script that has one: that some number of pairs spells, and that has at most 16,777,216 rows; none of another. Who
@@ -92,7 +98,7 @@ pub fn plan_if_any(alloc: Global, program: &Program) -> Result<Option<Plan>, All
         return Ok(None);
     }
     let total = number(weights.total);
-    let plan = planned(alloc, program, weights.table, total)?;
+    let plan = planned(alloc, program, weights, total)?;
     Ok(Some(plan))
 }
 

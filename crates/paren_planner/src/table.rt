@@ -1,6 +1,6 @@
 //! Cost tables.
 
-ghost use Rattle.std.specs.Prelude.{◌≡◌, ◌-◌, ◌≤◌, ◌<◌, [], ◌∷◌, ◌++◌, length, set, slice_index_or, OnOk, OnErr};
+ghost use Rattle.std.specs.Prelude.{◌≡◌, ◌-◌, ◌≤◌, [], ◌∷◌, ◌++◌, length, reverse, slice_get, slice_index_or, option_map, OnOk, OnErr};
 ghost use Rattle.paren_planner.specs.Costs.{eight, of_cells};
 ghost use Rattle.paren_planner.specs.Rows.{row_with};
 
@@ -53,21 +53,21 @@ impl CostTable {
     }
 
     /// What the node of a row costs, by its index, counted from 0.
-    pub(crate) fn costs(&self, index: usize) -> Costs
-        requires { index < length self.now.rows.items }
-        ensures { (r : _) → result ≡ (slice_index_or self.now.rows.items index r).costs }
+    pub(crate) fn costs_of(&self, index: usize) -> Option<&Costs>
+        ensures { option_map (λ c. c.now) result ≡ option_map (λ r. r.costs) (slice_get self.now.rows.items index) }
     {
-        let row = self.rows[index];
-        row.costs
+        match self.rows.get(index) {
+            Some(row) => Some(&row.costs),
+            None => None,
+        }
     }
 
-    /// Sets a row, by its index, counted from 0.
-    pub(crate) fn set_row(&mut self, index: usize, kind: Kind, costs: Costs)
-        requires { index < length self.old.rows.items }
-        ensures rows { self.new.rows.items ≡ set self.old.rows.items index (row_with kind costs) }
+    /// The rows the other way round.
+    pub(crate) fn turn(&mut self)
+        ensures rows { self.new.rows.items ≡ reverse self.old.rows.items }
         ensures total { self.new.total ≡ self.old.total }
     {
-        self.rows[index] = Row { kind, costs };
+        self.rows.reverse();
     }
 
     /// Sets the number of all pairs.

@@ -6,6 +6,7 @@ ghost use Rattle.language.specs.Positions.{widest as widest_role};
 ghost use Rattle.positions.specs.Outlines.{role_of, slot_of};
 ghost use Rattle.positions.specs.Spelled.{fits_outline};
 ghost use Rattle.positions.specs.Wherever.{with_own as role_with_own};
+ghost use Rattle.paren_planner.specs.Steps.{is_plain_outline};
 ghost use Rattle.paren_planner.specs.Costs.{each_start, started_at, same_everywhere, sums as sums_of};
 ghost use Rattle.paren_planner.specs.Weighed.{cost_of, direct_cost, least_of, settled_at, uses as uses_of, fitting as fitting_costs, suits_any, takes_primary};
 
@@ -13,7 +14,7 @@ use crate::amount::{is_zero, lesser, sum};
 use crate::costs::{Costs, Starts};
 use grammar::position_takes;
 use language::{Rank, Start};
-use positions::{Outline, Position, Slot, fits, settled};
+use positions::{Opens, Outline, Position, Slot, fits, settled};
 
 /// A node's outline, none where it can't be spelled, and what it costs.
 #[derive(Clone, Copy)]
@@ -46,8 +47,8 @@ pub fn widest(position: Position) -> Position
 }
 
 /// The number that counts for a node at a position.
-pub(crate) fn cost_at(costs: Costs, position: Position) -> Option<u32>
-    ensures { result ≡ cost_of costs (role_of position) }
+pub(crate) fn cost_at(costs: &Costs, position: Position) -> Option<u32>
+    ensures { result ≡ cost_of costs.now (role_of position) }
 {
     match position {
         Position::Expression {
@@ -86,7 +87,7 @@ fn direct_cost(part: Weighed, position: Position) -> Option<u32>
     ensures { result ≡ direct_cost part (role_of position) }
 {
     match part.outline {
-        Some(outline) if fits(position, outline) => cost_at(part.costs, position),
+        Some(outline) if fits(position, outline) => cost_at(&part.costs, position),
         _ => None,
     }
 }
@@ -183,10 +184,34 @@ pub fn fitting(own: Position, outline: Outline, costs: Costs) -> Costs
     if suits_anywhere(outline) {
         return costs;
     }
+    if is_plain(outline) {
+        return plainly_fitting(own, outline, costs);
+    }
     Costs {
         with_in: started_fitting(own, Rank::Expression, true, outline, costs.with_in),
         without_in: started_fitting(own, Rank::Expression, false, outline, costs.without_in),
         at_member: started_fitting(own, Rank::Member, true, outline, costs.at_member),
+    }
+}
+
+/// Whether a spelling asks for no In, and opens with no brace and no word: it may stand wherever its symbol may.
+pub(crate) fn is_plain(outline: Outline) -> bool
+    ensures { result ≡ is_plain_outline outline }
+{
+    !outline.needs_in && matches!(outline.opens, Opens::Otherwise)
+}
+
+/// The same of such a spelling: it fits at each start, or at none.
+fn plainly_fitting(own: Position, outline: Outline, costs: Costs) -> Costs
+    requires { is_plain_outline outline ≡ true }
+    ensures { result ≡ fitting_costs (role_of own) outline costs }
+{
+    if fits(with_own(own, Rank::Member, true, Start::Any), outline) {
+        return costs;
+    }
+    Costs {
+        at_member: Starts::same(None),
+        ..costs
     }
 }
 

@@ -3,7 +3,7 @@ use Rattle.std.specs.Prelude.{◌≡◌, ◌≤◌, ℕ, List, Result}
 use Rattle.source_text.specs.declared.fault.Fault.{Fault}
 use Rattle.tree.specs.declared.kind.Pair.{Pair}
 use Rattle.tree.specs.Tree.{Tree, height}
-use Rattle.language.specs.Claims.{DerivesOpen}
+use Rattle.language.specs.Claims.{DerivesOpen, max_height, max_open}
 use Rattle.language.specs.Earlier.{EarlierDerivesOpen}
 use Rattle.parser.specs.declared.script.Parsed.{Parsed}
 use Rattle.descent.specs.Given.{Agrees}
@@ -12,9 +12,9 @@ use Rattle.descent.specs.Given.{Agrees}
 -- where the derivation isn't within the limits.
 abbrev pub IsAnswered : List ℕ → Result Parsed Fault → Type 0
 IsAnswered text result = (o : ℕ) (n : Tree) (P : List Pair) → DerivesOpen o text n P →
-    Agrees ((o ≤ 1000) × (height n ≤ 500)) (λ parsed. (parsed.program ≡ n) × (parsed.pairs.items ≡ P)) result
+    Agrees ((o ≤ max_open) × (height n ≤ max_height)) (λ parsed. (parsed.program ≡ n) × (parsed.pairs.items ≡ P)) result
 
 -- The same for each derivation by the 11th edition, without separators in numbers and without logical assignments.
 abbrev pub IsAnsweredAsBefore : List ℕ → Result Parsed Fault → Type 0
 IsAnsweredAsBefore text result = (o : ℕ) (n : Tree) (P : List Pair) → EarlierDerivesOpen o text n P →
-    Agrees ((o ≤ 1000) × (height n ≤ 500)) (λ parsed. (parsed.program ≡ n) × (parsed.pairs.items ≡ P)) result
+    Agrees ((o ≤ max_open) × (height n ≤ max_height)) (λ parsed. (parsed.program ≡ n) × (parsed.pairs.items ≡ P)) result

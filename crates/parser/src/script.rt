@@ -3,18 +3,16 @@
 
 ghost use Rattle.std.specs.Prelude.{◌≡◌, ◌≤◌, length, IfErr, IfOk};
 ghost use Rattle.std.specs.Str.{IsUtf8};
-ghost use Rattle.language.specs.Claims.{WithinLimits};
+ghost use Rattle.language.specs.Claims.{WithinLimits, short_bytes};
 ghost use Rattle.unambiguous.specs.Laws.{InOrder};
 ghost use Rattle.phrases.specs.Refusals.{IsRefusal};
 ghost use Rattle.parser.specs.Scripts.{IsAnswered, IsAnsweredAsBefore};
 
 use descent::{Script, read};
+use language::limits::SHORT_BYTES;
 use source_text::{Fault, Source};
 use std::alloc::Global;
 use tree::{Pair, Program};
-
-/// Scripts of fewer bytes than this are within the limits.
-const SHORT: usize = 250;
 
 /// A script with its grouping pairs.
 #[derive(Drop)]
@@ -45,20 +43,20 @@ impl<'s> Parsed<'s> {
 /// # Errors
 /// `Syntax` with a place, a byte offset, where no derivation exists; `TooDeep` where none exists within the limits (a height
 /// of `MAX_HEIGHT`, and `MAX_OPEN` parentheses that are open at one point and group or hold an arrow's parameters), and only
-/// for a text of `SHORT` bytes or more: a shorter one that isn't within the limits is no script; `OutOfMemory`.
+/// for a text of `SHORT_BYTES` bytes or more: a shorter one that isn't within the limits is no script; `OutOfMemory`.
 pub fn parse<'s>(alloc: Global, source: &Source<'s>) -> Result<Parsed<'s>, Fault>
     ensures source { IfOk result (λ _. IsUtf8 source.now × (length source.now ≤ 16777216)) }
     ensures derived { IfOk result (λ parsed. WithinLimits source.now parsed.program parsed.pairs.items) }
     ensures complete { IsAnswered source.now result }
     ensures earlier { IsAnsweredAsBefore source.now result }
     ensures ordered { IfOk result (λ parsed. InOrder parsed.pairs.items) }
-    ensures long { IfErr result (λ fault. fault ≡ Fault.TooDeep → 250 ≤ length source.now) }
+    ensures long { IfErr result (λ fault. fault ≡ Fault.TooDeep → short_bytes ≤ length source.now) }
     ensures refused { IfErr result (IsRefusal source.now) }
 {
     let text = source.text();
     match read(alloc, source) {
         Ok(Script { program, pairs }) => Ok(Parsed { program, pairs }),
-        Err(Fault::TooDeep) if text.len() < SHORT => Err(Fault::Syntax(0)),
+        Err(Fault::TooDeep) if text.len() < SHORT_BYTES => Err(Fault::Syntax(0)),
         Err(fault) => Err(fault),
     }
 }

@@ -8,6 +8,7 @@ use Rattle.tokens.specs.declared.token.Goal.TheVariants.{Div, RegExp}
 use Rattle.language.specs.Token.{Token}
 use Rattle.language.specs.Places.{NextIn, itself}
 use Rattle.language.specs.Promises.{ReadBy}
+use Rattle.language.specs.Claims.{max_open}
 use Rattle.token_cursor.specs.Point.{Point, IsPlaceFrom}
 
 -- the place that a syntax error names: where what stands ahead begins
@@ -64,6 +65,6 @@ MakesAs x levels high (Err fault) = (fault ≡ TooDeep) × (high < levels)
 
 -- too deep where as many parentheses are open as may be; and memory may be refused
 abbrev pub RefusedUnder : ℕ → Fault → Type 0
-RefusedUnder opened TooDeep = opened ≡ 1000
+RefusedUnder opened TooDeep = opened ≡ max_open
 RefusedUnder opened OutOfMemory = Unit {0}
 RefusedUnder opened _ = ⊥

@@ -1,10 +1,13 @@
 pub mod Entering
 pub mod Chained
 pub mod Tables
+pub mod Asking
 pub mod Named
 pub mod Points
 pub mod Lists
 pub mod Outlined
+pub mod Plain
+pub mod Productions
 pub mod FirstTokens
 pub mod ExpressionTable
 pub mod Bare

@@ -3,6 +3,7 @@ pub mod Expressions
 pub mod Outlines
 pub mod Others
 pub mod Statements
+pub mod Productions
 pub mod Positions
 pub mod Spelled
 pub mod Remaining

@@ -48,6 +48,11 @@ Taken [] q (Some x) = ⊥
 Taken (s ∷ xs) q None = ⊥
 Taken (s ∷ xs) q (Some x) = (slot_of x.0 ≡ s) × (left x.1 ≡ xs) × (x.1.position ≡ q.position) × (x.1.node ≡ q.node)
 
+-- the first of them was taken, and the others are left
+abbrev pub Takes : List piece.Slot → Positions → Option Slot → Positions → Type 0
+Takes xs q None r = Taken xs q None
+Takes xs q (Some s) r = Taken xs q (Some (s, r))
+
 -- the first position, and the others
 abbrev pub Next : List piece.Role → Option (Position × Positions) → Type 0
 Next [] None = Unit {0}

@@ -1,9 +1,9 @@
 -- The positions that a node's parts have, where an outline fits the node's own.
-use Rattle.std.specs.Prelude.{◌≡◌, ℕ, ◌||◌, Bool, true, cond, ◌&&◌, List, [], Option, Some, None, map, option_map}
+use Rattle.std.specs.Prelude.{◌≡◌, ℕ, ◌||◌, Bool, true, not, cond, ◌&&◌, List, [], Option, Some, None, map, option_map}
 use Rattle.tree.specs.Tree.{Tree, Parts, parts_of}
 use Rattle.tree.specs.declared.kind.Kind.{Kind}
 use Rattle.tree.specs.declared.kind.Flags.{Flags}
-use Rattle.tree.specs.Uses.{implies, is_lean, has_text, is_empty, within, used_flags}
+use Rattle.tree.specs.Uses.{implies, is_lean, has_text, is_empty, within, used_flags, is_init}
 use Rattle.language.specs.declared.Rank.{Rank}
 use Rattle.language.specs.declared.Rank.TheVariants.{Member, Call}
 use Rattle.language.specs.Words.{takes}
@@ -11,12 +11,21 @@ use Rattle.language.specs.Pieces.{Role, expr, pattern, Slot, PieceOf, settle, is
 use Rattle.language.specs.Grammar.{own_rank, own_in, own_start}
 use Rattle.language.specs.Positions.{first_roles}
 use Rattle.language.specs.Layout.{some_way}
+use Rattle.positions.specs.declared.outline.Opens.{Opens}
 use Rattle.positions.specs.declared.outline.Outline.{Outline}
-use Rattle.positions.specs.Outlines.{opens_at, outline_slots}
+use Rattle.positions.specs.Outlines.{opens_at, outline_slots, leaf}
 
 -- a node of this kind, text and flags has none but those that its kind uses
 abbrev pub lean_label : Kind → List ℕ → Flags → Bool
 lean_label k w g = (has_text k || is_empty w) && within g (used_flags k g)
+
+-- no flag is set
+abbrev pub has_no_flags : Flags → Bool
+has_no_flags g = not g.computed && (not g.optional && (not g.is_static && (not g.prefix && (not g.directive && (not g.expression && is_init g.form)))))
+
+-- an outline at this symbol that needs In or not and opens so
+abbrev pub asking : Rank → Bool → Opens → Outline
+asking z i o = record (leaf z) { needs_in = i; opens = o }
 
 -- the symbol of an object's position
 abbrev pub callee_at : Rank → Rank

@@ -1,6 +1,8 @@
 -- How a node is spelled at a position, whatever symbol, In and start it has there.
 use Rattle.std.specs.Prelude.{Bool, true, false, cond, List, Option, Some, None}
-use Rattle.tree.specs.Tree.{Tree}
+use Rattle.tree.specs.declared.node.Node.{Node}
+use Rattle.tree.specs.Node.{node_tree}
+use Rattle.tree.specs.Tree.{Tree, kind_of}
 use Rattle.tree.specs.declared.kind.Kind.{Kind}
 use Rattle.tree.specs.declared.kind.Kind.TheVariants.{ChainExpression}
 use Rattle.language.specs.declared.Rank.{Rank}
@@ -12,7 +14,9 @@ use Rattle.positions.specs.declared.position.Position.TheVariants as at
 use Rattle.positions.specs.declared.position.Slot.TheVariants.{LeadSpine}
 use Rattle.positions.specs.declared.outline.Front.{Front}
 use Rattle.positions.specs.declared.outline.Front.TheVariants.{One, Two}
+use Rattle.positions.specs.declared.production.Production.{Production}
 use Rattle.positions.specs.declared.spelled.Spelled.{Spelled}
+use Rattle.positions.specs.Productions.{outline_of}
 use Rattle.positions.specs.Spelled.{fits_outline, settled_roles, Verdict}
 use Rattle.positions.specs.Remaining.{left}
 
@@ -42,3 +46,11 @@ abbrev pub chain_above : Position → Kind → Front → Bool
 chain_above (at.Expression y i f) ChainExpression x = true
 chain_above (at.Spine f) k x = spine_first x
 chain_above _ k x = false
+
+-- how a node with this production is spelled at a position
+abbrev pub spelled_by : Node → Position → Production → Spelled
+spelled_by n a p = record {
+  outline = outline_of p;
+  slots = record { node = n; position = a; front = (outline_of p).front; tail = (outline_of p).tail; from = (outline_of p).from };
+  holds_chain = chain_above a (kind_of (node_tree n)) (outline_of p).front;
+}

@@ -1,16 +1,16 @@
 //! Chains: the parts of them, and where their `?.` stand.
 
-ghost use Rattle.std.specs.Prelude.{◌≡◌, true};
+ghost use Rattle.std.specs.Prelude.{◌≡◌, true, option_map};
 ghost use Rattle.tree.specs.Node.{node_tree};
 ghost use Rattle.tree.specs.Tree.{kind_of, flags_of, parts_of};
 ghost use Rattle.language.specs.Expressions.{chained as is_chained_tree, first_chained};
 ghost use Rattle.positions.specs.Others.{linked_by as outline_linked, member_link as outline_of_member_link, call_link as outline_of_call_link, spine_outline as outline_of_spine};
+ghost use Rattle.positions.specs.Productions.{outline_of};
+ghost use Rattle.positions.specs.declared.position.Slot.TheVariants.{Lead, LeadSpine};
+ghost use Rattle.language.specs.declared.Rank.TheVariants.{Call};
 
-use crate::expressions::selected;
-use crate::outline::{Front, Outline, Tail};
-use crate::position::Slot;
+use crate::production::Production;
 use grammar::is_chained;
-use language::Rank;
 use tree::{Flags, Kind, Node};
 
 /// Whether a `?.` stands in the first part of a part of a chain, or below; `in_chain`: one is known to stand in the node or below it.
@@ -27,49 +27,38 @@ fn is_first_chained(node: Node, in_chain: bool) -> bool
 }
 
 /// A part of a chain above its base; `in_chain`: a `?.` is known to stand in it or below it.
-pub(crate) fn spine_outline(node: Node, in_chain: bool) -> Option<Outline>
+pub(crate) fn spine_production(node: Node, in_chain: bool) -> Option<Production>
     requires { in_chain ≡ true → is_chained_tree (node_tree node) ≡ true }
-    ensures { result ≡ outline_of_spine (kind_of (node_tree node.entry)) (flags_of (node_tree node.entry)) (first_chained (parts_of (node_tree node.entry))) }
+    ensures { option_map outline_of result ≡ outline_of_spine (kind_of (node_tree node.entry)) (flags_of (node_tree node.entry)) (first_chained (parts_of (node_tree node.entry))) }
 {
     let flags = node.flags();
     let chained = is_first_chained(node, in_chain);
-    let (spine, base) = (Slot::LeadSpine, Slot::Lead(Rank::Call));
     match node.kind() {
-        Kind::MemberExpression => {
-            linked(
-                chained,
-                flags.optional,
-                member_link(spine, flags),
-                member_link(base, flags),
-            )
-        }
-        Kind::CallExpression => linked(chained, flags.optional, call_link(spine), call_link(base)),
+        Kind::MemberExpression => member_link(chained, flags),
+        Kind::CallExpression => call_link(chained, flags.optional),
         _ => None,
     }
 }
 
-/// A further part of a chain below, or its base.
-fn linked(chained: bool, optional: bool, above: Outline, lowest: Outline) -> Option<Outline>
-    ensures { result ≡ outline_linked chained optional above lowest }
+/// A member: a further part of a chain stands below, or the chain's base.
+fn member_link(chained: bool, flags: Flags) -> Option<Production>
+    ensures { option_map outline_of result ≡ outline_linked chained flags.optional (outline_of_member_link LeadSpine flags) (outline_of_member_link (Lead Call) flags) }
 {
-    if chained {
-        return Some(above);
+    if !chained && !flags.optional {
+        return None;
     }
-    if optional {
-        return Some(lowest);
-    }
-    None
+    Some(Production::MemberLink {
+        goes_on: chained,
+        is_computed: flags.computed,
+    })
 }
 
-fn member_link(below: Slot, flags: Flags) -> Outline
-    ensures { result ≡ outline_of_member_link below flags }
+/// A call, as above.
+fn call_link(chained: bool, optional: bool) -> Option<Production>
+    ensures { option_map outline_of result ≡ outline_linked chained optional (outline_of_call_link LeadSpine) (outline_of_call_link (Lead Call)) }
 {
-    Outline::of_front(Rank::Primary, Front::Two(below, selected(flags)))
-}
-
-fn call_link(below: Slot) -> Outline
-    ensures { result ≡ outline_of_call_link below }
-{
-    let tail = Tail::Arguments { holes: false };
-    Outline::of_list(Rank::Primary, Front::One(below), tail, 1)
+    if !chained && !optional {
+        return None;
+    }
+    Some(Production::CallLink { goes_on: chained })
 }

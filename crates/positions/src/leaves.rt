@@ -1,27 +1,27 @@
 //! The outlines of names, keys, parts of templates, and directives' strings (ECMA-262 11.6, 11.8.6, 12.1, 12.2.6, 14.1).
 
-ghost use Rattle.std.specs.Prelude.{◌≡◌};
+ghost use Rattle.std.specs.Prelude.{◌≡◌, option_map};
 ghost use Rattle.language.specs.Words.{is_super as is_super_kind};
 ghost use Rattle.positions.specs.Others.{leaf_if as leaf_when, is_chunk as is_chunk_kind, is_key_class as is_class_of_key, name_outline as outline_of_name, key_outline as outline_of_key, quoted_outline as outline_of_quoted, quasi_outline as outline_of_quasi};
+ghost use Rattle.positions.specs.Productions.{outline_of};
 
-use crate::outline::{Front, Outline, Tail};
+use crate::production::Production;
 use grammar::{is_reserved, literal_class};
-use language::Rank;
 use tokens::Class;
 use tree::Kind;
 
 /// A node without parts at positions, where it may stand.
-pub(crate) fn leaf_if(holds: bool) -> Option<Outline>
-    ensures { result ≡ leaf_when holds }
+pub(crate) fn leaf_if(holds: bool) -> Option<Production>
+    ensures { option_map outline_of result ≡ leaf_when holds }
 {
     if holds {
-        return Some(Outline::leaf(Rank::Primary));
+        return Some(Production::Leaf);
     }
     None
 }
 
-pub(crate) fn name_outline(kind: Kind, name: &str) -> Option<Outline>
-    ensures { result ≡ outline_of_name kind name.now }
+pub(crate) fn name_production(kind: Kind, name: &str) -> Option<Production>
+    ensures { option_map outline_of result ≡ outline_of_name kind name.now }
 {
     match kind {
         Kind::Identifier => leaf_if(!is_reserved(name)),
@@ -30,11 +30,11 @@ pub(crate) fn name_outline(kind: Kind, name: &str) -> Option<Outline>
 }
 
 /// A key without brackets: a name, a string or a number.
-pub(crate) fn key_outline(kind: Kind, text: &str) -> Option<Outline>
-    ensures { result ≡ outline_of_key kind text.now }
+pub(crate) fn key_production(kind: Kind, text: &str) -> Option<Production>
+    ensures { option_map outline_of result ≡ outline_of_key kind text.now }
 {
     match kind {
-        Kind::Identifier => Some(Outline::leaf(Rank::Primary)),
+        Kind::Identifier => Some(Production::Leaf),
         Kind::Literal => leaf_if(is_key_class(literal_class(text))),
         _ => None,
     }
@@ -47,8 +47,8 @@ fn is_key_class(class: Class) -> bool
 }
 
 /// A directive's string.
-pub(crate) fn quoted_outline(kind: Kind, raw: &str) -> Option<Outline>
-    ensures { result ≡ outline_of_quoted kind raw.now }
+pub(crate) fn quoted_production(kind: Kind, raw: &str) -> Option<Production>
+    ensures { option_map outline_of result ≡ outline_of_quoted kind raw.now }
 {
     match kind {
         Kind::Literal => leaf_if(matches!(literal_class(raw), Class::Text)),
@@ -57,14 +57,11 @@ pub(crate) fn quoted_outline(kind: Kind, raw: &str) -> Option<Outline>
 }
 
 /// The template behind a tag.
-pub(crate) fn quasi_outline(kind: Kind) -> Option<Outline>
-    ensures { result ≡ outline_of_quasi kind }
+pub(crate) fn quasi_production(kind: Kind) -> Option<Production>
+    ensures { option_map outline_of result ≡ outline_of_quasi kind }
 {
     match kind {
-        Kind::TemplateLiteral => {
-            let tail = Tail::Chunks { is_first: true };
-            Some(Outline::of_list(Rank::Primary, Front::Zero, tail, 0))
-        }
+        Kind::TemplateLiteral => Some(Production::Template),
         _ => None,
     }
 }

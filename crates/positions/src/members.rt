@@ -1,68 +1,62 @@
 //! The outlines of members, functions of methods, and class bodies (ECMA-262 14.3, 14.6).
 
-ghost use Rattle.std.specs.Prelude.{◌≡◌};
+ghost use Rattle.std.specs.Prelude.{◌≡◌, option_map};
 ghost use Rattle.tree.specs.Node.{node_tree};
 ghost use Rattle.tree.specs.Tree.{kind_of, text_of, flags_of, parts_of};
 ghost use Rattle.positions.specs.Entries.{around};
 ghost use Rattle.positions.specs.Others.{class_body_outline as outline_of_class_body, getter_outline as outline_of_getter, set_at as outline_set_at, setter_outline as outline_of_setter, plain_method_outline as outline_of_plain_method, form_method_outline as outline_of_form_method, method_outline as outline_of_method, is_constructor as makes_constructor, method_of as outline_of_function_at, fits_form as form_fits, member_form_outline as outline_of_member_form, member_outline as outline_of_member};
+ghost use Rattle.positions.specs.Productions.{outline_of};
 
 use crate::expressions::kind_at;
-use crate::outline::{Front, Outline, Tail};
-use crate::position::{Entry, Position, Slot, entry_of, part_text};
-use crate::properties::keyed_outline;
+use crate::position::{Entry, Position, entry_of, part_text};
+use crate::production::Production;
+use crate::properties::keyed_production;
 use crate::tail::with_default;
 use crate::words::{is_rest, names_constructor};
-use language::Rank;
 use tree::{Flags, Form, Kind, Node};
 
-pub(crate) fn class_body_outline(kind: Kind) -> Option<Outline>
-    ensures { result ≡ outline_of_class_body kind }
+pub(crate) fn class_body_production(kind: Kind) -> Option<Production>
+    ensures { option_map outline_of result ≡ outline_of_class_body kind }
 {
     match kind {
-        Kind::ClassBody => {
-            let tail = Tail::Each(Slot::Fixed(Position::Member));
-            Some(Outline::of_list(Rank::Primary, Front::Zero, tail, 0))
-        }
+        Kind::ClassBody => Some(Production::ClassBody),
         _ => None,
     }
 }
 
 /// The function of a method, from its `(`.
-pub(crate) fn method_outline(node: Node, form: Form) -> Option<Outline>
-    ensures { result ≡ outline_of_method form (kind_of (node_tree node.entry)) (around (parts_of (node_tree node.entry))) }
+pub(crate) fn method_production(node: Node, form: Form) -> Option<Production>
+    ensures { option_map outline_of result ≡ outline_of_method form (kind_of (node_tree node.entry)) (around (parts_of (node_tree node.entry))) }
 {
     match node.kind() {
-        Kind::FunctionExpression => form_method_outline(node, form),
+        Kind::FunctionExpression => form_method_production(node, form),
         _ => None,
     }
 }
 
-fn form_method_outline(node: Node, form: Form) -> Option<Outline>
-    ensures { result ≡ outline_of_form_method form (around (parts_of (node_tree node.entry))) }
+fn form_method_production(node: Node, form: Form) -> Option<Production>
+    ensures { option_map outline_of result ≡ outline_of_form_method form (around (parts_of (node_tree node.entry))) }
 {
     let (first, second) = (entry_of(node, 0), entry_of(node, 1));
     let (third, fourth) = (entry_of(node, 2), entry_of(node, 3));
     match form {
-        Form::Get => getter_outline(first, second, third),
-        Form::Set => setter_outline(first, second, third, fourth),
-        _ => plain_method_outline(first),
+        Form::Get => getter_production(first, second, third),
+        Form::Set => setter_production(first, second, third, fourth),
+        _ => plain_method_production(first),
     }
 }
 
-fn getter_outline(name: Entry, body: Entry, other: Entry) -> Option<Outline>
-    ensures { result ≡ outline_of_getter name body other }
+fn getter_production(name: Entry, body: Entry, other: Entry) -> Option<Production>
+    ensures { option_map outline_of result ≡ outline_of_getter name body other }
 {
     match (name, body, other) {
-        (Entry::Gap, Entry::Part(_), Entry::Past) => {
-            let front = Front::One(Slot::Fixed(Position::Body));
-            Some(Outline::of_front(Rank::Primary, front))
-        }
+        (Entry::Gap, Entry::Part(_), Entry::Past) => Some(Production::Single(Position::Body)),
         _ => None,
     }
 }
 
-fn setter_outline(name: Entry, value: Entry, body: Entry, other: Entry) -> Option<Outline>
-    ensures { result ≡ outline_of_setter name value body other }
+fn setter_production(name: Entry, value: Entry, body: Entry, other: Entry) -> Option<Production>
+    ensures { option_map outline_of result ≡ outline_of_setter name value body other }
 {
     match (name, value, body, other) {
         (Entry::Gap, Entry::Part(kind), Entry::Part(_), Entry::Past) => {
@@ -75,37 +69,33 @@ fn setter_outline(name: Entry, value: Entry, body: Entry, other: Entry) -> Optio
     }
 }
 
-fn set_at(value: Option<Position>) -> Option<Outline>
-    ensures { result ≡ outline_set_at value }
+fn set_at(value: Option<Position>) -> Option<Production>
+    ensures { option_map outline_of result ≡ outline_set_at value }
 {
-    let Some(value) = value else {
-        return None;
-    };
-    let front = Front::Two(Slot::Fixed(value), Slot::Fixed(Position::Body));
-    Some(Outline::of_front(Rank::Primary, front))
+    match value {
+        Some(value) => Some(Production::Setter(value)),
+        None => None,
+    }
 }
 
-fn plain_method_outline(name: Entry) -> Option<Outline>
-    ensures { result ≡ outline_of_plain_method name }
+fn plain_method_production(name: Entry) -> Option<Production>
+    ensures { option_map outline_of result ≡ outline_of_plain_method name }
 {
     match name {
-        Entry::Gap => {
-            let tail = Tail::Parameters(Slot::Fixed(Position::Body));
-            Some(Outline::of_list(Rank::Primary, Front::Zero, tail, 1))
-        }
+        Entry::Gap => Some(Production::Method),
         Entry::Past | Entry::Part(_) => None,
     }
 }
 
 /// A member of a class.
-pub(crate) fn member_outline(node: Node) -> Option<Outline>
-    ensures { result ≡ outline_of_member (kind_of (node_tree node.entry)) (flags_of (node_tree node.entry)) (around (parts_of (node_tree node.entry))) }
+pub(crate) fn member_production(node: Node) -> Option<Production>
+    ensures { option_map outline_of result ≡ outline_of_member (kind_of (node_tree node.entry)) (flags_of (node_tree node.entry)) (around (parts_of (node_tree node.entry))) }
 {
     match node.kind() {
         Kind::MethodDefinition => {
             let flags = node.flags();
             let constructs = is_constructor(flags, kind_at(entry_of(node, 0)), part_text(node, 0));
-            member_form_outline(constructs, flags.computed, flags.form)
+            member_form_production(constructs, flags.computed, flags.form)
         }
         _ => None,
     }
@@ -118,8 +108,8 @@ fn is_constructor(flags: Flags, key: Kind, text: &str) -> bool
     !flags.computed && !flags.is_static && names_constructor(key, text)
 }
 
-fn member_form_outline(constructs: bool, computed: bool, form: Form) -> Option<Outline>
-    ensures { result ≡ outline_of_member_form constructs computed form }
+fn member_form_production(constructs: bool, computed: bool, form: Form) -> Option<Production>
+    ensures { option_map outline_of result ≡ outline_of_member_form constructs computed form }
 {
     if fits_form(constructs, form) {
         return method_of(computed, form);
@@ -140,12 +130,12 @@ fn fits_form(constructs: bool, form: Form) -> bool
 }
 
 /// A member's key and function.
-fn method_of(computed: bool, form: Form) -> Option<Outline>
-    ensures { result ≡ outline_of_function_at computed form }
+fn method_of(computed: bool, form: Form) -> Option<Production>
+    ensures { option_map outline_of result ≡ outline_of_function_at computed form }
 {
     let form = match form {
         Form::Get | Form::Set => form,
         _ => Form::Method,
     };
-    keyed_outline(computed, Position::Method(form))
+    keyed_production(computed, Position::Method(form))
 }

@@ -1,6 +1,6 @@
 //! The positions of any node's parts.
 
-ghost use Rattle.std.specs.Prelude.{◌≡◌, true};
+ghost use Rattle.std.specs.Prelude.{◌≡◌, true, option_map};
 ghost use Rattle.tree.specs.Node.{node_tree};
 ghost use Rattle.tree.specs.Tree.{kind_of, flags_of, parts_of};
 ghost use Rattle.language.specs.Grammar.{ways};
@@ -11,25 +11,28 @@ ghost use Rattle.positions.specs.Entries.{entry_at};
 ghost use Rattle.positions.specs.Expressions.{kind_at as kind_of_entry};
 ghost use Rattle.positions.specs.Others.{pattern_property_outline as outline_of_pattern_property, element_outline as outline_of_element, rest_outline as outline_of_rest};
 ghost use Rattle.positions.specs.Remaining.{IsSpelled};
+ghost use Rattle.positions.specs.Productions.{outline_of};
 
-use crate::chain::spine_outline;
+use crate::chain::spine_production;
 use crate::declarations::{
-    block_outline, body_outline, case_outline, declarator_outline, handler_outline, head_outline,
-    item_outline, opening_outline, script_outline,
+    block_production, body_production, case_production, declarator_production, handler_production,
+    head_production, item_production, opening_production, script_production,
 };
-use crate::expressions::{expression_outline, kind_at};
+use crate::expressions::{expression_production, kind_at};
 use crate::leaves::{
-    is_chunk, is_super, key_outline, leaf_if, name_outline, quasi_outline, quoted_outline,
+    is_chunk, is_super, key_production, leaf_if, name_production, quasi_production,
+    quoted_production,
 };
-use crate::members::{class_body_outline, member_outline, method_outline};
+use crate::members::{class_body_production, member_production, method_production};
 use crate::outline::Outline;
 use crate::position::{Position, entry_of};
+use crate::production::{Production, outlined};
 use crate::properties::{
-    element_outline, pattern_outline, pattern_property_outline, property_outline, rest_outline,
-    spread_outline,
+    element_production, pattern_production, pattern_property_production, property_production,
+    rest_production, spread_production,
 };
 use crate::spelling::{Positions, positions_by};
-use crate::statements::statement_outline;
+use crate::statements::statement_production;
 use crate::words::is_identifier;
 use tree::Node;
 
@@ -46,57 +49,66 @@ pub(crate) fn outline_at(node: Node, position: Position, in_chain: bool) -> Opti
     requires { in_chain ≡ true → is_chained_tree (node_tree node) ≡ true }
     ensures { result ≡ outline_at_position position (node_tree node.entry) }
 {
+    outlined(production_at(node, position, in_chain))
+}
+
+/// The production of a node at a position; none where the table has no way to spell it there. `in_chain`: the node is known to be part
+/// of a chain, with a `?.` in it or below it.
+pub(crate) fn production_at(node: Node, position: Position, in_chain: bool) -> Option<Production>
+    requires { in_chain ≡ true → is_chained_tree (node_tree node) ≡ true }
+    ensures { option_map outline_of result ≡ outline_at_position position (node_tree node.entry) }
+{
     let kind = node.kind();
     match position {
-        Position::Expression { .. } => expression_outline(node),
-        Position::Spine { .. } => spine_outline(node, in_chain),
-        Position::Name => name_outline(kind, node.text()),
+        Position::Expression { .. } => expression_production(node),
+        Position::Spine { .. } => spine_production(node, in_chain),
+        Position::Name => name_production(kind, node.text()),
         Position::Word | Position::Echo => leaf_if(is_identifier(kind)),
-        Position::Key => key_outline(kind, node.text()),
+        Position::Key => key_production(kind, node.text()),
         Position::Base => leaf_if(is_super(kind)),
-        Position::Quoted => quoted_outline(kind, node.text()),
-        Position::Quasi => quasi_outline(kind),
+        Position::Quoted => quoted_production(kind, node.text()),
+        Position::Quasi => quasi_production(kind),
         Position::Chunk { .. } => leaf_if(is_chunk(kind)),
-        Position::Spread => spread_outline(kind),
-        Position::Property => property_outline(kind, node.flags()),
-        Position::Pattern { binds, .. } => pattern_outline(binds, kind),
+        Position::Spread => spread_production(kind),
+        Position::Property => property_production(kind, node.flags()),
+        Position::Pattern { binds, .. } => pattern_production(binds, kind),
         Position::PatternProperty { binds } => pattern_property_at(node, binds),
         Position::Element { binds } => element_at(node, binds),
         Position::Rest { binds, of_object } => rest_at(node, binds, of_object),
-        Position::Method(form) => method_outline(node, form),
-        Position::Body => body_outline(kind),
-        Position::Statement { returns } => statement_outline(node, returns),
-        Position::Item { returns } => item_outline(node, returns),
-        Position::Opening { returns } => opening_outline(node, returns),
-        Position::Block { returns } => block_outline(kind, returns),
-        Position::Head { initialised } => head_outline(node, initialised),
+        Position::Method(form) => method_production(node, form),
+        Position::Body => body_production(kind),
+        Position::Statement { returns } => statement_production(node, returns),
+        Position::Item { returns } => item_production(node, returns),
+        Position::Opening { returns } => opening_production(node, returns),
+        Position::Block { returns } => block_production(kind, returns),
+        Position::Head { initialised } => head_production(node, initialised),
         Position::Declarator {
             with_in,
             initialised,
-        } => { declarator_outline(node, with_in, initialised) }
-        Position::SwitchCase { returns } => case_outline(node, returns),
-        Position::Handler { returns } => handler_outline(node, returns),
-        Position::ClassBody => class_body_outline(kind),
-        Position::Member => member_outline(node),
-        Position::Script => script_outline(kind),
+        } => { declarator_production(node, with_in, initialised) }
+        Position::SwitchCase { returns } => case_production(node, returns),
+        Position::Handler { returns } => handler_production(node, returns),
+        Position::ClassBody => class_body_production(kind),
+        Position::Member => member_production(node),
+        Position::Script => script_production(kind),
     }
 }
 
-fn pattern_property_at(node: Node, binds: bool) -> Option<Outline>
-    ensures { result ≡ outline_of_pattern_property binds (kind_of (node_tree node.entry)) (flags_of (node_tree node.entry)) (kind_of_entry (entry_at (parts_of (node_tree node.entry)) 1)) }
+fn pattern_property_at(node: Node, binds: bool) -> Option<Production>
+    ensures { option_map outline_of result ≡ outline_of_pattern_property binds (kind_of (node_tree node.entry)) (flags_of (node_tree node.entry)) (kind_of_entry (entry_at (parts_of (node_tree node.entry)) 1)) }
 {
     let value = kind_at(entry_of(node, 1));
-    pattern_property_outline(binds, node.kind(), node.flags(), value)
+    pattern_property_production(binds, node.kind(), node.flags(), value)
 }
 
-fn element_at(node: Node, binds: bool) -> Option<Outline>
-    ensures { result ≡ outline_of_element binds (kind_of (node_tree node.entry)) (kind_of_entry (entry_at (parts_of (node_tree node.entry)) 0)) }
+fn element_at(node: Node, binds: bool) -> Option<Production>
+    ensures { option_map outline_of result ≡ outline_of_element binds (kind_of (node_tree node.entry)) (kind_of_entry (entry_at (parts_of (node_tree node.entry)) 0)) }
 {
-    element_outline(binds, node.kind(), kind_at(entry_of(node, 0)))
+    element_production(binds, node.kind(), kind_at(entry_of(node, 0)))
 }
 
-fn rest_at(node: Node, binds: bool, of_object: bool) -> Option<Outline>
-    ensures { result ≡ outline_of_rest binds of_object (kind_of (node_tree node.entry)) (kind_of_entry (entry_at (parts_of (node_tree node.entry)) 0)) }
+fn rest_at(node: Node, binds: bool, of_object: bool) -> Option<Production>
+    ensures { option_map outline_of result ≡ outline_of_rest binds of_object (kind_of (node_tree node.entry)) (kind_of_entry (entry_at (parts_of (node_tree node.entry)) 0)) }
 {
-    rest_outline(binds, of_object, node.kind(), kind_at(entry_of(node, 0)))
+    rest_production(binds, of_object, node.kind(), kind_at(entry_of(node, 0)))
 }

@@ -1,15 +1,18 @@
 //! How a node is spelled at a position, whatever symbol, In and start it has there.
 
-ghost use Rattle.std.specs.Prelude.{◌≡◌, ◌&&◌, nat_eq, true, IfSome};
+ghost use Rattle.std.specs.Prelude.{◌≡◌, ◌&&◌, nat_eq, true, option_map, IfSome};
 ghost use Rattle.tree.specs.Node.{node_tree};
 ghost use Rattle.tree.specs.Tree.{kind_of, parts_of};
 ghost use Rattle.language.specs.Expressions.{chained as is_chained_tree, first_chained};
-ghost use Rattle.positions.specs.Outlines.{role_of};
-ghost use Rattle.positions.specs.Wherever.{IsSpelledWherever, chain_above, spine_first};
+ghost use Rattle.positions.specs.Outlines.{role_of, tail_slots, parts_behind};
+ghost use Rattle.positions.specs.Remaining.{goes_over as list_goes_over};
+ghost use Rattle.positions.specs.Productions.{outline_of};
+ghost use Rattle.positions.specs.Wherever.{IsSpelledWherever, spelled_by, chain_above, spine_first};
 
-use crate::nodes::outline_at;
+use crate::nodes::production_at;
 use crate::outline::{Front, Outline};
 use crate::position::{Position, Slot};
+use crate::production::Production;
 use crate::spelling::{Positions, is_lean_node};
 use crate::walk::runs;
 use tree::{Kind, Node};
@@ -35,28 +38,60 @@ pub fn node_spelling<'t, 's>(
     ensures ways { IsSpelledWherever (role_of position) (node_tree node.entry) result }
     ensures chain { IfSome result (λ x. x.holds_chain ≡ true → first_chained (parts_of (node_tree node.entry)) ≡ true) }
 {
-    let Some(outline) = outline_at(node, position, in_chain) else {
+    match node_production(node, position, in_chain) {
+        Some(production) => Some(production.spelled(node, position)),
+        None => None,
+    }
+}
+
+/// The same in a few bytes: the production by which a node is spelled at a position, from which `spelled` makes what `node_spelling`
+/// gives.
+pub fn node_production(node: Node, position: Position, in_chain: bool) -> Option<Production>
+    requires { in_chain ≡ true → is_chained_tree (node_tree node) ≡ true }
+    ensures ways { IsSpelledWherever (role_of position) (node_tree node.entry) (option_map (spelled_by node.entry position) result) }
+    ensures chain { IfSome result (λ p. (spelled_by node.entry position p).holds_chain ≡ true → first_chained (parts_of (node_tree node.entry)) ≡ true) }
+{
+    let Some(production) = production_at(node, position, in_chain) else {
         return None;
     };
     if !is_lean_node(node) {
         return None;
     }
-    if !runs(node, outline.tail, outline.from) {
+    if !goes_over(node, production) {
         return None;
     }
-    let slots = Positions {
-        node,
-        position,
-        front: outline.front,
-        tail: outline.tail,
-        from: outline.from,
-    };
-    let holds_chain = holds_chain(position, node.kind(), outline.front);
-    Some(Spelled {
-        outline,
-        slots,
-        holds_chain,
-    })
+    Some(production)
+}
+
+/// Whether the list of a production goes over a node's parts.
+fn goes_over(node: Node, production: Production) -> bool
+    ensures { result ≡ list_goes_over (tail_slots (outline_of production).tail (parts_behind (outline_of production).from (parts_of (node_tree node.entry)))) }
+{
+    if !production.has_list() {
+        return true;
+    }
+    let outline = production.outline();
+    runs(node, outline.tail, outline.from)
+}
+
+impl Production {
+    /// How a node with this production is spelled at a position.
+    pub fn spelled<'t, 's>(self, node: Node<'t, 's>, position: Position) -> Spelled<'t, 's>
+        ensures { result ≡ spelled_by node.entry position self }
+    {
+        let outline = self.outline();
+        Spelled {
+            outline,
+            slots: Positions {
+                node,
+                position,
+                front: outline.front,
+                tail: outline.tail,
+                from: outline.from,
+            },
+            holds_chain: holds_chain(position, node.kind(), outline.front),
+        }
+    }
 }
 
 /// Whether a node that is spelled at a position is above parts of a chain.

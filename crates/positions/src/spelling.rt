@@ -7,8 +7,8 @@ ghost use Rattle.tree.specs.Uses.{is_lean, within as is_within, used_flags as fl
 ghost use Rattle.language.specs.Pieces.{settle, expr};
 ghost use Rattle.language.specs.Grammar.{own_rank, own_in, own_start, ways};
 ghost use Rattle.positions.specs.Outlines.{role_of, slot_of, opens_at, outline_slots};
-ghost use Rattle.positions.specs.Spelled.{lean_label, callee_at, fits_outline, roles_by};
-ghost use Rattle.positions.specs.Remaining.{remaining, Taken, Next, Gives, goes_over, left, tail_left, IsSpelled};
+ghost use Rattle.positions.specs.Spelled.{lean_label, has_no_flags, asking, callee_at, fits_outline, roles_by};
+ghost use Rattle.positions.specs.Remaining.{remaining, Taken, Takes, Next, Gives, goes_over, left, tail_left, IsSpelled};
 
 use crate::expressions::expression_outline;
 use crate::outline::{Front, Opens, Outline, Tail};
@@ -88,17 +88,20 @@ fn callee_rank(own: Rank) -> Rank
 pub fn fits(position: Position, outline: Outline) -> bool
     ensures { result ≡ fits_outline (role_of position) outline }
 {
+    admits(position, outline.rank, outline.needs_in, outline.opens)
+}
+
+/// Whether what is spelled at a symbol, needs In or not and opens so may stand at a position.
+pub fn admits(position: Position, symbol: Rank, needs_in: bool, opens: Opens) -> bool
+    ensures { result ≡ fits_outline (role_of position) (asking symbol needs_in opens) }
+{
     match position {
         Position::Expression {
             rank,
             with_in,
             start,
-        } => {
-            position_takes(rank, outline.rank)
-                && (!outline.needs_in || with_in)
-                && may_open(start, outline.opens)
-        }
-        Position::Pattern { start, .. } => may_open(start, outline.opens),
+        } => { position_takes(rank, symbol) && (!needs_in || with_in) && may_open(start, opens) }
+        Position::Pattern { start, .. } => may_open(start, opens),
         _ => true,
     }
 }
@@ -146,6 +149,29 @@ fn has_text(kind: Kind) -> bool
 
 /// Whether no flag is set but those that the kind uses.
 fn has_its_flags(kind: Kind, flags: Flags) -> bool
+    ensures { result ≡ is_within flags (flags_used kind flags) }
+{
+    if is_plain(flags) {
+        return true;
+    }
+    has_used_flags(kind, flags)
+}
+
+/// Whether no flag is set at all.
+fn is_plain(flags: Flags) -> bool
+    ensures { result ≡ has_no_flags flags }
+{
+    !flags.computed
+        && !flags.optional
+        && !flags.is_static
+        && !flags.prefix
+        && !flags.directive
+        && !flags.expression
+        && is_init(flags.form)
+}
+
+/// The same, flag by flag.
+fn has_used_flags(kind: Kind, flags: Flags) -> bool
     ensures { result ≡ is_within flags (flags_used kind flags) }
 {
     let used = used_flags(kind, flags);
@@ -265,6 +291,41 @@ impl<'t, 's> Positions<'t, 's> {
             }
         };
         Some((slot, Positions { front, ..self }))
+    }
+
+    /// Takes the next slot, as `next_slot` gives it, and leaves those behind it.
+    pub fn take_slot(&mut self) -> Option<Slot>
+        ensures { Takes (left self.old) self.old result self.new }
+    {
+        match self.front {
+            Front::Zero => self.take_of_tail(),
+            Front::One(first) => {
+                self.front = Front::Zero;
+                Some(first)
+            }
+            Front::Two(first, second) => {
+                self.front = Front::One(second);
+                Some(first)
+            }
+            Front::Three(first, second, third) => {
+                self.front = Front::Two(second, third);
+                Some(first)
+            }
+            Front::Four(first, second, third, fourth) => {
+                self.front = Front::Three(second, third, fourth);
+                Some(first)
+            }
+        }
+    }
+
+    fn take_of_tail(&mut self) -> Option<Slot>
+        ensures { Takes (tail_left self.old) self.old result self.new }
+    {
+        let Some((slot, others)) = self.next_of_tail() else {
+            return None;
+        };
+        *self = others;
+        Some(slot)
     }
 
     fn next_of_tail(self) -> Option<(Slot, Positions<'t, 's>)>

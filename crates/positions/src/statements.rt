@@ -1,227 +1,187 @@
 //! The outlines of statements (ECMA-262 13).
 
-ghost use Rattle.std.specs.Prelude.{◌≡◌};
+ghost use Rattle.std.specs.Prelude.{◌≡◌, option_map, cond, ◌||◌};
 ghost use Rattle.tree.specs.Node.{node_tree};
 ghost use Rattle.tree.specs.Tree.{kind_of, text_of, flags_of, parts_of};
 ghost use Rattle.language.specs.Statements.{is_declaration as declares};
 ghost use Rattle.positions.specs.Entries.{around};
-ghost use Rattle.positions.specs.Statements.{placed_before as front_placed, part_before as front_of_part, given_before as front_given, of_front as outline_of_front, body_at, one as outline_of_one, two as outline_of_two, three as outline_of_three, items_outline as outline_of_items, declarators_outline as outline_of_declarators, declaration_outline as outline_of_declaration, evaluated, expression_statement_outline as outline_of_expression_statement, if_outline as outline_of_if, init_at as slot_of_init, for_outline as outline_of_for, left_at as position_of_left, each_outline as outline_of_each, word_outline as outline_of_word, return_outline as outline_of_return, switch_outline as outline_of_switch, try_outline as outline_of_try, loop_outline as outline_of_loop, branch_outline as outline_of_branch, statement_outline as outline_of_statement};
+ghost use Rattle.positions.specs.Statements.{declaration_outline as outline_of_declaration, expression_statement_outline as outline_of_expression_statement, if_outline as outline_of_if, for_outline as outline_of_for, left_at as position_of_left, each_outline as outline_of_each, word_outline as outline_of_word, return_outline as outline_of_return, switch_outline as outline_of_switch, try_outline as outline_of_try, loop_outline as outline_of_loop, branch_outline as outline_of_branch, statement_outline as outline_of_statement, is_part as is_part_entry};
+ghost use Rattle.positions.specs.Expressions.{is_past as is_past_entry};
+ghost use Rattle.positions.specs.Outlines.{assignment_at, whole_at};
+ghost use Rattle.positions.specs.Productions.{outline_of, init_of as init_at_entry};
+ghost use Rattle.positions.specs.declared.production.Init.TheVariants;
 
 use crate::dangling::{dangles, has_two_defaults};
 use crate::expressions::kind_at;
-use crate::outline::{Front, Outline, Tail};
-use crate::position::{ASSIGNMENT, Entry, Position, Slot, WHOLE, entry_of};
+use crate::position::{Entry, Position, WHOLE, entry_of};
+use crate::production::{Guards, Init, Production};
 use crate::tail::bound;
 use language::{Rank, Start};
 use tree::{Flags, Kind, Node};
 
 /// A statement; the flag allows `return`.
-pub(crate) fn statement_outline(node: Node, returns: bool) -> Option<Outline>
-    ensures { result ≡ outline_of_statement returns (kind_of (node_tree node.entry)) (text_of (node_tree node.entry)) (flags_of (node_tree node.entry)) (around (parts_of (node_tree node.entry))) }
+pub(crate) fn statement_production(node: Node, returns: bool) -> Option<Production>
+    ensures { option_map outline_of result ≡ outline_of_statement returns (kind_of (node_tree node.entry)) (text_of (node_tree node.entry)) (flags_of (node_tree node.entry)) (around (parts_of (node_tree node.entry))) }
 {
     match node.kind() {
-        Kind::VariableDeclaration => declaration_outline(node.text() == "var"),
-        Kind::EmptyStatement => Some(Outline::leaf(Rank::Primary)),
-        Kind::ExpressionStatement => expression_statement_outline(node.flags()),
-        Kind::ContinueStatement => word_outline(entry_of(node, 0), Position::Name),
-        Kind::BreakStatement => word_outline(entry_of(node, 0), Position::Name),
-        Kind::ReturnStatement => return_outline(returns, entry_of(node, 0)),
-        Kind::ThrowStatement => one(Slot::Fixed(WHOLE)),
-        Kind::DebuggerStatement => Some(Outline::leaf(Rank::Primary)),
-        _ => branch_outline(node, returns),
+        Kind::VariableDeclaration => declaration_production(node.text() == "var"),
+        Kind::EmptyStatement => Some(Production::Leaf),
+        Kind::ExpressionStatement => expression_statement_production(node.flags()),
+        Kind::ContinueStatement => word_production(entry_of(node, 0), Position::Name),
+        Kind::BreakStatement => word_production(entry_of(node, 0), Position::Name),
+        Kind::ReturnStatement => return_production(returns, entry_of(node, 0)),
+        Kind::ThrowStatement => Some(Production::Single(WHOLE)),
+        Kind::DebuggerStatement => Some(Production::Leaf),
+        _ => branch_production(node, returns),
     }
 }
 
 /// Statements that hold others.
-fn branch_outline(node: Node, returns: bool) -> Option<Outline>
-    ensures { result ≡ outline_of_branch returns (kind_of (node_tree node.entry)) (around (parts_of (node_tree node.entry))) }
+fn branch_production(node: Node, returns: bool) -> Option<Production>
+    ensures { option_map outline_of result ≡ outline_of_branch returns (kind_of (node_tree node.entry)) (around (parts_of (node_tree node.entry))) }
 {
     let (first, second) = (entry_of(node, 0), entry_of(node, 1));
     let (third, fourth) = (entry_of(node, 2), entry_of(node, 3));
     match node.kind() {
-        Kind::BlockStatement => items_outline(returns),
-        Kind::IfStatement => { if_outline(returns, dangles(node, 1), first, second, third, fourth) }
-        Kind::LabeledStatement => two(Slot::Fixed(Position::Name), body(returns)),
-        Kind::SwitchStatement => switch_outline(returns, has_two_defaults(node)),
-        Kind::TryStatement => try_outline(returns, first, second, third, fourth),
-        _ => loop_outline(node, returns),
+        Kind::BlockStatement => Some(Production::Items { returns }),
+        Kind::IfStatement => {
+            if_production(returns, dangles(node, 1), first, second, third, fourth)
+        }
+        Kind::LabeledStatement => Some(Production::Labeled { returns }),
+        Kind::SwitchStatement => switch_production(returns, has_two_defaults(node)),
+        Kind::TryStatement => try_production(returns, first, second, third, fourth),
+        _ => loop_production(node, returns),
     }
 }
 
 /// Loops.
-fn loop_outline(node: Node, returns: bool) -> Option<Outline>
-    ensures { result ≡ outline_of_loop returns (kind_of (node_tree node.entry)) (around (parts_of (node_tree node.entry))) }
+fn loop_production(node: Node, returns: bool) -> Option<Production>
+    ensures { option_map outline_of result ≡ outline_of_loop returns (kind_of (node_tree node.entry)) (around (parts_of (node_tree node.entry))) }
 {
     let (first, second) = (entry_of(node, 0), entry_of(node, 1));
     let left = left_at(kind_at(first));
     match node.kind() {
-        Kind::DoWhileStatement => two(body(returns), Slot::Fixed(WHOLE)),
-        Kind::WhileStatement => two(Slot::Fixed(WHOLE), body(returns)),
-        Kind::ForStatement => for_outline(returns, first, second, entry_of(node, 2)),
-        Kind::ForInStatement => each_outline(returns, left, WHOLE),
-        Kind::ForOfStatement => each_outline(returns, left, ASSIGNMENT),
+        Kind::DoWhileStatement => Some(Production::DoWhile { returns }),
+        Kind::WhileStatement => Some(Production::While { returns }),
+        Kind::ForStatement => for_production(returns, first, second, entry_of(node, 2)),
+        Kind::ForInStatement => each_production(returns, left, false),
+        Kind::ForOfStatement => each_production(returns, left, true),
         _ => None,
     }
 }
 
-pub(crate) fn one(first: Slot) -> Option<Outline>
-    ensures { result ≡ outline_of_one first }
-{
-    Some(Outline::of_front(Rank::Primary, Front::One(first)))
-}
-
-pub(crate) fn two(first: Slot, second: Slot) -> Option<Outline>
-    ensures { result ≡ outline_of_two first second }
-{
-    Some(Outline::of_front(Rank::Primary, Front::Two(first, second)))
-}
-
-fn three(first: Slot, second: Slot, third: Slot) -> Option<Outline>
-    ensures { result ≡ outline_of_three first second third }
-{
-    Some(Outline::of_front(Rank::Primary, Front::Three(first, second, third)))
-}
-
-/// The position of a statement's body.
-fn body(returns: bool) -> Slot
-    ensures { result ≡ body_at returns }
-{
-    Slot::Fixed(Position::Statement { returns })
-}
-
-/// Items one by one.
-pub(crate) fn items_outline(returns: bool) -> Option<Outline>
-    ensures { result ≡ outline_of_items returns }
-{
-    let tail = Tail::Each(Slot::Fixed(Position::Item { returns }));
-    Some(Outline::of_list(Rank::Primary, Front::Zero, tail, 0))
-}
-
-/// Declarators, of which there is one at least.
-pub(crate) fn declarators_outline(position: Position) -> Option<Outline>
-    ensures { result ≡ outline_of_declarators position }
-{
-    let tail = Tail::Some(Slot::Fixed(position));
-    Some(Outline::of_list(Rank::Primary, Front::Zero, tail, 0))
-}
-
 /// A declaration that ends with `;`, where its word may stand.
-pub(crate) fn declaration_outline(holds: bool) -> Option<Outline>
-    ensures { result ≡ outline_of_declaration holds }
+pub(crate) fn declaration_production(holds: bool) -> Option<Production>
+    ensures { option_map outline_of result ≡ outline_of_declaration holds }
 {
     if !holds {
         return None;
     }
-    declarators_outline(Position::Declarator {
+    Some(Production::Declarators(Position::Declarator {
         with_in: true,
         initialised: true,
-    })
+    }))
 }
 
 /// The position of an expression that is a statement.
-pub(crate) const EVALUATED: Slot = Slot::Fixed(Position::Expression {
+pub(crate) const EVALUATED: Position = Position::Expression {
     rank: Rank::Expression,
     with_in: true,
     start: Start::Statement,
-});
+};
 
-fn expression_statement_outline(flags: Flags) -> Option<Outline>
-    ensures { result ≡ outline_of_expression_statement flags }
+fn expression_statement_production(flags: Flags) -> Option<Production>
+    ensures { option_map outline_of result ≡ outline_of_expression_statement flags }
 {
     if flags.directive {
         return None;
     }
-    one(EVALUATED)
+    Some(Production::Single(EVALUATED))
 }
 
-fn if_outline(
+fn if_production(
     returns: bool,
     dangling: bool,
     test: Entry,
     consequent: Entry,
     alternate: Entry,
     other: Entry,
-) -> Option<Outline>
-    ensures { result ≡ outline_of_if returns dangling test consequent alternate other }
+) -> Option<Production>
+    ensures { option_map outline_of result ≡ outline_of_if returns dangling test consequent alternate other }
 {
     match (test, consequent, alternate, other) {
         (Entry::Part(_), Entry::Part(_), Entry::Gap, Entry::Past) => {
-            two(Slot::Fixed(WHOLE), body(returns))
+            Some(Production::If {
+                has_else: false,
+                returns,
+            })
         }
         (Entry::Part(_), Entry::Part(_), Entry::Part(_), Entry::Past) => {
             if dangling {
                 return None;
             }
-            three(Slot::Fixed(WHOLE), body(returns), body(returns))
+            Some(Production::If {
+                has_else: true,
+                returns,
+            })
         }
         _ => None,
     }
 }
 
-/// A position before others.
-fn placed_before(first: Slot, others: Front) -> Front
-    ensures { result ≡ front_placed first others }
-{
-    match others {
-        Front::Zero => Front::One(first),
-        Front::One(a) => Front::Two(first, a),
-        Front::Two(a, b) => Front::Three(first, a, b),
-        Front::Three(a, b, c) => Front::Four(first, a, b, c),
-        Front::Four(a, b, c, _) => Front::Four(first, a, b, c),
-    }
-}
-
-/// A position before others where a part stands; the others where a gap does.
-fn given_before(entry: Entry, slot: Slot, others: Option<Front>) -> Option<Front>
-    ensures { result ≡ front_given entry slot others }
-{
-    match entry {
-        Entry::Past => None,
-        Entry::Gap => others,
-        Entry::Part(_) => part_before(slot, others),
-    }
-}
-
-fn part_before(slot: Slot, others: Option<Front>) -> Option<Front>
-    ensures { result ≡ front_of_part slot others }
-{
-    match others {
-        Some(others) => Some(placed_before(slot, others)),
-        None => None,
-    }
-}
-
-fn of_front(front: Option<Front>) -> Option<Outline>
-    ensures { result ≡ outline_of_front front }
-{
-    match front {
-        Some(front) => Some(Outline::of_front(Rank::Primary, front)),
-        None => None,
-    }
-}
-
 /// A `for`, by what stands at the places of its init, test and update.
-fn for_outline(returns: bool, init: Entry, test: Entry, update: Entry) -> Option<Outline>
-    ensures { result ≡ outline_of_for returns init test update }
+fn for_production(returns: bool, init: Entry, test: Entry, update: Entry) -> Option<Production>
+    ensures { option_map outline_of result ≡ outline_of_for returns init test update }
 {
-    let whole = Slot::Fixed(WHOLE);
-    let updated = given_before(update, whole, Some(Front::One(body(returns))));
-    let tested = given_before(test, whole, updated);
-    of_front(given_before(init, init_at(kind_at(init)), tested))
+    if is_short(init, test, update) {
+        return None;
+    }
+    let has_test = is_part(test);
+    let has_update = is_part(update);
+    Some(Production::For {
+        init: init_of(init),
+        has_test,
+        has_update,
+        returns,
+    })
+}
+
+/// Whether the parts end before one of these places.
+fn is_short(init: Entry, test: Entry, update: Entry) -> bool
+    ensures { result ≡ (is_past_entry init || (is_past_entry test || is_past_entry update)) }
+{
+    is_past(init) || (is_past(test) || is_past(update))
+}
+
+fn is_past(entry: Entry) -> bool
+    ensures { result ≡ is_past_entry entry }
+{
+    matches!(entry, Entry::Past)
+}
+
+pub(crate) fn is_part(entry: Entry) -> bool
+    ensures { result ≡ is_part_entry entry }
+{
+    matches!(entry, Entry::Part(_))
 }
 
 /// What stands first in the head of a `for`.
-fn init_at(kind: Kind) -> Slot
-    ensures { result ≡ slot_of_init kind }
+fn init_of(entry: Entry) -> Init
+    ensures { result ≡ init_at_entry entry }
+{
+    match entry {
+        Entry::Part(kind) => init_of_kind(kind),
+        Entry::Past | Entry::Gap => Init::Nothing,
+    }
+}
+
+fn init_of_kind(kind: Kind) -> Init
+    ensures { result ≡ cond (declares kind) TheVariants.Declaration TheVariants.Value }
 {
     if is_declaration(kind) {
-        return Slot::Fixed(Position::Head { initialised: true });
+        return Init::Declaration;
     }
-    Slot::Fixed(Position::Expression {
-        rank: Rank::Expression,
-        with_in: false,
-        start: Start::Any,
-    })
+    Init::Value
 }
 
 fn is_declaration(kind: Kind) -> bool
@@ -240,61 +200,64 @@ fn left_at(kind: Kind) -> Option<Position>
     bound(false, kind)
 }
 
-/// A for-in or for-of, by the positions of its left and right side.
-fn each_outline(returns: bool, left: Option<Position>, right: Position) -> Option<Outline>
-    ensures { result ≡ outline_of_each returns left right }
+/// A for-in or for-of, by the position of its left side.
+fn each_production(returns: bool, left: Option<Position>, is_of: bool) -> Option<Production>
+    ensures { option_map outline_of result ≡ outline_of_each returns left (cond is_of assignment_at whole_at) }
 {
     match left {
-        Some(left) => three(Slot::Fixed(left), Slot::Fixed(right), body(returns)),
+        Some(left) => Some(Production::Each {
+            left,
+            is_of,
+            returns,
+        }),
         None => None,
     }
 }
 
 /// A word, and perhaps what stands behind it at a position.
-fn word_outline(entry: Entry, position: Position) -> Option<Outline>
-    ensures { result ≡ outline_of_word entry position }
+fn word_production(entry: Entry, position: Position) -> Option<Production>
+    ensures { option_map outline_of result ≡ outline_of_word entry position }
 {
-    of_front(given_before(entry, Slot::Fixed(position), Some(Front::Zero)))
+    match entry {
+        Entry::Past => None,
+        Entry::Gap => Some(Production::Leaf),
+        Entry::Part(_) => Some(Production::Single(position)),
+    }
 }
 
-fn return_outline(returns: bool, value: Entry) -> Option<Outline>
-    ensures { result ≡ outline_of_return returns value }
+fn return_production(returns: bool, value: Entry) -> Option<Production>
+    ensures { option_map outline_of result ≡ outline_of_return returns value }
 {
     if returns {
-        return word_outline(value, WHOLE);
+        return word_production(value, WHOLE);
     }
     None
 }
 
 /// A switch, whether more than one case has no test.
-fn switch_outline(returns: bool, defaults_twice: bool) -> Option<Outline>
-    ensures { result ≡ outline_of_switch returns defaults_twice }
+fn switch_production(returns: bool, defaults_twice: bool) -> Option<Production>
+    ensures { option_map outline_of result ≡ outline_of_switch returns defaults_twice }
 {
     if defaults_twice {
         return None;
     }
-    let tail = Tail::Each(Slot::Fixed(Position::SwitchCase { returns }));
-    let front = Front::One(Slot::Fixed(WHOLE));
-    Some(Outline::of_list(Rank::Primary, front, tail, 1))
+    Some(Production::Switch { returns })
 }
 
-fn try_outline(
+fn try_production(
     returns: bool,
     block: Entry,
     handler: Entry,
     finalizer: Entry,
     other: Entry,
-) -> Option<Outline>
-    ensures { result ≡ outline_of_try returns block handler finalizer other }
+) -> Option<Production>
+    ensures { option_map outline_of result ≡ outline_of_try returns block handler finalizer other }
 {
-    let guarded = Slot::Fixed(Position::Block { returns });
-    let handles = Slot::Fixed(Position::Handler { returns });
-    match (block, handler, finalizer, other) {
-        (Entry::Part(_), Entry::Part(_), Entry::Gap, Entry::Past) => two(guarded, handles),
-        (Entry::Part(_), Entry::Part(_), Entry::Part(_), Entry::Past) => {
-            three(guarded, handles, guarded)
-        }
-        (Entry::Part(_), Entry::Gap, Entry::Part(_), Entry::Past) => two(guarded, guarded),
-        _ => None,
-    }
+    let guards = match (block, handler, finalizer, other) {
+        (Entry::Part(_), Entry::Part(_), Entry::Gap, Entry::Past) => Guards::Handler,
+        (Entry::Part(_), Entry::Part(_), Entry::Part(_), Entry::Past) => Guards::Both,
+        (Entry::Part(_), Entry::Gap, Entry::Part(_), Entry::Past) => Guards::Finalizer,
+        _ => return None,
+    };
+    Some(Production::Try { guards, returns })
 }

@@ -6,9 +6,8 @@ use Rattle.language.specs.Pieces.{Role, is_none}
 use Rattle.positions.specs.Outlines.{role_of, parts_behind, is_before_last}
 use Rattle.positions.proofs.Behind.{some-suc, gap-suc, behind-past, last-behind, before-behind}
 use Rattle.printer.specs.declared.pieces.Piece.{Piece}
-use Rattle.printer.specs.declared.sheet.Sheet.{Sheet}
 use Rattle.printer.specs.Bits.{Mark, here, Bit, bits_of, Chain, before_bits, after_bits}
-use Rattle.printer.specs.Sheets.{Writes, pieces_text, flag_at}
+use Rattle.printer.specs.Sheets.{View, Writes, pieces_text, flag_at}
 use Rattle.printer.specs.Shapes.{inner}
 use Rattle.language.specs.Fits.{fits, parts_fit}
 use Rattle.printer.specs.Printed.{marks_in, front_marks, chain_marks, deep, shape_marks, Reads, Passed, Written, Printed}
@@ -66,27 +65,27 @@ missing_part f (Some x) false h = refl
 
 module _ (W : ℕ → Bool) where
   -- pieces, and then a part
-  pub turn : {a b s e : Sheet} {w : List ℕ} (us : List Piece) {ls M ns : List Mark} {ps qs vs : Parts} {xs ys zs : List Role} {x y z : Bool} {d r : ℕ} (v : List ℕ) → v ≡ w → M ≡ marks_in w (bits_of us) ++ here ∷ ns →
+  pub turn : {a b s e : View} {w : List ℕ} (us : List Piece) {ls M ns : List Mark} {ps qs vs : Parts} {xs ys zs : List Role} {x y z : Bool} {d r : ℕ} (v : List ℕ) → v ≡ w → M ≡ marks_in w (bits_of us) ++ here ∷ ns →
       Passed W a b ls M ps qs xs ys x y d r → Writes b s (pieces_text v d y us) →
-      ((q : ℕ) → Reads W q s.wraps.now → parts_fit W qs ys q ≡ true → Passed W s e (here ∷ ns) ns qs vs ys zs y z d q) → Passed W a e ls ns ps vs xs zs x z d r
+      ((q : ℕ) → Reads W q s.flags → parts_fit W qs ys q ≡ true → Passed W s e (here ∷ ns) ns qs vs ys zs y z d q) → Passed W a e ls ns ps vs xs zs x z d r
   turn {a} {b} {s} {e} {w} us {ls} {M} {ns} {ps} {qs} {vs} {xs} {ys} {zs} {x} {y} {z} {d} {r} v f h p u k =
       let p' = subst (λ t. Passed W a b ls t ps qs xs ys x y d r) h p in
       let q = passed_pieces W w us {ms = here ∷ ns} p.row p.reads p.fit (subst (λ t. Writes b s (pieces_text t d y us)) f u) in
       passed_then W p' (passed_then W q (k q.row q.reads q.fit))
 
   -- pieces behind a part
-  pub trail : {a b s : Sheet} {w : List ℕ} (us : List Piece) {ls M ns : List Mark} {ps qs : Parts} {xs ys : List Role} {x y : Bool} {d r : ℕ} (v : List ℕ) → v ≡ w → M ≡ marks_in w (bits_of us) ++ ns →
+  pub trail : {a b s : View} {w : List ℕ} (us : List Piece) {ls M ns : List Mark} {ps qs : Parts} {xs ys : List Role} {x y : Bool} {d r : ℕ} (v : List ℕ) → v ≡ w → M ≡ marks_in w (bits_of us) ++ ns →
       Passed W a b ls M ps qs xs ys x y d r → Writes b s (pieces_text v d y us) → Passed W a s ls ns ps qs xs ys x y d r
   trail {a} {b} {s} {w} us {ls} {M} {ns} {ps} {qs} {xs} {ys} {x} {y} {d} {r} v f h p u =
       let p' = subst (λ t. Passed W a b ls t ps qs xs ys x y d r) h p in
       passed_then W p' (passed_pieces W w us p.row p.reads p.fit (subst (λ t. Writes b s (pieces_text t d y us)) f u))
 
   -- the first parts, what stands behind them, the other parts, and what stands behind these
-  framed_by : {a b s e g : Sheet} (w v : List ℕ) → v ≡ w → (fs : List (List Bit)) (os cs : List Piece) (t : Chain) (P : Parts) {xs ys zs : List Role} {x y z : Bool} {d r : ℕ} →
-      Reads W r a.wraps.now → parts_fit W P xs r ≡ true →
-      ((ms : List Mark) (q : ℕ) → Reads W q a.wraps.now → parts_fit W P xs q ≡ true → Passed W a b (front_marks w fs ms) ms P (parts_behind (length fs) P) xs ys x y d q) →
+  framed_by : {a b s e g : View} (w v : List ℕ) → v ≡ w → (fs : List (List Bit)) (os cs : List Piece) (t : Chain) (P : Parts) {xs ys zs : List Role} {x y z : Bool} {d r : ℕ} →
+      Reads W r a.flags → parts_fit W P xs r ≡ true →
+      ((ms : List Mark) (q : ℕ) → Reads W q a.flags → parts_fit W P xs q ≡ true → Passed W a b (front_marks w fs ms) ms P (parts_behind (length fs) P) xs ys x y d q) →
       Writes b s (pieces_text v d y os) →
-      ((ms : List Mark) (q : ℕ) → Reads W q s.wraps.now → parts_fit W (parts_behind (length fs) P) ys q ≡ true → Passed W s e (chain_marks w t (parts_behind (length fs) P) ++ ms) ms (parts_behind (length fs) P) none ys zs y z (inner t d) q) →
+      ((ms : List Mark) (q : ℕ) → Reads W q s.flags → parts_fit W (parts_behind (length fs) P) ys q ≡ true → Passed W s e (chain_marks w t (parts_behind (length fs) P) ++ ms) ms (parts_behind (length fs) P) none ys zs y z (inner t d) q) →
       Writes e g (pieces_text v d z cs) →
       Written W a g (shape_marks w (record { front = fs; opener = bits_of os; chain = t; closer = bits_of cs }) P) P xs x d r
   framed_by {a} {b} {s} {e} {g} w v f fs os cs t P {xs} {ys} {zs} {x} {y} {z} {d} {r} h k front u list o =
@@ -97,18 +96,18 @@ module _ (W : ℕ → Bool) where
       let l = passed_deep W t cm closing (list (raised W t closing) q.row q.reads q.fit) in
       passed_all W (trail {w = w} cs {ns = []} v f (sym (append-nil closing)) (passed_then W q l) o)
 
-  pub framed : {a b s e g : Sheet} (w v : List ℕ) → v ≡ w → (fs : List (List Bit)) (os cs : List Piece) (t : Chain) (P : Parts) {xs ys zs : List Role} {x y z : Bool} {d r : ℕ} (i j : ℕ) → i ≡ length fs → j ≡ inner t d →
-      Reads W r a.wraps.now → parts_fit W P xs r ≡ true →
-      ((ms : List Mark) (q : ℕ) → Reads W q a.wraps.now → parts_fit W P xs q ≡ true → Passed W a b (front_marks w fs ms) ms P (parts_behind i P) xs ys x y d q) →
+  pub framed : {a b s e g : View} (w v : List ℕ) → v ≡ w → (fs : List (List Bit)) (os cs : List Piece) (t : Chain) (P : Parts) {xs ys zs : List Role} {x y z : Bool} {d r : ℕ} (i j : ℕ) → i ≡ length fs → j ≡ inner t d →
+      Reads W r a.flags → parts_fit W P xs r ≡ true →
+      ((ms : List Mark) (q : ℕ) → Reads W q a.flags → parts_fit W P xs q ≡ true → Passed W a b (front_marks w fs ms) ms P (parts_behind i P) xs ys x y d q) →
       Writes b s (pieces_text v d y os) →
-      ((ms : List Mark) (q : ℕ) → Reads W q s.wraps.now → parts_fit W (parts_behind i P) ys q ≡ true → Passed W s e (chain_marks w t (parts_behind i P) ++ ms) ms (parts_behind i P) none ys zs y z j q) →
+      ((ms : List Mark) (q : ℕ) → Reads W q s.flags → parts_fit W (parts_behind i P) ys q ≡ true → Passed W s e (chain_marks w t (parts_behind i P) ++ ms) ms (parts_behind i P) none ys zs y z j q) →
       Writes e g (pieces_text v d z cs) →
       Written W a g (shape_marks w (record { front = fs; opener = bits_of os; chain = t; closer = bits_of cs }) P) P xs x d r
   framed {a} {b} {s} {e} {g} w v f fs os cs t P {xs} {ys} {zs} {x} {y} {z} {d} {r} i j ei ej h k front u list o =
       framed_by w v f fs os cs t P h k
-      (subst (λ n. (ms : List Mark) (q : ℕ) → Reads W q a.wraps.now → parts_fit W P xs q ≡ true → Passed W a b (front_marks w fs ms) ms P (parts_behind n P) xs ys x y d q) ei front) u
-      (subst (λ m. (ms : List Mark) (q : ℕ) → Reads W q s.wraps.now → parts_fit W (parts_behind (length fs) P) ys q ≡ true → Passed W s e (chain_marks w t (parts_behind (length fs) P) ++ ms) ms (parts_behind (length fs) P) none ys zs y z m q) ej
-      (subst (λ n. (ms : List Mark) (q : ℕ) → Reads W q s.wraps.now → parts_fit W (parts_behind n P) ys q ≡ true → Passed W s e (chain_marks w t (parts_behind n P) ++ ms) ms (parts_behind n P) none ys zs y z j q) ei list)) o
+      (subst (λ n. (ms : List Mark) (q : ℕ) → Reads W q a.flags → parts_fit W P xs q ≡ true → Passed W a b (front_marks w fs ms) ms P (parts_behind n P) xs ys x y d q) ei front) u
+      (subst (λ m. (ms : List Mark) (q : ℕ) → Reads W q s.flags → parts_fit W (parts_behind (length fs) P) ys q ≡ true → Passed W s e (chain_marks w t (parts_behind (length fs) P) ++ ms) ms (parts_behind (length fs) P) none ys zs y z m q) ej
+      (subst (λ n. (ms : List Mark) (q : ℕ) → Reads W q s.flags → parts_fit W (parts_behind n P) ys q ≡ true → Passed W s e (chain_marks w t (parts_behind n P) ++ ms) ms (parts_behind n P) none ys zs y z j q) ei list)) o
 
   -- A part
 
@@ -120,7 +119,7 @@ module _ (W : ℕ → Bool) where
   next_some [] o u = absurd u
   next_some (a ∷ xs) o u = ap₂ (λ y ys. y ∷ ys) (sym u.0) (sym u.1)
 
-  pub part_turn : {a b : Sheet} {ms : List Mark} {x : Bool} {d : ℕ} (ps : Parts) (i r : ℕ) (n : Tree) (xs : List Role) (o : Position × Positions) (alone : Bool) → Some n ≡ part_at ps i → Next xs (Some o) → Reads W r a.wraps.now → not (flag_at a.wraps.now 0) ≡ alone →
+  pub part_turn : {a b : View} {ms : List Mark} {x : Bool} {d : ℕ} (ps : Parts) (i r : ℕ) (n : Tree) (xs : List Role) (o : Position × Positions) (alone : Bool) → Some n ≡ part_at ps i → Next xs (Some o) → Reads W r a.flags → not (flag_at a.flags 0) ≡ alone →
       parts_fit W (parts_behind i ps) xs r ≡ true → (fits W n (role_of o.0) r ≡ true → Printed W a b n (role_of o.0) r d) → Passed W a b (here ∷ ms) ms (parts_behind i ps) (parts_behind (suc i) ps) xs (remaining o.1) x alone d r
   part_turn {a} {b} {ms} {x} {d} ps i r n xs o alone h u g e k p =
       let f = next_some xs o u in
@@ -132,18 +131,18 @@ module _ (W : ℕ → Bool) where
 
   -- The turns of the loops
 
-  pub stepped : {a b : Sheet} {ls ns : List Mark} {ps : Parts} {xs ys : List Role} {x y : Bool} {d r : ℕ} (P : Parts) (i : ℕ) → Passed W a b ls ns ps (parts_behind (suc i) P) xs ys x y d r → Passed W a b ls ns ps (parts_behind (i + 1) P) xs ys x y d r
+  pub stepped : {a b : View} {ls ns : List Mark} {ps : Parts} {xs ys : List Role} {x y : Bool} {d r : ℕ} (P : Parts) (i : ℕ) → Passed W a b ls ns ps (parts_behind (suc i) P) xs ys x y d r → Passed W a b ls ns ps (parts_behind (i + 1) P) xs ys x y d r
   stepped {a} {b} {ls} {ns} {ps} {xs} {ys} {x} {y} {d} {r} P i p = subst (λ j. Passed W a b ls ns ps (parts_behind j P) xs ys x y d r) (sym (add-one i)) p
 
-  pub stepped_chain : {a b : Sheet} {ls : List Mark} {ps : Parts} {xs ys : List Role} {x y : Bool} {d r : ℕ} (w : List ℕ) (t : Chain) (P : Parts) (i : ℕ) (ms : List Mark) →
+  pub stepped_chain : {a b : View} {ls : List Mark} {ps : Parts} {xs ys : List Role} {x y : Bool} {d r : ℕ} (w : List ℕ) (t : Chain) (P : Parts) (i : ℕ) (ms : List Mark) →
       Passed W a b ls (chain_marks w t (parts_behind (suc i) P) ++ ms) ps (parts_behind (suc i) P) xs ys x y d r → Passed W a b ls (chain_marks w t (parts_behind (i + 1) P) ++ ms) ps (parts_behind (i + 1) P) xs ys x y d r
   stepped_chain {a} {b} {ls} {ps} {xs} {ys} {x} {y} {d} {r} w t P i ms p = subst (λ j. Passed W a b ls (chain_marks w t (parts_behind j P) ++ ms) ps (parts_behind j P) xs ys x y d r) (sym (add-one i)) p
 
-  pub fronts_done : {X : Type 0} {a b : Sheet} {ls : List Mark} {ps : Parts} {xs ys : List Role} {x y : Bool} {d r : ℕ} (w : List ℕ) (f : X → List Bit) (fs : List X) (P : Parts) (i : ℕ) (ms : List Mark) → i ≡ length fs →
+  pub fronts_done : {X : Type 0} {a b : View} {ls : List Mark} {ps : Parts} {xs ys : List Role} {x y : Bool} {d r : ℕ} (w : List ℕ) (f : X → List Bit) (fs : List X) (P : Parts) (i : ℕ) (ms : List Mark) → i ≡ length fs →
       Passed W a b ls (front_marks w (map f (drop i fs)) ms) ps (parts_behind i P) xs ys x y d r → Passed W a b ls ms ps (parts_behind (length fs) P) xs ys x y d r
   fronts_done {X} {a} {b} {ls} {ps} {xs} {ys} {x} {y} {d} {r} w f fs P i ms e p =
       subst (λ j. Passed W a b ls ms ps (parts_behind j P) xs ys x y d r) e (subst (λ M. Passed W a b ls M ps (parts_behind i P) xs ys x y d r) (fronts-past w f fs i ms (omega (arith, e))) p)
 
-  pub chain_done : {a b : Sheet} {ls : List Mark} {ps : Parts} {xs ys : List Role} {x y : Bool} {d r : ℕ} (w : List ℕ) (t : Chain) (P : Parts) (i : ℕ) (ms : List Mark) → part_count P ≤ i →
+  pub chain_done : {a b : View} {ls : List Mark} {ps : Parts} {xs ys : List Role} {x y : Bool} {d r : ℕ} (w : List ℕ) (t : Chain) (P : Parts) (i : ℕ) (ms : List Mark) → part_count P ≤ i →
       Passed W a b ls (chain_marks w t (parts_behind i P) ++ ms) ps (parts_behind i P) xs ys x y d r → Passed W a b ls ms ps none xs ys x y d r
   chain_done {a} {b} {ls} {ps} {xs} {ys} {x} {y} {d} {r} w t P i ms e p = subst (λ q. Passed W a b ls (chain_marks w t q ++ ms) ps q xs ys x y d r) (behind-past P i e) p

@@ -1,15 +1,19 @@
+pub mod Arrows
 pub mod Defaults
 pub mod Ends
-pub mod Items
+pub mod Heights
+mod Items
 pub mod Layouts
 pub mod ListMarks
 pub mod Nodes
 pub mod OtherMarks
 pub mod Passing
-pub mod Planned
 pub mod PlaceMarks
+pub mod Planned
 pub mod Rows
 pub mod Shaped
+pub mod Standings
 pub mod TableMarks
 pub mod Whole
+pub mod Words
 pub mod Writing

@@ -7,13 +7,13 @@ use Rattle.language.specs.Positions.{rows, parts_rows}
 use Rattle.language.specs.Layout.{layout}
 use Rattle.positions.specs.Outlines.{parts_behind}
 use Rattle.positions.proofs.Behind.{some-suc}
-use Rattle.printer.specs.declared.sheet.Sheet.{Sheet}
 use Rattle.printer.specs.declared.pieces.Piece.{Piece}
 use Rattle.printer.specs.declared.pieces.Piece.TheVariants as own
 use Rattle.printer.specs.Bits.{Mark, here, shallower, bit_of, bits_of, Chain, nothing, joined, commas, lines, feeds, parameters}
 use Rattle.printer.specs.Shapes.{inner}
-use Rattle.printer.specs.Sheets.{Writes, shown, flag_at, piece_text, pieces_text}
+use Rattle.printer.specs.Sheets.{View, Writes, flag_at, piece_text, pieces_text}
 use Rattle.language.specs.Fits.{fits, parts_fit}
+use Rattle.printer.proofs.Writing.{leads_then, leads_at, leads_same}
 use Rattle.printer.specs.Printed.{mark_of, marks_in, marks_text, deep, Reads, Printed, Passed, Written}
 
 module _ (W : ℕ → Bool) where
@@ -33,22 +33,22 @@ module _ (W : ℕ → Bool) where
       piece_marks w u (marks_in w (bits_of us) ++ ms) ps xs r d b ∙ ap (λ t. piece_text w d b u ++ t) (pieces_marks w us ms ps xs r d b)
       ∙ sym (append_assoc (piece_text w d b u) (pieces_text w d b us) (marks_text W ms ps xs r d b))
 
-  pub passed_nothing : {a : Sheet} {ms : List Mark} {ps : Parts} {xs : List Role} {b : Bool} {d : ℕ} (r : ℕ) → Reads W r a.wraps.now → parts_fit W ps xs r ≡ true → Passed W a a ms ms ps ps xs xs b b d r
-  passed_nothing r h k = record { row = r; reads = h; counts = refl; fit = k; shows = λ next. refl }
+  pub passed_nothing : {a : View} {ms : List Mark} {ps : Parts} {xs : List Role} {b : Bool} {d : ℕ} (r : ℕ) → Reads W r a.flags → parts_fit W ps xs r ≡ true → Passed W a a ms ms ps ps xs xs b b d r
+  passed_nothing r h k = record { row = r; reads = h; counts = refl; fit = k; shows = λ next. leads_same }
 
-  pub passed_then : {a b c : Sheet} {ls ms ns : List Mark} {ps qs us : Parts} {xs ys zs : List Role} {x y z : Bool} {d r : ℕ} →
+  pub passed_then : {a b c : View} {ls ms ns : List Mark} {ps qs us : Parts} {xs ys zs : List Role} {x y z : Bool} {d r : ℕ} →
       (p : Passed W a b ls ms ps qs xs ys x y d r) → Passed W b c ms ns qs us ys zs y z d p.row → Passed W a c ls ns ps us xs zs x z d r
-  passed_then p q = record { row = q.row; reads = q.reads; counts = q.counts ∙ p.counts; fit = q.fit; shows = λ next. q.shows next ∙ p.shows next }
+  passed_then p q = record { row = q.row; reads = q.reads; counts = q.counts ∙ p.counts; fit = q.fit; shows = λ next. leads_then (p.shows next) (q.shows next) }
 
   -- pieces without parts
-  pub passed_pieces : {a b : Sheet} (w : List ℕ) (us : List Piece) {ms : List Mark} {ps : Parts} {xs : List Role} {x : Bool} {d : ℕ} (r : ℕ) →
-      Reads W r a.wraps.now → parts_fit W ps xs r ≡ true → Writes a b (pieces_text w d x us) → Passed W a b (marks_in w (bits_of us) ++ ms) ms ps ps xs xs x x d r
+  pub passed_pieces : {a b : View} (w : List ℕ) (us : List Piece) {ms : List Mark} {ps : Parts} {xs : List Role} {x : Bool} {d : ℕ} (r : ℕ) →
+      Reads W r a.flags → parts_fit W ps xs r ≡ true → Writes a b (pieces_text w d x us) → Passed W a b (marks_in w (bits_of us) ++ ms) ms ps ps xs xs x x d r
   passed_pieces {a} {b} w us {ms} {ps} {xs} {x} {d} r h k p = record {
     row = r;
     reads = subst (Reads W r) (sym p.flags) h;
     counts = refl;
     fit = k;
-    shows = λ next. p.follows (marks_text W ms ps xs r d x ++ next) ∙ ap (shown a) (sym (append_assoc (pieces_text w d x us) (marks_text W ms ps xs r d x) next) ∙ ap (λ t. t ++ next) (sym (pieces_marks w us ms ps xs r d x)));
+    shows = λ next. leads_at (sym (append_assoc (pieces_text w d x us) (marks_text W ms ps xs r d x) next) ∙ ap (λ t. t ++ next) (sym (pieces_marks w us ms ps xs r d x))) (p.follows (marks_text W ms ps xs r d x ++ next));
   }
 
   abbrev pub raised : Chain → List Mark → List Mark
@@ -56,7 +56,7 @@ module _ (W : ℕ → Bool) where
   raised _ ms = ms
 
   -- parts that stand deeper
-  pub passed_deep : (t : Chain) {a b : Sheet} (cm rest : List Mark) {ps qs : Parts} {xs ys : List Role} {x y : Bool} {d r : ℕ} →
+  pub passed_deep : (t : Chain) {a b : View} (cm rest : List Mark) {ps qs : Parts} {xs ys : List Role} {x y : Bool} {d r : ℕ} →
       Passed W a b (cm ++ raised t rest) (raised t rest) ps qs xs ys x y (inner t d) r → Passed W a b (deep t cm rest) rest ps qs xs ys x y d r
   passed_deep lines cm rest p = record { row = p.row; reads = p.reads; counts = p.counts; fit = p.fit; shows = λ next. p.shows next }
   passed_deep nothing cm rest p = p
@@ -70,9 +70,9 @@ module _ (W : ℕ → Bool) where
   no_rows xs = refl
 
   -- all marks
-  pub passed_all : {a b : Sheet} {ms : List Mark} {ps : Parts} {xs ys : List Role} {x y : Bool} {d r : ℕ} → Passed W a b ms [] ps none xs ys x y d r → Written W a b ms ps xs x d r
+  pub passed_all : {a b : View} {ms : List Mark} {ps : Parts} {xs ys : List Role} {x y : Bool} {d r : ℕ} → Passed W a b ms [] ps none xs ys x y d r → Written W a b ms ps xs x d r
   passed_all {a} {b} {ms} {ps} {xs} {ys} {x} {y} {d} {r} p = record {
-    reads = subst (λ n. Reads W n b.wraps.now) (sym (add-zero p.row) ∙ ap (λ n. p.row + n) (sym (no_rows ys)) ∙ p.counts) p.reads;
+    reads = subst (λ n. Reads W n b.flags) (sym (add-zero p.row) ∙ ap (λ n. p.row + n) (sym (no_rows ys)) ∙ p.counts) p.reads;
     shows = λ next. p.shows next;
   }
 
@@ -106,11 +106,11 @@ module _ (W : ℕ → Bool) where
   both true v h = (refl, h)
   both false v h = absurd (cc)
 
-  pub passed_gap : {a : Sheet} {ms : List Mark} {xs : List Role} {x : Bool} {d : ℕ} (r : ℕ) (ps : Parts) → Reads W r a.wraps.now → parts_fit W (gap ps) xs r ≡ true → Passed W a a (here ∷ ms) ms (gap ps) ps xs xs x false d r
-  passed_gap {xs = xs} r ps h k = record { row = r; reads = h; counts = ap (λ n. r + n) (sym (gap_rows ps xs)); fit = sym (gap_fit ps xs r) ∙ k; shows = λ next. refl }
+  pub passed_gap : {a : View} {ms : List Mark} {xs : List Role} {x : Bool} {d : ℕ} (r : ℕ) (ps : Parts) → Reads W r a.flags → parts_fit W (gap ps) xs r ≡ true → Passed W a a (here ∷ ms) ms (gap ps) ps xs xs x false d r
+  passed_gap {xs = xs} r ps h k = record { row = r; reads = h; counts = ap (λ n. r + n) (sym (gap_rows ps xs)); fit = sym (gap_fit ps xs r) ∙ k; shows = λ next. leads_same }
 
-  pub passed_end : {a : Sheet} {ms : List Mark} {xs : List Role} {x : Bool} {d : ℕ} (r : ℕ) → Reads W r a.wraps.now → Passed W a a (here ∷ ms) ms none none xs xs x false d r
-  passed_end {xs = xs} r h = record { row = r; reads = h; counts = refl; fit = none_fit xs r; shows = λ next. refl }
+  pub passed_end : {a : View} {ms : List Mark} {xs : List Role} {x : Bool} {d : ℕ} (r : ℕ) → Reads W r a.flags → Passed W a a (here ∷ ms) ms none none xs xs x false d r
+  passed_end {xs = xs} r h = record { row = r; reads = h; counts = refl; fit = none_fit xs r; shows = λ next. leads_same }
 
   -- what stands at a place, where no part does
   missing : (ps : Parts) (i : ℕ) → None ≡ part_at ps i → (q : Parts → Parts → Type 0) → q none none → ((us : Parts) → q (gap us) us) → q (parts_behind i ps) (parts_behind (suc i) ps)
@@ -121,11 +121,11 @@ module _ (W : ℕ → Bool) where
   missing (gap ps) Prim.Native.Nat.zero h q e f = f ps
   missing (gap ps) (suc i) h q e f = missing ps i h q e f
 
-  pub passed_missing : {a : Sheet} {ms : List Mark} {xs : List Role} {x : Bool} {d : ℕ} (ps : Parts) (i r : ℕ) → None ≡ part_at ps i → Reads W r a.wraps.now → parts_fit W (parts_behind i ps) xs r ≡ true →
+  pub passed_missing : {a : View} {ms : List Mark} {xs : List Role} {x : Bool} {d : ℕ} (ps : Parts) (i r : ℕ) → None ≡ part_at ps i → Reads W r a.flags → parts_fit W (parts_behind i ps) xs r ≡ true →
       Passed W a a (here ∷ ms) ms (parts_behind i ps) (parts_behind (suc i) ps) xs xs x false d r
   passed_missing {a} {ms} {xs} {x} {d} ps i r h k = missing ps i h (λ us vs. parts_fit W us xs r ≡ true → Passed W a a (here ∷ ms) ms us vs xs xs x false d r) (λ e. passed_end r k) (λ us e. passed_gap r us k e)
 
-  pub passed_part : {a b : Sheet} {ms : List Mark} {x : Bool} {d : ℕ} (r : ℕ) (n : Tree) (ps : Parts) (y : Role) (xs : List Role) (alone : Bool) → not (W r) ≡ alone → parts_fit W (part n ps) (y ∷ xs) r ≡ true →
+  pub passed_part : {a b : View} {ms : List Mark} {x : Bool} {d : ℕ} (r : ℕ) (n : Tree) (ps : Parts) (y : Role) (xs : List Role) (alone : Bool) → not (W r) ≡ alone → parts_fit W (part n ps) (y ∷ xs) r ≡ true →
       (fits W n y r ≡ true → Printed W a b n y r d) → Passed W a b (here ∷ ms) ms (part n ps) ps (y ∷ xs) xs x alone d r
   passed_part {a} {b} {ms} {x} {d} r n ps y xs alone e k p =
       let u = both (fits W n y r) (parts_fit W ps xs (r + rows n y)) (sym (part_fit n ps y xs r) ∙ k) in
@@ -135,10 +135,10 @@ module _ (W : ℕ → Bool) where
         reads = q.reads;
         counts = add_assoc r (rows n y) (parts_rows ps xs) ∙ ap (λ m. r + m) (sym (part_rows n ps y xs));
         fit = u.1;
-        shows = λ next. q.shows (marks_text W ms ps xs (r + rows n y) d (not (W r)) ++ next) ∙ ap (shown a) (sym (append_assoc (layout W n y r d) (marks_text W ms ps xs (r + rows n y) d (not (W r))) next));
+        shows = λ next. leads_at (sym (append_assoc (layout W n y r d) (marks_text W ms ps xs (r + rows n y) d (not (W r))) next)) (q.shows (marks_text W ms ps xs (r + rows n y) d (not (W r)) ++ next));
       })
 
-  pub passed_some : {a b : Sheet} {ms : List Mark} {x : Bool} {d : ℕ} (ps : Parts) (i r : ℕ) (n : Tree) (y : Role) (xs : List Role) (alone : Bool) → Some n ≡ part_at ps i → Reads W r a.wraps.now → not (flag_at a.wraps.now 0) ≡ alone →
+  pub passed_some : {a b : View} {ms : List Mark} {x : Bool} {d : ℕ} (ps : Parts) (i r : ℕ) (n : Tree) (y : Role) (xs : List Role) (alone : Bool) → Some n ≡ part_at ps i → Reads W r a.flags → not (flag_at a.flags 0) ≡ alone →
       parts_fit W (parts_behind i ps) (y ∷ xs) r ≡ true → (fits W n y r ≡ true → Printed W a b n y r d) → Passed W a b (here ∷ ms) ms (parts_behind i ps) (parts_behind (suc i) ps) (y ∷ xs) xs x alone d r
   passed_some {a} {b} {ms} {x} {d} ps i r n y xs alone h g e k p =
       let step = some-suc ps i n h in

@@ -25,12 +25,12 @@ use Rattle.positions.specs.declared.position.Position.{Position}
 use Rattle.positions.specs.declared.position.Position.TheVariants as at
 use Rattle.positions.specs.Outlines.{role_of, parts_behind, is_before_last}
 use Rattle.positions.proofs.Bare.{none-bare, others-bare}
-use Rattle.printer.specs.declared.sheet.Sheet.{Sheet}
 use Rattle.printer.specs.declared.pieces.Sign.{Sign}
 use Rattle.printer.specs.declared.pieces.Sign.TheVariants.{Plus, Minus}
 use Rattle.printer.specs.Bits.{Mark, here, marks_of, Chain, Shape, before_bits, after_bits}
 use Rattle.printer.specs.Shapes.{expression_shape, shape_by, sign_of_text, sign_at, has_part, is_single, after_open_number, if_shape, try_shape, for_shape, declarator_shape, word_shape, braced_shape, case_shape, catch_shape, arrow_shape, class_shape, member_shape}
-use Rattle.printer.specs.Sheets.{Writes, shown}
+use Rattle.printer.specs.Sheets.{View, Writes}
+use Rattle.printer.proofs.Writing.{leads_then, leads_at}
 use Rattle.language.specs.Fits.{lines_up, parts_fit}
 use Rattle.printer.specs.Printed.{marks_in, chain_marks, front_marks, deep, shape_marks, marks_text, Reads, Printed, Direct, Written, spelled_so, signed_marks}
 use Rattle.printer.proofs.Layouts.{layout_marks}
@@ -230,11 +230,11 @@ module _ (W : ℕ → Bool) where
   first-roles (qs ∷ qss) = refl
 
   -- what was written of the marks is the layout
-  pub direct_by : {a b : Sheet} {ps : Parts} {qss : List (List (PieceOf Role))} {xs : List Role} {r d : ℕ} (M : List Mark) → marks_of (first_way qss) ≡ M → xs ≡ first_roles qss → lines_up (first_way qss) ps ≡ true →
+  pub direct_by : {a b : View} {ps : Parts} {qss : List (List (PieceOf Role))} {xs : List Role} {r d : ℕ} (M : List Mark) → marks_of (first_way qss) ≡ M → xs ≡ first_roles qss → lines_up (first_way qss) ps ≡ true →
       Written W a b M ps xs false d r → Direct W a b ps qss r d
   direct_by {a} {b} {ps} {qss} {xs} {r} {d} M e f v p = record {
-    reads = subst (λ zs. Reads W (r + parts_rows ps zs) b.wraps.now) f p.reads;
-    shows = λ next. p.shows next ∙ ap (λ t. shown a (t ++ next)) (sym whole);
+    reads = subst (λ zs. Reads W (r + parts_rows ps zs) b.flags) f p.reads;
+    shows = λ next. leads_at (ap (λ t. t ++ next) (sym whole)) (p.shows next);
   }
     where
       whole : parts_layout W ps (first_way qss) r d false ≡ marks_text W M ps xs r d false
@@ -250,11 +250,11 @@ module _ (W : ℕ → Bool) where
   layout_direct (node k w g s e ps) a r d h =
       ap (λ b. cond b (codes "(" ++ parts_layout W ps (first_way (ways (expr Expression true Any) (node k w g s e ps))) (suc r) d false ++ codes ")") (parts_layout W ps (first_way (ways a (node k w g s e ps))) (has_row a + r) d false)) h
 
-  pub printed_direct : {a b : Sheet} (p : Position) (n : Tree) (r d : ℕ) → (nat_eq (has_row (role_of p)) 1 && W r) ≡ false → some_way (ways (role_of p) n) ≡ true →
+  pub printed_direct : {a b : View} (p : Position) (n : Tree) (r d : ℕ) → (nat_eq (has_row (role_of p)) 1 && W r) ≡ false → some_way (ways (role_of p) n) ≡ true →
       Direct W a b (parts_of n) (ways (role_of p) n) (has_row (role_of p) + r) d → Printed W a b n (role_of p) r d
   printed_direct {a} {b} p n r d h u q = record {
-    reads = subst (λ m. Reads W m b.wraps.now) (rows_there p n r u) q.reads;
-    shows = λ next. q.shows next ∙ ap (λ t. shown a (t ++ next)) (sym (layout_direct n (role_of p) r d h));
+    reads = subst (λ m. Reads W m b.flags) (rows_there p n r u) q.reads;
+    shows = λ next. leads_at (ap (λ t. t ++ next) (sym (layout_direct n (role_of p) r d h))) (q.shows next);
   }
 
   layout_wrapped : (n : Tree) (a : Role) (r d : ℕ) → (nat_eq (has_row a) 1 && W r) ≡ true → layout W n a r d ≡ codes "(" ++ parts_layout W (parts_of n) (first_way (ways (expr Expression true Any) n)) (suc r) d false ++ codes ")"
@@ -266,13 +266,13 @@ module _ (W : ℕ → Bool) where
   wrapped_rows y i f n r h = let e = rows_inside (at.Expression Expression true Any) n h in let u = rows-widest n (expr y i f) in omega (arith, e, u)
 
   -- a node in parentheses
-  pub printed_wrapped : {a s t b : Sheet} (y : Rank) (i : Bool) (f : Start) (n : Tree) (r d : ℕ) → W r ≡ true → some_way (ways (expr Expression true Any) n) ≡ true →
+  pub printed_wrapped : {a s t b : View} (y : Rank) (i : Bool) (f : Start) (n : Tree) (r d : ℕ) → W r ≡ true → some_way (ways (expr Expression true Any) n) ≡ true →
       Writes a s (codes "(") → Direct W s t (parts_of n) (ways (expr Expression true Any) n) (suc r) d → Writes t b (codes ")") → Printed W a b n (expr y i f) r d
   printed_wrapped {a} {s} {t} {b} y i f n r d h u p q v = record {
-    reads = subst (λ m. Reads W m b.wraps.now) (wrapped_rows y i f n r u) (subst (Reads W _) (sym v.flags) q.reads);
+    reads = subst (λ m. Reads W m b.flags) (wrapped_rows y i f n r u) (subst (Reads W _) (sym v.flags) q.reads);
     shows = λ next.
-        v.follows next ∙ q.shows (codes ")" ++ next) ∙ p.follows (inner ++ (codes ")" ++ next))
-        ∙ ap (shown a) (sym (append_assoc (codes "(" ++ inner) (codes ")") next ∙ append_assoc (codes "(") inner (codes ")" ++ next)) ∙ ap (λ x. x ++ next) (sym (layout_wrapped n (expr y i f) r d h)));
+        leads_at (sym (append_assoc (codes "(" ++ inner) (codes ")") next ∙ append_assoc (codes "(") inner (codes ")" ++ next)) ∙ ap (λ x. x ++ next) (sym (layout_wrapped n (expr y i f) r d h)))
+        (leads_then (p.follows (inner ++ (codes ")" ++ next))) (leads_then (q.shows (codes ")" ++ next)) (v.follows next)));
   }
     where
       inner : List ℕ

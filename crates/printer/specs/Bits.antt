@@ -64,7 +64,8 @@ abbrev pub chain_of : serieses.Series → Chain
 chain_of series.Nothing = nothing
 chain_of series.Joined = joined
 chain_of series.Commas = commas
-chain_of (series.Parameters ps) = parameters (bits_of ps.now)
+chain_of series.Parameters = parameters (token (codes ")") ∷ token (codes " ") ∷ [])
+chain_of series.ArrowParameters = parameters (token (codes ")") ∷ token (codes " ") ∷ token (codes "=>") ∷ token (codes " ") ∷ [])
 chain_of series.Lines = lines
 chain_of series.Feeds = feeds
 

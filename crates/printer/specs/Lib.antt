@@ -2,5 +2,6 @@ pub mod Bits
 pub mod Fits
 pub mod Shapes
 pub mod Sheets
+pub mod Standings
 pub mod Printed
 pub mod Texts

@@ -5,10 +5,9 @@ use Rattle.language.specs.Pieces.{Role, PieceOf, is_none}
 use Rattle.language.specs.Positions.{rows, parts_rows, first_roles}
 use Rattle.language.specs.Layout.{some_way, indent, first_way, next_role, layout, parts_layout}
 use Rattle.positions.specs.Outlines.{parts_behind, is_before_last}
-use Rattle.printer.specs.declared.sheet.Sheet.{Sheet}
 use Rattle.printer.specs.Bits.{Mark, text, line, feed, deeper, shallower, loose, here, apart, Bit, token, own_text, newline, feeding, loosely, chunk, Chain, lines, Shape, before_bits, after_bits}
 use Rattle.language.specs.Fits.{lines_up, parts_fit}
-use Rattle.printer.specs.Sheets.{shown, flag_at, chunk_text, sign_code}
+use Rattle.printer.specs.Sheets.{View, Leads, flag_at, chunk_text, sign_code}
 use Rattle.printer.specs.declared.pieces.Sign.{Sign}
 
 -- Marks of a shape, at a node of this text
@@ -70,30 +69,30 @@ abbrev pub Reads : (ℕ → Bool) → ℕ → List Bool → Type 0
 Reads W r bs = (i : ℕ) → W (r + i) ≡ flag_at bs i
 
 -- a node was written, and its rows were passed
-pub record Printed (W : ℕ → Bool) (old new : Sheet) (n : Tree) (a : Role) (r d : ℕ) : Type 0 where
-  pub reads : Reads W (r + rows n a) new.wraps.now
-  pub shows : (next : List ℕ) → shown new next ≡ shown old (layout W n a r d ++ next)
+pub record Printed (W : ℕ → Bool) (old new : View) (n : Tree) (a : Role) (r d : ℕ) : Type 0 where
+  pub reads : Reads W (r + rows n a) new.flags
+  pub shows : (next : List ℕ) → Leads old new (layout W n a r d ++ next) next
 
 -- the same without parentheses
-pub record Direct (W : ℕ → Bool) (old new : Sheet) (ps : Parts) (qss : List (List (PieceOf Role))) (r d : ℕ) : Type 0 where
-  pub reads : Reads W (r + parts_rows ps (first_roles qss)) new.wraps.now
-  pub shows : (next : List ℕ) → shown new next ≡ shown old (parts_layout W ps (first_way qss) r d false ++ next)
+pub record Direct (W : ℕ → Bool) (old new : View) (ps : Parts) (qss : List (List (PieceOf Role))) (r d : ℕ) : Type 0 where
+  pub reads : Reads W (r + parts_rows ps (first_roles qss)) new.flags
+  pub shows : (next : List ℕ) → Leads old new (parts_layout W ps (first_way qss) r d false ++ next) next
 
 abbrev pub spelled_so : (ℕ → Bool) → Parts → List (List (PieceOf Role)) → ℕ → Bool
 spelled_so W ps qss r = some_way qss && (lines_up (first_way qss) ps && parts_fit W ps (first_roles qss) r)
 
 -- the first marks were written, and their parts and rows were passed
-pub record Passed (W : ℕ → Bool) (old new : Sheet) (ms ms' : List Mark) (ps ps' : Parts) (xs xs' : List Role) (b b' : Bool) (d r : ℕ) : Type 0 where
+pub record Passed (W : ℕ → Bool) (old new : View) (ms ms' : List Mark) (ps ps' : Parts) (xs xs' : List Role) (b b' : Bool) (d r : ℕ) : Type 0 where
   pub row : ℕ
-  pub reads : Reads W row new.wraps.now
+  pub reads : Reads W row new.flags
   pub counts : row + parts_rows ps' xs' ≡ r + parts_rows ps xs
   pub fit : parts_fit W ps' xs' row ≡ true
-  pub shows : (next : List ℕ) → shown new (marks_text W ms' ps' xs' row d b' ++ next) ≡ shown old (marks_text W ms ps xs r d b ++ next)
+  pub shows : (next : List ℕ) → Leads old new (marks_text W ms ps xs r d b ++ next) (marks_text W ms' ps' xs' row d b' ++ next)
 
 -- all marks were written, with their parts and rows
-pub record Written (W : ℕ → Bool) (old new : Sheet) (ms : List Mark) (ps : Parts) (xs : List Role) (b : Bool) (d r : ℕ) : Type 0 where
-  pub reads : Reads W (r + parts_rows ps xs) new.wraps.now
-  pub shows : (next : List ℕ) → shown new next ≡ shown old (marks_text W ms ps xs r d b ++ next)
+pub record Written (W : ℕ → Bool) (old new : View) (ms : List Mark) (ps : Parts) (xs : List Role) (b : Bool) (d r : ℕ) : Type 0 where
+  pub reads : Reads W (r + parts_rows ps xs) new.flags
+  pub shows : (next : List ℕ) → Leads old new (marks_text W ms ps xs r d b ++ next) next
 
 -- a sign, and its operand
 abbrev pub signed_marks : List ℕ → Sign → List Mark

@@ -1,5 +1,5 @@
 -- What stands round the parts of a node, by its kind.
-use Rattle.std.specs.Prelude.{ℕ, suc, Option, Some, None, Bool, true, false, not, cond, List, [], ◌∷◌, codes, is_some}
+use Rattle.std.specs.Prelude.{ℕ, suc, Option, Some, None, Bool, true, false, not, cond, ◌&&◌, List, [], ◌∷◌, codes, is_some}
 use Prim.Native.String.{String}
 use Rattle.tree.specs.declared.kind.Kind.{Kind}
 use Rattle.tree.specs.declared.kind.Kind.TheVariants as kind
@@ -265,6 +265,20 @@ shape_by (at.Chunk a b) k w g ps = fronted [] (chunk a b ∷ [])
 shape_by (at.Method x) k w g ps = method_shape
 shape_by (at.Head b) k w g ps = head_shape
 shape_by _ k w g ps = expression_shape k w g ps
+
+-- positions at which the shape is told by the node alone
+abbrev pub is_plain_at : Position → Bool
+is_plain_at at.Echo = false
+is_plain_at (at.Chunk a b) = false
+is_plain_at (at.Method x) = false
+is_plain_at (at.Head b) = false
+is_plain_at _ = true
+
+-- a name or a literal without parts, which is written as its own text
+abbrev pub is_word_at : Position → Kind → Parts → Bool
+is_word_at p kind.Identifier ps = is_none ps && is_plain_at p
+is_word_at p kind.Literal ps = is_none ps && is_plain_at p
+is_word_at p _ ps = false
 
 -- a prefix that may not touch its own sign
 abbrev pub sign_of_text : List ℕ → Option Sign

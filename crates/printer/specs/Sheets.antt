@@ -1,12 +1,12 @@
 -- Sheets
 use Rattle.std.specs.Prelude.{◌≡◌, ℕ, zero, suc, Bool, false, cond, nat_eq, slice_index_or, List, [], ◌∷◌, ◌++◌, codes, Option, Some, None}
-use Rattle.std.specs.String.{string_bytes}
 use Rattle.language.specs.Layout.{indent}
 use Rattle.printer.specs.declared.pieces.Sign.{Sign}
 use Rattle.printer.specs.declared.pieces.Sign.TheVariants.{Plus, Minus}
 use Rattle.printer.specs.declared.pieces.Piece.{Piece}
 use Rattle.printer.specs.declared.pieces.Piece.TheVariants as own
 use Rattle.printer.specs.declared.sheet.Sheet.{Sheet}
+use Rattle.printer.specs.Standings.{Standing, Stands}
 
 abbrev pub sign_code : Sign → ℕ
 sign_code Plus = 43
@@ -17,10 +17,6 @@ abbrev pub held : Option Sign → List ℕ → List ℕ
 held None t = t
 held (Some s) t = cond (nat_eq (slice_index_or t 0 0) (sign_code s)) (32 ∷ t) t
 
--- what is written once this follows
-abbrev pub shown : Sheet → List ℕ → List ℕ
-shown s next = string_bytes s.out ++ held s.apart next
-
 abbrev pub flag_at : List Bool → ℕ → Bool
 flag_at [] i = false
 flag_at (b ∷ bs) zero = b
@@ -30,10 +26,27 @@ abbrev pub other_flags : List Bool → List Bool
 other_flags [] = []
 other_flags (b ∷ bs) = bs
 
+-- a sheet beside what it is written to
+pub record View : Type 0 where
+  pub out : Standing
+  pub apart : Option Sign
+  pub flags : List Bool
+
+abbrev pub seen : Standing → Sheet → View
+seen out s = record { out = out; apart = s.apart; flags = s.wraps.now }
+
+-- since `before`, this whole text is written once `next` follows; or the writing failed behind a beginning
+abbrev pub Shows : Option (List ℕ) → View → List ℕ → List ℕ → Type 0
+Shows before v whole next = (sofar : List ℕ) × Stands before v.out sofar × (whole ≡ sofar ++ held v.apart next)
+
+-- once `later` follows, the new one shows what the old one showed once `sooner` followed
+pub record Leads (old new : View) (sooner later : List ℕ) : Type 0 where
+  pub leads : (before : Option (List ℕ)) (whole : List ℕ) → Shows before old whole sooner → Shows before new whole later
+
 -- this was written, and nothing else is changed
-pub record Writes (old new : Sheet) (t : List ℕ) : Type 0 where
-  pub follows : (next : List ℕ) → shown new next ≡ shown old (t ++ next)
-  pub flags : new.wraps.now ≡ old.wraps.now
+pub record Writes (old new : View) (t : List ℕ) : Type 0 where
+  pub follows : (next : List ℕ) → Leads old new (t ++ next) next
+  pub flags : new.flags ≡ old.flags
 
 abbrev pub chunk_text : Bool → Bool → List ℕ → List ℕ
 chunk_text a b w = codes (cond a "`" "}") ++ w ++ codes (cond b "`" "${")

@@ -1,5 +1,9 @@
 -- What the text of a tree is, with the nodes wrapped that the flags say.
-use Rattle.std.specs.Prelude.{◌≡◌, ℕ, Bool, true, List}
+use Rattle.std.specs.Prelude.{◌≡◌, ℕ, Bool, true, false, List, Option, Result, Ok, Err}
+use Rattle.std.specs.Io.KnownBytes.{Appends}
+use Rattle.source_text.specs.Writing.{AppendsBeginning}
+use Rattle.source_text.specs.declared.fault.Fault.{Fault}
+use Rattle.source_text.specs.declared.fault.Fault.TheVariants.{WriteFailed}
 use Rattle.tree.specs.Tree.{Tree}
 use Rattle.tree.specs.declared.kind.Pair.{Pair}
 use Rattle.language.specs.Pieces.{script}
@@ -16,5 +20,8 @@ IsLaid wraps n written = fits (wrapped_by wraps) n script 1 ≡ true → written
 abbrev pub IsFixed : List Bool → Tree → List ℕ → Type 0
 IsFixed wraps n written = (text : List ℕ) → (pairs : List Pair) → Derives text n pairs → IsPlanned wraps n → written ≡ fixed_text n
 
-abbrev pub IsPrinted : List Bool → Tree → List ℕ → Type 0
-IsPrinted wraps n written = IsLaid wraps n written × IsFixed wraps n written
+-- the whole text was written, or a beginning of it and the writer failed
+abbrev pub IsWritten : List ℕ → Result (Unit {0}) Fault → Option (List ℕ) → Option (List ℕ) → Bool → Type 0
+IsWritten text (Ok u) before after failed = Appends before after text × (failed ≡ false)
+IsWritten text (Err WriteFailed) before after failed = AppendsBeginning before after text × (failed ≡ true)
+IsWritten text (Err other) before after failed = ⊥

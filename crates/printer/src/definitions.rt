@@ -2,14 +2,13 @@
 
 ghost use Rattle.std.specs.Prelude.{◌≡◌};
 ghost use Rattle.tree.specs.Node.{node_tree};
-ghost use Rattle.tree.specs.Tree.{kind_of, text_of, flags_of, parts_of};
-ghost use Rattle.printer.specs.Bits.{shape_of, bits_of, chain_of};
-ghost use Rattle.printer.specs.Shapes.{definition_shape, method_shape, arrow_shape, is_single as is_single_arrow, class_shape, property_shape, class_member_shape, getter_shape, setter_shape, plain_shape, static_shape};
+ghost use Rattle.tree.specs.Tree.{kind_of, flags_of, parts_of};
+ghost use Rattle.printer.specs.Bits.{shape_of};
+ghost use Rattle.printer.specs.Shapes.{definition_shape, method_shape, arrow_shape, is_single as is_single_arrow, class_shape, property_shape, class_member_shape, value_shape, getter_shape, setter_shape, plain_shape, static_shape};
 
 use crate::blocks::block_frame;
-use crate::expressions::{keyed, value_frame};
-use crate::lists::{OPEN, function_list, has_part};
-use crate::pieces::{Frame, Piece, Series};
+use crate::lists::{COLON, END_BRACKET, OPEN, has_part};
+use crate::pieces::{Frame, Piece, Series, front_frame, list_frame};
 use tree::{Flags, Form, Kind, Node};
 
 const FUNCTION: &[Piece] = &[Piece::Token("function"), Piece::Space];
@@ -17,13 +16,6 @@ const FUNCTION: &[Piece] = &[Piece::Token("function"), Piece::Space];
 const CLASS: &[Piece] = &[Piece::Token("class"), Piece::Space];
 
 const ARROW: &[Piece] = &[Piece::Space, Piece::Token("=>"), Piece::Space];
-
-const CLOSE_ARROW: &[Piece] = &[
-    Piece::Token(")"),
-    Piece::Space,
-    Piece::Token("=>"),
-    Piece::Space,
-];
 
 const EXTENDS: &[Piece] = &[Piece::Token("extends"), Piece::Space];
 
@@ -67,14 +59,88 @@ const STATIC_SET_BRACKET: &[Piece] = &[
     Piece::Token("["),
 ];
 
-const END_BRACKET: &[Piece] = &[Piece::Token("]")];
+/// Parameters in their parentheses, and a body, behind a part that stands behind these pieces.
+macro_rules! function_frame {
+    ($front:expr) => {
+        Frame {
+            front: &[$front],
+            opener: OPEN,
+            series: Series::Parameters,
+            closer: &[],
+        }
+    };
+}
+
+static NAMED_FUNCTION: Frame = function_frame!(FUNCTION);
+
+static METHOD: Frame = function_frame!(&[]);
+
+static NAMED_ARROW: Frame = front_frame!(&[&[], ARROW], &[]);
+
+static LISTED_ARROW: Frame = list_frame!(OPEN, ArrowParameters, &[]);
+
+static NAMED_SUBCLASS: Frame = front_frame!(&[CLASS, SPACE_EXTENDS, &[Piece::Space]], &[]);
+
+static NAMED_CLASS: Frame = front_frame!(&[CLASS, &[Piece::Space], &[]], &[]);
+
+static SUBCLASS: Frame = front_frame!(&[CLASS, EXTENDS, &[Piece::Space]], &[]);
+
+static BARE_CLASS: Frame = front_frame!(&[CLASS, &[], &[]], &[]);
+
+static SHORTHAND: Frame = front_frame!(&[&[], &[]], &[]);
+
+static VALUE: Frame = front_frame!(&[&[], COLON], &[]);
+
+static COMPUTED_VALUE: Frame = front_frame!(
+    &[
+        &[Piece::Token("[")],
+        &[Piece::Token("]"), Piece::Token(":"), Piece::Space],
+    ],
+    &[]
+);
+
+static GETTER: Frame = front_frame!(&[GET, &[]], &[]);
+
+static COMPUTED_GETTER: Frame = front_frame!(
+    &[
+        &[Piece::Token("get"), Piece::Space, Piece::Token("[")],
+        END_BRACKET,
+    ],
+    &[]
+);
+
+static SETTER: Frame = front_frame!(&[SET, &[]], &[]);
+
+static COMPUTED_SETTER: Frame = front_frame!(
+    &[
+        &[Piece::Token("set"), Piece::Space, Piece::Token("[")],
+        END_BRACKET,
+    ],
+    &[]
+);
+
+static PLAIN: Frame = front_frame!(&[&[], &[]], &[]);
+
+static COMPUTED: Frame = front_frame!(&[&[Piece::Token("[")], END_BRACKET], &[]);
+
+static STATIC_GETTER: Frame = front_frame!(&[STATIC_GET, &[]], &[]);
+
+static COMPUTED_STATIC_GETTER: Frame = front_frame!(&[STATIC_GET_BRACKET, END_BRACKET], &[]);
+
+static STATIC_SETTER: Frame = front_frame!(&[STATIC_SET, &[]], &[]);
+
+static COMPUTED_STATIC_SETTER: Frame = front_frame!(&[STATIC_SET_BRACKET, END_BRACKET], &[]);
+
+static STATIC_METHOD: Frame = front_frame!(&[STATIC, &[]], &[]);
+
+static COMPUTED_STATIC_METHOD: Frame = front_frame!(&[STATIC_BRACKET, END_BRACKET], &[]);
 
 /// Functions, classes, properties and members.
-pub fn definition_frame(node: Node) -> Frame
-    ensures { shape_of result ≡ definition_shape (kind_of (node_tree node.entry)) (flags_of (node_tree node.entry)) (parts_of (node_tree node.entry)) }
+pub fn definition_frame(node: Node) -> &'static Frame
+    ensures { shape_of result.now ≡ definition_shape (kind_of (node_tree node.entry)) (flags_of (node_tree node.entry)) (parts_of (node_tree node.entry)) }
 {
     match node.kind() {
-        Kind::FunctionExpression | Kind::FunctionDeclaration => function_list(&[FUNCTION]),
+        Kind::FunctionExpression | Kind::FunctionDeclaration => &NAMED_FUNCTION,
         Kind::ArrowFunctionExpression => arrow_frame(is_single(node)),
         Kind::ClassExpression | Kind::ClassDeclaration => {
             class_frame(has_part(node, 0), has_part(node, 1))
@@ -86,19 +152,16 @@ pub fn definition_frame(node: Node) -> Frame
 }
 
 /// The function of a method, whose name is missing.
-pub fn method_frame() -> Frame
-    ensures { shape_of result ≡ method_shape }
+pub fn method_frame() -> &'static Frame
+    ensures { shape_of result.now ≡ method_shape }
 {
-    function_list(&[&[]])
+    &METHOD
 }
 
-fn arrow_frame(single: bool) -> Frame
-    ensures { shape_of result ≡ arrow_shape single }
+fn arrow_frame(single: bool) -> &'static Frame
+    ensures { shape_of result.now ≡ arrow_shape single }
 {
-    if single {
-        return Frame::of_front(&[&[], ARROW], &[]);
-    }
-    Frame::of_list(OPEN, Series::Parameters(CLOSE_ARROW), &[])
+    if single { &NAMED_ARROW } else { &LISTED_ARROW }
 }
 
 /// Whether an arrow has one parameter, which is a name.
@@ -115,31 +178,31 @@ fn is_single(node: Node) -> bool
 }
 
 /// A class, by whether it has a name and a heritage.
-fn class_frame(named: bool, extends: bool) -> Frame
-    ensures { shape_of result ≡ class_shape named extends }
+fn class_frame(named: bool, extends: bool) -> &'static Frame
+    ensures { shape_of result.now ≡ class_shape named extends }
 {
     match (named, extends) {
-        (true, true) => Frame::of_front(&[CLASS, SPACE_EXTENDS, &[Piece::Space]], &[]),
-        (true, false) => Frame::of_front(&[CLASS, &[Piece::Space], &[]], &[]),
-        (false, true) => { Frame::of_front(&[CLASS, EXTENDS, &[Piece::Space]], &[]) }
-        (false, false) => Frame::of_front(&[CLASS, &[], &[]], &[]),
+        (true, true) => &NAMED_SUBCLASS,
+        (true, false) => &NAMED_CLASS,
+        (false, true) => &SUBCLASS,
+        (false, false) => &BARE_CLASS,
     }
 }
 
-fn property_frame(flags: Flags) -> Frame
-    ensures { shape_of result ≡ property_shape flags.form flags.computed }
+fn property_frame(flags: Flags) -> &'static Frame
+    ensures { shape_of result.now ≡ property_shape flags.form flags.computed }
 {
     match flags.form {
         Form::Get => getter_frame(flags.computed),
         Form::Set => setter_frame(flags.computed),
         Form::Method | Form::Constructor => plain_frame(flags.computed),
-        Form::Shorthand => Frame::of_front(&[&[], &[]], &[]),
+        Form::Shorthand => &SHORTHAND,
         Form::Init => value_frame(flags.computed),
     }
 }
 
-fn member_frame(flags: Flags) -> Frame
-    ensures { shape_of result ≡ class_member_shape flags.is_static flags.form flags.computed }
+fn member_frame(flags: Flags) -> &'static Frame
+    ensures { shape_of result.now ≡ class_member_shape flags.is_static flags.form flags.computed }
 {
     match (flags.is_static, flags.form) {
         (false, Form::Get) => getter_frame(flags.computed),
@@ -149,56 +212,40 @@ fn member_frame(flags: Flags) -> Frame
     }
 }
 
-fn getter_frame(computed: bool) -> Frame
-    ensures { shape_of result ≡ getter_shape computed }
+/// A key and its value.
+fn value_frame(computed: bool) -> &'static Frame
+    ensures { shape_of result.now ≡ value_shape computed }
 {
-    keyed(
-        &[GET, &[]],
-        &[
-            &[Piece::Token("get"), Piece::Space, Piece::Token("[")],
-            END_BRACKET,
-        ],
-        computed,
-    )
+    if computed { &COMPUTED_VALUE } else { &VALUE }
 }
 
-fn setter_frame(computed: bool) -> Frame
-    ensures { shape_of result ≡ setter_shape computed }
+fn getter_frame(computed: bool) -> &'static Frame
+    ensures { shape_of result.now ≡ getter_shape computed }
 {
-    keyed(
-        &[SET, &[]],
-        &[
-            &[Piece::Token("set"), Piece::Space, Piece::Token("[")],
-            END_BRACKET,
-        ],
-        computed,
-    )
+    if computed { &COMPUTED_GETTER } else { &GETTER }
 }
 
-fn plain_frame(computed: bool) -> Frame
-    ensures { shape_of result ≡ plain_shape computed }
+fn setter_frame(computed: bool) -> &'static Frame
+    ensures { shape_of result.now ≡ setter_shape computed }
 {
-    keyed(&[&[], &[]], &[&[Piece::Token("[")], END_BRACKET], computed)
+    if computed { &COMPUTED_SETTER } else { &SETTER }
 }
 
-fn static_frame(form: Form, computed: bool) -> Frame
-    ensures { shape_of result ≡ static_shape form computed }
+fn plain_frame(computed: bool) -> &'static Frame
+    ensures { shape_of result.now ≡ plain_shape computed }
 {
-    match form {
-        Form::Get => {
-            keyed(
-                &[STATIC_GET, &[]],
-                &[STATIC_GET_BRACKET, END_BRACKET],
-                computed,
-            )
-        }
-        Form::Set => {
-            keyed(
-                &[STATIC_SET, &[]],
-                &[STATIC_SET_BRACKET, END_BRACKET],
-                computed,
-            )
-        }
-        _ => keyed(&[STATIC, &[]], &[STATIC_BRACKET, END_BRACKET], computed),
+    if computed { &COMPUTED } else { &PLAIN }
+}
+
+fn static_frame(form: Form, computed: bool) -> &'static Frame
+    ensures { shape_of result.now ≡ static_shape form computed }
+{
+    match (form, computed) {
+        (Form::Get, false) => &STATIC_GETTER,
+        (Form::Get, true) => &COMPUTED_STATIC_GETTER,
+        (Form::Set, false) => &STATIC_SETTER,
+        (Form::Set, true) => &COMPUTED_STATIC_SETTER,
+        (_, false) => &STATIC_METHOD,
+        (_, true) => &COMPUTED_STATIC_METHOD,
     }
 }

@@ -1,17 +1,19 @@
 //! What stands round the parts of expressions and patterns.
 
-ghost use Rattle.std.specs.Prelude.{◌≡◌, cond, not, map, []};
+ghost use Rattle.std.specs.Prelude.{◌≡◌, not};
 ghost use Rattle.tree.specs.Node.{node_tree};
 ghost use Rattle.tree.specs.Tree.{kind_of, text_of, flags_of, parts_of};
-ghost use Rattle.printer.specs.Bits.{shape_of, bits_of, chain_of, fronted};
+ghost use Rattle.printer.specs.Bits.{shape_of};
 ghost use Rattle.language.specs.Words.{is_word_operator as is_operator_word, is_open_number as is_open_number_text, literal_class as class_of_literal};
-ghost use Rattle.printer.specs.Shapes.{expression_shape, operation_shape, update_shape, unary_shape, after_open_number, is_open_literal, member_shape, call_shape, value_shape};
+ghost use Rattle.printer.specs.Shapes.{expression_shape, operation_shape, update_shape, unary_shape, after_open_number, is_open_literal, member_shape, call_shape};
 
 use crate::definitions::definition_frame;
-use crate::lists::{CLOSE, COLON, OPEN, call_list};
-use crate::pieces::{Frame, Piece, Series};
+use crate::lists::{CLOSE, END_BRACKET, OPEN};
+use crate::pieces::{Frame, Piece, Series, front_frame, list_frame};
 use tokens::Class;
 use tree::{Flags, Kind, Node};
+
+const OWN: &[Piece] = &[Piece::Own];
 
 const INFIX: &[Piece] = &[Piece::Space, Piece::Own, Piece::Space];
 
@@ -19,77 +21,133 @@ const EQUALS: &[Piece] = &[Piece::Space, Piece::Token("="), Piece::Space];
 
 const DOTS: &[Piece] = &[Piece::Token("...")];
 
+const BRACKET: &[Piece] = &[Piece::Token("[")];
+
+/// Arguments behind a part.
+macro_rules! arguments_frame {
+    ($front:expr, $opener:expr) => {
+        Frame {
+            front: $front,
+            opener: $opener,
+            series: Series::Commas,
+            closer: CLOSE,
+        }
+    };
+}
+
+static WORD: Frame = front_frame!(&[], OWN);
+
+static THIS: Frame = front_frame!(&[], &[Piece::Token("this")]);
+
+static SUPER: Frame = front_frame!(&[], &[Piece::Token("super")]);
+
+static ARRAY: Frame = list_frame!(BRACKET, Commas, END_BRACKET);
+
+static OBJECT: Frame = list_frame!(&[Piece::Token("{")], Commas, &[Piece::Token("}")]);
+
+static TEMPLATE: Frame = list_frame!(&[], Joined, &[]);
+
+static SPREAD: Frame = front_frame!(&[DOTS], &[]);
+
+static DEFAULTED: Frame = front_frame!(&[&[], EQUALS], &[]);
+
+static TAGGED: Frame = front_frame!(&[&[], &[]], &[]);
+
+static CHAIN: Frame = front_frame!(&[&[]], &[]);
+
+static IMPORT: Frame = front_frame!(&[&[Piece::Token("import"), Piece::Token("(")]], CLOSE);
+
+static META_PROPERTY: Frame = front_frame!(&[&[], &[Piece::Token(".")]], &[]);
+
+static PREFIX: Frame = front_frame!(&[OWN], &[]);
+
+static POSTFIX: Frame = front_frame!(&[&[]], OWN);
+
+static WORD_PREFIX: Frame = front_frame!(&[&[Piece::Own, Piece::Space]], &[]);
+
+static BINARY: Frame = front_frame!(&[&[], INFIX], &[]);
+
+static CONDITIONAL: Frame = front_frame!(
+    &[
+        &[],
+        &[Piece::Space, Piece::Token("?"), Piece::Space],
+        &[Piece::Space, Piece::Token(":"), Piece::Space],
+    ],
+    &[]
+);
+
+static SEQUENCE: Frame = list_frame!(&[], Commas, &[]);
+
+static MEMBER: Frame = front_frame!(&[&[], &[Piece::Token(".")]], &[]);
+
+static NUMBER_MEMBER: Frame = front_frame!(&[&[], &[Piece::Loose, Piece::Token(".")]], &[]);
+
+static OPTIONAL_MEMBER: Frame = front_frame!(&[&[], &[Piece::Token("?.")]], &[]);
+
+static COMPUTED_MEMBER: Frame = front_frame!(&[&[], BRACKET], END_BRACKET);
+
+static OPTIONAL_COMPUTED_MEMBER: Frame = front_frame!(
+    &[&[], &[Piece::Token("?."), Piece::Token("[")]],
+    END_BRACKET
+);
+
+static CALL: Frame = arguments_frame!(&[&[]], OPEN);
+
+static OPTIONAL_CALL: Frame = arguments_frame!(&[&[]], &[Piece::Token("?."), Piece::Token("(")]);
+
+static NEW: Frame = arguments_frame!(&[&[Piece::Token("new"), Piece::Space]], OPEN);
+
 /// Words, lists and templates.
-pub fn expression_frame(node: Node) -> Frame
-    ensures { shape_of result ≡ expression_shape (kind_of (node_tree node.entry)) (text_of (node_tree node.entry)) (flags_of (node_tree node.entry)) (parts_of (node_tree node.entry)) }
+pub fn expression_frame(node: Node) -> &'static Frame
+    ensures { shape_of result.now ≡ expression_shape (kind_of (node_tree node.entry)) (text_of (node_tree node.entry)) (flags_of (node_tree node.entry)) (parts_of (node_tree node.entry)) }
 {
     match node.kind() {
-        Kind::Identifier | Kind::Literal => Frame::leaf(&[Piece::Own]),
-        Kind::ThisExpression => Frame::leaf(&[Piece::Token("this")]),
-        Kind::Super => Frame::leaf(&[Piece::Token("super")]),
-        Kind::ArrayExpression | Kind::ArrayPattern => {
-            Frame::of_list(&[Piece::Token("[")], Series::Commas, &[Piece::Token("]")])
-        }
-        Kind::ObjectExpression | Kind::ObjectPattern => {
-            Frame::of_list(&[Piece::Token("{")], Series::Commas, &[Piece::Token("}")])
-        }
-        Kind::TemplateLiteral => Frame::of_list(&[], Series::Joined, &[]),
-        Kind::SpreadElement | Kind::RestElement => Frame::of_front(&[DOTS], &[]),
-        Kind::AssignmentPattern => Frame::of_front(&[&[], EQUALS], &[]),
-        Kind::TaggedTemplateExpression => Frame::of_front(&[&[], &[]], &[]),
-        Kind::ChainExpression => Frame::of_front(&[&[]], &[]),
-        Kind::ImportExpression => {
-            Frame::of_front(&[&[Piece::Token("import"), Piece::Token("(")]], CLOSE)
-        }
-        Kind::MetaProperty => Frame::of_front(&[&[], &[Piece::Token(".")]], &[]),
+        Kind::Identifier | Kind::Literal => &WORD,
+        Kind::ThisExpression => &THIS,
+        Kind::Super => &SUPER,
+        Kind::ArrayExpression | Kind::ArrayPattern => &ARRAY,
+        Kind::ObjectExpression | Kind::ObjectPattern => &OBJECT,
+        Kind::TemplateLiteral => &TEMPLATE,
+        Kind::SpreadElement | Kind::RestElement => &SPREAD,
+        Kind::AssignmentPattern => &DEFAULTED,
+        Kind::TaggedTemplateExpression => &TAGGED,
+        Kind::ChainExpression => &CHAIN,
+        Kind::ImportExpression => &IMPORT,
+        Kind::MetaProperty => &META_PROPERTY,
         _ => operation_frame(node),
     }
 }
 
 /// Operations, members and calls.
-fn operation_frame(node: Node) -> Frame
-    ensures { shape_of result ≡ operation_shape (kind_of (node_tree node.entry)) (text_of (node_tree node.entry)) (flags_of (node_tree node.entry)) (parts_of (node_tree node.entry)) }
+fn operation_frame(node: Node) -> &'static Frame
+    ensures { shape_of result.now ≡ operation_shape (kind_of (node_tree node.entry)) (text_of (node_tree node.entry)) (flags_of (node_tree node.entry)) (parts_of (node_tree node.entry)) }
 {
     match node.kind() {
         Kind::UpdateExpression => update_frame(node.flags().prefix),
         Kind::UnaryExpression => unary_frame(node.text()),
-        Kind::BinaryExpression | Kind::LogicalExpression | Kind::AssignmentExpression => {
-            Frame::of_front(&[&[], INFIX], &[])
-        }
-        Kind::ConditionalExpression => {
-            Frame::of_front(
-                &[
-                    &[],
-                    &[Piece::Space, Piece::Token("?"), Piece::Space],
-                    &[Piece::Space, Piece::Token(":"), Piece::Space],
-                ],
-                &[],
-            )
-        }
-        Kind::SequenceExpression => Frame::of_list(&[], Series::Commas, &[]),
+        Kind::BinaryExpression | Kind::LogicalExpression | Kind::AssignmentExpression => &BINARY,
+        Kind::ConditionalExpression => &CONDITIONAL,
+        Kind::SequenceExpression => &SEQUENCE,
         Kind::MemberExpression => member_frame(node.flags(), is_open_number(node)),
         Kind::CallExpression => call_frame(node.flags().optional),
-        Kind::NewExpression => call_list(&[&[Piece::Token("new"), Piece::Space]], OPEN),
+        Kind::NewExpression => &NEW,
         _ => definition_frame(node),
     }
 }
 
-fn update_frame(prefix: bool) -> Frame
-    ensures { shape_of result ≡ update_shape prefix }
+fn update_frame(prefix: bool) -> &'static Frame
+    ensures { shape_of result.now ≡ update_shape prefix }
 {
-    if prefix {
-        return Frame::of_front(&[&[Piece::Own]], &[]);
-    }
-    Frame::of_front(&[&[]], &[Piece::Own])
+    if prefix { &PREFIX } else { &POSTFIX }
 }
 
-fn unary_frame(text: &str) -> Frame
-    ensures { shape_of result ≡ unary_shape text.now }
+fn unary_frame(text: &str) -> &'static Frame
+    ensures { shape_of result.now ≡ unary_shape text.now }
 {
     if is_word_operator(text) {
-        return Frame::of_front(&[&[Piece::Own, Piece::Space]], &[]);
+        return &WORD_PREFIX;
     }
-    Frame::of_front(&[&[Piece::Own]], &[])
+    &PREFIX
 }
 
 fn is_word_operator(text: &str) -> bool
@@ -149,58 +207,20 @@ fn literal_class(raw: &str) -> Class
     }
 }
 
-fn member_frame(flags: Flags, after_number: bool) -> Frame
-    ensures { shape_of result ≡ member_shape flags.optional flags.computed after_number }
+fn member_frame(flags: Flags, after_number: bool) -> &'static Frame
+    ensures { shape_of result.now ≡ member_shape flags.optional flags.computed after_number }
 {
     match (flags.optional, flags.computed) {
-        (false, true) => Frame::of_front(&[&[], &[Piece::Token("[")]], &[Piece::Token("]")]),
-        (true, true) => {
-            Frame::of_front(
-                &[&[], &[Piece::Token("?."), Piece::Token("[")]],
-                &[Piece::Token("]")],
-            )
-        }
-        (true, false) => Frame::of_front(&[&[], &[Piece::Token("?.")]], &[]),
-        (false, false) if after_number => {
-            Frame::of_front(&[&[], &[Piece::Loose, Piece::Token(".")]], &[])
-        }
-        (false, false) => Frame::of_front(&[&[], &[Piece::Token(".")]], &[]),
+        (false, true) => &COMPUTED_MEMBER,
+        (true, true) => &OPTIONAL_COMPUTED_MEMBER,
+        (true, false) => &OPTIONAL_MEMBER,
+        (false, false) if after_number => &NUMBER_MEMBER,
+        (false, false) => &MEMBER,
     }
 }
 
-fn call_frame(optional: bool) -> Frame
-    ensures { shape_of result ≡ call_shape optional }
+fn call_frame(optional: bool) -> &'static Frame
+    ensures { shape_of result.now ≡ call_shape optional }
 {
-    if optional {
-        return call_list(&[&[]], &[Piece::Token("?."), Piece::Token("(")]);
-    }
-    call_list(&[&[]], OPEN)
-}
-
-/// A property of an object or of a pattern, with what stands before the key and behind it.
-pub fn keyed(
-    plain: &'static [&'static [Piece]],
-    bracketed: &'static [&'static [Piece]],
-    computed: bool,
-) -> Frame
-    ensures { shape_of result ≡ fronted (cond computed (map (λ p. bits_of p.now) bracketed.now) (map (λ p. bits_of p.now) plain.now)) [] }
-{
-    if computed {
-        return Frame::of_front(bracketed, &[]);
-    }
-    Frame::of_front(plain, &[])
-}
-
-/// A key and its value.
-pub fn value_frame(computed: bool) -> Frame
-    ensures { shape_of result ≡ value_shape computed }
-{
-    keyed(
-        &[&[], COLON],
-        &[
-            &[Piece::Token("[")],
-            &[Piece::Token("]"), Piece::Token(":"), Piece::Space],
-        ],
-        computed,
-    )
+    if optional { &OPTIONAL_CALL } else { &CALL }
 }

@@ -10,6 +10,7 @@ mod lists;
 mod output;
 mod pieces;
 mod printer;
+mod room;
 mod sheet;
 mod statements;
 

@@ -1,32 +1,33 @@
 //! The text of a tree, to a writer.
 
-ghost use Rattle.std.specs.Prelude.{◌≡◌, ℕ, List, false};
-ghost use Rattle.source_text.specs.Writing.{WritesMade};
-ghost use Rattle.printer.specs.Texts.{IsPrinted};
+ghost use Rattle.std.specs.Prelude.{◌≡◌, ℕ, List, true, false};
+ghost use Rattle.tree.specs.declared.kind.Pair.{Pair};
+ghost use Rattle.language.specs.Pieces.{script};
+ghost use Rattle.language.specs.Layout.{layout, fixed_text};
+ghost use Rattle.language.specs.Claims.{Derives};
+ghost use Rattle.language.specs.Fits.{fits};
+ghost use Rattle.printer.specs.Fits.{wrapped_by, IsPlanned};
+ghost use Rattle.printer.specs.Texts.{IsWritten};
 
-use crate::printer::print_text;
-use source_text::{DeviceFault, Fault, Sink, write_text};
-use std::alloc::Global;
+use crate::printer::print_whole;
+use source_text::{Fault, Sink};
 use tree::Program;
 
-/// Writes the text of a script as `print_text` makes it. The whole text is made before the first byte is written, and what was
-/// written is always a beginning of it.
+/// Writes the text of a script as `print_text` makes it, while it walks the tree, in pieces of at most `PIECE` bytes. It
+/// takes no memory. What was written is always a beginning of the text.
 ///
 /// # Errors
 ///
-/// `OutOfMemory`, with nothing written, and `WriteFailed` where the writer fails, which is not asked again.
-pub fn print<W: Sink>(
-    alloc: Global,
-    program: &Program<'_>,
-    wraps: &[bool],
-    writer: &mut W,
-) -> Result<(), Fault>
-    requires { W.failed writer.old ≡ false }
-    ensures { (text : List ℕ) × IsPrinted wraps.now program.now text × WritesMade text result (W.taken writer.old) (W.taken writer.new) (W.failed writer.new) }
+/// `WriteFailed` where the writer fails, which is not asked again.
+pub fn print<W: Sink>(program: &Program<'_>, wraps: &[bool], writer: &mut W) -> Result<(), Fault>
+    requires ready { W.failed writer.old ≡ false }
+    ensures some { (text : List ℕ) × IsWritten text result (W.taken writer.old) (W.taken writer.new) (W.failed writer.new) }
+    ensures laid { fits (wrapped_by wraps.now) program.now script 1 ≡ true → IsWritten (layout (wrapped_by wraps.now) program.now script 1 0) result (W.taken writer.old) (W.taken writer.new) (W.failed writer.new) }
+    ensures fixed { (text : List ℕ) → (pairs : List Pair) → Derives text program.now pairs → IsPlanned wraps.now program.now → IsWritten (fixed_text program.now) result (W.taken writer.old) (W.taken writer.new) (W.failed writer.new) }
 {
-    let text = print_text(alloc, program, wraps)?;
-    match write_text(text.as_bytes(), writer) {
-        Ok(()) => Ok(()),
-        Err(DeviceFault) => Err(Fault::WriteFailed),
+    print_whole(program, wraps, writer);
+    if writer.has_failed() {
+        return Err(Fault::WriteFailed);
     }
+    Ok(())
 }

@@ -1,7 +1,7 @@
 //! Pieces of a node's text.
 
-ghost use Rattle.std.specs.Prelude.{◌≡◌, [], map, nat_eq};
-ghost use Rattle.printer.specs.Bits.{bits_of, chain_of, shape_of, fronted, listed, before_bits, after_bits};
+ghost use Rattle.std.specs.Prelude.{◌≡◌, nat_eq};
+ghost use Rattle.printer.specs.Bits.{bits_of, chain_of, before_bits, after_bits};
 
 /// What stands between the parts of a node.
 #[derive(Clone, Copy)]
@@ -31,8 +31,10 @@ pub enum Series {
     Joined,
     /// With commas between them; behind a hole stands a comma of its own.
     Commas,
-    /// Parameters with commas between them; then these pieces, and the body.
-    Parameters(&'static [Piece]),
+    /// Parameters with commas between them; then `)` and the body.
+    Parameters,
+    /// The same of an arrow function, with `=>` before the body.
+    ArrowParameters,
     /// Each on a line of its own, a level deeper.
     Lines,
     /// Each with a line feed behind it.
@@ -69,45 +71,49 @@ const LINE: &[Piece] = &[Piece::Line];
 
 const FEED: &[Piece] = &[Piece::Feed];
 
-impl Frame {
-    /// A node with no parts but these.
-    pub fn of_front(front: &'static [&'static [Piece]], closer: &'static [Piece]) -> Frame
-        ensures { shape_of result ≡ fronted (map (λ p. bits_of p.now) front.now) (bits_of closer.now) }
-    {
-        Frame {
-            front,
-            opener: NO_PIECES,
-            series: Series::Nothing,
-            closer,
-        }
-    }
+const CLOSE_SPACE: &[Piece] = &[Piece::Token(")"), Piece::Space];
 
-    /// A node with no parts.
-    pub fn leaf(closer: &'static [Piece]) -> Frame
-        ensures { shape_of result ≡ fronted [] (bits_of closer.now) }
-    {
-        Frame::of_front(&[], closer)
-    }
+const CLOSE_ARROW: &[Piece] = &[
+    Piece::Token(")"),
+    Piece::Space,
+    Piece::Token("=>"),
+    Piece::Space,
+];
 
-    /// A node that is a list.
-    pub fn of_list(opener: &'static [Piece], series: Series, closer: &'static [Piece]) -> Frame
-        ensures { shape_of result ≡ listed (bits_of opener.now) (chain_of series) (bits_of closer.now) }
-    {
-        Frame {
-            front: &[],
-            opener,
-            series,
-            closer,
+/// A node with no parts but these.
+macro_rules! front_frame {
+    ($front:expr, $closer:expr) => {
+        $crate::pieces::Frame {
+            front: $front,
+            opener: &[],
+            series: $crate::pieces::Series::Nothing,
+            closer: $closer,
         }
-    }
+    };
 }
+
+/// A node that is a list.
+macro_rules! list_frame {
+    ($opener:expr, $series:ident, $closer:expr) => {
+        $crate::pieces::Frame {
+            front: &[],
+            opener: $opener,
+            series: $crate::pieces::Series::$series,
+            closer: $closer,
+        }
+    };
+}
+
+pub(crate) use front_frame;
+pub(crate) use list_frame;
 
 /// What stands before a part of a list.
 pub fn before(series: Series, is_last: bool) -> &'static [Piece]
     ensures { bits_of result.now ≡ before_bits (chain_of series) is_last }
 {
     match series {
-        Series::Parameters(close) if is_last => close,
+        Series::Parameters if is_last => CLOSE_SPACE,
+        Series::ArrowParameters if is_last => CLOSE_ARROW,
         Series::Lines => LINE,
         _ => NO_PIECES,
     }
@@ -120,7 +126,7 @@ pub fn after(series: Series, is_gap: bool, behind: usize) -> &'static [Piece]
     match series {
         Series::Commas if behind > 0 => SEPARATOR,
         Series::Commas if is_gap => COMMA,
-        Series::Parameters(_) if behind > 1 => SEPARATOR,
+        Series::Parameters | Series::ArrowParameters if behind > 1 => SEPARATOR,
         Series::Feeds => FEED,
         _ => NO_PIECES,
     }

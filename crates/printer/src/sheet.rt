@@ -1,17 +1,20 @@
-//! What is written, and what is left of the rows.
+//! What is left of the rows, and what is written by them.
 
-ghost use Rattle.std.specs.Prelude.{codes, cond, ◌≡◌, ◌∷◌, ◌++◌, ℕ, List, [], None, Some, OnOk, IfOk};
-ghost use Rattle.std.specs.String.{string_bytes};
+ghost use Rattle.std.specs.Prelude.{codes, cond, ◌≡◌, ◌<◌, ◌∷◌, ◌++◌, ℕ, List, [], None, Some};
 ghost use Rattle.language.specs.Layout.{indent};
-ghost use Rattle.printer.specs.Sheets.{Writes, held, shown, sign_code, flag_at, other_flags, chunk_text, piece_text, pieces_text};
+ghost use Rattle.printer.specs.Standings.{Puts};
+ghost use Rattle.printer.specs.Sheets.{Writes, seen, held, sign_code, flag_at, other_flags, chunk_text, piece_text, pieces_text};
 
 use crate::pieces::{Piece, Sign};
-use std::alloc::{AllocError, Global};
+use crate::room::{Outlet, Room};
 
-/// The text that is written so far.
+/// The levels of depth that one text has.
+const LEVELS: usize = 8;
+
+/// What waits to be written, and what is left of the flags.
 #[derive(Drop)]
 pub struct Sheet<'w> {
-    out: String,
+    room: Room,
     /// A space comes first where what follows begins with this sign.
     apart: Option<Sign>,
     /// Whether the node of each row is wrapped, from the next row on.
@@ -20,56 +23,61 @@ pub struct Sheet<'w> {
 
 impl<'w> Sheet<'w> {
     /// Before anything is written.
-    pub fn new(alloc: Global, room: usize, wraps: &'w [bool]) -> Result<Sheet<'w>, AllocError>
-        ensures out { IfOk result (λ s. string_bytes s.out ≡ []) }
-        ensures apart { IfOk result (λ s. s.apart ≡ None) }
-        ensures wraps { IfOk result (λ s. s.wraps.now ≡ wraps.now) }
+    pub fn new(wraps: &'w [bool]) -> Sheet<'w>
+        ensures room { result.room ≡ [] }
+        ensures apart { result.apart ≡ None }
+        ensures wraps { result.wraps.now ≡ wraps.now }
     {
-        Ok(Sheet {
-            out: String::with_capacity(alloc, room)?,
+        Sheet {
+            room: Room::new(),
             apart: None,
             wraps,
-        })
+        }
     }
 
-    /// What was written.
-    pub fn into_text(self) -> String
-        ensures { string_bytes result ≡ string_bytes self.entry.out }
+    /// Writes all that waits.
+    pub fn finish<O: Outlet>(&mut self, out: &mut O)
+        ensures done { Puts (O.stands out.old self.old.room) (O.stands out.new []) [] }
     {
-        self.out
+        out.finish(&mut self.room);
     }
 
     /// Writes some characters.
-    pub fn push(&mut self, text: &str) -> Result<(), AllocError>
-        ensures written { OnOk result (Writes self.old self.new text.now) }
-        ensures parted { OnOk result (¬ (text.now ≡ []) → self.new.apart ≡ None) }
+    pub fn push<O: Outlet>(&mut self, text: &str, out: &mut O)
+        ensures written { Writes (seen (O.stands out.old self.old.room) self.old) (seen (O.stands out.new self.new.room) self.new) text.now }
+        ensures parted { ¬ (text.now ≡ []) → self.new.apart ≡ None }
     {
-        if let Some(sign) = self.apart {
-            let Some(first) = text.as_bytes().first() else {
-                return Ok(());
-            };
-            self.apart = None;
-            if *first == code_of(sign) {
-                self.out.push_str(" ")?;
-            }
+        let Some(sign) = self.apart else {
+            out.put(&mut self.room, text);
+            return;
+        };
+        let Some(first) = text.as_bytes().first() else {
+            return;
+        };
+        self.apart = None;
+        if *first == code_of(sign) {
+            out.put(&mut self.room, " ");
+            out.put(&mut self.room, text);
+            return;
         }
-        self.out.push_str(text)
+        out.put(&mut self.room, text);
     }
 
-    /// Begins a line at a depth of so many levels.
-    fn push_line(&mut self, depth: usize) -> Result<(), AllocError>
-        ensures { OnOk result (Writes self.old self.new (10 ∷ indent depth)) }
+    /// Begins a line at a depth of so many levels, by one text for fewer than `LEVELS` of them, and one more for each `LEVELS`.
+    fn push_line<O: Outlet>(&mut self, depth: usize, out: &mut O)
+        ensures { Writes (seen (O.stands out.old self.old.room) self.old) (seen (O.stands out.new self.new.room) self.new) (10 ∷ indent depth) }
     {
-        self.push("\n")?;
-        for _ in 0..depth {
-            self.push("  ")?;
+        if depth < LEVELS {
+            self.push(line_start(depth), out);
+            return;
         }
-        Ok(())
+        self.push_line(depth - LEVELS, out);
+        self.push("                ", out);
     }
 
     /// Parts what follows from this sign.
     pub fn set_apart(&mut self, sign: Sign)
-        ensures out { string_bytes self.new.out ≡ string_bytes self.old.out }
+        ensures room { self.new.room ≡ self.old.room }
         ensures apart { self.new.apart ≡ Some sign }
         ensures wraps { self.new.wraps.now ≡ self.old.wraps.now }
     {
@@ -78,7 +86,7 @@ impl<'w> Sheet<'w> {
 
     /// Parts nothing.
     pub fn join(&mut self)
-        ensures out { string_bytes self.new.out ≡ string_bytes self.old.out }
+        ensures room { self.new.room ≡ self.old.room }
         ensures apart { self.new.apart ≡ None }
         ensures wraps { self.new.wraps.now ≡ self.old.wraps.now }
     {
@@ -99,7 +107,7 @@ impl<'w> Sheet<'w> {
     pub fn next_row(&mut self) -> bool
         ensures flag { result ≡ flag_at self.old.wraps.now 0 }
         ensures others { self.new.wraps.now ≡ other_flags self.old.wraps.now }
-        ensures out { string_bytes self.new.out ≡ string_bytes self.old.out }
+        ensures room { self.new.room ≡ self.old.room }
         ensures apart { self.new.apart ≡ self.old.apart }
     {
         match self.wraps.split_first() {
@@ -112,48 +120,49 @@ impl<'w> Sheet<'w> {
     }
 
     /// Writes the pieces of a node of this text, which stand at a depth; `alone` says that the part before isn't wrapped.
-    pub fn push_all(
+    pub fn push_all<O: Outlet>(
         &mut self,
         pieces: &[Piece],
         text: &str,
         depth: usize,
         alone: bool,
-    ) -> Result<(), AllocError>
-        ensures { OnOk result (Writes self.old self.new (pieces_text text.now depth alone pieces.now)) }
+        out: &mut O,
+    )
+        ensures { Writes (seen (O.stands out.old self.old.room) self.old) (seen (O.stands out.new self.new.room) self.new) (pieces_text text.now depth alone pieces.now) }
     {
         for piece in pieces {
-            self.push_piece(*piece, text, depth, alone)?;
+            self.push_piece(*piece, text, depth, alone, out);
         }
-        Ok(())
     }
 
-    fn push_piece(
+    fn push_piece<O: Outlet>(
         &mut self,
         piece: Piece,
         text: &str,
         depth: usize,
         alone: bool,
-    ) -> Result<(), AllocError>
-        ensures { OnOk result (Writes self.old self.new (piece_text text.now depth alone piece)) }
+        out: &mut O,
+    )
+        ensures { Writes (seen (O.stands out.old self.old.room) self.old) (seen (O.stands out.new self.new.room) self.new) (piece_text text.now depth alone piece) }
     {
         match piece {
-            Piece::Token(token) => self.push(token),
-            Piece::Own => self.push(text),
-            Piece::Chunk { is_first, is_last } => self.push_chunk(text, is_first, is_last),
-            Piece::Space => self.push(" "),
-            Piece::Line => self.push_line(depth),
-            Piece::Feed => self.push("\n"),
-            Piece::Loose if alone => self.push(" "),
-            Piece::Loose => Ok(()),
+            Piece::Token(token) => self.push(token, out),
+            Piece::Own => self.push(text, out),
+            Piece::Chunk { is_first, is_last } => self.push_chunk(text, is_first, is_last, out),
+            Piece::Space => self.push(" ", out),
+            Piece::Line => self.push_line(depth, out),
+            Piece::Feed => self.push("\n", out),
+            Piece::Loose if alone => self.push(" ", out),
+            Piece::Loose => {}
         }
     }
 
-    fn push_chunk(&mut self, text: &str, is_first: bool, is_last: bool) -> Result<(), AllocError>
-        ensures { OnOk result (Writes self.old self.new (chunk_text is_first is_last text.now)) }
+    fn push_chunk<O: Outlet>(&mut self, text: &str, is_first: bool, is_last: bool, out: &mut O)
+        ensures { Writes (seen (O.stands out.old self.old.room) self.old) (seen (O.stands out.new self.new.room) self.new) (chunk_text is_first is_last text.now) }
     {
-        self.push(chunk_start(is_first))?;
-        self.push(text)?;
-        self.push(chunk_end(is_last))
+        self.push(chunk_start(is_first), out);
+        self.push(text, out);
+        self.push(chunk_end(is_last), out);
     }
 }
 
@@ -163,6 +172,23 @@ fn code_of(sign: Sign) -> u8
     match sign {
         Sign::Plus => b'+',
         Sign::Minus => b'-',
+    }
+}
+
+/// A line feed, and two spaces for each of fewer than `LEVELS` levels.
+fn line_start(depth: usize) -> &'static str
+    requires { depth < LEVELS }
+    ensures { result.now ≡ 10 ∷ indent depth }
+{
+    match depth {
+        0 => "\n",
+        1 => "\n  ",
+        2 => "\n    ",
+        3 => "\n      ",
+        4 => "\n        ",
+        5 => "\n          ",
+        6 => "\n            ",
+        _ => "\n              ",
     }
 }
 

@@ -2,12 +2,12 @@
 
 ghost use Rattle.std.specs.Prelude.{◌≡◌};
 ghost use Rattle.tree.specs.Node.{node_tree};
-ghost use Rattle.tree.specs.Tree.{kind_of, text_of, flags_of, parts_of};
-ghost use Rattle.printer.specs.Bits.{shape_of, bits_of, chain_of};
-ghost use Rattle.printer.specs.Shapes.{head_shape, statement_shape, branch_shape, loop_shape, declarator_shape, word_shape, if_shape, try_shape, do_shape, for_shape, has_part};
+ghost use Rattle.tree.specs.Tree.{kind_of, parts_of};
+ghost use Rattle.printer.specs.Bits.{shape_of};
+ghost use Rattle.printer.specs.Shapes.{head_shape, statement_shape, branch_shape, loop_shape, declarator_shape, word_shape, if_shape, try_shape, for_shape};
 
 use crate::lists::{CLOSE_SPACE, COLON, has_part};
-use crate::pieces::{Frame, Piece, Series};
+use crate::pieces::{Frame, Piece, front_frame, list_frame};
 use tree::{Kind, Node};
 
 const END: &[Piece] = &[Piece::Token(";")];
@@ -34,142 +34,199 @@ const SPACE: &[Piece] = &[Piece::Space];
 
 const FINALLY: &[Piece] = &[Piece::Space, Piece::Token("finally"), Piece::Space];
 
+const RETURN: &[Piece] = &[Piece::Token("return")];
+
+const RETURN_SPACE: &[Piece] = &[Piece::Token("return"), Piece::Space];
+
+const BREAK: &[Piece] = &[Piece::Token("break")];
+
+const BREAK_SPACE: &[Piece] = &[Piece::Token("break"), Piece::Space];
+
+const CONTINUE: &[Piece] = &[Piece::Token("continue")];
+
+const CONTINUE_SPACE: &[Piece] = &[Piece::Token("continue"), Piece::Space];
+
+static HEAD: Frame = list_frame!(DECLARATION, Commas, &[]);
+
+static VARIABLES: Frame = list_frame!(DECLARATION, Commas, END);
+
+static DECLARATOR: Frame = front_frame!(&[&[], &[]], &[]);
+
+static INITIALIZED: Frame = front_frame!(
+    &[&[], &[Piece::Space, Piece::Token("="), Piece::Space]],
+    &[]
+);
+
+static EXPRESSION: Frame = front_frame!(&[&[]], END);
+
+static EMPTY: Frame = front_frame!(&[], END);
+
+static DEBUGGER: Frame = front_frame!(&[], &[Piece::Token("debugger"), Piece::Token(";")]);
+
+static RETURN_NOTHING: Frame = front_frame!(&[RETURN], END);
+
+static RETURN_VALUE: Frame = front_frame!(&[RETURN_SPACE], END);
+
+static BREAK_OUT: Frame = front_frame!(&[BREAK], END);
+
+static BREAK_LABEL: Frame = front_frame!(&[BREAK_SPACE], END);
+
+static CONTINUE_LOOP: Frame = front_frame!(&[CONTINUE], END);
+
+static CONTINUE_LABEL: Frame = front_frame!(&[CONTINUE_SPACE], END);
+
+static THROW: Frame = front_frame!(&[&[Piece::Token("throw"), Piece::Space]], END);
+
+static IF_ALONE: Frame = front_frame!(&[IF, CLOSE_SPACE, &[]], &[]);
+
+static IF_ELSE: Frame = front_frame!(&[IF, CLOSE_SPACE, ELSE], &[]);
+
+static LABELED: Frame = front_frame!(&[&[], COLON], &[]);
+
+static TRY_CATCH: Frame = front_frame!(&[TRY, SPACE, &[]], &[]);
+
+static TRY_FINALLY: Frame = front_frame!(&[TRY, &[], FINALLY], &[]);
+
+static TRY_BOTH: Frame = front_frame!(&[TRY, SPACE, FINALLY], &[]);
+
+static WHILE_LOOP: Frame = front_frame!(&[WHILE, CLOSE_SPACE], &[]);
+
+static DO_LOOP: Frame = front_frame!(
+    &[
+        &[Piece::Token("do"), Piece::Space],
+        &[
+            Piece::Space,
+            Piece::Token("while"),
+            Piece::Space,
+            Piece::Token("("),
+        ],
+    ],
+    &[Piece::Token(")"), Piece::Token(";")]
+);
+
+static FOR_IN: Frame = front_frame!(&[FOR, IN, CLOSE_SPACE], &[]);
+
+static FOR_OF: Frame = front_frame!(&[FOR, OF, CLOSE_SPACE], &[]);
+
+static FOR_BOTH: Frame = front_frame!(&[FOR, SEMICOLON_SPACE, SEMICOLON_SPACE, CLOSE_SPACE], &[]);
+
+static FOR_TEST: Frame = front_frame!(&[FOR, SEMICOLON_SPACE, END, CLOSE_SPACE], &[]);
+
+static FOR_UPDATE: Frame = front_frame!(&[FOR, END, SEMICOLON_SPACE, CLOSE_SPACE], &[]);
+
+static FOR_NEITHER: Frame = front_frame!(&[FOR, END, END, CLOSE_SPACE], &[]);
+
 /// A declaration in the head of a `for`.
-pub fn head_frame() -> Frame
-    ensures { shape_of result ≡ head_shape }
+pub fn head_frame() -> &'static Frame
+    ensures { shape_of result.now ≡ head_shape }
 {
-    Frame::of_list(DECLARATION, Series::Commas, &[])
+    &HEAD
 }
 
 /// Statements without others in them.
-pub fn statement_frame(node: Node) -> Frame
-    ensures { shape_of result ≡ statement_shape (kind_of (node_tree node.entry)) (parts_of (node_tree node.entry)) }
+pub fn statement_frame(node: Node) -> &'static Frame
+    ensures { shape_of result.now ≡ statement_shape (kind_of (node_tree node.entry)) (parts_of (node_tree node.entry)) }
 {
     match node.kind() {
-        Kind::VariableDeclaration => Frame::of_list(DECLARATION, Series::Commas, END),
+        Kind::VariableDeclaration => &VARIABLES,
         Kind::VariableDeclarator => declarator_frame(has_part(node, 1)),
-        Kind::ExpressionStatement => Frame::of_front(&[&[]], END),
-        Kind::EmptyStatement => Frame::leaf(END),
-        Kind::DebuggerStatement => Frame::leaf(&[Piece::Token("debugger"), Piece::Token(";")]),
+        Kind::ExpressionStatement => &EXPRESSION,
+        Kind::EmptyStatement => &EMPTY,
+        Kind::DebuggerStatement => &DEBUGGER,
         Kind::ReturnStatement => return_frame(has_part(node, 0)),
         Kind::BreakStatement => break_frame(has_part(node, 0)),
         Kind::ContinueStatement => continue_frame(has_part(node, 0)),
-        Kind::ThrowStatement => Frame::of_front(&[&[Piece::Token("throw"), Piece::Space]], END),
+        Kind::ThrowStatement => &THROW,
         _ => branch_frame(node),
     }
 }
 
 /// Statements with others in them.
-fn branch_frame(node: Node) -> Frame
-    ensures { shape_of result ≡ branch_shape (kind_of (node_tree node.entry)) (parts_of (node_tree node.entry)) }
+fn branch_frame(node: Node) -> &'static Frame
+    ensures { shape_of result.now ≡ branch_shape (kind_of (node_tree node.entry)) (parts_of (node_tree node.entry)) }
 {
     match node.kind() {
         Kind::IfStatement => if_frame(has_part(node, 2)),
-        Kind::LabeledStatement => Frame::of_front(&[&[], COLON], &[]),
+        Kind::LabeledStatement => &LABELED,
         Kind::TryStatement => try_frame(has_part(node, 1), has_part(node, 2)),
         _ => loop_frame(node),
     }
 }
 
-fn declarator_frame(initialized: bool) -> Frame
-    ensures { shape_of result ≡ declarator_shape initialized }
+fn declarator_frame(initialized: bool) -> &'static Frame
+    ensures { shape_of result.now ≡ declarator_shape initialized }
 {
     if initialized {
-        return Frame::of_front(
-            &[&[], &[Piece::Space, Piece::Token("="), Piece::Space]],
-            &[],
-        );
+        &INITIALIZED
+    } else {
+        &DECLARATOR
     }
-    Frame::of_front(&[&[], &[]], &[])
 }
 
-fn return_frame(answers: bool) -> Frame
-    ensures { shape_of result ≡ word_shape "return" answers }
+fn return_frame(answers: bool) -> &'static Frame
+    ensures { shape_of result.now ≡ word_shape "return" answers }
 {
     if answers {
-        return Frame::of_front(&[&[Piece::Token("return"), Piece::Space]], END);
+        &RETURN_VALUE
+    } else {
+        &RETURN_NOTHING
     }
-    Frame::of_front(&[&[Piece::Token("return")]], END)
 }
 
-fn break_frame(labelled: bool) -> Frame
-    ensures { shape_of result ≡ word_shape "break" labelled }
+fn break_frame(labelled: bool) -> &'static Frame
+    ensures { shape_of result.now ≡ word_shape "break" labelled }
+{
+    if labelled { &BREAK_LABEL } else { &BREAK_OUT }
+}
+
+fn continue_frame(labelled: bool) -> &'static Frame
+    ensures { shape_of result.now ≡ word_shape "continue" labelled }
 {
     if labelled {
-        return Frame::of_front(&[&[Piece::Token("break"), Piece::Space]], END);
+        &CONTINUE_LABEL
+    } else {
+        &CONTINUE_LOOP
     }
-    Frame::of_front(&[&[Piece::Token("break")]], END)
 }
 
-fn continue_frame(labelled: bool) -> Frame
-    ensures { shape_of result ≡ word_shape "continue" labelled }
+fn if_frame(otherwise: bool) -> &'static Frame
+    ensures { shape_of result.now ≡ if_shape otherwise }
 {
-    if labelled {
-        return Frame::of_front(&[&[Piece::Token("continue"), Piece::Space]], END);
-    }
-    Frame::of_front(&[&[Piece::Token("continue")]], END)
-}
-
-fn if_frame(otherwise: bool) -> Frame
-    ensures { shape_of result ≡ if_shape otherwise }
-{
-    if otherwise {
-        return Frame::of_front(&[IF, CLOSE_SPACE, ELSE], &[]);
-    }
-    Frame::of_front(&[IF, CLOSE_SPACE, &[]], &[])
+    if otherwise { &IF_ELSE } else { &IF_ALONE }
 }
 
 /// A `try`, by whether it has a handler and a `finally`.
-fn try_frame(catches: bool, finishes: bool) -> Frame
-    ensures { shape_of result ≡ try_shape catches finishes }
+fn try_frame(catches: bool, finishes: bool) -> &'static Frame
+    ensures { shape_of result.now ≡ try_shape catches finishes }
 {
     match (catches, finishes) {
-        (true, true) => Frame::of_front(&[TRY, SPACE, FINALLY], &[]),
-        (true, false) => Frame::of_front(&[TRY, SPACE, &[]], &[]),
-        (false, _) => Frame::of_front(&[TRY, &[], FINALLY], &[]),
+        (true, true) => &TRY_BOTH,
+        (true, false) => &TRY_CATCH,
+        (false, _) => &TRY_FINALLY,
     }
 }
 
-fn do_frame() -> Frame
-    ensures { shape_of result ≡ do_shape }
-{
-    Frame::of_front(
-        &[
-            &[Piece::Token("do"), Piece::Space],
-            &[
-                Piece::Space,
-                Piece::Token("while"),
-                Piece::Space,
-                Piece::Token("("),
-            ],
-        ],
-        &[Piece::Token(")"), Piece::Token(";")],
-    )
-}
-
 /// The loops that go on behind a test, in or of something.
-fn loop_frame(node: Node) -> Frame
-    ensures { shape_of result ≡ loop_shape (kind_of (node_tree node.entry)) (parts_of (node_tree node.entry)) }
+fn loop_frame(node: Node) -> &'static Frame
+    ensures { shape_of result.now ≡ loop_shape (kind_of (node_tree node.entry)) (parts_of (node_tree node.entry)) }
 {
     match node.kind() {
-        Kind::WhileStatement => Frame::of_front(&[WHILE, CLOSE_SPACE], &[]),
-        Kind::DoWhileStatement => do_frame(),
-        Kind::ForInStatement => Frame::of_front(&[FOR, IN, CLOSE_SPACE], &[]),
-        Kind::ForOfStatement => Frame::of_front(&[FOR, OF, CLOSE_SPACE], &[]),
+        Kind::WhileStatement => &WHILE_LOOP,
+        Kind::DoWhileStatement => &DO_LOOP,
+        Kind::ForInStatement => &FOR_IN,
+        Kind::ForOfStatement => &FOR_OF,
         _ => for_frame(has_part(node, 1), has_part(node, 2)),
     }
 }
 
 /// A `for`, by whether it has a test and an update.
-fn for_frame(tests: bool, updates: bool) -> Frame
-    ensures { shape_of result ≡ for_shape tests updates }
+fn for_frame(tests: bool, updates: bool) -> &'static Frame
+    ensures { shape_of result.now ≡ for_shape tests updates }
 {
     match (tests, updates) {
-        (true, true) => {
-            Frame::of_front(&[FOR, SEMICOLON_SPACE, SEMICOLON_SPACE, CLOSE_SPACE], &[])
-        }
-        (true, false) => Frame::of_front(&[FOR, SEMICOLON_SPACE, END, CLOSE_SPACE], &[]),
-        (false, true) => Frame::of_front(&[FOR, END, SEMICOLON_SPACE, CLOSE_SPACE], &[]),
-        (false, false) => Frame::of_front(&[FOR, END, END, CLOSE_SPACE], &[]),
+        (true, true) => &FOR_BOTH,
+        (true, false) => &FOR_TEST,
+        (false, true) => &FOR_UPDATE,
+        (false, false) => &FOR_NEITHER,
     }
 }

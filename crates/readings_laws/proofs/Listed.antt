@@ -23,6 +23,7 @@ use Rattle.language.specs.Grammar.{ways, spellings}
 use Rattle.language.specs.Places.{NextIn, next_in, itself}
 use Rattle.language.specs.Cursor as Cursor
 use Rattle.language.specs.Derivation.{Reads, Spells, direct, Runs, done, step, opened, closed, within, missing, token}
+use Rattle.language.specs.Claims.{max_open}
 use Rattle.language.proofs.Domination.{settled}
 use Rattle.language.proofs.Viewed.{way_of, one}
 use Rattle.language.proofs.Begins.{retell, goes_to}
@@ -142,6 +143,6 @@ same_derivations o text n P u = (λ d. listed o text n P d.0 d.1, λ r. derived_
 
 pub same_accepted : AcceptsByReadings
 same_accepted text n P u = (
-  λ a. record { low = a.derived.0; reading = (same_derivations 1000 text n P u).0 a.derived.1; lawful = a.lawful },
-  λ a. record { source = u; derived = (a.low, (same_derivations 1000 text n P u).1 a.reading); lawful = a.lawful },
+  λ a. record { low = a.derived.0; reading = (same_derivations max_open text n P u).0 a.derived.1; lawful = a.lawful },
+  λ a. record { source = u; derived = (a.low, (same_derivations max_open text n P u).1 a.reading); lawful = a.lawful },
 )

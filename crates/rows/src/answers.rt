@@ -1,5 +1,6 @@
 //! What each call answers for a row's texts.
 
+use crate::finished::push_difference_of_source;
 use crate::refusals::push_refusal;
 use crate::rows::Row;
 use crate::{cursors, devices, heights, lexemes, nodes, parsed, plans, refusals, runs, words};
@@ -24,6 +25,7 @@ fn of_words(alloc: Global, row: &Row, out: &mut String) -> Result<(), AllocError
         "tightness" => words::push_tightness(row.text(1), out),
         "number" => words::push_number(row.text(1), out),
         "command line" => words::push_command_line(alloc, row.text(1), out),
+        "escaped" => words::push_escaped(alloc, row.text(1), out),
         _ => of_devices(alloc, row, out),
     }
 }
@@ -81,13 +83,14 @@ fn of_text(alloc: Global, row: &Row, out: &mut String) -> Result<(), AllocError>
     }
 }
 
-/// Calls on sources.
+/// Calls on sources. Of each that is a script the finished tree is held against the nodes that it is made of.
 fn of_source(
     alloc: Global,
     row: &Row,
     source: &Source,
     out: &mut String,
 ) -> Result<(), AllocError> {
+    push_difference_of_source(alloc, source, out)?;
     match row.text(0) {
         "token" => lexemes::push_token(source, row, out),
         "units" => lexemes::push_units(alloc, source, out),

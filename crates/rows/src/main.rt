@@ -6,6 +6,7 @@
 mod answers;
 mod cursors;
 mod devices;
+mod finished;
 mod heights;
 mod kinds;
 mod lexemes;
@@ -14,6 +15,7 @@ mod parsed;
 mod placed;
 mod plans;
 mod print;
+mod printing;
 mod ranks;
 mod refusals;
 mod rows;

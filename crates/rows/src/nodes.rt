@@ -1,5 +1,6 @@
 //! What calls answer for trees that are written down.
 
+use crate::finished::{push_difference_of_text, push_nodes};
 use crate::placed::push_places;
 use crate::print::show;
 use crate::refusals::push_refusal;
@@ -20,7 +21,10 @@ pub(crate) fn push_of_tree(
 ) -> Result<(), AllocError> {
     let high = row.text(2).parse::<u32>().unwrap_or(u32::MAX);
     match script(alloc, row.text(1), high) {
-        Ok(program) => push_tree(alloc, call, row, &program, out),
+        Ok(program) => {
+            push_difference_of_text(alloc, row.text(1), out)?;
+            push_tree(alloc, call, row, &program, out)
+        }
         Err(fault) => push_refusal(row.text(1), fault, out),
     }
 }
@@ -34,6 +38,7 @@ fn push_tree(
 ) -> Result<(), AllocError> {
     match call {
         "line" => show(program.root(), out),
+        "numbers" => push_nodes(program, out),
         "height" => push_height(program, out),
         "copy" => push_copy(alloc, program, out),
         "same" => push_same(alloc, row.text(2), program, out),

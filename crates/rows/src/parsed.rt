@@ -1,14 +1,15 @@
 //! What calls answer for texts that are scripts.
 
 use crate::devices::{plan, push_answer};
+use crate::finished::push_nodes;
 use crate::nodes::push_copy;
 use crate::plans::{push_extra, push_extra_pairs, push_plan};
+use crate::printing::{is_fixed, push_layout, push_pieces, push_written};
 use crate::refusals::push_refusal;
 use crate::rows::Row;
 use estree_json::{to_value, tree_text, write_tree};
 use lint::{fix_text, read_script};
 use parser::{Parsed, parse};
-use printer::{print, print_text};
 use serde_json::Value;
 use source_text::{Fault, MemorySink, Source};
 use std::alloc::{AllocError, Global};
@@ -79,7 +80,24 @@ pub(crate) fn push_fixed(
     out: &mut String,
 ) -> Result<(), AllocError> {
     match fix_text(alloc, source) {
-        Ok(text) => push_again(alloc, &text, out),
+        Ok(text) => {
+            push_again(alloc, &text, out)?;
+            push_unless_written(alloc, source, &text, out)
+        }
+        Err(fault) => push_refusal(source.text(), fault, out),
+    }
+}
+
+/// That a script's fixed text is written otherwise, if it is.
+fn push_unless_written(
+    alloc: Global,
+    source: &Source,
+    text: &str,
+    out: &mut String,
+) -> Result<(), AllocError> {
+    match is_fixed(alloc, source, text) {
+        Ok(true) => Ok(()),
+        Ok(false) => out.push_str(" written otherwise"),
         Err(fault) => push_refusal(source.text(), fault, out),
     }
 }
@@ -126,7 +144,22 @@ fn push_shown(
         "items" => push_count(program.root().part_count(), out),
         "extra" => push_extra(alloc, program, parsed.grouping_pairs(), out),
         "alike" => push_alike(alloc, program, row.text(2), out),
-        _ => push_tree(alloc, row, program, out),
+        _ => push_printed(alloc, row, parsed, out),
+    }
+}
+
+/// What the row's call prints of a script.
+fn push_printed(
+    alloc: Global,
+    row: &Row,
+    parsed: &Parsed,
+    out: &mut String,
+) -> Result<(), AllocError> {
+    match row.text(0) {
+        "layout" => push_layout(alloc, parsed, row.text(2), out),
+        "written" => push_written(alloc, parsed, row, out),
+        "pieces" => push_pieces(alloc, parsed, row.text(2), out),
+        _ => push_tree(alloc, row, parsed.program(), out),
     }
 }
 
@@ -140,11 +173,10 @@ fn push_tree(
     match row.text(0) {
         "extra of" => push_extra_pairs(alloc, program, row.text(2), out),
         "plan" => push_plan(alloc, program, out),
-        "layout" => push_layout(alloc, program, row.text(2), out),
-        "written" => push_written(alloc, program, row, out),
         "tree" => push_json(alloc, program, out),
         "json" => push_json_to(alloc, program, row.text(2), out),
         "copied" => push_copy(alloc, program, out),
+        "numbers" => push_nodes(program, out),
         "value" => push_values(alloc, program, out),
         call => write!(out, "no call {call}"),
     }
@@ -172,39 +204,6 @@ fn push_alike(
         Ok(false) => out.push_str("other"),
         Err(fault) => push_refusal(text, fault, out),
     }
-}
-
-/// A flag for each row of a layout: `(` says that its node is wrapped.
-fn flags(alloc: Global, wrapped: &str) -> Result<Vec<bool>, AllocError> {
-    let mut flags = Vec::new(alloc);
-    for byte in wrapped.bytes() {
-        flags.push(byte == b'(')?;
-    }
-    Ok(flags)
-}
-
-/// The layout of the tree.
-fn push_layout(
-    alloc: Global,
-    program: &Program,
-    wrapped: &str,
-    out: &mut String,
-) -> Result<(), AllocError> {
-    let text = print_text(alloc, program, &flags(alloc, wrapped)?)?;
-    out.push_str(&text)
-}
-
-/// What is written of the layout where there is so much room.
-fn push_written(
-    alloc: Global,
-    program: &Program,
-    row: &Row,
-    out: &mut String,
-) -> Result<(), AllocError> {
-    let flags = flags(alloc, row.text(2))?;
-    let mut writer = MemorySink::new(alloc, row.number(3), plan(row.text(4)))?;
-    let written = print(alloc, program, &flags, &mut writer);
-    push_answer(&written, writer.bytes(), out)
 }
 
 fn push_json(alloc: Global, program: &Program, out: &mut String) -> Result<(), AllocError> {

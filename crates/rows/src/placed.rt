@@ -2,7 +2,9 @@
 
 use crate::ranks::rank;
 use language::{Rank, Start};
-use positions::{Position, Positions, expression_positions, node_positions};
+use positions::{
+    Position, Positions, admits, expression_positions, node_positions, node_production, settled,
+};
 use std::alloc::AllocError;
 use tree::{Form, Node};
 
@@ -151,8 +153,32 @@ fn push_called(positions: Positions, count: usize, out: &mut String) -> Result<(
     Ok(())
 }
 
-/// At what positions the parts of a node stand that stands at a position, or behind `at` at a symbol, if it can be spelled there.
+/// What the positions of a node's parts are called, by its production at its own position.
+fn push_produced(own: Position, node: Node, out: &mut String) -> Result<(), AllocError> {
+    let Some(production) = node_production(node, own, false) else {
+        return out.push_str("none");
+    };
+    let outline = production.outline();
+    if !admits(own, outline.rank, outline.needs_in, outline.opens) {
+        return out.push_str("none");
+    }
+    let mut slots = production.spelled(node, own).slots;
+    for _ in 0..node.part_count().saturating_add(1) {
+        let Some(slot) = slots.take_slot() else {
+            return Ok(());
+        };
+        out.push_str(called(settled(own, slot)))?;
+        out.push_str(", ")?;
+    }
+    Ok(())
+}
+
+/// At what positions the parts of a node stand that stands at a position, or behind `at` at a symbol, if it can be spelled there;
+/// behind `by` at what positions by the production.
 pub(crate) fn push_places(words: &str, node: Node, out: &mut String) -> Result<(), AllocError> {
+    if let Some(words) = words.strip_prefix("by ") {
+        return push_produced(position(words), node, out);
+    }
     let found = match words.strip_prefix("at ") {
         Some(symbol) => expression_positions(node, rank(symbol), true, Start::Any),
         None => node_positions(node, position(words)),

@@ -3,7 +3,7 @@
 use crate::kinds::kind;
 use crate::ranks::rank;
 use crate::rows::Row;
-use command_line::command_line;
+use command_line::{command_line, escaped_text};
 use early_errors::{EarlyError, number_of};
 use grammar::{
     is_assignment, is_link, is_literal, is_pattern, is_prefix_operator, is_reserved, is_step,
@@ -86,4 +86,10 @@ pub(crate) fn push_command_line(
         words.push(word)?;
     }
     push_asked(alloc, &words, out)
+}
+
+/// A text as a terminal is shown it.
+pub(crate) fn push_escaped(alloc: Global, text: &str, out: &mut String) -> Result<(), AllocError> {
+    let shown = escaped_text(alloc, text)?;
+    out.push_str(&shown)
 }

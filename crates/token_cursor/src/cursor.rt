@@ -10,16 +10,15 @@ ghost use Rattle.source_text.specs.Source.{IsPlace};
 ghost use Rattle.language.specs.Token.{Token as Read, as_read};
 ghost use Rattle.language.specs.Cursor.{beginning};
 ghost use Rattle.language.specs.Edges.{is_semicolon};
+ghost use Rattle.language.specs.Claims.{max_open};
 ghost use Rattle.token_cursor.specs.Ends.{EndsAt, IsEnd};
 ghost use Rattle.token_cursor.specs.Point.{depends, Ahead, IsAhead, IsAheadBySome, NoneAhead, OnlyEnd, IsPlaceFrom, IsSyntax};
 
 use crate::semicolon::{Ending, may_miss};
+use language::limits::MAX_OPEN;
 use source_text::{Fault, Source};
 use std::marker::Model;
 use tokens::{Class, Goal, ScanFault, Token, scan};
-
-/// The most parentheses that group or hold an arrow's parameters and are open at one point.
-pub const MAX_OPEN: u32 = 1000;
 
 /// A place between two tokens of a text, with the parentheses that are open there and count.
 #[derive(Drop)]
@@ -37,13 +36,14 @@ impl<'t, 's> Model for Cursor<'t, 's> {
     ghost use Rattle.tokens.specs.declared.token.Goal.TheVariants.{Div};
     ghost use Rattle.tokens.specs.Scanned.{token_of};
     ghost use Rattle.language.specs.Token.{as_read};
+    ghost use Rattle.language.specs.Claims.{max_open};
     ghost use Rattle.token_cursor.specs.Point.{Point, Ahead};
 
     ghost Value = { Point };
 
     ghost view = { λ c. record { text = c.source.now; last = as_read (token_of c.last); opened = c.opened } };
 
-    ghost invariant = { λ c. IsPlace c.source.now c.last.end × (c.opened ≤ 1000) × Ahead Div c.source.now c.last.end c.ahead };
+    ghost invariant = { λ c. IsPlace c.source.now c.last.end × (c.opened ≤ max_open) × Ahead Div c.source.now c.last.end c.ahead };
 }
 
 // What the goal reads behind a place.
@@ -206,8 +206,8 @@ impl<'t, 's> Cursor<'t, 's> {
     pub fn enter(&mut self) -> Result<(), Fault>
         ensures text { self.new.text ≡ self.old.text }
         ensures last { self.new.last ≡ self.old.last }
-        ensures ok { IfOk result (λ _. (self.old.opened < 1000) × (self.new.opened ≡ self.old.opened + 1)) }
-        ensures err { IfErr result (λ fault. (fault ≡ Fault.TooDeep) × (self.old.opened ≡ 1000) × (self.new.opened ≡ self.old.opened)) }
+        ensures ok { IfOk result (λ _. (self.old.opened < max_open) × (self.new.opened ≡ self.old.opened + 1)) }
+        ensures err { IfErr result (λ fault. (fault ≡ Fault.TooDeep) × (self.old.opened ≡ max_open) × (self.new.opened ≡ self.old.opened)) }
     {
         if self.opened >= MAX_OPEN {
             return Err(Fault::TooDeep);

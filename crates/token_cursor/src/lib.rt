@@ -5,5 +5,5 @@
 mod cursor;
 mod semicolon;
 
-pub use cursor::{Cursor, MAX_OPEN};
+pub use cursor::Cursor;
 pub use semicolon::{Ending, goes_on};

@@ -7,3 +7,8 @@ mod Examples
 pub mod KindsEqual
 pub mod Lean
 pub mod CopyLemmas
+pub mod FlatTrees
+pub mod Runs
+pub mod Grown
+pub mod Wholes
+pub mod Parents

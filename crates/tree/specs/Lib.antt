@@ -5,3 +5,12 @@ pub mod Node
 pub mod Same
 pub mod Uses
 pub mod Fields
+pub mod Flat
+pub mod Linked
+pub mod Places
+pub mod Growth
+pub mod Finished
+pub mod Whole
+pub mod Alike
+pub mod Standings
+pub mod Laws

@@ -2,12 +2,22 @@
 
 //! The tree of a script: ESTree nodes.
 
+mod build;
 mod copy;
+mod finish;
+mod flat_node;
+mod flat_tree;
+mod growing;
 mod kind;
+pub mod laws;
 mod list;
 mod node;
 mod parts;
+mod parts_at;
+mod place;
 mod program;
+mod run;
+mod standing;
 mod syntax;
 mod walk;
 

@@ -25,7 +25,7 @@ use Rattle.language.specs.declared.Start.TheVariants.{Any}
 use Rattle.language.specs.Pieces.{Role, expr, PieceOf, open_parameters}
 use Rattle.language.specs.Token.{Token}
 use Rattle.language.specs.Places.{NextIn, next_in, itself}
-use Rattle.language.specs.Claims.{DerivesOpen, Derives}
+use Rattle.language.specs.Claims.{DerivesOpen, Derives, max_open}
 use Rattle.language.specs.Derivation.{pair_of, Among, Reads, Step, token, with_mark, without_mark, one_more, no_more, seen, same_line, explicit, implicit, laid, Spells, direct, grouped, Runs, done, step, opened, closed, within, missing}
 use Rattle.language.specs.Grammar.{ways}
 use Rattle.unambiguous.specs.Laws.{ShortScriptsFit}
@@ -281,4 +281,4 @@ script_nesting text n P k u b d =
 pub short_fits : ShortScriptsFit
 short_fits text n P u b d =
     let h = script_height text n P u d in
-    (omega (arith, b, h), script_nesting text n P 1000 u (omega (arith, b)) d)
+    (omega (arith, b, h), script_nesting text n P max_open u (omega (arith, b)) d)

@@ -3,7 +3,7 @@ use Rattle.std.specs.Prelude.{◌≡◌, ℕ, ◌<◌, List, [], ◌∷◌, leng
 use Rattle.std.specs.Str.{IsUtf8}
 use Rattle.tree.specs.declared.kind.Pair.{Pair}
 use Rattle.tree.specs.Tree.{Tree}
-use Rattle.language.specs.Claims.{Derives, WithinLimits}
+use Rattle.language.specs.Claims.{Derives, WithinLimits, short_bytes}
 use Rattle.language.specs.Earlier.{EarlierDerivesOpen}
 
 -- any two derivations of a text agree in tree, places and pairs
@@ -15,9 +15,9 @@ abbrev pub EarlierScriptIsTheOne : Type 0
 EarlierScriptIsTheOne =
     (o : ℕ) (text : List ℕ) (n m : Tree) (P Q : List Pair) → IsUtf8 text → EarlierDerivesOpen o text n P → Derives text m Q → (m ≡ n) × (Q ≡ P)
 
--- a script of a text with fewer than 250 bytes is within the limits
+-- a script of a short text is within the limits
 abbrev pub ShortScriptsFit : Type 0
-ShortScriptsFit = (text : List ℕ) (n : Tree) (P : List Pair) → IsUtf8 text → length text < 250 → Derives text n P → WithinLimits text n P
+ShortScriptsFit = (text : List ℕ) (n : Tree) (P : List Pair) → IsUtf8 text → length text < short_bytes → Derives text n P → WithinLimits text n P
 
 -- each `(` stands before the next one's, and each pair closes behind it
 abbrev pub InOrder : List Pair → Type 0

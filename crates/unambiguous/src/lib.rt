@@ -14,8 +14,8 @@ pub fn earlier_script_is_the_one()
     ensures { EarlierScriptIsTheOne }
 {}
 
-/// A script of a text with fewer than 250 bytes is within the limits: no tree that such a text derives is too high, and none asks
-/// for too many open parentheses.
+/// A script of a text with fewer than `SHORT_BYTES` bytes is within the limits: no tree that such a text derives is too high, and none
+/// asks for too many open parentheses.
 pub fn short_scripts_fit()
     ensures { ShortScriptsFit }
 {}

@@ -3,11 +3,13 @@ use Rattle.std.specs.Prelude.{◌||◌}
 use Rattle.tree.specs.Tree.{parts_of}
 use Rattle.tree.specs.Node.{node_tree}
 use Rattle.early_errors.specs.Around.{own_label}
-use Rattle.early_errors.specs.Owns.{found_of_scope, inside_of, names_of_scope, round, scope_kind}
-use Rattle.early_errors.specs.Walk.{after, all_named, hits, look, sooner, undone}
+use Rattle.early_errors.specs.Owns.{found_of_scope, inside_of, names_of_scope, round, scope_error, scope_kind}
+use Rattle.early_errors.specs.Walk.{after, all_named, clashing, hits, look, sooner, undone}
 use Rattle.early_errors.specs.Walks.{range_errors, range_vars}
 use Rattle.early_errors.proofs.Insides.{function_facts, method_facts, plain_facts, label_facts, scope_facts, no_own_label, one_label}
-use Rattle.early_errors.proofs.Joining.{from_start, part-turn, part-given, part-missing, first-round, other-round, parts-found, function-found, two-goes, scope-found}
+use Rattle.early_errors.proofs.Joining.{from_start, part-turn, part-given, first-round, other-round, parts-found, function-found, two-goes, scope-found, none-clash}
+use Rattle.early_errors.proofs.VarFree.{is_free}
+use Rattle.early_errors.proofs.Silent.{part-silent}
 use Rattle.early_errors.proofs.ScopeErrors.{split_given}
 use Rattle.early_errors.proofs.Results.{on_ok}
 use Rattle.early_errors.proofs.Tables.{restored, undone-agrees}
@@ -124,13 +126,13 @@ walk_parts-loop-index-preserved t c =
     let others = c.args.rounds.others in
     let V = look c.args.walk.now.vars in
     let i = c.loop-index.index in
-    elim c.match-part.branch [
+    elim c.match-loud_part.branch [
       | walk_parts-in-Some+in_ok-walk_node w ↦ record {
         found = λ ls k.
             let round-is : round w.if-index-eq0.around ls ≡ cond (nat_eq i 0) (round first ls) (round others ls) =
             elim w.if-index-eq0.branch [ walk_parts-then-index-eq0 w' ↦ first-round first others w.if-index-eq0.around i ls w'.if-index-eq0.true w'.around-is | walk_parts-else-index-eq0 w' ↦ other-round first others w.if-index-eq0.around i ls w'.if-index-eq0.false w'.around-is ] in
-            part-turn V (round first ls) (round others ls) ps i c.args.to c.loop-index-test.true _ c.loop-index.walk.found c.match-part.walk.found
-            (part-given V (look c.loop-index.walk.vars) (round w.if-index-eq0.around ls) (round first ls) (round others ls) ps i (node_tree w.in-Some.part) c.loop-index.walk.found c.match-part.walk.found c.loop-index.invariant.vars w.in-Some.ensures round-is
+            part-turn V (round first ls) (round others ls) ps i c.args.to c.loop-index-test.true _ c.loop-index.walk.found c.match-loud_part.walk.found
+            (part-given V (look c.loop-index.walk.vars) (round w.if-index-eq0.around ls) (round first ls) (round others ls) ps i (node_tree w.in-Some.part) c.loop-index.walk.found c.match-loud_part.walk.found c.loop-index.invariant.vars w.in-Some.ensures round-is
             (ap (λ x. x.found) w.walk-is ∙ w.in_ok-walk_node.ensures.found ls (λ v. c.loop-index.invariant.labels v ∙ k v)))
             (c.loop-index.invariant.found ls k);
         vars = λ v. ap (λ x. look x.vars v) w.walk-is ∙ w.in_ok-walk_node.ensures.vars v ∙ c.loop-index.invariant.vars v;
@@ -138,13 +140,43 @@ walk_parts-loop-index-preserved t c =
       }
       | walk_parts-in_default w ↦ record {
         found = λ ls k.
-            part-turn V (round first ls) (round others ls) ps i c.args.to c.loop-index-test.true _ c.loop-index.walk.found c.match-part.walk.found
-            (part-missing V (round first ls) (round others ls) ps i c.loop-index.walk.found c.match-part.walk.found w.in_default.ensures (ap (λ x. x.found) w.walk-is))
+            part-turn V (round first ls) (round others ls) ps i c.args.to c.loop-index-test.true _ c.loop-index.walk.found c.match-loud_part.walk.found
+            (part-silent V (round first ls) (round others ls) ps i c.loop-index.walk.found c.match-loud_part.walk.found w.in_default.ensures (ap (λ x. x.found) w.walk-is))
             (c.loop-index.invariant.found ls k);
         vars = λ v. ap (λ x. look x.vars v) w.walk-is ∙ c.loop-index.invariant.vars v;
         labels = λ v. ap (λ x. look x.labels v) w.walk-is ∙ c.loop-index.invariant.labels v;
       }
     ]
+
+pub walk_in_scope-returns-then-has_no_var-clause-found : goal.walk_in_scope-returns-then-has_no_var-clause-found
+walk_in_scope-returns-then-has_no_var-clause-found t c =
+    on_ok c.walk_parts-then-has_no_var.result
+    (λ h o ls k e.
+    let t = node_tree c.args.node in
+    let z = round c.args.around ls in
+    let f = scope_facts t z ls c.requires.inside in
+    let first = c.rounds_of-rounds.result.first in
+    let others = c.rounds_of-rounds.result.others in
+    let kind = c.scope_kind-kind.result in
+    let from = c.place_of_scope-from.result in
+    let error = scope_error kind in
+    let names = all_named c.as_slice-declared.result.now in
+    let inner = look c.walk_parts.new.walk.vars in
+    let clashes = clashing inner error names in
+    let free : range_vars (parts_of t) from (c.part_count-to.result - from) ≡ [] = ap (λ n. range_vars (parts_of t) from (n - from)) c.part_count-to.ensures ∙ is_free c.has_no_var.result c.if-has_no_var.true c.has_no_var.ensures in
+    let found = found_of_scope kind c.args.around.is_body (parts_of t) names in
+    scope-found o c.args.walk.now.found (look c.args.walk.now.vars) z (round first ls) (round others ls) t c.part_count-to.result from c.part_count-to.ensures error names found
+    (ap (round first) (sym f.0) ∙ c.rounds_of-rounds.ensures.first ls) (ap (round others) (sym f.1.0) ∙ c.rounds_of-rounds.ensures.others ls)
+    (look c.args.walk.now.vars) inner clashes c.in_ok-walk.field-0 c.walk_parts.new.walk.found c.walk_parts-then-has_no_var.new.walk.found
+    (split_given z t kind names error from c.part_count-to.result c.requires.inside (c.scope_kind-kind.ensures ∙ ap scope_kind c.kind.ensures) (ap all_named c.as_slice-declared.ensures.value ∙ c.in_ok-push_scope.ensures ∙ ap (λ l. all_named l ++ names_of_scope kind c.args.around.is_body (parts_of t)) c.requires.names)
+    refl c.place_of_scope-from.ensures c.part_count-to.ensures)
+    f.1.1.0 f.1.1.1 (λ w. refl) c.in_ok-walk_parts.ensures.vars (λ w. refl) e c.in_ok-walk.ensures
+    (c.in_ok-walk_parts.ensures.found ls k ∙ ap (λ n. sooner (after c.in_ok-walk.field-0 (range_errors (round first ls) (round others ls) (parts_of t) 0 n)) (hits (look c.args.walk.now.vars) (range_vars (parts_of t) 0 n))) (from_start from))
+    (none-clash inner clashes _ _ _ _ free (h ls (λ w. c.in_ok-walk_parts.ensures.labels w ∙ k w))))
+    c.walk_parts-then-has_no_var.ensures.found
+
+pub walk_in_scope-returns-then-has_no_var-clause-vars : goal.walk_in_scope-returns-then-has_no_var-clause-vars
+walk_in_scope-returns-then-has_no_var-clause-vars t c = on_ok c.walk_parts-then-has_no_var.result (λ h w. h w ∙ c.in_ok-walk_parts.ensures.vars w) c.walk_parts-then-has_no_var.ensures.vars
 
 pub walk_in_scope-returns-clause-found : goal.walk_in_scope-returns-clause-found
 walk_in_scope-returns-clause-found t c =
@@ -160,11 +192,11 @@ walk_in_scope-returns-clause-found t c =
     let error = c.scope_error.result in
     let names = all_named c.as_slice-declared.result.now in
     let found = found_of_scope kind c.args.around.is_body (parts_of t) names in
-    scope-found o c.args.walk.now.found (look c.args.walk.now.vars) z (round first ls) (round others ls) t c.part_count.result from c.part_count.ensures error names found
+    scope-found o c.args.walk.now.found (look c.args.walk.now.vars) z (round first ls) (round others ls) t c.part_count-to.result from c.part_count-to.ensures error names found
     (ap (round first) (sym f.0) ∙ c.rounds_of-rounds.ensures.first ls) (ap (round others) (sym f.1.0) ∙ c.rounds_of-rounds.ensures.others ls)
     (look c.args.walk.now.vars) (look c.walk_parts.new.walk.vars) (look c.enter.new.clashes) c.in_ok-walk.field-0 c.walk_parts.new.walk.found c.walk_parts-2.new.walk.found
-    (split_given z t kind names error from c.part_count.result c.requires.inside (c.scope_kind-kind.ensures ∙ ap scope_kind c.kind.ensures) (ap all_named c.as_slice-declared.ensures.value ∙ c.in_ok-push_scope.ensures ∙ ap (λ l. all_named l ++ names_of_scope kind c.args.around.is_body (parts_of t)) c.requires.names)
-    c.scope_error.ensures c.place_of_scope-from.ensures c.part_count.ensures)
+    (split_given z t kind names error from c.part_count-to.result c.requires.inside (c.scope_kind-kind.ensures ∙ ap scope_kind c.kind.ensures) (ap all_named c.as_slice-declared.ensures.value ∙ c.in_ok-push_scope.ensures ∙ ap (λ l. all_named l ++ names_of_scope kind c.args.around.is_body (parts_of t)) c.requires.names)
+    c.scope_error.ensures c.place_of_scope-from.ensures c.part_count-to.ensures)
     f.1.1.0 f.1.1.1 (λ w. refl) c.in_ok-walk_parts.ensures.vars c.in_ok-enter.ensures.entered e c.in_ok-walk.ensures
     (c.in_ok-walk_parts.ensures.found ls k ∙ ap (λ n. sooner (after c.in_ok-walk.field-0 (range_errors (round first ls) (round others ls) (parts_of t) 0 n)) (hits (look c.args.walk.now.vars) (range_vars (parts_of t) 0 n))) (from_start from))
     (c.in_ok-walk_parts-2.ensures.found ls (λ w. c.in_ok-walk_parts.ensures.labels w ∙ k w)))

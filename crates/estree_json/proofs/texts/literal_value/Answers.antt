@@ -2,7 +2,7 @@ use Rattle.estree_json.proofs.Steps.{value_as, string_meant, true_meant, false_m
 use Rattle.estree_json.proofs.texts.literal_value.Goals as goal
 
 pub returns-then-is_quoted : goal.returns-then-is_quoted
-returns-then-is_quoted c = value_as _ _ _ (string_meant c.args.raw.now _ _ _ c.is_quoted.ensures c.if-is_quoted.true c.deref.ensures.value c.in_ok-units.ensures) c.text_value.ensures
+returns-then-is_quoted c = value_as _ _ _ (string_meant c.args.raw.now _ _ _ c.is_quoted.ensures c.if-is_quoted.true c.deref.ensures.value c.in_ok-units.ensures) c.text_of.ensures
 
 pub returns-then-eq : goal.returns-then-eq
 returns-then-eq c = true_meant c.args.raw.now _ _ c.is_quoted.ensures c.if-is_quoted.false c.eq.ensures c.if-eq.true

@@ -1,12 +1,11 @@
-use Rattle.std.proofs.Common.{◌∙◌}
+use Rattle.std.proofs.Common.{ap, [], ◌∷◌, ◌∙◌, arith}
+use Rattle.std.specs.Prelude.{slice_index_or}
 use Rattle.grammar.specs.Operations.{operation_at}
-use Rattle.grammar.proofs.Operations.{no_plain}
+use Rattle.grammar.proofs.Operations.{of_byte, no_operation_else}
 use Rattle.grammar.proofs.operators.operation_of.Goals as goal
 
+pub returns-in-1 : goal.returns-in-1
+returns-in-1 c = c.operation_of_one.ensures ∙ ap (λ v. operation_at (slice_index_or v 0 0 ∷ [])) c.as_bytes.ensures.value ∙ of_byte c.args.operator.now c.in-1.is
+
 pub returns-in_default : goal.returns-in_default
-unfolding operation_at
-returns-in_default c =
-    let d = c.in_default in
-    c.logical_operation_of.ensures ∙ no_plain c.args.operator.now (d.not-text, tt) (d.not-text-2, tt) (d.not-text-3, tt)
-    (d.not-text-4, (d.not-text-5, (d.not-text-6, (d.not-text-7, tt)))) (d.not-text-8, (d.not-text-9, (d.not-text-10, (d.not-text-11, (d.not-instanceof, (d.not-in, tt))))))
-    (d.not-text-12, (d.not-text-13, (d.not-text-14, tt))) (d.not-text-15, (d.not-text-16, tt)) (d.not-text-17, (d.not-text-18, (d.not-text-19, tt))) (d.not-text-20, tt)
+returns-in_default c = no_operation_else c.args.operator.now (λ e. omega arith) (λ e. omega arith) (λ e. omega arith) (λ e. omega arith)

@@ -20,7 +20,7 @@ returns-in-Ok-clause-answer c = λ text.
     let plan : IsPlan c.args.parsed.program c.in-Ok.plan = subst (λ m. IsPlan m c.in-Ok.plan) c.program.ensures c.in-Ok.ensures in
     planned text c.args.parsed.program c.args.parsed.pairs.items c.args.parsed c.in-Ok.plan c.requires.script plan
 
-pub returns-in-Ok-clause-short : goal.returns-in-Ok-clause-short
-returns-in-Ok-clause-short c =
+pub returns-in-Ok-clause-writable : goal.returns-in-Ok-clause-writable
+returns-in-Ok-clause-writable c =
     let plan : IsPlan c.args.parsed.program c.in-Ok.plan = subst (λ m. IsPlan m c.in-Ok.plan) c.program.ensures c.in-Ok.ensures in
     plan_short c.args.parsed.program c.in-Ok.plan (script_few c.args.parsed.program c.args.parsed.pairs.items c.requires.script) plan

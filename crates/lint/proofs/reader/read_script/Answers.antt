@@ -5,6 +5,7 @@ use Rattle.early_errors.proofs.StartPlaces.{error_place}
 use Rattle.lint.proofs.OneScript.{only_script, has_early_error, refused_reading, passed_on}
 use Rattle.lint.specs.ReadScripts.{RefusesReading}
 use Rattle.lint.proofs.reader.read_script.Goals as goal
+use Rattle.language.specs.Claims.{max_open}
 
 pub returns-clause-accepted : goal.returns-clause-accepted
 returns-clause-accepted c = record {
@@ -23,7 +24,7 @@ returns-in-Some-clause-refused c =
     let pairs = c.in_ok-parsed.parsed.pairs.items in
     let derived = c.in_ok-parsed.ensures.derived in
     let found : least_error n ≡ Some (c.in-Some.number, c.in-Some.at) = ap least_error (sym c.program.ensures) ∙ sym c.in_ok-number.ensures ∙ c.in-Some.is in
-    let place = error_place text n pairs c.in_ok-parsed.ensures.source.0 (1000, derived.1) (c.in-Some.number, c.in-Some.at) (least_among (errors n) (c.in-Some.number, c.in-Some.at) found) in
+    let place = error_place text n pairs c.in_ok-parsed.ensures.source.0 (max_open, derived.1) (c.in-Some.number, c.in-Some.at) (least_among (errors n) (c.in-Some.number, c.in-Some.at) found) in
     (place, has_early_error text n pairs c.in-Some.number c.in-Some.at derived found)
 
 pub returns-in_err-parsed-clause-refused : goal.returns-in_err-parsed-clause-refused

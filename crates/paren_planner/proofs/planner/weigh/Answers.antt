@@ -1,11 +1,13 @@
 use Rattle.std.proofs.Common.{◌∙◌, ap}
-use Rattle.tree.specs.Node.{node_tree}
-use Rattle.language.specs.Pieces.{script}
-use Rattle.language.specs.Cost.{least}
-use Rattle.paren_planner.specs.Costs.{capped}
-use Rattle.paren_planner.proofs.Turns.{script_cost}
+use Rattle.paren_planner.proofs.Visited.{noted_first}
+use Rattle.paren_planner.proofs.Backwards.{script_rows, script_total}
 use Rattle.paren_planner.proofs.planner.weigh.Goals as goal
 
+pub returns-clause-rows : goal.returns-clause-rows
+returns-clause-rows c = c.in_ok-sums.ensures.rows ∙ script_rows c.args.program.now _ (noted_first _ _ _ _ _ _ c.root.ensures c.new-steps.ensures.items c.in_ok-visit_node.ensures)
+
 pub returns-clause-total : goal.returns-clause-total
-returns-clause-total c =
-    c.at-total.ensures ∙ script_cost (node_tree c.root.result) c.in_ok-weighed.weighed.costs c.in_ok-weighed.ensures.weighed.costs ∙ ap (λ u. capped (least u script)) c.root.ensures
+returns-clause-total c = ap (λ d. d.with_in.any) c.in_ok-sums.ensures.sums ∙ script_total c.args.program.now _ (noted_first _ _ _ _ _ _ c.root.ensures c.new-steps.ensures.items c.in_ok-visit_node.ensures)
+
+pub returns-clause-steps : goal.returns-clause-steps
+returns-clause-steps c = noted_first _ _ _ _ _ _ c.root.ensures c.new-steps.ensures.items c.in_ok-visit_node.ensures

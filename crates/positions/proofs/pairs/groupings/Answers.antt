@@ -1,3 +1,4 @@
+use Rattle.tree.specs.Node.{node_tree}
 use Rattle.std.proofs.Common.{◌≡◌, ◌∙◌, IfOk, map, subst}
 use Rattle.positions.specs.Groupings.{grouping}
 use Rattle.positions.proofs.Starting.{script_starts}
@@ -6,5 +7,5 @@ use Rattle.positions.proofs.pairs.groupings.Goals as goal
 pub returns : goal.returns
 returns c =
     subst (λ ss. IfOk c.grouped.result (λ found. found.items ≡ map (grouping ss) c.args.pairs.now))
-    (c.deref.ensures.value ∙ c.in_ok-push_starts.ensures ∙ script_starts c.new-starts.result.items c.root.result.syntax.now c.args.program.now c.new-starts.ensures.items c.root.ensures)
+    (c.deref.ensures.value ∙ c.in_ok-push_starts.ensures ∙ script_starts c.new-starts.result.items (node_tree c.root.result) c.args.program.now c.new-starts.ensures.items c.root.ensures)
     c.grouped.ensures

@@ -1,8 +1,7 @@
-use Rattle.std.proofs.Common.{rules}
+use Rattle.std.proofs.Common.{◌∙◌}
+use Rattle.positions.specs.Outlines.{role_of}
+use Rattle.positions.proofs.Asking.{asked}
 use Rattle.positions.proofs.spelling.fits.Goals as goal
 
-pub returns-then-with_in : goal.returns-then-with_in
-returns-then-with_in c = search rules
-
-pub returns-else-with_in : goal.returns-else-with_in
-returns-else-with_in c = search rules
+pub returns : goal.returns
+returns c = c.admits.ensures ∙ asked (role_of c.args.position) c.args.outline

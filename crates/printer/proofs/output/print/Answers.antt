@@ -1,35 +1,38 @@
-use Rattle.std.proofs.Common.{◌≡◌, List, ℕ, Bool, false, Option, Result, Ok, Err, IsErrAnd, sym, subst}
-use Rattle.std.specs.String.{string_bytes}
-use Rattle.std.specs.Io.KnownBytes.{Appends}
-use Rattle.std.proofs.KnownBytes.{Keeps-refl}
+use Rattle.std.proofs.Common.{◌≡◌, ◌∙◌, List, ℕ, true, false, Ok, Err, Option, Bool, [], sym, subst}
+use Rattle.source_text.specs.declared.fault.Fault.TheVariants.{WriteFailed}
 use Rattle.language.specs.Pieces.{script}
 use Rattle.language.specs.Layout.{layout}
-use Rattle.source_text.specs.Writing.{AppendsBeginning, WritesMade}
-use Rattle.source_text.specs.declared.fault.Fault.{Fault}
-use Rattle.source_text.specs.declared.fault.Fault.TheVariants.{OutOfMemory}
 use Rattle.printer.specs.Fits.{wrapped_by}
-use Rattle.printer.proofs.Planned.{layout_is_printed}
+use Rattle.printer.specs.Texts.{IsWritten}
+use Rattle.printer.specs.Standings.{Puts, of_writer}
+use Rattle.printer.proofs.Standings.{puts_all}
+use Rattle.printer.proofs.Planned.{planned_fits, planned_layout}
 use Rattle.printer.proofs.output.print.Goals as goal
 
--- memory was refused, and nothing was written
-refused : (text : List ℕ) (answer : Result (Unit {0}) Fault) (taken : Option (List ℕ)) (failed : Bool) → IsErrAnd answer (λ e. e ≡ OutOfMemory) → failed ≡ false → WritesMade text answer taken taken failed
-refused text (Ok u) taken failed e f = absurd e
-refused text (Err other) taken failed e f =
-    let kept : WritesMade text (Err OutOfMemory) taken taken failed = (Keeps-refl taken, f) in
-    subst (λ fault. WritesMade text (Err fault) taken taken failed) (sym e) kept
+failed_written : (a b : Option (List ℕ)) (was failed : Bool) (t : List ℕ) → was ≡ false → failed ≡ true → Puts (of_writer a was []) (of_writer b failed []) t → IsWritten t (Err WriteFailed) a b failed
+failed_written a b was failed t e f p = ((puts_all a b was failed t e p).1 f, f)
 
--- the text is the layout then
-pub returns-in_err-text : goal.returns-in_err-text
-returns-in_err-text g c =
-    let text : List ℕ = layout (wrapped_by c.args.wraps.now) c.args.program.now script 1 0 in
-    (text, layout_is_printed c.args.wraps.now c.args.program.now, refused text c.from_residual.result _ _ c.from_residual.ensures.1 c.requires)
+whole_written : (a b : Option (List ℕ)) (was failed : Bool) (t : List ℕ) → was ≡ false → failed ≡ false → Puts (of_writer a was []) (of_writer b failed []) t → IsWritten t (Ok tt) a b failed
+whole_written a b was failed t e f p = ((puts_all a b was failed t e p).0 f, f)
 
-pub returns-in-Ok : goal.returns-in-Ok
-returns-in-Ok g c =
-    let Writes : List ℕ → Type 0 = λ bytes. Appends (g.W.Sink.taken c.args.writer.now) (g.W.Sink.taken c.write_text.new.writer) bytes in
-    (string_bytes c.in_ok-text.text, (c.in_ok-text.ensures.laid, c.in_ok-text.ensures.fixed), (subst Writes c.as_bytes.ensures.value c.in-Ok.ensures.0, c.in-Ok.ensures.1))
+pub returns-then-has_failed-clause-laid : goal.returns-then-has_failed-clause-laid
+returns-then-has_failed-clause-laid g c k = failed_written _ _ _ _ (layout (wrapped_by c.args.wraps.now) c.args.program.now script 1 0) c.requires.ready (sym c.has_failed.ensures ∙ c.if-has_failed.true) (c.print_whole.ensures.laid k)
 
-pub returns : goal.returns
-returns g c =
-    let Writes : List ℕ → Type 0 = λ bytes. AppendsBeginning (g.W.Sink.taken c.args.writer.now) (g.W.Sink.taken c.write_text.new.writer) bytes in
-    (string_bytes c.in_ok-text.text, (c.in_ok-text.ensures.laid, c.in_ok-text.ensures.fixed), (subst Writes c.as_bytes.ensures.value c.in-Err.ensures.0, c.in-Err.ensures.1))
+pub returns-then-has_failed-clause-fixed : goal.returns-then-has_failed-clause-fixed
+returns-then-has_failed-clause-fixed g c text pairs derived planned =
+    subst (λ t. IsWritten t (Err WriteFailed) (g.W.Sink.taken c.args.writer.now) (g.W.Sink.taken c.print_whole.new.out) (g.W.Sink.failed c.print_whole.new.out)) (planned_layout c.args.wraps.now c.args.program.now planned)
+    (returns-then-has_failed-clause-laid g c (planned_fits c.args.wraps.now c.args.program.now planned text pairs derived))
+
+pub returns-clause-laid : goal.returns-clause-laid
+returns-clause-laid g c k = whole_written _ _ _ _ (layout (wrapped_by c.args.wraps.now) c.args.program.now script 1 0) c.requires.ready (sym c.has_failed.ensures ∙ c.if-has_failed.false) (c.print_whole.ensures.laid k)
+
+pub returns-clause-fixed : goal.returns-clause-fixed
+returns-clause-fixed g c text pairs derived planned =
+    subst (λ t. IsWritten t (Ok tt) (g.W.Sink.taken c.args.writer.now) (g.W.Sink.taken c.print_whole.new.out) (g.W.Sink.failed c.print_whole.new.out)) (planned_layout c.args.wraps.now c.args.program.now planned)
+    (returns-clause-laid g c (planned_fits c.args.wraps.now c.args.program.now planned text pairs derived))
+
+pub returns-then-has_failed-clause-some : goal.returns-then-has_failed-clause-some
+returns-then-has_failed-clause-some g c = let p = c.print_whole.ensures.adds in (p.text, failed_written _ _ _ _ p.text c.requires.ready (sym c.has_failed.ensures ∙ c.if-has_failed.true) p.puts)
+
+pub returns-clause-some : goal.returns-clause-some
+returns-clause-some g c = let p = c.print_whole.ensures.adds in (p.text, whole_written _ _ _ _ p.text c.requires.ready (sym c.has_failed.ensures ∙ c.if-has_failed.false) p.puts)

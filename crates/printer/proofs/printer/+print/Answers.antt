@@ -1,6 +1,5 @@
 use Rattle.std.proofs.Common.{◌≡◌, ◌≤◌, suc, ◌+◌, ◌-◌, true, false, not, nat_eq, [], ◌∷◌, ◌++◌, length, drop, map, refl, sym, ap, ap₂, ◌∙◌, subst, arith}
 use Rattle.std.specs.Prelude.{option_map, is_none as is_missing}
-use Rattle.std.proofs.lemmas.Result.{on_ok_weaker}
 use Rattle.std.proofs.lemmas.List.{length-map}
 use Rattle.tree.specs.Tree.{parts_of, text_of, part_count}
 use Rattle.tree.specs.Node.{node_tree}
@@ -13,60 +12,72 @@ use Rattle.printer.specs.Printed.{marks_in, front_marks, chain_marks, shape_mark
 use Rattle.printer.proofs.Passing.{passed_nothing, passed_then, passed_missing}
 use Rattle.printer.proofs.Items.{missing_part, stepped, stepped_chain, fronts_done, chain_done, fronts-next, chain-next, turn, trail, framed, part_turn, part_lost}
 use Rattle.language.specs.Layout.{first_way}
-use Rattle.printer.specs.Sheets.{Writes}
+use Rattle.printer.specs.Sheets.{Writes, seen}
 use Rattle.printer.proofs.Nodes.{NextRow, printed_rowless, printed_row, printed_inside, printed_signed}
+use Rattle.printer.proofs.Standings.{adds_then, adds_from, adds_to}
+use Rattle.printer.proofs.Writing.{writes_adds}
+use Rattle.printer.proofs.Words.{word_direct}
 use Rattle.printer.proofs.Whole.{one_part, marks_framed, marks_signed, direct_by, spelled_parts, sign_text}
 use Rattle.printer.proofs.printer.+print.Goals as goal
 
-pub print_direct-returns-in-Some-sign_of : goal.print_direct-returns-in-Some-sign_of
-print_direct-returns-in-Some-sign_of t c =
+pub print_spelled-returns-in-Some-sign_of-clause-laid : goal.print_spelled-returns-in-Some-sign_of-clause-laid
+print_spelled-returns-in-Some-sign_of-clause-laid g t c = λ W r z k.
     let n = node_tree c.args.node in
     let sign = c.in-Some-sign_of.sign in
-    on_ok_weaker c.print_signed.result (λ h W r g k.
     let q = spelled_parts W (parts_of n) (ways (role_of c.args.position) n) r k in
     let e = marks_signed W c.args.position n sign c.in-Some-sign_of.ensures q.0 q.1 in
     direct_by W (signed_marks (text_of n) sign) e c.in-Some.ensures.1 q.1
-    (h W r g (ap (λ xs. parts_fit W (parts_of n) xs r) c.in-Some.ensures.1 ∙ q.2) (sign_text n sign c.in-Some-sign_of.ensures) (one_part (first_way (ways (role_of c.args.position) n)) (parts_of n) (text_of n) sign q.1 e)))
-    c.print_signed.ensures
+    (c.print_signed.ensures.laid W r z (ap (λ xs. parts_fit W (parts_of n) xs r) c.in-Some.ensures.1 ∙ q.2) (sign_text n sign c.in-Some-sign_of.ensures) (one_part (first_way (ways (role_of c.args.position) n)) (parts_of n) (text_of n) sign q.1 e))
 
-pub print_direct-returns-in-None : goal.print_direct-returns-in-None
-print_direct-returns-in-None t c =
+pub print_spelled-returns-in-None-clause-laid : goal.print_spelled-returns-in-None-clause-laid
+print_spelled-returns-in-None-clause-laid g t c = λ W r z k.
     let n = node_tree c.args.node in
-    on_ok_weaker c.print_framed.result (λ h W r g k.
     let q = spelled_parts W (parts_of n) (ways (role_of c.args.position) n) r k in
-    direct_by W (shape_marks (text_of n) (shape_of c.frame_of.result) (parts_of n))
+    direct_by W (shape_marks (text_of n) (shape_of c.frame_of.result.now) (parts_of n))
     (marks_framed W c.args.position n r c.in-None.ensures q.0 q.1 ∙ ap (λ s. shape_marks (text_of n) s (parts_of n)) (sym c.frame_of.ensures)) c.in-Some.ensures.1 q.1
-    (h W r g (ap (λ xs. parts_fit W (parts_of n) xs r) c.in-Some.ensures.1 ∙ q.2)))
-    c.print_framed.ensures
+    (c.print_framed.ensures.laid W r z (ap (λ xs. parts_fit W (parts_of n) xs r) c.in-Some.ensures.1 ∙ q.2))
 
-pub print_framed-returns : goal.print_framed-returns
-print_framed-returns t c =
+pub print_direct-returns-then-is_word-clause-laid : goal.print_direct-returns-then-is_word-clause-laid
+print_direct-returns-then-is_word-clause-laid g t c = λ W r z k.
     let n = node_tree c.args.node in
-    on_ok_weaker c.push_all-2.result (λ o W r h k.
-    framed W (text_of n) c.text-text.result.now c.text-text.ensures (map (λ p. bits_of p.now) c.args.frame.front.now) c.args.frame.opener.now c.args.frame.closer.now (chain_of c.args.frame.series) (parts_of n)
-    (length c.args.frame.front.now) c.in_ok-inside.inside (sym (length-map c.args.frame.front.now (λ p. bits_of p.now))) c.in_ok-inside.ensures h k
-    (λ ms q a b. c.in_ok-print_front.ensures W ms q a b) c.in_ok-push_all.ensures (λ ms q a b. c.in_ok-print_list.ensures W ms q a b) o)
-    c.push_all-2.ensures
+    word_direct W c.args.position n r c.args.depth (sym c.is_word.ensures ∙ c.if-is_word.true) z k
+    (subst (λ w. Writes (seen (g.O.Outlet.stands c.args.out.now c.args.sheet.now.room) c.args.sheet.now) (seen (g.O.Outlet.stands c.push.new.out c.push.new.self.room) c.push.new.self) w) c.text.ensures c.push.ensures.written)
+
+pub print_direct-returns-clause-laid : goal.print_direct-returns-clause-laid
+print_direct-returns-clause-laid g t c = λ W r z k. c.print_spelled.ensures.laid W r z k
+
+pub print_direct-returns-then-is_word-clause-adds : goal.print_direct-returns-then-is_word-clause-adds
+print_direct-returns-then-is_word-clause-adds g t c = writes_adds c.push.ensures.written
+
+pub print_framed-returns-clause-laid : goal.print_framed-returns-clause-laid
+print_framed-returns-clause-laid g t c = λ W r h k.
+    let n = node_tree c.args.node in
+    framed W (text_of n) c.text-text.result.now c.text-text.ensures (map (λ p. bits_of p.now) c.args.frame.now.front.now) c.args.frame.now.opener.now c.args.frame.now.closer.now (chain_of c.args.frame.now.series) (parts_of n)
+    (length c.args.frame.now.front.now) c.inner_depth-inside.result (sym (length-map c.args.frame.now.front.now (λ p. bits_of p.now))) c.inner_depth-inside.ensures.inner h k
+    (λ ms q a b. c.print_front.ensures.laid W ms q a b) c.push_all.ensures (λ ms q a b. c.print_list.ensures.laid W ms q a b) c.push_all-2.ensures
 
 pub print_front-loop-index-preserved : goal.print_front-loop-index-preserved
-print_front-loop-index-preserved t c = λ W ms r h k.
-    let n = node_tree c.args.node in
-    let fs = c.args.front.now in
-    let i = c.loop-index.index in
-    let ns = front_marks (text_of n) (map (λ p. bits_of p.now) (drop (i + 1) fs)) ms in
-    stepped W (parts_of n) i
-    (turn W _ c.text.result.now c.text.ensures (fronts-next (text_of n) (λ p. bits_of p.now) fs i _ ms c.loop-index-test.true) (c.loop-index.invariant W ms r h k) c.in_ok-push_all.ensures (λ q u v. c.in_ok-print_part.ensures W ns q u v))
+print_front-loop-index-preserved g t c = record {
+  laid = λ W ms r h k.
+      let n = node_tree c.args.node in
+      let fs = c.args.front.now in
+      let i = c.loop-index.index in
+      let ns = front_marks (text_of n) (map (λ p. bits_of p.now) (drop (i + 1) fs)) ms in
+      stepped W (parts_of n) i
+      (turn W _ c.text.result.now c.text.ensures (fronts-next (text_of n) (λ p. bits_of p.now) fs i _ ms c.loop-index-test.true) (c.loop-index.invariant.laid W ms r h k) c.push_all.ensures (λ q u v. c.print_part.ensures.laid W ns q u v));
+  adds = adds_then c.loop-index.invariant.adds (adds_then (writes_adds c.push_all.ensures) c.print_part.ensures.adds);
+}
 
-pub print_front-returns : goal.print_front-returns
-print_front-returns t c = λ W ms r h k.
+pub print_front-returns-clause-laid : goal.print_front-returns-clause-laid
+print_front-returns-clause-laid g t c = λ W ms r h k.
     let n = node_tree c.args.node in
     let fs = c.args.front.now in
     let i = c.loop-index.index in
     let e : i ≡ length fs = omega (arith, c.loop-index.auto.index-end, c.loop-index-test.false) in
-    fronts_done W (text_of n) (λ p. bits_of p.now) fs (parts_of n) i ms e (c.loop-index.invariant W ms r h k)
+    fronts_done W (text_of n) (λ p. bits_of p.now) fs (parts_of n) i ms e (c.loop-index.invariant.laid W ms r h k)
 
-pub print_item-returns : goal.print_item-returns
-print_item-returns t c = on_ok_weaker c.push_all-2.result (λ f W ms r h k.
+pub print_item-returns-clause-laid : goal.print_item-returns-clause-laid
+print_item-returns-clause-laid g t c = λ W ms r h k.
     let P = parts_of (node_tree c.args.node) in
     let w = text_of (node_tree c.args.node) in
     let s = chain_of c.args.series in
@@ -78,65 +89,75 @@ print_item-returns t c = on_ok_weaker c.push_all-2.result (λ f W ms r h k.
     c.after.ensures ∙ (λ j. after_bits s (missing_part node_tree c.part.result c.is_none-is_gap.result c.is_none-is_gap.ensures j) (nat_eq ((c.part_count.ensures j - i) - 1) 0) (nat_eq ((c.part_count.ensures j - i) - 1) 1)) in
     trail W c.after.result.now c.text-text.result.now c.text-text.ensures refl
     (turn W c.before-2.result.now c.text-text.result.now c.text-text.ensures
-    (chain-next w s P i o ms c.part.ensures c.requires ∙ ap₂ (λ x y. marks_in w x ++ here ∷ (marks_in w y ++ rest)) (sym here_before) (sym here_after))
-    (passed_nothing W r h k) c.in_ok-push_all.ensures (λ q u z. c.in_ok-print_part.ensures W (marks_in w (bits_of c.after.result.now) ++ rest) q u z))
-    f)
+    (chain-next w s P i o ms c.part.ensures c.requires.index ∙ ap₂ (λ x y. marks_in w x ++ here ∷ (marks_in w y ++ rest)) (sym here_before) (sym here_after))
+    (passed_nothing W r h k) c.push_all.ensures (λ q u z. c.print_part.ensures.laid W (marks_in w (bits_of c.after.result.now) ++ rest) q u z))
     c.push_all-2.ensures
 
 pub print_list-loop-index-preserved : goal.print_list-loop-index-preserved
-print_list-loop-index-preserved t c = λ W ms r h k.
-    let P = parts_of (node_tree c.args.node) in
-    let w = text_of (node_tree c.args.node) in
-    let s = chain_of c.args.series in
-    let p = c.loop-index.invariant W ms r h k in
-    stepped_chain W w s P c.loop-index.index ms (passed_then W p (c.in_ok-print_item.ensures W ms p.row p.reads p.fit))
+print_list-loop-index-preserved g t c = record {
+  laid = λ W ms r h k.
+      let P = parts_of (node_tree c.args.node) in
+      let w = text_of (node_tree c.args.node) in
+      let s = chain_of c.args.series in
+      let p = c.loop-index.invariant.laid W ms r h k in
+      stepped_chain W w s P c.loop-index.index ms (passed_then W p (c.print_item.ensures.laid W ms p.row p.reads p.fit));
+  adds = adds_then c.loop-index.invariant.adds c.print_item.ensures.adds;
+}
 
-pub print_list-returns : goal.print_list-returns
-print_list-returns t c = λ W ms r h k.
+pub print_list-returns-clause-laid : goal.print_list-returns-clause-laid
+print_list-returns-clause-laid g t c = λ W ms r h k.
     let P = parts_of (node_tree c.args.node) in
     let w = text_of (node_tree c.args.node) in
     let s = chain_of c.args.series in
     let past : part_count P ≤ c.loop-index.index = omega (arith, c.part_count-count.ensures, c.loop-index-test.false) in
-    chain_done W w s P c.loop-index.index ms past (c.loop-index.invariant W ms r h k)
+    chain_done W w s P c.loop-index.index ms past (c.loop-index.invariant.laid W ms r h k)
 
-pub print_part-returns-in_default : goal.print_part-returns-in_default
-print_part-returns-in_default t c = λ W ms r h k. passed_missing W (parts_of (node_tree c.args.node)) c.args.index r c.in_default.ensures h k
+pub print_part-returns-in_default-clause-laid : goal.print_part-returns-in_default-clause-laid
+print_part-returns-in_default-clause-laid g t c = λ W ms r h k. passed_missing W (parts_of (node_tree c.args.node)) c.args.index r c.in_default.ensures h k
 
-pub print_part-returns-in_default-next : goal.print_part-returns-in_default-next
-print_part-returns-in_default-next t c = λ W ms r h k. absurd (part_lost W (parts_of (node_tree c.args.node)) c.args.index r (node_tree c.in-Some.part) (remaining c.args.walk.now.positions) c.in-Some.ensures c.in_default-next.ensures k)
+pub print_part-returns-in_default-next-clause-laid : goal.print_part-returns-in_default-next-clause-laid
+print_part-returns-in_default-next-clause-laid g t c = λ W ms r h k. absurd (part_lost W (parts_of (node_tree c.args.node)) c.args.index r (node_tree c.in-Some.part) (remaining c.args.walk.now.positions) c.in-Some.ensures c.in_default-next.ensures k)
 
-pub print_part-returns : goal.print_part-returns
-print_part-returns t c = on_ok_weaker c.print_node.result (λ p W ms r h k.
+pub print_part-returns-clause-laid : goal.print_part-returns-clause-laid
+print_part-returns-clause-laid g t c = λ W ms r h k.
     part_turn W (parts_of (node_tree c.args.node)) c.args.index r (node_tree c.in-Some.part) (remaining c.args.walk.now.positions) (c.in-Some-next.position, c.in-Some-next.positions) _ c.in-Some.ensures c.in-Some-next.ensures h
-    (ap not (sym c.is_wrapped.ensures)) k (λ f. p W r h f))
-    c.print_node.ensures
+    (ap not (sym c.is_wrapped.ensures)) k (λ f. c.print_node.ensures.laid W r h f)
 
-pub print_node-returns : goal.print_node-returns
-print_node-returns t c =
-    on_ok_weaker c.print_direct.result (λ h W r g k.
-    printed_rowless W c.args.position (node_tree c.args.node) r c.args.depth (sym c.has_row.ensures ∙ c.if-has_row.false) g k (λ q u v. h W q u v))
-    c.print_direct.ensures
+pub print_node-returns-clause-laid : goal.print_node-returns-clause-laid
+print_node-returns-clause-laid g t c = λ W r h k.
+    printed_rowless W c.args.position (node_tree c.args.node) r c.args.depth (sym c.has_row.ensures ∙ c.if-has_row.false) h k (λ q u v. c.print_direct.ensures.laid W q u v)
 
-pub print_row-returns-then-not-next_row : goal.print_row-returns-then-not-next_row
-print_row-returns-then-not-next_row t c =
-    let x : NextRow c.args.sheet.now c.next_row.new.self false = record { flag = sym c.if-not-next_row.true ∙ c.next_row.ensures.flag; others = c.next_row.ensures.others; out = c.next_row.ensures.out; apart = c.next_row.ensures.apart } in
-    on_ok_weaker c.print_direct.result (λ h W r g e k.
-    printed_row W c.args.position (node_tree c.args.node) r c.args.depth x g e k (λ q u v. h W q u v))
-    c.print_direct.ensures
+pub print_row-returns-then-not-next_row-clause-laid : goal.print_row-returns-then-not-next_row-clause-laid
+print_row-returns-then-not-next_row-clause-laid g t c = λ W r h e k.
+    let x : NextRow (seen (g.O.Outlet.stands c.args.out.now c.args.sheet.now.room) c.args.sheet.now) (seen (g.O.Outlet.stands c.args.out.now c.next_row.new.self.room) c.next_row.new.self) false = record { flag = sym c.if-not-next_row.true ∙ c.next_row.ensures.flag; others = c.next_row.ensures.others; out = ap (λ r. g.O.Outlet.stands c.args.out.now r) c.next_row.ensures.room; apart = c.next_row.ensures.apart } in
+    printed_row W c.args.position (node_tree c.args.node) r c.args.depth x h e k (λ q u v. c.print_direct.ensures.laid W q u v)
 
-pub print_row-returns : goal.print_row-returns
-print_row-returns t c =
-    let x : NextRow c.args.sheet.now c.next_row.new.self true = record { flag = sym c.if-not-next_row.false ∙ c.next_row.ensures.flag; others = c.next_row.ensures.others; out = c.next_row.ensures.out; apart = c.next_row.ensures.apart } in
-    on_ok_weaker c.push-2.result (λ h W r g e k.
-    printed_inside W c.args.position (node_tree c.args.node) r c.args.depth x g e k c.in_ok-push.ensures.written (λ q u v. c.in_ok-print_direct.ensures W q u v) h)
-    c.push-2.ensures.written
+pub print_row-returns-clause-laid : goal.print_row-returns-clause-laid
+print_row-returns-clause-laid g t c = λ W r h e k.
+    let x : NextRow (seen (g.O.Outlet.stands c.args.out.now c.args.sheet.now.room) c.args.sheet.now) (seen (g.O.Outlet.stands c.args.out.now c.next_row.new.self.room) c.next_row.new.self) true = record { flag = sym c.if-not-next_row.false ∙ c.next_row.ensures.flag; others = c.next_row.ensures.others; out = ap (λ r. g.O.Outlet.stands c.args.out.now r) c.next_row.ensures.room; apart = c.next_row.ensures.apart } in
+    printed_inside W c.args.position (node_tree c.args.node) r c.args.depth x h e k c.push.ensures.written (λ q u v. c.print_direct-2.ensures.laid W q u v) c.push-2.ensures.written
 
-pub print_signed-returns : goal.print_signed-returns
-print_signed-returns t c = λ W r h k u v.
+pub print_signed-returns-clause-laid : goal.print_signed-returns-clause-laid
+print_signed-returns-clause-laid g t c = λ W r h k u v.
     let n = node_tree c.args.node in
     printed_signed W (text_of n) c.args.sign (parts_of n) r u v
-    (subst (λ w. Writes c.args.sheet.now c.push.new.self w) c.text.ensures c.in_ok-push.ensures.written)
-    (λ z. c.in_ok-push.ensures.parted (λ y. z (sym c.text.ensures ∙ y)))
-    c.set_apart.ensures.out c.set_apart.ensures.apart c.set_apart.ensures.wraps h
-    (λ q. c.in_ok-print_part.ensures W [] r q k)
-    c.join.ensures.out c.join.ensures.apart c.join.ensures.wraps
+    (subst (λ w. Writes (seen (g.O.Outlet.stands c.args.out.now c.args.sheet.now.room) c.args.sheet.now) (seen (g.O.Outlet.stands c.push.new.out c.push.new.self.room) c.push.new.self) w) c.text.ensures c.push.ensures.written)
+    (λ z. c.push.ensures.parted (λ y. z (sym c.text.ensures ∙ y)))
+    (ap (λ r. g.O.Outlet.stands c.push.new.out r) c.set_apart.ensures.room) c.set_apart.ensures.apart c.set_apart.ensures.wraps h
+    (λ q. c.print_part.ensures.laid W [] r q k)
+    (ap (λ r. g.O.Outlet.stands c.print_part.new.out r) c.join.ensures.room) c.join.ensures.apart c.join.ensures.wraps
+
+pub print_row-returns-clause-adds : goal.print_row-returns-clause-adds
+print_row-returns-clause-adds g t c = adds_from (ap (λ r. g.O.Outlet.stands c.args.out.now r) c.next_row.ensures.room) (adds_then (writes_adds c.push.ensures.written) (adds_then c.print_direct-2.ensures.adds (writes_adds c.push-2.ensures.written)))
+
+pub print_row-returns-then-not-next_row-clause-adds : goal.print_row-returns-then-not-next_row-clause-adds
+print_row-returns-then-not-next_row-clause-adds g t c = adds_from (ap (λ r. g.O.Outlet.stands c.args.out.now r) c.next_row.ensures.room) c.print_direct.ensures.adds
+
+pub print_signed-returns-clause-adds : goal.print_signed-returns-clause-adds
+print_signed-returns-clause-adds g t c = adds_then (writes_adds c.push.ensures.written) (adds_from (ap (λ r. g.O.Outlet.stands c.push.new.out r) c.set_apart.ensures.room) (adds_to (ap (λ r. g.O.Outlet.stands c.print_part.new.out r) c.join.ensures.room) c.print_part.ensures.adds))
+
+pub print_framed-returns-clause-adds : goal.print_framed-returns-clause-adds
+print_framed-returns-clause-adds g t c = adds_then c.print_front.ensures.adds (adds_then (writes_adds c.push_all.ensures) (adds_then c.print_list.ensures.adds (writes_adds c.push_all-2.ensures)))
+
+pub print_item-returns-clause-adds : goal.print_item-returns-clause-adds
+print_item-returns-clause-adds g t c = adds_then (writes_adds c.push_all.ensures) (adds_then c.print_part.ensures.adds (writes_adds c.push_all-2.ensures))

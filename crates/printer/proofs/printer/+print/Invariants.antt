@@ -5,46 +5,55 @@ use Rattle.positions.specs.Outlines.{parts_behind}
 use Rattle.positions.specs.Remaining.{remaining}
 use Rattle.printer.specs.Bits.{Mark, bits_of, chain_of}
 use Rattle.language.specs.Fits.{parts_fit}
+use Rattle.printer.specs.Standings.{Adds}
+use Rattle.printer.specs.Sheets.{seen}
 use Rattle.printer.specs.Printed.{Reads, Passed, front_marks, chain_marks}
 use Rattle.printer.proofs.printer.+print.Given as goal
 
 -- what was passed of the first parts, and what is left of them
 abbrev pub invariant-print_front-loop-index : goal.invariant-print_front-loop-index
-invariant-print_front-loop-index l =
-    (W : ℕ → Bool) → (ms : List Mark) → (r : ℕ) → Reads W r l.fn.sheet.wraps.now → parts_fit W (parts_of (node_tree l.fn.node)) (remaining l.fn.walk.positions) r ≡ true →
-    Passed W l.fn.sheet l.sheet (front_marks (text_of (node_tree l.fn.node)) (map (λ p. bits_of p.now) l.fn.front) ms) (front_marks (text_of (node_tree l.fn.node)) (map (λ p. bits_of p.now) (drop l.index l.fn.front)) ms)
-    (parts_of (node_tree l.fn.node)) (parts_behind l.index (parts_of (node_tree l.fn.node))) (remaining l.fn.walk.positions) (remaining l.walk.positions) l.fn.walk.alone l.walk.alone l.fn.depth r
+invariant-print_front-loop-index g l = record {
+  laid : (W : ℕ → Bool) → (ms : List Mark) → (r : ℕ) → Reads W r l.fn.sheet.wraps.now → parts_fit W (parts_of (node_tree l.fn.node)) (remaining l.fn.walk.positions) r ≡ true →
+      Passed W (seen (g.O.Outlet.stands l.fn.out l.fn.sheet.room) l.fn.sheet) (seen (g.O.Outlet.stands l.out l.sheet.room) l.sheet) (front_marks (text_of (node_tree l.fn.node)) (map (λ p. bits_of p.now) l.fn.front) ms) (front_marks (text_of (node_tree l.fn.node)) (map (λ p. bits_of p.now) (drop l.index l.fn.front)) ms)
+      (parts_of (node_tree l.fn.node)) (parts_behind l.index (parts_of (node_tree l.fn.node))) (remaining l.fn.walk.positions) (remaining l.walk.positions) l.fn.walk.alone l.walk.alone l.fn.depth r;
+  adds : Adds (g.O.Outlet.stands l.fn.out l.fn.sheet.room) (g.O.Outlet.stands l.out l.sheet.room);
+}
 
 -- the same of the others
 abbrev pub invariant-print_list-loop-index : goal.invariant-print_list-loop-index
-invariant-print_list-loop-index l =
-    (W : ℕ → Bool) → (ms : List Mark) → (r : ℕ) → Reads W r l.fn.sheet.wraps.now → parts_fit W (parts_behind l.fn.from (parts_of (node_tree l.fn.node))) (remaining l.fn.walk.positions) r ≡ true →
-    Passed W l.fn.sheet l.sheet (chain_marks (text_of (node_tree l.fn.node)) (chain_of l.fn.series) (parts_behind l.fn.from (parts_of (node_tree l.fn.node))) ++ ms) (chain_marks (text_of (node_tree l.fn.node)) (chain_of l.fn.series) (parts_behind l.index (parts_of (node_tree l.fn.node))) ++ ms)
-    (parts_behind l.fn.from (parts_of (node_tree l.fn.node))) (parts_behind l.index (parts_of (node_tree l.fn.node))) (remaining l.fn.walk.positions) (remaining l.walk.positions) l.fn.walk.alone l.walk.alone l.fn.depth r
+invariant-print_list-loop-index g l = record {
+  laid : (W : ℕ → Bool) → (ms : List Mark) → (r : ℕ) → Reads W r l.fn.sheet.wraps.now → parts_fit W (parts_behind l.fn.from (parts_of (node_tree l.fn.node))) (remaining l.fn.walk.positions) r ≡ true →
+      Passed W (seen (g.O.Outlet.stands l.fn.out l.fn.sheet.room) l.fn.sheet) (seen (g.O.Outlet.stands l.out l.sheet.room) l.sheet) (chain_marks (text_of (node_tree l.fn.node)) (chain_of l.fn.series) (parts_behind l.fn.from (parts_of (node_tree l.fn.node))) ++ ms) (chain_marks (text_of (node_tree l.fn.node)) (chain_of l.fn.series) (parts_behind l.index (parts_of (node_tree l.fn.node))) ++ ms)
+      (parts_behind l.fn.from (parts_of (node_tree l.fn.node))) (parts_behind l.index (parts_of (node_tree l.fn.node))) (remaining l.fn.walk.positions) (remaining l.walk.positions) l.fn.walk.alone l.walk.alone l.fn.depth r;
+  adds : Adds (g.O.Outlet.stands l.fn.out l.fn.sheet.room) (g.O.Outlet.stands l.out l.sheet.room);
+}
 
 abbrev pub decreases-print_part : goal.decreases-print_part
-decreases-print_part l = 8 * node_total (node_tree l.node)
+decreases-print_part g l = 8 * node_total (node_tree l.node)
 
 abbrev pub decreases-print_item : goal.decreases-print_item
-decreases-print_item l = 8 * node_total (node_tree l.node) + 1
+decreases-print_item g l = 8 * node_total (node_tree l.node) + 1
 
 abbrev pub decreases-print_list : goal.decreases-print_list
-decreases-print_list l = 8 * node_total (node_tree l.node) + 2
+decreases-print_list g l = 8 * node_total (node_tree l.node) + 2
 
 abbrev pub decreases-print_front : goal.decreases-print_front
-decreases-print_front l = 8 * node_total (node_tree l.node) + 2
+decreases-print_front g l = 8 * node_total (node_tree l.node) + 2
 
 abbrev pub decreases-print_framed : goal.decreases-print_framed
-decreases-print_framed l = 8 * node_total (node_tree l.node) + 3
+decreases-print_framed g l = 8 * node_total (node_tree l.node) + 3
 
 abbrev pub decreases-print_signed : goal.decreases-print_signed
-decreases-print_signed l = 8 * node_total (node_tree l.node) + 3
+decreases-print_signed g l = 8 * node_total (node_tree l.node) + 3
 
 abbrev pub decreases-print_direct : goal.decreases-print_direct
-decreases-print_direct l = 8 * node_total (node_tree l.node) + 4
+decreases-print_direct g l = 8 * node_total (node_tree l.node) + 5
+
+abbrev pub decreases-print_spelled : goal.decreases-print_spelled
+decreases-print_spelled g l = 8 * node_total (node_tree l.node) + 4
 
 abbrev pub decreases-print_node : goal.decreases-print_node
-decreases-print_node l = 8 * node_total (node_tree l.node) + 6
+decreases-print_node g l = 8 * node_total (node_tree l.node) + 7
 
 abbrev pub decreases-print_row : goal.decreases-print_row
-decreases-print_row l = 8 * node_total (node_tree l.node) + 5
+decreases-print_row g l = 8 * node_total (node_tree l.node) + 6

@@ -4,7 +4,7 @@ use Rattle.phrases.specs.declared.statements.Beginning.TheVariants as code
 use Rattle.std.proofs.Common.{rules, ◌≡◌, ◌≤◌, true, false, sym, refl, ap, subst, ◌∙◌, arith, ◌+◌, ◌-◌, ◌<◌, length, set, Some, Ok, Err, suc, ◌⊎◌, inl, inr}
 use Rattle.std.specs.Prelude.{◌&&◌, not, [], Some, true, false, codes, IsTrue, IfOk, None, map}
 use Rattle.std.proofs.lemmas.Bool.{false≢true}
-use Rattle.tree.specs.declared.kind.Kind.TheVariants.{ChainExpression, SwitchCase, VariableDeclarator, ArrowFunctionExpression, Identifier, Property, AssignmentExpression, UpdateExpression, SequenceExpression, BlockStatement, CatchClause, ImportExpression, NewExpression}
+use Rattle.tree.specs.declared.kind.Kind.TheVariants.{ChainExpression, SwitchCase, VariableDeclarator, ArrowFunctionExpression, Identifier, Property, AssignmentExpression, UpdateExpression, SequenceExpression, BlockStatement, CatchClause, CallExpression, ImportExpression, MemberExpression, NewExpression}
 use Rattle.tree.specs.Tree.{node, plain, kind_of, part, gap, none, push, push_gap, height, parts_height, flags_of, join}
 use Rattle.tokens.specs.Scanned.{token_of}
 use Rattle.tokens.specs.declared.token.Class.TheVariants.{Name, Punctuator}
@@ -20,13 +20,19 @@ use Rattle.covers.specs.declared.list.Item.{Item}
 use Rattle.covers.specs.declared.list.Listed.TheVariants.{Cases, Declarators, Elements, Members, Properties, Sequence}
 use Rattle.covers.specs.Patterns.{pattern_tree, pattern_parts}
 use Rattle.language.specs.Words.{is_target as is_simple, takes, is_identifier}
-use Rattle.descent.specs.Derived.{Adds, ReadAt, ArrowAt, RunsIn, anywhere}
+use Rattle.descent.specs.Derived.{Adds, ReadAt, WordedAt, ArrowAt, RunsIn, anywhere}
+use Rattle.descent.specs.Complete.{WordedComplete}
+use Rattle.phrases.specs.declared.openings.Opening.TheVariants.{Super, New, Import}
+use Rattle.phrases.specs.Moves.{BeginsList}
+use Rattle.descent.specs.Arms.{is_apart}
+use Rattle.descent.proofs.Shorts.{is_other_list, no_short, not_apart, of_elements, short_opening}
 use Rattle.phrases.specs.Outcomes.{BeginsBy, IsPlaceHere}
 use Rattle.phrases.specs.Items.{group_levels, is_grouped, list_group, after_item, item_from, with_item, listed_node, listed_part, property_item}
 use Rattle.token_cursor.specs.Point.{Point}
 use Rattle.phrases.specs.declared.part.Part.{Part}
 use Rattle.phrases.specs.Methods.{member_flags}
 use Rattle.descent.specs.Links.{link_kind, link_flags, link_rank}
+use Rattle.descent.specs.declared.links.Linked.TheVariants.{Arguments, Index}
 use Rattle.phrases.specs.Parts.{plain_part, part_from}
 use Rattle.phrases.specs.Tokens.{single_node}
 use Rattle.productions.specs.Made.{Makes}
@@ -73,7 +79,7 @@ use Rattle.descent.proofs.MethodItems.{method_node, method_item}
 use Rattle.covers.specs.Lists.{closing}
 use Rattle.descent.specs.declared.position.Parser.{Parser}
 use Rattle.descent.proofs.ListEnds.{ItemsFrom, closed_list, last_follows, none_follows}
-use Rattle.descent.proofs.position.Parser.+grammar.Goals.{declarator-else-has_value+in_ok-push_gap, declarator-else-not-is_name, declarator-then-has_value+in_ok-value+in_ok-settle+in_ok-push, declarator-then-not-is_name, definition-else-in_class, definition-else-not-in_class-via-else-not-in_class, definition-else-not-in_class-via-then-not-in_class+else-accept, definition-else-not-matches, definition-in-Method, definition-in_default, definition-then-in_class, definition-then-not-matches, item-else-is_default, item-in_default-via-in-Elements+else-sees, item-in_default-via-in_default, item-then-is_default+in_ok-push_gap-in-Cases, linked-in-Arguments+in_ok-arguments-in-Arguments+in_ok-append-in-Arguments, linked-in-Call, linked-in-Index+in_ok-expect-in-Index+in_ok-index-in-Index+in_ok-settle-in-Index+in_ok-push-in-Index+in_ok-expect-in-Index-2, linked-in-Name+in_ok-name-in-Name+in_ok-single-in-Name+in_ok-push-in-Name, linked-in-Quasi+in_ok-list-in-Quasi+in_ok-list-in-Quasi-2+in_ok-listed-in-Quasi+in_ok-push-in-Quasi, linked-in_default, list-else-items-test, list-else-not-matches, list-in-Sequence, list-in-Some+in_ok-expect, list-in_default, list-in_default-closing, list-then-items-test+in_ok-item+then-not-is_separated, list-then-not-matches, pieces-in-Binding+in_ok-part-in-Binding+in_ok-put_expression-in-Binding, pieces-in-Block+in_ok-left-in-Block+in_ok-list-in-Block+in_ok-expect-in-Block+in_ok-plain-in-Block+in_ok-push-in-Block, pieces-in-Expression+in_ok-part-in-Expression+in_ok-put_expression-in-Expression, pieces-in-Gap+in_ok-push_gap-in-Gap, pieces-in-Handler+in_ok-pieces-in-Handler+in_ok-plain-in-Handler+in_ok-push-in-Handler, pieces-in-Items+in_ok-statements-in-Items+in_ok-append-in-Items, pieces-in-List+in_ok-list-in-List+in_ok-list-in-List-2+in_ok-put_list-in-List, pieces-in-Nothing, pieces-in-Statement+in_ok-statement-in-Statement+in_ok-push-in-Statement, sided-in-Asks+in_ok-part+in_ok-settle+in_ok-push+in_ok-expect, sided-in_default, statement-else-eq, statement-in-Expression+in_ok-part-in-Expression+else-not-is_label+in_ok-push-in-Expression, statement-in-Headed, statement-in-Variable, statement-in_default, statement-then-eq+in_ok-what+in_ok-pieces-2, statements-else-context, statements-then-context, value_of-else-accept-2, value_of-then-accept-2+in_ok-right+in_ok-settle+in_ok-nodes-2+in_ok-value-3, worded-else-sees, worded-then-sees+in_ok-arguments-in-New-2+in_ok-append-in-New-2, opening-else-is_name-via-else-is_name, opening-else-is_name-via-then-is_name+else-sees_arrow, opening-else-is_name-via-then-is_name+then-sees_arrow+else-position_takes, worded-in_default-via-in-Super+else-sees_base, worded-in_default-via-in_default, parenthesized-else-sees_arrow-via-else-sees_arrow, parenthesized-else-sees_arrow-via-then-sees_arrow+else-position_takes}
+use Rattle.descent.proofs.position.Parser.+grammar.Goals.{declarator-else-has_value+in_ok-push_gap, declarator-else-not-is_name, declarator-then-has_value+in_ok-value+in_ok-settle+in_ok-push, declarator-then-not-is_name, definition-else-in_class, definition-else-not-in_class-via-else-not-in_class, definition-else-not-in_class-via-then-not-in_class+else-accept, definition-else-not-matches, definition-in-Method, definition-in_default, definition-then-in_class, definition-then-not-matches, other_item-else-is_default, item-in_default-via-in-Elements+else-sees, item-in_default-via-in_default, other_item-then-is_default+in_ok-push_gap-in-Cases, selected-in-Arguments+in_ok-arguments-in-Arguments+in_ok-append-in-Arguments, indexed-in-Call, indexed-in_default, selected-in-Call, selected-in-Index+in_ok-expect-in-Index+in_ok-index-in-Index+in_ok-settle-in-Index+in_ok-push-in-Index+in_ok-expect-in-Index-2, selected-in-Name+in_ok-name-in-Name+in_ok-single-in-Name+in_ok-push-in-Name, selected-in-Quasi+in_ok-list-in-Quasi+in_ok-list-in-Quasi-2+in_ok-listed-in-Quasi+in_ok-push-in-Quasi, selected-in_default, list-else-items-test, list-else-not-matches, list-in-Sequence, list-in-Some+in_ok-expect, list-in_default, list-in_default-closing, list-then-items-test+in_ok-item+then-not-is_separated, list-then-not-matches, pieces-in-Binding+in_ok-part-in-Binding+in_ok-put_expression-in-Binding, pieces-in-Block+in_ok-left-in-Block+in_ok-list-in-Block+in_ok-expect-in-Block+in_ok-plain-in-Block+in_ok-push-in-Block, pieces-in-Expression+in_ok-part-in-Expression+in_ok-put_expression-in-Expression, pieces-in-Gap+in_ok-push_gap-in-Gap, pieces-in-Handler+in_ok-pieces-in-Handler+in_ok-plain-in-Handler+in_ok-push-in-Handler, pieces-in-Items+in_ok-statements-in-Items+in_ok-append-in-Items, pieces-in-List+in_ok-list-in-List+in_ok-list-in-List-2+in_ok-put_list-in-List, pieces-in-Nothing, pieces-in-Statement+in_ok-statement-in-Statement+in_ok-push-in-Statement, sided-in-Asks+in_ok-part+in_ok-settle+in_ok-push+in_ok-expect, sided-in_default, statement-else-eq, statement-in-Expression+in_ok-part-in-Expression+else-not-is_label+in_ok-push-in-Expression, statement-in-Headed, statement-in-Variable, statement-in_default, statement-then-eq+in_ok-what+in_ok-pieces-2, statements-else-context, statements-then-context, value_of-else-accept-2, value_of-then-accept-2+in_ok-right+in_ok-settle+in_ok-nodes-2+in_ok-value-3, created-else-sees, created-then-sees+in_ok-arguments+in_ok-append, short-else-is_name-via-else-is_name, short-else-is_name-via-then-is_name+else-sees_arrow, short-else-is_name-via-then-is_name+then-sees_arrow+else-position_takes, parenthesized-else-sees_arrow-via-else-sees_arrow, parenthesized-else-sees_arrow-via-then-sees_arrow+else-position_takes}
 use Rattle.language.specs.Follow.{operation}
 use Rattle.descent.proofs.Staging.{starts}
 use Rattle.descent.proofs.Concluding.{concluded, stage_first, stage_next, stage_turned, same_room}
@@ -104,6 +110,7 @@ use Rattle.language.specs.Opening.{opening_of}
 use Rattle.phrases.specs.Openings.{coded_opening}
 use Rattle.language.specs.Covers.{as_expression}
 use Rattle.language.specs.declared.Start.TheVariants.{Any}
+use Rattle.language.specs.Claims.{max_open}
 use Rattle.descent.proofs.ArrowGiven.{arrow_unsigned, arrow_block_refused, arrow_block_high, arrow_block_done, arrow_value_refused, arrow_value_settles, arrow_value_high, arrow_value_done}
 use Rattle.descent.proofs.ParenthesizedGiven.{paren_unopened, paren_list_refused, paren_unbound, paren_arrow_done, paren_group_done, opened_here, arrow_missed}
 use Rattle.descent.proofs.Forward.{place_mark}
@@ -398,104 +405,101 @@ declarator-returns-clause-complete t c =
 pub item-returns-in-Elements-clause-low : goal.item-returns-in-Elements-clause-low
 item-returns-in-Elements-clause-low t c = low_hole c.args.list.now _ c.args.high c.push_hole.result c.push_hole.ensures.pushed
 
-pub item-returns-in_ok-item-in-Properties-clause-low : goal.item-returns-in_ok-item-in-Properties-clause-low
-item-returns-in_ok-item-in-Properties-clause-low t c = low_item c.args.list.now _ c.in_ok-item-in-Properties.item c.args.high c.push.result c.push.ensures.pushed c.in_ok-item-in-Properties.ensures.low
+pub other_item-returns-in_ok-item-in-Properties-clause-low : goal.other_item-returns-in_ok-item-in-Properties-clause-low
+other_item-returns-in_ok-item-in-Properties-clause-low t c = low_item c.args.list.now _ c.in_ok-item-in-Properties.item c.args.high c.push.result c.push.ensures.pushed c.in_ok-item-in-Properties.ensures.low
 
-pub item-returns-in_ok-item-in-Properties-clause-derived : goal.item-returns-in_ok-item-in-Properties-clause-derived
-item-returns-in_ok-item-in-Properties-clause-derived t c = taken_item c.args.list.now _ c.in_ok-item-in-Properties.item _ c.push.result (ap is_chunked c.in-Properties.is) c.push.ensures.pushed c.push.ensures.taken (not_covers c.args.list.now.listed Properties c.in-Properties.is refl) (of_text c.in_ok-item-in-Properties.item c.in-Properties.is c.in_ok-item-in-Properties.ensures.derived)
+pub other_item-returns-in_ok-item-in-Properties-clause-derived : goal.other_item-returns-in_ok-item-in-Properties-clause-derived
+other_item-returns-in_ok-item-in-Properties-clause-derived t c = taken_item c.args.list.now _ c.in_ok-item-in-Properties.item _ c.push.result (ap is_chunked c.in-Properties.is) c.push.ensures.pushed c.push.ensures.taken (not_covers c.args.list.now.listed Properties c.in-Properties.is refl) (of_text c.in_ok-item-in-Properties.item c.in-Properties.is c.in_ok-item-in-Properties.ensures.derived)
 
-pub item-returns-in_ok-item-in-Members-clause-low : goal.item-returns-in_ok-item-in-Members-clause-low
-item-returns-in_ok-item-in-Members-clause-low t c = low_item c.args.list.now _ c.in_ok-item-in-Members.item c.args.high c.push-in-Members.result c.push-in-Members.ensures.pushed c.in_ok-item-in-Members.ensures.low
+pub other_item-returns-in_ok-item-in-Members-clause-low : goal.other_item-returns-in_ok-item-in-Members-clause-low
+other_item-returns-in_ok-item-in-Members-clause-low t c = low_item c.args.list.now _ c.in_ok-item-in-Members.item c.args.high c.push-in-Members.result c.push-in-Members.ensures.pushed c.in_ok-item-in-Members.ensures.low
 
-pub item-returns-in_ok-item-in-Members-clause-derived : goal.item-returns-in_ok-item-in-Members-clause-derived
-item-returns-in_ok-item-in-Members-clause-derived t c = taken_item c.args.list.now _ c.in_ok-item-in-Members.item _ c.push-in-Members.result (ap is_chunked c.in-Members.is) c.push-in-Members.ensures.pushed c.push-in-Members.ensures.taken (not_covers c.args.list.now.listed Members c.in-Members.is refl) (of_text c.in_ok-item-in-Members.item c.in-Members.is c.in_ok-item-in-Members.ensures.derived)
+pub other_item-returns-in_ok-item-in-Members-clause-derived : goal.other_item-returns-in_ok-item-in-Members-clause-derived
+other_item-returns-in_ok-item-in-Members-clause-derived t c = taken_item c.args.list.now _ c.in_ok-item-in-Members.item _ c.push-in-Members.result (ap is_chunked c.in-Members.is) c.push-in-Members.ensures.pushed c.push-in-Members.ensures.taken (not_covers c.args.list.now.listed Members c.in-Members.is refl) (of_text c.in_ok-item-in-Members.item c.in-Members.is c.in_ok-item-in-Members.ensures.derived)
 
-pub item-returns-in_ok-item-in-Declarators-clause-low : goal.item-returns-in_ok-item-in-Declarators-clause-low
-item-returns-in_ok-item-in-Declarators-clause-low t c = low_item c.args.list.now _ c.in_ok-item-in-Declarators.item c.args.high c.push-in-Declarators.result c.push-in-Declarators.ensures.pushed c.in_ok-item-in-Declarators.ensures.low
+pub other_item-returns-in_ok-item-in-Declarators-clause-low : goal.other_item-returns-in_ok-item-in-Declarators-clause-low
+other_item-returns-in_ok-item-in-Declarators-clause-low t c = low_item c.args.list.now _ c.in_ok-item-in-Declarators.item c.args.high c.push-in-Declarators.result c.push-in-Declarators.ensures.pushed c.in_ok-item-in-Declarators.ensures.low
 
-pub item-returns-in_ok-item-in-Declarators-clause-derived : goal.item-returns-in_ok-item-in-Declarators-clause-derived
-item-returns-in_ok-item-in-Declarators-clause-derived t c = taken_item c.args.list.now _ c.in_ok-item-in-Declarators.item _ c.push-in-Declarators.result (ap is_chunked c.in-Declarators.is) c.push-in-Declarators.ensures.pushed c.push-in-Declarators.ensures.taken
+pub other_item-returns-in_ok-item-in-Declarators-clause-derived : goal.other_item-returns-in_ok-item-in-Declarators-clause-derived
+other_item-returns-in_ok-item-in-Declarators-clause-derived t c = taken_item c.args.list.now _ c.in_ok-item-in-Declarators.item _ c.push-in-Declarators.result (ap is_chunked c.in-Declarators.is) c.push-in-Declarators.ensures.pushed c.push-in-Declarators.ensures.taken
     (not_covers c.args.list.now.listed (Declarators c.in-Declarators.has_in) c.in-Declarators.is refl) (of_text c.in_ok-item-in-Declarators.item c.in-Declarators.is c.in_ok-item-in-Declarators.ensures.derived)
 
-pub item-returns-in_ok-next_chunk-in-Template-clause-low : goal.item-returns-in_ok-next_chunk-in-Template-clause-low
-item-returns-in_ok-next_chunk-in-Template-clause-low t c =
+pub other_item-returns-in_ok-next_chunk-in-Template-clause-low : goal.other_item-returns-in_ok-next_chunk-in-Template-clause-low
+other_item-returns-in_ok-next_chunk-in-Template-clause-low t c =
     let settled = c.in_ok-settle-in-Template.ensures.settled in
     let first = c.in_ok-push-in-Template.ensures.pushed ∙ ap (with_item c.args.list.now) (c.plain.ensures ∙ ap (λ n. item_from n value false Closed) settled.0) in
     low_chunk c.next_chunk.new.self.cursor.text _ c.next_chunk.new.self.cursor.last c.args.list.now c.push-in-Template.new.self _ c.in_ok-part-in-Template.part c.in_ok-next_chunk-in-Template.field-0 c.args.high c.push-in-Template-2.result first c.push-in-Template-2.ensures.pushed c.in_ok-part-in-Template.ensures.low
     (subst (λ t. ChunkAt t c.expression.new.self.cursor.last c.next_chunk.new.self.cursor.last c.in_ok-next_chunk-in-Template.field-0.node c.in_ok-next_chunk-in-Template.field-0.is_marked) (sym c.next_chunk.ensures.text) c.in_ok-next_chunk-in-Template.ensures.read)
 
-pub item-returns-in_ok-next_chunk-in-Template-clause-derived : goal.item-returns-in_ok-next_chunk-in-Template-clause-derived
-item-returns-in_ok-next_chunk-in-Template-clause-derived t c =
+pub other_item-returns-in_ok-next_chunk-in-Template-clause-derived : goal.other_item-returns-in_ok-next_chunk-in-Template-clause-derived
+other_item-returns-in_ok-next_chunk-in-Template-clause-derived t c =
     let settled = c.in_ok-settle-in-Template.ensures.settled in
     let first = c.in_ok-push-in-Template.ensures.pushed ∙ ap (with_item c.args.list.now) (c.plain.ensures ∙ ap (λ n. item_from n value false Closed) settled.0) in
     chunk_item _ c.args.list.now c.push-in-Template.new.self _ c.in_ok-part-in-Template.part c.in_ok-next_chunk-in-Template.field-0 c.push-in-Template-2.result refl c.in-Template.is first c.push-in-Template-2.ensures.pushed c.expression.ensures.text c.in_ok-part-in-Template.ensures.derived settled.1 c.next_chunk.ensures.same_open c.next_chunk.ensures.same_pairs c.in_ok-next_chunk-in-Template.ensures.read
 
-pub item-returns-in_ok-item-in-Sequence-clause-low : goal.item-returns-in_ok-item-in-Sequence-clause-low
-item-returns-in_ok-item-in-Sequence-clause-low t c =
+pub other_item-returns-in_ok-item-in-Sequence-clause-low : goal.other_item-returns-in_ok-item-in-Sequence-clause-low
+other_item-returns-in_ok-item-in-Sequence-clause-low t c =
     low_item c.args.list.now _ c.in_ok-item-in-Sequence.item c.args.high c.push-in-Sequence.result c.push-in-Sequence.ensures.pushed
     (element_low false c.place-start.result c.expression-in-Sequence.new.self.cursor.last.stop c.in_ok-part-in-Sequence.part c.in_ok-item-in-Sequence.item c.args.high c.in_ok-item-in-Sequence.ensures.made.0 c.in_ok-item-in-Sequence.ensures.made.1 (λ h. c.in_ok-part-in-Sequence.ensures.low))
 
-pub item-returns-in_ok-item-in-Sequence-clause-derived : goal.item-returns-in_ok-item-in-Sequence-clause-derived
-item-returns-in_ok-item-in-Sequence-clause-derived t c =
+pub other_item-returns-in_ok-item-in-Sequence-clause-derived : goal.other_item-returns-in_ok-item-in-Sequence-clause-derived
+other_item-returns-in_ok-item-in-Sequence-clause-derived t c =
     taken_item c.args.list.now _ c.in_ok-item-in-Sequence.item _ c.push-in-Sequence.result (ap is_chunked c.in-Sequence.is) c.push-in-Sequence.ensures.pushed c.push-in-Sequence.ensures.taken
     (not_covers c.args.list.now.listed (Sequence c.in-Sequence.has_in) c.in-Sequence.is refl)
     (of_text c.in_ok-item-in-Sequence.item c.in-Sequence.is (alone_item (Sequence c.in-Sequence.has_in) c.place-start.result c.in_ok-part-in-Sequence.part c.in_ok-item-in-Sequence.item c.at.ensures refl c.in_ok-item-in-Sequence.ensures.made.0 c.in_ok-part-in-Sequence.ensures.derived))
 
-pub item-returns-then-accept-clause-derived : goal.item-returns-then-accept-clause-derived
-item-returns-then-accept-clause-derived t c =
+pub spread_item-returns-clause-derived : goal.spread_item-returns-clause-derived
+spread_item-returns-clause-derived t c =
+    let kind = of_elements c.args.list.now.listed c.requires.element in
+    let part = c.in_ok-part.part in
+    let item = c.in_ok-item.item in
+    let made = c.in_ok-item.ensures.made.0 in
+    let is = elements_only c.args.list.now.listed kind in
+    taken_item c.args.list.now _ item _ c.push.result is.2 c.push.ensures.pushed c.push.ensures.taken
+    (λ covers alone. never_spreads _ _ part item made alone)
+    (spread_item c.args.list.now.listed c.place-start.result part item refl is.0 is.1 made c.place-start.ensures.starts c.in_ok-expect.ensures.accepted.0 c.expect.ensures.text c.expect.ensures.same_open c.expect.ensures.same_pairs c.in_ok-part.ensures.derived)
+
+pub spread_item-returns-clause-low : goal.spread_item-returns-clause-low
+spread_item-returns-clause-low t c =
+    low_item c.args.list.now _ c.in_ok-item.item c.args.high c.push.result c.push.ensures.pushed
+    (element_low true c.place-start.result c.expression.new.self.cursor.last.stop c.in_ok-part.part c.in_ok-item.item c.args.high c.in_ok-item.ensures.made.0 c.in_ok-item.ensures.made.1 (λ h. cc))
+
+pub item-returns-in_ok-item-in_default-clause-low : goal.item-returns-in_ok-item-in_default-clause-low
+item-returns-in_ok-item-in_default-clause-low t c =
+    low_item c.args.list.now _ c.in_ok-item-in_default.item c.args.high c.push.result c.push.ensures.pushed
+    (element_low false c.place-start.result c.expression.new.self.cursor.last.stop c.in_ok-part-in_default.part c.in_ok-item-in_default.item c.args.high c.in_ok-item-in_default.ensures.made.0 c.in_ok-item-in_default.ensures.made.1 (λ h. c.in_ok-part-in_default.ensures.low))
+
+pub item-returns-in_ok-item-in_default-clause-derived : goal.item-returns-in_ok-item-in_default-clause-derived
+item-returns-in_ok-item-in_default-clause-derived t c =
     let kind : (lists_elements c.args.list.now.listed && not (asks_edge c.args.list.now.listed)) ≡ true = elim c.in_default.branch [
       | item-in_default-via-in-Elements+else-sees w ↦ is_an_element c.args.list.now.listed Elements w.in-Elements.is refl
       | item-in_default-via-in_default w ↦ default_kind c.args.list.now.listed w.in_default.not-Properties w.in_default.not-Members w.in_default.not-Template w.in_default.not-Sequence w.in_default.not-Declarators w.in_default.not-Cases
     ] in
+    let is = elements_only c.args.list.now.listed kind in
     let part = c.in_ok-part-in_default.part in
     let item = c.in_ok-item-in_default.item in
     let made = c.in_ok-item-in_default.ensures.made.0 in
-    let is = elements_only c.args.list.now.listed kind in
-    taken_item c.args.list.now _ item _ c.push-then-accept.result is.2 c.push-then-accept.ensures.pushed c.push-then-accept.ensures.taken
-    (λ covers alone. never_spreads _ _ part item made alone)
-    (spread_item c.args.list.now.listed c.place-start.result part item refl is.0 is.1 made c.place-start.ensures.starts c.if-accept.ensures.accepted c.accept.ensures.text c.accept.ensures.same_open c.accept.ensures.same_pairs c.in_ok-part-in_default.ensures.derived)
+    taken_item c.args.list.now _ item _ c.push.result is.2 c.push.ensures.pushed c.push.ensures.taken
+    (λ covers alone target. subst (λ x. is_simple (kind_of x) ≡ true) (sym (ap (λ (x : Item). x.node) made)) (simple_part part refl c.in_ok-part-in_default.ensures.derived (sym (ap (λ (x : Item). is_target x.shape.assigned) made) ∙ target)))
+    (alone_behind c.args.list.now.listed c.place-start.result part item refl is.0 is.1 made refl refl refl refl c.in_ok-part-in_default.ensures.derived)
 
-pub item-returns-then-accept-clause-low : goal.item-returns-then-accept-clause-low
-item-returns-then-accept-clause-low t c =
-    low_item c.args.list.now _ c.in_ok-item-in_default.item c.args.high c.push-then-accept.result c.push-then-accept.ensures.pushed
-    (element_low true c.place-start.result c.expression-then-accept.new.self.cursor.last.stop c.in_ok-part-in_default.part c.in_ok-item-in_default.item c.args.high c.in_ok-item-in_default.ensures.made.0 c.in_ok-item-in_default.ensures.made.1 (λ h. cc))
-
-pub item-returns-in_ok-item-in_default-2-clause-low : goal.item-returns-in_ok-item-in_default-2-clause-low
-item-returns-in_ok-item-in_default-2-clause-low t c =
-    low_item c.args.list.now _ c.in_ok-item-in_default-2.item c.args.high c.push-in_default.result c.push-in_default.ensures.pushed
-    (element_low false c.place-start.result c.expression-in_default.new.self.cursor.last.stop c.in_ok-part-in_default-2.part c.in_ok-item-in_default-2.item c.args.high c.in_ok-item-in_default-2.ensures.made.0 c.in_ok-item-in_default-2.ensures.made.1 (λ h. c.in_ok-part-in_default-2.ensures.low))
-
-pub item-returns-in_ok-item-in_default-2-clause-derived : goal.item-returns-in_ok-item-in_default-2-clause-derived
-item-returns-in_ok-item-in_default-2-clause-derived t c =
-    let kind : (lists_elements c.args.list.now.listed && not (asks_edge c.args.list.now.listed)) ≡ true = elim c.in_default.branch [
-      | item-in_default-via-in-Elements+else-sees w ↦ is_an_element c.args.list.now.listed Elements w.in-Elements.is refl
-      | item-in_default-via-in_default w ↦ default_kind c.args.list.now.listed w.in_default.not-Properties w.in_default.not-Members w.in_default.not-Template w.in_default.not-Sequence w.in_default.not-Declarators w.in_default.not-Cases
-    ] in
-    let is = elements_only c.args.list.now.listed kind in
-    let part = c.in_ok-part-in_default-2.part in
-    let item = c.in_ok-item-in_default-2.item in
-    let made = c.in_ok-item-in_default-2.ensures.made.0 in
-    taken_item c.args.list.now _ item _ c.push-in_default.result is.2 c.push-in_default.ensures.pushed c.push-in_default.ensures.taken
-    (λ covers alone target. subst (λ x. is_simple (kind_of x) ≡ true) (sym (ap (λ (x : Item). x.node) made)) (simple_part part refl c.in_ok-part-in_default-2.ensures.derived (sym (ap (λ (x : Item). is_target x.shape.assigned) made) ∙ target)))
-    (alone_behind c.args.list.now.listed c.place-start.result part item refl is.0 is.1 made c.if-accept.ensures.missed.1 c.accept.ensures.text c.accept.ensures.same_open c.accept.ensures.same_pairs c.in_ok-part-in_default-2.ensures.derived)
-
-pub item-returns-in_ok-plain-in-Cases-clause-low : goal.item-returns-in_ok-plain-in-Cases-clause-low
-item-returns-in_ok-plain-in-Cases-clause-low t c =
+pub other_item-returns-in_ok-plain-in-Cases-clause-low : goal.other_item-returns-in_ok-plain-in-Cases-clause-low
+other_item-returns-in_ok-plain-in-Cases-clause-low t c =
     let d = c.in_ok-is_default-in-Cases.is_default in
     let it : Item = record { node = c.plain-item.result.node; shape = c.plain-item.result.shape; spreads = c.plain-item.result.spreads; is_marked = d; edge = c.plain-item.result.edge } in
     let tree : c.plain-item.result.node ≡ c.in_ok-plain-in-Cases.field-0 = ap (λ (x : Item). x.node) c.plain-item.ensures in
     low_item c.args.list.now _ it c.args.high c.push-in-Cases.result c.push-in-Cases.ensures.pushed (subst (λ x. height x ≤ c.args.high) (sym (tree ∙ c.in_ok-plain-in-Cases.ensures.0)) c.in_ok-plain-in-Cases.ensures.1)
 
-pub item-returns-in_ok-plain-in-Cases-clause-derived : goal.item-returns-in_ok-plain-in-Cases-clause-derived
-item-returns-in_ok-plain-in-Cases-clause-derived t c =
+pub other_item-returns-in_ok-plain-in-Cases-clause-derived : goal.other_item-returns-in_ok-plain-in-Cases-clause-derived
+other_item-returns-in_ok-plain-in-Cases-clause-derived t c =
     let d = c.in_ok-is_default-in-Cases.is_default in
     let it : Item = record { node = c.plain-item.result.node; shape = c.plain-item.result.shape; spreads = c.plain-item.result.spreads; is_marked = d; edge = c.plain-item.result.edge } in
     let tree : c.plain-item.result.node ≡ node SwitchCase [] plain c.place-start.result c.pieces.new.self.cursor.last.stop c.pieces.new.built.nodes = ap (λ (x : Item). x.node) c.plain-item.ensures ∙ c.in_ok-plain-in-Cases.ensures.0 ∙ (λ i. node SwitchCase [] plain (c.span_from-span.ensures i).start (c.span_from-span.ensures i).end c.pieces.new.built.nodes) in
     let item : it ≡ record { node = node SwitchCase [] plain c.place-start.result c.pieces.new.self.cursor.last.stop c.pieces.new.built.nodes; shape = value; spreads = false; is_marked = d; edge = Closed } =
     (λ i. record { node = tree i; shape = (c.plain-item.ensures i).shape; spreads = (c.plain-item.ensures i).spreads; is_marked = d; edge = (c.plain-item.ensures i).edge }) in
     let empty : c.if-is_default.built.nodes ≡ case_nodes d none = elim c.if-is_default.branch [
-      | item-then-is_default+in_ok-push_gap-in-Cases w ↦ ap (λ x. x.nodes) w.built-is ∙ w.in_ok-push_gap-in-Cases.ensures.pushed ∙ ap push_gap (ap (λ x. x.nodes) c.new-built.ensures) ∙ ap (λ b. case_nodes b none) (sym w.if-is_default.true)
-      | item-else-is_default w ↦ ap (λ x. x.nodes) w.built-is ∙ ap (λ x. x.nodes) c.new-built.ensures ∙ ap (λ b. case_nodes b none) (sym w.if-is_default.false)
+      | other_item-then-is_default+in_ok-push_gap-in-Cases w ↦ ap (λ x. x.nodes) w.built-is ∙ w.in_ok-push_gap-in-Cases.ensures.pushed ∙ ap push_gap (ap (λ x. x.nodes) c.new-built.ensures) ∙ ap (λ b. case_nodes b none) (sym w.if-is_default.true)
+      | other_item-else-is_default w ↦ ap (λ x. x.nodes) w.built-is ∙ ap (λ x. x.nodes) c.new-built.ensures ∙ ap (λ b. case_nodes b none) (sym w.if-is_default.false)
     ] in
     taken_item c.args.list.now _ it _ c.push-in-Cases.result (ap is_chunked c.in-Cases.is) c.push-in-Cases.ensures.pushed c.push-in-Cases.ensures.taken (not_covers c.args.list.now.listed (Cases c.in-Cases.returns) c.in-Cases.is refl)
     (of_text it c.in-Cases.is (case_taken c.in-Cases.returns d c.place-start.result c.if-is_default.built c.pieces.new.built c.item-context.result _ it c.item-context.ensures c.case_pieces.ensures c.place-start.ensures.starts c.in_ok-is_default-in-Cases.ensures.accepted c.is_default.ensures.text c.is_default.ensures.same_open c.is_default.ensures.same_pairs empty c.in_ok-pieces-in-Cases.ensures.derived item))
@@ -631,7 +635,7 @@ parenthesized-returns-clause-derived t c =
     let w = in_parens c.args.self.now.cursor c.enter.new.self.cursor c.open.new.self.cursor c.list.new.self.cursor c.in_ok-list.list c.in_ok-list-2.list c.enter.ensures.text c.enter.ensures.last c.open.ensures.text c.open.ensures.same_open c.open.ensures.same_pairs c.in_ok-list.ensures.listed c.in_ok-list.ensures.begun c.in_ok-list-2.ensures.derived c.in_ok-list-2.ensures.same c.in_ok-list-2.ensures.seen c.in_ok-list-2.ensures.inside in
     let l = c.in_ok-list-2.list in
     let s = c.args.self.now.cursor in
-    let room : s.opened < 1000 = c.in_ok-place.ensures.opened.0 in
+    let room : s.opened < max_open = c.in_ok-place.ensures.opened.0 in
     let more_open : c.enter.new.self.cursor.opened ≡ s.opened + 1 = c.in_ok-place.ensures.opened.1 in
     let less_open = ap (λ (p : Point). p.opened) c.close.ensures.cursor ∙ c.leave-at.ensures.closed in
     let inner_open : c.list.new.self.cursor.opened ≡ c.enter.new.self.cursor.opened = w.1 in
@@ -658,13 +662,13 @@ parenthesized-returns-then-position_takes-clause-derived t c =
     let l = c.in_ok-list-2.list in
     let s = c.args.self.now.cursor in
     let k = c.leave-at.new.self.cursor in
-    let room : s.opened < 1000 = c.in_ok-place.ensures.opened.0 in
+    let room : s.opened < max_open = c.in_ok-place.ensures.opened.0 in
     let more_open : c.enter.new.self.cursor.opened ≡ s.opened + 1 = c.in_ok-place.ensures.opened.1 in
     let less_open = c.leave-at.ensures.closed in
     let inner_open : c.list.new.self.cursor.opened ≡ c.enter.new.self.cursor.opened = w.1 in
     let same_open : k.opened ≡ s.opened = omega arith in
     let texts : k.text ≡ s.text = c.leave-at.ensures.text ∙ c.list.ensures.text ∙ c.open.ensures.text ∙ c.enter.ensures.text in
-    let whole = subst (λ x. InParens s.text s.last c.open.new.self.cursor.last x (1000 - c.enter.new.self.cursor.opened) l c.enter.new.self.pairs.items c.list.new.self.pairs.items) (sym c.leave-at.ensures.last) w.0 in
+    let whole = subst (λ x. InParens s.text s.last c.open.new.self.cursor.last x (max_open - c.enter.new.self.cursor.opened) l c.enter.new.self.pairs.items c.list.new.self.pairs.items) (sym c.leave-at.ensures.last) w.0 in
     let sign = c.if-sees_arrow.ensures.seen in
     ok_map (λ part. Adds k c.arrow.new.self.cursor c.leave-at.new.self.pairs.items c.arrow.new.self.pairs.items (ArrowAt k.text c.args.position.has_in c.in_ok-parameters.parameters c.in_ok-place.start part)) (λ part. Adds s c.arrow.new.self.cursor c.args.self.now.pairs.items c.arrow.new.self.pairs.items (ReadAt s.text c.args.position part)) c.arrow.result c.arrow.ensures.derived (λ part a.
     arrow_read s c.enter.new.self.cursor k c.arrow.new.self.cursor l c.args.position c.in_ok-parameters.parameters c.in_ok-place.start part sign.0 room more_open c.in_ok-place.ensures.place.1 c.in_ok-place.ensures.pairs whole texts same_open c.leave-at.ensures.same_pairs c.in_ok-parameters.ensures.made.0 c.in_ok-parameters.ensures.made.1 sign.1 sign.2 (sym c.position_takes.ensures ∙ c.if-position_takes.true) a)
@@ -692,7 +696,7 @@ pub parenthesized-returns-then-position_takes-clause-complete : goal.parenthesiz
 parenthesized-returns-then-position_takes-clause-complete t c =
     let s = c.args.self.now.cursor in
     let here = opened_here s c.enter.new.self.cursor c.open.new.self.cursor c.in_ok-list.list c.enter.ensures.text c.enter.ensures.last c.in_ok-list.ensures.listed c.in_ok-list.ensures.begun in
-    let room : s.opened < 1000 = c.in_ok-place.ensures.opened.0 in
+    let room : s.opened < max_open = c.in_ok-place.ensures.opened.0 in
     let more_open : c.enter.new.self.cursor.opened ≡ s.opened + 1 = c.in_ok-place.ensures.opened.1 in
     let open_same : c.open.new.self.cursor.opened ≡ c.enter.new.self.cursor.opened = c.open.ensures.same_open in
     let list_same : c.list.new.self.cursor.opened ≡ c.open.new.self.cursor.opened = c.in_ok-list-2.ensures.derived.same_open in
@@ -708,7 +712,7 @@ parenthesized-returns-clause-complete t c =
     let here = opened_here s c.enter.new.self.cursor c.open.new.self.cursor c.in_ok-list.list c.enter.ensures.text c.enter.ensures.last c.in_ok-list.ensures.listed c.in_ok-list.ensures.begun in
     let w = in_parens c.args.self.now.cursor c.enter.new.self.cursor c.open.new.self.cursor c.list.new.self.cursor c.in_ok-list.list c.in_ok-list-2.list c.enter.ensures.text c.enter.ensures.last c.open.ensures.text c.open.ensures.same_open c.open.ensures.same_pairs c.in_ok-list.ensures.listed c.in_ok-list.ensures.begun c.in_ok-list-2.ensures.derived c.in_ok-list-2.ensures.same c.in_ok-list-2.ensures.seen c.in_ok-list-2.ensures.inside in
     let l = c.in_ok-list-2.list in
-    let room : s.opened < 1000 = c.in_ok-place.ensures.opened.0 in
+    let room : s.opened < max_open = c.in_ok-place.ensures.opened.0 in
     let more_open : c.enter.new.self.cursor.opened ≡ s.opened + 1 = c.in_ok-place.ensures.opened.1 in
     let less_open = ap (λ (p : Point). p.opened) c.close.ensures.cursor ∙ c.leave-at.ensures.closed in
     let inner_open : c.list.new.self.cursor.opened ≡ c.enter.new.self.cursor.opened = w.1 in
@@ -730,53 +734,53 @@ parenthesized-returns-clause-complete t c =
     c.list.new.self.cursor c.list.new.self.pairs.items c.in_ok-list-2.list (c.in_ok-list-2.ensures.same.0 ∙ c.in_ok-list.ensures.listed) c.in_ok-list-2.ensures.complete quiet
     c.close.new.self.cursor c.close.new.self.pairs.items (λ place. place ≡ c.leave-at.result) c.grouped.result c.grouped.ensures.made derived
 
-pub opening-returns-in_ok-list-in-List-2-clause-derived : goal.opening-returns-in_ok-list-in-List-2-clause-derived
-opening-returns-in_ok-list-in-List-2-clause-derived t c =
+pub bracketed-returns-clause-derived : goal.bracketed-returns-clause-derived
+bracketed-returns-clause-derived t c =
     let s = c.args.self.now.cursor in
-    let l0 = c.in_ok-list-in-List.list in
-    let l = c.in_ok-list-in-List-2.list in
-    let coded = c.in-Some.ensures.coded ∙ ap Some c.in-List.is in
+    let l0 = c.in_ok-list.list in
+    let l = c.in_ok-list-2.list in
+    let coded = c.requires.coded in
     makes_ok (listed_part l) (height (listed_node l)) c.args.high (λ part. Adds s c.list.new.self.cursor c.args.self.now.pairs.items c.list.new.self.pairs.items (ReadAt s.text c.args.position part)) c.listed.result c.listed.ensures.made (λ low.
-    list_read s c.open.new.self.cursor c.list.new.self.cursor l0 l c.args.position (token_of c.in-Some.token) c.in-List.what c.open.ensures.text c.open.ensures.same_open c.open.ensures.same_pairs c.in-Some.ensures.ahead coded c.in-Some.ensures.stands c.in_ok-list-in-List.ensures.listed c.in_ok-list-in-List.ensures.begun c.in_ok-list-in-List.ensures.template
-    c.in_ok-list-in-List-2.ensures.derived c.in_ok-list-in-List-2.ensures.same c.in_ok-list-in-List-2.ensures.seen)
+    list_read s c.open.new.self.cursor c.list.new.self.cursor l0 l c.args.position (token_of c.args.token) c.args.what c.open.ensures.text c.open.ensures.same_open c.open.ensures.same_pairs c.requires.ahead coded c.requires.stands c.in_ok-list.ensures.listed c.in_ok-list.ensures.begun c.in_ok-list.ensures.template
+    c.in_ok-list-2.ensures.derived c.in_ok-list-2.ensures.same c.in_ok-list-2.ensures.seen)
 
-pub opening-returns-in_ok-operand-in-Prefix-clause-derived : goal.opening-returns-in_ok-operand-in-Prefix-clause-derived
-opening-returns-in_ok-operand-in-Prefix-clause-derived t c =
+pub short-returns-in_ok-operand-in-Prefix-clause-derived : goal.short-returns-in_ok-operand-in-Prefix-clause-derived
+short-returns-in_ok-operand-in-Prefix-clause-derived t c =
     let s = c.args.self.now.cursor in
     let e = c.expression.new.self.cursor in
-    let t = token_of c.in-Some.token in
+    let t = token_of c.args.token in
     let r = c.in_ok-operand-in-Prefix.operand in
-    let coded = c.in-Some.ensures.coded ∙ ap Some c.in-Prefix.is in
+    let coded = c.requires.coded ∙ ap Some c.in-Prefix.is in
     yields_ok (prefixed_part (steps_before t.text) t.text t.start e.last.stop r) (IsPlaceHere e) (takes_operand (steps_before t.text) r.cover.shape) (height (prefixed_node (steps_before t.text) t.text t.start e.last.stop r.cover.node)) c.args.high (λ part. Adds s e c.args.self.now.pairs.items c.expression.new.self.pairs.items (ReadAt s.text c.args.position part)) c.prefixed.result c.prefixed.ensures.made (λ fits low.
-    prefix_read s c.pass.new.self.cursor e c.args.position c.at-side.result r t c.in-Prefix.field-0 c.in-Prefix.side c.pass.ensures.text c.pass.ensures.same_open c.pass.ensures.same_pairs c.pass.ensures.reads c.pass.ensures.last coded c.in-Some.ensures.stands c.at-side.ensures c.in_ok-operand-in-Prefix.ensures.derived fits)
+    prefix_read s c.pass.new.self.cursor e c.args.position c.at-side.result r t c.in-Prefix.field-0 c.in-Prefix.side c.pass.ensures.text c.pass.ensures.same_open c.pass.ensures.same_pairs c.pass.ensures.reads c.pass.ensures.last coded c.requires.stands c.at-side.ensures c.in_ok-operand-in-Prefix.ensures.derived fits)
 
-pub opening-returns-in_ok-operand-in-Prefix-clause-low : goal.opening-returns-in_ok-operand-in-Prefix-clause-low
-opening-returns-in_ok-operand-in-Prefix-clause-low t c =
+pub short-returns-in_ok-operand-in-Prefix-clause-low : goal.short-returns-in_ok-operand-in-Prefix-clause-low
+short-returns-in_ok-operand-in-Prefix-clause-low t c =
     let e = c.expression.new.self.cursor in
-    let t = token_of c.in-Some.token in
+    let t = token_of c.args.token in
     let r = c.in_ok-operand-in-Prefix.operand in
     yields_ok (prefixed_part (steps_before t.text) t.text t.start e.last.stop r) (IsPlaceHere e) (takes_operand (steps_before t.text) r.cover.shape) (height (prefixed_node (steps_before t.text) t.text t.start e.last.stop r.cover.node)) c.args.high (λ part. height part.cover.node ≤ c.args.high) c.prefixed.result c.prefixed.ensures.made (λ fits low.
     prefix_low (steps_before t.text) t.text t.start e.last.stop r c.args.high low)
 
-pub opening-returns-else-is_name-clause-derived : goal.opening-returns-else-is_name-clause-derived
-opening-returns-else-is_name-clause-derived t c =
+pub short-returns-else-is_name-clause-derived : goal.short-returns-else-is_name-clause-derived
+short-returns-else-is_name-clause-derived t c =
     let s = c.args.self.now.cursor in
     let m = c.pass-in-Single.new.self.cursor in
-    let coded = c.in-Some.ensures.coded ∙ ap Some c.in-Single.is in
+    let coded = c.requires.coded ∙ ap Some c.in-Single.is in
     let result = c.plain.ensures ∙ ap (λ n. plain_part n Primary Other) c.in_ok-node-in-Single.ensures.made.0 in
     subst (λ part. Adds s m c.args.self.now.pairs.items c.pass-in-Single.new.self.pairs.items (ReadAt s.text c.args.position part)) (sym result)
-    (single_read s m c.args.position (token_of c.in-Some.token) c.in-Single.kind c.pass-in-Single.ensures.same_open c.pass-in-Single.ensures.same_pairs c.pass-in-Single.ensures.reads c.pass-in-Single.ensures.last coded)
+    (single_read s m c.args.position (token_of c.args.token) c.in-Single.kind c.pass-in-Single.ensures.same_open c.pass-in-Single.ensures.same_pairs c.pass-in-Single.ensures.reads c.pass-in-Single.ensures.last coded)
 
-pub opening-returns-then-position_takes-clause-derived : goal.opening-returns-then-position_takes-clause-derived
-opening-returns-then-position_takes-clause-derived t c =
+pub short-returns-then-position_takes-clause-derived : goal.short-returns-then-position_takes-clause-derived
+short-returns-then-position_takes-clause-derived t c =
     let s = c.args.self.now.cursor in
     let m = c.pass-in-Single.new.self.cursor in
-    let coded = c.in-Some.ensures.coded ∙ ap Some c.in-Single.is in
+    let coded = c.requires.coded ∙ ap Some c.in-Single.is in
     let kind = name_kind c.in-Single.kind (sym c.is_name.ensures ∙ c.if-is_name.true) in
     let parameter = c.in_ok-parameter-in-Single.ensures.made ∙ ap (λ n. part n none) c.in_ok-node-in-Single.ensures.made.0 in
     let sign = c.if-sees_arrow.ensures.seen in
-    ok_map (λ r. Adds m c.arrow.new.self.cursor c.pass-in-Single.new.self.pairs.items c.arrow.new.self.pairs.items (ArrowAt m.text c.args.position.has_in c.in_ok-parameter-in-Single.parameter c.in-Some.token.start r)) (λ r. Adds s c.arrow.new.self.cursor c.args.self.now.pairs.items c.arrow.new.self.pairs.items (ReadAt s.text c.args.position r)) c.arrow.result c.arrow.ensures.derived (λ r a.
-    name_arrow s m c.arrow.new.self.cursor c.args.position (token_of c.in-Some.token) c.in-Single.kind c.in_ok-parameter-in-Single.parameter c.in-Some.token.start r sign.0 c.pass-in-Single.ensures.text c.pass-in-Single.ensures.same_open c.pass-in-Single.ensures.same_pairs c.pass-in-Single.ensures.reads c.pass-in-Single.ensures.last coded kind parameter refl sign.1 sign.2 (sym c.position_takes.ensures ∙ c.if-position_takes.true) a)
+    ok_map (λ r. Adds m c.arrow.new.self.cursor c.pass-in-Single.new.self.pairs.items c.arrow.new.self.pairs.items (ArrowAt m.text c.args.position.has_in c.in_ok-parameter-in-Single.parameter c.args.token.start r)) (λ r. Adds s c.arrow.new.self.cursor c.args.self.now.pairs.items c.arrow.new.self.pairs.items (ReadAt s.text c.args.position r)) c.arrow.result c.arrow.ensures.derived (λ r a.
+    name_arrow s m c.arrow.new.self.cursor c.args.position (token_of c.args.token) c.in-Single.kind c.in_ok-parameter-in-Single.parameter c.args.token.start r sign.0 c.pass-in-Single.ensures.text c.pass-in-Single.ensures.same_open c.pass-in-Single.ensures.same_pairs c.pass-in-Single.ensures.reads c.pass-in-Single.ensures.last coded kind parameter refl sign.1 sign.2 (sym c.position_takes.ensures ∙ c.if-position_takes.true) a)
 
 pub opening-returns-in_default-clause-complete : goal.opening-returns-in_default-clause-complete
 opening-returns-in_default-clause-complete t c = λ a h o n to P g. let u = opens_here c.args.self.now.cursor.text g in absurd (false≢true (sym (c.in_default.ensures.none u.token u.mid u.read) ∙ u.stands))
@@ -787,97 +791,97 @@ opening-returns-then-high-eq0-clause-complete t c = λ a h o n to P g room. let 
 pub opening-returns-in-Parenthesis-clause-complete : goal.opening-returns-in-Parenthesis-clause-complete
 opening-returns-in-Parenthesis-clause-complete t c = λ a h o n to P g. c.parenthesized.ensures.complete (parenthesis_ahead c.args.self.now.cursor.text c.args.self.now.cursor.last (token_of c.in-Some.token) c.in-Some.ensures.ahead (c.in-Some.ensures.coded ∙ ap Some c.in-Parenthesis.is)) a h o n to P g
 
-pub opening-returns-in_err-list-in-List-clause-complete : goal.opening-returns-in_err-list-in-List-clause-complete
-opening-returns-in_err-list-in-List-clause-complete t c = λ a h o n to P g.
+pub bracketed-returns-in_err-list-clause-complete : goal.bracketed-returns-in_err-list-clause-complete
+bracketed-returns-in_err-list-clause-complete t c = λ a h o n to P g.
     let s = c.args.self.now.cursor in
-    let u = token_of c.in-Some.token in
-    let coded = c.in-Some.ensures.coded ∙ ap Some c.in-List.is in
+    let u = token_of c.args.token in
+    let coded = c.requires.coded in
     let less = c.saturating_sub.ensures in
-    agrees_err (Room s o (height n) c.args.high) (FirstWith s c.open.new.self.cursor c.args.self.now.pairs.items c.open.new.self.pairs.items a h n to P) c.from_residual.result c.in_err-list-in-List.field-0.0 c.from_residual.ensures.1
-    (list_refuses s u c.in-List.what c.saturating_sub.result c.args.high c.in_err-list-in-List.field-0.0 c.in-Some.ensures.ahead coded c.in_err-list-in-List.ensures.not_begun c.in_err-list-in-List.ensures.untemplated less g)
+    agrees_err (Room s o (height n) c.args.high) (FirstWith s c.open.new.self.cursor c.args.self.now.pairs.items c.open.new.self.pairs.items a h n to P) c.from_residual.result c.in_err-list.field-0.0 c.from_residual.ensures.1
+    (list_refuses s u c.args.what c.saturating_sub.result c.args.high c.in_err-list.field-0.0 c.requires.ahead coded c.in_err-list.ensures.not_begun c.in_err-list.ensures.untemplated less g)
 
-pub opening-returns-in_err-list-in-List-2-clause-complete : goal.opening-returns-in_err-list-in-List-2-clause-complete
-opening-returns-in_err-list-in-List-2-clause-complete t c = λ a h o n to P g.
+pub bracketed-returns-in_err-list-2-clause-complete : goal.bracketed-returns-in_err-list-2-clause-complete
+bracketed-returns-in_err-list-2-clause-complete t c = λ a h o n to P g.
     let s = c.args.self.now.cursor in
     let m = c.open.new.self.cursor in
-    let u = token_of c.in-Some.token in
-    let coded = c.in-Some.ensures.coded ∙ ap Some c.in-List.is in
-    let l0 = c.in_ok-list-in-List.list in
-    let v = list_rest s m l0 u c.in-List.what c.open.ensures.text c.in-Some.ensures.ahead coded c.in_ok-list-in-List.ensures.listed c.in_ok-list-in-List.ensures.begun c.in_ok-list-in-List.ensures.template g in
+    let u = token_of c.args.token in
+    let coded = c.requires.coded in
+    let l0 = c.in_ok-list.list in
+    let v = list_rest s m l0 u c.args.what c.open.ensures.text c.requires.ahead coded c.in_ok-list.ensures.listed c.in_ok-list.ensures.begun c.in_ok-list.ensures.template g in
     let low = v.low in
-    let less = c.saturating_sub-in-List.ensures in
-    agrees_on (Room m o (parts_height v.ps) c.saturating_sub-in-List.result) (Room s o (height n) c.args.high) (FirstWith s c.list.new.self.cursor c.args.self.now.pairs.items c.list.new.self.pairs.items a h n to P) c.from_residual-in_err-list-in-List-2.result c.in_err-list-in-List-2.field-0.0
-    c.from_residual-in_err-list-in-List-2.ensures.1 (c.in_err-list-in-List-2.ensures.complete a o v.ps to P v.given) (room_part s m c.open.ensures.same_open (λ l. omega arith))
+    let less = c.saturating_sub-2.ensures in
+    agrees_on (Room m o (parts_height v.ps) c.saturating_sub-2.result) (Room s o (height n) c.args.high) (FirstWith s c.list.new.self.cursor c.args.self.now.pairs.items c.list.new.self.pairs.items a h n to P) c.from_residual-in_err-list-2.result c.in_err-list-2.field-0.0
+    c.from_residual-in_err-list-2.ensures.1 (c.in_err-list-2.ensures.complete a o v.ps to P v.given) (room_part s m c.open.ensures.same_open (λ l. omega arith))
 
-pub opening-returns-in_err-operand-in-Prefix-clause-complete : goal.opening-returns-in_err-operand-in-Prefix-clause-complete
-opening-returns-in_err-operand-in-Prefix-clause-complete t c = λ a h o n to P g.
+pub short-returns-in_err-operand-in-Prefix-clause-complete : goal.short-returns-in_err-operand-in-Prefix-clause-complete
+short-returns-in_err-operand-in-Prefix-clause-complete t c = λ a h o n to P g.
     let s = c.args.self.now.cursor in
     let m = c.pass.new.self.cursor in
-    let v = prefix_given s.text (token_of c.in-Some.token) c.in-Prefix.field-0 c.in-Prefix.side c.in-Some.ensures.ahead (c.in-Some.ensures.coded ∙ ap Some c.in-Prefix.is) g in
-    let symbols = operand_symbols (steps_before (token_of c.in-Some.token).text) in
+    let v = prefix_given s.text (token_of c.args.token) c.in-Prefix.field-0 c.in-Prefix.side c.requires.ahead (c.requires.coded ∙ ap Some c.in-Prefix.is) g in
+    let symbols = operand_symbols (steps_before (token_of c.args.token).text) in
     let given = expression_given c.pass.ensures.text c.pass.ensures.last (c.at-side.ensures ∙ ap (λ y. record { rank = y; has_in = true; start = Any }) v.1) symbols.0 symbols.1 v.2.spelled v.2.stopped in
     let low = operand_low v.2 in
-    agrees_on (Room m o (height v.2.operand) c.saturating_sub-in-Prefix.result) (Room s o (height n) c.args.high) (λ r. IsFirst a h r n × EndsWith s c.expression.new.self.cursor c.args.self.now.pairs.items c.expression.new.self.pairs.items to P) c.from_residual-in_err-operand-in-Prefix.result c.in_err-operand-in-Prefix.field-0.0
-    c.from_residual-in_err-operand-in-Prefix.ensures.1 (c.in_err-operand-in-Prefix.ensures.complete as_expression o v.2.operand to P given) (room_part s m c.pass.ensures.same_open (λ l. let less = c.saturating_sub-in-Prefix.ensures in omega arith))
+    agrees_on (Room m o (height v.2.operand) c.saturating_sub.result) (Room s o (height n) c.args.high) (λ r. IsFirst a h r n × EndsWith s c.expression.new.self.cursor c.args.self.now.pairs.items c.expression.new.self.pairs.items to P) c.from_residual.result c.in_err-operand-in-Prefix.field-0.0
+    c.from_residual.ensures.1 (c.in_err-operand-in-Prefix.ensures.complete as_expression o v.2.operand to P given) (room_part s m c.pass.ensures.same_open (λ l. let less = c.saturating_sub.ensures in omega arith))
 
-pub opening-returns-then-position_takes-clause-complete : goal.opening-returns-then-position_takes-clause-complete
-opening-returns-then-position_takes-clause-complete t c = λ a h o n to P g.
+pub short-returns-then-position_takes-clause-complete : goal.short-returns-then-position_takes-clause-complete
+short-returns-then-position_takes-clause-complete t c = λ a h o n to P g.
     let s = c.args.self.now.cursor in
     let m = c.pass-in-Single.new.self.cursor in
-    let u = token_of c.in-Some.token in
+    let u = token_of c.args.token in
     let k = c.in-Single.kind in
     let kind = name_kind k (sym c.is_name.ensures ∙ c.if-is_name.true) in
     let parameter = c.in_ok-parameter-in-Single.ensures.made ∙ ap (λ n. part n none) (c.in_ok-node-in-Single.ensures.made.0 ∙ ap (λ k. single_node k u) kind) in
     let sign = c.if-sees_arrow.ensures.seen in
-    let v = single_given s.text u k c.in-Some.ensures.ahead (c.in-Some.ensures.coded ∙ ap Some c.in-Single.is) g in
+    let v = single_given s.text u k c.requires.ahead (c.requires.coded ∙ ap Some c.in-Single.is) g in
     let w = arrow_given u k v kind (sym c.position_takes.ensures ∙ c.if-position_takes.true) (arrow_before s m c.pass-in-Single.ensures.text c.pass-in-Single.ensures.last sign.1) sign.2 in
     arrow_agrees s m c.arrow.new.self.cursor c.args.self.now.pairs.items c.pass-in-Single.new.self.pairs.items c.arrow.new.self.pairs.items c.args.position u c.in_ok-parameter-in-Single.parameter c.args.high c.arrow.result w c.pass-in-Single.ensures.text c.pass-in-Single.ensures.last c.pass-in-Single.ensures.same_open c.pass-in-Single.ensures.same_pairs parameter c.arrow.ensures.complete c.arrow.ensures.derived
 
-pub opening-returns-in_ok-list-in-List-2-clause-complete : goal.opening-returns-in_ok-list-in-List-2-clause-complete
-opening-returns-in_ok-list-in-List-2-clause-complete t c = λ a h o n to P g.
+pub bracketed-returns-clause-complete : goal.bracketed-returns-clause-complete
+bracketed-returns-clause-complete t c = λ a h o n to P g.
     let s = c.args.self.now.cursor in
     let m = c.open.new.self.cursor in
-    let u = token_of c.in-Some.token in
-    let coded = c.in-Some.ensures.coded ∙ ap Some c.in-List.is in
-    let l0 = c.in_ok-list-in-List.list in
-    let v = list_rest s m l0 u c.in-List.what c.open.ensures.text c.in-Some.ensures.ahead coded c.in_ok-list-in-List.ensures.listed c.in_ok-list-in-List.ensures.begun c.in_ok-list-in-List.ensures.template g in
+    let u = token_of c.args.token in
+    let coded = c.requires.coded in
+    let l0 = c.in_ok-list.list in
+    let v = list_rest s m l0 u c.args.what c.open.ensures.text c.requires.ahead coded c.in_ok-list.ensures.listed c.in_ok-list.ensures.begun c.in_ok-list.ensures.template g in
     let low = v.low in
-    let l = c.in_ok-list-in-List-2.list in
-    let here = c.in_ok-list-in-List-2.ensures in
+    let l = c.in_ok-list-2.list in
+    let here = c.in_ok-list-2.ensures in
     let answer = here.complete a o v.ps to P v.given in
     let first = v.first c.list.new.self.cursor c.open.new.self.pairs.items c.list.new.self.pairs.items l here.derived here.seen here.same answer.0 answer.1 answer.2.place in
-    let less = c.saturating_sub-in-List.ensures in
+    let less = c.saturating_sub-2.ensures in
     let inner = here.low in
     agrees_made_as (Room s o (height n) c.args.high) (FirstWith s c.list.new.self.cursor c.args.self.now.pairs.items c.list.new.self.pairs.items a h n to P) (listed_part l) (height (listed_node l)) c.args.high c.listed.result c.listed.ensures.made (λ room. let fits = room.1 in let starts = v.start_low in let whole = inner (omega arith) in omega arith) (first, ends_behind c.open.ensures.same_pairs answer.2)
 
-pub opening-returns-in_ok-operand-in-Prefix-clause-complete : goal.opening-returns-in_ok-operand-in-Prefix-clause-complete
-opening-returns-in_ok-operand-in-Prefix-clause-complete t c = λ a h o n to P g.
+pub short-returns-in_ok-operand-in-Prefix-clause-complete : goal.short-returns-in_ok-operand-in-Prefix-clause-complete
+short-returns-in_ok-operand-in-Prefix-clause-complete t c = λ a h o n to P g.
     let s = c.args.self.now.cursor in
     let m = c.pass.new.self.cursor in
     let e = c.expression.new.self.cursor in
-    let u = token_of c.in-Some.token in
+    let u = token_of c.args.token in
     let q = c.in_ok-operand-in-Prefix.operand in
-    let v = prefix_given s.text u c.in-Prefix.field-0 c.in-Prefix.side c.in-Some.ensures.ahead (c.in-Some.ensures.coded ∙ ap Some c.in-Prefix.is) g in
+    let v = prefix_given s.text u c.in-Prefix.field-0 c.in-Prefix.side c.requires.ahead (c.requires.coded ∙ ap Some c.in-Prefix.is) g in
     let symbols = operand_symbols (steps_before u.text) in
     let given = expression_given c.pass.ensures.text c.pass.ensures.last (c.at-side.ensures ∙ ap (λ y. record { rank = y; has_in = true; start = Any }) v.1) symbols.0 symbols.1 v.2.spelled v.2.stopped in
     let answer = c.in_ok-operand-in-Prefix.ensures.complete as_expression o v.2.operand to P given in
-    let first = prefix_made u e.last.stop q (prefix_text u c.in-Prefix.field-0 c.in-Prefix.side (c.in-Some.ensures.coded ∙ ap Some c.in-Prefix.is)) (ap (λ (x : Token). x.stop) answer.1.place) v.2 answer.0 in
+    let first = prefix_made u e.last.stop q (prefix_text u c.in-Prefix.field-0 c.in-Prefix.side (c.requires.coded ∙ ap Some c.in-Prefix.is)) (ap (λ (x : Token). x.stop) answer.1.place) v.2 answer.0 in
     let levels = first.1 in
     agrees_where (Room s o (height n) c.args.high) (λ r. IsFirst a h r n × EndsWith s e c.args.self.now.pairs.items c.expression.new.self.pairs.items to P) (prefixed_part (steps_before u.text) u.text u.start e.last.stop q) (IsPlaceHere e) (takes_operand (steps_before u.text) q.cover.shape) (height (prefixed_node (steps_before u.text) u.text u.start e.last.stop q.cover.node)) c.args.high
     c.prefixed.result c.prefixed.ensures.made first.0 (λ room. let low = room.1 in omega arith) (subst (λ x. IsFirst x h (prefixed_part (steps_before u.text) u.text u.start e.last.stop q) n) (sym v.0) first.2, ends_behind c.pass.ensures.same_pairs answer.1)
 
-pub opening-returns-else-is_name-clause-complete : goal.opening-returns-else-is_name-clause-complete
-opening-returns-else-is_name-clause-complete t c = λ a h o n to P g.
+pub short-returns-else-is_name-clause-complete : goal.short-returns-else-is_name-clause-complete
+short-returns-else-is_name-clause-complete t c = λ a h o n to P g.
     let s = c.args.self.now.cursor in
     let m = c.pass-in-Single.new.self.cursor in
-    let u = token_of c.in-Some.token in
+    let u = token_of c.args.token in
     let k = c.in-Single.kind in
-    let v = single_given s.text u k c.in-Some.ensures.ahead (c.in-Some.ensures.coded ∙ ap Some c.in-Single.is) g in
+    let v = single_given s.text u k c.requires.ahead (c.requires.coded ∙ ap Some c.in-Single.is) g in
     let without : k ≡ Identifier → IsTrue (takes c.args.position.rank Assignment) → NoArrow s.text (as_read u) =
     elim c.else-is_name.branch [
-      | opening-else-is_name-via-then-is_name+then-sees_arrow+else-position_takes w ↦ λ e tk x y sign line. absurd (false≢true (sym (sym w.position_takes.ensures ∙ w.if-position_takes.false) ∙ tk))
-      | opening-else-is_name-via-then-is_name+else-sees_arrow w ↦ λ e tk x y sign line. absurd (false≢true (sym line ∙ w.if-sees_arrow.ensures.missed x y (arrow_behind s m c.pass-in-Single.ensures.text c.pass-in-Single.ensures.last sign)))
-      | opening-else-is_name-via-else-is_name w ↦ λ e tk x y sign line. absurd (false≢true (sym (sym c.is_name.ensures ∙ w.if-is_name.false) ∙ ap is_identifier e))
+      | short-else-is_name-via-then-is_name+then-sees_arrow+else-position_takes w ↦ λ e tk x y sign line. absurd (false≢true (sym (sym w.position_takes.ensures ∙ w.if-position_takes.false) ∙ tk))
+      | short-else-is_name-via-then-is_name+else-sees_arrow w ↦ λ e tk x y sign line. absurd (false≢true (sym line ∙ w.if-sees_arrow.ensures.missed x y (arrow_behind s m c.pass-in-Single.ensures.text c.pass-in-Single.ensures.last sign)))
+      | short-else-is_name-via-else-is_name w ↦ λ e tk x y sign line. absurd (false≢true (sym (sym c.is_name.ensures ∙ w.if-is_name.false) ∙ ap is_identifier e))
     ] in
     token_read u k v without c.pass-in-Single.ensures.last c.pass-in-Single.ensures.same_pairs c.plain.result (c.plain.ensures ∙ ap (λ n. plain_part n Primary Other) c.in_ok-node-in-Single.ensures.made.0)
 
@@ -890,16 +894,16 @@ opening-returns-in_default-opening t c = record {
   low = search rules;
   complete = λ a h o n to P g.
       let s = c.args.self.now.cursor in
-      let m = c.pass-in_default-opening.new.self.cursor in
-      let behind = c.pass-in_default-opening.ensures in
+      let m = c.pass.new.self.cursor in
+      let behind = c.pass.ensures in
       let answer = c.worded.ensures.complete a h o n s.last to P (subst (λ x. NextIn x any_goal s.last m.last m.last) (sym behind.text) behind.reads) behind.last (ap (λ x. coded_opening (opening_of x)) behind.last ∙ c.in-Some.ensures.coded) (by_word c.in-Some.opening c.in_default-opening.not-Single c.in_default-opening.not-List c.in_default-opening.not-Parenthesis c.in_default-opening.not-Prefix) (first_in (sym behind.text) g) in
-      agrees_more (Room m o (height n) c.args.high) (Room s o (height n) c.args.high) (λ r. IsFirst a h r n × EndsWith m c.worded.new.self.cursor c.pass-in_default-opening.new.self.pairs.items c.worded.new.self.pairs.items to P) (λ r. IsFirst a h r n × EndsWith s c.worded.new.self.cursor c.args.self.now.pairs.items c.worded.new.self.pairs.items to P) c.worded.result answer
+      agrees_more (Room m o (height n) c.args.high) (Room s o (height n) c.args.high) (λ r. IsFirst a h r n × EndsWith m c.worded.new.self.cursor c.pass.new.self.pairs.items c.worded.new.self.pairs.items to P) (λ r. IsFirst a h r n × EndsWith s c.worded.new.self.cursor c.args.self.now.pairs.items c.worded.new.self.pairs.items to P) c.worded.result answer
       (room_part s m behind.same_open (λ low. low)) (λ r is_ok found. (found.0, ends_behind behind.same_pairs found.1));
   refused = search rules;
 }
 
-pub linked-returns-clause-derived : goal.linked-returns-clause-derived
-linked-returns-clause-derived t c =
+pub selected-returns-clause-derived : goal.selected-returns-clause-derived
+selected-returns-clause-derived t c =
     let text = c.link.ensures.text in
     let opened = c.link.ensures.same_open in
     let same = c.link.ensures.same_pairs in
@@ -908,31 +912,31 @@ linked-returns-clause-derived t c =
     let passed = c.in_ok-found.ensures.linked in
     let value = c.in_ok-settle.ensures.settled.1 in
     let object : takes Call c.args.left.rank ≡ true = sym c.position_takes.ensures ∙ c.if-not-position_takes.false in
-    let called : c.match-matches.matches ≡ is_call c.args.left.rank = elim c.match-matches.branch [ linked-in-Call w ↦ w.matches-is ∙ call_is c.args.left.rank w.in-Call.is | linked-in_default w ↦ w.matches-is ∙ call_is_not c.args.left.rank w.in_default.not-Call ] in
+    let called : c.match-matches.matches ≡ is_call c.args.left.rank = elim c.match-matches.branch [ selected-in-Call w ↦ w.matches-is ∙ call_is c.args.left.rank w.in-Call.is | selected-in_default w ↦ w.matches-is ∙ call_is_not c.args.left.rank w.in_default.not-Call ] in
     let one : c.in_ok-nodes.nodes ≡ part c.args.left.cover.node none = c.in_ok-nodes.ensures.made ∙ ap (λ n. part n none) c.in_ok-settle.ensures.settled.0 in
     let span = c.span_from-span.ensures in
     let tree : c.in_ok-node.node ≡ node (link_kind found) [] (link_flags found optional) c.args.left.start c.match-found.self.cursor.last.stop c.match-found.nodes = c.in_ok-node.ensures.0 ∙ (λ i. node (c.kind.ensures i) [] (c.flags.ensures i) (span i).start (span i).end c.match-found.nodes) in
     let made : c.plain.result ≡ plain_part (node (link_kind found) [] (link_flags found optional) c.args.left.start c.match-found.self.cursor.last.stop c.match-found.nodes) (link_rank found c.match-matches.matches) Other = c.plain.ensures ∙ (λ i. plain_part (tree i) (c.rank.ensures i) Other) in
     elim c.match-found.branch [
-      | linked-in-Name+in_ok-name-in-Name+in_ok-single-in-Name+in_ok-push-in-Name w ↦
+      | selected-in-Name+in_ok-name-in-Name+in_ok-single-in-Name+in_ok-push-in-Name w ↦
           let name = w.in_ok-name-in-Name.ensures.accepted in
           let nodes : c.match-found.nodes ≡ part c.args.left.cover.node (part (single_node Identifier (token_of w.in_ok-name-in-Name.name)) none) = w.nodes-is ∙ w.in_ok-push-in-Name.ensures.pushed ∙ (λ i. push (one i) (w.in_ok-single-in-Name.ensures.made.0 i)) in
           links_read found optional c.match-matches.matches value object called nodes made
           (subst (λ v. Adds c.args.self.now.cursor v.cursor c.args.self.now.pairs.items v.pairs.items (BehindOn c.args.self.now.cursor.text found optional (part (single_node Identifier (token_of w.in_ok-name-in-Name.name)) none))) (sym w.self-is)
           (name_read found optional (token_of w.in_ok-name-in-Name.name) text opened same w.in-Name.is passed w.word.ensures.same_open w.word.ensures.same_pairs name.0.0 name.1))
-      | linked-in-Index+in_ok-expect-in-Index+in_ok-index-in-Index+in_ok-settle-in-Index+in_ok-push-in-Index+in_ok-expect-in-Index-2 w ↦
+      | selected-in-Index+in_ok-expect-in-Index+in_ok-index-in-Index+in_ok-settle-in-Index+in_ok-push-in-Index+in_ok-expect-in-Index-2 w ↦
           let index = w.in_ok-index-in-Index.index in
           let nodes : c.match-found.nodes ≡ part c.args.left.cover.node (part index.cover.node none) = w.nodes-is ∙ w.in_ok-push-in-Index.ensures.pushed ∙ (λ i. push (one i) (w.in_ok-settle-in-Index.ensures.settled.0 i)) in
           links_read found optional c.match-matches.matches value object called nodes made
           (subst (λ v. Adds c.args.self.now.cursor v.cursor c.args.self.now.pairs.items v.pairs.items (BehindOn c.args.self.now.cursor.text found optional (part index.cover.node none))) (sym w.self-is)
           (index_read found optional text opened same w.in-Index.is passed w.expect.ensures.text w.expect.ensures.same_open w.expect.ensures.same_pairs w.in_ok-expect-in-Index.ensures.accepted.0 refl refl refl w.expression.ensures.text w.in_ok-index-in-Index.ensures.derived w.in_ok-settle-in-Index.ensures.settled.1
           w.expect-in-Index.ensures.same_open w.expect-in-Index.ensures.same_pairs w.in_ok-expect-in-Index-2.ensures.accepted.0))
-      | linked-in-Arguments+in_ok-arguments-in-Arguments+in_ok-append-in-Arguments w ↦
+      | selected-in-Arguments+in_ok-arguments-in-Arguments+in_ok-append-in-Arguments w ↦
           let nodes : c.match-found.nodes ≡ part c.args.left.cover.node w.in_ok-arguments-in-Arguments.field-0 = w.nodes-is ∙ w.in_ok-append-in-Arguments.ensures.joined ∙ (λ i. join (one i) w.in_ok-arguments-in-Arguments.field-0) in
           links_read found optional c.match-matches.matches value object called nodes made
           (subst (λ v. Adds c.args.self.now.cursor v.cursor c.args.self.now.pairs.items v.pairs.items (BehindOn c.args.self.now.cursor.text found optional w.in_ok-arguments-in-Arguments.field-0)) (sym w.self-is)
           (arguments_read_behind found optional text opened same w.in-Arguments.is passed w.in_ok-arguments-in-Arguments.ensures.derived))
-      | linked-in-Quasi+in_ok-list-in-Quasi+in_ok-list-in-Quasi-2+in_ok-listed-in-Quasi+in_ok-push-in-Quasi w ↦
+      | selected-in-Quasi+in_ok-list-in-Quasi+in_ok-list-in-Quasi-2+in_ok-listed-in-Quasi+in_ok-push-in-Quasi w ↦
           let template = w.in_ok-listed-in-Quasi.field-0.cover.node in
           let nodes : c.match-found.nodes ≡ part c.args.left.cover.node (part template none) = w.nodes-is ∙ w.in_ok-push-in-Quasi.ensures.pushed ∙ (λ i. push (one i) template) in
           let list = w.in_ok-list-in-Quasi-2.ensures in
@@ -942,58 +946,58 @@ linked-returns-clause-derived t c =
           list.same.0 list.same.1 (ap (λ (p : Part). p.cover.node) w.in_ok-listed-in-Quasi.ensures.made.0) list.derived))
     ]
 
-pub linked-returns-clause-passes : goal.linked-returns-clause-passes
-linked-returns-clause-passes t c =
+pub selected-returns-clause-passes : goal.selected-returns-clause-passes
+selected-returns-clause-passes t c =
     let start = c.args.self.now.cursor in
     let middle = c.link.new.self.cursor in
     let forward = c.link.ensures.forward in
     let text = c.link.ensures.text in
     elim c.match-found.branch [
-      | linked-in-Name+in_ok-name-in-Name+in_ok-single-in-Name+in_ok-push-in-Name w ↦
+      | selected-in-Name+in_ok-name-in-Name+in_ok-single-in-Name+in_ok-push-in-Name w ↦
           subst (λ v. Passes start v.cursor) (sym w.self-is) (passes_behind start middle w.word.new.self.cursor forward text w.in_ok-name-in-Name.ensures.passes)
-      | linked-in-Index+in_ok-expect-in-Index+in_ok-index-in-Index+in_ok-settle-in-Index+in_ok-push-in-Index+in_ok-expect-in-Index-2 w ↦
+      | selected-in-Index+in_ok-expect-in-Index+in_ok-index-in-Index+in_ok-settle-in-Index+in_ok-push-in-Index+in_ok-expect-in-Index-2 w ↦
           let first = passes_behind start middle w.expect.new.self.cursor forward text w.in_ok-expect-in-Index.ensures.passes in
           let second = passes_further start w.expect.new.self.cursor w.expression.new.self.cursor first w.expression.ensures.forward in
           subst (λ v. Passes start v.cursor) (sym w.self-is) (passes_further start w.expression.new.self.cursor w.expect-in-Index.new.self.cursor second w.expect-in-Index.ensures.forward)
-      | linked-in-Arguments+in_ok-arguments-in-Arguments+in_ok-append-in-Arguments w ↦
+      | selected-in-Arguments+in_ok-arguments-in-Arguments+in_ok-append-in-Arguments w ↦
           subst (λ v. Passes start v.cursor) (sym w.self-is) (passes_behind start middle w.arguments.new.self.cursor forward text w.in_ok-arguments-in-Arguments.ensures.passes)
-      | linked-in-Quasi+in_ok-list-in-Quasi+in_ok-list-in-Quasi-2+in_ok-listed-in-Quasi+in_ok-push-in-Quasi w ↦
+      | selected-in-Quasi+in_ok-list-in-Quasi+in_ok-list-in-Quasi-2+in_ok-listed-in-Quasi+in_ok-push-in-Quasi w ↦
           let first = passes_behind start middle w.open.new.self.cursor forward text (w.in_ok-list-in-Quasi.ensures.passes tt) in
           subst (λ v. Passes start v.cursor) (sym w.self-is) (passes_further start w.open.new.self.cursor w.list.new.self.cursor first w.list.ensures.forward)
     ]
 
-pub linked-returns-in_err-found-clause-complete : goal.linked-returns-in_err-found-clause-complete
-linked-returns-in_err-found-clause-complete t c = unlinked_refused c.args.self.now.cursor c.link.new.self.cursor c.link.new.self.cursor c.args.self.now.pairs.items c.link.new.self.pairs.items c.args.high c.args.left _ c.in_err-found.field-0.0 c.from_residual-in_err-found.ensures.1 c.link.ensures.text c.in_err-found.ensures.failed
+pub selected-returns-in_err-found-clause-complete : goal.selected-returns-in_err-found-clause-complete
+selected-returns-in_err-found-clause-complete t c = unlinked_refused c.args.self.now.cursor c.link.new.self.cursor c.link.new.self.cursor c.args.self.now.pairs.items c.link.new.self.pairs.items c.args.high c.args.left _ c.in_err-found.field-0.0 c.from_residual-in_err-found.ensures.1 c.link.ensures.text c.in_err-found.ensures.failed
 
-pub linked-returns-in_err-name-in-Name-clause-complete : goal.linked-returns-in_err-name-in-Name-clause-complete
-linked-returns-in_err-name-in-Name-clause-complete t c = word_refused c.args.self.now.cursor c.link.new.self.cursor c.word.new.self.cursor c.args.self.now.pairs.items c.word.new.self.pairs.items c.args.high c.args.left c.in_ok-found.found c.in_ok-found.optional _ c.in_err-name-in-Name.field-0.0 c.from_residual-in_err-name-in-Name.ensures.1 c.link.ensures.text c.link.ensures.same_open c.in_ok-found.ensures.linked c.in-Name.is c.in_err-name-in-Name.ensures.missed.0
+pub selected-returns-in_err-name-in-Name-clause-complete : goal.selected-returns-in_err-name-in-Name-clause-complete
+selected-returns-in_err-name-in-Name-clause-complete t c = word_refused c.args.self.now.cursor c.link.new.self.cursor c.word.new.self.cursor c.args.self.now.pairs.items c.word.new.self.pairs.items c.args.high c.args.left c.in_ok-found.found c.in_ok-found.optional _ c.in_err-name-in-Name.field-0.0 c.from_residual-in_err-name-in-Name.ensures.1 c.link.ensures.text c.link.ensures.same_open c.in_ok-found.ensures.linked c.in-Name.is c.in_err-name-in-Name.ensures.missed.0
 
-pub linked-returns-in_err-expect-in-Index-clause-complete : goal.linked-returns-in_err-expect-in-Index-clause-complete
-linked-returns-in_err-expect-in-Index-clause-complete t c = bracket_refused c.args.self.now.cursor c.link.new.self.cursor c.expect.new.self.cursor c.args.self.now.pairs.items c.expect.new.self.pairs.items c.args.high c.args.left c.in_ok-found.found c.in_ok-found.optional _ c.in_err-expect-in-Index.field-0.0 c.from_residual-in_err-expect-in-Index.ensures.1 c.link.ensures.text c.link.ensures.same_open c.in_ok-found.ensures.linked c.in-Index.is c.in_err-expect-in-Index.ensures.missed.0
+pub selected-returns-in_err-expect-in-Index-clause-complete : goal.selected-returns-in_err-expect-in-Index-clause-complete
+selected-returns-in_err-expect-in-Index-clause-complete t c = bracket_refused c.args.self.now.cursor c.link.new.self.cursor c.expect.new.self.cursor c.args.self.now.pairs.items c.expect.new.self.pairs.items c.args.high c.args.left c.in_ok-found.found c.in_ok-found.optional _ c.in_err-expect-in-Index.field-0.0 c.from_residual-in_err-expect-in-Index.ensures.1 c.link.ensures.text c.link.ensures.same_open c.in_ok-found.ensures.linked c.in-Index.is c.in_err-expect-in-Index.ensures.missed.0
 
-pub linked-returns-in_err-index-in-Index-clause-complete : goal.linked-returns-in_err-index-in-Index-clause-complete
-linked-returns-in_err-index-in-Index-clause-complete t c = index_refused c.args.self.now.cursor c.link.new.self.cursor c.expression.new.self.cursor c.args.self.now.pairs.items c.expression.new.self.pairs.items c.args.high c.args.left c.in_ok-found.found c.in_ok-found.optional _ c.in_err-index-in-Index.field-0.0 c.from_residual-in_err-index-in-Index.ensures.1 c.link.ensures.text c.link.ensures.same_open c.in_ok-found.ensures.linked c.expect.new.self.cursor c.expression.new.self.cursor c.expect.new.self.pairs.items c.expression.new.self.pairs.items c.saturating_sub-inner.result c.in-Index.is c.expect.ensures.text c.expect.ensures.same_open c.in_ok-expect-in-Index.ensures.accepted.0 c.saturating_sub-inner.ensures c.in_err-index-in-Index.ensures.complete
+pub selected-returns-in_err-index-in-Index-clause-complete : goal.selected-returns-in_err-index-in-Index-clause-complete
+selected-returns-in_err-index-in-Index-clause-complete t c = index_refused c.args.self.now.cursor c.link.new.self.cursor c.expression.new.self.cursor c.args.self.now.pairs.items c.expression.new.self.pairs.items c.args.high c.args.left c.in_ok-found.found c.in_ok-found.optional _ c.in_err-index-in-Index.field-0.0 c.from_residual-in_err-index-in-Index.ensures.1 c.link.ensures.text c.link.ensures.same_open c.in_ok-found.ensures.linked c.expect.new.self.cursor c.expression.new.self.cursor c.expect.new.self.pairs.items c.expression.new.self.pairs.items c.saturating_sub-inner.result c.in-Index.is c.expect.ensures.text c.expect.ensures.same_open c.in_ok-expect-in-Index.ensures.accepted.0 c.saturating_sub-inner.ensures c.in_err-index-in-Index.ensures.complete
 
-pub linked-returns-in_err-settle-in-Index-clause-complete : goal.linked-returns-in_err-settle-in-Index-clause-complete
-linked-returns-in_err-settle-in-Index-clause-complete t c = index_unsettled c.args.self.now.cursor c.link.new.self.cursor c.expression.new.self.cursor c.args.self.now.pairs.items c.expression.new.self.pairs.items c.args.high c.args.left c.in_ok-found.found c.in_ok-found.optional _ c.in_err-settle-in-Index.field-0.0 c.from_residual-in_err-settle-in-Index.ensures.1 c.link.ensures.text c.link.ensures.same_open c.in_ok-found.ensures.linked c.expect.new.self.cursor c.expression.new.self.cursor c.expect.new.self.pairs.items c.expression.new.self.pairs.items c.saturating_sub-inner.result c.in-Index.is c.expect.ensures.text c.expect.ensures.same_open c.in_ok-expect-in-Index.ensures.accepted.0 c.saturating_sub-inner.ensures c.in_ok-index-in-Index.index c.in_ok-index-in-Index.ensures.complete c.in_err-settle-in-Index.ensures.settled.1
+pub selected-returns-in_err-settle-in-Index-clause-complete : goal.selected-returns-in_err-settle-in-Index-clause-complete
+selected-returns-in_err-settle-in-Index-clause-complete t c = index_unsettled c.args.self.now.cursor c.link.new.self.cursor c.expression.new.self.cursor c.args.self.now.pairs.items c.expression.new.self.pairs.items c.args.high c.args.left c.in_ok-found.found c.in_ok-found.optional _ c.in_err-settle-in-Index.field-0.0 c.from_residual-in_err-settle-in-Index.ensures.1 c.link.ensures.text c.link.ensures.same_open c.in_ok-found.ensures.linked c.expect.new.self.cursor c.expression.new.self.cursor c.expect.new.self.pairs.items c.expression.new.self.pairs.items c.saturating_sub-inner.result c.in-Index.is c.expect.ensures.text c.expect.ensures.same_open c.in_ok-expect-in-Index.ensures.accepted.0 c.saturating_sub-inner.ensures c.in_ok-index-in-Index.index c.in_ok-index-in-Index.ensures.complete c.in_err-settle-in-Index.ensures.settled.1
 
-pub linked-returns-in_err-expect-in-Index-2-clause-complete : goal.linked-returns-in_err-expect-in-Index-2-clause-complete
-linked-returns-in_err-expect-in-Index-2-clause-complete t c = unclosed_refused c.args.self.now.cursor c.link.new.self.cursor c.expect-in-Index.new.self.cursor c.args.self.now.pairs.items c.expect-in-Index.new.self.pairs.items c.args.high c.args.left c.in_ok-found.found c.in_ok-found.optional _ c.in_err-expect-in-Index-2.field-0.0 c.from_residual-in_err-expect-in-Index-2.ensures.1 c.link.ensures.text c.link.ensures.same_open c.in_ok-found.ensures.linked c.expect.new.self.cursor c.expression.new.self.cursor c.expect.new.self.pairs.items c.expression.new.self.pairs.items c.saturating_sub-inner.result c.in-Index.is c.expect.ensures.text c.expect.ensures.same_open c.in_ok-expect-in-Index.ensures.accepted.0 c.saturating_sub-inner.ensures c.in_ok-index-in-Index.index c.in_ok-index-in-Index.ensures.complete c.expression.ensures.text c.in_err-expect-in-Index-2.ensures.missed.0
+pub selected-returns-in_err-expect-in-Index-2-clause-complete : goal.selected-returns-in_err-expect-in-Index-2-clause-complete
+selected-returns-in_err-expect-in-Index-2-clause-complete t c = unclosed_refused c.args.self.now.cursor c.link.new.self.cursor c.expect-in-Index.new.self.cursor c.args.self.now.pairs.items c.expect-in-Index.new.self.pairs.items c.args.high c.args.left c.in_ok-found.found c.in_ok-found.optional _ c.in_err-expect-in-Index-2.field-0.0 c.from_residual-in_err-expect-in-Index-2.ensures.1 c.link.ensures.text c.link.ensures.same_open c.in_ok-found.ensures.linked c.expect.new.self.cursor c.expression.new.self.cursor c.expect.new.self.pairs.items c.expression.new.self.pairs.items c.saturating_sub-inner.result c.in-Index.is c.expect.ensures.text c.expect.ensures.same_open c.in_ok-expect-in-Index.ensures.accepted.0 c.saturating_sub-inner.ensures c.in_ok-index-in-Index.index c.in_ok-index-in-Index.ensures.complete c.expression.ensures.text c.in_err-expect-in-Index-2.ensures.missed.0
 
-pub linked-returns-in_err-arguments-in-Arguments-clause-complete : goal.linked-returns-in_err-arguments-in-Arguments-clause-complete
-linked-returns-in_err-arguments-in-Arguments-clause-complete t c = called_refused c.args.self.now.cursor c.link.new.self.cursor c.arguments.new.self.cursor c.args.self.now.pairs.items c.arguments.new.self.pairs.items c.args.high c.args.left c.in_ok-found.found c.in_ok-found.optional _ c.in_err-arguments-in-Arguments.field-0.0 c.from_residual-in_err-arguments-in-Arguments.ensures.1 c.link.ensures.text c.link.ensures.same_open c.in_ok-found.ensures.linked c.arguments.new.self.cursor c.link.new.self.pairs.items c.arguments.new.self.pairs.items c.saturating_sub-inner.result c.in-Arguments.is c.saturating_sub-inner.ensures c.in_err-arguments-in-Arguments.ensures.complete
+pub selected-returns-in_err-arguments-in-Arguments-clause-complete : goal.selected-returns-in_err-arguments-in-Arguments-clause-complete
+selected-returns-in_err-arguments-in-Arguments-clause-complete t c = called_refused c.args.self.now.cursor c.link.new.self.cursor c.arguments.new.self.cursor c.args.self.now.pairs.items c.arguments.new.self.pairs.items c.args.high c.args.left c.in_ok-found.found c.in_ok-found.optional _ c.in_err-arguments-in-Arguments.field-0.0 c.from_residual-in_err-arguments-in-Arguments.ensures.1 c.link.ensures.text c.link.ensures.same_open c.in_ok-found.ensures.linked c.arguments.new.self.cursor c.link.new.self.pairs.items c.arguments.new.self.pairs.items c.saturating_sub-inner.result c.in-Arguments.is c.saturating_sub-inner.ensures c.in_err-arguments-in-Arguments.ensures.complete
 
-pub linked-returns-in_err-list-in-Quasi-clause-complete : goal.linked-returns-in_err-list-in-Quasi-clause-complete
-linked-returns-in_err-list-in-Quasi-clause-complete t c = unopened_refused c.args.self.now.cursor c.link.new.self.cursor c.open.new.self.cursor c.args.self.now.pairs.items c.open.new.self.pairs.items c.args.high c.args.left c.in_ok-found.found c.in_ok-found.optional _ c.in_err-list-in-Quasi.field-0.0 c.from_residual-in_err-list-in-Quasi.ensures.1 c.link.ensures.text c.link.ensures.same_open c.in_ok-found.ensures.linked _ _ c.in-Quasi.is refl c.in_err-list-in-Quasi.ensures.not_begun c.in_err-list-in-Quasi.ensures.untemplated (omega arith)
+pub selected-returns-in_err-list-in-Quasi-clause-complete : goal.selected-returns-in_err-list-in-Quasi-clause-complete
+selected-returns-in_err-list-in-Quasi-clause-complete t c = unopened_refused c.args.self.now.cursor c.link.new.self.cursor c.open.new.self.cursor c.args.self.now.pairs.items c.open.new.self.pairs.items c.args.high c.args.left c.in_ok-found.found c.in_ok-found.optional _ c.in_err-list-in-Quasi.field-0.0 c.from_residual-in_err-list-in-Quasi.ensures.1 c.link.ensures.text c.link.ensures.same_open c.in_ok-found.ensures.linked _ _ c.in-Quasi.is refl c.in_err-list-in-Quasi.ensures.not_begun c.in_err-list-in-Quasi.ensures.untemplated (omega arith)
 
-pub linked-returns-in_err-list-in-Quasi-2-clause-complete : goal.linked-returns-in_err-list-in-Quasi-2-clause-complete
-linked-returns-in_err-list-in-Quasi-2-clause-complete t c = unlisted_refused c.args.self.now.cursor c.link.new.self.cursor c.list.new.self.cursor c.args.self.now.pairs.items c.list.new.self.pairs.items c.args.high c.args.left c.in_ok-found.found c.in_ok-found.optional _ c.in_err-list-in-Quasi-2.field-0.0 c.from_residual-in_err-list-in-Quasi-2.ensures.1 c.link.ensures.text c.link.ensures.same_open c.in_ok-found.ensures.linked c.open.new.self.cursor c.list.new.self.cursor c.open.new.self.pairs.items c.list.new.self.pairs.items c.saturating_sub-inner.result _ c.in_ok-list-in-Quasi.list c.in-Quasi.is c.open.ensures.text c.open.ensures.same_open c.in_ok-list-in-Quasi.ensures.listed c.in_ok-list-in-Quasi.ensures.template c.saturating_sub-inner.ensures c.in_err-list-in-Quasi-2.ensures.complete (omega arith)
+pub selected-returns-in_err-list-in-Quasi-2-clause-complete : goal.selected-returns-in_err-list-in-Quasi-2-clause-complete
+selected-returns-in_err-list-in-Quasi-2-clause-complete t c = unlisted_refused c.args.self.now.cursor c.link.new.self.cursor c.list.new.self.cursor c.args.self.now.pairs.items c.list.new.self.pairs.items c.args.high c.args.left c.in_ok-found.found c.in_ok-found.optional _ c.in_err-list-in-Quasi-2.field-0.0 c.from_residual-in_err-list-in-Quasi-2.ensures.1 c.link.ensures.text c.link.ensures.same_open c.in_ok-found.ensures.linked c.open.new.self.cursor c.list.new.self.cursor c.open.new.self.pairs.items c.list.new.self.pairs.items c.saturating_sub-inner.result _ c.in_ok-list-in-Quasi.list c.in-Quasi.is c.open.ensures.text c.open.ensures.same_open c.in_ok-list-in-Quasi.ensures.listed c.in_ok-list-in-Quasi.ensures.template c.saturating_sub-inner.ensures c.in_err-list-in-Quasi-2.ensures.complete (omega arith)
 
-pub linked-returns-in_err-listed-in-Quasi-clause-complete : goal.linked-returns-in_err-listed-in-Quasi-clause-complete
-linked-returns-in_err-listed-in-Quasi-clause-complete t c = unmade_refused c.args.self.now.cursor c.link.new.self.cursor c.list.new.self.cursor c.args.self.now.pairs.items c.list.new.self.pairs.items c.args.high c.args.left c.in_ok-found.found c.in_ok-found.optional _ c.in_err-listed-in-Quasi.field-0.0 c.from_residual-in_err-listed-in-Quasi.ensures.1 c.link.ensures.text c.link.ensures.same_open c.in_ok-found.ensures.linked c.open.new.self.cursor c.list.new.self.cursor c.open.new.self.pairs.items c.list.new.self.pairs.items c.saturating_sub-inner.result c.saturating_sub-inner.result c.in_ok-list-in-Quasi.list c.in-Quasi.is c.open.ensures.text c.open.ensures.same_open c.in_ok-list-in-Quasi.ensures.listed c.in_ok-list-in-Quasi.ensures.template c.saturating_sub-inner.ensures c.in_ok-list-in-Quasi-2.list c.in_ok-list-in-Quasi-2.ensures.complete c.in_err-listed-in-Quasi.ensures.made
+pub selected-returns-in_err-listed-in-Quasi-clause-complete : goal.selected-returns-in_err-listed-in-Quasi-clause-complete
+selected-returns-in_err-listed-in-Quasi-clause-complete t c = unmade_refused c.args.self.now.cursor c.link.new.self.cursor c.list.new.self.cursor c.args.self.now.pairs.items c.list.new.self.pairs.items c.args.high c.args.left c.in_ok-found.found c.in_ok-found.optional _ c.in_err-listed-in-Quasi.field-0.0 c.from_residual-in_err-listed-in-Quasi.ensures.1 c.link.ensures.text c.link.ensures.same_open c.in_ok-found.ensures.linked c.open.new.self.cursor c.list.new.self.cursor c.open.new.self.pairs.items c.list.new.self.pairs.items c.saturating_sub-inner.result c.saturating_sub-inner.result c.in_ok-list-in-Quasi.list c.in-Quasi.is c.open.ensures.text c.open.ensures.same_open c.in_ok-list-in-Quasi.ensures.listed c.in_ok-list-in-Quasi.ensures.template c.saturating_sub-inner.ensures c.in_ok-list-in-Quasi-2.list c.in_ok-list-in-Quasi-2.ensures.complete c.in_err-listed-in-Quasi.ensures.made
 
-pub linked-returns-in_err-node-clause-complete : goal.linked-returns-in_err-node-clause-complete
-linked-returns-in_err-node-clause-complete t c =
+pub selected-returns-in_err-node-clause-complete : goal.selected-returns-in_err-node-clause-complete
+selected-returns-in_err-node-clause-complete t c =
     let text = c.link.ensures.text in
     let opened = c.link.ensures.same_open in
     let same = c.link.ensures.same_pairs in
@@ -1002,25 +1006,25 @@ linked-returns-in_err-node-clause-complete t c =
     let passed = c.in_ok-found.ensures.linked in
     let one : c.in_ok-nodes.nodes ≡ part c.args.left.cover.node none = c.in_ok-nodes.ensures.made ∙ ap (λ n. part n none) c.in_ok-settle.ensures.settled.0 in
     elim c.match-found.branch [
-      | linked-in-Name+in_ok-name-in-Name+in_ok-single-in-Name+in_ok-push-in-Name w ↦
+      | selected-in-Name+in_ok-name-in-Name+in_ok-single-in-Name+in_ok-push-in-Name w ↦
           let name = w.in_ok-name-in-Name.ensures.accepted in
           let nodes : c.match-found.nodes ≡ part c.args.left.cover.node (part (single_node Identifier (token_of w.in_ok-name-in-Name.name)) none) = w.nodes-is ∙ w.in_ok-push-in-Name.ensures.pushed ∙ (λ i. push (one i) (w.in_ok-single-in-Name.ensures.made.0 i)) in
           linked_high c.args.high _ c.args.left _ c.in_err-node.field-0.0 c.from_residual-in_err-node.ensures.1 (link_once c.args.self.now.cursor c.link.new.self.cursor text passed
           (subst (λ v. Adds c.args.self.now.cursor v.cursor c.args.self.now.pairs.items v.pairs.items (BehindOn c.args.self.now.cursor.text found optional (part (single_node Identifier (token_of w.in_ok-name-in-Name.name)) none))) (sym w.self-is)
           (name_read found optional (token_of w.in_ok-name-in-Name.name) text opened same w.in-Name.is passed w.word.ensures.same_open w.word.ensures.same_pairs name.0.0 name.1))) c.in_err-node.ensures.0 c.in_err-node.ensures.1 (ap (λ ps. suc (parts_height ps)) nodes)
-      | linked-in-Index+in_ok-expect-in-Index+in_ok-index-in-Index+in_ok-settle-in-Index+in_ok-push-in-Index+in_ok-expect-in-Index-2 w ↦
+      | selected-in-Index+in_ok-expect-in-Index+in_ok-index-in-Index+in_ok-settle-in-Index+in_ok-push-in-Index+in_ok-expect-in-Index-2 w ↦
           let index = w.in_ok-index-in-Index.index in
           let nodes : c.match-found.nodes ≡ part c.args.left.cover.node (part index.cover.node none) = w.nodes-is ∙ w.in_ok-push-in-Index.ensures.pushed ∙ (λ i. push (one i) (w.in_ok-settle-in-Index.ensures.settled.0 i)) in
           linked_high c.args.high _ c.args.left _ c.in_err-node.field-0.0 c.from_residual-in_err-node.ensures.1 (link_once c.args.self.now.cursor c.link.new.self.cursor text passed
           (subst (λ v. Adds c.args.self.now.cursor v.cursor c.args.self.now.pairs.items v.pairs.items (BehindOn c.args.self.now.cursor.text found optional (part index.cover.node none))) (sym w.self-is)
           (index_read found optional text opened same w.in-Index.is passed w.expect.ensures.text w.expect.ensures.same_open w.expect.ensures.same_pairs w.in_ok-expect-in-Index.ensures.accepted.0 refl refl refl w.expression.ensures.text w.in_ok-index-in-Index.ensures.derived w.in_ok-settle-in-Index.ensures.settled.1
           w.expect-in-Index.ensures.same_open w.expect-in-Index.ensures.same_pairs w.in_ok-expect-in-Index-2.ensures.accepted.0))) c.in_err-node.ensures.0 c.in_err-node.ensures.1 (ap (λ ps. suc (parts_height ps)) nodes)
-      | linked-in-Arguments+in_ok-arguments-in-Arguments+in_ok-append-in-Arguments w ↦
+      | selected-in-Arguments+in_ok-arguments-in-Arguments+in_ok-append-in-Arguments w ↦
           let nodes : c.match-found.nodes ≡ part c.args.left.cover.node w.in_ok-arguments-in-Arguments.field-0 = w.nodes-is ∙ w.in_ok-append-in-Arguments.ensures.joined ∙ (λ i. join (one i) w.in_ok-arguments-in-Arguments.field-0) in
           linked_high c.args.high _ c.args.left _ c.in_err-node.field-0.0 c.from_residual-in_err-node.ensures.1 (link_once c.args.self.now.cursor c.link.new.self.cursor text passed
           (subst (λ v. Adds c.args.self.now.cursor v.cursor c.args.self.now.pairs.items v.pairs.items (BehindOn c.args.self.now.cursor.text found optional w.in_ok-arguments-in-Arguments.field-0)) (sym w.self-is)
           (arguments_read_behind found optional text opened same w.in-Arguments.is passed w.in_ok-arguments-in-Arguments.ensures.derived))) c.in_err-node.ensures.0 c.in_err-node.ensures.1 (ap (λ ps. suc (parts_height ps)) nodes)
-      | linked-in-Quasi+in_ok-list-in-Quasi+in_ok-list-in-Quasi-2+in_ok-listed-in-Quasi+in_ok-push-in-Quasi w ↦
+      | selected-in-Quasi+in_ok-list-in-Quasi+in_ok-list-in-Quasi-2+in_ok-listed-in-Quasi+in_ok-push-in-Quasi w ↦
           let template = w.in_ok-listed-in-Quasi.field-0.cover.node in
           let nodes : c.match-found.nodes ≡ part c.args.left.cover.node (part template none) = w.nodes-is ∙ w.in_ok-push-in-Quasi.ensures.pushed ∙ (λ i. push (one i) template) in
           let list = w.in_ok-list-in-Quasi-2.ensures in
@@ -1030,8 +1034,8 @@ linked-returns-in_err-node-clause-complete t c =
           list.same.0 list.same.1 (ap (λ (p : Part). p.cover.node) w.in_ok-listed-in-Quasi.ensures.made.0) list.derived))) c.in_err-node.ensures.0 c.in_err-node.ensures.1 (ap (λ ps. suc (parts_height ps)) nodes)
     ]
 
-pub linked-returns-clause-complete : goal.linked-returns-clause-complete
-linked-returns-clause-complete t c =
+pub selected-returns-clause-complete : goal.selected-returns-clause-complete
+selected-returns-clause-complete t c =
     let text = c.link.ensures.text in
     let opened = c.link.ensures.same_open in
     let same = c.link.ensures.same_pairs in
@@ -1040,31 +1044,31 @@ linked-returns-clause-complete t c =
     let passed = c.in_ok-found.ensures.linked in
     let value = c.in_ok-settle.ensures.settled.1 in
     let object : takes Call c.args.left.rank ≡ true = sym c.position_takes.ensures ∙ c.if-not-position_takes.false in
-    let called : c.match-matches.matches ≡ is_call c.args.left.rank = elim c.match-matches.branch [ linked-in-Call w ↦ w.matches-is ∙ call_is c.args.left.rank w.in-Call.is | linked-in_default w ↦ w.matches-is ∙ call_is_not c.args.left.rank w.in_default.not-Call ] in
+    let called : c.match-matches.matches ≡ is_call c.args.left.rank = elim c.match-matches.branch [ selected-in-Call w ↦ w.matches-is ∙ call_is c.args.left.rank w.in-Call.is | selected-in_default w ↦ w.matches-is ∙ call_is_not c.args.left.rank w.in_default.not-Call ] in
     let one : c.in_ok-nodes.nodes ≡ part c.args.left.cover.node none = c.in_ok-nodes.ensures.made ∙ ap (λ n. part n none) c.in_ok-settle.ensures.settled.0 in
     let span = c.span_from-span.ensures in
     let tree : c.in_ok-node.node ≡ node (link_kind found) [] (link_flags found optional) c.args.left.start c.match-found.self.cursor.last.stop c.match-found.nodes = c.in_ok-node.ensures.0 ∙ (λ i. node (c.kind.ensures i) [] (c.flags.ensures i) (span i).start (span i).end c.match-found.nodes) in
     let made : c.plain.result ≡ plain_part (node (link_kind found) [] (link_flags found optional) c.args.left.start c.match-found.self.cursor.last.stop c.match-found.nodes) (link_rank found c.match-matches.matches) Other = c.plain.ensures ∙ (λ i. plain_part (tree i) (c.rank.ensures i) Other) in
     elim c.match-found.branch [
-      | linked-in-Name+in_ok-name-in-Name+in_ok-single-in-Name+in_ok-push-in-Name w ↦
+      | selected-in-Name+in_ok-name-in-Name+in_ok-single-in-Name+in_ok-push-in-Name w ↦
           let name = w.in_ok-name-in-Name.ensures.accepted in
           let nodes : c.match-found.nodes ≡ part c.args.left.cover.node (part (single_node Identifier (token_of w.in_ok-name-in-Name.name)) none) = w.nodes-is ∙ w.in_ok-push-in-Name.ensures.pushed ∙ (λ i. push (one i) (w.in_ok-single-in-Name.ensures.made.0 i)) in
           linked_answered c.args.high c.args.left c.plain.result (link_once c.args.self.now.cursor c.link.new.self.cursor text passed
           (subst (λ v. Adds c.args.self.now.cursor v.cursor c.args.self.now.pairs.items v.pairs.items (BehindOn c.args.self.now.cursor.text found optional (part (single_node Identifier (token_of w.in_ok-name-in-Name.name)) none))) (sym w.self-is)
           (name_read found optional (token_of w.in_ok-name-in-Name.name) text opened same w.in-Name.is passed w.word.ensures.same_open w.word.ensures.same_pairs name.0.0 name.1))) called nodes made
-      | linked-in-Index+in_ok-expect-in-Index+in_ok-index-in-Index+in_ok-settle-in-Index+in_ok-push-in-Index+in_ok-expect-in-Index-2 w ↦
+      | selected-in-Index+in_ok-expect-in-Index+in_ok-index-in-Index+in_ok-settle-in-Index+in_ok-push-in-Index+in_ok-expect-in-Index-2 w ↦
           let index = w.in_ok-index-in-Index.index in
           let nodes : c.match-found.nodes ≡ part c.args.left.cover.node (part index.cover.node none) = w.nodes-is ∙ w.in_ok-push-in-Index.ensures.pushed ∙ (λ i. push (one i) (w.in_ok-settle-in-Index.ensures.settled.0 i)) in
           linked_answered c.args.high c.args.left c.plain.result (link_once c.args.self.now.cursor c.link.new.self.cursor text passed
           (subst (λ v. Adds c.args.self.now.cursor v.cursor c.args.self.now.pairs.items v.pairs.items (BehindOn c.args.self.now.cursor.text found optional (part index.cover.node none))) (sym w.self-is)
           (index_read found optional text opened same w.in-Index.is passed w.expect.ensures.text w.expect.ensures.same_open w.expect.ensures.same_pairs w.in_ok-expect-in-Index.ensures.accepted.0 refl refl refl w.expression.ensures.text w.in_ok-index-in-Index.ensures.derived w.in_ok-settle-in-Index.ensures.settled.1
           w.expect-in-Index.ensures.same_open w.expect-in-Index.ensures.same_pairs w.in_ok-expect-in-Index-2.ensures.accepted.0))) called nodes made
-      | linked-in-Arguments+in_ok-arguments-in-Arguments+in_ok-append-in-Arguments w ↦
+      | selected-in-Arguments+in_ok-arguments-in-Arguments+in_ok-append-in-Arguments w ↦
           let nodes : c.match-found.nodes ≡ part c.args.left.cover.node w.in_ok-arguments-in-Arguments.field-0 = w.nodes-is ∙ w.in_ok-append-in-Arguments.ensures.joined ∙ (λ i. join (one i) w.in_ok-arguments-in-Arguments.field-0) in
           linked_answered c.args.high c.args.left c.plain.result (link_once c.args.self.now.cursor c.link.new.self.cursor text passed
           (subst (λ v. Adds c.args.self.now.cursor v.cursor c.args.self.now.pairs.items v.pairs.items (BehindOn c.args.self.now.cursor.text found optional w.in_ok-arguments-in-Arguments.field-0)) (sym w.self-is)
           (arguments_read_behind found optional text opened same w.in-Arguments.is passed w.in_ok-arguments-in-Arguments.ensures.derived))) called nodes made
-      | linked-in-Quasi+in_ok-list-in-Quasi+in_ok-list-in-Quasi-2+in_ok-listed-in-Quasi+in_ok-push-in-Quasi w ↦
+      | selected-in-Quasi+in_ok-list-in-Quasi+in_ok-list-in-Quasi-2+in_ok-listed-in-Quasi+in_ok-push-in-Quasi w ↦
           let template = w.in_ok-listed-in-Quasi.field-0.cover.node in
           let nodes : c.match-found.nodes ≡ part c.args.left.cover.node (part template none) = w.nodes-is ∙ w.in_ok-push-in-Quasi.ensures.pushed ∙ (λ i. push (one i) template) in
           let list = w.in_ok-list-in-Quasi-2.ensures in
@@ -1365,16 +1369,16 @@ turn-returns-in-Chains-clause-derived t c = chain_reads c.args.self.now.cursor c
 pub turn-returns-in-Selects-clause-derived : goal.turn-returns-in-Selects-clause-derived
 turn-returns-in-Selects-clause-derived t c = linked_reads c.args.self.now.cursor c.linked.new.self.cursor c.args.self.now.pairs.items c.linked.new.self.pairs.items c.args.position c.args.left (token_of c.args.next.token) c.linked.result c.requires.ahead c.requires.coded (no_chain_there c.in-Selects.is) c.requires.goes c.linked.ensures.derived
 
-pub turn-returns-in-Steps-clause-derived : goal.turn-returns-in-Steps-clause-derived
-turn-returns-in-Steps-clause-derived t c =
+pub other_turn-returns-in-Steps-clause-derived : goal.other_turn-returns-in-Steps-clause-derived
+other_turn-returns-in-Steps-clause-derived t c =
     let parts = c.in_ok-nodes-in-Steps.ensures.made ∙ ap (λ n. part n none) c.in_ok-operand-in-Steps.ensures.target.0 in
     let span = c.span_from-span.ensures in
     let tree = c.in_ok-node-in-Steps.ensures.0 ∙ (λ k. node UpdateExpression c.args.next.token.text.now plain (span k).start (span k).end (parts k)) in
     step_reads c.args.self.now.cursor c.pass.new.self.cursor c.args.self.now.pairs.items c.pass.new.self.pairs.items c.args.position c.args.left (token_of c.args.next.token) c.plain.result c.requires.coded c.in-Steps.is c.requires.goes c.in_ok-operand-in-Steps.ensures.target.1
     c.pass.ensures.reads c.pass.ensures.last c.pass.ensures.same_open c.pass.ensures.same_pairs (c.plain.ensures ∙ ap (λ n. plain_part n Update Postfix) tree)
 
-pub turn-returns-in-Sequences-clause-derived : goal.turn-returns-in-Sequences-clause-derived
-turn-returns-in-Sequences-clause-derived t c =
+pub other_turn-returns-in-Sequences-clause-derived : goal.other_turn-returns-in-Sequences-clause-derived
+other_turn-returns-in-Sequences-clause-derived t c =
     let begun = c.in_ok-list-in-Sequences.ensures.begun in
     let list = c.in_ok-list-in-Sequences-2.list in
     let pass = c.pass-in-Sequences in
@@ -1610,41 +1614,41 @@ worded-returns-in_ok-node-in-Function-clause-derived t c = function_worded c.arg
 pub worded-returns-in_ok-node-in-Class-clause-derived : goal.worded-returns-in_ok-node-in-Class-clause-derived
 worded-returns-in_ok-node-in-Class-clause-derived t c = class_worded c.args.token c.args.position c.args.opening c.in-Class.is c.plain-in-Class.ensures c.in_ok-node-in-Class.ensures.derived
 
-pub worded-returns-in_ok-node-in-Super-clause-derived : goal.worded-returns-in_ok-node-in-Super-clause-derived
-worded-returns-in_ok-node-in-Super-clause-derived t c =
-    super_worded c.args.self.now.cursor c.linked.new.self.cursor c.args.self.now.pairs.items c.linked.new.self.pairs.items c.args.token c.args.position c.args.opening c.position_takes-takes_call.result c.linked.result c.in-Super.is c.position_takes-takes_call.ensures
-    (c.plain-in-Super.ensures ∙ ap (λ n. plain_part n Primary Other) c.in_ok-node-in-Super.ensures.made.0) c.if-sees_base.ensures.seen c.linked.ensures.derived
+pub based-returns-clause-derived : goal.based-returns-clause-derived
+based-returns-clause-derived t c =
+    super_worded c.args.self.now.cursor c.linked.new.self.cursor c.args.self.now.pairs.items c.linked.new.self.pairs.items c.args.token c.args.position Super c.position_takes.result c.linked.result refl c.position_takes.ensures
+    (c.plain.ensures ∙ ap (λ n. plain_part n Primary Other) c.in_ok-node.ensures.made.0) c.if-not-sees_base.ensures.seen c.linked.ensures.derived
 
-pub worded-returns-in-New-clause-derived : goal.worded-returns-in-New-clause-derived
-worded-returns-in-New-clause-derived t c =
-    target_worded c.args.self.now.cursor c.accept.new.self.cursor c.new_target.new.self.cursor c.args.token c.args.position c.args.opening c.args.high c.new_target.result c.in-New.is c.accept.ensures.text (c.new_target.ensures.same_open ∙ c.accept.ensures.same_open)
+pub created-returns-then-accept-clause-derived : goal.created-returns-then-accept-clause-derived
+created-returns-then-accept-clause-derived t c =
+    target_worded c.args.self.now.cursor c.accept.new.self.cursor c.new_target.new.self.cursor c.args.token c.args.position New c.args.high c.new_target.result refl c.accept.ensures.text (c.new_target.ensures.same_open ∙ c.accept.ensures.same_open)
     (c.new_target.ensures.same_pairs ∙ c.accept.ensures.same_pairs) c.if-accept.ensures.accepted c.new_target.ensures.target
 
-pub worded-returns-in_ok-node-in-New-2-clause-derived : goal.worded-returns-in_ok-node-in-New-2-clause-derived
-worded-returns-in_ok-node-in-New-2-clause-derived t c =
-    let callee = c.in_ok-callee-in-New-2.callee in
-    let first = c.in_ok-nodes-in-New-2.ensures.made ∙ ap (λ n. part n none) c.in_ok-settle-in-New-2.ensures.settled.0 in
+pub created-returns-clause-derived : goal.created-returns-clause-derived
+created-returns-clause-derived t c =
+    let callee = c.in_ok-callee.callee in
+    let first = c.in_ok-nodes.ensures.made ∙ ap (λ n. part n none) c.in_ok-settle.ensures.settled.0 in
     let tail : Adds c.expression.new.self.cursor c.if-sees.self.cursor c.expression.new.self.pairs.items c.if-sees.self.pairs.items (NewTail c.accept.new.self.cursor.text callee.cover.node c.if-sees.nodes c.if-sees.rank) =
     elim c.if-sees.branch [
-      | worded-then-sees+in_ok-arguments-in-New-2+in_ok-append-in-New-2 w ↦
+      | created-then-sees+in_ok-arguments+in_ok-append w ↦
           subst (λ v. Adds c.expression.new.self.cursor v.cursor c.expression.new.self.pairs.items v.pairs.items (NewTail c.accept.new.self.cursor.text callee.cover.node c.if-sees.nodes c.if-sees.rank)) (sym w.self-is)
-          (tail_with callee.cover.node w.in_ok-arguments-in-New-2.field-0 c.if-sees.nodes c.if-sees.rank c.expression.ensures.text (w.nodes-is ∙ w.in_ok-append-in-New-2.ensures.joined ∙ ap (λ ps. join ps w.in_ok-arguments-in-New-2.field-0) first) w.rank-is w.if-sees.ensures.seen w.in_ok-arguments-in-New-2.ensures.derived)
-      | worded-else-sees w ↦
+          (tail_with callee.cover.node w.in_ok-arguments.field-0 c.if-sees.nodes c.if-sees.rank c.expression.ensures.text (w.nodes-is ∙ w.in_ok-append.ensures.joined ∙ ap (λ ps. join ps w.in_ok-arguments.field-0) first) w.rank-is w.if-sees.ensures.seen w.in_ok-arguments.ensures.derived)
+      | created-else-sees w ↦
           subst (λ v. Adds c.expression.new.self.cursor v.cursor c.expression.new.self.pairs.items v.pairs.items (NewTail c.accept.new.self.cursor.text callee.cover.node c.if-sees.nodes c.if-sees.rank)) (sym w.self-is)
           (tail_alone callee.cover.node c.if-sees.nodes c.if-sees.rank c.expression.ensures.text (w.nodes-is ∙ first) w.rank-is w.if-sees.ensures.missed)
     ] in
     let span = c.span_from.ensures in
-    let tree = c.in_ok-node-in-New-2.ensures.0 ∙ (λ i. node NewExpression [] plain (span i).start (span i).end c.if-sees.nodes) in
+    let tree = c.in_ok-node.ensures.0 ∙ (λ i. node NewExpression [] plain (span i).start (span i).end c.if-sees.nodes) in
     worded_here c.args.token c.accept.ensures.text c.if-accept.ensures.missed.1 c.accept.ensures.same_open c.accept.ensures.same_pairs
-    (new_worded c.args.token c.at.result c.args.position c.args.opening c.if-sees.rank c.if-sees.nodes c.in-New-2.is c.at.ensures c.in_ok-callee-in-New-2.ensures.derived c.in_ok-settle-in-New-2.ensures.settled.1 tail (c.plain-in-New-2-2.ensures ∙ ap (λ n. plain_part n c.if-sees.rank Other) tree))
+    (new_worded c.args.token c.at.result c.args.position New c.if-sees.rank c.if-sees.nodes refl c.at.ensures c.in_ok-callee.ensures.derived c.in_ok-settle.ensures.settled.1 tail (c.plain-2.ensures ∙ ap (λ n. plain_part n c.if-sees.rank Other) tree))
 
-pub worded-returns-in_ok-node-in-Import-clause-derived : goal.worded-returns-in_ok-node-in-Import-clause-derived
-worded-returns-in_ok-node-in-Import-clause-derived t c =
-    let parts = c.in_ok-nodes-in-Import.ensures.made ∙ ap (λ n. part n none) c.in_ok-settle-in-Import.ensures.settled.0 in
-    let span = c.span_from-in-Import.ensures in
-    let tree = c.in_ok-node-in-Import.ensures.0 ∙ (λ i. node ImportExpression [] plain (span i).start (span i).end (parts i)) in
-    import_worded c.args.token c.args.position c.args.opening c.in-Import.is c.expect.ensures.text (c.expression-in-Import.ensures.text ∙ c.expect.ensures.text) c.expect.ensures.same_open c.expect.ensures.same_pairs c.expect-in-Import.ensures.same_open c.expect-in-Import.ensures.same_pairs
-    c.in_ok-expect-in-Import.ensures.accepted.0 c.in_ok-source-in-Import.ensures.derived c.in_ok-settle-in-Import.ensures.settled.1 c.in_ok-expect-in-Import-2.ensures.accepted.0 (c.plain-in-Import-2.ensures ∙ ap (λ n. plain_part n Call Other) tree)
+pub imported-returns-clause-derived : goal.imported-returns-clause-derived
+imported-returns-clause-derived t c =
+    let parts = c.in_ok-nodes.ensures.made ∙ ap (λ n. part n none) c.in_ok-settle.ensures.settled.0 in
+    let span = c.span_from.ensures in
+    let tree = c.in_ok-node.ensures.0 ∙ (λ i. node ImportExpression [] plain (span i).start (span i).end (parts i)) in
+    import_worded c.args.token c.args.position Import refl c.expect.ensures.text (c.expression.ensures.text ∙ c.expect.ensures.text) c.expect.ensures.same_open c.expect.ensures.same_pairs c.expect-2.ensures.same_open c.expect-2.ensures.same_pairs
+    c.in_ok-expect.ensures.accepted.0 c.in_ok-source.ensures.derived c.in_ok-settle.ensures.settled.1 c.in_ok-expect-2.ensures.accepted.0 (c.plain-2.ensures ∙ ap (λ n. plain_part n Call Other) tree)
 
 pub worded-returns-in_err-node-in-Function-clause-complete : goal.worded-returns-in_err-node-in-Function-clause-complete
 worded-returns-in_err-node-in-Function-clause-complete t c = λ a h o n from to P next same coded word g.
@@ -1688,42 +1692,42 @@ worded-returns-in_ok-node-in-Class-clause-complete t c = λ a h o n from to P ne
     let answer = c.in_ok-node-in-Class.ensures.complete v.parts o to P v.runs (λ e. cc) in
     (closure_first v u.start c.in_ok-node-in-Class.node c.plain-in-Class.result (sym (ap (λ (x : Token). x.start) same)) answer.0 c.plain-in-Class.ensures refl, answer.1)
 
-pub worded-returns-in_err-node-in-Super-clause-complete : goal.worded-returns-in_err-node-in-Super-clause-complete
-worded-returns-in_err-node-in-Super-clause-complete t c = λ a h o n from to P next same coded word g.
+pub based-returns-in_err-node-clause-complete : goal.based-returns-in_err-node-clause-complete
+based-returns-in_err-node-clause-complete t c = λ a h o n from to P next same coded word g.
     let s = c.args.self.now.cursor in
     let u = token_of c.args.token in
-    let opens = super_coded (opening_of s.last) (coded ∙ ap Some c.in-Super.is) in
+    let opens = super_coded (opening_of s.last) (coded ∙ ap Some refl) in
     let w = word_here s.text u next same (ap is_worded opens) in
     let v = super_given s.text w.read opens g in
     let tall = super_low v.1 in
-    let less = c.saturating_sub-inner.ensures in
-    let above = c.in_err-node-in-Super.ensures.made in
-    agrees_err (Room s o (height n) c.args.high) (FirstWith s s c.args.self.now.pairs.items c.args.self.now.pairs.items a h n to P) c.from_residual-in_err-node-in-Super.result c.in_err-node-in-Super.field-0.0 c.from_residual-in_err-node-in-Super.ensures.1
-    (refuses_high (Room s o (height n) c.args.high) 1 c.saturating_sub-inner.result c.in_err-node-in-Super.field-0.0 above.0 above.1 (λ room. let l = room.1 in omega arith))
+    let less = c.saturating_sub.ensures in
+    let above = c.in_err-node.ensures.made in
+    agrees_err (Room s o (height n) c.args.high) (FirstWith s s c.args.self.now.pairs.items c.args.self.now.pairs.items a h n to P) c.from_residual.result c.in_err-node.field-0.0 c.from_residual.ensures.1
+    (refuses_high (Room s o (height n) c.args.high) 1 c.saturating_sub.result c.in_err-node.field-0.0 above.0 above.1 (λ room. let l = room.1 in omega arith))
 
-pub worded-returns-in_ok-node-in-Super-clause-complete : goal.worded-returns-in_ok-node-in-Super-clause-complete
-worded-returns-in_ok-node-in-Super-clause-complete t c = λ a h o n from to P next same coded word g.
+pub based-returns-clause-complete : goal.based-returns-clause-complete
+based-returns-clause-complete t c = λ a h o n from to P next same coded word g.
     let s = c.args.self.now.cursor in
     let u = token_of c.args.token in
-    let opens = super_coded (opening_of s.last) (coded ∙ ap Some c.in-Super.is) in
+    let opens = super_coded (opening_of s.last) (coded ∙ ap Some refl) in
     let w = word_here s.text u next same (ap is_worded opens) in
     let v = super_given s.text w.read opens g in
-    super_agrees s c.linked.new.self.cursor c.args.self.now.pairs.items c.linked.new.self.pairs.items c.args.high u c.plain-in-Super.result c.linked.result (c.plain-in-Super.ensures ∙ ap (λ n. plain_part n Primary Other) c.in_ok-node-in-Super.ensures.made.0) w.same c.linked.ensures.complete v.0 v.1
+    super_agrees s c.linked.new.self.cursor c.args.self.now.pairs.items c.linked.new.self.pairs.items c.args.high u c.plain.result c.linked.result (c.plain.ensures ∙ ap (λ n. plain_part n Primary Other) c.in_ok-node.ensures.made.0) w.same c.linked.ensures.complete v.0 v.1
 
-pub worded-returns-in-New-clause-complete : goal.worded-returns-in-New-clause-complete
-worded-returns-in-New-clause-complete t c = λ a h o n from to P next same coded word g.
+pub created-returns-then-accept-clause-complete : goal.created-returns-then-accept-clause-complete
+created-returns-then-accept-clause-complete t c = λ a h o n from to P next same coded word g.
     let s = c.args.self.now.cursor in
     let u = token_of c.args.token in
-    let opens = new_coded (opening_of s.last) (coded ∙ ap Some c.in-New.is) in
+    let opens = new_coded (opening_of s.last) (coded ∙ ap Some refl) in
     let w = word_here s.text u next same (ap is_worded opens) in
     let v = new_given_so s.text w.read opens g in
     target_agrees s c.accept.new.self.cursor c.new_target.new.self.cursor c.args.self.now.pairs.items c.new_target.new.self.pairs.items c.args.high u c.new_target.result v.0 v.1 w.same c.accept.ensures.text c.if-accept.ensures.accepted (c.new_target.ensures.same_pairs ∙ c.accept.ensures.same_pairs) c.new_target.ensures.target c.new_target.ensures.no_target
 
-pub worded-returns-in_err-callee-in-New-2-clause-complete : goal.worded-returns-in_err-callee-in-New-2-clause-complete
-worded-returns-in_err-callee-in-New-2-clause-complete t c = λ a h o n from to P next same coded word g.
+pub created-returns-in_err-callee-clause-complete : goal.created-returns-in_err-callee-clause-complete
+created-returns-in_err-callee-clause-complete t c = λ a h o n from to P next same coded word g.
     let s = c.args.self.now.cursor in
     let u = token_of c.args.token in
-    let opens = new_coded (opening_of s.last) (coded ∙ ap Some c.in-New-2.is) in
+    let opens = new_coded (opening_of s.last) (coded ∙ ap Some refl) in
     let w = word_here s.text u next same (ap is_worded opens) in
     let v = new_given_so s.text w.read opens g in
     let m = c.accept.new.self.cursor in
@@ -1731,14 +1735,14 @@ worded-returns-in_err-callee-in-New-2-clause-complete t c = λ a h o n from to P
     let given = callee_at c.accept.ensures.text c.if-accept.ensures.missed.1 c.at.ensures k.is k.stopped in
     let low = k.low in
     let less = c.saturating_sub-inner.ensures in
-    agrees_on (Room m o (height k.callee) c.saturating_sub-inner.result) (Room s o (height n) c.args.high) (FirstWith s c.expression.new.self.cursor c.args.self.now.pairs.items c.expression.new.self.pairs.items a h n to P) c.from_residual-in_err-callee-in-New-2.result c.in_err-callee-in-New-2.field-0.0
-    c.from_residual-in_err-callee-in-New-2.ensures.1 (c.in_err-callee-in-New-2.ensures.complete as_expression o k.callee k.mid k.A given) (room_part s m c.accept.ensures.same_open (λ l. omega arith))
+    agrees_on (Room m o (height k.callee) c.saturating_sub-inner.result) (Room s o (height n) c.args.high) (FirstWith s c.expression.new.self.cursor c.args.self.now.pairs.items c.expression.new.self.pairs.items a h n to P) c.from_residual.result c.in_err-callee.field-0.0
+    c.from_residual.ensures.1 (c.in_err-callee.ensures.complete as_expression o k.callee k.mid k.A given) (room_part s m c.accept.ensures.same_open (λ l. omega arith))
 
-pub worded-returns-in_err-settle-in-New-2-clause-complete : goal.worded-returns-in_err-settle-in-New-2-clause-complete
-worded-returns-in_err-settle-in-New-2-clause-complete t c = λ a h o n from to P next same coded word g.
+pub created-returns-in_err-settle-clause-complete : goal.created-returns-in_err-settle-clause-complete
+created-returns-in_err-settle-clause-complete t c = λ a h o n from to P next same coded word g.
     let s = c.args.self.now.cursor in
     let u = token_of c.args.token in
-    let opens = new_coded (opening_of s.last) (coded ∙ ap Some c.in-New-2.is) in
+    let opens = new_coded (opening_of s.last) (coded ∙ ap Some refl) in
     let w = word_here s.text u next same (ap is_worded opens) in
     let v = new_given_so s.text w.read opens g in
     let m = c.accept.new.self.cursor in
@@ -1746,14 +1750,14 @@ worded-returns-in_err-settle-in-New-2-clause-complete t c = λ a h o n from to P
     let given = callee_at c.accept.ensures.text c.if-accept.ensures.missed.1 c.at.ensures k.is k.stopped in
     let low = k.low in
     let less = c.saturating_sub-inner.ensures in
-    let answer = c.in_ok-callee-in-New-2.ensures.complete as_expression o k.callee k.mid k.A given in
-    absurd (false≢true (sym c.in_err-settle-in-New-2.ensures.settled.1 ∙ answer.0.fits))
+    let answer = c.in_ok-callee.ensures.complete as_expression o k.callee k.mid k.A given in
+    absurd (false≢true (sym c.in_err-settle.ensures.settled.1 ∙ answer.0.fits))
 
-pub worded-returns-in_err-arguments-in-New-2-clause-complete : goal.worded-returns-in_err-arguments-in-New-2-clause-complete
-worded-returns-in_err-arguments-in-New-2-clause-complete t c = λ a h o n from to P next same coded word g.
+pub created-returns-in_err-arguments-clause-complete : goal.created-returns-in_err-arguments-clause-complete
+created-returns-in_err-arguments-clause-complete t c = λ a h o n from to P next same coded word g.
     let s = c.args.self.now.cursor in
     let u = token_of c.args.token in
-    let opens = new_coded (opening_of s.last) (coded ∙ ap Some c.in-New-2.is) in
+    let opens = new_coded (opening_of s.last) (coded ∙ ap Some refl) in
     let w = word_here s.text u next same (ap is_worded opens) in
     let v = new_given_so s.text w.read opens g in
     let m = c.accept.new.self.cursor in
@@ -1761,204 +1765,195 @@ worded-returns-in_err-arguments-in-New-2-clause-complete t c = λ a h o n from t
     let given = callee_at c.accept.ensures.text c.if-accept.ensures.missed.1 c.at.ensures k.is k.stopped in
     let low = k.low in
     let less = c.saturating_sub-inner.ensures in
-    let answer = c.in_ok-callee-in-New-2.ensures.complete as_expression o k.callee k.mid k.A given in
+    let answer = c.in_ok-callee.ensures.complete as_expression o k.callee k.mid k.A given in
     let e = c.expression.new.self.cursor in
     let text_same : e.text ≡ s.text = c.expression.ensures.text ∙ c.accept.ensures.text in
     let x = seen_at e text_same answer.1.place c.if-sees.ensures.seen in
     let z = with_given k.tail x.1 in
     let lower = z.low in
-    agrees_on (Room e o (parts_height z.ps) c.saturating_sub-inner.result) (Room s o (height n) c.args.high) (FirstWith s c.arguments.new.self.cursor c.args.self.now.pairs.items c.arguments.new.self.pairs.items a h n to P) c.from_residual-in_err-arguments-in-New-2.result c.in_err-arguments-in-New-2.field-0.0
-    c.from_residual-in_err-arguments-in-New-2.ensures.1 (c.in_err-arguments-in-New-2.ensures.complete z.ps o to z.B (subst (λ i. RunsIn i o (anywhere (arguments z.ps)) z.ps e.last to z.B) (sym text_same) (subst (λ i. RunsIn s.text o (anywhere (arguments z.ps)) z.ps i to z.B) (sym answer.1.place) z.runs))) (room_part s e (c.in_ok-callee-in-New-2.ensures.derived.same_open ∙ c.accept.ensures.same_open) (λ l. omega arith))
+    agrees_on (Room e o (parts_height z.ps) c.saturating_sub-inner.result) (Room s o (height n) c.args.high) (FirstWith s c.arguments.new.self.cursor c.args.self.now.pairs.items c.arguments.new.self.pairs.items a h n to P) c.from_residual-in_err-arguments.result c.in_err-arguments.field-0.0
+    c.from_residual-in_err-arguments.ensures.1 (c.in_err-arguments.ensures.complete z.ps o to z.B (subst (λ i. RunsIn i o (anywhere (arguments z.ps)) z.ps e.last to z.B) (sym text_same) (subst (λ i. RunsIn s.text o (anywhere (arguments z.ps)) z.ps i to z.B) (sym answer.1.place) z.runs))) (room_part s e (c.in_ok-callee.ensures.derived.same_open ∙ c.accept.ensures.same_open) (λ l. omega arith))
 
-pub worded-returns-in_err-append-in-New-2-clause-complete : goal.worded-returns-in_err-append-in-New-2-clause-complete
-worded-returns-in_err-append-in-New-2-clause-complete t c = λ a h o n from to P next same coded word g.
+pub created-returns-in_err-append-clause-complete : goal.created-returns-in_err-append-clause-complete
+created-returns-in_err-append-clause-complete t c = λ a h o n from to P next same coded word g.
     let s = c.args.self.now.cursor in
     let u = token_of c.args.token in
-    let opens = new_coded (opening_of s.last) (coded ∙ ap Some c.in-New-2.is) in
+    let opens = new_coded (opening_of s.last) (coded ∙ ap Some refl) in
     let w = word_here s.text u next same (ap is_worded opens) in
     let v = new_given_so s.text w.read opens g in
-    agrees_err (Room s o (height n) c.args.high) (FirstWith s c.arguments.new.self.cursor c.args.self.now.pairs.items c.arguments.new.self.pairs.items a h n to P) c.from_residual-in_err-append-in-New-2.result c.in_err-append-in-New-2.field-0.0 c.from_residual-in_err-append-in-New-2.ensures.1
-    (refuses_memory (Room s o (height n) c.args.high) c.in_err-append-in-New-2.field-0.0 c.in_err-append-in-New-2.ensures.kept.0)
+    agrees_err (Room s o (height n) c.args.high) (FirstWith s c.arguments.new.self.cursor c.args.self.now.pairs.items c.arguments.new.self.pairs.items a h n to P) c.from_residual-in_err-append.result c.in_err-append.field-0.0 c.from_residual-in_err-append.ensures.1
+    (refuses_memory (Room s o (height n) c.args.high) c.in_err-append.field-0.0 c.in_err-append.ensures.kept.0)
 
-pub worded-returns-in_err-node-in-New-2-clause-complete : goal.worded-returns-in_err-node-in-New-2-clause-complete
-worded-returns-in_err-node-in-New-2-clause-complete t c = λ a h o n from to P next same coded word g.
+pub created-returns-in_err-node-clause-complete : goal.created-returns-in_err-node-clause-complete
+created-returns-in_err-node-clause-complete t c = λ a h o n from to P next same coded word g.
     let s = c.args.self.now.cursor in
     let u = token_of c.args.token in
-    let opens = new_coded (opening_of s.last) (coded ∙ ap Some c.in-New-2.is) in
+    let opens = new_coded (opening_of s.last) (coded ∙ ap Some refl) in
     let w0 = word_here s.text u next same (ap is_worded opens) in
     let v = new_given_so s.text w0.read opens g in
     let m = c.accept.new.self.cursor in
     let k = callee_given v.1 c.if-accept.ensures.missed.0 in
     let given = callee_at c.accept.ensures.text c.if-accept.ensures.missed.1 c.at.ensures k.is k.stopped in
-    let answer = c.in_ok-callee-in-New-2.ensures.complete as_expression o k.callee k.mid k.A given in
+    let answer = c.in_ok-callee.ensures.complete as_expression o k.callee k.mid k.A given in
     let e = c.expression.new.self.cursor in
     let text_same : e.text ≡ s.text = c.expression.ensures.text ∙ c.accept.ensures.text in
-    let callee = c.in_ok-callee-in-New-2.callee in
-    let first = c.in_ok-nodes-in-New-2.ensures.made ∙ ap (λ n. part n none) c.in_ok-settle-in-New-2.ensures.settled.0 in
+    let callee = c.in_ok-callee.callee in
+    let first = c.in_ok-nodes.ensures.made ∙ ap (λ n. part n none) c.in_ok-settle.ensures.settled.0 in
     let ends : EndsWith s e c.args.self.now.pairs.items c.expression.new.self.pairs.items k.mid k.A = ends_behind c.accept.ensures.same_pairs answer.1 in
     let tail : TailRead h s.last n to s c.if-sees.self.cursor c.args.self.now.pairs.items c.if-sees.self.pairs.items P c.if-sees.nodes c.if-sees.rank =
     elim c.if-sees.branch [
-      | worded-then-sees+in_ok-arguments-in-New-2+in_ok-append-in-New-2 w ↦
+      | created-then-sees+in_ok-arguments+in_ok-append w ↦
           let x = seen_at e text_same answer.1.place w.if-sees.ensures.seen in
           let z = with_given k.tail x.1 in
-          let args = w.in_ok-arguments-in-New-2.ensures.complete z.ps o to z.B (subst (λ i. RunsIn i o (anywhere (arguments z.ps)) z.ps e.last to z.B) (sym text_same) (subst (λ i. RunsIn s.text o (anywhere (arguments z.ps)) z.ps i to z.B) (sym answer.1.place) z.runs)) in
+          let args = w.in_ok-arguments.ensures.complete z.ps o to z.B (subst (λ i. RunsIn i o (anywhere (arguments z.ps)) z.ps e.last to z.B) (sym text_same) (subst (λ i. RunsIn s.text o (anywhere (arguments z.ps)) z.ps i to z.B) (sym answer.1.place) z.runs)) in
           subst (λ v. TailRead h s.last n to s v.cursor c.args.self.now.pairs.items v.pairs.items P c.if-sees.nodes c.if-sees.rank) (sym w.self-is)
-          (tail_read_with z (w.nodes-is ∙ w.in_ok-append-in-New-2.ensures.joined ∙ ap (λ ps. join ps w.in_ok-arguments-in-New-2.field-0) first) answer.0.tree args.0 w.rank-is ends args.1)
-      | worded-else-sees w ↦
+          (tail_read_with z (w.nodes-is ∙ w.in_ok-append.ensures.joined ∙ ap (λ ps. join ps w.in_ok-arguments.field-0) first) answer.0.tree args.0 w.rank-is ends args.1)
+      | created-else-sees w ↦
           let z = alone_given k.tail (missed_at e text_same answer.1.place w.if-sees.ensures.missed) in
           subst (λ v. TailRead h s.last n to s v.cursor c.args.self.now.pairs.items v.pairs.items P c.if-sees.nodes c.if-sees.rank) (sym w.self-is) (tail_read_alone z (w.nodes-is ∙ first) answer.0.tree w.rank-is ends)
     ] in
-    let above = c.in_err-node-in-New-2.ensures in
-    agrees_err (Room s o (height n) c.args.high) (FirstWith s c.if-sees.self.cursor c.args.self.now.pairs.items c.if-sees.self.pairs.items a h n to P) c.from_residual-in_err-node-in-New-2.result c.in_err-node-in-New-2.field-0.0 c.from_residual-in_err-node-in-New-2.ensures.1
-    (refuses_high (Room s o (height n) c.args.high) (suc (parts_height c.if-sees.nodes)) c.args.high c.in_err-node-in-New-2.field-0.0 above.0 above.1 (λ room. tail_low tail room.1))
+    let above = c.in_err-node.ensures in
+    agrees_err (Room s o (height n) c.args.high) (FirstWith s c.if-sees.self.cursor c.args.self.now.pairs.items c.if-sees.self.pairs.items a h n to P) c.from_residual-in_err-node.result c.in_err-node.field-0.0 c.from_residual-in_err-node.ensures.1
+    (refuses_high (Room s o (height n) c.args.high) (suc (parts_height c.if-sees.nodes)) c.args.high c.in_err-node.field-0.0 above.0 above.1 (λ room. tail_low tail room.1))
 
-pub worded-returns-in_ok-node-in-New-2-clause-complete : goal.worded-returns-in_ok-node-in-New-2-clause-complete
-worded-returns-in_ok-node-in-New-2-clause-complete t c = λ a h o n from to P next same coded word g.
+pub created-returns-clause-complete : goal.created-returns-clause-complete
+created-returns-clause-complete t c = λ a h o n from to P next same coded word g.
     let s = c.args.self.now.cursor in
     let u = token_of c.args.token in
-    let opens = new_coded (opening_of s.last) (coded ∙ ap Some c.in-New-2.is) in
+    let opens = new_coded (opening_of s.last) (coded ∙ ap Some refl) in
     let w0 = word_here s.text u next same (ap is_worded opens) in
     let v = new_given_so s.text w0.read opens g in
     let m = c.accept.new.self.cursor in
     let k = callee_given v.1 c.if-accept.ensures.missed.0 in
     let given = callee_at c.accept.ensures.text c.if-accept.ensures.missed.1 c.at.ensures k.is k.stopped in
-    let answer = c.in_ok-callee-in-New-2.ensures.complete as_expression o k.callee k.mid k.A given in
+    let answer = c.in_ok-callee.ensures.complete as_expression o k.callee k.mid k.A given in
     let e = c.expression.new.self.cursor in
     let text_same : e.text ≡ s.text = c.expression.ensures.text ∙ c.accept.ensures.text in
-    let callee = c.in_ok-callee-in-New-2.callee in
-    let first = c.in_ok-nodes-in-New-2.ensures.made ∙ ap (λ n. part n none) c.in_ok-settle-in-New-2.ensures.settled.0 in
+    let callee = c.in_ok-callee.callee in
+    let first = c.in_ok-nodes.ensures.made ∙ ap (λ n. part n none) c.in_ok-settle.ensures.settled.0 in
     let ends : EndsWith s e c.args.self.now.pairs.items c.expression.new.self.pairs.items k.mid k.A = ends_behind c.accept.ensures.same_pairs answer.1 in
     let tail : TailRead h s.last n to s c.if-sees.self.cursor c.args.self.now.pairs.items c.if-sees.self.pairs.items P c.if-sees.nodes c.if-sees.rank =
     elim c.if-sees.branch [
-      | worded-then-sees+in_ok-arguments-in-New-2+in_ok-append-in-New-2 w ↦
+      | created-then-sees+in_ok-arguments+in_ok-append w ↦
           let x = seen_at e text_same answer.1.place w.if-sees.ensures.seen in
           let z = with_given k.tail x.1 in
-          let args = w.in_ok-arguments-in-New-2.ensures.complete z.ps o to z.B (subst (λ i. RunsIn i o (anywhere (arguments z.ps)) z.ps e.last to z.B) (sym text_same) (subst (λ i. RunsIn s.text o (anywhere (arguments z.ps)) z.ps i to z.B) (sym answer.1.place) z.runs)) in
+          let args = w.in_ok-arguments.ensures.complete z.ps o to z.B (subst (λ i. RunsIn i o (anywhere (arguments z.ps)) z.ps e.last to z.B) (sym text_same) (subst (λ i. RunsIn s.text o (anywhere (arguments z.ps)) z.ps i to z.B) (sym answer.1.place) z.runs)) in
           subst (λ v. TailRead h s.last n to s v.cursor c.args.self.now.pairs.items v.pairs.items P c.if-sees.nodes c.if-sees.rank) (sym w.self-is)
-          (tail_read_with z (w.nodes-is ∙ w.in_ok-append-in-New-2.ensures.joined ∙ ap (λ ps. join ps w.in_ok-arguments-in-New-2.field-0) first) answer.0.tree args.0 w.rank-is ends args.1)
-      | worded-else-sees w ↦
+          (tail_read_with z (w.nodes-is ∙ w.in_ok-append.ensures.joined ∙ ap (λ ps. join ps w.in_ok-arguments.field-0) first) answer.0.tree args.0 w.rank-is ends args.1)
+      | created-else-sees w ↦
           let z = alone_given k.tail (missed_at e text_same answer.1.place w.if-sees.ensures.missed) in
           subst (λ v. TailRead h s.last n to s v.cursor c.args.self.now.pairs.items v.pairs.items P c.if-sees.nodes c.if-sees.rank) (sym w.self-is) (tail_read_alone z (w.nodes-is ∙ first) answer.0.tree w.rank-is ends)
     ] in
     let span = c.span_from.ensures in
-    let tree = c.in_ok-node-in-New-2.ensures.0 ∙ (λ i. node NewExpression [] plain (span i).start (span i).end c.if-sees.nodes) in
-    (new_first c.in_ok-node-in-New-2.node c.plain-in-New-2-2.result u.start c.if-sees.self.cursor.last.stop c.if-sees.nodes tail.ps v.0 tail.tree tail.taken tree (sym (ap (λ (x : Token). x.start) same)) (ap (λ (x : Token). x.stop) tail.ends.place) tail.same c.plain-in-New-2-2.ensures, tail.ends)
+    let tree = c.in_ok-node.ensures.0 ∙ (λ i. node NewExpression [] plain (span i).start (span i).end c.if-sees.nodes) in
+    (new_first c.in_ok-node.node c.plain-2.result u.start c.if-sees.self.cursor.last.stop c.if-sees.nodes tail.ps v.0 tail.tree tail.taken tree (sym (ap (λ (x : Token). x.start) same)) (ap (λ (x : Token). x.stop) tail.ends.place) tail.same c.plain-2.ensures, tail.ends)
 
-pub worded-returns-in_err-expect-in-Import-clause-complete : goal.worded-returns-in_err-expect-in-Import-clause-complete
-worded-returns-in_err-expect-in-Import-clause-complete t c = λ a h o n from to P next same coded word g.
+pub imported-returns-in_err-expect-clause-complete : goal.imported-returns-in_err-expect-clause-complete
+imported-returns-in_err-expect-clause-complete t c = λ a h o n from to P next same coded word g.
     let s = c.args.self.now.cursor in
     let u = token_of c.args.token in
-    let opens = import_coded (opening_of s.last) (coded ∙ ap Some c.in-Import.is) in
+    let opens = import_coded (opening_of s.last) (coded ∙ ap Some refl) in
     let w = word_here s.text u next same (ap is_worded opens) in
     let v = import_given s.text w.read opens g in
-    absurd (c.in_err-expect-in-Import.ensures.missed.0 v.first v.first v.left)
+    absurd (c.in_err-expect.ensures.missed.0 v.first v.first v.left)
 
-pub worded-returns-in_err-source-in-Import-clause-complete : goal.worded-returns-in_err-source-in-Import-clause-complete
-worded-returns-in_err-source-in-Import-clause-complete t c = λ a h o n from to P next same coded word g.
+pub imported-returns-in_err-source-clause-complete : goal.imported-returns-in_err-source-clause-complete
+imported-returns-in_err-source-clause-complete t c = λ a h o n from to P next same coded word g.
     let s = c.args.self.now.cursor in
     let u = token_of c.args.token in
-    let opens = import_coded (opening_of s.last) (coded ∙ ap Some c.in-Import.is) in
-    let w = word_here s.text u next same (ap is_worded opens) in
-    let v = import_given s.text w.read opens g in
-    let m = c.expect.new.self.cursor in
-    let less = c.saturating_sub-inner.ensures in
-    let low = import_low v in
-    let at : m.last ≡ v.first = same_mark s refl refl c.in_ok-expect-in-Import.ensures.accepted.0 v.left in
-    let given = expression_given c.expect.ensures.text at refl (λ e. cc) (λ e. cc) v.spelled v.stopped in
-    agrees_on (Room m o (height v.source) c.saturating_sub-inner.result) (Room s o (height n) c.args.high) (FirstWith s c.expression-in-Import.new.self.cursor c.args.self.now.pairs.items c.expression-in-Import.new.self.pairs.items a h n to P) c.from_residual-in_err-source-in-Import.result c.in_err-source-in-Import.field-0.0 c.from_residual-in_err-source-in-Import.ensures.1
-    (c.in_err-source-in-Import.ensures.complete as_expression o v.source v.mid P given) (room_part s m c.expect.ensures.same_open (λ l. omega arith))
-
-pub worded-returns-in_err-settle-in-Import-clause-complete : goal.worded-returns-in_err-settle-in-Import-clause-complete
-worded-returns-in_err-settle-in-Import-clause-complete t c = λ a h o n from to P next same coded word g.
-    let s = c.args.self.now.cursor in
-    let u = token_of c.args.token in
-    let opens = import_coded (opening_of s.last) (coded ∙ ap Some c.in-Import.is) in
+    let opens = import_coded (opening_of s.last) (coded ∙ ap Some refl) in
     let w = word_here s.text u next same (ap is_worded opens) in
     let v = import_given s.text w.read opens g in
     let m = c.expect.new.self.cursor in
     let less = c.saturating_sub-inner.ensures in
     let low = import_low v in
-    let at : m.last ≡ v.first = same_mark s refl refl c.in_ok-expect-in-Import.ensures.accepted.0 v.left in
+    let at : m.last ≡ v.first = same_mark s refl refl c.in_ok-expect.ensures.accepted.0 v.left in
     let given = expression_given c.expect.ensures.text at refl (λ e. cc) (λ e. cc) v.spelled v.stopped in
-    let answer = c.in_ok-source-in-Import.ensures.complete as_expression o v.source v.mid P given in
-    let e = c.expression-in-Import.new.self.cursor in
-    let text_same : e.text ≡ s.text = c.expression-in-Import.ensures.text ∙ c.expect.ensures.text in
-    absurd (false≢true (sym c.in_err-settle-in-Import.ensures.settled.1 ∙ answer.0.fits))
+    agrees_on (Room m o (height v.source) c.saturating_sub-inner.result) (Room s o (height n) c.args.high) (FirstWith s c.expression.new.self.cursor c.args.self.now.pairs.items c.expression.new.self.pairs.items a h n to P) c.from_residual-in_err-source.result c.in_err-source.field-0.0 c.from_residual-in_err-source.ensures.1
+    (c.in_err-source.ensures.complete as_expression o v.source v.mid P given) (room_part s m c.expect.ensures.same_open (λ l. omega arith))
 
-pub worded-returns-in_err-expect-in-Import-2-clause-complete : goal.worded-returns-in_err-expect-in-Import-2-clause-complete
-worded-returns-in_err-expect-in-Import-2-clause-complete t c = λ a h o n from to P next same coded word g.
+pub imported-returns-in_err-settle-clause-complete : goal.imported-returns-in_err-settle-clause-complete
+imported-returns-in_err-settle-clause-complete t c = λ a h o n from to P next same coded word g.
     let s = c.args.self.now.cursor in
     let u = token_of c.args.token in
-    let opens = import_coded (opening_of s.last) (coded ∙ ap Some c.in-Import.is) in
+    let opens = import_coded (opening_of s.last) (coded ∙ ap Some refl) in
     let w = word_here s.text u next same (ap is_worded opens) in
     let v = import_given s.text w.read opens g in
     let m = c.expect.new.self.cursor in
     let less = c.saturating_sub-inner.ensures in
     let low = import_low v in
-    let at : m.last ≡ v.first = same_mark s refl refl c.in_ok-expect-in-Import.ensures.accepted.0 v.left in
+    let at : m.last ≡ v.first = same_mark s refl refl c.in_ok-expect.ensures.accepted.0 v.left in
     let given = expression_given c.expect.ensures.text at refl (λ e. cc) (λ e. cc) v.spelled v.stopped in
-    let answer = c.in_ok-source-in-Import.ensures.complete as_expression o v.source v.mid P given in
-    let e = c.expression-in-Import.new.self.cursor in
-    let text_same : e.text ≡ s.text = c.expression-in-Import.ensures.text ∙ c.expect.ensures.text in
-    absurd (misses_not e text_same answer.1.place c.in_err-expect-in-Import-2.ensures.missed.0 v.right)
+    let answer = c.in_ok-source.ensures.complete as_expression o v.source v.mid P given in
+    let e = c.expression.new.self.cursor in
+    let text_same : e.text ≡ s.text = c.expression.ensures.text ∙ c.expect.ensures.text in
+    absurd (false≢true (sym c.in_err-settle.ensures.settled.1 ∙ answer.0.fits))
 
-pub worded-returns-in_err-node-in-Import-clause-complete : goal.worded-returns-in_err-node-in-Import-clause-complete
-worded-returns-in_err-node-in-Import-clause-complete t c = λ a h o n from to P next same coded word g.
+pub imported-returns-in_err-expect-2-clause-complete : goal.imported-returns-in_err-expect-2-clause-complete
+imported-returns-in_err-expect-2-clause-complete t c = λ a h o n from to P next same coded word g.
     let s = c.args.self.now.cursor in
     let u = token_of c.args.token in
-    let opens = import_coded (opening_of s.last) (coded ∙ ap Some c.in-Import.is) in
+    let opens = import_coded (opening_of s.last) (coded ∙ ap Some refl) in
     let w = word_here s.text u next same (ap is_worded opens) in
     let v = import_given s.text w.read opens g in
     let m = c.expect.new.self.cursor in
     let less = c.saturating_sub-inner.ensures in
     let low = import_low v in
-    let at : m.last ≡ v.first = same_mark s refl refl c.in_ok-expect-in-Import.ensures.accepted.0 v.left in
+    let at : m.last ≡ v.first = same_mark s refl refl c.in_ok-expect.ensures.accepted.0 v.left in
     let given = expression_given c.expect.ensures.text at refl (λ e. cc) (λ e. cc) v.spelled v.stopped in
-    let answer = c.in_ok-source-in-Import.ensures.complete as_expression o v.source v.mid P given in
-    let e = c.expression-in-Import.new.self.cursor in
-    let text_same : e.text ≡ s.text = c.expression-in-Import.ensures.text ∙ c.expect.ensures.text in
-    let source : c.in_ok-settle-in-Import.field-0 ≡ v.source = c.in_ok-settle-in-Import.ensures.settled.0 ∙ answer.0.tree in
-    let parts = c.in_ok-nodes-in-Import.ensures.made ∙ ap (λ n. part n none) source in
-    let above = c.in_err-node-in-Import.ensures in
+    let answer = c.in_ok-source.ensures.complete as_expression o v.source v.mid P given in
+    let e = c.expression.new.self.cursor in
+    let text_same : e.text ≡ s.text = c.expression.ensures.text ∙ c.expect.ensures.text in
+    absurd (misses_not e text_same answer.1.place c.in_err-expect-2.ensures.missed.0 v.right)
+
+pub imported-returns-in_err-node-clause-complete : goal.imported-returns-in_err-node-clause-complete
+imported-returns-in_err-node-clause-complete t c = λ a h o n from to P next same coded word g.
+    let s = c.args.self.now.cursor in
+    let u = token_of c.args.token in
+    let opens = import_coded (opening_of s.last) (coded ∙ ap Some refl) in
+    let w = word_here s.text u next same (ap is_worded opens) in
+    let v = import_given s.text w.read opens g in
+    let m = c.expect.new.self.cursor in
+    let less = c.saturating_sub-inner.ensures in
+    let low = import_low v in
+    let at : m.last ≡ v.first = same_mark s refl refl c.in_ok-expect.ensures.accepted.0 v.left in
+    let given = expression_given c.expect.ensures.text at refl (λ e. cc) (λ e. cc) v.spelled v.stopped in
+    let answer = c.in_ok-source.ensures.complete as_expression o v.source v.mid P given in
+    let e = c.expression.new.self.cursor in
+    let text_same : e.text ≡ s.text = c.expression.ensures.text ∙ c.expect.ensures.text in
+    let source : c.in_ok-settle.field-0 ≡ v.source = c.in_ok-settle.ensures.settled.0 ∙ answer.0.tree in
+    let parts = c.in_ok-nodes.ensures.made ∙ ap (λ n. part n none) source in
+    let above = c.in_err-node.ensures in
     let tall = ap parts_height parts in
-    agrees_err (Room s o (height n) c.args.high) (FirstWith s c.expect-in-Import.new.self.cursor c.args.self.now.pairs.items c.expect-in-Import.new.self.pairs.items a h n to P) c.from_residual-in_err-node-in-Import.result c.in_err-node-in-Import.field-0.0 c.from_residual-in_err-node-in-Import.ensures.1
-    (refuses_high (Room s o (height n) c.args.high) (suc (parts_height c.in_ok-nodes-in-Import.nodes)) c.args.high c.in_err-node-in-Import.field-0.0 above.0 above.1 (λ room. let l = room.1 in omega arith))
+    agrees_err (Room s o (height n) c.args.high) (FirstWith s c.expect-2.new.self.cursor c.args.self.now.pairs.items c.expect-2.new.self.pairs.items a h n to P) c.from_residual-in_err-node.result c.in_err-node.field-0.0 c.from_residual-in_err-node.ensures.1
+    (refuses_high (Room s o (height n) c.args.high) (suc (parts_height c.in_ok-nodes.nodes)) c.args.high c.in_err-node.field-0.0 above.0 above.1 (λ room. let l = room.1 in omega arith))
 
-pub worded-returns-in_ok-node-in-Import-clause-complete : goal.worded-returns-in_ok-node-in-Import-clause-complete
-worded-returns-in_ok-node-in-Import-clause-complete t c = λ a h o n from to P next same coded word g.
+pub imported-returns-clause-complete : goal.imported-returns-clause-complete
+imported-returns-clause-complete t c = λ a h o n from to P next same coded word g.
     let s = c.args.self.now.cursor in
     let u = token_of c.args.token in
-    let opens = import_coded (opening_of s.last) (coded ∙ ap Some c.in-Import.is) in
+    let opens = import_coded (opening_of s.last) (coded ∙ ap Some refl) in
     let w = word_here s.text u next same (ap is_worded opens) in
     let v = import_given s.text w.read opens g in
     let m = c.expect.new.self.cursor in
     let less = c.saturating_sub-inner.ensures in
     let low = import_low v in
-    let at : m.last ≡ v.first = same_mark s refl refl c.in_ok-expect-in-Import.ensures.accepted.0 v.left in
+    let at : m.last ≡ v.first = same_mark s refl refl c.in_ok-expect.ensures.accepted.0 v.left in
     let given = expression_given c.expect.ensures.text at refl (λ e. cc) (λ e. cc) v.spelled v.stopped in
-    let answer = c.in_ok-source-in-Import.ensures.complete as_expression o v.source v.mid P given in
-    let e = c.expression-in-Import.new.self.cursor in
-    let text_same : e.text ≡ s.text = c.expression-in-Import.ensures.text ∙ c.expect.ensures.text in
-    let source : c.in_ok-settle-in-Import.field-0 ≡ v.source = c.in_ok-settle-in-Import.ensures.settled.0 ∙ answer.0.tree in
-    let parts = c.in_ok-nodes-in-Import.ensures.made ∙ ap (λ n. part n none) source in
-    let last : c.expect-in-Import.new.self.cursor.last ≡ to = same_mark e text_same answer.1.place c.in_ok-expect-in-Import-2.ensures.accepted.0 v.right in
-    let span = c.span_from-in-Import.ensures in
-    let tree = c.in_ok-node-in-Import.ensures.0 ∙ (λ i. node ImportExpression [] plain (span i).start (span i).end (parts i)) in (
-      import_first v u.start c.expect-in-Import.new.self.cursor.last.stop c.in_ok-node-in-Import.node c.plain-in-Import-2.result v.source (sym (ap (λ (x : Token). x.start) same)) (ap (λ (x : Token). x.stop) last) refl tree c.plain-in-Import-2.ensures,
-      ends_before (ends_behind c.expect.ensures.same_pairs answer.1) last c.expect-in-Import.ensures.same_pairs,
+    let answer = c.in_ok-source.ensures.complete as_expression o v.source v.mid P given in
+    let e = c.expression.new.self.cursor in
+    let text_same : e.text ≡ s.text = c.expression.ensures.text ∙ c.expect.ensures.text in
+    let source : c.in_ok-settle.field-0 ≡ v.source = c.in_ok-settle.ensures.settled.0 ∙ answer.0.tree in
+    let parts = c.in_ok-nodes.ensures.made ∙ ap (λ n. part n none) source in
+    let last : c.expect-2.new.self.cursor.last ≡ to = same_mark e text_same answer.1.place c.in_ok-expect-2.ensures.accepted.0 v.right in
+    let span = c.span_from.ensures in
+    let tree = c.in_ok-node.ensures.0 ∙ (λ i. node ImportExpression [] plain (span i).start (span i).end (parts i)) in (
+      import_first v u.start c.expect-2.new.self.cursor.last.stop c.in_ok-node.node c.plain-2.result v.source (sym (ap (λ (x : Token). x.start) same)) (ap (λ (x : Token). x.stop) last) refl tree c.plain-2.ensures,
+      ends_before (ends_behind c.expect.ensures.same_pairs answer.1) last c.expect-2.ensures.same_pairs,
     )
 
 pub worded-returns-in_default-clause-complete : goal.worded-returns-in_default-clause-complete
-worded-returns-in_default-clause-complete t c = λ a h o n from to P next same coded word g.
-    let s = c.args.self.now.cursor in
-    let u = token_of c.args.token in
-    elim c.in_default.branch [
-      | worded-in_default-via-in-Super+else-sees_base w ↦
-          let opens = super_coded (opening_of s.last) (coded ∙ ap Some w.in-Super.is) in
-          let here = word_here s.text u next same (ap is_worded opens) in
-          super_missed c.position_takes-takes_call.result (takes c.args.position.rank Call) c.position_takes-takes_call.ensures w.if-sees_base.ensures.missed (super_given s.text here.read opens g).1.sees
-      | worded-in_default-via-in_default w ↦ other_word c.args.opening word w.in_default.not-Function w.in_default.not-Class w.in_default.not-Super w.in_default.not-New w.in_default.not-Import
-    ]
+worded-returns-in_default-clause-complete t c = λ a h o n from to P next same coded word g. other_word c.args.opening word c.in_default.not-Function c.in_default.not-Class c.in_default.not-Super c.in_default.not-New c.in_default.not-Import
 
 pub statement-returns-in_err-token-clause-complete : goal.statement-returns-in_err-token-clause-complete
 statement-returns-in_err-token-clause-complete t c =
@@ -2328,8 +2323,8 @@ turn-returns-in-Joins-clause-complete t c =
     turn_sided c.args.self.now.cursor c.sided.new.self.cursor c.args.self.now.pairs.items c.sided.new.self.pairs.items c.args.high c.args.position c.args.left c.args.next.token c.args.next.operator c.sided.result c.requires.ahead
     (own_there (token_of c.args.next.token) c.requires.coded (no_tag_there c.in-Joins.is)) c.requires.coded c.in-Joins.is c.requires.goes c.sided.ensures.complete c.sided.ensures.rank (meant_symbol (operation (as_read (token_of c.args.next.token))) c.args.next.token.text.now c.args.next.token.after_break c.requires.coded)
 
-pub turn-returns-in-Steps-clause-complete : goal.turn-returns-in-Steps-clause-complete
-turn-returns-in-Steps-clause-complete t c = λ a o n from to P Q R read stage.
+pub other_turn-returns-in-Steps-clause-complete : goal.other_turn-returns-in-Steps-clause-complete
+other_turn-returns-in-Steps-clause-complete t c = λ a o n from to P Q R read stage.
     let u = stepping c.args.self.now.cursor c.args.position c.args.left (token_of c.args.next.token) c.requires.ahead c.requires.coded c.in-Steps.is c.requires.goes a o n from to P Q R read stage in
     let parts = c.in_ok-nodes-in-Steps.ensures.made ∙ ap (λ n. part n none) c.in_ok-operand-in-Steps.ensures.target.0 in
     let span = c.span_from-span.ensures in
@@ -2337,8 +2332,8 @@ turn-returns-in-Steps-clause-complete t c = λ a o n from to P Q R read stage.
     step_staged c.args.self.now.cursor c.args.position c.args.left (token_of c.args.next.token) c.requires.ahead c.requires.coded c.in-Steps.is c.requires.goes u c.plain.result c.pass.new.self.cursor c.args.self.now.pairs.items c.pass.new.self.pairs.items
     c.pass.ensures.last c.pass.ensures.same_pairs (c.plain.ensures ∙ ap (λ n. plain_part n Update Postfix) tree)
 
-pub turn-returns-in-Sequences-clause-complete : goal.turn-returns-in-Sequences-clause-complete
-turn-returns-in-Sequences-clause-complete t c =
+pub other_turn-returns-in-Sequences-clause-complete : goal.other_turn-returns-in-Sequences-clause-complete
+other_turn-returns-in-Sequences-clause-complete t c =
     let list = c.in_ok-list-in-Sequences-2.list in
     let pass = c.pass-in-Sequences in
     let span = c.span_from-span-in-Sequences.ensures in
@@ -2357,31 +2352,31 @@ turn-returns-in-Selects-clause-complete t c =
 pub turn-returns-clause-complete : goal.turn-returns-clause-complete
 turn-returns-clause-complete t c = λ a o n from to P Q R read stage. absurd (no_arrow c.args.self.now.cursor c.args.position c.args.left (token_of c.args.next.token) c.requires.ahead c.requires.coded c.in-Arrows.is c.requires.goes a o n from to P Q R read stage)
 
-pub turn-returns-in_err-operand-in-Steps-clause-complete : goal.turn-returns-in_err-operand-in-Steps-clause-complete
-turn-returns-in_err-operand-in-Steps-clause-complete t c =
+pub other_turn-returns-in_err-operand-in-Steps-clause-complete : goal.other_turn-returns-in_err-operand-in-Steps-clause-complete
+other_turn-returns-in_err-operand-in-Steps-clause-complete t c =
     step_unfit c.args.self.now.cursor c.args.position c.args.left (token_of c.args.next.token) c.requires.ahead c.requires.coded c.in-Steps.is c.requires.goes c.args.high c.args.self.now.cursor c.args.self.now.pairs.items c.args.self.now.pairs.items c.from_residual.result c.in_err-operand-in-Steps.field-0.0 c.from_residual.ensures.1 (pattern_tree c.args.left.cover.node) c.in_err-operand-in-Steps.ensures.target
 
-pub turn-returns-in_err-nodes-in-Steps-clause-complete : goal.turn-returns-in_err-nodes-in-Steps-clause-complete
-turn-returns-in_err-nodes-in-Steps-clause-complete t c =
+pub other_turn-returns-in_err-nodes-in-Steps-clause-complete : goal.other_turn-returns-in_err-nodes-in-Steps-clause-complete
+other_turn-returns-in_err-nodes-in-Steps-clause-complete t c =
     turn_memory c.args.self.now.cursor c.pass.new.self.cursor c.args.self.now.pairs.items c.pass.new.self.pairs.items c.args.high c.args.position c.args.left c.from_residual-in_err-nodes-in-Steps.result c.in_err-nodes-in-Steps.field-0.0 c.from_residual-in_err-nodes-in-Steps.ensures.1 c.in_err-nodes-in-Steps.ensures.refused
 
-pub turn-returns-in_err-node-in-Steps-clause-complete : goal.turn-returns-in_err-node-in-Steps-clause-complete
-turn-returns-in_err-node-in-Steps-clause-complete t c =
+pub other_turn-returns-in_err-node-in-Steps-clause-complete : goal.other_turn-returns-in_err-node-in-Steps-clause-complete
+other_turn-returns-in_err-node-in-Steps-clause-complete t c =
     step_high c.args.self.now.cursor c.args.position c.args.left (token_of c.args.next.token) c.requires.ahead c.requires.coded c.in-Steps.is c.requires.goes c.args.high c.pass.new.self.cursor c.args.self.now.pairs.items c.pass.new.self.pairs.items c.from_residual-in_err-node-in-Steps.result c.in_err-node-in-Steps.field-0.0 c.from_residual-in_err-node-in-Steps.ensures.1 _
     (c.in_ok-nodes-in-Steps.ensures.made ∙ ap (λ n. part n none) c.in_ok-operand-in-Steps.ensures.target.0) refl c.in_err-node-in-Steps.ensures.0 c.in_err-node-in-Steps.ensures.1
 
-pub turn-returns-in_err-list-in-Sequences-clause-complete : goal.turn-returns-in_err-list-in-Sequences-clause-complete
-turn-returns-in_err-list-in-Sequences-clause-complete t c =
+pub other_turn-returns-in_err-list-in-Sequences-clause-complete : goal.other_turn-returns-in_err-list-in-Sequences-clause-complete
+other_turn-returns-in_err-list-in-Sequences-clause-complete t c =
     sequence_refused c.args.self.now.cursor c.args.high c.args.position c.args.left (token_of c.args.next.token) c.requires.ahead c.requires.coded c.in-Sequences.is c.requires.goes c.args.self.now.cursor c.args.self.now.pairs.items c.args.self.now.pairs.items c.from_residual-in_err-list-in-Sequences.result c.in_err-list-in-Sequences.field-0.0 (IsPlaceHere c.args.self.now.cursor) c.from_residual-in_err-list-in-Sequences.ensures.1 c.in_err-list-in-Sequences.ensures.failed
 
-pub turn-returns-in_err-list-in-Sequences-2-clause-complete : goal.turn-returns-in_err-list-in-Sequences-2-clause-complete
-turn-returns-in_err-list-in-Sequences-2-clause-complete t c =
+pub other_turn-returns-in_err-list-in-Sequences-2-clause-complete : goal.other_turn-returns-in_err-list-in-Sequences-2-clause-complete
+other_turn-returns-in_err-list-in-Sequences-2-clause-complete t c =
     let pass = c.pass-in-Sequences in
     commas_refused c.args.self.now.cursor c.args.high c.args.position c.args.left (token_of c.args.next.token) c.requires.ahead c.requires.coded c.in-Sequences.is c.requires.goes pass.new.self.cursor c.in_ok-list-in-Sequences.list c.in_ok-list-in-Sequences.ensures.begun.0 pass.ensures.text pass.ensures.last pass.ensures.same_open c.list.new.self.cursor c.list.new.self.cursor c.args.self.now.pairs.items c.list.new.self.pairs.items pass.new.self.pairs.items c.list.new.self.pairs.items c.saturating_sub.result
     c.from_residual-in_err-list-in-Sequences-2.result c.in_err-list-in-Sequences-2.field-0.0 c.saturating_sub.ensures c.from_residual-in_err-list-in-Sequences-2.ensures.1 c.in_err-list-in-Sequences-2.ensures.complete
 
-pub turn-returns-in_err-node-in-Sequences-clause-complete : goal.turn-returns-in_err-node-in-Sequences-clause-complete
-turn-returns-in_err-node-in-Sequences-clause-complete t c =
+pub other_turn-returns-in_err-node-in-Sequences-clause-complete : goal.other_turn-returns-in_err-node-in-Sequences-clause-complete
+other_turn-returns-in_err-node-in-Sequences-clause-complete t c =
     let list = c.in_ok-list-in-Sequences-2.list in
     let pass = c.pass-in-Sequences in
     sequence_high c.args.self.now.cursor c.args.high c.args.position c.args.left (token_of c.args.next.token) c.requires.ahead c.requires.coded c.in-Sequences.is c.requires.goes pass.new.self.cursor c.in_ok-list-in-Sequences.list c.in_ok-list-in-Sequences.ensures.begun.0 pass.ensures.text pass.ensures.last pass.ensures.same_open c.list.new.self.cursor c.args.self.now.pairs.items pass.new.self.pairs.items c.list.new.self.pairs.items
@@ -2439,58 +2434,68 @@ list-returns-clause-complete t c =
     Closes : Parser → Type 0
     Closes x = ClosedBy c.args.self.now.cursor.text (closing c.items-test.list.listed) c.items-test.self.cursor.last x.cursor.last × (x.pairs.items ≡ c.items-test.self.pairs.items)
 
-pub item-returns-in_err-item-in-Properties-clause-complete : goal.item-returns-in_err-item-in-Properties-clause-complete
-item-returns-in_err-item-in-Properties-clause-complete t c =
+pub other_item-returns-in_err-item-in-Properties-clause-complete : goal.other_item-returns-in_err-item-in-Properties-clause-complete
+other_item-returns-in_err-item-in-Properties-clause-complete t c =
     definition_refused c.args.self.now.cursor c.definition.new.self.cursor c.args.self.now.pairs.items c.definition.new.self.pairs.items c.args.list.now c.args.list.now c.args.high false c.from_residual.result c.in_err-item-in-Properties.field-0.0 c.in-Properties.is c.from_residual.ensures.1 c.in_err-item-in-Properties.ensures.complete
 
-pub item-returns-in_err-item-in-Members-clause-complete : goal.item-returns-in_err-item-in-Members-clause-complete
-item-returns-in_err-item-in-Members-clause-complete t c =
+pub other_item-returns-in_err-item-in-Members-clause-complete : goal.other_item-returns-in_err-item-in-Members-clause-complete
+other_item-returns-in_err-item-in-Members-clause-complete t c =
     definition_refused c.args.self.now.cursor c.definition-in-Members.new.self.cursor c.args.self.now.pairs.items c.definition-in-Members.new.self.pairs.items c.args.list.now c.args.list.now c.args.high true c.from_residual-in_err-item-in-Members.result c.in_err-item-in-Members.field-0.0 c.in-Members.is c.from_residual-in_err-item-in-Members.ensures.1 c.in_err-item-in-Members.ensures.complete
 
-pub item-returns-in_ok-item-in-Properties-clause-complete : goal.item-returns-in_ok-item-in-Properties-clause-complete
-item-returns-in_ok-item-in-Properties-clause-complete t c =
+pub other_item-returns-in_ok-item-in-Properties-clause-complete : goal.other_item-returns-in_ok-item-in-Properties-clause-complete
+other_item-returns-in_ok-item-in-Properties-clause-complete t c =
     definition_taken c.args.self.now.cursor c.definition.new.self.cursor c.args.self.now.pairs.items c.definition.new.self.pairs.items c.args.list.now c.push.new.self c.args.high false c.in_ok-item-in-Properties.item _ c.push.result c.in-Properties.is c.push.ensures.pushed c.push.ensures.taken c.in_ok-item-in-Properties.ensures.complete
 
-pub item-returns-in_ok-item-in-Members-clause-complete : goal.item-returns-in_ok-item-in-Members-clause-complete
-item-returns-in_ok-item-in-Members-clause-complete t c =
+pub other_item-returns-in_ok-item-in-Members-clause-complete : goal.other_item-returns-in_ok-item-in-Members-clause-complete
+other_item-returns-in_ok-item-in-Members-clause-complete t c =
     definition_taken c.args.self.now.cursor c.definition-in-Members.new.self.cursor c.args.self.now.pairs.items c.definition-in-Members.new.self.pairs.items c.args.list.now c.push-in-Members.new.self c.args.high true c.in_ok-item-in-Members.item _ c.push-in-Members.result c.in-Members.is c.push-in-Members.ensures.pushed c.push-in-Members.ensures.taken c.in_ok-item-in-Members.ensures.complete
 
-pub item-returns-in_err-part-in-Template-clause-complete : goal.item-returns-in_err-part-in-Template-clause-complete
-item-returns-in_err-part-in-Template-clause-complete t c =
+pub other_item-returns-in_err-part-in-Template-clause-complete : goal.other_item-returns-in_err-part-in-Template-clause-complete
+other_item-returns-in_err-part-in-Template-clause-complete t c =
     chunk_refused c.args.self.now.cursor c.args.self.now.pairs.items c.args.list.now c.args.list.now c.args.high c.in-Template.is _ refl c.expression.new.self.cursor c.expression.new.self.pairs.items c.from_residual-in_err-part-in-Template.result c.in_err-part-in-Template.field-0.0 c.from_residual-in_err-part-in-Template.ensures.1 c.in_err-part-in-Template.ensures.complete
 
-pub item-returns-in_err-settle-in-Template-clause-complete : goal.item-returns-in_err-settle-in-Template-clause-complete
-item-returns-in_err-settle-in-Template-clause-complete t c =
+pub other_item-returns-in_err-settle-in-Template-clause-complete : goal.other_item-returns-in_err-settle-in-Template-clause-complete
+other_item-returns-in_err-settle-in-Template-clause-complete t c =
     chunk_unsettled c.args.self.now.cursor c.args.self.now.pairs.items c.args.list.now c.args.list.now c.args.high c.in-Template.is _ refl c.expression.new.self.cursor c.expression.new.self.pairs.items c.in_ok-part-in-Template.part c.in_ok-part-in-Template.ensures.complete c.expression.new.self.cursor c.expression.new.self.cursor c.expression.new.self.pairs.items c.from_residual-in_err-settle-in-Template.result c.in_err-settle-in-Template.field-0.0 c.from_residual-in_err-settle-in-Template.ensures.1 c.in_err-settle-in-Template.ensures.settled
 
-pub item-returns-in_err-next_chunk-in-Template-clause-complete : goal.item-returns-in_err-next_chunk-in-Template-clause-complete
-item-returns-in_err-next_chunk-in-Template-clause-complete t c =
+pub other_item-returns-in_err-next_chunk-in-Template-clause-complete : goal.other_item-returns-in_err-next_chunk-in-Template-clause-complete
+other_item-returns-in_err-next_chunk-in-Template-clause-complete t c =
     chunk_missing c.args.self.now.cursor c.args.self.now.pairs.items c.args.list.now c.push-in-Template.new.self c.args.high c.in-Template.is _ refl c.expression.new.self.cursor c.expression.new.self.pairs.items c.in_ok-part-in-Template.part c.in_ok-part-in-Template.ensures.complete c.next_chunk.new.self.cursor c.next_chunk.new.self.pairs.items c.from_residual-in_err-next_chunk-in-Template.result c.in_err-next_chunk-in-Template.field-0.0 c.expression.ensures.text c.from_residual-in_err-next_chunk-in-Template.ensures.1 c.in_err-next_chunk-in-Template.ensures.no_chunk
 
-pub item-returns-in_err-item-in-Declarators-clause-complete : goal.item-returns-in_err-item-in-Declarators-clause-complete
-item-returns-in_err-item-in-Declarators-clause-complete t c =
+pub other_item-returns-in_err-item-in-Declarators-clause-complete : goal.other_item-returns-in_err-item-in-Declarators-clause-complete
+other_item-returns-in_err-item-in-Declarators-clause-complete t c =
     declarator_refused c.args.self.now.cursor c.declarator.new.self.cursor c.args.self.now.pairs.items c.declarator.new.self.pairs.items c.args.list.now c.args.list.now c.args.high c.in-Declarators.has_in c.from_residual-in_err-item-in-Declarators.result c.in_err-item-in-Declarators.field-0.0 c.in-Declarators.is c.from_residual-in_err-item-in-Declarators.ensures.1 c.in_err-item-in-Declarators.ensures.complete
 
-pub item-returns-in_err-is_default-in-Cases-clause-complete : goal.item-returns-in_err-is_default-in-Cases-clause-complete
-item-returns-in_err-is_default-in-Cases-clause-complete t c =
+pub other_item-returns-in_err-is_default-in-Cases-clause-complete : goal.other_item-returns-in_err-is_default-in-Cases-clause-complete
+other_item-returns-in_err-is_default-in-Cases-clause-complete t c =
     case_unworded c.args.self.now.cursor c.is_default.new.self.cursor c.args.self.now.pairs.items c.is_default.new.self.pairs.items c.args.list.now c.args.list.now c.args.high c.in-Cases.returns c.in-Cases.is c.from_residual-in_err-is_default-in-Cases.result c.in_err-is_default-in-Cases.ensures.missed.0 c.in_err-is_default-in-Cases.ensures.missed.1
 
-pub item-returns-in_err-pieces-in-Cases-clause-complete : goal.item-returns-in_err-pieces-in-Cases-clause-complete
-item-returns-in_err-pieces-in-Cases-clause-complete t c =
+pub other_item-returns-in_err-pieces-in-Cases-clause-complete : goal.other_item-returns-in_err-pieces-in-Cases-clause-complete
+other_item-returns-in_err-pieces-in-Cases-clause-complete t c =
     case_refused c.args.self.now.cursor c.pieces.new.self.cursor c.args.self.now.pairs.items c.pieces.new.self.pairs.items c.args.list.now c.args.list.now c.args.high c.in-Cases.returns c.in-Cases.is c.is_default.new.self.cursor c.is_default.new.self.pairs.items c.in_ok-is_default-in-Cases.is_default c.if-is_default.built c.item-context.result c.saturating_sub-inner.result _ c.in_ok-is_default-in-Cases.ensures.accepted c.is_default.ensures.text c.item-context.ensures c.case_pieces.ensures c.saturating_sub-inner.ensures c.pieces.new.built c.from_residual-in_err-pieces-in-Cases.result c.in_err-pieces-in-Cases.field-0.0 c.is_default.ensures.same_open c.from_residual-in_err-pieces-in-Cases.ensures.1 c.in_err-pieces-in-Cases.ensures.complete
 
-pub item-returns-in_err-plain-in-Cases-clause-complete : goal.item-returns-in_err-plain-in-Cases-clause-complete
-item-returns-in_err-plain-in-Cases-clause-complete t c =
+pub other_item-returns-in_err-plain-in-Cases-clause-complete : goal.other_item-returns-in_err-plain-in-Cases-clause-complete
+other_item-returns-in_err-plain-in-Cases-clause-complete t c =
     let d = c.in_ok-is_default-in-Cases.is_default in
     let empty : c.if-is_default.built.nodes ≡ case_nodes d none = elim c.if-is_default.branch [
-      | item-then-is_default+in_ok-push_gap-in-Cases w ↦ ap (λ x. x.nodes) w.built-is ∙ w.in_ok-push_gap-in-Cases.ensures.pushed ∙ ap push_gap (ap (λ x. x.nodes) c.new-built.ensures) ∙ ap (λ b. case_nodes b none) (sym w.if-is_default.true)
-      | item-else-is_default w ↦ ap (λ x. x.nodes) w.built-is ∙ ap (λ x. x.nodes) c.new-built.ensures ∙ ap (λ b. case_nodes b none) (sym w.if-is_default.false)
+      | other_item-then-is_default+in_ok-push_gap-in-Cases w ↦ ap (λ x. x.nodes) w.built-is ∙ w.in_ok-push_gap-in-Cases.ensures.pushed ∙ ap push_gap (ap (λ x. x.nodes) c.new-built.ensures) ∙ ap (λ b. case_nodes b none) (sym w.if-is_default.true)
+      | other_item-else-is_default w ↦ ap (λ x. x.nodes) w.built-is ∙ ap (λ x. x.nodes) c.new-built.ensures ∙ ap (λ b. case_nodes b none) (sym w.if-is_default.false)
     ] in
     case_too_high c.args.self.now.cursor c.pieces.new.self.cursor c.args.self.now.pairs.items c.pieces.new.self.pairs.items c.args.list.now c.args.list.now c.args.high c.in-Cases.returns c.in-Cases.is c.is_default.new.self.cursor c.is_default.new.self.pairs.items c.in_ok-is_default-in-Cases.is_default c.if-is_default.built c.item-context.result c.saturating_sub-inner.result _ c.in_ok-is_default-in-Cases.ensures.accepted c.is_default.ensures.text c.item-context.ensures c.case_pieces.ensures c.saturating_sub-inner.ensures c.pieces.new.built _ empty c.in_ok-pieces-in-Cases.ensures.complete c.place-start.result _ c.from_residual-in_err-plain-in-Cases.result c.in_err-plain-in-Cases.field-0.0 c.place-start.ensures.starts (λ i. node SwitchCase [] plain (c.span_from-span.ensures i).start (c.span_from-span.ensures i).end c.pieces.new.built.nodes) c.from_residual-in_err-plain-in-Cases.ensures.1 c.in_err-plain-in-Cases.ensures
 
-pub item-returns-in_err-part-in-Sequence-clause-complete : goal.item-returns-in_err-part-in-Sequence-clause-complete
-item-returns-in_err-part-in-Sequence-clause-complete t c =
+pub other_item-returns-in_err-part-in-Sequence-clause-complete : goal.other_item-returns-in_err-part-in-Sequence-clause-complete
+other_item-returns-in_err-part-in-Sequence-clause-complete t c =
     sequence_item_refused c.args.self.now.cursor c.expression-in-Sequence.new.self.cursor c.args.self.now.pairs.items c.expression-in-Sequence.new.self.pairs.items c.args.list.now c.args.list.now c.args.high c.in-Sequence.has_in c.at.result c.from_residual-in_err-part-in-Sequence.result c.in_err-part-in-Sequence.field-0.0 c.at.ensures c.in-Sequence.is c.from_residual-in_err-part-in-Sequence.ensures.1 c.in_err-part-in-Sequence.ensures.complete
+
+pub spread_item-returns-in_err-part-clause-complete : goal.spread_item-returns-in_err-part-clause-complete
+spread_item-returns-in_err-part-clause-complete t c =
+    let kind = of_elements c.args.list.now.listed c.requires.element in
+    of_kind c.args.self.now.cursor c.expression.new.self.cursor c.args.self.now.pairs.items c.expression.new.self.pairs.items c.args.list.now c.args.list.now c.args.high c.from_residual-in_err-part.result kind (λ is. dotted_refused c.args.self.now.cursor c.expression.new.self.cursor c.args.self.now.pairs.items c.expression.new.self.pairs.items c.args.list.now c.args.list.now c.args.high is c.expect.new.self.cursor c.expect.new.self.pairs.items c.saturating_sub.result _ c.in_ok-expect.ensures.accepted.0 c.expect.ensures.text c.expect.ensures.same_open c.saturating_sub.ensures refl c.from_residual-in_err-part.result c.in_err-part.field-0.0 c.from_residual-in_err-part.ensures.1 c.in_err-part.ensures.complete)
+
+pub spread_item-returns-clause-complete : goal.spread_item-returns-clause-complete
+spread_item-returns-clause-complete t c =
+    let kind = of_elements c.args.list.now.listed c.requires.element in
+    of_kind c.args.self.now.cursor c.expression.new.self.cursor c.args.self.now.pairs.items c.expression.new.self.pairs.items c.args.list.now c.push.new.self c.args.high c.push.result kind (λ is. dotted_taken c.args.self.now.cursor c.expression.new.self.cursor c.args.self.now.pairs.items c.expression.new.self.pairs.items c.args.list.now c.push.new.self c.args.high is c.expect.new.self.cursor c.expect.new.self.pairs.items c.saturating_sub.result _ c.in_ok-expect.ensures.accepted.0 c.expect.ensures.text c.expect.ensures.same_open c.saturating_sub.ensures refl c.in_ok-part.part c.in_ok-item.item c.place-start.result _ c.push.result c.place-start.ensures.starts c.in_ok-item.ensures.made.0 c.expect.ensures.same_pairs c.push.ensures.pushed c.push.ensures.taken c.in_ok-part.ensures.complete)
 
 pub item-returns-in_err-part-in_default-clause-complete : goal.item-returns-in_err-part-in_default-clause-complete
 item-returns-in_err-part-in_default-clause-complete t c =
@@ -2498,49 +2503,33 @@ item-returns-in_err-part-in_default-clause-complete t c =
       | item-in_default-via-in-Elements+else-sees w ↦ is_an_element c.args.list.now.listed Elements w.in-Elements.is refl
       | item-in_default-via-in_default w ↦ default_kind c.args.list.now.listed w.in_default.not-Properties w.in_default.not-Members w.in_default.not-Template w.in_default.not-Sequence w.in_default.not-Declarators w.in_default.not-Cases
     ] in
-    of_kind c.args.self.now.cursor c.expression-then-accept.new.self.cursor c.args.self.now.pairs.items c.expression-then-accept.new.self.pairs.items c.args.list.now c.args.list.now c.args.high c.from_residual-in_err-part-in_default.result kind (λ is. dotted_refused c.args.self.now.cursor c.expression-then-accept.new.self.cursor c.args.self.now.pairs.items c.expression-then-accept.new.self.pairs.items c.args.list.now c.args.list.now c.args.high is c.accept.new.self.cursor c.accept.new.self.pairs.items c.saturating_sub-inner.result _ c.if-accept.ensures.accepted c.accept.ensures.text c.accept.ensures.same_open c.saturating_sub-inner.ensures refl c.from_residual-in_err-part-in_default.result c.in_err-part-in_default.field-0.0 c.from_residual-in_err-part-in_default.ensures.1 c.in_err-part-in_default.ensures.complete)
-
-pub item-returns-then-accept-clause-complete : goal.item-returns-then-accept-clause-complete
-item-returns-then-accept-clause-complete t c =
-    let kind : (lists_elements c.args.list.now.listed && not (asks_edge c.args.list.now.listed)) ≡ true = elim c.in_default.branch [
-      | item-in_default-via-in-Elements+else-sees w ↦ is_an_element c.args.list.now.listed Elements w.in-Elements.is refl
-      | item-in_default-via-in_default w ↦ default_kind c.args.list.now.listed w.in_default.not-Properties w.in_default.not-Members w.in_default.not-Template w.in_default.not-Sequence w.in_default.not-Declarators w.in_default.not-Cases
-    ] in
-    of_kind c.args.self.now.cursor c.expression-then-accept.new.self.cursor c.args.self.now.pairs.items c.expression-then-accept.new.self.pairs.items c.args.list.now c.push-then-accept.new.self c.args.high c.push-then-accept.result kind (λ is. dotted_taken c.args.self.now.cursor c.expression-then-accept.new.self.cursor c.args.self.now.pairs.items c.expression-then-accept.new.self.pairs.items c.args.list.now c.push-then-accept.new.self c.args.high is c.accept.new.self.cursor c.accept.new.self.pairs.items c.saturating_sub-inner.result _ c.if-accept.ensures.accepted c.accept.ensures.text c.accept.ensures.same_open c.saturating_sub-inner.ensures refl c.in_ok-part-in_default.part c.in_ok-item-in_default.item c.place-start.result _ c.push-then-accept.result c.place-start.ensures.starts c.in_ok-item-in_default.ensures.made.0 c.accept.ensures.same_pairs c.push-then-accept.ensures.pushed c.push-then-accept.ensures.taken c.in_ok-part-in_default.ensures.complete)
-
-pub item-returns-in_err-part-in_default-2-clause-complete : goal.item-returns-in_err-part-in_default-2-clause-complete
-item-returns-in_err-part-in_default-2-clause-complete t c =
-    let kind : (lists_elements c.args.list.now.listed && not (asks_edge c.args.list.now.listed)) ≡ true = elim c.in_default.branch [
-      | item-in_default-via-in-Elements+else-sees w ↦ is_an_element c.args.list.now.listed Elements w.in-Elements.is refl
-      | item-in_default-via-in_default w ↦ default_kind c.args.list.now.listed w.in_default.not-Properties w.in_default.not-Members w.in_default.not-Template w.in_default.not-Sequence w.in_default.not-Declarators w.in_default.not-Cases
-    ] in
     let no_comma : c.args.list.now.listed ≡ Elements → Misses c.args.self.now.cursor.text Punctuator (codes ",") c.args.self.now.cursor.last = elim c.in_default.branch [
       | item-in_default-via-in-Elements+else-sees w ↦ λ h. w.if-sees.ensures.missed
       | item-in_default-via-in_default w ↦ λ h. absurd (w.in_default.not-Elements h)
     ] in
-    of_kind c.args.self.now.cursor c.expression-in_default.new.self.cursor c.args.self.now.pairs.items c.expression-in_default.new.self.pairs.items c.args.list.now c.args.list.now c.args.high c.from_residual-in_err-part-in_default-2.result kind (λ is. alone_refused c.args.self.now.cursor c.expression-in_default.new.self.cursor c.args.self.now.pairs.items c.expression-in_default.new.self.pairs.items c.args.list.now c.args.list.now c.args.high is c.accept.new.self.cursor c.accept.new.self.pairs.items _ c.if-accept.ensures.missed.0 c.if-accept.ensures.missed.1 no_comma c.accept.ensures.text refl c.from_residual-in_err-part-in_default-2.result c.in_err-part-in_default-2.field-0.0 c.accept.ensures.same_open c.from_residual-in_err-part-in_default-2.ensures.1 c.in_err-part-in_default-2.ensures.complete)
+    of_kind c.args.self.now.cursor c.expression.new.self.cursor c.args.self.now.pairs.items c.expression.new.self.pairs.items c.args.list.now c.args.list.now c.args.high c.from_residual.result kind (λ is. alone_refused c.args.self.now.cursor c.expression.new.self.cursor c.args.self.now.pairs.items c.expression.new.self.pairs.items c.args.list.now c.args.list.now c.args.high is c.args.self.now.cursor c.args.self.now.pairs.items _ c.if-sees-2.ensures.missed refl no_comma refl refl c.from_residual.result c.in_err-part-in_default.field-0.0 refl c.from_residual.ensures.1 c.in_err-part-in_default.ensures.complete)
 
 pub item-returns-in-Elements-clause-complete : goal.item-returns-in-Elements-clause-complete
 item-returns-in-Elements-clause-complete t c =
     hole_taken c.args.self.now.cursor c.args.self.now.cursor c.args.self.now.pairs.items c.args.self.now.pairs.items c.args.list.now c.push_hole.new.self c.args.high c.push_hole.result c.in-Elements.is c.if-sees.ensures.seen refl refl c.push_hole.ensures.pushed c.push_hole.ensures.refused
 
-pub item-returns-in_ok-next_chunk-in-Template-clause-complete : goal.item-returns-in_ok-next_chunk-in-Template-clause-complete
-item-returns-in_ok-next_chunk-in-Template-clause-complete t c =
+pub other_item-returns-in_ok-next_chunk-in-Template-clause-complete : goal.other_item-returns-in_ok-next_chunk-in-Template-clause-complete
+other_item-returns-in_ok-next_chunk-in-Template-clause-complete t c =
     let settled = c.in_ok-settle-in-Template.ensures.settled in
     let first = c.in_ok-push-in-Template.ensures.pushed ∙ ap (with_item c.args.list.now) (c.plain.ensures ∙ ap (λ n. item_from n value false Closed) settled.0) in
     chunk_taken c.args.self.now.cursor c.args.self.now.pairs.items c.args.list.now c.push-in-Template-2.new.self c.args.high c.in-Template.is _ refl c.expression.new.self.cursor c.expression.new.self.pairs.items c.in_ok-part-in-Template.part c.in_ok-part-in-Template.ensures.complete c.next_chunk.new.self.cursor c.next_chunk.new.self.pairs.items c.push-in-Template.new.self c.in_ok-next_chunk-in-Template.field-0 _ c.push-in-Template-2.result c.expression.ensures.text first c.in_ok-next_chunk-in-Template.ensures.read c.in_ok-next_chunk-in-Template.ensures.plain.0 c.in_ok-next_chunk-in-Template.ensures.plain.1
     c.next_chunk.ensures.same_pairs c.push-in-Template-2.ensures.pushed c.push-in-Template-2.ensures.taken
 
-pub item-returns-in_ok-item-in-Declarators-clause-complete : goal.item-returns-in_ok-item-in-Declarators-clause-complete
-item-returns-in_ok-item-in-Declarators-clause-complete t c =
+pub other_item-returns-in_ok-item-in-Declarators-clause-complete : goal.other_item-returns-in_ok-item-in-Declarators-clause-complete
+other_item-returns-in_ok-item-in-Declarators-clause-complete t c =
     declarator_taken c.args.self.now.cursor c.declarator.new.self.cursor c.args.self.now.pairs.items c.declarator.new.self.pairs.items c.args.list.now c.push-in-Declarators.new.self c.args.high c.in-Declarators.has_in c.in_ok-item-in-Declarators.item _ c.push-in-Declarators.result c.in-Declarators.is c.push-in-Declarators.ensures.pushed c.push-in-Declarators.ensures.taken c.in_ok-item-in-Declarators.ensures.complete
 
-pub item-returns-in_ok-plain-in-Cases-clause-complete : goal.item-returns-in_ok-plain-in-Cases-clause-complete
-item-returns-in_ok-plain-in-Cases-clause-complete t c =
+pub other_item-returns-in_ok-plain-in-Cases-clause-complete : goal.other_item-returns-in_ok-plain-in-Cases-clause-complete
+other_item-returns-in_ok-plain-in-Cases-clause-complete t c =
     let d = c.in_ok-is_default-in-Cases.is_default in
     let empty : c.if-is_default.built.nodes ≡ case_nodes d none = elim c.if-is_default.branch [
-      | item-then-is_default+in_ok-push_gap-in-Cases w ↦ ap (λ x. x.nodes) w.built-is ∙ w.in_ok-push_gap-in-Cases.ensures.pushed ∙ ap push_gap (ap (λ x. x.nodes) c.new-built.ensures) ∙ ap (λ b. case_nodes b none) (sym w.if-is_default.true)
-      | item-else-is_default w ↦ ap (λ x. x.nodes) w.built-is ∙ ap (λ x. x.nodes) c.new-built.ensures ∙ ap (λ b. case_nodes b none) (sym w.if-is_default.false)
+      | other_item-then-is_default+in_ok-push_gap-in-Cases w ↦ ap (λ x. x.nodes) w.built-is ∙ w.in_ok-push_gap-in-Cases.ensures.pushed ∙ ap push_gap (ap (λ x. x.nodes) c.new-built.ensures) ∙ ap (λ b. case_nodes b none) (sym w.if-is_default.true)
+      | other_item-else-is_default w ↦ ap (λ x. x.nodes) w.built-is ∙ ap (λ x. x.nodes) c.new-built.ensures ∙ ap (λ b. case_nodes b none) (sym w.if-is_default.false)
     ] in
     let it : Item = record { node = c.plain-item.result.node; shape = c.plain-item.result.shape; spreads = c.plain-item.result.spreads; is_marked = d; edge = c.plain-item.result.edge } in
     let tree : c.plain-item.result.node ≡ node SwitchCase [] plain c.place-start.result c.pieces.new.self.cursor.last.stop c.pieces.new.built.nodes = ap (λ (x : Item). x.node) c.plain-item.ensures ∙ c.in_ok-plain-in-Cases.ensures.0 ∙ (λ i. node SwitchCase [] plain (c.span_from-span.ensures i).start (c.span_from-span.ensures i).end c.pieces.new.built.nodes) in
@@ -2548,12 +2537,12 @@ item-returns-in_ok-plain-in-Cases-clause-complete t c =
     (λ i. record { node = tree i; shape = (c.plain-item.ensures i).shape; spreads = (c.plain-item.ensures i).spreads; is_marked = d; edge = (c.plain-item.ensures i).edge }) in
     case_taken_given c.args.self.now.cursor c.pieces.new.self.cursor c.args.self.now.pairs.items c.pieces.new.self.pairs.items c.args.list.now c.push-in-Cases.new.self c.args.high c.in-Cases.returns c.in-Cases.is c.is_default.new.self.cursor c.is_default.new.self.pairs.items c.in_ok-is_default-in-Cases.is_default c.if-is_default.built c.item-context.result c.saturating_sub-inner.result _ c.in_ok-is_default-in-Cases.ensures.accepted c.is_default.ensures.text c.item-context.ensures c.case_pieces.ensures c.saturating_sub-inner.ensures c.pieces.new.built _ empty c.in_ok-pieces-in-Cases.ensures.complete c.place-start.result _ it c.push-in-Cases.result c.place-start.ensures.starts item c.is_default.ensures.same_pairs c.push-in-Cases.ensures.pushed c.push-in-Cases.ensures.taken
 
-pub item-returns-in_ok-item-in-Sequence-clause-complete : goal.item-returns-in_ok-item-in-Sequence-clause-complete
-item-returns-in_ok-item-in-Sequence-clause-complete t c =
+pub other_item-returns-in_ok-item-in-Sequence-clause-complete : goal.other_item-returns-in_ok-item-in-Sequence-clause-complete
+other_item-returns-in_ok-item-in-Sequence-clause-complete t c =
     sequence_item_taken c.args.self.now.cursor c.expression-in-Sequence.new.self.cursor c.args.self.now.pairs.items c.expression-in-Sequence.new.self.pairs.items c.args.list.now c.push-in-Sequence.new.self c.args.high c.in-Sequence.has_in c.at.result c.in_ok-part-in-Sequence.part c.in_ok-item-in-Sequence.item c.place-start.result c.expression-in-Sequence.new.self.cursor.last.stop _ c.push-in-Sequence.result c.at.ensures c.in-Sequence.is c.in_ok-item-in-Sequence.ensures.made.0 c.push-in-Sequence.ensures.pushed c.push-in-Sequence.ensures.taken c.in_ok-part-in-Sequence.ensures.complete
 
-pub item-returns-in_ok-item-in_default-2-clause-complete : goal.item-returns-in_ok-item-in_default-2-clause-complete
-item-returns-in_ok-item-in_default-2-clause-complete t c =
+pub item-returns-in_ok-item-in_default-clause-complete : goal.item-returns-in_ok-item-in_default-clause-complete
+item-returns-in_ok-item-in_default-clause-complete t c =
     let kind : (lists_elements c.args.list.now.listed && not (asks_edge c.args.list.now.listed)) ≡ true = elim c.in_default.branch [
       | item-in_default-via-in-Elements+else-sees w ↦ is_an_element c.args.list.now.listed Elements w.in-Elements.is refl
       | item-in_default-via-in_default w ↦ default_kind c.args.list.now.listed w.in_default.not-Properties w.in_default.not-Members w.in_default.not-Template w.in_default.not-Sequence w.in_default.not-Declarators w.in_default.not-Cases
@@ -2562,4 +2551,166 @@ item-returns-in_ok-item-in_default-2-clause-complete t c =
       | item-in_default-via-in-Elements+else-sees w ↦ λ h. w.if-sees.ensures.missed
       | item-in_default-via-in_default w ↦ λ h. absurd (w.in_default.not-Elements h)
     ] in
-    of_kind c.args.self.now.cursor c.expression-in_default.new.self.cursor c.args.self.now.pairs.items c.expression-in_default.new.self.pairs.items c.args.list.now c.push-in_default.new.self c.args.high c.push-in_default.result kind (λ is. alone_taken c.args.self.now.cursor c.expression-in_default.new.self.cursor c.args.self.now.pairs.items c.expression-in_default.new.self.pairs.items c.args.list.now c.push-in_default.new.self c.args.high is c.accept.new.self.cursor c.accept.new.self.pairs.items _ c.if-accept.ensures.missed.0 c.if-accept.ensures.missed.1 no_comma c.accept.ensures.text refl c.in_ok-part-in_default-2.part c.in_ok-item-in_default-2.item c.place-start.result c.expression-in_default.new.self.cursor.last.stop _ c.push-in_default.result c.in_ok-item-in_default-2.ensures.made.0 c.accept.ensures.same_pairs c.push-in_default.ensures.pushed c.push-in_default.ensures.taken c.in_ok-part-in_default-2.ensures.complete)
+    of_kind c.args.self.now.cursor c.expression.new.self.cursor c.args.self.now.pairs.items c.expression.new.self.pairs.items c.args.list.now c.push.new.self c.args.high c.push.result kind (λ is. alone_taken c.args.self.now.cursor c.expression.new.self.cursor c.args.self.now.pairs.items c.expression.new.self.pairs.items c.args.list.now c.push.new.self c.args.high is c.args.self.now.cursor c.args.self.now.pairs.items _ c.if-sees-2.ensures.missed refl no_comma refl refl c.in_ok-part-in_default.part c.in_ok-item-in_default.item c.place-start.result c.expression.new.self.cursor.last.stop _ c.push.result c.in_ok-item-in_default.ensures.made.0 refl c.push.ensures.pushed c.push.ensures.taken c.in_ok-part-in_default.ensures.complete)
+
+pub turn-other_turn-requires : goal.turn-other_turn-requires
+turn-other_turn-requires t c = (search rules, (c.in-Steps.is, (c.requires.ahead, (c.requires.real, (c.requires.coded, c.requires.goes)))))
+
+pub other_item-returns-in_default-clause-complete : goal.other_item-returns-in_default-clause-complete
+other_item-returns-in_default-clause-complete t c = absurd (false≢true (sym (not_apart c.args.list.now.listed c.in_default.not-Properties c.in_default.not-Members c.in_default.not-Template c.in_default.not-Sequence c.in_default.not-Declarators c.in_default.not-Cases) ∙ c.requires.apart))
+
+pub item-other_item-requires : goal.item-other_item-requires
+item-other_item-requires t c = (search rules, is_other_list c.in-Properties.is)
+
+pub item-spread_item-requires : goal.item-spread_item-requires
+item-spread_item-requires t c =
+    let kind : is_apart c.args.list.now.listed ≡ false = elim c.in_default.branch [
+      | item-in_default-via-in-Elements+else-sees w ↦ ap is_apart w.in-Elements.is
+      | item-in_default-via-in_default w ↦ not_apart c.args.list.now.listed w.in_default.not-Properties w.in_default.not-Members w.in_default.not-Template w.in_default.not-Sequence w.in_default.not-Declarators w.in_default.not-Cases
+    ] in
+    (search rules, (kind, c.if-sees-2.ensures.seen))
+
+pub spread_item-returns-in_err-expect-clause-complete : goal.spread_item-returns-in_err-expect-clause-complete
+spread_item-returns-in_err-expect-clause-complete t c = absurd (c.in_err-expect.ensures.missed.0 c.requires.spreads.0 c.requires.spreads.0 c.requires.spreads.1)
+
+pub opening-bracketed-requires : goal.opening-bracketed-requires
+opening-bracketed-requires t c = (search rules, (c.in-Some.ensures.ahead, (subst BeginsList c.in-List.is c.in-Some.ensures.list, (c.in-Some.ensures.coded ∙ ap Some c.in-List.is, c.in-Some.ensures.stands))))
+
+pub opening-short-requires : goal.opening-short-requires
+opening-short-requires t c = (search rules, (c.in-Some.ensures.ahead, (c.in-Some.ensures.real, (c.in-Some.ensures.coded, (c.in-Some.ensures.stands, short_opening c.in-Prefix.is)))))
+
+pub short-returns-in_default-clause-complete : goal.short-returns-in_default-clause-complete
+short-returns-in_default-clause-complete t c = no_short c.args.opening c.requires.short c.in_default.not-Prefix c.in_default.not-Single
+
+pub based-returns-then-not-sees_base-clause-complete : goal.based-returns-then-not-sees_base-clause-complete
+based-returns-then-not-sees_base-clause-complete t c = λ a h o n from to P next same coded word g.
+    let s = c.args.self.now.cursor in
+    let u = token_of c.args.token in
+    let opens = super_coded (opening_of s.last) coded in
+    let here = word_here s.text u next same (ap is_worded opens) in
+    super_missed c.position_takes.result (takes c.args.position.rank Call) c.position_takes.ensures c.if-not-sees_base.ensures.missed (super_given s.text here.read opens g).1.sees
+
+pub worded-returns-in-Super-clause-derived : goal.worded-returns-in-Super-clause-derived
+worded-returns-in-Super-clause-derived t c = subst (λ x. IfOk c.based.result (λ part. Adds c.args.self.now.cursor c.based.new.self.cursor c.args.self.now.pairs.items c.based.new.self.pairs.items (WordedAt c.args.self.now.cursor.text c.args.position c.args.token x part))) (sym c.in-Super.is) c.based.ensures.derived
+
+pub worded-returns-in-Super-clause-complete : goal.worded-returns-in-Super-clause-complete
+worded-returns-in-Super-clause-complete t c = subst (λ x. WordedComplete c.args.self.now.cursor c.based.new.self.cursor c.args.self.now.pairs.items c.based.new.self.pairs.items c.args.high c.args.token x c.args.position c.based.result) (sym c.in-Super.is) c.based.ensures.complete
+
+pub worded-returns-in-New-clause-derived : goal.worded-returns-in-New-clause-derived
+worded-returns-in-New-clause-derived t c = subst (λ x. IfOk c.created.result (λ part. Adds c.args.self.now.cursor c.created.new.self.cursor c.args.self.now.pairs.items c.created.new.self.pairs.items (WordedAt c.args.self.now.cursor.text c.args.position c.args.token x part))) (sym c.in-New.is) c.created.ensures.derived
+
+pub worded-returns-in-New-clause-complete : goal.worded-returns-in-New-clause-complete
+worded-returns-in-New-clause-complete t c = subst (λ x. WordedComplete c.args.self.now.cursor c.created.new.self.cursor c.args.self.now.pairs.items c.created.new.self.pairs.items c.args.high c.args.token x c.args.position c.created.result) (sym c.in-New.is) c.created.ensures.complete
+
+pub worded-returns-in-Import-clause-derived : goal.worded-returns-in-Import-clause-derived
+worded-returns-in-Import-clause-derived t c = subst (λ x. IfOk c.imported.result (λ part. Adds c.args.self.now.cursor c.imported.new.self.cursor c.args.self.now.pairs.items c.imported.new.self.pairs.items (WordedAt c.args.self.now.cursor.text c.args.position c.args.token x part))) (sym c.in-Import.is) c.imported.ensures.derived
+
+pub worded-returns-in-Import-clause-complete : goal.worded-returns-in-Import-clause-complete
+worded-returns-in-Import-clause-complete t c = subst (λ x. WordedComplete c.args.self.now.cursor c.imported.new.self.cursor c.args.self.now.pairs.items c.imported.new.self.pairs.items c.args.high c.args.token x c.args.position c.imported.result) (sym c.in-Import.is) c.imported.ensures.complete
+
+pub called-returns-in_err-arguments-clause-complete : goal.called-returns-in_err-arguments-clause-complete
+called-returns-in_err-arguments-clause-complete t c = called_refused c.args.self.now.cursor c.args.self.now.cursor c.arguments.new.self.cursor c.args.self.now.pairs.items c.arguments.new.self.pairs.items c.args.high c.args.left Arguments false _ c.in_err-arguments.field-0.0 c.from_residual-in_err-arguments.ensures.1 refl refl c.requires.calls c.arguments.new.self.cursor c.args.self.now.pairs.items c.arguments.new.self.pairs.items c.saturating_sub.result refl c.saturating_sub.ensures c.in_err-arguments.ensures.complete
+
+pub called-returns-in_err-node-clause-complete : goal.called-returns-in_err-node-clause-complete
+called-returns-in_err-node-clause-complete t c =
+    let s = c.args.self.now.cursor in
+    let passed = c.requires.calls in
+    let one : c.in_ok-nodes.nodes ≡ part c.args.left.cover.node none = c.in_ok-nodes.ensures.made ∙ ap (λ n. part n none) c.in_ok-settle.ensures.settled.0 in
+    let nodes : c.append.new.self ≡ part c.args.left.cover.node c.in_ok-arguments.field-0 = c.in_ok-append.ensures.joined ∙ (λ i. join (one i) c.in_ok-arguments.field-0) in
+    let read = arguments_read_behind Arguments false refl refl refl refl passed c.in_ok-arguments.ensures.derived in
+    linked_high c.args.high _ c.args.left _ c.in_err-node.field-0.0 c.from_residual-in_err-node.ensures.1 (link_once s s refl passed read) c.in_err-node.ensures.0 c.in_err-node.ensures.1 (ap (λ ps. suc (parts_height ps)) nodes)
+
+pub called-returns-clause-complete : goal.called-returns-clause-complete
+called-returns-clause-complete t c =
+    let s = c.args.self.now.cursor in
+    let passed = c.requires.calls in
+    let one : c.in_ok-nodes.nodes ≡ part c.args.left.cover.node none = c.in_ok-nodes.ensures.made ∙ ap (λ n. part n none) c.in_ok-settle.ensures.settled.0 in
+    let nodes : c.append.new.self ≡ part c.args.left.cover.node c.in_ok-arguments.field-0 = c.in_ok-append.ensures.joined ∙ (λ i. join (one i) c.in_ok-arguments.field-0) in
+    let read = arguments_read_behind Arguments false refl refl refl refl passed c.in_ok-arguments.ensures.derived in
+    let object : takes Call c.args.left.rank ≡ true = sym c.position_takes.ensures ∙ c.if-not-position_takes.false in
+    let span = c.span_from.ensures in
+    let tree : c.in_ok-node.node ≡ node CallExpression [] plain c.args.left.start c.arguments.new.self.cursor.last.stop c.append.new.self = c.in_ok-node.ensures.0 ∙ (λ i. node CallExpression [] plain (span i).start (span i).end c.append.new.self) in
+    let made : c.plain-2.result ≡ plain_part (node (link_kind Arguments) [] (link_flags Arguments false) c.args.left.start c.arguments.new.self.cursor.last.stop c.append.new.self) (link_rank Arguments (is_call c.args.left.rank)) Other = c.plain-2.ensures ∙ ap (λ n. plain_part n Call Other) tree in
+    linked_answered c.args.high c.args.left c.plain-2.result (link_once s s refl passed read) refl nodes made
+
+pub called-returns-clause-derived : goal.called-returns-clause-derived
+called-returns-clause-derived t c =
+    let s = c.args.self.now.cursor in
+    let passed = c.requires.calls in
+    let one : c.in_ok-nodes.nodes ≡ part c.args.left.cover.node none = c.in_ok-nodes.ensures.made ∙ ap (λ n. part n none) c.in_ok-settle.ensures.settled.0 in
+    let nodes : c.append.new.self ≡ part c.args.left.cover.node c.in_ok-arguments.field-0 = c.in_ok-append.ensures.joined ∙ (λ i. join (one i) c.in_ok-arguments.field-0) in
+    let read = arguments_read_behind Arguments false refl refl refl refl passed c.in_ok-arguments.ensures.derived in
+    let object : takes Call c.args.left.rank ≡ true = sym c.position_takes.ensures ∙ c.if-not-position_takes.false in
+    let span = c.span_from.ensures in
+    let tree : c.in_ok-node.node ≡ node CallExpression [] plain c.args.left.start c.arguments.new.self.cursor.last.stop c.append.new.self = c.in_ok-node.ensures.0 ∙ (λ i. node CallExpression [] plain (span i).start (span i).end c.append.new.self) in
+    let made : c.plain-2.result ≡ plain_part (node (link_kind Arguments) [] (link_flags Arguments false) c.args.left.start c.arguments.new.self.cursor.last.stop c.append.new.self) (link_rank Arguments (is_call c.args.left.rank)) Other = c.plain-2.ensures ∙ ap (λ n. plain_part n Call Other) tree in
+    links_read Arguments false (is_call c.args.left.rank) c.in_ok-settle.ensures.settled.1 object refl nodes made read
+
+pub indexed-returns-in_err-expect-clause-complete : goal.indexed-returns-in_err-expect-clause-complete
+indexed-returns-in_err-expect-clause-complete t c = bracket_refused c.args.self.now.cursor c.args.self.now.cursor c.expect.new.self.cursor c.args.self.now.pairs.items c.expect.new.self.pairs.items c.args.high c.args.left Index false _ c.in_err-expect.field-0.0 c.from_residual-in_err-expect.ensures.1 refl refl c.requires.indexes refl c.in_err-expect.ensures.missed.0
+
+pub indexed-returns-in_err-index-clause-complete : goal.indexed-returns-in_err-index-clause-complete
+indexed-returns-in_err-index-clause-complete t c = index_refused c.args.self.now.cursor c.args.self.now.cursor c.expression.new.self.cursor c.args.self.now.pairs.items c.expression.new.self.pairs.items c.args.high c.args.left Index false _ c.in_err-index.field-0.0 c.from_residual-in_err-index.ensures.1 refl refl c.requires.indexes c.expect.new.self.cursor c.expression.new.self.cursor c.expect.new.self.pairs.items c.expression.new.self.pairs.items c.saturating_sub-inner.result refl c.expect.ensures.text c.expect.ensures.same_open c.in_ok-expect.ensures.accepted.0 c.saturating_sub-inner.ensures c.in_err-index.ensures.complete
+
+pub indexed-returns-in_err-settle-2-clause-complete : goal.indexed-returns-in_err-settle-2-clause-complete
+indexed-returns-in_err-settle-2-clause-complete t c = index_unsettled c.args.self.now.cursor c.args.self.now.cursor c.expression.new.self.cursor c.args.self.now.pairs.items c.expression.new.self.pairs.items c.args.high c.args.left Index false _ c.in_err-settle-2.field-0.0 c.from_residual-in_err-settle-2.ensures.1 refl refl c.requires.indexes c.expect.new.self.cursor c.expression.new.self.cursor c.expect.new.self.pairs.items c.expression.new.self.pairs.items c.saturating_sub-inner.result refl c.expect.ensures.text c.expect.ensures.same_open c.in_ok-expect.ensures.accepted.0 c.saturating_sub-inner.ensures c.in_ok-index.index c.in_ok-index.ensures.complete c.in_err-settle-2.ensures.settled.1
+
+pub indexed-returns-in_err-expect-2-clause-complete : goal.indexed-returns-in_err-expect-2-clause-complete
+indexed-returns-in_err-expect-2-clause-complete t c = unclosed_refused c.args.self.now.cursor c.args.self.now.cursor c.expect-2.new.self.cursor c.args.self.now.pairs.items c.expect-2.new.self.pairs.items c.args.high c.args.left Index false _ c.in_err-expect-2.field-0.0 c.from_residual-in_err-expect-2.ensures.1 refl refl c.requires.indexes c.expect.new.self.cursor c.expression.new.self.cursor c.expect.new.self.pairs.items c.expression.new.self.pairs.items c.saturating_sub-inner.result refl c.expect.ensures.text c.expect.ensures.same_open c.in_ok-expect.ensures.accepted.0 c.saturating_sub-inner.ensures c.in_ok-index.index c.in_ok-index.ensures.complete c.expression.ensures.text c.in_err-expect-2.ensures.missed.0
+
+pub indexed-returns-in_err-node-clause-complete : goal.indexed-returns-in_err-node-clause-complete
+indexed-returns-in_err-node-clause-complete t c =
+    let s = c.args.self.now.cursor in
+    let passed = c.requires.indexes in
+    let index = c.in_ok-index.index in
+    let one : c.in_ok-nodes.nodes ≡ part c.args.left.cover.node none = c.in_ok-nodes.ensures.made ∙ ap (λ n. part n none) c.in_ok-settle.ensures.settled.0 in
+    let nodes : c.push.new.self ≡ part c.args.left.cover.node (part index.cover.node none) = c.in_ok-push.ensures.pushed ∙ (λ i. push (one i) (c.in_ok-settle-2.ensures.settled.0 i)) in
+    let read = index_read Index false refl refl refl refl passed c.expect.ensures.text c.expect.ensures.same_open c.expect.ensures.same_pairs c.in_ok-expect.ensures.accepted.0 refl refl refl c.expression.ensures.text c.in_ok-index.ensures.derived c.in_ok-settle-2.ensures.settled.1
+    c.expect-2.ensures.same_open c.expect-2.ensures.same_pairs c.in_ok-expect-2.ensures.accepted.0 in
+    linked_high c.args.high _ c.args.left _ c.in_err-node.field-0.0 c.from_residual-in_err-node.ensures.1 (link_once s s refl passed read) c.in_err-node.ensures.0 c.in_err-node.ensures.1 (ap (λ ps. suc (parts_height ps)) nodes)
+
+pub indexed-returns-clause-complete : goal.indexed-returns-clause-complete
+indexed-returns-clause-complete t c =
+    let s = c.args.self.now.cursor in
+    let passed = c.requires.indexes in
+    let index = c.in_ok-index.index in
+    let one : c.in_ok-nodes.nodes ≡ part c.args.left.cover.node none = c.in_ok-nodes.ensures.made ∙ ap (λ n. part n none) c.in_ok-settle.ensures.settled.0 in
+    let nodes : c.push.new.self ≡ part c.args.left.cover.node (part index.cover.node none) = c.in_ok-push.ensures.pushed ∙ (λ i. push (one i) (c.in_ok-settle-2.ensures.settled.0 i)) in
+    let read = index_read Index false refl refl refl refl passed c.expect.ensures.text c.expect.ensures.same_open c.expect.ensures.same_pairs c.in_ok-expect.ensures.accepted.0 refl refl refl c.expression.ensures.text c.in_ok-index.ensures.derived c.in_ok-settle-2.ensures.settled.1
+    c.expect-2.ensures.same_open c.expect-2.ensures.same_pairs c.in_ok-expect-2.ensures.accepted.0 in
+    let object : takes Call c.args.left.rank ≡ true = sym c.position_takes.ensures ∙ c.if-not-position_takes.false in
+    let called : c.match-matches.matches ≡ is_call c.args.left.rank = elim c.match-matches.branch [ indexed-in-Call w ↦ w.matches-is ∙ call_is c.args.left.rank w.in-Call.is | indexed-in_default w ↦ w.matches-is ∙ call_is_not c.args.left.rank w.in_default.not-Call ] in
+    let span = c.span_from-span.ensures in
+    let tree : c.in_ok-node.node ≡ node (link_kind Index) [] (link_flags Index false) c.args.left.start c.expect-2.new.self.cursor.last.stop c.push.new.self = c.in_ok-node.ensures.0 ∙ (λ i. node MemberExpression [] (c.flags-flags.ensures i) (span i).start (span i).end c.push.new.self) in
+    let made : c.plain.result ≡ plain_part (node (link_kind Index) [] (link_flags Index false) c.args.left.start c.expect-2.new.self.cursor.last.stop c.push.new.self) (link_rank Index c.match-matches.matches) Other = c.plain.ensures ∙ (λ i. plain_part (tree i) (c.rank.ensures i) Other) in
+    linked_answered c.args.high c.args.left c.plain.result (link_once s s refl passed read) called nodes made
+
+pub indexed-returns-clause-derived : goal.indexed-returns-clause-derived
+indexed-returns-clause-derived t c =
+    let s = c.args.self.now.cursor in
+    let passed = c.requires.indexes in
+    let index = c.in_ok-index.index in
+    let one : c.in_ok-nodes.nodes ≡ part c.args.left.cover.node none = c.in_ok-nodes.ensures.made ∙ ap (λ n. part n none) c.in_ok-settle.ensures.settled.0 in
+    let nodes : c.push.new.self ≡ part c.args.left.cover.node (part index.cover.node none) = c.in_ok-push.ensures.pushed ∙ (λ i. push (one i) (c.in_ok-settle-2.ensures.settled.0 i)) in
+    let read = index_read Index false refl refl refl refl passed c.expect.ensures.text c.expect.ensures.same_open c.expect.ensures.same_pairs c.in_ok-expect.ensures.accepted.0 refl refl refl c.expression.ensures.text c.in_ok-index.ensures.derived c.in_ok-settle-2.ensures.settled.1
+    c.expect-2.ensures.same_open c.expect-2.ensures.same_pairs c.in_ok-expect-2.ensures.accepted.0 in
+    let object : takes Call c.args.left.rank ≡ true = sym c.position_takes.ensures ∙ c.if-not-position_takes.false in
+    let called : c.match-matches.matches ≡ is_call c.args.left.rank = elim c.match-matches.branch [ indexed-in-Call w ↦ w.matches-is ∙ call_is c.args.left.rank w.in-Call.is | indexed-in_default w ↦ w.matches-is ∙ call_is_not c.args.left.rank w.in_default.not-Call ] in
+    let span = c.span_from-span.ensures in
+    let tree : c.in_ok-node.node ≡ node (link_kind Index) [] (link_flags Index false) c.args.left.start c.expect-2.new.self.cursor.last.stop c.push.new.self = c.in_ok-node.ensures.0 ∙ (λ i. node MemberExpression [] (c.flags-flags.ensures i) (span i).start (span i).end c.push.new.self) in
+    let made : c.plain.result ≡ plain_part (node (link_kind Index) [] (link_flags Index false) c.args.left.start c.expect-2.new.self.cursor.last.stop c.push.new.self) (link_rank Index c.match-matches.matches) Other = c.plain.ensures ∙ (λ i. plain_part (tree i) (c.rank.ensures i) Other) in
+    links_read Index false c.match-matches.matches c.in_ok-settle.ensures.settled.1 object called nodes made read
+
+pub indexed-returns-clause-passes : goal.indexed-returns-clause-passes
+indexed-returns-clause-passes t c =
+    let start = c.args.self.now.cursor in
+    let second = passes_further start c.expect.new.self.cursor c.expression.new.self.cursor c.in_ok-expect.ensures.passes c.expression.ensures.forward in
+    passes_further start c.expression.new.self.cursor c.expect-2.new.self.cursor second c.expect-2.ensures.forward
+
+pub short-returns-in_err-node-in-Single-clause-complete : goal.short-returns-in_err-node-in-Single-clause-complete
+short-returns-in_err-node-in-Single-clause-complete t c = λ a h o n to P g.
+    let s = c.args.self.now.cursor in
+    let up = has_height n in
+    let above = c.in_err-node-in-Single.ensures.made in
+    agrees_err (Room s o (height n) c.args.high) (FirstWith s c.pass-in-Single.new.self.cursor c.args.self.now.pairs.items c.pass-in-Single.new.self.pairs.items a h n to P) c.from_residual-in_err-node-in-Single.result c.in_err-node-in-Single.field-0.0 c.from_residual-in_err-node-in-Single.ensures.1
+    (refuses_high (Room s o (height n) c.args.high) 1 c.args.high c.in_err-node-in-Single.field-0.0 above.0 above.1 (λ room. let l = room.1 in omega arith))

@@ -22,64 +22,97 @@ use Rattle.descent.proofs.PiecesLeft.{LeftOf}
 use Rattle.descent.proofs.ItemsGiven.{AllLeft}
 
 abbrev pub decreases-worded : goal.decreases-worded
-decreases-worded l = 9 * (length l.self.now.cursor.text - l.self.now.cursor.last.stop) + 8
+decreases-worded l = 12 * (length l.self.now.cursor.text - l.self.now.cursor.last.stop) + 11
+
+abbrev pub decreases-based : goal.decreases-based
+decreases-based l = 12 * (length l.self.now.cursor.text - l.self.now.cursor.last.stop) + 10
+
+abbrev pub decreases-created : goal.decreases-created
+decreases-created l = 12 * (length l.self.now.cursor.text - l.self.now.cursor.last.stop) + 10
+
+abbrev pub decreases-imported : goal.decreases-imported
+decreases-imported l = 12 * (length l.self.now.cursor.text - l.self.now.cursor.last.stop) + 10
 
 abbrev pub decreases-closure : goal.decreases-closure
-decreases-closure l = 9 * (length l.self.now.cursor.text - l.self.now.cursor.last.stop) + 7
+decreases-closure l = 12 * (length l.self.now.cursor.text - l.self.now.cursor.last.stop) + 9
 
 abbrev pub decreases-pieces : goal.decreases-pieces
-decreases-pieces l = 9 * (length l.self.now.cursor.text - l.self.now.cursor.last.stop) + 6
+decreases-pieces l = 12 * (length l.self.now.cursor.text - l.self.now.cursor.last.stop) + 8
 
 abbrev pub decreases-list : goal.decreases-list
-decreases-list l = 9 * (length l.self.now.cursor.text - l.self.now.cursor.last.stop) + 5
+decreases-list l = 12 * (length l.self.now.cursor.text - l.self.now.cursor.last.stop) + 7
 
 abbrev pub decreases-statements : goal.decreases-statements
-decreases-statements l = 9 * (length l.self.now.cursor.text - l.self.now.cursor.last.stop) + 5
+decreases-statements l = 12 * (length l.self.now.cursor.text - l.self.now.cursor.last.stop) + 7
 
 abbrev pub decreases-item : goal.decreases-item
-decreases-item l = 9 * (length l.self.now.cursor.text - l.self.now.cursor.last.stop) + 4
+decreases-item l = 12 * (length l.self.now.cursor.text - l.self.now.cursor.last.stop) + 6
 
 abbrev pub decreases-statement : goal.decreases-statement
-decreases-statement l = 9 * (length l.self.now.cursor.text - l.self.now.cursor.last.stop) + 4
+decreases-statement l = 12 * (length l.self.now.cursor.text - l.self.now.cursor.last.stop) + 6
+
+abbrev pub decreases-other_item : goal.decreases-other_item
+decreases-other_item l = 12 * (length l.self.now.cursor.text - l.self.now.cursor.last.stop) + 5
 
 abbrev pub decreases-turn : goal.decreases-turn
-decreases-turn l = 9 * (length l.self.now.cursor.text - l.self.now.cursor.last.stop) + 3
+decreases-turn l = 12 * (length l.self.now.cursor.text - l.self.now.cursor.last.stop) + 4
 
 abbrev pub decreases-expression : goal.decreases-expression
-decreases-expression l = 9 * (length l.self.now.cursor.text - l.self.now.cursor.last.stop) + 3
+decreases-expression l = 12 * (length l.self.now.cursor.text - l.self.now.cursor.last.stop) + 4
 
 abbrev pub decreases-declarator : goal.decreases-declarator
-decreases-declarator l = 9 * (length l.self.now.cursor.text - l.self.now.cursor.last.stop) + 3
+decreases-declarator l = 12 * (length l.self.now.cursor.text - l.self.now.cursor.last.stop) + 4
 
 abbrev pub decreases-chain : goal.decreases-chain
-decreases-chain l = 9 * (length l.self.now.cursor.text - l.self.now.cursor.last.stop) + 2
+decreases-chain l = 12 * (length l.self.now.cursor.text - l.self.now.cursor.last.stop) + 3
 
 abbrev pub decreases-opening : goal.decreases-opening
-decreases-opening l = 9 * (length l.self.now.cursor.text - l.self.now.cursor.last.stop) + 2
+decreases-opening l = 12 * (length l.self.now.cursor.text - l.self.now.cursor.last.stop) + 3
 
 abbrev pub decreases-linked : goal.decreases-linked
-decreases-linked l = 9 * (length l.self.now.cursor.text - l.self.now.cursor.last.stop) + 1
-
-abbrev pub decreases-sided : goal.decreases-sided
-decreases-sided l = 9 * (length l.self.now.cursor.text - l.self.now.cursor.last.stop) + 1
+decreases-linked l = 12 * (length l.self.now.cursor.text - l.self.now.cursor.last.stop) + 2
 
 abbrev pub decreases-parenthesized : goal.decreases-parenthesized
-decreases-parenthesized l = 9 * (length l.self.now.cursor.text - l.self.now.cursor.last.stop) + 1
+decreases-parenthesized l = 12 * (length l.self.now.cursor.text - l.self.now.cursor.last.stop) + 1
 
 abbrev pub decreases-arrow : goal.decreases-arrow
-decreases-arrow l = 9 * (length l.self.now.cursor.text - l.self.now.cursor.last.stop) + 1
+decreases-arrow l = 12 * (length l.self.now.cursor.text - l.self.now.cursor.last.stop) + 1
+
+abbrev pub decreases-sided : goal.decreases-sided
+decreases-sided l = 12 * (length l.self.now.cursor.text - l.self.now.cursor.last.stop) + 1
+
+abbrev pub decreases-selected : goal.decreases-selected
+decreases-selected l = 12 * (length l.self.now.cursor.text - l.self.now.cursor.last.stop) + 1
+
+abbrev pub decreases-called : goal.decreases-called
+decreases-called l = 12 * (length l.self.now.cursor.text - l.self.now.cursor.last.stop) + 1
+
+abbrev pub decreases-indexed : goal.decreases-indexed
+decreases-indexed l = 12 * (length l.self.now.cursor.text - l.self.now.cursor.last.stop) + 1
 
 abbrev pub decreases-definition : goal.decreases-definition
-decreases-definition l = 9 * (length l.self.now.cursor.text - l.self.now.cursor.last.stop) + 1
+decreases-definition l = 12 * (length l.self.now.cursor.text - l.self.now.cursor.last.stop) + 1
 
 abbrev pub decreases-value_of : goal.decreases-value_of
-decreases-value_of l = 9 * (length l.self.now.cursor.text - l.self.now.cursor.last.stop) + 1
+decreases-value_of l = 12 * (length l.self.now.cursor.text - l.self.now.cursor.last.stop) + 1
 
-abbrev pub decreases-property_name : goal.decreases-property_name
-decreases-property_name l = 9 * (length l.self.now.cursor.text - l.self.now.cursor.last.stop) + 0
+abbrev pub decreases-other_turn : goal.decreases-other_turn
+decreases-other_turn l = 12 * (length l.self.now.cursor.text - l.self.now.cursor.last.stop) + 1
+
+abbrev pub decreases-bracketed : goal.decreases-bracketed
+decreases-bracketed l = 12 * (length l.self.now.cursor.text - l.self.now.cursor.last.stop) + 1
+
+abbrev pub decreases-short : goal.decreases-short
+decreases-short l = 12 * (length l.self.now.cursor.text - l.self.now.cursor.last.stop) + 1
+
+abbrev pub decreases-spread_item : goal.decreases-spread_item
+decreases-spread_item l = 12 * (length l.self.now.cursor.text - l.self.now.cursor.last.stop) + 1
 
 abbrev pub decreases-arguments : goal.decreases-arguments
-decreases-arguments l = 9 * (length l.self.now.cursor.text - l.self.now.cursor.last.stop) + 0
+decreases-arguments l = 12 * (length l.self.now.cursor.text - l.self.now.cursor.last.stop) + 0
+
+abbrev pub decreases-property_name : goal.decreases-property_name
+decreases-property_name l = 12 * (length l.self.now.cursor.text - l.self.now.cursor.last.stop) + 0
 
 abbrev pub invariant-expression-turns : goal.invariant-expression-turns
 invariant-expression-turns l = record {

@@ -1,0 +1,8 @@
+use Rattle.std.proofs.Common.{subst}
+use Rattle.streams.specs.Refusal.{WritesLine, refusal_line}
+use Rattle.command_line.proofs.Memory.{memory_said}
+use Rattle.command_line.proofs.mistake.write_mistake.Goals as goal
+
+-- memory was refused for what is to be said
+pub returns-in-Err-clause-said : goal.returns-in-Err-clause-said
+returns-in-Err-clause-said g c = memory_said _ _ _ (subst (λ refused. WritesLine (refusal_line refused) (g.W.Sink.taken c.args.errors.now) (g.W.Sink.taken c.write_refusal.new.writer) (g.W.Sink.failed c.write_refusal.new.writer)) c.at_no_place.ensures c.write_refusal.ensures.line)

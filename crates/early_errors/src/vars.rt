@@ -1,0 +1,82 @@
+//! Whether a `var` of the same function stands below a node.
+
+ghost use Rattle.std.specs.Prelude.{◌≡◌, ◌-◌, [], option_map};
+ghost use Rattle.std.specs.Bool.{OnTrue};
+ghost use Rattle.tree.specs.Node.{node_tree};
+ghost use Rattle.tree.specs.Tree.{kind_of, part_count, parts_of, text_of};
+ghost use Rattle.early_errors.specs.Names.{is_function, var_names};
+ghost use Rattle.early_errors.specs.Walk.{at_part};
+ghost use Rattle.early_errors.specs.Walks.{is_var, range_vars};
+
+use tree::{Kind, Node};
+
+/// Whether no `var` stands in a node's parts from a place on, inner functions aside. It looks at so many nodes at most, and says no
+/// where there are more.
+pub(crate) fn has_no_var(node: Node, from: usize, most: usize) -> bool
+    ensures { OnTrue result (range_vars (parts_of (node_tree node.entry)) from (part_count (parts_of (node_tree node.entry)) - from) ≡ []) }
+{
+    let mut left = most;
+    parts_have_none(node, from, &mut left)
+}
+
+#[cycle(vars)]
+#[tactic(auto, using(tree::proofs::PartWalk::part_steps))]
+fn parts_have_none(node: Node, from: usize, left: &mut usize) -> bool
+    ensures { OnTrue result (range_vars (parts_of (node_tree node.entry)) from (part_count (parts_of (node_tree node.entry)) - from) ≡ []) }
+{
+    for index in from..node.part_count() {
+        if !part_has_none(node.part(index), left) {
+            return false;
+        }
+    }
+    true
+}
+
+/// The same of a part that may be missing.
+#[cycle(vars)]
+#[tactic(auto, using(tree::proofs::PartWalk::part_steps))]
+fn part_has_none(part: Option<Node>, left: &mut usize) -> bool
+    ensures { OnTrue result (at_part var_names (option_map node_tree part.entry) ≡ []) }
+{
+    match part {
+        Some(part) => has_none(part, left),
+        None => true,
+    }
+}
+
+#[cycle(vars)]
+#[tactic(auto, using(tree::proofs::PartWalk::part_steps))]
+fn has_none(node: Node, left: &mut usize) -> bool
+    ensures { OnTrue result (var_names (node_tree node.entry) ≡ []) }
+{
+    if *left == 0 {
+        return false;
+    }
+    *left -= 1;
+    if is_function(node.kind()) {
+        return true;
+    }
+    if is_var(node) {
+        return false;
+    }
+    parts_have_none(node, 0, left)
+}
+
+fn is_function(kind: Kind) -> bool
+    ensures { result ≡ is_function kind }
+{
+    match kind {
+        Kind::FunctionDeclaration | Kind::FunctionExpression | Kind::ArrowFunctionExpression =>
+            true,
+        _ => false,
+    }
+}
+
+fn is_var(node: Node) -> bool
+    ensures { result ≡ is_var (kind_of (node_tree node.entry)) (text_of (node_tree node.entry)) }
+{
+    match node.kind() {
+        Kind::VariableDeclaration => node.text() == "var",
+        _ => false,
+    }
+}

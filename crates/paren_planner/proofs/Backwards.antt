@@ -1,0 +1,187 @@
+-- Backwards over the steps of a walk: what is added up is what the definition's nodes cost, and the rows are theirs.
+use Rattle.std.proofs.Common.{◌≡◌, ℕ, ◌+◌, true, cond, min, List, [], ◌∷◌, ◌++◌, Option, Some, None, refl, sym, ap, ◌∙◌, append_assoc, append-nil, arith}
+use Rattle.tree.specs.Tree.{Tree, node, Parts, none, part, kind_of, parts_of}
+use Rattle.language.specs.declared.Rank.{Rank}
+use Rattle.language.specs.declared.Start.{Start}
+use Rattle.language.specs.Pieces.{Role, expr, pattern, script, Slot, fixed, left as left_slot, lead, tail, callee, lead_spine, lead_pattern}
+use Rattle.language.specs.Grammar.{ways}
+use Rattle.language.specs.Positions.{first_roles, widest}
+use Rattle.language.specs.Cost.{add_cost, least}
+use Rattle.positions.specs.declared.outline.Outline.{Outline}
+use Rattle.positions.specs.declared.spelled.Spelled.{Spelled}
+use Rattle.positions.specs.Spelled.{fits_outline, settled_roles}
+use Rattle.positions.specs.Remaining.{left}
+use Rattle.positions.specs.Wherever.{with_own, IsSpelledWherever}
+use Rattle.paren_planner.specs.declared.costs.Costs as own
+use Rattle.paren_planner.specs.declared.weighed.Weighed.{Weighed}
+use Rattle.paren_planner.specs.declared.table.Row.{Row}
+use Rattle.paren_planner.specs.declared.steps.Visit.{Visit}
+use Rattle.paren_planner.specs.declared.steps.Step.{Step}
+use Rattle.paren_planner.specs.declared.steps.Step.TheVariants.{Leaf, Enter, Leave}
+use Rattle.paren_planner.specs.Costs.{capped, capped_sum, each, cost_at, sums, same_everywhere, cells_at}
+use Rattle.paren_planner.specs.Weighed.{settled_at, uses, fitting, sums_over, IsWeighed}
+use Rattle.paren_planner.specs.Rows.{row_with, row_of, own_row, table_rows, parts_table}
+use Rattle.paren_planner.specs.Steps.{label_of, outline_of, has_row_at, no_pairs, IsHeld, weighed_as, weighed_of, row_of_visit, Sums, joined, taken, taken_from, at_the_end}
+use Rattle.paren_planner.specs.Noted.{IsVisit, Steps, unspelled, alone, around, PartsSteps, over, skipped, unplaced, next}
+use Rattle.paren_planner.proofs.Sums.{sums-assoc, sums-zero, zero-zero, zero-sums}
+use Rattle.paren_planner.proofs.Known.{least_known}
+use Rattle.paren_planner.proofs.Filled.{sums-part, sums-gap, sums-end, sums-stop, table-part, table-gap, table-end, table-stop, table-empty, weighed_some, weighed_none, roles_some, roles_none}
+
+-- Sums in the other order
+
+capped-either : (x y : Option ℕ) → capped_sum x y ≡ capped_sum y x
+unfolding capped_sum capped add_cost
+capped-either None None = refl
+capped-either None (Some m) = refl
+capped-either (Some m) None = refl
+capped-either (Some m) (Some k) = let e : min (m + k) 4294967295 ≡ min (k + m) 4294967295 = omega arith in ap (λ n. Some n) e
+
+sums-either : (c d : own.Costs) → sums c d ≡ sums d c
+sums-either c d = λ j. each (λ y i f. capped-either (cost_at c y i f) (cost_at d y i f) j)
+
+-- What an outline asks is what its label does
+
+pub fits_outlined : (a : Role) (x : Outline) → fits_outline a (outline_of (label_of x)) ≡ fits_outline a x
+fits_outlined (expr y i f) x = refl
+fits_outlined (pattern b f) x = refl
+fits_outlined _ x = refl
+
+fitting_outlined : (a : Role) (x : Outline) (c : own.Costs) → fitting a (outline_of (label_of x)) c ≡ fitting a x c
+fitting_outlined a x c = λ j. each (λ y i f. cond (fits_outlined (with_own y i f a) x j) (cost_at c y i f) None)
+
+weighed_outlined : (a : Role) (n : Tree) (x : Outline) (c : own.Costs) → IsWeighed a n (record { outline = Some x; costs = c }) → IsWeighed a n (record { outline = Some (outline_of (label_of x)); costs = c })
+weighed_outlined a n x c h = record {
+  fits = λ y i f. h.fits y i f ∙ sym (fits_outlined (with_own y i f a) x);
+  costs = h.costs;
+}
+
+-- A node's row
+
+own_row_at : (s : Slot) (a : Role) (r : Row) → cond (has_row_at s) (r ∷ []) [] ≡ own_row (settled_at a s) r
+own_row_at (fixed (expr y i f)) a r = refl
+own_row_at (fixed b) a r = refl
+own_row_at (left_slot y) a r = refl
+own_row_at (lead y) a r = refl
+own_row_at (tail y x) a r = refl
+own_row_at callee a r = refl
+own_row_at lead_spine a r = refl
+own_row_at lead_pattern a r = refl
+
+own_row_of : (p : Role) (n : Tree) (w : Weighed) → IsWeighed p n w → own_row p (row_with (kind_of n) w.costs) ≡ own_row p (row_of n)
+unfolding row_of cells_at
+own_row_of (expr y i f) n w h = ap (λ c. row_with (kind_of n) c ∷ []) h.costs
+own_row_of _ n w h = refl
+
+rows_of_node : (n : Tree) (p : Role) → own_row p (row_of n) ++ parts_table (parts_of n) (first_roles (ways (widest p) n)) ≡ table_rows n p
+unfolding table_rows
+rows_of_node (node k w g s e ps) p = refl
+
+-- the rows below a node
+abbrev below : Tree → Role → List Row
+below n p = parts_table (parts_of n) (first_roles (ways (widest p) n))
+
+visit_row : (a : Role) (s : Slot) (n : Tree) (v : Visit) (c : own.Costs) (w : Weighed) → IsVisit a s n v → weighed_of v c ≡ w → IsWeighed (settled_at a s) n w → row_of_visit v c ≡ own_row (settled_at a s) (row_of n)
+visit_row a s n v c w i e h =
+    (λ j. cond (has_row_at (i.slot j)) (row_with (i.kind j) (e j).costs ∷ []) [])
+    ∙ own_row_at s a (row_with (kind_of n) w.costs) ∙ own_row_of (settled_at a s) n w h
+
+-- A node that is joined to those behind it
+
+pub record Joined (a : Role) (s : Slot) (n : Tree) (t u : Sums) : Type 0 where
+  pub weighed : Weighed
+  pub known : IsWeighed (settled_at a s) n weighed
+  pub is : u ≡ record { here = sums t.here (uses a s weighed); outer = t.outer; rows = table_rows n (settled_at a s) ++ t.rows }
+
+joined_node : (a : Role) (s : Slot) (n : Tree) (v : Visit) (c : own.Costs) (w : Weighed) (t : Sums) → IsVisit a s n v → weighed_of v c ≡ w → IsWeighed (settled_at a s) n w →
+    joined v c (record { here = t.here; outer = t.outer; rows = below n (settled_at a s) ++ t.rows }) ≡ record { here = sums t.here (uses a s w); outer = t.outer; rows = table_rows n (settled_at a s) ++ t.rows }
+joined_node a s n v c w t i e h =
+    let r : row_of_visit v c ++ (below n (settled_at a s) ++ t.rows) ≡ table_rows n (settled_at a s) ++ t.rows =
+    ap (λ u. u ++ (below n (settled_at a s) ++ t.rows)) (visit_row a s n v c w i e h) ∙ sym (append_assoc (own_row (settled_at a s) (row_of n)) (below n (settled_at a s)) t.rows) ∙ ap (λ u. u ++ t.rows) (rows_of_node n (settled_at a s)) in
+    λ j. record { here = sums t.here (uses (i.above j) (i.slot j) (e j)); outer = t.outer; rows = r j }
+
+labelled : (a : Role) (s : Slot) (n : Tree) (v : Visit) (x : Outline) (c : own.Costs) → IsVisit a s n v → v.label ≡ Some (label_of x) →
+    weighed_of v c ≡ record { outline = Some (outline_of (label_of x)); costs = fitting (widest (settled_at a s)) x c }
+labelled a s n v x c i l =
+    (λ j. weighed_as (widest (settled_at (i.above j) (i.slot j))) (l j) c)
+    ∙ ap (λ d. record { outline = Some (outline_of (label_of x)); costs = d }) (fitting_outlined (widest (settled_at a s)) x c)
+
+unlabelled : (a : Role) (s : Slot) (n : Tree) (v : Visit) (c : own.Costs) → IsVisit a s n v → v.label ≡ None → weighed_of v c ≡ record { outline = None; costs = same_everywhere None }
+unlabelled a s n v c i l = λ j. weighed_as (widest (settled_at (i.above j) (i.slot j))) (l j) c
+
+nothing_below : (n : Tree) (p : Role) → (parts_of n ≡ none) → below n p ≡ []
+nothing_below n p h = ap (λ ps. parts_table ps (first_roles (ways (widest p) n))) h ∙ table-end (first_roles (ways (widest p) n))
+
+-- of what is spelled, with the sums over its parts
+spelled_node : (a : Role) (s : Slot) (n : Tree) (v : Visit) (x : Spelled) (c : own.Costs) (t : Sums) → IsVisit a s n v → v.label ≡ Some (label_of x.outline) → IsSpelledWherever (widest (settled_at a s)) n (Some x) →
+    c ≡ sums_over (parts_of n) (widest (settled_at a s)) (left x.slots) → (u : Sums) → u ≡ joined v c (record { here = t.here; outer = t.outer; rows = below n (settled_at a s) ++ t.rows }) → Joined a s n t u
+spelled_node a s n v x c t i l k e u h =
+    let d : own.Costs = fitting (widest (settled_at a s)) x.outline c in
+    let w : IsWeighed (settled_at a s) n (record { outline = Some (outline_of (label_of x.outline)); costs = d }) =
+    weighed_outlined (settled_at a s) n x.outline d (weighed_some (settled_at a s) n x k c d e refl) in
+    record { weighed = record { outline = Some (outline_of (label_of x.outline)); costs = d }; known = w; is = h ∙ joined_node a s n v c _ t i (labelled a s n v x.outline c i l) w }
+
+taken_append : (xs ys : List Step) (t : Sums) → taken_from (xs ++ ys) t ≡ taken_from xs (taken_from ys t)
+unfolding taken_from
+taken_append [] ys t = refl
+taken_append (x ∷ xs) ys t = ap (taken x) (taken_append xs ys t)
+
+taken_leaf : (v : Visit) (t : Sums) → taken_from (Leaf v ∷ []) t ≡ joined v no_pairs t
+unfolding taken_from
+taken_leaf v t = refl
+
+taken_around : (v : Visit) (ys : List Step) (t : Sums) → taken_from (Enter v ∷ (ys ++ Leave ∷ [])) t ≡ taken (Enter v) (taken_from ys (record { here = no_pairs; outer = t.here ∷ t.outer; rows = t.rows }))
+unfolding taken_from
+taken_around v ys t = ap (taken (Enter v)) (taken_append ys (Leave ∷ []) t)
+
+no_rows : (t : Sums) (rs : List Row) → rs ≡ [] → t ≡ record { here = t.here; outer = t.outer; rows = rs ++ t.rows }
+no_rows t rs e = λ j. record { here = t.here; outer = t.outer; rows = sym e j ++ t.rows }
+
+mutual
+  unfolding taken_from
+
+  pub node_taken : {a : Role} {s : Slot} {n : Tree} {xs : List Step} → Steps a s n xs → (t : Sums) → IsHeld t.here → Joined a s n t (taken_from xs t)
+  node_taken {a} {s} {n} {xs} (unspelled v i l k e) t h =
+      let none_below : below n (settled_at a s) ≡ [] = ap (parts_table (parts_of n)) (roles_none (settled_at a s) n k) ∙ table-empty (parts_of n) in
+      let w : IsWeighed (settled_at a s) n (record { outline = None; costs = same_everywhere None }) = weighed_none (settled_at a s) n k in
+      record {
+        weighed = record { outline = None; costs = same_everywhere None };
+        known = w;
+        is = ap (λ u. taken_from u t) e ∙ taken_leaf v t ∙ ap (joined v no_pairs) (no_rows t _ none_below) ∙ joined_node a s n v no_pairs _ t i (unlabelled a s n v no_pairs i l) w;
+      }
+  node_taken {a} {s} {n} {xs} (alone v x i l k p e) t h =
+      spelled_node a s n v x no_pairs t i l k (sym (sums-end (widest (settled_at a s)) (left x.slots)) ∙ ap (λ ps. sums_over ps (widest (settled_at a s)) (left x.slots)) (sym p)) _
+      (ap (λ u. taken_from u t) e ∙ taken_leaf v t ∙ ap (joined v no_pairs) (no_rows t _ (nothing_below n (settled_at a s) p)))
+  node_taken {a} {s} {n} {xs} (around v x ys i l k q e) t h =
+      let b : Role = widest (settled_at a s) in
+      let o : own.Costs = sums no_pairs (sums_over (parts_of n) b (left x.slots)) in
+      spelled_node a s n v x o t i l k (zero-sums (λ y i f. Rattle.language.specs.Cost.parts_least (parts_of n) (settled_roles (with_own y i f b) (left x.slots)))) _
+      (ap (λ u. taken_from u t) e ∙ taken_around v ys t
+      ∙ ap (taken (Enter v)) (parts_taken q (record { here = no_pairs; outer = t.here ∷ t.outer; rows = t.rows }) zero-zero)
+      ∙ ap (λ r. joined v o (record { here = t.here; outer = t.outer; rows = parts_table (parts_of n) r ++ t.rows })) (sym (roles_some (settled_at a s) n x k)))
+
+  pub parts_taken : {a : Role} {ss : List Slot} {ps : Parts} {xs : List Step} → PartsSteps a ss ps xs → (t : Sums) → IsHeld t.here →
+      taken_from xs t ≡ record { here = sums t.here (sums_over ps a ss); outer = t.outer; rows = parts_table ps (settled_roles a ss) ++ t.rows }
+  parts_taken {a} {ss} over t h = λ j. record { here = sym (ap (sums t.here) (sums-end a ss) ∙ h) j; outer = t.outer; rows = sym (table-end (settled_roles a ss)) j ++ t.rows }
+  parts_taken {a} {ss} (skipped {ps = ps} q) t h =
+      parts_taken q t h ∙ (λ j. record { here = sums t.here (sym (sums-gap ps a ss) j); outer = t.outer; rows = sym (table-gap ps (settled_roles a ss)) j ++ t.rows })
+  parts_taken {a} (unplaced {n = n} {ps = ps}) t h = λ j. record { here = sums t.here (sym (sums-stop n ps a) j); outer = t.outer; rows = sym (table-stop n ps) j ++ t.rows }
+  parts_taken {a} (next {s = s} {ss = ss} {n = n} {ps = ps} xs ys p q e) t h =
+      let T : Sums = record { here = sums t.here (sums_over ps a ss); outer = t.outer; rows = parts_table ps (settled_roles a ss) ++ t.rows } in
+      let N : Joined a s n T (taken_from xs T) = node_taken p T (sums-zero t.here (sums_over ps a ss)) in
+      let here : sums (sums t.here (sums_over ps a ss)) (uses a s N.weighed) ≡ sums t.here (sums_over (part n ps) a (s ∷ ss)) =
+      sums-assoc t.here (sums_over ps a ss) (uses a s N.weighed) ∙ ap (sums t.here) (sums-either (sums_over ps a ss) (uses a s N.weighed) ∙ sums-part n ps a s ss N.weighed N.known) in
+      let rows : table_rows n (settled_at a s) ++ (parts_table ps (settled_roles a ss) ++ t.rows) ≡ parts_table (part n ps) (settled_roles a (s ∷ ss)) ++ t.rows =
+      sym (append_assoc (table_rows n (settled_at a s)) (parts_table ps (settled_roles a ss)) t.rows) ∙ ap (λ u. u ++ t.rows) (sym (table-part n ps a s ss)) in
+      ap (λ u. taken_from u t) e ∙ taken_append xs ys t ∙ ap (taken_from xs) (parts_taken q t h) ∙ N.is ∙ (λ j. record { here = here j; outer = t.outer; rows = rows j })
+
+-- A script
+
+pub script_rows : (n : Tree) (xs : List Step) → Steps script (fixed script) n xs → (taken_from xs at_the_end).rows ≡ table_rows n script
+script_rows n xs h = ap (λ t. t.rows) (node_taken h at_the_end zero-zero).is ∙ append-nil (table_rows n script)
+
+pub script_total : (n : Tree) (xs : List Step) → Steps script (fixed script) n xs → (taken_from xs at_the_end).here.with_in.any ≡ capped (least n script)
+script_total n xs h =
+    let N : Joined script (fixed script) n at_the_end (taken_from xs at_the_end) = node_taken h at_the_end zero-zero in
+    ap (λ t. t.here.with_in.any) N.is
+    ∙ ap (capped_sum (Some 0)) (least_known script n N.weighed N.known Rattle.language.specs.declared.Rank.TheVariants.Expression true Rattle.language.specs.declared.Start.TheVariants.Any)
+    ∙ ap (λ c. c.with_in.any) (zero-sums (λ y i f. least n script))

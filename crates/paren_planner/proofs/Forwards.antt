@@ -1,0 +1,379 @@
+-- Forwards over the steps of a walk: the flags are the definition's.
+use Rattle.std.proofs.Common.{◌≡◌, ℕ, zero, suc, ◌+◌, ◌≤◌, Bool, true, false, cond, min, List, [], ◌∷◌, ◌++◌, length, drop, Option, Some, None, refl, sym, ap, ◌∙◌, subst, append_assoc, append-nil, arith}
+use Rattle.std.specs.Prelude.{◌&&◌, not, slice_get}
+use Rattle.std.proofs.lemmas.Bool.{false≢true, and_parts}
+use Rattle.std.proofs.lemmas.List.{replicate-append-replicate}
+use Rattle.tree.specs.Tree.{Tree, node, Parts, none, parts_of}
+use Rattle.language.specs.declared.Rank.{Rank}
+use Rattle.language.specs.declared.Rank.TheVariants.{Expression}
+use Rattle.language.specs.declared.Start.{Start}
+use Rattle.language.specs.declared.Start.TheVariants.{Any}
+use Rattle.language.specs.Pieces.{Role, expr, spine, pattern, script, Slot, fixed, left as left_slot, lead, tail, callee, lead_spine, lead_pattern}
+use Rattle.language.specs.Grammar.{ways}
+use Rattle.language.specs.Positions.{first_roles, widest, has_row, rows, parts_rows}
+use Rattle.language.specs.Layout.{some_way, wants_pair, inside, parts_wrapped}
+use Rattle.language.specs.Cost.{if_any, cell, cell_position, parts_least}
+use Rattle.positions.specs.declared.spelled.Spelled.{Spelled}
+use Rattle.positions.specs.Outlines.{slot_of}
+use Rattle.positions.specs.Spelled.{fits_outline, settled_roles, Verdict}
+use Rattle.positions.specs.Remaining.{left}
+use Rattle.positions.specs.Wherever.{with_own, IsSpelledWherever, spelled_roles}
+use Rattle.positions.proofs.Walked.{spelled_here}
+use Rattle.positions.proofs.Slots.{is_plain, all_pass, parts_plain}
+use Rattle.paren_planner.specs.declared.costs.Costs.{Costs}
+use Rattle.paren_planner.specs.declared.table.Row.{Row}
+use Rattle.paren_planner.specs.declared.steps.Label.{Label}
+use Rattle.paren_planner.specs.declared.steps.Visit.{Visit}
+use Rattle.paren_planner.specs.declared.steps.Step.{Step}
+use Rattle.paren_planner.specs.declared.steps.Step.TheVariants.{Leaf, Enter, Leave}
+use Rattle.paren_planner.specs.Costs.{capped, cells_at}
+use Rattle.paren_planner.specs.Weighed.{settled_at, cost_of, fits_spelled}
+use Rattle.paren_planner.specs.Rows.{row_of, is_expression, table_rows, parts_table}
+use Rattle.paren_planner.specs.Wrapped.{unwrapped, flags, parts_flags, inner_flags, HasRows}
+use Rattle.paren_planner.specs.Steps.{label_of, stands_at, has_row_at}
+use Rattle.paren_planner.specs.Noted.{IsVisit, Steps, unspelled, alone, around, PartsSteps, over, skipped, unplaced, next}
+use Rattle.paren_planner.specs.Marked.{Round, Marks, fits_label, wants, is_free, around_parts, flag_at, round_at, plain_round, flag_of, round_of, marked, marked_through, at_the_start}
+use Rattle.paren_planner.proofs.Known.{own_widest, counted}
+use Rattle.paren_planner.proofs.Filled.{roles_some}
+use Rattle.paren_planner.proofs.Wrapping.{parts-rows, parts-flags-length, parts-numbers, no_number, rows-empty, no_roles}
+use Rattle.paren_planner.proofs.Turns.{front_rows, table_turn, inner_some, inner_none, plain_flags, wanted, table_below, rows_below, own_standing, own_few, own_result, plain_standing, plain_few, spelled_inside, all_rows}
+use Rattle.paren_planner.proofs.Totals.{parts_count, cell_roles}
+use Rattle.paren_planner.proofs.Backwards.{fits_outlined}
+
+-- The steps
+
+marked_append : (T : List Row) (xs ys : List Step) (t : Marks) → marked_through T (xs ++ ys) t ≡ marked_through T ys (marked_through T xs t)
+unfolding marked_through
+marked_append T [] ys t = refl
+marked_append T (x ∷ xs) ys t = marked_append T xs ys (marked T x t)
+
+marked_leaf : (T : List Row) (v : Visit) (t : Marks) → marked_through T (Leaf v ∷ []) t ≡ marked T (Leaf v) t
+unfolding marked_through
+marked_leaf T v t = refl
+
+marked_around : (T : List Row) (v : Visit) (ys : List Step) (t : Marks) → marked_through T (Enter v ∷ (ys ++ Leave ∷ [])) t ≡ marked T Leave (marked_through T ys (marked T (Enter v) t))
+unfolding marked_through
+marked_around T v ys t = marked_append T ys (Leave ∷ []) (marked T (Enter v) t)
+
+-- what the steps of a node do: flags are added
+abbrev flagged : Marks → List Bool → Marks
+flagged t bs = record { here = t.here; outer = t.outer; flags = t.flags ++ bs }
+
+flagged_twice : (t : Marks) (bs cs : List Bool) → flagged (flagged t bs) cs ≡ flagged t (bs ++ cs)
+flagged_twice t bs cs = λ j. record { here = t.here; outer = t.outer; flags = append_assoc t.flags bs cs j }
+
+flagged_not : (t : Marks) → t ≡ flagged t []
+flagged_not t = λ j. record { here = t.here; outer = t.outer; flags = sym (append-nil t.flags) j }
+
+-- Rows, by the slot alone
+
+row_count : (s : Slot) (a : Role) → cond (has_row_at s) (false ∷ []) [] ≡ unwrapped (has_row (settled_at a s))
+row_count (fixed (expr y i f)) a = refl
+row_count (fixed b) a = refl
+row_count (left_slot y) a = refl
+row_count (lead y) a = refl
+row_count (tail y x) a = refl
+row_count callee a = refl
+row_count lead_spine a = refl
+row_count lead_pattern a = refl
+
+is_row : (s : Slot) (a : Role) → has_row_at s ≡ is_expression (settled_at a s)
+is_row (fixed b) a = refl
+is_row (left_slot y) a = refl
+is_row (lead y) a = refl
+is_row (tail y x) a = refl
+is_row callee a = refl
+is_row lead_spine a = refl
+is_row lead_pattern a = refl
+
+with_settled : (y : Rank) (i : Bool) (f : Start) (b c : Role) (s : Slot) → with_own y i f (settled_at b s) ≡ with_own y i f (settled_at c s)
+with_settled y i f b c (fixed r) = refl
+with_settled y i f b c (left_slot z) = refl
+with_settled y i f b c (lead z) = refl
+with_settled y i f b c (tail z x) = refl
+with_settled y i f b c callee = refl
+with_settled y i f b c lead_spine = refl
+with_settled y i f b c lead_pattern = refl
+
+-- what is known of a node is known wherever it stands
+spelled_at : (a o : Role) (s : Slot) (n : Tree) (r : Option Spelled) → IsSpelledWherever (widest (settled_at a s)) n r → IsSpelledWherever (settled_at o s) n r
+spelled_at a o s n r h = λ y i f. subst (λ b. Verdict (ways b n) (spelled_roles b r)) (own_widest y i f (settled_at a s) ∙ with_settled y i f a o s) (h y i f)
+
+rows_split : (n : Tree) (p : Role) → rows n p ≡ has_row p + parts_rows (parts_of n) (first_roles (ways (widest p) n))
+unfolding rows
+rows_split (node k w g s e ps) p = refl
+
+unwrapped_sum : (m k : ℕ) → unwrapped m ++ unwrapped k ≡ unwrapped (m + k)
+unwrapped_sum m k = replicate-append-replicate m k false
+
+-- Where nothing may be wrapped
+
+dead_round : (T : List Row) (v : Visit) (x : Round) (bs : List Bool) → x.lives ≡ false → round_of T v x bs ≡ x
+dead_round T v x bs h = ap (λ b. cond b (cond (has_row_at (slot_of v.slot)) (round_at (slice_get T (length bs)) (stands_at x.own v) v.label) (plain_round (stands_at x.own v) v.label)) x) h
+
+dead_flag : (T : List Row) (a : Role) (s : Slot) (n : Tree) (v : Visit) (x : Round) (bs : List Bool) → IsVisit a s n v → x.lives ≡ false → flag_of T v x bs ≡ unwrapped (has_row (settled_at a s))
+dead_flag T a s n v x bs i h =
+    (λ j. cond (has_row_at (i.slot j)) (cond (h j) (flag_at (slice_get T (length bs)) (stands_at x.own v) v.label) false ∷ []) []) ∙ row_count s a
+
+dead_leaf : (T : List Row) (a : Role) (s : Slot) (n : Tree) (v : Visit) (t : Marks) → IsVisit a s n v → t.here.lives ≡ false → parts_rows (parts_of n) (first_roles (ways (widest (settled_at a s)) n)) ≡ 0 →
+    marked T (Leaf v) t ≡ flagged t (unwrapped (rows n (settled_at a s)))
+dead_leaf T a s n v t i h z =
+    let e : has_row (settled_at a s) ≡ rows n (settled_at a s) = (let r = rows_split n (settled_at a s) in omega (arith, r, z)) in
+    ap (flagged t) (dead_flag T a s n v t.here t.flags i h ∙ ap unwrapped e)
+
+no_part_rows : (n : Tree) (xs : List Role) → parts_of n ≡ none → parts_rows (parts_of n) xs ≡ 0
+unfolding parts_rows
+no_part_rows n xs h = ap (λ ps. parts_rows ps xs) h
+
+no_way_rows : (a : Role) (s : Slot) (n : Tree) → IsSpelledWherever (widest (settled_at a s)) n None → parts_rows (parts_of n) (first_roles (ways (widest (settled_at a s)) n)) ≡ 0
+no_way_rows a s n k = ap (λ u. parts_rows (parts_of n) (first_roles u)) (subst (λ b. ways b n ≡ []) (own_widest Expression true Any (settled_at a s) ∙ Rattle.paren_planner.proofs.Wrapping.widest_own (settled_at a s)) (k Expression true Any)) ∙ rows-empty (parts_of n)
+
+mutual
+  unfolding marked_through parts_rows
+
+  dead_node : (T : List Row) {a : Role} {s : Slot} {n : Tree} {xs : List Step} → Steps a s n xs → (t : Marks) → t.here.lives ≡ false → marked_through T xs t ≡ flagged t (unwrapped (rows n (settled_at a s)))
+  dead_node T {a} {s} {n} (unspelled v i l k e) t h =
+      ap (λ u. marked_through T u t) e ∙ marked_leaf T v t ∙ dead_leaf T a s n v t i h (no_way_rows a s n k)
+  dead_node T {a} {s} {n} (alone v x i l k p e) t h =
+      ap (λ u. marked_through T u t) e ∙ marked_leaf T v t ∙ dead_leaf T a s n v t i h (no_part_rows n _ p)
+  dead_node T {a} {s} {n} (around v x ys i l k q e) t h =
+      let entered : marked T (Enter v) t ≡ record { here = t.here; outer = t.here ∷ t.outer; flags = t.flags ++ unwrapped (has_row (settled_at a s)) } =
+      λ j. record { here = dead_round T v t.here t.flags h j; outer = t.here ∷ t.outer; flags = t.flags ++ dead_flag T a s n v t.here t.flags i h j } in
+      let r = parts_rows (parts_of n) (settled_roles (widest (settled_at a s)) (left x.slots)) in
+      let count : has_row (settled_at a s) + r ≡ rows n (settled_at a s) =
+      ap (λ u. has_row (settled_at a s) + parts_rows (parts_of n) u) (sym (roles_some (settled_at a s) n x k)) ∙ sym (rows_split n (settled_at a s)) in
+      ap (λ u. marked_through T u t) e ∙ marked_around T v ys t ∙ ap (λ u. marked T Leave (marked_through T ys u)) entered
+      ∙ ap (marked T Leave) (dead_parts T q (record { here = t.here; outer = t.here ∷ t.outer; flags = t.flags ++ unwrapped (has_row (settled_at a s)) }) h)
+      ∙ flagged_twice t (unwrapped (has_row (settled_at a s))) (unwrapped r)
+      ∙ ap (flagged t) (unwrapped_sum (has_row (settled_at a s)) r ∙ ap unwrapped count)
+
+  dead_parts : (T : List Row) {a : Role} {ss : List Slot} {ps : Parts} {xs : List Step} → PartsSteps a ss ps xs → (t : Marks) → t.here.lives ≡ false → marked_through T xs t ≡ flagged t (unwrapped (parts_rows ps (settled_roles a ss)))
+  dead_parts T over t h = flagged_not t
+  dead_parts T (skipped q) t h = dead_parts T q t h
+  dead_parts T (unplaced {n = n}) t h = refl
+  dead_parts T {a} (next {s = s} {ss = ss} {n = n} {ps = ps} xs ys p q e) t h =
+      ap (λ u. marked_through T u t) e ∙ marked_append T xs ys t ∙ ap (marked_through T ys) (dead_node T p t h) ∙ dead_parts T q (flagged t (unwrapped (rows n (settled_at a s)))) h
+      ∙ flagged_twice t (unwrapped (rows n (settled_at a s))) (unwrapped (parts_rows ps (settled_roles a ss)))
+      ∙ ap (flagged t) (unwrapped_sum (rows n (settled_at a s)) (parts_rows ps (settled_roles a ss)))
+
+-- Where a node costs nothing, nothing in it is wrapped
+
+free_parts : (ps : Parts) (xs : List Role) → all_pass is_plain xs ≡ true → parts_least ps xs ≡ Some 0 → parts_flags ps xs ≡ unwrapped (parts_rows ps xs)
+free_parts ps xs p h =
+    no_number (parts_flags ps xs) 0 (ap length (sym (parts-numbers ps xs 0)) ∙ parts_count ps xs 0 0 p h) ∙ ap unwrapped (parts-flags-length ps xs)
+
+free_number : (x : Option ℕ) → is_free x ≡ true → x ≡ Some 0
+free_number None h = absurd (false≢true h)
+free_number (Some zero) h = refl
+free_number (Some (suc m)) h = absurd (false≢true h)
+
+capped_free : (x : Option ℕ) → capped x ≡ Some 0 → x ≡ Some 0
+unfolding capped
+capped_free None h = absurd (cc)
+capped_free (Some m) h = let e : min m 4294967295 ≡ 0 = cc in let z : m ≡ 0 = omega (arith, e) in ap (λ k. Some k) z
+
+given_way : (xs : List (List (Rattle.language.specs.Pieces.PieceOf Role))) (x : Option ℕ) → if_any xs x ≡ Some 0 → x ≡ Some 0
+unfolding if_any
+given_way [] x h = absurd (cc)
+given_way (y ∷ ys) x h = h
+
+free_inside : (n : Tree) (c : Role) (d : Costs) → is_expression c ≡ true → is_plain c ≡ true → some_way (ways c n) ≡ true → d ≡ cells_at n (expr Expression true Any) → is_free (cost_of d c) ≡ true →
+    parts_flags (parts_of n) (first_roles (ways c n)) ≡ unwrapped (parts_rows (parts_of n) (first_roles (ways c n)))
+unfolding cell
+free_inside n (expr y i f) d h p w e z =
+    let cost : cell n (cell_position (expr y i f)) ≡ Some 0 = capped_free _ (sym (counted d n Expression true Any e y i f) ∙ free_number (cost_of d (expr y i f)) z) in
+    let least : parts_least (parts_of n) (first_roles (ways (expr y i f) n)) ≡ Some 0 =
+    ap (parts_least (parts_of n)) (sym (cell_roles n y i f p w).1) ∙ given_way (ways (cell_position (expr y i f)) n) _ cost in
+    free_parts (parts_of n) (first_roles (ways (expr y i f) n)) (parts_plain (expr y i f) n) least
+free_inside n _ d h p w e z = absurd (false≢true h)
+
+-- A node that may be wrapped
+
+got : (T : List Row) (k : ℕ) (x : Row) (xs : List Row) → drop k T ≡ x ∷ xs → slice_get T k ≡ Some x
+got [] zero x xs h = absurd (cc)
+got [] (suc k) x xs h = absurd (cc)
+got (y ∷ ys) zero x xs h = let e : y ≡ x = cc in ap (λ u. Some u) e
+got (y ∷ ys) (suc k) x xs h = got ys k x xs h
+
+row_here : (T : List Row) (k : ℕ) (n : Tree) (p : Role) → is_expression p ≡ true → HasRows T k (table_rows n p) → slice_get T k ≡ Some (row_of n)
+unfolding table_rows
+row_here T k (node j w g s e ps) (expr y i f) h r = got T k (row_of (node j w g s e ps)) _ r.stand
+row_here T k n _ h r = absurd (false≢true h)
+
+row_cells : (n : Tree) → (row_of n).costs ≡ cells_at n (expr Expression true Any)
+unfolding row_of
+row_cells n = refl
+
+-- the label says what is known of the spelling
+abbrev Says : Option Label → Option Spelled → Type 0
+Says l r = (q : Role) → fits_label q l ≡ fits_spelled q r
+
+says_none : (l : Option Label) → l ≡ None → Says l None
+says_none l e q = ap (fits_label q) e
+
+says_some : (l : Option Label) (x : Spelled) → l ≡ Some (label_of x.outline) → Says l (Some x)
+says_some l x e q = ap (fits_label q) e ∙ fits_outlined q x.outline
+
+wants_is : (n : Tree) (p : Role) (l : Option Label) (r : Option Spelled) → is_expression p ≡ true → IsSpelledWherever p n r → Says l r → rows n p ≤ 16777216 → wants p l (row_of n).costs ≡ wants_pair n p
+wants_is n p l r h k q few =
+    ap (λ b. Rattle.language.specs.Layout.exceeds (cond b (cost_of (row_of n).costs p) None) (Rattle.paren_planner.specs.Costs.capped_sum (Some 1) (row_of n).costs.with_in.any)) (q p)
+    ∙ wanted n p r (row_of n).costs h k few (row_cells n)
+
+abbrev living : Role → Round
+living o = record { own = o; lives = true }
+
+and_true : (b : Bool) → b ≡ (b && true)
+and_true true = refl
+and_true false = refl
+
+plain_inside : (b : Bool) (p : Role) → is_plain p ≡ true → is_plain (inside b p) ≡ true
+plain_inside true p h = refl
+plain_inside false p h = h
+
+expression_inside : (b : Bool) (p : Role) → is_expression p ≡ true → is_expression (inside b p) ≡ true
+expression_inside true p h = refl
+expression_inside false p h = h
+
+-- what stands around the parts of a node, and that its flag and theirs are its flags
+record Entered (T : List Row) (v : Visit) (o : Role) (bs : List Bool) (n : Tree) (p : Role) (r : Option Spelled) : Type 0 where
+  own : Role
+  quiet : Bool
+  round : round_of T v (living o) bs ≡ record { own = own; lives = fits_label own v.label && not quiet }
+  free : quiet ≡ true → some_way (ways own n) ≡ true → parts_flags (parts_of n) (first_roles (ways own n)) ≡ unwrapped (parts_rows (parts_of n) (first_roles (ways own n)))
+  stands : HasRows T (length (bs ++ flag_of T v (living o) bs)) (parts_table (parts_of n) (first_roles (ways (widest own) n)))
+  few : parts_rows (parts_of n) (first_roles (ways (widest own) n)) ≤ 16777216
+  known : IsSpelledWherever own n r
+  result : (vs : List Bool) → vs ≡ (bs ++ flag_of T v (living o) bs) ++ inner_flags n own → vs ≡ bs ++ flags n p
+
+entered_row : (T : List Row) (v : Visit) (o : Role) (bs : List Bool) (s : Slot) (n : Tree) (r : Option Spelled) → slot_of v.slot ≡ s → is_expression (settled_at o s) ≡ true → Says v.label r → IsSpelledWherever (settled_at o s) n r →
+    is_plain (settled_at o s) ≡ true → HasRows T (length bs) (table_rows n (settled_at o s)) → rows n (settled_at o s) ≤ 16777216 → Entered T v o bs n (settled_at o s) r
+entered_row T v o bs s n r i h q k pl st few =
+    let p : Role = settled_at o s in
+    let b : Bool = wants_pair n p in
+    let c : Costs = (row_of n).costs in
+    let w : wants p v.label c ≡ b = wants_is n p v.label r h k q few in
+    let rowed : has_row_at (slot_of v.slot) ≡ true = ap has_row_at i ∙ is_row s o ∙ h in
+    let got_row : slice_get T (length bs) ≡ Some (row_of n) = row_here T (length bs) n p h st in
+    let flag : flag_of T v (living o) bs ≡ b ∷ [] =
+    (λ j. cond (rowed j) (flag_at (got_row j) (settled_at o (i j)) v.label ∷ []) []) ∙ ap (λ u. u ∷ []) w in
+    record {
+      own = inside b p;
+      quiet = is_free (cost_of c (inside b p));
+      round = (λ j. cond (rowed j) (round_at (got_row j) (settled_at o (i j)) v.label) (plain_round (settled_at o (i j)) v.label)) ∙ ap (λ u. around_parts (inside u p) v.label c) w;
+      free = λ z y. free_inside n (inside b p) c (expression_inside b p h) (plain_inside b p pl) y (row_cells n) z;
+      stands = own_standing T bs (bs ++ flag_of T v (living o) bs) n p (inside b p) b h refl (ap (λ u. bs ++ u) flag) st;
+      few = own_few n p (inside b p) b 16777216 h refl few;
+      known = spelled_inside n p b r h k;
+      result = λ vs e. own_result n p (inside b p) true b bs (bs ++ b ∷ []) vs h refl refl refl (e ∙ ap (λ u. (bs ++ u) ++ inner_flags n (inside b p)) flag);
+    }
+
+entered_plain : (T : List Row) (v : Visit) (o : Role) (bs : List Bool) (s : Slot) (n : Tree) (r : Option Spelled) → slot_of v.slot ≡ s → is_expression (settled_at o s) ≡ false → IsSpelledWherever (settled_at o s) n r →
+    HasRows T (length bs) (table_rows n (settled_at o s)) → rows n (settled_at o s) ≤ 16777216 → Entered T v o bs n (settled_at o s) r
+entered_plain T v o bs s n r i h k st few =
+    let p : Role = settled_at o s in
+    let rowed : has_row_at (slot_of v.slot) ≡ false = ap has_row_at i ∙ is_row s o ∙ h in
+    let flag : flag_of T v (living o) bs ≡ [] = λ j. cond (rowed j) (flag_at (slice_get T (length bs)) (settled_at o (i j)) v.label ∷ []) [] in
+    let same : bs ++ flag_of T v (living o) bs ≡ bs = ap (λ u. bs ++ u) flag ∙ append-nil bs in
+    record {
+      own = p;
+      quiet = false;
+      round = (λ j. cond (rowed j) (round_at (slice_get T (length bs)) (settled_at o (i j)) v.label) (plain_round (settled_at o (i j)) v.label)) ∙ ap (λ u. record { own = p; lives = u }) (and_true (fits_label p v.label));
+      free = λ z y. absurd (false≢true z);
+      stands = subst (λ u. HasRows T (length u) (parts_table (parts_of n) (first_roles (ways (widest p) n)))) (sym same) (plain_standing T (length bs) n p h st);
+      few = plain_few n p 16777216 h few;
+      known = k;
+      result = λ vs e. e ∙ ap (λ u. u ++ inner_flags n p) same ∙ ap (λ u. bs ++ u) (plain_flags n p true h);
+    }
+
+entered : (T : List Row) (v : Visit) (o : Role) (bs : List Bool) (s : Slot) (n : Tree) (r : Option Spelled) → slot_of v.slot ≡ s → Says v.label r → IsSpelledWherever (settled_at o s) n r → is_plain (settled_at o s) ≡ true →
+    HasRows T (length bs) (table_rows n (settled_at o s)) → rows n (settled_at o s) ≤ 16777216 → Entered T v o bs n (settled_at o s) r
+entered T v o bs s n r i q k pl st few = of (is_expression (settled_at o s)) refl
+  where
+    of : (b : Bool) → is_expression (settled_at o s) ≡ b → Entered T v o bs n (settled_at o s) r
+    of true h = entered_row T v o bs s n r i h q k pl st few
+    of false h = entered_plain T v o bs s n r i h k st few
+
+either_way : (b : Bool) (bs : List Bool) → cond b bs bs ≡ bs
+either_way true bs = refl
+either_way false bs = refl
+
+inner_bare : (n : Tree) (c : Role) → parts_of n ≡ none → inner_flags n c ≡ []
+unfolding inner_flags parts_flags parts_rows
+inner_bare n c h =
+    ap (λ ps. cond (some_way (ways c n)) (parts_flags ps (first_roles (ways c n))) (unwrapped (parts_rows ps (first_roles (ways (widest c) n))))) h ∙ either_way (some_way (ways c n)) []
+
+-- a node without parts at positions
+live_leaf : (T : List Row) (v : Visit) (o : Role) (us : List Round) (bs : List Bool) (n : Tree) (p : Role) (r : Option Spelled) → (x : Entered T v o bs n p r) → inner_flags n x.own ≡ [] →
+    marked T (Leaf v) (record { here = living o; outer = us; flags = bs }) ≡ record { here = living o; outer = us; flags = bs ++ flags n p }
+live_leaf T v o us bs n p r x h =
+    ap (λ u. record { here = living o; outer = us; flags = u }) (x.result (bs ++ flag_of T v (living o) bs) (sym (append-nil _) ∙ ap (λ u. (bs ++ flag_of T v (living o) bs) ++ u) (sym h)))
+
+inside_case : (F q : Bool) (P U I : List Bool) → cond (true && F) P U ≡ I → (q ≡ true → F ≡ true → P ≡ U) → cond (F && not q) P U ≡ I
+inside_case true true P U I h z = sym (z refl refl) ∙ h
+inside_case true false P U I h z = h
+inside_case false q P U I h z = h
+
+-- the positions of the parts of what is spelled there
+here_roles : (c : Role) (n : Tree) (x : Spelled) → IsSpelledWherever c n (Some x) → fits_outline c x.outline ≡ true → (some_way (ways c n) ≡ true) × (first_roles (ways c n) ≡ settled_roles c (left x.slots))
+here_roles c n x k f = subst (λ u. Verdict (ways c n) (cond u (Some (settled_roles c (left x.slots))) None)) f (spelled_here c n (Some x) k)
+
+-- parts of a node in which some may be wrapped, or none
+within_parts : (T : List Row) (xs : List Step) (o : Role) (l : Bool) (us : List Round) (bs P U : List Bool) →
+    marked_through T xs (record { here = record { own = o; lives = false }; outer = us; flags = bs }) ≡ record { here = record { own = o; lives = false }; outer = us; flags = bs ++ U } →
+    (l ≡ true → marked_through T xs (record { here = living o; outer = us; flags = bs }) ≡ record { here = living o; outer = us; flags = bs ++ P }) →
+    marked_through T xs (record { here = record { own = o; lives = l }; outer = us; flags = bs }) ≡ record { here = record { own = o; lives = l }; outer = us; flags = bs ++ cond l P U }
+within_parts T xs o true us bs P U h k = k refl
+within_parts T xs o false us bs P U h k = h
+
+mutual
+  unfolding marked_through parts_flags parts_table parts_rows
+
+  live_node : (T : List Row) {a : Role} {s : Slot} {n : Tree} {xs : List Step} → Steps a s n xs → (o : Role) (us : List Round) (bs : List Bool) → is_plain (settled_at o s) ≡ true → HasRows T (length bs) (table_rows n (settled_at o s)) →
+      rows n (settled_at o s) ≤ 16777216 → marked_through T xs (record { here = living o; outer = us; flags = bs }) ≡ record { here = living o; outer = us; flags = bs ++ flags n (settled_at o s) }
+  live_node T {a} {s} {n} (unspelled v i l k e) o us bs pl st few =
+      let x : Entered T v o bs n (settled_at o s) None = entered T v o bs s n None i.slot (says_none v.label l) (spelled_at a o s n None k) pl st few in
+      ap (λ u. marked_through T u (record { here = living o; outer = us; flags = bs })) e ∙ marked_leaf T v (record { here = living o; outer = us; flags = bs })
+      ∙ live_leaf T v o us bs n (settled_at o s) None x (sym (inner_none x.own n true x.known))
+  live_node T {a} {s} {n} (alone v y i l k p e) o us bs pl st few =
+      let x : Entered T v o bs n (settled_at o s) (Some y) = entered T v o bs s n (Some y) i.slot (says_some v.label y l) (spelled_at a o s n (Some y) k) pl st few in
+      ap (λ u. marked_through T u (record { here = living o; outer = us; flags = bs })) e ∙ marked_leaf T v (record { here = living o; outer = us; flags = bs })
+      ∙ live_leaf T v o us bs n (settled_at o s) (Some y) x (inner_bare n x.own p)
+  live_node T {a} {s} {n} (around v y ys i l k q e) o us bs pl st few =
+      let t : Marks = record { here = living o; outer = us; flags = bs } in
+      let x : Entered T v o bs n (settled_at o s) (Some y) = entered T v o bs s n (Some y) i.slot (says_some v.label y l) (spelled_at a o s n (Some y) k) pl st few in
+      let gs : List Bool = bs ++ flag_of T v (living o) bs in
+      let F : Bool = fits_outline x.own y.outline in
+      let fit : fits_label x.own v.label ≡ F = says_some v.label y l x.own in
+      let P : List Bool = parts_flags (parts_of n) (settled_roles x.own (left y.slots)) in
+      let U : List Bool = unwrapped (parts_rows (parts_of n) (settled_roles x.own (left y.slots))) in
+      let free : x.quiet ≡ true → F ≡ true → P ≡ U = λ z f. let g = here_roles x.own n y x.known f in subst (λ rs. parts_flags (parts_of n) rs ≡ unwrapped (parts_rows (parts_of n) rs)) g.1 (x.free z g.0) in
+      let whole : cond (F && not x.quiet) P U ≡ inner_flags n x.own = inside_case F x.quiet P U (inner_flags n x.own) (inner_some x.own n y true x.known) free in
+      ap (λ u. marked_through T u t) e ∙ marked_around T v ys t
+      ∙ ap (λ u. marked T Leave (marked_through T ys (record { here = u; outer = living o ∷ us; flags = gs }))) (x.round ∙ ap (λ u. record { own = x.own; lives = u && not x.quiet }) fit)
+      ∙ ap (marked T Leave) (within_parts T ys x.own (F && not x.quiet) (living o ∷ us) gs P U
+      (dead_parts T q (record { here = record { own = x.own; lives = false }; outer = living o ∷ us; flags = gs }) refl
+      ∙ ap (λ m. record { here = record { own = x.own; lives = false }; outer = living o ∷ us; flags = gs ++ unwrapped m }) (parts-rows (parts_of n) (widest (settled_at a s)) x.own (left y.slots)))
+      (λ z. live_parts T q x.own (living o ∷ us) gs
+      (subst (λ rs. all_pass is_plain rs ≡ true) (here_roles x.own n y x.known (and_parts F (not x.quiet) z).0).1 (parts_plain x.own n))
+      (subst (HasRows T (length gs)) (table_below x.own n y x.known) x.stands)
+      (subst (λ m. m ≤ 16777216) (rows_below x.own n y x.known) x.few)))
+      ∙ ap (λ u. record { here = living o; outer = us; flags = u }) (x.result (gs ++ cond (F && not x.quiet) P U) (ap (λ u. gs ++ u) whole))
+
+  live_parts : (T : List Row) {a : Role} {ss : List Slot} {ps : Parts} {xs : List Step} → PartsSteps a ss ps xs → (o : Role) (us : List Round) (bs : List Bool) → all_pass is_plain (settled_roles o ss) ≡ true →
+      HasRows T (length bs) (parts_table ps (settled_roles o ss)) → parts_rows ps (settled_roles o ss) ≤ 16777216 →
+      marked_through T xs (record { here = living o; outer = us; flags = bs }) ≡ record { here = living o; outer = us; flags = bs ++ parts_flags ps (settled_roles o ss) }
+  live_parts T over o us bs pl st few = flagged_not (record { here = living o; outer = us; flags = bs })
+  live_parts T (skipped q) o us bs pl st few = live_parts T q o us bs pl st few
+  live_parts T (unplaced {n = n}) o us bs pl st few = refl
+  live_parts T {a} (next {s = s} {ss = ss} {n = n} {ps = ps} xs ys p q e) o us bs pl st few =
+      let t : Marks = record { here = living o; outer = us; flags = bs } in
+      let f : List Bool = flags n (settled_at o s) in
+      ap (λ u. marked_through T u t) e ∙ marked_append T xs ys t
+      ∙ ap (marked_through T ys) (live_node T p o us bs (and_parts _ _ pl).0 (front_rows T (length bs) (table_rows n (settled_at o s)) (parts_table ps (settled_roles o ss)) st) (omega (arith, few)))
+      ∙ live_parts T q o us (bs ++ f) (and_parts _ _ pl).1 (table_turn T bs (bs ++ f) true n (settled_at o s) (parts_table ps (settled_roles o ss)) refl st) (omega (arith, few))
+      ∙ flagged_twice t f (parts_flags ps (settled_roles o ss))
+
+-- A script
+
+pub script_flags : (T : List Row) (n : Tree) (xs : List Step) → Steps script (fixed script) n xs → T ≡ table_rows n script → rows n script ≤ 16777216 → (marked_through T xs at_the_start).flags ≡ flags n script
+script_flags T n xs h e few = ap (λ t. t.flags) (live_node T h script [] [] refl (all_rows T (table_rows n script) e) few)

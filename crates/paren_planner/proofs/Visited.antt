@@ -1,0 +1,78 @@
+-- What the walk over a script has noted, turn by turn.
+use Rattle.std.proofs.Common.{◌≡◌, List, [], ◌∷◌, ◌++◌, Some, None, arith, refl, sym, ap, ◌∙◌, subst, append_assoc, append-nil}
+use Rattle.tree.specs.Tree.{Tree, Parts, none, part, gap, kind_of, parts_of, part_count}
+use Rattle.language.specs.Pieces.{Role, Slot}
+use Rattle.language.specs.Positions.{widest}
+use Rattle.positions.specs.declared.spelled.Spelled.{Spelled}
+use Rattle.positions.specs.Remaining.{left}
+use Rattle.positions.specs.Wherever.{IsSpelledWherever}
+use Rattle.paren_planner.specs.declared.steps.Visit.{Visit}
+use Rattle.paren_planner.specs.declared.steps.Step.{Step}
+use Rattle.paren_planner.specs.declared.steps.Step.TheVariants.{Leaf, Enter, Leave}
+use Rattle.paren_planner.specs.Weighed.{settled_at}
+use Rattle.paren_planner.specs.Steps.{label_of, nowhere}
+use Rattle.paren_planner.specs.Noted.{IsVisit, Steps, unspelled, alone, around, PartsSteps, over, skipped, unplaced, next, Noted, PartsNoted}
+
+-- whatever the parts that are left show, with what was noted all parts show
+pub record Begun (a : Role) (ss rest : List Slot) (ps others : Parts) (old now : List Step) : Type 0 where
+  pub steps : List Step
+  pub added : now ≡ old ++ steps
+  pub more : (ys : List Step) → PartsSteps a rest others ys → PartsSteps a ss ps (steps ++ ys)
+
+pub begun_first : (a : Role) (ss : List Slot) (ps : Parts) (old : List Step) → Begun a ss ss ps ps old old
+begun_first a ss ps old = record { steps = []; added = sym (append-nil old); more = λ ys q. q }
+
+pub begun_skip : (a : Role) (ss rest : List Slot) (ps P Q : Parts) (old now : List Step) → Begun a ss rest ps P old now → P ≡ gap Q → Begun a ss rest ps Q old now
+begun_skip a ss rest ps P Q old now b e = record { steps = b.steps; added = b.added; more = λ ys q. b.more ys (subst (λ u. PartsSteps a rest u ys) (sym e) (skipped q)) }
+
+pub begun_stop : (a : Role) (ss rest : List Slot) (ps P Q : Parts) (u : Tree) (old now new : List Step) → Begun a ss rest ps P old now → P ≡ part u Q → rest ≡ [] → new ≡ now ++ Leaf (nowhere (kind_of u)) ∷ [] → PartsNoted a ss ps old new
+begun_stop a ss rest ps P Q u old now new b e r k =
+    let last : PartsSteps a rest P (Leaf (nowhere (kind_of u)) ∷ []) = subst (λ p. PartsSteps a rest p (Leaf (nowhere (kind_of u)) ∷ [])) (sym e) (subst (λ q. PartsSteps a q (part u Q) (Leaf (nowhere (kind_of u)) ∷ [])) (sym r) unplaced) in
+    record {
+      steps = b.steps ++ Leaf (nowhere (kind_of u)) ∷ [];
+      added = k ∙ ap (λ xs. xs ++ Leaf (nowhere (kind_of u)) ∷ []) b.added ∙ append_assoc old b.steps (Leaf (nowhere (kind_of u)) ∷ []);
+      are = b.more (Leaf (nowhere (kind_of u)) ∷ []) last;
+    }
+
+pub begun_finish : (a : Role) (ss rest : List Slot) (ps P : Parts) (old now : List Step) → Begun a ss rest ps P old now → P ≡ none → PartsNoted a ss ps old now
+begun_finish a ss rest ps P old now b e = record {
+  steps = b.steps ++ [];
+  added = b.added ∙ ap (λ xs. old ++ xs) (sym (append-nil b.steps));
+  are = b.more [] (subst (λ p. PartsSteps a rest p []) (sym e) over);
+}
+
+pub begun_next : (a : Role) (ss rest later : List Slot) (s : Slot) (ps P Q : Parts) (u : Tree) (old now new : List Step) → Begun a ss rest ps P old now → P ≡ part u Q → rest ≡ s ∷ later → Noted a s u now new → Begun a ss later ps Q old new
+begun_next a ss rest later s ps P Q u old now new b e r n = record {
+  steps = b.steps ++ n.steps;
+  added = n.added ∙ ap (λ xs. xs ++ n.steps) b.added ∙ append_assoc old b.steps n.steps;
+  more = λ ys q.
+      let here : PartsSteps a (s ∷ later) (part u Q) (n.steps ++ ys) = next n.steps ys n.are q refl in
+      let there : PartsSteps a rest P (n.steps ++ ys) = subst (λ p. PartsSteps a rest p (n.steps ++ ys)) (sym e) (subst (λ t. PartsSteps a t (part u Q) (n.steps ++ ys)) (sym r) here) in
+      subst (PartsSteps a ss ps) (sym (append_assoc b.steps n.steps ys)) (b.more (n.steps ++ ys) there);
+}
+
+-- A node
+
+pub no_parts : (ps : Parts) → part_count ps ≡ 0 → ps ≡ none
+no_parts none h = refl
+no_parts (gap ps) h = absurd (omega (arith, h))
+no_parts (part n ps) h = absurd (omega (arith, h))
+
+pub noted_unspelled : (a b : Role) (s : Slot) (n : Tree) (v : Visit) (old new : List Step) → IsVisit a s n v → v.label ≡ None → b ≡ widest (settled_at a s) → IsSpelledWherever b n None → new ≡ old ++ Leaf v ∷ [] → Noted a s n old new
+noted_unspelled a b s n v old new i l w k e = record { steps = Leaf v ∷ []; added = e; are = unspelled v i l (subst (λ c. IsSpelledWherever c n None) w k) refl }
+
+pub noted_alone : (a b : Role) (s : Slot) (n : Tree) (v : Visit) (x : Spelled) (old new : List Step) → IsVisit a s n v → v.label ≡ Some (label_of x.outline) → b ≡ widest (settled_at a s) → IsSpelledWherever b n (Some x) → part_count (parts_of n) ≡ 0 →
+    new ≡ old ++ Leaf v ∷ [] → Noted a s n old new
+noted_alone a b s n v x old new i l w k p e = record { steps = Leaf v ∷ []; added = e; are = alone v x i l (subst (λ c. IsSpelledWherever c n (Some x)) w k) (no_parts (parts_of n) p) refl }
+
+pub noted_around : (a b : Role) (s : Slot) (n : Tree) (v : Visit) (x : Spelled) (old mid within new : List Step) → IsVisit a s n v → v.label ≡ Some (label_of x.outline) → b ≡ widest (settled_at a s) → IsSpelledWherever b n (Some x) →
+    mid ≡ old ++ Enter v ∷ [] → PartsNoted b (left x.slots) (parts_of n) mid within → new ≡ within ++ Leave ∷ [] → Noted a s n old new
+noted_around a b s n v x old mid within new i l w k e p f = record {
+  steps = Enter v ∷ (p.steps ++ Leave ∷ []);
+  added = f ∙ ap (λ xs. xs ++ Leave ∷ []) (p.added ∙ ap (λ xs. xs ++ p.steps) e ∙ append_assoc old (Enter v ∷ []) p.steps) ∙ append_assoc old (Enter v ∷ p.steps) (Leave ∷ []);
+  are = around v x p.steps i l (subst (λ c. IsSpelledWherever c n (Some x)) w k) (subst (λ c. PartsSteps c (left x.slots) (parts_of n) p.steps) w p.are) refl;
+}
+
+-- the steps of a whole script
+pub noted_first : (a : Role) (s : Slot) (n m : Tree) (old new : List Step) → n ≡ m → old ≡ [] → Noted a s n old new → Steps a s m new
+noted_first a s n m old new e o h = subst (λ u. Steps a s u new) e (subst (Steps a s n) (sym (h.added ∙ ap (λ u. u ++ h.steps) o)) h.are)

@@ -1,0 +1,138 @@
+-- The steps of a walk over a script, and what the planner's two passes over them make of them.
+use Rattle.std.specs.Prelude.{◌≡◌, Bool, true, false, not, cond, ◌&&◌, List, [], ◌∷◌, ◌++◌, reverse, Option, Some, None}
+use Rattle.tree.specs.declared.kind.Kind.{Kind}
+use Rattle.language.specs.Pieces.{Role, expr, Slot, fixed, left, lead, tail, callee, lead_spine, lead_pattern}
+use Rattle.language.specs.Positions.{widest}
+use Rattle.positions.specs.declared.position.Position.TheVariants as at
+use Rattle.positions.specs.declared.position.Slot.TheVariants.{Fixed}
+use Rattle.positions.specs.declared.outline.Outline.{Outline}
+use Rattle.positions.specs.declared.outline.Opens.{Opens}
+use Rattle.positions.specs.declared.outline.Opens.TheVariants.{Otherwise}
+use Rattle.language.specs.declared.Rank.{Rank}
+use Rattle.language.specs.declared.Rank.TheVariants.{Member}
+use Rattle.language.specs.Words.{takes}
+use Rattle.positions.specs.declared.outline.Front.TheVariants.{Zero}
+use Rattle.positions.specs.declared.outline.Tail.TheVariants.{Nothing}
+use Rattle.positions.specs.Outlines.{role_of, slot_of}
+use Rattle.paren_planner.specs.declared.costs.Costs as own
+use Rattle.paren_planner.specs.declared.steps.Label.{Label}
+use Rattle.paren_planner.specs.declared.steps.Visit.{Visit}
+use Rattle.paren_planner.specs.declared.steps.Step.{Step}
+use Rattle.paren_planner.specs.declared.steps.Step.TheVariants.{Leaf, Enter, Leave}
+use Rattle.paren_planner.specs.declared.table.Row.{Row}
+use Rattle.paren_planner.specs.declared.weighed.Weighed.{Weighed}
+use Rattle.paren_planner.specs.Costs.{same_everywhere, sums}
+use Rattle.paren_planner.specs.Weighed.{settled_at, uses, fitting}
+use Rattle.paren_planner.specs.Rows.{row_with, is_expression}
+
+-- what an outline asks of a position
+abbrev pub label_of : Outline → Label
+label_of x = record { rank = x.rank; needs_in = x.needs_in; opens = x.opens }
+
+-- an outline that asks the same
+abbrev pub outline_of : Label → Outline
+outline_of x = record { rank = x.rank; needs_in = x.needs_in; opens = x.opens; front = Zero; tail = Nothing; from = 0 }
+
+-- where a node stands in the spelling of the one above it, whose position is given
+abbrev pub stands_at : Role → Visit → Role
+stands_at a v = settled_at a (slot_of v.slot)
+
+-- with all that its spelling may depend on left open
+abbrev pub place_of : Visit → Role
+place_of v = widest (stands_at (role_of v.above) v)
+
+-- a node at this slot has a row
+abbrev pub has_row_at : Slot → Bool
+has_row_at (fixed a) = is_expression a
+has_row_at lead_spine = false
+has_row_at lead_pattern = false
+has_row_at s = true
+
+-- a node that can't be spelled, in a place of a part that has none
+abbrev pub nowhere : Kind → Visit
+nowhere k = record { kind = k; above = at.Script; slot = Fixed at.Script; label = None }
+
+-- it asks for no In, and opens with no brace and no word
+abbrev pub is_otherwise : Opens → Bool
+is_otherwise Otherwise = true
+is_otherwise x = false
+
+abbrev pub is_plain_outline : Outline → Bool
+is_plain_outline x = not x.needs_in && is_otherwise x.opens
+
+-- what is spelled so at this symbol may stand there; at such a slot, wherever the node above stands
+abbrev pub role_free : Role → Rank → Bool
+role_free (expr y i f) z = takes y z
+role_free a z = true
+
+abbrev pub slot_free : Slot → Rank → Bool
+slot_free (fixed a) z = role_free a z
+slot_free (left y) z = takes y z
+slot_free (lead y) z = takes y z
+slot_free (tail y f) z = takes y z
+slot_free callee z = takes Member z
+slot_free s z = true
+
+-- Backwards: the sums
+
+abbrev pub no_pairs : own.Costs
+no_pairs = same_everywhere (Some 0)
+
+-- it is a sum: no number in it is greater than what a u32 holds
+abbrev pub IsHeld : own.Costs → Type 0
+IsHeld c = sums c no_pairs ≡ c
+
+abbrev pub weighed_as : Role → Option Label → own.Costs → Weighed
+weighed_as a None c = record { outline = None; costs = same_everywhere None }
+weighed_as a (Some x) c = record { outline = Some (outline_of x); costs = fitting a (outline_of x) c }
+
+-- what a node costs, of the sums over its parts
+abbrev pub weighed_of : Visit → own.Costs → Weighed
+weighed_of v c = weighed_as (place_of v) v.label c
+
+-- the sums over the parts behind a step, of the innermost open node and of those round it, and the rows behind the step
+pub record Sums : Type 0 where
+  pub here : own.Costs
+  pub outer : List own.Costs
+  pub rows : List Row
+
+abbrev pub innermost : List own.Costs → own.Costs
+innermost [] = no_pairs
+innermost (c ∷ cs) = c
+
+abbrev pub others : {X : Type 0} → List X → List X
+others [] = []
+others (c ∷ cs) = cs
+
+-- what it costs in the node above it
+abbrev pub used : Visit → own.Costs → own.Costs
+used v c = uses (role_of v.above) (slot_of v.slot) (weighed_of v c)
+
+-- its row, where it has one
+abbrev pub row_of_visit : Visit → own.Costs → List Row
+row_of_visit v c = cond (has_row_at (slot_of v.slot)) (row_with v.kind (weighed_of v c).costs ∷ []) []
+
+-- a node, by the sums over its parts
+abbrev pub joined : Visit → own.Costs → Sums → Sums
+joined v c t = record {
+  here = sums t.here (used v c);
+  outer = t.outer;
+  rows = row_of_visit v c ++ t.rows;
+}
+
+abbrev pub taken : Step → Sums → Sums
+taken (Leaf v) t = joined v no_pairs t
+taken (Enter v) t = joined v t.here (record { here = innermost t.outer; outer = others t.outer; rows = t.rows })
+taken Leave t = record { here = no_pairs; outer = t.here ∷ t.outer; rows = t.rows }
+
+-- from behind these steps back to the first of them
+unfoldable pub taken_from : List Step → Sums → Sums
+taken_from [] t = t
+taken_from (x ∷ xs) t = taken x (taken_from xs t)
+
+abbrev pub at_the_end : Sums
+at_the_end = record { here = no_pairs; outer = []; rows = [] }
+
+-- the same as vectors, the innermost node and the first row last
+abbrev pub shown_sums : own.Costs → List own.Costs → List Row → Sums
+shown_sums c cs rs = record { here = c; outer = reverse cs; rows = reverse rs }

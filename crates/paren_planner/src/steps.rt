@@ -1,0 +1,120 @@
+//! The steps of a walk over a script: its nodes in source order, a node before its parts, and what the planner has to know of each.
+
+ghost use Rattle.std.specs.Prelude.{◌≡◌};
+ghost use Rattle.positions.specs.Outlines.{role_of, slot_of};
+ghost use Rattle.positions.specs.Spelled.{fits_outline};
+ghost use Rattle.paren_planner.specs.Steps.{label_of, outline_of, place_of, has_row_at, is_plain_outline, role_free, slot_free};
+
+use crate::weighed::{is_plain, widest};
+use grammar::position_takes;
+use language::Rank;
+use positions::{Opens, Outline, Position, Slot, fits, settled};
+use tree::Kind;
+
+/// What a spelling asks of the position that it stands at.
+#[derive(Clone, Copy)]
+pub(crate) struct Label {
+    pub rank: Rank,
+    pub needs_in: bool,
+    pub opens: Opens,
+}
+
+impl Label {
+    pub(crate) fn of(outline: Outline) -> Label
+        ensures { result ≡ label_of outline }
+    {
+        Label {
+            rank: outline.rank,
+            needs_in: outline.needs_in,
+            opens: outline.opens,
+        }
+    }
+
+    /// An outline that asks the same, of no parts.
+    pub(crate) fn outline(self) -> Outline
+        ensures { result ≡ outline_of self }
+    {
+        Outline {
+            needs_in: self.needs_in,
+            opens: self.opens,
+            ..Outline::leaf(self.rank)
+        }
+    }
+
+    /// Whether it asks for no In, and opens with no brace and no word.
+    pub(crate) fn is_plain(self) -> bool
+        ensures { result ≡ is_plain_outline (outline_of self) }
+    {
+        is_plain(self.outline())
+    }
+
+    /// Whether what asks for no more than its symbol may stand at a slot, wherever the node above stands.
+    pub(crate) fn stands_freely(self, slot: Slot) -> bool
+        ensures { result ≡ slot_free (slot_of slot) self.rank }
+    {
+        match slot {
+            Slot::Fixed(position) => self.stands_freely_at(position),
+            Slot::Left(rank) | Slot::Lead(rank) | Slot::Tail(rank, _) => {
+                position_takes(rank, self.rank)
+            }
+            Slot::Callee => position_takes(Rank::Member, self.rank),
+            _ => true,
+        }
+    }
+
+    fn stands_freely_at(self, position: Position) -> bool
+        ensures { result ≡ role_free (role_of position) self.rank }
+    {
+        match position {
+            Position::Expression { rank, .. } => position_takes(rank, self.rank),
+            _ => true,
+        }
+    }
+
+    /// Whether the spelling may stand there.
+    pub(crate) fn fits(self, position: Position) -> bool
+        ensures { result ≡ fits_outline (role_of position) (outline_of self) }
+    {
+        fits(position, self.outline())
+    }
+}
+
+/// A node, and where it stands.
+#[derive(Clone, Copy)]
+pub(crate) struct Visit {
+    pub kind: Kind,
+    /// The widest position of the node that it is a part of.
+    pub above: Position,
+    /// Where it stands in the spelling of that node.
+    pub slot: Slot,
+    /// None where it can't be spelled there.
+    pub label: Option<Label>,
+}
+
+impl Visit {
+    /// Where the node stands, with all that its spelling may depend on left open.
+    pub(crate) fn position(self) -> Position
+        ensures { role_of result ≡ place_of self }
+    {
+        widest(settled(self.above, self.slot))
+    }
+
+    /// Whether the node has a row: it stands at an expression's position.
+    pub(crate) fn has_row(self) -> bool
+        ensures { result ≡ has_row_at (slot_of self.slot) }
+    {
+        match self.slot {
+            Slot::Fixed(position) => matches!(position, Position::Expression { .. }),
+            Slot::LeadSpine | Slot::LeadPattern => false,
+            _ => true,
+        }
+    }
+}
+
+/// A step: a node without parts at positions, a node before its parts, or back to the node above.
+#[derive(Clone, Copy)]
+pub(crate) enum Step {
+    Leaf(Visit),
+    Enter(Visit),
+    Leave,
+}

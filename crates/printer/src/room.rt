@@ -1,0 +1,177 @@
+//! Room for what waits to be written, and what it is written to.
+
+ghost use Rattle.std.specs.Prelude.{◌≡◌, ◌≤◌, ◌+◌, ℕ, Bool, true, List, [], ◌++◌, length, take, IsTrue, ◌↔◌};
+ghost use Rattle.std.specs.Prelude.{IfOk, Some, false};
+ghost use Rattle.std.specs.String.{string_bytes};
+ghost use Rattle.printer.specs.Standings.{Standing, Puts, of_writer, of_text};
+
+use source_text::{DeviceFault, PIECE, Sink, write_text};
+use std::alloc::{AllocError, Global};
+use std::marker::Model;
+
+/// Bytes that wait until a piece is full.
+#[derive(Drop)]
+pub struct Room {
+    bytes: [u8; PIECE],
+    used: usize,
+}
+
+impl Model for Room {
+    ghost Value = { List ℕ };
+
+    ghost view = { λ r. take r.used r.bytes };
+
+    ghost invariant = { λ r. r.used ≤ 4096 };
+}
+
+impl Room {
+    /// With nothing in it.
+    pub fn new() -> Room
+        ensures { result ≡ [] }
+    {
+        Room {
+            bytes: [0; PIECE],
+            used: 0,
+        }
+    }
+
+    /// What waits.
+    fn bytes(&self) -> &[u8]
+        ensures { result.now ≡ self.now }
+    {
+        &self.bytes[..self.used]
+    }
+
+    /// Whether so many bytes fit in.
+    fn fits(&self, count: usize) -> bool
+        ensures { IsTrue result ↔ length self.now + count ≤ 4096 }
+    {
+        count <= PIECE - self.used
+    }
+
+    /// Puts bytes behind those that wait.
+    fn add(&mut self, bytes: &[u8])
+        requires { length self.old + length bytes.now ≤ 4096 }
+        ensures { self.new ≡ self.old ++ bytes.now }
+    {
+        let end = self.used + bytes.len();
+        self.bytes[self.used..end].copy_from_slice(bytes);
+        self.used = end;
+    }
+
+    fn clear(&mut self)
+        ensures { self.new ≡ [] }
+    {
+        self.used = 0;
+    }
+}
+
+/// What a text is put into, bit by bit. Once it has failed, nothing more is put into it.
+pub trait Outlet {
+    /// What was put into it and what waits in the room, and whether it has failed.
+    ghost stands: { Self → List ℕ → Standing };
+
+    /// Puts in what follows.
+    fn put(&mut self, room: &mut Room, text: &str)
+        ensures { Puts (stands self.old room.old) (stands self.new room.new) text.now };
+
+    /// Puts in what waits.
+    fn finish(&mut self, room: &mut Room)
+        ensures done { Puts (stands self.old room.old) (stands self.new room.new) [] }
+        ensures empty { room.new ≡ [] };
+}
+
+impl<W: Sink> Outlet for W {
+    ghost stands = { λ w room. of_writer (W.taken w) (W.failed w) room };
+
+    fn put(&mut self, room: &mut Room, text: &str) {
+        let bytes = text.as_bytes();
+        if room.fits(bytes.len()) {
+            room.add(bytes);
+            return;
+        }
+        flush(self, room);
+        if room.fits(bytes.len()) {
+            room.add(bytes);
+            return;
+        }
+        write_on(self, bytes);
+    }
+
+    fn finish(&mut self, room: &mut Room) {
+        flush(self, room);
+    }
+}
+
+/// Writes what waits, unless the writer has failed.
+fn flush<W: Sink>(writer: &mut W, room: &mut Room)
+    ensures done { Puts (of_writer (W.taken writer.old) (W.failed writer.old) room.old) (of_writer (W.taken writer.new) (W.failed writer.new) []) [] }
+    ensures empty { room.new ≡ [] }
+{
+    write_on(writer, room.bytes());
+    room.clear();
+}
+
+/// Writes these bytes, which wait, unless the writer has failed.
+fn write_on<W: Sink>(writer: &mut W, waiting: &[u8])
+    ensures { Puts (of_writer (W.taken writer.old) (W.failed writer.old) waiting.now) (of_writer (W.taken writer.new) (W.failed writer.new) []) [] }
+{
+    if writer.has_failed() {
+        return;
+    }
+    match write_text(waiting, writer) {
+        Ok(()) => {}
+        Err(DeviceFault) => {}
+    }
+}
+
+/// A text that grows, until memory is refused.
+#[derive(Drop)]
+pub struct Text {
+    string: String,
+    is_refused: bool,
+}
+
+impl Text {
+    /// With nothing in it, and room for so many bytes.
+    pub fn new(alloc: Global, room: usize) -> Result<Text, AllocError>
+        ensures empty { IfOk result (λ t. string_bytes t.string ≡ []) }
+        ensures given { IfOk result (λ t. t.is_refused ≡ false) }
+    {
+        Ok(Text {
+            string: String::with_capacity(alloc, room)?,
+            is_refused: false,
+        })
+    }
+
+    /// The whole of it.
+    ///
+    /// # Errors
+    /// Memory was refused.
+    pub fn into_string(self) -> Result<String, AllocError>
+        ensures { IfOk result (λ s. (string_bytes s ≡ string_bytes self.string) × (self.is_refused ≡ false)) }
+    {
+        if self.is_refused {
+            return Err(AllocError);
+        }
+        Ok(self.string)
+    }
+}
+
+impl Outlet for Text {
+    ghost stands = { λ t room. of_text (string_bytes t.string) t.is_refused };
+
+    fn put(&mut self, _room: &mut Room, text: &str) {
+        if self.is_refused {
+            return;
+        }
+        match self.string.push_str(text) {
+            Ok(()) => {}
+            Err(AllocError) => self.is_refused = true,
+        }
+    }
+
+    fn finish(&mut self, room: &mut Room) {
+        room.clear();
+    }
+}

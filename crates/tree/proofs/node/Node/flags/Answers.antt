@@ -1,5 +1,0 @@
-use Rattle.std.proofs.Common.{rules}
-use Rattle.tree.proofs.node.Node.flags.Goals as goal
-
-pub returns : goal.returns
-returns c = search rules
