@@ -20,7 +20,6 @@ const { defaultSettings, runRules } = require('../reference/rules.js');
 const { resolve } = require('../reference/scopes.js');
 const { runInBigStack } = require('../reference/bigstack.js');
 const TOP = path.join(__dirname, '..', '..');
-const LIMITS = { maxHeight: 500, maxParens: 1000 };
 const PACKAGES = ['libjs-jquery', 'libjs-d3', 'libjs-three', 'node-react-dom', 'node-react', 'node-acorn', 'libjs-underscore', 'libjs-highlight.js'];
 
 // What each command writes of an accepted script, from its tree, its grouping pairs and its bytes, and the exit status.
