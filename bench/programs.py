@@ -26,6 +26,7 @@ SCRIPTS = (
 def install():
     """Installs Debian's packages where something of them is missing."""
     if not all(map(os.path.exists, SCRIPTS)) or not all(map(shutil.which, PROGRAMS)):
+        subprocess.run(["apt-get", "update"], check=True, stdout=sys.stderr)
         subprocess.run(["apt-get", "install", "-y", "--no-install-recommends", *PACKAGES], check=True, stdout=sys.stderr)
 
 
