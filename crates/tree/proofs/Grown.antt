@@ -236,6 +236,26 @@ row_list-whole st r (node k w g s e ps) = refl
 rows_in-whole : (st : Standing) (t : Tree) → rows_in st t ≡ own_rows st (kind_of t) + parts_rows (record { standing = st; kind = kind_of t; flags = flags_of t }) (part_count (parts_of t)) 0 (parts_of t)
 rows_in-whole st (node k w g s e ps) = refl
 
+-- only the label of the tree counts
+pub relabelled : (b c : Growing) (waiting : ℕ) (u t : Tree) (own : Option ℕ) (k : ℕ) → kind_of u ≡ kind_of t → text_of u ≡ text_of t → flags_of u ≡ flags_of t → start_of u ≡ start_of t → stop_of u ≡ stop_of t
+    → Finishes b c waiting u own k → Finishes b c waiting t own k
+relabelled b c waiting u t own k kinds texts flags starts stops f = record {
+  added = f.added;
+  nodes = f.nodes;
+  parts = f.parts;
+  pending = f.pending;
+  number = f.number;
+  first = f.first;
+  count = f.count;
+  kind = f.kind ∙ kinds;
+  text = f.text ∙ texts;
+  flags = f.flags ∙ flags;
+  start = f.start ∙ starts;
+  stop = f.stop ∙ stops;
+  row = f.row;
+  next = f.next;
+}
+
 pub finished : (a0 a b c : Growing) (os : List (Option Tree)) (waiting k : ℕ) (st : Standing) (row : Option ℕ) (t : Tree) (r : Around) (n : ℕ)
     → NumbersRow a0 a st (kind_of t) row → PushesParts a b r n os → Finishes b c waiting t row k → waiting ≡ length a.pending.items
     → parts_with_gaps os ≡ parts_of t → r ≡ record { standing = st; kind = kind_of t; flags = flags_of t } → n ≡ part_count (parts_of t) → Pushes a0 c k st t
