@@ -2,7 +2,7 @@
 use Rattle.std.proofs.Common.{◌≡◌, cond, ℕ, suc, ◌+◌, ◌-◌, ◌≤◌, List, [], ◌∷◌, ◌++◌, length, map, Option, Some, None, slice_get, take, drop, refl, sym, ap, ◌∙◌, arith, append_assoc, length-append, append-nil, subst, length-drop}
 use Rattle.std.proofs.lemmas.List.{take-append-le, drop-append-le, map-append, take_all}
 use Rattle.std.proofs.Math.Seq.{drop-append_seam, take-append_seam}
-use Rattle.std.specs.Cow.{cow_str_bytes}
+use Rattle.tree.specs.NodeText.{text_bytes}
 use Rattle.tree.specs.Tree.{Tree, Parts, node, none, part, gap, kind_of, text_of, flags_of, start_of, stop_of, parts_of, parts_with_gaps, part_count, node_total, parts_total}
 use Rattle.tree.specs.declared.flat_node.NodeNumber.{NodeNumber}
 use Rattle.tree.specs.declared.flat_node.FlatNode.{FlatNode}
@@ -35,7 +35,7 @@ pub trees-more : (pool more : Pool) (i : ℕ) (ts : List Tree) (es : List FlatNo
 trees-more pool more i ts [] a = refl
 trees-more pool more i ts (e ∷ es) a =
     let same : flat_tree (pool ++ more) e ts ≡ flat_tree pool e ts =
-    ap (λ (os : Pool). node e.kind (cow_str_bytes e.text) e.flags e.start e.end (parts_with_gaps (map (named ts) os))) (run-more pool more e a.0) in
+    ap (λ (os : Pool). node e.kind (text_bytes e.text) e.flags e.start e.end (parts_with_gaps (map (named ts) os))) (run-more pool more e a.0) in
     ap (λ (t : Tree). trees (pool ++ more) (ts ++ t ∷ []) es) same ∙ trees-more pool more (i + 1) (ts ++ flat_tree pool e ts ∷ []) es a.1.1
 
 pub runs-more : (pool more : Pool) (i : ℕ) (es : List FlatNode) → AreLinked pool i es → node_runs (pool ++ more) es ≡ node_runs pool es
