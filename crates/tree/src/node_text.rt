@@ -2,6 +2,7 @@
 
 ghost use Rattle.std.specs.Prelude.{◌≡◌, IfOk};
 ghost use Rattle.std.specs.Cow.{cow_str_bytes};
+ghost use Rattle.std.specs.String.{string_bytes};
 ghost use Rattle.tree.specs.NodeText.{text_bytes};
 
 use std::alloc::{AllocError, Global};
@@ -49,7 +50,15 @@ impl<'s> NodeText<'s> {
     {
         match self {
             NodeText::Slice(slice) => slice,
-            NodeText::Made(made) => made.as_str(),
+            NodeText::Made(made) => made_str(made),
         }
     }
+}
+
+/// Apart, so that looking at a slice stays short.
+#[inline(never)]
+fn made_str(made: &Box<String>) -> &str
+    ensures { result.now ≡ string_bytes made.now.value }
+{
+    made.as_str()
 }
