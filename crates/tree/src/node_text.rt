@@ -18,10 +18,7 @@ pub(crate) enum NodeText<'s> {
 
 impl<'s> NodeText<'s> {
     /// A text that is moved out of where it stands.
-    pub(crate) fn taken(
-        alloc: Global,
-        text: &mut CowStr<'s>,
-    ) -> Result<NodeText<'s>, AllocError>
+    pub(crate) fn taken(alloc: Global, text: &mut CowStr<'s>) -> Result<NodeText<'s>, AllocError>
         ensures { IfOk result (λ taken. text_bytes taken ≡ cow_str_bytes text.old) }
     {
         match text {
