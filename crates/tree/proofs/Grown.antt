@@ -2,7 +2,7 @@
 use Rattle.std.proofs.Common.{◌≡◌, cond, ℕ, suc, ◌+◌, ◌-◌, ◌≤◌, List, [], ◌∷◌, ◌++◌, length, map, Option, Some, None, slice_get, take, drop, refl, sym, ap, ◌∙◌, arith, append_assoc, length-append, append-nil, subst, length-drop}
 use Rattle.std.proofs.lemmas.List.{take-append-le, drop-append-le, map-append, take_all}
 use Rattle.std.proofs.Math.Seq.{drop-append_seam, take-append_seam}
-use Rattle.std.specs.Cow.{cow_str_bytes}
+use Rattle.tree.specs.NodeText.{text_bytes}
 use Rattle.tree.specs.Tree.{Tree, Parts, node, none, part, gap, kind_of, text_of, flags_of, start_of, stop_of, parts_of, parts_with_gaps, part_count, node_total, parts_total}
 use Rattle.tree.specs.declared.flat_node.NodeNumber.{NodeNumber}
 use Rattle.tree.specs.declared.flat_node.FlatNode.{FlatNode}
@@ -35,7 +35,7 @@ pub trees-more : (pool more : Pool) (i : ℕ) (ts : List Tree) (es : List FlatNo
 trees-more pool more i ts [] a = refl
 trees-more pool more i ts (e ∷ es) a =
     let same : flat_tree (pool ++ more) e ts ≡ flat_tree pool e ts =
-    ap (λ (os : Pool). node e.kind (cow_str_bytes e.text) e.flags e.start e.end (parts_with_gaps (map (named ts) os))) (run-more pool more e a.0) in
+    ap (λ (os : Pool). node e.kind (text_bytes e.text) e.flags e.start e.end (parts_with_gaps (map (named ts) os))) (run-more pool more e a.0) in
     ap (λ (t : Tree). trees (pool ++ more) (ts ++ t ∷ []) es) same ∙ trees-more pool more (i + 1) (ts ++ flat_tree pool e ts ∷ []) es a.1.1
 
 pub runs-more : (pool more : Pool) (i : ℕ) (es : List FlatNode) → AreLinked pool i es → node_runs (pool ++ more) es ≡ node_runs pool es
@@ -235,6 +235,26 @@ row_list-whole st r (node k w g s e ps) = refl
 
 rows_in-whole : (st : Standing) (t : Tree) → rows_in st t ≡ own_rows st (kind_of t) + parts_rows (record { standing = st; kind = kind_of t; flags = flags_of t }) (part_count (parts_of t)) 0 (parts_of t)
 rows_in-whole st (node k w g s e ps) = refl
+
+-- only the label of the tree counts
+pub relabelled : (b c : Growing) (waiting : ℕ) (u t : Tree) (own : Option ℕ) (k : ℕ) → kind_of u ≡ kind_of t → text_of u ≡ text_of t → flags_of u ≡ flags_of t → start_of u ≡ start_of t → stop_of u ≡ stop_of t
+    → Finishes b c waiting u own k → Finishes b c waiting t own k
+relabelled b c waiting u t own k kinds texts flags starts stops f = record {
+  added = f.added;
+  nodes = f.nodes;
+  parts = f.parts;
+  pending = f.pending;
+  number = f.number;
+  first = f.first;
+  count = f.count;
+  kind = f.kind ∙ kinds;
+  text = f.text ∙ texts;
+  flags = f.flags ∙ flags;
+  start = f.start ∙ starts;
+  stop = f.stop ∙ stops;
+  row = f.row;
+  next = f.next;
+}
 
 pub finished : (a0 a b c : Growing) (os : List (Option Tree)) (waiting k : ℕ) (st : Standing) (row : Option ℕ) (t : Tree) (r : Around) (n : ℕ)
     → NumbersRow a0 a st (kind_of t) row → PushesParts a b r n os → Finishes b c waiting t row k → waiting ≡ length a.pending.items

@@ -2,6 +2,7 @@ pub mod Tree
 pub mod TreeCode
 pub mod Sizes
 pub mod Node
+pub mod NodeText
 pub mod Same
 pub mod Uses
 pub mod Fields

@@ -12,6 +12,7 @@ mod kind;
 pub mod laws;
 mod list;
 mod node;
+mod node_text;
 mod parts;
 mod parts_at;
 mod place;

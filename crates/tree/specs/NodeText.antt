@@ -1,0 +1,9 @@
+-- The bytes of the text of a node of the finished tree.
+use Rattle.std.specs.Prelude.{ℕ, List}
+use Rattle.std.specs.String.{string_bytes}
+use Rattle.tree.specs.declared.node_text.NodeText.{NodeText}
+use Rattle.tree.specs.declared.node_text.NodeText.TheVariants.{Slice, Made}
+
+abbrev pub text_bytes : NodeText → List ℕ
+text_bytes (Slice s) = s.now
+text_bytes (Made b) = string_bytes b.value

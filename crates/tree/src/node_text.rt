@@ -1,0 +1,61 @@
+//! The text of a node of the finished tree.
+
+ghost use Rattle.std.specs.Prelude.{◌≡◌, IfOk};
+ghost use Rattle.std.specs.Cow.{cow_str_bytes};
+ghost use Rattle.std.specs.String.{string_bytes};
+ghost use Rattle.tree.specs.NodeText.{text_bytes};
+
+use std::alloc::{AllocError, Global};
+use std::borrow::CowStr;
+use std::mem;
+
+/// A slice of the source, as nearly all texts are, or one that was made. It takes less room than a `CowStr`.
+#[derive(Drop)]
+pub(crate) enum NodeText<'s> {
+    Slice(&'s str),
+    Made(Box<String>),
+}
+
+impl<'s> NodeText<'s> {
+    /// A text that is moved out of where it stands.
+    pub(crate) fn taken(alloc: Global, text: &mut CowStr<'s>) -> Result<NodeText<'s>, AllocError>
+        ensures { IfOk result (λ taken. text_bytes taken ≡ cow_str_bytes text.old) }
+    {
+        match text {
+            CowStr::Borrowed(slice) => Ok(NodeText::Slice(*slice)),
+            CowStr::Owned(made) => {
+                let made = mem::replace(made, String::new(alloc));
+                Ok(NodeText::Made(Box::new(alloc, made)?))
+            }
+        }
+    }
+
+    pub(crate) fn copied(&self, alloc: Global) -> Result<NodeText<'s>, AllocError>
+        ensures { IfOk result (λ copy. text_bytes copy ≡ text_bytes self.now) }
+    {
+        match self {
+            NodeText::Slice(slice) => Ok(NodeText::Slice(*slice)),
+            NodeText::Made(made) => {
+                let made = String::from_str(alloc, made.as_str())?;
+                Ok(NodeText::Made(Box::new(alloc, made)?))
+            }
+        }
+    }
+
+    pub(crate) fn as_str(&self) -> &str
+        ensures { result.now ≡ text_bytes self.now }
+    {
+        match self {
+            NodeText::Slice(slice) => slice,
+            NodeText::Made(made) => made_str(made),
+        }
+    }
+}
+
+/// Apart, so that looking at a slice stays short.
+#[inline(never)]
+fn made_str(made: &Box<String>) -> &str
+    ensures { result.now ≡ string_bytes made.now.value }
+{
+    made.as_str()
+}
