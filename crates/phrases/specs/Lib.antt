@@ -9,6 +9,7 @@ pub mod Outcomes
 pub mod Parts
 pub mod Pieces
 pub mod Refusals
+pub mod Rows
 pub mod Seen
 pub mod Stated
 pub mod Tests
