@@ -1,4 +1,3 @@
-pub mod Assignments
 pub mod Beginnings
 pub mod Items
 pub mod Methods
