@@ -138,7 +138,7 @@ impl<'t, 's> Parser<'t, 's> {
             Operator::Steps => {
                 let operand = self.stepped(left)?;
                 self.pass(next.token);
-                let nodes = Nodes::one(self.alloc, operand)?;
+                let nodes = Nodes::only(self.alloc, operand)?;
                 let span = self.span_from(start);
                 let text = next.token.text;
                 let node = made(
@@ -289,11 +289,11 @@ impl<'t, 's> Parser<'t, 's> {
         let span = self.span_from(start);
         let edge = operand.edge;
         if matches!(text, "++" | "--") {
-            let nodes = Nodes::one(self.alloc, operand.target(at)?)?;
+            let nodes = Nodes::only(self.alloc, operand.target(at)?)?;
             let node = made(Kind::UpdateExpression, text, PREFIX, span, nodes, high)?;
             return Ok(Part::plain(node, Rank::Update, Edge::Other));
         }
-        let nodes = Nodes::one(self.alloc, operand.settle(at)?)?;
+        let nodes = Nodes::only(self.alloc, operand.settle(at)?)?;
         let node = made(Kind::UnaryExpression, text, Flags::PLAIN, span, nodes, high)?;
         Ok(Part::plain(node, Rank::Unary, edge))
     }

@@ -77,8 +77,8 @@ fn linked_of(token: &Token<'_>) -> Option<Linked>
     match token.class {
         Class::Template => Some(Linked::Quasi),
         Class::Punctuator => match token.text {
-            "[" => Some(Linked::Index),
             "(" => Some(Linked::Arguments),
+            "[" => Some(Linked::Index),
             _ => None,
         },
         Class::Name => Some(Linked::Name),
@@ -171,11 +171,42 @@ impl<'t, 's> Parser<'t, 's> {
         ensures complete { LinkedComplete self.old.cursor self.new.cursor self.old.pairs.items self.new.pairs.items high left.entry result }
         ensures refused { IfErr result (IsRefusal self.new.cursor.text) }
     {
+        if self.sees(".") {
+            return self.member(left, high);
+        }
         match self.enclosed() {
             Some(Linked::Arguments) => self.called(left, high),
             Some(Linked::Index) => self.indexed(left, high),
             _ => self.selected(left, high),
         }
+    }
+
+    // What was read with a `.`, which stands ahead, and a name (12.3.2).
+    #[inline(never)]
+    fn member(&mut self, left: Part<'s>, high: u32) -> Result<Part<'s>, Fault>
+        requires dot { Sees self.old.cursor.text Class.Punctuator (codes ".") self.old.cursor.last }
+        ensures text { self.new.cursor.text ≡ self.old.cursor.text }
+        ensures forward { self.old.cursor.last.stop ≤ self.new.cursor.last.stop }
+        ensures passes { IfOk result (λ _. Passes self.old.cursor self.new.cursor) }
+        ensures derived { IfOk result (λ part. Adds self.old.cursor self.new.cursor self.old.pairs.items self.new.pairs.items (Links self.old.cursor.text left.entry part)) }
+        ensures low { IfOk result (λ part. height part.cover.node ≤ high) }
+        ensures complete { LinkedComplete self.old.cursor self.new.cursor self.old.pairs.items self.new.pairs.items high left.entry result }
+        ensures refused { IfErr result (IsRefusal self.new.cursor.text) }
+    {
+        if !position_takes(Rank::Call, left.rank) {
+            return Err(self.refusal());
+        }
+        let start = left.start;
+        let is_call = matches!(left.rank, Rank::Call);
+        let inner = high.saturating_sub(1);
+        let mut nodes = Nodes::one(self.alloc, self.settle(left)?)?;
+        self.expect(".")?;
+        let name = self.word()?;
+        nodes.push(self.single(Kind::Identifier, name, inner)?)?;
+        let span = self.span_from(start);
+        let flags = Linked::Name.flags(false);
+        let node = made(Kind::MemberExpression, "", flags, span, nodes, high)?;
+        Ok(Part::plain(node, Linked::Name.rank(is_call), Edge::Other))
     }
 
     // What was read with arguments, which stand ahead (12.3.6).
@@ -195,8 +226,10 @@ impl<'t, 's> Parser<'t, 's> {
             return Err(self.refusal());
         }
         let start = left.start;
-        let mut nodes = Nodes::one(self.alloc, self.settle(left)?)?;
-        nodes.append(self.arguments(high.saturating_sub(1))?)?;
+        let callee = self.settle(left)?;
+        let arguments = self.arguments(high.saturating_sub(1))?;
+        let mut nodes = Nodes::with_room(self.alloc, callee, arguments.len())?;
+        nodes.append(arguments)?;
         let node = plain(Kind::CallExpression, self.span_from(start), nodes, high)?;
         Ok(Part::plain(node, Rank::Call, Edge::Other))
     }
@@ -313,7 +346,7 @@ impl<'t, 's> Parser<'t, 's> {
             }
             part = self.linked(part, inner)?;
         }
-        let nodes = Nodes::one(self.alloc, self.settle(part)?)?;
+        let nodes = Nodes::only(self.alloc, self.settle(part)?)?;
         let node = plain(Kind::ChainExpression, self.span_from(start), nodes, high)?;
         Ok(Part::plain(node, Rank::LeftHandSide, Edge::Other))
     }

@@ -287,7 +287,7 @@ impl<'t, 's> Parser<'t, 's> {
         let edge = part.edge;
         let mut node = part.cover.node;
         if spreads {
-            let nodes = Nodes::one(self.alloc, node)?;
+            let nodes = Nodes::only(self.alloc, node)?;
             node = plain(Kind::SpreadElement, self.span_from(start), nodes, high)?;
         }
         Ok(Item {

@@ -145,12 +145,7 @@ impl<'t, 's> Parser<'t, 's> {
         ensures refused { IfErr result (IsRefusal self.new.cursor.text) }
     {
         match opening {
-            Opening::Prefix(_, side) => {
-                self.pass(token);
-                let side = Position::at(side, true);
-                let operand = self.expression(side, high.saturating_sub(1))?;
-                self.prefixed(operand, token.text, token.start, high)
-            }
+            Opening::Prefix(own, side) => self.prefix(token, own, side, position, high),
             Opening::Single(kind) => {
                 self.pass(token);
                 let node = self.single(kind, token, high)?;
@@ -165,6 +160,35 @@ impl<'t, 's> Parser<'t, 's> {
             }
             _ => Err(self.refusal()),
         }
+    }
+
+    // A prefix, which stands ahead, with its operand (12.4, 12.5).
+    #[cycle(grammar)]
+    #[inline(never)]
+    fn prefix(
+        &mut self,
+        token: Token<'s>,
+        own: Rank,
+        side: Rank,
+        position: Position,
+        high: u32,
+    ) -> Result<Part<'s>, Fault>
+        requires ahead { IsAhead Goal.RegExp self.old.cursor.text self.old.cursor.last.stop (token_of token) }
+        requires real { token.class ≢ Class.End }
+        requires coded { coded_opening (opening_of (as_read (token_of token))) ≡ Some (Opening.Prefix own side) }
+        requires stands { opens_at position (as_read (token_of token)) ≡ true }
+        ensures text { self.new.cursor.text ≡ self.old.cursor.text }
+        ensures forward { self.old.cursor.last.stop ≤ self.new.cursor.last.stop }
+        ensures passes { IfOk result (λ _. Passes self.old.cursor self.new.cursor) }
+        ensures derived { IfOk result (λ part. Adds self.old.cursor self.new.cursor self.old.pairs.items self.new.pairs.items (ReadAt self.old.cursor.text position part)) }
+        ensures low { IfOk result (λ part. height part.cover.node ≤ high) }
+        ensures complete { OpeningComplete self.old.cursor self.new.cursor self.old.pairs.items self.new.pairs.items high position result }
+        ensures refused { IfErr result (IsRefusal self.new.cursor.text) }
+    {
+        self.pass(token);
+        let place = Position::at(side, true);
+        let operand = self.expression(place, high.saturating_sub(1))?;
+        self.prefixed(operand, token.text, token.start, high)
     }
 
     /// A node that is one token; `this` has no text.
@@ -299,7 +323,7 @@ impl<'t, 's> Parser<'t, 's> {
         let inner = high.saturating_sub(1);
         self.expect("(")?;
         let source = self.expression(Position::ASSIGNMENT, inner)?;
-        let nodes = Nodes::one(self.alloc, self.settle(source)?)?;
+        let nodes = Nodes::only(self.alloc, self.settle(source)?)?;
         self.expect(")")?;
         let node = plain(
             Kind::ImportExpression,

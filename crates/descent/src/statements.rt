@@ -163,7 +163,7 @@ impl<'t, 's> Parser<'t, 's> {
         let edge = part.edge;
         let mut flags = Flags::PLAIN;
         flags.directive = context.is_item && context.is_prologue && part.is_lone_string();
-        let nodes = Nodes::one(self.alloc, self.settle(part)?)?;
+        let nodes = Nodes::only(self.alloc, self.settle(part)?)?;
         self.cursor.semicolon(Ending::Behind(edge))?;
         let span = self.span_from(start);
         made(Kind::ExpressionStatement, "", flags, span, nodes, high)

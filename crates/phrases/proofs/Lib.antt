@@ -1,4 +1,5 @@
 pub mod Begun
+pub mod Firsts
 pub mod Grouping
 pub mod NoOperators
 pub mod Opened

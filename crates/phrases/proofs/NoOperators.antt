@@ -1,12 +1,13 @@
 -- What a text makes that is none of some operators.
-use Rattle.std.proofs.Common.{◌≡◌, ℕ, true, false, cond, List, [], ◌∷◌, sym, ap, ◌∙◌, refl}
-use Rattle.std.specs.Prelude.{None}
+use Rattle.std.proofs.Common.{◌≡◌, ℕ, cond, List, [], ◌∷◌, length, sym, ap, ◌∙◌, refl}
+use Rattle.std.specs.Prelude.{None, slice_index_or, codes}
 use Prim.Native.String.{String}
-use Rattle.language.specs.declared.Rank.TheVariants.{Coalesce, LogicalOr, LogicalAnd, BitwiseOr, Equality, Relational, Shift, Additive}
-use Rattle.language.specs.Words.{among, Operator, binds, powers, assigns, steps, chains, arrows, no_operator, operator_among}
+use Rattle.language.specs.Words.{Operator, no_operator, operator_among}
 use Rattle.grammar.proofs.Operations.{NoneOf, none_among}
-use Rattle.phrases.specs.Assignments.{assignment_operators}
-use Rattle.phrases.specs.Operators.{coded_operator, long_operators}
+use Rattle.phrases.specs.Rows.{only_texts, begins_with}
+use Rattle.phrases.specs.Operators.{coded_operator, short_operators, long_operators}
+use Rattle.phrases.proofs.Firsts.{OneByte, NoByte, begins, begins_else, begins_other}
+use Rattle.phrases.proofs.Operating.{operator_only}
 
 -- the text is none of these operators
 abbrev pub NoneIn : List ℕ → List (List String × Operator) → Type 0
@@ -20,33 +21,18 @@ unknown w (row ∷ rows) h = ap (λ b. cond b row.1 (operator_among w rows)) (no
 pub makes_none : (w : List ℕ) (rows : List (List String × Operator)) → NoneIn w rows → None ≡ coded_operator (operator_among w rows) w
 makes_none w rows h = sym (ap (λ o. coded_operator o w) (unknown w rows h))
 
--- the operators of more than one byte that come before those of assignments, and behind them
-abbrev pub earlier : List (List String × Operator)
-earlier =
-    ("==" ∷ "!=" ∷ "===" ∷ "!==" ∷ [], binds false Equality Relational) ∷
-    ("<=" ∷ ">=" ∷ [], binds false Relational Shift) ∷
-    ("<<" ∷ ">>" ∷ ">>>" ∷ [], binds false Shift Additive) ∷
-    ("??" ∷ [], binds true Coalesce BitwiseOr) ∷
-    ("||" ∷ [], binds true LogicalOr LogicalAnd) ∷
-    ("&&" ∷ [], binds true LogicalAnd BitwiseOr) ∷
-    ("**" ∷ [], powers) ∷
-    ("++" ∷ "--" ∷ [], steps) ∷
-    []
+-- a text of one byte
+pub of_byte : (w : List ℕ) → length w ≡ 1 →
+    coded_operator (operator_among (slice_index_or w 0 0 ∷ []) short_operators) (slice_index_or w 0 0 ∷ []) ≡ coded_operator (operator_among w short_operators) w
+of_byte [] e = cc
+of_byte (b ∷ []) e = refl
+of_byte (b ∷ (c ∷ w)) e = cc
 
-abbrev pub later : List (List String × Operator)
-later = ("?." ∷ [], chains) ∷ ("=>" ∷ [], arrows) ∷ []
+-- one that begins so is looked for among those that do; with no such byte it makes nothing
+pub by_first : (bs : List ℕ) (w : List ℕ) (b : ℕ) → b ≡ slice_index_or w 0 0 → OneByte b bs →
+    coded_operator (operator_among w (only_texts (begins_with bs) long_operators)) w ≡ coded_operator (operator_among w long_operators) w
+by_first bs w b e h = sym (ap (λ o. coded_operator o w) (operator_only (begins_with bs) w long_operators (begins w b bs e h)))
 
-abbrev joined : List (List String × Operator) → List (List String × Operator) → List (List String × Operator)
-joined [] rows = rows
-joined (row ∷ others) rows = row ∷ joined others rows
-
-between : (w : List ℕ) (before after : List (List String × Operator)) (row : List String × Operator) → NoneIn w before → NoneIn w after →
-    operator_among w (joined before (row ∷ after)) ≡ operator_among w (row ∷ [])
-between w [] after row h k = ap (cond (among w row.0) row.1) (unknown w after k)
-between w (other ∷ before) after row h k = ap (λ b. cond b other.1 (operator_among w (joined before (row ∷ after)))) (none_among w other.0 h.0) ∙ between w before after row h.1 k
-
-pub assigns_alone : (w : List ℕ) → NoneIn w earlier → NoneIn w later →
-    coded_operator (operator_among w assignment_operators) w ≡ coded_operator (operator_among w long_operators) w
-assigns_alone w h k =
-    sym (ap (λ o. coded_operator o w)
-    (between w earlier later ("+=" ∷ "-=" ∷ "*=" ∷ "/=" ∷ "%=" ∷ "**=" ∷ "<<=" ∷ ">>=" ∷ ">>>=" ∷ "&=" ∷ "|=" ∷ "^=" ∷ "&&=" ∷ "||=" ∷ "??=" ∷ [], assigns) h k))
+pub by_no_first : (w : List ℕ) (b : ℕ) → b ≡ slice_index_or w 0 0 → NoByte b (codes "!=<>&?|+-%*/^") → None ≡ coded_operator (operator_among w long_operators) w
+by_no_first w b e h =
+    sym (ap (λ o. coded_operator o w) (operator_only (begins_else (codes "!=<>&?|+-%*/^")) w long_operators (begins_other w b (codes "!=<>&?|+-%*/^") e h)))

@@ -18,37 +18,13 @@ use Rattle.language.proofs.Begins.{among_by}
 use Rattle.token_cursor.specs.Point.{IsAhead, NoneAhead}
 use Rattle.phrases.specs.declared.position.Position.{Position}
 use Rattle.phrases.specs.declared.operators.Operator.{Operator as Coded}
-use Rattle.phrases.specs.Operators.{coded_operator, meant, only_texts, is_short, is_long, short_operators, long_operators, word_operators, stops_by, StopsHere}
+use Rattle.phrases.specs.Operators.{coded_operator, meant, is_short, is_long, short_operators, long_operators, word_operators, stops_by, StopsHere}
+use Rattle.phrases.specs.Rows.{only_texts}
 use Rattle.phrases.specs.Tests.{links}
+use Rattle.phrases.proofs.Firsts.{among_only, among_none}
 use Rattle.phrases.proofs.Seeing.{none_ahead, of_ahead}
 
--- a text is looked for among those alone that pass a test, where it passes
-among_only : (p : List ℕ → Bool) (w : List ℕ) (ss : List String) → p w ≡ true → among w ss ≡ among w (filter (λ s. p (codes s)) ss)
-among_only p w [] h = refl
-among_only p w (s ∷ ss) h = of (among_only p w ss h) (p (codes s)) refl
-  where
-    other : (b : Bool) → is w s ≡ b → p (codes s) ≡ false → b ≡ false
-    other false e k = refl
-    other true e k = absurd (false≢true (sym k ∙ ap p (sym ((bytes_eq-Decides w (codes s)).0 e)) ∙ h))
-
-    of : among w ss ≡ among w (filter (λ s. p (codes s)) ss) → (b : Bool) → p (codes s) ≡ b → among w (s ∷ ss) ≡ among w (cond b (s ∷ filter (λ s. p (codes s)) ss) (filter (λ s. p (codes s)) ss))
-    of rest true e = ap (λ c. is w s || c) rest
-    of rest false e = ap (λ c. c || among w ss) (other (is w s) refl e) ∙ rest
-
--- and isn't found among those, where it doesn't
-among_none : (p : List ℕ → Bool) (w : List ℕ) (ss : List String) → p w ≡ false → among w (filter (λ s. p (codes s)) ss) ≡ false
-among_none p w [] h = refl
-among_none p w (s ∷ ss) h = of (among_none p w ss h) (p (codes s)) refl
-  where
-    other : (b : Bool) → is w s ≡ b → p (codes s) ≡ true → b ≡ false
-    other false e k = refl
-    other true e k = absurd (false≢true (sym h ∙ ap p ((bytes_eq-Decides w (codes s)).0 e) ∙ k))
-
-    of : among w (filter (λ s. p (codes s)) ss) ≡ false → (b : Bool) → p (codes s) ≡ b → among w (cond b (s ∷ filter (λ s. p (codes s)) ss) (filter (λ s. p (codes s)) ss)) ≡ false
-    of rest true e = ap (λ c. c || among w (filter (λ s. p (codes s)) ss)) (other (is w s) refl e) ∙ rest
-    of rest false e = rest
-
-operator_only : (p : List ℕ → Bool) (w : List ℕ) (rows : List (List String × Operator)) → p w ≡ true → operator_among w rows ≡ operator_among w (only_texts p rows)
+pub operator_only : (p : List ℕ → Bool) (w : List ℕ) (rows : List (List String × Operator)) → p w ≡ true → operator_among w rows ≡ operator_among w (only_texts p rows)
 operator_only p w [] h = refl
 operator_only p w (row ∷ rows) h = ap (λ b. cond b row.1 (operator_among w rows)) (among_only p w row.0 h) ∙ ap (cond (among w (filter (λ s. p (codes s)) row.0)) row.1) (operator_only p w rows h)
 

@@ -1,4 +1,3 @@
-pub mod Assignments
 pub mod Beginnings
 pub mod Items
 pub mod Methods
@@ -9,6 +8,7 @@ pub mod Outcomes
 pub mod Parts
 pub mod Pieces
 pub mod Refusals
+pub mod Rows
 pub mod Seen
 pub mod Stated
 pub mod Tests

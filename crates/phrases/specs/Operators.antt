@@ -1,5 +1,5 @@
 -- The operators of the code, as those of the definition.
-use Rattle.std.specs.Prelude.{ℕ, Bool, true, false, cond, not, ◌&&◌, List, [], ◌∷◌, Option, Some, None, IsTrue, nat_eq, filter, length, codes}
+use Rattle.std.specs.Prelude.{ℕ, Bool, true, false, cond, not, ◌&&◌, List, [], ◌∷◌, Option, Some, None, IsTrue, nat_eq, length}
 use Prim.Native.String.{String}
 use Rattle.tree.specs.declared.kind.Kind.{Kind}
 use Rattle.tree.specs.declared.kind.Kind.TheVariants.{BinaryExpression, LogicalExpression}
@@ -12,6 +12,7 @@ use Rattle.language.specs.Token.{Token}
 use Rattle.language.specs.Follow.{operation, symbol_of, stops_at}
 use Rattle.language.specs.Promises.{ReadBy}
 use Rattle.language.specs.Places.{NextIn, itself}
+use Rattle.phrases.specs.Rows.{only_texts}
 use Rattle.phrases.specs.declared.position.Position.{Position}
 use Rattle.phrases.specs.declared.operators.Operator.{Operator as Coded}
 use Rattle.phrases.specs.declared.operators.Operator.TheVariants as code
@@ -49,11 +50,6 @@ meant code.Indexes = indexes
 meant code.Chains = chains
 meant code.Arrows = arrows
 meant code.Tags = tags
-
--- the operators, with those of their texts that pass a test
-abbrev pub only_texts : (List ℕ → Bool) → List (List String × Operator) → List (List String × Operator)
-only_texts p [] = []
-only_texts p (row ∷ rows) = (filter (λ s. p (codes s)) row.0, row.1) ∷ only_texts p rows
 
 -- signs of one byte, longer signs, and words
 abbrev pub is_short : List ℕ → Bool

@@ -1,17 +1,17 @@
 //! What a token makes of the expression before it, and whether it goes on with it (ECMA-262 12.3 to 12.16).
 #![tactic(auto, using(crate::proofs::Refused::refusals))]
 
-ghost use Rattle.std.specs.Prelude.{◌≡◌, ◌≢◌, ◌&&◌, ◌||◌, not, true, false, codes, [], IfSome};
+ghost use Rattle.std.specs.Prelude.{◌≡◌, ◌≢◌, ◌&&◌, ◌||◌, not, true, false, codes, [], ◌∷◌, IfSome};
 ghost use Rattle.tokens.specs.Scanned.{token_of};
 ghost use Rattle.language.specs.Token.{as_read, is_token};
 ghost use Rattle.language.specs.Words.{takes, binds, powers, operator_among};
 ghost use Rattle.language.specs.Follow.{operation, symbol_of, holds};
 ghost use Rattle.phrases.specs.Tests.{links};
-ghost use Rattle.phrases.specs.Assignments.{assignment_operators};
+ghost use Rattle.phrases.specs.Rows.{begins_with, only_texts};
 ghost use Rattle.phrases.specs.Operators.{coded_operator, meant, short_operators, long_operators, word_operators};
 
 use crate::position::Position;
-use crate::words::{is_head, is_word};
+use crate::words::{first_byte, is_head, is_word};
 use grammar::{position_takes, tightness_of};
 use language::{Edge, Rank};
 use tokens::{Class, Token};
@@ -125,7 +125,7 @@ pub fn operator_of(token: &Token<'_>) -> Option<Operator>
 {
     match token.class {
         Class::Punctuator => match token.text.len() {
-            1 => operator_of_one(token.text),
+            1 => operator_of_one(first_byte(token.text)),
             _ => operator_of_more(token.text),
         },
         Class::Name => operator_of_name(token.text),
@@ -137,53 +137,96 @@ pub fn operator_of(token: &Token<'_>) -> Option<Operator>
     }
 }
 
-fn operator_of_one(text: &str) -> Option<Operator>
-    ensures { result ≡ coded_operator (operator_among text.now short_operators) text.now }
+fn operator_of_one(mark: u8) -> Option<Operator>
+    ensures { result ≡ coded_operator (operator_among (mark ∷ []) short_operators) (mark ∷ []) }
 {
-    match text {
-        "|" => binary(Rank::BitwiseOr, Rank::BitwiseXor),
-        "^" => binary(Rank::BitwiseXor, Rank::BitwiseAnd),
-        "&" => binary(Rank::BitwiseAnd, Rank::Equality),
-        "<" | ">" => binary(Rank::Relational, Rank::Shift),
-        "+" | "-" => binary(Rank::Additive, Rank::Multiplicative),
-        "*" | "/" | "%" => binary(Rank::Multiplicative, Rank::Exponentiation),
-        "=" => Some(Operator::Assigns { is_plain: true }),
-        "," => Some(Operator::Sequences),
-        "?" => Some(Operator::Asks),
-        "." => Some(Operator::Selects),
-        "(" => Some(Operator::Calls),
-        "[" => Some(Operator::Indexes),
+    match mark {
+        b'|' => binary(Rank::BitwiseOr, Rank::BitwiseXor),
+        b'^' => binary(Rank::BitwiseXor, Rank::BitwiseAnd),
+        b'&' => binary(Rank::BitwiseAnd, Rank::Equality),
+        b'<' | b'>' => binary(Rank::Relational, Rank::Shift),
+        b'+' | b'-' => binary(Rank::Additive, Rank::Multiplicative),
+        b'*' | b'/' | b'%' => binary(Rank::Multiplicative, Rank::Exponentiation),
+        b'=' => Some(Operator::Assigns { is_plain: true }),
+        b',' => Some(Operator::Sequences),
+        b'?' => Some(Operator::Asks),
+        b'.' => Some(Operator::Selects),
+        b'(' => Some(Operator::Calls),
+        b'[' => Some(Operator::Indexes),
         _ => None,
     }
 }
 
+// By the first byte.
 fn operator_of_more(text: &str) -> Option<Operator>
     ensures { result ≡ coded_operator (operator_among text.now long_operators) text.now }
 {
-    match text {
-        "??" => logical(Rank::Coalesce, Rank::BitwiseOr),
-        "||" => logical(Rank::LogicalOr, Rank::LogicalAnd),
-        "&&" => logical(Rank::LogicalAnd, Rank::BitwiseOr),
-        "==" | "!=" | "===" | "!==" => binary(Rank::Equality, Rank::Relational),
-        "<=" | ">=" => binary(Rank::Relational, Rank::Shift),
-        "<<" | ">>" | ">>>" => binary(Rank::Shift, Rank::Additive),
-        "**" => power(),
-        "++" | "--" => Some(Operator::Steps),
-        "?." => Some(Operator::Chains),
-        "=>" => Some(Operator::Arrows),
-        _ => assignment_of(text),
+    match first_byte(text) {
+        b'!' | b'=' => equality_of(text),
+        b'<' | b'>' => comparison_of(text),
+        b'&' | b'?' | b'|' => logical_of(text),
+        b'+' | b'-' => sum_of(text),
+        b'%' | b'*' | b'/' | b'^' => product_of(text),
+        _ => None,
     }
 }
 
-// An operator of an assignment that isn't `=`.
-fn assignment_of(text: &str) -> Option<Operator>
-    ensures { result ≡ coded_operator (operator_among text.now assignment_operators) text.now }
+// Of a text that begins with `!` or `=`.
+fn equality_of(text: &str) -> Option<Operator>
+    ensures { result ≡ coded_operator (operator_among text.now (only_texts (begins_with (codes "!=")) long_operators)) text.now }
 {
     match text {
-        "+=" | "-=" | "*=" | "/=" | "%=" | "**=" => Some(Operator::Assigns { is_plain: false }),
+        "==" | "!=" | "===" | "!==" => binary(Rank::Equality, Rank::Relational),
+        "=>" => Some(Operator::Arrows),
+        _ => None,
+    }
+}
+
+// Of a text that begins with `<` or `>`.
+fn comparison_of(text: &str) -> Option<Operator>
+    ensures { result ≡ coded_operator (operator_among text.now (only_texts (begins_with (codes "<>")) long_operators)) text.now }
+{
+    match text {
+        "<=" | ">=" => binary(Rank::Relational, Rank::Shift),
+        "<<" | ">>" | ">>>" => binary(Rank::Shift, Rank::Additive),
         "<<=" | ">>=" | ">>>=" => Some(Operator::Assigns { is_plain: false }),
-        "&=" | "|=" | "^=" => Some(Operator::Assigns { is_plain: false }),
+        _ => None,
+    }
+}
+
+// Of a text that begins with `&`, `?` or `|`.
+fn logical_of(text: &str) -> Option<Operator>
+    ensures { result ≡ coded_operator (operator_among text.now (only_texts (begins_with (codes "&?|")) long_operators)) text.now }
+{
+    match text {
+        "&&" => logical(Rank::LogicalAnd, Rank::BitwiseOr),
+        "||" => logical(Rank::LogicalOr, Rank::LogicalAnd),
+        "??" => logical(Rank::Coalesce, Rank::BitwiseOr),
+        "?." => Some(Operator::Chains),
+        "&=" | "|=" => Some(Operator::Assigns { is_plain: false }),
         "&&=" | "||=" | "??=" => Some(Operator::Assigns { is_plain: false }),
+        _ => None,
+    }
+}
+
+// Of a text that begins with `+` or `-`.
+fn sum_of(text: &str) -> Option<Operator>
+    ensures { result ≡ coded_operator (operator_among text.now (only_texts (begins_with (codes "+-")) long_operators)) text.now }
+{
+    match text {
+        "++" | "--" => Some(Operator::Steps),
+        "+=" | "-=" => Some(Operator::Assigns { is_plain: false }),
+        _ => None,
+    }
+}
+
+// Of a text that begins with `%`, `*`, `/` or `^`.
+fn product_of(text: &str) -> Option<Operator>
+    ensures { result ≡ coded_operator (operator_among text.now (only_texts (begins_with (codes "%*/^")) long_operators)) text.now }
+{
+    match text {
+        "**" => power(),
+        "*=" | "/=" | "%=" | "**=" | "^=" => Some(Operator::Assigns { is_plain: false }),
         _ => None,
     }
 }

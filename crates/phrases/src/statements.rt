@@ -1,9 +1,10 @@
 //! Statements and declarations (ECMA-262 clause 13, 14.1, 14.6), by the first token.
 #![tactic(auto, using(crate::proofs::Refused::refusals))]
 
-ghost use Rattle.std.specs.Prelude.{◌≡◌, ◌≢◌, true, ◌<◌, Bool, false};
+ghost use Rattle.std.specs.Prelude.{◌≡◌, ◌≢◌, true, ◌<◌, Bool, false, codes};
 ghost use Rattle.language.specs.Token.{as_read};
-ghost use Rattle.language.specs.Beginning.{beginning_of, beginning_by};
+ghost use Rattle.language.specs.Beginning.{beginning_of, beginning_by, beginning_among, statement_words};
+ghost use Rattle.phrases.specs.Rows.{begins_with, only_texts};
 ghost use Rattle.phrases.specs.Tests.{ends};
 ghost use Rattle.phrases.specs.Beginnings.{coded_beginning};
 ghost use Rattle.tokens.specs.Scanned.{token_of};
@@ -11,7 +12,7 @@ ghost use Rattle.phrases.specs.Moves.{IfHeaded};
 ghost use Rattle.phrases.specs.Stated.{headed_kind, item_context, inner_context};
 
 use crate::closures::Closure;
-use crate::words::{is_mark, is_word};
+use crate::words::{first_byte, is_mark, is_word};
 use tokens::{Class, Token};
 use tree::Kind;
 
@@ -135,8 +136,18 @@ pub enum Beginning {
     Expression,
 }
 
-// What a word begins where an item may stand.
+// What a word begins where an item may stand, by its first letter.
 fn beginning_item(word: &str, returns: bool) -> Beginning
+    ensures { result ≡ coded_beginning (beginning_by true returns Class.Name word.now) }
+{
+    match first_byte(word) {
+        b'c' | b'f' | b'l' => beginning_declaration(word, returns),
+        _ => beginning_word(word, returns),
+    }
+}
+
+// What a word begins that may declare.
+fn beginning_declaration(word: &str, returns: bool) -> Beginning
     ensures { result ≡ coded_beginning (beginning_by true returns Class.Name word.now) }
 {
     match word {
@@ -147,23 +158,63 @@ fn beginning_item(word: &str, returns: bool) -> Beginning
     }
 }
 
-// What a word begins where a statement may stand.
+// What a word begins where a statement may stand, by its first letter: most names begin as none of the words.
 fn beginning_word(word: &str, returns: bool) -> Beginning
     ensures { result ≡ coded_beginning (beginning_by false returns Class.Name word.now) }
 {
+    match first_byte(word) {
+        b'b' | b'd' | b'i' => beginning_with_bdi(word),
+        b'c' | b'f' | b'v' => beginning_with_cfv(word),
+        b'r' | b't' => beginning_with_rt(word, returns),
+        b's' | b'w' => beginning_with_sw(word),
+        _ => Beginning::Expression,
+    }
+}
+
+// Of a word that begins with `b`, `d` or `i`.
+fn beginning_with_bdi(word: &str) -> Beginning
+    ensures { result ≡ coded_beginning (beginning_among word.now (only_texts (begins_with (codes "bdi")) (statement_words true))) }
+{
     Beginning::Headed(match word {
-        "var" => Headed::Variable,
         "if" => Headed::If,
         "do" => Headed::Do,
-        "while" => Headed::While,
+        "break" => Headed::Break,
+        "debugger" => Headed::Debugger,
+        _ => return Beginning::Expression,
+    })
+}
+
+// Of a word that begins with `c`, `f` or `v`.
+fn beginning_with_cfv(word: &str) -> Beginning
+    ensures { result ≡ coded_beginning (beginning_among word.now (only_texts (begins_with (codes "cfv")) (statement_words true))) }
+{
+    Beginning::Headed(match word {
+        "var" => Headed::Variable,
         "for" => Headed::For,
         "continue" => Headed::Continue,
-        "break" => Headed::Break,
+        _ => return Beginning::Expression,
+    })
+}
+
+// Of a word that begins with `r` or `t`.
+fn beginning_with_rt(word: &str, returns: bool) -> Beginning
+    ensures { result ≡ coded_beginning (beginning_among word.now (only_texts (begins_with (codes "rt")) (statement_words returns))) }
+{
+    Beginning::Headed(match word {
         "return" if returns => Headed::Return,
         "throw" => Headed::Throw,
-        "switch" => Headed::Switch,
         "try" => Headed::Try,
-        "debugger" => Headed::Debugger,
+        _ => return Beginning::Expression,
+    })
+}
+
+// Of a word that begins with `s` or `w`.
+fn beginning_with_sw(word: &str) -> Beginning
+    ensures { result ≡ coded_beginning (beginning_among word.now (only_texts (begins_with (codes "sw")) (statement_words true))) }
+{
+    Beginning::Headed(match word {
+        "while" => Headed::While,
+        "switch" => Headed::Switch,
         _ => return Beginning::Expression,
     })
 }

@@ -43,7 +43,7 @@ impl<'s> Nodes<'s> {
         }
     }
 
-    /// One part.
+    /// One part, with room for a second, which most nodes have.
     ///
     /// # Errors
     /// `OutOfMemory`.
@@ -54,6 +54,39 @@ impl<'s> Nodes<'s> {
         let levels = only.height();
         let parts = Parts::one(alloc, only.into_syntax())?;
         Ok(Nodes { parts, levels })
+    }
+
+    /// One part, with room for no other.
+    ///
+    /// # Errors
+    /// `OutOfMemory`.
+    pub fn only(alloc: Global, sole: Tall<'s>) -> Result<Nodes<'s>, Fault>
+        ensures made { IfOk result (λ nodes. nodes ≡ part sole.entry none) }
+        ensures refused { IfErr result (λ fault. fault ≡ Fault.OutOfMemory) }
+    {
+        let levels = sole.height();
+        let mut items = Vec::with_capacity(alloc, 1)?;
+        items.push(Some(sole.into_syntax()))?;
+        let parts = Parts::from_items(items);
+        Ok(Nodes { parts, levels })
+    }
+
+    /// One part, with room for so many further ones.
+    ///
+    /// # Errors
+    /// `OutOfMemory`.
+    pub fn with_room(alloc: Global, first: Tall<'s>, further: usize) -> Result<Nodes<'s>, Fault>
+        ensures made { IfOk result (λ nodes. nodes ≡ part first.entry none) }
+        ensures refused { IfErr result (λ fault. fault ≡ Fault.OutOfMemory) }
+    {
+        let height = first.height();
+        let mut items = Vec::with_capacity(alloc, further.saturating_add(1))?;
+        items.push(Some(first.into_syntax()))?;
+        let parts = Parts::from_items(items);
+        Ok(Nodes {
+            parts,
+            levels: height,
+        })
     }
 
     /// Two parts.

@@ -52,10 +52,7 @@ fn look<'s>(source: &Source<'s>, at: usize, goal: Goal) -> Result<Token<'s>, Sca
     ensures { Ahead goal source.now at result }
 {
     let _text = source.text();
-    match scan(source, at, goal) {
-        Ok(token) => Ok(token),
-        Err(fault) => Err(fault),
-    }
+    scan(source, at, goal)
 }
 
 // Whether another goal may read another token.
@@ -106,6 +103,7 @@ impl<'t, 's> Cursor<'t, 's> {
     }
 
     /// The token that the goal reads ahead, the end of the text too; none where it reads none.
+    #[inline(always)]
     pub fn peek(&self, goal: Goal) -> Option<Token<'s>>
         ensures some { IfSome result (λ t. IsAhead goal self.now.text self.now.last.stop (token_of t)) }
         ensures none { IfNone result (NoneAhead goal self.now.text self.now.last.stop) }
@@ -117,6 +115,7 @@ impl<'t, 's> Cursor<'t, 's> {
     }
 
     // What the goal reads ahead: it is looked for anew only where goals may differ.
+    #[inline(always)]
     fn ahead_by(&self, goal: Goal) -> Result<Token<'s>, ScanFault>
         ensures { Ahead goal self.now.text self.now.last.stop result }
     {

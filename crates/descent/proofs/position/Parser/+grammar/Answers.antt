@@ -744,43 +744,43 @@ bracketed-returns-clause-derived t c =
     list_read s c.open.new.self.cursor c.list.new.self.cursor l0 l c.args.position (token_of c.args.token) c.args.what c.open.ensures.text c.open.ensures.same_open c.open.ensures.same_pairs c.requires.ahead coded c.requires.stands c.in_ok-list.ensures.listed c.in_ok-list.ensures.begun c.in_ok-list.ensures.template
     c.in_ok-list-2.ensures.derived c.in_ok-list-2.ensures.same c.in_ok-list-2.ensures.seen)
 
-pub short-returns-in_ok-operand-in-Prefix-clause-derived : goal.short-returns-in_ok-operand-in-Prefix-clause-derived
-short-returns-in_ok-operand-in-Prefix-clause-derived t c =
+pub prefix-returns-clause-derived : goal.prefix-returns-clause-derived
+prefix-returns-clause-derived t c =
     let s = c.args.self.now.cursor in
     let e = c.expression.new.self.cursor in
     let t = token_of c.args.token in
-    let r = c.in_ok-operand-in-Prefix.operand in
-    let coded = c.requires.coded ∙ ap Some c.in-Prefix.is in
+    let r = c.in_ok-operand.operand in
+    let coded = c.requires.coded in
     yields_ok (prefixed_part (steps_before t.text) t.text t.start e.last.stop r) (IsPlaceHere e) (takes_operand (steps_before t.text) r.cover.shape) (height (prefixed_node (steps_before t.text) t.text t.start e.last.stop r.cover.node)) c.args.high (λ part. Adds s e c.args.self.now.pairs.items c.expression.new.self.pairs.items (ReadAt s.text c.args.position part)) c.prefixed.result c.prefixed.ensures.made (λ fits low.
-    prefix_read s c.pass.new.self.cursor e c.args.position c.at-side.result r t c.in-Prefix.field-0 c.in-Prefix.side c.pass.ensures.text c.pass.ensures.same_open c.pass.ensures.same_pairs c.pass.ensures.reads c.pass.ensures.last coded c.requires.stands c.at-side.ensures c.in_ok-operand-in-Prefix.ensures.derived fits)
+    prefix_read s c.pass.new.self.cursor e c.args.position c.at-place.result r t c.args.own c.args.side c.pass.ensures.text c.pass.ensures.same_open c.pass.ensures.same_pairs c.pass.ensures.reads c.pass.ensures.last coded c.requires.stands c.at-place.ensures c.in_ok-operand.ensures.derived fits)
 
-pub short-returns-in_ok-operand-in-Prefix-clause-low : goal.short-returns-in_ok-operand-in-Prefix-clause-low
-short-returns-in_ok-operand-in-Prefix-clause-low t c =
+pub prefix-returns-clause-low : goal.prefix-returns-clause-low
+prefix-returns-clause-low t c =
     let e = c.expression.new.self.cursor in
     let t = token_of c.args.token in
-    let r = c.in_ok-operand-in-Prefix.operand in
+    let r = c.in_ok-operand.operand in
     yields_ok (prefixed_part (steps_before t.text) t.text t.start e.last.stop r) (IsPlaceHere e) (takes_operand (steps_before t.text) r.cover.shape) (height (prefixed_node (steps_before t.text) t.text t.start e.last.stop r.cover.node)) c.args.high (λ part. height part.cover.node ≤ c.args.high) c.prefixed.result c.prefixed.ensures.made (λ fits low.
     prefix_low (steps_before t.text) t.text t.start e.last.stop r c.args.high low)
 
 pub short-returns-else-is_name-clause-derived : goal.short-returns-else-is_name-clause-derived
 short-returns-else-is_name-clause-derived t c =
     let s = c.args.self.now.cursor in
-    let m = c.pass-in-Single.new.self.cursor in
+    let m = c.pass.new.self.cursor in
     let coded = c.requires.coded ∙ ap Some c.in-Single.is in
     let result = c.plain.ensures ∙ ap (λ n. plain_part n Primary Other) c.in_ok-node-in-Single.ensures.made.0 in
-    subst (λ part. Adds s m c.args.self.now.pairs.items c.pass-in-Single.new.self.pairs.items (ReadAt s.text c.args.position part)) (sym result)
-    (single_read s m c.args.position (token_of c.args.token) c.in-Single.kind c.pass-in-Single.ensures.same_open c.pass-in-Single.ensures.same_pairs c.pass-in-Single.ensures.reads c.pass-in-Single.ensures.last coded)
+    subst (λ part. Adds s m c.args.self.now.pairs.items c.pass.new.self.pairs.items (ReadAt s.text c.args.position part)) (sym result)
+    (single_read s m c.args.position (token_of c.args.token) c.in-Single.kind c.pass.ensures.same_open c.pass.ensures.same_pairs c.pass.ensures.reads c.pass.ensures.last coded)
 
 pub short-returns-then-position_takes-clause-derived : goal.short-returns-then-position_takes-clause-derived
 short-returns-then-position_takes-clause-derived t c =
     let s = c.args.self.now.cursor in
-    let m = c.pass-in-Single.new.self.cursor in
+    let m = c.pass.new.self.cursor in
     let coded = c.requires.coded ∙ ap Some c.in-Single.is in
     let kind = name_kind c.in-Single.kind (sym c.is_name.ensures ∙ c.if-is_name.true) in
     let parameter = c.in_ok-parameter-in-Single.ensures.made ∙ ap (λ n. part n none) c.in_ok-node-in-Single.ensures.made.0 in
     let sign = c.if-sees_arrow.ensures.seen in
-    ok_map (λ r. Adds m c.arrow.new.self.cursor c.pass-in-Single.new.self.pairs.items c.arrow.new.self.pairs.items (ArrowAt m.text c.args.position.has_in c.in_ok-parameter-in-Single.parameter c.args.token.start r)) (λ r. Adds s c.arrow.new.self.cursor c.args.self.now.pairs.items c.arrow.new.self.pairs.items (ReadAt s.text c.args.position r)) c.arrow.result c.arrow.ensures.derived (λ r a.
-    name_arrow s m c.arrow.new.self.cursor c.args.position (token_of c.args.token) c.in-Single.kind c.in_ok-parameter-in-Single.parameter c.args.token.start r sign.0 c.pass-in-Single.ensures.text c.pass-in-Single.ensures.same_open c.pass-in-Single.ensures.same_pairs c.pass-in-Single.ensures.reads c.pass-in-Single.ensures.last coded kind parameter refl sign.1 sign.2 (sym c.position_takes.ensures ∙ c.if-position_takes.true) a)
+    ok_map (λ r. Adds m c.arrow.new.self.cursor c.pass.new.self.pairs.items c.arrow.new.self.pairs.items (ArrowAt m.text c.args.position.has_in c.in_ok-parameter-in-Single.parameter c.args.token.start r)) (λ r. Adds s c.arrow.new.self.cursor c.args.self.now.pairs.items c.arrow.new.self.pairs.items (ReadAt s.text c.args.position r)) c.arrow.result c.arrow.ensures.derived (λ r a.
+    name_arrow s m c.arrow.new.self.cursor c.args.position (token_of c.args.token) c.in-Single.kind c.in_ok-parameter-in-Single.parameter c.args.token.start r sign.0 c.pass.ensures.text c.pass.ensures.same_open c.pass.ensures.same_pairs c.pass.ensures.reads c.pass.ensures.last coded kind parameter refl sign.1 sign.2 (sym c.position_takes.ensures ∙ c.if-position_takes.true) a)
 
 pub opening-returns-in_default-clause-complete : goal.opening-returns-in_default-clause-complete
 opening-returns-in_default-clause-complete t c = λ a h o n to P g. let u = opens_here c.args.self.now.cursor.text g in absurd (false≢true (sym (c.in_default.ensures.none u.token u.mid u.read) ∙ u.stands))
@@ -813,29 +813,29 @@ bracketed-returns-in_err-list-2-clause-complete t c = λ a h o n to P g.
     agrees_on (Room m o (parts_height v.ps) c.saturating_sub-2.result) (Room s o (height n) c.args.high) (FirstWith s c.list.new.self.cursor c.args.self.now.pairs.items c.list.new.self.pairs.items a h n to P) c.from_residual-in_err-list-2.result c.in_err-list-2.field-0.0
     c.from_residual-in_err-list-2.ensures.1 (c.in_err-list-2.ensures.complete a o v.ps to P v.given) (room_part s m c.open.ensures.same_open (λ l. omega arith))
 
-pub short-returns-in_err-operand-in-Prefix-clause-complete : goal.short-returns-in_err-operand-in-Prefix-clause-complete
-short-returns-in_err-operand-in-Prefix-clause-complete t c = λ a h o n to P g.
+pub prefix-returns-in_err-operand-clause-complete : goal.prefix-returns-in_err-operand-clause-complete
+prefix-returns-in_err-operand-clause-complete t c = λ a h o n to P g.
     let s = c.args.self.now.cursor in
     let m = c.pass.new.self.cursor in
-    let v = prefix_given s.text (token_of c.args.token) c.in-Prefix.field-0 c.in-Prefix.side c.requires.ahead (c.requires.coded ∙ ap Some c.in-Prefix.is) g in
+    let v = prefix_given s.text (token_of c.args.token) c.args.own c.args.side c.requires.ahead c.requires.coded g in
     let symbols = operand_symbols (steps_before (token_of c.args.token).text) in
-    let given = expression_given c.pass.ensures.text c.pass.ensures.last (c.at-side.ensures ∙ ap (λ y. record { rank = y; has_in = true; start = Any }) v.1) symbols.0 symbols.1 v.2.spelled v.2.stopped in
+    let given = expression_given c.pass.ensures.text c.pass.ensures.last (c.at-place.ensures ∙ ap (λ y. record { rank = y; has_in = true; start = Any }) v.1) symbols.0 symbols.1 v.2.spelled v.2.stopped in
     let low = operand_low v.2 in
-    agrees_on (Room m o (height v.2.operand) c.saturating_sub.result) (Room s o (height n) c.args.high) (λ r. IsFirst a h r n × EndsWith s c.expression.new.self.cursor c.args.self.now.pairs.items c.expression.new.self.pairs.items to P) c.from_residual.result c.in_err-operand-in-Prefix.field-0.0
-    c.from_residual.ensures.1 (c.in_err-operand-in-Prefix.ensures.complete as_expression o v.2.operand to P given) (room_part s m c.pass.ensures.same_open (λ l. let less = c.saturating_sub.ensures in omega arith))
+    agrees_on (Room m o (height v.2.operand) c.saturating_sub.result) (Room s o (height n) c.args.high) (λ r. IsFirst a h r n × EndsWith s c.expression.new.self.cursor c.args.self.now.pairs.items c.expression.new.self.pairs.items to P) c.from_residual.result c.in_err-operand.field-0.0
+    c.from_residual.ensures.1 (c.in_err-operand.ensures.complete as_expression o v.2.operand to P given) (room_part s m c.pass.ensures.same_open (λ l. let less = c.saturating_sub.ensures in omega arith))
 
 pub short-returns-then-position_takes-clause-complete : goal.short-returns-then-position_takes-clause-complete
 short-returns-then-position_takes-clause-complete t c = λ a h o n to P g.
     let s = c.args.self.now.cursor in
-    let m = c.pass-in-Single.new.self.cursor in
+    let m = c.pass.new.self.cursor in
     let u = token_of c.args.token in
     let k = c.in-Single.kind in
     let kind = name_kind k (sym c.is_name.ensures ∙ c.if-is_name.true) in
     let parameter = c.in_ok-parameter-in-Single.ensures.made ∙ ap (λ n. part n none) (c.in_ok-node-in-Single.ensures.made.0 ∙ ap (λ k. single_node k u) kind) in
     let sign = c.if-sees_arrow.ensures.seen in
     let v = single_given s.text u k c.requires.ahead (c.requires.coded ∙ ap Some c.in-Single.is) g in
-    let w = arrow_given u k v kind (sym c.position_takes.ensures ∙ c.if-position_takes.true) (arrow_before s m c.pass-in-Single.ensures.text c.pass-in-Single.ensures.last sign.1) sign.2 in
-    arrow_agrees s m c.arrow.new.self.cursor c.args.self.now.pairs.items c.pass-in-Single.new.self.pairs.items c.arrow.new.self.pairs.items c.args.position u c.in_ok-parameter-in-Single.parameter c.args.high c.arrow.result w c.pass-in-Single.ensures.text c.pass-in-Single.ensures.last c.pass-in-Single.ensures.same_open c.pass-in-Single.ensures.same_pairs parameter c.arrow.ensures.complete c.arrow.ensures.derived
+    let w = arrow_given u k v kind (sym c.position_takes.ensures ∙ c.if-position_takes.true) (arrow_before s m c.pass.ensures.text c.pass.ensures.last sign.1) sign.2 in
+    arrow_agrees s m c.arrow.new.self.cursor c.args.self.now.pairs.items c.pass.new.self.pairs.items c.arrow.new.self.pairs.items c.args.position u c.in_ok-parameter-in-Single.parameter c.args.high c.arrow.result w c.pass.ensures.text c.pass.ensures.last c.pass.ensures.same_open c.pass.ensures.same_pairs parameter c.arrow.ensures.complete c.arrow.ensures.derived
 
 pub bracketed-returns-clause-complete : goal.bracketed-returns-clause-complete
 bracketed-returns-clause-complete t c = λ a h o n to P g.
@@ -854,18 +854,18 @@ bracketed-returns-clause-complete t c = λ a h o n to P g.
     let inner = here.low in
     agrees_made_as (Room s o (height n) c.args.high) (FirstWith s c.list.new.self.cursor c.args.self.now.pairs.items c.list.new.self.pairs.items a h n to P) (listed_part l) (height (listed_node l)) c.args.high c.listed.result c.listed.ensures.made (λ room. let fits = room.1 in let starts = v.start_low in let whole = inner (omega arith) in omega arith) (first, ends_behind c.open.ensures.same_pairs answer.2)
 
-pub short-returns-in_ok-operand-in-Prefix-clause-complete : goal.short-returns-in_ok-operand-in-Prefix-clause-complete
-short-returns-in_ok-operand-in-Prefix-clause-complete t c = λ a h o n to P g.
+pub prefix-returns-clause-complete : goal.prefix-returns-clause-complete
+prefix-returns-clause-complete t c = λ a h o n to P g.
     let s = c.args.self.now.cursor in
     let m = c.pass.new.self.cursor in
     let e = c.expression.new.self.cursor in
     let u = token_of c.args.token in
-    let q = c.in_ok-operand-in-Prefix.operand in
-    let v = prefix_given s.text u c.in-Prefix.field-0 c.in-Prefix.side c.requires.ahead (c.requires.coded ∙ ap Some c.in-Prefix.is) g in
+    let q = c.in_ok-operand.operand in
+    let v = prefix_given s.text u c.args.own c.args.side c.requires.ahead c.requires.coded g in
     let symbols = operand_symbols (steps_before u.text) in
-    let given = expression_given c.pass.ensures.text c.pass.ensures.last (c.at-side.ensures ∙ ap (λ y. record { rank = y; has_in = true; start = Any }) v.1) symbols.0 symbols.1 v.2.spelled v.2.stopped in
-    let answer = c.in_ok-operand-in-Prefix.ensures.complete as_expression o v.2.operand to P given in
-    let first = prefix_made u e.last.stop q (prefix_text u c.in-Prefix.field-0 c.in-Prefix.side (c.requires.coded ∙ ap Some c.in-Prefix.is)) (ap (λ (x : Token). x.stop) answer.1.place) v.2 answer.0 in
+    let given = expression_given c.pass.ensures.text c.pass.ensures.last (c.at-place.ensures ∙ ap (λ y. record { rank = y; has_in = true; start = Any }) v.1) symbols.0 symbols.1 v.2.spelled v.2.stopped in
+    let answer = c.in_ok-operand.ensures.complete as_expression o v.2.operand to P given in
+    let first = prefix_made u e.last.stop q (prefix_text u c.args.own c.args.side c.requires.coded) (ap (λ (x : Token). x.stop) answer.1.place) v.2 answer.0 in
     let levels = first.1 in
     agrees_where (Room s o (height n) c.args.high) (λ r. IsFirst a h r n × EndsWith s e c.args.self.now.pairs.items c.expression.new.self.pairs.items to P) (prefixed_part (steps_before u.text) u.text u.start e.last.stop q) (IsPlaceHere e) (takes_operand (steps_before u.text) q.cover.shape) (height (prefixed_node (steps_before u.text) u.text u.start e.last.stop q.cover.node)) c.args.high
     c.prefixed.result c.prefixed.ensures.made first.0 (λ room. let low = room.1 in omega arith) (subst (λ x. IsFirst x h (prefixed_part (steps_before u.text) u.text u.start e.last.stop q) n) (sym v.0) first.2, ends_behind c.pass.ensures.same_pairs answer.1)
@@ -873,17 +873,17 @@ short-returns-in_ok-operand-in-Prefix-clause-complete t c = λ a h o n to P g.
 pub short-returns-else-is_name-clause-complete : goal.short-returns-else-is_name-clause-complete
 short-returns-else-is_name-clause-complete t c = λ a h o n to P g.
     let s = c.args.self.now.cursor in
-    let m = c.pass-in-Single.new.self.cursor in
+    let m = c.pass.new.self.cursor in
     let u = token_of c.args.token in
     let k = c.in-Single.kind in
     let v = single_given s.text u k c.requires.ahead (c.requires.coded ∙ ap Some c.in-Single.is) g in
     let without : k ≡ Identifier → IsTrue (takes c.args.position.rank Assignment) → NoArrow s.text (as_read u) =
     elim c.else-is_name.branch [
       | short-else-is_name-via-then-is_name+then-sees_arrow+else-position_takes w ↦ λ e tk x y sign line. absurd (false≢true (sym (sym w.position_takes.ensures ∙ w.if-position_takes.false) ∙ tk))
-      | short-else-is_name-via-then-is_name+else-sees_arrow w ↦ λ e tk x y sign line. absurd (false≢true (sym line ∙ w.if-sees_arrow.ensures.missed x y (arrow_behind s m c.pass-in-Single.ensures.text c.pass-in-Single.ensures.last sign)))
+      | short-else-is_name-via-then-is_name+else-sees_arrow w ↦ λ e tk x y sign line. absurd (false≢true (sym line ∙ w.if-sees_arrow.ensures.missed x y (arrow_behind s m c.pass.ensures.text c.pass.ensures.last sign)))
       | short-else-is_name-via-else-is_name w ↦ λ e tk x y sign line. absurd (false≢true (sym (sym c.is_name.ensures ∙ w.if-is_name.false) ∙ ap is_identifier e))
     ] in
-    token_read u k v without c.pass-in-Single.ensures.last c.pass-in-Single.ensures.same_pairs c.plain.result (c.plain.ensures ∙ ap (λ n. plain_part n Primary Other) c.in_ok-node-in-Single.ensures.made.0)
+    token_read u k v without c.pass.ensures.last c.pass.ensures.same_pairs c.plain.result (c.plain.ensures ∙ ap (λ n. plain_part n Primary Other) c.in_ok-node-in-Single.ensures.made.0)
 
 pub opening-returns-in_default-opening : goal.opening-returns-in_default-opening
 opening-returns-in_default-opening t c = record {
@@ -2582,6 +2582,9 @@ opening-short-requires t c = (search rules, (c.in-Some.ensures.ahead, (c.in-Some
 pub short-returns-in_default-clause-complete : goal.short-returns-in_default-clause-complete
 short-returns-in_default-clause-complete t c = no_short c.args.opening c.requires.short c.in_default.not-Prefix c.in_default.not-Single
 
+pub short-prefix-requires : goal.short-prefix-requires
+short-prefix-requires t c = (search rules, (c.requires.ahead, (c.requires.real, (c.requires.coded ∙ ap Some c.in-Prefix.is, c.requires.stands))))
+
 pub based-returns-then-not-sees_base-clause-complete : goal.based-returns-then-not-sees_base-clause-complete
 based-returns-then-not-sees_base-clause-complete t c = λ a h o n from to P next same coded word g.
     let s = c.args.self.now.cursor in
@@ -2615,8 +2618,8 @@ pub called-returns-in_err-node-clause-complete : goal.called-returns-in_err-node
 called-returns-in_err-node-clause-complete t c =
     let s = c.args.self.now.cursor in
     let passed = c.requires.calls in
-    let one : c.in_ok-nodes.nodes ≡ part c.args.left.cover.node none = c.in_ok-nodes.ensures.made ∙ ap (λ n. part n none) c.in_ok-settle.ensures.settled.0 in
-    let nodes : c.append.new.self ≡ part c.args.left.cover.node c.in_ok-arguments.field-0 = c.in_ok-append.ensures.joined ∙ (λ i. join (one i) c.in_ok-arguments.field-0) in
+    let one : c.in_ok-nodes.nodes ≡ part c.args.left.cover.node none = c.in_ok-nodes.ensures.made ∙ ap (λ n. part n none) c.in_ok-callee.ensures.settled.0 in
+    let nodes : c.append.new.self ≡ part c.args.left.cover.node c.in_ok-arguments.arguments = c.in_ok-append.ensures.joined ∙ (λ i. join (one i) c.in_ok-arguments.arguments) in
     let read = arguments_read_behind Arguments false refl refl refl refl passed c.in_ok-arguments.ensures.derived in
     linked_high c.args.high _ c.args.left _ c.in_err-node.field-0.0 c.from_residual-in_err-node.ensures.1 (link_once s s refl passed read) c.in_err-node.ensures.0 c.in_err-node.ensures.1 (ap (λ ps. suc (parts_height ps)) nodes)
 
@@ -2624,8 +2627,8 @@ pub called-returns-clause-complete : goal.called-returns-clause-complete
 called-returns-clause-complete t c =
     let s = c.args.self.now.cursor in
     let passed = c.requires.calls in
-    let one : c.in_ok-nodes.nodes ≡ part c.args.left.cover.node none = c.in_ok-nodes.ensures.made ∙ ap (λ n. part n none) c.in_ok-settle.ensures.settled.0 in
-    let nodes : c.append.new.self ≡ part c.args.left.cover.node c.in_ok-arguments.field-0 = c.in_ok-append.ensures.joined ∙ (λ i. join (one i) c.in_ok-arguments.field-0) in
+    let one : c.in_ok-nodes.nodes ≡ part c.args.left.cover.node none = c.in_ok-nodes.ensures.made ∙ ap (λ n. part n none) c.in_ok-callee.ensures.settled.0 in
+    let nodes : c.append.new.self ≡ part c.args.left.cover.node c.in_ok-arguments.arguments = c.in_ok-append.ensures.joined ∙ (λ i. join (one i) c.in_ok-arguments.arguments) in
     let read = arguments_read_behind Arguments false refl refl refl refl passed c.in_ok-arguments.ensures.derived in
     let object : takes Call c.args.left.rank ≡ true = sym c.position_takes.ensures ∙ c.if-not-position_takes.false in
     let span = c.span_from.ensures in
@@ -2637,14 +2640,14 @@ pub called-returns-clause-derived : goal.called-returns-clause-derived
 called-returns-clause-derived t c =
     let s = c.args.self.now.cursor in
     let passed = c.requires.calls in
-    let one : c.in_ok-nodes.nodes ≡ part c.args.left.cover.node none = c.in_ok-nodes.ensures.made ∙ ap (λ n. part n none) c.in_ok-settle.ensures.settled.0 in
-    let nodes : c.append.new.self ≡ part c.args.left.cover.node c.in_ok-arguments.field-0 = c.in_ok-append.ensures.joined ∙ (λ i. join (one i) c.in_ok-arguments.field-0) in
+    let one : c.in_ok-nodes.nodes ≡ part c.args.left.cover.node none = c.in_ok-nodes.ensures.made ∙ ap (λ n. part n none) c.in_ok-callee.ensures.settled.0 in
+    let nodes : c.append.new.self ≡ part c.args.left.cover.node c.in_ok-arguments.arguments = c.in_ok-append.ensures.joined ∙ (λ i. join (one i) c.in_ok-arguments.arguments) in
     let read = arguments_read_behind Arguments false refl refl refl refl passed c.in_ok-arguments.ensures.derived in
     let object : takes Call c.args.left.rank ≡ true = sym c.position_takes.ensures ∙ c.if-not-position_takes.false in
     let span = c.span_from.ensures in
     let tree : c.in_ok-node.node ≡ node CallExpression [] plain c.args.left.start c.arguments.new.self.cursor.last.stop c.append.new.self = c.in_ok-node.ensures.0 ∙ (λ i. node CallExpression [] plain (span i).start (span i).end c.append.new.self) in
     let made : c.plain-2.result ≡ plain_part (node (link_kind Arguments) [] (link_flags Arguments false) c.args.left.start c.arguments.new.self.cursor.last.stop c.append.new.self) (link_rank Arguments (is_call c.args.left.rank)) Other = c.plain-2.ensures ∙ ap (λ n. plain_part n Call Other) tree in
-    links_read Arguments false (is_call c.args.left.rank) c.in_ok-settle.ensures.settled.1 object refl nodes made read
+    links_read Arguments false (is_call c.args.left.rank) c.in_ok-callee.ensures.settled.1 object refl nodes made read
 
 pub indexed-returns-in_err-expect-clause-complete : goal.indexed-returns-in_err-expect-clause-complete
 indexed-returns-in_err-expect-clause-complete t c = bracket_refused c.args.self.now.cursor c.args.self.now.cursor c.expect.new.self.cursor c.args.self.now.pairs.items c.expect.new.self.pairs.items c.args.high c.args.left Index false _ c.in_err-expect.field-0.0 c.from_residual-in_err-expect.ensures.1 refl refl c.requires.indexes refl c.in_err-expect.ensures.missed.0
@@ -2712,5 +2715,5 @@ short-returns-in_err-node-in-Single-clause-complete t c = λ a h o n to P g.
     let s = c.args.self.now.cursor in
     let up = has_height n in
     let above = c.in_err-node-in-Single.ensures.made in
-    agrees_err (Room s o (height n) c.args.high) (FirstWith s c.pass-in-Single.new.self.cursor c.args.self.now.pairs.items c.pass-in-Single.new.self.pairs.items a h n to P) c.from_residual-in_err-node-in-Single.result c.in_err-node-in-Single.field-0.0 c.from_residual-in_err-node-in-Single.ensures.1
+    agrees_err (Room s o (height n) c.args.high) (FirstWith s c.pass.new.self.cursor c.args.self.now.pairs.items c.pass.new.self.pairs.items a h n to P) c.from_residual.result c.in_err-node-in-Single.field-0.0 c.from_residual.ensures.1
     (refuses_high (Room s o (height n) c.args.high) 1 c.args.high c.in_err-node-in-Single.field-0.0 above.0 above.1 (λ room. let l = room.1 in omega arith))

@@ -105,6 +105,9 @@ decreases-bracketed l = 12 * (length l.self.now.cursor.text - l.self.now.cursor.
 abbrev pub decreases-short : goal.decreases-short
 decreases-short l = 12 * (length l.self.now.cursor.text - l.self.now.cursor.last.stop) + 1
 
+abbrev pub decreases-prefix : goal.decreases-prefix
+decreases-prefix l = 12 * (length l.self.now.cursor.text - l.self.now.cursor.last.stop)
+
 abbrev pub decreases-spread_item : goal.decreases-spread_item
 decreases-spread_item l = 12 * (length l.self.now.cursor.text - l.self.now.cursor.last.stop) + 1
 
