@@ -6,9 +6,9 @@ use Rattle.tree.specs.Tree.{Tree, Parts, none, part, gap, part_at, part_count, k
 use Rattle.language.specs.Pieces.{Role, is_none}
 use Rattle.positions.specs.Outlines.{role_of, parts_behind, is_before_last}
 use Rattle.positions.proofs.Behind.{some-suc, gap-suc, behind-past, last-behind, before-behind}
-use Rattle.printer.specs.declared.pieces.Piece.{Piece}
-use Rattle.printer.specs.Bits.{Mark, here, Bit, bits_of, Chain, before_bits, after_bits}
-use Rattle.printer.specs.Sheets.{View, Writes, pieces_text, flag_at}
+use Rattle.printer.specs.Bits.{Mark, here, Bit, Chain, before_bits, after_bits}
+use Rattle.printer.specs.Sheets.{View, Writes, flag_at}
+use Rattle.printer.proofs.Fusing.{bits_text}
 use Rattle.printer.specs.Shapes.{inner}
 use Rattle.language.specs.Fits.{fits, parts_fit}
 use Rattle.language.specs.Layout.{some_way}
@@ -18,24 +18,24 @@ use Rattle.printer.specs.Sites.{site_of, seated_at, behind_first, CanStand, Stan
 use Rattle.printer.specs.Printed.{marks_in, front_marks, chain_marks, deep, shape_marks, Reads, Passed, Gone, Written, Printed}
 use Rattle.positions.specs.declared.position.Position.{Position}
 use Rattle.positions.proofs.Wherever.{position_of, role-position}
-use Rattle.printer.proofs.Passing.{passed_nothing, passed_pieces, passed_then, passed_deep, passed_all, passed_some, passed_missing, raised, no_position_left}
+use Rattle.printer.proofs.Passing.{passed_nothing, passed_bits, passed_then, passed_deep, passed_all, passed_some, passed_missing, raised, no_position_left}
 use Rattle.printer.proofs.Nodes.{can_stand}
 
 -- the next of the first parts
-pub fronts-next : {X : Type 0} (w : List ℕ) (f : X → List Bit) (fs : List X) (i : ℕ) (z : X) (ms : List Mark) → i < length fs →
-    front_marks w (map f (drop i fs)) ms ≡ marks_in w (f (get_or fs i z)) ++ here ∷ front_marks w (map f (drop (i + 1) fs)) ms
-fronts-next w f [] i z ms h = absurd (omega (arith, h))
-fronts-next w f (x ∷ fs) zero z ms h = refl
-fronts-next w f (x ∷ fs) (suc i) z ms h = fronts-next w f fs i z ms (omega (arith, h)) ∙ ap (λ n. marks_in w (f (get_or fs i z)) ++ here ∷ front_marks w (map f n) ms) (after i)
+pub fronts-next : (w : List ℕ) (fs : List (List Bit)) (i : ℕ) (ms : List Mark) → i < length fs →
+    front_marks w (drop i fs) ms ≡ marks_in w (get_or fs i []) ++ here ∷ front_marks w (drop (i + 1) fs) ms
+fronts-next w [] i ms h = absurd (omega (arith, h))
+fronts-next w (x ∷ fs) zero ms h = refl
+fronts-next w (x ∷ fs) (suc i) ms h = fronts-next w fs i ms (omega (arith, h)) ∙ ap (λ n. marks_in w (get_or fs i []) ++ here ∷ front_marks w n ms) (after i)
   where
     after : (j : ℕ) → drop (j + 1) fs ≡ drop (suc j + 1) (x ∷ fs)
     after j = ap (λ n. drop n fs) (add-one j) ∙ sym (ap (λ n. drop n (x ∷ fs)) (add-one (suc j)))
 
-pub fronts-past : {X : Type 0} (w : List ℕ) (f : X → List Bit) (fs : List X) (i : ℕ) (ms : List Mark) → length fs ≤ i → front_marks w (map f (drop i fs)) ms ≡ ms
-fronts-past w f [] zero ms h = refl
-fronts-past w f [] (suc i) ms h = refl
-fronts-past w f (x ∷ fs) zero ms h = absurd (omega (arith, h))
-fronts-past w f (x ∷ fs) (suc i) ms h = fronts-past w f fs i ms (omega (arith, h))
+pub fronts-past : (w : List ℕ) (fs : List (List Bit)) (i : ℕ) (ms : List Mark) → length fs ≤ i → front_marks w (drop i fs) ms ≡ ms
+fronts-past w [] zero ms h = refl
+fronts-past w [] (suc i) ms h = refl
+fronts-past w (x ∷ fs) zero ms h = absurd (omega (arith, h))
+fronts-past w (x ∷ fs) (suc i) ms h = fronts-past w fs i ms (omega (arith, h))
 
 -- the next part of a list, with what stands round it
 module _ (w : List ℕ) (t : Chain) where
@@ -77,48 +77,48 @@ module _ (W : ℕ → Bool) where
   gone_then g k = let h = k g.left g.passed.row g.passed.reads g.passed.fit g.stands in record { left = h.left; passed = passed_then W g.passed h.passed; stands = h.stands }
 
   -- pieces behind a part
-  pub trail : {a b s : View} {w : List ℕ} (us : List Piece) {ls M ns : List Mark} {ps qs : Parts} {xs : List Role} {c : Course} {x y : Bool} {d r : ℕ} (v : List ℕ) → v ≡ w → M ≡ marks_in w (bits_of us) ++ ns →
-      Gone W a b ls M ps qs xs c x y d r → Writes b s (pieces_text v d y us) → Gone W a s ls ns ps qs xs c x y d r
+  pub trail : {a b s : View} {w : List ℕ} (us : List Bit) {ls M ns : List Mark} {ps qs : Parts} {xs : List Role} {c : Course} {x y : Bool} {d r : ℕ} (v : List ℕ) → v ≡ w → M ≡ marks_in w us ++ ns →
+      Gone W a b ls M ps qs xs c x y d r → Writes b s (bits_text v d y us) → Gone W a s ls ns ps qs xs c x y d r
   trail {a} {b} {s} {w} us {ls} {M} {ns} {ps} {qs} {xs} {c} {x} {y} {d} {r} v f h g u =
       let p' = subst (λ t. Passed W a b ls t ps qs xs g.left x y d r) h g.passed in
       record {
         left = g.left;
-        passed = passed_then W p' (passed_pieces W w us g.passed.row g.passed.reads g.passed.fit (subst (λ t. Writes b s (pieces_text t d y us)) f u));
+        passed = passed_then W p' (passed_bits W w us g.passed.row g.passed.reads g.passed.fit (subst (λ t. Writes b s (bits_text t d y us)) f u));
         stands = g.stands;
       }
 
   -- pieces, and then a part
-  pub turn : {a b s e : View} {w : List ℕ} (us : List Piece) {ls M ns : List Mark} {ps qs vs : Parts} {xs : List Role} {c c' : Course} {x y z : Bool} {d r : ℕ} (v : List ℕ) → v ≡ w → M ≡ marks_in w (bits_of us) ++ here ∷ ns →
-      Gone W a b ls M ps qs xs c x y d r → Writes b s (pieces_text v d y us) →
+  pub turn : {a b s e : View} {w : List ℕ} (us : List Bit) {ls M ns : List Mark} {ps qs vs : Parts} {xs : List Role} {c c' : Course} {x y z : Bool} {d r : ℕ} (v : List ℕ) → v ≡ w → M ≡ marks_in w us ++ here ∷ ns →
+      Gone W a b ls M ps qs xs c x y d r → Writes b s (bits_text v d y us) →
       ((ys : List Role) (q : ℕ) → Reads W q s.flags → parts_fit W qs ys q ≡ true → Stands c qs ys → Gone W s e (here ∷ ns) ns qs vs ys c' y z d q) → Gone W a e ls ns ps vs xs c' x z d r
   turn {w = w} us {ns = ns} v f h g u k = gone_then (trail {w = w} us {ns = here ∷ ns} v f h g u) k
 
   -- the first parts, what stands behind them, the other parts, and what stands behind these
-  framed_by : {a b s e g : View} (w v : List ℕ) → v ≡ w → (fs : List (List Bit)) (os cs : List Piece) (t : Chain) (P : Parts) (xs : List Role) (c c' c'' : Course) {x y z : Bool} {d r : ℕ} →
+  framed_by : {a b s e g : View} (w v : List ℕ) → v ≡ w → (fs : List (List Bit)) (os cs : List Bit) (t : Chain) (P : Parts) (xs : List Role) (c c' c'' : Course) {x y z : Bool} {d r : ℕ} →
       Reads W r a.flags → parts_fit W P xs r ≡ true → Stands c P xs →
       ((ms : List Mark) (ys : List Role) (q : ℕ) → Reads W q a.flags → parts_fit W P ys q ≡ true → Stands c P ys → Gone W a b (front_marks w fs ms) ms P (parts_behind (length fs) P) ys c' x y d q) →
-      Writes b s (pieces_text v d y os) →
+      Writes b s (bits_text v d y os) →
       ((ms : List Mark) (ys : List Role) (q : ℕ) → Reads W q s.flags → parts_fit W (parts_behind (length fs) P) ys q ≡ true → Stands c' (parts_behind (length fs) P) ys →
       Gone W s e (chain_marks w t (parts_behind (length fs) P) ++ ms) ms (parts_behind (length fs) P) none ys c'' y z (inner t d) q) →
-      Writes e g (pieces_text v d z cs) →
-      Written W a g (shape_marks w (record { front = fs; opener = bits_of os; chain = t; closer = bits_of cs }) P) P xs x d r
+      Writes e g (bits_text v d z cs) →
+      Written W a g (shape_marks w (record { front = fs; opener = os; chain = t; closer = cs }) P) P xs x d r
   framed_by {a} {b} {s} {e} {g} w v f fs os cs t P xs c c' c'' {x} {y} {z} {d} {r} h k st front u list o =
-      let closing = marks_in w (bits_of cs) in
+      let closing = marks_in w cs in
       let cm = chain_marks w t (parts_behind (length fs) P) in
-      let p = front (marks_in w (bits_of os) ++ deep t cm closing) xs r h k st in
+      let p = front (marks_in w os ++ deep t cm closing) xs r h k st in
       let q = trail {w = w} os {ns = deep t cm closing} v f refl p u in
       let m = list (raised W t closing) q.left q.passed.row q.passed.reads q.passed.fit q.stands in
       let l = passed_deep W t cm closing m.passed in
-      let whole : Gone W a e (front_marks w fs (marks_in w (bits_of os) ++ deep t cm closing)) closing P none xs c'' x z d r = record { left = m.left; passed = passed_then W q.passed l; stands = m.stands } in
+      let whole : Gone W a e (front_marks w fs (marks_in w os ++ deep t cm closing)) closing P none xs c'' x z d r = record { left = m.left; passed = passed_then W q.passed l; stands = m.stands } in
       passed_all W (trail {w = w} cs {ns = []} v f (sym (append-nil closing)) whole o).passed
 
-  pub framed : {a b s e g : View} (w v : List ℕ) → v ≡ w → (fs : List (List Bit)) (os cs : List Piece) (t : Chain) (P : Parts) (xs : List Role) (c c' c'' : Course) {x y z : Bool} {d r : ℕ} (i j : ℕ) → i ≡ length fs → j ≡ inner t d →
+  pub framed : {a b s e g : View} (w v : List ℕ) → v ≡ w → (fs : List (List Bit)) (os cs : List Bit) (t : Chain) (P : Parts) (xs : List Role) (c c' c'' : Course) {x y z : Bool} {d r : ℕ} (i j : ℕ) → i ≡ length fs → j ≡ inner t d →
       Reads W r a.flags → parts_fit W P xs r ≡ true → Stands c P xs →
       ((ms : List Mark) (ys : List Role) (q : ℕ) → Reads W q a.flags → parts_fit W P ys q ≡ true → Stands c P ys → Gone W a b (front_marks w fs ms) ms P (parts_behind i P) ys c' x y d q) →
-      Writes b s (pieces_text v d y os) →
+      Writes b s (bits_text v d y os) →
       ((ms : List Mark) (ys : List Role) (q : ℕ) → Reads W q s.flags → parts_fit W (parts_behind i P) ys q ≡ true → Stands c' (parts_behind i P) ys → Gone W s e (chain_marks w t (parts_behind i P) ++ ms) ms (parts_behind i P) none ys c'' y z j q) →
-      Writes e g (pieces_text v d z cs) →
-      Written W a g (shape_marks w (record { front = fs; opener = bits_of os; chain = t; closer = bits_of cs }) P) P xs x d r
+      Writes e g (bits_text v d z cs) →
+      Written W a g (shape_marks w (record { front = fs; opener = os; chain = t; closer = cs }) P) P xs x d r
   framed {a} {b} {s} {e} {g} w v f fs os cs t P xs c c' c'' {x} {y} {z} {d} {r} i j ei ej h k st front u list o =
       framed_by w v f fs os cs t P xs c c' c'' h k st
       (subst (λ n. (ms : List Mark) (ys : List Role) (q : ℕ) → Reads W q a.flags → parts_fit W P ys q ≡ true → Stands c P ys → Gone W a b (front_marks w fs ms) ms P (parts_behind n P) ys c' x y d q) ei front) u
@@ -178,10 +178,10 @@ module _ (W : ℕ → Bool) where
       Gone W a b ls (chain_marks w t (parts_behind (suc i) P) ++ ms) ps (parts_behind (suc i) P) xs c x y d r → Gone W a b ls (chain_marks w t (parts_behind (i + 1) P) ++ ms) ps (parts_behind (i + 1) P) xs c x y d r
   stepped_chain {a} {b} {ls} {ps} {xs} {c} {x} {y} {d} {r} w t P i ms p = subst (λ j. Gone W a b ls (chain_marks w t (parts_behind j P) ++ ms) ps (parts_behind j P) xs c x y d r) (sym (add-one i)) p
 
-  pub fronts_done : {X : Type 0} {a b : View} {ls : List Mark} {ps : Parts} {xs : List Role} {c : Course} {x y : Bool} {d r : ℕ} (w : List ℕ) (f : X → List Bit) (fs : List X) (P : Parts) (i : ℕ) (ms : List Mark) → i ≡ length fs →
-      Gone W a b ls (front_marks w (map f (drop i fs)) ms) ps (parts_behind i P) xs c x y d r → Gone W a b ls ms ps (parts_behind (length fs) P) xs c x y d r
-  fronts_done {X} {a} {b} {ls} {ps} {xs} {c} {x} {y} {d} {r} w f fs P i ms e p =
-      subst (λ j. Gone W a b ls ms ps (parts_behind j P) xs c x y d r) e (subst (λ M. Gone W a b ls M ps (parts_behind i P) xs c x y d r) (fronts-past w f fs i ms (omega (arith, e))) p)
+  pub fronts_done : {a b : View} {ls : List Mark} {ps : Parts} {xs : List Role} {c : Course} {x y : Bool} {d r : ℕ} (w : List ℕ) (fs : List (List Bit)) (P : Parts) (i j : ℕ) (ms : List Mark) → i ≡ length fs → i ≡ j →
+      Gone W a b ls (front_marks w (drop i fs) ms) ps (parts_behind i P) xs c x y d r → Gone W a b ls ms ps (parts_behind j P) xs c x y d r
+  fronts_done {a} {b} {ls} {ps} {xs} {c} {x} {y} {d} {r} w fs P i j ms e f p =
+      subst (λ k. Gone W a b ls ms ps (parts_behind k P) xs c x y d r) f (subst (λ M. Gone W a b ls M ps (parts_behind i P) xs c x y d r) (fronts-past w fs i ms (omega (arith, e))) p)
 
   pub chain_done : {a b : View} {ls : List Mark} {ps : Parts} {xs : List Role} {c : Course} {x y : Bool} {d r : ℕ} (w : List ℕ) (t : Chain) (P : Parts) (i : ℕ) (ms : List Mark) → part_count P ≤ i →
       Gone W a b ls (chain_marks w t (parts_behind i P) ++ ms) ps (parts_behind i P) xs c x y d r → Gone W a b ls ms ps none xs c x y d r

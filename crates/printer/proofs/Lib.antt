@@ -3,6 +3,7 @@ pub mod CourseDefaults
 pub mod CourseTable
 pub mod Defaults
 pub mod Ends
+pub mod Fusing
 pub mod Heights
 mod Items
 pub mod Layouts
@@ -19,6 +20,7 @@ pub mod Shaped
 pub mod SiteLemmas
 pub mod Standings
 pub mod TableMarks
+pub mod Waiting
 pub mod Whole
 pub mod Words
 pub mod Writing

@@ -3,7 +3,7 @@
 ghost use Rattle.std.specs.Prelude.{◌≡◌};
 ghost use Rattle.tree.specs.Node.{node_tree};
 ghost use Rattle.tree.specs.Tree.{kind_of, text_of, flags_of, parts_of};
-ghost use Rattle.printer.specs.Bits.{shape_of};
+ghost use Rattle.printer.specs.Bits.{shape_of, fused_shape};
 ghost use Rattle.printer.specs.Shapes.{shape_on};
 ghost use Rattle.printer.specs.Sites.{is_word as is_word_at};
 
@@ -50,7 +50,7 @@ static INNER_CHUNK: Frame = front_frame!(
 
 /// What stands round the parts of a node at a site.
 pub fn frame_of(node: Node, site: Site) -> &'static Frame
-    ensures { shape_of result.now ≡ shape_on site (kind_of (node_tree node.entry)) (text_of (node_tree node.entry)) (flags_of (node_tree node.entry)) (parts_of (node_tree node.entry)) }
+    ensures { shape_of result.now ≡ fused_shape (shape_on site (kind_of (node_tree node.entry)) (text_of (node_tree node.entry)) (flags_of (node_tree node.entry)) (parts_of (node_tree node.entry))) }
 {
     match site {
         Site::Echo => &NOTHING,

@@ -8,7 +8,7 @@ ghost use Rattle.language.specs.Pieces.{Role, is_none};
 ghost use Rattle.language.specs.Grammar.{ways};
 ghost use Rattle.positions.specs.declared.position.Position.{Position};
 ghost use Rattle.positions.specs.Outlines.{role_of, parts_behind};
-ghost use Rattle.printer.specs.Bits.{Mark, here, bits_of, chain_of, shape_of};
+ghost use Rattle.printer.specs.Bits.{Mark, here, Bit, bits_of, chain_of, fused};
 ghost use Rattle.printer.specs.Shapes.{sign_at, sign_of_text, inner};
 ghost use Rattle.language.specs.Pieces.{script};
 ghost use Rattle.language.specs.Layout.{layout};
@@ -184,7 +184,7 @@ fn print_framed<O: Outlet>(
     out: &mut O,
 )
     requires { depth + height (node_tree node) ≤ usize.MAX }
-    ensures laid { (W : ℕ → Bool) → (xs : List Role) → (r : ℕ) → Reads W r sheet.old.wraps.now → parts_fit W (parts_of (node_tree node.entry)) xs r ≡ true → Stands walk.old.course (parts_of (node_tree node.entry)) xs → Written W (seen (O.stands out.old sheet.old.room) sheet.old) (seen (O.stands out.new sheet.new.room) sheet.new) (shape_marks (text_of (node_tree node.entry)) (shape_of frame.now) (parts_of (node_tree node.entry))) (parts_of (node_tree node.entry)) xs walk.old.alone depth r }
+    ensures laid { (W : ℕ → Bool) → (fs : List (List Bit)) → (os cs : List Bit) → map (λ p. bits_of p.now) frame.now.front.now ≡ map fused fs → bits_of frame.now.opener.now ≡ fused os → bits_of frame.now.closer.now ≡ fused cs → (xs : List Role) → (r : ℕ) → Reads W r sheet.old.wraps.now → parts_fit W (parts_of (node_tree node.entry)) xs r ≡ true → Stands walk.old.course (parts_of (node_tree node.entry)) xs → Written W (seen (O.stands out.old sheet.old.room) sheet.old) (seen (O.stands out.new sheet.new.room) sheet.new) (shape_marks (text_of (node_tree node.entry)) (record { front = fs; opener = os; chain = chain_of frame.now.series; closer = cs }) (parts_of (node_tree node.entry))) (parts_of (node_tree node.entry)) xs walk.old.alone depth r }
     ensures adds { Adds (O.stands out.old sheet.old.room) (O.stands out.new sheet.new.room) }
 {
     let text = node.text();
@@ -214,7 +214,7 @@ fn print_front<O: Outlet>(
     out: &mut O,
 )
     requires { depth + height (node_tree node) ≤ usize.MAX }
-    ensures laid { (W : ℕ → Bool) → (ms : List Mark) → (xs : List Role) → (r : ℕ) → Reads W r sheet.old.wraps.now → parts_fit W (parts_of (node_tree node.entry)) xs r ≡ true → Stands walk.old.course (parts_of (node_tree node.entry)) xs → Gone W (seen (O.stands out.old sheet.old.room) sheet.old) (seen (O.stands out.new sheet.new.room) sheet.new) (front_marks (text_of (node_tree node.entry)) (map (λ p. bits_of p.now) front.now) ms) ms (parts_of (node_tree node.entry)) (parts_behind (length front.now) (parts_of (node_tree node.entry))) xs walk.new.course walk.old.alone walk.new.alone depth r }
+    ensures laid { (W : ℕ → Bool) → (fs : List (List Bit)) → map (λ p. bits_of p.now) front.now ≡ map fused fs → (ms : List Mark) → (xs : List Role) → (r : ℕ) → Reads W r sheet.old.wraps.now → parts_fit W (parts_of (node_tree node.entry)) xs r ≡ true → Stands walk.old.course (parts_of (node_tree node.entry)) xs → Gone W (seen (O.stands out.old sheet.old.room) sheet.old) (seen (O.stands out.new sheet.new.room) sheet.new) (front_marks (text_of (node_tree node.entry)) fs ms) ms (parts_of (node_tree node.entry)) (parts_behind (length front.now) (parts_of (node_tree node.entry))) xs walk.new.course walk.old.alone walk.new.alone depth r }
     ensures adds { Adds (O.stands out.old sheet.old.room) (O.stands out.new sheet.new.room) }
 {
     for index in 0..front.len() {

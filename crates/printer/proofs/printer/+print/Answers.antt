@@ -1,6 +1,5 @@
-use Rattle.std.proofs.Common.{◌≡◌, ◌≤◌, suc, ◌+◌, ◌-◌, true, false, not, nat_eq, [], ◌∷◌, ◌++◌, length, drop, map, refl, sym, ap, ap₂, ◌∙◌, subst, arith}
+use Rattle.std.proofs.Common.{◌≡◌, ◌≤◌, suc, ◌+◌, ◌-◌, true, false, not, nat_eq, [], ◌∷◌, ◌++◌, length, drop, get_or, map, refl, sym, ap, ap₂, ◌∙◌, subst, arith}
 use Rattle.std.specs.Prelude.{option_map, is_none as is_missing}
-use Rattle.std.proofs.lemmas.List.{length-map}
 use Rattle.tree.specs.Tree.{parts_of, text_of, kind_of, flags_of, part_count}
 use Rattle.tree.specs.Node.{node_tree}
 use Rattle.language.specs.Grammar.{ways}
@@ -10,7 +9,8 @@ use Rattle.language.specs.Positions.{first_roles}
 use Rattle.printer.specs.Shapes.{shape_on}
 use Rattle.printer.specs.Sites.{seated_at, is_row, is_word}
 use Rattle.printer.proofs.SiteLemmas.{site_row, at_row, site_shape, site_word, seats}
-use Rattle.printer.specs.Bits.{here, bits_of, chain_of, shape_of, before_bits, after_bits}
+use Rattle.printer.specs.Bits.{here, bits_of, chain_of, fused, before_bits, after_bits}
+use Rattle.printer.proofs.Fusing.{map_length, map_at, written_bits}
 use Rattle.language.specs.Fits.{parts_fit}
 use Rattle.printer.specs.Printed.{marks_in, front_marks, chain_marks, shape_marks, signed_marks}
 use Rattle.printer.proofs.Items.{missing_part, gone_nothing, gone_then, stepped, stepped_chain, fronts_done, chain_done, fronts-next, chain-next, turn, trail, framed, part_turn, part_missing}
@@ -35,10 +35,13 @@ print_spelled-returns-in-Some-clause-laid g t c = λ W r p e z k.
 pub print_spelled-returns-in-None-clause-laid : goal.print_spelled-returns-in-None-clause-laid
 print_spelled-returns-in-None-clause-laid g t c = λ W r p e z k.
     let n = node_tree c.args.node in
+    let s = shape_on c.args.site (kind_of n) (text_of n) (flags_of n) (parts_of n) in
+    let f = c.frame_of.ensures in
     let q = spelled_parts W (parts_of n) (ways (role_of p) n) r k in
-    direct_by W (shape_marks (text_of n) (shape_of c.frame_of.result.now) (parts_of n))
-    (marks_framed W p n r c.in-None.ensures q.0 q.1 ∙ ap (λ s. shape_marks (text_of n) s (parts_of n)) (site_shape p (kind_of n) (text_of n) (flags_of n) (parts_of n) ∙ ap (λ s. shape_on s (kind_of n) (text_of n) (flags_of n) (parts_of n)) e ∙ sym c.frame_of.ensures)) refl q.1
-    (c.print_framed.ensures.laid W (first_roles (ways (role_of p) n)) r z q.2 (seats p n c.args.site c.course_of.result e c.course_of.ensures q.0))
+    direct_by W (shape_marks (text_of n) (record { front = s.front; opener = s.opener; chain = chain_of c.frame_of.result.now.series; closer = s.closer }) (parts_of n))
+    (marks_framed W p n r c.in-None.ensures q.0 q.1 ∙ ap (λ x. shape_marks (text_of n) x (parts_of n)) (site_shape p (kind_of n) (text_of n) (flags_of n) (parts_of n) ∙ ap (λ x. shape_on x (kind_of n) (text_of n) (flags_of n) (parts_of n)) e)
+    ∙ ap (λ x. shape_marks (text_of n) (record { front = s.front; opener = s.opener; chain = x; closer = s.closer }) (parts_of n)) (sym (ap (λ x. x.chain) f))) refl q.1
+    (c.print_framed.ensures.laid W s.front s.opener s.closer (ap (λ x. x.front) f) (ap (λ x. x.opener) f) (ap (λ x. x.closer) f) (first_roles (ways (role_of p) n)) r z q.2 (seats p n c.args.site c.course_of.result e c.course_of.ensures q.0))
 
 pub print_direct-returns-then-is_word-clause-laid : goal.print_direct-returns-then-is_word-clause-laid
 print_direct-returns-then-is_word-clause-laid g t c = λ W r p e z k.
@@ -53,31 +56,38 @@ pub print_direct-returns-then-is_word-clause-adds : goal.print_direct-returns-th
 print_direct-returns-then-is_word-clause-adds g t c = writes_adds c.push.ensures.written
 
 pub print_framed-returns-clause-laid : goal.print_framed-returns-clause-laid
-print_framed-returns-clause-laid g t c = λ W xs r h k st.
+print_framed-returns-clause-laid g t c = λ W fs os cs ef eo ec xs r h k st.
     let n = node_tree c.args.node in
-    framed W (text_of n) c.text-text.result.now c.text-text.ensures (map (λ p. bits_of p.now) c.args.frame.now.front.now) c.args.frame.now.opener.now c.args.frame.now.closer.now (chain_of c.args.frame.now.series) (parts_of n) xs c.args.walk.now.course c.print_front.new.walk.course c.print_list.new.walk.course
-    (length c.args.frame.now.front.now) c.inner_depth-inside.result (sym (length-map c.args.frame.now.front.now (λ p. bits_of p.now))) c.inner_depth-inside.ensures.inner h k st
-    (λ ms ys q a b s. c.print_front.ensures.laid W ms ys q a b s) c.push_all.ensures (λ ms ys q a b s. c.print_list.ensures.laid W ms ys q a b s) c.push_all-2.ensures
+    let front = c.args.frame.now.front.now in
+    let same : length fs ≡ length front = sym (map_length (λ p. bits_of p.now) fused front fs ef) in
+    framed W (text_of n) c.text-text.result.now c.text-text.ensures fs os cs (chain_of c.args.frame.now.series) (parts_of n) xs c.args.walk.now.course c.print_front.new.walk.course c.print_list.new.walk.course
+    (length front) c.inner_depth-inside.result (sym same) c.inner_depth-inside.ensures.inner h k st
+    (λ ms ys q a b s. c.print_front.ensures.laid W fs ef ms ys q a b s) (written_bits _ _ _ c.args.frame.now.opener.now os eo c.push_all.ensures)
+    (λ ms ys q a b s. c.print_list.ensures.laid W ms ys q a b s) (written_bits _ _ _ c.args.frame.now.closer.now cs ec c.push_all-2.ensures)
 
 pub print_front-loop-index-preserved : goal.print_front-loop-index-preserved
 print_front-loop-index-preserved g t c = record {
-  laid = λ W ms xs r h k st.
+  laid = λ W fs e ms xs r h k st.
       let n = node_tree c.args.node in
-      let fs = c.args.front.now in
+      let front = c.args.front.now in
       let i = c.loop-index.index in
-      let ns = front_marks (text_of n) (map (λ p. bits_of p.now) (drop (i + 1) fs)) ms in
+      let same : length fs ≡ length front = sym (map_length (λ p. bits_of p.now) fused front fs e) in
+      let bound = c.loop-index-test.true in
+      let ns = front_marks (text_of n) (drop (i + 1) fs) ms in
       stepped W (parts_of n) i
-      (turn W _ c.text.result.now c.text.ensures (fronts-next (text_of n) (λ p. bits_of p.now) fs i _ ms c.loop-index-test.true) (c.loop-index.invariant.laid W ms xs r h k st) c.push_all.ensures (λ ys q u v s. c.print_part.ensures.laid W ns ys q u v s));
+      (turn W (get_or fs i []) c.text.result.now c.text.ensures (fronts-next (text_of n) fs i ms (omega (arith, same, bound))) (c.loop-index.invariant.laid W fs e ms xs r h k st)
+      (written_bits _ _ _ _ (get_or fs i []) (map_at (λ p. bits_of p.now) fused front fs i _ [] e bound) c.push_all.ensures) (λ ys q u v s. c.print_part.ensures.laid W ns ys q u v s));
   adds = adds_then c.loop-index.invariant.adds (adds_then (writes_adds c.push_all.ensures) c.print_part.ensures.adds);
 }
 
 pub print_front-returns-clause-laid : goal.print_front-returns-clause-laid
-print_front-returns-clause-laid g t c = λ W ms xs r h k st.
+print_front-returns-clause-laid g t c = λ W fs e ms xs r h k st.
     let n = node_tree c.args.node in
-    let fs = c.args.front.now in
+    let front = c.args.front.now in
     let i = c.loop-index.index in
-    let e : i ≡ length fs = omega (arith, c.loop-index.auto.index-end, c.loop-index-test.false) in
-    fronts_done W (text_of n) (λ p. bits_of p.now) fs (parts_of n) i ms e (c.loop-index.invariant.laid W ms xs r h k st)
+    let same : length fs ≡ length front = sym (map_length (λ p. bits_of p.now) fused front fs e) in
+    let past : i ≡ length front = omega (arith, c.loop-index.auto.index-end, c.loop-index-test.false) in
+    fronts_done W (text_of n) fs (parts_of n) i (length front) ms (past ∙ sym same) past (c.loop-index.invariant.laid W fs e ms xs r h k st)
 
 pub print_item-returns-clause-laid : goal.print_item-returns-clause-laid
 print_item-returns-clause-laid g t c = λ W ms xs r h k st.
@@ -87,14 +97,16 @@ print_item-returns-clause-laid g t c = λ W ms xs r h k st.
     let i = c.args.index in
     let rest = chain_marks w s (parts_behind (suc i) P) ++ ms in
     let o = option_map node_tree c.part.result in
-    let here_before : bits_of c.before-2.result.now ≡ before_bits s (nat_eq ((part_count P - i) - 1) 0) = c.before-2.ensures ∙ ap (λ m. before_bits s (nat_eq ((m - i) - 1) 0)) c.part_count.ensures in
-    let here_after : bits_of c.after.result.now ≡ after_bits s (is_missing o) (nat_eq ((part_count P - i) - 1) 0) (nat_eq ((part_count P - i) - 1) 1) =
-    c.after.ensures ∙ (λ j. after_bits s (missing_part node_tree c.part.result c.is_none-is_gap.result c.is_none-is_gap.ensures j) (nat_eq ((c.part_count.ensures j - i) - 1) 0) (nat_eq ((c.part_count.ensures j - i) - 1) 1)) in
-    trail W c.after.result.now c.text-text.result.now c.text-text.ensures refl
-    (turn W c.before-2.result.now c.text-text.result.now c.text-text.ensures
-    (chain-next w s P i o ms c.part.ensures c.requires.index ∙ ap₂ (λ x y. marks_in w x ++ here ∷ (marks_in w y ++ rest)) (sym here_before) (sym here_after))
-    (gone_nothing W xs c.args.walk.now.course r h k st) c.push_all.ensures (λ ys q u z s. c.print_part.ensures.laid W (marks_in w (bits_of c.after.result.now) ++ rest) ys q u z s))
-    c.push_all-2.ensures
+    let bits = before_bits s (nat_eq ((part_count P - i) - 1) 0) in
+    let here_before : bits_of c.before-2.result.now ≡ fused bits = c.before-2.ensures ∙ ap (λ m. fused (before_bits s (nat_eq ((m - i) - 1) 0))) c.part_count.ensures in
+    let behind = after_bits s (is_missing o) (nat_eq ((part_count P - i) - 1) 0) (nat_eq ((part_count P - i) - 1) 1) in
+    let here_after : bits_of c.after.result.now ≡ fused behind =
+    c.after.ensures ∙ (λ j. fused (after_bits s (missing_part node_tree c.part.result c.is_none-is_gap.result c.is_none-is_gap.ensures j) (nat_eq ((c.part_count.ensures j - i) - 1) 0) (nat_eq ((c.part_count.ensures j - i) - 1) 1))) in
+    trail W behind c.text-text.result.now c.text-text.ensures refl
+    (turn W bits c.text-text.result.now c.text-text.ensures
+    (chain-next w s P i o ms c.part.ensures c.requires.index)
+    (gone_nothing W xs c.args.walk.now.course r h k st) (written_bits _ _ _ c.before-2.result.now bits here_before c.push_all.ensures) (λ ys q u z s. c.print_part.ensures.laid W (marks_in w behind ++ rest) ys q u z s))
+    (written_bits _ _ _ c.after.result.now behind here_after c.push_all-2.ensures)
 
 pub print_list-loop-index-preserved : goal.print_list-loop-index-preserved
 print_list-loop-index-preserved g t c = record {
