@@ -1,36 +1,41 @@
 -- Turns of the printer's loops.
-use Rattle.std.proofs.Common.{◌≡◌, ℕ, zero, suc, ◌+◌, ◌-◌, ◌<◌, ◌≤◌, Bool, true, false, not, nat_eq, List, [], ◌∷◌, ◌++◌, length, drop, get_or, refl, sym, ap, ap₂, ◌∙◌, subst, append_assoc, append-nil, arith, add-one, map}
+use Rattle.std.proofs.Common.{◌≡◌, ℕ, zero, suc, ◌+◌, ◌-◌, ◌<◌, ◌≤◌, Bool, true, false, not, nat_eq, nat_le, List, [], ◌∷◌, ◌++◌, length, drop, get_or, refl, sym, ap, ap₂, ◌∙◌, subst, append_assoc, append-nil, arith, add-one, map}
 use Rattle.std.specs.Prelude.{Option, Some, None, option_map, is_some, is_none as is_missing}
-use Rattle.tree.specs.Tree.{Tree, Parts, none, part_at, part_count}
+use Rattle.std.proofs.lemmas.Bool.Decides.{nat_tests}
+use Rattle.tree.specs.Tree.{Tree, Parts, none, part, gap, part_at, part_count, kind_of}
 use Rattle.language.specs.Pieces.{Role, is_none}
 use Rattle.positions.specs.Outlines.{role_of, parts_behind, is_before_last}
 use Rattle.positions.proofs.Behind.{some-suc, gap-suc, behind-past, last-behind, before-behind}
-use Rattle.printer.specs.declared.pieces.Piece.{Piece}
-use Rattle.printer.specs.Bits.{Mark, here, Bit, bits_of, Chain, before_bits, after_bits}
-use Rattle.printer.specs.Sheets.{View, Writes, pieces_text, flag_at}
+use Rattle.printer.specs.Bits.{Mark, here, Bit, Chain, before_bits, after_bits}
+use Rattle.printer.specs.Sheets.{View, Writes, flag_at}
+use Rattle.printer.proofs.Fusing.{bits_text}
 use Rattle.printer.specs.Shapes.{inner}
 use Rattle.language.specs.Fits.{fits, parts_fit}
-use Rattle.printer.specs.Printed.{marks_in, front_marks, chain_marks, deep, shape_marks, Reads, Passed, Written, Printed}
+use Rattle.language.specs.Layout.{some_way}
+use Rattle.printer.specs.declared.site.Site.{Site}
+use Rattle.printer.specs.declared.course.Course.{Course}
+use Rattle.printer.specs.Sites.{site_of, seated_at, behind_first, CanStand, Stands}
+use Rattle.printer.specs.Printed.{marks_in, front_marks, chain_marks, deep, shape_marks, Reads, Passed, Gone, Written, Printed}
 use Rattle.positions.specs.declared.position.Position.{Position}
-use Rattle.positions.specs.declared.spelling.Positions.{Positions}
-use Rattle.positions.specs.Remaining.{remaining, Next}
-use Rattle.printer.proofs.Passing.{passed_pieces, passed_then, passed_deep, passed_all, passed_some, raised, no_position_left}
+use Rattle.positions.proofs.Wherever.{position_of, role-position}
+use Rattle.printer.proofs.Passing.{passed_nothing, passed_bits, passed_then, passed_deep, passed_all, passed_some, passed_missing, raised, no_position_left}
+use Rattle.printer.proofs.Nodes.{can_stand}
 
 -- the next of the first parts
-pub fronts-next : {X : Type 0} (w : List ℕ) (f : X → List Bit) (fs : List X) (i : ℕ) (z : X) (ms : List Mark) → i < length fs →
-    front_marks w (map f (drop i fs)) ms ≡ marks_in w (f (get_or fs i z)) ++ here ∷ front_marks w (map f (drop (i + 1) fs)) ms
-fronts-next w f [] i z ms h = absurd (omega (arith, h))
-fronts-next w f (x ∷ fs) zero z ms h = refl
-fronts-next w f (x ∷ fs) (suc i) z ms h = fronts-next w f fs i z ms (omega (arith, h)) ∙ ap (λ n. marks_in w (f (get_or fs i z)) ++ here ∷ front_marks w (map f n) ms) (after i)
+pub fronts-next : (w : List ℕ) (fs : List (List Bit)) (i : ℕ) (ms : List Mark) → i < length fs →
+    front_marks w (drop i fs) ms ≡ marks_in w (get_or fs i []) ++ here ∷ front_marks w (drop (i + 1) fs) ms
+fronts-next w [] i ms h = absurd (omega (arith, h))
+fronts-next w (x ∷ fs) zero ms h = refl
+fronts-next w (x ∷ fs) (suc i) ms h = fronts-next w fs i ms (omega (arith, h)) ∙ ap (λ n. marks_in w (get_or fs i []) ++ here ∷ front_marks w n ms) (after i)
   where
     after : (j : ℕ) → drop (j + 1) fs ≡ drop (suc j + 1) (x ∷ fs)
     after j = ap (λ n. drop n fs) (add-one j) ∙ sym (ap (λ n. drop n (x ∷ fs)) (add-one (suc j)))
 
-pub fronts-past : {X : Type 0} (w : List ℕ) (f : X → List Bit) (fs : List X) (i : ℕ) (ms : List Mark) → length fs ≤ i → front_marks w (map f (drop i fs)) ms ≡ ms
-fronts-past w f [] zero ms h = refl
-fronts-past w f [] (suc i) ms h = refl
-fronts-past w f (x ∷ fs) zero ms h = absurd (omega (arith, h))
-fronts-past w f (x ∷ fs) (suc i) ms h = fronts-past w f fs i ms (omega (arith, h))
+pub fronts-past : (w : List ℕ) (fs : List (List Bit)) (i : ℕ) (ms : List Mark) → length fs ≤ i → front_marks w (drop i fs) ms ≡ ms
+fronts-past w [] zero ms h = refl
+fronts-past w [] (suc i) ms h = refl
+fronts-past w (x ∷ fs) zero ms h = absurd (omega (arith, h))
+fronts-past w (x ∷ fs) (suc i) ms h = fronts-past w fs i ms (omega (arith, h))
 
 -- the next part of a list, with what stands round it
 module _ (w : List ℕ) (t : Chain) where
@@ -64,85 +69,120 @@ missing_part f (Some x) false h = refl
 -- Steps
 
 module _ (W : ℕ → Bool) where
-  -- pieces, and then a part
-  pub turn : {a b s e : View} {w : List ℕ} (us : List Piece) {ls M ns : List Mark} {ps qs vs : Parts} {xs ys zs : List Role} {x y z : Bool} {d r : ℕ} (v : List ℕ) → v ≡ w → M ≡ marks_in w (bits_of us) ++ here ∷ ns →
-      Passed W a b ls M ps qs xs ys x y d r → Writes b s (pieces_text v d y us) →
-      ((q : ℕ) → Reads W q s.flags → parts_fit W qs ys q ≡ true → Passed W s e (here ∷ ns) ns qs vs ys zs y z d q) → Passed W a e ls ns ps vs xs zs x z d r
-  turn {a} {b} {s} {e} {w} us {ls} {M} {ns} {ps} {qs} {vs} {xs} {ys} {zs} {x} {y} {z} {d} {r} v f h p u k =
-      let p' = subst (λ t. Passed W a b ls t ps qs xs ys x y d r) h p in
-      let q = passed_pieces W w us {ms = here ∷ ns} p.row p.reads p.fit (subst (λ t. Writes b s (pieces_text t d y us)) f u) in
-      passed_then W p' (passed_then W q (k q.row q.reads q.fit))
+  pub gone_nothing : {a : View} {ms : List Mark} {ps : Parts} (xs : List Role) (c : Course) {b : Bool} {d : ℕ} (r : ℕ) → Reads W r a.flags → parts_fit W ps xs r ≡ true → Stands c ps xs → Gone W a a ms ms ps ps xs c b b d r
+  gone_nothing xs c r h k s = record { left = xs; passed = passed_nothing W r h k; stands = s }
+
+  pub gone_then : {a b e : View} {ls ms ns : List Mark} {ps qs vs : Parts} {xs : List Role} {c c' : Course} {x y z : Bool} {d r : ℕ} →
+      Gone W a b ls ms ps qs xs c x y d r → ((ys : List Role) (q : ℕ) → Reads W q b.flags → parts_fit W qs ys q ≡ true → Stands c qs ys → Gone W b e ms ns qs vs ys c' y z d q) → Gone W a e ls ns ps vs xs c' x z d r
+  gone_then g k = let h = k g.left g.passed.row g.passed.reads g.passed.fit g.stands in record { left = h.left; passed = passed_then W g.passed h.passed; stands = h.stands }
 
   -- pieces behind a part
-  pub trail : {a b s : View} {w : List ℕ} (us : List Piece) {ls M ns : List Mark} {ps qs : Parts} {xs ys : List Role} {x y : Bool} {d r : ℕ} (v : List ℕ) → v ≡ w → M ≡ marks_in w (bits_of us) ++ ns →
-      Passed W a b ls M ps qs xs ys x y d r → Writes b s (pieces_text v d y us) → Passed W a s ls ns ps qs xs ys x y d r
-  trail {a} {b} {s} {w} us {ls} {M} {ns} {ps} {qs} {xs} {ys} {x} {y} {d} {r} v f h p u =
-      let p' = subst (λ t. Passed W a b ls t ps qs xs ys x y d r) h p in
-      passed_then W p' (passed_pieces W w us p.row p.reads p.fit (subst (λ t. Writes b s (pieces_text t d y us)) f u))
+  pub trail : {a b s : View} {w : List ℕ} (us : List Bit) {ls M ns : List Mark} {ps qs : Parts} {xs : List Role} {c : Course} {x y : Bool} {d r : ℕ} (v : List ℕ) → v ≡ w → M ≡ marks_in w us ++ ns →
+      Gone W a b ls M ps qs xs c x y d r → Writes b s (bits_text v d y us) → Gone W a s ls ns ps qs xs c x y d r
+  trail {a} {b} {s} {w} us {ls} {M} {ns} {ps} {qs} {xs} {c} {x} {y} {d} {r} v f h g u =
+      let p' = subst (λ t. Passed W a b ls t ps qs xs g.left x y d r) h g.passed in
+      record {
+        left = g.left;
+        passed = passed_then W p' (passed_bits W w us g.passed.row g.passed.reads g.passed.fit (subst (λ t. Writes b s (bits_text t d y us)) f u));
+        stands = g.stands;
+      }
+
+  -- pieces, and then a part
+  pub turn : {a b s e : View} {w : List ℕ} (us : List Bit) {ls M ns : List Mark} {ps qs vs : Parts} {xs : List Role} {c c' : Course} {x y z : Bool} {d r : ℕ} (v : List ℕ) → v ≡ w → M ≡ marks_in w us ++ here ∷ ns →
+      Gone W a b ls M ps qs xs c x y d r → Writes b s (bits_text v d y us) →
+      ((ys : List Role) (q : ℕ) → Reads W q s.flags → parts_fit W qs ys q ≡ true → Stands c qs ys → Gone W s e (here ∷ ns) ns qs vs ys c' y z d q) → Gone W a e ls ns ps vs xs c' x z d r
+  turn {w = w} us {ns = ns} v f h g u k = gone_then (trail {w = w} us {ns = here ∷ ns} v f h g u) k
 
   -- the first parts, what stands behind them, the other parts, and what stands behind these
-  framed_by : {a b s e g : View} (w v : List ℕ) → v ≡ w → (fs : List (List Bit)) (os cs : List Piece) (t : Chain) (P : Parts) {xs ys zs : List Role} {x y z : Bool} {d r : ℕ} →
-      Reads W r a.flags → parts_fit W P xs r ≡ true →
-      ((ms : List Mark) (q : ℕ) → Reads W q a.flags → parts_fit W P xs q ≡ true → Passed W a b (front_marks w fs ms) ms P (parts_behind (length fs) P) xs ys x y d q) →
-      Writes b s (pieces_text v d y os) →
-      ((ms : List Mark) (q : ℕ) → Reads W q s.flags → parts_fit W (parts_behind (length fs) P) ys q ≡ true → Passed W s e (chain_marks w t (parts_behind (length fs) P) ++ ms) ms (parts_behind (length fs) P) none ys zs y z (inner t d) q) →
-      Writes e g (pieces_text v d z cs) →
-      Written W a g (shape_marks w (record { front = fs; opener = bits_of os; chain = t; closer = bits_of cs }) P) P xs x d r
-  framed_by {a} {b} {s} {e} {g} w v f fs os cs t P {xs} {ys} {zs} {x} {y} {z} {d} {r} h k front u list o =
-      let closing = marks_in w (bits_of cs) in
+  framed_by : {a b s e g : View} (w v : List ℕ) → v ≡ w → (fs : List (List Bit)) (os cs : List Bit) (t : Chain) (P : Parts) (xs : List Role) (c c' c'' : Course) {x y z : Bool} {d r : ℕ} →
+      Reads W r a.flags → parts_fit W P xs r ≡ true → Stands c P xs →
+      ((ms : List Mark) (ys : List Role) (q : ℕ) → Reads W q a.flags → parts_fit W P ys q ≡ true → Stands c P ys → Gone W a b (front_marks w fs ms) ms P (parts_behind (length fs) P) ys c' x y d q) →
+      Writes b s (bits_text v d y os) →
+      ((ms : List Mark) (ys : List Role) (q : ℕ) → Reads W q s.flags → parts_fit W (parts_behind (length fs) P) ys q ≡ true → Stands c' (parts_behind (length fs) P) ys →
+      Gone W s e (chain_marks w t (parts_behind (length fs) P) ++ ms) ms (parts_behind (length fs) P) none ys c'' y z (inner t d) q) →
+      Writes e g (bits_text v d z cs) →
+      Written W a g (shape_marks w (record { front = fs; opener = os; chain = t; closer = cs }) P) P xs x d r
+  framed_by {a} {b} {s} {e} {g} w v f fs os cs t P xs c c' c'' {x} {y} {z} {d} {r} h k st front u list o =
+      let closing = marks_in w cs in
       let cm = chain_marks w t (parts_behind (length fs) P) in
-      let p = front (marks_in w (bits_of os) ++ deep t cm closing) r h k in
+      let p = front (marks_in w os ++ deep t cm closing) xs r h k st in
       let q = trail {w = w} os {ns = deep t cm closing} v f refl p u in
-      let l = passed_deep W t cm closing (list (raised W t closing) q.row q.reads q.fit) in
-      passed_all W (trail {w = w} cs {ns = []} v f (sym (append-nil closing)) (passed_then W q l) o)
+      let m = list (raised W t closing) q.left q.passed.row q.passed.reads q.passed.fit q.stands in
+      let l = passed_deep W t cm closing m.passed in
+      let whole : Gone W a e (front_marks w fs (marks_in w os ++ deep t cm closing)) closing P none xs c'' x z d r = record { left = m.left; passed = passed_then W q.passed l; stands = m.stands } in
+      passed_all W (trail {w = w} cs {ns = []} v f (sym (append-nil closing)) whole o).passed
 
-  pub framed : {a b s e g : View} (w v : List ℕ) → v ≡ w → (fs : List (List Bit)) (os cs : List Piece) (t : Chain) (P : Parts) {xs ys zs : List Role} {x y z : Bool} {d r : ℕ} (i j : ℕ) → i ≡ length fs → j ≡ inner t d →
-      Reads W r a.flags → parts_fit W P xs r ≡ true →
-      ((ms : List Mark) (q : ℕ) → Reads W q a.flags → parts_fit W P xs q ≡ true → Passed W a b (front_marks w fs ms) ms P (parts_behind i P) xs ys x y d q) →
-      Writes b s (pieces_text v d y os) →
-      ((ms : List Mark) (q : ℕ) → Reads W q s.flags → parts_fit W (parts_behind i P) ys q ≡ true → Passed W s e (chain_marks w t (parts_behind i P) ++ ms) ms (parts_behind i P) none ys zs y z j q) →
-      Writes e g (pieces_text v d z cs) →
-      Written W a g (shape_marks w (record { front = fs; opener = bits_of os; chain = t; closer = bits_of cs }) P) P xs x d r
-  framed {a} {b} {s} {e} {g} w v f fs os cs t P {xs} {ys} {zs} {x} {y} {z} {d} {r} i j ei ej h k front u list o =
-      framed_by w v f fs os cs t P h k
-      (subst (λ n. (ms : List Mark) (q : ℕ) → Reads W q a.flags → parts_fit W P xs q ≡ true → Passed W a b (front_marks w fs ms) ms P (parts_behind n P) xs ys x y d q) ei front) u
-      (subst (λ m. (ms : List Mark) (q : ℕ) → Reads W q s.flags → parts_fit W (parts_behind (length fs) P) ys q ≡ true → Passed W s e (chain_marks w t (parts_behind (length fs) P) ++ ms) ms (parts_behind (length fs) P) none ys zs y z m q) ej
-      (subst (λ n. (ms : List Mark) (q : ℕ) → Reads W q s.flags → parts_fit W (parts_behind n P) ys q ≡ true → Passed W s e (chain_marks w t (parts_behind n P) ++ ms) ms (parts_behind n P) none ys zs y z j q) ei list)) o
+  pub framed : {a b s e g : View} (w v : List ℕ) → v ≡ w → (fs : List (List Bit)) (os cs : List Bit) (t : Chain) (P : Parts) (xs : List Role) (c c' c'' : Course) {x y z : Bool} {d r : ℕ} (i j : ℕ) → i ≡ length fs → j ≡ inner t d →
+      Reads W r a.flags → parts_fit W P xs r ≡ true → Stands c P xs →
+      ((ms : List Mark) (ys : List Role) (q : ℕ) → Reads W q a.flags → parts_fit W P ys q ≡ true → Stands c P ys → Gone W a b (front_marks w fs ms) ms P (parts_behind i P) ys c' x y d q) →
+      Writes b s (bits_text v d y os) →
+      ((ms : List Mark) (ys : List Role) (q : ℕ) → Reads W q s.flags → parts_fit W (parts_behind i P) ys q ≡ true → Stands c' (parts_behind i P) ys → Gone W s e (chain_marks w t (parts_behind i P) ++ ms) ms (parts_behind i P) none ys c'' y z j q) →
+      Writes e g (bits_text v d z cs) →
+      Written W a g (shape_marks w (record { front = fs; opener = os; chain = t; closer = cs }) P) P xs x d r
+  framed {a} {b} {s} {e} {g} w v f fs os cs t P xs c c' c'' {x} {y} {z} {d} {r} i j ei ej h k st front u list o =
+      framed_by w v f fs os cs t P xs c c' c'' h k st
+      (subst (λ n. (ms : List Mark) (ys : List Role) (q : ℕ) → Reads W q a.flags → parts_fit W P ys q ≡ true → Stands c P ys → Gone W a b (front_marks w fs ms) ms P (parts_behind n P) ys c' x y d q) ei front) u
+      (subst (λ m. (ms : List Mark) (ys : List Role) (q : ℕ) → Reads W q s.flags → parts_fit W (parts_behind (length fs) P) ys q ≡ true → Stands c' (parts_behind (length fs) P) ys → Gone W s e (chain_marks w t (parts_behind (length fs) P) ++ ms) ms (parts_behind (length fs) P) none ys c'' y z m q) ej
+      (subst (λ n. (ms : List Mark) (ys : List Role) (q : ℕ) → Reads W q s.flags → parts_fit W (parts_behind n P) ys q ≡ true → Stands c' (parts_behind n P) ys → Gone W s e (chain_marks w t (parts_behind n P) ++ ms) ms (parts_behind n P) none ys c'' y z j q) ei list)) o
 
   -- A part
 
-  next_none : (xs : List Role) → Next xs None → xs ≡ []
-  next_none [] u = refl
-  next_none (a ∷ xs) u = absurd u
+  last_by_count : (c i : ℕ) → i < c → nat_eq ((c - i) - 1) 0 ≡ nat_le (c - 1) i
+  last_by_count c i h = grind (arith, nat_tests)
 
-  next_some : (xs : List Role) (o : Position × Positions) → Next xs (Some o) → xs ≡ role_of o.0 ∷ remaining o.1
-  next_some [] o u = absurd u
-  next_some (a ∷ xs) o u = ap₂ (λ y ys. y ∷ ys) (sym u.0) (sym u.1)
+  within : (ps : Parts) (i : ℕ) (n : Tree) → Some n ≡ part_at ps i → i < part_count ps
+  within none i n h = absurd (cc)
+  within (part m ps) zero n h = omega arith
+  within (part m ps) (suc i) n h = omega (arith, within ps i n h)
+  within (gap ps) zero n h = absurd (cc)
+  within (gap ps) (suc i) n h = omega (arith, within ps i n h)
 
-  pub part_turn : {a b : View} {ms : List Mark} {x : Bool} {d : ℕ} (ps : Parts) (i r : ℕ) (n : Tree) (xs : List Role) (o : Position × Positions) (alone : Bool) → Some n ≡ part_at ps i → Next xs (Some o) → Reads W r a.flags → not (flag_at a.flags 0) ≡ alone →
-      parts_fit W (parts_behind i ps) xs r ≡ true → (fits W n (role_of o.0) r ≡ true → Printed W a b n (role_of o.0) r d) → Passed W a b (here ∷ ms) ms (parts_behind i ps) (parts_behind (suc i) ps) xs (remaining o.1) x alone d r
-  part_turn {a} {b} {ms} {x} {d} ps i r n xs o alone h u g e k p =
-      let f = next_some xs o u in
-      subst (λ ys. Passed W a b (here ∷ ms) ms (parts_behind i ps) (parts_behind (suc i) ps) ys (remaining o.1) x alone d r) (sym f)
-      (passed_some W ps i r n (role_of o.0) (remaining o.1) alone h g e (ap (λ ys. parts_fit W (parts_behind i ps) ys r) (sym f) ∙ k) p)
+  -- no part behind it, by the number of parts
+  last_there : (ps : Parts) (i : ℕ) (n : Tree) → Some n ≡ part_at ps i → nat_le (part_count ps - 1) i ≡ is_none (parts_behind (suc i) ps)
+  last_there ps i n h = let l = within ps i n h in sym (last_by_count (part_count ps) i l) ∙ last-behind ps i l
 
-  pub part_lost : (ps : Parts) (i r : ℕ) (n : Tree) (xs : List Role) → Some n ≡ part_at ps i → Next xs None → parts_fit W (parts_behind i ps) xs r ≡ true → ⊥
-  part_lost ps i r n xs h u k = no_position_left W ps i r n h (ap (λ ys. parts_fit W (parts_behind i ps) ys r) (sym (next_none xs u)) ∙ k)
+  pub part_turn : {a b : View} {ms : List Mark} {x : Bool} {d : ℕ} (ps : Parts) (i r : ℕ) (n : Tree) (xs : List Role) (c c' : Course) (s : Site) (alone : Bool) → Some n ≡ part_at ps i → Reads W r a.flags → not (flag_at a.flags 0) ≡ alone →
+      parts_fit W (parts_behind i ps) xs r ≡ true → Stands c (parts_behind i ps) xs → s ≡ seated_at c.next (kind_of n) (nat_le (part_count ps - 1) i) → c' ≡ behind_first c →
+      ((p : Position) → site_of (role_of p) ≡ s → fits W n (role_of p) r ≡ true → Printed W a b n (role_of p) r d) → Gone W a b (here ∷ ms) ms (parts_behind i ps) (parts_behind (suc i) ps) xs c' x alone d r
+  part_turn ps i r n [] c c' s alone h g e k st es ec p = absurd (no_position_left W ps i r n h k)
+  part_turn {a} {b} {ms} {x} {d} ps i r n (y ∷ ys) c c' s alone h g e k st es ec p =
+      let step = some-suc ps i n h in
+      let there : (CanStand n y → site_of y ≡ seated_at c.next (kind_of n) (is_none (parts_behind (suc i) ps))) × Stands (behind_first c) (parts_behind (suc i) ps) ys = subst (λ us. Stands c us (y ∷ ys)) step st in
+      let printed : fits W n y r ≡ true → Printed W a b n y r d = λ f. subst (λ q. Printed W a b n q r d) (role-position y)
+      (p (position_of y) (ap site_of (role-position y) ∙ there.0 (can_stand W n y r f) ∙ ap (seated_at c.next (kind_of n)) (sym (last_there ps i n h)) ∙ sym es) (subst (λ q. fits W n q r ≡ true) (sym (role-position y)) f)) in
+      record {
+        left = ys;
+        passed = passed_some W ps i r n y ys alone h g e k printed;
+        stands = subst (λ u. Stands u (parts_behind (suc i) ps) ys) (sym ec) there.1;
+      }
+
+  -- where no part stands
+  missing_stands : (ps : Parts) (i : ℕ) (c : Course) (xs : List Role) → None ≡ part_at ps i → Stands c (parts_behind i ps) xs → Stands c (parts_behind (suc i) ps) xs
+  missing_stands none zero c xs h s = tt
+  missing_stands none (suc i) c xs h s = missing_stands none i c xs refl s
+  missing_stands (part n ps) zero c xs h s = absurd (cc)
+  missing_stands (part n ps) (suc i) c xs h s = missing_stands ps i c xs h s
+  missing_stands (gap ps) zero c xs h s = s
+  missing_stands (gap ps) (suc i) c xs h s = missing_stands ps i c xs h s
+
+  pub part_missing : {a : View} {ms : List Mark} {x : Bool} {d : ℕ} (ps : Parts) (i r : ℕ) (xs : List Role) (c : Course) → None ≡ part_at ps i → Reads W r a.flags → parts_fit W (parts_behind i ps) xs r ≡ true → Stands c (parts_behind i ps) xs →
+      Gone W a a (here ∷ ms) ms (parts_behind i ps) (parts_behind (suc i) ps) xs c x false d r
+  part_missing ps i r xs c h k f s = record { left = xs; passed = passed_missing W ps i r h k f; stands = missing_stands ps i c xs h s }
 
   -- The turns of the loops
 
-  pub stepped : {a b : View} {ls ns : List Mark} {ps : Parts} {xs ys : List Role} {x y : Bool} {d r : ℕ} (P : Parts) (i : ℕ) → Passed W a b ls ns ps (parts_behind (suc i) P) xs ys x y d r → Passed W a b ls ns ps (parts_behind (i + 1) P) xs ys x y d r
-  stepped {a} {b} {ls} {ns} {ps} {xs} {ys} {x} {y} {d} {r} P i p = subst (λ j. Passed W a b ls ns ps (parts_behind j P) xs ys x y d r) (sym (add-one i)) p
+  pub stepped : {a b : View} {ls ns : List Mark} {ps : Parts} {xs : List Role} {c : Course} {x y : Bool} {d r : ℕ} (P : Parts) (i : ℕ) → Gone W a b ls ns ps (parts_behind (suc i) P) xs c x y d r → Gone W a b ls ns ps (parts_behind (i + 1) P) xs c x y d r
+  stepped {a} {b} {ls} {ns} {ps} {xs} {c} {x} {y} {d} {r} P i p = subst (λ j. Gone W a b ls ns ps (parts_behind j P) xs c x y d r) (sym (add-one i)) p
 
-  pub stepped_chain : {a b : View} {ls : List Mark} {ps : Parts} {xs ys : List Role} {x y : Bool} {d r : ℕ} (w : List ℕ) (t : Chain) (P : Parts) (i : ℕ) (ms : List Mark) →
-      Passed W a b ls (chain_marks w t (parts_behind (suc i) P) ++ ms) ps (parts_behind (suc i) P) xs ys x y d r → Passed W a b ls (chain_marks w t (parts_behind (i + 1) P) ++ ms) ps (parts_behind (i + 1) P) xs ys x y d r
-  stepped_chain {a} {b} {ls} {ps} {xs} {ys} {x} {y} {d} {r} w t P i ms p = subst (λ j. Passed W a b ls (chain_marks w t (parts_behind j P) ++ ms) ps (parts_behind j P) xs ys x y d r) (sym (add-one i)) p
+  pub stepped_chain : {a b : View} {ls : List Mark} {ps : Parts} {xs : List Role} {c : Course} {x y : Bool} {d r : ℕ} (w : List ℕ) (t : Chain) (P : Parts) (i : ℕ) (ms : List Mark) →
+      Gone W a b ls (chain_marks w t (parts_behind (suc i) P) ++ ms) ps (parts_behind (suc i) P) xs c x y d r → Gone W a b ls (chain_marks w t (parts_behind (i + 1) P) ++ ms) ps (parts_behind (i + 1) P) xs c x y d r
+  stepped_chain {a} {b} {ls} {ps} {xs} {c} {x} {y} {d} {r} w t P i ms p = subst (λ j. Gone W a b ls (chain_marks w t (parts_behind j P) ++ ms) ps (parts_behind j P) xs c x y d r) (sym (add-one i)) p
 
-  pub fronts_done : {X : Type 0} {a b : View} {ls : List Mark} {ps : Parts} {xs ys : List Role} {x y : Bool} {d r : ℕ} (w : List ℕ) (f : X → List Bit) (fs : List X) (P : Parts) (i : ℕ) (ms : List Mark) → i ≡ length fs →
-      Passed W a b ls (front_marks w (map f (drop i fs)) ms) ps (parts_behind i P) xs ys x y d r → Passed W a b ls ms ps (parts_behind (length fs) P) xs ys x y d r
-  fronts_done {X} {a} {b} {ls} {ps} {xs} {ys} {x} {y} {d} {r} w f fs P i ms e p =
-      subst (λ j. Passed W a b ls ms ps (parts_behind j P) xs ys x y d r) e (subst (λ M. Passed W a b ls M ps (parts_behind i P) xs ys x y d r) (fronts-past w f fs i ms (omega (arith, e))) p)
+  pub fronts_done : {a b : View} {ls : List Mark} {ps : Parts} {xs : List Role} {c : Course} {x y : Bool} {d r : ℕ} (w : List ℕ) (fs : List (List Bit)) (P : Parts) (i j : ℕ) (ms : List Mark) → i ≡ length fs → i ≡ j →
+      Gone W a b ls (front_marks w (drop i fs) ms) ps (parts_behind i P) xs c x y d r → Gone W a b ls ms ps (parts_behind j P) xs c x y d r
+  fronts_done {a} {b} {ls} {ps} {xs} {c} {x} {y} {d} {r} w fs P i j ms e f p =
+      subst (λ k. Gone W a b ls ms ps (parts_behind k P) xs c x y d r) f (subst (λ M. Gone W a b ls M ps (parts_behind i P) xs c x y d r) (fronts-past w fs i ms (omega (arith, e))) p)
 
-  pub chain_done : {a b : View} {ls : List Mark} {ps : Parts} {xs ys : List Role} {x y : Bool} {d r : ℕ} (w : List ℕ) (t : Chain) (P : Parts) (i : ℕ) (ms : List Mark) → part_count P ≤ i →
-      Passed W a b ls (chain_marks w t (parts_behind i P) ++ ms) ps (parts_behind i P) xs ys x y d r → Passed W a b ls ms ps none xs ys x y d r
-  chain_done {a} {b} {ls} {ps} {xs} {ys} {x} {y} {d} {r} w t P i ms e p = subst (λ q. Passed W a b ls (chain_marks w t q ++ ms) ps q xs ys x y d r) (behind-past P i e) p
+  pub chain_done : {a b : View} {ls : List Mark} {ps : Parts} {xs : List Role} {c : Course} {x y : Bool} {d r : ℕ} (w : List ℕ) (t : Chain) (P : Parts) (i : ℕ) (ms : List Mark) → part_count P ≤ i →
+      Gone W a b ls (chain_marks w t (parts_behind i P) ++ ms) ps (parts_behind i P) xs c x y d r → Gone W a b ls ms ps none xs c x y d r
+  chain_done {a} {b} {ls} {ps} {xs} {c} {x} {y} {d} {r} w t P i ms e p = subst (λ q. Gone W a b ls (chain_marks w t q ++ ms) ps q xs c x y d r) (behind-past P i e) p

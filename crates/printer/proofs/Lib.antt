@@ -1,19 +1,26 @@
 pub mod Arrows
+pub mod CourseDefaults
+pub mod CourseTable
 pub mod Defaults
 pub mod Ends
+pub mod Fusing
 pub mod Heights
 mod Items
 pub mod Layouts
 pub mod ListMarks
 pub mod Nodes
 pub mod OtherMarks
+pub mod Outlining
 pub mod Passing
 pub mod PlaceMarks
 pub mod Planned
 pub mod Rows
+pub mod Seating
 pub mod Shaped
+pub mod SiteLemmas
 pub mod Standings
 pub mod TableMarks
+pub mod Waiting
 pub mod Whole
 pub mod Words
 pub mod Writing

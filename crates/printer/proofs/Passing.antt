@@ -7,31 +7,29 @@ use Rattle.language.specs.Positions.{rows, parts_rows}
 use Rattle.language.specs.Layout.{layout}
 use Rattle.positions.specs.Outlines.{parts_behind}
 use Rattle.positions.proofs.Behind.{some-suc}
-use Rattle.printer.specs.declared.pieces.Piece.{Piece}
-use Rattle.printer.specs.declared.pieces.Piece.TheVariants as own
-use Rattle.printer.specs.Bits.{Mark, here, shallower, bit_of, bits_of, Chain, nothing, joined, commas, lines, feeds, parameters}
+use Rattle.printer.specs.Bits.{Mark, here, shallower, Bit, token, own_text, newline, feeding, loosely, chunk, Chain, nothing, joined, commas, lines, feeds, parameters}
 use Rattle.printer.specs.Shapes.{inner}
-use Rattle.printer.specs.Sheets.{View, Writes, flag_at, piece_text, pieces_text}
+use Rattle.printer.specs.Sheets.{View, Writes, flag_at}
+use Rattle.printer.proofs.Fusing.{bit_text, bits_text}
 use Rattle.language.specs.Fits.{fits, parts_fit}
 use Rattle.printer.proofs.Writing.{leads_then, leads_at, leads_same}
 use Rattle.printer.specs.Printed.{mark_of, marks_in, marks_text, deep, Reads, Printed, Passed, Written}
 
 module _ (W : ℕ → Bool) where
-  piece_marks : (w : List ℕ) (p : Piece) (ms : List Mark) (ps : Parts) (xs : List Role) (r d : ℕ) (b : Bool) → marks_text W (mark_of w (bit_of p) ∷ ms) ps xs r d b ≡ piece_text w d b p ++ marks_text W ms ps xs r d b
-  piece_marks w (own.Token s) ms ps xs r d b = refl
-  piece_marks w own.Own ms ps xs r d b = refl
-  piece_marks w (own.Chunk x y) ms ps xs r d b = refl
-  piece_marks w own.Space ms ps xs r d b = refl
-  piece_marks w own.Line ms ps xs r d b = refl
-  piece_marks w own.Feed ms ps xs r d b = refl
-  piece_marks w own.Loose ms ps xs r d true = refl
-  piece_marks w own.Loose ms ps xs r d false = refl
+  bit_marks : (w : List ℕ) (x : Bit) (ms : List Mark) (ps : Parts) (xs : List Role) (r d : ℕ) (b : Bool) → marks_text W (mark_of w x ∷ ms) ps xs r d b ≡ bit_text w d b x ++ marks_text W ms ps xs r d b
+  bit_marks w (token v) ms ps xs r d b = refl
+  bit_marks w own_text ms ps xs r d b = refl
+  bit_marks w newline ms ps xs r d b = refl
+  bit_marks w feeding ms ps xs r d b = refl
+  bit_marks w loosely ms ps xs r d true = refl
+  bit_marks w loosely ms ps xs r d false = refl
+  bit_marks w (chunk x y) ms ps xs r d b = refl
 
-  pub pieces_marks : (w : List ℕ) (us : List Piece) (ms : List Mark) (ps : Parts) (xs : List Role) (r d : ℕ) (b : Bool) → marks_text W (marks_in w (bits_of us) ++ ms) ps xs r d b ≡ pieces_text w d b us ++ marks_text W ms ps xs r d b
-  pieces_marks w [] ms ps xs r d b = refl
-  pieces_marks w (u ∷ us) ms ps xs r d b =
-      piece_marks w u (marks_in w (bits_of us) ++ ms) ps xs r d b ∙ ap (λ t. piece_text w d b u ++ t) (pieces_marks w us ms ps xs r d b)
-      ∙ sym (append_assoc (piece_text w d b u) (pieces_text w d b us) (marks_text W ms ps xs r d b))
+  bits_marks : (w : List ℕ) (us : List Bit) (ms : List Mark) (ps : Parts) (xs : List Role) (r d : ℕ) (b : Bool) → marks_text W (marks_in w us ++ ms) ps xs r d b ≡ bits_text w d b us ++ marks_text W ms ps xs r d b
+  bits_marks w [] ms ps xs r d b = refl
+  bits_marks w (u ∷ us) ms ps xs r d b =
+      bit_marks w u (marks_in w us ++ ms) ps xs r d b ∙ ap (λ t. bit_text w d b u ++ t) (bits_marks w us ms ps xs r d b)
+      ∙ sym (append_assoc (bit_text w d b u) (bits_text w d b us) (marks_text W ms ps xs r d b))
 
   pub passed_nothing : {a : View} {ms : List Mark} {ps : Parts} {xs : List Role} {b : Bool} {d : ℕ} (r : ℕ) → Reads W r a.flags → parts_fit W ps xs r ≡ true → Passed W a a ms ms ps ps xs xs b b d r
   passed_nothing r h k = record { row = r; reads = h; counts = refl; fit = k; shows = λ next. leads_same }
@@ -40,15 +38,15 @@ module _ (W : ℕ → Bool) where
       (p : Passed W a b ls ms ps qs xs ys x y d r) → Passed W b c ms ns qs us ys zs y z d p.row → Passed W a c ls ns ps us xs zs x z d r
   passed_then p q = record { row = q.row; reads = q.reads; counts = q.counts ∙ p.counts; fit = q.fit; shows = λ next. leads_then (p.shows next) (q.shows next) }
 
-  -- pieces without parts
-  pub passed_pieces : {a b : View} (w : List ℕ) (us : List Piece) {ms : List Mark} {ps : Parts} {xs : List Role} {x : Bool} {d : ℕ} (r : ℕ) →
-      Reads W r a.flags → parts_fit W ps xs r ≡ true → Writes a b (pieces_text w d x us) → Passed W a b (marks_in w (bits_of us) ++ ms) ms ps ps xs xs x x d r
-  passed_pieces {a} {b} w us {ms} {ps} {xs} {x} {d} r h k p = record {
+  -- bits without parts
+  pub passed_bits : {a b : View} (w : List ℕ) (us : List Bit) {ms : List Mark} {ps : Parts} {xs : List Role} {x : Bool} {d : ℕ} (r : ℕ) →
+      Reads W r a.flags → parts_fit W ps xs r ≡ true → Writes a b (bits_text w d x us) → Passed W a b (marks_in w us ++ ms) ms ps ps xs xs x x d r
+  passed_bits {a} {b} w us {ms} {ps} {xs} {x} {d} r h k p = record {
     row = r;
     reads = subst (Reads W r) (sym p.flags) h;
     counts = refl;
     fit = k;
-    shows = λ next. leads_at (sym (append_assoc (pieces_text w d x us) (marks_text W ms ps xs r d x) next) ∙ ap (λ t. t ++ next) (sym (pieces_marks w us ms ps xs r d x))) (p.follows (marks_text W ms ps xs r d x ++ next));
+    shows = λ next. leads_at (sym (append_assoc (bits_text w d x us) (marks_text W ms ps xs r d x) next) ∙ ap (λ t. t ++ next) (sym (bits_marks w us ms ps xs r d x))) (p.follows (marks_text W ms ps xs r d x ++ next));
   }
 
   abbrev pub raised : Chain → List Mark → List Mark

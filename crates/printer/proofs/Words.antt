@@ -12,13 +12,12 @@ use Rattle.language.specs.Fits.{parts_fit}
 use Rattle.positions.specs.declared.position.Position.{Position}
 use Rattle.positions.specs.declared.position.Position.TheVariants as at
 use Rattle.positions.specs.Outlines.{role_of}
-use Rattle.printer.specs.declared.pieces.Piece.TheVariants as own
 use Rattle.printer.specs.Bits.{text, own_text, fronted}
 use Rattle.printer.specs.Shapes.{expression_shape, shape_by, sign_at, is_plain_at, is_word_at}
 use Rattle.printer.specs.Sheets.{View, Writes}
 use Rattle.printer.specs.Printed.{shape_marks, Reads, Direct, Written, spelled_so}
 use Rattle.printer.proofs.Writing.{writes_as}
-use Rattle.printer.proofs.Passing.{passed_pieces, passed_all}
+use Rattle.printer.proofs.Passing.{passed_bits, passed_all}
 use Rattle.printer.proofs.Whole.{spelled_parts, marks_framed, direct_by}
 
 both : (u v : Bool) → (u && v) ≡ true → (u ≡ true) × (v ≡ true)
@@ -48,7 +47,7 @@ word_marks w (gap ps) h = absurd (false≢true h)
 
 module _ (W : ℕ → Bool) where
   written : {a b : View} (w : List ℕ) (ps : Parts) (xs : List Role) (r d : ℕ) → is_none ps ≡ true → Reads W r a.flags → parts_fit W ps xs r ≡ true → Writes a b w → Written W a b (text w ∷ []) ps xs false d r
-  written {a} {b} w none xs r d h u f x = passed_all W {ys = xs} {y = false} (passed_pieces W w (own.Own ∷ []) {ms = []} r u f (writes_as a b _ _ (sym (append-nil w)) x))
+  written {a} {b} w none xs r d h u f x = passed_all W {ys = xs} {y = false} (passed_bits W w (own_text ∷ []) {ms = []} r u f (writes_as a b _ _ (sym (append-nil w)) x))
   written w (part n ps) xs r d h u f x = absurd (false≢true h)
   written w (gap ps) xs r d h u f x = absurd (false≢true h)
 

@@ -1,5 +1,5 @@
 -- What stands between the parts of a node, and how: bits of its own, and marks, where its own text is known.
-use Rattle.std.specs.Prelude.{ℕ, Bool, true, false, cond, List, [], ◌∷◌, codes, map}
+use Rattle.std.specs.Prelude.{ℕ, Bool, true, false, cond, List, [], ◌∷◌, ◌++◌, codes, map}
 use Rattle.language.specs.Pieces.{PieceOf, tok, may, many, ahead, unbroken, ending, open_parameters, close_parameters, sub, absent, never, lay}
 use Rattle.language.specs.Pieces as piece
 use Rattle.printer.specs.declared.pieces.Piece.{Piece}
@@ -100,3 +100,17 @@ after_bits (parameters xs) g false true = []
 after_bits (parameters xs) g false false = token (codes ",") ∷ token (codes " ") ∷ []
 after_bits feeds g a b = feeding ∷ []
 after_bits _ g a b = []
+
+-- Tokens side by side as one
+
+abbrev pub glued : List ℕ → List Bit → List Bit
+glued v (token w ∷ bs) = token (v ++ w) ∷ bs
+glued v bs = token v ∷ bs
+
+abbrev pub fused : List Bit → List Bit
+fused [] = []
+fused (token v ∷ bs) = glued v (fused bs)
+fused (b ∷ bs) = b ∷ fused bs
+
+abbrev pub fused_shape : Shape → Shape
+fused_shape s = record { front = map fused s.front; opener = fused s.opener; chain = s.chain; closer = fused s.closer }

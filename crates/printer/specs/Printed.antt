@@ -9,6 +9,8 @@ use Rattle.printer.specs.Bits.{Mark, text, line, feed, deeper, shallower, loose,
 use Rattle.language.specs.Fits.{lines_up, parts_fit}
 use Rattle.printer.specs.Sheets.{View, Leads, flag_at, chunk_text, sign_code}
 use Rattle.printer.specs.declared.pieces.Sign.{Sign}
+use Rattle.printer.specs.declared.course.Course.{Course}
+use Rattle.printer.specs.Sites.{Stands}
 
 -- Marks of a shape, at a node of this text
 
@@ -88,6 +90,12 @@ pub record Passed (W : ℕ → Bool) (old new : View) (ms ms' : List Mark) (ps p
   pub counts : row + parts_rows ps' xs' ≡ r + parts_rows ps xs
   pub fit : parts_fit W ps' xs' row ≡ true
   pub shows : (next : List ℕ) → Leads old new (marks_text W ms ps xs r d b ++ next) (marks_text W ms' ps' xs' row d b' ++ next)
+
+-- the same, with positions left that stand at a course
+pub record Gone (W : ℕ → Bool) (old new : View) (ms ms' : List Mark) (ps ps' : Parts) (xs : List Role) (c : Course) (b b' : Bool) (d r : ℕ) : Type 0 where
+  pub left : List Role
+  pub passed : Passed W old new ms ms' ps ps' xs left b b' d r
+  pub stands : Stands c ps' left
 
 -- all marks were written, with their parts and rows
 pub record Written (W : ℕ → Bool) (old new : View) (ms : List Mark) (ps : Parts) (xs : List Role) (b : Bool) (d r : ℕ) : Type 0 where

@@ -14,6 +14,8 @@ use Rattle.language.specs.Pieces.{is_none}
 use Rattle.positions.specs.Outlines.{parts_behind}
 use Rattle.positions.specs.declared.position.Position.{Position}
 use Rattle.positions.specs.declared.position.Position.TheVariants as at
+use Rattle.printer.specs.declared.site.Site.{Site}
+use Rattle.printer.specs.declared.site.Site.TheVariants as site
 use Rattle.printer.specs.Bits.{Bit, token, own_text, newline, loosely, chunk, Chain, nothing, joined, commas, lines, feeds, parameters, Shape, fronted, listed}
 
 abbrev pub spelled : String → Bit
@@ -279,6 +281,17 @@ abbrev pub is_word_at : Position → Kind → Parts → Bool
 is_word_at p kind.Identifier ps = is_none ps && is_plain_at p
 is_word_at p kind.Literal ps = is_none ps && is_plain_at p
 is_word_at p _ ps = false
+
+-- at a site
+abbrev pub shape_on : Site → Kind → List ℕ → Flags → Parts → Shape
+shape_on site.Echo k w g ps = fronted [] []
+shape_on site.OnlyChunk k w g ps = fronted [] (chunk true true ∷ [])
+shape_on site.FirstChunk k w g ps = fronted [] (chunk true false ∷ [])
+shape_on site.LastChunk k w g ps = fronted [] (chunk false true ∷ [])
+shape_on site.InnerChunk k w g ps = fronted [] (chunk false false ∷ [])
+shape_on site.Method k w g ps = method_shape
+shape_on site.Head k w g ps = head_shape
+shape_on _ k w g ps = expression_shape k w g ps
 
 -- a prefix that may not touch its own sign
 abbrev pub sign_of_text : List ℕ → Option Sign

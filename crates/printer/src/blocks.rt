@@ -3,7 +3,7 @@
 ghost use Rattle.std.specs.Prelude.{◌≡◌, [], ◌∷◌};
 ghost use Rattle.tree.specs.Node.{node_tree};
 ghost use Rattle.tree.specs.Tree.{kind_of, parts_of};
-ghost use Rattle.printer.specs.Bits.{shape_of};
+ghost use Rattle.printer.specs.Bits.{shape_of, fused_shape};
 ghost use Rattle.printer.specs.Shapes.{spelled, gapped, headed, block_shape, braced_shape, case_shape, catch_shape};
 
 use crate::lists::{CLOSE_SPACE, has_part, is_filled};
@@ -17,9 +17,9 @@ const END_BRACE: &[Piece] = &[Piece::Token("}")];
 
 const LINE_END_BRACE: &[Piece] = &[Piece::Line, Piece::Token("}")];
 
-const SWITCH: &[Piece] = &[Piece::Token("switch"), Piece::Space, Piece::Token("(")];
+const SWITCH: &[Piece] = &[Piece::Token("switch (")];
 
-const SWITCH_BRACE: &[Piece] = &[Piece::Token(")"), Piece::Space, Piece::Token("{")];
+const SWITCH_BRACE: &[Piece] = &[Piece::Token(") {")];
 
 /// With nothing at its end.
 static SCRIPT: Frame = list_frame!(&[], Feeds, &[Piece::Token("")]);
@@ -43,7 +43,7 @@ static NO_CASES: Frame = Frame {
 };
 
 static CASE: Frame = Frame {
-    front: &[&[Piece::Token("case"), Piece::Space]],
+    front: &[&[Piece::Token("case ")]],
     opener: &[Piece::Token(":")],
     series: Series::Lines,
     closer: &[],
@@ -51,24 +51,18 @@ static CASE: Frame = Frame {
 
 static DEFAULT_CASE: Frame = Frame {
     front: &[&[]],
-    opener: &[Piece::Token("default"), Piece::Token(":")],
+    opener: &[Piece::Token("default:")],
     series: Series::Lines,
     closer: &[],
 };
 
-static CATCH_BINDING: Frame = front_frame!(
-    &[
-        &[Piece::Token("catch"), Piece::Space, Piece::Token("(")],
-        CLOSE_SPACE,
-    ],
-    &[]
-);
+static CATCH_BINDING: Frame = front_frame!(&[&[Piece::Token("catch (")], CLOSE_SPACE,], &[]);
 
-static CATCH: Frame = front_frame!(&[&[], &[Piece::Token("catch"), Piece::Space]], &[]);
+static CATCH: Frame = front_frame!(&[&[], &[Piece::Token("catch ")]], &[]);
 
 /// Scripts, blocks, class bodies, switches and cases.
 pub fn block_frame(node: Node) -> &'static Frame
-    ensures { shape_of result.now ≡ block_shape (kind_of (node_tree node.entry)) (parts_of (node_tree node.entry)) }
+    ensures { shape_of result.now ≡ fused_shape (block_shape (kind_of (node_tree node.entry)) (parts_of (node_tree node.entry))) }
 {
     match node.kind() {
         Kind::Program => &SCRIPT,
@@ -82,28 +76,28 @@ pub fn block_frame(node: Node) -> &'static Frame
 
 /// Parts on lines of their own, in braces.
 fn braced(filled: bool) -> &'static Frame
-    ensures { shape_of result.now ≡ braced_shape [] (spelled "{" ∷ []) filled }
+    ensures { shape_of result.now ≡ fused_shape (braced_shape [] (spelled "{" ∷ []) filled) }
 {
     if filled { &BLOCK } else { &EMPTY_BLOCK }
 }
 
 /// A switch, by whether it has cases.
 fn switch_frame(filled: bool) -> &'static Frame
-    ensures { shape_of result.now ≡ braced_shape (headed "switch" ∷ []) (spelled ")" ∷ gapped ∷ spelled "{" ∷ []) filled }
+    ensures { shape_of result.now ≡ fused_shape (braced_shape (headed "switch" ∷ []) (spelled ")" ∷ gapped ∷ spelled "{" ∷ []) filled) }
 {
     if filled { &CASES } else { &NO_CASES }
 }
 
 /// A case, by whether it has a test.
 fn case_frame(tested: bool) -> &'static Frame
-    ensures { shape_of result.now ≡ case_shape tested }
+    ensures { shape_of result.now ≡ fused_shape (case_shape tested) }
 {
     if tested { &CASE } else { &DEFAULT_CASE }
 }
 
 /// A catch clause, by whether it has a binding.
 fn catch_frame(binds: bool) -> &'static Frame
-    ensures { shape_of result.now ≡ catch_shape binds }
+    ensures { shape_of result.now ≡ fused_shape (catch_shape binds) }
 {
     if binds { &CATCH_BINDING } else { &CATCH }
 }

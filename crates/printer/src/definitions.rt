@@ -3,7 +3,7 @@
 ghost use Rattle.std.specs.Prelude.{◌≡◌};
 ghost use Rattle.tree.specs.Node.{node_tree};
 ghost use Rattle.tree.specs.Tree.{kind_of, flags_of, parts_of};
-ghost use Rattle.printer.specs.Bits.{shape_of};
+ghost use Rattle.printer.specs.Bits.{shape_of, fused_shape};
 ghost use Rattle.printer.specs.Shapes.{definition_shape, method_shape, arrow_shape, is_single as is_single_arrow, class_shape, property_shape, class_member_shape, value_shape, getter_shape, setter_shape, plain_shape, static_shape};
 
 use crate::blocks::block_frame;
@@ -11,53 +11,31 @@ use crate::lists::{COLON, END_BRACKET, OPEN, has_part};
 use crate::pieces::{Frame, Piece, Series, front_frame, list_frame};
 use tree::{Flags, Form, Kind, Node};
 
-const FUNCTION: &[Piece] = &[Piece::Token("function"), Piece::Space];
+const FUNCTION: &[Piece] = &[Piece::Token("function ")];
 
-const CLASS: &[Piece] = &[Piece::Token("class"), Piece::Space];
+const CLASS: &[Piece] = &[Piece::Token("class ")];
 
-const ARROW: &[Piece] = &[Piece::Space, Piece::Token("=>"), Piece::Space];
+const ARROW: &[Piece] = &[Piece::Token(" => ")];
 
-const EXTENDS: &[Piece] = &[Piece::Token("extends"), Piece::Space];
+const EXTENDS: &[Piece] = &[Piece::Token("extends ")];
 
-const SPACE_EXTENDS: &[Piece] = &[Piece::Space, Piece::Token("extends"), Piece::Space];
+const SPACE_EXTENDS: &[Piece] = &[Piece::Token(" extends ")];
 
-const GET: &[Piece] = &[Piece::Token("get"), Piece::Space];
+const GET: &[Piece] = &[Piece::Token("get ")];
 
-const SET: &[Piece] = &[Piece::Token("set"), Piece::Space];
+const SET: &[Piece] = &[Piece::Token("set ")];
 
-const STATIC: &[Piece] = &[Piece::Token("static"), Piece::Space];
+const STATIC: &[Piece] = &[Piece::Token("static ")];
 
-const STATIC_BRACKET: &[Piece] = &[Piece::Token("static"), Piece::Space, Piece::Token("[")];
+const STATIC_BRACKET: &[Piece] = &[Piece::Token("static [")];
 
-const STATIC_GET: &[Piece] = &[
-    Piece::Token("static"),
-    Piece::Space,
-    Piece::Token("get"),
-    Piece::Space,
-];
+const STATIC_GET: &[Piece] = &[Piece::Token("static get ")];
 
-const STATIC_GET_BRACKET: &[Piece] = &[
-    Piece::Token("static"),
-    Piece::Space,
-    Piece::Token("get"),
-    Piece::Space,
-    Piece::Token("["),
-];
+const STATIC_GET_BRACKET: &[Piece] = &[Piece::Token("static get [")];
 
-const STATIC_SET: &[Piece] = &[
-    Piece::Token("static"),
-    Piece::Space,
-    Piece::Token("set"),
-    Piece::Space,
-];
+const STATIC_SET: &[Piece] = &[Piece::Token("static set ")];
 
-const STATIC_SET_BRACKET: &[Piece] = &[
-    Piece::Token("static"),
-    Piece::Space,
-    Piece::Token("set"),
-    Piece::Space,
-    Piece::Token("["),
-];
+const STATIC_SET_BRACKET: &[Piece] = &[Piece::Token("static set [")];
 
 /// Parameters in their parentheses, and a body, behind a part that stands behind these pieces.
 macro_rules! function_frame {
@@ -91,33 +69,15 @@ static SHORTHAND: Frame = front_frame!(&[&[], &[]], &[]);
 
 static VALUE: Frame = front_frame!(&[&[], COLON], &[]);
 
-static COMPUTED_VALUE: Frame = front_frame!(
-    &[
-        &[Piece::Token("[")],
-        &[Piece::Token("]"), Piece::Token(":"), Piece::Space],
-    ],
-    &[]
-);
+static COMPUTED_VALUE: Frame = front_frame!(&[&[Piece::Token("[")], &[Piece::Token("]: ")],], &[]);
 
 static GETTER: Frame = front_frame!(&[GET, &[]], &[]);
 
-static COMPUTED_GETTER: Frame = front_frame!(
-    &[
-        &[Piece::Token("get"), Piece::Space, Piece::Token("[")],
-        END_BRACKET,
-    ],
-    &[]
-);
+static COMPUTED_GETTER: Frame = front_frame!(&[&[Piece::Token("get [")], END_BRACKET,], &[]);
 
 static SETTER: Frame = front_frame!(&[SET, &[]], &[]);
 
-static COMPUTED_SETTER: Frame = front_frame!(
-    &[
-        &[Piece::Token("set"), Piece::Space, Piece::Token("[")],
-        END_BRACKET,
-    ],
-    &[]
-);
+static COMPUTED_SETTER: Frame = front_frame!(&[&[Piece::Token("set [")], END_BRACKET,], &[]);
 
 static PLAIN: Frame = front_frame!(&[&[], &[]], &[]);
 
@@ -137,7 +97,7 @@ static COMPUTED_STATIC_METHOD: Frame = front_frame!(&[STATIC_BRACKET, END_BRACKE
 
 /// Functions, classes, properties and members.
 pub fn definition_frame(node: Node) -> &'static Frame
-    ensures { shape_of result.now ≡ definition_shape (kind_of (node_tree node.entry)) (flags_of (node_tree node.entry)) (parts_of (node_tree node.entry)) }
+    ensures { shape_of result.now ≡ fused_shape (definition_shape (kind_of (node_tree node.entry)) (flags_of (node_tree node.entry)) (parts_of (node_tree node.entry))) }
 {
     match node.kind() {
         Kind::FunctionExpression | Kind::FunctionDeclaration => &NAMED_FUNCTION,
@@ -153,13 +113,13 @@ pub fn definition_frame(node: Node) -> &'static Frame
 
 /// The function of a method, whose name is missing.
 pub fn method_frame() -> &'static Frame
-    ensures { shape_of result.now ≡ method_shape }
+    ensures { shape_of result.now ≡ fused_shape method_shape }
 {
     &METHOD
 }
 
 fn arrow_frame(single: bool) -> &'static Frame
-    ensures { shape_of result.now ≡ arrow_shape single }
+    ensures { shape_of result.now ≡ fused_shape (arrow_shape single) }
 {
     if single { &NAMED_ARROW } else { &LISTED_ARROW }
 }
@@ -179,7 +139,7 @@ fn is_single(node: Node) -> bool
 
 /// A class, by whether it has a name and a heritage.
 fn class_frame(named: bool, extends: bool) -> &'static Frame
-    ensures { shape_of result.now ≡ class_shape named extends }
+    ensures { shape_of result.now ≡ fused_shape (class_shape named extends) }
 {
     match (named, extends) {
         (true, true) => &NAMED_SUBCLASS,
@@ -190,7 +150,7 @@ fn class_frame(named: bool, extends: bool) -> &'static Frame
 }
 
 fn property_frame(flags: Flags) -> &'static Frame
-    ensures { shape_of result.now ≡ property_shape flags.form flags.computed }
+    ensures { shape_of result.now ≡ fused_shape (property_shape flags.form flags.computed) }
 {
     match flags.form {
         Form::Get => getter_frame(flags.computed),
@@ -202,7 +162,7 @@ fn property_frame(flags: Flags) -> &'static Frame
 }
 
 fn member_frame(flags: Flags) -> &'static Frame
-    ensures { shape_of result.now ≡ class_member_shape flags.is_static flags.form flags.computed }
+    ensures { shape_of result.now ≡ fused_shape (class_member_shape flags.is_static flags.form flags.computed) }
 {
     match (flags.is_static, flags.form) {
         (false, Form::Get) => getter_frame(flags.computed),
@@ -214,31 +174,31 @@ fn member_frame(flags: Flags) -> &'static Frame
 
 /// A key and its value.
 fn value_frame(computed: bool) -> &'static Frame
-    ensures { shape_of result.now ≡ value_shape computed }
+    ensures { shape_of result.now ≡ fused_shape (value_shape computed) }
 {
     if computed { &COMPUTED_VALUE } else { &VALUE }
 }
 
 fn getter_frame(computed: bool) -> &'static Frame
-    ensures { shape_of result.now ≡ getter_shape computed }
+    ensures { shape_of result.now ≡ fused_shape (getter_shape computed) }
 {
     if computed { &COMPUTED_GETTER } else { &GETTER }
 }
 
 fn setter_frame(computed: bool) -> &'static Frame
-    ensures { shape_of result.now ≡ setter_shape computed }
+    ensures { shape_of result.now ≡ fused_shape (setter_shape computed) }
 {
     if computed { &COMPUTED_SETTER } else { &SETTER }
 }
 
 fn plain_frame(computed: bool) -> &'static Frame
-    ensures { shape_of result.now ≡ plain_shape computed }
+    ensures { shape_of result.now ≡ fused_shape (plain_shape computed) }
 {
     if computed { &COMPUTED } else { &PLAIN }
 }
 
 fn static_frame(form: Form, computed: bool) -> &'static Frame
-    ensures { shape_of result.now ≡ static_shape form computed }
+    ensures { shape_of result.now ≡ fused_shape (static_shape form computed) }
 {
     match (form, computed) {
         (Form::Get, false) => &STATIC_GETTER,

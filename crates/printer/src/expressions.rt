@@ -3,7 +3,7 @@
 ghost use Rattle.std.specs.Prelude.{◌≡◌, not};
 ghost use Rattle.tree.specs.Node.{node_tree};
 ghost use Rattle.tree.specs.Tree.{kind_of, text_of, flags_of, parts_of};
-ghost use Rattle.printer.specs.Bits.{shape_of};
+ghost use Rattle.printer.specs.Bits.{shape_of, fused_shape};
 ghost use Rattle.language.specs.Words.{is_word_operator as is_operator_word, is_open_number as is_open_number_text, literal_class as class_of_literal};
 ghost use Rattle.printer.specs.Shapes.{expression_shape, operation_shape, update_shape, unary_shape, after_open_number, is_open_literal, member_shape, call_shape};
 
@@ -17,7 +17,7 @@ const OWN: &[Piece] = &[Piece::Own];
 
 const INFIX: &[Piece] = &[Piece::Space, Piece::Own, Piece::Space];
 
-const EQUALS: &[Piece] = &[Piece::Space, Piece::Token("="), Piece::Space];
+const EQUALS: &[Piece] = &[Piece::Token(" = ")];
 
 const DOTS: &[Piece] = &[Piece::Token("...")];
 
@@ -55,7 +55,7 @@ static TAGGED: Frame = front_frame!(&[&[], &[]], &[]);
 
 static CHAIN: Frame = front_frame!(&[&[]], &[]);
 
-static IMPORT: Frame = front_frame!(&[&[Piece::Token("import"), Piece::Token("(")]], CLOSE);
+static IMPORT: Frame = front_frame!(&[&[Piece::Token("import(")]], CLOSE);
 
 static META_PROPERTY: Frame = front_frame!(&[&[], &[Piece::Token(".")]], &[]);
 
@@ -68,11 +68,7 @@ static WORD_PREFIX: Frame = front_frame!(&[&[Piece::Own, Piece::Space]], &[]);
 static BINARY: Frame = front_frame!(&[&[], INFIX], &[]);
 
 static CONDITIONAL: Frame = front_frame!(
-    &[
-        &[],
-        &[Piece::Space, Piece::Token("?"), Piece::Space],
-        &[Piece::Space, Piece::Token(":"), Piece::Space],
-    ],
+    &[&[], &[Piece::Token(" ? ")], &[Piece::Token(" : ")],],
     &[]
 );
 
@@ -86,20 +82,17 @@ static OPTIONAL_MEMBER: Frame = front_frame!(&[&[], &[Piece::Token("?.")]], &[])
 
 static COMPUTED_MEMBER: Frame = front_frame!(&[&[], BRACKET], END_BRACKET);
 
-static OPTIONAL_COMPUTED_MEMBER: Frame = front_frame!(
-    &[&[], &[Piece::Token("?."), Piece::Token("[")]],
-    END_BRACKET
-);
+static OPTIONAL_COMPUTED_MEMBER: Frame = front_frame!(&[&[], &[Piece::Token("?.[")]], END_BRACKET);
 
 static CALL: Frame = arguments_frame!(&[&[]], OPEN);
 
-static OPTIONAL_CALL: Frame = arguments_frame!(&[&[]], &[Piece::Token("?."), Piece::Token("(")]);
+static OPTIONAL_CALL: Frame = arguments_frame!(&[&[]], &[Piece::Token("?.(")]);
 
-static NEW: Frame = arguments_frame!(&[&[Piece::Token("new"), Piece::Space]], OPEN);
+static NEW: Frame = arguments_frame!(&[&[Piece::Token("new ")]], OPEN);
 
 /// Words, lists and templates.
 pub fn expression_frame(node: Node) -> &'static Frame
-    ensures { shape_of result.now ≡ expression_shape (kind_of (node_tree node.entry)) (text_of (node_tree node.entry)) (flags_of (node_tree node.entry)) (parts_of (node_tree node.entry)) }
+    ensures { shape_of result.now ≡ fused_shape (expression_shape (kind_of (node_tree node.entry)) (text_of (node_tree node.entry)) (flags_of (node_tree node.entry)) (parts_of (node_tree node.entry))) }
 {
     match node.kind() {
         Kind::Identifier | Kind::Literal => &WORD,
@@ -120,7 +113,7 @@ pub fn expression_frame(node: Node) -> &'static Frame
 
 /// Operations, members and calls.
 fn operation_frame(node: Node) -> &'static Frame
-    ensures { shape_of result.now ≡ operation_shape (kind_of (node_tree node.entry)) (text_of (node_tree node.entry)) (flags_of (node_tree node.entry)) (parts_of (node_tree node.entry)) }
+    ensures { shape_of result.now ≡ fused_shape (operation_shape (kind_of (node_tree node.entry)) (text_of (node_tree node.entry)) (flags_of (node_tree node.entry)) (parts_of (node_tree node.entry))) }
 {
     match node.kind() {
         Kind::UpdateExpression => update_frame(node.flags().prefix),
@@ -136,13 +129,13 @@ fn operation_frame(node: Node) -> &'static Frame
 }
 
 fn update_frame(prefix: bool) -> &'static Frame
-    ensures { shape_of result.now ≡ update_shape prefix }
+    ensures { shape_of result.now ≡ fused_shape (update_shape prefix) }
 {
     if prefix { &PREFIX } else { &POSTFIX }
 }
 
 fn unary_frame(text: &str) -> &'static Frame
-    ensures { shape_of result.now ≡ unary_shape text.now }
+    ensures { shape_of result.now ≡ fused_shape (unary_shape text.now) }
 {
     if is_word_operator(text) {
         return &WORD_PREFIX;
@@ -208,7 +201,7 @@ fn literal_class(raw: &str) -> Class
 }
 
 fn member_frame(flags: Flags, after_number: bool) -> &'static Frame
-    ensures { shape_of result.now ≡ member_shape flags.optional flags.computed after_number }
+    ensures { shape_of result.now ≡ fused_shape (member_shape flags.optional flags.computed after_number) }
 {
     match (flags.optional, flags.computed) {
         (false, true) => &COMPUTED_MEMBER,
@@ -220,7 +213,7 @@ fn member_frame(flags: Flags, after_number: bool) -> &'static Frame
 }
 
 fn call_frame(optional: bool) -> &'static Frame
-    ensures { shape_of result.now ≡ call_shape optional }
+    ensures { shape_of result.now ≡ fused_shape (call_shape optional) }
 {
     if optional { &OPTIONAL_CALL } else { &CALL }
 }

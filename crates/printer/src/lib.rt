@@ -3,6 +3,7 @@
 //! The text of a tree in its one layout, with parentheses round the nodes that are wrapped.
 
 mod blocks;
+mod course;
 mod definitions;
 mod expressions;
 mod frame;
@@ -12,6 +13,7 @@ mod pieces;
 mod printer;
 mod room;
 mod sheet;
+mod site;
 mod statements;
 
 pub use output::print;

@@ -10,13 +10,13 @@ ghost use Rattle.printer.specs.Shapes.{has_part as has_part_at};
 use crate::pieces::Piece;
 use tree::Node;
 
-pub const COLON: &[Piece] = &[Piece::Token(":"), Piece::Space];
+pub const COLON: &[Piece] = &[Piece::Token(": ")];
 
 pub const OPEN: &[Piece] = &[Piece::Token("(")];
 
 pub const CLOSE: &[Piece] = &[Piece::Token(")")];
 
-pub const CLOSE_SPACE: &[Piece] = &[Piece::Token(")"), Piece::Space];
+pub const CLOSE_SPACE: &[Piece] = &[Piece::Token(") ")];
 
 pub const END_BRACKET: &[Piece] = &[Piece::Token("]")];
 

@@ -1,7 +1,7 @@
 //! Pieces of a node's text.
 
 ghost use Rattle.std.specs.Prelude.{◌≡◌, nat_eq};
-ghost use Rattle.printer.specs.Bits.{bits_of, chain_of, before_bits, after_bits};
+ghost use Rattle.printer.specs.Bits.{bits_of, chain_of, before_bits, after_bits, fused};
 
 /// What stands between the parts of a node.
 #[derive(Clone, Copy)]
@@ -65,20 +65,15 @@ const NO_PIECES: &[Piece] = &[];
 
 const COMMA: &[Piece] = &[Piece::Token(",")];
 
-const SEPARATOR: &[Piece] = &[Piece::Token(","), Piece::Space];
+const SEPARATOR: &[Piece] = &[Piece::Token(", ")];
 
 const LINE: &[Piece] = &[Piece::Line];
 
 const FEED: &[Piece] = &[Piece::Feed];
 
-const CLOSE_SPACE: &[Piece] = &[Piece::Token(")"), Piece::Space];
+const CLOSE_SPACE: &[Piece] = &[Piece::Token(") ")];
 
-const CLOSE_ARROW: &[Piece] = &[
-    Piece::Token(")"),
-    Piece::Space,
-    Piece::Token("=>"),
-    Piece::Space,
-];
+const CLOSE_ARROW: &[Piece] = &[Piece::Token(") => ")];
 
 /// A node with no parts but these.
 macro_rules! front_frame {
@@ -109,7 +104,7 @@ pub(crate) use list_frame;
 
 /// What stands before a part of a list.
 pub fn before(series: Series, is_last: bool) -> &'static [Piece]
-    ensures { bits_of result.now ≡ before_bits (chain_of series) is_last }
+    ensures { bits_of result.now ≡ fused (before_bits (chain_of series) is_last) }
 {
     match series {
         Series::Parameters if is_last => CLOSE_SPACE,
@@ -121,7 +116,7 @@ pub fn before(series: Series, is_last: bool) -> &'static [Piece]
 
 /// What stands behind a part of a list, or a gap.
 pub fn after(series: Series, is_gap: bool, behind: usize) -> &'static [Piece]
-    ensures { bits_of result.now ≡ after_bits (chain_of series) is_gap (nat_eq behind 0) (nat_eq behind 1) }
+    ensures { bits_of result.now ≡ fused (after_bits (chain_of series) is_gap (nat_eq behind 0) (nat_eq behind 1)) }
 {
     match series {
         Series::Commas if behind > 0 => SEPARATOR,

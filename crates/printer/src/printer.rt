@@ -1,15 +1,14 @@
 //! The text of a tree.
 
-ghost use Rattle.std.specs.Prelude.{◌≡◌, ℕ, suc, ◌<◌, ◌≤◌, ◌+◌, Bool, true, nat_eq, cond, List, [], ◌∷◌, ◌++◌, length, map, None, Some, IfOk};
+ghost use Rattle.std.specs.Prelude.{◌≡◌, ℕ, suc, ◌<◌, ◌≤◌, ◌+◌, ◌-◌, Bool, true, nat_le, cond, List, [], ◌∷◌, ◌++◌, length, map, None, Some, IfOk};
 ghost use Rattle.std.specs.String.{string_bytes};
 ghost use Rattle.tree.specs.Node.{node_tree};
 ghost use Rattle.tree.specs.Tree.{height, kind_of, text_of, flags_of, parts_of, part_count, none};
-ghost use Rattle.language.specs.Pieces.{is_none};
+ghost use Rattle.language.specs.Pieces.{Role, is_none};
 ghost use Rattle.language.specs.Grammar.{ways};
-ghost use Rattle.language.specs.Positions.{has_row as row_of};
-ghost use Rattle.positions.specs.Outlines.{role_of, parts_behind, whole_at};
-ghost use Rattle.positions.specs.Remaining.{remaining};
-ghost use Rattle.printer.specs.Bits.{Mark, here, bits_of, chain_of, shape_of};
+ghost use Rattle.positions.specs.declared.position.Position.{Position};
+ghost use Rattle.positions.specs.Outlines.{role_of, parts_behind};
+ghost use Rattle.printer.specs.Bits.{Mark, here, Bit, bits_of, chain_of, fused};
 ghost use Rattle.printer.specs.Shapes.{sign_at, sign_of_text, inner};
 ghost use Rattle.language.specs.Pieces.{script};
 ghost use Rattle.language.specs.Layout.{layout};
@@ -18,29 +17,24 @@ ghost use Rattle.printer.specs.Standings.{Puts, Adds};
 ghost use Rattle.printer.specs.Sheets.{seen, flag_at};
 ghost use Rattle.language.specs.Fits.{fits, parts_fit, lines_up};
 ghost use Rattle.printer.specs.Texts.{IsLaid, IsFixed};
-ghost use Rattle.printer.specs.Printed.{Reads, Printed, Direct, Passed, Written, spelled_so, front_marks, chain_marks, deep, shape_marks, marks_in, signed_marks};
+ghost use Rattle.printer.specs.declared.site.Site.TheVariants.{Row};
+ghost use Rattle.printer.specs.Sites.{site_of, Stands};
+ghost use Rattle.printer.specs.Printed.{Reads, Printed, Direct, Gone, Written, spelled_so, front_marks, chain_marks, deep, shape_marks, marks_in, signed_marks};
 
+use crate::course::{Course, course_of};
 use crate::frame::{frame_of, is_word};
 use crate::pieces::{Frame, Piece, Series, Sign, after, before};
 use crate::room::{Outlet, Text};
 use crate::sheet::Sheet;
-use language::{Rank, Start};
-use positions::{Position, Positions, node_positions};
+use crate::site::{Site, is_row, seated};
 use std::alloc::{AllocError, Global};
 use tree::{Kind, Node, Program};
 
-/// Expression with In, where a wrapped node stands.
-const WHOLE: Position = Position::Expression {
-    rank: Rank::Expression,
-    with_in: true,
-    start: Start::Any,
-};
-
 /// What is left of a node.
 #[derive(Clone, Copy)]
-pub struct Walk<'t, 's> {
-    /// The positions of the parts that are left.
-    positions: Positions<'t, 's>,
+pub struct Walk {
+    /// The seats of the parts that are left.
+    course: Course,
     /// The part before has no parentheses.
     alone: bool,
 }
@@ -73,102 +67,68 @@ pub fn print_whole<O: Outlet>(program: &Program<'_>, wraps: &[bool], out: &mut O
     let mut sheet = Sheet::new(wraps);
     // (no tree is higher than it has nodes, and these are counted)
     let _ = program.node_count();
-    print_node(program.root(), Position::Script, 0, &mut sheet, out);
+    print_node(program.root(), Site::Plain, 0, &mut sheet, out);
     sheet.finish(out);
 }
 
-/// A node at its position.
+/// A node at its site.
 #[cycle(print)]
-fn print_node<O: Outlet>(
-    node: Node,
-    position: Position,
-    depth: usize,
-    sheet: &mut Sheet,
-    out: &mut O,
-)
+fn print_node<O: Outlet>(node: Node, site: Site, depth: usize, sheet: &mut Sheet, out: &mut O)
     requires { depth + height (node_tree node) ≤ usize.MAX }
-    ensures laid { (W : ℕ → Bool) → (r : ℕ) → Reads W r sheet.old.wraps.now → fits W (node_tree node.entry) (role_of position) r ≡ true → Printed W (seen (O.stands out.old sheet.old.room) sheet.old) (seen (O.stands out.new sheet.new.room) sheet.new) (node_tree node.entry) (role_of position) r depth }
+    ensures laid { (W : ℕ → Bool) → (r : ℕ) → (p : Position) → site_of (role_of p) ≡ site → Reads W r sheet.old.wraps.now → fits W (node_tree node.entry) (role_of p) r ≡ true → Printed W (seen (O.stands out.old sheet.old.room) sheet.old) (seen (O.stands out.new sheet.new.room) sheet.new) (node_tree node.entry) (role_of p) r depth }
     ensures adds { Adds (O.stands out.old sheet.old.room) (O.stands out.new sheet.new.room) }
 {
-    if has_row(position) {
-        print_row(node, position, depth, sheet, out);
+    if is_row(site) {
+        print_row(node, depth, sheet, out);
         return;
     }
-    print_direct(node, position, depth, sheet, out);
+    print_direct(node, site, depth, sheet, out);
 }
 
 /// A node that has a row, in parentheses where it is wrapped.
 #[cycle(print)]
-fn print_row<O: Outlet>(
-    node: Node,
-    position: Position,
-    depth: usize,
-    sheet: &mut Sheet,
-    out: &mut O,
-)
+fn print_row<O: Outlet>(node: Node, depth: usize, sheet: &mut Sheet, out: &mut O)
     requires { depth + height (node_tree node) ≤ usize.MAX }
-    ensures laid { (W : ℕ → Bool) → (r : ℕ) → Reads W r sheet.old.wraps.now → nat_eq (row_of (role_of position)) 1 ≡ true → fits W (node_tree node.entry) (role_of position) r ≡ true → Printed W (seen (O.stands out.old sheet.old.room) sheet.old) (seen (O.stands out.new sheet.new.room) sheet.new) (node_tree node.entry) (role_of position) r depth }
+    ensures laid { (W : ℕ → Bool) → (r : ℕ) → (p : Position) → site_of (role_of p) ≡ Row → Reads W r sheet.old.wraps.now → fits W (node_tree node.entry) (role_of p) r ≡ true → Printed W (seen (O.stands out.old sheet.old.room) sheet.old) (seen (O.stands out.new sheet.new.room) sheet.new) (node_tree node.entry) (role_of p) r depth }
     ensures adds { Adds (O.stands out.old sheet.old.room) (O.stands out.new sheet.new.room) }
 {
     if !sheet.next_row() {
-        print_direct(node, position, depth, sheet, out);
+        print_direct(node, Site::Row, depth, sheet, out);
         return;
     }
     sheet.push("(", out);
-    print_direct(node, WHOLE, depth, sheet, out);
+    print_direct(node, Site::Row, depth, sheet, out);
     sheet.push(")", out);
-}
-
-/// Whether a node at a position has a row.
-fn has_row(position: Position) -> bool
-    ensures { result ≡ nat_eq (row_of (role_of position)) 1 }
-{
-    matches!(position, Position::Expression { .. })
 }
 
 /// A node without parentheses of its own.
 #[cycle(print)]
-fn print_direct<O: Outlet>(
-    node: Node,
-    position: Position,
-    depth: usize,
-    sheet: &mut Sheet,
-    out: &mut O,
-)
+fn print_direct<O: Outlet>(node: Node, site: Site, depth: usize, sheet: &mut Sheet, out: &mut O)
     requires { depth + height (node_tree node) ≤ usize.MAX }
-    ensures laid { (W : ℕ → Bool) → (r : ℕ) → Reads W r sheet.old.wraps.now → spelled_so W (parts_of (node_tree node.entry)) (ways (role_of position) (node_tree node.entry)) r ≡ true → Direct W (seen (O.stands out.old sheet.old.room) sheet.old) (seen (O.stands out.new sheet.new.room) sheet.new) (parts_of (node_tree node.entry)) (ways (role_of position) (node_tree node.entry)) r depth }
+    ensures laid { (W : ℕ → Bool) → (r : ℕ) → (p : Position) → site_of (role_of p) ≡ site → Reads W r sheet.old.wraps.now → spelled_so W (parts_of (node_tree node.entry)) (ways (role_of p) (node_tree node.entry)) r ≡ true → Direct W (seen (O.stands out.old sheet.old.room) sheet.old) (seen (O.stands out.new sheet.new.room) sheet.new) (parts_of (node_tree node.entry)) (ways (role_of p) (node_tree node.entry)) r depth }
     ensures adds { Adds (O.stands out.old sheet.old.room) (O.stands out.new sheet.new.room) }
 {
-    if is_word(node, position) {
+    if is_word(node, site) {
         sheet.push(node.text(), out);
         return;
     }
-    print_spelled(node, position, depth, sheet, out);
+    print_spelled(node, site, depth, sheet, out);
 }
 
-/// A node by the positions of its parts.
+/// A node by the sites of its parts.
 #[cycle(print)]
-fn print_spelled<O: Outlet>(
-    node: Node,
-    position: Position,
-    depth: usize,
-    sheet: &mut Sheet,
-    out: &mut O,
-)
+fn print_spelled<O: Outlet>(node: Node, site: Site, depth: usize, sheet: &mut Sheet, out: &mut O)
     requires { depth + height (node_tree node) ≤ usize.MAX }
-    ensures laid { (W : ℕ → Bool) → (r : ℕ) → Reads W r sheet.old.wraps.now → spelled_so W (parts_of (node_tree node.entry)) (ways (role_of position) (node_tree node.entry)) r ≡ true → Direct W (seen (O.stands out.old sheet.old.room) sheet.old) (seen (O.stands out.new sheet.new.room) sheet.new) (parts_of (node_tree node.entry)) (ways (role_of position) (node_tree node.entry)) r depth }
+    ensures laid { (W : ℕ → Bool) → (r : ℕ) → (p : Position) → site_of (role_of p) ≡ site → Reads W r sheet.old.wraps.now → spelled_so W (parts_of (node_tree node.entry)) (ways (role_of p) (node_tree node.entry)) r ≡ true → Direct W (seen (O.stands out.old sheet.old.room) sheet.old) (seen (O.stands out.new sheet.new.room) sheet.new) (parts_of (node_tree node.entry)) (ways (role_of p) (node_tree node.entry)) r depth }
     ensures adds { Adds (O.stands out.old sheet.old.room) (O.stands out.new sheet.new.room) }
 {
-    let Some(positions) = node_positions(node, position) else {
-        return;
-    };
     let mut walk = Walk {
-        positions,
+        course: course_of(node, site),
         alone: false,
     };
     match sign_of(node) {
         Some(sign) => print_signed(node, sign, &mut walk, depth, sheet, out),
-        None => print_framed(node, frame_of(node, position), &mut walk, depth, sheet, out),
+        None => print_framed(node, frame_of(node, site), &mut walk, depth, sheet, out),
     }
 }
 
@@ -195,16 +155,16 @@ fn sign_in(text: &str) -> Option<Sign>
 
 /// A prefix with its operand.
 #[cycle(print)]
-fn print_signed<'t, 's, O: Outlet>(
-    node: Node<'t, 's>,
+fn print_signed<O: Outlet>(
+    node: Node,
     sign: Sign,
-    walk: &mut Walk<'t, 's>,
+    walk: &mut Walk,
     depth: usize,
     sheet: &mut Sheet,
     out: &mut O,
 )
     requires { depth + height (node_tree node) ≤ usize.MAX }
-    ensures laid { (W : ℕ → Bool) → (r : ℕ) → Reads W r sheet.old.wraps.now → parts_fit W (parts_of (node_tree node.entry)) (remaining walk.old.positions) r ≡ true → sign_of_text (text_of (node_tree node.entry)) ≡ Some sign → is_none (parts_behind 1 (parts_of (node_tree node.entry))) ≡ true → Written W (seen (O.stands out.old sheet.old.room) sheet.old) (seen (O.stands out.new sheet.new.room) sheet.new) (signed_marks (text_of (node_tree node.entry)) sign) (parts_of (node_tree node.entry)) (remaining walk.old.positions) walk.old.alone depth r }
+    ensures laid { (W : ℕ → Bool) → (xs : List Role) → (r : ℕ) → Reads W r sheet.old.wraps.now → parts_fit W (parts_of (node_tree node.entry)) xs r ≡ true → Stands walk.old.course (parts_of (node_tree node.entry)) xs → sign_of_text (text_of (node_tree node.entry)) ≡ Some sign → is_none (parts_behind 1 (parts_of (node_tree node.entry))) ≡ true → Written W (seen (O.stands out.old sheet.old.room) sheet.old) (seen (O.stands out.new sheet.new.room) sheet.new) (signed_marks (text_of (node_tree node.entry)) sign) (parts_of (node_tree node.entry)) xs walk.old.alone depth r }
     ensures adds { Adds (O.stands out.old sheet.old.room) (O.stands out.new sheet.new.room) }
 {
     sheet.push(node.text(), out);
@@ -215,16 +175,16 @@ fn print_signed<'t, 's, O: Outlet>(
 
 /// A node's parts, with what stands round them.
 #[cycle(print)]
-fn print_framed<'t, 's, O: Outlet>(
-    node: Node<'t, 's>,
+fn print_framed<O: Outlet>(
+    node: Node,
     frame: &Frame,
-    walk: &mut Walk<'t, 's>,
+    walk: &mut Walk,
     depth: usize,
     sheet: &mut Sheet,
     out: &mut O,
 )
     requires { depth + height (node_tree node) ≤ usize.MAX }
-    ensures laid { (W : ℕ → Bool) → (r : ℕ) → Reads W r sheet.old.wraps.now → parts_fit W (parts_of (node_tree node.entry)) (remaining walk.old.positions) r ≡ true → Written W (seen (O.stands out.old sheet.old.room) sheet.old) (seen (O.stands out.new sheet.new.room) sheet.new) (shape_marks (text_of (node_tree node.entry)) (shape_of frame.now) (parts_of (node_tree node.entry))) (parts_of (node_tree node.entry)) (remaining walk.old.positions) walk.old.alone depth r }
+    ensures laid { (W : ℕ → Bool) → (fs : List (List Bit)) → (os cs : List Bit) → map (λ p. bits_of p.now) frame.now.front.now ≡ map fused fs → bits_of frame.now.opener.now ≡ fused os → bits_of frame.now.closer.now ≡ fused cs → (xs : List Role) → (r : ℕ) → Reads W r sheet.old.wraps.now → parts_fit W (parts_of (node_tree node.entry)) xs r ≡ true → Stands walk.old.course (parts_of (node_tree node.entry)) xs → Written W (seen (O.stands out.old sheet.old.room) sheet.old) (seen (O.stands out.new sheet.new.room) sheet.new) (shape_marks (text_of (node_tree node.entry)) (record { front = fs; opener = os; chain = chain_of frame.now.series; closer = cs }) (parts_of (node_tree node.entry))) (parts_of (node_tree node.entry)) xs walk.old.alone depth r }
     ensures adds { Adds (O.stands out.old sheet.old.room) (O.stands out.new sheet.new.room) }
 {
     let text = node.text();
@@ -245,16 +205,16 @@ fn print_framed<'t, 's, O: Outlet>(
 
 /// The first parts, with what stands before each.
 #[cycle(print)]
-fn print_front<'t, 's, O: Outlet>(
-    node: Node<'t, 's>,
+fn print_front<O: Outlet>(
+    node: Node,
     front: &[&[Piece]],
-    walk: &mut Walk<'t, 's>,
+    walk: &mut Walk,
     depth: usize,
     sheet: &mut Sheet,
     out: &mut O,
 )
     requires { depth + height (node_tree node) ≤ usize.MAX }
-    ensures laid { (W : ℕ → Bool) → (ms : List Mark) → (r : ℕ) → Reads W r sheet.old.wraps.now → parts_fit W (parts_of (node_tree node.entry)) (remaining walk.old.positions) r ≡ true → Passed W (seen (O.stands out.old sheet.old.room) sheet.old) (seen (O.stands out.new sheet.new.room) sheet.new) (front_marks (text_of (node_tree node.entry)) (map (λ p. bits_of p.now) front.now) ms) ms (parts_of (node_tree node.entry)) (parts_behind (length front.now) (parts_of (node_tree node.entry))) (remaining walk.old.positions) (remaining walk.new.positions) walk.old.alone walk.new.alone depth r }
+    ensures laid { (W : ℕ → Bool) → (fs : List (List Bit)) → map (λ p. bits_of p.now) front.now ≡ map fused fs → (ms : List Mark) → (xs : List Role) → (r : ℕ) → Reads W r sheet.old.wraps.now → parts_fit W (parts_of (node_tree node.entry)) xs r ≡ true → Stands walk.old.course (parts_of (node_tree node.entry)) xs → Gone W (seen (O.stands out.old sheet.old.room) sheet.old) (seen (O.stands out.new sheet.new.room) sheet.new) (front_marks (text_of (node_tree node.entry)) fs ms) ms (parts_of (node_tree node.entry)) (parts_behind (length front.now) (parts_of (node_tree node.entry))) xs walk.new.course walk.old.alone walk.new.alone depth r }
     ensures adds { Adds (O.stands out.old sheet.old.room) (O.stands out.new sheet.new.room) }
 {
     for index in 0..front.len() {
@@ -265,17 +225,17 @@ fn print_front<'t, 's, O: Outlet>(
 
 /// The other parts.
 #[cycle(print)]
-fn print_list<'t, 's, O: Outlet>(
-    node: Node<'t, 's>,
+fn print_list<O: Outlet>(
+    node: Node,
     series: Series,
     from: usize,
-    walk: &mut Walk<'t, 's>,
+    walk: &mut Walk,
     depth: usize,
     sheet: &mut Sheet,
     out: &mut O,
 )
     requires { depth + height (node_tree node) ≤ usize.MAX + 1 }
-    ensures laid { (W : ℕ → Bool) → (ms : List Mark) → (r : ℕ) → Reads W r sheet.old.wraps.now → parts_fit W (parts_behind from (parts_of (node_tree node.entry))) (remaining walk.old.positions) r ≡ true → Passed W (seen (O.stands out.old sheet.old.room) sheet.old) (seen (O.stands out.new sheet.new.room) sheet.new) (chain_marks (text_of (node_tree node.entry)) (chain_of series) (parts_behind from (parts_of (node_tree node.entry))) ++ ms) ms (parts_behind from (parts_of (node_tree node.entry))) none (remaining walk.old.positions) (remaining walk.new.positions) walk.old.alone walk.new.alone depth r }
+    ensures laid { (W : ℕ → Bool) → (ms : List Mark) → (xs : List Role) → (r : ℕ) → Reads W r sheet.old.wraps.now → parts_fit W (parts_behind from (parts_of (node_tree node.entry))) xs r ≡ true → Stands walk.old.course (parts_behind from (parts_of (node_tree node.entry))) xs → Gone W (seen (O.stands out.old sheet.old.room) sheet.old) (seen (O.stands out.new sheet.new.room) sheet.new) (chain_marks (text_of (node_tree node.entry)) (chain_of series) (parts_behind from (parts_of (node_tree node.entry))) ++ ms) ms (parts_behind from (parts_of (node_tree node.entry))) none xs walk.new.course walk.old.alone walk.new.alone depth r }
     ensures adds { Adds (O.stands out.old sheet.old.room) (O.stands out.new sheet.new.room) }
 {
     let count = node.part_count();
@@ -286,18 +246,18 @@ fn print_list<'t, 's, O: Outlet>(
 
 /// One of them, with what stands before it and behind it.
 #[cycle(print)]
-fn print_item<'t, 's, O: Outlet>(
-    node: Node<'t, 's>,
+fn print_item<O: Outlet>(
+    node: Node,
     series: Series,
     index: usize,
-    walk: &mut Walk<'t, 's>,
+    walk: &mut Walk,
     depth: usize,
     sheet: &mut Sheet,
     out: &mut O,
 )
     requires low { depth + height (node_tree node) ≤ usize.MAX + 1 }
     requires index { index < part_count (parts_of (node_tree node)) }
-    ensures laid { (W : ℕ → Bool) → (ms : List Mark) → (r : ℕ) → Reads W r sheet.old.wraps.now → parts_fit W (parts_behind index (parts_of (node_tree node.entry))) (remaining walk.old.positions) r ≡ true → Passed W (seen (O.stands out.old sheet.old.room) sheet.old) (seen (O.stands out.new sheet.new.room) sheet.new) (chain_marks (text_of (node_tree node.entry)) (chain_of series) (parts_behind index (parts_of (node_tree node.entry))) ++ ms) (chain_marks (text_of (node_tree node.entry)) (chain_of series) (parts_behind (suc index) (parts_of (node_tree node.entry))) ++ ms) (parts_behind index (parts_of (node_tree node.entry))) (parts_behind (suc index) (parts_of (node_tree node.entry))) (remaining walk.old.positions) (remaining walk.new.positions) walk.old.alone walk.new.alone depth r }
+    ensures laid { (W : ℕ → Bool) → (ms : List Mark) → (xs : List Role) → (r : ℕ) → Reads W r sheet.old.wraps.now → parts_fit W (parts_behind index (parts_of (node_tree node.entry))) xs r ≡ true → Stands walk.old.course (parts_behind index (parts_of (node_tree node.entry))) xs → Gone W (seen (O.stands out.old sheet.old.room) sheet.old) (seen (O.stands out.new sheet.new.room) sheet.new) (chain_marks (text_of (node_tree node.entry)) (chain_of series) (parts_behind index (parts_of (node_tree node.entry))) ++ ms) (chain_marks (text_of (node_tree node.entry)) (chain_of series) (parts_behind (suc index) (parts_of (node_tree node.entry))) ++ ms) (parts_behind index (parts_of (node_tree node.entry))) (parts_behind (suc index) (parts_of (node_tree node.entry))) xs walk.new.course walk.old.alone walk.new.alone depth r }
     ensures adds { Adds (O.stands out.old sheet.old.room) (O.stands out.new sheet.new.room) }
 {
     let text = node.text();
@@ -323,26 +283,31 @@ fn inner_depth(series: Series, depth: usize) -> usize
 /// The part at a place, if none is missing there.
 #[cycle(print)]
 #[tactic(auto, using(tree::proofs::PartWalk::part_steps))]
-fn print_part<'t, 's, O: Outlet>(
-    node: Node<'t, 's>,
+fn print_part<O: Outlet>(
+    node: Node,
     index: usize,
-    walk: &mut Walk<'t, 's>,
+    walk: &mut Walk,
     depth: usize,
     sheet: &mut Sheet,
     out: &mut O,
 )
     requires { depth + height (node_tree node) ≤ usize.MAX + 1 }
-    ensures laid { (W : ℕ → Bool) → (ms : List Mark) → (r : ℕ) → Reads W r sheet.old.wraps.now → parts_fit W (parts_behind index (parts_of (node_tree node.entry))) (remaining walk.old.positions) r ≡ true → Passed W (seen (O.stands out.old sheet.old.room) sheet.old) (seen (O.stands out.new sheet.new.room) sheet.new) (here ∷ ms) ms (parts_behind index (parts_of (node_tree node.entry))) (parts_behind (suc index) (parts_of (node_tree node.entry))) (remaining walk.old.positions) (remaining walk.new.positions) walk.old.alone walk.new.alone depth r }
+    ensures laid { (W : ℕ → Bool) → (ms : List Mark) → (xs : List Role) → (r : ℕ) → Reads W r sheet.old.wraps.now → parts_fit W (parts_behind index (parts_of (node_tree node.entry))) xs r ≡ true → Stands walk.old.course (parts_behind index (parts_of (node_tree node.entry))) xs → Gone W (seen (O.stands out.old sheet.old.room) sheet.old) (seen (O.stands out.new sheet.new.room) sheet.new) (here ∷ ms) ms (parts_behind index (parts_of (node_tree node.entry))) (parts_behind (suc index) (parts_of (node_tree node.entry))) xs walk.new.course walk.old.alone walk.new.alone depth r }
     ensures adds { Adds (O.stands out.old sheet.old.room) (O.stands out.new sheet.new.room) }
 {
     let Some(part) = node.part(index) else {
         walk.alone = false;
         return;
     };
-    let Some((position, positions)) = walk.positions.next() else {
-        return;
-    };
-    walk.positions = positions;
+    let site = seated(walk.course.next, part.kind(), is_last(node, index));
+    walk.course = walk.course.behind();
     walk.alone = !sheet.is_wrapped();
-    print_node(part, position, depth, sheet, out);
+    print_node(part, site, depth, sheet, out);
+}
+
+/// Whether no part is behind this place.
+fn is_last(node: Node, index: usize) -> bool
+    ensures { result ≡ nat_le (part_count (parts_of (node_tree node.entry)) - 1) index }
+{
+    node.part_count().saturating_sub(1) <= index
 }

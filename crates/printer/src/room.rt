@@ -1,6 +1,6 @@
 //! Room for what waits to be written, and what it is written to.
 
-ghost use Rattle.std.specs.Prelude.{◌≡◌, ◌≤◌, ◌+◌, ℕ, Bool, true, List, [], ◌++◌, length, take, IsTrue, ◌↔◌};
+ghost use Rattle.std.specs.Prelude.{◌≡◌, ◌≤◌, ◌+◌, ◌-◌, ℕ, Bool, true, List, [], ◌∷◌, ◌++◌, length, take, IsTrue, ◌↔◌};
 ghost use Rattle.std.specs.Prelude.{IfOk, Some, false};
 ghost use Rattle.std.specs.String.{string_bytes};
 ghost use Rattle.printer.specs.Standings.{Standing, Puts, of_writer, of_text};
@@ -49,8 +49,63 @@ impl Room {
         count <= PIECE - self.used
     }
 
-    /// Puts bytes behind those that wait.
+    /// Puts bytes behind those that wait. A short text is copied by its two ends, which may overlap.
     fn add(&mut self, bytes: &[u8])
+        requires { length self.old + length bytes.now ≤ 4096 }
+        ensures { self.new ≡ self.old ++ bytes.now }
+    {
+        match bytes.len() {
+            0 => {}
+            1 => self.add_byte(bytes[0]),
+            2..=3 => self.add_ends::<2>(bytes),
+            4..=7 => self.add_ends::<4>(bytes),
+            8..=16 => self.add_ends::<8>(bytes),
+            _ => self.add_long(bytes),
+        }
+    }
+
+    fn add_byte(&mut self, byte: u8)
+        requires { length self.old + 1 ≤ 4096 }
+        ensures { self.new ≡ self.old ++ byte ∷ [] }
+    {
+        self.bytes[self.used] = byte;
+        self.used += 1;
+    }
+
+    /// Bytes that their first `N` and their last `N` cover.
+    fn add_ends<const N: usize>(&mut self, bytes: &[u8])
+        requires room { length self.old + length bytes.now ≤ 4096 }
+        requires least { N ≤ length bytes.now }
+        requires most { length bytes.now ≤ N + N }
+        ensures { self.new ≡ self.old ++ bytes.now }
+    {
+        let fewer = bytes.len() - N;
+        self.add_so_many::<N>(&bytes[..N]);
+        self.take_back(N - fewer);
+        self.add_so_many::<N>(&bytes[fewer..]);
+    }
+
+    fn add_so_many<const N: usize>(&mut self, bytes: &[u8])
+        requires room { length self.old + N ≤ 4096 }
+        requires count { length bytes.now ≡ N }
+        ensures { self.new ≡ self.old ++ bytes.now }
+    {
+        let end = self.used + N;
+        self.bytes[self.used..end].copy_from_slice(bytes);
+        self.used = end;
+    }
+
+    /// Lets the last bytes go.
+    #[tactic(auto, using(crate::proofs::Waiting::kept))]
+    fn take_back(&mut self, count: usize)
+        requires { count ≤ length self.old }
+        ensures { self.new ≡ take (length self.old - count) self.old }
+    {
+        self.used -= count;
+    }
+
+    #[inline(never)]
+    fn add_long(&mut self, bytes: &[u8])
         requires { length self.old + length bytes.now ≤ 4096 }
         ensures { self.new ≡ self.old ++ bytes.now }
     {
@@ -90,17 +145,25 @@ impl<W: Sink> Outlet for W {
             room.add(bytes);
             return;
         }
-        flush(self, room);
-        if room.fits(bytes.len()) {
-            room.add(bytes);
-            return;
-        }
-        write_on(self, bytes);
+        put_beyond(self, room, bytes);
     }
 
     fn finish(&mut self, room: &mut Room) {
         flush(self, room);
     }
+}
+
+/// Puts in what has no room behind what waits.
+#[inline(never)]
+fn put_beyond<W: Sink>(writer: &mut W, room: &mut Room, bytes: &[u8])
+    ensures { Puts (of_writer (W.taken writer.old) (W.failed writer.old) room.old) (of_writer (W.taken writer.new) (W.failed writer.new) room.new) bytes.now }
+{
+    flush(writer, room);
+    if room.fits(bytes.len()) {
+        room.add(bytes);
+        return;
+    }
+    write_on(writer, bytes);
 }
 
 /// Writes what waits, unless the writer has failed.

@@ -47,6 +47,19 @@ impl<'w> Sheet<'w> {
         ensures written { Writes (seen (O.stands out.old self.old.room) self.old) (seen (O.stands out.new self.new.room) self.new) text.now }
         ensures parted { ¬ (text.now ≡ []) → self.new.apart ≡ None }
     {
+        if self.apart.is_some() {
+            self.push_apart(text, out);
+            return;
+        }
+        out.put(&mut self.room, text);
+    }
+
+    /// The same where a sign may come first.
+    #[inline(never)]
+    fn push_apart<O: Outlet>(&mut self, text: &str, out: &mut O)
+        ensures written { Writes (seen (O.stands out.old self.old.room) self.old) (seen (O.stands out.new self.new.room) self.new) text.now }
+        ensures parted { ¬ (text.now ≡ []) → self.new.apart ≡ None }
+    {
         let Some(sign) = self.apart else {
             out.put(&mut self.room, text);
             return;

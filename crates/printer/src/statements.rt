@@ -3,7 +3,7 @@
 ghost use Rattle.std.specs.Prelude.{◌≡◌};
 ghost use Rattle.tree.specs.Node.{node_tree};
 ghost use Rattle.tree.specs.Tree.{kind_of, parts_of};
-ghost use Rattle.printer.specs.Bits.{shape_of};
+ghost use Rattle.printer.specs.Bits.{shape_of, fused_shape};
 ghost use Rattle.printer.specs.Shapes.{head_shape, statement_shape, branch_shape, loop_shape, declarator_shape, word_shape, if_shape, try_shape, for_shape};
 
 use crate::lists::{CLOSE_SPACE, COLON, has_part};
@@ -14,37 +14,37 @@ const END: &[Piece] = &[Piece::Token(";")];
 
 const DECLARATION: &[Piece] = &[Piece::Own, Piece::Space];
 
-const IF: &[Piece] = &[Piece::Token("if"), Piece::Space, Piece::Token("(")];
+const IF: &[Piece] = &[Piece::Token("if (")];
 
-const ELSE: &[Piece] = &[Piece::Space, Piece::Token("else"), Piece::Space];
+const ELSE: &[Piece] = &[Piece::Token(" else ")];
 
-const WHILE: &[Piece] = &[Piece::Token("while"), Piece::Space, Piece::Token("(")];
+const WHILE: &[Piece] = &[Piece::Token("while (")];
 
-const FOR: &[Piece] = &[Piece::Token("for"), Piece::Space, Piece::Token("(")];
+const FOR: &[Piece] = &[Piece::Token("for (")];
 
-const IN: &[Piece] = &[Piece::Space, Piece::Token("in"), Piece::Space];
+const IN: &[Piece] = &[Piece::Token(" in ")];
 
-const OF: &[Piece] = &[Piece::Space, Piece::Token("of"), Piece::Space];
+const OF: &[Piece] = &[Piece::Token(" of ")];
 
-const SEMICOLON_SPACE: &[Piece] = &[Piece::Token(";"), Piece::Space];
+const SEMICOLON_SPACE: &[Piece] = &[Piece::Token("; ")];
 
-const TRY: &[Piece] = &[Piece::Token("try"), Piece::Space];
+const TRY: &[Piece] = &[Piece::Token("try ")];
 
 const SPACE: &[Piece] = &[Piece::Space];
 
-const FINALLY: &[Piece] = &[Piece::Space, Piece::Token("finally"), Piece::Space];
+const FINALLY: &[Piece] = &[Piece::Token(" finally ")];
 
 const RETURN: &[Piece] = &[Piece::Token("return")];
 
-const RETURN_SPACE: &[Piece] = &[Piece::Token("return"), Piece::Space];
+const RETURN_SPACE: &[Piece] = &[Piece::Token("return ")];
 
 const BREAK: &[Piece] = &[Piece::Token("break")];
 
-const BREAK_SPACE: &[Piece] = &[Piece::Token("break"), Piece::Space];
+const BREAK_SPACE: &[Piece] = &[Piece::Token("break ")];
 
 const CONTINUE: &[Piece] = &[Piece::Token("continue")];
 
-const CONTINUE_SPACE: &[Piece] = &[Piece::Token("continue"), Piece::Space];
+const CONTINUE_SPACE: &[Piece] = &[Piece::Token("continue ")];
 
 static HEAD: Frame = list_frame!(DECLARATION, Commas, &[]);
 
@@ -52,16 +52,13 @@ static VARIABLES: Frame = list_frame!(DECLARATION, Commas, END);
 
 static DECLARATOR: Frame = front_frame!(&[&[], &[]], &[]);
 
-static INITIALIZED: Frame = front_frame!(
-    &[&[], &[Piece::Space, Piece::Token("="), Piece::Space]],
-    &[]
-);
+static INITIALIZED: Frame = front_frame!(&[&[], &[Piece::Token(" = ")]], &[]);
 
 static EXPRESSION: Frame = front_frame!(&[&[]], END);
 
 static EMPTY: Frame = front_frame!(&[], END);
 
-static DEBUGGER: Frame = front_frame!(&[], &[Piece::Token("debugger"), Piece::Token(";")]);
+static DEBUGGER: Frame = front_frame!(&[], &[Piece::Token("debugger;")]);
 
 static RETURN_NOTHING: Frame = front_frame!(&[RETURN], END);
 
@@ -75,7 +72,7 @@ static CONTINUE_LOOP: Frame = front_frame!(&[CONTINUE], END);
 
 static CONTINUE_LABEL: Frame = front_frame!(&[CONTINUE_SPACE], END);
 
-static THROW: Frame = front_frame!(&[&[Piece::Token("throw"), Piece::Space]], END);
+static THROW: Frame = front_frame!(&[&[Piece::Token("throw ")]], END);
 
 static IF_ALONE: Frame = front_frame!(&[IF, CLOSE_SPACE, &[]], &[]);
 
@@ -92,16 +89,8 @@ static TRY_BOTH: Frame = front_frame!(&[TRY, SPACE, FINALLY], &[]);
 static WHILE_LOOP: Frame = front_frame!(&[WHILE, CLOSE_SPACE], &[]);
 
 static DO_LOOP: Frame = front_frame!(
-    &[
-        &[Piece::Token("do"), Piece::Space],
-        &[
-            Piece::Space,
-            Piece::Token("while"),
-            Piece::Space,
-            Piece::Token("("),
-        ],
-    ],
-    &[Piece::Token(")"), Piece::Token(";")]
+    &[&[Piece::Token("do ")], &[Piece::Token(" while (")],],
+    &[Piece::Token(");")]
 );
 
 static FOR_IN: Frame = front_frame!(&[FOR, IN, CLOSE_SPACE], &[]);
@@ -118,14 +107,14 @@ static FOR_NEITHER: Frame = front_frame!(&[FOR, END, END, CLOSE_SPACE], &[]);
 
 /// A declaration in the head of a `for`.
 pub fn head_frame() -> &'static Frame
-    ensures { shape_of result.now ≡ head_shape }
+    ensures { shape_of result.now ≡ fused_shape head_shape }
 {
     &HEAD
 }
 
 /// Statements without others in them.
 pub fn statement_frame(node: Node) -> &'static Frame
-    ensures { shape_of result.now ≡ statement_shape (kind_of (node_tree node.entry)) (parts_of (node_tree node.entry)) }
+    ensures { shape_of result.now ≡ fused_shape (statement_shape (kind_of (node_tree node.entry)) (parts_of (node_tree node.entry))) }
 {
     match node.kind() {
         Kind::VariableDeclaration => &VARIABLES,
@@ -143,7 +132,7 @@ pub fn statement_frame(node: Node) -> &'static Frame
 
 /// Statements with others in them.
 fn branch_frame(node: Node) -> &'static Frame
-    ensures { shape_of result.now ≡ branch_shape (kind_of (node_tree node.entry)) (parts_of (node_tree node.entry)) }
+    ensures { shape_of result.now ≡ fused_shape (branch_shape (kind_of (node_tree node.entry)) (parts_of (node_tree node.entry))) }
 {
     match node.kind() {
         Kind::IfStatement => if_frame(has_part(node, 2)),
@@ -154,7 +143,7 @@ fn branch_frame(node: Node) -> &'static Frame
 }
 
 fn declarator_frame(initialized: bool) -> &'static Frame
-    ensures { shape_of result.now ≡ declarator_shape initialized }
+    ensures { shape_of result.now ≡ fused_shape (declarator_shape initialized) }
 {
     if initialized {
         &INITIALIZED
@@ -164,7 +153,7 @@ fn declarator_frame(initialized: bool) -> &'static Frame
 }
 
 fn return_frame(answers: bool) -> &'static Frame
-    ensures { shape_of result.now ≡ word_shape "return" answers }
+    ensures { shape_of result.now ≡ fused_shape (word_shape "return" answers) }
 {
     if answers {
         &RETURN_VALUE
@@ -174,13 +163,13 @@ fn return_frame(answers: bool) -> &'static Frame
 }
 
 fn break_frame(labelled: bool) -> &'static Frame
-    ensures { shape_of result.now ≡ word_shape "break" labelled }
+    ensures { shape_of result.now ≡ fused_shape (word_shape "break" labelled) }
 {
     if labelled { &BREAK_LABEL } else { &BREAK_OUT }
 }
 
 fn continue_frame(labelled: bool) -> &'static Frame
-    ensures { shape_of result.now ≡ word_shape "continue" labelled }
+    ensures { shape_of result.now ≡ fused_shape (word_shape "continue" labelled) }
 {
     if labelled {
         &CONTINUE_LABEL
@@ -190,14 +179,14 @@ fn continue_frame(labelled: bool) -> &'static Frame
 }
 
 fn if_frame(otherwise: bool) -> &'static Frame
-    ensures { shape_of result.now ≡ if_shape otherwise }
+    ensures { shape_of result.now ≡ fused_shape (if_shape otherwise) }
 {
     if otherwise { &IF_ELSE } else { &IF_ALONE }
 }
 
 /// A `try`, by whether it has a handler and a `finally`.
 fn try_frame(catches: bool, finishes: bool) -> &'static Frame
-    ensures { shape_of result.now ≡ try_shape catches finishes }
+    ensures { shape_of result.now ≡ fused_shape (try_shape catches finishes) }
 {
     match (catches, finishes) {
         (true, true) => &TRY_BOTH,
@@ -208,7 +197,7 @@ fn try_frame(catches: bool, finishes: bool) -> &'static Frame
 
 /// The loops that go on behind a test, in or of something.
 fn loop_frame(node: Node) -> &'static Frame
-    ensures { shape_of result.now ≡ loop_shape (kind_of (node_tree node.entry)) (parts_of (node_tree node.entry)) }
+    ensures { shape_of result.now ≡ fused_shape (loop_shape (kind_of (node_tree node.entry)) (parts_of (node_tree node.entry))) }
 {
     match node.kind() {
         Kind::WhileStatement => &WHILE_LOOP,
@@ -221,7 +210,7 @@ fn loop_frame(node: Node) -> &'static Frame
 
 /// A `for`, by whether it has a test and an update.
 fn for_frame(tests: bool, updates: bool) -> &'static Frame
-    ensures { shape_of result.now ≡ for_shape tests updates }
+    ensures { shape_of result.now ≡ fused_shape (for_shape tests updates) }
 {
     match (tests, updates) {
         (true, true) => &FOR_BOTH,

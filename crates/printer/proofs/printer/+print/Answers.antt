@@ -1,16 +1,19 @@
-use Rattle.std.proofs.Common.{◌≡◌, ◌≤◌, suc, ◌+◌, ◌-◌, true, false, not, nat_eq, [], ◌∷◌, ◌++◌, length, drop, map, refl, sym, ap, ap₂, ◌∙◌, subst, arith}
+use Rattle.std.proofs.Common.{◌≡◌, ◌≤◌, suc, ◌+◌, ◌-◌, true, false, not, nat_eq, [], ◌∷◌, ◌++◌, length, drop, get_or, map, refl, sym, ap, ap₂, ◌∙◌, subst, arith}
 use Rattle.std.specs.Prelude.{option_map, is_none as is_missing}
-use Rattle.std.proofs.lemmas.List.{length-map}
-use Rattle.tree.specs.Tree.{parts_of, text_of, part_count}
+use Rattle.tree.specs.Tree.{parts_of, text_of, kind_of, flags_of, part_count}
 use Rattle.tree.specs.Node.{node_tree}
 use Rattle.language.specs.Grammar.{ways}
-use Rattle.positions.specs.Outlines.{role_of, parts_behind}
-use Rattle.positions.specs.Remaining.{remaining}
-use Rattle.printer.specs.Bits.{here, bits_of, chain_of, shape_of, before_bits, after_bits}
+use Rattle.positions.specs.declared.position.Position.{Position}
+use Rattle.positions.specs.Outlines.{role_of, whole_at, parts_behind}
+use Rattle.language.specs.Positions.{first_roles}
+use Rattle.printer.specs.Shapes.{shape_on}
+use Rattle.printer.specs.Sites.{seated_at, is_row, is_word}
+use Rattle.printer.proofs.SiteLemmas.{site_row, at_row, site_shape, site_word, seats}
+use Rattle.printer.specs.Bits.{here, bits_of, chain_of, fused, before_bits, after_bits}
+use Rattle.printer.proofs.Fusing.{map_length, map_at, written_bits}
 use Rattle.language.specs.Fits.{parts_fit}
 use Rattle.printer.specs.Printed.{marks_in, front_marks, chain_marks, shape_marks, signed_marks}
-use Rattle.printer.proofs.Passing.{passed_nothing, passed_then, passed_missing}
-use Rattle.printer.proofs.Items.{missing_part, stepped, stepped_chain, fronts_done, chain_done, fronts-next, chain-next, turn, trail, framed, part_turn, part_lost}
+use Rattle.printer.proofs.Items.{missing_part, gone_nothing, gone_then, stepped, stepped_chain, fronts_done, chain_done, fronts-next, chain-next, turn, trail, framed, part_turn, part_missing}
 use Rattle.language.specs.Layout.{first_way}
 use Rattle.printer.specs.Sheets.{Writes, seen}
 use Rattle.printer.proofs.Nodes.{NextRow, printed_rowless, printed_row, printed_inside, printed_signed}
@@ -20,131 +23,144 @@ use Rattle.printer.proofs.Words.{word_direct}
 use Rattle.printer.proofs.Whole.{one_part, marks_framed, marks_signed, direct_by, spelled_parts, sign_text}
 use Rattle.printer.proofs.printer.+print.Goals as goal
 
-pub print_spelled-returns-in-Some-sign_of-clause-laid : goal.print_spelled-returns-in-Some-sign_of-clause-laid
-print_spelled-returns-in-Some-sign_of-clause-laid g t c = λ W r z k.
+pub print_spelled-returns-in-Some-clause-laid : goal.print_spelled-returns-in-Some-clause-laid
+print_spelled-returns-in-Some-clause-laid g t c = λ W r p e z k.
     let n = node_tree c.args.node in
-    let sign = c.in-Some-sign_of.sign in
-    let q = spelled_parts W (parts_of n) (ways (role_of c.args.position) n) r k in
-    let e = marks_signed W c.args.position n sign c.in-Some-sign_of.ensures q.0 q.1 in
-    direct_by W (signed_marks (text_of n) sign) e c.in-Some.ensures.1 q.1
-    (c.print_signed.ensures.laid W r z (ap (λ xs. parts_fit W (parts_of n) xs r) c.in-Some.ensures.1 ∙ q.2) (sign_text n sign c.in-Some-sign_of.ensures) (one_part (first_way (ways (role_of c.args.position) n)) (parts_of n) (text_of n) sign q.1 e))
+    let sign = c.in-Some.sign in
+    let q = spelled_parts W (parts_of n) (ways (role_of p) n) r k in
+    let m = marks_signed W p n sign c.in-Some.ensures q.0 q.1 in
+    direct_by W (signed_marks (text_of n) sign) m refl q.1
+    (c.print_signed.ensures.laid W (first_roles (ways (role_of p) n)) r z q.2 (seats p n c.args.site c.course_of.result e c.course_of.ensures q.0) (sign_text n sign c.in-Some.ensures) (one_part (first_way (ways (role_of p) n)) (parts_of n) (text_of n) sign q.1 m))
 
 pub print_spelled-returns-in-None-clause-laid : goal.print_spelled-returns-in-None-clause-laid
-print_spelled-returns-in-None-clause-laid g t c = λ W r z k.
+print_spelled-returns-in-None-clause-laid g t c = λ W r p e z k.
     let n = node_tree c.args.node in
-    let q = spelled_parts W (parts_of n) (ways (role_of c.args.position) n) r k in
-    direct_by W (shape_marks (text_of n) (shape_of c.frame_of.result.now) (parts_of n))
-    (marks_framed W c.args.position n r c.in-None.ensures q.0 q.1 ∙ ap (λ s. shape_marks (text_of n) s (parts_of n)) (sym c.frame_of.ensures)) c.in-Some.ensures.1 q.1
-    (c.print_framed.ensures.laid W r z (ap (λ xs. parts_fit W (parts_of n) xs r) c.in-Some.ensures.1 ∙ q.2))
+    let s = shape_on c.args.site (kind_of n) (text_of n) (flags_of n) (parts_of n) in
+    let f = c.frame_of.ensures in
+    let q = spelled_parts W (parts_of n) (ways (role_of p) n) r k in
+    direct_by W (shape_marks (text_of n) (record { front = s.front; opener = s.opener; chain = chain_of c.frame_of.result.now.series; closer = s.closer }) (parts_of n))
+    (marks_framed W p n r c.in-None.ensures q.0 q.1 ∙ ap (λ x. shape_marks (text_of n) x (parts_of n)) (site_shape p (kind_of n) (text_of n) (flags_of n) (parts_of n) ∙ ap (λ x. shape_on x (kind_of n) (text_of n) (flags_of n) (parts_of n)) e)
+    ∙ ap (λ x. shape_marks (text_of n) (record { front = s.front; opener = s.opener; chain = x; closer = s.closer }) (parts_of n)) (sym (ap (λ x. x.chain) f))) refl q.1
+    (c.print_framed.ensures.laid W s.front s.opener s.closer (ap (λ x. x.front) f) (ap (λ x. x.opener) f) (ap (λ x. x.closer) f) (first_roles (ways (role_of p) n)) r z q.2 (seats p n c.args.site c.course_of.result e c.course_of.ensures q.0))
 
 pub print_direct-returns-then-is_word-clause-laid : goal.print_direct-returns-then-is_word-clause-laid
-print_direct-returns-then-is_word-clause-laid g t c = λ W r z k.
+print_direct-returns-then-is_word-clause-laid g t c = λ W r p e z k.
     let n = node_tree c.args.node in
-    word_direct W c.args.position n r c.args.depth (sym c.is_word.ensures ∙ c.if-is_word.true) z k
+    word_direct W p n r c.args.depth (site_word p (kind_of n) (parts_of n) ∙ ap (λ s. is_word s (kind_of n) (parts_of n)) e ∙ sym c.is_word.ensures ∙ c.if-is_word.true) z k
     (subst (λ w. Writes (seen (g.O.Outlet.stands c.args.out.now c.args.sheet.now.room) c.args.sheet.now) (seen (g.O.Outlet.stands c.push.new.out c.push.new.self.room) c.push.new.self) w) c.text.ensures c.push.ensures.written)
 
 pub print_direct-returns-clause-laid : goal.print_direct-returns-clause-laid
-print_direct-returns-clause-laid g t c = λ W r z k. c.print_spelled.ensures.laid W r z k
+print_direct-returns-clause-laid g t c = λ W r p e z k. c.print_spelled.ensures.laid W r p e z k
 
 pub print_direct-returns-then-is_word-clause-adds : goal.print_direct-returns-then-is_word-clause-adds
 print_direct-returns-then-is_word-clause-adds g t c = writes_adds c.push.ensures.written
 
 pub print_framed-returns-clause-laid : goal.print_framed-returns-clause-laid
-print_framed-returns-clause-laid g t c = λ W r h k.
+print_framed-returns-clause-laid g t c = λ W fs os cs ef eo ec xs r h k st.
     let n = node_tree c.args.node in
-    framed W (text_of n) c.text-text.result.now c.text-text.ensures (map (λ p. bits_of p.now) c.args.frame.now.front.now) c.args.frame.now.opener.now c.args.frame.now.closer.now (chain_of c.args.frame.now.series) (parts_of n)
-    (length c.args.frame.now.front.now) c.inner_depth-inside.result (sym (length-map c.args.frame.now.front.now (λ p. bits_of p.now))) c.inner_depth-inside.ensures.inner h k
-    (λ ms q a b. c.print_front.ensures.laid W ms q a b) c.push_all.ensures (λ ms q a b. c.print_list.ensures.laid W ms q a b) c.push_all-2.ensures
+    let front = c.args.frame.now.front.now in
+    let same : length fs ≡ length front = sym (map_length (λ p. bits_of p.now) fused front fs ef) in
+    framed W (text_of n) c.text-text.result.now c.text-text.ensures fs os cs (chain_of c.args.frame.now.series) (parts_of n) xs c.args.walk.now.course c.print_front.new.walk.course c.print_list.new.walk.course
+    (length front) c.inner_depth-inside.result (sym same) c.inner_depth-inside.ensures.inner h k st
+    (λ ms ys q a b s. c.print_front.ensures.laid W fs ef ms ys q a b s) (written_bits _ _ _ c.args.frame.now.opener.now os eo c.push_all.ensures)
+    (λ ms ys q a b s. c.print_list.ensures.laid W ms ys q a b s) (written_bits _ _ _ c.args.frame.now.closer.now cs ec c.push_all-2.ensures)
 
 pub print_front-loop-index-preserved : goal.print_front-loop-index-preserved
 print_front-loop-index-preserved g t c = record {
-  laid = λ W ms r h k.
+  laid = λ W fs e ms xs r h k st.
       let n = node_tree c.args.node in
-      let fs = c.args.front.now in
+      let front = c.args.front.now in
       let i = c.loop-index.index in
-      let ns = front_marks (text_of n) (map (λ p. bits_of p.now) (drop (i + 1) fs)) ms in
+      let same : length fs ≡ length front = sym (map_length (λ p. bits_of p.now) fused front fs e) in
+      let bound = c.loop-index-test.true in
+      let ns = front_marks (text_of n) (drop (i + 1) fs) ms in
       stepped W (parts_of n) i
-      (turn W _ c.text.result.now c.text.ensures (fronts-next (text_of n) (λ p. bits_of p.now) fs i _ ms c.loop-index-test.true) (c.loop-index.invariant.laid W ms r h k) c.push_all.ensures (λ q u v. c.print_part.ensures.laid W ns q u v));
+      (turn W (get_or fs i []) c.text.result.now c.text.ensures (fronts-next (text_of n) fs i ms (omega (arith, same, bound))) (c.loop-index.invariant.laid W fs e ms xs r h k st)
+      (written_bits _ _ _ _ (get_or fs i []) (map_at (λ p. bits_of p.now) fused front fs i _ [] e bound) c.push_all.ensures) (λ ys q u v s. c.print_part.ensures.laid W ns ys q u v s));
   adds = adds_then c.loop-index.invariant.adds (adds_then (writes_adds c.push_all.ensures) c.print_part.ensures.adds);
 }
 
 pub print_front-returns-clause-laid : goal.print_front-returns-clause-laid
-print_front-returns-clause-laid g t c = λ W ms r h k.
+print_front-returns-clause-laid g t c = λ W fs e ms xs r h k st.
     let n = node_tree c.args.node in
-    let fs = c.args.front.now in
+    let front = c.args.front.now in
     let i = c.loop-index.index in
-    let e : i ≡ length fs = omega (arith, c.loop-index.auto.index-end, c.loop-index-test.false) in
-    fronts_done W (text_of n) (λ p. bits_of p.now) fs (parts_of n) i ms e (c.loop-index.invariant.laid W ms r h k)
+    let same : length fs ≡ length front = sym (map_length (λ p. bits_of p.now) fused front fs e) in
+    let past : i ≡ length front = omega (arith, c.loop-index.auto.index-end, c.loop-index-test.false) in
+    fronts_done W (text_of n) fs (parts_of n) i (length front) ms (past ∙ sym same) past (c.loop-index.invariant.laid W fs e ms xs r h k st)
 
 pub print_item-returns-clause-laid : goal.print_item-returns-clause-laid
-print_item-returns-clause-laid g t c = λ W ms r h k.
+print_item-returns-clause-laid g t c = λ W ms xs r h k st.
     let P = parts_of (node_tree c.args.node) in
     let w = text_of (node_tree c.args.node) in
     let s = chain_of c.args.series in
     let i = c.args.index in
     let rest = chain_marks w s (parts_behind (suc i) P) ++ ms in
     let o = option_map node_tree c.part.result in
-    let here_before : bits_of c.before-2.result.now ≡ before_bits s (nat_eq ((part_count P - i) - 1) 0) = c.before-2.ensures ∙ ap (λ m. before_bits s (nat_eq ((m - i) - 1) 0)) c.part_count.ensures in
-    let here_after : bits_of c.after.result.now ≡ after_bits s (is_missing o) (nat_eq ((part_count P - i) - 1) 0) (nat_eq ((part_count P - i) - 1) 1) =
-    c.after.ensures ∙ (λ j. after_bits s (missing_part node_tree c.part.result c.is_none-is_gap.result c.is_none-is_gap.ensures j) (nat_eq ((c.part_count.ensures j - i) - 1) 0) (nat_eq ((c.part_count.ensures j - i) - 1) 1)) in
-    trail W c.after.result.now c.text-text.result.now c.text-text.ensures refl
-    (turn W c.before-2.result.now c.text-text.result.now c.text-text.ensures
-    (chain-next w s P i o ms c.part.ensures c.requires.index ∙ ap₂ (λ x y. marks_in w x ++ here ∷ (marks_in w y ++ rest)) (sym here_before) (sym here_after))
-    (passed_nothing W r h k) c.push_all.ensures (λ q u z. c.print_part.ensures.laid W (marks_in w (bits_of c.after.result.now) ++ rest) q u z))
-    c.push_all-2.ensures
+    let bits = before_bits s (nat_eq ((part_count P - i) - 1) 0) in
+    let here_before : bits_of c.before-2.result.now ≡ fused bits = c.before-2.ensures ∙ ap (λ m. fused (before_bits s (nat_eq ((m - i) - 1) 0))) c.part_count.ensures in
+    let behind = after_bits s (is_missing o) (nat_eq ((part_count P - i) - 1) 0) (nat_eq ((part_count P - i) - 1) 1) in
+    let here_after : bits_of c.after.result.now ≡ fused behind =
+    c.after.ensures ∙ (λ j. fused (after_bits s (missing_part node_tree c.part.result c.is_none-is_gap.result c.is_none-is_gap.ensures j) (nat_eq ((c.part_count.ensures j - i) - 1) 0) (nat_eq ((c.part_count.ensures j - i) - 1) 1))) in
+    trail W behind c.text-text.result.now c.text-text.ensures refl
+    (turn W bits c.text-text.result.now c.text-text.ensures
+    (chain-next w s P i o ms c.part.ensures c.requires.index)
+    (gone_nothing W xs c.args.walk.now.course r h k st) (written_bits _ _ _ c.before-2.result.now bits here_before c.push_all.ensures) (λ ys q u z s. c.print_part.ensures.laid W (marks_in w behind ++ rest) ys q u z s))
+    (written_bits _ _ _ c.after.result.now behind here_after c.push_all-2.ensures)
 
 pub print_list-loop-index-preserved : goal.print_list-loop-index-preserved
 print_list-loop-index-preserved g t c = record {
-  laid = λ W ms r h k.
+  laid = λ W ms xs r h k st.
       let P = parts_of (node_tree c.args.node) in
       let w = text_of (node_tree c.args.node) in
       let s = chain_of c.args.series in
-      let p = c.loop-index.invariant.laid W ms r h k in
-      stepped_chain W w s P c.loop-index.index ms (passed_then W p (c.print_item.ensures.laid W ms p.row p.reads p.fit));
+      stepped_chain W w s P c.loop-index.index ms (gone_then W (c.loop-index.invariant.laid W ms xs r h k st) (λ ys q a b u. c.print_item.ensures.laid W ms ys q a b u));
   adds = adds_then c.loop-index.invariant.adds c.print_item.ensures.adds;
 }
 
 pub print_list-returns-clause-laid : goal.print_list-returns-clause-laid
-print_list-returns-clause-laid g t c = λ W ms r h k.
+print_list-returns-clause-laid g t c = λ W ms xs r h k st.
     let P = parts_of (node_tree c.args.node) in
     let w = text_of (node_tree c.args.node) in
     let s = chain_of c.args.series in
     let past : part_count P ≤ c.loop-index.index = omega (arith, c.part_count-count.ensures, c.loop-index-test.false) in
-    chain_done W w s P c.loop-index.index ms past (c.loop-index.invariant.laid W ms r h k)
+    chain_done W w s P c.loop-index.index ms past (c.loop-index.invariant.laid W ms xs r h k st)
 
 pub print_part-returns-in_default-clause-laid : goal.print_part-returns-in_default-clause-laid
-print_part-returns-in_default-clause-laid g t c = λ W ms r h k. passed_missing W (parts_of (node_tree c.args.node)) c.args.index r c.in_default.ensures h k
-
-pub print_part-returns-in_default-next-clause-laid : goal.print_part-returns-in_default-next-clause-laid
-print_part-returns-in_default-next-clause-laid g t c = λ W ms r h k. absurd (part_lost W (parts_of (node_tree c.args.node)) c.args.index r (node_tree c.in-Some.part) (remaining c.args.walk.now.positions) c.in-Some.ensures c.in_default-next.ensures k)
+print_part-returns-in_default-clause-laid g t c = λ W ms xs r h k st. part_missing W (parts_of (node_tree c.args.node)) c.args.index r xs c.args.walk.now.course c.in_default.ensures h k st
 
 pub print_part-returns-clause-laid : goal.print_part-returns-clause-laid
-print_part-returns-clause-laid g t c = λ W ms r h k.
-    part_turn W (parts_of (node_tree c.args.node)) c.args.index r (node_tree c.in-Some.part) (remaining c.args.walk.now.positions) (c.in-Some-next.position, c.in-Some-next.positions) _ c.in-Some.ensures c.in-Some-next.ensures h
-    (ap not (sym c.is_wrapped.ensures)) k (λ f. c.print_node.ensures.laid W r h f)
+print_part-returns-clause-laid g t c = λ W ms xs r h k st.
+    let P = parts_of (node_tree c.args.node) in
+    part_turn W P c.args.index r (node_tree c.in-Some.part) xs c.args.walk.now.course c.behind-walk.result c.seated-site.result _ c.in-Some.ensures h (ap not (sym c.is_wrapped.ensures)) k st
+    (c.seated-site.ensures ∙ ap₂ (seated_at c.args.walk.now.course.next) c.kind.ensures c.is_last.ensures) c.behind-walk.ensures
+    (λ p e f. c.print_node.ensures.laid W r p e h f)
+
+pub print_node-returns-then-is_row-clause-laid : goal.print_node-returns-then-is_row-clause-laid
+print_node-returns-then-is_row-clause-laid g t c = λ W r p e h k. c.print_row.ensures.laid W r p (e ∙ at_row c.args.site (sym c.is_row.ensures ∙ c.if-is_row.true)) h k
 
 pub print_node-returns-clause-laid : goal.print_node-returns-clause-laid
-print_node-returns-clause-laid g t c = λ W r h k.
-    printed_rowless W c.args.position (node_tree c.args.node) r c.args.depth (sym c.has_row.ensures ∙ c.if-has_row.false) h k (λ q u v. c.print_direct.ensures.laid W q u v)
+print_node-returns-clause-laid g t c = λ W r p e h k.
+    printed_rowless W p (node_tree c.args.node) r c.args.depth (site_row (role_of p) ∙ ap is_row e ∙ sym c.is_row.ensures ∙ c.if-is_row.false) h k (λ q u v. c.print_direct.ensures.laid W q p e u v)
 
 pub print_row-returns-then-not-next_row-clause-laid : goal.print_row-returns-then-not-next_row-clause-laid
-print_row-returns-then-not-next_row-clause-laid g t c = λ W r h e k.
+print_row-returns-then-not-next_row-clause-laid g t c = λ W r p e h k.
     let x : NextRow (seen (g.O.Outlet.stands c.args.out.now c.args.sheet.now.room) c.args.sheet.now) (seen (g.O.Outlet.stands c.args.out.now c.next_row.new.self.room) c.next_row.new.self) false = record { flag = sym c.if-not-next_row.true ∙ c.next_row.ensures.flag; others = c.next_row.ensures.others; out = ap (λ r. g.O.Outlet.stands c.args.out.now r) c.next_row.ensures.room; apart = c.next_row.ensures.apart } in
-    printed_row W c.args.position (node_tree c.args.node) r c.args.depth x h e k (λ q u v. c.print_direct.ensures.laid W q u v)
+    printed_row W p (node_tree c.args.node) r c.args.depth x h (site_row (role_of p) ∙ ap is_row e) k (λ q u v. c.print_direct.ensures.laid W q p e u v)
 
 pub print_row-returns-clause-laid : goal.print_row-returns-clause-laid
-print_row-returns-clause-laid g t c = λ W r h e k.
+print_row-returns-clause-laid g t c = λ W r p e h k.
     let x : NextRow (seen (g.O.Outlet.stands c.args.out.now c.args.sheet.now.room) c.args.sheet.now) (seen (g.O.Outlet.stands c.args.out.now c.next_row.new.self.room) c.next_row.new.self) true = record { flag = sym c.if-not-next_row.false ∙ c.next_row.ensures.flag; others = c.next_row.ensures.others; out = ap (λ r. g.O.Outlet.stands c.args.out.now r) c.next_row.ensures.room; apart = c.next_row.ensures.apart } in
-    printed_inside W c.args.position (node_tree c.args.node) r c.args.depth x h e k c.push.ensures.written (λ q u v. c.print_direct-2.ensures.laid W q u v) c.push-2.ensures.written
+    printed_inside W p (node_tree c.args.node) r c.args.depth x h (site_row (role_of p) ∙ ap is_row e) k c.push.ensures.written (λ q u v. c.print_direct-2.ensures.laid W q whole_at refl u v) c.push-2.ensures.written
 
 pub print_signed-returns-clause-laid : goal.print_signed-returns-clause-laid
-print_signed-returns-clause-laid g t c = λ W r h k u v.
+print_signed-returns-clause-laid g t c = λ W xs r h k st u v.
     let n = node_tree c.args.node in
-    printed_signed W (text_of n) c.args.sign (parts_of n) r u v
+    printed_signed W (text_of n) c.args.sign (parts_of n) c.print_part.new.walk.course r u v
     (subst (λ w. Writes (seen (g.O.Outlet.stands c.args.out.now c.args.sheet.now.room) c.args.sheet.now) (seen (g.O.Outlet.stands c.push.new.out c.push.new.self.room) c.push.new.self) w) c.text.ensures c.push.ensures.written)
     (λ z. c.push.ensures.parted (λ y. z (sym c.text.ensures ∙ y)))
     (ap (λ r. g.O.Outlet.stands c.push.new.out r) c.set_apart.ensures.room) c.set_apart.ensures.apart c.set_apart.ensures.wraps h
-    (λ q. c.print_part.ensures.laid W [] r q k)
+    (λ q. c.print_part.ensures.laid W [] xs r q k st)
     (ap (λ r. g.O.Outlet.stands c.print_part.new.out r) c.join.ensures.room) c.join.ensures.apart c.join.ensures.wraps
 
 pub print_row-returns-clause-adds : goal.print_row-returns-clause-adds

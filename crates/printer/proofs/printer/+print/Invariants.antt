@@ -2,29 +2,30 @@ use Rattle.std.proofs.Common.{true, ◌≡◌, ℕ, ◌+◌, ◌*◌, ◌++◌, 
 use Rattle.tree.specs.Tree.{parts_of, text_of, node_total}
 use Rattle.tree.specs.Node.{node_tree}
 use Rattle.positions.specs.Outlines.{parts_behind}
-use Rattle.positions.specs.Remaining.{remaining}
-use Rattle.printer.specs.Bits.{Mark, bits_of, chain_of}
+use Rattle.language.specs.Pieces.{Role}
+use Rattle.printer.specs.Sites.{Stands}
+use Rattle.printer.specs.Bits.{Mark, Bit, bits_of, chain_of, fused}
 use Rattle.language.specs.Fits.{parts_fit}
 use Rattle.printer.specs.Standings.{Adds}
 use Rattle.printer.specs.Sheets.{seen}
-use Rattle.printer.specs.Printed.{Reads, Passed, front_marks, chain_marks}
+use Rattle.printer.specs.Printed.{Reads, Gone, front_marks, chain_marks}
 use Rattle.printer.proofs.printer.+print.Given as goal
 
 -- what was passed of the first parts, and what is left of them
 abbrev pub invariant-print_front-loop-index : goal.invariant-print_front-loop-index
 invariant-print_front-loop-index g l = record {
-  laid : (W : ℕ → Bool) → (ms : List Mark) → (r : ℕ) → Reads W r l.fn.sheet.wraps.now → parts_fit W (parts_of (node_tree l.fn.node)) (remaining l.fn.walk.positions) r ≡ true →
-      Passed W (seen (g.O.Outlet.stands l.fn.out l.fn.sheet.room) l.fn.sheet) (seen (g.O.Outlet.stands l.out l.sheet.room) l.sheet) (front_marks (text_of (node_tree l.fn.node)) (map (λ p. bits_of p.now) l.fn.front) ms) (front_marks (text_of (node_tree l.fn.node)) (map (λ p. bits_of p.now) (drop l.index l.fn.front)) ms)
-      (parts_of (node_tree l.fn.node)) (parts_behind l.index (parts_of (node_tree l.fn.node))) (remaining l.fn.walk.positions) (remaining l.walk.positions) l.fn.walk.alone l.walk.alone l.fn.depth r;
+  laid : (W : ℕ → Bool) → (fs : List (List Bit)) → map (λ p. bits_of p.now) l.fn.front ≡ map fused fs → (ms : List Mark) → (xs : List Role) → (r : ℕ) → Reads W r l.fn.sheet.wraps.now → parts_fit W (parts_of (node_tree l.fn.node)) xs r ≡ true → Stands l.fn.walk.course (parts_of (node_tree l.fn.node)) xs →
+      Gone W (seen (g.O.Outlet.stands l.fn.out l.fn.sheet.room) l.fn.sheet) (seen (g.O.Outlet.stands l.out l.sheet.room) l.sheet) (front_marks (text_of (node_tree l.fn.node)) fs ms) (front_marks (text_of (node_tree l.fn.node)) (drop l.index fs) ms)
+      (parts_of (node_tree l.fn.node)) (parts_behind l.index (parts_of (node_tree l.fn.node))) xs l.walk.course l.fn.walk.alone l.walk.alone l.fn.depth r;
   adds : Adds (g.O.Outlet.stands l.fn.out l.fn.sheet.room) (g.O.Outlet.stands l.out l.sheet.room);
 }
 
 -- the same of the others
 abbrev pub invariant-print_list-loop-index : goal.invariant-print_list-loop-index
 invariant-print_list-loop-index g l = record {
-  laid : (W : ℕ → Bool) → (ms : List Mark) → (r : ℕ) → Reads W r l.fn.sheet.wraps.now → parts_fit W (parts_behind l.fn.from (parts_of (node_tree l.fn.node))) (remaining l.fn.walk.positions) r ≡ true →
-      Passed W (seen (g.O.Outlet.stands l.fn.out l.fn.sheet.room) l.fn.sheet) (seen (g.O.Outlet.stands l.out l.sheet.room) l.sheet) (chain_marks (text_of (node_tree l.fn.node)) (chain_of l.fn.series) (parts_behind l.fn.from (parts_of (node_tree l.fn.node))) ++ ms) (chain_marks (text_of (node_tree l.fn.node)) (chain_of l.fn.series) (parts_behind l.index (parts_of (node_tree l.fn.node))) ++ ms)
-      (parts_behind l.fn.from (parts_of (node_tree l.fn.node))) (parts_behind l.index (parts_of (node_tree l.fn.node))) (remaining l.fn.walk.positions) (remaining l.walk.positions) l.fn.walk.alone l.walk.alone l.fn.depth r;
+  laid : (W : ℕ → Bool) → (ms : List Mark) → (xs : List Role) → (r : ℕ) → Reads W r l.fn.sheet.wraps.now → parts_fit W (parts_behind l.fn.from (parts_of (node_tree l.fn.node))) xs r ≡ true → Stands l.fn.walk.course (parts_behind l.fn.from (parts_of (node_tree l.fn.node))) xs →
+      Gone W (seen (g.O.Outlet.stands l.fn.out l.fn.sheet.room) l.fn.sheet) (seen (g.O.Outlet.stands l.out l.sheet.room) l.sheet) (chain_marks (text_of (node_tree l.fn.node)) (chain_of l.fn.series) (parts_behind l.fn.from (parts_of (node_tree l.fn.node))) ++ ms) (chain_marks (text_of (node_tree l.fn.node)) (chain_of l.fn.series) (parts_behind l.index (parts_of (node_tree l.fn.node))) ++ ms)
+      (parts_behind l.fn.from (parts_of (node_tree l.fn.node))) (parts_behind l.index (parts_of (node_tree l.fn.node))) xs l.walk.course l.fn.walk.alone l.walk.alone l.fn.depth r;
   adds : Adds (g.O.Outlet.stands l.fn.out l.fn.sheet.room) (g.O.Outlet.stands l.out l.sheet.room);
 }
 

@@ -1,10 +1,11 @@
-use Rattle.std.proofs.Common.{◌≡◌, ◌≤◌, ◌+◌, ◌++◌, true, [], sym, ap, subst, arith, append-nil}
+use Rattle.std.proofs.Common.{refl, ◌≡◌, ◌≤◌, ◌+◌, ◌++◌, true, [], sym, ap, subst, arith, append-nil}
 use Rattle.tree.specs.Tree.{height}
 use Rattle.tree.specs.Node.{node_tree}
 use Rattle.language.specs.Pieces.{script}
 use Rattle.language.specs.Layout.{layout}
 use Rattle.language.specs.Fits.{fits}
 use Rattle.printer.specs.Fits.{wrapped_by}
+use Rattle.positions.specs.declared.position.Position.TheVariants.{Script}
 use Rattle.printer.specs.Sheets.{seen}
 use Rattle.printer.specs.Standings.{Puts, Stands, Adds}
 use Rattle.printer.proofs.Heights.{height_within}
@@ -27,7 +28,7 @@ returns-clause-laid g c =
     subst (λ n. fits W n script 1 ≡ true → Puts (g.O.Outlet.stands c.args.out.now []) (g.O.Outlet.stands c.finish.new.out []) (layout W n script 1 0)) c.root.ensures
     (λ k before sofar h.
     let t = layout W (node_tree c.root.result) script 1 0 in
-    let p = whole_text {a = a} {b = b} c.args.wraps.now (node_tree c.root.result) c.new-sheet.ensures.apart c.new-sheet.ensures.wraps (λ V r u f. c.print_node.ensures.laid V r u f) k in
+    let p = whole_text {a = a} {b = b} c.args.wraps.now (node_tree c.root.result) c.new-sheet.ensures.apart c.new-sheet.ensures.wraps (λ V r u f. c.print_node.ensures.laid V r Script refl u f) k in
     subst (Stands before (g.O.Outlet.stands c.finish.new.out [])) (append-nil (sofar ++ t))
     (c.finish.ensures.done before (sofar ++ t) (p before sofar (subst (λ r. Stands before (g.O.Outlet.stands c.args.out.now r) sofar) (sym c.new-sheet.ensures.room) h))))
 
