@@ -55,11 +55,11 @@ pub(crate) fn cost_at(costs: &Costs, position: Position) -> Option<u32>
             rank,
             with_in,
             start,
-        } => costs.at(rank, with_in, start),
+        } => costs.number(rank, with_in, start),
         Position::Spine { start } | Position::Pattern { start, .. } => {
-            costs.at(Rank::Expression, true, start)
+            costs.number(Rank::Expression, true, start)
         }
-        _ => costs.at(Rank::Expression, true, Start::Any),
+        _ => costs.with_in.any,
     }
 }
 
@@ -67,24 +67,22 @@ pub(crate) fn cost_at(costs: &Costs, position: Position) -> Option<u32>
 pub fn least(part: Weighed, position: Position) -> Option<u32>
     ensures { result ≡ least_of part (role_of position) }
 {
+    least_at(&part, position)
+}
+
+fn least_at(part: &Weighed, position: Position) -> Option<u32>
+    ensures { result ≡ least_of part.now (role_of position) }
+{
     let direct = direct_cost(part, position);
     match position {
-        Position::Expression { .. } => {
-            lesser(
-                direct,
-                sum(
-                    Some(1u32),
-                    part.costs.at(Rank::Expression, true, Start::Any),
-                ),
-            )
-        }
+        Position::Expression { .. } => { lesser(direct, sum(Some(1u32), part.costs.with_in.any)) }
         _ => direct,
     }
 }
 
 /// The number of pairs of a node at a position without a pair round it.
-fn direct_cost(part: Weighed, position: Position) -> Option<u32>
-    ensures { result ≡ direct_cost part (role_of position) }
+fn direct_cost(part: &Weighed, position: Position) -> Option<u32>
+    ensures { result ≡ direct_cost part.now (role_of position) }
 {
     match part.outline {
         Some(outline) if fits(position, outline) => cost_at(&part.costs, position),
@@ -121,11 +119,11 @@ fn takes_name(slot: Slot) -> bool
 
 /// Whether a part costs nothing at a slot, wherever its node stands: at a fixed position by its number there, elsewhere as it has no
 /// pairs inside and may stand there as a name may.
-fn is_free(slot: Slot, part: Weighed) -> bool
-    ensures { result ≡ true → (a : Role) → uses_of a (slot_of slot) part ≡ same_everywhere (Some 0) }
+pub(crate) fn is_free(slot: Slot, part: &Weighed) -> bool
+    ensures { result ≡ true → (a : Role) → uses_of a (slot_of slot) part.now ≡ same_everywhere (Some 0) }
 {
     if let Slot::Fixed(position) = slot {
-        return is_zero(least(part, position));
+        return is_zero(least_at(part, position));
     }
     let Some(outline) = part.outline else {
         return false;
@@ -141,18 +139,18 @@ pub fn added(sums: Costs, own: Position, slot: Slot, part: Weighed) -> Costs
     requires { sums_of sums (same_everywhere (Some 0)) ≡ sums }
     ensures { result ≡ sums_of sums (uses_of (role_of own) (slot_of slot) part) }
 {
-    if is_free(slot, part) {
+    if is_free(slot, &part) {
         return sums;
     }
-    sums.plus(uses(own, slot, part))
+    sums.plus(&uses(own, slot, &part))
 }
 
 /// What a part costs in a node, wherever that stands.
-fn uses(own: Position, slot: Slot, part: Weighed) -> Costs
-    ensures { result ≡ uses_of (role_of own) (slot_of slot) part }
+pub(crate) fn uses(own: Position, slot: Slot, part: &Weighed) -> Costs
+    ensures { result ≡ uses_of (role_of own) (slot_of slot) part.now }
 {
     if let Slot::Fixed(position) = slot {
-        return Costs::same(least(part, position));
+        return Costs::same(least_at(part, position));
     }
     Costs {
         with_in: started_uses(own, Rank::Expression, true, slot, part),
@@ -161,8 +159,8 @@ fn uses(own: Position, slot: Slot, part: Weighed) -> Costs
     }
 }
 
-fn started_uses(own: Position, rank: Rank, with_in: bool, slot: Slot, part: Weighed) -> Starts
-    ensures { result ≡ each_start (λ f. least_of part (settled_at (role_with_own rank with_in f (role_of own)) (slot_of slot))) }
+fn started_uses(own: Position, rank: Rank, with_in: bool, slot: Slot, part: &Weighed) -> Starts
+    ensures { result ≡ each_start (λ f. least_of part.now (settled_at (role_with_own rank with_in f (role_of own)) (slot_of slot))) }
 {
     Starts {
         any: use_at(with_own(own, rank, with_in, Start::Any), slot, part),
@@ -171,10 +169,10 @@ fn started_uses(own: Position, rank: Rank, with_in: bool, slot: Slot, part: Weig
     }
 }
 
-fn use_at(own: Position, slot: Slot, part: Weighed) -> Option<u32>
-    ensures { result ≡ least_of part (settled_at (role_of own) (slot_of slot)) }
+fn use_at(own: Position, slot: Slot, part: &Weighed) -> Option<u32>
+    ensures { result ≡ least_of part.now (settled_at (role_of own) (slot_of slot)) }
 {
-    least(part, settled(own, slot))
+    least_at(part, settled(own, slot))
 }
 
 /// What a node costs, of the sums over its parts: none where its spelling doesn't fit.
