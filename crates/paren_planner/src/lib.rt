@@ -22,5 +22,5 @@ pub use costs::{Costs, Starts};
 pub use extra::extra_pairs;
 pub use planned::Plan;
 pub use planner::{plan, plan_if_any};
-pub use table::CostTable;
+pub use table::{CostTable, Row};
 pub use weighed::{Weighed, added, fitting, least, widest};

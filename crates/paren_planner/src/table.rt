@@ -16,7 +16,7 @@ use tree::Kind;
 
 /// A row: the node's kind, and what it costs. Tables keep rows packed.
 #[derive(Clone, Copy)]
-pub(crate) struct Row {
+pub struct Row {
     pub kind: Kind,
     pub costs: Costs,
 }
