@@ -28,6 +28,7 @@ use Rattle.positions.specs.Outlines.{role_of, slot_of}
 use Rattle.paren_planner.specs.declared.packed.Filled.TheVariants.{Each, Nowhere}
 use Rattle.paren_planner.specs.declared.steps.Label.{Label}
 use Rattle.paren_planner.specs.declared.steps.Visit.{Visit}
+use Rattle.paren_planner.specs.declared.weighed.Weighed.{Weighed}
 use Rattle.paren_planner.specs.Packed.{shaped, free_shape}
 use Rattle.paren_planner.specs.Rows.{row_with}
 use Rattle.paren_planner.specs.Steps.{no_pairs, is_plain_outline, role_free, slot_free, outline_of, place_of, has_row_at, weighed_as, used, row_of_visit}
@@ -163,3 +164,10 @@ free_row v x e p =
 pub free_used : (v : Visit) (x : Label) → v.label ≡ Some x → is_plain_outline (outline_of x) ≡ true → slot_free (slot_of v.slot) x.rank ≡ true → used v no_pairs ≡ no_pairs
 free_used v x e p t =
     ap (λ l. uses (role_of v.above) (slot_of v.slot) (weighed_as (place_of v) l no_pairs)) e ∙ plain_uses (slot_of v.slot) (outline_of x) (place_of v) p t (role_of v.above)
+
+-- A part with such costs, whatever is known of it
+
+pub free_uses : (s : Slot) (w : Weighed) (x : Outline) → w.outline ≡ Some x → is_plain_outline x ≡ true → slot_free s x.rank ≡ true → w.costs ≡ shaped (free_shape x.rank) 0 → (b : Role) → uses b s w ≡ no_pairs
+free_uses s w x o p t h b =
+    let known : w ≡ record { outline = Some x; costs = fitting (role.expr rank.Expression true start.Any) x no_pairs } = λ j. record { outline = o j; costs = (h ∙ sym (free_costs x p)) j } in
+    ap (uses b s) known ∙ plain_uses s x (role.expr rank.Expression true start.Any) p t b

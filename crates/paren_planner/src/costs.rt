@@ -1,10 +1,11 @@
 //! What a node costs, at each symbol, In and start that matters.
 
-ghost use Rattle.std.specs.Prelude.{◌≡◌, true, Option, Some};
+ghost use Rattle.std.specs.Prelude.{◌≡◌, true, Option, Some, None};
+ghost use Rattle.paren_planner.specs.Packed.{free_shape, shaped};
 ghost use Rattle.paren_planner.specs.Costs.{cost_at, started_at, each_start, sums, same_everywhere, capped_sum, eight, of_cells};
 
 use crate::amount::{is_zero, sum};
-use grammar::tightness_of;
+use grammar::{position_takes, tightness_of};
 use language::{Rank, Start};
 
 /// The numbers at the three starts.
@@ -32,6 +33,13 @@ impl Starts {
         ensures { result ≡ true → self.now ≡ each_start (λ f. Some 0) }
     {
         is_zero(self.any) && is_zero(self.no_brace) && is_zero(self.statement)
+    }
+
+    /// Whether there is none.
+    fn is_none(&self) -> bool
+        ensures { result ≡ true → self.now ≡ each_start (λ f. None) }
+    {
+        self.any.is_none() && self.no_brace.is_none() && self.statement.is_none()
     }
 
     fn at(&self, start: Start) -> Option<u32>
@@ -80,6 +88,19 @@ impl Costs {
         ensures { result ≡ true → self.now ≡ same_everywhere (Some 0) }
     {
         self.with_in.is_nothing() && self.without_in.is_nothing() && self.at_member.is_nothing()
+    }
+
+    /// Whether they are those of a node at a symbol which costs nothing wherever it may stand.
+    pub(crate) fn is_free(&self, rank: Rank) -> bool
+        ensures { result ≡ true → self.now ≡ shaped (free_shape rank) 0 }
+    {
+        if !self.with_in.is_nothing() || !self.without_in.is_nothing() {
+            return false;
+        }
+        if position_takes(Rank::Member, rank) {
+            return self.at_member.is_nothing();
+        }
+        self.at_member.is_none()
     }
 
     /// The number that counts at a symbol, In and start.

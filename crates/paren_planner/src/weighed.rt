@@ -6,9 +6,9 @@ ghost use Rattle.language.specs.Positions.{widest as widest_role};
 ghost use Rattle.positions.specs.Outlines.{role_of, slot_of};
 ghost use Rattle.positions.specs.Spelled.{fits_outline};
 ghost use Rattle.positions.specs.Wherever.{with_own as role_with_own};
-ghost use Rattle.paren_planner.specs.Steps.{is_plain_outline};
+ghost use Rattle.paren_planner.specs.Steps.{is_plain_outline, slot_free};
 ghost use Rattle.paren_planner.specs.Costs.{each_start, started_at, same_everywhere, sums as sums_of};
-ghost use Rattle.paren_planner.specs.Weighed.{cost_of, direct_cost, least_of, settled_at, uses as uses_of, fitting as fitting_costs, suits_any, takes_primary};
+ghost use Rattle.paren_planner.specs.Weighed.{cost_of, direct_cost, least_of, settled_at, uses as uses_of, fitting as fitting_costs};
 
 use crate::amount::{is_zero, lesser, sum};
 use crate::costs::{Costs, Starts};
@@ -90,48 +90,42 @@ fn direct_cost(part: &Weighed, position: Position) -> Option<u32>
     }
 }
 
-/// Where the fewest expressions may stand without a pair.
-const NARROWEST: Position = Position::Expression {
-    rank: Rank::Primary,
-    with_in: false,
-    start: Start::Statement,
-};
-
-/// Whether a spelling may stand wherever a name may.
-fn suits_anywhere(outline: Outline) -> bool
-    ensures { result ≡ suits_any outline }
-{
-    matches!(outline.rank, Rank::Primary) && fits(NARROWEST, outline)
-}
-
-/// Whether a name may stand without a pair where a node's own symbol, In or start say more of the position.
-fn takes_name(slot: Slot) -> bool
-    ensures { result ≡ takes_primary (slot_of slot) }
+/// Whether what asks for no more than its symbol may stand at a slot, wherever the node above stands.
+fn slot_takes(slot: Slot, rank: Rank) -> bool
+    ensures { result ≡ slot_free (slot_of slot) rank }
 {
     match slot {
-        Slot::Fixed(_) => false,
-        Slot::Left(rank) | Slot::Lead(rank) | Slot::Tail(rank, _) => {
-            position_takes(rank, Rank::Primary)
-        }
+        Slot::Fixed(Position::Expression { rank: own, .. }) => position_takes(own, rank),
+        Slot::Left(own) | Slot::Lead(own) | Slot::Tail(own, _) => position_takes(own, rank),
+        Slot::Callee => position_takes(Rank::Member, rank),
         _ => true,
     }
 }
 
-/// Whether a part costs nothing at a slot, wherever its node stands: at a fixed position by its number there, elsewhere as it has no
-/// pairs inside and may stand there as a name may.
+/// Whether a part is seen at once to cost nothing at a slot, wherever its node stands: at a fixed position by its number there,
+/// elsewhere as its symbol may stand there, it asks for no more, and it has no pairs inside.
 pub(crate) fn is_free(slot: Slot, part: &Weighed) -> bool
     ensures { result ≡ true → (a : Role) → uses_of a (slot_of slot) part.now ≡ same_everywhere (Some 0) }
 {
-    if let Slot::Fixed(position) = slot {
-        return is_zero(least_at(part, position));
+    if is_plainly_free(slot, part) {
+        return true;
     }
-    let Some(outline) = part.outline else {
+    match slot {
+        Slot::Fixed(position) => is_zero(least_at(part, position)),
+        _ => false,
+    }
+}
+
+fn is_plainly_free(slot: Slot, part: &Weighed) -> bool
+    ensures { result ≡ true → (a : Role) → uses_of a (slot_of slot) part.now ≡ same_everywhere (Some 0) }
+{
+    let Some(outline) = &part.outline else {
         return false;
     };
-    if !takes_name(slot) || !suits_anywhere(outline) {
+    if !asks_no_more(outline) || !slot_takes(slot, outline.rank) {
         return false;
     }
-    part.costs.is_nothing()
+    part.costs.is_free(outline.rank)
 }
 
 /// The sums with what one more part costs in a node, wherever that stands.
@@ -179,9 +173,6 @@ fn use_at(own: Position, slot: Slot, part: &Weighed) -> Option<u32>
 pub fn fitting(own: Position, outline: Outline, costs: Costs) -> Costs
     ensures { result ≡ fitting_costs (role_of own) outline costs }
 {
-    if suits_anywhere(outline) {
-        return costs;
-    }
     if is_plain(outline) {
         return plainly_fitting(own, outline, costs);
     }
@@ -195,6 +186,12 @@ pub fn fitting(own: Position, outline: Outline, costs: Costs) -> Costs
 /// Whether a spelling asks for no In, and opens with no brace and no word: it may stand wherever its symbol may.
 pub(crate) fn is_plain(outline: Outline) -> bool
     ensures { result ≡ is_plain_outline outline }
+{
+    asks_no_more(&outline)
+}
+
+fn asks_no_more(outline: &Outline) -> bool
+    ensures { result ≡ is_plain_outline outline.now }
 {
     !outline.needs_in && matches!(outline.opens, Opens::Otherwise)
 }

@@ -1,8 +1,9 @@
 //! Which nodes are wrapped, from the first step of a walk to the last: from the script inwards.
 
-ghost use Rattle.std.specs.Prelude.{◌≡◌, ◌++◌, [], OnOk, IfOk, slice_get};
+ghost use Rattle.std.specs.Prelude.{◌≡◌, ◌++◌, [], ◌∷◌, true, false, cond, OnOk, length, slice_get};
 ghost use Rattle.language.specs.Layout.{inside as inside_role};
-ghost use Rattle.positions.specs.Outlines.{role_of};
+ghost use Rattle.positions.specs.Outlines.{role_of, slot_of};
+ghost use Rattle.paren_planner.specs.Steps.{has_row_at, stands_at};
 ghost use Rattle.paren_planner.specs.Marked.{round, shown_marks, marked, marked_through, at_the_start, flag_at, flag_of, round_at, round_of, plain_round, fits_label as label_fits};
 
 use crate::amount::{exceeds, is_zero, sum};
@@ -50,16 +51,14 @@ fn take_step(
 ) -> Result<(), AllocError>
     ensures { OnOk result (shown_marks around.new outer.new.items wrapped.new.items ≡ marked table.now.rows.items step.now (shown_marks around.old outer.old.items wrapped.old.items)) }
 {
+    if !around.lives {
+        return pass_step(step, around, outer, wrapped);
+    }
     match step {
-        Step::Leaf(visit) => {
-            wrap_node(visit, table, *around, wrapped)?;
-            Ok(())
-        }
+        Step::Leaf(visit) => wrap_leaf(visit, table, around.own, wrapped),
         Step::Enter(visit) => {
             outer.push(*around)?;
-            let within = wrap_node(visit, table, *around, wrapped)?;
-            *around = within;
-            Ok(())
+            wrap_parent(visit, table, around, wrapped)
         }
         Step::Leave => {
             *around = outer.pop().unwrap_or(*around);
@@ -68,30 +67,79 @@ fn take_step(
     }
 }
 
-/// Says of a node whether it is wrapped, where it has a row, and what stands around its parts.
-fn wrap_node(
+/// A step where no node may be wrapped.
+fn pass_step(
+    step: &Step,
+    around: &mut Around,
+    outer: &mut Vec<Around>,
+    wrapped: &mut Vec<bool>,
+) -> Result<(), AllocError>
+    requires { around.old.lives ≡ false }
+    ensures { (table : _) → OnOk result (shown_marks around.new outer.new.items wrapped.new.items ≡ marked table step.now (shown_marks around.old outer.old.items wrapped.old.items)) }
+{
+    match step {
+        Step::Leaf(visit) => pass_node(visit, wrapped),
+        Step::Enter(visit) => {
+            outer.push(*around)?;
+            pass_node(visit, wrapped)
+        }
+        Step::Leave => {
+            *around = outer.pop().unwrap_or(*around);
+            Ok(())
+        }
+    }
+}
+
+/// A node that isn't wrapped.
+fn pass_node(visit: &Visit, wrapped: &mut Vec<bool>) -> Result<(), AllocError>
+    ensures { OnOk result (wrapped.new.items ≡ wrapped.old.items ++ cond (has_row_at (slot_of visit.now.slot)) (false ∷ []) []) }
+{
+    if !visit.has_row() {
+        return Ok(());
+    }
+    wrapped.push(false)?;
+    Ok(())
+}
+
+/// Says of a node without parts whether it is wrapped, where it has a row.
+fn wrap_leaf(
     visit: &Visit,
     table: &CostTable,
-    around: Around,
+    own: Position,
     wrapped: &mut Vec<bool>,
-) -> Result<Around, AllocError>
-    ensures around { IfOk result (λ x. round x ≡ round_of table.now.rows.items visit.now (round around) wrapped.old.items) }
-    ensures flag { OnOk result (wrapped.new.items ≡ wrapped.old.items ++ flag_of table.now.rows.items visit.now (round around) wrapped.old.items) }
+) -> Result<(), AllocError>
+    ensures { OnOk result (wrapped.new.items ≡ wrapped.old.items ++ cond (has_row_at (slot_of visit.now.slot)) (flag_at (slice_get table.now.rows.items (length wrapped.old.items)) (stands_at (role_of own) visit.now) visit.now.label ∷ []) []) }
 {
-    if !around.lives {
-        if visit.has_row() {
-            wrapped.push(false)?;
-        }
-        return Ok(around);
+    if !visit.has_row() {
+        return Ok(());
     }
+    let position = settled(own, visit.slot);
+    let wants = wants_pair(visit.label, position, table, wrapped.len());
+    wrapped.push(wants)?;
+    Ok(())
+}
+
+/// Says of a node with parts whether it is wrapped, where it has a row, and what stands around its parts.
+fn wrap_parent(
+    visit: &Visit,
+    table: &CostTable,
+    around: &mut Around,
+    wrapped: &mut Vec<bool>,
+) -> Result<(), AllocError>
+    requires { around.old.lives ≡ true }
+    ensures around { OnOk result (round around.new ≡ round_of table.now.rows.items visit.now (round around.old) wrapped.old.items) }
+    ensures flag { OnOk result (wrapped.new.items ≡ wrapped.old.items ++ flag_of table.now.rows.items visit.now (round around.old) wrapped.old.items) }
+{
     let position = settled(around.own, visit.slot);
     if !visit.has_row() {
-        return Ok(plain(position, visit.label));
+        *around = plain(position, visit.label);
+        return Ok(());
     }
     let row = wrapped.len();
     let wants = wants_pair(visit.label, position, table, row);
     wrapped.push(wants)?;
-    Ok(within(wants, position, visit.label, table, row))
+    *around = within(wants, position, visit.label, table, row);
+    Ok(())
 }
 
 fn plain(position: Position, label: Option<Label>) -> Around
