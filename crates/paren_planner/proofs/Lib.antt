@@ -1,5 +1,6 @@
 pub mod Results
 pub mod Visited
+pub mod Packing
 pub mod Stacks
 pub mod Taking
 pub mod Marking

@@ -1,5 +1,5 @@
 -- What asks for no In and opens with no brace and no word: where its symbol may stand and it has no pairs inside, it costs nothing.
-use Rattle.std.proofs.Common.{◌≡◌, Bool, true, false, cond, nat_le, ◌&&◌, Some, None, refl, sym, ap, ◌∙◌}
+use Rattle.std.proofs.Common.{◌≡◌, Bool, true, false, cond, nat_le, ◌&&◌, [], ◌∷◌, Some, None, refl, sym, ap, ◌∙◌}
 use Rattle.std.specs.Prelude.{not}
 use Rattle.std.proofs.lemmas.Bool.{false≢true}
 use Rattle.tree.specs.Uses.{implies}
@@ -22,7 +22,16 @@ use Rattle.paren_planner.specs.declared.costs.Costs as own
 use Rattle.paren_planner.specs.declared.costs.Starts.{Starts}
 use Rattle.paren_planner.specs.Costs.{each, each_start, started_at, cost_at, capped_sum}
 use Rattle.paren_planner.specs.Weighed.{least_of, settled_at, uses, fitting}
-use Rattle.paren_planner.specs.Steps.{no_pairs, is_plain_outline, role_free, slot_free}
+use Rattle.tree.specs.declared.kind.Kind.{Kind}
+use Rattle.language.specs.Positions.{widest}
+use Rattle.positions.specs.Outlines.{role_of, slot_of}
+use Rattle.paren_planner.specs.declared.packed.Filled.TheVariants.{Each, Nowhere}
+use Rattle.paren_planner.specs.declared.steps.Label.{Label}
+use Rattle.paren_planner.specs.declared.steps.Visit.{Visit}
+use Rattle.paren_planner.specs.declared.weighed.Weighed.{Weighed}
+use Rattle.paren_planner.specs.Packed.{shaped, free_shape}
+use Rattle.paren_planner.specs.Rows.{row_with}
+use Rattle.paren_planner.specs.Steps.{no_pairs, is_plain_outline, role_free, slot_free, outline_of, place_of, has_row_at, weighed_as, used, row_of_visit}
 use Rattle.paren_planner.proofs.Known.{takes_all, takes_tight}
 use Rattle.paren_planner.proofs.Free.{zero_at, zero_or_one}
 
@@ -119,6 +128,46 @@ plain_fitting x a c b p h = λ j. record {
   at_member = starts_fit c.at_member (λ f. fits_outline (with_own rank.Member true f a) x) b (λ f. member_fits x p a f ∙ h) j;
 }
 
--- it costs nothing there
-pub passed_over : (s : Slot) (x : Outline) (a b : Role) (c : own.Costs) → is_plain_outline x ≡ true → slot_free s x.rank ≡ true → c ≡ no_pairs → uses b s (record { outline = Some x; costs = fitting a x c }) ≡ no_pairs
-passed_over s x a b c p t e = ap (λ d. uses b s (record { outline = Some x; costs = fitting a x d })) e ∙ plain_uses s x a p t b
+-- Its row, where its parts cost nothing
+
+free_shaped : (z : Rank) → record { with_in = no_pairs.with_in; without_in = no_pairs.without_in; at_member = cond (takes rank.Member z) no_pairs.at_member (each_start (λ f. None)) } ≡ shaped (free_shape z) 0
+free_shaped z = of (takes rank.Member z)
+  where
+    of : (b : Bool) → record { with_in = no_pairs.with_in; without_in = no_pairs.without_in; at_member = cond b no_pairs.at_member (each_start (λ f. None)) } ≡ shaped (record { with_in = Each; without_in = Each; at_member = cond b Each Nowhere }) 0
+    of true = refl
+    of false = refl
+
+and_all : (b c : Bool) → c ≡ true → (b && c) ≡ b
+and_all true c h = h
+and_all false c h = refl
+
+free_costs : (x : Outline) → is_plain_outline x ≡ true → fitting (role.expr rank.Expression true start.Any) x no_pairs ≡ shaped (free_shape x.rank) 0
+free_costs x p =
+    plain_fitting x (role.expr rank.Expression true start.Any) no_pairs (takes rank.Member x.rank) p (and_all (takes rank.Member x.rank) (implies x.needs_in true && opens_at start.Any x.opens) (plain_opens x.needs_in x.opens p true start.Any))
+    ∙ free_shaped x.rank
+
+free_row_at : (s : Slot) (a : Role) (k : Kind) (x : Outline) → is_plain_outline x ≡ true → cond (has_row_at s) (row_with k (fitting (widest (settled_at a s)) x no_pairs) ∷ []) [] ≡ cond (has_row_at s) (row_with k (shaped (free_shape x.rank) 0) ∷ []) []
+free_row_at (role.fixed (role.expr y i f)) a k x p = ap (λ c. row_with k c ∷ []) (free_costs x p)
+free_row_at (role.fixed b) a k x p = refl
+free_row_at (role.left y) a k x p = ap (λ c. row_with k c ∷ []) (free_costs x p)
+free_row_at (role.lead y) a k x p = ap (λ c. row_with k c ∷ []) (free_costs x p)
+free_row_at (role.tail y g) a k x p = ap (λ c. row_with k c ∷ []) (free_costs x p)
+free_row_at role.callee a k x p = ap (λ c. row_with k c ∷ []) (free_costs x p)
+free_row_at role.lead_spine a k x p = refl
+free_row_at role.lead_pattern a k x p = refl
+
+pub free_row : (v : Visit) (x : Label) → v.label ≡ Some x → is_plain_outline (outline_of x) ≡ true → row_of_visit v no_pairs ≡ cond (has_row_at (slot_of v.slot)) (row_with v.kind (shaped (free_shape x.rank) 0) ∷ []) []
+free_row v x e p =
+    ap (λ l. cond (has_row_at (slot_of v.slot)) (row_with v.kind (weighed_as (place_of v) l no_pairs).costs ∷ []) []) e
+    ∙ free_row_at (slot_of v.slot) (role_of v.above) v.kind (outline_of x) p
+
+pub free_used : (v : Visit) (x : Label) → v.label ≡ Some x → is_plain_outline (outline_of x) ≡ true → slot_free (slot_of v.slot) x.rank ≡ true → used v no_pairs ≡ no_pairs
+free_used v x e p t =
+    ap (λ l. uses (role_of v.above) (slot_of v.slot) (weighed_as (place_of v) l no_pairs)) e ∙ plain_uses (slot_of v.slot) (outline_of x) (place_of v) p t (role_of v.above)
+
+-- A part with such costs, whatever is known of it
+
+pub free_uses : (s : Slot) (w : Weighed) (x : Outline) → w.outline ≡ Some x → is_plain_outline x ≡ true → slot_free s x.rank ≡ true → w.costs ≡ shaped (free_shape x.rank) 0 → (b : Role) → uses b s w ≡ no_pairs
+free_uses s w x o p t h b =
+    let known : w ≡ record { outline = Some x; costs = fitting (role.expr rank.Expression true start.Any) x no_pairs } = λ j. record { outline = o j; costs = (h ∙ sym (free_costs x p)) j } in
+    ap (uses b s) known ∙ plain_uses s x (role.expr rank.Expression true start.Any) p t b

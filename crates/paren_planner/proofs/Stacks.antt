@@ -6,6 +6,7 @@ use Rattle.paren_planner.specs.declared.costs.Costs as own
 use Rattle.paren_planner.specs.declared.table.Row.{Row}
 use Rattle.paren_planner.specs.declared.wraps.Around.{Around}
 use Rattle.paren_planner.specs.Steps.{others, innermost, no_pairs}
+use Rattle.paren_planner.specs.Pending.{stacked}
 use Rattle.paren_planner.specs.Marked.{round, innermost_round}
 
 pub pushed : {X : Type 0} (xs ys : List X) (x : X) → ys ≡ xs ++ x ∷ [] → reverse ys ≡ x ∷ reverse xs
@@ -33,6 +34,14 @@ popped_rounds xs ys (Some x) e h = ap others (pushed (map round ys) (map round x
 
 pub pushed_round : (xs ys : List Around) (x : Around) → ys ≡ xs ++ x ∷ [] → reverse (map round ys) ≡ round x ∷ reverse (map round xs)
 pushed_round xs ys x e = pushed (map round xs) (map round ys) (round x) (ap (map round) e ∙ map-append round xs (x ∷ []))
+
+-- Sums that take no room where they are nothing
+
+pub kept_pushed : (ms ns : List Bool) (cs ds : List own.Costs) (c : own.Costs) → ns ≡ ms ++ true ∷ [] → ds ≡ cs ++ c ∷ [] → stacked (reverse ns) (reverse ds) ≡ c ∷ stacked (reverse ms) (reverse cs)
+kept_pushed ms ns cs ds c e f = λ j. stacked (pushed ms ns true e j) (pushed cs ds c f j)
+
+pub none_pushed : (ms ns : List Bool) (cs : List own.Costs) → ns ≡ ms ++ false ∷ [] → stacked (reverse ns) (reverse cs) ≡ no_pairs ∷ stacked (reverse ms) (reverse cs)
+none_pushed ms ns cs e = ap (λ bs. stacked bs (reverse cs)) (pushed ms ns false e)
 
 -- a row, where there is one
 pub row_pushed : (b : Bool) (x : Row) (xs ys : List Row) → ys ≡ xs ++ cond b (x ∷ []) [] → reverse ys ≡ cond b (x ∷ []) [] ++ reverse xs

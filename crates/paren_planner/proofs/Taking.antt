@@ -1,62 +1,81 @@
--- One step back, as vectors have it.
-use Rattle.std.proofs.Common.{◌≡◌, ℕ, ◌+◌, ◌-◌, ◌<◌, List, [], ◌∷◌, ◌++◌, reverse, length, drop, take, get_or, Option, Some, None, Ok, Err, refl, sym, ap, ◌∙◌, subst, arith, drop-cons}
-use Rattle.std.specs.Prelude.{Result, OnOk, IfSome, MatchOption, option_to_list, unwrap_or}
-use Rattle.positions.specs.Outlines.{slot_of}
+-- One step back, as the planner keeps sums and rows.
+use Rattle.std.proofs.Common.{◌≡◌, ℕ, ◌+◌, ◌-◌, ◌<◌, true, false, cond, List, [], ◌∷◌, ◌++◌, reverse, length, drop, take, get_or, Option, Some, None, Ok, Err, refl, sym, ap, ◌∙◌, subst, arith, drop-cons}
+use Rattle.std.specs.Prelude.{Result, OnOk, MatchOption, option_to_list, All}
+use Rattle.std.proofs.lemmas.List.Elements.{All-nil, All-cons, All-head, All-tail}
+use Rattle.positions.specs.Outlines.{role_of, slot_of}
 use Rattle.paren_planner.specs.declared.costs.Costs as own
+use Rattle.paren_planner.specs.declared.pending.Pending.{Pending}
 use Rattle.paren_planner.specs.declared.table.Row.{Row}
+use Rattle.paren_planner.specs.declared.weighed.Weighed.{Weighed}
 use Rattle.paren_planner.specs.declared.steps.Visit.{Visit}
 use Rattle.paren_planner.specs.declared.steps.Step.{Step}
 use Rattle.paren_planner.specs.declared.steps.Step.TheVariants.{Leaf, Enter, Leave}
 use Rattle.paren_planner.specs.Costs.{sums}
+use Rattle.paren_planner.specs.Pending.{here_of, outer_of, shown_sums, AreHeld}
 use Rattle.paren_planner.specs.Rows.{row_with}
-use Rattle.paren_planner.specs.Steps.{no_pairs, IsHeld, weighed_of, used, row_of_visit, has_row_at, Sums, taken, taken_from, shown_sums}
+use Rattle.paren_planner.specs.Weighed.{uses}
+use Rattle.paren_planner.specs.Steps.{no_pairs, IsHeld, weighed_of, used, row_of_visit, has_row_at, Sums, joined, taken, taken_from, at_the_end, innermost, others}
 use Rattle.paren_planner.proofs.Sums.{zero-zero, sums-zero}
-use Rattle.paren_planner.proofs.Stacks.{pushed, popped, popped_sums, row_pushed}
+use Rattle.paren_planner.proofs.Stacks.{row_pushed}
 
 pub none_popped : {X : Type 0} (xs ys : List X) (r : Option X) (n : ℕ) (P : Type 0) (Q : X → Type 0) → xs ≡ ys ++ option_to_list r → ys ≡ take (n - 1) xs → MatchOption r ((n ≡ 0) × P) Q → r ≡ None → xs ≡ []
 none_popped xs ys None n P Q e t m h = e ∙ ap (λ u. u ++ []) (t ∙ ap (λ k. take (k - 1) xs) m.0)
 none_popped xs ys (Some x) n P Q e t m h = absurd (cc)
 
-pub popped_held : (r : Option own.Costs) → IfSome r IsHeld → IsHeld (unwrap_or r no_pairs)
-popped_held None h = zero-zero
-popped_held (Some c) h = h
+-- What is added up is a sum
 
-visit_rows : (v : Visit) (c : own.Costs) (old new : List Row) → new ≡ old ++ row_of_visit v c → reverse new ≡ row_of_visit v c ++ reverse old
-visit_rows v c old new e = row_pushed (has_row_at (slot_of v.slot)) (row_with v.kind (weighed_of v c).costs) old new e
+pub innermost_held : (cs : List own.Costs) → All IsHeld cs → IsHeld (innermost cs)
+innermost_held [] h = zero-zero
+innermost_held (c ∷ cs) h = All-head IsHeld c cs h
 
-pub leaf_taken : (x : Step) (v : Visit) (s t z : own.Costs) (o : List own.Costs) (old new : List Row) → x ≡ Leaf v → z ≡ no_pairs → t ≡ sums s (used v z) → new ≡ old ++ row_of_visit v z → shown_sums t o new ≡ taken x (shown_sums s o old)
-leaf_taken x v s t z o old new i k e r =
-    let e2 : t ≡ sums s (used v no_pairs) = e ∙ ap (λ c. sums s (used v c)) k in
-    let r2 : reverse new ≡ row_of_visit v no_pairs ++ reverse old = visit_rows v no_pairs old new (r ∙ ap (λ c. old ++ row_of_visit v c) k) in
-    (λ j. record { here = e2 j; outer = reverse o; rows = r2 j }) ∙ ap (λ y. taken y (shown_sums s o old)) (sym i)
+others_held : (cs : List own.Costs) → All IsHeld cs → All IsHeld (others cs)
+others_held [] h = All-nil IsHeld
+others_held (c ∷ cs) h = All-tail IsHeld c cs h
 
-pub enter_taken : (x : Step) (v : Visit) (s t z d : own.Costs) (o p : List own.Costs) (q : Option own.Costs) (old new : List Row) → x ≡ Enter v → o ≡ p ++ option_to_list q → (q ≡ None → o ≡ []) → z ≡ no_pairs → d ≡ unwrap_or q z →
-    t ≡ sums d (used v s) → new ≡ old ++ row_of_visit v s → shown_sums t p new ≡ taken x (shown_sums s o old)
-enter_taken x v s t z d o p q old new i e n k u h r =
-    let top : d ≡ Rattle.paren_planner.specs.Steps.innermost (reverse o) = u ∙ ap (unwrap_or q) k ∙ sym (popped_sums o p q e n) in
-    let here : t ≡ sums (Rattle.paren_planner.specs.Steps.innermost (reverse o)) (used v s) = h ∙ ap (λ c. sums c (used v s)) top in
-    let rest : reverse p ≡ Rattle.paren_planner.specs.Steps.others (reverse o) = sym (popped o p q e n) in
-    let rows : reverse new ≡ row_of_visit v s ++ reverse old = visit_rows v s old new r in
-    (λ j. record { here = here j; outer = rest j; rows = rows j }) ∙ ap (λ y. taken y (shown_sums s o old)) (sym i)
+taken_held : (x : Step) (t : Sums) → AreHeld t → AreHeld (taken x t)
+taken_held (Leaf v) t h = record { here = sums-zero t.here (used v no_pairs); outer = h.outer }
+taken_held (Enter v) t h = record { here = sums-zero (innermost t.outer) (used v t.here); outer = others_held t.outer h.outer }
+taken_held Leave t h = record { here = zero-zero; outer = All-cons IsHeld t.here t.outer h.here h.outer }
 
-pub leave_taken : (x : Step) (s z : own.Costs) (o p : List own.Costs) (rs : List Row) → x ≡ Leave → z ≡ no_pairs → p ≡ o ++ s ∷ [] → shown_sums z p rs ≡ taken x (shown_sums s o rs)
-leave_taken x s z o p rs i k e = (λ j. record { here = k j; outer = pushed o p s e j; rows = reverse rs }) ∙ ap (λ y. taken y (shown_sums s o rs)) (sym i)
+pub all_held : (xs : List Step) → AreHeld (taken_from xs at_the_end)
+unfolding taken_from
+all_held [] = record { here = zero-zero; outer = All-nil IsHeld }
+all_held (x ∷ xs) = taken_held x (taken_from xs at_the_end) (all_held xs)
 
--- The same of a call that succeeds
+-- A node
 
-pub leaf_ok : {A E : Type 0} (q : Result A E) (x : Step) (v : Visit) (s t z : own.Costs) (o : List own.Costs) (old new : List Row) → x ≡ Leaf v → z ≡ no_pairs → OnOk q (t ≡ sums s (used v z)) → OnOk q (new ≡ old ++ row_of_visit v z) →
-    OnOk q (shown_sums t o new ≡ taken x (shown_sums s o old))
-leaf_ok (Ok a) x v s t z o old new i k e r = leaf_taken x v s t z o old new i k e r
-leaf_ok (Err a) x v s t z o old new i k e r = e
+pub node_joined : (v : Visit) (c : own.Costs) (w : Weighed) (p q : Pending) (old new : List Row) → w ≡ weighed_of v c → here_of q ≡ sums (here_of p) (uses (role_of v.above) (slot_of v.slot) w) → outer_of q ≡ outer_of p
+    → new ≡ old ++ cond (has_row_at (slot_of v.slot)) (row_with v.kind w.costs ∷ []) [] → shown_sums q new ≡ joined v c (shown_sums p old)
+node_joined v c w p q old new k h o r =
+    let here : here_of q ≡ sums (here_of p) (used v c) = h ∙ ap (λ u. sums (here_of p) (uses (role_of v.above) (slot_of v.slot) u)) k in
+    let rows : reverse new ≡ row_of_visit v c ++ reverse old =
+    row_pushed (has_row_at (slot_of v.slot)) (row_with v.kind w.costs) old new r ∙ ap (λ u. cond (has_row_at (slot_of v.slot)) (row_with v.kind u.costs ∷ []) [] ++ reverse old) k in
+    λ j. record { here = here j; outer = o j; rows = rows j }
 
-pub enter_ok : {A E : Type 0} (c : Result A E) (x : Step) (v : Visit) (s t z d : own.Costs) (o p : List own.Costs) (q : Option own.Costs) (old new : List Row) → x ≡ Enter v → o ≡ p ++ option_to_list q → (q ≡ None → o ≡ []) → z ≡ no_pairs → d ≡ unwrap_or q z →
-    OnOk c (t ≡ sums d (used v s)) → OnOk c (new ≡ old ++ row_of_visit v s) → OnOk c (shown_sums t p new ≡ taken x (shown_sums s o old))
-enter_ok (Ok a) x v s t z d o p q old new i e n k u h r = enter_taken x v s t z d o p q old new i e n k u h r
-enter_ok (Err a) x v s t z d o p q old new i e n k u h r = h
+-- one that costs nothing in the node above
+pub free_joined : {A E : Type 0} (q : Result A E) (v : Visit) (p : Pending) (old new : List Row) (x : Row) → IsHeld (here_of p) → used v no_pairs ≡ no_pairs → row_of_visit v no_pairs ≡ cond (has_row_at (slot_of v.slot)) (x ∷ []) []
+    → OnOk q (new ≡ old ++ cond (has_row_at (slot_of v.slot)) (x ∷ []) []) → OnOk q (shown_sums p new ≡ joined v no_pairs (shown_sums p old))
+free_joined (Ok a) v p old new x h u e r =
+    let here : here_of p ≡ sums (here_of p) (used v no_pairs) = sym h ∙ ap (sums (here_of p)) (sym u) in
+    let rows : reverse new ≡ row_of_visit v no_pairs ++ reverse old = row_pushed (has_row_at (slot_of v.slot)) x old new r ∙ ap (λ rs. rs ++ reverse old) (sym e) in
+    λ j. record { here = here j; outer = outer_of p; rows = rows j }
+free_joined (Err a) v p old new x h u e r = r
 
-pub held_ok : {A E : Type 0} (q : Result A E) (t s u : own.Costs) → OnOk q (t ≡ sums s u) → OnOk q (IsHeld t)
-held_ok (Ok a) t s u e = subst IsHeld (sym e) (sums-zero s u)
-held_ok (Err a) t s u e = e
+-- A step
+
+-- what was done for one step was done for this one
+pub step_taken : {A E : Type 0} (q : Result A E) (x y : Step) (t u : Sums) → x ≡ y → OnOk q (t ≡ taken y u) → OnOk q (t ≡ taken x u)
+step_taken (Ok a) x y t u i e = e ∙ ap (λ z. taken z u) (sym i)
+step_taken (Err a) x y t u i e = e
+
+pub parent_taken : {A E : Type 0} (r : Result A E) (v : Visit) (c : own.Costs) (p q : Pending) (t : Sums) (old : List Row) → c ≡ here_of p → here_of q ≡ innermost (outer_of p) → outer_of q ≡ others (outer_of p)
+    → OnOk r (t ≡ joined v c (shown_sums q old)) → OnOk r (t ≡ taken (Enter v) (shown_sums p old))
+parent_taken (Ok a) v c p q t old k h o e = e ∙ (λ j. joined v (k j) (record { here = h j; outer = o j; rows = reverse old }))
+parent_taken (Err a) v c p q t old k h o e = e
+
+pub leave_taken : {A E : Type 0} (r : Result A E) (x : Step) (p q : Pending) (rs : List Row) → x ≡ Leave → OnOk r (here_of q ≡ no_pairs) → OnOk r (outer_of q ≡ here_of p ∷ outer_of p) → OnOk r (shown_sums q rs ≡ taken x (shown_sums p rs))
+leave_taken (Ok a) x p q rs i h o = (λ j. record { here = h j; outer = o j; rows = reverse rs }) ∙ ap (λ z. taken z (shown_sums p rs)) (sym i)
+leave_taken (Err a) x p q rs i h o = h
 
 pub taken_past : (xs : List Step) (k : ℕ) (t : Sums) → drop k xs ≡ [] → taken_from (drop k xs) t ≡ t
 unfolding taken_from

@@ -4,6 +4,8 @@ pub mod Steps
 pub mod Noted
 pub mod Marked
 pub mod Rows
+pub mod Packed
+pub mod Pending
 pub mod Wrapped
 pub mod Laws
 pub mod Tables

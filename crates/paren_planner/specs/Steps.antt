@@ -1,5 +1,5 @@
 -- The steps of a walk over a script, and what the planner's two passes over them make of them.
-use Rattle.std.specs.Prelude.{◌≡◌, Bool, true, false, not, cond, ◌&&◌, List, [], ◌∷◌, ◌++◌, reverse, Option, Some, None}
+use Rattle.std.specs.Prelude.{◌≡◌, Bool, true, false, not, cond, ◌&&◌, List, [], ◌∷◌, ◌++◌, Option, Some, None}
 use Rattle.tree.specs.declared.kind.Kind.{Kind}
 use Rattle.language.specs.Pieces.{Role, expr, Slot, fixed, left, lead, tail, callee, lead_spine, lead_pattern}
 use Rattle.language.specs.Positions.{widest}
@@ -132,7 +132,3 @@ taken_from (x ∷ xs) t = taken x (taken_from xs t)
 
 abbrev pub at_the_end : Sums
 at_the_end = record { here = no_pairs; outer = []; rows = [] }
-
--- the same as vectors, the innermost node and the first row last
-abbrev pub shown_sums : own.Costs → List own.Costs → List Row → Sums
-shown_sums c cs rs = record { here = c; outer = reverse cs; rows = reverse rs }

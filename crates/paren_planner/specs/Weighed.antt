@@ -1,12 +1,9 @@
 -- What is known of a node that was weighed.
-use Rattle.std.specs.Prelude.{◌≡◌, ℕ, Bool, true, false, ◌&&◌, cond, Option, Some, None, List}
+use Rattle.std.specs.Prelude.{◌≡◌, ℕ, Bool, false, cond, Option, Some, None, List}
 use Rattle.language.specs.declared.Rank.{Rank}
-use Rattle.language.specs.declared.Rank.TheVariants.{Primary}
 use Rattle.language.specs.declared.Start.{Start}
-use Rattle.language.specs.declared.Start.TheVariants.{Statement}
-use Rattle.language.specs.Words.{takes}
 use Rattle.tree.specs.Tree.{Tree, Parts}
-use Rattle.language.specs.Pieces.{Role, expr, spine, pattern, Slot, fixed, left, lead, tail, settle}
+use Rattle.language.specs.Pieces.{Role, expr, spine, pattern, Slot, settle}
 use Rattle.language.specs.Grammar.{ways, own_rank, own_in, own_start}
 use Rattle.language.specs.Cost.{lesser, parts_least}
 use Rattle.language.specs.Layout.{some_way}
@@ -64,19 +61,3 @@ sums_over ps a xs = each (λ y i f. capped (parts_least ps (settled_roles (with_
 pub record IsWeighed (a : Role) (n : Tree) (w : Weighed) : Type 0 where
   pub fits : (y : Rank) (i : Bool) (f : Start) → some_way (ways (with_own y i f a) n) ≡ fits_any (with_own y i f a) w.outline
   pub costs : w.costs ≡ cells_at n a
-
-abbrev pub is_primary : Rank → Bool
-is_primary Primary = true
-is_primary y = false
-
--- a spelling may stand wherever a name may
-abbrev pub suits_any : Outline → Bool
-suits_any x = is_primary x.rank && fits_outline (expr Primary false Statement) x
-
--- a name may stand without a pair there, where a node's own symbol, In or start say more of the position
-abbrev pub takes_primary : Slot → Bool
-takes_primary (fixed a) = false
-takes_primary (left y) = takes y Primary
-takes_primary (lead y) = takes y Primary
-takes_primary (tail y x) = takes y Primary
-takes_primary s = true

@@ -1,10 +1,11 @@
 //! What a node costs, at each symbol, In and start that matters.
 
-ghost use Rattle.std.specs.Prelude.{◌≡◌, true, Option, Some};
+ghost use Rattle.std.specs.Prelude.{◌≡◌, true, Option, Some, None};
+ghost use Rattle.paren_planner.specs.Packed.{free_shape, shaped};
 ghost use Rattle.paren_planner.specs.Costs.{cost_at, started_at, each_start, sums, same_everywhere, capped_sum, eight, of_cells};
 
 use crate::amount::{is_zero, sum};
-use grammar::tightness_of;
+use grammar::{position_takes, tightness_of};
 use language::{Rank, Start};
 
 /// The numbers at the three starts.
@@ -28,14 +29,21 @@ impl Starts {
     }
 
     /// Whether each is 0.
-    fn is_nothing(self) -> bool
-        ensures { result ≡ true → self ≡ each_start (λ f. Some 0) }
+    fn is_nothing(&self) -> bool
+        ensures { result ≡ true → self.now ≡ each_start (λ f. Some 0) }
     {
         is_zero(self.any) && is_zero(self.no_brace) && is_zero(self.statement)
     }
 
-    fn at(self, start: Start) -> Option<u32>
-        ensures { result ≡ started_at self start }
+    /// Whether there is none.
+    fn is_none(&self) -> bool
+        ensures { result ≡ true → self.now ≡ each_start (λ f. None) }
+    {
+        self.any.is_none() && self.no_brace.is_none() && self.statement.is_none()
+    }
+
+    fn at(&self, start: Start) -> Option<u32>
+        ensures { result ≡ started_at self.now start }
     {
         match start {
             Start::Any => self.any,
@@ -44,8 +52,8 @@ impl Starts {
         }
     }
 
-    fn plus(self, other: Starts) -> Starts
-        ensures { result ≡ each_start (λ f. capped_sum (started_at self f) (started_at other f)) }
+    fn plus(&self, other: &Starts) -> Starts
+        ensures { result ≡ each_start (λ f. capped_sum (started_at self.now f) (started_at other.now f)) }
     {
         Starts {
             any: sum(self.any, other.any),
@@ -76,15 +84,34 @@ impl Costs {
     }
 
     /// Whether each number is 0.
-    pub(crate) fn is_nothing(self) -> bool
-        ensures { result ≡ true → self ≡ same_everywhere (Some 0) }
+    pub(crate) fn is_nothing(&self) -> bool
+        ensures { result ≡ true → self.now ≡ same_everywhere (Some 0) }
     {
         self.with_in.is_nothing() && self.without_in.is_nothing() && self.at_member.is_nothing()
+    }
+
+    /// Whether they are those of a node at a symbol which costs nothing wherever it may stand.
+    pub(crate) fn is_free(&self, rank: Rank) -> bool
+        ensures { result ≡ true → self.now ≡ shaped (free_shape rank) 0 }
+    {
+        if !self.with_in.is_nothing() || !self.without_in.is_nothing() {
+            return false;
+        }
+        if position_takes(Rank::Member, rank) {
+            return self.at_member.is_nothing();
+        }
+        self.at_member.is_none()
     }
 
     /// The number that counts at a symbol, In and start.
     pub fn at(self, rank: Rank, with_in: bool, start: Start) -> Option<u32>
         ensures { result ≡ cost_at self rank with_in start }
+    {
+        self.number(rank, with_in, start)
+    }
+
+    pub(crate) fn number(&self, rank: Rank, with_in: bool, start: Start) -> Option<u32>
+        ensures { result ≡ cost_at self.now rank with_in start }
     {
         if tightness_of(rank) >= 21 {
             return self.at_member.at(start);
@@ -96,19 +123,19 @@ impl Costs {
     }
 
     /// The sums, one by one.
-    pub(crate) fn plus(self, other: Costs) -> Costs
-        ensures { result ≡ sums self other }
+    pub(crate) fn plus(&self, other: &Costs) -> Costs
+        ensures { result ≡ sums self.now other.now }
     {
         Costs {
-            with_in: self.with_in.plus(other.with_in),
-            without_in: self.without_in.plus(other.without_in),
-            at_member: self.at_member.plus(other.at_member),
+            with_in: self.with_in.plus(&other.with_in),
+            without_in: self.without_in.plus(&other.without_in),
+            at_member: self.at_member.plus(&other.at_member),
         }
     }
 
     /// The eight numbers of a row.
-    pub(crate) fn cells(self) -> [Option<u32>; 8]
-        ensures { result ≡ eight self }
+    pub(crate) fn cells(&self) -> [Option<u32>; 8]
+        ensures { result ≡ eight self.now }
     {
         [
             self.with_in.any,

@@ -1,16 +1,22 @@
 //! Cost tables.
 
-ghost use Rattle.std.specs.Prelude.{◌≡◌, ◌-◌, ◌≤◌, [], ◌∷◌, ◌++◌, length, reverse, slice_get, slice_index_or, option_map, OnOk, OnErr};
+ghost use Rattle.std.specs.Prelude.{◌≡◌, ◌-◌, ◌≤◌, [], ◌∷◌, ◌++◌, length, reverse, slice_get, slice_index_or, OnOk, OnErr, IfSome};
+ghost use Rattle.positions.specs.Outlines.{role_of};
 ghost use Rattle.paren_planner.specs.Costs.{eight, of_cells};
+ghost use Rattle.paren_planner.specs.Packed.{shaped};
 ghost use Rattle.paren_planner.specs.Rows.{row_with};
+ghost use Rattle.paren_planner.specs.Weighed.{cost_of};
 
 use crate::costs::Costs;
+use crate::packed::Shape;
+use crate::packed_rows::PackedRows;
+use positions::Position;
 use std::alloc::{AllocError, Global};
 use tree::Kind;
 
-/// A row: the node's kind, and what it costs.
+/// A row: the node's kind, and what it costs. Tables keep rows packed.
 #[derive(Clone, Copy)]
-pub(crate) struct Row {
+pub struct Row {
     pub kind: Kind,
     pub costs: Costs,
 }
@@ -18,7 +24,7 @@ pub(crate) struct Row {
 /// A row for each expression in source order, a node before its parts, and the total of all.
 #[derive(Drop)]
 pub struct CostTable {
-    rows: Vec<Row>,
+    rows: PackedRows,
     total: u32,
 }
 
@@ -29,7 +35,7 @@ impl CostTable {
         ensures total { result.total ≡ 0 }
     {
         CostTable {
-            rows: Vec::new(alloc),
+            rows: PackedRows::new(alloc),
             total: 0u32,
         }
     }
@@ -40,26 +46,29 @@ impl CostTable {
         ensures kept { OnErr result (self.new.rows.items ≡ self.old.rows.items) }
         ensures total { self.new.total ≡ self.old.total }
     {
-        self.push_costs(kind, Costs::from_cells(cells))
+        self.push_costs(kind, &Costs::from_cells(cells))
     }
 
-    pub(crate) fn push_costs(&mut self, kind: Kind, costs: Costs) -> Result<(), AllocError>
-        ensures rows { OnOk result (self.new.rows.items ≡ self.old.rows.items ++ row_with kind costs ∷ []) }
+    pub(crate) fn push_costs(&mut self, kind: Kind, costs: &Costs) -> Result<(), AllocError>
+        ensures rows { OnOk result (self.new.rows.items ≡ self.old.rows.items ++ row_with kind costs.now ∷ []) }
         ensures kept { OnErr result (self.new.rows.items ≡ self.old.rows.items) }
         ensures total { self.new.total ≡ self.old.total }
     {
-        self.rows.push(Row { kind, costs })?;
-        Ok(())
+        self.rows.push(kind, costs)
     }
 
-    /// What the node of a row costs, by its index, counted from 0.
-    pub(crate) fn costs_of(&self, index: usize) -> Option<&Costs>
-        ensures { option_map (λ c. c.now) result ≡ option_map (λ r. r.costs) (slice_get self.now.rows.items index) }
+    /// One more row behind the others, of zeros in a shape.
+    pub(crate) fn push_free(&mut self, kind: Kind, shape: Shape) -> Result<(), AllocError>
+        ensures { OnOk result (self.new.rows.items ≡ self.old.rows.items ++ row_with kind (shaped shape 0) ∷ []) }
     {
-        match self.rows.get(index) {
-            Some(row) => Some(&row.costs),
-            None => None,
-        }
+        self.rows.push_shaped(kind, shape, 0u32)
+    }
+
+    /// The number that counts for the node of a row at a position, by the row's index, counted from 0; none where there is no such row.
+    pub(crate) fn cost_at(&self, index: usize, position: Position) -> Option<u32>
+        ensures { IfSome (slice_get self.now.rows.items index) (λ r. result ≡ cost_of r.costs (role_of position)) }
+    {
+        self.rows.cost_at(index, position)
     }
 
     /// The rows the other way round.
@@ -67,7 +76,7 @@ impl CostTable {
         ensures rows { self.new.rows.items ≡ reverse self.old.rows.items }
         ensures total { self.new.total ≡ self.old.total }
     {
-        self.rows.reverse();
+        self.rows.turn();
     }
 
     /// Sets the number of all pairs.
@@ -91,8 +100,8 @@ impl CostTable {
         ensures kind { (r : _) → result.0 ≡ (slice_index_or self.now.rows.items (number - 1) r).kind }
         ensures cells { (r : _) → result.1 ≡ eight (slice_index_or self.now.rows.items (number - 1) r).costs }
     {
-        let row = self.rows[number - 1];
-        (row.kind, row.costs.cells())
+        let index = number - 1;
+        (self.rows.kind(index), self.rows.cells(index))
     }
 
     pub fn total(&self) -> u32

@@ -6,9 +6,9 @@ ghost use Rattle.language.specs.Positions.{widest as widest_role};
 ghost use Rattle.positions.specs.Outlines.{role_of, slot_of};
 ghost use Rattle.positions.specs.Spelled.{fits_outline};
 ghost use Rattle.positions.specs.Wherever.{with_own as role_with_own};
-ghost use Rattle.paren_planner.specs.Steps.{is_plain_outline};
+ghost use Rattle.paren_planner.specs.Steps.{is_plain_outline, slot_free};
 ghost use Rattle.paren_planner.specs.Costs.{each_start, started_at, same_everywhere, sums as sums_of};
-ghost use Rattle.paren_planner.specs.Weighed.{cost_of, direct_cost, least_of, settled_at, uses as uses_of, fitting as fitting_costs, suits_any, takes_primary};
+ghost use Rattle.paren_planner.specs.Weighed.{cost_of, direct_cost, least_of, settled_at, uses as uses_of, fitting as fitting_costs};
 
 use crate::amount::{is_zero, lesser, sum};
 use crate::costs::{Costs, Starts};
@@ -55,11 +55,11 @@ pub(crate) fn cost_at(costs: &Costs, position: Position) -> Option<u32>
             rank,
             with_in,
             start,
-        } => costs.at(rank, with_in, start),
+        } => costs.number(rank, with_in, start),
         Position::Spine { start } | Position::Pattern { start, .. } => {
-            costs.at(Rank::Expression, true, start)
+            costs.number(Rank::Expression, true, start)
         }
-        _ => costs.at(Rank::Expression, true, Start::Any),
+        _ => costs.with_in.any,
     }
 }
 
@@ -67,24 +67,22 @@ pub(crate) fn cost_at(costs: &Costs, position: Position) -> Option<u32>
 pub fn least(part: Weighed, position: Position) -> Option<u32>
     ensures { result ≡ least_of part (role_of position) }
 {
+    least_at(&part, position)
+}
+
+fn least_at(part: &Weighed, position: Position) -> Option<u32>
+    ensures { result ≡ least_of part.now (role_of position) }
+{
     let direct = direct_cost(part, position);
     match position {
-        Position::Expression { .. } => {
-            lesser(
-                direct,
-                sum(
-                    Some(1u32),
-                    part.costs.at(Rank::Expression, true, Start::Any),
-                ),
-            )
-        }
+        Position::Expression { .. } => { lesser(direct, sum(Some(1u32), part.costs.with_in.any)) }
         _ => direct,
     }
 }
 
 /// The number of pairs of a node at a position without a pair round it.
-fn direct_cost(part: Weighed, position: Position) -> Option<u32>
-    ensures { result ≡ direct_cost part (role_of position) }
+fn direct_cost(part: &Weighed, position: Position) -> Option<u32>
+    ensures { result ≡ direct_cost part.now (role_of position) }
 {
     match part.outline {
         Some(outline) if fits(position, outline) => cost_at(&part.costs, position),
@@ -92,48 +90,42 @@ fn direct_cost(part: Weighed, position: Position) -> Option<u32>
     }
 }
 
-/// Where the fewest expressions may stand without a pair.
-const NARROWEST: Position = Position::Expression {
-    rank: Rank::Primary,
-    with_in: false,
-    start: Start::Statement,
-};
-
-/// Whether a spelling may stand wherever a name may.
-fn suits_anywhere(outline: Outline) -> bool
-    ensures { result ≡ suits_any outline }
-{
-    matches!(outline.rank, Rank::Primary) && fits(NARROWEST, outline)
-}
-
-/// Whether a name may stand without a pair where a node's own symbol, In or start say more of the position.
-fn takes_name(slot: Slot) -> bool
-    ensures { result ≡ takes_primary (slot_of slot) }
+/// Whether what asks for no more than its symbol may stand at a slot, wherever the node above stands.
+fn slot_takes(slot: Slot, rank: Rank) -> bool
+    ensures { result ≡ slot_free (slot_of slot) rank }
 {
     match slot {
-        Slot::Fixed(_) => false,
-        Slot::Left(rank) | Slot::Lead(rank) | Slot::Tail(rank, _) => {
-            position_takes(rank, Rank::Primary)
-        }
+        Slot::Fixed(Position::Expression { rank: own, .. }) => position_takes(own, rank),
+        Slot::Left(own) | Slot::Lead(own) | Slot::Tail(own, _) => position_takes(own, rank),
+        Slot::Callee => position_takes(Rank::Member, rank),
         _ => true,
     }
 }
 
-/// Whether a part costs nothing at a slot, wherever its node stands: at a fixed position by its number there, elsewhere as it has no
-/// pairs inside and may stand there as a name may.
-fn is_free(slot: Slot, part: Weighed) -> bool
-    ensures { result ≡ true → (a : Role) → uses_of a (slot_of slot) part ≡ same_everywhere (Some 0) }
+/// Whether a part is seen at once to cost nothing at a slot, wherever its node stands: at a fixed position by its number there,
+/// elsewhere as its symbol may stand there, it asks for no more, and it has no pairs inside.
+pub(crate) fn is_free(slot: Slot, part: &Weighed) -> bool
+    ensures { result ≡ true → (a : Role) → uses_of a (slot_of slot) part.now ≡ same_everywhere (Some 0) }
 {
-    if let Slot::Fixed(position) = slot {
-        return is_zero(least(part, position));
+    if is_plainly_free(slot, part) {
+        return true;
     }
-    let Some(outline) = part.outline else {
+    match slot {
+        Slot::Fixed(position) => is_zero(least_at(part, position)),
+        _ => false,
+    }
+}
+
+fn is_plainly_free(slot: Slot, part: &Weighed) -> bool
+    ensures { result ≡ true → (a : Role) → uses_of a (slot_of slot) part.now ≡ same_everywhere (Some 0) }
+{
+    let Some(outline) = &part.outline else {
         return false;
     };
-    if !takes_name(slot) || !suits_anywhere(outline) {
+    if !asks_no_more(outline) || !slot_takes(slot, outline.rank) {
         return false;
     }
-    part.costs.is_nothing()
+    part.costs.is_free(outline.rank)
 }
 
 /// The sums with what one more part costs in a node, wherever that stands.
@@ -141,18 +133,18 @@ pub fn added(sums: Costs, own: Position, slot: Slot, part: Weighed) -> Costs
     requires { sums_of sums (same_everywhere (Some 0)) ≡ sums }
     ensures { result ≡ sums_of sums (uses_of (role_of own) (slot_of slot) part) }
 {
-    if is_free(slot, part) {
+    if is_free(slot, &part) {
         return sums;
     }
-    sums.plus(uses(own, slot, part))
+    sums.plus(&uses(own, slot, &part))
 }
 
 /// What a part costs in a node, wherever that stands.
-fn uses(own: Position, slot: Slot, part: Weighed) -> Costs
-    ensures { result ≡ uses_of (role_of own) (slot_of slot) part }
+pub(crate) fn uses(own: Position, slot: Slot, part: &Weighed) -> Costs
+    ensures { result ≡ uses_of (role_of own) (slot_of slot) part.now }
 {
     if let Slot::Fixed(position) = slot {
-        return Costs::same(least(part, position));
+        return Costs::same(least_at(part, position));
     }
     Costs {
         with_in: started_uses(own, Rank::Expression, true, slot, part),
@@ -161,8 +153,8 @@ fn uses(own: Position, slot: Slot, part: Weighed) -> Costs
     }
 }
 
-fn started_uses(own: Position, rank: Rank, with_in: bool, slot: Slot, part: Weighed) -> Starts
-    ensures { result ≡ each_start (λ f. least_of part (settled_at (role_with_own rank with_in f (role_of own)) (slot_of slot))) }
+fn started_uses(own: Position, rank: Rank, with_in: bool, slot: Slot, part: &Weighed) -> Starts
+    ensures { result ≡ each_start (λ f. least_of part.now (settled_at (role_with_own rank with_in f (role_of own)) (slot_of slot))) }
 {
     Starts {
         any: use_at(with_own(own, rank, with_in, Start::Any), slot, part),
@@ -171,19 +163,16 @@ fn started_uses(own: Position, rank: Rank, with_in: bool, slot: Slot, part: Weig
     }
 }
 
-fn use_at(own: Position, slot: Slot, part: Weighed) -> Option<u32>
-    ensures { result ≡ least_of part (settled_at (role_of own) (slot_of slot)) }
+fn use_at(own: Position, slot: Slot, part: &Weighed) -> Option<u32>
+    ensures { result ≡ least_of part.now (settled_at (role_of own) (slot_of slot)) }
 {
-    least(part, settled(own, slot))
+    least_at(part, settled(own, slot))
 }
 
 /// What a node costs, of the sums over its parts: none where its spelling doesn't fit.
 pub fn fitting(own: Position, outline: Outline, costs: Costs) -> Costs
     ensures { result ≡ fitting_costs (role_of own) outline costs }
 {
-    if suits_anywhere(outline) {
-        return costs;
-    }
     if is_plain(outline) {
         return plainly_fitting(own, outline, costs);
     }
@@ -197,6 +186,12 @@ pub fn fitting(own: Position, outline: Outline, costs: Costs) -> Costs
 /// Whether a spelling asks for no In, and opens with no brace and no word: it may stand wherever its symbol may.
 pub(crate) fn is_plain(outline: Outline) -> bool
     ensures { result ≡ is_plain_outline outline }
+{
+    asks_no_more(&outline)
+}
+
+fn asks_no_more(outline: &Outline) -> bool
+    ensures { result ≡ is_plain_outline outline.now }
 {
     !outline.needs_in && matches!(outline.opens, Opens::Otherwise)
 }

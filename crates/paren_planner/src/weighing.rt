@@ -1,15 +1,20 @@
 //! What the nodes of a script cost, from the last step of a walk to the first: parts before the node that they are parts of.
 
-ghost use Rattle.std.specs.Prelude.{◌≡◌, [], ◌∷◌, ◌++◌, true, cond, OnOk, IfOk, All};
+ghost use Rattle.std.specs.Prelude.{◌≡◌, [], ◌∷◌, ◌++◌, cond, OnOk, IfOk, IfSome};
 ghost use Rattle.positions.specs.Outlines.{slot_of};
+ghost use Rattle.paren_planner.specs.Packed.{free_shape, shaped};
+ghost use Rattle.paren_planner.specs.Pending.{here_of, shown_sums, AreHeld};
 ghost use Rattle.paren_planner.specs.Rows.{row_with};
-ghost use Rattle.paren_planner.specs.Costs.{sums as sums_of};
-ghost use Rattle.paren_planner.specs.Steps.{has_row_at, weighed_of, used, row_of_visit as rows_of, taken, taken_from, at_the_end, shown_sums, no_pairs, IsHeld};
+ghost use Rattle.paren_planner.specs.Steps.{has_row_at, weighed_of, used, row_of_visit, joined, taken, taken_from, at_the_end, no_pairs, IsHeld};
+ghost use Rattle.paren_planner.specs.declared.steps.Step.TheVariants.{Enter};
 
 use crate::costs::Costs;
+use crate::packed::Shape;
+use crate::pending::Pending;
 use crate::steps::{Step, Visit};
 use crate::table::CostTable;
-use crate::weighed::{Weighed, added, fitting};
+use crate::weighed::{Weighed, fitting};
+use language::Rank;
 use std::alloc::{AllocError, Global};
 
 /// Sets the rows of a script by its steps, and adds up what it costs in all.
@@ -22,67 +27,94 @@ pub(crate) fn weigh_steps(
     ensures sums { IfOk result (λ c. c ≡ (taken_from steps.now.items at_the_end).here) }
     ensures rows { OnOk result (table.new.rows.items ≡ (taken_from steps.now.items at_the_end).rows) }
 {
-    let mut outer = Vec::new(alloc);
-    let mut sums = Costs::same(Some(0u32));
+    let mut pending = Pending::new(alloc);
     for index in (0..steps.len()).rev() {
-        take_back(steps[index], &mut sums, &mut outer, table)?;
+        take_back(&steps[index], &mut pending, table)?;
     }
     table.turn();
-    Ok(sums)
+    Ok(pending.sums())
 }
 
-/// One step back. `sums`: of the parts of the innermost open node that are behind the step; `outer`: of those round it, the innermost
-/// last.
-fn take_back(
-    step: Step,
-    sums: &mut Costs,
-    outer: &mut Vec<Costs>,
-    table: &mut CostTable,
-) -> Result<(), AllocError>
-    requires here { IsHeld sums.old }
-    requires outer { All IsHeld outer.old.items }
-    ensures taken { OnOk result (shown_sums sums.new outer.new.items table.new.rows.items ≡ taken step (shown_sums sums.old outer.old.items table.old.rows.items)) }
-    ensures here { OnOk result (IsHeld sums.new) }
-    ensures outer { OnOk result (All IsHeld outer.new.items) }
+/// One step back. `pending`: the sums over the parts behind it.
+fn take_back(step: &Step, pending: &mut Pending, table: &mut CostTable) -> Result<(), AllocError>
+    requires { AreHeld (shown_sums pending.old table.old.rows.items) }
+    ensures { OnOk result (shown_sums pending.new table.new.rows.items ≡ taken step.now (shown_sums pending.old table.old.rows.items)) }
 {
     match step {
-        Step::Leaf(visit) => add_node(visit, Costs::same(Some(0u32)), sums, table),
-        Step::Enter(visit) => {
-            let inner = *sums;
-            *sums = outer.pop().unwrap_or(Costs::same(Some(0u32)));
-            add_node(visit, inner, sums, table)
-        }
-        Step::Leave => {
-            outer.push(*sums)?;
-            *sums = Costs::same(Some(0u32));
-            Ok(())
-        }
+        Step::Leaf(visit) => add_leaf(visit, pending, table),
+        Step::Enter(visit) => add_parent(visit, pending, table),
+        Step::Leave => pending.enter(),
     }
+}
+
+/// The innermost open node, all of whose parts were seen.
+fn add_parent(visit: &Visit, pending: &mut Pending, table: &mut CostTable) -> Result<(), AllocError>
+    requires { AreHeld (shown_sums pending.old table.old.rows.items) }
+    ensures { OnOk result (shown_sums pending.new table.new.rows.items ≡ taken (Enter visit.now) (shown_sums pending.old table.old.rows.items)) }
+{
+    if pending.is_nothing() {
+        pending.leave();
+        return add_leaf(visit, pending, table);
+    }
+    let inner = pending.sums();
+    pending.leave();
+    add_node(visit, inner, pending, table)
+}
+
+/// A node whose parts cost nothing.
+fn add_leaf(visit: &Visit, pending: &mut Pending, table: &mut CostTable) -> Result<(), AllocError>
+    requires { IsHeld (here_of pending.old) }
+    ensures { OnOk result (shown_sums pending.new table.new.rows.items ≡ joined visit.now no_pairs (shown_sums pending.old table.old.rows.items)) }
+{
+    if let Some(rank) = free_rank(visit) {
+        return note_free(visit, rank, table);
+    }
+    add_node(visit, Costs::same(Some(0u32)), pending, table)
 }
 
 /// A node, by the sums over its parts: its row, and what it costs in the node above.
 fn add_node(
-    visit: Visit,
+    visit: &Visit,
     inner: Costs,
-    sums: &mut Costs,
+    pending: &mut Pending,
     table: &mut CostTable,
 ) -> Result<(), AllocError>
-    requires { IsHeld sums.old }
-    ensures sums { OnOk result (sums.new ≡ sums_of sums.old (used visit inner)) }
-    ensures rows { OnOk result (table.new.rows.items ≡ table.old.rows.items ++ rows_of visit inner) }
+    requires { IsHeld (here_of pending.old) }
+    ensures { OnOk result (shown_sums pending.new table.new.rows.items ≡ joined visit.now inner (shown_sums pending.old table.old.rows.items)) }
 {
     let weighed = weigh(visit, inner);
-    note_row(visit, weighed.costs, table)?;
-    if passes_over(visit, inner) {
-        return Ok(());
+    note_row(visit, &weighed.costs, table)?;
+    pending.add(visit.above, visit.slot, &weighed);
+    Ok(())
+}
+
+/// The symbol of a node that is seen at once to cost nothing in the node above where its parts cost nothing, wherever that stands.
+fn free_rank(visit: &Visit) -> Option<Rank>
+    ensures used { IfSome result (λ z. used visit.now no_pairs ≡ no_pairs) }
+    ensures row { IfSome result (λ z. row_of_visit visit.now no_pairs ≡ cond (has_row_at (slot_of visit.now.slot)) (row_with visit.now.kind (shaped (free_shape z) 0) ∷ []) []) }
+{
+    let Some(label) = visit.label else {
+        return None;
+    };
+    if !label.is_plain() || !label.stands_freely(visit.slot) {
+        return None;
     }
-    *sums = added(*sums, visit.above, visit.slot, weighed);
+    Some(label.rank)
+}
+
+/// The row of a node that costs nothing wherever it may stand, where it has one.
+fn note_free(visit: &Visit, rank: Rank, table: &mut CostTable) -> Result<(), AllocError>
+    ensures { OnOk result (table.new.rows.items ≡ table.old.rows.items ++ cond (has_row_at (slot_of visit.now.slot)) (row_with visit.now.kind (shaped (free_shape rank) 0) ∷ []) []) }
+{
+    if visit.has_row() {
+        return table.push_free(visit.kind, Shape::free(rank));
+    }
     Ok(())
 }
 
 /// The row of a node, where it has one.
-fn note_row(visit: Visit, costs: Costs, table: &mut CostTable) -> Result<(), AllocError>
-    ensures { OnOk result (table.new.rows.items ≡ table.old.rows.items ++ cond (has_row_at (slot_of visit.slot)) (row_with visit.kind costs ∷ []) []) }
+fn note_row(visit: &Visit, costs: &Costs, table: &mut CostTable) -> Result<(), AllocError>
+    ensures { OnOk result (table.new.rows.items ≡ table.old.rows.items ++ cond (has_row_at (slot_of visit.now.slot)) (row_with visit.now.kind costs.now ∷ []) []) }
 {
     if visit.has_row() {
         return table.push_costs(visit.kind, costs);
@@ -90,21 +122,8 @@ fn note_row(visit: Visit, costs: Costs, table: &mut CostTable) -> Result<(), All
     Ok(())
 }
 
-/// Whether a node is seen at once to cost nothing in the node above, wherever that stands.
-fn passes_over(visit: Visit, inner: Costs) -> bool
-    ensures { result ≡ true → used visit inner ≡ no_pairs }
-{
-    let Some(label) = visit.label else {
-        return false;
-    };
-    if !label.is_plain() || !label.stands_freely(visit.slot) {
-        return false;
-    }
-    inner.is_nothing()
-}
-
-fn weigh(visit: Visit, inner: Costs) -> Weighed
-    ensures { result ≡ weighed_of visit inner }
+fn weigh(visit: &Visit, inner: Costs) -> Weighed
+    ensures { result ≡ weighed_of visit.now inner }
 {
     let Some(label) = visit.label else {
         return Weighed {

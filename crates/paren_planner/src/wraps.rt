@@ -1,15 +1,14 @@
 //! Which nodes are wrapped, from the first step of a walk to the last: from the script inwards.
 
-ghost use Rattle.std.specs.Prelude.{◌≡◌, ◌++◌, [], OnOk, IfOk, length, map, reverse};
+ghost use Rattle.std.specs.Prelude.{◌≡◌, ◌++◌, [], ◌∷◌, true, false, cond, OnOk, length, slice_get};
 ghost use Rattle.language.specs.Layout.{inside as inside_role};
-ghost use Rattle.positions.specs.Outlines.{role_of};
-ghost use Rattle.paren_planner.specs.Marked.{round, shown_marks, marked, marked_through, at_the_start, flag_of, round_of, plain_round, around_parts, fits_label as label_fits, wants};
+ghost use Rattle.positions.specs.Outlines.{role_of, slot_of};
+ghost use Rattle.paren_planner.specs.Steps.{has_row_at, stands_at};
+ghost use Rattle.paren_planner.specs.Marked.{round, shown_marks, marked, marked_through, at_the_start, flag_at, flag_of, round_at, round_of, plain_round, fits_label as label_fits};
 
 use crate::amount::{exceeds, is_zero, sum};
-use crate::costs::Costs;
 use crate::steps::{Label, Step, Visit};
 use crate::table::CostTable;
-use crate::weighed::cost_at;
 use language::{Rank, Start};
 use positions::{Position, settled};
 use std::alloc::{AllocError, Global};
@@ -38,30 +37,28 @@ pub(crate) fn wrap_steps(
         lives: true,
     };
     for index in 0..steps.len() {
-        take_step(steps[index], table, &mut around, &mut outer, wrapped)?;
+        take_step(&steps[index], table, &mut around, &mut outer, wrapped)?;
     }
     Ok(())
 }
 
 fn take_step(
-    step: Step,
+    step: &Step,
     table: &CostTable,
     around: &mut Around,
     outer: &mut Vec<Around>,
     wrapped: &mut Vec<bool>,
 ) -> Result<(), AllocError>
-    ensures { OnOk result (shown_marks around.new outer.new.items wrapped.new.items ≡ marked table.now.rows.items step (shown_marks around.old outer.old.items wrapped.old.items)) }
+    ensures { OnOk result (shown_marks around.new outer.new.items wrapped.new.items ≡ marked table.now.rows.items step.now (shown_marks around.old outer.old.items wrapped.old.items)) }
 {
+    if !around.lives {
+        return pass_step(step, around, outer, wrapped);
+    }
     match step {
-        Step::Leaf(visit) => {
-            wrap_node(visit, table, *around, wrapped)?;
-            Ok(())
-        }
+        Step::Leaf(visit) => wrap_leaf(visit, table, around.own, wrapped),
         Step::Enter(visit) => {
             outer.push(*around)?;
-            let within = wrap_node(visit, table, *around, wrapped)?;
-            *around = within;
-            Ok(())
+            wrap_parent(visit, table, around, wrapped)
         }
         Step::Leave => {
             *around = outer.pop().unwrap_or(*around);
@@ -70,36 +67,79 @@ fn take_step(
     }
 }
 
-/// Says of a node whether it is wrapped, where it has a row, and what stands around its parts.
-fn wrap_node(
-    visit: Visit,
-    table: &CostTable,
-    around: Around,
+/// A step where no node may be wrapped.
+fn pass_step(
+    step: &Step,
+    around: &mut Around,
+    outer: &mut Vec<Around>,
     wrapped: &mut Vec<bool>,
-) -> Result<Around, AllocError>
-    ensures around { IfOk result (λ x. round x ≡ round_of table.now.rows.items visit (round around) wrapped.old.items) }
-    ensures flag { OnOk result (wrapped.new.items ≡ wrapped.old.items ++ flag_of table.now.rows.items visit (round around) wrapped.old.items) }
+) -> Result<(), AllocError>
+    requires { around.old.lives ≡ false }
+    ensures { (table : _) → OnOk result (shown_marks around.new outer.new.items wrapped.new.items ≡ marked table step.now (shown_marks around.old outer.old.items wrapped.old.items)) }
 {
-    if !around.lives {
-        if visit.has_row() {
-            wrapped.push(false)?;
+    match step {
+        Step::Leaf(visit) => pass_node(visit, wrapped),
+        Step::Enter(visit) => {
+            outer.push(*around)?;
+            pass_node(visit, wrapped)
         }
-        return Ok(around);
+        Step::Leave => {
+            *around = outer.pop().unwrap_or(*around);
+            Ok(())
+        }
     }
+}
+
+/// A node that isn't wrapped.
+fn pass_node(visit: &Visit, wrapped: &mut Vec<bool>) -> Result<(), AllocError>
+    ensures { OnOk result (wrapped.new.items ≡ wrapped.old.items ++ cond (has_row_at (slot_of visit.now.slot)) (false ∷ []) []) }
+{
+    if !visit.has_row() {
+        return Ok(());
+    }
+    wrapped.push(false)?;
+    Ok(())
+}
+
+/// Says of a node without parts whether it is wrapped, where it has a row.
+fn wrap_leaf(
+    visit: &Visit,
+    table: &CostTable,
+    own: Position,
+    wrapped: &mut Vec<bool>,
+) -> Result<(), AllocError>
+    ensures { OnOk result (wrapped.new.items ≡ wrapped.old.items ++ cond (has_row_at (slot_of visit.now.slot)) (flag_at (slice_get table.now.rows.items (length wrapped.old.items)) (stands_at (role_of own) visit.now) visit.now.label ∷ []) []) }
+{
+    if !visit.has_row() {
+        return Ok(());
+    }
+    let position = settled(own, visit.slot);
+    let wants = wants_pair(visit.label, position, table, wrapped.len());
+    wrapped.push(wants)?;
+    Ok(())
+}
+
+/// Says of a node with parts whether it is wrapped, where it has a row, and what stands around its parts.
+fn wrap_parent(
+    visit: &Visit,
+    table: &CostTable,
+    around: &mut Around,
+    wrapped: &mut Vec<bool>,
+) -> Result<(), AllocError>
+    requires { around.old.lives ≡ true }
+    ensures around { OnOk result (round around.new ≡ round_of table.now.rows.items visit.now (round around.old) wrapped.old.items) }
+    ensures flag { OnOk result (wrapped.new.items ≡ wrapped.old.items ++ flag_of table.now.rows.items visit.now (round around.old) wrapped.old.items) }
+{
     let position = settled(around.own, visit.slot);
     if !visit.has_row() {
-        return Ok(plain(position, visit.label));
+        *around = plain(position, visit.label);
+        return Ok(());
     }
-    let Some(costs) = table.costs_of(wrapped.len()) else {
-        wrapped.push(false)?;
-        return Ok(Around {
-            own: position,
-            lives: false,
-        });
-    };
-    let wants = wants_pair(visit.label, position, costs);
+    let row = wrapped.len();
+    let wants = wants_pair(visit.label, position, table, row);
     wrapped.push(wants)?;
-    Ok(within(wants, position, visit.label, costs))
+    *around = within(wants, position, visit.label, table, row);
+    Ok(())
 }
 
 fn plain(position: Position, label: Option<Label>) -> Around
@@ -111,13 +151,23 @@ fn plain(position: Position, label: Option<Label>) -> Around
     }
 }
 
-fn within(wants: bool, position: Position, label: Option<Label>, costs: &Costs) -> Around
-    ensures { round result ≡ around_parts (inside_role wants (role_of position)) label costs.now }
+/// What stands around the parts of the node of a row, by the row's index, where it is known whether the node is wrapped.
+fn within(
+    wants: bool,
+    position: Position,
+    label: Option<Label>,
+    table: &CostTable,
+    row: usize,
+) -> Around
+    requires { wants ≡ flag_at (slice_get table.now.rows.items row) (role_of position) label }
+    ensures { round result ≡ round_at (slice_get table.now.rows.items row) (role_of position) label }
 {
     let own = inside(wants, position);
     Around {
         own,
-        lives: fits_label(label, own) && !is_zero(cost_at(costs, own)),
+        lives: row < table.row_count()
+            && fits_label(label, own)
+            && !is_zero(table.cost_at(row, own)),
     }
 }
 
@@ -135,23 +185,29 @@ fn inside(wrapped: bool, position: Position) -> Position
     ensures { role_of result ≡ inside_role wrapped (role_of position) }
 {
     if wrapped {
-        return Position::Expression {
-            rank: Rank::Expression,
-            with_in: true,
-            start: Start::Any,
-        };
+        return WHOLE;
     }
     position
 }
 
-/// Whether a node wants a pair round it at a position: where it costs more without one.
-fn wants_pair(label: Option<Label>, position: Position, costs: &Costs) -> bool
-    ensures { result ≡ wants (role_of position) label costs.now }
+/// Where an expression in a pair stands.
+const WHOLE: Position = Position::Expression {
+    rank: Rank::Expression,
+    with_in: true,
+    start: Start::Any,
+};
+
+/// Whether the node of a row wants a pair round it at a position, by the row's index: where it costs more without one.
+fn wants_pair(label: Option<Label>, position: Position, table: &CostTable, row: usize) -> bool
+    ensures { result ≡ flag_at (slice_get table.now.rows.items row) (role_of position) label }
 {
+    if row >= table.row_count() {
+        return false;
+    }
     let direct = if fits_label(label, position) {
-        cost_at(costs, position)
+        table.cost_at(row, position)
     } else {
         None
     };
-    exceeds(direct, sum(Some(1u32), costs.with_in.any))
+    exceeds(direct, sum(Some(1u32), table.cost_at(row, WHOLE)))
 }

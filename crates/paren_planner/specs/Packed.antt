@@ -1,0 +1,51 @@
+-- Rows in few bytes, and the rows that they stand for.
+use Rattle.std.specs.Prelude.{ℕ, ◌<◌, cond, List, Some, None, get_or}
+use Rattle.language.specs.declared.Rank.{Rank}
+use Rattle.language.specs.declared.Rank.TheVariants.{Member}
+use Rattle.language.specs.Words.{takes}
+use Rattle.paren_planner.specs.declared.costs.Starts.{Starts}
+use Rattle.paren_planner.specs.declared.costs.Costs as own
+use Rattle.paren_planner.specs.declared.packed.Filled.{Filled}
+use Rattle.paren_planner.specs.declared.packed.Filled.TheVariants.{Each, NotStatement, OnlyAny, Nowhere}
+use Rattle.paren_planner.specs.declared.packed.Shape.{Shape}
+use Rattle.paren_planner.specs.declared.packed.Numbers.{Numbers}
+use Rattle.paren_planner.specs.declared.packed.Numbers.TheVariants.{Same, Apart}
+use Rattle.paren_planner.specs.declared.packed.Packed.{Packed}
+use Rattle.paren_planner.specs.declared.table.Row.{Row}
+use Rattle.paren_planner.specs.Costs.{same_everywhere}
+use Rattle.paren_planner.specs.Rows.{row_with}
+
+-- the number at these starts, none at the others
+abbrev pub filled : Filled → ℕ → Starts
+filled Each m = record { any = Some m; no_brace = Some m; statement = Some m }
+filled NotStatement m = record { any = Some m; no_brace = Some m; statement = None }
+filled OnlyAny m = record { any = Some m; no_brace = None; statement = None }
+filled Nowhere m = record { any = None; no_brace = None; statement = None }
+
+-- the number in this shape
+abbrev pub shaped : Shape → ℕ → own.Costs
+shaped s m = record { with_in = filled s.with_in m; without_in = filled s.without_in m; at_member = filled s.at_member m }
+
+-- of a node at this symbol that costs nothing wherever it may stand
+abbrev pub free_shape : Rank → Shape
+free_shape z = record { with_in = Each; without_in = Each; at_member = cond (takes Member z) Each Nowhere }
+
+-- the numbers of a packed row, by those that stand apart
+abbrev pub numbers_in : List own.Costs → Numbers → own.Costs
+numbers_in apart (Same s m) = shaped s m
+numbers_in apart (Apart i) = get_or apart i (same_everywhere None)
+
+abbrev pub unpacked : List own.Costs → Packed → Row
+unpacked apart p = row_with p.kind (numbers_in apart p.numbers)
+
+-- what it says of numbers apart is there
+abbrev pub IsIn : ℕ → Numbers → Type 0
+IsIn count (Same s m) = Unit {0}
+IsIn count (Apart i) = i < count
+
+abbrev pub IsPacked : ℕ → Packed → Type 0
+IsPacked count p = IsIn count p.numbers
+
+-- the rows of a table, in their order
+pub record RowList : Type 0 where
+  pub items : List Row

@@ -1,0 +1,196 @@
+//! A row in few bytes: one number for all cells that have any, and which of them have it.
+
+ghost use Rattle.std.specs.Prelude.{◌≡◌, true, cond, Some, IfSome};
+ghost use Rattle.paren_planner.specs.declared.packed.Filled.TheVariants.{Each, Nowhere};
+ghost use Rattle.positions.specs.Outlines.{role_of};
+ghost use Rattle.paren_planner.specs.Costs.{started_at, eight, cost_at as cost_of_costs};
+ghost use Rattle.paren_planner.specs.Packed.{filled, free_shape, shaped};
+ghost use Rattle.paren_planner.specs.Weighed.{cost_of};
+
+use crate::costs::{Costs, Starts};
+use grammar::{position_takes, tightness_of};
+use language::{Rank, Start};
+use positions::Position;
+use tree::Kind;
+
+/// The starts at which a number stands; at the others there is none.
+#[derive(Clone, Copy)]
+pub(crate) enum Filled {
+    Each,
+    NotStatement,
+    OnlyAny,
+    Nowhere,
+}
+
+impl Filled {
+    /// What stands at a start.
+    pub(crate) fn at(self, number: u32, start: Start) -> Option<u32>
+        ensures { result ≡ started_at (filled self number) start }
+    {
+        match (self, start) {
+            (Filled::Each, _) => Some(number),
+            (Filled::NotStatement, Start::Any) => Some(number),
+            (Filled::NotStatement, Start::NoBrace) => Some(number),
+            (Filled::OnlyAny, Start::Any) => Some(number),
+            _ => None,
+        }
+    }
+
+    fn each_if(stands: bool) -> Filled
+        ensures { result ≡ cond stands Each Nowhere }
+    {
+        if stands {
+            return Filled::Each;
+        }
+        Filled::Nowhere
+    }
+
+    /// The starts at which this number stands, where nothing else does.
+    fn of(starts: &Starts, number: u32) -> Option<Filled>
+        ensures { IfSome result (λ f. starts.now ≡ filled f number) }
+    {
+        if !is_number(starts.any, number) {
+            return if_nowhere(starts);
+        }
+        if !is_number(starts.no_brace, number) {
+            return if_only_any(starts);
+        }
+        if is_number(starts.statement, number) {
+            return Some(Filled::Each);
+        }
+        if starts.statement.is_none() {
+            return Some(Filled::NotStatement);
+        }
+        None
+    }
+}
+
+fn if_nowhere(starts: &Starts) -> Option<Filled>
+    ensures { (m : _) → IfSome result (λ f. starts.now ≡ filled f m) }
+{
+    if starts.any.is_none() && starts.no_brace.is_none() && starts.statement.is_none() {
+        return Some(Filled::Nowhere);
+    }
+    None
+}
+
+fn if_only_any(starts: &Starts) -> Option<Filled>
+    ensures { (m : _) → starts.now.any ≡ Some m → IfSome result (λ f. starts.now ≡ filled f m) }
+{
+    if starts.no_brace.is_none() && starts.statement.is_none() {
+        return Some(Filled::OnlyAny);
+    }
+    None
+}
+
+/// Whether it is this number.
+fn is_number(cell: Option<u32>, number: u32) -> bool
+    ensures { result ≡ true → cell ≡ Some number }
+{
+    match cell {
+        Some(given) => given == number,
+        None => false,
+    }
+}
+
+/// The cells of a row that have its number: with In, without In, and where only what is at Member may stand.
+#[derive(Clone, Copy)]
+pub(crate) struct Shape {
+    pub with_in: Filled,
+    pub without_in: Filled,
+    pub at_member: Filled,
+}
+
+impl Shape {
+    /// That of a node at a symbol which costs nothing wherever it may stand.
+    pub(crate) fn free(rank: Rank) -> Shape
+        ensures { result ≡ free_shape rank }
+    {
+        Shape {
+            with_in: Filled::Each,
+            without_in: Filled::Each,
+            at_member: Filled::each_if(position_takes(Rank::Member, rank)),
+        }
+    }
+
+    /// The shape of numbers, where this one is the only one.
+    pub(crate) fn of(costs: &Costs, number: u32) -> Option<Shape>
+        ensures { IfSome result (λ s. costs.now ≡ shaped s number) }
+    {
+        let Some(with_in) = Filled::of(&costs.with_in, number) else {
+            return None;
+        };
+        let Some(without_in) = Filled::of(&costs.without_in, number) else {
+            return None;
+        };
+        let Some(at_member) = Filled::of(&costs.at_member, number) else {
+            return None;
+        };
+        Some(Shape {
+            with_in,
+            without_in,
+            at_member,
+        })
+    }
+
+    /// Where the number stands at a symbol and In.
+    fn at(self, rank: Rank, with_in: bool) -> Filled
+        ensures { (m f : _) → started_at (filled result m) f ≡ cost_of_costs (shaped self m) rank with_in f }
+    {
+        if tightness_of(rank) >= 21 {
+            return self.at_member;
+        }
+        if with_in {
+            return self.with_in;
+        }
+        self.without_in
+    }
+
+    /// The eight cells of a row.
+    pub(crate) fn cells(self, number: u32) -> [Option<u32>; 8]
+        ensures { result ≡ eight (shaped self number) }
+    {
+        [
+            self.with_in.at(number, Start::Any),
+            self.with_in.at(number, Start::NoBrace),
+            self.with_in.at(number, Start::Statement),
+            self.without_in.at(number, Start::Any),
+            self.without_in.at(number, Start::NoBrace),
+            self.at_member.at(number, Start::Any),
+            self.at_member.at(number, Start::NoBrace),
+            self.at_member.at(number, Start::Statement),
+        ]
+    }
+
+    /// The number that counts at a position.
+    pub(crate) fn cost_at(self, number: u32, position: Position) -> Option<u32>
+        ensures { result ≡ cost_of (shaped self number) (role_of position) }
+    {
+        match position {
+            Position::Expression {
+                rank,
+                with_in,
+                start,
+            } => self.at(rank, with_in).at(number, start),
+            Position::Spine { start } | Position::Pattern { start, .. } => {
+                self.with_in.at(number, start)
+            }
+            _ => self.with_in.at(number, Start::Any),
+        }
+    }
+}
+
+/// The numbers of a row: one number in some shape, or numbers that stand apart.
+#[derive(Clone, Copy)]
+pub(crate) enum Numbers {
+    Same(Shape, u32),
+    /// Their place among those.
+    Apart(u32),
+}
+
+/// A row, packed: the node's kind, and what it costs.
+#[derive(Clone, Copy)]
+pub(crate) struct Packed {
+    pub kind: Kind,
+    pub numbers: Numbers,
+}

@@ -1,0 +1,138 @@
+//! The rows of a table, packed.
+
+ghost use Rattle.std.specs.Prelude.{◌≡◌, ◌<◌, [], ◌∷◌, ◌++◌, length, reverse, slice_get, slice_index_or, OnOk, OnErr, IfSome};
+ghost use Rattle.positions.specs.Outlines.{role_of};
+ghost use Rattle.paren_planner.specs.Costs.{eight};
+ghost use Rattle.paren_planner.specs.Packed.{shaped};
+ghost use Rattle.paren_planner.specs.Rows.{row_with};
+ghost use Rattle.paren_planner.specs.Weighed.{cost_of};
+
+use crate::costs::Costs;
+use crate::packed::{Numbers, Packed, Shape};
+use crate::weighed::cost_at;
+use positions::Position;
+use std::alloc::{AllocError, Global};
+use std::marker::Model;
+use tree::Kind;
+
+/// Rows, of which few have numbers that don't fit a shape.
+#[derive(Drop)]
+pub struct PackedRows {
+    packed: Vec<Packed>,
+    /// The numbers of those rows.
+    apart: Vec<Costs>,
+}
+
+impl Model for PackedRows {
+    ghost use Rattle.std.specs.Prelude.{length, map, All};
+    ghost use Rattle.paren_planner.specs.Packed.{RowList, unpacked, IsPacked};
+
+    ghost Value = { RowList };
+
+    ghost view = { λ a. record { items = map (unpacked a.apart.items) a.packed.items } };
+
+    ghost invariant = { λ a. All (IsPacked (length a.apart.items)) a.packed.items };
+}
+
+impl PackedRows {
+    /// None; no memory.
+    pub(crate) fn new(alloc: Global) -> PackedRows
+        ensures { result.items ≡ [] }
+    {
+        PackedRows {
+            packed: Vec::new(alloc),
+            apart: Vec::new(alloc),
+        }
+    }
+
+    /// One more row behind the others, which has one number wherever it has any; as it was where memory is refused.
+    pub(crate) fn push_shaped(
+        &mut self,
+        kind: Kind,
+        shape: Shape,
+        number: u32,
+    ) -> Result<(), AllocError>
+        ensures rows { OnOk result (self.new.items ≡ self.old.items ++ row_with kind (shaped shape number) ∷ []) }
+        ensures kept { OnErr result (self.new.items ≡ self.old.items) }
+    {
+        self.packed.push(Packed {
+            kind,
+            numbers: Numbers::Same(shape, number),
+        })?;
+        Ok(())
+    }
+
+    /// The same of a row with any numbers.
+    pub(crate) fn push(&mut self, kind: Kind, costs: &Costs) -> Result<(), AllocError>
+        ensures rows { OnOk result (self.new.items ≡ self.old.items ++ row_with kind costs.now ∷ []) }
+        ensures kept { OnErr result (self.new.items ≡ self.old.items) }
+    {
+        let number = costs.with_in.any.unwrap_or(0u32);
+        if let Some(shape) = Shape::of(costs, number) {
+            return self.push_shaped(kind, shape, number);
+        }
+        self.push_apart(kind, costs)
+    }
+
+    #[inline(never)]
+    fn push_apart(&mut self, kind: Kind, costs: &Costs) -> Result<(), AllocError>
+        ensures rows { OnOk result (self.new.items ≡ self.old.items ++ row_with kind costs.now ∷ []) }
+        ensures kept { OnErr result (self.new.items ≡ self.old.items) }
+    {
+        let place = self.apart.len();
+        if place > 4_294_967_295 {
+            return Err(AllocError);
+        }
+        self.apart.push(*costs)?;
+        self.packed.push(Packed {
+            kind,
+            numbers: Numbers::Apart(place as u32),
+        })?;
+        Ok(())
+    }
+
+    /// The rows the other way round.
+    pub(crate) fn turn(&mut self)
+        ensures { self.new.items ≡ reverse self.old.items }
+    {
+        self.packed.reverse();
+    }
+
+    pub(crate) fn len(&self) -> usize
+        ensures { result ≡ length self.now.items }
+    {
+        self.packed.len()
+    }
+
+    /// The kind of a row, by its index, counted from 0.
+    pub(crate) fn kind(&self, index: usize) -> Kind
+        requires { index < length self.now.items }
+        ensures { (r : _) → result ≡ (slice_index_or self.now.items index r).kind }
+    {
+        self.packed[index].kind
+    }
+
+    /// The cells of a row, by its index.
+    pub(crate) fn cells(&self, index: usize) -> [Option<u32>; 8]
+        requires { index < length self.now.items }
+        ensures { (r : _) → result ≡ eight (slice_index_or self.now.items index r).costs }
+    {
+        match self.packed[index].numbers {
+            Numbers::Same(shape, number) => shape.cells(number),
+            Numbers::Apart(place) => self.apart[place as usize].cells(),
+        }
+    }
+
+    /// The number that counts for a row at a position, by the row's index; none where there is no such row.
+    pub(crate) fn cost_at(&self, index: usize, position: Position) -> Option<u32>
+        ensures { IfSome (slice_get self.now.items index) (λ r. result ≡ cost_of r.costs (role_of position)) }
+    {
+        let Some(row) = self.packed.get(index) else {
+            return None;
+        };
+        match row.numbers {
+            Numbers::Same(shape, number) => shape.cost_at(number, position),
+            Numbers::Apart(place) => cost_at(&self.apart[place as usize], position),
+        }
+    }
+}
