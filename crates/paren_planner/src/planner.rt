@@ -35,7 +35,7 @@ fn weigh(alloc: Global, program: &Program) -> Result<Weights, AllocError>
     ensures total { IfOk result (λ w. w.total ≡ capped (least program.now script)) }
     ensures steps { IfOk result (λ w. Steps script (fixed script) program.now w.steps.items) }
 {
-    let mut steps = Vec::new(alloc);
+    let mut steps = Vec::with_capacity(alloc, program.node_count().saturating_mul(2))?;
     let slot = Slot::Fixed(Position::Script);
     visit_node(program.root(), Position::Script, slot, false, &mut steps)?;
     let mut table = CostTable::new(alloc);

@@ -3,12 +3,13 @@
 ghost use Rattle.std.specs.Prelude.{◌≡◌};
 ghost use Rattle.positions.specs.Outlines.{role_of, slot_of};
 ghost use Rattle.positions.specs.Spelled.{fits_outline};
+ghost use Rattle.positions.specs.Productions.{outline_of as outline_of_production};
 ghost use Rattle.paren_planner.specs.Steps.{label_of, outline_of, place_of, has_row_at, is_plain_outline, role_free, slot_free};
 
 use crate::weighed::{is_plain, widest};
 use grammar::position_takes;
 use language::Rank;
-use positions::{Opens, Outline, Position, Slot, fits, settled};
+use positions::{Opens, Outline, Position, Production, Slot, fits, settled};
 use tree::Kind;
 
 /// What a spelling asks of the position that it stands at.
@@ -20,13 +21,14 @@ pub(crate) struct Label {
 }
 
 impl Label {
-    pub(crate) fn of(outline: Outline) -> Label
-        ensures { result ≡ label_of outline }
+    pub(crate) fn of(production: Production) -> Label
+        ensures { result ≡ label_of (outline_of_production production) }
     {
+        let asks = production.asks();
         Label {
-            rank: outline.rank,
-            needs_in: outline.needs_in,
-            opens: outline.opens,
+            rank: asks.rank,
+            needs_in: asks.needs_in,
+            opens: asks.opens,
         }
     }
 

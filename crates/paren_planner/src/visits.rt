@@ -4,21 +4,29 @@ ghost use Rattle.std.specs.Prelude.{◌≡◌, true, OnOk};
 ghost use Rattle.tree.specs.Node.{node_tree};
 ghost use Rattle.tree.specs.Tree.{kind_of, parts_of};
 ghost use Rattle.language.specs.Expressions.{chained, first_chained};
+ghost use Rattle.language.specs.Positions.{widest};
+ghost use Rattle.language.specs.Pieces.{Role};
 ghost use Rattle.positions.specs.Outlines.{role_of, slot_of};
 ghost use Rattle.positions.specs.Remaining.{left};
+ghost use Rattle.positions.specs.Wherever.{spelled_by};
 ghost use Rattle.paren_planner.specs.declared.steps.Step.TheVariants.{Leaf};
 ghost use Rattle.paren_planner.specs.Noted.{Noted, PartsNoted};
 ghost use Rattle.paren_planner.specs.Steps.{nowhere};
+ghost use Rattle.paren_planner.specs.Weighed.{settled_at};
 
 use crate::steps::{Label, Step, Visit};
 use crate::weighed::widest;
-use positions::{Position, Slot, Spelled, leads_chain, node_spelling, settled};
+use language::{Rank, Start};
+use positions::{
+    Position, Production, Slot, SlotCursor, holds_chain, is_leaf, leads_chain, node_production,
+};
 use std::alloc::AllocError;
 use tree::Node;
 
 /// Notes the steps of a node at a slot of the node above. `in_chain`: the node is known to be part of a chain, with a `?.` in it or
 /// below it.
 #[cycle(visiting)]
+#[inline(always)]
 pub(crate) fn visit_node(
     node: Node,
     above: Position,
@@ -29,9 +37,36 @@ pub(crate) fn visit_node(
     requires { in_chain ≡ true → chained (node_tree node) ≡ true }
     ensures { OnOk result (Noted (role_of above) (slot_of slot) (node_tree node.entry) steps.old.items steps.new.items) }
 {
-    let own = widest(settled(above, slot));
+    let own = widest_of(slot);
+    if is_leaf(node, own) {
+        steps.push(Step::Leaf(Visit {
+            kind: node.kind(),
+            above,
+            slot,
+            label: Some(Label::of(Production::Leaf)),
+        }))?;
+        return Ok(());
+    }
+    visit_at(node, own, above, slot, in_chain, steps)
+}
+
+/// The same of any node, at its widest position.
+#[cycle(visiting)]
+#[inline(never)]
+fn visit_at(
+    node: Node,
+    own: Position,
+    above: Position,
+    slot: Slot,
+    in_chain: bool,
+    steps: &mut Vec<Step>,
+) -> Result<(), AllocError>
+    requires chain { in_chain ≡ true → chained (node_tree node) ≡ true }
+    requires widest { role_of own ≡ widest (settled_at (role_of above) (slot_of slot)) }
+    ensures { OnOk result (Noted (role_of above) (slot_of slot) (node_tree node.entry) steps.old.items steps.new.items) }
+{
     let kind = node.kind();
-    let Some(spelled) = node_spelling(node, own, in_chain) else {
+    let Some(production) = node_production(node, own, in_chain) else {
         steps.push(Step::Leaf(Visit {
             kind,
             above,
@@ -44,45 +79,70 @@ pub(crate) fn visit_node(
         kind,
         above,
         slot,
-        label: Some(Label::of(spelled.outline)),
+        label: Some(Label::of(production)),
     };
     if node.part_count() == 0 {
         steps.push(Step::Leaf(visit))?;
         return Ok(());
     }
     steps.push(Step::Enter(visit))?;
-    visit_parts(node, own, spelled, steps)?;
+    visit_parts(node, own, production, steps)?;
     steps.push(Step::Leave)?;
     Ok(())
 }
 
-/// The same of the parts of a node at its widest position. Behind a part that has no position none is noted.
+/// The same of the parts of a node at its widest position, by its production. Behind a part that has no position none is noted.
 #[cycle(visiting)]
 #[tactic(auto, using(tree::proofs::PartWalk::part_steps))]
 fn visit_parts(
     node: Node,
     own: Position,
-    spelled: Spelled,
+    production: Production,
     steps: &mut Vec<Step>,
 ) -> Result<(), AllocError>
-    requires { spelled.holds_chain ≡ true → first_chained (parts_of (node_tree node)) ≡ true }
-    ensures { OnOk result (PartsNoted (role_of own) (left spelled.entry.slots) (parts_of (node_tree node.entry)) steps.old.items steps.new.items) }
+    requires { (spelled_by node own production).holds_chain ≡ true → first_chained (parts_of (node_tree node)) ≡ true }
+    ensures { OnOk result (PartsNoted (role_of own) (left (spelled_by node.entry own production).slots) (parts_of (node_tree node.entry)) steps.old.items steps.new.items) }
 {
-    let mut slots = spelled.slots;
-    for index in 0..node.part_count() {
-        let Some(part) = node.part(index) else {
+    let is_chain = holds_chain(own, node.kind(), production);
+    let parts = node.parts();
+    let mut slots = SlotCursor::new(production);
+    for index in 0..parts.len() {
+        let Some(part) = parts.get(index) else {
             continue;
         };
-        let Some((slot, others)) = slots.next_slot() else {
+        let Some(slot) = slots.take(parts, part, index) else {
             steps.push(unplaced(part))?;
             return Ok(());
         };
-        slots = others;
-        let in_chain = leads_chain(spelled.holds_chain, index);
+        let in_chain = leads_chain(is_chain, index);
         visit_node(part, own, slot, in_chain, steps)?;
     }
     Ok(())
 }
+
+/// The position of a node at a slot, wherever the node above stands, with all that its spelling may depend on left open.
+fn widest_of(slot: Slot) -> Position
+    ensures { (a : Role) → role_of result ≡ widest (settled_at a (slot_of slot)) }
+{
+    match slot {
+        Slot::Fixed(position) => widest(position),
+        Slot::LeadSpine => Position::Spine { start: Start::Any },
+        Slot::LeadPattern => {
+            Position::Pattern {
+                binds: false,
+                start: Start::Any,
+            }
+        }
+        Slot::Left(_) | Slot::Lead(_) | Slot::Tail(_, _) | Slot::Callee => WHOLE,
+    }
+}
+
+/// The widest position of an expression.
+const WHOLE: Position = Position::Expression {
+    rank: Rank::Expression,
+    with_in: true,
+    start: Start::Any,
+};
 
 /// A part that has no position: a node that can't be spelled where it stands.
 fn unplaced(part: Node) -> Step

@@ -1,13 +1,18 @@
 -- The parts from a place on, and a tail over them.
 use Rattle.std.proofs.Common.{◌≡◌, ℕ, zero, suc, ◌+◌, ◌-◌, ◌<◌, ◌≤◌, Bool, true, false, cond, nat_eq, List, [], ◌∷◌, Option, Some, None, refl, sym, arith, ap, ◌∙◌, add-one}
+use Rattle.std.proofs.lemmas.Bool.{false≢true}
 use Rattle.std.proofs.lemmas.Bool.Decides.{nat_tests}
-use Rattle.tree.specs.Tree.{Tree, Parts, none, part, gap, part_count, part_at}
+use Rattle.tree.specs.declared.kind.Kind.{Kind}
+use Rattle.tree.specs.Tree.{Tree, Parts, none, part, gap, kind_of, flags_of, part_count, part_at}
+use Rattle.std.specs.Prelude.{not, ◌||◌}
+use Rattle.language.specs.Words.{is_rest}
 use Rattle.language.specs.Pieces.{is_none, Slot}
 use Rattle.positions.specs.declared.position.Slot as own
 use Rattle.positions.specs.declared.outline.Tail.{Tail}
 use Rattle.positions.specs.declared.outline.Tail.TheVariants as tail
-use Rattle.positions.specs.Outlines.{parts_behind, is_before_last, tail_slots, going, before, slot_of, is_over, skips_gap, may_end, part_of_tail}
-use Rattle.positions.specs.Remaining.{goes_over, slots_left, left_of}
+use Rattle.positions.specs.Outlines.{parts_behind, is_before_last, tail_slots, going, before, slot_of, is_over, skips_gap, may_end, part_of_tail, argument_at, tail_at, takes_all, is_arguments}
+use Rattle.positions.specs.declared.position.Slot.TheVariants as own-V
+use Rattle.positions.specs.Remaining.{goes_over, slots_left, left_of, are_whole, are_plain}
 
 behind-none : (i : ℕ) → parts_behind i none ≡ none
 behind-none zero = refl
@@ -40,7 +45,7 @@ count-behind none (suc i) h = absurd (omega (arith, h))
 count-behind (part t ps) (suc i) h = omega (arith, count-behind ps i (omega (arith, h)))
 count-behind (gap ps) (suc i) h = omega (arith, count-behind ps i (omega (arith, h)))
 
-none-count : (ps : Parts) → nat_eq (part_count ps) 0 ≡ is_none ps
+pub none-count : (ps : Parts) → nat_eq (part_count ps) 0 ≡ is_none ps
 none-count none = refl
 none-count (part t ps) = grind (arith, nat_tests)
 none-count (gap ps) = grind (arith, nat_tests)
@@ -48,12 +53,12 @@ none-count (gap ps) = grind (arith, nat_tests)
 one-more : (n : ℕ) → nat_eq (n + 1) 1 ≡ nat_eq n 0
 one-more n = grind (arith, nat_tests)
 
-before-count : (ps : Parts) → nat_eq (part_count ps) 1 ≡ is_before_last ps
+pub before-count : (ps : Parts) → nat_eq (part_count ps) 1 ≡ is_before_last ps
 before-count none = refl
 before-count (part t ps) = one-more (part_count ps) ∙ none-count ps
 before-count (gap ps) = one-more (part_count ps) ∙ none-count ps
 
-left-count : (ps : Parts) (i : ℕ) → i < part_count ps → (part_count ps - i) - 1 ≡ part_count (parts_behind (suc i) ps)
+pub left-count : (ps : Parts) (i : ℕ) → i < part_count ps → (part_count ps - i) - 1 ≡ part_count (parts_behind (suc i) ps)
 left-count ps i h = let e : part_count (parts_behind (suc i) ps) + suc i ≡ part_count ps = count-behind ps (suc i) (omega (arith, h)) in omega (arith, e)
 
 pub last-behind : (ps : Parts) (i : ℕ) → i < part_count ps → nat_eq ((part_count ps - i) - 1) 0 ≡ is_none (parts_behind (suc i) ps)
@@ -148,3 +153,75 @@ slots_known t (part n ps) xs h = of (is_over t) (part_of_tail t n ps) h (λ u zs
     of false (Some x) e k = known_before (slot_of x.0) (tail_slots x.1 ps) xs (slots_left x.1 ps) e (k x.1)
 
 pub ruleset run_steps = (over_runs, end_runs, gap_stops, gap_passes, part_stops, part_passes)
+
+-- so many parts stand behind the one at a place
+pub left-behind : (ps : Parts) (n i : ℕ) → n ≡ part_count ps → i < n → part_count (parts_behind (suc i) ps) ≡ (n - i) - 1
+left-behind ps n i e h = sym (ap (λ m. (m - i) - 1) e ∙ left-count ps i (omega (arith, e, h)))
+
+-- Lists in which nothing but a gap or a rest is refused
+
+each_over : (x : own.Slot) (ps : Parts) → are_whole ps ≡ goes_over (tail_slots (tail.Each x) ps)
+each_over x none = refl
+each_over x (gap ps) = refl
+each_over x (part n ps) = each_over x ps ∙ sym (before_over (slot_of x) (tail_slots (tail.Each x) ps))
+
+prologue_over : (r b : Bool) (ps : Parts) → are_whole ps ≡ goes_over (tail_slots (tail.Prologue r b) ps)
+prologue_over r b none = refl
+prologue_over r b (gap ps) = refl
+prologue_over r b (part n ps) = prologue_over r _ ps ∙ sym (before_over _ (tail_slots (tail.Prologue r _) ps))
+
+pub whole_over : (t : Tail) (ps : Parts) → takes_all t ≡ true → are_whole ps ≡ goes_over (tail_slots t ps)
+whole_over (tail.Each x) ps h = each_over x ps
+whole_over (tail.Prologue r b) ps h = prologue_over r b ps
+whole_over _ ps h = absurd (false≢true h)
+
+arguments_over : (h : Bool) (ps : Parts) → are_plain ps ≡ true → goes_over (tail_slots (tail.Arguments h) ps) ≡ true
+arguments_over h none e = refl
+arguments_over h (gap ps) e = absurd (false≢true e)
+arguments_over h (part n ps) e = taken (is_rest (kind_of n)) (is_none ps) e (arguments_over h ps)
+  where
+    taken : (b l : Bool) → cond b false (are_plain ps) ≡ true → (are_plain ps ≡ true → goes_over (tail_slots (tail.Arguments h) ps) ≡ true) →
+        goes_over (going (λ u. tail_slots u ps) (cond (l || not b) (Some (own-V.Fixed (argument_at (kind_of n)), tail.Arguments h)) None)) ≡ true
+    taken true l k f = absurd (false≢true k)
+    taken false true k f = before_over _ (tail_slots (tail.Arguments h) ps) ∙ f k
+    taken false false k f = before_over _ (tail_slots (tail.Arguments h) ps) ∙ f k
+
+pub plain_over : (t : Tail) (ps : Parts) → is_arguments t ≡ true → are_plain ps ≡ true → goes_over (tail_slots t ps) ≡ true
+plain_over (tail.Arguments h) ps a e = arguments_over h ps e
+plain_over _ ps a e = absurd (false≢true a)
+
+-- a part of a list that goes on so
+pub steady_left : (t : Tail) (ps : Parts) (i : ℕ) (u : Tree) (x : own.Slot) → Some u ≡ part_at ps i → is_over t ≡ false → part_of_tail t u (parts_behind (suc i) ps) ≡ Some (x, t) →
+    slots_left t (parts_behind i ps) ≡ slot_of x ∷ slots_left t (parts_behind (i + 1) ps)
+steady_left t ps i u x h o e = part_left t ps i u h o ∙ ap (left_of (λ v. slots_left v (parts_behind (suc i) ps))) e ∙ ap (λ j. slot_of x ∷ slots_left t (parts_behind j ps)) (sym (add-one i))
+
+pub steady_part : (t : Tail) (k : Kind) (u : Tree) (qs : Parts) (x : own.Slot) → k ≡ kind_of u → ((d l b : Bool) → tail_at t k d l b ≡ Some (x, t)) → part_of_tail t u qs ≡ Some (x, t)
+steady_part t k u qs x e h = ap (λ j. tail_at t j (flags_of u).directive (is_none qs) (is_before_last qs)) (sym e) ∙ h (flags_of u).directive (is_none qs) (is_before_last qs)
+
+pub steady_argument : (h : Bool) (k : Kind) (d l b : Bool) → is_rest k ≡ false → tail_at (tail.Arguments h) k d l b ≡ Some (own-V.Fixed (argument_at k), tail.Arguments h)
+steady_argument h k d true b e = refl
+steady_argument h k d false b e = ap (λ r. cond (not r) (Some (own-V.Fixed (argument_at k), tail.Arguments h)) None) e
+
+pub whole-some : (ps : Parts) (i : ℕ) (u : Tree) → Some u ≡ part_at ps i → are_whole (parts_behind (i + 1) ps) ≡ are_whole (parts_behind i ps)
+whole-some ps i u h = rw (add-one i) (sym (ap are_whole (some-suc ps i u h)))
+
+pub whole-gap : (ps : Parts) (i : ℕ) → None ≡ part_at ps i → i < part_count ps → false ≡ are_whole (parts_behind i ps)
+whole-gap ps i h l = sym (ap are_whole (gap-suc ps i h l))
+
+pub whole-past : (ps : Parts) (i : ℕ) → part_count ps ≤ i → true ≡ are_whole (parts_behind i ps)
+whole-past ps i h = sym (ap are_whole (behind-past ps i h))
+
+pub plain-some : (ps : Parts) (i : ℕ) (u : Tree) → Some u ≡ part_at ps i → is_rest (kind_of u) ≡ false → are_plain (parts_behind (i + 1) ps) ≡ are_plain (parts_behind i ps)
+plain-some ps i u h r = rw (add-one i) (sym (ap are_plain (some-suc ps i u h) ∙ ap (λ b. cond b false (are_plain (parts_behind (suc i) ps))) r))
+
+pub plain-rest : (ps : Parts) (i : ℕ) (u : Tree) → Some u ≡ part_at ps i → is_rest (kind_of u) ≡ true → false ≡ are_plain (parts_behind i ps)
+plain-rest ps i u h r = sym (ap are_plain (some-suc ps i u h) ∙ ap (λ b. cond b false (are_plain (parts_behind (suc i) ps))) r)
+
+pub plain-gap : (ps : Parts) (i : ℕ) → None ≡ part_at ps i → i < part_count ps → false ≡ are_plain (parts_behind i ps)
+plain-gap ps i h l = sym (ap are_plain (gap-suc ps i h l))
+
+pub plain-past : (ps : Parts) (i : ℕ) → part_count ps ≤ i → true ≡ are_plain (parts_behind i ps)
+plain-past ps i h = sym (ap are_plain (behind-past ps i h))
+
+-- What loops over them need
+pub ruleset whole_steps = (whole-some, whole-gap, whole-past, plain-some, plain-rest, plain-gap, plain-past)

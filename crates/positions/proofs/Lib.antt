@@ -19,6 +19,8 @@ pub mod StatementTable
 pub mod Ways
 pub mod Wherever
 pub mod Slots
+pub mod Cursors
+pub mod LeafOutlines
 pub mod Walked
 pub mod Starting
 mod GroupingExamples

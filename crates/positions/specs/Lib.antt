@@ -8,4 +8,6 @@ pub mod Positions
 pub mod Spelled
 pub mod Remaining
 pub mod Wherever
+pub mod Cursors
+pub mod Leaves
 pub mod Groupings

@@ -145,6 +145,16 @@ abbrev pub is_over : tails.Tail → Bool
 is_over tail.Nothing = true
 is_over _ = false
 
+-- each part is taken, whatever it is
+abbrev pub takes_all : tails.Tail → Bool
+takes_all (tail.Each x) = true
+takes_all (tail.Prologue r b) = true
+takes_all _ = false
+
+abbrev pub is_arguments : tails.Tail → Bool
+is_arguments (tail.Arguments h) = true
+is_arguments _ = false
+
 abbrev pub part_of_tail : tails.Tail → Tree → Parts → Option (Slot × tails.Tail)
 part_of_tail t n ps = tail_at t (kind_of n) (flags_of n).directive (piece.is_none ps) (is_before_last ps)
 

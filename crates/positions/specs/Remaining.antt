@@ -1,6 +1,7 @@
 -- What is left of the positions of a node's parts.
 use Rattle.std.specs.Prelude.{◌≡◌, Bool, true, false, cond, List, [], ◌∷◌, Option, Some, None}
-use Rattle.tree.specs.Tree.{Parts, none, part, gap, parts_of}
+use Rattle.tree.specs.Tree.{Parts, none, part, gap, kind_of, parts_of}
+use Rattle.language.specs.Words.{is_rest}
 use Rattle.tree.specs.Node.{node_tree}
 use Rattle.language.specs.Pieces as piece
 use Rattle.positions.specs.declared.position.Slot.{Slot}
@@ -75,3 +76,15 @@ IsSpelled xs (Some p) = (some_way xs ≡ true) × (remaining p ≡ first_roles x
 abbrev pub goes_over : Option (List piece.Slot) → Bool
 goes_over None = false
 goes_over (Some xs) = true
+
+-- no gap stands among them
+abbrev pub are_whole : Parts → Bool
+are_whole none = true
+are_whole (part n ps) = are_whole ps
+are_whole (gap ps) = false
+
+-- neither a gap nor a rest
+abbrev pub are_plain : Parts → Bool
+are_plain none = true
+are_plain (part n ps) = cond (is_rest (kind_of n)) false (are_plain ps)
+are_plain (gap ps) = false

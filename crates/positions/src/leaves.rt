@@ -4,9 +4,11 @@ ghost use Rattle.std.specs.Prelude.{◌≡◌, option_map};
 ghost use Rattle.language.specs.Words.{is_super as is_super_kind};
 ghost use Rattle.positions.specs.Others.{leaf_if as leaf_when, is_chunk as is_chunk_kind, is_key_class as is_class_of_key, name_outline as outline_of_name, key_outline as outline_of_key, quoted_outline as outline_of_quoted, quasi_outline as outline_of_quasi};
 ghost use Rattle.positions.specs.Productions.{outline_of};
+ghost use Rattle.positions.specs.Leaves.{names_at, literal_at as is_literal_at, leaf_at};
 
+use crate::position::Position;
 use crate::production::Production;
-use grammar::{is_reserved, literal_class};
+use grammar::{is_literal, is_reserved, literal_class};
 use tokens::Class;
 use tree::Kind;
 
@@ -76,4 +78,37 @@ pub(crate) fn is_chunk(kind: Kind) -> bool
     ensures { result ≡ is_chunk_kind kind }
 {
     matches!(kind, Kind::TemplateElement)
+}
+
+/// Whether a node of this kind and text may stand at a position as a leaf: a name or a literal.
+pub(crate) fn is_leaf_text(kind: Kind, text: &str, position: Position) -> bool
+    ensures { result ≡ leaf_at position kind text.now }
+{
+    match kind {
+        Kind::Identifier => is_name(text, position),
+        Kind::Literal => is_literal_at(text, position),
+        _ => false,
+    }
+}
+
+/// Whether an identifier of this name may stand at a position.
+fn is_name(name: &str, position: Position) -> bool
+    ensures { result ≡ names_at position name.now }
+{
+    match position {
+        Position::Expression { .. } | Position::Name => !is_reserved(name),
+        Position::Word | Position::Key | Position::Echo => true,
+        _ => false,
+    }
+}
+
+/// Whether a literal may stand at a position, among expressions and keys.
+fn is_literal_at(raw: &str, position: Position) -> bool
+    ensures { result ≡ is_literal_at position raw.now }
+{
+    match position {
+        Position::Expression { .. } => is_literal(raw),
+        Position::Key => is_key_class(literal_class(raw)),
+        _ => false,
+    }
 }

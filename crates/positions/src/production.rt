@@ -1,7 +1,7 @@
 //! How a node is spelled, in a few bytes: its outline, and so the positions of its parts, is read off it.
 
 ghost use Rattle.std.specs.Prelude.{◌≡◌, true, false, cond, option_map};
-ghost use Rattle.language.specs.declared.Rank.TheVariants.{LeftHandSide, Call, Primary};
+ghost use Rattle.language.specs.declared.Rank.TheVariants.{LeftHandSide, Call, Primary, Assignment};
 ghost use Rattle.language.specs.declared.Start.TheVariants.{Any};
 ghost use Rattle.positions.specs.declared.position.Position.TheVariants;
 ghost use Rattle.positions.specs.declared.position.Slot.TheVariants.{Fixed, Lead, Callee, LeadPattern};
@@ -519,7 +519,7 @@ fn catch(parameter: Position, returns: bool) -> Outline
 }
 
 /// An expression's part at a symbol, with In.
-fn at(rank: Rank) -> Position
+pub(crate) fn at(rank: Rank) -> Position
     ensures { result ≡ TheVariants.Expression rank true Any }
 {
     Position::Expression {
@@ -578,7 +578,7 @@ fn with_arguments(rank: Rank, callee: Slot) -> Outline
 }
 
 /// The object of a member.
-fn object_of(of_super: bool) -> Slot
+pub(crate) fn object_of(of_super: bool) -> Slot
     ensures { result ≡ cond of_super (Fixed TheVariants.Base) Callee }
 {
     if of_super {
@@ -588,7 +588,7 @@ fn object_of(of_super: bool) -> Slot
 }
 
 /// What is called.
-fn callee(of_super: bool) -> Slot
+pub(crate) fn callee(of_super: bool) -> Slot
     ensures { result ≡ cond of_super (Fixed TheVariants.Base) (Lead Call) }
 {
     if of_super {
@@ -598,7 +598,7 @@ fn callee(of_super: bool) -> Slot
 }
 
 /// The property of a member.
-fn selected(is_computed: bool) -> Slot
+pub(crate) fn selected(is_computed: bool) -> Slot
     ensures { result ≡ selected_if is_computed }
 {
     if is_computed {
@@ -618,7 +618,7 @@ fn below(goes_on: bool) -> Slot
 }
 
 /// The operand of `++` or `--`.
-fn stepped(is_prefix: bool) -> Slot
+pub(crate) fn stepped(is_prefix: bool) -> Slot
     ensures { result ≡ cond is_prefix (Fixed (TheVariants.Expression LeftHandSide true Any)) (Lead LeftHandSide) }
 {
     if is_prefix {
@@ -628,7 +628,7 @@ fn stepped(is_prefix: bool) -> Slot
 }
 
 /// The left side of an assignment.
-fn assigned(to_pattern: bool) -> Slot
+pub(crate) fn assigned(to_pattern: bool) -> Slot
     ensures { result ≡ cond to_pattern LeadPattern (Lead LeftHandSide) }
 {
     if to_pattern {
@@ -667,7 +667,7 @@ fn conditional() -> Outline
 }
 
 /// A property's key.
-fn key(is_computed: bool) -> Slot
+pub(crate) fn key(is_computed: bool) -> Slot
     ensures { result ≡ slot_of_key is_computed }
 {
     if is_computed {
@@ -677,7 +677,7 @@ fn key(is_computed: bool) -> Slot
 }
 
 /// The position of a statement's body.
-fn body(returns: bool) -> Slot
+pub(crate) fn body(returns: bool) -> Slot
     ensures { result ≡ body_at returns }
 {
     Slot::Fixed(Position::Statement { returns })
@@ -686,12 +686,18 @@ fn body(returns: bool) -> Slot
 fn initialised(name: Position, with_in: bool) -> Outline
     ensures { result ≡ outline_of (by.Initialised name with_in) }
 {
-    let value = Slot::Fixed(Position::Expression {
+    two(Slot::Fixed(name), initialiser(with_in))
+}
+
+/// What initialises.
+pub(crate) fn initialiser(with_in: bool) -> Slot
+    ensures { result ≡ Fixed (TheVariants.Expression Assignment with_in Any) }
+{
+    Slot::Fixed(Position::Expression {
         rank: Rank::Assignment,
         with_in,
         start: Start::Any,
-    });
-    two(Slot::Fixed(name), value)
+    })
 }
 
 fn condition(has_else: bool, returns: bool) -> Outline

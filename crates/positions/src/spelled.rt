@@ -1,19 +1,22 @@
 //! How a node is spelled at a position, whatever symbol, In and start it has there.
 
-ghost use Rattle.std.specs.Prelude.{◌≡◌, ◌&&◌, nat_eq, true, option_map, IfSome};
+ghost use Rattle.std.specs.Prelude.{◌≡◌, ◌&&◌, nat_eq, true, Some, option_map, IfSome};
 ghost use Rattle.tree.specs.Node.{node_tree};
-ghost use Rattle.tree.specs.Tree.{kind_of, parts_of};
+ghost use Rattle.tree.specs.Tree.{kind_of, parts_of, part_count};
 ghost use Rattle.language.specs.Expressions.{chained as is_chained_tree, first_chained};
 ghost use Rattle.positions.specs.Outlines.{role_of, tail_slots, parts_behind};
 ghost use Rattle.positions.specs.Remaining.{goes_over as list_goes_over};
 ghost use Rattle.positions.specs.Productions.{outline_of};
+ghost use Rattle.positions.specs.declared.production.Production.TheVariants;
 ghost use Rattle.positions.specs.Wherever.{IsSpelledWherever, spelled_by, chain_above, spine_first};
 
+use crate::leaves::is_leaf_text;
 use crate::nodes::production_at;
 use crate::outline::{Front, Outline};
 use crate::position::{Position, Slot};
 use crate::production::Production;
-use crate::spelling::{Positions, is_lean_node};
+use crate::slot_cursor::list_of;
+use crate::spelling::{Positions, is_lean_node, is_plain};
 use crate::walk::runs;
 use tree::{Kind, Node};
 
@@ -46,6 +49,7 @@ pub fn node_spelling<'t, 's>(
 
 /// The same in a few bytes: the production by which a node is spelled at a position, from which `spelled` makes what `node_spelling`
 /// gives.
+#[inline(always)]
 pub fn node_production(node: Node, position: Position, in_chain: bool) -> Option<Production>
     requires { in_chain ≡ true → is_chained_tree (node_tree node) ≡ true }
     ensures ways { IsSpelledWherever (role_of position) (node_tree node.entry) (option_map (spelled_by node.entry position) result) }
@@ -63,6 +67,20 @@ pub fn node_production(node: Node, position: Position, in_chain: bool) -> Option
     Some(production)
 }
 
+/// Whether a node is seen at once to be spelled at a position as a leaf, and has no parts: a name or a literal.
+pub fn is_leaf(node: Node, position: Position) -> bool
+    ensures spelled { result ≡ true → IsSpelledWherever (role_of position) (node_tree node.entry) (Some (spelled_by node.entry position TheVariants.Leaf)) }
+    ensures parts { result ≡ true → part_count (parts_of (node_tree node.entry)) ≡ 0 }
+{
+    if !is_leaf_text(node.kind(), node.text(), position) {
+        return false;
+    }
+    if !is_plain(node.flags()) {
+        return false;
+    }
+    node.part_count() == 0
+}
+
 /// Whether the list of a production goes over a node's parts.
 fn goes_over(node: Node, production: Production) -> bool
     ensures { result ≡ list_goes_over (tail_slots (outline_of production).tail (parts_behind (outline_of production).from (parts_of (node_tree node.entry)))) }
@@ -70,8 +88,8 @@ fn goes_over(node: Node, production: Production) -> bool
     if !production.has_list() {
         return true;
     }
-    let outline = production.outline();
-    runs(node, outline.tail, outline.from)
+    let (tail, from) = list_of(production);
+    runs(node.parts(), tail, from)
 }
 
 impl Production {
@@ -89,18 +107,18 @@ impl Production {
                 tail: outline.tail,
                 from: outline.from,
             },
-            holds_chain: holds_chain(position, node.kind(), outline.front),
+            holds_chain: holds_chain(position, node.kind(), self),
         }
     }
 }
 
-/// Whether a node that is spelled at a position is above parts of a chain.
-fn holds_chain(position: Position, kind: Kind, front: Front) -> bool
-    ensures { result ≡ chain_above position kind front }
+/// Whether the first part of a node that is spelled at a position by its production is part of a chain, with a `?.` in it or below it.
+pub fn holds_chain(position: Position, kind: Kind, production: Production) -> bool
+    ensures { result ≡ chain_above position kind (outline_of production).front }
 {
     match position {
         Position::Expression { .. } => matches!(kind, Kind::ChainExpression),
-        Position::Spine { .. } => begins_with_spine(front),
+        Position::Spine { .. } => begins_with_spine(production.outline().front),
         _ => false,
     }
 }

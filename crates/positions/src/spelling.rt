@@ -117,6 +117,7 @@ fn may_open(start: Start, opens: Opens) -> bool
 }
 
 /// Whether a node has no text and no flags but those of its kind.
+#[inline(always)]
 pub(crate) fn is_lean_node(node: Node) -> bool
     ensures { result ≡ is_lean (node_tree node.entry) }
 {
@@ -158,7 +159,7 @@ fn has_its_flags(kind: Kind, flags: Flags) -> bool
 }
 
 /// Whether no flag is set at all.
-fn is_plain(flags: Flags) -> bool
+pub(crate) fn is_plain(flags: Flags) -> bool
     ensures { result ≡ has_no_flags flags }
 {
     !flags.computed
@@ -254,7 +255,10 @@ fn positions_of<'t, 's>(
 ) -> Option<Positions<'t, 's>>
     ensures { Gives (roles_by (role_of position) (node_tree node.entry) (Some outline)) result }
 {
-    if !is_lean_node(node) || !fits(position, outline) || !runs(node, outline.tail, outline.from) {
+    if !is_lean_node(node)
+        || !fits(position, outline)
+        || !runs(node.parts(), outline.tail, outline.from)
+    {
         return None;
     }
     Some(Positions {
@@ -334,9 +338,11 @@ impl<'t, 's> Positions<'t, 's> {
         if is_over(self.tail) {
             return None;
         }
-        for index in self.from..self.node.part_count() {
-            if let Some(part) = self.node.part(index) {
-                let Some((slot, tail)) = slot_of_part(self.node, part, self.tail, index) else {
+        let parts = self.node.parts();
+        let count = parts.len();
+        for index in self.from..count {
+            if let Some(part) = parts.get(index) {
+                let Some((slot, tail)) = slot_of_part(part, self.tail, count - index - 1) else {
                     return None;
                 };
                 let others = Positions {

@@ -1,8 +1,8 @@
 //! How positions go on behind the first ones, part by part.
 
-ghost use Rattle.std.specs.Prelude.{◌≡◌, Option};
+ghost use Rattle.std.specs.Prelude.{◌≡◌, Bool, Option, Some, IfSome};
 ghost use Rattle.positions.specs.declared.outline.Tail.TheVariants;
-ghost use Rattle.positions.specs.Outlines.{chunk_at, item_at, tail_at, skips_gap as may_skip_gap, may_end as may_end_here, listed_at, bound_at, default_at, element_at, argument_at, object_part_at, pattern_part_at, is_over as is_over_tail};
+ghost use Rattle.positions.specs.Outlines.{chunk_at, item_at, tail_at, skips_gap as may_skip_gap, may_end as may_end_here, listed_at, bound_at, default_at, element_at, argument_at, object_part_at, pattern_part_at, is_over as is_over_tail, takes_all as takes_all_of, is_arguments as is_arguments_tail};
 
 use crate::outline::Tail;
 use crate::position::{ASSIGNMENT, Position, Slot, WHOLE};
@@ -210,4 +210,35 @@ pub(crate) fn is_over(tail: Tail) -> bool
     ensures { result ≡ is_over_tail tail }
 {
     matches!(tail, Tail::Nothing)
+}
+
+/// Whether a list takes each part, whatever it is.
+pub(crate) fn takes_all(tail: Tail) -> bool
+    ensures { result ≡ takes_all_of tail }
+{
+    matches!(tail, Tail::Each(_) | Tail::Prologue { .. })
+}
+
+/// Whether a list is of arguments, or of an array's elements.
+pub(crate) fn is_of_arguments(tail: Tail) -> bool
+    ensures { result ≡ is_arguments_tail tail }
+{
+    matches!(tail, Tail::Arguments { .. })
+}
+
+/// The slot of a part of this kind in a list that goes on as it is behind it, where that is seen at once.
+#[tactic(auto, using(crate::proofs::Behind::steady_argument))]
+pub(crate) fn steady_slot(tail: Tail, kind: Kind) -> Option<Slot>
+    ensures { IfSome result (λ s. (d l b : Bool) → tail_at tail kind d l b ≡ Some (s, tail)) }
+{
+    match tail {
+        Tail::Each(slot) => Some(slot),
+        Tail::Arguments { .. } => {
+            if is_rest(kind) {
+                return None;
+            }
+            Some(Slot::Fixed(argument(kind)))
+        }
+        _ => None,
+    }
 }

@@ -1,22 +1,21 @@
-//! A tail over a node's parts.
+//! A tail over parts.
 
-ghost use Rattle.std.specs.Prelude.{◌≡◌, ◌<◌, suc};
-ghost use Rattle.tree.specs.Node.{node_tree};
-ghost use Rattle.tree.specs.Tree.{parts_of, part_count};
+ghost use Rattle.std.specs.Prelude.{◌≡◌};
+ghost use Rattle.tree.specs.Node.{node_tree, list_parts};
+ghost use Rattle.tree.specs.Tree.{Parts, part_count};
 ghost use Rattle.positions.specs.Outlines.{part_of_tail, parts_behind, tail_slots};
-ghost use Rattle.positions.specs.Remaining.{goes_over};
+ghost use Rattle.positions.specs.Remaining.{goes_over, are_whole, are_plain};
 
 use crate::outline::Tail;
 use crate::position::Slot;
-use crate::tail::{Next, is_over, may_end, next_slot, skips_gap};
-use tree::Node;
+use crate::tail::{Next, is_of_arguments, is_over, may_end, next_slot, skips_gap, takes_all};
+use crate::words::is_rest;
+use tree::{Node, NodeList};
 
-/// The position of the part at an index, and how they go on behind it.
-pub(crate) fn slot_of_part(node: Node, part: Node, tail: Tail, index: usize) -> Option<(Slot, Tail)>
-    requires { index < part_count (parts_of (node_tree node)) }
-    ensures { result ≡ part_of_tail tail (node_tree part.entry) (parts_behind (suc index) (parts_of (node_tree node.entry))) }
+/// The position of a part that so many stand behind, and how they go on behind it.
+pub(crate) fn slot_of_part(part: Node, tail: Tail, behind: usize) -> Option<(Slot, Tail)>
+    ensures { (ps : Parts) → part_count ps ≡ behind → result ≡ part_of_tail tail (node_tree part.entry) ps }
 {
-    let behind = node.part_count() - index - 1;
     let next = Next {
         kind: part.kind(),
         is_directive: part.flags().directive,
@@ -27,21 +26,66 @@ pub(crate) fn slot_of_part(node: Node, part: Node, tail: Tail, index: usize) -> 
 }
 
 /// Whether a tail goes over the parts from a place on.
-pub(crate) fn runs(node: Node, tail: Tail, from: usize) -> bool
-    ensures { result ≡ goes_over (tail_slots tail (parts_behind from (parts_of (node_tree node.entry)))) }
+pub(crate) fn runs(parts: NodeList, tail: Tail, from: usize) -> bool
+    ensures { result ≡ goes_over (tail_slots tail (parts_behind from (list_parts parts.entry))) }
+{
+    if takes_all(tail) {
+        return is_whole(parts, from);
+    }
+    if is_of_arguments(tail) {
+        if has_plain(parts, from) {
+            return true;
+        }
+    }
+    runs_by_part(parts, tail, from)
+}
+
+/// Whether no gap stands from a place on.
+#[tactic(auto, using(crate::proofs::Behind::whole_steps))]
+fn is_whole(parts: NodeList, from: usize) -> bool
+    ensures { result ≡ are_whole (parts_behind from (list_parts parts.entry)) }
+{
+    for index in from..parts.len() {
+        let Some(_) = parts.get(index) else {
+            return false;
+        };
+    }
+    true
+}
+
+/// Whether neither a gap nor a rest stands from a place on.
+#[tactic(auto, using(crate::proofs::Behind::whole_steps))]
+fn has_plain(parts: NodeList, from: usize) -> bool
+    ensures { result ≡ are_plain (parts_behind from (list_parts parts.entry)) }
+{
+    for index in from..parts.len() {
+        let Some(part) = parts.get(index) else {
+            return false;
+        };
+        if is_rest(part.kind()) {
+            return false;
+        }
+    }
+    true
+}
+
+/// Whether a tail goes over the parts from a place on, one by one.
+fn runs_by_part(parts: NodeList, tail: Tail, from: usize) -> bool
+    ensures { result ≡ goes_over (tail_slots tail (parts_behind from (list_parts parts.entry))) }
 {
     let mut tail = tail;
-    for index in from..node.part_count() {
+    let count = parts.len();
+    for index in from..count {
         if is_over(tail) {
             return true;
         }
-        let Some(part) = node.part(index) else {
+        let Some(part) = parts.get(index) else {
             if !skips_gap(tail) {
                 return false;
             }
             continue;
         };
-        let Some((_, rest)) = slot_of_part(node, part, tail, index) else {
+        let Some((_, rest)) = slot_of_part(part, tail, count - index - 1) else {
             return false;
         };
         tail = rest;

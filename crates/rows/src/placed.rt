@@ -3,13 +3,22 @@
 use crate::ranks::rank;
 use language::{Rank, Start};
 use positions::{
-    Position, Positions, admits, expression_positions, node_positions, node_production, settled,
+    Position, Positions, SlotCursor, admits, expression_positions, holds_chain, is_leaf,
+    node_positions, node_production, settled,
 };
 use std::alloc::AllocError;
 use tree::{Form, Node};
 
 /// Positions by their words.
-static POSITIONS: [(&str, Position); 32] = [
+static POSITIONS: [(&str, Position); 33] = [
+    (
+        "expression",
+        Position::Expression {
+            rank: Rank::Expression,
+            with_in: true,
+            start: Start::Any,
+        },
+    ),
     ("name", Position::Name),
     ("word", Position::Word),
     ("key", Position::Key),
@@ -173,11 +182,44 @@ fn push_produced(own: Position, node: Node, out: &mut String) -> Result<(), Allo
     Ok(())
 }
 
+/// The same, part by part: behind `chain` where the first part is one's, and `leaf` alone where the node is seen at once to be one.
+fn push_taken(own: Position, node: Node, out: &mut String) -> Result<(), AllocError> {
+    if is_leaf(node, own) {
+        return out.push_str("leaf");
+    }
+    let Some(production) = node_production(node, own, false) else {
+        return out.push_str("none");
+    };
+    let asks = production.asks();
+    if !admits(own, asks.rank, asks.needs_in, asks.opens) {
+        return out.push_str("none");
+    }
+    if holds_chain(own, node.kind(), production) {
+        out.push_str("chain, ")?;
+    }
+    let parts = node.parts();
+    let mut slots = SlotCursor::new(production);
+    for index in 0..parts.len() {
+        let Some(part) = parts.get(index) else {
+            continue;
+        };
+        let Some(slot) = slots.take(parts, part, index) else {
+            return Ok(());
+        };
+        out.push_str(called(settled(own, slot)))?;
+        out.push_str(", ")?;
+    }
+    Ok(())
+}
+
 /// At what positions the parts of a node stand that stands at a position, or behind `at` at a symbol, if it can be spelled there;
-/// behind `by` at what positions by the production.
+/// behind `by` at what positions by the production, behind `along` part by part.
 pub(crate) fn push_places(words: &str, node: Node, out: &mut String) -> Result<(), AllocError> {
     if let Some(words) = words.strip_prefix("by ") {
         return push_produced(position(words), node, out);
+    }
+    if let Some(words) = words.strip_prefix("along ") {
+        return push_taken(position(words), node, out);
     }
     let found = match words.strip_prefix("at ") {
         Some(symbol) => expression_positions(node, rank(symbol), true, Start::Any),

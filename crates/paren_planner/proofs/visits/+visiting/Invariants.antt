@@ -1,17 +1,23 @@
 use Rattle.std.proofs.Common.{◌+◌, ◌*◌}
-use Rattle.tree.specs.Tree.{node_total, parts_of}
-use Rattle.tree.specs.Node.{node_tree}
+use Rattle.tree.specs.Tree.{node_total}
+use Rattle.tree.specs.Node.{node_tree, list_parts}
 use Rattle.tree.proofs.PartWalk.{parts_drop}
 use Rattle.positions.specs.Outlines.{role_of}
 use Rattle.positions.specs.Remaining.{left}
+use Rattle.positions.specs.Wherever.{spelled_by}
+use Rattle.positions.specs.Cursors.{left_by}
 use Rattle.paren_planner.proofs.Visited.{Begun}
 use Rattle.paren_planner.proofs.visits.+visiting.Given as goal
 
 abbrev pub decreases-visit_node : goal.decreases-visit_node
-decreases-visit_node l = 2 * node_total (node_tree l.node) + 1
+decreases-visit_node l = 3 * node_total (node_tree l.node) + 2
+
+abbrev pub decreases-visit_at : goal.decreases-visit_at
+decreases-visit_at l = 3 * node_total (node_tree l.node) + 1
 
 abbrev pub decreases-visit_parts : goal.decreases-visit_parts
-decreases-visit_parts l = 2 * node_total (node_tree l.node)
+decreases-visit_parts l = 3 * node_total (node_tree l.node)
 
 abbrev pub invariant-visit_parts-loop-index : goal.invariant-visit_parts-loop-index
-invariant-visit_parts-loop-index l = Begun (role_of l.own) (left l.spelled.slots) (left l.slots) (parts_of (node_tree l.node)) (parts_drop l.index (parts_of (node_tree l.node))) l.fn.steps.items l.steps.items
+invariant-visit_parts-loop-index l =
+    Begun (role_of l.own) (left (spelled_by l.node l.own l.fn.production).slots) (left_by l.slots (list_parts l.parts)) (list_parts l.parts) (parts_drop l.index (list_parts l.parts)) l.fn.steps.items l.steps.items

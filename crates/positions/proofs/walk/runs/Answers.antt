@@ -1,37 +1,9 @@
-use Rattle.std.proofs.Common.{◌∙◌, ◌<◌, sym, arith}
-use Rattle.tree.specs.Node.{node_tree}
-use Rattle.tree.specs.Tree.{parts_of, part_count}
-use Rattle.positions.proofs.Behind.{over_runs, end_runs, gap_stops, gap_passes, part_stops, part_passes}
+use Rattle.std.proofs.Common.{◌∙◌, sym}
+use Rattle.positions.proofs.Behind.{whole_over, plain_over}
 use Rattle.positions.proofs.walk.runs.Goals as goal
 
-pub returns-then-is_over : goal.returns-then-is_over
-returns-then-is_over c =
-    over_runs c.loop-index.tail _ (sym c.is_over.ensures ∙ c.if-is_over.true) ∙ c.loop-index.invariant
+pub returns-then-takes_all : goal.returns-then-takes_all
+returns-then-takes_all c = c.is_whole.ensures ∙ whole_over c.args.tail _ (sym c.takes_all.ensures ∙ c.if-takes_all.true)
 
-pub returns-then-not-skips_gap : goal.returns-then-not-skips_gap
-returns-then-not-skips_gap c =
-    let ps = parts_of (node_tree c.args.node) in
-    let here : c.loop-index.index < part_count ps = omega (arith, c.part_count-index-end.ensures, c.loop-index-test.true) in
-    gap_stops c.loop-index.tail ps c.loop-index.index c.in_default.ensures here (sym c.is_over.ensures ∙ c.if-is_over.false) (sym c.skips_gap.ensures ∙ c.if-not-skips_gap.true) ∙ c.loop-index.invariant
-
-pub loop-index-preserved-in_default : goal.loop-index-preserved-in_default
-loop-index-preserved-in_default c =
-    let ps = parts_of (node_tree c.args.node) in
-    let here : c.loop-index.index < part_count ps = omega (arith, c.part_count-index-end.ensures, c.loop-index-test.true) in
-    gap_passes c.loop-index.tail ps c.loop-index.index c.in_default.ensures here (sym c.is_over.ensures ∙ c.if-is_over.false) (sym c.skips_gap.ensures ∙ c.if-not-skips_gap.false) ∙ c.loop-index.invariant
-
-pub returns-in_default-slot_of_part : goal.returns-in_default-slot_of_part
-returns-in_default-slot_of_part c =
-    let ps = parts_of (node_tree c.args.node) in
-    part_stops c.loop-index.tail ps c.loop-index.index (node_tree c.in-Some.part) c.in-Some.ensures (sym c.is_over.ensures ∙ c.if-is_over.false) c.in_default-slot_of_part.ensures ∙ c.loop-index.invariant
-
-pub loop-index-preserved : goal.loop-index-preserved
-loop-index-preserved c =
-    let ps = parts_of (node_tree c.args.node) in
-    let found = c.in-Some-slot_of_part in
-    part_passes c.loop-index.tail ps c.loop-index.index (node_tree c.in-Some.part) (found.field-0-0, found.rest) c.in-Some.ensures (sym c.is_over.ensures ∙ c.if-is_over.false) found.ensures ∙ c.loop-index.invariant
-
-pub returns : goal.returns
-returns c =
-    let ps = parts_of (node_tree c.args.node) in
-    c.may_end.ensures ∙ end_runs c.loop-index.tail ps c.loop-index.index (omega (arith, c.part_count-index-end.ensures, c.loop-index-test.false)) ∙ c.loop-index.invariant
+pub returns-then-has_plain : goal.returns-then-has_plain
+returns-then-has_plain c = sym (plain_over c.args.tail _ (sym c.is_of_arguments.ensures ∙ c.if-is_of_arguments.true) (sym c.has_plain.ensures ∙ c.if-has_plain.true))
