@@ -1,25 +1,11 @@
--- What a text makes that is none of some operators.
-use Rattle.std.proofs.Common.{◌≡◌, ℕ, cond, List, [], ◌∷◌, length, sym, ap, ◌∙◌, refl}
+-- What a text makes, by its first byte.
+use Rattle.std.proofs.Common.{◌≡◌, ℕ, List, [], ◌∷◌, length, sym, ap, refl}
 use Rattle.std.specs.Prelude.{None, slice_index_or, codes}
-use Prim.Native.String.{String}
-use Rattle.language.specs.Words.{Operator, no_operator, operator_among}
-use Rattle.grammar.proofs.Operations.{NoneOf, none_among}
+use Rattle.language.specs.Words.{operator_among}
 use Rattle.phrases.specs.Rows.{only_texts, begins_with}
 use Rattle.phrases.specs.Operators.{coded_operator, short_operators, long_operators}
 use Rattle.phrases.proofs.Firsts.{OneByte, NoByte, begins, begins_else, begins_other}
 use Rattle.phrases.proofs.Operating.{operator_only}
-
--- the text is none of these operators
-abbrev pub NoneIn : List ℕ → List (List String × Operator) → Type 0
-NoneIn w [] = Unit {0}
-NoneIn w (row ∷ rows) = NoneOf w row.0 × NoneIn w rows
-
-unknown : (w : List ℕ) (rows : List (List String × Operator)) → NoneIn w rows → operator_among w rows ≡ no_operator
-unknown w [] h = refl
-unknown w (row ∷ rows) h = ap (λ b. cond b row.1 (operator_among w rows)) (none_among w row.0 h.0) ∙ unknown w rows h.1
-
-pub makes_none : (w : List ℕ) (rows : List (List String × Operator)) → NoneIn w rows → None ≡ coded_operator (operator_among w rows) w
-makes_none w rows h = sym (ap (λ o. coded_operator o w) (unknown w rows h))
 
 -- a text of one byte
 pub of_byte : (w : List ℕ) → length w ≡ 1 →

@@ -1,24 +1,18 @@
--- What the token ahead begins, by its class and its first byte, and whether it stands at a position.
-use Rattle.std.proofs.Common.{◌≡◌, ℕ, Bool, true, false, cond, List, [], ◌∷◌, length, refl, sym, ap, ◌∙◌, arith}
-use Rattle.std.specs.Prelude.{IsFalse, Option, Some, None, not, nat_eq, slice_index_or, filter, codes}
-use Rattle.std.proofs.lemmas.Bool.Decides.{nat_tests}
-use Prim.Native.String.{String}
+-- What the token ahead begins, by its class, and whether it stands at a position.
+use Rattle.std.proofs.Common.{◌≡◌, ℕ, Bool, false, cond, List, refl, sym, ap, ◌∙◌}
+use Rattle.std.specs.Prelude.{IsFalse, Option, Some, None, nat_eq, slice_index_or}
 use Rattle.tokens.specs.declared.token.Class.{Class}
-use Rattle.tokens.specs.declared.token.Class.TheVariants.{Name, Punctuator, Template}
+use Rattle.tokens.specs.declared.token.Class.TheVariants.{Template}
 use Rattle.tokens.specs.declared.token.Goal.TheVariants.{RegExp}
 use Rattle.tokens.specs.Tokens.{LexicalToken}
 use Rattle.language.specs.declared.Rank.{Rank}
 use Rattle.language.specs.declared.Start.{Start}
-use Rattle.language.specs.Opening.{Opening, with_name, with_literal, with_this, with_bracket, with_brace, with_function, with_class, with_template, with_parenthesis, with_super, with_new, with_import, with_step, with_word, with_sign, no_opening, opening_words, opening_signs, opening_among, opening_by, opening_of}
-use Rattle.language.specs.Words.{among, is_reserved}
+use Rattle.language.specs.Opening.{Opening, with_name, with_literal, with_this, with_bracket, with_brace, with_function, with_class, with_template, with_parenthesis, with_super, with_new, with_import, with_step, with_word, with_sign, no_opening, opening_by, opening_of}
 use Rattle.language.specs.Token.{Token, table_text, as_read}
-use Rattle.grammar.proofs.Operations.{NoneOf, none_among}
 use Rattle.token_cursor.specs.Point.{IsAhead, NoneAhead}
 use Rattle.phrases.specs.declared.position.Position.{Position}
 use Rattle.phrases.specs.declared.openings.Opening.{Opening as Coded}
 use Rattle.phrases.specs.Openings.{coded_opening, stands_at, stood, opens_at, OpensNothing}
-use Rattle.phrases.specs.Rows.{only_texts, begins_with, is_longer}
-use Rattle.phrases.proofs.Firsts.{among_only, OneByte, NoByte, begins, begins_else, begins_other}
 use Rattle.phrases.proofs.Seeing.{none_ahead, of_ahead}
 
 -- what a token begins, by its class
@@ -69,42 +63,3 @@ nothing_ahead text p s u a h = of_ahead text (λ t. IsFalse (opens_at p t)) RegE
 
 pub nothing_read : (text : List ℕ) (p : Position) (s : Token) → NoneAhead RegExp text s.stop → OpensNothing text p s
 nothing_read text p s none t m r = absurd (none_ahead text RegExp s none t m r)
-
--- a word is looked for among those that begin as it does
-opening_only : (p : List ℕ → Bool) (w : List ℕ) (rows : List (List String × Opening)) (x : Opening) → p w ≡ true → opening_among w rows x ≡ opening_among w (only_texts p rows) x
-opening_only p w [] x h = refl
-opening_only p w (row ∷ rows) x h =
-    ap (λ b. cond b row.1 (opening_among w rows x)) (among_only p w row.0 h)
-    ∙ ap (cond (among w (filter (λ s. p (codes s)) row.0)) row.1) (opening_only p w rows x h)
-
-abbrev name_else : List ℕ → Opening
-name_else w = cond (is_reserved w) no_opening with_name
-
-pub opens_first : (bs : List ℕ) (w : List ℕ) (b : ℕ) → b ≡ slice_index_or w 0 0 → OneByte b bs →
-    coded_opening (opening_among w (only_texts (begins_with bs) opening_words) (name_else w)) ≡ coded_opening (opening_by Name w)
-opens_first bs w b e h = sym (ap coded_opening (opening_only (begins_with bs) w opening_words (name_else w) (begins w b bs e h)))
-
-pub opens_no_first : (w : List ℕ) (b : ℕ) → b ≡ slice_index_or w 0 0 → NoByte b (codes "cisdvfnt") → coded_opening (name_else w) ≡ coded_opening (opening_by Name w)
-opens_no_first w b e h =
-    sym (ap coded_opening (opening_only (begins_else (codes "cisdvfnt")) w opening_words (name_else w) (begins_other w b (codes "cisdvfnt") e h)))
-
--- a word that is none of these is a name, if it isn't reserved
-abbrev pub NoOpening : List ℕ → List (List String × Opening) → Type 0
-NoOpening w [] = Unit {0}
-NoOpening w (row ∷ rows) = NoneOf w row.0 × NoOpening w rows
-
-pub opens_else : (w : List ℕ) (rows : List (List String × Opening)) (x : Opening) → NoOpening w rows → coded_opening x ≡ coded_opening (opening_among w rows x)
-opens_else w [] x h = refl
-opens_else w (row ∷ rows) x h = opens_else w rows x h.1 ∙ sym (ap (λ b. coded_opening (cond b row.1 (opening_among w rows x))) (none_among w row.0 h.0))
-
--- a sign of one byte, and another
-pub opens_byte : (w : List ℕ) → length w ≡ 1 → coded_opening (opening_among (slice_index_or w 0 0 ∷ []) opening_signs no_opening) ≡ coded_opening (opening_by Punctuator w)
-opens_byte [] e = cc
-opens_byte (b ∷ []) e = refl
-opens_byte (b ∷ (c ∷ w)) e = cc
-
-longer : (n : ℕ) → (n ≡ 1 → ⊥) → not (nat_eq n 1) ≡ true
-longer n h = grind (arith, nat_tests)
-
-pub opens_longer : (w : List ℕ) → (length w ≡ 1 → ⊥) → coded_opening (opening_among w (only_texts is_longer opening_signs) no_opening) ≡ coded_opening (opening_by Punctuator w)
-opens_longer w h = sym (ap coded_opening (opening_only is_longer w opening_signs no_opening (longer (length w) h)))

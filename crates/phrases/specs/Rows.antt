@@ -1,5 +1,5 @@
 -- Tables of texts, with those of their texts that pass a test.
-use Rattle.std.specs.Prelude.{ℕ, Bool, false, not, ◌||◌, List, [], ◌∷◌, nat_eq, slice_index_or, filter, length, codes}
+use Rattle.std.specs.Prelude.{ℕ, Bool, false, ◌||◌, List, [], ◌∷◌, nat_eq, slice_index_or, filter, codes}
 use Prim.Native.String.{String}
 
 abbrev pub only_texts : {A : Type 0} → (List ℕ → Bool) → List (List String × A) → List (List String × A)
@@ -10,7 +10,3 @@ only_texts p (row ∷ rows) = (filter (λ s. p (codes s)) row.0, row.1) ∷ only
 abbrev pub begins_with : List ℕ → List ℕ → Bool
 begins_with [] w = false
 begins_with (b ∷ bs) w = nat_eq (slice_index_or w 0 0) b || begins_with bs w
-
--- it has more than one byte, or none
-abbrev pub is_longer : List ℕ → Bool
-is_longer w = not (nat_eq (length w) 1)

@@ -1,11 +1,9 @@
 //! What the first token of an expression begins (ECMA-262 12.2 to 12.5, 14.1, 14.2, 14.6).
 #![tactic(auto, using(crate::proofs::Refused::refusals))]
 
-ghost use Rattle.std.specs.Prelude.{◌≡◌, ◌≢◌, ◌<◌, ◌+◌, ◌-◌, ◌++◌, IfErr, IfSome, true, cond, codes, [], ◌∷◌};
+ghost use Rattle.std.specs.Prelude.{◌≡◌, ◌≢◌, ◌<◌, ◌+◌, ◌-◌, ◌++◌, IfErr, IfSome, true};
 ghost use Rattle.language.specs.Token.{as_read};
-ghost use Rattle.language.specs.Opening.{opening_among, opening_words, opening_signs, opening_by, opening_of, no_opening, with_name};
-ghost use Rattle.language.specs.Words.{is_reserved};
-ghost use Rattle.phrases.specs.Rows.{begins_with, is_longer, only_texts};
+ghost use Rattle.language.specs.Opening.{opening_by, opening_of};
 ghost use Rattle.phrases.specs.Openings.{coded_opening, stood};
 ghost use Rattle.tokens.specs.Scanned.{token_of};
 ghost use Rattle.tree.specs.Tree.{height};
@@ -19,7 +17,7 @@ ghost use Rattle.phrases.specs.Tokens.{single_text};
 
 use crate::part::Part;
 use crate::position::Position;
-use crate::words::{first_byte, is_head, is_mark};
+use crate::words::{is_head, is_mark};
 use covers::{Cover, List, Listed, Shape};
 use grammar::{is_reserved, position_takes};
 use language::{Edge, Rank, Start};
@@ -45,112 +43,36 @@ pub enum Opening {
     Prefix(Rank, Rank),
 }
 
-// By the first letter: most names begin as none of the words.
 fn opening_word(word: &str) -> Option<Opening>
     ensures list { IfSome result BeginsList }
     ensures coded { result ≡ coded_opening (opening_by Class.Name word.now) }
 {
-    match first_byte(word) {
-        b'c' | b'i' | b's' => opening_with_cis(word),
-        b'd' | b'v' => opening_with_dv(word),
-        b'f' | b'n' => opening_with_fn(word),
-        b't' => opening_with_t(word),
-        _ => opening_name(word),
-    }
-}
-
-fn opening_name(name: &str) -> Option<Opening>
-    ensures list { IfSome result BeginsList }
-    ensures coded { result ≡ coded_opening (cond (is_reserved name.now) no_opening with_name) }
-{
-    match is_reserved(name) {
-        true => None,
-        false => Some(Opening::Single(Kind::Identifier)),
-    }
-}
-
-// Of a word that begins with `c`, `i` or `s`.
-fn opening_with_cis(word: &str) -> Option<Opening>
-    ensures list { IfSome result BeginsList }
-    ensures coded { result ≡ coded_opening (opening_among word.now (only_texts (begins_with (codes "cis")) opening_words) (cond (is_reserved word.now) no_opening with_name)) }
-{
-    match word {
-        "class" => Some(Opening::Class),
-        "import" => Some(Opening::Import),
-        "super" => Some(Opening::Super),
-        _ => opening_name(word),
-    }
-}
-
-// Of a word that begins with `d` or `v`.
-fn opening_with_dv(word: &str) -> Option<Opening>
-    ensures list { IfSome result BeginsList }
-    ensures coded { result ≡ coded_opening (opening_among word.now (only_texts (begins_with (codes "dv")) opening_words) (cond (is_reserved word.now) no_opening with_name)) }
-{
-    match word {
-        "delete" | "void" => Some(Opening::Prefix(Rank::Unary, Rank::Unary)),
-        _ => opening_name(word),
-    }
-}
-
-// Of a word that begins with `f` or `n`.
-fn opening_with_fn(word: &str) -> Option<Opening>
-    ensures list { IfSome result BeginsList }
-    ensures coded { result ≡ coded_opening (opening_among word.now (only_texts (begins_with (codes "fn")) opening_words) (cond (is_reserved word.now) no_opening with_name)) }
-{
-    match word {
-        "function" => Some(Opening::Function),
-        "false" | "null" => Some(Opening::Single(Kind::Literal)),
-        "new" => Some(Opening::New),
-        _ => opening_name(word),
-    }
-}
-
-// Of a word that begins with `t`.
-fn opening_with_t(word: &str) -> Option<Opening>
-    ensures list { IfSome result BeginsList }
-    ensures coded { result ≡ coded_opening (opening_among word.now (only_texts (begins_with (codes "t")) opening_words) (cond (is_reserved word.now) no_opening with_name)) }
-{
-    match word {
-        "this" => Some(Opening::Single(Kind::ThisExpression)),
-        "true" => Some(Opening::Single(Kind::Literal)),
-        "typeof" => Some(Opening::Prefix(Rank::Unary, Rank::Unary)),
-        _ => opening_name(word),
-    }
+    Some(match word {
+        "true" | "false" | "null" => Opening::Single(Kind::Literal),
+        "this" => Opening::Single(Kind::ThisExpression),
+        "function" => Opening::Function,
+        "class" => Opening::Class,
+        "super" => Opening::Super,
+        "new" => Opening::New,
+        "import" => Opening::Import,
+        "delete" | "void" | "typeof" => Opening::Prefix(Rank::Unary, Rank::Unary),
+        _ if is_reserved(word) => return None,
+        _ => Opening::Single(Kind::Identifier),
+    })
 }
 
 fn opening_mark(mark: &str) -> Option<Opening>
     ensures list { IfSome result BeginsList }
     ensures coded { result ≡ coded_opening (opening_by Class.Punctuator mark.now) }
 {
-    match mark.len() {
-        1 => opening_sign(first_byte(mark)),
-        _ => opening_step(mark),
-    }
-}
-
-fn opening_sign(mark: u8) -> Option<Opening>
-    ensures list { IfSome result BeginsList }
-    ensures coded { result ≡ coded_opening (opening_among (mark ∷ []) opening_signs no_opening) }
-{
     Some(match mark {
-        b'[' => Opening::List(Listed::Elements),
-        b'{' => Opening::List(Listed::Properties),
-        b'(' => Opening::Parenthesis,
-        b'+' | b'-' | b'~' | b'!' => Opening::Prefix(Rank::Unary, Rank::Unary),
+        "[" => Opening::List(Listed::Elements),
+        "{" => Opening::List(Listed::Properties),
+        "(" => Opening::Parenthesis,
+        "++" | "--" => Opening::Prefix(Rank::Update, Rank::LeftHandSide),
+        "+" | "-" | "~" | "!" => Opening::Prefix(Rank::Unary, Rank::Unary),
         _ => return None,
     })
-}
-
-// Of a mark that isn't of one byte.
-fn opening_step(mark: &str) -> Option<Opening>
-    ensures list { IfSome result BeginsList }
-    ensures coded { result ≡ coded_opening (opening_among mark.now (only_texts is_longer opening_signs) no_opening) }
-{
-    match mark {
-        "++" | "--" => Some(Opening::Prefix(Rank::Update, Rank::LeftHandSide)),
-        _ => None,
-    }
 }
 
 /// What an expression begins with, by its first token.
