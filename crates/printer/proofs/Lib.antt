@@ -13,6 +13,7 @@ pub mod OtherMarks
 pub mod Outlining
 pub mod Passing
 pub mod PlaceMarks
+pub mod Placed
 pub mod Planned
 pub mod Rows
 pub mod Seating

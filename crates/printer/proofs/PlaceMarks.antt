@@ -22,7 +22,8 @@ use Rattle.positions.specs.declared.position.Position.{Position}
 use Rattle.positions.specs.declared.position.Position.TheVariants as at_place
 use Rattle.positions.specs.Outlines.{role_of, parts_behind}
 use Rattle.printer.specs.Bits.{Mark, text, line, here, deeper, shallower, marks_of, Bit, Chain, nothing, commas, lines, Shape, fronted}
-use Rattle.printer.specs.Shapes.{expression_shape, method_shape, head_shape, shape_by, sign_at, property_shape, class_member_shape, case_shape, catch_shape, declarator_shape, member_shape, call_shape}
+use Rattle.printer.specs.Shapes.{expression_shape, method_shape, head_shape, sign_at, property_shape, class_member_shape, case_shape, catch_shape, declarator_shape, member_shape, call_shape}
+use Rattle.printer.proofs.Placed.{shape_by}
 use Rattle.printer.specs.Printed.{marks_in, front_marks, shape_marks}
 use Rattle.printer.proofs.ListMarks.{elements-marks, listed-marks, lines-marks, items-marks, declarators-marks, object_pattern_standing, element_standing}
 use Rattle.printer.proofs.Shaped.{Means, counts_up, Shaped, nowhere, one, shaped_if}

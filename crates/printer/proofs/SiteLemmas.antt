@@ -17,7 +17,8 @@ use Rattle.positions.specs.Outlines.{role_of}
 use Rattle.printer.specs.declared.site.Site.{Site}
 use Rattle.printer.specs.declared.site.Site.TheVariants as site
 use Rattle.printer.specs.declared.course.Course.{Course}
-use Rattle.printer.specs.Shapes.{shape_by, shape_on, is_plain_at, is_word_at}
+use Rattle.printer.specs.Shapes.{shape_on}
+use Rattle.printer.proofs.Placed.{shape_by, is_plain_at, is_word_at}
 use Rattle.printer.specs.Sites.{site_of, is_row, is_plain, is_word, course_at, Stands}
 use Rattle.printer.proofs.CourseTable.{course_stands}
 

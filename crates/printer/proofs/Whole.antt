@@ -28,7 +28,8 @@ use Rattle.positions.proofs.Bare.{none-bare, others-bare}
 use Rattle.printer.specs.declared.pieces.Sign.{Sign}
 use Rattle.printer.specs.declared.pieces.Sign.TheVariants.{Plus, Minus}
 use Rattle.printer.specs.Bits.{Mark, here, marks_of, Chain, Shape, before_bits, after_bits}
-use Rattle.printer.specs.Shapes.{expression_shape, shape_by, sign_of_text, sign_at, has_part, is_single, after_open_number, if_shape, try_shape, for_shape, declarator_shape, word_shape, braced_shape, case_shape, catch_shape, arrow_shape, class_shape, member_shape}
+use Rattle.printer.specs.Shapes.{expression_shape, sign_of_text, sign_at, has_part, is_single, after_open_number, if_shape, try_shape, for_shape, declarator_shape, word_shape, braced_shape, case_shape, catch_shape, arrow_shape, class_shape, member_shape}
+use Rattle.printer.proofs.Placed.{shape_by}
 use Rattle.printer.specs.Sheets.{View, Writes}
 use Rattle.printer.proofs.Writing.{leads_then, leads_at}
 use Rattle.language.specs.Fits.{lines_up, parts_fit}

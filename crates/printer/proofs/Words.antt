@@ -13,7 +13,8 @@ use Rattle.positions.specs.declared.position.Position.{Position}
 use Rattle.positions.specs.declared.position.Position.TheVariants as at
 use Rattle.positions.specs.Outlines.{role_of}
 use Rattle.printer.specs.Bits.{text, own_text, fronted}
-use Rattle.printer.specs.Shapes.{expression_shape, shape_by, sign_at, is_plain_at, is_word_at}
+use Rattle.printer.specs.Shapes.{expression_shape, sign_at}
+use Rattle.printer.proofs.Placed.{shape_by, is_plain_at, is_word_at}
 use Rattle.printer.specs.Sheets.{View, Writes}
 use Rattle.printer.specs.Printed.{shape_marks, Reads, Direct, Written, spelled_so}
 use Rattle.printer.proofs.Writing.{writes_as}

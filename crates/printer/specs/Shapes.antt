@@ -12,8 +12,6 @@ use Rattle.printer.specs.declared.pieces.Sign.{Sign}
 use Rattle.printer.specs.declared.pieces.Sign.TheVariants.{Plus, Minus}
 use Rattle.language.specs.Pieces.{is_none}
 use Rattle.positions.specs.Outlines.{parts_behind}
-use Rattle.positions.specs.declared.position.Position.{Position}
-use Rattle.positions.specs.declared.position.Position.TheVariants as at
 use Rattle.printer.specs.declared.site.Site.{Site}
 use Rattle.printer.specs.declared.site.Site.TheVariants as site
 use Rattle.printer.specs.Bits.{Bit, token, own_text, newline, loosely, chunk, Chain, nothing, joined, commas, lines, feeds, parameters, Shape, fronted, listed}
@@ -259,28 +257,6 @@ expression_shape kind.ChainExpression w g ps = fronted ([] ∷ []) []
 expression_shape kind.ImportExpression w g ps = fronted ((spelled "import" ∷ spelled "(" ∷ []) ∷ []) (spelled ")" ∷ [])
 expression_shape kind.MetaProperty w g ps = fronted ([] ∷ (spelled "." ∷ []) ∷ []) []
 expression_shape k w g ps = operation_shape k w g ps
-
--- at a position
-abbrev pub shape_by : Position → Kind → List ℕ → Flags → Parts → Shape
-shape_by at.Echo k w g ps = fronted [] []
-shape_by (at.Chunk a b) k w g ps = fronted [] (chunk a b ∷ [])
-shape_by (at.Method x) k w g ps = method_shape
-shape_by (at.Head b) k w g ps = head_shape
-shape_by _ k w g ps = expression_shape k w g ps
-
--- positions at which the shape is told by the node alone
-abbrev pub is_plain_at : Position → Bool
-is_plain_at at.Echo = false
-is_plain_at (at.Chunk a b) = false
-is_plain_at (at.Method x) = false
-is_plain_at (at.Head b) = false
-is_plain_at _ = true
-
--- a name or a literal without parts, which is written as its own text
-abbrev pub is_word_at : Position → Kind → Parts → Bool
-is_word_at p kind.Identifier ps = is_none ps && is_plain_at p
-is_word_at p kind.Literal ps = is_none ps && is_plain_at p
-is_word_at p _ ps = false
 
 -- at a site
 abbrev pub shape_on : Site → Kind → List ℕ → Flags → Parts → Shape
