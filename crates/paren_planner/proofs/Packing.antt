@@ -1,8 +1,8 @@
--- Rows that are packed: one more, those that stand apart, the other way round.
-use Rattle.std.proofs.Common.{◌≡◌, ℕ, ◌+◌, ◌<◌, Bool, true, false, cond, List, [], ◌∷◌, ◌++◌, length, get_or, reverse, None, Ok, Err, refl, sym, ap, ◌∙◌, arith}
+-- Rows that are packed: one more whose numbers stand apart, and all the other way round.
+use Rattle.std.proofs.Common.{◌≡◌, ℕ, List, [], ◌∷◌, ◌++◌, length, reverse, None, Ok, Err, refl, sym, ap, ◌∙◌}
 use Rattle.std.specs.Prelude.{All, map, Result, OnErr}
-use Rattle.std.proofs.lemmas.List.{map-append, map_push, reverse-append, get_or_append_left, get_or_push, length_push}
-use Rattle.std.proofs.lemmas.List.Elements.{All-nil, All-head, All-tail, All-push, All-weaker}
+use Rattle.std.proofs.lemmas.List.{map-append, map_push, reverse-append, get_or_append_left, get_or_push}
+use Rattle.std.proofs.lemmas.List.Elements.{All-head, All-tail}
 use Rattle.tree.specs.declared.kind.Kind.{Kind}
 use Rattle.paren_planner.specs.declared.costs.Costs as own
 use Rattle.paren_planner.specs.declared.packed.Numbers.{Numbers}
@@ -24,13 +24,6 @@ rows_kept cs c [] h = refl
 rows_kept cs c (p ∷ ps) h =
     λ j. row_with p.kind (numbers_kept cs c p.numbers (All-head (IsPacked (length cs)) p ps h) j) ∷ rows_kept cs c ps (All-tail (IsPacked (length cs)) p ps h) j
 
-in_more : (k n : ℕ) (x : Numbers) → k + 1 ≡ n → IsIn k x → IsIn n x
-in_more k n (Same s m) e h = tt
-in_more k n (Apart i) e h = omega (arith, e, h)
-
-pub packed_kept : (cs : List own.Costs) (c : own.Costs) (ps : List Packed) → All (IsPacked (length cs)) ps → All (IsPacked (length (cs ++ c ∷ []))) ps
-packed_kept cs c ps h = All-weaker (IsPacked (length cs)) (IsPacked (length (cs ++ c ∷ []))) (λ p. in_more (length cs) (length (cs ++ c ∷ [])) p.numbers (sym (length_push cs c))) ps h
-
 pub apart_pushed : (cs ds : List own.Costs) (c : own.Costs) (ps qs : List Packed) (k : Kind) (i : ℕ) → All (IsPacked (length cs)) ps → ds ≡ cs ++ c ∷ [] → i ≡ length cs → qs ≡ ps ++ record { kind = k; numbers = Apart i } ∷ [] →
     map (unpacked ds) qs ≡ map (unpacked cs) ps ++ row_with k c ∷ []
 apart_pushed cs ds c ps qs k i h e n q =
@@ -38,25 +31,12 @@ apart_pushed cs ds c ps qs k i h e n q =
     ∙ map_push (unpacked (cs ++ c ∷ [])) ps (record { kind = k; numbers = Apart i })
     ∙ (λ j. rows_kept cs c ps h j ++ row_with k (get_or_push cs c (same_everywhere None) i (sym n) j) ∷ [])
 
-pub apart_packed : (cs ds : List own.Costs) (c : own.Costs) (ps qs : List Packed) (k : Kind) (i : ℕ) → All (IsPacked (length cs)) ps → ds ≡ cs ++ c ∷ [] → i ≡ length cs → qs ≡ ps ++ record { kind = k; numbers = Apart i } ∷ [] →
-    All (IsPacked (length ds)) qs
-apart_packed cs ds c ps qs k i h e n q =
-    let within : i < length (cs ++ c ∷ []) = omega (arith, n, length_push cs c) in
-    let all : All (IsPacked (length (cs ++ c ∷ []))) (ps ++ record { kind = k; numbers = Apart i } ∷ []) =
-    All-push (IsPacked (length (cs ++ c ∷ []))) ps (record { kind = k; numbers = Apart i }) (packed_kept cs c ps h) within in
-    Rattle.std.proofs.Common.subst (λ ys. All (IsPacked (length ys)) qs) (sym e) (Rattle.std.proofs.Common.subst (All (IsPacked (length (cs ++ c ∷ [])))) (sym q) all)
-
 -- The other way round
 
 pub map-turned : {X Y : Type 0} (f : X → Y) (xs : List X) → map f (reverse xs) ≡ reverse (map f xs)
 map-turned f [] = refl
 map-turned f (x ∷ xs) =
     ap (map f) (reverse-append (x ∷ []) xs) ∙ map-append f (reverse xs) (x ∷ []) ∙ ap (λ ys. ys ++ f x ∷ []) (map-turned f xs) ∙ sym (reverse-append (f x ∷ []) (map f xs))
-
-pub All-turned : {X : Type 0} (P : X → Type 0) (xs : List X) → All P xs → All P (reverse xs)
-All-turned P [] h = All-nil P
-All-turned P (x ∷ xs) h =
-    Rattle.std.proofs.Common.subst (All P) (sym (reverse-append (x ∷ []) xs)) (All-push P (reverse xs) x (All-turned P xs (All-tail P x xs h)) (All-head P x xs h))
 
 -- After a refusal
 

@@ -2,11 +2,9 @@
 use Rattle.std.proofs.Common.{◌≡◌, Bool, true, false, cond, List, [], ◌∷◌, ◌++◌, reverse, Option, Some, None, refl, sym, ap, ◌∙◌, append-nil}
 use Rattle.std.specs.Prelude.{option_to_list, unwrap_or, map}
 use Rattle.std.proofs.lemmas.List.{reverse-append, map-append}
-use Rattle.paren_planner.specs.declared.costs.Costs as own
 use Rattle.paren_planner.specs.declared.table.Row.{Row}
 use Rattle.paren_planner.specs.declared.wraps.Around.{Around}
-use Rattle.paren_planner.specs.Steps.{others, innermost, no_pairs}
-use Rattle.paren_planner.specs.Pending.{stacked}
+use Rattle.paren_planner.specs.Steps.{others}
 use Rattle.paren_planner.specs.Marked.{round, innermost_round}
 
 pub pushed : {X : Type 0} (xs ys : List X) (x : X) → ys ≡ xs ++ x ∷ [] → reverse ys ≡ x ∷ reverse xs
@@ -20,10 +18,6 @@ popped xs ys None e h =
     ap (λ u. others (reverse u)) z ∙ sym (ap reverse w)
 popped xs ys (Some x) e h = ap others (pushed ys xs x e)
 
-pub popped_sums : (xs ys : List own.Costs) (o : Option own.Costs) → xs ≡ ys ++ option_to_list o → (o ≡ None → xs ≡ []) → innermost (reverse xs) ≡ unwrap_or o no_pairs
-popped_sums xs ys None e h = ap (λ u. innermost (reverse u)) (h refl)
-popped_sums xs ys (Some x) e h = ap innermost (pushed ys xs x e)
-
 pub popped_round : (xs ys : List Around) (o : Option Around) (d : Around) → xs ≡ ys ++ option_to_list o → (o ≡ None → xs ≡ []) → innermost_round (reverse (map round xs)) (round d) ≡ round (unwrap_or o d)
 popped_round xs ys None d e h = ap (λ u. innermost_round (reverse (map round u)) (round d)) (h refl)
 popped_round xs ys (Some x) d e h = ap (λ u. innermost_round u (round d)) (pushed (map round ys) (map round xs) (round x) (ap (map round) e ∙ map-append round ys (x ∷ [])))
@@ -34,14 +28,6 @@ popped_rounds xs ys (Some x) e h = ap others (pushed (map round ys) (map round x
 
 pub pushed_round : (xs ys : List Around) (x : Around) → ys ≡ xs ++ x ∷ [] → reverse (map round ys) ≡ round x ∷ reverse (map round xs)
 pushed_round xs ys x e = pushed (map round xs) (map round ys) (round x) (ap (map round) e ∙ map-append round xs (x ∷ []))
-
--- Sums that take no room where they are nothing
-
-pub kept_pushed : (ms ns : List Bool) (cs ds : List own.Costs) (c : own.Costs) → ns ≡ ms ++ true ∷ [] → ds ≡ cs ++ c ∷ [] → stacked (reverse ns) (reverse ds) ≡ c ∷ stacked (reverse ms) (reverse cs)
-kept_pushed ms ns cs ds c e f = λ j. stacked (pushed ms ns true e j) (pushed cs ds c f j)
-
-pub none_pushed : (ms ns : List Bool) (cs : List own.Costs) → ns ≡ ms ++ false ∷ [] → stacked (reverse ns) (reverse cs) ≡ no_pairs ∷ stacked (reverse ms) (reverse cs)
-none_pushed ms ns cs e = ap (λ bs. stacked bs (reverse cs)) (pushed ms ns false e)
 
 -- a row, where there is one
 pub row_pushed : (b : Bool) (x : Row) (xs ys : List Row) → ys ≡ xs ++ cond b (x ∷ []) [] → reverse ys ≡ cond b (x ∷ []) [] ++ reverse xs
