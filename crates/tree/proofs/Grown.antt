@@ -62,8 +62,8 @@ trees-append : (pool : Pool) (ts : List Tree) (xs ys : List FlatNode) → trees 
 trees-append pool ts [] ys = refl
 trees-append pool ts (x ∷ xs) ys = trees-append pool (ts ++ flat_tree pool x ts ∷ []) xs ys
 
-length-grown : (g : Growing) → length (grown_trees g) ≡ length g.nodes.items
-length-grown g = omega (arith, length-trees g.parts.items [] g.nodes.items)
+length-grown : (g : Growing) → length (grown_trees g) ≡ length g.nodes
+length-grown g = omega (arith, length-trees g.parts.items [] g.nodes)
 
 -- Parts, one by one
 
@@ -123,21 +123,21 @@ parts_row_list-append a n i r (Some t ∷ os) us =
     ∙ sym (append_assoc own front (parts_row_list a n (i + suc (length os)) (r + (more + parts_rows a n (i + 1) (parts_with_gaps os))) (parts_with_gaps us)))
 
 -- how many nodes stand then
-length-parts : (a b : Growing) (os : List (Option Tree)) → grown_trees b ≡ grown_trees a ++ parts_post_order (parts_with_gaps os) → length b.nodes.items ≡ length a.nodes.items + parts_total (parts_with_gaps os)
+length-parts : (a b : Growing) (os : List (Option Tree)) → grown_trees b ≡ grown_trees a ++ parts_post_order (parts_with_gaps os) → length b.nodes ≡ length a.nodes + parts_total (parts_with_gaps os)
 length-parts a b os h =
     omega (arith, length-grown a, length-grown b, ap length h, length-append (grown_trees a) (parts_post_order (parts_with_gaps os)), length-parts_post_order (parts_with_gaps os))
 
-length-node : (b c : Growing) (t : Tree) → grown_trees c ≡ grown_trees b ++ post_order t → length c.nodes.items ≡ length b.nodes.items + node_total t
+length-node : (b c : Growing) (t : Tree) → grown_trees c ≡ grown_trees b ++ post_order t → length c.nodes ≡ length b.nodes + node_total t
 length-node b c t h = omega (arith, length-grown b, length-grown c, ap length h, length-append (grown_trees b) (post_order t), length-post_order t)
 
-same_trees : (c d : Growing) → d.nodes.items ≡ c.nodes.items → d.parts.items ≡ c.parts.items → grown_trees d ≡ grown_trees c
-same_trees c d n p = ap (λ (os : Pool). trees os [] d.nodes.items) p ∙ ap (λ (es : List FlatNode). trees c.parts.items [] es) n
+same_trees : (c d : Growing) → d.nodes ≡ c.nodes → d.parts.items ≡ c.parts.items → grown_trees d ≡ grown_trees c
+same_trees c d n p = ap (λ (os : Pool). trees os [] d.nodes) p ∙ ap (λ (es : List FlatNode). trees c.parts.items [] es) n
 
-same_runs : (c d : Growing) → d.nodes.items ≡ c.nodes.items → d.parts.items ≡ c.parts.items → grown_runs d ≡ grown_runs c
-same_runs c d n p = ap (λ (os : Pool). node_runs os d.nodes.items) p ∙ ap (node_runs c.parts.items) n
+same_runs : (c d : Growing) → d.nodes ≡ c.nodes → d.parts.items ≡ c.parts.items → grown_runs d ≡ grown_runs c
+same_runs c d n p = ap (λ (os : Pool). node_runs os d.nodes) p ∙ ap (node_runs c.parts.items) n
 
-same_sound : (c d : Growing) → d.nodes.items ≡ c.nodes.items → d.parts.items ≡ c.parts.items → IsSound c → IsSound d
-same_sound c d n p s = subst (λ (os : Pool). AreLinked os 0 d.nodes.items) (sym p) (subst (λ (es : List FlatNode). AreLinked c.parts.items 0 es) (sym n) s)
+same_sound : (c d : Growing) → d.nodes ≡ c.nodes → d.parts.items ≡ c.parts.items → IsSound c → IsSound d
+same_sound c d n p s = subst (λ (os : Pool). AreLinked os 0 d.nodes) (sym p) (subst (λ (es : List FlatNode). AreLinked c.parts.items 0 es) (sym n) s)
 
 pub no_parts : (g : Growing) (r : Around) (n : ℕ) → IsSound g → PushesParts g g r n []
 no_parts g r n s = record {
@@ -149,11 +149,11 @@ no_parts g r n s = record {
   show = refl;
   runs = sym (append-nil (grown_runs g));
   next = omega arith;
-  rows = sym (append-nil (node_rows g.nodes.items));
+  rows = sym (append-nil (node_rows g.nodes));
   numbered = refl;
 }
 
-pub next_gap : (a b d : Growing) (r : Around) (m : ℕ) (os : List (Option Tree)) → PushesParts a b r m os → d.nodes.items ≡ b.nodes.items → d.parts.items ≡ b.parts.items
+pub next_gap : (a b d : Growing) (r : Around) (m : ℕ) (os : List (Option Tree)) → PushesParts a b r m os → d.nodes ≡ b.nodes → d.parts.items ≡ b.parts.items
     → d.pending.items ≡ b.pending.items ++ None ∷ [] → d.next_row ≡ b.next_row → PushesParts a d r m (os ++ None ∷ [])
 next_gap a b d r m os h n p w x =
     let same = same_trees b d n p in
@@ -164,31 +164,31 @@ next_gap a b d r m os h n p w x =
       nodes = same ∙ h.nodes ∙ ap (λ (ts : List Tree). grown_trees a ++ ts) (sym (append-nil (parts_post_order (parts_with_gaps os))) ∙ sym (parts_post_order-append os (None ∷ [])));
       numbers = h.numbers ++ None ∷ [];
       pending = w ∙ ap (λ (us : Pool). us ++ None ∷ []) h.pending ∙ append_assoc a.pending.items h.numbers (None ∷ []);
-      before = subst (λ (es : List FlatNode). AreBefore (length es) (h.numbers ++ None ∷ [])) (sym n) (AreBefore-append (length b.nodes.items) h.numbers (None ∷ []) h.before (tt, tt));
+      before = subst (λ (es : List FlatNode). AreBefore (length es) (h.numbers ++ None ∷ [])) (sym n) (AreBefore-append (length b.nodes) h.numbers (None ∷ []) h.before (tt, tt));
       show = ap (λ (ts : List Tree). map (named ts) (h.numbers ++ None ∷ [])) same ∙ last;
-      runs = same_runs b d n p ∙ h.runs ∙ ap (λ (rs : List Pool). grown_runs a ++ rs) (sym (append-nil (parts_runs (length a.nodes.items) (parts_with_gaps os))) ∙ sym (parts_runs-append (length a.nodes.items) os (None ∷ [])));
+      runs = same_runs b d n p ∙ h.runs ∙ ap (λ (rs : List Pool). grown_runs a ++ rs) (sym (append-nil (parts_runs (length a.nodes) (parts_with_gaps os))) ∙ sym (parts_runs-append (length a.nodes) os (None ∷ [])));
       next = omega (arith, x, h.next, parts_rows-append r m 0 os (None ∷ []));
-      rows = ap node_rows n ∙ h.rows ∙ ap (λ (rs : List (Option ℕ)). node_rows a.nodes.items ++ rs)
+      rows = ap node_rows n ∙ h.rows ∙ ap (λ (rs : List (Option ℕ)). node_rows a.nodes ++ rs)
           (sym (append-nil (parts_row_list r m 0 a.next_row (parts_with_gaps os))) ∙ sym (parts_row_list-append r m 0 a.next_row os (None ∷ [])));
-      numbered = ap (λ (ns : Pool). ns ++ None ∷ []) h.numbered ∙ sym (numbers_of-append (length a.nodes.items) os (None ∷ []));
+      numbered = ap (λ (ns : Pool). ns ++ None ∷ []) h.numbered ∙ sym (numbers_of-append (length a.nodes) os (None ∷ []));
     }
 
 pub next_part : (a b c d : Growing) (r : Around) (q : ℕ) (os : List (Option Tree)) (k : NodeNumber) (st : Standing) (t : Tree) → PushesParts a b r q os → Pushes b c k.number st t
-    → st ≡ standing_in r q (0 + length os) t → d.nodes.items ≡ c.nodes.items
+    → st ≡ standing_in r q (0 + length os) t → d.nodes ≡ c.nodes
     → d.parts.items ≡ c.parts.items → d.pending.items ≡ c.pending.items ++ Some k ∷ [] → d.next_row ≡ c.next_row → PushesParts a d r q (os ++ Some t ∷ [])
 next_part a b c d r q os k st t h m stands n p w x =
     let same = same_trees c d n p in
-    let fewer : length b.nodes.items ≤ length c.nodes.items =
+    let fewer : length b.nodes ≤ length c.nodes =
     omega (arith, sym (length-grown b), sym (length-grown c), ap length m.nodes, length-append (grown_trees b) (post_order t)) in
-    let waited : AreBefore (length c.nodes.items) h.numbers = AreBefore-more (length b.nodes.items) (length c.nodes.items) h.numbers fewer h.before in
+    let waited : AreBefore (length c.nodes) h.numbers = AreBefore-more (length b.nodes) (length c.nodes) h.numbers fewer h.before in
     let low : AreBefore (length (grown_trees b)) h.numbers = subst (λ i. AreBefore i h.numbers) (sym (length-grown b)) h.before in
     let kept : map (named (grown_trees c)) h.numbers ≡ os =
     ap (λ (ts : List Tree). map (named ts) h.numbers) m.nodes ∙ map_named-front (grown_trees b) (post_order t) h.numbers low ∙ h.show in
     let own : named (grown_trees c) (Some k) ≡ Some t = m.shows in
     let all : map (named (grown_trees c)) (h.numbers ++ Some k ∷ []) ≡ os ++ Some t ∷ [] =
     map-append (named (grown_trees c)) h.numbers (Some k ∷ []) ∙ ap (λ (us : List (Option Tree)). us ++ named (grown_trees c) (Some k) ∷ []) kept ∙ ap (λ (o : Option Tree). os ++ o ∷ []) own in
-    let at_b : length b.nodes.items ≡ length a.nodes.items + parts_total (parts_with_gaps os) = length-parts a b os h.nodes in
-    let at_k : k.number ≡ length a.nodes.items + parts_total (parts_with_gaps os) + node_total t - 1 = omega (arith, at_b, length-node b c t m.nodes, m.last) in
+    let at_b : length b.nodes ≡ length a.nodes + parts_total (parts_with_gaps os) = length-parts a b os h.nodes in
+    let at_k : k.number ≡ length a.nodes + parts_total (parts_with_gaps os) + node_total t - 1 = omega (arith, at_b, length-node b c t m.nodes, m.last) in
     let longer : parts_post_order (parts_with_gaps (os ++ Some t ∷ [])) ≡ parts_post_order (parts_with_gaps os) ++ post_order t =
     parts_post_order-append os (Some t ∷ []) ∙ ap (λ (ts : List Tree). parts_post_order (parts_with_gaps os) ++ ts) (append-nil (post_order t)) in
     record {
@@ -198,24 +198,24 @@ next_part a b c d r q os k st t h m stands n p w x =
       numbers = h.numbers ++ Some k ∷ [];
       pending = w ∙ ap (λ (us : Pool). us ++ Some k ∷ []) (m.pending ∙ h.pending) ∙ append_assoc a.pending.items h.numbers (Some k ∷ []);
       before = subst (λ (es : List FlatNode). AreBefore (length es) (h.numbers ++ Some k ∷ [])) (sym n)
-          (AreBefore-append (length c.nodes.items) h.numbers (Some k ∷ []) waited (let here : k.number + 1 ≤ length c.nodes.items = omega (arith, m.last) in here, tt));
+          (AreBefore-append (length c.nodes) h.numbers (Some k ∷ []) waited (let here : k.number + 1 ≤ length c.nodes = omega (arith, m.last) in here, tt));
       show = ap (λ (ts : List Tree). map (named ts) (h.numbers ++ Some k ∷ [])) same ∙ all;
-      runs = same_runs c d n p ∙ m.runs ∙ ap (λ (rs : List Pool). rs ++ runs_of (length b.nodes.items) t) h.runs
-          ∙ append_assoc (grown_runs a) (parts_runs (length a.nodes.items) (parts_with_gaps os)) (runs_of (length b.nodes.items) t)
-          ∙ ap (λ (rs : List Pool). grown_runs a ++ rs) (ap (λ n. parts_runs (length a.nodes.items) (parts_with_gaps os) ++ runs_of n t) at_b
-          ∙ ap (λ (rs : List Pool). parts_runs (length a.nodes.items) (parts_with_gaps os) ++ rs) (sym (append-nil (runs_of (length a.nodes.items + parts_total (parts_with_gaps os)) t)))
-          ∙ sym (parts_runs-append (length a.nodes.items) os (Some t ∷ [])));
+      runs = same_runs c d n p ∙ m.runs ∙ ap (λ (rs : List Pool). rs ++ runs_of (length b.nodes) t) h.runs
+          ∙ append_assoc (grown_runs a) (parts_runs (length a.nodes) (parts_with_gaps os)) (runs_of (length b.nodes) t)
+          ∙ ap (λ (rs : List Pool). grown_runs a ++ rs) (ap (λ n. parts_runs (length a.nodes) (parts_with_gaps os) ++ runs_of n t) at_b
+          ∙ ap (λ (rs : List Pool). parts_runs (length a.nodes) (parts_with_gaps os) ++ rs) (sym (append-nil (runs_of (length a.nodes + parts_total (parts_with_gaps os)) t)))
+          ∙ sym (parts_runs-append (length a.nodes) os (Some t ∷ [])));
       next = omega (arith, x, m.next, h.next, parts_rows-append r q 0 os (Some t ∷ []), ap (λ (z : Standing). rows_in z t) stands);
       rows = ap node_rows n ∙ m.rows ∙ ap (λ (rs : List (Option ℕ)). rs ++ row_list st b.next_row t) h.rows
-          ∙ append_assoc (node_rows a.nodes.items) (parts_row_list r q 0 a.next_row (parts_with_gaps os)) (row_list st b.next_row t)
-          ∙ ap (λ (rs : List (Option ℕ)). node_rows a.nodes.items ++ rs)
+          ∙ append_assoc (node_rows a.nodes) (parts_row_list r q 0 a.next_row (parts_with_gaps os)) (row_list st b.next_row t)
+          ∙ ap (λ (rs : List (Option ℕ)). node_rows a.nodes ++ rs)
           (ap (λ (z : Standing). parts_row_list r q 0 a.next_row (parts_with_gaps os) ++ row_list z b.next_row t) stands
           ∙ ap (λ i. parts_row_list r q 0 a.next_row (parts_with_gaps os) ++ row_list (standing_in r q (0 + length os) t) i t) h.next
           ∙ ap (λ (rs : List (Option ℕ)). parts_row_list r q 0 a.next_row (parts_with_gaps os) ++ rs)
           (sym (append-nil (row_list (standing_in r q (0 + length os) t) (a.next_row + parts_rows r q 0 (parts_with_gaps os)) t)))
           ∙ sym (parts_row_list-append r q 0 a.next_row os (Some t ∷ [])));
-      numbered = ap (λ (ns : Pool). ns ++ Some k ∷ []) h.numbered ∙ ap (λ n. numbers_of (length a.nodes.items) (parts_with_gaps os) ++ Some (record { number = n }) ∷ []) at_k
-          ∙ sym (numbers_of-append (length a.nodes.items) os (Some t ∷ []));
+      numbered = ap (λ (ns : Pool). ns ++ Some k ∷ []) h.numbered ∙ ap (λ n. numbers_of (length a.nodes) (parts_with_gaps os) ++ Some (record { number = n }) ∷ []) at_k
+          ∙ sym (numbers_of-append (length a.nodes) os (Some t ∷ []));
     }
 
 -- A node behind its parts
@@ -274,38 +274,38 @@ finished a0 a b c os waiting k st row t r n z h f l o ar an =
     whole t (flat_tree (b.parts.items ++ numbers) f.added ts) f.kind f.text f.flags f.start f.stop
     (ap (λ (us : Pool). parts_with_gaps (map (named ts) us)) run ∙ ap parts_with_gaps h.show ∙ o) in
     let grown : grown_trees c ≡ ts ++ t ∷ [] =
-    ap (λ (us : Pool). trees us [] c.nodes.items) pool
+    ap (λ (us : Pool). trees us [] c.nodes) pool
     ∙ ap (λ (es : List FlatNode). trees (b.parts.items ++ numbers) [] es) f.nodes
-    ∙ trees-append (b.parts.items ++ numbers) [] b.nodes.items (f.added ∷ [])
-    ∙ ap (λ (us : List Tree). us ++ flat_tree (b.parts.items ++ numbers) f.added us ∷ []) (trees-more b.parts.items numbers 0 [] b.nodes.items h.sound)
+    ∙ trees-append (b.parts.items ++ numbers) [] b.nodes (f.added ∷ [])
+    ∙ ap (λ (us : List Tree). us ++ flat_tree (b.parts.items ++ numbers) f.added us ∷ []) (trees-more b.parts.items numbers 0 [] b.nodes h.sound)
     ∙ ap (λ (u : Tree). ts ++ u ∷ []) made in
     let ran : grown_runs c ≡ grown_runs b ++ numbers ∷ [] =
-    ap (λ (us : Pool). node_runs us c.nodes.items) pool
+    ap (λ (us : Pool). node_runs us c.nodes) pool
     ∙ ap (node_runs (b.parts.items ++ numbers)) f.nodes
-    ∙ map-append (run_of (b.parts.items ++ numbers)) b.nodes.items (f.added ∷ [])
-    ∙ ap (λ (rs : List Pool). rs ++ run_of (b.parts.items ++ numbers) f.added ∷ []) (runs-more b.parts.items numbers 0 b.nodes.items h.sound)
+    ∙ map-append (run_of (b.parts.items ++ numbers)) b.nodes (f.added ∷ [])
+    ∙ ap (λ (rs : List Pool). rs ++ run_of (b.parts.items ++ numbers) f.added ∷ []) (runs-more b.parts.items numbers 0 b.nodes h.sound)
     ∙ ap (λ (ns : Pool). grown_runs b ++ ns ∷ []) run in
     let fits : f.added.first + f.added.count ≤ length (b.parts.items ++ numbers) = omega (arith, f.first, counted, length-append b.parts.items numbers) in
-    let low : AreBefore (0 + length b.nodes.items) (run_of (b.parts.items ++ numbers) f.added) =
-    subst (λ (us : Pool). AreBefore (0 + length b.nodes.items) us) (sym run) (AreBefore-more (length b.nodes.items) (0 + length b.nodes.items) numbers (omega arith) h.before) in
-    let sound : AreLinked (b.parts.items ++ numbers) 0 (b.nodes.items ++ f.added ∷ []) =
-    AreLinked-append (b.parts.items ++ numbers) 0 b.nodes.items (f.added ∷ []) (AreLinked-more b.parts.items numbers 0 b.nodes.items h.sound) (fits, (low, tt)) in
+    let low : AreBefore (0 + length b.nodes) (run_of (b.parts.items ++ numbers) f.added) =
+    subst (λ (us : Pool). AreBefore (0 + length b.nodes) us) (sym run) (AreBefore-more (length b.nodes) (0 + length b.nodes) numbers (omega arith) h.before) in
+    let sound : AreLinked (b.parts.items ++ numbers) 0 (b.nodes ++ f.added ∷ []) =
+    AreLinked-append (b.parts.items ++ numbers) 0 b.nodes (f.added ∷ []) (AreLinked-more b.parts.items numbers 0 b.nodes h.sound) (fits, (low, tt)) in
     let whole_around : Around = record { standing = st; kind = kind_of t; flags = flags_of t } in
     let own : Option ℕ = cond (has_row st (kind_of t)) (Some a0.next_row) None in
     let at : k ≡ length ts = f.number ∙ sym (length-grown b) in
     record {
-      sound = subst (λ (us : Pool). AreLinked us 0 c.nodes.items) (sym pool) (subst (λ (es : List FlatNode). AreLinked (b.parts.items ++ numbers) 0 es) (sym f.nodes) sound);
+      sound = subst (λ (us : Pool). AreLinked us 0 c.nodes) (sym pool) (subst (λ (es : List FlatNode). AreLinked (b.parts.items ++ numbers) 0 es) (sym f.nodes) sound);
       nodes = grown ∙ ap (λ (us : List Tree). us ++ t ∷ []) h.nodes ∙ append_assoc (grown_trees a) (parts_post_order (parts_with_gaps os)) (t ∷ [])
           ∙ ap (λ (qs : Parts). grown_trees a ++ (parts_post_order qs ++ t ∷ [])) o ∙ ap (λ (us : List Tree). grown_trees a ++ us) (sym (post_order-whole t))
           ∙ ap (λ (us : List Tree). us ++ post_order t) (same_trees a0 a z.nodes z.parts);
-      last = omega (arith, f.number, ap length f.nodes, length-append b.nodes.items (f.added ∷ []));
+      last = omega (arith, f.number, ap length f.nodes, length-append b.nodes (f.added ∷ []));
       shows = ap (λ (us : List Tree). slice_get us k) grown ∙ ap (λ n. slice_get (ts ++ t ∷ []) n) at ∙ slice_get-append_mid ts t [];
       pending = f.pending ∙ taken ∙ z.pending;
-      runs = ran ∙ ap (λ (rs : List Pool). rs ++ numbers ∷ []) h.runs ∙ append_assoc (grown_runs a) (parts_runs (length a.nodes.items) (parts_with_gaps os)) (numbers ∷ [])
-          ∙ ap (λ (ns : Pool). grown_runs a ++ (parts_runs (length a.nodes.items) (parts_with_gaps os) ++ ns ∷ [])) h.numbered
-          ∙ ap (λ (qs : Parts). grown_runs a ++ (parts_runs (length a.nodes.items) qs ++ numbers_of (length a.nodes.items) qs ∷ [])) o
-          ∙ ap (λ (rs : List Pool). grown_runs a ++ rs) (sym (runs_of-whole (length a.nodes.items) t))
-          ∙ ap (λ (rs : List Pool). rs ++ runs_of (length a.nodes.items) t) (same_runs a0 a z.nodes z.parts) ∙ ap (λ (es : List FlatNode). grown_runs a0 ++ runs_of (length es) t) z.nodes;
+      runs = ran ∙ ap (λ (rs : List Pool). rs ++ numbers ∷ []) h.runs ∙ append_assoc (grown_runs a) (parts_runs (length a.nodes) (parts_with_gaps os)) (numbers ∷ [])
+          ∙ ap (λ (ns : Pool). grown_runs a ++ (parts_runs (length a.nodes) (parts_with_gaps os) ++ ns ∷ [])) h.numbered
+          ∙ ap (λ (qs : Parts). grown_runs a ++ (parts_runs (length a.nodes) qs ++ numbers_of (length a.nodes) qs ∷ [])) o
+          ∙ ap (λ (rs : List Pool). grown_runs a ++ rs) (sym (runs_of-whole (length a.nodes) t))
+          ∙ ap (λ (rs : List Pool). rs ++ runs_of (length a.nodes) t) (same_runs a0 a z.nodes z.parts) ∙ ap (λ (es : List FlatNode). grown_runs a0 ++ runs_of (length es) t) z.nodes;
       next = omega (
         arith,
         f.next,
@@ -316,15 +316,15 @@ finished a0 a b c os waiting k st row t r n z h f l o ar an =
         ap (λ m. parts_rows whole_around m 0 (parts_with_gaps os)) an,
         ap (λ (qs : Parts). parts_rows whole_around (part_count (parts_of t)) 0 qs) o,
       );
-      rows = ap node_rows f.nodes ∙ map-append (λ (e : FlatNode). e.row) b.nodes.items (f.added ∷ [])
-          ∙ ap (λ (x : Option ℕ). node_rows b.nodes.items ++ x ∷ []) (f.row ∙ z.row)
+      rows = ap node_rows f.nodes ∙ map-append (λ (e : FlatNode). e.row) b.nodes (f.added ∷ [])
+          ∙ ap (λ (x : Option ℕ). node_rows b.nodes ++ x ∷ []) (f.row ∙ z.row)
           ∙ ap (λ (rs : List (Option ℕ)). rs ++ own ∷ []) h.rows
-          ∙ append_assoc (node_rows a.nodes.items) (parts_row_list r n 0 a.next_row (parts_with_gaps os)) (own ∷ [])
+          ∙ append_assoc (node_rows a.nodes) (parts_row_list r n 0 a.next_row (parts_with_gaps os)) (own ∷ [])
           ∙ ap (λ (es : List FlatNode). node_rows es ++ (parts_row_list r n 0 a.next_row (parts_with_gaps os) ++ own ∷ [])) z.nodes
-          ∙ ap (λ (rs : List (Option ℕ)). node_rows a0.nodes.items ++ (rs ++ own ∷ []))
+          ∙ ap (λ (rs : List (Option ℕ)). node_rows a0.nodes ++ (rs ++ own ∷ []))
           (ap (λ (x : Around). parts_row_list x n 0 a.next_row (parts_with_gaps os)) ar
           ∙ ap (λ m. parts_row_list whole_around m 0 a.next_row (parts_with_gaps os)) an
           ∙ ap (λ m. parts_row_list whole_around (part_count (parts_of t)) 0 m (parts_with_gaps os)) z.next
           ∙ ap (λ (qs : Parts). parts_row_list whole_around (part_count (parts_of t)) 0 (a0.next_row + own_rows st (kind_of t)) qs) o)
-          ∙ ap (λ (rs : List (Option ℕ)). node_rows a0.nodes.items ++ rs) (sym (row_list-whole st a0.next_row t));
+          ∙ ap (λ (rs : List (Option ℕ)). node_rows a0.nodes ++ rs) (sym (row_list-whole st a0.next_row t));
     }

@@ -1,12 +1,9 @@
 -- Every node of a whole tree but the last is a part of just one node, which stands after it.
-use Rattle.std.proofs.Common.{◌≡◌, ℕ, zero, suc, ◌+◌, ◌-◌, ◌<◌, ◌≤◌, Bool, true, false, cond, List, [], ◌∷◌, ◌++◌, length, Option, Some, None, ◌⊎◌, inl, inr, refl, sym, ap, ◌∙◌, arith, append_assoc, length-append, append-nil}
-use Rattle.std.proofs.lemmas.List.{length-map}
+use Rattle.std.proofs.Common.{◌≡◌, ℕ, zero, suc, ◌+◌, ◌-◌, ◌<◌, ◌≤◌, Bool, true, false, cond, List, [], ◌∷◌, ◌++◌, length, ◌⊎◌, inl, inr, refl, sym, ap, ◌∙◌, arith, append_assoc, length-append, append-nil}
 use Rattle.tree.specs.Tree.{Tree, Parts, node, none, part, gap, node_total, parts_total}
-use Rattle.tree.specs.declared.flat_node.FlatNode.{FlatNode}
-use Rattle.tree.specs.declared.flat_tree.FlatTree.{FlatTree}
-use Rattle.tree.specs.Flat.{run_of, numbers_of, runs_of, parts_runs, same_number, if_named, parents}
-use Rattle.tree.specs.Whole.{whole_tree, IsWhole}
-use Rattle.tree.specs.Laws.{HasOneParent, AllButTheLastHaveOneParent, TheLastHasNoParent}
+use Rattle.tree.specs.Flat.{numbers_of, runs_of, parts_runs, same_number, if_named, parents}
+use Rattle.tree.specs.Whole.{whole_tree}
+use Rattle.tree.specs.Laws.{AllButTheLastHaveOneParent, TheLastHasNoParent}
 use Rattle.tree.proofs.FlatTrees.{Pool}
 use Rattle.tree.proofs.Wholes.{node_count}
 

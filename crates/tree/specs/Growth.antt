@@ -11,14 +11,14 @@ use Rattle.tree.specs.declared.standing.Around.{Around}
 use Rattle.tree.specs.Standings.{rows_in, parts_rows, row_list, parts_row_list}
 
 abbrev pub grown_trees : Growing → List Tree
-grown_trees g = trees g.parts.items [] g.nodes.items
+grown_trees g = trees g.parts.items [] g.nodes
 
 -- the parts of each node
 abbrev pub node_runs : List (Option NodeNumber) → List FlatNode → List (List (Option NodeNumber))
 node_runs pool es = map (run_of pool) es
 
 abbrev pub grown_runs : Growing → List (List (Option NodeNumber))
-grown_runs g = node_runs g.parts.items g.nodes.items
+grown_runs g = node_runs g.parts.items g.nodes
 
 abbrev pub node_rows : List FlatNode → List (Option ℕ)
 node_rows es = map (λ (e : FlatNode). e.row) es
@@ -31,18 +31,18 @@ abbrev pub row_at : List FlatNode → ℕ → Option ℕ
 row_at es i = held (slice_get (node_rows es) i)
 
 abbrev pub IsSound : Growing → Type 0
-IsSound g = AreLinked g.parts.items 0 g.nodes.items
+IsSound g = AreLinked g.parts.items 0 g.nodes
 
 -- the nodes of a tree, its own the last of all, with this number
 pub record Pushes (old new : Growing) (k : ℕ) (a : Standing) (t : Tree) : Type 0 where
   pub sound : IsSound new
   pub nodes : grown_trees new ≡ grown_trees old ++ post_order t
-  pub last : k + 1 ≡ length new.nodes.items
+  pub last : k + 1 ≡ length new.nodes
   pub shows : slice_get (grown_trees new) k ≡ Some t
   pub pending : new.pending.items ≡ old.pending.items
-  pub runs : grown_runs new ≡ grown_runs old ++ runs_of (length old.nodes.items) t
+  pub runs : grown_runs new ≡ grown_runs old ++ runs_of (length old.nodes) t
   pub next : new.next_row ≡ old.next_row + rows_in a t
-  pub rows : node_rows new.nodes.items ≡ node_rows old.nodes.items ++ row_list a old.next_row t
+  pub rows : node_rows new.nodes ≡ node_rows old.nodes ++ row_list a old.next_row t
 
 -- the nodes of the first of so many parts, which wait for their node
 pub record PushesParts (old new : Growing) (a : Around) (count : ℕ) (os : List (Option Tree)) : Type 0 where
@@ -50,9 +50,9 @@ pub record PushesParts (old new : Growing) (a : Around) (count : ℕ) (os : List
   pub nodes : grown_trees new ≡ grown_trees old ++ parts_post_order (parts_with_gaps os)
   pub numbers : List (Option NodeNumber)
   pub pending : new.pending.items ≡ old.pending.items ++ numbers
-  pub before : AreBefore (length new.nodes.items) numbers
+  pub before : AreBefore (length new.nodes) numbers
   pub show : map (named (grown_trees new)) numbers ≡ os
-  pub runs : grown_runs new ≡ grown_runs old ++ parts_runs (length old.nodes.items) (parts_with_gaps os)
+  pub runs : grown_runs new ≡ grown_runs old ++ parts_runs (length old.nodes) (parts_with_gaps os)
   pub next : new.next_row ≡ old.next_row + parts_rows a count 0 (parts_with_gaps os)
-  pub rows : node_rows new.nodes.items ≡ node_rows old.nodes.items ++ parts_row_list a count 0 old.next_row (parts_with_gaps os)
-  pub numbered : numbers ≡ numbers_of (length old.nodes.items) (parts_with_gaps os)
+  pub rows : node_rows new.nodes ≡ node_rows old.nodes ++ parts_row_list a count 0 old.next_row (parts_with_gaps os)
+  pub numbered : numbers ≡ numbers_of (length old.nodes) (parts_with_gaps os)

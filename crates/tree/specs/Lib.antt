@@ -8,6 +8,8 @@ pub mod Uses
 pub mod Fields
 pub mod Flat
 pub mod Linked
+pub mod PartNumber
+pub mod FlatNodes
 pub mod Places
 pub mod Growth
 pub mod Finished

@@ -6,11 +6,11 @@ use Rattle.tree.specs.declared.place.Place.{Place}
 use Rattle.tree.specs.declared.run.Run.{Run}
 
 abbrev pub place_tree : Place → Tree
-place_tree p = flat_tree p.tree.now.parts.items p.node.now (trees p.tree.now.parts.items [] p.tree.now.nodes.items)
+place_tree p = flat_tree p.tree.now.parts.items p.node.now (trees p.tree.now.parts.items [] p.tree.now.nodes)
 
 -- the row that it holds
 abbrev pub place_row : Place → Option ℕ
 place_row p = p.node.now.row
 
 abbrev pub run_parts : Run → Parts
-run_parts r = parts_with_gaps (map (named (trees r.tree.now.parts.items [] r.tree.now.nodes.items)) r.parts.now)
+run_parts r = parts_with_gaps (map (named (trees r.tree.now.parts.items [] r.tree.now.nodes)) r.parts.now)

@@ -8,10 +8,10 @@ use Rattle.tree.specs.declared.flat_tree.FlatTree.{FlatTree}
 
 -- the tree of the last node
 abbrev pub whole_tree : FlatTree → Tree
-whole_tree f = tree_at f.parts.items f.nodes.items (length f.nodes.items - 1)
+whole_tree f = tree_at f.parts.items f.nodes (length f.nodes - 1)
 
 pub record IsWhole (f : FlatTree) : Type 0 where
-  pub filled : 0 < length f.nodes.items
-  pub nodes : trees f.parts.items [] f.nodes.items ≡ post_order (whole_tree f)
-  pub runs : node_runs f.parts.items f.nodes.items ≡ runs_of 0 (whole_tree f)
-  pub rows : node_rows f.nodes.items ≡ rows_of (whole_tree f)
+  pub filled : 0 < length f.nodes
+  pub nodes : trees f.parts.items [] f.nodes ≡ post_order (whole_tree f)
+  pub runs : node_runs f.parts.items f.nodes ≡ runs_of 0 (whole_tree f)
+  pub rows : node_rows f.nodes ≡ rows_of (whole_tree f)

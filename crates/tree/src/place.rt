@@ -14,7 +14,7 @@ use crate::run::{Run, section};
 pub(crate) struct Place<'t, 's> {
     tree: &'t FlatTree<'s>,
     node: &'t FlatNode<'s>,
-    ghost linked: { IsLinked tree.now.parts.items (length tree.now.nodes.items) node.now } by { IsLinked-prop tree.now.parts.items (length tree.now.nodes.items) node.now },
+    ghost linked: { IsLinked tree.now.parts.items (length tree.now.nodes) node.now } by { IsLinked-prop tree.now.parts.items (length tree.now.nodes) node.now },
 }
 
 impl<'t, 's> Place<'t, 's> {
@@ -26,11 +26,11 @@ impl<'t, 's> Place<'t, 's> {
 
     /// The node with a number.
     pub(crate) fn new(tree: &'t FlatTree<'s>, number: usize) -> Place<'t, 's>
-        requires { number < length tree.now.nodes.items }
-        ensures tree { place_tree result ≡ tree_at tree.now.parts.items tree.now.nodes.items number }
-        ensures row { place_row result ≡ row_at tree.now.nodes.items number }
+        requires { number < length tree.now.nodes }
+        ensures tree { place_tree result ≡ tree_at tree.now.parts.items tree.now.nodes number }
+        ensures row { place_row result ≡ row_at tree.now.nodes number }
     {
-        let node = numbered(tree, number);
+        let node = tree.nodes.at(number);
         Place { tree, node }
     }
 
@@ -84,11 +84,4 @@ impl<'t, 's> Place<'t, 's> {
         let count = node.count as usize;
         Run::new(tree, section(&tree.parts, first, count))
     }
-}
-
-fn numbered<'t, 's>(tree: &'t FlatTree<'s>, number: usize) -> &'t FlatNode<'s>
-    requires { number < length tree.now.nodes.items }
-    ensures { result.now ≡ slice_index_or tree.now.nodes.items number result.now }
-{
-    &tree.nodes[number]
 }

@@ -1,0 +1,16 @@
+-- The nodes of the finished tree in chunks, of which each but the last is full.
+use Rattle.std.specs.Prelude.{ℕ, ◌<◌, ◌≤◌, List, [], ◌∷◌, ◌++◌, length}
+use Rattle.tree.specs.declared.flat_node.FlatNode.{FlatNode}
+use Rattle.tree.specs.declared.flat_nodes.Chunk.{Chunk}
+
+abbrev pub chunk_size : ℕ
+chunk_size = 256
+
+-- the nodes of all chunks
+abbrev pub joined : List Chunk → List FlatNode
+joined [] = []
+joined (p ∷ ps) = p.nodes.items ++ joined ps
+
+abbrev pub AllButTheLastAreFull : List Chunk → Type 0
+AllButTheLastAreFull [] = Unit {0}
+AllButTheLastAreFull (p ∷ ps) = (length p.nodes.items ≤ chunk_size) × ((0 < length ps → chunk_size ≤ length p.nodes.items) × AllButTheLastAreFull ps)

@@ -1,0 +1,91 @@
+//! The nodes of the finished tree, in chunks.
+
+ghost use Rattle.std.specs.Prelude.{◌≡◌, ◌∷◌, [], IfOk};
+
+use crate::flat_node::FlatNode;
+use std::alloc::{AllocError, Global};
+use std::marker::Model;
+
+/// How many nodes a chunk has room for. Boxed nodes are let go while these are made: a chunk fits where some of them were.
+const CHUNK: usize = 256;
+
+/// Some nodes, one behind the other.
+#[derive(Drop)]
+struct Chunk<'s> {
+    nodes: Vec<FlatNode<'s>>,
+}
+
+/// The nodes of the finished tree in their order, kept in chunks of one size, which contracts see as one list.
+#[derive(Drop)]
+pub(crate) struct FlatNodes<'s> {
+    chunks: Vec<Chunk<'s>>,
+    count: usize,
+}
+
+impl<'s> Model for FlatNodes<'s> {
+    ghost use Rattle.std.specs.Prelude.{◌≡◌, List, length};
+    ghost use Rattle.tree.specs.declared.flat_node.FlatNode.{FlatNode};
+    ghost use Rattle.tree.specs.FlatNodes.{joined, AllButTheLastAreFull};
+
+    ghost Value = { List FlatNode };
+
+    ghost view = { λ ns. joined ns.chunks.items };
+
+    ghost invariant = { λ ns. AllButTheLastAreFull ns.chunks.items × (ns.count ≡ length (joined ns.chunks.items)) };
+}
+
+impl<'s> FlatNodes<'s> {
+    ghost use Rattle.std.specs.Prelude.{◌≡◌, ◌<◌, ◌∷◌, ◌++◌, [], length, slice_index_or, IfOk};
+
+    /// No nodes; no memory.
+    pub(crate) fn new(alloc: Global) -> FlatNodes<'s>
+        ensures { result ≡ [] }
+    {
+        FlatNodes {
+            chunks: Vec::new(alloc),
+            count: 0,
+        }
+    }
+
+    pub(crate) fn len(&self) -> usize
+        ensures { result ≡ length self.now }
+    {
+        self.count
+    }
+
+    /// The node with a number, counted from 0.
+    #[inline(always)]
+    pub(crate) fn at(&self, number: usize) -> &FlatNode<'s>
+        requires { number < length self.now }
+        ensures { result.now ≡ slice_index_or self.now number result.now }
+    {
+        let chunk = &self.chunks[number / CHUNK];
+        &chunk.nodes[number % CHUNK]
+    }
+
+    /// One more node, behind the others.
+    pub(crate) fn push(&mut self, alloc: Global, node: FlatNode<'s>) -> Result<(), AllocError>
+        requires { length self.old < usize.MAX }
+        ensures { IfOk result (λ _. self.new ≡ self.old ++ node.entry ∷ []) }
+    {
+        let at = self.count / CHUNK;
+        if at < self.chunks.len() {
+            let chunk = &mut self.chunks[at];
+            chunk.nodes.push(node)?;
+        } else {
+            self.chunks.push(first_of(alloc, node)?)?;
+        }
+        self.count += 1;
+        Ok(())
+    }
+}
+
+/// A chunk that begins with a node.
+#[inline(never)]
+fn first_of<'s>(alloc: Global, node: FlatNode<'s>) -> Result<Chunk<'s>, AllocError>
+    ensures { IfOk result (λ chunk. chunk.nodes.items ≡ node.entry ∷ []) }
+{
+    let mut nodes = Vec::with_capacity(alloc, CHUNK)?;
+    nodes.push(node)?;
+    Ok(Chunk { nodes })
+}

@@ -1,0 +1,63 @@
+//! A part of a node in the finished tree.
+
+use crate::flat_node::NodeNumber;
+use std::alloc::AllocError;
+use std::marker::Model;
+
+/// The number of a part's node, or none for a gap, in four bytes; contracts see it as that option.
+#[derive(Clone, Copy)]
+pub(crate) struct PartNumber {
+    /// One more than the number, and 0 for a gap.
+    above: u32,
+}
+
+impl Model for PartNumber {
+    ghost use Rattle.std.specs.Prelude.{Option};
+    ghost use Rattle.tree.specs.declared.flat_node.NodeNumber.{NodeNumber};
+    ghost use Rattle.tree.specs.PartNumber.{part_of, above_of, above_of-part_of, part_code};
+    ghost use Rattle.std.proofs.Common.{ap};
+
+    ghost Value = { Option NodeNumber };
+
+    ghost coded = { part_code };
+
+    ghost view = { λ p. part_of p.above };
+
+    ghost inverse = { λ o. record { above = above_of o } };
+
+    ghost inverse_ok = { λ p h. ap (λ n. record { above = n }) (above_of-part_of p.above) };
+}
+
+impl PartNumber {
+    ghost use Rattle.std.specs.Prelude.{◌≡◌, IfOk, Some, None};
+
+    pub(crate) fn gap() -> PartNumber
+        ensures { result ≡ None }
+    {
+        PartNumber { above: 0 }
+    }
+
+    /// The part with this number. The greatest is answered as where memory is refused.
+    pub(crate) fn of(number: NodeNumber) -> Result<PartNumber, AllocError>
+        ensures { IfOk result (λ part. part ≡ Some number) }
+    {
+        if number.number == 4_294_967_295 {
+            return Err(AllocError);
+        }
+        Ok(PartNumber {
+            above: number.number + 1,
+        })
+    }
+
+    /// The number, none for a gap.
+    pub(crate) fn number(self) -> Option<NodeNumber>
+        ensures { result ≡ self }
+    {
+        if self.above == 0 {
+            return None;
+        }
+        Some(NodeNumber {
+            number: self.above - 1,
+        })
+    }
+}
