@@ -46,6 +46,11 @@ part-given f g x y z ps i u q r a e k h =
     h ∙ (λ j. sooner (after q (errors_within (k j) u)) (hits-agree g f (var_names u) a j))
     ∙ ap (λ o. sooner (after q (at_part (errors_within (cond (nat_eq i 0) y z)) o)) (hits f (at_part var_names o))) e
 
+pub part-missing : (f : List ℕ → Option Error) (y z : Around) (ps : Parts) (i : ℕ) (q r : Option Error) → None ≡ part_at ps i → r ≡ q → r ≡ sooner (after q (errors_at y z ps i)) (hits f (vars_at ps i))
+part-missing f y z ps i q r e h =
+    h ∙ sym (sooner-none q) ∙ sym (sooner-none (sooner q None))
+    ∙ (λ j. sooner (after q (at_part (errors_within (cond (nat_eq i 0) y z)) (e j))) (hits f (at_part var_names (e j))))
+
 -- what holds round the part at a place
 pub first-round : (first others around : Code) (i : ℕ) (ls : List Label) → i ≡ 0 → around ≡ first → round around ls ≡ cond (nat_eq i 0) (round first ls) (round others ls)
 first-round first others around i ls e h =

@@ -30,8 +30,10 @@ pub mod Surrounds
 pub mod Ranging
 pub mod VarFree
 pub mod Silent
+pub mod Passing
 pub mod Insides
 pub mod Joining
+pub mod Ahead
 pub mod ScopeErrors
 pub mod NodeStarts
 pub mod ErrorStarts

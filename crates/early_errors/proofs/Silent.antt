@@ -1,11 +1,10 @@
 -- Leaves that have no errors.
-use Rattle.std.proofs.Common.{◌≡◌, ℕ, Bool, true, false, not, cond, nat_eq, [], ◌∷◌, ◌++◌, List, Option, Some, None, refl, sym, ap, ◌∙◌, append-nil}
+use Rattle.std.proofs.Common.{◌≡◌, ℕ, Bool, true, false, not, [], ◌∷◌, List, Option, Some, None, refl, sym, ap, ◌∙◌, append-nil}
 use Rattle.std.specs.Prelude.{◌||◌}
 use Rattle.std.specs.Bool.{OnTrue}
 use Rattle.std.proofs.lemmas.Bool.{false≢true}
-use Rattle.tree.specs.declared.kind.Kind.{Kind}
-use Rattle.tree.specs.declared.kind.Kind.TheVariants.{Identifier, Literal}
-use Rattle.tree.specs.Tree.{Tree, node, Parts, kind_of, text_of, parts_of, part_at, part_count}
+use Rattle.tree.specs.declared.kind.Kind.TheVariants.{Identifier, Literal, ThisExpression}
+use Rattle.tree.specs.Tree.{Tree, node, kind_of, text_of, parts_of, part_count}
 use Rattle.early_errors.specs.declared.EarlyError.TheVariants.{RegExpFlags}
 use Rattle.early_errors.specs.Around.{Around}
 use Rattle.early_errors.specs.Names.{when, var_names}
@@ -17,7 +16,7 @@ use Rattle.early_errors.specs.Classes.{super_property_outside_method, super_call
 use Rattle.early_errors.specs.Literals.{are_flags, flags_part, uncooked_template, reg_exp_flags}
 use Rattle.early_errors.specs.Early.{Error, each, own_errors, errors_within}
 use Rattle.early_errors.specs.Walk.{after, at_part, hits, sooner}
-use Rattle.early_errors.specs.Walks.{IsQuiet, IsSilent, errors_at, is_quiet, vars_at}
+use Rattle.early_errors.specs.Walks.{IsQuiet, IsSilent, is_quiet}
 use Rattle.early_errors.proofs.Least.{sooner-none}
 use Rattle.early_errors.proofs.Owning.{small_by_kind}
 use Rattle.early_errors.proofs.Ranging.{errors_whole}
@@ -26,12 +25,14 @@ use Rattle.early_errors.proofs.VarFree.{parts_free}
 no_own : (t : Tree) (z : Around) → is_quiet (kind_of t) (text_of t) ≡ true → own_errors z t ≡ []
 unfolding own_errors duplicate_lexical_name lexical_name_is_var const_without_initializer catch_parameter_conflict for_name_is_var duplicate_parameter parameter_is_lexical_name use_strict_behind_pattern eval_or_arguments delete_of_identifier misplaced_jump undefined_label duplicate_label super_property_outside_method super_call_outside_constructor new_target_outside_function duplicate_constructor special_constructor static_prototype uncooked_template reg_exp_flags
 no_own (node Identifier w g s e ps) z h = refl
+no_own (node ThisExpression w g s e ps) z h = refl
 no_own (node Literal w g s e ps) z h =
     small_by_kind z (node Literal w g s e ps) ∙ ap (λ b. each RegExpFlags (when (not (b || are_flags (flags_part [] w))) (s ∷ []))) h
 no_own (node _ w g s e ps) z h = absurd (false≢true h)
 
 no_vars : (t : Tree) → is_quiet (kind_of t) (text_of t) ≡ true → 0 ≡ part_count (parts_of t) → var_names t ≡ []
 no_vars (node Identifier w g s e ps) h c = parts_free (node Identifier w g s e ps) 0 refl c refl
+no_vars (node ThisExpression w g s e ps) h c = parts_free (node ThisExpression w g s e ps) 0 refl c refl
 no_vars (node Literal w g s e ps) h c = parts_free (node Literal w g s e ps) 0 refl c refl
 no_vars (node _ w g s e ps) h c = absurd (false≢true h)
 
@@ -50,8 +51,7 @@ missing_part o e = (λ z. ap (at_part (errors_within z)) (sym e), ap (at_part va
 pub quiet_part : (o : Option Tree) (t : Tree) → Some t ≡ o → IsQuiet t → IsSilent o
 quiet_part o t e q = (λ z. ap (at_part (errors_within z)) (sym e) ∙ q.0 z, ap (at_part var_names) (sym e) ∙ q.1)
 
--- what is found behind a silent part is what was found before
-pub part-silent : (f : List ℕ → Option Error) (y z : Around) (ps : Parts) (i : ℕ) (q r : Option Error) → IsSilent (part_at ps i) → r ≡ q → r ≡ sooner (after q (errors_at y z ps i)) (hits f (vars_at ps i))
-part-silent f y z ps i q r a h =
-    h ∙ sym (sooner-none q) ∙ sym (sooner-none (sooner q None))
-    ∙ (λ j. sooner (after q (sym (a.0 (cond (nat_eq i 0) y z)) j)) (hits f (sym a.1 j)))
+-- what is found behind a quiet node is what was found before
+pub quiet_found : (f : List ℕ → Option Error) (z : Around) (t : Tree) (q r : Option Error) → IsQuiet t → r ≡ q → r ≡ sooner (after q (errors_within z t)) (hits f (var_names t))
+quiet_found f z t q r a h =
+    h ∙ sym (sooner-none q) ∙ sym (sooner-none (sooner q None)) ∙ (λ j. sooner (after q (sym (a.0 z) j)) (hits f (sym a.1 j)))

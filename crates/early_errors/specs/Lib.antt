@@ -15,3 +15,4 @@ pub mod Laws
 pub mod Walk
 pub mod Owns
 pub mod Walks
+pub mod Passed

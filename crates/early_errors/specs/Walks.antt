@@ -1,7 +1,7 @@
 -- What a walk says of a node's parts from a place on.
-use Rattle.std.specs.Prelude.{◌≡◌, ℕ, zero, suc, Bool, true, false, not, cond, nat_eq, Option, Some, None, List, [], ◌++◌, IfSome}
+use Rattle.std.specs.Prelude.{◌≡◌, ℕ, zero, suc, Bool, true, false, not, cond, nat_eq, Option, List, [], ◌++◌, IfSome}
 use Rattle.tree.specs.declared.kind.Kind.{Kind}
-use Rattle.tree.specs.declared.kind.Kind.TheVariants.{Identifier, Literal, VariableDeclaration}
+use Rattle.tree.specs.declared.kind.Kind.TheVariants.{Identifier, Literal, ThisExpression, VariableDeclaration}
 use Rattle.language.specs.Words.{is, literal_class}
 use Rattle.tree.specs.Tree.{Tree, Parts, part_at}
 use Rattle.early_errors.specs.declared.around.Around.{Around as Code}
@@ -46,13 +46,9 @@ IsQuiet t = ((z : Around) → errors_within z t ≡ []) × (var_names t ≡ [])
 abbrev pub IsSilent : Option Tree → Type 0
 IsSilent o = ((z : Around) → at_part (errors_within z) o ≡ []) × (at_part var_names o ≡ [])
 
--- the part, or none where it is silent
-abbrev pub ShowsLoud : Option Tree → Option Tree → Type 0
-ShowsLoud None o = IsSilent o
-ShowsLoud (Some t) o = Some t ≡ o
-
--- a leaf is quiet that is a name, or a literal but for a regular expression
+-- a leaf is quiet that is a name, `this`, or a literal but for a regular expression
 abbrev pub is_quiet : Kind → List ℕ → Bool
 is_quiet Identifier w = true
+is_quiet ThisExpression w = true
 is_quiet Literal w = not (is_reg_exp (literal_class w))
 is_quiet _ w = false

@@ -72,6 +72,7 @@ impl Around {
     ghost use Rattle.language.specs.FirstPart.{others};
     ghost use Rattle.early_errors.specs.Around.{around_first, around_others, has_heritage, in_method, within};
     ghost use Rattle.early_errors.specs.Owns.{first_labels, inner_labels, round};
+    ghost use Rattle.early_errors.specs.Passed.{IsHandedOn};
     ghost use Rattle.tree.specs.declared.kind.Kind.TheVariants.{ArrowFunctionExpression, FunctionExpression, Property};
 
     /// Round the Program.
@@ -92,6 +93,7 @@ impl Around {
     /// Round a part that is nothing special to its node.
     pub(crate) fn within(self) -> Around
         ensures around { (ls : _) → round result ls ≡ within (round self ls) }
+        ensures handed_on { IsHandedOn result }
         ensures unknown { result.labels_loop ≡ None }
     {
         Around {

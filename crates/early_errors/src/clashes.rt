@@ -23,7 +23,7 @@ pub(crate) struct Saved<'t> {
     value: Found,
 }
 
-fn is_restricted(name: &str) -> bool
+pub(crate) fn is_restricted(name: &str) -> bool
     ensures { result ≡ among name.now ("eval" ∷ "arguments" ∷ []) }
 {
     name == "eval" || name == "arguments"

@@ -35,7 +35,7 @@ pub(crate) fn super_errors(node: Node, may_stand: bool, error: EarlyError, found
     with_error_if(is_super(head.kind()), found, error, head.span().start)
 }
 
-fn is_super(kind: Kind) -> bool
+pub(crate) fn is_super(kind: Kind) -> bool
     ensures { result ≡ is_super kind }
 {
     match kind {

@@ -26,7 +26,7 @@ pub(crate) enum Binding {
     Nothing,
 }
 
-fn binding_of(kind: Kind) -> Binding
+pub(crate) fn binding_of(kind: Kind) -> Binding
     ensures { result ≡ binding_of kind }
 {
     match kind {
@@ -132,7 +132,7 @@ pub(crate) enum Lexical {
     Nothing,
 }
 
-fn lexical_of(functions: bool, item: Node) -> Lexical
+pub(crate) fn lexical_of(functions: bool, item: Node) -> Lexical
     ensures { result ≡ lexical_of functions (node_tree item.entry) }
 {
     match item.kind() {

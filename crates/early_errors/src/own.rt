@@ -242,7 +242,7 @@ fn delete_errors(node: Node, found: Found) -> Found
     )
 }
 
-fn deletes_identifier(node: Node) -> bool
+pub(crate) fn deletes_identifier(node: Node) -> bool
     ensures { result ≡ (is (text_of (node_tree node.entry)) "delete" && is_identifier (lead (parts_of (node_tree node.entry)))) }
 {
     if node.text() != "delete" {

@@ -1,28 +1,134 @@
-//! Leaves that have no errors.
+//! Where errors of a node may be, whatever stands round it: what a walk can pass.
 
-ghost use Rattle.std.specs.Prelude.{◌≡◌, option_map};
-ghost use Rattle.std.specs.Bool.{OnTrue};
+ghost use Rattle.std.specs.Prelude.{◌≡◌, [], filter, option_map};
+ghost use Rattle.std.specs.Bool.{OnFalse, OnTrue};
 ghost use Rattle.tree.specs.Node.{node_tree};
-ghost use Rattle.tree.specs.Tree.{kind_of, part_at, parts_of, text_of};
-ghost use Rattle.early_errors.specs.Walks.{IsQuiet, ShowsLoud, is_quiet as says_nothing};
+ghost use Rattle.tree.specs.Tree.{Tree, kind_of, part_at, parts_of, text_of};
+ghost use Rattle.early_errors.specs.Names.{each_part, lexical_names, names_in};
+ghost use Rattle.early_errors.specs.Passed.{IsOpen, IsWhere, is_super_at, telling_of};
+ghost use Rattle.early_errors.specs.Strict.{is_restricted};
+ghost use Rattle.early_errors.specs.Walk.{at_part, names_at};
+ghost use Rattle.early_errors.specs.Walks.{IsQuiet, IsSilent, is_quiet as says_nothing};
 
+use crate::around::is_method;
+use crate::clashes::is_restricted;
+use crate::classes::is_super;
 use crate::literals::begins_with_slash;
+use crate::names::{Binding, Lexical, binding_of, lexical_of};
+use crate::own::deletes_identifier;
 use tree::{Kind, Node};
 
-/// The part at a place, unless it is missing or a leaf that has no errors.
-pub(crate) fn loud_part<'t, 's>(node: Node<'t, 's>, index: usize) -> Option<Node<'t, 's>>
-    ensures { ShowsLoud (option_map node_tree result) (part_at (parts_of (node_tree node.entry)) index) }
-{
-    let Some(part) = node.part(index) else {
-        return None;
-    };
-    if is_quiet(part) {
-        return None;
-    }
-    Some(part)
+/// Where errors of a node may be.
+#[derive(Clone, Copy)]
+pub(crate) enum Where {
+    Nowhere,
+    InParts,
+    Anywhere,
 }
 
-/// Whether a node is a leaf that has no errors, whatever stands round it: a name, or a literal but for a regular expression.
+/// What of a node tells where its errors may be.
+#[derive(Clone, Copy)]
+pub(crate) enum Telling {
+    Leaf,
+    Kind,
+    Member,
+    Callee,
+    Target,
+    Operator,
+    Form,
+    Items,
+    Nothing,
+}
+
+fn telling_of(kind: Kind) -> Telling
+    ensures { result ≡ telling_of kind }
+{
+    match kind {
+        Kind::Identifier | Kind::ThisExpression | Kind::Literal => Telling::Leaf,
+        Kind::ArrayExpression
+        | Kind::ObjectExpression
+        | Kind::SpreadElement
+        | Kind::NewExpression
+        | Kind::ImportExpression
+        | Kind::ChainExpression
+        | Kind::BinaryExpression
+        | Kind::LogicalExpression
+        | Kind::ConditionalExpression
+        | Kind::SequenceExpression
+        | Kind::ArrayPattern
+        | Kind::ObjectPattern
+        | Kind::AssignmentPattern
+        | Kind::RestElement
+        | Kind::ExpressionStatement
+        | Kind::ReturnStatement
+        | Kind::ThrowStatement
+        | Kind::IfStatement
+        | Kind::SwitchCase
+        | Kind::TryStatement
+        | Kind::VariableDeclarator => Telling::Kind,
+        Kind::MemberExpression => Telling::Member,
+        Kind::CallExpression => Telling::Callee,
+        Kind::AssignmentExpression | Kind::UpdateExpression => Telling::Target,
+        Kind::UnaryExpression => Telling::Operator,
+        Kind::Property => Telling::Form,
+        Kind::BlockStatement => Telling::Items,
+        _ => Telling::Nothing,
+    }
+}
+
+/// Where errors of a node may be, whatever stands round it.
+#[inline(always)]
+pub(crate) fn where_errors(node: Node) -> Where
+    ensures { IsWhere result (node_tree node.entry) }
+{
+    match telling_of(node.kind()) {
+        Telling::Leaf => nowhere_if(is_quiet(node)),
+        Telling::Kind => Where::InParts,
+        Telling::Nothing => Where::Anywhere,
+        telling => where_by(telling, node),
+    }
+}
+
+/// The same, by what tells it of a node of its kind.
+#[inline(never)]
+fn where_by(telling: Telling, node: Node) -> Where
+    requires { telling ≡ telling_of (kind_of (node_tree node)) }
+    ensures { IsWhere result (node_tree node.entry) }
+{
+    match telling {
+        Telling::Member => where_in_member(node),
+        Telling::Callee => in_parts_unless(has_super(node.part(0))),
+        Telling::Target => in_parts_unless(binds_restricted(node.part(0))),
+        Telling::Operator => in_parts_unless(deletes_identifier(node)),
+        Telling::Form => in_parts_unless(is_method(node.flags().form)),
+        Telling::Items => in_parts_unless(declares_names(node)),
+        _ => Where::Anywhere,
+    }
+}
+
+#[inline(always)]
+fn nowhere_if(is_quiet: bool) -> Where
+    ensures { (t : Tree) → OnTrue is_quiet (IsQuiet t) → IsWhere result t }
+{
+    if is_quiet {
+        Where::Nowhere
+    } else {
+        Where::Anywhere
+    }
+}
+
+#[inline(always)]
+fn in_parts_unless(is_special: bool) -> Where
+    ensures { (t : Tree) → OnFalse is_special (IsOpen t) → IsWhere result t }
+{
+    if is_special {
+        Where::Anywhere
+    } else {
+        Where::InParts
+    }
+}
+
+/// Whether a node is a leaf that has no errors: a name, `this`, or a literal but for a regular expression.
 fn is_quiet(node: Node) -> bool
     ensures { OnTrue result (IsQuiet (node_tree node.entry)) }
 {
@@ -36,8 +142,91 @@ fn says_nothing(node: Node) -> bool
     ensures { result ≡ says_nothing (kind_of (node_tree node.entry)) (text_of (node_tree node.entry)) }
 {
     match node.kind() {
-        Kind::Identifier => true,
+        Kind::Identifier | Kind::ThisExpression => true,
         Kind::Literal => !begins_with_slash(node.text()),
         _ => false,
+    }
+}
+
+/// The same of a part that may be missing.
+fn is_silent(part: Option<Node>) -> bool
+    ensures { OnTrue result (IsSilent (option_map node_tree part.entry)) }
+{
+    match part {
+        Some(part) => is_quiet(part),
+        None => true,
+    }
+}
+
+/// Where errors of a member expression may be: nowhere where both its parts are leaves without.
+fn where_in_member(node: Node) -> Where
+    requires { telling_of (kind_of (node_tree node)) ≡ Telling.Member }
+    ensures { IsWhere result (node_tree node.entry) }
+{
+    let head = node.part(0);
+    if has_super(head) {
+        return Where::Anywhere;
+    }
+    if node.part_count() > 2 {
+        return Where::InParts;
+    }
+    if is_silent(head) && is_silent(node.part(1)) {
+        return Where::Nowhere;
+    }
+    Where::InParts
+}
+
+/// Whether a head is `super`.
+fn has_super(head: Option<Node>) -> bool
+    ensures { result ≡ is_super_at (option_map node_tree head.entry) }
+{
+    match head {
+        Some(head) => is_super(head.kind()),
+        None => false,
+    }
+}
+
+/// Whether a target may name `eval` or `arguments`.
+fn binds_restricted(target: Option<Node>) -> bool
+    ensures { OnFalse result (filter is_restricted (names_at (option_map node_tree target.entry)) ≡ []) }
+{
+    match target {
+        Some(target) => names_restricted(target),
+        None => false,
+    }
+}
+
+fn names_restricted(target: Node) -> bool
+    ensures { OnFalse result (filter is_restricted (names_in (node_tree target.entry)) ≡ []) }
+{
+    match binding_of(target.kind()) {
+        Binding::Nothing => false,
+        Binding::Name => is_restricted(target.text()),
+        _ => true,
+    }
+}
+
+/// Whether a block may declare names but by `var`.
+fn declares_names(block: Node) -> bool
+    ensures { OnFalse result ((b : _) → each_part (lexical_names b) (parts_of (node_tree block.entry)) ≡ []) }
+{
+    for index in 0..block.part_count() {
+        if declares(block.part(index)) {
+            return true;
+        }
+    }
+    false
+}
+
+/// Whether an item may declare names but by `var`.
+fn declares(item: Option<Node>) -> bool
+    ensures { OnFalse result ((b : _) → at_part (lexical_names b) (option_map node_tree item.entry) ≡ []) }
+{
+    let Some(item) = item else {
+        return false;
+    };
+    match lexical_of(true, item) {
+        Lexical::Nothing => false,
+        _ => true,
     }
 }

@@ -3,9 +3,10 @@
 ghost use Rattle.std.specs.Prelude.{◌≡◌, [], ◌-◌, ◌<◌, None, Some, OnOk};
 ghost use Rattle.tree.specs.Node.{node_tree};
 ghost use Rattle.tree.specs.Tree.{flags_of, kind_of, part_at, parts_of};
-ghost use Rattle.early_errors.specs.Early.{errors_within};
-ghost use Rattle.early_errors.specs.Names.{var_names};
+ghost use Rattle.early_errors.specs.Early.{errors_within, parts_errors};
+ghost use Rattle.early_errors.specs.Names.{parts_vars, var_names};
 ghost use Rattle.early_errors.specs.Owns.{Knows, inside_of, plain_errors, round, vars_of};
+ghost use Rattle.early_errors.specs.Passed.{IsHandedOn};
 ghost use Rattle.early_errors.specs.Walk.{Agree, after, hits, look, sooner};
 ghost use Rattle.early_errors.specs.Walks.{Fits, range_errors, range_vars};
 
@@ -16,7 +17,7 @@ use crate::labels::{Labels, is_true, known_loop, label_is_loop};
 use crate::literals::either;
 use crate::names::Named;
 use crate::own::own_errors;
-use crate::quiet::loud_part;
+use crate::quiet::{Where, where_errors};
 use crate::scopes::{place_of_scope, push_scope, scope_error, scope_errors, scope_kind};
 use crate::table::Table;
 use crate::vars::has_no_var;
@@ -106,6 +107,75 @@ pub(crate) fn walk_node<'t>(
     ensures vars { OnOk result (Agree (look walk.new.vars) (look walk.old.vars)) }
     ensures labels { OnOk result (Agree (look walk.new.labels) (look walk.old.labels)) }
 {
+    match where_errors(node) {
+        Where::Nowhere => Ok(()),
+        Where::InParts => {
+            let inner = around.within();
+            walk_passed(node, &inner, walk)
+        }
+        Where::Anywhere => walk_special(node, around, walk),
+    }
+}
+
+/// The same of a part of a node that was passed.
+#[cycle(walk)]
+#[tactic(auto, using(tree::proofs::PartWalk::part_steps))]
+#[inline(always)]
+fn walk_within<'t>(
+    node: Node<'t, '_>,
+    around: &Around,
+    walk: &mut Walk<'t>,
+) -> Result<(), AllocError>
+    requires handed_on { IsHandedOn around.now }
+    requires unknown { around.now.labels_loop ≡ None }
+    ensures found { OnOk result ((ls : _) → Knows (look walk.old.labels) ls → walk.new.found ≡ sooner (after walk.old.found (errors_within (round around.now ls) (node_tree node.entry))) (hits (look walk.old.vars) (var_names (node_tree node.entry)))) }
+    ensures vars { OnOk result (Agree (look walk.new.vars) (look walk.old.vars)) }
+    ensures labels { OnOk result (Agree (look walk.new.labels) (look walk.old.labels)) }
+{
+    match where_errors(node) {
+        Where::Nowhere => Ok(()),
+        Where::InParts => walk_passed(node, around, walk),
+        Where::Anywhere => walk_special(node, *around, walk),
+    }
+}
+
+/// Finds the errors of a node's parts, by what stands round each of them.
+#[cycle(walk)]
+#[tactic(auto, using(tree::proofs::PartWalk::part_steps))]
+fn walk_passed<'t>(
+    node: Node<'t, '_>,
+    around: &Around,
+    walk: &mut Walk<'t>,
+) -> Result<(), AllocError>
+    requires handed_on { IsHandedOn around.now }
+    requires unknown { around.now.labels_loop ≡ None }
+    ensures found { OnOk result ((ls : _) → Knows (look walk.old.labels) ls → walk.new.found ≡ sooner (after walk.old.found (parts_errors (round around.now ls) (round around.now ls) (parts_of (node_tree node.entry)))) (hits (look walk.old.vars) (parts_vars (parts_of (node_tree node.entry))))) }
+    ensures vars { OnOk result (Agree (look walk.new.vars) (look walk.old.vars)) }
+    ensures labels { OnOk result (Agree (look walk.new.labels) (look walk.old.labels)) }
+{
+    let parts = node.parts();
+    for index in 0..parts.len() {
+        if let Some(part) = parts.get(index) {
+            walk_within(part, around, walk)?;
+        }
+    }
+    Ok(())
+}
+
+/// The same of a node that may have errors itself.
+#[cycle(walk)]
+#[tactic(auto, using(tree::proofs::PartWalk::part_steps))]
+#[inline(never)]
+fn walk_special<'t>(
+    node: Node<'t, '_>,
+    around: Around,
+    walk: &mut Walk<'t>,
+) -> Result<(), AllocError>
+    requires { Fits around (node_tree node) }
+    ensures found { OnOk result ((ls : _) → Knows (look walk.old.labels) ls → walk.new.found ≡ sooner (after walk.old.found (errors_within (round around ls) (node_tree node.entry))) (hits (look walk.old.vars) (var_names (node_tree node.entry)))) }
+    ensures vars { OnOk result (Agree (look walk.new.vars) (look walk.old.vars)) }
+    ensures labels { OnOk result (Agree (look walk.new.labels) (look walk.old.labels)) }
+{
     walk.found = own_errors(
         walk.alloc,
         node,
@@ -141,7 +211,7 @@ fn walk_parts<'t>(
     ensures labels { OnOk result (Agree (look walk.new.labels) (look walk.old.labels)) }
 {
     for index in from..to {
-        if let Some(part) = loud_part(node, index) {
+        if let Some(part) = node.part(index) {
             let around = if index == 0 {
                 rounds.first
             } else {

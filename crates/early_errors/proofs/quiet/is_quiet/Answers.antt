@@ -1,4 +1,4 @@
-use Rattle.std.proofs.Common.{sym, ◌∙◌, ◌≡◌, true, arith}
+use Rattle.std.proofs.Common.{arith}
 use Rattle.tree.specs.Node.{node_tree}
 use Rattle.early_errors.proofs.Silent.{quiet_given}
 use Rattle.early_errors.proofs.quiet.is_quiet.Goals as goal

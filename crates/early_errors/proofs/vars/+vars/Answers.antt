@@ -1,4 +1,4 @@
-use Rattle.std.proofs.Common.{◌≡◌, ◌<◌, ◌≤◌, true, false, sym, ap, ◌∙◌, subst}
+use Rattle.std.proofs.Common.{◌<◌, ◌≤◌, ◌∙◌, subst}
 use Rattle.tree.specs.Node.{node_tree}
 use Rattle.tree.specs.Tree.{parts_of, part_count}
 use Rattle.early_errors.proofs.VarFree.{free_step, free_past, function_given, plain_given}

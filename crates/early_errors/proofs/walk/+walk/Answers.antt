@@ -1,20 +1,22 @@
-use Rattle.std.proofs.Common.{◌≡◌, ◌-◌, ◌++◌, cond, nat_eq, [], Some, refl, sym, ap, ◌∙◌}
+use Rattle.std.proofs.Common.{◌≡◌, ◌-◌, ◌<◌, ◌≤◌, ◌++◌, cond, nat_eq, [], Some, refl, sym, ap, subst, ◌∙◌}
 use Rattle.std.specs.Prelude.{◌||◌}
 use Rattle.tree.specs.Tree.{parts_of}
-use Rattle.tree.specs.Node.{node_tree}
+use Rattle.tree.specs.Node.{node_tree, list_parts}
+use Rattle.tree.proofs.PartWalk.{parts_drop-some, parts_drop-gap, parts_drop-past}
 use Rattle.early_errors.specs.Around.{own_label}
+use Rattle.early_errors.specs.Passed.{IsWhere}
 use Rattle.early_errors.specs.Owns.{found_of_scope, inside_of, names_of_scope, round, scope_error, scope_kind}
 use Rattle.early_errors.specs.Walk.{after, all_named, clashing, hits, look, sooner, undone}
 use Rattle.early_errors.specs.Walks.{range_errors, range_vars}
 use Rattle.early_errors.proofs.Insides.{function_facts, method_facts, plain_facts, label_facts, scope_facts, no_own_label, one_label}
-use Rattle.early_errors.proofs.Joining.{from_start, part-turn, part-given, first-round, other-round, parts-found, function-found, two-goes, scope-found, none-clash}
+use Rattle.early_errors.proofs.Joining.{from_start, part-turn, part-given, part-missing, first-round, other-round, parts-found, function-found, two-goes, scope-found, none-clash}
 use Rattle.early_errors.proofs.VarFree.{is_free}
-use Rattle.early_errors.proofs.Silent.{part-silent}
+use Rattle.early_errors.proofs.Ahead.{ahead-part, ahead-gap, ahead-end, open_found}
 use Rattle.early_errors.proofs.ScopeErrors.{split_given}
 use Rattle.early_errors.proofs.Results.{on_ok}
 use Rattle.early_errors.proofs.Tables.{restored, undone-agrees}
 use Rattle.early_errors.proofs.walk.+walk.Goals as goal
-use Rattle.early_errors.proofs.walk.+walk.Goals.{walk_parts-in-Some+in_ok-walk_node, walk_parts-then-index-eq0, walk_parts-else-index-eq0, walk_parts-in_default}
+use Rattle.early_errors.proofs.walk.+walk.Goals.{walk_parts-in-Some+in_ok-walk_node, walk_parts-then-index-eq0, walk_parts-else-index-eq0, walk_parts-in_default, walk_passed-in-Some+in_ok-walk_within, walk_passed-in_default}
 
 pub walk_function-returns-clause-found : goal.walk_function-returns-clause-found
 walk_function-returns-clause-found t c =
@@ -93,20 +95,20 @@ walk_method-returns-clause-found t c =
 pub walk_method-returns-clause-vars : goal.walk_method-returns-clause-vars
 walk_method-returns-clause-vars t c = on_ok c.walk_parts-done.result (λ h w. h w ∙ c.in_ok-walk_parts.ensures.vars w) c.walk_parts-done.ensures.vars
 
-pub walk_node-returns-in-Function-clause-found : goal.walk_node-returns-in-Function-clause-found
-walk_node-returns-in-Function-clause-found t c = on_ok c.walk_function.result (λ h ls k. h c.args.walk.now.found ls k (c.in_ok-walk.ensures ls k)) c.walk_function.ensures.found
+pub walk_special-returns-in-Function-clause-found : goal.walk_special-returns-in-Function-clause-found
+walk_special-returns-in-Function-clause-found t c = on_ok c.walk_function.result (λ h ls k. h c.args.walk.now.found ls k (c.in_ok-walk.ensures ls k)) c.walk_function.ensures.found
 
-pub walk_node-returns-in-Method-clause-found : goal.walk_node-returns-in-Method-clause-found
-walk_node-returns-in-Method-clause-found t c = on_ok c.walk_method.result (λ h ls k. h c.args.walk.now.found ls k (c.in_ok-walk.ensures ls k)) c.walk_method.ensures.found
+pub walk_special-returns-in-Method-clause-found : goal.walk_special-returns-in-Method-clause-found
+walk_special-returns-in-Method-clause-found t c = on_ok c.walk_method.result (λ h ls k. h c.args.walk.now.found ls k (c.in_ok-walk.ensures ls k)) c.walk_method.ensures.found
 
-pub walk_node-returns-in-Label-clause-found : goal.walk_node-returns-in-Label-clause-found
-walk_node-returns-in-Label-clause-found t c = on_ok c.walk_label.result (λ h ls k. h c.args.walk.now.found ls k (c.in_ok-walk.ensures ls k)) c.walk_label.ensures.found
+pub walk_special-returns-in-Label-clause-found : goal.walk_special-returns-in-Label-clause-found
+walk_special-returns-in-Label-clause-found t c = on_ok c.walk_label.result (λ h ls k. h c.args.walk.now.found ls k (c.in_ok-walk.ensures ls k)) c.walk_label.ensures.found
 
-pub walk_node-returns-in-Scope-clause-found : goal.walk_node-returns-in-Scope-clause-found
-walk_node-returns-in-Scope-clause-found t c = on_ok c.walk_scope.result (λ h ls k. h c.args.walk.now.found ls k (c.in_ok-walk.ensures ls k)) c.walk_scope.ensures.found
+pub walk_special-returns-in-Scope-clause-found : goal.walk_special-returns-in-Scope-clause-found
+walk_special-returns-in-Scope-clause-found t c = on_ok c.walk_scope.result (λ h ls k. h c.args.walk.now.found ls k (c.in_ok-walk.ensures ls k)) c.walk_scope.ensures.found
 
-pub walk_node-returns-in-Plain-clause-found : goal.walk_node-returns-in-Plain-clause-found
-walk_node-returns-in-Plain-clause-found t c =
+pub walk_special-returns-in-Plain-clause-found : goal.walk_special-returns-in-Plain-clause-found
+walk_special-returns-in-Plain-clause-found t c =
     on_ok c.walk_parts.result
     (λ h ls k.
     let t = node_tree c.args.node in
@@ -126,13 +128,13 @@ walk_parts-loop-index-preserved t c =
     let others = c.args.rounds.others in
     let V = look c.args.walk.now.vars in
     let i = c.loop-index.index in
-    elim c.match-loud_part.branch [
+    elim c.match-part.branch [
       | walk_parts-in-Some+in_ok-walk_node w ↦ record {
         found = λ ls k.
             let round-is : round w.if-index-eq0.around ls ≡ cond (nat_eq i 0) (round first ls) (round others ls) =
             elim w.if-index-eq0.branch [ walk_parts-then-index-eq0 w' ↦ first-round first others w.if-index-eq0.around i ls w'.if-index-eq0.true w'.around-is | walk_parts-else-index-eq0 w' ↦ other-round first others w.if-index-eq0.around i ls w'.if-index-eq0.false w'.around-is ] in
-            part-turn V (round first ls) (round others ls) ps i c.args.to c.loop-index-test.true _ c.loop-index.walk.found c.match-loud_part.walk.found
-            (part-given V (look c.loop-index.walk.vars) (round w.if-index-eq0.around ls) (round first ls) (round others ls) ps i (node_tree w.in-Some.part) c.loop-index.walk.found c.match-loud_part.walk.found c.loop-index.invariant.vars w.in-Some.ensures round-is
+            part-turn V (round first ls) (round others ls) ps i c.args.to c.loop-index-test.true _ c.loop-index.walk.found c.match-part.walk.found
+            (part-given V (look c.loop-index.walk.vars) (round w.if-index-eq0.around ls) (round first ls) (round others ls) ps i (node_tree w.in-Some.part) c.loop-index.walk.found c.match-part.walk.found c.loop-index.invariant.vars w.in-Some.ensures round-is
             (ap (λ x. x.found) w.walk-is ∙ w.in_ok-walk_node.ensures.found ls (λ v. c.loop-index.invariant.labels v ∙ k v)))
             (c.loop-index.invariant.found ls k);
         vars = λ v. ap (λ x. look x.vars v) w.walk-is ∙ w.in_ok-walk_node.ensures.vars v ∙ c.loop-index.invariant.vars v;
@@ -140,13 +142,58 @@ walk_parts-loop-index-preserved t c =
       }
       | walk_parts-in_default w ↦ record {
         found = λ ls k.
-            part-turn V (round first ls) (round others ls) ps i c.args.to c.loop-index-test.true _ c.loop-index.walk.found c.match-loud_part.walk.found
-            (part-silent V (round first ls) (round others ls) ps i c.loop-index.walk.found c.match-loud_part.walk.found w.in_default.ensures (ap (λ x. x.found) w.walk-is))
+            part-turn V (round first ls) (round others ls) ps i c.args.to c.loop-index-test.true _ c.loop-index.walk.found c.match-part.walk.found
+            (part-missing V (round first ls) (round others ls) ps i c.loop-index.walk.found c.match-part.walk.found w.in_default.ensures (ap (λ x. x.found) w.walk-is))
             (c.loop-index.invariant.found ls k);
         vars = λ v. ap (λ x. look x.vars v) w.walk-is ∙ c.loop-index.invariant.vars v;
         labels = λ v. ap (λ x. look x.labels v) w.walk-is ∙ c.loop-index.invariant.labels v;
       }
     ]
+
+pub walk_node-returns-in-InParts-clause-found : goal.walk_node-returns-in-InParts-clause-found
+walk_node-returns-in-InParts-clause-found t c =
+    on_ok c.walk_passed.result
+    (λ h ls k.
+    open_found (look c.args.walk.now.vars) (round c.within-inner.result ls) (round c.args.around ls) (node_tree c.args.node) c.args.walk.now.found c.walk_passed.new.walk.found (subst (λ x. IsWhere x (node_tree c.args.node)) c.in-InParts.is c.where_errors.ensures)
+    (c.within-inner.ensures.around ls) (h ls k))
+    c.walk_passed.ensures.found
+
+pub walk_within-returns-in-InParts-clause-found : goal.walk_within-returns-in-InParts-clause-found
+walk_within-returns-in-InParts-clause-found t c =
+    on_ok c.walk_passed.result
+    (λ h ls k.
+    open_found (look c.args.walk.now.vars) (round c.args.around.now ls) (round c.args.around.now ls) (node_tree c.args.node) c.args.walk.now.found c.walk_passed.new.walk.found (subst (λ x. IsWhere x (node_tree c.args.node)) c.in-InParts.is c.where_errors.ensures)
+    (sym (c.requires.handed_on ls)) (h ls k))
+    c.walk_passed.ensures.found
+
+pub walk_passed-loop-index-preserved : goal.walk_passed-loop-index-preserved
+walk_passed-loop-index-preserved t c =
+    let ps = list_parts c.parts-parts.result in
+    let V = look c.args.walk.now.vars in
+    let i = c.loop-index.index in
+    let inv = c.loop-index.invariant in
+    elim c.match-get.branch [
+      | walk_passed-in-Some+in_ok-walk_within w ↦ record {
+        found = λ ls k.
+            ahead-part V (look c.loop-index.walk.vars) (round c.args.around.now ls) c.loop-index.walk.found c.match-get.walk.found _ _ _ (node_tree w.in-Some.part) inv.vars (parts_drop-some ps i (node_tree w.in-Some.part) w.in-Some.ensures)
+            (ap (λ x. x.found) w.walk-is ∙ w.in_ok-walk_within.ensures.found ls (λ v. inv.labels v ∙ k v)) (inv.found ls k);
+        vars = λ v. ap (λ x. look x.vars v) w.walk-is ∙ w.in_ok-walk_within.ensures.vars v ∙ inv.vars v;
+        labels = λ v. ap (λ x. look x.labels v) w.walk-is ∙ w.in_ok-walk_within.ensures.labels v ∙ inv.labels v;
+      }
+      | walk_passed-in_default w ↦ record {
+        found = λ ls k.
+            ahead-gap V (round c.args.around.now ls) c.loop-index.walk.found c.match-get.walk.found _ _ _ (parts_drop-gap ps i w.in_default.ensures (subst (λ n. i < n) c.len-index-end.ensures c.loop-index-test.true))
+            (ap (λ x. x.found) w.walk-is) (inv.found ls k);
+        vars = λ v. ap (λ x. look x.vars v) w.walk-is ∙ inv.vars v;
+        labels = λ v. ap (λ x. look x.labels v) w.walk-is ∙ inv.labels v;
+      }
+    ]
+
+pub walk_passed-returns-clause-found : goal.walk_passed-returns-clause-found
+walk_passed-returns-clause-found t c = λ ls k.
+    let ps = list_parts c.parts-parts.result in
+    let i = c.loop-index.index in
+    ahead-end (look c.args.walk.now.vars) (round c.args.around.now ls) c.loop-index.walk.found _ _ (parts_drop-past ps i (subst (λ n. n ≤ i) c.len-index-end.ensures c.loop-index-test.false)) (c.loop-index.invariant.found ls k)
 
 pub walk_in_scope-returns-then-has_no_var-clause-found : goal.walk_in_scope-returns-then-has_no_var-clause-found
 walk_in_scope-returns-then-has_no_var-clause-found t c =

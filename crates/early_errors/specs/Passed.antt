@@ -1,0 +1,69 @@
+-- What a walk passes: nodes of which it is known, whatever stands round them, where their errors may be.
+use Rattle.std.specs.Prelude.{◌≡◌, Bool, false, List, Option, None, Some}
+use Rattle.tree.specs.declared.kind.Kind.{Kind}
+use Rattle.tree.specs.declared.kind.Kind.TheVariants as kind
+use Rattle.tree.specs.Tree.{Tree, kind_of, parts_of}
+use Rattle.language.specs.Words.{is_super}
+use Rattle.early_errors.specs.declared.quiet.Where.{Where}
+use Rattle.early_errors.specs.declared.quiet.Where.TheVariants.{Nowhere, InParts, Anywhere}
+use Rattle.early_errors.specs.declared.quiet.Telling.{Telling}
+use Rattle.early_errors.specs.declared.quiet.Telling.TheVariants as telling
+use Rattle.early_errors.specs.Around.{Around, Label, within}
+use Rattle.early_errors.specs.declared.around.Around.{Around as Code}
+use Rattle.early_errors.specs.Owns.{round}
+use Rattle.early_errors.specs.Names.{var_names, parts_vars}
+use Rattle.early_errors.specs.Early.{errors_within, parts_errors}
+use Rattle.early_errors.specs.Walks.{IsQuiet}
+
+-- a node that has no errors itself, whatever stands round it, and whose parts have round them what stands round it
+abbrev pub IsOpen : Tree → Type 0
+IsOpen t = ((z : Around) → errors_within z t ≡ parts_errors (within z) (within z) (parts_of t)) × (var_names t ≡ parts_vars (parts_of t))
+
+-- where a node's errors may be
+abbrev pub IsWhere : Where → Tree → Type 0
+IsWhere Nowhere t = IsQuiet t
+IsWhere InParts t = IsOpen t
+IsWhere Anywhere t = Unit
+
+-- what stands round a node stands round the parts too where it is handed on
+abbrev pub IsHandedOn : Code → Type 0
+IsHandedOn a = (ls : List Label) → within (round a ls) ≡ round a ls
+
+-- what tells it, by the kind
+abbrev pub telling_of : Kind → Telling
+telling_of kind.Identifier = telling.Leaf
+telling_of kind.ThisExpression = telling.Leaf
+telling_of kind.Literal = telling.Leaf
+telling_of kind.ArrayExpression = telling.Kind
+telling_of kind.ObjectExpression = telling.Kind
+telling_of kind.SpreadElement = telling.Kind
+telling_of kind.NewExpression = telling.Kind
+telling_of kind.ImportExpression = telling.Kind
+telling_of kind.ChainExpression = telling.Kind
+telling_of kind.BinaryExpression = telling.Kind
+telling_of kind.LogicalExpression = telling.Kind
+telling_of kind.ConditionalExpression = telling.Kind
+telling_of kind.SequenceExpression = telling.Kind
+telling_of kind.ArrayPattern = telling.Kind
+telling_of kind.ObjectPattern = telling.Kind
+telling_of kind.AssignmentPattern = telling.Kind
+telling_of kind.RestElement = telling.Kind
+telling_of kind.ExpressionStatement = telling.Kind
+telling_of kind.ReturnStatement = telling.Kind
+telling_of kind.ThrowStatement = telling.Kind
+telling_of kind.IfStatement = telling.Kind
+telling_of kind.SwitchCase = telling.Kind
+telling_of kind.TryStatement = telling.Kind
+telling_of kind.VariableDeclarator = telling.Kind
+telling_of kind.MemberExpression = telling.Member
+telling_of kind.CallExpression = telling.Callee
+telling_of kind.AssignmentExpression = telling.Target
+telling_of kind.UpdateExpression = telling.Target
+telling_of kind.UnaryExpression = telling.Operator
+telling_of kind.Property = telling.Form
+telling_of kind.BlockStatement = telling.Items
+telling_of _ = telling.Nothing
+
+abbrev pub is_super_at : Option Tree → Bool
+is_super_at None = false
+is_super_at (Some t) = is_super (kind_of t)
