@@ -1,7 +1,6 @@
 -- The course of a node is that of its outline, at each position.
 use Rattle.std.proofs.Common.{◌≡◌, ℕ, zero, suc, Bool, true, false, not, cond, List, [], ◌∷◌, refl, sym, ap, ◌∙◌, subst}
 use Rattle.std.specs.Prelude.{Option, Some, None, ◌&&◌, ◌||◌}
-use Rattle.std.proofs.lemmas.Bool.{false≢true}
 use Rattle.tree.specs.declared.kind.Kind.{Kind}
 use Rattle.tree.specs.declared.kind.Kind.TheVariants as kind
 use Rattle.tree.specs.declared.kind.Form.{Form}
@@ -33,21 +32,19 @@ use Rattle.positions.specs.declared.outline.Tail.TheVariants as tail
 use Rattle.positions.specs.declared.outline.Outline.{Outline}
 use Rattle.positions.specs.Outlines.{role_of, slot_of, whole_at, bound_at, default_at, element_at, listed_at, tail_slots, going, before, leaf, fronted, lined}
 use Rattle.positions.specs.Entries.{entry_at, text_at, around}
-use Rattle.positions.specs.Expressions.{Around, kind_at, is_past, assigned, function_outline, class_outline, expression_outline, binary_outline, logical_outline}
+use Rattle.positions.specs.Expressions.{kind_at, is_past, assigned, function_outline, class_outline, expression_outline, binary_outline, logical_outline}
 use Rattle.positions.specs.Others.{leaf_if, is_chunk, is_key_class, name_outline, key_outline, quoted_outline, quasi_outline, form_outline, keyed_at, echo_outline, pattern_form_outline, defaulted, one_at, linked_by, getter_outline, setter_outline, set_at, plain_method_outline, method_of, fits_form}
 use Rattle.positions.specs.Statements.{is_part, for_outline, init_at, left_at, each_outline, if_outline, try_outline, switch_outline, word_outline, statement_outline, item_outline, opening_outline, opened_outline, named_only, initialised, bare_name, declared_outline, tested_outline, caught, caught_outline, declarators_outline}
 use Rattle.positions.specs.Positions.{outline_by, outline_at}
-use Rattle.positions.specs.Spelled.{settled_roles}
 use Rattle.positions.proofs.Ways.{position_ways}
-use Rattle.printer.specs.declared.site.Site.{Site}
 use Rattle.printer.specs.declared.site.Site.TheVariants as site
 use Rattle.printer.specs.declared.site.Seat.{Seat}
-use Rattle.printer.specs.declared.site.Seat.TheVariants.{AtRow, AtLink, AtEcho, AtChunk, AtMethod, AtEntry, AtTarget, AtPlain, Told, Concise}
+use Rattle.printer.specs.declared.site.Seat.TheVariants.{AtRow, AtLink, AtEcho, AtChunk, AtMethod, AtPlain, Told, Concise}
 use Rattle.printer.specs.declared.course.Course.{Course}
 use Rattle.printer.specs.Shapes.{has_part}
 use Rattle.printer.specs.Sites.{chunk_site, site_of, seated_at, all_at, first_at, before_all, key_seat, value_seat, property_course, element_seat, entry_seat, link_seat, class_course, evaluated_course, arrow_course, case_course, rest_of_for, for_course, course_at, CanStand, Stands}
 use Rattle.printer.proofs.Seating.{allowed, seat_told, chunk_seat, plain_seat}
-use Rattle.printer.proofs.Outlining.{allows, Seated, bound_allowed, bound_seated, default_allowed, default_seated, element_seated, Suited, SlotsStand, OutlineStands, suited_stands, stands_by}
+use Rattle.printer.proofs.Outlining.{allows, Seated, bound_seated, default_seated, element_seated, Suited, SlotsStand, OutlineStands, suited_stands, stands_by}
 
 -- By cases
 

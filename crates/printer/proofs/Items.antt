@@ -1,5 +1,5 @@
 -- Turns of the printer's loops.
-use Rattle.std.proofs.Common.{◌≡◌, ℕ, zero, suc, ◌+◌, ◌-◌, ◌<◌, ◌≤◌, Bool, true, false, not, nat_eq, nat_le, List, [], ◌∷◌, ◌++◌, length, drop, get_or, refl, sym, ap, ap₂, ◌∙◌, subst, append_assoc, append-nil, arith, add-one, map}
+use Rattle.std.proofs.Common.{◌≡◌, ℕ, zero, suc, ◌+◌, ◌-◌, ◌<◌, ◌≤◌, Bool, true, false, not, nat_eq, nat_le, List, [], ◌∷◌, ◌++◌, length, drop, get_or, refl, sym, ap, ap₂, ◌∙◌, subst, append_assoc, append-nil, arith, add-one}
 use Rattle.std.specs.Prelude.{Option, Some, None, option_map, is_some, is_none as is_missing}
 use Rattle.std.proofs.lemmas.Bool.Decides.{nat_tests}
 use Rattle.tree.specs.Tree.{Tree, Parts, none, part, gap, part_at, part_count, kind_of}
@@ -11,7 +11,6 @@ use Rattle.printer.specs.Sheets.{View, Writes, flag_at}
 use Rattle.printer.proofs.Fusing.{bits_text}
 use Rattle.printer.specs.Shapes.{inner}
 use Rattle.language.specs.Fits.{fits, parts_fit}
-use Rattle.language.specs.Layout.{some_way}
 use Rattle.printer.specs.declared.site.Site.{Site}
 use Rattle.printer.specs.declared.course.Course.{Course}
 use Rattle.printer.specs.Sites.{site_of, seated_at, behind_first, CanStand, Stands}

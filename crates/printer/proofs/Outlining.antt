@@ -1,14 +1,13 @@
 -- Parts that are spelled by an outline stand at the sites of a course.
-use Rattle.std.proofs.Common.{◌≡◌, ℕ, Bool, true, false, not, cond, List, [], ◌∷◌, refl, sym, ap, ap₂, ◌∙◌, subst}
+use Rattle.std.proofs.Common.{◌≡◌, Bool, true, false, not, cond, List, [], ◌∷◌, refl, sym, ap, ap₂, ◌∙◌, subst}
 use Rattle.std.specs.Prelude.{Option, Some, None, ◌&&◌, ◌||◌, map, option_map}
 use Rattle.std.proofs.lemmas.Bool.{false≢true}
-use Rattle.std.proofs.lemmas.Option.{none-some}
 use Rattle.tree.specs.declared.kind.Kind.{Kind}
 use Rattle.tree.specs.declared.kind.Kind.TheVariants as kind
-use Rattle.tree.specs.Tree.{Tree, Parts, none, part, gap, kind_of, parts_of}
+use Rattle.tree.specs.Tree.{Tree, Parts, none, part, gap, parts_of}
 use Rattle.tree.specs.Uses.{is_lean}
 use Rattle.language.specs.declared.Rank.{Rank}
-use Rattle.language.specs.declared.Rank.TheVariants.{Expression, Assignment, LeftHandSide}
+use Rattle.language.specs.declared.Rank.TheVariants.{Expression, LeftHandSide}
 use Rattle.language.specs.declared.Start.{Start}
 use Rattle.language.specs.declared.Start.TheVariants.{Any}
 use Rattle.language.specs.Words.{is_target, is_pattern, is_identifier, is_rest, is_spread}

@@ -1,6 +1,6 @@
 -- What a seat tells of a part that can stand there.
-use Rattle.std.proofs.Common.{◌≡◌, ℕ, Bool, true, false, cond, List, [], ◌∷◌, refl, sym, ap, ◌∙◌, subst}
-use Rattle.std.specs.Prelude.{Option, Some, None, ◌&&◌, nat_eq}
+use Rattle.std.proofs.Common.{◌≡◌, ℕ, Bool, true, false, cond, List, refl, sym, ap, ◌∙◌}
+use Rattle.std.specs.Prelude.{Option, Some, None}
 use Rattle.std.proofs.lemmas.Bool.{false≢true}
 use Rattle.std.proofs.lemmas.Option.{none-some}
 use Rattle.tree.specs.declared.kind.Kind.{Kind}
@@ -16,21 +16,17 @@ use Rattle.language.specs.Words.{is_super}
 use Rattle.language.specs.Pieces as piece
 use Rattle.language.specs.Pieces.{Role, PieceOf}
 use Rattle.language.specs.Grammar.{ways}
-use Rattle.language.specs.Positions.{has_row}
 use Rattle.language.specs.Layout.{some_way}
 use Rattle.positions.specs.declared.position.Position.{Position}
 use Rattle.positions.specs.declared.position.Position.TheVariants as at
-use Rattle.positions.specs.declared.position.Entry.{Entry}
-use Rattle.positions.specs.declared.outline.Outline.{Outline}
 use Rattle.positions.specs.Outlines.{role_of, whole_at}
 use Rattle.positions.specs.Entries.{around}
 use Rattle.positions.specs.Expressions.{Around, expression_outline}
-use Rattle.positions.specs.Others.{leaf_if, is_chunk, spread_outline, property_outline, pattern_outline, element_outline, rest_outline}
+use Rattle.positions.specs.Others.{leaf_if, is_chunk, spread_outline, pattern_outline, element_outline, rest_outline}
 use Rattle.positions.specs.Statements.{head_outline}
 use Rattle.positions.specs.Positions.{outline_at}
 use Rattle.positions.specs.Spelled.{roles_by, Verdict}
 use Rattle.positions.proofs.Ways.{position_ways}
-use Rattle.printer.specs.declared.site.Site.{Site}
 use Rattle.printer.specs.declared.site.Site.TheVariants as site
 use Rattle.printer.specs.declared.site.Seat.{Seat}
 use Rattle.printer.specs.declared.site.Seat.TheVariants.{AtRow, AtLink, AtEcho, AtChunk, AtMethod, AtEntry, AtTarget, AtPlain, Told, Concise}

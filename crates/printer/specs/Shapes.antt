@@ -1,5 +1,5 @@
 -- What stands round the parts of a node, by its kind.
-use Rattle.std.specs.Prelude.{ℕ, suc, Option, Some, None, Bool, true, false, not, cond, ◌&&◌, List, [], ◌∷◌, codes, is_some}
+use Rattle.std.specs.Prelude.{ℕ, suc, Option, Some, None, Bool, true, false, not, cond, List, [], ◌∷◌, codes, is_some}
 use Prim.Native.String.{String}
 use Rattle.tree.specs.declared.kind.Kind.{Kind}
 use Rattle.tree.specs.declared.kind.Kind.TheVariants as kind

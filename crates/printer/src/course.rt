@@ -142,6 +142,7 @@ fn statement_course(node: Node) -> Course
 }
 
 /// What stands first in a member or a call.
+#[inline(always)]
 fn callee_seat(node: Node, site: Site) -> Seat
     ensures { result ≡ callee_seat_at site (flags_of (node_tree node.entry)).optional (first_chained (parts_of (node_tree node.entry))) }
 {
@@ -152,6 +153,7 @@ fn callee_seat(node: Node, site: Site) -> Seat
 }
 
 /// What stands below a part of a chain: without a `?.` of its own, a further part of it.
+#[inline(never)]
 #[tactic(auto, using(grammar::proofs::Chained::chained_first))]
 fn link_seat(node: Node) -> Seat
     ensures { result ≡ link_seat_at (flags_of (node_tree node.entry)).optional (first_chained (parts_of (node_tree node.entry))) }

@@ -150,6 +150,7 @@ fn is_word_operator(text: &str) -> bool
 }
 
 /// Whether the first part is a number that a `.` behind it would join.
+#[inline(always)]
 fn is_open_number(node: Node) -> bool
     ensures { result ≡ after_open_number (parts_of (node_tree node.entry)) }
 {
@@ -159,6 +160,7 @@ fn is_open_number(node: Node) -> bool
     }
 }
 
+#[inline(always)]
 fn is_number(kind: Kind, text: &str) -> bool
     ensures { result ≡ is_open_literal kind text.now }
 {
@@ -169,6 +171,7 @@ fn is_number(kind: Kind, text: &str) -> bool
 }
 
 /// Whether a literal of this class is a number without the suffix `n`.
+#[inline(never)]
 fn is_open(class: Class, text: &str) -> bool
     ensures { result ≡ is_open_number_text class text.now }
 {

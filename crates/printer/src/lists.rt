@@ -21,6 +21,7 @@ pub const CLOSE_SPACE: &[Piece] = &[Piece::Token(") ")];
 pub const END_BRACKET: &[Piece] = &[Piece::Token("]")];
 
 /// Whether a part stands at a place.
+#[inline(always)]
 pub fn has_part(node: Node, index: usize) -> bool
     ensures { result ≡ has_part_at (parts_of (node_tree node.entry)) index }
 {

@@ -73,6 +73,7 @@ pub fn print_whole<O: Outlet>(program: &Program<'_>, wraps: &[bool], out: &mut O
 
 /// A node at its site.
 #[cycle(print)]
+#[inline(always)]
 fn print_node<O: Outlet>(node: Node, site: Site, depth: usize, sheet: &mut Sheet, out: &mut O)
     requires { depth + height (node_tree node) ≤ usize.MAX }
     ensures laid { (W : ℕ → Bool) → (r : ℕ) → (p : Position) → site_of (role_of p) ≡ site → Reads W r sheet.old.wraps.now → fits W (node_tree node.entry) (role_of p) r ≡ true → Printed W (seen (O.stands out.old sheet.old.room) sheet.old) (seen (O.stands out.new sheet.new.room) sheet.new) (node_tree node.entry) (role_of p) r depth }
@@ -87,6 +88,7 @@ fn print_node<O: Outlet>(node: Node, site: Site, depth: usize, sheet: &mut Sheet
 
 /// A node that has a row, in parentheses where it is wrapped.
 #[cycle(print)]
+#[inline(always)]
 fn print_row<O: Outlet>(node: Node, depth: usize, sheet: &mut Sheet, out: &mut O)
     requires { depth + height (node_tree node) ≤ usize.MAX }
     ensures laid { (W : ℕ → Bool) → (r : ℕ) → (p : Position) → site_of (role_of p) ≡ Row → Reads W r sheet.old.wraps.now → fits W (node_tree node.entry) (role_of p) r ≡ true → Printed W (seen (O.stands out.old sheet.old.room) sheet.old) (seen (O.stands out.new sheet.new.room) sheet.new) (node_tree node.entry) (role_of p) r depth }
@@ -103,6 +105,7 @@ fn print_row<O: Outlet>(node: Node, depth: usize, sheet: &mut Sheet, out: &mut O
 
 /// A node without parentheses of its own.
 #[cycle(print)]
+#[inline(always)]
 fn print_direct<O: Outlet>(node: Node, site: Site, depth: usize, sheet: &mut Sheet, out: &mut O)
     requires { depth + height (node_tree node) ≤ usize.MAX }
     ensures laid { (W : ℕ → Bool) → (r : ℕ) → (p : Position) → site_of (role_of p) ≡ site → Reads W r sheet.old.wraps.now → spelled_so W (parts_of (node_tree node.entry)) (ways (role_of p) (node_tree node.entry)) r ≡ true → Direct W (seen (O.stands out.old sheet.old.room) sheet.old) (seen (O.stands out.new sheet.new.room) sheet.new) (parts_of (node_tree node.entry)) (ways (role_of p) (node_tree node.entry)) r depth }
@@ -117,6 +120,7 @@ fn print_direct<O: Outlet>(node: Node, site: Site, depth: usize, sheet: &mut She
 
 /// A node by the sites of its parts.
 #[cycle(print)]
+#[inline(never)]
 fn print_spelled<O: Outlet>(node: Node, site: Site, depth: usize, sheet: &mut Sheet, out: &mut O)
     requires { depth + height (node_tree node) ≤ usize.MAX }
     ensures laid { (W : ℕ → Bool) → (r : ℕ) → (p : Position) → site_of (role_of p) ≡ site → Reads W r sheet.old.wraps.now → spelled_so W (parts_of (node_tree node.entry)) (ways (role_of p) (node_tree node.entry)) r ≡ true → Direct W (seen (O.stands out.old sheet.old.room) sheet.old) (seen (O.stands out.new sheet.new.room) sheet.new) (parts_of (node_tree node.entry)) (ways (role_of p) (node_tree node.entry)) r depth }
@@ -155,6 +159,7 @@ fn sign_in(text: &str) -> Option<Sign>
 
 /// A prefix with its operand.
 #[cycle(print)]
+#[inline(never)]
 fn print_signed<O: Outlet>(
     node: Node,
     sign: Sign,
@@ -187,9 +192,8 @@ fn print_framed<O: Outlet>(
     ensures laid { (W : ℕ → Bool) → (fs : List (List Bit)) → (os cs : List Bit) → map (λ p. bits_of p.now) frame.now.front.now ≡ map fused fs → bits_of frame.now.opener.now ≡ fused os → bits_of frame.now.closer.now ≡ fused cs → (xs : List Role) → (r : ℕ) → Reads W r sheet.old.wraps.now → parts_fit W (parts_of (node_tree node.entry)) xs r ≡ true → Stands walk.old.course (parts_of (node_tree node.entry)) xs → Written W (seen (O.stands out.old sheet.old.room) sheet.old) (seen (O.stands out.new sheet.new.room) sheet.new) (shape_marks (text_of (node_tree node.entry)) (record { front = fs; opener = os; chain = chain_of frame.now.series; closer = cs }) (parts_of (node_tree node.entry))) (parts_of (node_tree node.entry)) xs walk.old.alone depth r }
     ensures adds { Adds (O.stands out.old sheet.old.room) (O.stands out.new sheet.new.room) }
 {
-    let text = node.text();
     print_front(node, frame.front, walk, depth, sheet, out);
-    sheet.push_all(frame.opener, text, depth, walk.alone, out);
+    sheet.push_all(frame.opener, node, depth, walk.alone, out);
     let inside = inner_depth(frame.series, depth);
     print_list(
         node,
@@ -200,7 +204,7 @@ fn print_framed<O: Outlet>(
         sheet,
         out,
     );
-    sheet.push_all(frame.closer, text, depth, walk.alone, out);
+    sheet.push_all(frame.closer, node, depth, walk.alone, out);
 }
 
 /// The first parts, with what stands before each.
@@ -218,7 +222,7 @@ fn print_front<O: Outlet>(
     ensures adds { Adds (O.stands out.old sheet.old.room) (O.stands out.new sheet.new.room) }
 {
     for index in 0..front.len() {
-        sheet.push_all(front[index], node.text(), depth, walk.alone, out);
+        sheet.push_all(front[index], node, depth, walk.alone, out);
         print_part(node, index, walk, depth, sheet, out);
     }
 }
@@ -260,12 +264,11 @@ fn print_item<O: Outlet>(
     ensures laid { (W : ℕ → Bool) → (ms : List Mark) → (xs : List Role) → (r : ℕ) → Reads W r sheet.old.wraps.now → parts_fit W (parts_behind index (parts_of (node_tree node.entry))) xs r ≡ true → Stands walk.old.course (parts_behind index (parts_of (node_tree node.entry))) xs → Gone W (seen (O.stands out.old sheet.old.room) sheet.old) (seen (O.stands out.new sheet.new.room) sheet.new) (chain_marks (text_of (node_tree node.entry)) (chain_of series) (parts_behind index (parts_of (node_tree node.entry))) ++ ms) (chain_marks (text_of (node_tree node.entry)) (chain_of series) (parts_behind (suc index) (parts_of (node_tree node.entry))) ++ ms) (parts_behind index (parts_of (node_tree node.entry))) (parts_behind (suc index) (parts_of (node_tree node.entry))) xs walk.new.course walk.old.alone walk.new.alone depth r }
     ensures adds { Adds (O.stands out.old sheet.old.room) (O.stands out.new sheet.new.room) }
 {
-    let text = node.text();
     let behind = node.part_count() - index - 1;
-    sheet.push_all(before(series, behind == 0), text, depth, walk.alone, out);
+    sheet.push_all(before(series, behind == 0), node, depth, walk.alone, out);
     print_part(node, index, walk, depth, sheet, out);
     let is_gap = node.part(index).is_none();
-    sheet.push_all(after(series, is_gap, behind), text, depth, walk.alone, out);
+    sheet.push_all(after(series, is_gap, behind), node, depth, walk.alone, out);
 }
 
 /// How deep the parts of a list stand.
@@ -282,6 +285,7 @@ fn inner_depth(series: Series, depth: usize) -> usize
 
 /// The part at a place, if none is missing there.
 #[cycle(print)]
+#[inline(always)]
 #[tactic(auto, using(tree::proofs::PartWalk::part_steps))]
 fn print_part<O: Outlet>(
     node: Node,

@@ -49,8 +49,21 @@ impl Room {
         count <= PIECE - self.used
     }
 
-    /// Puts bytes behind those that wait. A short text is copied by its two ends, which may overlap.
+    /// Puts bytes behind those that wait: a single one, as most tokens are, in place.
+    #[inline(always)]
     fn add(&mut self, bytes: &[u8])
+        requires { length self.old + length bytes.now ≤ 4096 }
+        ensures { self.new ≡ self.old ++ bytes.now }
+    {
+        match bytes.len() {
+            1 => self.add_byte(bytes[0]),
+            _ => self.add_text(bytes),
+        }
+    }
+
+    /// The same for any number. A short text is copied by its two ends, which may overlap.
+    #[inline(never)]
+    fn add_text(&mut self, bytes: &[u8])
         requires { length self.old + length bytes.now ≤ 4096 }
         ensures { self.new ≡ self.old ++ bytes.now }
     {

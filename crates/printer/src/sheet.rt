@@ -1,12 +1,15 @@
 //! What is left of the rows, and what is written by them.
 
 ghost use Rattle.std.specs.Prelude.{codes, cond, ◌≡◌, ◌<◌, ◌∷◌, ◌++◌, ℕ, List, [], None, Some};
+ghost use Rattle.tree.specs.Node.{node_tree};
+ghost use Rattle.tree.specs.Tree.{text_of};
 ghost use Rattle.language.specs.Layout.{indent};
 ghost use Rattle.printer.specs.Standings.{Puts};
 ghost use Rattle.printer.specs.Sheets.{Writes, seen, held, sign_code, flag_at, other_flags, chunk_text, piece_text, pieces_text};
 
 use crate::pieces::{Piece, Sign};
 use crate::room::{Outlet, Room};
+use tree::Node;
 
 /// The levels of depth that one text has.
 const LEVELS: usize = 8;
@@ -43,6 +46,7 @@ impl<'w> Sheet<'w> {
     }
 
     /// Writes some characters.
+    #[inline(always)]
     pub fn push<O: Outlet>(&mut self, text: &str, out: &mut O)
         ensures written { Writes (seen (O.stands out.old self.old.room) self.old) (seen (O.stands out.new self.new.room) self.new) text.now }
         ensures parted { ¬ (text.now ≡ []) → self.new.apart ≡ None }
@@ -132,36 +136,64 @@ impl<'w> Sheet<'w> {
         }
     }
 
-    /// Writes the pieces of a node of this text, which stand at a depth; `alone` says that the part before isn't wrapped.
+    /// Writes the pieces of a node, which stand at a depth; `alone` says that the part before isn't wrapped.
+    #[inline(always)]
     pub fn push_all<O: Outlet>(
         &mut self,
         pieces: &[Piece],
-        text: &str,
+        node: Node,
         depth: usize,
         alone: bool,
         out: &mut O,
     )
-        ensures { Writes (seen (O.stands out.old self.old.room) self.old) (seen (O.stands out.new self.new.room) self.new) (pieces_text text.now depth alone pieces.now) }
+        ensures { Writes (seen (O.stands out.old self.old.room) self.old) (seen (O.stands out.new self.new.room) self.new) (pieces_text (text_of (node_tree node.entry)) depth alone pieces.now) }
+    {
+        match pieces {
+            [] => {}
+            [piece] => match *piece {
+                Piece::Token(token) => self.push(token, out),
+                _ => self.push_each(pieces, node, depth, alone, out),
+            },
+            _ => self.push_each(pieces, node, depth, alone, out),
+        }
+    }
+
+    /// The same, piece by piece.
+    #[inline(never)]
+    fn push_each<O: Outlet>(
+        &mut self,
+        pieces: &[Piece],
+        node: Node,
+        depth: usize,
+        alone: bool,
+        out: &mut O,
+    )
+        ensures { Writes (seen (O.stands out.old self.old.room) self.old) (seen (O.stands out.new self.new.room) self.new) (pieces_text (text_of (node_tree node.entry)) depth alone pieces.now) }
     {
         for piece in pieces {
-            self.push_piece(*piece, text, depth, alone, out);
+            self.push_piece(*piece, node, depth, alone, out);
         }
     }
 
     fn push_piece<O: Outlet>(
         &mut self,
         piece: Piece,
-        text: &str,
+        node: Node,
         depth: usize,
         alone: bool,
         out: &mut O,
     )
-        ensures { Writes (seen (O.stands out.old self.old.room) self.old) (seen (O.stands out.new self.new.room) self.new) (piece_text text.now depth alone piece) }
+        ensures { Writes (seen (O.stands out.old self.old.room) self.old) (seen (O.stands out.new self.new.room) self.new) (piece_text (text_of (node_tree node.entry)) depth alone piece) }
     {
         match piece {
             Piece::Token(token) => self.push(token, out),
-            Piece::Own => self.push(text, out),
-            Piece::Chunk { is_first, is_last } => self.push_chunk(text, is_first, is_last, out),
+            Piece::Own => self.push(node.text(), out),
+            Piece::Chunk { is_first, is_last } => self.push_chunk(
+                node.text(),
+                is_first,
+                is_last,
+                out,
+            ),
             Piece::Space => self.push(" ", out),
             Piece::Line => self.push_line(depth, out),
             Piece::Feed => self.push("\n", out),

@@ -50,6 +50,7 @@ pub enum Seat {
 }
 
 /// The site of a part of this kind, by its seat and whether it is the last.
+#[inline(always)]
 pub fn seated(seat: Seat, kind: Kind, is_last: bool) -> Site
     ensures { result ≡ seated_at seat kind is_last }
 {

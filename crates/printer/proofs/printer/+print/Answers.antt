@@ -1,17 +1,15 @@
-use Rattle.std.proofs.Common.{◌≡◌, ◌≤◌, suc, ◌+◌, ◌-◌, true, false, not, nat_eq, [], ◌∷◌, ◌++◌, length, drop, get_or, map, refl, sym, ap, ap₂, ◌∙◌, subst, arith}
+use Rattle.std.proofs.Common.{◌≡◌, ◌≤◌, suc, ◌+◌, ◌-◌, true, false, not, nat_eq, [], ◌++◌, length, drop, get_or, refl, sym, ap, ap₂, ◌∙◌, subst, arith}
 use Rattle.std.specs.Prelude.{option_map, is_none as is_missing}
 use Rattle.tree.specs.Tree.{parts_of, text_of, kind_of, flags_of, part_count}
 use Rattle.tree.specs.Node.{node_tree}
 use Rattle.language.specs.Grammar.{ways}
-use Rattle.positions.specs.declared.position.Position.{Position}
 use Rattle.positions.specs.Outlines.{role_of, whole_at, parts_behind}
 use Rattle.language.specs.Positions.{first_roles}
 use Rattle.printer.specs.Shapes.{shape_on}
 use Rattle.printer.specs.Sites.{seated_at, is_row, is_word}
 use Rattle.printer.proofs.SiteLemmas.{site_row, at_row, site_shape, site_word, seats}
-use Rattle.printer.specs.Bits.{here, bits_of, chain_of, fused, before_bits, after_bits}
+use Rattle.printer.specs.Bits.{bits_of, chain_of, fused, before_bits, after_bits}
 use Rattle.printer.proofs.Fusing.{map_length, map_at, written_bits}
-use Rattle.language.specs.Fits.{parts_fit}
 use Rattle.printer.specs.Printed.{marks_in, front_marks, chain_marks, shape_marks, signed_marks}
 use Rattle.printer.proofs.Items.{missing_part, gone_nothing, gone_then, stepped, stepped_chain, fronts_done, chain_done, fronts-next, chain-next, turn, trail, framed, part_turn, part_missing}
 use Rattle.language.specs.Layout.{first_way}
@@ -60,7 +58,7 @@ print_framed-returns-clause-laid g t c = λ W fs os cs ef eo ec xs r h k st.
     let n = node_tree c.args.node in
     let front = c.args.frame.now.front.now in
     let same : length fs ≡ length front = sym (map_length (λ p. bits_of p.now) fused front fs ef) in
-    framed W (text_of n) c.text-text.result.now c.text-text.ensures fs os cs (chain_of c.args.frame.now.series) (parts_of n) xs c.args.walk.now.course c.print_front.new.walk.course c.print_list.new.walk.course
+    framed W (text_of n) (text_of n) refl fs os cs (chain_of c.args.frame.now.series) (parts_of n) xs c.args.walk.now.course c.print_front.new.walk.course c.print_list.new.walk.course
     (length front) c.inner_depth-inside.result (sym same) c.inner_depth-inside.ensures.inner h k st
     (λ ms ys q a b s. c.print_front.ensures.laid W fs ef ms ys q a b s) (written_bits _ _ _ c.args.frame.now.opener.now os eo c.push_all.ensures)
     (λ ms ys q a b s. c.print_list.ensures.laid W ms ys q a b s) (written_bits _ _ _ c.args.frame.now.closer.now cs ec c.push_all-2.ensures)
@@ -75,7 +73,7 @@ print_front-loop-index-preserved g t c = record {
       let bound = c.loop-index-test.true in
       let ns = front_marks (text_of n) (drop (i + 1) fs) ms in
       stepped W (parts_of n) i
-      (turn W (get_or fs i []) c.text.result.now c.text.ensures (fronts-next (text_of n) fs i ms (omega (arith, same, bound))) (c.loop-index.invariant.laid W fs e ms xs r h k st)
+      (turn W (get_or fs i []) (text_of n) refl (fronts-next (text_of n) fs i ms (omega (arith, same, bound))) (c.loop-index.invariant.laid W fs e ms xs r h k st)
       (written_bits _ _ _ _ (get_or fs i []) (map_at (λ p. bits_of p.now) fused front fs i _ [] e bound) c.push_all.ensures) (λ ys q u v s. c.print_part.ensures.laid W ns ys q u v s));
   adds = adds_then c.loop-index.invariant.adds (adds_then (writes_adds c.push_all.ensures) c.print_part.ensures.adds);
 }
@@ -102,8 +100,8 @@ print_item-returns-clause-laid g t c = λ W ms xs r h k st.
     let behind = after_bits s (is_missing o) (nat_eq ((part_count P - i) - 1) 0) (nat_eq ((part_count P - i) - 1) 1) in
     let here_after : bits_of c.after.result.now ≡ fused behind =
     c.after.ensures ∙ (λ j. fused (after_bits s (missing_part node_tree c.part.result c.is_none-is_gap.result c.is_none-is_gap.ensures j) (nat_eq ((c.part_count.ensures j - i) - 1) 0) (nat_eq ((c.part_count.ensures j - i) - 1) 1))) in
-    trail W behind c.text-text.result.now c.text-text.ensures refl
-    (turn W bits c.text-text.result.now c.text-text.ensures
+    trail W behind w refl refl
+    (turn W bits w refl
     (chain-next w s P i o ms c.part.ensures c.requires.index)
     (gone_nothing W xs c.args.walk.now.course r h k st) (written_bits _ _ _ c.before-2.result.now bits here_before c.push_all.ensures) (λ ys q u z s. c.print_part.ensures.laid W (marks_in w behind ++ rest) ys q u z s))
     (written_bits _ _ _ c.after.result.now behind here_after c.push_all-2.ensures)
