@@ -1,9 +1,10 @@
 -- Backwards over the steps of a walk: what is added up is what the definition's nodes cost, and the rows are theirs.
-use Rattle.std.proofs.Common.{◌≡◌, ℕ, ◌+◌, true, cond, min, List, [], ◌∷◌, ◌++◌, Option, Some, None, refl, sym, ap, ◌∙◌, append_assoc, append-nil, arith}
+use Rattle.std.proofs.Common.{◌≡◌, ℕ, ◌+◌, true, false, cond, min, List, [], ◌∷◌, ◌++◌, Option, Some, None, refl, sym, ap, ◌∙◌, subst, append_assoc, append-nil, arith}
+use Rattle.std.proofs.lemmas.Bool.{false≢true, true≢false}
 use Rattle.tree.specs.Tree.{Tree, node, Parts, none, part, kind_of, parts_of}
 use Rattle.language.specs.declared.Rank.{Rank}
 use Rattle.language.specs.declared.Start.{Start}
-use Rattle.language.specs.Pieces.{Role, expr, pattern, script, Slot, fixed, left as left_slot, lead, tail, callee, lead_spine, lead_pattern}
+use Rattle.language.specs.Pieces.{Role, expr, spine, pattern, script, Slot, fixed, left as left_slot, lead, tail, callee, lead_spine, lead_pattern}
 use Rattle.language.specs.Grammar.{ways}
 use Rattle.language.specs.Positions.{first_roles, widest}
 use Rattle.language.specs.Cost.{add_cost, least}
@@ -21,8 +22,9 @@ use Rattle.paren_planner.specs.declared.steps.Step.TheVariants.{Leaf, Enter, Lea
 use Rattle.paren_planner.specs.Costs.{capped, capped_sum, each, cost_at, sums, same_everywhere, cells_at}
 use Rattle.paren_planner.specs.Weighed.{settled_at, uses, fitting, sums_over, IsWeighed}
 use Rattle.paren_planner.specs.Rows.{row_with, row_of, own_row, table_rows, parts_table}
-use Rattle.paren_planner.specs.Steps.{label_of, outline_of, has_row_at, no_pairs, IsHeld, weighed_as, weighed_of, row_of_visit, Sums, joined, taken, taken_from, at_the_end}
-use Rattle.paren_planner.specs.Noted.{IsVisit, Steps, unspelled, alone, around, PartsSteps, over, skipped, unplaced, next}
+use Rattle.paren_planner.specs.Steps.{label_of, outline_of, has_row_at, slot_free, is_plain_outline, no_pairs, IsHeld, weighed_as, weighed_of, row_of_visit, Sums, joined, taken, taken_from, at_the_end}
+use Rattle.paren_planner.specs.Noted.{IsVisit, Steps, unspelled, alone, around, hidden, through, is_settled, is_settled_slot, PartsSteps, over, skipped, unplaced, next}
+use Rattle.paren_planner.proofs.Plainly.{plain_uses}
 use Rattle.paren_planner.proofs.Sums.{sums-assoc, sums-zero, zero-zero, zero-sums}
 use Rattle.paren_planner.proofs.Known.{least_known}
 use Rattle.paren_planner.proofs.Filled.{sums-part, sums-gap, sums-end, sums-stop, table-part, table-gap, table-end, table-stop, table-empty, weighed_some, weighed_none, roles_some, roles_none}
@@ -136,6 +138,81 @@ taken_around v ys t = ap (taken (Enter v)) (taken_append ys (Leave ∷ []) t)
 no_rows : (t : Sums) (rs : List Row) → rs ≡ [] → t ≡ record { here = t.here; outer = t.outer; rows = rs ++ t.rows }
 no_rows t rs e = λ j. record { here = t.here; outer = t.outer; rows = sym e j ++ t.rows }
 
+-- A node that has no step of its own
+
+rowless_free : (s : Slot) (z : Rank) → has_row_at s ≡ false → slot_free s z ≡ true
+rowless_free (fixed (expr y i f)) z h = absurd (true≢false h)
+rowless_free (fixed b) z h = refl
+rowless_free (left_slot y) z h = absurd (true≢false h)
+rowless_free (lead y) z h = absurd (true≢false h)
+rowless_free (tail y x) z h = absurd (true≢false h)
+rowless_free callee z h = absurd (true≢false h)
+rowless_free lead_spine z h = refl
+rowless_free lead_pattern z h = refl
+
+pub settled_rowless : (s : Slot) → is_settled_slot s ≡ true → has_row_at s ≡ false
+settled_rowless (fixed (expr y i f)) h = absurd (false≢true h)
+settled_rowless (fixed b) h = refl
+settled_rowless (left_slot y) h = absurd (false≢true h)
+settled_rowless (lead y) h = absurd (false≢true h)
+settled_rowless (tail y x) h = absurd (false≢true h)
+settled_rowless callee h = absurd (false≢true h)
+settled_rowless lead_spine h = absurd (false≢true h)
+settled_rowless lead_pattern h = absurd (false≢true h)
+
+settled_role : (ps : Parts) (b : Role) (x : Outline) (ss : List Slot) → is_settled b ≡ true → (a : Role) →
+    sums_over ps (widest b) ss ≡ uses a (fixed b) (record { outline = Some x; costs = fitting (widest b) x (sums_over ps (widest b) ss) })
+settled_role ps (expr y i f) x ss h a = absurd (false≢true h)
+settled_role ps (spine f) x ss h a = absurd (false≢true h)
+settled_role ps (pattern c f) x ss h a = absurd (false≢true h)
+settled_role ps b x ss h a = refl
+
+settled_uses : (ps : Parts) (a : Role) (s : Slot) (x : Outline) (ss : List Slot) → is_settled_slot s ≡ true →
+    sums_over ps (widest (settled_at a s)) ss ≡ uses a s (record { outline = Some x; costs = fitting (widest (settled_at a s)) x (sums_over ps (widest (settled_at a s)) ss) })
+settled_uses ps a (fixed b) x ss h = settled_role ps b x ss h a
+settled_uses ps a (left_slot y) x ss h = absurd (false≢true h)
+settled_uses ps a (lead y) x ss h = absurd (false≢true h)
+settled_uses ps a (tail y f) x ss h = absurd (false≢true h)
+settled_uses ps a callee x ss h = absurd (false≢true h)
+settled_uses ps a lead_spine x ss h = absurd (false≢true h)
+settled_uses ps a lead_pattern x ss h = absurd (false≢true h)
+
+hidden_node : (a : Role) (s : Slot) (n : Tree) (x : Spelled) (t : Sums) → IsSpelledWherever (widest (settled_at a s)) n (Some x) → is_plain_outline x.outline ≡ true → parts_of n ≡ none → has_row_at s ≡ false → IsHeld t.here → Joined a s n t t
+hidden_node a s n x t k p e r h =
+    let b : Role = widest (settled_at a s) in
+    let o : Outline = outline_of (label_of x.outline) in
+    let d : own.Costs = fitting b x.outline no_pairs in
+    let w : IsWeighed (settled_at a s) n (record { outline = Some o; costs = d }) =
+    weighed_outlined (settled_at a s) n x.outline d (weighed_some (settled_at a s) n x k no_pairs d (sym (sums-end b (left x.slots)) ∙ ap (λ ps. sums_over ps b (left x.slots)) (sym e)) refl) in
+    let nothing : uses a s (record { outline = Some o; costs = d }) ≡ no_pairs =
+    ap (λ c. uses a s (record { outline = Some o; costs = c })) (sym (fitting_outlined b x.outline no_pairs)) ∙ plain_uses s o b p (rowless_free s o.rank r) a in
+    let rows : [] ≡ table_rows n (settled_at a s) =
+    sym (nothing_below n (settled_at a s) e)
+    ∙ ap (λ u. u ++ below n (settled_at a s)) (ap (λ u. cond u (row_of n ∷ []) []) (sym r) ∙ own_row_at s a (row_of n))
+    ∙ rows_of_node n (settled_at a s) in
+    record {
+      weighed = record { outline = Some o; costs = d };
+      known = w;
+      is = λ j. record { here = (sym h ∙ ap (sums t.here) (sym nothing)) j; outer = t.outer; rows = rows j ++ t.rows };
+    }
+
+settled_here : (a : Role) (s : Slot) (n : Tree) (x : Spelled) (t u : Sums) → IsSpelledWherever (widest (settled_at a s)) n (Some x) → is_settled_slot s ≡ true →
+    u ≡ record { here = sums t.here (sums_over (parts_of n) (widest (settled_at a s)) (left x.slots)); outer = t.outer; rows = parts_table (parts_of n) (settled_roles (widest (settled_at a s)) (left x.slots)) ++ t.rows } → Joined a s n t u
+settled_here a s n x t u k r h =
+    let b : Role = widest (settled_at a s) in
+    let c : own.Costs = sums_over (parts_of n) b (left x.slots) in
+    let d : own.Costs = fitting b x.outline c in
+    let w : IsWeighed (settled_at a s) n (record { outline = Some x.outline; costs = d }) = weighed_some (settled_at a s) n x k c d refl refl in
+    let rows : parts_table (parts_of n) (settled_roles b (left x.slots)) ≡ table_rows n (settled_at a s) =
+    ap (parts_table (parts_of n)) (sym (roles_some (settled_at a s) n x k))
+    ∙ ap (λ v. v ++ below n (settled_at a s)) (ap (λ v. cond v (row_of n ∷ []) []) (sym (settled_rowless s r)) ∙ own_row_at s a (row_of n))
+    ∙ rows_of_node n (settled_at a s) in
+    record {
+      weighed = record { outline = Some x.outline; costs = d };
+      known = w;
+      is = h ∙ (λ j. record { here = sums t.here (settled_uses (parts_of n) a s x.outline (left x.slots) r j); outer = t.outer; rows = rows j ++ t.rows });
+    }
+
 mutual
   unfolding taken_from
 
@@ -158,6 +235,9 @@ mutual
       (ap (λ u. taken_from u t) e ∙ taken_around v ys t
       ∙ ap (taken (Enter v)) (parts_taken q (record { here = no_pairs; outer = t.here ∷ t.outer; rows = t.rows }) zero-zero)
       ∙ ap (λ r. joined v o (record { here = t.here; outer = t.outer; rows = parts_table (parts_of n) r ++ t.rows })) (sym (roles_some (settled_at a s) n x k)))
+
+  node_taken {a} {s} {n} {xs} (hidden x k p e r z) t h = subst (Joined a s n t) (sym (ap (λ u. taken_from u t) z)) (hidden_node a s n x t k p e r h)
+  node_taken {a} {s} {n} {xs} (through x k r g q) t h = settled_here a s n x t (taken_from xs t) k r (parts_taken q t h)
 
   pub parts_taken : {a : Role} {ss : List Slot} {ps : Parts} {xs : List Step} → PartsSteps a ss ps xs → (t : Sums) → IsHeld t.here →
       taken_from xs t ≡ record { here = sums t.here (sums_over ps a ss); outer = t.outer; rows = parts_table ps (settled_roles a ss) ++ t.rows }

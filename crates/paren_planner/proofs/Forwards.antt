@@ -1,7 +1,7 @@
 -- Forwards over the steps of a walk: the flags are the definition's.
 use Rattle.std.proofs.Common.{◌≡◌, ℕ, zero, suc, ◌+◌, ◌≤◌, Bool, true, false, cond, min, List, [], ◌∷◌, ◌++◌, length, drop, Option, Some, None, refl, sym, ap, ◌∙◌, subst, append_assoc, append-nil, arith}
 use Rattle.std.specs.Prelude.{◌&&◌, not, slice_get}
-use Rattle.std.proofs.lemmas.Bool.{false≢true, and_parts}
+use Rattle.std.proofs.lemmas.Bool.{false≢true, true≢false, and_parts}
 use Rattle.std.proofs.lemmas.List.{replicate-append-replicate}
 use Rattle.tree.specs.Tree.{Tree, node, Parts, none, parts_of}
 use Rattle.language.specs.declared.Rank.{Rank}
@@ -13,6 +13,7 @@ use Rattle.language.specs.Grammar.{ways}
 use Rattle.language.specs.Positions.{first_roles, widest, has_row, rows, parts_rows}
 use Rattle.language.specs.Layout.{some_way, wants_pair, inside, parts_wrapped}
 use Rattle.language.specs.Cost.{if_any, cell, cell_position, parts_least}
+use Rattle.positions.specs.declared.outline.Outline.{Outline}
 use Rattle.positions.specs.declared.spelled.Spelled.{Spelled}
 use Rattle.positions.specs.Outlines.{slot_of}
 use Rattle.positions.specs.Spelled.{fits_outline, settled_roles, Verdict}
@@ -31,14 +32,14 @@ use Rattle.paren_planner.specs.Weighed.{settled_at, cost_of, fits_spelled}
 use Rattle.paren_planner.specs.Rows.{row_of, is_expression, table_rows, parts_table}
 use Rattle.paren_planner.specs.Wrapped.{unwrapped, flags, parts_flags, inner_flags, HasRows}
 use Rattle.paren_planner.specs.Steps.{label_of, stands_at, has_row_at}
-use Rattle.paren_planner.specs.Noted.{IsVisit, Steps, unspelled, alone, around, PartsSteps, over, skipped, unplaced, next}
+use Rattle.paren_planner.specs.Noted.{IsVisit, Steps, unspelled, alone, around, hidden, through, is_settled_slot, is_fixed, are_fixed, PartsSteps, over, skipped, unplaced, next}
 use Rattle.paren_planner.specs.Marked.{Round, Marks, fits_label, wants, is_free, around_parts, flag_at, round_at, plain_round, flag_of, round_of, marked, marked_through, at_the_start}
 use Rattle.paren_planner.proofs.Known.{own_widest, counted}
 use Rattle.paren_planner.proofs.Filled.{roles_some}
 use Rattle.paren_planner.proofs.Wrapping.{parts-rows, parts-flags-length, parts-numbers, no_number, rows-empty, no_roles}
 use Rattle.paren_planner.proofs.Turns.{front_rows, table_turn, inner_some, inner_none, plain_flags, wanted, table_below, rows_below, own_standing, own_few, own_result, plain_standing, plain_few, spelled_inside, all_rows}
 use Rattle.paren_planner.proofs.Totals.{parts_count, cell_roles}
-use Rattle.paren_planner.proofs.Backwards.{fits_outlined}
+use Rattle.paren_planner.proofs.Backwards.{fits_outlined, settled_rowless}
 
 -- The steps
 
@@ -128,6 +129,33 @@ no_part_rows n xs h = ap (λ ps. parts_rows ps xs) h
 no_way_rows : (a : Role) (s : Slot) (n : Tree) → IsSpelledWherever (widest (settled_at a s)) n None → parts_rows (parts_of n) (first_roles (ways (widest (settled_at a s)) n)) ≡ 0
 no_way_rows a s n k = ap (λ u. parts_rows (parts_of n) (first_roles u)) (subst (λ b. ways b n ≡ []) (own_widest Expression true Any (settled_at a s) ∙ Rattle.paren_planner.proofs.Wrapping.widest_own (settled_at a s)) (k Expression true Any)) ∙ rows-empty (parts_of n)
 
+-- A node that has no step of its own
+
+no_row_here : (s : Slot) (a : Role) → has_row_at s ≡ false → has_row (settled_at a s) ≡ 0
+no_row_here (fixed (expr y i f)) a h = absurd (true≢false h)
+no_row_here (fixed b) a h = refl
+no_row_here (left_slot y) a h = absurd (true≢false h)
+no_row_here (lead y) a h = absurd (true≢false h)
+no_row_here (tail y x) a h = absurd (true≢false h)
+no_row_here callee a h = absurd (true≢false h)
+no_row_here lead_spine a h = refl
+no_row_here lead_pattern a h = refl
+
+hidden_rows : (a : Role) (s : Slot) (n : Tree) → has_row_at s ≡ false → parts_of n ≡ none → rows n (settled_at a s) ≡ 0
+hidden_rows a s n h e =
+    let r = rows_split n (settled_at a s) in
+    let z = no_part_rows n (first_roles (ways (widest (settled_at a s)) n)) e in
+    let o = no_row_here s a h in
+    omega (arith, r, z, o)
+
+through_rows : (a : Role) (s : Slot) (n : Tree) (x : Spelled) → IsSpelledWherever (widest (settled_at a s)) n (Some x) → is_settled_slot s ≡ true →
+    parts_rows (parts_of n) (settled_roles (widest (settled_at a s)) (left x.slots)) ≡ rows n (settled_at a s)
+through_rows a s n x k h =
+    let r = rows_split n (settled_at a s) in
+    let z : parts_rows (parts_of n) (settled_roles (widest (settled_at a s)) (left x.slots)) ≡ parts_rows (parts_of n) (first_roles (ways (widest (settled_at a s)) n)) = ap (parts_rows (parts_of n)) (sym (roles_some (settled_at a s) n x k)) in
+    let o = no_row_here s a (settled_rowless s h) in
+    omega (arith, r, z, o)
+
 mutual
   unfolding marked_through parts_rows
 
@@ -146,6 +174,11 @@ mutual
       ∙ ap (marked T Leave) (dead_parts T q (record { here = t.here; outer = t.here ∷ t.outer; flags = t.flags ++ unwrapped (has_row (settled_at a s)) }) h)
       ∙ flagged_twice t (unwrapped (has_row (settled_at a s))) (unwrapped r)
       ∙ ap (flagged t) (unwrapped_sum (has_row (settled_at a s)) r ∙ ap unwrapped count)
+
+  dead_node T {a} {s} {n} (hidden x k p e r z) t h =
+      ap (λ u. marked_through T u t) z ∙ flagged_not t ∙ ap (λ m. flagged t (unwrapped m)) (sym (hidden_rows a s n r e))
+  dead_node T {a} {s} {n} (through x k r g q) t h =
+      dead_parts T q t h ∙ ap (λ m. flagged t (unwrapped m)) (through_rows a s n x k r)
 
   dead_parts : (T : List Row) {a : Role} {ss : List Slot} {ps : Parts} {xs : List Step} → PartsSteps a ss ps xs → (t : Marks) → t.here.lives ≡ false → marked_through T xs t ≡ flagged t (unwrapped (parts_rows ps (settled_roles a ss)))
   dead_parts T over t h = flagged_not t
@@ -325,6 +358,61 @@ within_parts : (T : List Row) (xs : List Step) (o : Role) (l : Bool) (us : List 
 within_parts T xs o true us bs P U h k = k refl
 within_parts T xs o false us bs P U h k = h
 
+-- a node that has no step of its own, and no row
+rowless : (s : Slot) (o : Role) → has_row_at s ≡ false → is_expression (settled_at o s) ≡ false
+rowless s o h = sym (is_row s o) ∙ h
+
+hidden_flags : (o : Role) (s : Slot) (n : Tree) → has_row_at s ≡ false → parts_of n ≡ none → flags n (settled_at o s) ≡ []
+hidden_flags o s n h e = sym (plain_flags n (settled_at o s) true (rowless s o h)) ∙ inner_bare n (settled_at o s) e
+
+settled_fits : (s : Slot) (o : Role) (x : Outline) → is_settled_slot s ≡ true → fits_outline (settled_at o s) x ≡ true
+settled_fits (fixed (expr y i f)) o x h = absurd (false≢true h)
+settled_fits (fixed (spine f)) o x h = absurd (false≢true h)
+settled_fits (fixed (pattern b f)) o x h = absurd (false≢true h)
+settled_fits (fixed a) o x h = refl
+settled_fits (left_slot y) o x h = absurd (false≢true h)
+settled_fits (lead y) o x h = absurd (false≢true h)
+settled_fits (tail y f) o x h = absurd (false≢true h)
+settled_fits callee o x h = absurd (false≢true h)
+settled_fits lead_spine o x h = absurd (false≢true h)
+settled_fits lead_pattern o x h = absurd (false≢true h)
+
+fixed_same : (s : Slot) (a b : Role) → is_fixed s ≡ true → settled_at a s ≡ settled_at b s
+fixed_same (fixed r) a b h = refl
+fixed_same (left_slot y) a b h = absurd (false≢true h)
+fixed_same (lead y) a b h = absurd (false≢true h)
+fixed_same (tail y f) a b h = absurd (false≢true h)
+fixed_same callee a b h = absurd (false≢true h)
+fixed_same lead_spine a b h = absurd (false≢true h)
+fixed_same lead_pattern a b h = absurd (false≢true h)
+
+fixed_roles : (ss : List Slot) (a b : Role) → are_fixed ss ≡ true → settled_roles a ss ≡ settled_roles b ss
+fixed_roles [] a b h = refl
+fixed_roles (s ∷ ss) a b h = let p = and_parts (is_fixed s) (are_fixed ss) h in λ j. fixed_same s a b p.0 j ∷ fixed_roles ss a b p.1 j
+
+-- what is known of such a node's parts, as they stand in the node above
+record Through (T : List Row) (o : Role) (bs : List Bool) (n : Tree) (p : Role) (ss : List Slot) : Type 0 where
+  plain : all_pass is_plain (settled_roles o ss) ≡ true
+  stands : HasRows T (length bs) (parts_table (parts_of n) (settled_roles o ss))
+  few : parts_rows (parts_of n) (settled_roles o ss) ≤ 16777216
+  result : parts_flags (parts_of n) (settled_roles o ss) ≡ flags n p
+
+passed : (T : List Row) (o : Role) (bs : List Bool) (s : Slot) (n : Tree) (x : Spelled) → IsSpelledWherever (settled_at o s) n (Some x) → is_settled_slot s ≡ true → are_fixed (left x.slots) ≡ true →
+    HasRows T (length bs) (table_rows n (settled_at o s)) → rows n (settled_at o s) ≤ 16777216 → Through T o bs n (settled_at o s) (left x.slots)
+passed T o bs s n x k r g st few =
+    let p : Role = settled_at o s in
+    let ss : List Slot = left x.slots in
+    let h : is_expression p ≡ false = rowless s o (settled_rowless s r) in
+    let fit : fits_outline p x.outline ≡ true = settled_fits s o x.outline r in
+    let same : settled_roles p ss ≡ settled_roles o ss = fixed_roles ss p o g in
+    let U : List Bool = unwrapped (parts_rows (parts_of n) (settled_roles p ss)) in
+    record {
+      plain = subst (λ rs. all_pass is_plain rs ≡ true) ((here_roles p n x k fit).1 ∙ same) (parts_plain p n);
+      stands = subst (HasRows T (length bs)) (table_below p n x k ∙ ap (parts_table (parts_of n)) same) (plain_standing T (length bs) n p h st);
+      few = subst (λ m. m ≤ 16777216) (rows_below p n x k ∙ ap (parts_rows (parts_of n)) same) (plain_few n p 16777216 h few);
+      result = ap (parts_flags (parts_of n)) (sym same) ∙ ap (λ u. cond (true && u) (parts_flags (parts_of n) (settled_roles p ss)) U) (sym fit) ∙ inner_some p n x true k ∙ plain_flags n p true h;
+    }
+
 mutual
   unfolding marked_through parts_flags parts_table parts_rows
 
@@ -358,6 +446,13 @@ mutual
       (subst (HasRows T (length gs)) (table_below x.own n y x.known) x.stands)
       (subst (λ m. m ≤ 16777216) (rows_below x.own n y x.known) x.few)))
       ∙ ap (λ u. record { here = living o; outer = us; flags = u }) (x.result (gs ++ cond (F && not x.quiet) P U) (ap (λ u. gs ++ u) whole))
+
+  live_node T {a} {s} {n} (hidden x k p e r z) o us bs pl st few =
+      ap (λ u. marked_through T u (record { here = living o; outer = us; flags = bs })) z
+      ∙ (λ j. record { here = living o; outer = us; flags = (sym (append-nil bs) ∙ ap (λ u. bs ++ u) (sym (hidden_flags o s n r e))) j })
+  live_node T {a} {s} {n} (through x k r g q) o us bs pl st few =
+      let y : Through T o bs n (settled_at o s) (left x.slots) = passed T o bs s n x (spelled_at a o s n (Some x) k) r g st few in
+      live_parts T q o us bs y.plain y.stands y.few ∙ ap (λ u. record { here = living o; outer = us; flags = bs ++ u }) y.result
 
   live_parts : (T : List Row) {a : Role} {ss : List Slot} {ps : Parts} {xs : List Step} → PartsSteps a ss ps xs → (o : Role) (us : List Round) (bs : List Bool) → all_pass is_plain (settled_roles o ss) ≡ true →
       HasRows T (length bs) (parts_table ps (settled_roles o ss)) → parts_rows ps (settled_roles o ss) ≤ 16777216 →

@@ -1,17 +1,25 @@
 -- What the walk over a script has noted, turn by turn.
-use Rattle.std.proofs.Common.{◌≡◌, List, [], ◌∷◌, ◌++◌, Some, None, arith, refl, sym, ap, ◌∙◌, subst, append_assoc, append-nil}
+use Rattle.std.proofs.Common.{◌≡◌, Bool, true, false, ◌&&◌, List, [], ◌∷◌, ◌++◌, Some, None, arith, refl, sym, ap, ◌∙◌, subst, append_assoc, append-nil}
 use Rattle.tree.specs.Tree.{Tree, Parts, none, part, gap, kind_of, parts_of, part_count}
 use Rattle.language.specs.Pieces.{Role, Slot}
 use Rattle.language.specs.Positions.{widest}
 use Rattle.positions.specs.declared.spelled.Spelled.{Spelled}
-use Rattle.positions.specs.Remaining.{left}
+use Rattle.std.specs.Prelude.{Result, OnOk, Ok, Err}
+use Rattle.std.proofs.lemmas.Bool.{and_parts}
+use Rattle.positions.specs.declared.outline.Front.{Front}
+use Rattle.positions.specs.declared.outline.Front.TheVariants as front
+use Rattle.positions.specs.declared.outline.Tail.{Tail}
+use Rattle.positions.specs.declared.outline.Tail.TheVariants as tail
+use Rattle.positions.specs.declared.outline.Outline.{Outline}
+use Rattle.positions.specs.Outlines.{slot_of, parts_behind}
+use Rattle.positions.specs.Remaining.{left, slots_left, front_left}
 use Rattle.positions.specs.Wherever.{IsSpelledWherever}
 use Rattle.paren_planner.specs.declared.steps.Visit.{Visit}
 use Rattle.paren_planner.specs.declared.steps.Step.{Step}
 use Rattle.paren_planner.specs.declared.steps.Step.TheVariants.{Leaf, Enter, Leave}
 use Rattle.paren_planner.specs.Weighed.{settled_at}
-use Rattle.paren_planner.specs.Steps.{label_of, nowhere}
-use Rattle.paren_planner.specs.Noted.{IsVisit, Steps, unspelled, alone, around, PartsSteps, over, skipped, unplaced, next, Noted, PartsNoted}
+use Rattle.paren_planner.specs.Steps.{label_of, nowhere, has_row_at, is_plain_outline}
+use Rattle.paren_planner.specs.Noted.{IsVisit, is_settled_slot, is_fixed, are_fixed, fixed_front, fixed_tail, fixed_outline, Steps, unspelled, alone, around, hidden, through, PartsSteps, over, skipped, unplaced, next, Noted, PartsNoted}
 
 -- whatever the parts that are left show, with what was noted all parts show
 pub record Begun (a : Role) (ss rest : List Slot) (ps others : Parts) (old now : List Step) : Type 0 where
@@ -72,6 +80,58 @@ noted_around a b s n v x old mid within new i l w k e p f = record {
   added = f ∙ ap (λ xs. xs ++ Leave ∷ []) (p.added ∙ ap (λ xs. xs ++ p.steps) e ∙ append_assoc old (Enter v ∷ []) p.steps) ∙ append_assoc old (Enter v ∷ p.steps) (Leave ∷ []);
   are = around v x p.steps i l (subst (λ c. IsSpelledWherever c n (Some x)) w k) (subst (λ c. PartsSteps c (left x.slots) (parts_of n) p.steps) w p.are) refl;
 }
+
+pub noted_hidden : (a b : Role) (s : Slot) (n : Tree) (x : Spelled) (old : List Step) → b ≡ widest (settled_at a s) → IsSpelledWherever b n (Some x) → is_plain_outline x.outline ≡ true → part_count (parts_of n) ≡ 0 → has_row_at s ≡ false → Noted a s n old old
+noted_hidden a b s n x old w k o p r = record { steps = []; added = sym (append-nil old); are = hidden x (subst (λ c. IsSpelledWherever c n (Some x)) w k) o (no_parts (parts_of n) p) r refl }
+
+pub noted_through : {A E : Type 0} (q : Result A E) (a b : Role) (s : Slot) (n : Tree) (x : Spelled) (old new : List Step) → b ≡ widest (settled_at a s) → IsSpelledWherever b n (Some x) → is_settled_slot s ≡ true → are_fixed (left x.slots) ≡ true →
+    OnOk q (PartsNoted b (left x.slots) (parts_of n) old new) → OnOk q (Noted a s n old new)
+noted_through (Ok u) a b s n x old new w k r g p = record {
+  steps = p.steps;
+  added = p.added;
+  are = through x (subst (λ c. IsSpelledWherever c n (Some x)) w k) r g (subst (λ c. PartsSteps c (left x.slots) (parts_of n) p.steps) w p.are);
+}
+noted_through (Err u) a b s n x old new w k r g p = p
+
+-- Slots that are positions
+
+both : (a b : Bool) → a ≡ true → b ≡ true → (a && b) ≡ true
+both true true h e = refl
+both true false h e = e
+both false b h e = h
+
+tail_fixed : (t : Tail) (ps : Parts) → fixed_tail t ≡ true → are_fixed (slots_left t ps) ≡ true
+tail_fixed t none h = refl
+tail_fixed tail.Nothing (gap ps) h = refl
+tail_fixed tail.Nothing (part n ps) h = refl
+tail_fixed (tail.Each a) (gap ps) h = refl
+tail_fixed (tail.Each a) (part n ps) h = both (is_fixed (slot_of a)) (are_fixed (slots_left (tail.Each a) ps)) h (tail_fixed (tail.Each a) ps h)
+tail_fixed (tail.Some a) (gap ps) h = refl
+tail_fixed (tail.Some a) (part n ps) h = both (is_fixed (slot_of a)) (are_fixed (slots_left (tail.Each a) ps)) h (tail_fixed (tail.Each a) ps h)
+tail_fixed (tail.Prologue r b) (gap ps) h = refl
+tail_fixed (tail.Prologue r b) (part n ps) h = tail_fixed (tail.Prologue r (b && (Rattle.tree.specs.Tree.flags_of n).directive)) ps refl
+tail_fixed _ ps h = absurd (Rattle.std.proofs.lemmas.Bool.false≢true h)
+
+front_fixed : (f : Front) (ss : List Slot) → fixed_front f ≡ true → are_fixed ss ≡ true → are_fixed (front_left f ss) ≡ true
+front_fixed front.Zero ss h e = e
+front_fixed (front.One a) ss h e = both _ _ h e
+front_fixed (front.Two a b) ss h e =
+    let p = and_parts (is_fixed (slot_of a)) (is_fixed (slot_of b)) h in
+    both _ _ p.0 (both _ _ p.1 e)
+front_fixed (front.Three a b c) ss h e =
+    let p = and_parts (is_fixed (slot_of a)) (is_fixed (slot_of b) && is_fixed (slot_of c)) h in
+    let q = and_parts (is_fixed (slot_of b)) (is_fixed (slot_of c)) p.1 in
+    both _ _ p.0 (both _ _ q.0 (both _ _ q.1 e))
+front_fixed (front.Four a b c d) ss h e =
+    let p = and_parts (is_fixed (slot_of a)) (is_fixed (slot_of b) && (is_fixed (slot_of c) && is_fixed (slot_of d))) h in
+    let q = and_parts (is_fixed (slot_of b)) (is_fixed (slot_of c) && is_fixed (slot_of d)) p.1 in
+    let r = and_parts (is_fixed (slot_of c)) (is_fixed (slot_of d)) q.1 in
+    both _ _ p.0 (both _ _ q.0 (both _ _ r.0 (both _ _ r.1 e)))
+
+pub outline_fixed : (x : Outline) (ps : Parts) → fixed_outline x ≡ true → are_fixed (front_left x.front (slots_left x.tail ps)) ≡ true
+outline_fixed x ps h =
+    let p = and_parts (fixed_front x.front) (fixed_tail x.tail) h in
+    front_fixed x.front (slots_left x.tail ps) p.0 (tail_fixed x.tail ps p.1)
 
 -- the steps of a whole script
 pub noted_first : (a : Role) (s : Slot) (n m : Tree) (old new : List Step) → n ≡ m → old ≡ [] → Noted a s n old new → Steps a s m new

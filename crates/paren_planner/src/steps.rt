@@ -105,11 +105,18 @@ impl Visit {
     pub(crate) fn has_row(self) -> bool
         ensures { result ≡ has_row_at (slot_of self.slot) }
     {
-        match self.slot {
-            Slot::Fixed(position) => matches!(position, Position::Expression { .. }),
-            Slot::LeadSpine | Slot::LeadPattern => false,
-            _ => true,
-        }
+        has_row(self.slot)
+    }
+}
+
+/// Whether a node at a slot has a row.
+pub(crate) fn has_row(slot: Slot) -> bool
+    ensures { result ≡ has_row_at (slot_of slot) }
+{
+    match slot {
+        Slot::Fixed(position) => matches!(position, Position::Expression { .. }),
+        Slot::LeadSpine | Slot::LeadPattern => false,
+        _ => true,
     }
 }
 

@@ -10,11 +10,12 @@ ghost use Rattle.positions.specs.Outlines.{role_of, slot_of};
 ghost use Rattle.positions.specs.Remaining.{left};
 ghost use Rattle.positions.specs.Wherever.{spelled_by};
 ghost use Rattle.paren_planner.specs.declared.steps.Step.TheVariants.{Leaf};
-ghost use Rattle.paren_planner.specs.Noted.{Noted, PartsNoted};
+ghost use Rattle.positions.specs.Productions.{outline_of};
+ghost use Rattle.paren_planner.specs.Noted.{Noted, PartsNoted, is_settled_slot, fixed_outline};
 ghost use Rattle.paren_planner.specs.Steps.{nowhere};
 ghost use Rattle.paren_planner.specs.Weighed.{settled_at};
 
-use crate::steps::{Label, Step, Visit};
+use crate::steps::{Label, Step, Visit, has_row};
 use crate::weighed::widest;
 use language::{Rank, Start};
 use positions::{
@@ -39,6 +40,9 @@ pub(crate) fn visit_node(
 {
     let own = widest_of(slot);
     if is_leaf(node, own) {
+        if !has_row(slot) {
+            return Ok(());
+        }
         steps.push(Step::Leaf(Visit {
             kind: node.kind(),
             above,
@@ -75,6 +79,9 @@ fn visit_at(
         }))?;
         return Ok(());
     };
+    if is_settled(slot) && has_fixed_slots(production) {
+        return visit_parts(node, own, production, steps);
+    }
     let visit = Visit {
         kind,
         above,
@@ -118,6 +125,48 @@ fn visit_parts(
         visit_node(part, own, slot, in_chain, steps)?;
     }
     Ok(())
+}
+
+/// Whether a slot is a position that hands on no symbol, In and start of its own, and takes whatever is spelled there.
+fn is_settled(slot: Slot) -> bool
+    ensures { result ≡ is_settled_slot (slot_of slot) }
+{
+    match slot {
+        Slot::Fixed(
+            Position::Expression { .. } | Position::Spine { .. } | Position::Pattern { .. },
+        ) => false,
+        Slot::Fixed(_) => true,
+        _ => false,
+    }
+}
+
+/// Whether it is seen at once that each slot of a production is a position.
+fn has_fixed_slots(production: Production) -> bool
+    ensures { result ≡ true → fixed_outline (outline_of production) ≡ true }
+{
+    matches!(
+        production,
+        Production::Leaf
+            | Production::Keyed {
+                is_computed: false, ..
+            }
+            | Production::Echo(_)
+            | Production::Defaulted(_)
+            | Production::Single(_)
+            | Production::ClassBody
+            | Production::Setter(_)
+            | Production::Items { .. }
+            | Production::Prologue { .. }
+            | Production::Declarators(_)
+            | Production::Initialised { .. }
+            | Production::If { has_else: false, .. }
+            | Production::If { has_else: true, .. }
+            | Production::Labeled { .. }
+            | Production::DoWhile { .. }
+            | Production::While { .. }
+            | Production::Switch { .. }
+            | Production::Catch { .. }
+    )
 }
 
 /// The position of a node at a slot, wherever the node above stands, with all that its spelling may depend on left open.

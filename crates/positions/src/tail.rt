@@ -239,6 +239,16 @@ pub(crate) fn steady_slot(tail: Tail, kind: Kind) -> Option<Slot>
             }
             Some(Slot::Fixed(argument(kind)))
         }
+        Tail::ObjectParts => {
+            match kind {
+                Kind::Property => Some(Slot::Fixed(Position::Property)),
+                _ => None,
+            }
+        }
+        Tail::Prologue {
+            returns,
+            is_open: false,
+        } => Some(Slot::Fixed(Position::Item { returns })),
         _ => None,
     }
 }

@@ -4,14 +4,14 @@ use Rattle.tree.specs.Tree.{parts_of, part_at, part_count, node_total}
 use Rattle.tree.proofs.PartWalk.{part_smaller, parts_drop-some, parts_drop-gap, parts_drop-past}
 use Rattle.language.specs.Expressions.{first_chained}
 use Rattle.positions.specs.declared.production.Production.TheVariants as by
-use Rattle.positions.specs.Outlines.{role_of, slot_of}
+use Rattle.positions.specs.Outlines.{role_of, slot_of, parts_behind}
 use Rattle.positions.specs.Productions.{outline_of}
 use Rattle.positions.specs.Remaining.{left}
 use Rattle.positions.specs.Wherever.{spelled_by, chain_above}
 use Rattle.positions.specs.Cursors.{left_by}
 use Rattle.paren_planner.specs.Noted.{PartsNoted}
 use Rattle.paren_planner.proofs.Filled.{chained_at}
-use Rattle.paren_planner.proofs.Visited.{Begun, begun_first, begun_skip, begun_stop, begun_finish, begun_next, noted_unspelled, noted_alone, noted_around}
+use Rattle.paren_planner.proofs.Visited.{Begun, begun_first, begun_skip, begun_stop, begun_finish, begun_next, noted_unspelled, noted_alone, noted_around, noted_hidden, noted_through, outline_fixed}
 use Rattle.paren_planner.proofs.visits.+visiting.Goals as goal
 
 pub visit_parts-loop-index-init : goal.visit_parts-loop-index-init
@@ -72,5 +72,17 @@ visit_at-returns-then-part_count-eq0 t c =
 
 pub visit_at-returns : goal.visit_at-returns
 visit_at-returns t c =
-    noted_around (role_of c.args.above) (role_of c.args.own) (slot_of c.args.slot) (node_tree c.args.node) (record { kind = c.kind-kind.result; above = c.args.above; slot = c.args.slot; label = Some c.of.result }) (spelled_by c.args.node c.args.own c.in-Some.production) c.args.steps.now.items c.push-2.new.self.items c.visit_parts.new.steps.items c.push-3.new.self.items
+    noted_around (role_of c.args.above) (role_of c.args.own) (slot_of c.args.slot) (node_tree c.args.node) (record { kind = c.kind-kind.result; above = c.args.above; slot = c.args.slot; label = Some c.of.result }) (spelled_by c.args.node c.args.own c.in-Some.production) c.args.steps.now.items c.push-2.new.self.items c.visit_parts-2.new.steps.items c.push-3.new.self.items
     (record { kind = c.kind-kind.ensures; above = refl; slot = refl }) (ap (λ l. Some l) c.of.ensures) c.requires.widest c.in-Some.ensures.ways c.in_ok-push-3.ensures.items c.in_ok-visit_parts.ensures c.in_ok-push-4.ensures.items
+
+pub visit_node-returns-then-not-has_row : goal.visit_node-returns-then-not-has_row
+visit_node-returns-then-not-has_row t c =
+    noted_hidden (role_of c.args.above) (role_of c.widest_of-own.result) (slot_of c.args.slot) (node_tree c.args.node) (spelled_by c.args.node c.widest_of-own.result by.Leaf) c.args.steps.now.items
+    (c.widest_of-own.ensures (role_of c.args.above)) (c.is_leaf.ensures.spelled c.if-is_leaf.true) refl (c.is_leaf.ensures.parts c.if-is_leaf.true) (sym c.has_row.ensures ∙ c.if-not-has_row.true)
+
+pub visit_at-returns-then-has_fixed_slots : goal.visit_at-returns-then-has_fixed_slots
+visit_at-returns-then-has_fixed_slots t c =
+    let n = node_tree c.args.node in
+    let x = outline_of c.in-Some.production in
+    noted_through c.visit_parts.result (role_of c.args.above) (role_of c.args.own) (slot_of c.args.slot) n (spelled_by c.args.node c.args.own c.in-Some.production) c.args.steps.now.items c.visit_parts.new.steps.items
+    c.requires.widest c.in-Some.ensures.ways (sym c.is_settled.ensures ∙ c.if-is_settled.true) (outline_fixed x (parts_behind x.from (parts_of n)) (c.has_fixed_slots.ensures c.if-has_fixed_slots.true)) c.visit_parts.ensures
