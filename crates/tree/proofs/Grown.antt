@@ -136,7 +136,7 @@ same_trees c d n p = ap (λ (os : Pool). trees os [] d.nodes) p ∙ ap (λ (es :
 same_runs : (c d : Growing) → d.nodes ≡ c.nodes → d.parts.items ≡ c.parts.items → grown_runs d ≡ grown_runs c
 same_runs c d n p = ap (λ (os : Pool). node_runs os d.nodes) p ∙ ap (node_runs c.parts.items) n
 
-same_sound : (c d : Growing) → d.nodes ≡ c.nodes → d.parts.items ≡ c.parts.items → IsSound c → IsSound d
+pub same_sound : (c d : Growing) → d.nodes ≡ c.nodes → d.parts.items ≡ c.parts.items → IsSound c → IsSound d
 same_sound c d n p s = subst (λ (os : Pool). AreLinked os 0 d.nodes) (sym p) (subst (λ (es : List FlatNode). AreLinked c.parts.items 0 es) (sym n) s)
 
 pub no_parts : (g : Growing) (r : Around) (n : ℕ) → IsSound g → PushesParts g g r n []
@@ -235,6 +235,11 @@ row_list-whole st r (node k w g s e ps) = refl
 
 rows_in-whole : (st : Standing) (t : Tree) → rows_in st t ≡ own_rows st (kind_of t) + parts_rows (record { standing = st; kind = kind_of t; flags = flags_of t }) (part_count (parts_of t)) 0 (parts_of t)
 rows_in-whole st (node k w g s e ps) = refl
+
+-- a node without parts
+pub no_items : (os : List (Option Tree)) → length os ≡ 0 → parts_with_gaps os ≡ none
+no_items [] h = refl
+no_items (o ∷ os) h = absurd (cc)
 
 -- only the label of the tree counts
 pub relabelled : (b c : Growing) (waiting : ℕ) (u t : Tree) (own : Option ℕ) (k : ℕ) → kind_of u ≡ kind_of t → text_of u ≡ text_of t → flags_of u ≡ flags_of t → start_of u ≡ start_of t → stop_of u ≡ stop_of t

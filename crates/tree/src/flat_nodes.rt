@@ -64,6 +64,7 @@ impl<'s> FlatNodes<'s> {
     }
 
     /// One more node, behind the others.
+    #[inline(always)]
     pub(crate) fn push(&mut self, alloc: Global, node: FlatNode<'s>) -> Result<(), AllocError>
         requires { length self.old < usize.MAX }
         ensures { IfOk result (λ _. self.new ≡ self.old ++ node.entry ∷ []) }
