@@ -98,13 +98,16 @@ impl Room {
         self.add_so_many::<N>(&bytes[fewer..]);
     }
 
+    /// Bytes of this number, over a copy of their own: so the compiler needn't ask whether they stand in the room itself.
     fn add_so_many<const N: usize>(&mut self, bytes: &[u8])
         requires room { length self.old + N ≤ 4096 }
         requires count { length bytes.now ≡ N }
         ensures { self.new ≡ self.old ++ bytes.now }
     {
+        let mut copy = [0; N];
+        copy.copy_from_slice(bytes);
         let end = self.used + N;
-        self.bytes[self.used..end].copy_from_slice(bytes);
+        self.bytes[self.used..end].copy_from_slice(&copy);
         self.used = end;
     }
 

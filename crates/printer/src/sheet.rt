@@ -152,6 +152,7 @@ impl<'w> Sheet<'w> {
             [] => {}
             [piece] => match *piece {
                 Piece::Token(token) => self.push(token, out),
+                Piece::Line => self.push_line(depth, out),
                 _ => self.push_each(pieces, node, depth, alone, out),
             },
             _ => self.push_each(pieces, node, depth, alone, out),
