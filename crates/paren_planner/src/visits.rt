@@ -22,7 +22,7 @@ use positions::{
     Position, Production, Slot, SlotCursor, holds_chain, is_leaf, leads_chain, node_production,
 };
 use std::alloc::AllocError;
-use tree::Node;
+use tree::{Kind, Node};
 
 /// Notes the steps of a node at a slot of the node above. `in_chain`: the node is known to be part of a chain, with a `?.` in it or
 /// below it.
@@ -38,37 +38,54 @@ pub(crate) fn visit_node(
     requires { in_chain ≡ true → chained (node_tree node) ≡ true }
     ensures { OnOk result (Noted (role_of above) (slot_of slot) (node_tree node.entry) steps.old.items steps.new.items) }
 {
-    let own = widest_of(slot);
-    if is_leaf(node, own) {
-        if !has_row(slot) {
-            return Ok(());
-        }
-        steps.push(Step::Leaf(Visit {
-            kind: node.kind(),
-            above,
-            slot,
-            label: Some(Label::of(Production::Leaf)),
-        }))?;
-        return Ok(());
+    if may_be_leaf(node.kind()) {
+        return visit_word(node, above, slot, in_chain, steps);
     }
-    visit_at(node, own, above, slot, in_chain, steps)
+    visit_at(node, above, slot, in_chain, steps)
 }
 
-/// The same of any node, at its widest position.
+/// The same of an identifier or a literal.
 #[cycle(visiting)]
-#[inline(never)]
-fn visit_at(
+#[inline(always)]
+fn visit_word(
     node: Node,
-    own: Position,
     above: Position,
     slot: Slot,
     in_chain: bool,
     steps: &mut Vec<Step>,
 ) -> Result<(), AllocError>
-    requires chain { in_chain ≡ true → chained (node_tree node) ≡ true }
-    requires widest { role_of own ≡ widest (settled_at (role_of above) (slot_of slot)) }
+    requires { in_chain ≡ true → chained (node_tree node) ≡ true }
     ensures { OnOk result (Noted (role_of above) (slot_of slot) (node_tree node.entry) steps.old.items steps.new.items) }
 {
+    if !is_leaf(node, widest_of(slot)) {
+        return visit_at(node, above, slot, in_chain, steps);
+    }
+    if !has_row(slot) {
+        return Ok(());
+    }
+    steps.push(Step::Leaf(Visit {
+        kind: node.kind(),
+        above,
+        slot,
+        label: Some(Label::of(Production::Leaf)),
+    }))?;
+    Ok(())
+}
+
+/// The same of any node.
+#[cycle(visiting)]
+#[inline(never)]
+fn visit_at(
+    node: Node,
+    above: Position,
+    slot: Slot,
+    in_chain: bool,
+    steps: &mut Vec<Step>,
+) -> Result<(), AllocError>
+    requires { in_chain ≡ true → chained (node_tree node) ≡ true }
+    ensures { OnOk result (Noted (role_of above) (slot_of slot) (node_tree node.entry) steps.old.items steps.new.items) }
+{
+    let own = widest_of(slot);
     let kind = node.kind();
     let Some(production) = node_production(node, own, in_chain) else {
         steps.push(Step::Leaf(Visit {
@@ -125,6 +142,12 @@ fn visit_parts(
         visit_node(part, own, slot, in_chain, steps)?;
     }
     Ok(())
+}
+
+/// Whether a node of this kind may be seen at once to be a leaf.
+fn may_be_leaf(kind: Kind) -> bool
+{
+    matches!(kind, Kind::Identifier | Kind::Literal)
 }
 
 /// Whether a slot is a position that hands on no symbol, In and start of its own, and takes whatever is spelled there.

@@ -72,7 +72,7 @@ impl SlotCursor {
         requires { Some (node_tree part) ≡ part_at (list_parts parts) index }
         ensures { TakesSlot (left_by self.old (list_parts parts.entry)) result (left_by self.new (list_parts parts.entry)) }
     {
-        if let Some(slot) = first_slot(self.production, self.ordinal) {
+        if let Some(slot) = first_slot(&self.production, self.ordinal) {
             self.ordinal = self.ordinal.next();
             return Some(slot);
         }
@@ -173,8 +173,8 @@ fn list_of_outline(production: Production) -> (Tail, usize)
 }
 
 /// The slot of a production that has an ordinal among the first ones.
-fn first_slot(production: Production, ordinal: Ordinal) -> Option<Slot>
-    ensures { result ≡ slot_at (outline_of production).front ordinal }
+fn first_slot(production: &Production, ordinal: Ordinal) -> Option<Slot>
+    ensures { result ≡ slot_at (outline_of production.now).front ordinal }
 {
     match production {
         Production::Array
@@ -187,32 +187,32 @@ fn first_slot(production: Production, ordinal: Ordinal) -> Option<Slot>
         Production::Member {
             of_super,
             is_computed,
-        } => of_two(object_of(of_super), selected(is_computed), ordinal),
-        Production::Call { of_super } => of_one(callee(of_super), ordinal),
+        } => of_two(object_of(*of_super), selected(*is_computed), ordinal),
+        Production::Call { of_super } => of_one(callee(*of_super), ordinal),
         Production::New => of_one(Slot::Fixed(at(Rank::Member)), ordinal),
         Production::Joined { own, right, .. } => {
-            of_two(Slot::Left(own), Slot::Tail(right, Start::Any), ordinal)
+            of_two(Slot::Left(*own), Slot::Tail(*right, Start::Any), ordinal)
         }
         Production::Assignment { to_pattern } => {
             of_two(
-                assigned(to_pattern),
+                assigned(*to_pattern),
                 Slot::Tail(Rank::Assignment, Start::Any),
                 ordinal,
             )
         }
-        Production::Single(part) => of_one(Slot::Fixed(part), ordinal),
+        Production::Single(part) => of_one(Slot::Fixed(*part), ordinal),
         Production::Keyed { is_computed, value } => {
-            of_two(key(is_computed), Slot::Fixed(value), ordinal)
+            of_two(key(*is_computed), Slot::Fixed(*value), ordinal)
         }
         Production::Initialised { name, with_in } => {
-            of_two(Slot::Fixed(name), initialiser(with_in), ordinal)
+            of_two(Slot::Fixed(*name), initialiser(*with_in), ordinal)
         }
         Production::If {
             has_else: false,
             returns,
-        } => of_two(Slot::Fixed(WHOLE), body(returns), ordinal),
+        } => of_two(Slot::Fixed(WHOLE), body(*returns), ordinal),
         Production::Unary => of_one(Slot::Fixed(at(Rank::Unary)), ordinal),
-        _ => slot_of_outline(production, ordinal),
+        _ => slot_of_outline(*production, ordinal),
     }
 }
 

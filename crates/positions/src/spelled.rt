@@ -82,12 +82,21 @@ pub fn is_leaf(node: Node, position: Position) -> bool
 }
 
 /// Whether the list of a production goes over a node's parts.
+#[inline(always)]
 fn goes_over(node: Node, production: Production) -> bool
     ensures { result ≡ list_goes_over (tail_slots (outline_of production).tail (parts_behind (outline_of production).from (parts_of (node_tree node.entry)))) }
 {
     if !production.has_list() {
         return true;
     }
+    takes_list(node, production)
+}
+
+/// The same of one that has a list.
+#[inline(never)]
+fn takes_list(node: Node, production: Production) -> bool
+    ensures { result ≡ list_goes_over (tail_slots (outline_of production).tail (parts_behind (outline_of production).from (parts_of (node_tree node.entry)))) }
+{
     let (tail, from) = list_of(production);
     runs(node.parts(), tail, from)
 }

@@ -124,6 +124,7 @@ pub(crate) fn is_lean_node(node: Node) -> bool
     is_lean_label(node.kind(), node.text(), node.flags())
 }
 
+#[inline(always)]
 fn is_lean_label(kind: Kind, text: &str, flags: Flags) -> bool
     ensures { result ≡ lean_label kind text.now flags }
 {
@@ -149,6 +150,7 @@ fn has_text(kind: Kind) -> bool
 }
 
 /// Whether no flag is set but those that the kind uses.
+#[inline(always)]
 fn has_its_flags(kind: Kind, flags: Flags) -> bool
     ensures { result ≡ is_within flags (flags_used kind flags) }
 {
@@ -172,6 +174,7 @@ pub(crate) fn is_plain(flags: Flags) -> bool
 }
 
 /// The same, flag by flag.
+#[inline(never)]
 fn has_used_flags(kind: Kind, flags: Flags) -> bool
     ensures { result ≡ is_within flags (flags_used kind flags) }
 {

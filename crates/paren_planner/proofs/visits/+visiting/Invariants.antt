@@ -10,13 +10,16 @@ use Rattle.paren_planner.proofs.Visited.{Begun}
 use Rattle.paren_planner.proofs.visits.+visiting.Given as goal
 
 abbrev pub decreases-visit_node : goal.decreases-visit_node
-decreases-visit_node l = 3 * node_total (node_tree l.node) + 2
+decreases-visit_node l = 4 * node_total (node_tree l.node) + 3
+
+abbrev pub decreases-visit_word : goal.decreases-visit_word
+decreases-visit_word l = 4 * node_total (node_tree l.node) + 2
 
 abbrev pub decreases-visit_at : goal.decreases-visit_at
-decreases-visit_at l = 3 * node_total (node_tree l.node) + 1
+decreases-visit_at l = 4 * node_total (node_tree l.node) + 1
 
 abbrev pub decreases-visit_parts : goal.decreases-visit_parts
-decreases-visit_parts l = 3 * node_total (node_tree l.node)
+decreases-visit_parts l = 4 * node_total (node_tree l.node)
 
 abbrev pub invariant-visit_parts-loop-index : goal.invariant-visit_parts-loop-index
 invariant-visit_parts-loop-index l =

@@ -1,6 +1,4 @@
 use Rattle.std.proofs.Common.{sym, ◌∙◌}
-use Rattle.positions.specs.Outlines.{tail_slots, parts_behind}
-use Rattle.positions.specs.Remaining.{goes_over}
 use Rattle.positions.specs.Productions.{outline_of}
 use Rattle.positions.proofs.Behind.{over_runs}
 use Rattle.positions.proofs.Productions.{without_list}
@@ -8,6 +6,3 @@ use Rattle.positions.proofs.spelled.goes_over.Goals as goal
 
 pub returns-then-not-has_list : goal.returns-then-not-has_list
 returns-then-not-has_list c = over_runs (outline_of c.args.production).tail _ (without_list c.args.production (sym c.has_list.ensures ∙ c.if-not-has_list.true))
-
-pub returns : goal.returns
-returns c = c.runs.ensures ∙ (λ i. goes_over (tail_slots (c.list_of-tail.ensures.tail i) (parts_behind (c.list_of-tail.ensures.from i) (c.parts.ensures i))))
