@@ -1,7 +1,7 @@
 use Rattle.std.proofs.Common.{sym, ap, refl, ◌∙◌, [], subst}
 use Rattle.tree.specs.declared.standing.Around.{Around}
 use Rattle.tree.specs.declared.kind.Kind.{Kind}
-use Rattle.tree.specs.Tree.{Tree, kind_of, flags_of, part_count}
+use Rattle.tree.specs.Tree.{kind_of, flags_of, part_count}
 use Rattle.tree.specs.Finished.{NumbersRow}
 use Rattle.tree.proofs.Grown.{no_parts, same_sound, finished}
 use Rattle.tree.proofs.build.push_leaf.Goals as goal
