@@ -4,8 +4,7 @@ ghost use Rattle.std.specs.Prelude.{◌≡◌};
 ghost use Rattle.tree.specs.Tree.{parts_with_gaps};
 ghost use Rattle.covers.specs.Patterns.{pattern_tree, pattern_parts};
 
-use std::borrow::CowStr;
-use tree::{Kind, Syntax};
+use tree::{Kind, NodeText, Syntax};
 
 /// The pattern of an array, an object or an assignment, the rest of a spread, and the property of a pattern of one of an object;
 /// another node is its own target.
@@ -24,7 +23,7 @@ pub(crate) fn make_pattern(node: &mut Syntax<'_>)
         }
         Kind::AssignmentExpression => {
             node.kind = Kind::AssignmentPattern;
-            node.text = CowStr::Borrowed("");
+            node.text = NodeText::Slice("");
         }
         Kind::SpreadElement => {
             node.kind = Kind::RestElement;

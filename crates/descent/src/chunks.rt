@@ -1,11 +1,11 @@
 //! The characters of templates (ECMA-262 clause 12.2.9).
 
 ghost use Rattle.std.specs.Prelude.{nat_eq, slice_index_or, ◌≡◌, ℕ, ◌+◌, ◌<◌, ◌≤◌, Bool, List, [], ◌∷◌, ◌++◌, length, IfOk, IfErr, true, false};
-ghost use Rattle.std.specs.Cow.{cow_str_bytes};
 ghost use Rattle.tokens.specs.Templates.{raw_value};
 ghost use Rattle.tokens.specs.Scanned.{token_of};
 ghost use Rattle.language.specs.Token.{as_read};
 ghost use Rattle.phrases.specs.Tests.{is_later_part};
+ghost use Rattle.tree.specs.NodeText.{text_bytes};
 ghost use Rattle.descent.specs.Chunks.{front, back, Holds, part_node};
 ghost use Rattle.phrases.specs.Refusals.{IsLimit};
 
@@ -13,9 +13,8 @@ use covers::Item;
 use productions::Tall;
 use source_text::Fault;
 use std::alloc::Global;
-use std::borrow::CowStr;
 use tokens::{Class, Token, template_value};
-use tree::{Kind, Span};
+use tree::{Kind, NodeText, Span};
 
 // Whether the token begins with a brace that closes.
 fn is_behind_brace(token: &Token<'_>) -> bool
@@ -95,15 +94,15 @@ fn span_inside(token: &Token<'_>, text: &str) -> Span
 }
 
 // The raw value of the characters (11.8.6.1), which is mostly the characters themselves.
-fn raw_of<'s>(alloc: Global, text: &'s str) -> Result<CowStr<'s>, Fault>
-    ensures raw { IfOk result (λ raw. cow_str_bytes raw ≡ raw_value text.now) }
+fn raw_of<'s>(alloc: Global, text: &'s str) -> Result<NodeText<'s>, Fault>
+    ensures raw { IfOk result (λ raw. text_bytes raw ≡ raw_value text.now) }
     ensures refused { IfErr result (λ fault. fault ≡ Fault.OutOfMemory) }
 {
     if !text.contains('\r') {
-        return Ok(CowStr::Borrowed(text));
+        return Ok(NodeText::Slice(text));
     }
     let (raw, _cooked) = template_value(alloc, text)?;
-    Ok(raw)
+    Ok(NodeText::of(alloc, raw)?)
 }
 
 /// The node of a part of a template, marked where it is the last.

@@ -37,9 +37,8 @@ use phrases::{
 };
 use productions::{Nodes, Tall, plain};
 use source_text::Fault;
-use std::borrow::CowStr;
 use tokens::{Class, Goal, Token};
-use tree::Kind;
+use tree::{Kind, NodeText};
 
 impl<'t, 's> Parser<'t, 's> {
     // The token with which an expression begins at the position, and what it begins.
@@ -199,7 +198,7 @@ impl<'t, 's> Parser<'t, 's> {
         Tall::leaf(
             self.alloc,
             kind,
-            CowStr::Borrowed(single_text(kind, token.text)),
+            NodeText::Slice(single_text(kind, token.text)),
             span_of(&token),
             high,
         )

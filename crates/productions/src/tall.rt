@@ -1,17 +1,16 @@
 //! Nodes with their height.
 
 ghost use Rattle.std.specs.Prelude.{◌≡◌, []};
-ghost use Rattle.std.specs.Cow.{cow_str_bytes};
 ghost use Rattle.tree.specs.Tree.{node, none, plain, height, parts_height};
 ghost use Rattle.tree.specs.Node.{node_tree};
+ghost use Rattle.tree.specs.NodeText.{text_bytes};
 ghost use Rattle.productions.specs.Made.{Makes};
 
 use crate::nodes::Nodes;
 use source_text::Fault;
 use std::alloc::Global;
-use std::borrow::CowStr;
 use std::marker::Model;
-use tree::{Flags, Kind, Node, Span, Syntax};
+use tree::{Flags, Kind, Node, NodeText, Span, Syntax};
 
 /// A node with its height, which contracts see as its tree.
 #[derive(Drop)]
@@ -42,11 +41,11 @@ impl<'s> Tall<'s> {
     pub fn leaf(
         alloc: Global,
         kind: Kind,
-        text: CowStr<'s>,
+        text: NodeText<'s>,
         span: Span,
         high: u32,
     ) -> Result<Tall<'s>, Fault>
-        ensures { Makes (node kind (cow_str_bytes text.entry) plain span.start span.end none) high result }
+        ensures { Makes (node kind (text_bytes text.entry) plain span.start span.end none) high result }
     {
         if high == 0 {
             return Err(Fault::TooDeep);
@@ -103,7 +102,7 @@ pub fn made<'s>(
     if levels >= high {
         return Err(Fault::TooDeep);
     }
-    let text = CowStr::Borrowed(text);
+    let text = NodeText::Slice(text);
     let syntax = Syntax::new(kind, text, flags, span, nodes.into_parts());
     Ok(Tall {
         syntax,

@@ -5,8 +5,7 @@ use crate::sketch::parts;
 use parser::parse;
 use source_text::Source;
 use std::alloc::{AllocError, Global};
-use std::borrow::CowStr;
-use tree::{Node, Parts, Program, Span, Syntax};
+use tree::{Node, NodeText, Parts, Program, Span, Syntax};
 
 /// The lines of nodes as the parser makes them.
 fn push_boxed(parts: &[Option<Syntax>], out: &mut String) -> Result<(), AllocError> {
@@ -52,7 +51,7 @@ fn boxed<'t>(alloc: Global, node: Node<'t, '_>) -> Result<Syntax<'t>, AllocError
             None => parts.push_gap()?,
         }
     }
-    let text = CowStr::Borrowed(node.text());
+    let text = NodeText::Slice(node.text());
     Ok(Syntax::new(node.kind(), text, node.flags(), node.span(), parts))
 }
 

@@ -1,10 +1,10 @@
 -- Nodes in chunks: where the node with a number is, and one more node.
-use Rattle.std.proofs.Common.{◌≡◌, ℕ, zero, suc, ◌+◌, ◌-◌, ◌*◌, ◌<◌, ◌≤◌, List, [], ◌∷◌, ◌++◌, length, get_or, set, sym, ap, ◌∙◌, arith, append_assoc, length-append, append-nil, subst}
-use Rattle.std.proofs.Math.ListN.{length-set}
+use Rattle.std.proofs.Common.{◌≡◌, ℕ, zero, suc, ◌+◌, ◌-◌, ◌*◌, ◌/◌, ◌<◌, ◌≤◌, List, [], ◌∷◌, ◌++◌, length, get_or, set, sym, ap, ◌∙◌, arith, append_assoc, length-append, append-nil, subst}
 use Rattle.std.proofs.lemmas.List.{get_or_append_left, get_or-append_right}
+use Rattle.std.specs.Vec.{vec_capacity}
 use Rattle.tree.specs.declared.flat_node.FlatNode.{FlatNode}
 use Rattle.tree.specs.declared.flat_nodes.Chunk.{Chunk}
-use Rattle.tree.specs.FlatNodes.{joined, AllButTheLastAreFull}
+use Rattle.tree.specs.FlatNodes.{joined, AllButTheLastAreFull, HaveRoom}
 
 -- there are no more nodes than the chunks have room for
 most : (ps : List Chunk) → AllButTheLastAreFull ps → length (joined ps) ≤ length ps * 256
@@ -40,15 +40,30 @@ node_at (x ∷ (y ∷ ps)) (suc q) r i p e a l s h b n =
     node_at (y ∷ ps) q r (i - 256) p e a.1.1 l (omega (arith, s)) (omega (arith, h, s, long, length-append x.nodes.items (joined (y ∷ ps)))) b n
     ∙ sym (get_or-append_right x.nodes.items (joined (y ∷ ps)) 256 i e long (omega (arith, s)))
 
--- a chunk that has the same nodes as before
-pub kept_in : (ps : List Chunk) (k : ℕ) (p q : Chunk) → AllButTheLastAreFull ps → k < length ps → p ≡ get_or ps k p → q.nodes.items ≡ p.nodes.items → AllButTheLastAreFull (set ps k q) × (joined (set ps k q) ≡ joined ps)
-kept_in [] k p q a i r n = absurd (omega (arith, i))
-kept_in (x ∷ ps) zero p q a i r n =
-    let same : q.nodes.items ≡ x.nodes.items = n ∙ ap (λ (y : Chunk). y.nodes.items) r in
-    ((omega (arith, a.0, ap length same), ((λ (z : 0 < length ps). omega (arith, a.1.0 z, ap length same)), a.1.1)), ap (λ (es : List FlatNode). es ++ joined ps) same)
-kept_in (x ∷ ps) (suc k) p q a i r n =
-    let rest = kept_in ps k p q a.1.1 (omega (arith, i)) r n in
-    ((a.0, ((λ (z : 0 < length (set ps k q)). a.1.0 (omega (arith, z, length-set {A = Chunk}))), rest.0)), ap (λ (es : List FlatNode). x.nodes.items ++ es) rest.1)
+-- the last one has room
+pub last_size : (ps : List Chunk) (k : ℕ) (p : Chunk) → AllButTheLastAreFull ps → k * 256 ≤ length (joined ps) → length (joined ps) < k * 256 + 256 → k < length ps → p ≡ get_or ps k p → length p.nodes.items < 256
+last_size [] k p a l h i r = absurd (omega (arith, i))
+last_size (x ∷ []) zero p a l h i r = omega (arith, ap (λ (y : Chunk). length y.nodes.items) r, h, length-append x.nodes.items [])
+last_size (x ∷ []) (suc k) p a l h i r = absurd (omega (arith, i))
+last_size (x ∷ (y ∷ ps)) zero p a l h i r = absurd (omega (arith, h, a.1.0 (omega arith), length-append x.nodes.items (joined (y ∷ ps))))
+last_size (x ∷ (y ∷ ps)) (suc k) p a l h i r =
+    let full : 256 ≤ length x.nodes.items = a.1.0 (omega arith) in
+    let all = length-append x.nodes.items (joined (y ∷ ps)) in
+    last_size (y ∷ ps) k p a.1.1 (omega (arith, l, a.0, all)) (omega (arith, h, full, all)) (omega (arith, i)) r
+
+pub room_at : (ps : List Chunk) (k : ℕ) (p : Chunk) → HaveRoom ps → k < length ps → p ≡ get_or ps k p → 256 ≤ vec_capacity p.nodes
+room_at [] k p a i r = absurd (omega (arith, i))
+room_at (x ∷ ps) zero p a i r = omega (arith, a.0, ap (λ (y : Chunk). vec_capacity y.nodes) r)
+room_at (x ∷ ps) (suc k) p a i r = room_at ps k p a.1 (omega (arith, i)) r
+
+pub HaveRoom-set : (ps : List Chunk) (k : ℕ) (q : Chunk) → HaveRoom ps → 256 ≤ vec_capacity q.nodes → HaveRoom (set ps k q)
+HaveRoom-set [] k q a h = tt
+HaveRoom-set (x ∷ ps) zero q a h = (h, a.1)
+HaveRoom-set (x ∷ ps) (suc k) q a h = (a.0, HaveRoom-set ps k q a.1 h)
+
+pub HaveRoom-behind : (ps : List Chunk) (q : Chunk) → HaveRoom ps → 256 ≤ vec_capacity q.nodes → HaveRoom (ps ++ q ∷ [])
+HaveRoom-behind [] q a h = (h, tt)
+HaveRoom-behind (x ∷ ps) q a h = (a.0, HaveRoom-behind ps q a.1 h)
 
 -- one more node in the last chunk
 pub grown_in : (ps : List Chunk) (k : ℕ) (p q : Chunk) (e : FlatNode) → AllButTheLastAreFull ps → k * 256 ≤ length (joined ps) → length (joined ps) < k * 256 + 256 → k < length ps
@@ -68,20 +83,67 @@ grown_in (x ∷ (y ∷ ps)) (suc k) p q e a l h i r n =
     let rest = grown_in (y ∷ ps) k p q e a.1.1 (omega (arith, l, a.0, all)) (omega (arith, h, full, all)) (omega (arith, i)) r n in
     ((a.0, ((λ (z : 0 < length (set (y ∷ ps) k q)). full), rest.0)), ap (λ (es : List FlatNode). x.nodes.items ++ es) rest.1 ∙ sym (append_assoc x.nodes.items (joined (y ∷ ps)) (e ∷ [])))
 
--- one more node in a chunk of its own, where all are full
-pub grown_behind : (ps : List Chunk) (q : Chunk) (e : FlatNode) → AllButTheLastAreFull ps → length ps * 256 ≤ length (joined ps) → q.nodes.items ≡ e ∷ []
-    → AllButTheLastAreFull (ps ++ q ∷ []) × (joined (ps ++ q ∷ []) ≡ joined ps ++ e ∷ [])
-grown_behind [] q e a l n = ((omega (arith, ap length n), ((λ (z : 0 < 0). absurd (omega (arith, z))), tt)), append-nil q.nodes.items ∙ n)
-grown_behind (x ∷ ps) q e a l n =
+-- an empty chunk behind the others, where all are full
+pub begun_behind : (ps : List Chunk) (q : Chunk) → AllButTheLastAreFull ps → length ps * 256 ≤ length (joined ps) → q.nodes.items ≡ []
+    → AllButTheLastAreFull (ps ++ q ∷ []) × (joined (ps ++ q ∷ []) ≡ joined ps)
+begun_behind [] q a l n = ((omega (arith, ap length n), ((λ (z : 0 < 0). absurd (omega (arith, z))), tt)), append-nil q.nodes.items ∙ n)
+begun_behind (x ∷ ps) q a l n =
     let all = length-append x.nodes.items (joined ps) in
     let below = most ps a.1.1 in
     let full : 256 ≤ length x.nodes.items = omega (arith, l, below, all) in
-    let rest = grown_behind ps q e a.1.1 (omega (arith, l, a.0, all)) n in
-    ((a.0, ((λ (z : 0 < length (ps ++ q ∷ [])). full), rest.0)), ap (λ (es : List FlatNode). x.nodes.items ++ es) rest.1 ∙ sym (append_assoc x.nodes.items (joined ps) (e ∷ [])))
+    let rest = begun_behind ps q a.1.1 (omega (arith, l, a.0, all)) n in
+    ((a.0, ((λ (z : 0 < length (ps ++ q ∷ [])). full), rest.0)), ap (λ (es : List FlatNode). x.nodes.items ++ es) rest.1)
 
--- then the count is one more
-pub counted : (ps xs ys : List Chunk) (e : FlatNode) (n m : ℕ) → AllButTheLastAreFull ys × (joined ys ≡ joined ps ++ e ∷ []) → xs ≡ ys → m ≡ n → n ≡ length (joined ps) → AllButTheLastAreFull xs × (m + 1 ≡ length (joined xs))
-counted ps xs ys e n m g is same all = (
-  subst AllButTheLastAreFull (sym is) g.0,
-  omega (arith, same, all, ap length g.1, ap (λ (zs : List Chunk). length (joined zs)) is, length-append (joined ps) (e ∷ [])),
-)
+-- chunks with the same nodes that have room for one more, behind the n that are there
+pub record Ready (ps xs : List Chunk) (n m : ℕ) : Type 0 where
+  pub full : AllButTheLastAreFull xs
+  pub room : HaveRoom xs
+  pub same : joined xs ≡ joined ps
+  pub there : n / 256 < length xs
+  pub count : m ≡ n
+
+pub ready : (ps xs : List Chunk) (n m : ℕ) → AllButTheLastAreFull ps → HaveRoom ps → n / 256 < length ps → xs ≡ ps → m ≡ n → Ready ps xs n m
+ready ps xs n m a r l is same = record {
+  full = subst AllButTheLastAreFull (sym is) a;
+  room = subst HaveRoom (sym is) r;
+  same = ap joined is;
+  there = omega (arith, l, ap length is);
+  count = same;
+}
+
+pub ready_behind : (ps xs : List Chunk) (q : Chunk) (n m : ℕ) → AllButTheLastAreFull ps → HaveRoom ps → n ≡ length (joined ps) → length ps ≤ n / 256
+    → q.nodes.items ≡ [] → 256 ≤ vec_capacity q.nodes → xs ≡ ps ++ q ∷ [] → m ≡ n → Ready ps xs n m
+ready_behind ps xs q n m a r all l e h is same =
+    let begun = begun_behind ps q a (omega (arith, all, l)) e in
+    record {
+      full = subst AllButTheLastAreFull (sym is) begun.0;
+      room = subst HaveRoom (sym is) (HaveRoom-behind ps q r h);
+      same = ap joined is ∙ begun.1;
+      there = omega (arith, all, most ps a, ap length is, length-append ps (q ∷ []));
+      count = same;
+    }
+
+module _ (ps xs : List Chunk) (n m : ℕ) (p : Chunk) (y : Ready ps xs n m) (all : n ≡ length (joined ps)) (r : p ≡ get_or xs (n / 256) p) where
+  pub has_room : length p.nodes.items < vec_capacity p.nodes
+  has_room =
+      omega (
+        arith,
+        last_size xs (n / 256) p y.full (omega (arith, all, ap length y.same)) (omega (arith, all, ap length y.same)) y.there r,
+        room_at xs (n / 256) p y.room y.there r,
+      )
+
+  module _ (q : Chunk) (e : FlatNode) (items : q.nodes.items ≡ p.nodes.items ++ e ∷ []) where
+    pub one_more : AllButTheLastAreFull (set xs (n / 256) q) × (joined (set xs (n / 256) q) ≡ joined ps ++ e ∷ [])
+    one_more =
+        let grown = grown_in xs (n / 256) p q e y.full (omega (arith, all, ap length y.same)) (omega (arith, all, ap length y.same)) y.there r items in
+        (grown.0, grown.1 ∙ ap (λ (es : List FlatNode). es ++ e ∷ []) y.same)
+
+    pub closed : vec_capacity q.nodes ≡ vec_capacity p.nodes
+        → AllButTheLastAreFull (set xs (n / 256) q) × (HaveRoom (set xs (n / 256) q) × (m + 1 ≡ length (joined (set xs (n / 256) q))))
+    closed h = (
+      one_more.0,
+      (
+        HaveRoom-set xs (n / 256) q y.room (omega (arith, h, room_at xs (n / 256) p y.room y.there r)),
+        omega (arith, y.count, all, ap length one_more.1, length-append (joined ps) (e ∷ [])),
+      ),
+    )

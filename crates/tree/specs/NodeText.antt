@@ -1,4 +1,4 @@
--- The bytes of the text of a node of the finished tree.
+-- The bytes of a node's text.
 use Rattle.std.specs.Prelude.{ℕ, List}
 use Rattle.std.specs.String.{string_bytes}
 use Rattle.tree.specs.declared.node_text.NodeText.{NodeText}

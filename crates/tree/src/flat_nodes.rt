@@ -1,6 +1,8 @@
 //! The nodes of the finished tree, in chunks.
 
-ghost use Rattle.std.specs.Prelude.{◌≡◌, ◌∷◌, [], IfOk};
+ghost use Rattle.std.specs.Prelude.{◌≡◌, ◌≤◌, [], IfOk};
+ghost use Rattle.std.specs.Vec.{vec_capacity};
+ghost use Rattle.tree.specs.FlatNodes.{chunk_size};
 
 use crate::flat_node::FlatNode;
 use std::alloc::{AllocError, Global};
@@ -25,13 +27,13 @@ pub(crate) struct FlatNodes<'s> {
 impl<'s> Model for FlatNodes<'s> {
     ghost use Rattle.std.specs.Prelude.{◌≡◌, List, length};
     ghost use Rattle.tree.specs.declared.flat_node.FlatNode.{FlatNode};
-    ghost use Rattle.tree.specs.FlatNodes.{joined, AllButTheLastAreFull};
+    ghost use Rattle.tree.specs.FlatNodes.{joined, AllButTheLastAreFull, HaveRoom};
 
     ghost Value = { List FlatNode };
 
     ghost view = { λ ns. joined ns.chunks.items };
 
-    ghost invariant = { λ ns. AllButTheLastAreFull ns.chunks.items × (ns.count ≡ length (joined ns.chunks.items)) };
+    ghost invariant = { λ ns. AllButTheLastAreFull ns.chunks.items × (HaveRoom ns.chunks.items × (ns.count ≡ length (joined ns.chunks.items))) };
 }
 
 impl<'s> FlatNodes<'s> {
@@ -70,23 +72,23 @@ impl<'s> FlatNodes<'s> {
         ensures { IfOk result (λ _. self.new ≡ self.old ++ node.entry ∷ []) }
     {
         let at = self.count / CHUNK;
-        if at < self.chunks.len() {
-            let chunk = &mut self.chunks[at];
-            chunk.nodes.push(node)?;
-        } else {
-            self.chunks.push(first_of(alloc, node)?)?;
+        if self.chunks.len() <= at {
+            self.chunks.push(empty_chunk(alloc)?)?;
         }
+        let chunk = &mut self.chunks[at];
+        chunk.nodes.push_reserved(node);
         self.count += 1;
         Ok(())
     }
 }
 
-/// A chunk that begins with a node.
+/// A chunk with room for all its nodes.
+#[cold]
 #[inline(never)]
-fn first_of<'s>(alloc: Global, node: FlatNode<'s>) -> Result<Chunk<'s>, AllocError>
-    ensures { IfOk result (λ chunk. chunk.nodes.items ≡ node.entry ∷ []) }
+fn empty_chunk<'s>(alloc: Global) -> Result<Chunk<'s>, AllocError>
+    ensures empty { IfOk result (λ chunk. chunk.nodes.items ≡ []) }
+    ensures room { IfOk result (λ chunk. chunk_size ≤ vec_capacity chunk.nodes) }
 {
-    let mut nodes = Vec::with_capacity(alloc, CHUNK)?;
-    nodes.push(node)?;
+    let nodes = Vec::with_capacity(alloc, CHUNK)?;
     Ok(Chunk { nodes })
 }

@@ -28,6 +28,7 @@ pub use copy::try_copy;
 pub use kind::{Flags, Form, Kind, Pair, Span};
 pub use list::NodeList;
 pub use node::Node;
+pub use node_text::NodeText;
 pub use parts::Parts;
 pub use program::Program;
 pub use syntax::Syntax;

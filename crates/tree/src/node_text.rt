@@ -1,4 +1,4 @@
-//! The text of a node of the finished tree.
+//! The text of a node.
 
 ghost use Rattle.std.specs.Prelude.{◌≡◌, IfOk};
 ghost use Rattle.std.specs.Cow.{cow_str_bytes};
@@ -7,26 +7,25 @@ ghost use Rattle.tree.specs.NodeText.{text_bytes};
 
 use std::alloc::{AllocError, Global};
 use std::borrow::CowStr;
-use std::mem;
 
 /// A slice of the source, as nearly all texts are, or one that was made. It takes less room than a `CowStr`.
 #[derive(Drop)]
-pub(crate) enum NodeText<'s> {
+pub enum NodeText<'s> {
     Slice(&'s str),
     Made(Box<String>),
 }
 
 impl<'s> NodeText<'s> {
-    /// A text that is moved out of where it stands.
-    pub(crate) fn taken(alloc: Global, text: &mut CowStr<'s>) -> Result<NodeText<'s>, AllocError>
-        ensures { IfOk result (λ taken. text_bytes taken ≡ cow_str_bytes text.old) }
+    /// A slice of the source, or a text that was made.
+    ///
+    /// # Errors
+    /// `AllocError` where memory is refused.
+    pub fn of(alloc: Global, text: CowStr<'s>) -> Result<NodeText<'s>, AllocError>
+        ensures { IfOk result (λ own. text_bytes own ≡ cow_str_bytes text.entry) }
     {
         match text {
-            CowStr::Borrowed(slice) => Ok(NodeText::Slice(*slice)),
-            CowStr::Owned(made) => {
-                let made = mem::replace(made, String::new(alloc));
-                Ok(NodeText::Made(Box::new(alloc, made)?))
-            }
+            CowStr::Borrowed(slice) => Ok(NodeText::Slice(slice)),
+            CowStr::Owned(made) => Ok(NodeText::Made(Box::new(alloc, made)?)),
         }
     }
 
