@@ -1,12 +1,18 @@
 -- What a walk has found behind one part and behind the next, where the same stands round all of them.
-use Rattle.std.proofs.Common.{◌≡◌, ℕ, List, Option, None, sym, ap, ◌∙◌}
-use Rattle.tree.specs.Tree.{Tree, Parts, none, part, gap, parts_of}
-use Rattle.early_errors.specs.Around.{Around, within}
+use Rattle.std.proofs.Common.{Bool, true, false, cond, ◌≡◌, ℕ, List, Option, None, sym, ap, ◌∙◌, ◌++◌}
+use Rattle.std.proofs.lemmas.Bool.{false≢true}
+use Rattle.tree.specs.declared.kind.Kind.TheVariants.{Property, VariableDeclaration}
+use Rattle.early_errors.specs.declared.walk.Inside.{Inside}
+use Rattle.early_errors.specs.declared.walk.Inside.TheVariants as inside
+use Rattle.early_errors.specs.Owns.{inside_of, plain_errors, vars_of}
+use Rattle.tree.specs.Tree.{Tree, node, kind_of, flags_of, Parts, none, part, gap, parts_of}
+use Rattle.early_errors.specs.Around.{Around, is_method, within}
 use Rattle.early_errors.specs.Passed.{IsOpen}
 use Rattle.early_errors.specs.Names.{var_names, parts_vars}
-use Rattle.early_errors.specs.Early.{Error, errors_within, parts_errors}
+use Rattle.early_errors.specs.Early.{Error, own_errors, errors_within, parts_errors}
 use Rattle.early_errors.specs.Walk.{sooner, after, hits, Agree}
 use Rattle.early_errors.proofs.Joining.{joined}
+use Rattle.early_errors.proofs.Passing.{same_round}
 use Rattle.early_errors.proofs.Least.{sooner-none}
 use Rattle.early_errors.proofs.Turning.{hits-agree}
 
@@ -32,3 +38,22 @@ ahead-end f z q total ps e so = sym (sooner-none q) ∙ sym (sooner-none (sooner
 -- of a node that was passed
 pub open_found : (f : List ℕ → Option Error) (y z : Around) (t : Tree) (q r : Option Error) → IsOpen t → y ≡ within z → r ≡ ahead f y q (parts_of t) → r ≡ sooner (after q (errors_within z t)) (hits f (var_names t))
 open_found f y z t q r h e found = found ∙ (λ i. sooner (after q ((ap (λ x. parts_errors x x (parts_of t)) e ∙ sym (h.0 z)) i)) (hits f (sym h.1 i)))
+
+abbrev in_declaration : Inside → Bool
+in_declaration inside.Declaration = true
+in_declaration _ = false
+
+no_declaration : (b : Bool) → cond b inside.Method inside.Plain ≡ inside.Declaration → ⊥
+no_declaration true h = false≢true (ap in_declaration h)
+no_declaration false h = false≢true (ap in_declaration h)
+
+-- of a declaration behind its own errors
+pub declared_found : (f : List ℕ → Option Error) (y z : Around) (t : Tree) (o q r : Option Error) → inside_of (kind_of t) (flags_of t).form ≡ inside.Declaration → y ≡ within z → q ≡ sooner (after o (plain_errors z t)) (hits f (vars_of t)) →
+    r ≡ ahead f y q (parts_of t) → r ≡ sooner (after o (errors_within z t)) (hits f (var_names t))
+unfolding errors_within var_names
+declared_found f y z (node VariableDeclaration w g s e ps) o q r h x d found =
+    let t = node VariableDeclaration w g s e ps in
+    found ∙ (λ i. ahead f (x i) (d i) ps) ∙ joined f o (own_errors z t) (parts_errors (within z) (within z) ps) (vars_of t) (parts_vars ps)
+    ∙ ap (λ v. sooner (after o (own_errors z t ++ parts_errors v v ps)) (hits f (vars_of t ++ parts_vars ps))) (sym (same_round z))
+declared_found f y z (node Property w g s e ps) o q r h x d found = absurd (no_declaration (is_method g.form) h)
+declared_found f y z (node _ w g s e ps) o q r h x d found = absurd (false≢true (ap in_declaration h))

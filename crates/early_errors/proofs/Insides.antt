@@ -4,7 +4,7 @@ use Rattle.std.specs.Prelude.{◌||◌}
 use Rattle.std.specs.Str.{bytes_eq}
 use Rattle.std.proofs.lemmas.Bool.{false≢true}
 use Rattle.std.proofs.lemmas.Slice.Eq.{bytes_eq-Decides}
-use Rattle.tree.specs.declared.kind.Kind.TheVariants.{Program, BlockStatement, SwitchStatement, CatchClause, ForStatement, ForInStatement, ForOfStatement, FunctionDeclaration, FunctionExpression, ArrowFunctionExpression, MethodDefinition, Property, LabeledStatement}
+use Rattle.tree.specs.declared.kind.Kind.TheVariants.{Program, BlockStatement, SwitchStatement, CatchClause, ForStatement, ForInStatement, ForOfStatement, FunctionDeclaration, FunctionExpression, ArrowFunctionExpression, MethodDefinition, Property, LabeledStatement, VariableDeclaration}
 use Rattle.tree.specs.Tree.{Tree, node, Parts, none, part, gap, kind_of, text_of, flags_of, parts_of, part_at, part_count}
 use Rattle.language.specs.FirstPart.{others}
 use Rattle.early_errors.specs.declared.walk.Inside.{Inside}
@@ -81,6 +81,7 @@ plain_facts (node FunctionExpression w g s e ps) z ls h = absurd (false≢true (
 plain_facts (node ArrowFunctionExpression w g s e ps) z ls h = absurd (false≢true (ap in_plain h))
 plain_facts (node MethodDefinition w g s e ps) z ls h = absurd (false≢true (ap in_plain h))
 plain_facts (node LabeledStatement w g s e ps) z ls h = absurd (false≢true (ap in_plain h))
+plain_facts (node VariableDeclaration w g s e ps) z ls h = absurd (false≢true (ap in_plain h))
 plain_facts (node Program w g s e ps) z ls h = absurd (false≢true (ap in_plain h))
 plain_facts (node BlockStatement w g s e ps) z ls h = absurd (false≢true (ap in_plain h))
 plain_facts (node SwitchStatement w g s e ps) z ls h = absurd (false≢true (ap in_plain h))

@@ -31,6 +31,7 @@ pub mod Ranging
 pub mod VarFree
 pub mod Silent
 pub mod Passing
+pub mod Declaring
 pub mod Insides
 pub mod Joining
 pub mod Ahead

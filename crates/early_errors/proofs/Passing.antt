@@ -43,11 +43,11 @@ or_false : (b : Bool) → (b || false) ≡ b
 or_false true = refl
 or_false false = refl
 
-same_round : (z : Around) → record (within z) { in_loop = z.in_loop || false } ≡ within z
+pub same_round : (z : Around) → record (within z) { in_loop = z.in_loop || false } ≡ within z
 same_round z = λ i. record (within z) { in_loop = or_false z.in_loop i }
 
 -- round all parts stands what stands round the node, and the node has the `var`s of its parts
-abbrev HandsOn : Tree → Type 0
+abbrev pub HandsOn : Tree → Type 0
 HandsOn t = ((z : Around) → around_first z (kind_of t) (flags_of t) (parts_of t) ≡ within z) × (((z : Around) → around_others z (kind_of t) (flags_of t) (parts_of t) ≡ within z) × (var_names t ≡ parts_vars (parts_of t)))
 
 hands_on : (t : Tree) → in_parts (telling_of (kind_of t)) ≡ true → HandsOn t
@@ -81,7 +81,7 @@ hands_on (node kind.UnaryExpression w g s e ps) h = (same_round, (same_round, re
 hands_on (node kind.BlockStatement w g s e ps) h = (same_round, (same_round, refl))
 hands_on (node _ w g s e ps) h = absurd (false≢true h)
 
-opened : (t : Tree) → ((z : Around) → own_errors z t ≡ []) → HandsOn t → IsOpen t
+pub opened : (t : Tree) → ((z : Around) → own_errors z t ≡ []) → HandsOn t → IsOpen t
 unfolding errors_within
 opened (node k w g s e ps) own h = ((λ z. (λ i. own z i ++ parts_errors (h.0 z i) (h.1.0 z i) ps)), h.1.1)
 
@@ -152,7 +152,7 @@ no_super none h = refl
 no_super (gap ps) h = refl
 no_super (part t ps) h = ap (λ b. when b (start_of t ∷ [])) h
 
-never : (e : EarlyError) (b : Bool) (ps : List ℕ) → ps ≡ [] → each e (when b ps) ≡ []
+pub never : (e : EarlyError) (b : Bool) (ps : List ℕ) → ps ≡ [] → each e (when b ps) ≡ []
 never e true ps h = ap (each e) h
 never e false ps h = refl
 

@@ -270,6 +270,7 @@ inside_of kind.ArrowFunctionExpression f = inside.Function
 inside_of kind.MethodDefinition f = inside.Method
 inside_of kind.Property f = cond (around.is_method f) inside.Method inside.Plain
 inside_of kind.LabeledStatement f = inside.Label
+inside_of kind.VariableDeclaration f = inside.Declaration
 inside_of kind.Program f = inside.Scope
 inside_of kind.BlockStatement f = inside.Scope
 inside_of kind.SwitchStatement f = inside.Scope

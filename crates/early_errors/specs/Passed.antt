@@ -1,5 +1,5 @@
 -- What a walk passes: nodes of which it is known, whatever stands round them, where their errors may be.
-use Rattle.std.specs.Prelude.{◌≡◌, Bool, false, List, Option, None, Some}
+use Rattle.std.specs.Prelude.{◌≡◌, Bool, false, List, [], filter, Option, None, Some}
 use Rattle.tree.specs.declared.kind.Kind.{Kind}
 use Rattle.tree.specs.declared.kind.Kind.TheVariants as kind
 use Rattle.tree.specs.Tree.{Tree, kind_of, parts_of}
@@ -11,7 +11,9 @@ use Rattle.early_errors.specs.declared.quiet.Telling.TheVariants as telling
 use Rattle.early_errors.specs.Around.{Around, Label, within}
 use Rattle.early_errors.specs.declared.around.Around.{Around as Code}
 use Rattle.early_errors.specs.Owns.{round}
-use Rattle.early_errors.specs.Names.{var_names, parts_vars}
+use Rattle.early_errors.specs.Names.{Named, twice, first_names, var_names, parts_vars}
+use Rattle.early_errors.specs.Scopes.{without_initializer}
+use Rattle.early_errors.specs.Strict.{is_restricted}
 use Rattle.early_errors.specs.Early.{errors_within, parts_errors}
 use Rattle.early_errors.specs.Walks.{IsQuiet}
 
@@ -62,8 +64,17 @@ telling_of kind.UpdateExpression = telling.Target
 telling_of kind.UnaryExpression = telling.Operator
 telling_of kind.Property = telling.Form
 telling_of kind.BlockStatement = telling.Items
+telling_of kind.VariableDeclaration = telling.Declaration
 telling_of _ = telling.Nothing
 
 abbrev pub is_super_at : Option Tree → Bool
 is_super_at None = false
 is_super_at (Some t) = is_super (kind_of t)
+
+-- names of which none is `eval` or `arguments` and none stands twice
+abbrev pub AreFree : List Named → Type 0
+AreFree xs = (filter is_restricted xs ≡ []) × (twice xs ≡ [])
+
+-- a declarator of such a name, with an initializer
+abbrev pub BindsOne : Tree → Type 0
+BindsOne d = (without_initializer d ≡ []) × AreFree (first_names (parts_of d))

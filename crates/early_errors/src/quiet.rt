@@ -5,7 +5,7 @@ ghost use Rattle.std.specs.Bool.{OnFalse, OnTrue};
 ghost use Rattle.tree.specs.Node.{node_tree};
 ghost use Rattle.tree.specs.Tree.{Tree, kind_of, part_at, parts_of, text_of};
 ghost use Rattle.early_errors.specs.Names.{each_part, lexical_names, names_in};
-ghost use Rattle.early_errors.specs.Passed.{IsOpen, IsWhere, is_super_at, telling_of};
+ghost use Rattle.early_errors.specs.Passed.{BindsOne, AreFree, IsOpen, IsWhere, is_super_at, telling_of};
 ghost use Rattle.early_errors.specs.Strict.{is_restricted};
 ghost use Rattle.early_errors.specs.Walk.{at_part, names_at};
 ghost use Rattle.early_errors.specs.Walks.{IsQuiet, IsSilent, is_quiet as says_nothing};
@@ -37,6 +37,7 @@ pub(crate) enum Telling {
     Operator,
     Form,
     Items,
+    Declaration,
     Nothing,
 }
 
@@ -72,6 +73,7 @@ fn telling_of(kind: Kind) -> Telling
         Kind::UnaryExpression => Telling::Operator,
         Kind::Property => Telling::Form,
         Kind::BlockStatement => Telling::Items,
+        Kind::VariableDeclaration => Telling::Declaration,
         _ => Telling::Nothing,
     }
 }
@@ -102,6 +104,7 @@ fn where_by(telling: Telling, node: Node) -> Where
         Telling::Operator => in_parts_unless(deletes_identifier(node)),
         Telling::Form => in_parts_unless(is_method(node.flags().form)),
         Telling::Items => in_parts_unless(declares_names(node)),
+        Telling::Declaration => in_parts_unless(declares_more(node)),
         _ => Where::Anywhere,
     }
 }
@@ -222,11 +225,57 @@ fn declares_names(block: Node) -> bool
 fn declares(item: Option<Node>) -> bool
     ensures { OnFalse result ((b : _) → at_part (lexical_names b) (option_map node_tree item.entry) ≡ []) }
 {
-    let Some(item) = item else {
-        return false;
-    };
+    match item {
+        Some(item) => is_lexical(item),
+        None => false,
+    }
+}
+
+fn is_lexical(item: Node) -> bool
+    ensures { OnFalse result ((b : _) → lexical_names b (node_tree item.entry) ≡ []) }
+{
     match lexical_of(true, item) {
         Lexical::Nothing => false,
+        _ => true,
+    }
+}
+
+/// Whether a declaration is more than a `let` or `const` of one name, other than `eval` and `arguments`, with an initializer.
+fn declares_more(declaration: Node) -> bool
+    requires { telling_of (kind_of (node_tree declaration)) ≡ Telling.Declaration }
+    ensures { OnFalse result (IsOpen (node_tree declaration.entry)) }
+{
+    if declaration.text() == "var" {
+        return true;
+    }
+    if declaration.part_count() > 1 {
+        return true;
+    }
+    match declaration.part(0) {
+        Some(declarator) => binds_more(declarator),
+        None => true,
+    }
+}
+
+/// Whether a declarator has no initializer, or binds more than one name other than `eval` and `arguments`.
+fn binds_more(declarator: Node) -> bool
+    ensures { OnFalse result (BindsOne (node_tree declarator.entry)) }
+{
+    let Some(_) = declarator.part(1) else {
+        return true;
+    };
+    match declarator.part(0) {
+        Some(target) => is_restricted_or_pattern(target),
+        None => true,
+    }
+}
+
+/// Whether a target is no name, or `eval` or `arguments`.
+fn is_restricted_or_pattern(target: Node) -> bool
+    ensures { OnFalse result (AreFree (names_in (node_tree target.entry))) }
+{
+    match binding_of(target.kind()) {
+        Binding::Name => is_restricted(target.text()),
         _ => true,
     }
 }

@@ -65,6 +65,7 @@ pub(crate) enum Inside {
     Method,
     Label,
     Scope,
+    Declaration,
     Plain,
 }
 
@@ -83,6 +84,7 @@ fn inside_of(kind: Kind, form: Form) -> Inside
             }
         }
         Kind::LabeledStatement => Inside::Label,
+        Kind::VariableDeclaration => Inside::Declaration,
         Kind::Program
         | Kind::BlockStatement
         | Kind::SwitchStatement
@@ -117,28 +119,6 @@ pub(crate) fn walk_node<'t>(
     }
 }
 
-/// The same of a part of a node that was passed.
-#[cycle(walk)]
-#[tactic(auto, using(tree::proofs::PartWalk::part_steps))]
-#[inline(always)]
-fn walk_within<'t>(
-    node: Node<'t, '_>,
-    around: &Around,
-    walk: &mut Walk<'t>,
-) -> Result<(), AllocError>
-    requires handed_on { IsHandedOn around.now }
-    requires unknown { around.now.labels_loop ≡ None }
-    ensures found { OnOk result ((ls : _) → Knows (look walk.old.labels) ls → walk.new.found ≡ sooner (after walk.old.found (errors_within (round around.now ls) (node_tree node.entry))) (hits (look walk.old.vars) (var_names (node_tree node.entry)))) }
-    ensures vars { OnOk result (Agree (look walk.new.vars) (look walk.old.vars)) }
-    ensures labels { OnOk result (Agree (look walk.new.labels) (look walk.old.labels)) }
-{
-    match where_errors(node) {
-        Where::Nowhere => Ok(()),
-        Where::InParts => walk_passed(node, around, walk),
-        Where::Anywhere => walk_special(node, *around, walk),
-    }
-}
-
 /// Finds the errors of a node's parts, by what stands round each of them.
 #[cycle(walk)]
 #[tactic(auto, using(tree::proofs::PartWalk::part_steps))]
@@ -155,8 +135,13 @@ fn walk_passed<'t>(
 {
     let parts = node.parts();
     for index in 0..parts.len() {
-        if let Some(part) = parts.get(index) {
-            walk_within(part, around, walk)?;
+        let Some(part) = parts.get(index) else {
+            continue;
+        };
+        match where_errors(part) {
+            Where::Nowhere => {}
+            Where::InParts => walk_passed(part, around, walk)?,
+            Where::Anywhere => walk_special(part, *around, walk)?,
         }
     }
     Ok(())
@@ -190,6 +175,10 @@ fn walk_special<'t>(
         Inside::Method => walk_method(node, around, walk),
         Inside::Label => walk_label(node, around, walk),
         Inside::Scope => walk_scope(node, around, walk),
+        Inside::Declaration => {
+            let inner = around.within();
+            walk_passed(node, &inner, walk)
+        }
         Inside::Plain => walk_parts(node, 0, node.part_count(), rounds_of(node, around), walk),
     }
 }

@@ -32,3 +32,6 @@ pub returns-in-Items : goal.returns-in-Items
 returns-in-Items c =
     let t = node_tree c.args.node in
     c.in_parts_unless-in-Items.ensures t (none_where c.declares_names.result (λ e. open_block t (sym c.requires ∙ c.in-Items.is) e) c.declares_names.ensures)
+
+pub returns-in-Declaration : goal.returns-in-Declaration
+returns-in-Declaration c = c.in_parts_unless-in-Declaration.ensures (node_tree c.args.node) c.declares_more.ensures

@@ -11,12 +11,13 @@ use Rattle.early_errors.specs.Walks.{range_errors, range_vars}
 use Rattle.early_errors.proofs.Insides.{function_facts, method_facts, plain_facts, label_facts, scope_facts, no_own_label, one_label}
 use Rattle.early_errors.proofs.Joining.{from_start, part-turn, part-given, part-missing, first-round, other-round, parts-found, function-found, two-goes, scope-found, none-clash}
 use Rattle.early_errors.proofs.VarFree.{is_free}
-use Rattle.early_errors.proofs.Ahead.{ahead-part, ahead-gap, ahead-end, open_found}
+use Rattle.early_errors.proofs.Silent.{quiet_found}
+use Rattle.early_errors.proofs.Ahead.{ahead-part, ahead-gap, ahead-end, open_found, declared_found}
 use Rattle.early_errors.proofs.ScopeErrors.{split_given}
 use Rattle.early_errors.proofs.Results.{on_ok}
 use Rattle.early_errors.proofs.Tables.{restored, undone-agrees}
 use Rattle.early_errors.proofs.walk.+walk.Goals as goal
-use Rattle.early_errors.proofs.walk.+walk.Goals.{walk_parts-in-Some+in_ok-walk_node, walk_parts-then-index-eq0, walk_parts-else-index-eq0, walk_parts-in_default, walk_passed-in-Some+in_ok-walk_within, walk_passed-in_default}
+use Rattle.early_errors.proofs.walk.+walk.Goals.{walk_parts-in-Some+in_ok-walk_node, walk_parts-then-index-eq0, walk_parts-else-index-eq0, walk_parts-in_default, walk_passed-in-Nowhere, walk_passed-in-InParts+in_ok-walk_passed-in-InParts, walk_passed-in-Anywhere+in_ok-walk_special-in-Anywhere}
 
 pub walk_function-returns-clause-found : goal.walk_function-returns-clause-found
 walk_function-returns-clause-found t c =
@@ -121,6 +122,15 @@ walk_special-returns-in-Plain-clause-found t c =
     (h ls k))
     c.walk_parts.ensures.found
 
+pub walk_special-returns-in-Declaration-clause-found : goal.walk_special-returns-in-Declaration-clause-found
+walk_special-returns-in-Declaration-clause-found t c =
+    on_ok c.walk_passed.result
+    (λ h ls k.
+    let t = node_tree c.args.node in
+    let kind = (λ i. inside_of (sym c.kind.ensures i) (sym c.flags.ensures i).form) ∙ sym c.inside_of.ensures ∙ c.in-Declaration.is in
+    declared_found (look c.args.walk.now.vars) (round c.within-inner.result ls) (round c.args.around ls) t c.args.walk.now.found c.in_ok-walk.field-0 c.walk_passed.new.walk.found kind (c.within-inner.ensures.around ls) (c.in_ok-walk.ensures ls k) (h ls k))
+    c.walk_passed.ensures.found
+
 pub walk_parts-loop-index-preserved : goal.walk_parts-loop-index-preserved
 walk_parts-loop-index-preserved t c =
     let ps = parts_of (node_tree c.args.node) in
@@ -158,34 +168,51 @@ walk_node-returns-in-InParts-clause-found t c =
     (c.within-inner.ensures.around ls) (h ls k))
     c.walk_passed.ensures.found
 
-pub walk_within-returns-in-InParts-clause-found : goal.walk_within-returns-in-InParts-clause-found
-walk_within-returns-in-InParts-clause-found t c =
-    on_ok c.walk_passed.result
-    (λ h ls k.
-    open_found (look c.args.walk.now.vars) (round c.args.around.now ls) (round c.args.around.now ls) (node_tree c.args.node) c.args.walk.now.found c.walk_passed.new.walk.found (subst (λ x. IsWhere x (node_tree c.args.node)) c.in-InParts.is c.where_errors.ensures)
-    (sym (c.requires.handed_on ls)) (h ls k))
-    c.walk_passed.ensures.found
+pub walk_passed-loop-index-preserved-in_default : goal.walk_passed-loop-index-preserved-in_default
+walk_passed-loop-index-preserved-in_default t c =
+    let ps = list_parts c.parts-parts.result in
+    let i = c.loop-index.index in
+    record {
+      found = λ ls k.
+          ahead-gap (look c.args.walk.now.vars) (round c.args.around.now ls) c.loop-index.walk.found c.loop-index.walk.found _ _ _ (parts_drop-gap ps i c.in_default.ensures (subst (λ n. i < n) c.len-index-end.ensures c.loop-index-test.true))
+          refl (c.loop-index.invariant.found ls k);
+      vars = c.loop-index.invariant.vars;
+      labels = c.loop-index.invariant.labels;
+    }
 
 pub walk_passed-loop-index-preserved : goal.walk_passed-loop-index-preserved
 walk_passed-loop-index-preserved t c =
     let ps = list_parts c.parts-parts.result in
+    let u = node_tree c.in-Some.part in
+    let a = c.args.around.now in
     let V = look c.args.walk.now.vars in
+    let W = look c.loop-index.walk.vars in
     let i = c.loop-index.index in
+    let q = c.loop-index.walk.found in
+    let r = c.match-where_errors.walk.found in
     let inv = c.loop-index.invariant in
-    elim c.match-get.branch [
-      | walk_passed-in-Some+in_ok-walk_within w ↦ record {
+    let at = parts_drop-some ps i u c.in-Some.ensures in
+    elim c.match-where_errors.branch [
+      | walk_passed-in-Nowhere w ↦ record {
         found = λ ls k.
-            ahead-part V (look c.loop-index.walk.vars) (round c.args.around.now ls) c.loop-index.walk.found c.match-get.walk.found _ _ _ (node_tree w.in-Some.part) inv.vars (parts_drop-some ps i (node_tree w.in-Some.part) w.in-Some.ensures)
-            (ap (λ x. x.found) w.walk-is ∙ w.in_ok-walk_within.ensures.found ls (λ v. inv.labels v ∙ k v)) (inv.found ls k);
-        vars = λ v. ap (λ x. look x.vars v) w.walk-is ∙ w.in_ok-walk_within.ensures.vars v ∙ inv.vars v;
-        labels = λ v. ap (λ x. look x.labels v) w.walk-is ∙ w.in_ok-walk_within.ensures.labels v ∙ inv.labels v;
-      }
-      | walk_passed-in_default w ↦ record {
-        found = λ ls k.
-            ahead-gap V (round c.args.around.now ls) c.loop-index.walk.found c.match-get.walk.found _ _ _ (parts_drop-gap ps i w.in_default.ensures (subst (λ n. i < n) c.len-index-end.ensures c.loop-index-test.true))
-            (ap (λ x. x.found) w.walk-is) (inv.found ls k);
+            ahead-part V W (round a ls) q r _ _ _ u inv.vars at (quiet_found W (round a ls) u q r (subst (λ x. IsWhere x u) w.in-Nowhere.is c.where_errors.ensures) (ap (λ x. x.found) w.walk-is)) (inv.found ls k);
         vars = λ v. ap (λ x. look x.vars v) w.walk-is ∙ inv.vars v;
         labels = λ v. ap (λ x. look x.labels v) w.walk-is ∙ inv.labels v;
+      }
+      | walk_passed-in-InParts+in_ok-walk_passed-in-InParts w ↦ record {
+        found = λ ls k.
+            ahead-part V W (round a ls) q r _ _ _ u inv.vars at
+            (open_found W (round a ls) (round a ls) u q r (subst (λ x. IsWhere x u) w.in-InParts.is c.where_errors.ensures) (sym (c.requires.handed_on ls))
+            (ap (λ x. x.found) w.walk-is ∙ w.in_ok-walk_passed-in-InParts.ensures.found ls (λ v. inv.labels v ∙ k v)))
+            (inv.found ls k);
+        vars = λ v. ap (λ x. look x.vars v) w.walk-is ∙ w.in_ok-walk_passed-in-InParts.ensures.vars v ∙ inv.vars v;
+        labels = λ v. ap (λ x. look x.labels v) w.walk-is ∙ w.in_ok-walk_passed-in-InParts.ensures.labels v ∙ inv.labels v;
+      }
+      | walk_passed-in-Anywhere+in_ok-walk_special-in-Anywhere w ↦ record {
+        found = λ ls k.
+            ahead-part V W (round a ls) q r _ _ _ u inv.vars at (ap (λ x. x.found) w.walk-is ∙ w.in_ok-walk_special-in-Anywhere.ensures.found ls (λ v. inv.labels v ∙ k v)) (inv.found ls k);
+        vars = λ v. ap (λ x. look x.vars v) w.walk-is ∙ w.in_ok-walk_special-in-Anywhere.ensures.vars v ∙ inv.vars v;
+        labels = λ v. ap (λ x. look x.labels v) w.walk-is ∙ w.in_ok-walk_special-in-Anywhere.ensures.labels v ∙ inv.labels v;
       }
     ]
 

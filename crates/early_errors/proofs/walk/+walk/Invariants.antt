@@ -27,9 +27,6 @@ decreases-walk_node l = 6 * node_total (node_tree l.node) + 4
 abbrev pub decreases-walk_special : goal.decreases-walk_special
 decreases-walk_special l = 6 * node_total (node_tree l.node) + 3
 
-abbrev pub decreases-walk_within : goal.decreases-walk_within
-decreases-walk_within l = 6 * node_total (node_tree l.node) + 4
-
 abbrev pub decreases-walk_passed : goal.decreases-walk_passed
 decreases-walk_passed l = 6 * node_total (node_tree l.node)
 
