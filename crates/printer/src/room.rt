@@ -68,8 +68,6 @@ impl Room {
         ensures { self.new ≡ self.old ++ bytes.now }
     {
         match bytes.len() {
-            0 => {}
-            1 => self.add_byte(bytes[0]),
             2..=3 => self.add_ends::<2>(bytes),
             4..=7 => self.add_ends::<4>(bytes),
             8..=16 => self.add_ends::<8>(bytes),

@@ -85,6 +85,7 @@ fn concise(is_last: bool) -> Site
 }
 
 /// What the kind tells.
+#[inline(always)]
 fn told(kind: Kind, is_last: bool) -> Site
     ensures { result ≡ told_at kind is_last }
 {
