@@ -123,6 +123,8 @@ pub(crate) fn has_row(slot: Slot) -> bool
 /// A step: a node without parts at positions, a node before its parts, or back to the node above.
 #[derive(Clone, Copy)]
 pub(crate) enum Step {
+    /// A name or a literal that has a row.
+    Word(Kind),
     Leaf(Visit),
     Enter(Visit),
     Leave,

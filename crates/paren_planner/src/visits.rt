@@ -12,11 +12,13 @@ ghost use Rattle.positions.specs.Wherever.{spelled_by};
 ghost use Rattle.paren_planner.specs.declared.steps.Step.TheVariants.{Leaf};
 ghost use Rattle.positions.specs.Productions.{outline_of};
 ghost use Rattle.paren_planner.specs.Noted.{Noted, PartsNoted, is_settled_slot, fixed_outline};
-ghost use Rattle.paren_planner.specs.Steps.{nowhere};
+ghost use Rattle.language.specs.declared.Rank.TheVariants.{Primary};
+ghost use Rattle.paren_planner.specs.Steps.{nowhere, slot_free};
 ghost use Rattle.paren_planner.specs.Weighed.{settled_at};
 
 use crate::steps::{Label, Step, Visit, has_row};
 use crate::weighed::widest;
+use grammar::position_takes;
 use language::{Rank, Start};
 use positions::{
     Position, Production, Slot, SlotCursor, holds_chain, is_leaf, leads_chain, node_production,
@@ -63,12 +65,10 @@ fn visit_word(
     if !has_row(slot) {
         return Ok(());
     }
-    steps.push(Step::Leaf(Visit {
-        kind: node.kind(),
-        above,
-        slot,
-        label: Some(Label::of(Production::Leaf)),
-    }))?;
+    if !takes_word(slot) {
+        return visit_at(node, above, slot, in_chain, steps);
+    }
+    steps.push(Step::Word(node.kind()))?;
     Ok(())
 }
 
@@ -142,6 +142,19 @@ fn visit_parts(
         visit_node(part, own, slot, in_chain, steps)?;
     }
     Ok(())
+}
+
+/// Whether a name or a literal may stand at a slot, wherever the node above stands.
+fn takes_word(slot: Slot) -> bool
+    ensures { result ≡ slot_free (slot_of slot) Primary }
+{
+    match slot {
+        Slot::Fixed(Position::Expression { rank, .. })
+        | Slot::Left(rank)
+        | Slot::Lead(rank)
+        | Slot::Tail(rank, _) => position_takes(rank, Rank::Primary),
+        _ => true,
+    }
 }
 
 /// Whether a node of this kind may be seen at once to be a leaf.

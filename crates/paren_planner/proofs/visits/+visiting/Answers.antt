@@ -11,7 +11,7 @@ use Rattle.positions.specs.Wherever.{spelled_by, chain_above}
 use Rattle.positions.specs.Cursors.{left_by}
 use Rattle.paren_planner.specs.Noted.{PartsNoted}
 use Rattle.paren_planner.proofs.Filled.{chained_at}
-use Rattle.paren_planner.proofs.Visited.{Begun, begun_first, begun_skip, begun_stop, begun_finish, begun_next, noted_unspelled, noted_alone, noted_around, noted_hidden, noted_through, outline_fixed}
+use Rattle.paren_planner.proofs.Visited.{Begun, begun_first, begun_skip, begun_stop, begun_finish, begun_next, noted_unspelled, noted_alone, noted_around, noted_word, noted_hidden, noted_through, outline_fixed}
 use Rattle.paren_planner.proofs.visits.+visiting.Goals as goal
 
 pub visit_parts-loop-index-init : goal.visit_parts-loop-index-init
@@ -57,8 +57,8 @@ visit_parts-loop-index-preserved t c =
 
 pub visit_word-returns : goal.visit_word-returns
 visit_word-returns t c =
-    noted_alone (role_of c.args.above) (role_of c.widest_of.result) (slot_of c.args.slot) (node_tree c.args.node) (record { kind = c.kind.result; above = c.args.above; slot = c.args.slot; label = Some c.of.result }) (spelled_by c.args.node c.widest_of.result by.Leaf) c.args.steps.now.items c.push.new.self.items
-    (record { kind = c.kind.ensures; above = refl; slot = refl }) (ap (λ l. Some l) c.of.ensures) (c.widest_of.ensures (role_of c.args.above)) (c.is_leaf.ensures.spelled c.if-not-is_leaf.false) (c.is_leaf.ensures.parts c.if-not-is_leaf.false) c.in_ok-push.ensures.items
+    noted_word (role_of c.args.above) (role_of c.widest_of.result) (slot_of c.args.slot) (node_tree c.args.node) (spelled_by c.args.node c.widest_of.result by.Leaf) c.kind.result c.args.steps.now.items c.push.new.self.items
+    (c.widest_of.ensures (role_of c.args.above)) (c.is_leaf.ensures.spelled c.if-not-is_leaf.false) refl (c.is_leaf.ensures.parts c.if-not-is_leaf.false) (sym c.has_row.ensures ∙ c.if-not-has_row.false) (sym c.takes_word.ensures ∙ c.if-not-takes_word.false) c.kind.ensures c.in_ok-push.ensures.items
 
 pub visit_at-returns-in_default : goal.visit_at-returns-in_default
 visit_at-returns-in_default t c =
