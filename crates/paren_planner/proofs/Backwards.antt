@@ -20,7 +20,7 @@ use Rattle.paren_planner.specs.declared.weighed.Weighed.{Weighed}
 use Rattle.paren_planner.specs.declared.table.Row.{Row}
 use Rattle.paren_planner.specs.declared.steps.Visit.{Visit}
 use Rattle.paren_planner.specs.declared.steps.Step.{Step}
-use Rattle.paren_planner.specs.declared.steps.Step.TheVariants.{Word, Leaf, Enter, Leave}
+use Rattle.paren_planner.specs.declared.steps.Step.TheVariants.{Leaf, Enter, Leave}
 use Rattle.paren_planner.specs.Costs.{capped, capped_sum, each, cost_at, sums, same_everywhere, cells_at}
 use Rattle.paren_planner.specs.Weighed.{settled_at, uses, fitting, sums_over, IsWeighed}
 use Rattle.paren_planner.specs.Rows.{row_with, row_of, own_row, table_rows, parts_table}
@@ -268,7 +268,6 @@ mutual
       (ap (λ u. taken_from u t) e ∙ taken_around v ys t
       ∙ ap (taken (Enter v)) (parts_taken q (record { here = no_pairs; outer = t.here ∷ t.outer; rows = t.rows }) zero-zero)
       ∙ ap (λ r. joined v o (record { here = t.here; outer = t.outer; rows = parts_table (parts_of n) r ++ t.rows })) (sym (roles_some (settled_at a s) n x k)))
-
   node_taken {a} {s} {n} {xs} (word x k o e r f z) t h = subst (Joined a s n t) (sym (ap (λ u. taken_from u t) z)) (word_node a s n x t k o e r f h)
   node_taken {a} {s} {n} {xs} (hidden x k p e r z) t h = subst (Joined a s n t) (sym (ap (λ u. taken_from u t) z)) (hidden_node a s n x t k p e r h)
   node_taken {a} {s} {n} {xs} (through x k r g q) t h = settled_here a s n x t (taken_from xs t) k r (parts_taken q t h)

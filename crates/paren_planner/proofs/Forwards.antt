@@ -27,7 +27,7 @@ use Rattle.paren_planner.specs.declared.table.Row.{Row}
 use Rattle.paren_planner.specs.declared.steps.Label.{Label}
 use Rattle.paren_planner.specs.declared.steps.Visit.{Visit}
 use Rattle.paren_planner.specs.declared.steps.Step.{Step}
-use Rattle.paren_planner.specs.declared.steps.Step.TheVariants.{Word, Leaf, Enter, Leave}
+use Rattle.paren_planner.specs.declared.steps.Step.TheVariants.{Leaf, Enter, Leave}
 use Rattle.paren_planner.specs.Costs.{capped, cells_at}
 use Rattle.paren_planner.specs.Weighed.{settled_at, cost_of, fitting, sums_over, fits_spelled}
 use Rattle.paren_planner.specs.Rows.{row_of, is_expression, table_rows, parts_table}
@@ -183,7 +183,6 @@ mutual
       ∙ ap (marked T Leave) (dead_parts T q (record { here = t.here; outer = t.here ∷ t.outer; flags = t.flags ++ unwrapped (has_row (settled_at a s)) }) h)
       ∙ flagged_twice t (unwrapped (has_row (settled_at a s))) (unwrapped r)
       ∙ ap (flagged t) (unwrapped_sum (has_row (settled_at a s)) r ∙ ap unwrapped count)
-
   dead_node T {a} {s} {n} (word x k o e r f z) t h =
       ap (λ u. marked_through T u t) z ∙ ap (flagged t) (word_rows a s n r e)
   dead_node T {a} {s} {n} (hidden x k p e r z) t h =
@@ -485,7 +484,6 @@ mutual
       (subst (HasRows T (length gs)) (table_below x.own n y x.known) x.stands)
       (subst (λ m. m ≤ 16777216) (rows_below x.own n y x.known) x.few)))
       ∙ ap (λ u. record { here = living o; outer = us; flags = u }) (x.result (gs ++ cond (F && not x.quiet) P U) (ap (λ u. gs ++ u) whole))
-
   live_node T {a} {s} {n} (word x k q e r f z) o us bs pl st few =
       ap (λ u. marked_through T u (record { here = living o; outer = us; flags = bs })) z
       ∙ (λ j. record { here = living o; outer = us; flags = bs ++ word_flags o s n x (spelled_at a o s n (Some x) k) q e r f few j })

@@ -13,7 +13,7 @@ use Rattle.positions.specs.declared.outline.Tail.TheVariants as tail
 use Rattle.positions.specs.declared.outline.Outline.{Outline}
 use Rattle.tree.specs.declared.kind.Kind.{Kind}
 use Rattle.language.specs.declared.Rank.TheVariants.{Primary}
-use Rattle.positions.specs.Outlines.{slot_of, parts_behind, leaf}
+use Rattle.positions.specs.Outlines.{slot_of, leaf}
 use Rattle.positions.specs.Remaining.{left, slots_left, front_left}
 use Rattle.positions.specs.Wherever.{IsSpelledWherever}
 use Rattle.paren_planner.specs.declared.steps.Visit.{Visit}

@@ -158,8 +158,7 @@ fn takes_word(slot: Slot) -> bool
 }
 
 /// Whether a node of this kind may be seen at once to be a leaf.
-fn may_be_leaf(kind: Kind) -> bool
-{
+fn may_be_leaf(kind: Kind) -> bool {
     matches!(kind, Kind::Identifier | Kind::Literal)
 }
 
@@ -184,7 +183,8 @@ fn has_fixed_slots(production: Production) -> bool
         production,
         Production::Leaf
             | Production::Keyed {
-                is_computed: false, ..
+                is_computed: false,
+                ..
             }
             | Production::Echo(_)
             | Production::Defaulted(_)
@@ -195,7 +195,10 @@ fn has_fixed_slots(production: Production) -> bool
             | Production::Prologue { .. }
             | Production::Declarators(_)
             | Production::Initialised { .. }
-            | Production::If { has_else: false, .. }
+            | Production::If {
+                has_else: false,
+                ..
+            }
             | Production::If { has_else: true, .. }
             | Production::Labeled { .. }
             | Production::DoWhile { .. }
