@@ -105,13 +105,13 @@ impl Visit {
     pub(crate) fn has_row(self) -> bool
         ensures { result ≡ has_row_at (slot_of self.slot) }
     {
-        has_row(self.slot)
+        has_row(&self.slot)
     }
 }
 
 /// Whether a node at a slot has a row.
-pub(crate) fn has_row(slot: Slot) -> bool
-    ensures { result ≡ has_row_at (slot_of slot) }
+pub(crate) fn has_row(slot: &Slot) -> bool
+    ensures { result ≡ has_row_at (slot_of slot.now) }
 {
     match slot {
         Slot::Fixed(position) => matches!(position, Position::Expression { .. }),

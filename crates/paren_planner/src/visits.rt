@@ -32,13 +32,13 @@ use tree::{Kind, Node};
 #[inline(always)]
 pub(crate) fn visit_node(
     node: Node,
-    above: Position,
-    slot: Slot,
+    above: &Position,
+    slot: &Slot,
     in_chain: bool,
     steps: &mut Vec<Step>,
 ) -> Result<(), AllocError>
     requires { in_chain ≡ true → chained (node_tree node) ≡ true }
-    ensures { OnOk result (Noted (role_of above) (slot_of slot) (node_tree node.entry) steps.old.items steps.new.items) }
+    ensures { OnOk result (Noted (role_of above.now) (slot_of slot.now) (node_tree node.entry) steps.old.items steps.new.items) }
 {
     if may_be_leaf(node.kind()) {
         return visit_word(node, above, slot, in_chain, steps);
@@ -51,13 +51,13 @@ pub(crate) fn visit_node(
 #[inline(always)]
 fn visit_word(
     node: Node,
-    above: Position,
-    slot: Slot,
+    above: &Position,
+    slot: &Slot,
     in_chain: bool,
     steps: &mut Vec<Step>,
 ) -> Result<(), AllocError>
     requires { in_chain ≡ true → chained (node_tree node) ≡ true }
-    ensures { OnOk result (Noted (role_of above) (slot_of slot) (node_tree node.entry) steps.old.items steps.new.items) }
+    ensures { OnOk result (Noted (role_of above.now) (slot_of slot.now) (node_tree node.entry) steps.old.items steps.new.items) }
 {
     if !is_leaf(node, widest_of(slot)) {
         return visit_at(node, above, slot, in_chain, steps);
@@ -77,32 +77,32 @@ fn visit_word(
 #[inline(never)]
 fn visit_at(
     node: Node,
-    above: Position,
-    slot: Slot,
+    above: &Position,
+    slot: &Slot,
     in_chain: bool,
     steps: &mut Vec<Step>,
 ) -> Result<(), AllocError>
     requires { in_chain ≡ true → chained (node_tree node) ≡ true }
-    ensures { OnOk result (Noted (role_of above) (slot_of slot) (node_tree node.entry) steps.old.items steps.new.items) }
+    ensures { OnOk result (Noted (role_of above.now) (slot_of slot.now) (node_tree node.entry) steps.old.items steps.new.items) }
 {
     let own = widest_of(slot);
     let kind = node.kind();
     let Some(production) = node_production(node, own, in_chain) else {
         steps.push(Step::Leaf(Visit {
             kind,
-            above,
-            slot,
+            above: *above,
+            slot: *slot,
             label: None,
         }))?;
         return Ok(());
     };
-    if is_settled(slot) && has_fixed_slots(production) {
+    if is_settled(slot) && has_fixed_slots(&production) {
         return visit_parts(node, own, production, steps);
     }
     let visit = Visit {
         kind,
-        above,
-        slot,
+        above: *above,
+        slot: *slot,
         label: Some(Label::of(production)),
     };
     if node.part_count() == 0 {
@@ -139,20 +139,20 @@ fn visit_parts(
             return Ok(());
         };
         let in_chain = leads_chain(is_chain, index);
-        visit_node(part, own, slot, in_chain, steps)?;
+        visit_node(part, &own, &slot, in_chain, steps)?;
     }
     Ok(())
 }
 
 /// Whether a name or a literal may stand at a slot, wherever the node above stands.
-fn takes_word(slot: Slot) -> bool
-    ensures { result ≡ slot_free (slot_of slot) Primary }
+fn takes_word(slot: &Slot) -> bool
+    ensures { result ≡ slot_free (slot_of slot.now) Primary }
 {
     match slot {
         Slot::Fixed(Position::Expression { rank, .. })
         | Slot::Left(rank)
         | Slot::Lead(rank)
-        | Slot::Tail(rank, _) => position_takes(rank, Rank::Primary),
+        | Slot::Tail(rank, _) => position_takes(*rank, Rank::Primary),
         _ => true,
     }
 }
@@ -163,8 +163,8 @@ fn may_be_leaf(kind: Kind) -> bool {
 }
 
 /// Whether a slot is a position that hands on no symbol, In and start of its own, and takes whatever is spelled there.
-fn is_settled(slot: Slot) -> bool
-    ensures { result ≡ is_settled_slot (slot_of slot) }
+fn is_settled(slot: &Slot) -> bool
+    ensures { result ≡ is_settled_slot (slot_of slot.now) }
 {
     match slot {
         Slot::Fixed(
@@ -176,8 +176,8 @@ fn is_settled(slot: Slot) -> bool
 }
 
 /// Whether it is seen at once that each slot of a production is a position.
-fn has_fixed_slots(production: Production) -> bool
-    ensures { result ≡ true → fixed_outline (outline_of production) ≡ true }
+fn has_fixed_slots(production: &Production) -> bool
+    ensures { result ≡ true → fixed_outline (outline_of production.now) ≡ true }
 {
     matches!(
         production,
@@ -209,11 +209,11 @@ fn has_fixed_slots(production: Production) -> bool
 }
 
 /// The position of a node at a slot, wherever the node above stands, with all that its spelling may depend on left open.
-fn widest_of(slot: Slot) -> Position
-    ensures { (a : Role) → role_of result ≡ widest (settled_at a (slot_of slot)) }
+fn widest_of(slot: &Slot) -> Position
+    ensures { (a : Role) → role_of result ≡ widest (settled_at a (slot_of slot.now)) }
 {
     match slot {
-        Slot::Fixed(position) => widest(position),
+        Slot::Fixed(position) => widest(*position),
         Slot::LeadSpine => Position::Spine { start: Start::Any },
         Slot::LeadPattern => {
             Position::Pattern {

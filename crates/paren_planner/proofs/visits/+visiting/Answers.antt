@@ -57,32 +57,32 @@ visit_parts-loop-index-preserved t c =
 
 pub visit_word-returns : goal.visit_word-returns
 visit_word-returns t c =
-    noted_word (role_of c.args.above) (role_of c.widest_of.result) (slot_of c.args.slot) (node_tree c.args.node) (spelled_by c.args.node c.widest_of.result by.Leaf) c.kind.result c.args.steps.now.items c.push.new.self.items
-    (c.widest_of.ensures (role_of c.args.above)) (c.is_leaf.ensures.spelled c.if-not-is_leaf.false) refl (c.is_leaf.ensures.parts c.if-not-is_leaf.false) (sym c.has_row.ensures ∙ c.if-not-has_row.false) (sym c.takes_word.ensures ∙ c.if-not-takes_word.false) c.kind.ensures c.in_ok-push.ensures.items
+    noted_word (role_of c.args.above.now) (role_of c.widest_of.result) (slot_of c.args.slot.now) (node_tree c.args.node) (spelled_by c.args.node c.widest_of.result by.Leaf) c.kind.result c.args.steps.now.items c.push.new.self.items
+    (c.widest_of.ensures (role_of c.args.above.now)) (c.is_leaf.ensures.spelled c.if-not-is_leaf.false) refl (c.is_leaf.ensures.parts c.if-not-is_leaf.false) (sym c.has_row.ensures ∙ c.if-not-has_row.false) (sym c.takes_word.ensures ∙ c.if-not-takes_word.false) c.kind.ensures c.in_ok-push.ensures.items
 
 pub visit_at-returns-in_default : goal.visit_at-returns-in_default
 visit_at-returns-in_default t c =
-    noted_unspelled (role_of c.args.above) (role_of c.widest_of-own.result) (slot_of c.args.slot) (node_tree c.args.node) (record { kind = c.kind-kind.result; above = c.args.above; slot = c.args.slot; label = None }) c.args.steps.now.items c.push.new.self.items
-    (record { kind = c.kind-kind.ensures; above = refl; slot = refl }) refl (c.widest_of-own.ensures (role_of c.args.above)) c.in_default.ensures.ways c.in_ok-push.ensures.items
+    noted_unspelled (role_of c.args.above.now) (role_of c.widest_of-own.result) (slot_of c.args.slot.now) (node_tree c.args.node) (record { kind = c.kind-kind.result; above = c.args.above.now; slot = c.args.slot.now; label = None }) c.args.steps.now.items c.push.new.self.items
+    (record { kind = c.kind-kind.ensures; above = refl; slot = refl }) refl (c.widest_of-own.ensures (role_of c.args.above.now)) c.in_default.ensures.ways c.in_ok-push.ensures.items
 
 pub visit_at-returns-then-part_count-eq0 : goal.visit_at-returns-then-part_count-eq0
 visit_at-returns-then-part_count-eq0 t c =
-    noted_alone (role_of c.args.above) (role_of c.widest_of-own.result) (slot_of c.args.slot) (node_tree c.args.node) (record { kind = c.kind-kind.result; above = c.args.above; slot = c.args.slot; label = Some c.of.result }) (spelled_by c.args.node c.widest_of-own.result c.in-Some.production) c.args.steps.now.items c.push-then-part_count-eq0.new.self.items
-    (record { kind = c.kind-kind.ensures; above = refl; slot = refl }) (ap (λ l. Some l) c.of.ensures) (c.widest_of-own.ensures (role_of c.args.above)) c.in-Some.ensures.ways (sym c.part_count.ensures ∙ c.if-part_count-eq0.true) c.in_ok-push-2.ensures.items
+    noted_alone (role_of c.args.above.now) (role_of c.widest_of-own.result) (slot_of c.args.slot.now) (node_tree c.args.node) (record { kind = c.kind-kind.result; above = c.args.above.now; slot = c.args.slot.now; label = Some c.of.result }) (spelled_by c.args.node c.widest_of-own.result c.in-Some.production) c.args.steps.now.items c.push-then-part_count-eq0.new.self.items
+    (record { kind = c.kind-kind.ensures; above = refl; slot = refl }) (ap (λ l. Some l) c.of.ensures) (c.widest_of-own.ensures (role_of c.args.above.now)) c.in-Some.ensures.ways (sym c.part_count.ensures ∙ c.if-part_count-eq0.true) c.in_ok-push-2.ensures.items
 
 pub visit_at-returns : goal.visit_at-returns
 visit_at-returns t c =
-    noted_around (role_of c.args.above) (role_of c.widest_of-own.result) (slot_of c.args.slot) (node_tree c.args.node) (record { kind = c.kind-kind.result; above = c.args.above; slot = c.args.slot; label = Some c.of.result }) (spelled_by c.args.node c.widest_of-own.result c.in-Some.production) c.args.steps.now.items c.push-2.new.self.items c.visit_parts-2.new.steps.items c.push-3.new.self.items
-    (record { kind = c.kind-kind.ensures; above = refl; slot = refl }) (ap (λ l. Some l) c.of.ensures) (c.widest_of-own.ensures (role_of c.args.above)) c.in-Some.ensures.ways c.in_ok-push-3.ensures.items c.in_ok-visit_parts.ensures c.in_ok-push-4.ensures.items
+    noted_around (role_of c.args.above.now) (role_of c.widest_of-own.result) (slot_of c.args.slot.now) (node_tree c.args.node) (record { kind = c.kind-kind.result; above = c.args.above.now; slot = c.args.slot.now; label = Some c.of.result }) (spelled_by c.args.node c.widest_of-own.result c.in-Some.production) c.args.steps.now.items c.push-2.new.self.items c.visit_parts-2.new.steps.items c.push-3.new.self.items
+    (record { kind = c.kind-kind.ensures; above = refl; slot = refl }) (ap (λ l. Some l) c.of.ensures) (c.widest_of-own.ensures (role_of c.args.above.now)) c.in-Some.ensures.ways c.in_ok-push-3.ensures.items c.in_ok-visit_parts.ensures c.in_ok-push-4.ensures.items
 
 pub visit_word-returns-then-not-has_row : goal.visit_word-returns-then-not-has_row
 visit_word-returns-then-not-has_row t c =
-    noted_hidden (role_of c.args.above) (role_of c.widest_of.result) (slot_of c.args.slot) (node_tree c.args.node) (spelled_by c.args.node c.widest_of.result by.Leaf) c.args.steps.now.items
-    (c.widest_of.ensures (role_of c.args.above)) (c.is_leaf.ensures.spelled c.if-not-is_leaf.false) refl (c.is_leaf.ensures.parts c.if-not-is_leaf.false) (sym c.has_row.ensures ∙ c.if-not-has_row.true)
+    noted_hidden (role_of c.args.above.now) (role_of c.widest_of.result) (slot_of c.args.slot.now) (node_tree c.args.node) (spelled_by c.args.node c.widest_of.result by.Leaf) c.args.steps.now.items
+    (c.widest_of.ensures (role_of c.args.above.now)) (c.is_leaf.ensures.spelled c.if-not-is_leaf.false) refl (c.is_leaf.ensures.parts c.if-not-is_leaf.false) (sym c.has_row.ensures ∙ c.if-not-has_row.true)
 
 pub visit_at-returns-then-has_fixed_slots : goal.visit_at-returns-then-has_fixed_slots
 visit_at-returns-then-has_fixed_slots t c =
     let n = node_tree c.args.node in
     let x = outline_of c.in-Some.production in
-    noted_through c.visit_parts.result (role_of c.args.above) (role_of c.widest_of-own.result) (slot_of c.args.slot) n (spelled_by c.args.node c.widest_of-own.result c.in-Some.production) c.args.steps.now.items c.visit_parts.new.steps.items
-    (c.widest_of-own.ensures (role_of c.args.above)) c.in-Some.ensures.ways (sym c.is_settled.ensures ∙ c.if-is_settled.true) (outline_fixed x (parts_behind x.from (parts_of n)) (c.has_fixed_slots.ensures c.if-has_fixed_slots.true)) c.visit_parts.ensures
+    noted_through c.visit_parts.result (role_of c.args.above.now) (role_of c.widest_of-own.result) (slot_of c.args.slot.now) n (spelled_by c.args.node c.widest_of-own.result c.in-Some.production) c.args.steps.now.items c.visit_parts.new.steps.items
+    (c.widest_of-own.ensures (role_of c.args.above.now)) c.in-Some.ensures.ways (sym c.is_settled.ensures ∙ c.if-is_settled.true) (outline_fixed x (parts_behind x.from (parts_of n)) (c.has_fixed_slots.ensures c.if-has_fixed_slots.true)) c.visit_parts.ensures
