@@ -97,7 +97,7 @@ fn visit_at(
         return Ok(());
     };
     if is_settled(slot) && has_fixed_slots(&production) {
-        return visit_parts(node, own, production, steps);
+        return visit_parts(node, &own, &production, steps);
     }
     let visit = Visit {
         kind,
@@ -110,7 +110,7 @@ fn visit_at(
         return Ok(());
     }
     steps.push(Step::Enter(visit))?;
-    visit_parts(node, own, production, steps)?;
+    visit_parts(node, &own, &production, steps)?;
     steps.push(Step::Leave)?;
     Ok(())
 }
@@ -120,16 +120,16 @@ fn visit_at(
 #[tactic(auto, using(tree::proofs::PartWalk::part_steps))]
 fn visit_parts(
     node: Node,
-    own: Position,
-    production: Production,
+    own: &Position,
+    production: &Production,
     steps: &mut Vec<Step>,
 ) -> Result<(), AllocError>
-    requires { (spelled_by node own production).holds_chain ≡ true → first_chained (parts_of (node_tree node)) ≡ true }
-    ensures { OnOk result (PartsNoted (role_of own) (left (spelled_by node.entry own production).slots) (parts_of (node_tree node.entry)) steps.old.items steps.new.items) }
+    requires { (spelled_by node own.now production.now).holds_chain ≡ true → first_chained (parts_of (node_tree node)) ≡ true }
+    ensures { OnOk result (PartsNoted (role_of own.now) (left (spelled_by node.entry own.now production.now).slots) (parts_of (node_tree node.entry)) steps.old.items steps.new.items) }
 {
-    let is_chain = holds_chain(own, node.kind(), production);
+    let is_chain = holds_chain(*own, node.kind(), *production);
     let parts = node.parts();
-    let mut slots = SlotCursor::new(production);
+    let mut slots = SlotCursor::new(*production);
     for index in 0..parts.len() {
         let Some(part) = parts.get(index) else {
             continue;
@@ -139,7 +139,7 @@ fn visit_parts(
             return Ok(());
         };
         let in_chain = leads_chain(is_chain, index);
-        visit_node(part, &own, &slot, in_chain, steps)?;
+        visit_node(part, own, &slot, in_chain, steps)?;
     }
     Ok(())
 }

@@ -17,9 +17,9 @@ use Rattle.paren_planner.proofs.visits.+visiting.Goals as goal
 pub visit_parts-loop-index-init : goal.visit_parts-loop-index-init
 visit_parts-loop-index-init t c =
     let ps = list_parts c.parts-parts.result in
-    let x = left (spelled_by c.args.node c.args.own c.args.production).slots in
+    let x = left (spelled_by c.args.node c.args.own.now c.args.production.now).slots in
     let e : left_by c.new-slots.result ps ≡ x = (λ i. left_by (c.new-slots.ensures i) (c.parts-parts.ensures i)) in
-    subst (λ ss. Begun (role_of c.args.own) x ss ps ps c.args.steps.now.items c.args.steps.now.items) (sym e) (begun_first (role_of c.args.own) x ps c.args.steps.now.items)
+    subst (λ ss. Begun (role_of c.args.own.now) x ss ps ps c.args.steps.now.items c.args.steps.now.items) (sym e) (begun_first (role_of c.args.own.now) x ps c.args.steps.now.items)
 
 pub visit_parts-loop-index-preserved-in_default : goal.visit_parts-loop-index-preserved-in_default
 visit_parts-loop-index-preserved-in_default t c =
@@ -30,14 +30,14 @@ visit_parts-loop-index-preserved-in_default t c =
 pub visit_parts-returns-in_default-take : goal.visit_parts-returns-in_default-take
 visit_parts-returns-in_default-take t c =
     let ps = list_parts c.parts-parts.result in
-    subst (λ qs. PartsNoted (role_of c.args.own) (left (spelled_by c.args.node c.args.own c.args.production).slots) qs c.args.steps.now.items c.push.new.self.items) c.parts-parts.ensures
+    subst (λ qs. PartsNoted (role_of c.args.own.now) (left (spelled_by c.args.node c.args.own.now c.args.production.now).slots) qs c.args.steps.now.items c.push.new.self.items) c.parts-parts.ensures
     (begun_stop _ _ (left_by c.loop-index.slots ps) _ _ _ (node_tree c.in-Some.part) _ _ _ c.loop-index.invariant
     (parts_drop-some ps c.loop-index.index (node_tree c.in-Some.part) c.in-Some.ensures) c.in_default-take.ensures (c.in_ok-push.ensures.items ∙ ap (λ x. c.loop-index.steps.items ++ x ∷ []) c.unplaced.ensures))
 
 pub visit_parts-returns : goal.visit_parts-returns
 visit_parts-returns t c =
     let ps = list_parts c.parts-parts.result in
-    subst (λ qs. PartsNoted (role_of c.args.own) (left (spelled_by c.args.node c.args.own c.args.production).slots) qs c.args.steps.now.items c.loop-index.steps.items) c.parts-parts.ensures
+    subst (λ qs. PartsNoted (role_of c.args.own.now) (left (spelled_by c.args.node c.args.own.now c.args.production.now).slots) qs c.args.steps.now.items c.loop-index.steps.items) c.parts-parts.ensures
     (begun_finish _ _ _ _ _ _ _ c.loop-index.invariant (parts_drop-past ps c.loop-index.index (omega (arith, c.len-index-end.ensures, c.loop-index-test.false))))
 
 pub visit_parts-visit_node-requires : goal.visit_parts-visit_node-requires
@@ -46,7 +46,7 @@ visit_parts-visit_node-requires t c =
     let u = node_tree c.in-Some.part in
     let here : Some u ≡ part_at (parts_of n) c.loop-index.index = c.in-Some.ensures ∙ ap (λ qs. part_at qs c.loop-index.index) c.parts-parts.ensures in
     let smaller : node_total u < node_total n = part_smaller n u c.loop-index.index here in
-    let above : c.holds_chain-is_chain.result ≡ true → first_chained (parts_of n) ≡ true = λ h. c.requires (ap (λ k. chain_above c.args.own k (outline_of c.args.production).front) (sym c.kind.ensures) ∙ sym c.holds_chain-is_chain.ensures ∙ h) in
+    let above : c.holds_chain-is_chain.result ≡ true → first_chained (parts_of n) ≡ true = λ h. c.requires (ap (λ k. chain_above c.args.own.now k (outline_of c.args.production.now).front) (sym c.kind.ensures) ∙ sym c.holds_chain-is_chain.ensures ∙ h) in
     (search rules, chained_at n u c.loop-index.index c.holds_chain-is_chain.result c.leads_chain-in_chain.result above here c.leads_chain-in_chain.ensures)
 
 pub visit_parts-loop-index-preserved : goal.visit_parts-loop-index-preserved
