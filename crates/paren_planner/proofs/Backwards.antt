@@ -3,6 +3,8 @@ use Rattle.std.proofs.Common.{◌≡◌, ℕ, ◌+◌, true, false, cond, min, L
 use Rattle.std.proofs.lemmas.Bool.{false≢true, true≢false}
 use Rattle.tree.specs.Tree.{Tree, node, Parts, none, part, kind_of, parts_of}
 use Rattle.language.specs.declared.Rank.{Rank}
+use Rattle.language.specs.declared.Rank.TheVariants.{Primary}
+use Rattle.positions.specs.Outlines.{leaf}
 use Rattle.language.specs.declared.Start.{Start}
 use Rattle.language.specs.Pieces.{Role, expr, spine, pattern, script, Slot, fixed, left as left_slot, lead, tail, callee, lead_spine, lead_pattern}
 use Rattle.language.specs.Grammar.{ways}
@@ -22,9 +24,9 @@ use Rattle.paren_planner.specs.declared.steps.Step.TheVariants.{Leaf, Enter, Lea
 use Rattle.paren_planner.specs.Costs.{capped, capped_sum, each, cost_at, sums, same_everywhere, cells_at}
 use Rattle.paren_planner.specs.Weighed.{settled_at, uses, fitting, sums_over, IsWeighed}
 use Rattle.paren_planner.specs.Rows.{row_with, row_of, own_row, table_rows, parts_table}
-use Rattle.paren_planner.specs.Steps.{label_of, outline_of, has_row_at, slot_free, is_plain_outline, no_pairs, IsHeld, weighed_as, weighed_of, row_of_visit, Sums, joined, taken, taken_from, at_the_end}
-use Rattle.paren_planner.specs.Noted.{IsVisit, Steps, unspelled, alone, around, hidden, through, is_settled, is_settled_slot, PartsSteps, over, skipped, unplaced, next}
-use Rattle.paren_planner.proofs.Plainly.{plain_uses}
+use Rattle.paren_planner.specs.Steps.{word_row, label_of, outline_of, has_row_at, slot_free, is_plain_outline, no_pairs, IsHeld, weighed_as, weighed_of, row_of_visit, Sums, joined, taken, taken_from, at_the_end}
+use Rattle.paren_planner.specs.Noted.{IsVisit, Steps, unspelled, alone, around, word, hidden, through, is_settled, is_settled_slot, PartsSteps, over, skipped, unplaced, next}
+use Rattle.paren_planner.proofs.Plainly.{plain_uses, free_row_at}
 use Rattle.paren_planner.proofs.Sums.{sums-assoc, sums-zero, zero-zero, zero-sums}
 use Rattle.paren_planner.proofs.Known.{least_known}
 use Rattle.paren_planner.proofs.Filled.{sums-part, sums-gap, sums-end, sums-stop, table-part, table-gap, table-end, table-stop, table-empty, weighed_some, weighed_none, roles_some, roles_none}
@@ -177,22 +179,53 @@ settled_uses ps a callee x ss h = absurd (false≢true h)
 settled_uses ps a lead_spine x ss h = absurd (false≢true h)
 settled_uses ps a lead_pattern x ss h = absurd (false≢true h)
 
-hidden_node : (a : Role) (s : Slot) (n : Tree) (x : Spelled) (t : Sums) → IsSpelledWherever (widest (settled_at a s)) n (Some x) → is_plain_outline x.outline ≡ true → parts_of n ≡ none → has_row_at s ≡ false → IsHeld t.here → Joined a s n t t
-hidden_node a s n x t k p e r h =
+-- without parts, and with the numbers that its spelling leaves of none
+record Bare (a : Role) (s : Slot) (n : Tree) (x : Outline) : Type 0 where
+  known : IsWeighed (settled_at a s) n (record { outline = Some (outline_of (label_of x)); costs = fitting (widest (settled_at a s)) x no_pairs })
+  uses : (is_plain_outline x ≡ true) → (slot_free s x.rank ≡ true) → uses a s (record { outline = Some (outline_of (label_of x)); costs = fitting (widest (settled_at a s)) x no_pairs }) ≡ no_pairs
+
+bare : (a : Role) (s : Slot) (n : Tree) (x : Spelled) → IsSpelledWherever (widest (settled_at a s)) n (Some x) → parts_of n ≡ none → Bare a s n x.outline
+bare a s n x k e =
     let b : Role = widest (settled_at a s) in
     let o : Outline = outline_of (label_of x.outline) in
     let d : own.Costs = fitting b x.outline no_pairs in
-    let w : IsWeighed (settled_at a s) n (record { outline = Some o; costs = d }) =
-    weighed_outlined (settled_at a s) n x.outline d (weighed_some (settled_at a s) n x k no_pairs d (sym (sums-end b (left x.slots)) ∙ ap (λ ps. sums_over ps b (left x.slots)) (sym e)) refl) in
-    let nothing : uses a s (record { outline = Some o; costs = d }) ≡ no_pairs =
-    ap (λ c. uses a s (record { outline = Some o; costs = c })) (sym (fitting_outlined b x.outline no_pairs)) ∙ plain_uses s o b p (rowless_free s o.rank r) a in
+    record {
+      known = weighed_outlined (settled_at a s) n x.outline d (weighed_some (settled_at a s) n x k no_pairs d (sym (sums-end b (left x.slots)) ∙ ap (λ ps. sums_over ps b (left x.slots)) (sym e)) refl);
+      uses = λ p f. ap (λ c. uses a s (record { outline = Some o; costs = c })) (sym (fitting_outlined b x.outline no_pairs)) ∙ plain_uses s o b p f a;
+    }
+
+word_node : (a : Role) (s : Slot) (n : Tree) (x : Spelled) (t : Sums) → IsSpelledWherever (widest (settled_at a s)) n (Some x) → x.outline ≡ leaf Primary → parts_of n ≡ none → has_row_at s ≡ true → slot_free s Primary ≡ true → IsHeld t.here →
+    Joined a s n t (record { here = t.here; outer = t.outer; rows = word_row (kind_of n) ∷ t.rows })
+word_node a s n x t k o e r f h =
+    let b : Role = widest (settled_at a s) in
+    let y : Bare a s n x.outline = bare a s n x k e in
+    let p : is_plain_outline x.outline ≡ true = ap is_plain_outline o in
+    let nothing = y.uses p (ap (λ u. slot_free s u.rank) o ∙ f) in
+    let rows : word_row (kind_of n) ∷ [] ≡ table_rows n (settled_at a s) =
+    ap (λ u. cond u (word_row (kind_of n) ∷ []) []) (sym r)
+    ∙ ap (λ u. cond (has_row_at s) (row_with (kind_of n) (Rattle.paren_planner.specs.Packed.shaped (Rattle.paren_planner.specs.Packed.free_shape u.rank) 0) ∷ []) []) (sym o)
+    ∙ sym (free_row_at s a (kind_of n) x.outline p)
+    ∙ own_row_at s a (row_with (kind_of n) (fitting b x.outline no_pairs)) ∙ own_row_of (settled_at a s) n _ y.known
+    ∙ sym (append-nil _) ∙ ap (λ u. own_row (settled_at a s) (row_of n) ++ u) (sym (nothing_below n (settled_at a s) e))
+    ∙ rows_of_node n (settled_at a s) in
+    record {
+      weighed = record { outline = Some (outline_of (label_of x.outline)); costs = fitting b x.outline no_pairs };
+      known = y.known;
+      is = λ j. record { here = (sym h ∙ ap (sums t.here) (sym nothing)) j; outer = t.outer; rows = rows j ++ t.rows };
+    }
+
+hidden_node : (a : Role) (s : Slot) (n : Tree) (x : Spelled) (t : Sums) → IsSpelledWherever (widest (settled_at a s)) n (Some x) → is_plain_outline x.outline ≡ true → parts_of n ≡ none → has_row_at s ≡ false → IsHeld t.here → Joined a s n t t
+hidden_node a s n x t k p e r h =
+    let b : Role = widest (settled_at a s) in
+    let y : Bare a s n x.outline = bare a s n x k e in
+    let nothing = y.uses p (rowless_free s x.outline.rank r) in
     let rows : [] ≡ table_rows n (settled_at a s) =
     sym (nothing_below n (settled_at a s) e)
     ∙ ap (λ u. u ++ below n (settled_at a s)) (ap (λ u. cond u (row_of n ∷ []) []) (sym r) ∙ own_row_at s a (row_of n))
     ∙ rows_of_node n (settled_at a s) in
     record {
-      weighed = record { outline = Some o; costs = d };
-      known = w;
+      weighed = record { outline = Some (outline_of (label_of x.outline)); costs = fitting b x.outline no_pairs };
+      known = y.known;
       is = λ j. record { here = (sym h ∙ ap (sums t.here) (sym nothing)) j; outer = t.outer; rows = rows j ++ t.rows };
     }
 
@@ -235,7 +268,7 @@ mutual
       (ap (λ u. taken_from u t) e ∙ taken_around v ys t
       ∙ ap (taken (Enter v)) (parts_taken q (record { here = no_pairs; outer = t.here ∷ t.outer; rows = t.rows }) zero-zero)
       ∙ ap (λ r. joined v o (record { here = t.here; outer = t.outer; rows = parts_table (parts_of n) r ++ t.rows })) (sym (roles_some (settled_at a s) n x k)))
-
+  node_taken {a} {s} {n} {xs} (word x k o e r f z) t h = subst (Joined a s n t) (sym (ap (λ u. taken_from u t) z)) (word_node a s n x t k o e r f h)
   node_taken {a} {s} {n} {xs} (hidden x k p e r z) t h = subst (Joined a s n t) (sym (ap (λ u. taken_from u t) z)) (hidden_node a s n x t k p e r h)
   node_taken {a} {s} {n} {xs} (through x k r g q) t h = settled_here a s n x t (taken_from xs t) k r (parts_taken q t h)
 

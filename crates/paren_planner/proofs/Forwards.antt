@@ -2,10 +2,11 @@
 use Rattle.std.proofs.Common.{◌≡◌, ℕ, zero, suc, ◌+◌, ◌≤◌, Bool, true, false, cond, min, List, [], ◌∷◌, ◌++◌, length, drop, Option, Some, None, refl, sym, ap, ◌∙◌, subst, append_assoc, append-nil, arith}
 use Rattle.std.specs.Prelude.{◌&&◌, not, slice_get}
 use Rattle.std.proofs.lemmas.Bool.{false≢true, true≢false, and_parts}
+use Rattle.std.proofs.lemmas.Bool.Decides.{nat_tests}
 use Rattle.std.proofs.lemmas.List.{replicate-append-replicate}
 use Rattle.tree.specs.Tree.{Tree, node, Parts, none, parts_of}
 use Rattle.language.specs.declared.Rank.{Rank}
-use Rattle.language.specs.declared.Rank.TheVariants.{Expression}
+use Rattle.language.specs.declared.Rank.TheVariants.{Expression, Primary}
 use Rattle.language.specs.declared.Start.{Start}
 use Rattle.language.specs.declared.Start.TheVariants.{Any}
 use Rattle.language.specs.Pieces.{Role, expr, spine, pattern, script, Slot, fixed, left as left_slot, lead, tail, callee, lead_spine, lead_pattern}
@@ -15,7 +16,7 @@ use Rattle.language.specs.Layout.{some_way, wants_pair, inside, parts_wrapped}
 use Rattle.language.specs.Cost.{if_any, cell, cell_position, parts_least}
 use Rattle.positions.specs.declared.outline.Outline.{Outline}
 use Rattle.positions.specs.declared.spelled.Spelled.{Spelled}
-use Rattle.positions.specs.Outlines.{slot_of}
+use Rattle.positions.specs.Outlines.{slot_of, leaf}
 use Rattle.positions.specs.Spelled.{fits_outline, settled_roles, Verdict}
 use Rattle.positions.specs.Remaining.{left}
 use Rattle.positions.specs.Wherever.{with_own, IsSpelledWherever, spelled_roles}
@@ -28,18 +29,19 @@ use Rattle.paren_planner.specs.declared.steps.Visit.{Visit}
 use Rattle.paren_planner.specs.declared.steps.Step.{Step}
 use Rattle.paren_planner.specs.declared.steps.Step.TheVariants.{Leaf, Enter, Leave}
 use Rattle.paren_planner.specs.Costs.{capped, cells_at}
-use Rattle.paren_planner.specs.Weighed.{settled_at, cost_of, fits_spelled}
+use Rattle.paren_planner.specs.Weighed.{settled_at, cost_of, fitting, sums_over, fits_spelled}
 use Rattle.paren_planner.specs.Rows.{row_of, is_expression, table_rows, parts_table}
 use Rattle.paren_planner.specs.Wrapped.{unwrapped, flags, parts_flags, inner_flags, HasRows}
-use Rattle.paren_planner.specs.Steps.{label_of, stands_at, has_row_at}
-use Rattle.paren_planner.specs.Noted.{IsVisit, Steps, unspelled, alone, around, hidden, through, is_settled_slot, is_fixed, are_fixed, PartsSteps, over, skipped, unplaced, next}
+use Rattle.paren_planner.specs.Steps.{label_of, outline_of, stands_at, has_row_at, slot_free, role_free, no_pairs, is_plain_outline}
+use Rattle.paren_planner.specs.Noted.{IsVisit, Steps, unspelled, alone, around, word, hidden, through, is_settled_slot, is_fixed, are_fixed, PartsSteps, over, skipped, unplaced, next}
 use Rattle.paren_planner.specs.Marked.{Round, Marks, fits_label, wants, is_free, around_parts, flag_at, round_at, plain_round, flag_of, round_of, marked, marked_through, at_the_start}
 use Rattle.paren_planner.proofs.Known.{own_widest, counted}
-use Rattle.paren_planner.proofs.Filled.{roles_some}
+use Rattle.paren_planner.proofs.Filled.{roles_some, weighed_some, sums-end}
 use Rattle.paren_planner.proofs.Wrapping.{parts-rows, parts-flags-length, parts-numbers, no_number, rows-empty, no_roles}
 use Rattle.paren_planner.proofs.Turns.{front_rows, table_turn, inner_some, inner_none, plain_flags, wanted, table_below, rows_below, own_standing, own_few, own_result, plain_standing, plain_few, spelled_inside, all_rows}
 use Rattle.paren_planner.proofs.Totals.{parts_count, cell_roles}
 use Rattle.paren_planner.proofs.Backwards.{fits_outlined, settled_rowless}
+use Rattle.paren_planner.proofs.Plainly.{plain_fits, cost_free, settled_free}
 
 -- The steps
 
@@ -141,6 +143,13 @@ no_row_here callee a h = absurd (true≢false h)
 no_row_here lead_spine a h = refl
 no_row_here lead_pattern a h = refl
 
+word_rows : (a : Role) (s : Slot) (n : Tree) → has_row_at s ≡ true → parts_of n ≡ none → false ∷ [] ≡ unwrapped (rows n (settled_at a s))
+word_rows a s n h e =
+    let r = rows_split n (settled_at a s) in
+    let z = no_part_rows n (first_roles (ways (widest (settled_at a s)) n)) e in
+    let same : has_row (settled_at a s) ≡ rows n (settled_at a s) = omega (arith, r, z) in
+    ap (λ u. cond u (false ∷ []) []) (sym h) ∙ row_count s a ∙ ap unwrapped same
+
 hidden_rows : (a : Role) (s : Slot) (n : Tree) → has_row_at s ≡ false → parts_of n ≡ none → rows n (settled_at a s) ≡ 0
 hidden_rows a s n h e =
     let r = rows_split n (settled_at a s) in
@@ -174,7 +183,8 @@ mutual
       ∙ ap (marked T Leave) (dead_parts T q (record { here = t.here; outer = t.here ∷ t.outer; flags = t.flags ++ unwrapped (has_row (settled_at a s)) }) h)
       ∙ flagged_twice t (unwrapped (has_row (settled_at a s))) (unwrapped r)
       ∙ ap (flagged t) (unwrapped_sum (has_row (settled_at a s)) r ∙ ap unwrapped count)
-
+  dead_node T {a} {s} {n} (word x k o e r f z) t h =
+      ap (λ u. marked_through T u t) z ∙ ap (flagged t) (word_rows a s n r e)
   dead_node T {a} {s} {n} (hidden x k p e r z) t h =
       ap (λ u. marked_through T u t) z ∙ flagged_not t ∙ ap (λ m. flagged t (unwrapped m)) (sym (hidden_rows a s n r e))
   dead_node T {a} {s} {n} (through x k r g q) t h =
@@ -362,6 +372,34 @@ within_parts T xs o false us bs P U h k = h
 rowless : (s : Slot) (o : Role) → has_row_at s ≡ false → is_expression (settled_at o s) ≡ false
 rowless s o h = sym (is_row s o) ∙ h
 
+-- a name or a literal is wrapped nowhere
+never_exceeds : (w : Option ℕ) → Rattle.language.specs.Layout.exceeds (Some 0) w ≡ false
+never_exceeds None = refl
+never_exceeds (Some m) = grind (arith, nat_tests)
+
+word_unwrapped : (n : Tree) (p : Role) (x : Spelled) → is_expression p ≡ true → IsSpelledWherever p n (Some x) → x.outline ≡ leaf Primary → role_free p Primary ≡ true → parts_of n ≡ none → rows n p ≤ 16777216 → wants_pair n p ≡ false
+word_unwrapped n (expr y i f) x h k o t e few =
+    let l : Option Label = Some (label_of x.outline) in
+    let b : Role = expr Expression true Any in
+    let plain : is_plain_outline x.outline ≡ true = ap is_plain_outline o in
+    let takes_it : Rattle.language.specs.Words.takes y x.outline.rank ≡ true = ap (λ u. Rattle.language.specs.Words.takes y u.rank) o ∙ t in
+    let costs : (row_of n).costs ≡ fitting b x.outline no_pairs =
+    row_cells n ∙ sym (weighed_some b n x k no_pairs (fitting b x.outline no_pairs) (sym (sums-end b (left x.slots)) ∙ ap (λ ps. sums_over ps b (left x.slots)) (sym e)) refl).costs in
+    let fit : fits_label (expr y i f) l ≡ true = plain_fits (outline_of (label_of x.outline)) plain (expr y i f) takes_it in
+    let cost : cost_of (row_of n).costs (expr y i f) ≡ Some 0 = ap (λ c. cost_of c (expr y i f)) costs ∙ cost_free x.outline plain b y i f takes_it in
+    sym (wants_is n (expr y i f) l (Some x) refl k (says_some l x refl) few)
+    ∙ (λ j. Rattle.language.specs.Layout.exceeds (cond (fit j) (cost j) None) (Rattle.paren_planner.specs.Costs.capped_sum (Some 1) (row_of n).costs.with_in.any))
+    ∙ never_exceeds (Rattle.paren_planner.specs.Costs.capped_sum (Some 1) (row_of n).costs.with_in.any)
+word_unwrapped n _ x h k o t e few = absurd (false≢true h)
+
+word_flags : (o : Role) (s : Slot) (n : Tree) (x : Spelled) → IsSpelledWherever (settled_at o s) n (Some x) → x.outline ≡ leaf Primary → parts_of n ≡ none → has_row_at s ≡ true → slot_free s Primary ≡ true → rows n (settled_at o s) ≤ 16777216 → false ∷ [] ≡ flags n (settled_at o s)
+word_flags o s n x k q e r t few =
+    let p : Role = settled_at o s in
+    let h : is_expression p ≡ true = sym (is_row s o) ∙ r in
+    let b : Bool = wants_pair n p in
+    ap (λ u. u ∷ []) (sym (word_unwrapped n p x h k q (settled_free s Primary t o) e few))
+    ∙ own_result n p (inside b p) true b [] (b ∷ []) (b ∷ []) h refl refl refl (ap (λ u. b ∷ u) (sym (inner_bare n (inside b p) e)))
+
 hidden_flags : (o : Role) (s : Slot) (n : Tree) → has_row_at s ≡ false → parts_of n ≡ none → flags n (settled_at o s) ≡ []
 hidden_flags o s n h e = sym (plain_flags n (settled_at o s) true (rowless s o h)) ∙ inner_bare n (settled_at o s) e
 
@@ -446,7 +484,9 @@ mutual
       (subst (HasRows T (length gs)) (table_below x.own n y x.known) x.stands)
       (subst (λ m. m ≤ 16777216) (rows_below x.own n y x.known) x.few)))
       ∙ ap (λ u. record { here = living o; outer = us; flags = u }) (x.result (gs ++ cond (F && not x.quiet) P U) (ap (λ u. gs ++ u) whole))
-
+  live_node T {a} {s} {n} (word x k q e r f z) o us bs pl st few =
+      ap (λ u. marked_through T u (record { here = living o; outer = us; flags = bs })) z
+      ∙ (λ j. record { here = living o; outer = us; flags = bs ++ word_flags o s n x (spelled_at a o s n (Some x) k) q e r f few j })
   live_node T {a} {s} {n} (hidden x k p e r z) o us bs pl st few =
       ap (λ u. marked_through T u (record { here = living o; outer = us; flags = bs })) z
       ∙ (λ j. record { here = living o; outer = us; flags = (sym (append-nil bs) ∙ ap (λ u. bs ++ u) (sym (hidden_flags o s n r e))) j })

@@ -1,15 +1,20 @@
 -- One step on, as vectors have it.
 use Rattle.std.proofs.Common.{◌≡◌, ℕ, suc, ◌+◌, ◌<◌, Bool, true, false, cond, List, [], ◌∷◌, ◌++◌, reverse, length, drop, get_or, Option, None, sym, ap, ◌∙◌, arith, drop-cons}
 use Rattle.std.specs.Prelude.{Result, OnOk, Ok, Err, option_to_list, unwrap_or, map, slice_get}
+use Rattle.tree.specs.declared.kind.Kind.{Kind}
 use Rattle.positions.specs.Outlines.{role_of, slot_of}
 use Rattle.paren_planner.specs.declared.steps.Visit.{Visit}
 use Rattle.paren_planner.specs.declared.steps.Step.{Step}
-use Rattle.paren_planner.specs.declared.steps.Step.TheVariants.{Leaf, Enter, Leave}
+use Rattle.paren_planner.specs.declared.steps.Step.TheVariants.{Word, Leaf, Enter, Leave}
 use Rattle.paren_planner.specs.declared.table.Row.{Row}
 use Rattle.paren_planner.specs.declared.wraps.Around.{Around}
 use Rattle.paren_planner.specs.Steps.{has_row_at, stands_at}
 use Rattle.paren_planner.specs.Marked.{Round, round, Marks, marked, marked_through, shown_marks, flag_of, round_of, flag_at, round_at, plain_round}
 use Rattle.paren_planner.proofs.Stacks.{popped_round, popped_rounds, pushed_round}
+
+pub word_marked : {A E : Type 0} (r : Result A E) (T : List Row) (x : Step) (k : Kind) (a : Around) (o : List Around) (old new : List Bool) → x ≡ Word k → OnOk r (new ≡ old ++ false ∷ []) → OnOk r (shown_marks a o new ≡ marked T x (shown_marks a o old))
+word_marked (Ok u) T x k a o old new i e = (λ j. record { here = round a; outer = reverse (map round o); flags = e j }) ∙ ap (λ y. marked T y (shown_marks a o old)) (sym i)
+word_marked (Err u) T x k a o old new i e = e
 
 pub leaf_marked : (T : List Row) (x : Step) (v : Visit) (a : Around) (o : List Around) (old new : List Bool) → x ≡ Leaf v → new ≡ old ++ flag_of T v (round a) old → shown_marks a o new ≡ marked T x (shown_marks a o old)
 leaf_marked T x v a o old new i e = (λ j. record { here = round a; outer = reverse (map round o); flags = e j }) ∙ ap (λ y. marked T y (shown_marks a o old)) (sym i)

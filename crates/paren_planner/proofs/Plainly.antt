@@ -51,7 +51,7 @@ plain_start false opens.WithBrace h f = absurd (false≢true h)
 plain_start false opens.WithWord h f = absurd (false≢true h)
 plain_start true o h f = absurd (false≢true h)
 
-plain_fits : (x : Outline) → is_plain_outline x ≡ true → (r : Role) → role_free r x.rank ≡ true → fits_outline r x ≡ true
+pub plain_fits : (x : Outline) → is_plain_outline x ≡ true → (r : Role) → role_free r x.rank ≡ true → fits_outline r x ≡ true
 plain_fits x p (role.expr y i f) t = ap (λ b. b && (implies x.needs_in i && opens_at f x.opens)) t ∙ plain_opens x.needs_in x.opens p i f
 plain_fits x p (role.pattern b f) t = plain_start x.needs_in x.opens p f
 plain_fits x p r t = refl
@@ -67,7 +67,7 @@ started_free x p a y i t start.Any = ap (λ b. cond b (cost_at no_pairs y i star
 started_free x p a y i t start.NoBrace = ap (λ b. cond b (cost_at no_pairs y i start.NoBrace) None) (fits_own x p a y i start.NoBrace t) ∙ zero_at y i start.NoBrace
 started_free x p a y i t start.Statement = ap (λ b. cond b (cost_at no_pairs y i start.Statement) None) (fits_own x p a y i start.Statement t) ∙ zero_at y i start.Statement
 
-cost_free : (x : Outline) → is_plain_outline x ≡ true → (a : Role) (y : Rank) (i : Bool) (f : Start) → takes y x.rank ≡ true → cost_at (fitting a x no_pairs) y i f ≡ Some 0
+pub cost_free : (x : Outline) → is_plain_outline x ≡ true → (a : Role) (y : Rank) (i : Bool) (f : Start) → takes y x.rank ≡ true → cost_at (fitting a x no_pairs) y i f ≡ Some 0
 cost_free x p a y i f t = of (nat_le 21 (tightness y)) refl i
   where
     of : (b : Bool) → nat_le 21 (tightness y) ≡ b → (j : Bool) → cond b (started_at (fitting a x no_pairs).at_member f) (cond j (started_at (fitting a x no_pairs).with_in f) (started_at (fitting a x no_pairs).without_in f)) ≡ Some 0
@@ -92,7 +92,7 @@ call_takes rank.Grouped h = refl
 call_takes rank.Call h = refl
 call_takes _ h = absurd (false≢true h)
 
-settled_free : (s : Slot) (z : Rank) → slot_free s z ≡ true → (b : Role) → role_free (settled_at b s) z ≡ true
+pub settled_free : (s : Slot) (z : Rank) → slot_free s z ≡ true → (b : Role) → role_free (settled_at b s) z ≡ true
 settled_free (role.fixed a) z t b = t
 settled_free (role.left y) z t b = t
 settled_free (role.lead y) z t b = t
@@ -146,7 +146,7 @@ free_costs x p =
     plain_fitting x (role.expr rank.Expression true start.Any) no_pairs (takes rank.Member x.rank) p (and_all (takes rank.Member x.rank) (implies x.needs_in true && opens_at start.Any x.opens) (plain_opens x.needs_in x.opens p true start.Any))
     ∙ free_shaped x.rank
 
-free_row_at : (s : Slot) (a : Role) (k : Kind) (x : Outline) → is_plain_outline x ≡ true → cond (has_row_at s) (row_with k (fitting (widest (settled_at a s)) x no_pairs) ∷ []) [] ≡ cond (has_row_at s) (row_with k (shaped (free_shape x.rank) 0) ∷ []) []
+pub free_row_at : (s : Slot) (a : Role) (k : Kind) (x : Outline) → is_plain_outline x ≡ true → cond (has_row_at s) (row_with k (fitting (widest (settled_at a s)) x no_pairs) ∷ []) [] ≡ cond (has_row_at s) (row_with k (shaped (free_shape x.rank) 0) ∷ []) []
 free_row_at (role.fixed (role.expr y i f)) a k x p = ap (λ c. row_with k c ∷ []) (free_costs x p)
 free_row_at (role.fixed b) a k x p = refl
 free_row_at (role.left y) a k x p = ap (λ c. row_with k c ∷ []) (free_costs x p)

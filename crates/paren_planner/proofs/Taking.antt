@@ -3,18 +3,19 @@ use Rattle.std.proofs.Common.{◌≡◌, ℕ, ◌+◌, ◌-◌, ◌<◌, true, f
 use Rattle.std.specs.Prelude.{Result, OnOk, MatchOption, option_to_list, All}
 use Rattle.std.proofs.lemmas.List.Elements.{All-nil, All-cons, All-head, All-tail}
 use Rattle.positions.specs.Outlines.{role_of, slot_of}
+use Rattle.tree.specs.declared.kind.Kind.{Kind}
 use Rattle.paren_planner.specs.declared.costs.Costs as own
 use Rattle.paren_planner.specs.declared.pending.Pending.{Pending}
 use Rattle.paren_planner.specs.declared.table.Row.{Row}
 use Rattle.paren_planner.specs.declared.weighed.Weighed.{Weighed}
 use Rattle.paren_planner.specs.declared.steps.Visit.{Visit}
 use Rattle.paren_planner.specs.declared.steps.Step.{Step}
-use Rattle.paren_planner.specs.declared.steps.Step.TheVariants.{Leaf, Enter, Leave}
+use Rattle.paren_planner.specs.declared.steps.Step.TheVariants.{Word, Leaf, Enter, Leave}
 use Rattle.paren_planner.specs.Costs.{sums}
 use Rattle.paren_planner.specs.Pending.{here_of, outer_of, shown_sums, AreHeld}
 use Rattle.paren_planner.specs.Rows.{row_with}
 use Rattle.paren_planner.specs.Weighed.{uses}
-use Rattle.paren_planner.specs.Steps.{no_pairs, IsHeld, weighed_of, used, row_of_visit, has_row_at, Sums, joined, taken, taken_from, at_the_end, innermost, others}
+use Rattle.paren_planner.specs.Steps.{word_row, no_pairs, IsHeld, weighed_of, used, row_of_visit, has_row_at, Sums, joined, taken, taken_from, at_the_end, innermost, others}
 use Rattle.paren_planner.proofs.Sums.{zero-zero, sums-zero}
 use Rattle.paren_planner.proofs.Stacks.{row_pushed}
 
@@ -33,6 +34,7 @@ others_held [] h = All-nil IsHeld
 others_held (c ∷ cs) h = All-tail IsHeld c cs h
 
 taken_held : (x : Step) (t : Sums) → AreHeld t → AreHeld (taken x t)
+taken_held (Word k) t h = record { here = h.here; outer = h.outer }
 taken_held (Leaf v) t h = record { here = sums-zero t.here (used v no_pairs); outer = h.outer }
 taken_held (Enter v) t h = record { here = sums-zero (innermost t.outer) (used v t.here); outer = others_held t.outer h.outer }
 taken_held Leave t h = record { here = zero-zero; outer = All-cons IsHeld t.here t.outer h.here h.outer }
@@ -67,6 +69,10 @@ free_joined (Err a) v p old new x h u e r = r
 pub step_taken : {A E : Type 0} (q : Result A E) (x y : Step) (t u : Sums) → x ≡ y → OnOk q (t ≡ taken y u) → OnOk q (t ≡ taken x u)
 step_taken (Ok a) x y t u i e = e ∙ ap (λ z. taken z u) (sym i)
 step_taken (Err a) x y t u i e = e
+
+pub word_taken : {A E : Type 0} (r : Result A E) (x : Step) (k : Kind) (p : Pending) (old new : List Row) → x ≡ Word k → OnOk r (new ≡ old ++ word_row k ∷ []) → OnOk r (shown_sums p new ≡ taken x (shown_sums p old))
+word_taken (Ok a) x k p old new i e = (λ j. record { here = here_of p; outer = outer_of p; rows = row_pushed true (word_row k) old new e j }) ∙ ap (λ z. taken z (shown_sums p old)) (sym i)
+word_taken (Err a) x k p old new i e = e
 
 pub parent_taken : {A E : Type 0} (r : Result A E) (v : Visit) (c : own.Costs) (p q : Pending) (t : Sums) (old : List Row) → c ≡ here_of p → here_of q ≡ innermost (outer_of p) → outer_of q ≡ others (outer_of p)
     → OnOk r (t ≡ joined v c (shown_sums q old)) → OnOk r (t ≡ taken (Enter v) (shown_sums p old))

@@ -11,15 +11,17 @@ use Rattle.positions.specs.declared.outline.Front.TheVariants as front
 use Rattle.positions.specs.declared.outline.Tail.{Tail}
 use Rattle.positions.specs.declared.outline.Tail.TheVariants as tail
 use Rattle.positions.specs.declared.outline.Outline.{Outline}
-use Rattle.positions.specs.Outlines.{slot_of, parts_behind}
+use Rattle.tree.specs.declared.kind.Kind.{Kind}
+use Rattle.language.specs.declared.Rank.TheVariants.{Primary}
+use Rattle.positions.specs.Outlines.{slot_of, leaf}
 use Rattle.positions.specs.Remaining.{left, slots_left, front_left}
 use Rattle.positions.specs.Wherever.{IsSpelledWherever}
 use Rattle.paren_planner.specs.declared.steps.Visit.{Visit}
 use Rattle.paren_planner.specs.declared.steps.Step.{Step}
-use Rattle.paren_planner.specs.declared.steps.Step.TheVariants.{Leaf, Enter, Leave}
+use Rattle.paren_planner.specs.declared.steps.Step.TheVariants.{Word, Leaf, Enter, Leave}
 use Rattle.paren_planner.specs.Weighed.{settled_at}
-use Rattle.paren_planner.specs.Steps.{label_of, nowhere, has_row_at, is_plain_outline}
-use Rattle.paren_planner.specs.Noted.{IsVisit, is_settled_slot, is_fixed, are_fixed, fixed_front, fixed_tail, fixed_outline, Steps, unspelled, alone, around, hidden, through, PartsSteps, over, skipped, unplaced, next, Noted, PartsNoted}
+use Rattle.paren_planner.specs.Steps.{label_of, nowhere, has_row_at, slot_free, is_plain_outline}
+use Rattle.paren_planner.specs.Noted.{IsVisit, is_settled_slot, is_fixed, are_fixed, fixed_front, fixed_tail, fixed_outline, Steps, unspelled, alone, around, word, hidden, through, PartsSteps, over, skipped, unplaced, next, Noted, PartsNoted}
 
 -- whatever the parts that are left show, with what was noted all parts show
 pub record Begun (a : Role) (ss rest : List Slot) (ps others : Parts) (old now : List Step) : Type 0 where
@@ -80,6 +82,9 @@ noted_around a b s n v x old mid within new i l w k e p f = record {
   added = f ∙ ap (λ xs. xs ++ Leave ∷ []) (p.added ∙ ap (λ xs. xs ++ p.steps) e ∙ append_assoc old (Enter v ∷ []) p.steps) ∙ append_assoc old (Enter v ∷ p.steps) (Leave ∷ []);
   are = around v x p.steps i l (subst (λ c. IsSpelledWherever c n (Some x)) w k) (subst (λ c. PartsSteps c (left x.slots) (parts_of n) p.steps) w p.are) refl;
 }
+
+pub noted_word : (a b : Role) (s : Slot) (n : Tree) (x : Spelled) (k : Kind) (old new : List Step) → b ≡ widest (settled_at a s) → IsSpelledWherever b n (Some x) → x.outline ≡ leaf Primary → part_count (parts_of n) ≡ 0 → has_row_at s ≡ true → slot_free s Primary ≡ true → k ≡ kind_of n → new ≡ old ++ Word k ∷ [] → Noted a s n old new
+noted_word a b s n x k old new w h o p r f q e = record { steps = Word k ∷ []; added = e; are = word x (subst (λ c. IsSpelledWherever c n (Some x)) w h) o (no_parts (parts_of n) p) r f (ap (λ u. Word u ∷ []) q) }
 
 pub noted_hidden : (a b : Role) (s : Slot) (n : Tree) (x : Spelled) (old : List Step) → b ≡ widest (settled_at a s) → IsSpelledWherever b n (Some x) → is_plain_outline x.outline ≡ true → part_count (parts_of n) ≡ 0 → has_row_at s ≡ false → Noted a s n old old
 noted_hidden a b s n x old w k o p r = record { steps = []; added = sym (append-nil old); are = hidden x (subst (λ c. IsSpelledWherever c n (Some x)) w k) o (no_parts (parts_of n) p) r refl }

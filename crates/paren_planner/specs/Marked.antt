@@ -8,7 +8,7 @@ use Rattle.paren_planner.specs.declared.costs.Costs.{Costs}
 use Rattle.paren_planner.specs.declared.steps.Label.{Label}
 use Rattle.paren_planner.specs.declared.steps.Visit.{Visit}
 use Rattle.paren_planner.specs.declared.steps.Step.{Step}
-use Rattle.paren_planner.specs.declared.steps.Step.TheVariants.{Leaf, Enter, Leave}
+use Rattle.paren_planner.specs.declared.steps.Step.TheVariants.{Word, Leaf, Enter, Leave}
 use Rattle.paren_planner.specs.declared.table.Row.{Row}
 use Rattle.paren_planner.specs.declared.wraps.Around.{Around}
 use Rattle.paren_planner.specs.Costs.{capped_sum}
@@ -68,6 +68,7 @@ innermost_round [] x = x
 innermost_round (y ∷ ys) x = y
 
 abbrev pub marked : List Row → Step → Marks → Marks
+marked T (Word k) t = record { here = t.here; outer = t.outer; flags = t.flags ++ false ∷ [] }
 marked T (Leaf v) t = record { here = t.here; outer = t.outer; flags = t.flags ++ flag_of T v t.here t.flags }
 marked T (Enter v) t = record { here = round_of T v t.here t.flags; outer = t.here ∷ t.outer; flags = t.flags ++ flag_of T v t.here t.flags }
 marked T Leave t = record { here = innermost_round t.outer t.here; outer = others t.outer; flags = t.flags }

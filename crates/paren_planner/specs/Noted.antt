@@ -9,14 +9,15 @@ use Rattle.positions.specs.declared.outline.Tail as tails
 use Rattle.positions.specs.declared.outline.Tail.TheVariants as tail
 use Rattle.positions.specs.declared.outline.Outline.{Outline}
 use Rattle.positions.specs.declared.spelled.Spelled.{Spelled}
-use Rattle.positions.specs.Outlines.{role_of, slot_of}
+use Rattle.language.specs.declared.Rank.TheVariants.{Primary}
+use Rattle.positions.specs.Outlines.{role_of, slot_of, leaf}
 use Rattle.positions.specs.Remaining.{left}
 use Rattle.positions.specs.Wherever.{IsSpelledWherever}
 use Rattle.paren_planner.specs.declared.steps.Visit.{Visit}
 use Rattle.paren_planner.specs.declared.steps.Step.{Step}
-use Rattle.paren_planner.specs.declared.steps.Step.TheVariants.{Leaf, Enter, Leave}
+use Rattle.paren_planner.specs.declared.steps.Step.TheVariants.{Word, Leaf, Enter, Leave}
 use Rattle.paren_planner.specs.Weighed.{settled_at}
-use Rattle.paren_planner.specs.Steps.{label_of, nowhere, has_row_at, is_plain_outline}
+use Rattle.paren_planner.specs.Steps.{label_of, nowhere, has_row_at, slot_free, is_plain_outline}
 
 -- it is a visit to this node, at a slot of a node at a position
 pub record IsVisit (a : Role) (s : Slot) (n : Tree) (v : Visit) : Type 0 where
@@ -69,6 +70,7 @@ mutual
     alone : {a : Role} {s : Slot} {n : Tree} {xs : List Step} (v : Visit) (x : Spelled) → IsVisit a s n v → v.label ≡ Some (label_of x.outline) → IsSpelledWherever (widest (settled_at a s)) n (Some x) → parts_of n ≡ none → xs ≡ Leaf v ∷ [] → Steps a s n xs
     around : {a : Role} {s : Slot} {n : Tree} {xs : List Step} (v : Visit) (x : Spelled) (ys : List Step) → IsVisit a s n v → v.label ≡ Some (label_of x.outline) → IsSpelledWherever (widest (settled_at a s)) n (Some x) →
         PartsSteps (widest (settled_at a s)) (left x.slots) (parts_of n) ys → xs ≡ Enter v ∷ (ys ++ Leave ∷ []) → Steps a s n xs
+    word : {a : Role} {s : Slot} {n : Tree} {xs : List Step} (x : Spelled) → IsSpelledWherever (widest (settled_at a s)) n (Some x) → x.outline ≡ leaf Primary → parts_of n ≡ none → has_row_at s ≡ true → slot_free s Primary ≡ true → xs ≡ Word (kind_of n) ∷ [] → Steps a s n xs
     hidden : {a : Role} {s : Slot} {n : Tree} {xs : List Step} (x : Spelled) → IsSpelledWherever (widest (settled_at a s)) n (Some x) → is_plain_outline x.outline ≡ true → parts_of n ≡ none → has_row_at s ≡ false → xs ≡ [] → Steps a s n xs
     through : {a : Role} {s : Slot} {n : Tree} {xs : List Step} (x : Spelled) → IsSpelledWherever (widest (settled_at a s)) n (Some x) → is_settled_slot s ≡ true → are_fixed (left x.slots) ≡ true →
         PartsSteps (widest (settled_at a s)) (left x.slots) (parts_of n) xs → Steps a s n xs

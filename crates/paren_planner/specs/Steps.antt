@@ -9,7 +9,7 @@ use Rattle.positions.specs.declared.outline.Outline.{Outline}
 use Rattle.positions.specs.declared.outline.Opens.{Opens}
 use Rattle.positions.specs.declared.outline.Opens.TheVariants.{Otherwise}
 use Rattle.language.specs.declared.Rank.{Rank}
-use Rattle.language.specs.declared.Rank.TheVariants.{Member}
+use Rattle.language.specs.declared.Rank.TheVariants.{Member, Primary}
 use Rattle.language.specs.Words.{takes}
 use Rattle.positions.specs.declared.outline.Front.TheVariants.{Zero}
 use Rattle.positions.specs.declared.outline.Tail.TheVariants.{Nothing}
@@ -18,12 +18,13 @@ use Rattle.paren_planner.specs.declared.costs.Costs as own
 use Rattle.paren_planner.specs.declared.steps.Label.{Label}
 use Rattle.paren_planner.specs.declared.steps.Visit.{Visit}
 use Rattle.paren_planner.specs.declared.steps.Step.{Step}
-use Rattle.paren_planner.specs.declared.steps.Step.TheVariants.{Leaf, Enter, Leave}
+use Rattle.paren_planner.specs.declared.steps.Step.TheVariants.{Word, Leaf, Enter, Leave}
 use Rattle.paren_planner.specs.declared.table.Row.{Row}
 use Rattle.paren_planner.specs.declared.weighed.Weighed.{Weighed}
 use Rattle.paren_planner.specs.Costs.{same_everywhere, sums}
 use Rattle.paren_planner.specs.Weighed.{settled_at, uses, fitting}
 use Rattle.paren_planner.specs.Rows.{row_with, is_expression}
+use Rattle.paren_planner.specs.Packed.{free_shape, shaped}
 
 -- what an outline asks of a position
 abbrev pub label_of : Outline → Label
@@ -120,7 +121,12 @@ joined v c t = record {
   rows = row_of_visit v c ++ t.rows;
 }
 
+-- the row of a name or a literal: zeros wherever it may stand
+abbrev pub word_row : Kind → Row
+word_row k = row_with k (shaped (free_shape Primary) 0)
+
 abbrev pub taken : Step → Sums → Sums
+taken (Word k) t = record { here = t.here; outer = t.outer; rows = word_row k ∷ t.rows }
 taken (Leaf v) t = joined v no_pairs t
 taken (Enter v) t = joined v t.here (record { here = innermost t.outer; outer = others t.outer; rows = t.rows })
 taken Leave t = record { here = no_pairs; outer = t.here ∷ t.outer; rows = t.rows }

@@ -36,8 +36,9 @@ fn weigh(alloc: Global, program: &Program) -> Result<Weights, AllocError>
     ensures steps { IfOk result (λ w. Steps script (fixed script) program.now w.steps.items) }
 {
     let mut steps = Vec::with_capacity(alloc, program.node_count().saturating_mul(2))?;
-    let slot = Slot::Fixed(Position::Script);
-    visit_node(program.root(), Position::Script, slot, false, &mut steps)?;
+    let above = Position::Script;
+    let slot = Slot::Fixed(above);
+    visit_node(program.root(), &above, &slot, false, &mut steps)?;
     let mut table = CostTable::new(alloc);
     let sums = weigh_steps(alloc, &steps, &mut table)?;
     let total = sums.with_in.any;

@@ -105,13 +105,13 @@ impl Visit {
     pub(crate) fn has_row(self) -> bool
         ensures { result ≡ has_row_at (slot_of self.slot) }
     {
-        has_row(self.slot)
+        has_row(&self.slot)
     }
 }
 
 /// Whether a node at a slot has a row.
-pub(crate) fn has_row(slot: Slot) -> bool
-    ensures { result ≡ has_row_at (slot_of slot) }
+pub(crate) fn has_row(slot: &Slot) -> bool
+    ensures { result ≡ has_row_at (slot_of slot.now) }
 {
     match slot {
         Slot::Fixed(position) => matches!(position, Position::Expression { .. }),
@@ -123,6 +123,8 @@ pub(crate) fn has_row(slot: Slot) -> bool
 /// A step: a node without parts at positions, a node before its parts, or back to the node above.
 #[derive(Clone, Copy)]
 pub(crate) enum Step {
+    /// A name or a literal that has a row.
+    Word(Kind),
     Leaf(Visit),
     Enter(Visit),
     Leave,

@@ -12,11 +12,13 @@ ghost use Rattle.positions.specs.Wherever.{spelled_by};
 ghost use Rattle.paren_planner.specs.declared.steps.Step.TheVariants.{Leaf};
 ghost use Rattle.positions.specs.Productions.{outline_of};
 ghost use Rattle.paren_planner.specs.Noted.{Noted, PartsNoted, is_settled_slot, fixed_outline};
-ghost use Rattle.paren_planner.specs.Steps.{nowhere};
+ghost use Rattle.language.specs.declared.Rank.TheVariants.{Primary};
+ghost use Rattle.paren_planner.specs.Steps.{nowhere, slot_free};
 ghost use Rattle.paren_planner.specs.Weighed.{settled_at};
 
 use crate::steps::{Label, Step, Visit, has_row};
 use crate::weighed::widest;
+use grammar::position_takes;
 use language::{Rank, Start};
 use positions::{
     Position, Production, Slot, SlotCursor, holds_chain, is_leaf, leads_chain, node_production,
@@ -30,13 +32,13 @@ use tree::{Kind, Node};
 #[inline(always)]
 pub(crate) fn visit_node(
     node: Node,
-    above: Position,
-    slot: Slot,
+    above: &Position,
+    slot: &Slot,
     in_chain: bool,
     steps: &mut Vec<Step>,
 ) -> Result<(), AllocError>
     requires { in_chain ≡ true → chained (node_tree node) ≡ true }
-    ensures { OnOk result (Noted (role_of above) (slot_of slot) (node_tree node.entry) steps.old.items steps.new.items) }
+    ensures { OnOk result (Noted (role_of above.now) (slot_of slot.now) (node_tree node.entry) steps.old.items steps.new.items) }
 {
     if may_be_leaf(node.kind()) {
         return visit_word(node, above, slot, in_chain, steps);
@@ -49,13 +51,13 @@ pub(crate) fn visit_node(
 #[inline(always)]
 fn visit_word(
     node: Node,
-    above: Position,
-    slot: Slot,
+    above: &Position,
+    slot: &Slot,
     in_chain: bool,
     steps: &mut Vec<Step>,
 ) -> Result<(), AllocError>
     requires { in_chain ≡ true → chained (node_tree node) ≡ true }
-    ensures { OnOk result (Noted (role_of above) (slot_of slot) (node_tree node.entry) steps.old.items steps.new.items) }
+    ensures { OnOk result (Noted (role_of above.now) (slot_of slot.now) (node_tree node.entry) steps.old.items steps.new.items) }
 {
     if !is_leaf(node, widest_of(slot)) {
         return visit_at(node, above, slot, in_chain, steps);
@@ -63,12 +65,10 @@ fn visit_word(
     if !has_row(slot) {
         return Ok(());
     }
-    steps.push(Step::Leaf(Visit {
-        kind: node.kind(),
-        above,
-        slot,
-        label: Some(Label::of(Production::Leaf)),
-    }))?;
+    if !takes_word(slot) {
+        return visit_at(node, above, slot, in_chain, steps);
+    }
+    steps.push(Step::Word(node.kind()))?;
     Ok(())
 }
 
@@ -77,32 +77,32 @@ fn visit_word(
 #[inline(never)]
 fn visit_at(
     node: Node,
-    above: Position,
-    slot: Slot,
+    above: &Position,
+    slot: &Slot,
     in_chain: bool,
     steps: &mut Vec<Step>,
 ) -> Result<(), AllocError>
     requires { in_chain ≡ true → chained (node_tree node) ≡ true }
-    ensures { OnOk result (Noted (role_of above) (slot_of slot) (node_tree node.entry) steps.old.items steps.new.items) }
+    ensures { OnOk result (Noted (role_of above.now) (slot_of slot.now) (node_tree node.entry) steps.old.items steps.new.items) }
 {
     let own = widest_of(slot);
     let kind = node.kind();
     let Some(production) = node_production(node, own, in_chain) else {
         steps.push(Step::Leaf(Visit {
             kind,
-            above,
-            slot,
+            above: *above,
+            slot: *slot,
             label: None,
         }))?;
         return Ok(());
     };
-    if is_settled(slot) && has_fixed_slots(production) {
-        return visit_parts(node, own, production, steps);
+    if is_settled(slot) && has_fixed_slots(&production) {
+        return visit_parts(node, &own, &production, steps);
     }
     let visit = Visit {
         kind,
-        above,
-        slot,
+        above: *above,
+        slot: *slot,
         label: Some(Label::of(production)),
     };
     if node.part_count() == 0 {
@@ -110,7 +110,7 @@ fn visit_at(
         return Ok(());
     }
     steps.push(Step::Enter(visit))?;
-    visit_parts(node, own, production, steps)?;
+    visit_parts(node, &own, &production, steps)?;
     steps.push(Step::Leave)?;
     Ok(())
 }
@@ -120,16 +120,16 @@ fn visit_at(
 #[tactic(auto, using(tree::proofs::PartWalk::part_steps))]
 fn visit_parts(
     node: Node,
-    own: Position,
-    production: Production,
+    own: &Position,
+    production: &Production,
     steps: &mut Vec<Step>,
 ) -> Result<(), AllocError>
-    requires { (spelled_by node own production).holds_chain ≡ true → first_chained (parts_of (node_tree node)) ≡ true }
-    ensures { OnOk result (PartsNoted (role_of own) (left (spelled_by node.entry own production).slots) (parts_of (node_tree node.entry)) steps.old.items steps.new.items) }
+    requires { (spelled_by node own.now production.now).holds_chain ≡ true → first_chained (parts_of (node_tree node)) ≡ true }
+    ensures { OnOk result (PartsNoted (role_of own.now) (left (spelled_by node.entry own.now production.now).slots) (parts_of (node_tree node.entry)) steps.old.items steps.new.items) }
 {
-    let is_chain = holds_chain(own, node.kind(), production);
+    let is_chain = holds_chain(*own, node.kind(), *production);
     let parts = node.parts();
-    let mut slots = SlotCursor::new(production);
+    let mut slots = SlotCursor::new(*production);
     for index in 0..parts.len() {
         let Some(part) = parts.get(index) else {
             continue;
@@ -139,20 +139,32 @@ fn visit_parts(
             return Ok(());
         };
         let in_chain = leads_chain(is_chain, index);
-        visit_node(part, own, slot, in_chain, steps)?;
+        visit_node(part, own, &slot, in_chain, steps)?;
     }
     Ok(())
 }
 
-/// Whether a node of this kind may be seen at once to be a leaf.
-fn may_be_leaf(kind: Kind) -> bool
+/// Whether a name or a literal may stand at a slot, wherever the node above stands.
+fn takes_word(slot: &Slot) -> bool
+    ensures { result ≡ slot_free (slot_of slot.now) Primary }
 {
+    match slot {
+        Slot::Fixed(Position::Expression { rank, .. })
+        | Slot::Left(rank)
+        | Slot::Lead(rank)
+        | Slot::Tail(rank, _) => position_takes(*rank, Rank::Primary),
+        _ => true,
+    }
+}
+
+/// Whether a node of this kind may be seen at once to be a leaf.
+fn may_be_leaf(kind: Kind) -> bool {
     matches!(kind, Kind::Identifier | Kind::Literal)
 }
 
 /// Whether a slot is a position that hands on no symbol, In and start of its own, and takes whatever is spelled there.
-fn is_settled(slot: Slot) -> bool
-    ensures { result ≡ is_settled_slot (slot_of slot) }
+fn is_settled(slot: &Slot) -> bool
+    ensures { result ≡ is_settled_slot (slot_of slot.now) }
 {
     match slot {
         Slot::Fixed(
@@ -164,14 +176,15 @@ fn is_settled(slot: Slot) -> bool
 }
 
 /// Whether it is seen at once that each slot of a production is a position.
-fn has_fixed_slots(production: Production) -> bool
-    ensures { result ≡ true → fixed_outline (outline_of production) ≡ true }
+fn has_fixed_slots(production: &Production) -> bool
+    ensures { result ≡ true → fixed_outline (outline_of production.now) ≡ true }
 {
     matches!(
         production,
         Production::Leaf
             | Production::Keyed {
-                is_computed: false, ..
+                is_computed: false,
+                ..
             }
             | Production::Echo(_)
             | Production::Defaulted(_)
@@ -182,7 +195,10 @@ fn has_fixed_slots(production: Production) -> bool
             | Production::Prologue { .. }
             | Production::Declarators(_)
             | Production::Initialised { .. }
-            | Production::If { has_else: false, .. }
+            | Production::If {
+                has_else: false,
+                ..
+            }
             | Production::If { has_else: true, .. }
             | Production::Labeled { .. }
             | Production::DoWhile { .. }
@@ -193,11 +209,11 @@ fn has_fixed_slots(production: Production) -> bool
 }
 
 /// The position of a node at a slot, wherever the node above stands, with all that its spelling may depend on left open.
-fn widest_of(slot: Slot) -> Position
-    ensures { (a : Role) → role_of result ≡ widest (settled_at a (slot_of slot)) }
+fn widest_of(slot: &Slot) -> Position
+    ensures { (a : Role) → role_of result ≡ widest (settled_at a (slot_of slot.now)) }
 {
     match slot {
-        Slot::Fixed(position) => widest(position),
+        Slot::Fixed(position) => widest(*position),
         Slot::LeadSpine => Position::Spine { start: Start::Any },
         Slot::LeadPattern => {
             Position::Pattern {

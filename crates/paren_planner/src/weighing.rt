@@ -41,6 +41,7 @@ fn take_back(step: &Step, pending: &mut Pending, table: &mut CostTable) -> Resul
     ensures { OnOk result (shown_sums pending.new table.new.rows.items ≡ taken step.now (shown_sums pending.old table.old.rows.items)) }
 {
     match step {
+        Step::Word(kind) => table.push_free(*kind, Shape::free(Rank::Primary)),
         Step::Leaf(visit) => add_leaf(visit, pending, table),
         Step::Enter(visit) => add_parent(visit, pending, table),
         Step::Leave => pending.enter(),

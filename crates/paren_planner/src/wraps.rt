@@ -55,6 +55,7 @@ fn take_step(
         return pass_step(step, around, outer, wrapped);
     }
     match step {
+        Step::Word(_) => pass_row(wrapped),
         Step::Leaf(visit) => wrap_leaf(visit, table, around.own, wrapped),
         Step::Enter(visit) => {
             outer.push(*around)?;
@@ -78,6 +79,7 @@ fn pass_step(
     ensures { (table : _) → OnOk result (shown_marks around.new outer.new.items wrapped.new.items ≡ marked table step.now (shown_marks around.old outer.old.items wrapped.old.items)) }
 {
     match step {
+        Step::Word(_) => pass_row(wrapped),
         Step::Leaf(visit) => pass_node(visit, wrapped),
         Step::Enter(visit) => {
             outer.push(*around)?;
@@ -97,6 +99,13 @@ fn pass_node(visit: &Visit, wrapped: &mut Vec<bool>) -> Result<(), AllocError>
     if !visit.has_row() {
         return Ok(());
     }
+    pass_row(wrapped)
+}
+
+/// A row of a node that isn't wrapped.
+fn pass_row(wrapped: &mut Vec<bool>) -> Result<(), AllocError>
+    ensures { OnOk result (wrapped.new.items ≡ wrapped.old.items ++ false ∷ []) }
+{
     wrapped.push(false)?;
     Ok(())
 }

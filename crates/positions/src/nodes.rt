@@ -54,6 +54,7 @@ pub(crate) fn outline_at(node: Node, position: Position, in_chain: bool) -> Opti
 
 /// The production of a node at a position; none where the table has no way to spell it there. `in_chain`: the node is known to be part
 /// of a chain, with a `?.` in it or below it.
+#[inline(always)]
 pub(crate) fn production_at(node: Node, position: Position, in_chain: bool) -> Option<Production>
     requires { in_chain ≡ true → is_chained_tree (node_tree node) ≡ true }
     ensures { option_map outline_of result ≡ outline_at_position position (node_tree node.entry) }

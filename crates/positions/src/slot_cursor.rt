@@ -83,6 +83,7 @@ impl SlotCursor {
     }
 
     /// Takes the slot of the part that the list goes on with.
+    #[inline(always)]
     fn take_of_list(&mut self, parts: NodeList, part: Node, index: usize) -> Option<Slot>
         requires here { Some (node_tree part) ≡ part_at (list_parts parts) index }
         requires next { slots_left self.old.tail (parts_behind self.old.from (list_parts parts)) ≡ slots_left self.old.tail (parts_behind index (list_parts parts)) }

@@ -68,6 +68,7 @@ pub fn node_production(node: Node, position: Position, in_chain: bool) -> Option
 }
 
 /// Whether a node is seen at once to be spelled at a position as a leaf, and has no parts: a name or a literal.
+#[inline(always)]
 pub fn is_leaf(node: Node, position: Position) -> bool
     ensures spelled { result ≡ true → IsSpelledWherever (role_of position) (node_tree node.entry) (Some (spelled_by node.entry position TheVariants.Leaf)) }
     ensures parts { result ≡ true → part_count (parts_of (node_tree node.entry)) ≡ 0 }

@@ -1,6 +1,15 @@
+use Rattle.std.proofs.Common.{◌≡◌, ◌++◌, ◌∷◌, [], subst}
+use Rattle.std.specs.Prelude.{OnOk}
+use Rattle.paren_planner.specs.Packed.{shaped}
+use Rattle.paren_planner.specs.Rows.{row_with}
 use Rattle.paren_planner.specs.declared.steps.Step.TheVariants.{Leaf, Enter}
-use Rattle.paren_planner.proofs.Taking.{step_taken, leave_taken}
+use Rattle.paren_planner.proofs.Taking.{word_taken, step_taken, leave_taken}
 use Rattle.paren_planner.proofs.weighing.take_back.Goals as goal
+
+pub returns-in-Word : goal.returns-in-Word
+returns-in-Word c =
+    word_taken c.push_free.result c.args.step.now c.in-Word.kind c.args.pending.now c.args.table.now.rows.items c.push_free.new.self.rows.items c.in-Word.is
+    (subst (λ s. OnOk c.push_free.result (c.push_free.new.self.rows.items ≡ c.args.table.now.rows.items ++ row_with c.in-Word.kind (shaped s 0) ∷ [])) c.free.ensures c.push_free.ensures)
 
 pub returns-in-Leaf : goal.returns-in-Leaf
 returns-in-Leaf c = step_taken c.add_leaf.result c.args.step.now (Leaf c.in-Leaf.visit) _ _ c.in-Leaf.is c.add_leaf.ensures

@@ -1,7 +1,11 @@
 use Rattle.std.proofs.Common.{◌≡◌, ◌+◌}
 use Rattle.paren_planner.proofs.Taking.{none_popped}
-use Rattle.paren_planner.proofs.Marking.{passed_leaf, passed_parent, leave_marked}
+use Rattle.paren_planner.proofs.Marking.{word_marked, passed_leaf, passed_parent, leave_marked}
 use Rattle.paren_planner.proofs.wraps.pass_step.Goals as goal
+
+pub returns-in-Word : goal.returns-in-Word
+returns-in-Word c = λ T.
+    word_marked c.pass_row.result T c.args.step.now _ c.args.around.now c.args.outer.now.items c.args.wrapped.now.items c.pass_row.new.wrapped.items c.in-Word.is c.pass_row.ensures
 
 pub returns-in-Leaf : goal.returns-in-Leaf
 returns-in-Leaf c = λ T.

@@ -1,10 +1,14 @@
 use Rattle.std.proofs.Common.{◌≡◌, ◌+◌}
 use Rattle.paren_planner.proofs.Taking.{none_popped}
-use Rattle.paren_planner.proofs.Marking.{living_leaf, living_parent, leave_marked}
+use Rattle.paren_planner.proofs.Marking.{word_marked, living_leaf, living_parent, leave_marked}
 use Rattle.paren_planner.proofs.wraps.take_step.Goals as goal
 
 pub returns-then-not-around : goal.returns-then-not-around
 returns-then-not-around c = c.pass_step.ensures c.args.table.now.rows.items
+
+pub returns-in-Word : goal.returns-in-Word
+returns-in-Word c =
+    word_marked c.pass_row.result c.args.table.now.rows.items c.args.step.now _ c.args.around.now c.args.outer.now.items c.args.wrapped.now.items c.pass_row.new.wrapped.items c.in-Word.is c.pass_row.ensures
 
 pub returns-in-Leaf : goal.returns-in-Leaf
 returns-in-Leaf c =
