@@ -38,13 +38,16 @@ use Rattle.language.proofs.Growing.{postfix_grows, sequence_grows}
 use Rattle.language.proofs.Onward.{makes, steps_no_word}
 use Rattle.language.proofs.RightEdges.{edged}
 use Rattle.language.proofs.Running.{run_never}
-use Rattle.language.proofs.Signs.{op_reads, reads_chain, reads_comma}
+use Rattle.language.proofs.Signs.{op_reads, reads_call, reads_chain, reads_comma, reads_dot}
 use Rattle.language.proofs.TextPlaces.{text_determined}
 use Rattle.phrases.specs.declared.part.Part.{Part}
 use Rattle.phrases.specs.declared.position.Position.{Position}
 use Rattle.phrases.specs.declared.operators.Sign.{Sign}
 use Rattle.phrases.specs.declared.operators.Operator.{Operator as Coded}
 use Rattle.phrases.specs.declared.operators.Operator.TheVariants as code
+use Rattle.descent.specs.declared.links.Linked.TheVariants as link
+use Rattle.descent.specs.Follows.{LinkedAt}
+use Rattle.descent.specs.Links.{link_by}
 use Rattle.descent.specs.Derived.{RunsIn, Begins, minds_in, PartAt, ReadsOn, GoesOn, Links, Adds}
 use Rattle.descent.specs.DerivedLists.{several, two_or_more, stood_in, item_pieces, is_whole, whole_of, asks_edge, SoFarAt, ListAt, ClosedBy}
 use Rattle.phrases.specs.Items.{list_from, with_item, item_from}
@@ -55,6 +58,7 @@ use Rattle.phrases.specs.Stated.{is_closed}
 use Rattle.descent.proofs.Deriving.{adds_behind, adds_none}
 use Rattle.phrases.proofs.Seeing.{ahead_read, class_of, mark_missed}
 use Rattle.descent.proofs.SidedBy.{own_text, sign_here, target_spelled}
+use Rattle.descent.proofs.Shorts.{enclosed_ahead}
 use Rattle.descent.proofs.Spelled.{placed_at, value_part}
 
 -- what the code has for an operator
@@ -87,6 +91,14 @@ sequences_by _ w h = cc
 pub chains_by : (x : Operator) (w : List ℕ) → coded_operator x w ≡ Some code.Chains → x ≡ chains
 chains_by chains w h = refl
 chains_by _ w h = cc
+
+pub selects_by : (x : Operator) (w : List ℕ) → coded_operator x w ≡ Some code.Selects → x ≡ selects
+selects_by selects w h = refl
+selects_by _ w h = cc
+
+pub calls_by : (x : Operator) (w : List ℕ) → coded_operator x w ≡ Some code.Calls → x ≡ calls
+calls_by calls w h = refl
+calls_by _ w h = cc
 
 -- an operator that the code has is none but a tag, if that is excluded
 pub some_operator : (x : Operator) (w : List ℕ) {c : Coded} → coded_operator x w ≡ Some c → x ≡ no_operator → ⊥
@@ -156,6 +168,18 @@ sided_on s e old new p l v (Err fault) op goes a rank = tt
 -- a chain
 pub chain_there : (s : Point) (v : LexicalToken) {c : Coded} → IsAhead Div s.text s.last.stop v → coded_operator (operation (as_read v)) v.text ≡ Some c → c ≡ code.Chains → Sees s.text Punctuator (codes "?.") s.last
 chain_there s v ahead op is = (as_read v, reads_chain Token (NextIn s.text any_goal) itself (next_in Div refl ahead.read) (chains_by (operation (as_read v)) v.text (op ∙ ap Some is)))
+
+-- a member or a call
+pub dot_there : (s : Point) (v : LexicalToken) {c : Coded} → IsAhead Div s.text s.last.stop v → coded_operator (operation (as_read v)) v.text ≡ Some c → c ≡ code.Selects → Sees s.text Punctuator (codes ".") s.last
+dot_there s v ahead op is = (as_read v, reads_dot Token (NextIn s.text any_goal) itself (next_in Div refl ahead.read) (selects_by (operation (as_read v)) v.text (op ∙ ap Some is)))
+
+pub call_there : (s : Point) (v : LexicalToken) {c : Coded} → IsAhead Div s.text s.last.stop v → coded_operator (operation (as_read v)) v.text ≡ Some c → c ≡ code.Calls → LinkedAt s s link.Arguments false
+call_there s v ahead op is =
+    let r : ReadsHere s.text Punctuator (codes "(") s.last (as_read v) = reads_call Token (NextIn s.text any_goal) itself (next_in Div refl ahead.read) (calls_by (operation (as_read v)) v.text (op ∙ ap Some is)) in
+    enclosed_ahead link.Arguments s v refl ahead (linked_by v r.class r.text)
+  where
+    linked_by : (v : LexicalToken) → v.class ≡ Punctuator → (as_read v).text ≡ codes "(" → link_by v.class v.text ≡ Some link.Arguments
+    linked_by v c t = ap (λ d. link_by d v.text) c ∙ ap (link_by Punctuator) (sym (ap (λ d. table_text d v.text) c) ∙ t)
 
 pub chain_reads : (s e : Point) (old new : List Pair) (p : Position) (l : Part) (v : LexicalToken) {c : Coded} (r : Result Part Fault) → coded_operator (operation (as_read v)) v.text ≡ Some c → c ≡ code.Chains → stops_by p l.edge (as_read v) ≡ false →
     IfOk r (λ q. Adds s e old new (λ o m z Q. (i : Bool) → GoesOn s.text i l q o m z Q)) → IfOk r (λ q. q.rank ≡ LeftHandSide) → IfOk r (λ q. Adds s e old new (ReadsOn s.text p l q))

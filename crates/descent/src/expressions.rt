@@ -102,10 +102,10 @@ impl<'t, 's> Parser<'t, 's> {
                 self.sided(left, next, position.has_in, high)
             }
             Operator::Steps | Operator::Sequences => self.other_turn(left, next, position, high),
+            Operator::Selects => self.member(left, high),
+            Operator::Calls => self.called(left, high),
+            Operator::Indexes | Operator::Tags => self.linked(left, high),
             Operator::Chains => self.chain(left, high),
-            Operator::Selects | Operator::Calls | Operator::Indexes | Operator::Tags => {
-                self.linked(left, high)
-            }
             Operator::Arrows => Err(self.refusal()),
         }
     }

@@ -76,9 +76,9 @@ fn linked_of(token: &Token<'_>) -> Option<Linked>
 {
     match token.class {
         Class::Template => Some(Linked::Quasi),
-        Class::Punctuator => match token.text {
-            "(" => Some(Linked::Arguments),
-            "[" => Some(Linked::Index),
+        Class::Punctuator => match token.text.as_bytes() {
+            b"(" => Some(Linked::Arguments),
+            b"[" => Some(Linked::Index),
             _ => None,
         },
         Class::Name => Some(Linked::Name),
@@ -183,7 +183,7 @@ impl<'t, 's> Parser<'t, 's> {
 
     // What was read with a `.`, which stands ahead, and a name (12.3.2).
     #[inline(never)]
-    fn member(&mut self, left: Part<'s>, high: u32) -> Result<Part<'s>, Fault>
+    pub(crate) fn member(&mut self, left: Part<'s>, high: u32) -> Result<Part<'s>, Fault>
         requires dot { Sees self.old.cursor.text Class.Punctuator (codes ".") self.old.cursor.last }
         ensures text { self.new.cursor.text ≡ self.old.cursor.text }
         ensures forward { self.old.cursor.last.stop ≤ self.new.cursor.last.stop }
@@ -212,7 +212,7 @@ impl<'t, 's> Parser<'t, 's> {
     // What was read with arguments, which stand ahead (12.3.6).
     #[cycle(grammar)]
     #[inline(never)]
-    fn called(&mut self, left: Part<'s>, high: u32) -> Result<Part<'s>, Fault>
+    pub(crate) fn called(&mut self, left: Part<'s>, high: u32) -> Result<Part<'s>, Fault>
         requires calls { LinkedAt self.old.cursor self.old.cursor Linked.Arguments false }
         ensures text { self.new.cursor.text ≡ self.old.cursor.text }
         ensures forward { self.old.cursor.last.stop ≤ self.new.cursor.last.stop }

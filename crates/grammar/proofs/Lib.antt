@@ -1,3 +1,4 @@
+pub mod Bytewise
 pub mod Chained
 pub mod Lengths
 pub mod Operations

@@ -8,6 +8,7 @@ mod operators;
 mod ranks;
 mod symbols;
 mod targets;
+mod texts;
 mod words;
 
 pub use chain::{is_chained, is_link};

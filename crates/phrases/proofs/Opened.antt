@@ -1,17 +1,23 @@
 -- What the token ahead begins, by its class, and whether it stands at a position.
-use Rattle.std.proofs.Common.{◌≡◌, ℕ, Bool, false, cond, List, refl, sym, ap, ◌∙◌}
-use Rattle.std.specs.Prelude.{IsFalse, Option, Some, None, nat_eq, slice_index_or}
+use Rattle.std.proofs.Common.{◌≡◌, ℕ, Bool, true, false, cond, List, [], ◌∷◌, refl, sym, ap, ◌∙◌}
+use Rattle.std.specs.Prelude.{IsFalse, ◌&&◌, ◌||◌, Option, Some, None, nat_eq, slice_index_or, codes}
+use Rattle.std.proofs.lemmas.Bool.{false≢true, and_parts}
+use Rattle.std.proofs.lemmas.Slice.Eq.{bytes_eq-Decides}
+use Prim.Native.String.{String}
 use Rattle.tokens.specs.declared.token.Class.{Class}
-use Rattle.tokens.specs.declared.token.Class.TheVariants.{Template}
+use Rattle.tokens.specs.declared.token.Class.TheVariants.{Name, Template}
 use Rattle.tokens.specs.declared.token.Goal.TheVariants.{RegExp}
 use Rattle.tokens.specs.Tokens.{LexicalToken}
 use Rattle.language.specs.declared.Rank.{Rank}
 use Rattle.language.specs.declared.Start.{Start}
-use Rattle.language.specs.Opening.{Opening, with_name, with_literal, with_this, with_bracket, with_brace, with_function, with_class, with_template, with_parenthesis, with_super, with_new, with_import, with_step, with_word, with_sign, no_opening, opening_by, opening_of}
+use Rattle.tree.specs.declared.kind.Kind.TheVariants.{Identifier}
+use Rattle.language.specs.Words.{is, among, is_reserved}
+use Rattle.language.specs.Opening.{Opening, opening_words, opening_among, with_name, with_literal, with_this, with_bracket, with_brace, with_function, with_class, with_template, with_parenthesis, with_super, with_new, with_import, with_step, with_word, with_sign, no_opening, opening_by, opening_of}
 use Rattle.language.specs.Token.{Token, table_text, as_read}
 use Rattle.token_cursor.specs.Point.{IsAhead, NoneAhead}
 use Rattle.phrases.specs.declared.position.Position.{Position}
 use Rattle.phrases.specs.declared.openings.Opening.{Opening as Coded}
+use Rattle.phrases.specs.declared.openings.Opening.TheVariants as code
 use Rattle.phrases.specs.Openings.{coded_opening, stands_at, stood, opens_at, OpensNothing}
 use Rattle.phrases.proofs.Seeing.{none_ahead, of_ahead}
 
@@ -63,3 +69,36 @@ nothing_ahead text p s u a h = of_ahead text (λ t. IsFalse (opens_at p t)) RegE
 
 pub nothing_read : (text : List ℕ) (p : Position) (s : Token) → NoneAhead RegExp text s.stop → OpensNothing text p s
 nothing_read text p s none t m r = absurd (none_ahead text RegExp s none t m r)
+
+-- what begins with a word of its own begins with a reserved word
+abbrev all_reserved : List String → Bool
+all_reserved [] = true
+all_reserved (s ∷ ss) = is_reserved (codes s) && all_reserved ss
+
+abbrev rows_reserved : List (List String × Opening) → Bool
+rows_reserved [] = true
+rows_reserved (row ∷ rows) = all_reserved row.0 && rows_reserved rows
+
+not_among : (w : List ℕ) (ss : List String) → is_reserved w ≡ false → all_reserved ss ≡ true → among w ss ≡ false
+not_among w [] h u = refl
+not_among w (s ∷ ss) h u =
+    let v = and_parts (is_reserved (codes s)) (all_reserved ss) u in
+    of (is w s) refl v.0 (not_among w ss h v.1)
+  where
+    of : (b : Bool) → is w s ≡ b → is_reserved (codes s) ≡ true → among w ss ≡ false → (b || among w ss) ≡ false
+    of true e k f = absurd (false≢true (sym h ∙ (ap is_reserved ((bytes_eq-Decides w (codes s)).0 e) ∙ k)))
+    of false e k f = f
+
+opening_else : (w : List ℕ) (rows : List (List String × Opening)) (x : Opening) → is_reserved w ≡ false → rows_reserved rows ≡ true → opening_among w rows x ≡ x
+opening_else w [] x h u = refl
+opening_else w (row ∷ rows) x h u =
+    let v = and_parts (all_reserved row.0) (rows_reserved rows) u in
+    ap (λ b. cond b row.1 (opening_among w rows x)) (not_among w row.0 h v.0) ∙ opening_else w rows x h v.1
+
+words_reserved : rows_reserved opening_words ≡ true
+unfolding is_reserved
+words_reserved = refl
+
+pub unreserved : (w : List ℕ) → is_reserved w ≡ false → Some (code.Single Identifier) ≡ coded_opening (opening_by Name w)
+unreserved w h =
+    sym (ap coded_opening (opening_else w opening_words (cond (is_reserved w) no_opening with_name) h words_reserved ∙ ap (λ b. cond b no_opening with_name) h))

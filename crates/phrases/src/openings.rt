@@ -47,17 +47,19 @@ fn opening_word(word: &str) -> Option<Opening>
     ensures list { IfSome result BeginsList }
     ensures coded { result ≡ coded_opening (opening_by Class.Name word.now) }
 {
+    if !is_reserved(word) {
+        return Some(Opening::Single(Kind::Identifier));
+    }
     Some(match word {
-        "true" | "false" | "null" => Opening::Single(Kind::Literal),
         "this" => Opening::Single(Kind::ThisExpression),
         "function" => Opening::Function,
+        "true" | "false" | "null" => Opening::Single(Kind::Literal),
         "class" => Opening::Class,
         "super" => Opening::Super,
         "new" => Opening::New,
         "import" => Opening::Import,
         "delete" | "void" | "typeof" => Opening::Prefix(Rank::Unary, Rank::Unary),
-        _ if is_reserved(word) => return None,
-        _ => Opening::Single(Kind::Identifier),
+        _ => return None,
     })
 }
 
@@ -65,12 +67,12 @@ fn opening_mark(mark: &str) -> Option<Opening>
     ensures list { IfSome result BeginsList }
     ensures coded { result ≡ coded_opening (opening_by Class.Punctuator mark.now) }
 {
-    Some(match mark {
-        "[" => Opening::List(Listed::Elements),
-        "{" => Opening::List(Listed::Properties),
-        "(" => Opening::Parenthesis,
-        "++" | "--" => Opening::Prefix(Rank::Update, Rank::LeftHandSide),
-        "+" | "-" | "~" | "!" => Opening::Prefix(Rank::Unary, Rank::Unary),
+    Some(match mark.as_bytes() {
+        b"[" => Opening::List(Listed::Elements),
+        b"{" => Opening::List(Listed::Properties),
+        b"(" => Opening::Parenthesis,
+        b"++" | b"--" => Opening::Prefix(Rank::Update, Rank::LeftHandSide),
+        b"+" | b"-" | b"~" | b"!" => Opening::Prefix(Rank::Unary, Rank::Unary),
         _ => return None,
     })
 }

@@ -175,9 +175,9 @@ fn operator_of_more(text: &str) -> Option<Operator>
 fn equality_of(text: &str) -> Option<Operator>
     ensures { result ≡ coded_operator (operator_among text.now (only_texts (begins_with (codes "!=")) long_operators)) text.now }
 {
-    match text {
-        "==" | "!=" | "===" | "!==" => binary(Rank::Equality, Rank::Relational),
-        "=>" => Some(Operator::Arrows),
+    match text.as_bytes() {
+        b"==" | b"!=" | b"===" | b"!==" => binary(Rank::Equality, Rank::Relational),
+        b"=>" => Some(Operator::Arrows),
         _ => None,
     }
 }
@@ -186,10 +186,10 @@ fn equality_of(text: &str) -> Option<Operator>
 fn comparison_of(text: &str) -> Option<Operator>
     ensures { result ≡ coded_operator (operator_among text.now (only_texts (begins_with (codes "<>")) long_operators)) text.now }
 {
-    match text {
-        "<=" | ">=" => binary(Rank::Relational, Rank::Shift),
-        "<<" | ">>" | ">>>" => binary(Rank::Shift, Rank::Additive),
-        "<<=" | ">>=" | ">>>=" => Some(Operator::Assigns { is_plain: false }),
+    match text.as_bytes() {
+        b"<=" | b">=" => binary(Rank::Relational, Rank::Shift),
+        b"<<" | b">>" | b">>>" => binary(Rank::Shift, Rank::Additive),
+        b"<<=" | b">>=" | b">>>=" => Some(Operator::Assigns { is_plain: false }),
         _ => None,
     }
 }
@@ -198,13 +198,13 @@ fn comparison_of(text: &str) -> Option<Operator>
 fn logical_of(text: &str) -> Option<Operator>
     ensures { result ≡ coded_operator (operator_among text.now (only_texts (begins_with (codes "&?|")) long_operators)) text.now }
 {
-    match text {
-        "&&" => logical(Rank::LogicalAnd, Rank::BitwiseOr),
-        "||" => logical(Rank::LogicalOr, Rank::LogicalAnd),
-        "??" => logical(Rank::Coalesce, Rank::BitwiseOr),
-        "?." => Some(Operator::Chains),
-        "&=" | "|=" => Some(Operator::Assigns { is_plain: false }),
-        "&&=" | "||=" | "??=" => Some(Operator::Assigns { is_plain: false }),
+    match text.as_bytes() {
+        b"&&" => logical(Rank::LogicalAnd, Rank::BitwiseOr),
+        b"||" => logical(Rank::LogicalOr, Rank::LogicalAnd),
+        b"??" => logical(Rank::Coalesce, Rank::BitwiseOr),
+        b"?." => Some(Operator::Chains),
+        b"&=" | b"|=" => Some(Operator::Assigns { is_plain: false }),
+        b"&&=" | b"||=" | b"??=" => Some(Operator::Assigns { is_plain: false }),
         _ => None,
     }
 }
@@ -213,9 +213,9 @@ fn logical_of(text: &str) -> Option<Operator>
 fn sum_of(text: &str) -> Option<Operator>
     ensures { result ≡ coded_operator (operator_among text.now (only_texts (begins_with (codes "+-")) long_operators)) text.now }
 {
-    match text {
-        "++" | "--" => Some(Operator::Steps),
-        "+=" | "-=" => Some(Operator::Assigns { is_plain: false }),
+    match text.as_bytes() {
+        b"++" | b"--" => Some(Operator::Steps),
+        b"+=" | b"-=" => Some(Operator::Assigns { is_plain: false }),
         _ => None,
     }
 }
@@ -224,9 +224,9 @@ fn sum_of(text: &str) -> Option<Operator>
 fn product_of(text: &str) -> Option<Operator>
     ensures { result ≡ coded_operator (operator_among text.now (only_texts (begins_with (codes "%*/^")) long_operators)) text.now }
 {
-    match text {
-        "**" => power(),
-        "*=" | "/=" | "%=" | "**=" | "^=" => Some(Operator::Assigns { is_plain: false }),
+    match text.as_bytes() {
+        b"**" => power(),
+        b"*=" | b"/=" | b"%=" | b"**=" | b"^=" => Some(Operator::Assigns { is_plain: false }),
         _ => None,
     }
 }

@@ -233,9 +233,9 @@ fn beginning_name(word: &str, context: Context) -> Beginning
 fn beginning_mark(mark: &str) -> Beginning
     ensures { (item returns : Bool) → result ≡ coded_beginning (beginning_by item returns Class.Punctuator mark.now) }
 {
-    match mark {
-        "{" => Beginning::Headed(Headed::Block),
-        ";" => Beginning::Headed(Headed::Empty),
+    match mark.as_bytes() {
+        b"{" => Beginning::Headed(Headed::Block),
+        b";" => Beginning::Headed(Headed::Empty),
         _ => Beginning::Expression,
     }
 }

@@ -3,6 +3,7 @@
 
 ghost use Rattle.std.specs.Prelude.{◌≡◌, ◌&&◌, true, false, nat_eq, slice_index_or};
 ghost use Rattle.std.specs.Bool.{OnTrue};
+ghost use Rattle.std.specs.Str.{bytes_eq};
 ghost use Rattle.tokens.specs.Scanned.{token_of};
 ghost use Rattle.language.specs.Token.{as_read, same_class, is_token, is_mark};
 ghost use Rattle.language.specs.Words.{is_reserved};
@@ -22,20 +23,33 @@ pub fn span_of(token: &Token<'_>) -> Span
     }
 }
 
+// Whether two texts are the same: most punctuators have one byte.
+#[inline(always)]
+fn is_same(text: &str, other: &str) -> bool
+    ensures { result ≡ bytes_eq text.now other.now }
+{
+    match (text.as_bytes(), other.as_bytes()) {
+        ([byte], [same]) => byte == same,
+        (bytes, others) => bytes.len() == others.len() && text == other,
+    }
+}
+
 /// Whether the token is this punctuator.
+#[inline(always)]
 pub fn is_mark(token: &Token<'_>, mark: &str) -> bool
     ensures class { OnTrue result (token.now.class ≡ Class.Punctuator) }
     ensures is { result ≡ is_mark mark.now (as_read (token_of token.now)) }
 {
-    token.class == Class::Punctuator && token.text == mark
+    token.class == Class::Punctuator && is_same(token.text, mark)
 }
 
 /// Whether the token is this name.
+#[inline(always)]
 pub fn is_word(token: &Token<'_>, word: &str) -> bool
     ensures class { OnTrue result (token.now.class ≡ Class.Name) }
     ensures is { result ≡ is_token Class.Name word.now (as_read (token_of token.now)) }
 {
-    token.class == Class::Name && token.text == word
+    token.class == Class::Name && is_same(token.text, word)
 }
 
 /// Whether the token is an Identifier (ECMA-262 12.1).

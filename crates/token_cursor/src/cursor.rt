@@ -14,7 +14,7 @@ ghost use Rattle.language.specs.Claims.{max_open};
 ghost use Rattle.token_cursor.specs.Ends.{EndsAt, IsEnd};
 ghost use Rattle.token_cursor.specs.Point.{depends, Ahead, IsAhead, IsAheadBySome, NoneAhead, OnlyEnd, IsPlaceFrom, IsSyntax};
 
-use crate::semicolon::{Ending, may_miss};
+use crate::semicolon::{Ending, is_mark, may_miss};
 use language::limits::MAX_OPEN;
 use source_text::{Fault, Source};
 use std::marker::Model;
@@ -69,7 +69,7 @@ fn depends_on_goal(token: &Token<'_>) -> bool
 fn is_semicolon(token: &Token<'_>) -> bool
     ensures { result ≡ is_semicolon (as_read (token_of token.now)) }
 {
-    token.class == Class::Punctuator && token.text == ";"
+    is_mark(token, b';')
 }
 
 impl<'t, 's> Cursor<'t, 's> {
@@ -120,11 +120,11 @@ impl<'t, 's> Cursor<'t, 's> {
         ensures { Ahead goal self.now.text self.now.last.stop result }
     {
         let _text = self.source.text();
-        match self.ahead {
-            Ok(token) if !depends_on_goal(&token) => Ok(token),
-            _ => match goal {
-                Goal::Div => self.ahead,
-                Goal::RegExp | Goal::TemplateTail => look(self.source, self.last.end, goal),
+        match goal {
+            Goal::Div => self.ahead,
+            Goal::RegExp | Goal::TemplateTail => match self.ahead {
+                Ok(token) if !depends_on_goal(&token) => Ok(token),
+                _ => look(self.source, self.last.end, goal),
             },
         }
     }

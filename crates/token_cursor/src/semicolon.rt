@@ -1,6 +1,7 @@
 //! Where a statement ends without its `;` (ECMA-262 11.9.1).
 
-ghost use Rattle.std.specs.Prelude.{◌≡◌, ◌<◌, codes, true, false, ◌&&◌, ◌||◌};
+ghost use Rattle.std.specs.Prelude.{◌≡◌, ◌<◌, [], ◌∷◌, true, false, ◌&&◌, ◌||◌};
+ghost use Rattle.std.specs.Str.{bytes_eq};
 ghost use Rattle.tokens.specs.Scanned.{token_of};
 ghost use Rattle.language.specs.Token.{as_read, is_mark};
 ghost use Rattle.language.specs.Words.{is};
@@ -31,10 +32,21 @@ fn begins_with(token: &Token<'_>, byte: u8) -> bool
 }
 
 // Whether the token is this punctuator.
-fn is_mark(token: &Token<'_>, mark: &str) -> bool
-    ensures { result ≡ is_mark mark.now (as_read (token_of token.now)) }
+pub(crate) fn is_mark(token: &Token<'_>, mark: u8) -> bool
+    ensures { result ≡ is_mark (mark ∷ []) (as_read (token_of token.now)) }
 {
-    token.class == Class::Punctuator && token.text == mark
+    token.class == Class::Punctuator && is_byte(token.text, mark)
+}
+
+// Whether the text is this byte.
+#[inline(always)]
+fn is_byte(text: &str, byte: u8) -> bool
+    ensures { result ≡ bytes_eq text.now (byte ∷ []) }
+{
+    match text.as_bytes() {
+        [only] => *only == byte,
+        _ => false,
+    }
 }
 
 /// Whether what ends with this right edge goes on with the token, so that a line break between them ends nothing
@@ -44,10 +56,10 @@ pub fn goes_on(edge: Edge, token: &Token<'_>) -> bool
 {
     match edge {
         Edge::Arrow | Edge::Closed => false,
-        Edge::Postfix => is_mark(token, "+") || is_mark(token, "-") || begins_with(token, b'/'),
+        Edge::Postfix => is_mark(token, b'+') || is_mark(token, b'-') || begins_with(token, b'/'),
         Edge::Other => {
-            let opens = is_mark(token, "(") || is_mark(token, "[");
-            let adds = is_mark(token, "+") || is_mark(token, "-");
+            let opens = is_mark(token, b'(') || is_mark(token, b'[');
+            let adds = is_mark(token, b'+') || is_mark(token, b'-');
             opens || adds || begins_with(token, b'/') || begins_with(token, b'`')
         }
     }
@@ -57,7 +69,7 @@ pub fn goes_on(edge: Edge, token: &Token<'_>) -> bool
 fn is_closing(token: &Token<'_>) -> bool
     ensures { result ≡ is (as_read (token_of token.now)).text ")" }
 {
-    token.text == ")"
+    is_byte(token.text, b')')
 }
 
 // The right edge as it stands: behind a `)` it is that of a node in parentheses.
@@ -75,7 +87,7 @@ pub(crate) fn may_miss(ending: Ending, last: &Token<'_>, token: &Token<'_>) -> b
     requires { is_semicolon (as_read (token_of token.now)) ≡ false }
     ensures { result ≡ may_miss (ending_of ending) (as_read (token_of last.now)) (as_read (token_of token.now)) }
 {
-    if token.class == Class::End || is_mark(token, "}") {
+    if token.class == Class::End || is_mark(token, b'}') {
         return true;
     }
     match ending {

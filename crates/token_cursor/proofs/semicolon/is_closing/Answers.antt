@@ -4,4 +4,4 @@ use Rattle.token_cursor.proofs.Endings.{close_same}
 use Rattle.token_cursor.proofs.semicolon.is_closing.Goals as goal
 
 pub returns : goal.returns
-returns c = c.eq.ensures ∙ sym (close_same (token_of c.args.token.now))
+returns c = c.is_byte.ensures ∙ sym (close_same (token_of c.args.token.now))

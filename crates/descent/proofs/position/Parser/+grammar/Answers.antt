@@ -62,7 +62,7 @@ use Rattle.descent.proofs.Defining.{spread_item as rest_item, value_item, map_ok
 use Rattle.descent.proofs.Valuing.{is_free, pair_value, lone_value, default_value}
 use Rattle.descent.proofs.Passing.{passes_behind, passes_further}
 use Rattle.phrases.specs.Moves.{Passes}
-use Rattle.descent.proofs.Turning.{step_reads, sequence_reads, no_tag_there, in_there, sided_on, chain_there, chain_reads, no_chain_there, linked_reads, meant_symbol}
+use Rattle.descent.proofs.Turning.{step_reads, sequence_reads, no_tag_there, in_there, sided_on, call_there, chain_there, dot_there, chain_reads, no_chain_there, linked_reads, meant_symbol}
 use Rattle.descent.proofs.Stating.{all_directive, and_true, still, push_low, statements_first, statements_on}
 use Rattle.descent.proofs.Wholly.{after_inside, after_nodes, after_start, further_first, further_item, item_places, not_a_sequence, same_right}
 use Rattle.descent.proofs.PieceBlocks.{block_piece, handler_piece}
@@ -1366,8 +1366,20 @@ turn-chain-requires t c = (search rules, chain_there c.args.self.now.cursor (tok
 pub turn-returns-in-Chains-clause-derived : goal.turn-returns-in-Chains-clause-derived
 turn-returns-in-Chains-clause-derived t c = chain_reads c.args.self.now.cursor c.chain.new.self.cursor c.args.self.now.pairs.items c.chain.new.self.pairs.items c.args.position c.args.left (token_of c.args.next.token) c.chain.result c.requires.coded c.in-Chains.is c.requires.goes c.chain.ensures.derived c.chain.ensures.rank
 
+pub turn-member-requires : goal.turn-member-requires
+turn-member-requires t c = record { dot = dot_there c.args.self.now.cursor (token_of c.args.next.token) c.requires.ahead c.requires.coded c.in-Selects.is }
+
 pub turn-returns-in-Selects-clause-derived : goal.turn-returns-in-Selects-clause-derived
-turn-returns-in-Selects-clause-derived t c = linked_reads c.args.self.now.cursor c.linked.new.self.cursor c.args.self.now.pairs.items c.linked.new.self.pairs.items c.args.position c.args.left (token_of c.args.next.token) c.linked.result c.requires.ahead c.requires.coded (no_chain_there c.in-Selects.is) c.requires.goes c.linked.ensures.derived
+turn-returns-in-Selects-clause-derived t c = linked_reads c.args.self.now.cursor c.member.new.self.cursor c.args.self.now.pairs.items c.member.new.self.pairs.items c.args.position c.args.left (token_of c.args.next.token) c.member.result c.requires.ahead c.requires.coded (no_chain_there (inl c.in-Selects.is)) c.requires.goes c.member.ensures.derived
+
+pub turn-called-requires : goal.turn-called-requires
+turn-called-requires t c = (search rules, call_there c.args.self.now.cursor (token_of c.args.next.token) c.requires.ahead c.requires.coded c.in-Calls.is)
+
+pub turn-returns-in-Calls-clause-derived : goal.turn-returns-in-Calls-clause-derived
+turn-returns-in-Calls-clause-derived t c = linked_reads c.args.self.now.cursor c.called.new.self.cursor c.args.self.now.pairs.items c.called.new.self.pairs.items c.args.position c.args.left (token_of c.args.next.token) c.called.result c.requires.ahead c.requires.coded (no_chain_there (inr (inl c.in-Calls.is))) c.requires.goes c.called.ensures.derived
+
+pub turn-returns-in-Indexes-clause-derived : goal.turn-returns-in-Indexes-clause-derived
+turn-returns-in-Indexes-clause-derived t c = linked_reads c.args.self.now.cursor c.linked.new.self.cursor c.args.self.now.pairs.items c.linked.new.self.pairs.items c.args.position c.args.left (token_of c.args.next.token) c.linked.result c.requires.ahead c.requires.coded (no_chain_there (inr (inr c.in-Indexes.is))) c.requires.goes c.linked.ensures.derived
 
 pub other_turn-returns-in-Steps-clause-derived : goal.other_turn-returns-in-Steps-clause-derived
 other_turn-returns-in-Steps-clause-derived t c =
@@ -2347,7 +2359,15 @@ turn-returns-in-Chains-clause-complete t c =
 
 pub turn-returns-in-Selects-clause-complete : goal.turn-returns-in-Selects-clause-complete
 turn-returns-in-Selects-clause-complete t c =
-    turn_linked c.args.self.now.cursor c.linked.new.self.cursor c.args.self.now.pairs.items c.linked.new.self.pairs.items c.args.high c.args.position c.args.left (token_of c.args.next.token) c.args.next.operator c.linked.result c.requires.ahead c.requires.coded c.in-Selects.is c.requires.goes c.linked.ensures.complete
+    turn_linked c.args.self.now.cursor c.member.new.self.cursor c.args.self.now.pairs.items c.member.new.self.pairs.items c.args.high c.args.position c.args.left (token_of c.args.next.token) c.args.next.operator c.member.result c.requires.ahead c.requires.coded (inl c.in-Selects.is) c.requires.goes c.member.ensures.complete
+
+pub turn-returns-in-Calls-clause-complete : goal.turn-returns-in-Calls-clause-complete
+turn-returns-in-Calls-clause-complete t c =
+    turn_linked c.args.self.now.cursor c.called.new.self.cursor c.args.self.now.pairs.items c.called.new.self.pairs.items c.args.high c.args.position c.args.left (token_of c.args.next.token) c.args.next.operator c.called.result c.requires.ahead c.requires.coded (inr (inl c.in-Calls.is)) c.requires.goes c.called.ensures.complete
+
+pub turn-returns-in-Indexes-clause-complete : goal.turn-returns-in-Indexes-clause-complete
+turn-returns-in-Indexes-clause-complete t c =
+    turn_linked c.args.self.now.cursor c.linked.new.self.cursor c.args.self.now.pairs.items c.linked.new.self.pairs.items c.args.high c.args.position c.args.left (token_of c.args.next.token) c.args.next.operator c.linked.result c.requires.ahead c.requires.coded (inr (inr c.in-Indexes.is)) c.requires.goes c.linked.ensures.complete
 
 pub turn-returns-clause-complete : goal.turn-returns-clause-complete
 turn-returns-clause-complete t c = λ a o n from to P Q R read stage. absurd (no_arrow c.args.self.now.cursor c.args.position c.args.left (token_of c.args.next.token) c.requires.ahead c.requires.coded c.in-Arrows.is c.requires.goes a o n from to P Q R read stage)

@@ -4,8 +4,8 @@ use Rattle.token_cursor.proofs.cursor.Cursor.ahead_by.Goals as goal
 pub look-requires : goal.look-requires
 look-requires c = search rules
 
-pub returns-in-RegExp : goal.returns-in-RegExp
-returns-in-RegExp c = search rules
-
 pub returns-in-Div : goal.returns-in-Div
 returns-in-Div c = search rules
+
+pub returns-in_default : goal.returns-in_default
+returns-in_default c = search rules
