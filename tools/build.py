@@ -60,7 +60,9 @@ def load():
     loader = importlib.machinery.SourceFileLoader('rt', os.path.realpath(found))
     RT = importlib.util.module_from_spec(importlib.util.spec_from_loader('rt', loader))
     loader.exec_module(RT)
-    RT.share_work(True)
+    # (a kit that has no such call shares no work between copies)
+    if hasattr(RT, 'share_work'):
+        RT.share_work(True)
 
 
 def text_of(path):
@@ -154,7 +156,7 @@ def hold_room(left, cost):
     if free < 0.8 * cost[largest].memory:
         raise Refused(f'not built, since the proof of {largest} takes some {cost[largest].memory / 1e9:.1f} GB of memory and {free / 1e9:.1f} are free')
     for place in (TOP, tempfile.gettempdir()):
-        free = RT.left_on_disk(place) / 1000
+        free = shutil.disk_usage(place).free / 1e9
         if free < DISK:
             raise Refused(f'not built, since the proofs take some {DISK} GB of disk and {free:.1f} are free in {place}')
 
