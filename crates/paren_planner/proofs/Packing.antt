@@ -1,8 +1,8 @@
 -- Rows that are packed: one more whose numbers stand apart, and all the other way round.
-use Rattle.std.proofs.Common.{◌≡◌, ℕ, List, [], ◌∷◌, ◌++◌, length, reverse, None, Ok, Err, refl, sym, ap, ◌∙◌}
+use Rattle.std.proofs.Common.{◌≡◌, ℕ, ◌-◌, ◌<◌, ◌≤◌, List, [], ◌∷◌, ◌++◌, length, reverse, get_or, None, Ok, Err, refl, sym, ap, ◌∙◌, subst, arith, append_assoc}
 use Rattle.std.specs.Prelude.{All, map, Result, OnErr}
-use Rattle.std.proofs.lemmas.List.{map-append, map_push, reverse-append, get_or_append_left, get_or_push}
-use Rattle.std.proofs.lemmas.List.Elements.{All-head, All-tail}
+use Rattle.std.proofs.lemmas.List.{map-append, map_push, reverse-append, reverse-reverse, length-reverse, get_or-reverse, get_or_append_left, get_or-append_right, get_or_push}
+use Rattle.std.proofs.lemmas.List.Elements.{All-nil, All-cons, All-append, All-head, All-tail}
 use Rattle.tree.specs.declared.kind.Kind.{Kind}
 use Rattle.paren_planner.specs.declared.costs.Costs as own
 use Rattle.paren_planner.specs.declared.packed.Numbers.{Numbers}
@@ -31,12 +31,43 @@ apart_pushed cs ds c ps qs k i h e n q =
     ∙ map_push (unpacked (cs ++ c ∷ [])) ps (record { kind = k; numbers = Apart i })
     ∙ (λ j. rows_kept cs c ps h j ++ row_with k (get_or_push cs c (same_everywhere None) i (sym n) j) ∷ [])
 
+pub pushed_order : {X : Type 0} (ts ps qs : List X) (x : X) → qs ≡ ps ++ x ∷ [] → reverse ts ++ qs ≡ (reverse ts ++ ps) ++ x ∷ []
+pushed_order ts ps qs x e = ap (λ us. reverse ts ++ us) e ∙ sym (append_assoc (reverse ts) ps (x ∷ []))
+
+pub one_more_packed : (n : ℕ) (ts ps qs : List Packed) (x : Packed) → All (IsPacked n) (reverse ts ++ ps) → qs ≡ ps ++ x ∷ [] → IsPacked n x → All (IsPacked n) (reverse ts ++ qs)
+one_more_packed n ts ps qs x h e i = subst (All (IsPacked n)) (sym (pushed_order ts ps qs x e)) (All-append (IsPacked n) (reverse ts ++ ps) (x ∷ []) h (All-cons (IsPacked n) x [] i (All-nil (IsPacked n))))
+
+in_more : (n m : ℕ) (k : Numbers) → n ≤ m → IsIn n k → IsIn m k
+in_more n m (Same s k) l h = h
+in_more n m (Apart i) l h = omega (arith, l, h)
+
+-- what is said of numbers apart holds of more of them
+pub all_in_more : (n m : ℕ) (ps : List Packed) → n ≤ m → All (IsPacked n) ps → All (IsPacked m) ps
+all_in_more n m [] l h = All-nil (IsPacked m)
+all_in_more n m (p ∷ ps) l h = All-cons (IsPacked m) p ps (in_more n m p.numbers l (All-head (IsPacked n) p ps h)) (all_in_more n m ps l (All-tail (IsPacked n) p ps h))
+
 -- The other way round
 
 pub map-turned : {X Y : Type 0} (f : X → Y) (xs : List X) → map f (reverse xs) ≡ reverse (map f xs)
 map-turned f [] = refl
 map-turned f (x ∷ xs) =
     ap (map f) (reverse-append (x ∷ []) xs) ∙ map-append f (reverse xs) (x ∷ []) ∙ ap (λ ys. ys ++ f x ∷ []) (map-turned f xs) ∙ sym (reverse-append (f x ∷ []) (map f xs))
+
+pub turned_order : {X : Type 0} (ts ps : List X) → reverse ps ++ ts ≡ reverse (reverse ts ++ ps)
+turned_order ts ps = ap (λ us. reverse ps ++ us) (sym (reverse-reverse ts)) ∙ sym (reverse-append (reverse ts) ps)
+
+pub All-turned : {X : Type 0} (P : X → Type 0) (xs : List X) → All P xs → All P (reverse xs)
+All-turned P [] h = h
+All-turned P (x ∷ xs) h =
+    subst (All P) (sym (reverse-append (x ∷ []) xs)) (All-append P (reverse xs) (x ∷ []) (All-turned P xs (All-tail P x xs h)) (All-cons P x [] (All-head P x xs h) (All-nil P)))
+
+-- A row by its index
+
+pub among_turned : {X : Type 0} (ts ps : List X) (i : ℕ) (d : X) → i < length ts → d ≡ get_or ts (length ts - 1 - i) d → d ≡ get_or (reverse ts ++ ps) i d
+among_turned ts ps i d l e = e ∙ sym (get_or-reverse ts i d l) ∙ sym (get_or_append_left (reverse ts) ps d i (omega (arith, l, length-reverse ts)))
+
+pub behind_turned : {X : Type 0} (ts ps : List X) (i : ℕ) (d : X) → length ts ≤ i → d ≡ get_or ps (i - length ts) d → d ≡ get_or (reverse ts ++ ps) i d
+behind_turned ts ps i d l e = e ∙ sym (get_or-append_right (reverse ts) ps (length ts) i d (length-reverse ts) l)
 
 -- After a refusal
 

@@ -1,5 +1,5 @@
 -- Rows in few bytes, and the rows that they stand for.
-use Rattle.std.specs.Prelude.{ℕ, ◌<◌, cond, List, Some, None, get_or}
+use Rattle.std.specs.Prelude.{ℕ, ◌<◌, cond, List, ◌++◌, reverse, Some, None, get_or}
 use Rattle.language.specs.declared.Rank.{Rank}
 use Rattle.language.specs.declared.Rank.TheVariants.{Member}
 use Rattle.language.specs.Words.{takes}
@@ -45,6 +45,10 @@ IsIn count (Apart i) = i < count
 
 abbrev pub IsPacked : ℕ → Packed → Type 0
 IsPacked count p = IsIn count p.numbers
+
+-- the first rows stand the other way round
+abbrev pub in_order : List Packed → List Packed → List Packed
+in_order turned ps = reverse turned ++ ps
 
 -- the rows of a table, in their order
 pub record RowList : Type 0 where

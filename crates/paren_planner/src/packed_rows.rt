@@ -1,37 +1,42 @@
 //! The rows of a table, packed.
 
-ghost use Rattle.std.specs.Prelude.{◌≡◌, ◌<◌, [], ◌∷◌, ◌++◌, length, reverse, slice_get, slice_index_or, OnOk, OnErr, IfSome};
+ghost use Rattle.std.specs.Prelude.{◌≡◌, ◌+◌, ◌<◌, [], ◌∷◌, ◌++◌, length, reverse, slice_get, slice_index_or, OnOk, OnErr, IfSome};
 ghost use Rattle.positions.specs.Outlines.{role_of};
 ghost use Rattle.paren_planner.specs.Costs.{eight};
-ghost use Rattle.paren_planner.specs.Packed.{shaped};
+ghost use Rattle.paren_planner.specs.Packed.{in_order, shaped};
 ghost use Rattle.paren_planner.specs.Rows.{row_with};
 ghost use Rattle.paren_planner.specs.Weighed.{cost_of};
 
 use crate::costs::Costs;
 use crate::packed::{Numbers, Packed, Shape};
 use crate::weighed::cost_at;
+use chunks::Chunks;
 use positions::Position;
 use std::alloc::{AllocError, Global};
 use std::marker::Model;
+use std::mem;
 use tree::Kind;
 
 /// Rows, of which few have numbers that don't fit a shape.
 #[derive(Drop)]
 pub struct PackedRows {
-    packed: Vec<Packed>,
+    /// The first rows, the last of them first.
+    turned: Chunks<Packed>,
+    /// Those behind them.
+    packed: Chunks<Packed>,
     /// The numbers of those rows.
     apart: Vec<Costs>,
 }
 
 impl Model for PackedRows {
     ghost use Rattle.std.specs.Prelude.{length, map, All};
-    ghost use Rattle.paren_planner.specs.Packed.{RowList, unpacked, IsPacked};
+    ghost use Rattle.paren_planner.specs.Packed.{RowList, in_order, unpacked, IsPacked};
 
     ghost Value = { RowList };
 
-    ghost view = { λ a. record { items = map (unpacked a.apart.items) a.packed.items } };
+    ghost view = { λ a. record { items = map (unpacked a.apart.items) (in_order a.turned a.packed) } };
 
-    ghost invariant = { λ a. All (IsPacked (length a.apart.items)) a.packed.items };
+    ghost invariant = { λ a. All (IsPacked (length a.apart.items)) (in_order a.turned a.packed) };
 }
 
 impl PackedRows {
@@ -40,7 +45,8 @@ impl PackedRows {
         ensures { result.items ≡ [] }
     {
         PackedRows {
-            packed: Vec::new(alloc),
+            turned: Chunks::new(alloc),
+            packed: Chunks::new(alloc),
             apart: Vec::new(alloc),
         }
     }
@@ -95,13 +101,13 @@ impl PackedRows {
     pub(crate) fn turn(&mut self)
         ensures { self.new.items ≡ reverse self.old.items }
     {
-        self.packed.reverse();
+        mem::swap(&mut self.turned, &mut self.packed);
     }
 
     pub(crate) fn len(&self) -> usize
         ensures { result ≡ length self.now.items }
     {
-        self.packed.len()
+        self.turned.len() + self.packed.len()
     }
 
     /// The kind of a row, by its index, counted from 0.
@@ -109,7 +115,7 @@ impl PackedRows {
         requires { index < length self.now.items }
         ensures { (r : _) → result ≡ (slice_index_or self.now.items index r).kind }
     {
-        self.packed[index].kind
+        packed_at(&self.turned, &self.packed, index).kind
     }
 
     /// The cells of a row, by its index.
@@ -117,7 +123,7 @@ impl PackedRows {
         requires { index < length self.now.items }
         ensures { (r : _) → result ≡ eight (slice_index_or self.now.items index r).costs }
     {
-        match self.packed[index].numbers {
+        match packed_at(&self.turned, &self.packed, index).numbers {
             Numbers::Same(shape, number) => shape.cells(number),
             Numbers::Apart(place) => self.apart[place as usize].cells(),
         }
@@ -127,12 +133,25 @@ impl PackedRows {
     pub(crate) fn cost_at(&self, index: usize, position: Position) -> Option<u32>
         ensures { IfSome (slice_get self.now.items index) (λ r. result ≡ cost_of r.costs (role_of position)) }
     {
-        let Some(row) = self.packed.get(index) else {
+        if index >= self.len() {
             return None;
-        };
-        match row.numbers {
+        }
+        match packed_at(&self.turned, &self.packed, index).numbers {
             Numbers::Same(shape, number) => shape.cost_at(number, position),
             Numbers::Apart(place) => cost_at(&self.apart[place as usize], position),
         }
     }
+}
+
+/// A packed row, by its index, counted from 0.
+#[inline(always)]
+fn packed_at<'a>(turned: &'a Chunks<Packed>, packed: &'a Chunks<Packed>, index: usize) -> &'a Packed
+    requires { index < length turned.now + length packed.now }
+    ensures { result.now ≡ slice_index_or (in_order turned.now packed.now) index result.now }
+{
+    let first = turned.len();
+    if index < first {
+        return turned.at(first - 1 - index);
+    }
+    packed.at(index - first)
 }

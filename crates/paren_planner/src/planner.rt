@@ -15,6 +15,7 @@ use crate::table::CostTable;
 use crate::visits::visit_node;
 use crate::weighing::weigh_steps;
 use crate::wraps::wrap_steps;
+use chunks::Chunks;
 use positions::{Position, Slot};
 use std::alloc::{AllocError, Global};
 use tree::Program;
@@ -23,7 +24,7 @@ use tree::Program;
 #[derive(Drop)]
 struct Weights {
     /// The steps of a walk over it.
-    steps: Vec<Step>,
+    steps: Chunks<Step>,
     /// A row for each node that has one.
     table: CostTable,
     /// The number of pairs of the whole, where some number spells it.
@@ -33,9 +34,9 @@ struct Weights {
 fn weigh(alloc: Global, program: &Program) -> Result<Weights, AllocError>
     ensures rows { IfOk result (λ w. w.table.rows.items ≡ table_rows program.now script) }
     ensures total { IfOk result (λ w. w.total ≡ capped (least program.now script)) }
-    ensures steps { IfOk result (λ w. Steps script (fixed script) program.now w.steps.items) }
+    ensures steps { IfOk result (λ w. Steps script (fixed script) program.now w.steps) }
 {
-    let mut steps = Vec::with_capacity(alloc, program.node_count().saturating_mul(2))?;
+    let mut steps = Chunks::new(alloc);
     let above = Position::Script;
     let slot = Slot::Fixed(above);
     visit_node(program.root(), &above, &slot, false, &mut steps)?;
@@ -57,7 +58,7 @@ fn planned(
     total: u32,
 ) -> Result<Plan, AllocError>
     requires rows { weights.table.rows.items ≡ table_rows program.now script }
-    requires steps { Steps script (fixed script) program.now weights.steps.items }
+    requires steps { Steps script (fixed script) program.now weights.steps }
     requires few { rows program.now script ≤ 16777216 }
     requires total { Some total ≡ least program.now script }
     ensures { IfOk result (IsPlan program.now) }

@@ -18,6 +18,7 @@ ghost use Rattle.paren_planner.specs.Weighed.{settled_at};
 
 use crate::steps::{Label, Step, Visit, has_row};
 use crate::weighed::widest;
+use chunks::Chunks;
 use grammar::position_takes;
 use language::{Rank, Start};
 use positions::{
@@ -35,10 +36,10 @@ pub(crate) fn visit_node(
     above: &Position,
     slot: &Slot,
     in_chain: bool,
-    steps: &mut Vec<Step>,
+    steps: &mut Chunks<Step>,
 ) -> Result<(), AllocError>
     requires { in_chain ≡ true → chained (node_tree node) ≡ true }
-    ensures { OnOk result (Noted (role_of above.now) (slot_of slot.now) (node_tree node.entry) steps.old.items steps.new.items) }
+    ensures { OnOk result (Noted (role_of above.now) (slot_of slot.now) (node_tree node.entry) steps.old steps.new) }
 {
     if may_be_leaf(node.kind()) {
         return visit_word(node, above, slot, in_chain, steps);
@@ -54,10 +55,10 @@ fn visit_word(
     above: &Position,
     slot: &Slot,
     in_chain: bool,
-    steps: &mut Vec<Step>,
+    steps: &mut Chunks<Step>,
 ) -> Result<(), AllocError>
     requires { in_chain ≡ true → chained (node_tree node) ≡ true }
-    ensures { OnOk result (Noted (role_of above.now) (slot_of slot.now) (node_tree node.entry) steps.old.items steps.new.items) }
+    ensures { OnOk result (Noted (role_of above.now) (slot_of slot.now) (node_tree node.entry) steps.old steps.new) }
 {
     if !is_leaf(node, widest_of(slot)) {
         return visit_at(node, above, slot, in_chain, steps);
@@ -80,10 +81,10 @@ fn visit_at(
     above: &Position,
     slot: &Slot,
     in_chain: bool,
-    steps: &mut Vec<Step>,
+    steps: &mut Chunks<Step>,
 ) -> Result<(), AllocError>
     requires { in_chain ≡ true → chained (node_tree node) ≡ true }
-    ensures { OnOk result (Noted (role_of above.now) (slot_of slot.now) (node_tree node.entry) steps.old.items steps.new.items) }
+    ensures { OnOk result (Noted (role_of above.now) (slot_of slot.now) (node_tree node.entry) steps.old steps.new) }
 {
     let own = widest_of(slot);
     let kind = node.kind();
@@ -122,10 +123,10 @@ fn visit_parts(
     node: Node,
     own: &Position,
     production: &Production,
-    steps: &mut Vec<Step>,
+    steps: &mut Chunks<Step>,
 ) -> Result<(), AllocError>
     requires { (spelled_by node own.now production.now).holds_chain ≡ true → first_chained (parts_of (node_tree node)) ≡ true }
-    ensures { OnOk result (PartsNoted (role_of own.now) (left (spelled_by node.entry own.now production.now).slots) (parts_of (node_tree node.entry)) steps.old.items steps.new.items) }
+    ensures { OnOk result (PartsNoted (role_of own.now) (left (spelled_by node.entry own.now production.now).slots) (parts_of (node_tree node.entry)) steps.old steps.new) }
 {
     let is_chain = holds_chain(*own, node.kind(), *production);
     let parts = node.parts();

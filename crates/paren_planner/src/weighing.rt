@@ -14,22 +14,23 @@ use crate::pending::Pending;
 use crate::steps::{Step, Visit};
 use crate::table::CostTable;
 use crate::weighed::{Weighed, fitting};
+use chunks::Chunks;
 use language::Rank;
 use std::alloc::{AllocError, Global};
 
 /// Sets the rows of a script by its steps, and adds up what it costs in all.
 pub(crate) fn weigh_steps(
     alloc: Global,
-    steps: &Vec<Step>,
+    steps: &Chunks<Step>,
     table: &mut CostTable,
 ) -> Result<Costs, AllocError>
     requires { table.old.rows.items ≡ [] }
-    ensures sums { IfOk result (λ c. c ≡ (taken_from steps.now.items at_the_end).here) }
-    ensures rows { OnOk result (table.new.rows.items ≡ (taken_from steps.now.items at_the_end).rows) }
+    ensures sums { IfOk result (λ c. c ≡ (taken_from steps.now at_the_end).here) }
+    ensures rows { OnOk result (table.new.rows.items ≡ (taken_from steps.now at_the_end).rows) }
 {
     let mut pending = Pending::new(alloc);
     for index in (0..steps.len()).rev() {
-        take_back(&steps[index], &mut pending, table)?;
+        take_back(steps.at(index), &mut pending, table)?;
     }
     table.turn();
     Ok(pending.sums())

@@ -9,6 +9,7 @@ ghost use Rattle.paren_planner.specs.Marked.{round, shown_marks, marked, marked_
 use crate::amount::{exceeds, is_zero, sum};
 use crate::steps::{Label, Step, Visit};
 use crate::table::CostTable;
+use chunks::Chunks;
 use language::{Rank, Start};
 use positions::{Position, settled};
 use std::alloc::{AllocError, Global};
@@ -24,12 +25,12 @@ struct Around {
 /// Says of each row of a script whether its node is wrapped.
 pub(crate) fn wrap_steps(
     alloc: Global,
-    steps: &Vec<Step>,
+    steps: &Chunks<Step>,
     table: &CostTable,
     wrapped: &mut Vec<bool>,
 ) -> Result<(), AllocError>
     requires { wrapped.old.items ≡ [] }
-    ensures { OnOk result (wrapped.new.items ≡ (marked_through table.now.rows.items steps.now.items at_the_start).flags) }
+    ensures { OnOk result (wrapped.new.items ≡ (marked_through table.now.rows.items steps.now at_the_start).flags) }
 {
     let mut outer = Vec::new(alloc);
     let mut around = Around {
@@ -37,7 +38,7 @@ pub(crate) fn wrap_steps(
         lives: true,
     };
     for index in 0..steps.len() {
-        take_step(&steps[index], table, &mut around, &mut outer, wrapped)?;
+        take_step(steps.at(index), table, &mut around, &mut outer, wrapped)?;
     }
     Ok(())
 }

@@ -19,7 +19,7 @@ visit_parts-loop-index-init t c =
     let ps = list_parts c.parts-parts.result in
     let x = left (spelled_by c.args.node c.args.own.now c.args.production.now).slots in
     let e : left_by c.new-slots.result ps ≡ x = (λ i. left_by (c.new-slots.ensures i) (c.parts-parts.ensures i)) in
-    subst (λ ss. Begun (role_of c.args.own.now) x ss ps ps c.args.steps.now.items c.args.steps.now.items) (sym e) (begun_first (role_of c.args.own.now) x ps c.args.steps.now.items)
+    subst (λ ss. Begun (role_of c.args.own.now) x ss ps ps c.args.steps.now c.args.steps.now) (sym e) (begun_first (role_of c.args.own.now) x ps c.args.steps.now)
 
 pub visit_parts-loop-index-preserved-in_default : goal.visit_parts-loop-index-preserved-in_default
 visit_parts-loop-index-preserved-in_default t c =
@@ -30,14 +30,14 @@ visit_parts-loop-index-preserved-in_default t c =
 pub visit_parts-returns-in_default-take : goal.visit_parts-returns-in_default-take
 visit_parts-returns-in_default-take t c =
     let ps = list_parts c.parts-parts.result in
-    subst (λ qs. PartsNoted (role_of c.args.own.now) (left (spelled_by c.args.node c.args.own.now c.args.production.now).slots) qs c.args.steps.now.items c.push.new.self.items) c.parts-parts.ensures
+    subst (λ qs. PartsNoted (role_of c.args.own.now) (left (spelled_by c.args.node c.args.own.now c.args.production.now).slots) qs c.args.steps.now c.push.new.self) c.parts-parts.ensures
     (begun_stop _ _ (left_by c.loop-index.slots ps) _ _ _ (node_tree c.in-Some.part) _ _ _ c.loop-index.invariant
-    (parts_drop-some ps c.loop-index.index (node_tree c.in-Some.part) c.in-Some.ensures) c.in_default-take.ensures (c.in_ok-push.ensures.items ∙ ap (λ x. c.loop-index.steps.items ++ x ∷ []) c.unplaced.ensures))
+    (parts_drop-some ps c.loop-index.index (node_tree c.in-Some.part) c.in-Some.ensures) c.in_default-take.ensures (c.in_ok-push.ensures.items ∙ ap (λ x. c.loop-index.steps ++ x ∷ []) c.unplaced.ensures))
 
 pub visit_parts-returns : goal.visit_parts-returns
 visit_parts-returns t c =
     let ps = list_parts c.parts-parts.result in
-    subst (λ qs. PartsNoted (role_of c.args.own.now) (left (spelled_by c.args.node c.args.own.now c.args.production.now).slots) qs c.args.steps.now.items c.loop-index.steps.items) c.parts-parts.ensures
+    subst (λ qs. PartsNoted (role_of c.args.own.now) (left (spelled_by c.args.node c.args.own.now c.args.production.now).slots) qs c.args.steps.now c.loop-index.steps) c.parts-parts.ensures
     (begun_finish _ _ _ _ _ _ _ c.loop-index.invariant (parts_drop-past ps c.loop-index.index (omega (arith, c.len-index-end.ensures, c.loop-index-test.false))))
 
 pub visit_parts-visit_node-requires : goal.visit_parts-visit_node-requires
@@ -57,32 +57,32 @@ visit_parts-loop-index-preserved t c =
 
 pub visit_word-returns : goal.visit_word-returns
 visit_word-returns t c =
-    noted_word (role_of c.args.above.now) (role_of c.widest_of.result) (slot_of c.args.slot.now) (node_tree c.args.node) (spelled_by c.args.node c.widest_of.result by.Leaf) c.kind.result c.args.steps.now.items c.push.new.self.items
+    noted_word (role_of c.args.above.now) (role_of c.widest_of.result) (slot_of c.args.slot.now) (node_tree c.args.node) (spelled_by c.args.node c.widest_of.result by.Leaf) c.kind.result c.args.steps.now c.push.new.self
     (c.widest_of.ensures (role_of c.args.above.now)) (c.is_leaf.ensures.spelled c.if-not-is_leaf.false) refl (c.is_leaf.ensures.parts c.if-not-is_leaf.false) (sym c.has_row.ensures ∙ c.if-not-has_row.false) (sym c.takes_word.ensures ∙ c.if-not-takes_word.false) c.kind.ensures c.in_ok-push.ensures.items
 
 pub visit_at-returns-in_default : goal.visit_at-returns-in_default
 visit_at-returns-in_default t c =
-    noted_unspelled (role_of c.args.above.now) (role_of c.widest_of-own.result) (slot_of c.args.slot.now) (node_tree c.args.node) (record { kind = c.kind-kind.result; above = c.args.above.now; slot = c.args.slot.now; label = None }) c.args.steps.now.items c.push.new.self.items
+    noted_unspelled (role_of c.args.above.now) (role_of c.widest_of-own.result) (slot_of c.args.slot.now) (node_tree c.args.node) (record { kind = c.kind-kind.result; above = c.args.above.now; slot = c.args.slot.now; label = None }) c.args.steps.now c.push.new.self
     (record { kind = c.kind-kind.ensures; above = refl; slot = refl }) refl (c.widest_of-own.ensures (role_of c.args.above.now)) c.in_default.ensures.ways c.in_ok-push.ensures.items
 
 pub visit_at-returns-then-part_count-eq0 : goal.visit_at-returns-then-part_count-eq0
 visit_at-returns-then-part_count-eq0 t c =
-    noted_alone (role_of c.args.above.now) (role_of c.widest_of-own.result) (slot_of c.args.slot.now) (node_tree c.args.node) (record { kind = c.kind-kind.result; above = c.args.above.now; slot = c.args.slot.now; label = Some c.of.result }) (spelled_by c.args.node c.widest_of-own.result c.in-Some.production) c.args.steps.now.items c.push-then-part_count-eq0.new.self.items
+    noted_alone (role_of c.args.above.now) (role_of c.widest_of-own.result) (slot_of c.args.slot.now) (node_tree c.args.node) (record { kind = c.kind-kind.result; above = c.args.above.now; slot = c.args.slot.now; label = Some c.of.result }) (spelled_by c.args.node c.widest_of-own.result c.in-Some.production) c.args.steps.now c.push-then-part_count-eq0.new.self
     (record { kind = c.kind-kind.ensures; above = refl; slot = refl }) (ap (λ l. Some l) c.of.ensures) (c.widest_of-own.ensures (role_of c.args.above.now)) c.in-Some.ensures.ways (sym c.part_count.ensures ∙ c.if-part_count-eq0.true) c.in_ok-push-2.ensures.items
 
 pub visit_at-returns : goal.visit_at-returns
 visit_at-returns t c =
-    noted_around (role_of c.args.above.now) (role_of c.widest_of-own.result) (slot_of c.args.slot.now) (node_tree c.args.node) (record { kind = c.kind-kind.result; above = c.args.above.now; slot = c.args.slot.now; label = Some c.of.result }) (spelled_by c.args.node c.widest_of-own.result c.in-Some.production) c.args.steps.now.items c.push-2.new.self.items c.visit_parts-2.new.steps.items c.push-3.new.self.items
+    noted_around (role_of c.args.above.now) (role_of c.widest_of-own.result) (slot_of c.args.slot.now) (node_tree c.args.node) (record { kind = c.kind-kind.result; above = c.args.above.now; slot = c.args.slot.now; label = Some c.of.result }) (spelled_by c.args.node c.widest_of-own.result c.in-Some.production) c.args.steps.now c.push-2.new.self c.visit_parts-2.new.steps c.push-3.new.self
     (record { kind = c.kind-kind.ensures; above = refl; slot = refl }) (ap (λ l. Some l) c.of.ensures) (c.widest_of-own.ensures (role_of c.args.above.now)) c.in-Some.ensures.ways c.in_ok-push-3.ensures.items c.in_ok-visit_parts.ensures c.in_ok-push-4.ensures.items
 
 pub visit_word-returns-then-not-has_row : goal.visit_word-returns-then-not-has_row
 visit_word-returns-then-not-has_row t c =
-    noted_hidden (role_of c.args.above.now) (role_of c.widest_of.result) (slot_of c.args.slot.now) (node_tree c.args.node) (spelled_by c.args.node c.widest_of.result by.Leaf) c.args.steps.now.items
+    noted_hidden (role_of c.args.above.now) (role_of c.widest_of.result) (slot_of c.args.slot.now) (node_tree c.args.node) (spelled_by c.args.node c.widest_of.result by.Leaf) c.args.steps.now
     (c.widest_of.ensures (role_of c.args.above.now)) (c.is_leaf.ensures.spelled c.if-not-is_leaf.false) refl (c.is_leaf.ensures.parts c.if-not-is_leaf.false) (sym c.has_row.ensures ∙ c.if-not-has_row.true)
 
 pub visit_at-returns-then-has_fixed_slots : goal.visit_at-returns-then-has_fixed_slots
 visit_at-returns-then-has_fixed_slots t c =
     let n = node_tree c.args.node in
     let x = outline_of c.in-Some.production in
-    noted_through c.visit_parts.result (role_of c.args.above.now) (role_of c.widest_of-own.result) (slot_of c.args.slot.now) n (spelled_by c.args.node c.widest_of-own.result c.in-Some.production) c.args.steps.now.items c.visit_parts.new.steps.items
+    noted_through c.visit_parts.result (role_of c.args.above.now) (role_of c.widest_of-own.result) (slot_of c.args.slot.now) n (spelled_by c.args.node c.widest_of-own.result c.in-Some.production) c.args.steps.now c.visit_parts.new.steps
     (c.widest_of-own.ensures (role_of c.args.above.now)) c.in-Some.ensures.ways (sym c.is_settled.ensures ∙ c.if-is_settled.true) (outline_fixed x (parts_behind x.from (parts_of n)) (c.has_fixed_slots.ensures c.if-has_fixed_slots.true)) c.visit_parts.ensures

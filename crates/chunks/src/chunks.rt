@@ -1,0 +1,111 @@
+//! A list in chunks.
+
+ghost use Rattle.std.specs.Prelude.{◌≡◌, ◌≤◌, OnOk, OnErr};
+ghost use Rattle.chunks.specs.Chunks.{HasBegun, most_items, most_in_all};
+
+use std::alloc::{AllocError, Global};
+use std::marker::Model;
+
+/// How many items a chunk has room for. A chunk is small: it fits where other memory was let go.
+const CHUNK: usize = 1024;
+
+/// How many items there may be where one more chunk is begun.
+const MOST: usize = 9_223_372_036_854_774_783;
+
+/// Some items, one behind the other.
+#[derive(Drop)]
+struct Chunk<T> {
+    items: Vec<T>,
+}
+
+/// A list that is kept in chunks of one size, which contracts see as one list. It grows without moving what it holds.
+#[derive(Drop)]
+pub struct Chunks<T> {
+    chunks: Vec<Chunk<T>>,
+    count: usize,
+    alloc: Global,
+}
+
+impl<T> Model for Chunks<T> {
+    ghost use Rattle.std.specs.Prelude.{◌≡◌, ◌*◌, ◌≤◌, List, length};
+    ghost use Rattle.chunks.specs.Chunks.{joined, chunk_size, AllButTheLastAreFull, HaveRoom, most_in_all};
+
+    ghost Value = { List T };
+
+    ghost view = { λ ns. joined ns.chunks.items };
+
+    ghost invariant = { λ ns. AllButTheLastAreFull ns.chunks.items × (HaveRoom ns.chunks.items × ((ns.count ≡ length (joined ns.chunks.items)) × (length ns.chunks.items * chunk_size ≤ most_in_all))) };
+}
+
+impl<T: Drop> Chunks<T> {
+    ghost use Rattle.std.specs.Prelude.{◌≡◌, ◌<◌, ◌∷◌, ◌++◌, [], length, slice_index_or, OnOk, OnErr};
+
+    /// No items; no memory.
+    pub fn new(alloc: Global) -> Chunks<T>
+        ensures { result ≡ [] }
+    {
+        Chunks {
+            chunks: Vec::new(alloc),
+            count: 0,
+            alloc,
+        }
+    }
+
+    #[inline(always)]
+    pub fn len(&self) -> usize
+        ensures value { result ≡ length self.now }
+        ensures few { result ≤ most_in_all }
+    {
+        self.count
+    }
+
+    /// The item with an index, counted from 0.
+    #[inline(always)]
+    pub fn at(&self, index: usize) -> &T
+        requires { index < length self.now }
+        ensures { result.now ≡ slice_index_or self.now index result.now }
+    {
+        let chunk = &self.chunks[index / CHUNK];
+        &chunk.items[index % CHUNK]
+    }
+
+    /// One more item behind the others; as it was where memory is refused.
+    ///
+    /// # Errors
+    ///
+    /// `AllocError` where memory is refused.
+    #[inline(always)]
+    pub fn push(&mut self, item: T) -> Result<(), AllocError>
+        ensures items { OnOk result (self.new ≡ self.old ++ item ∷ []) }
+        ensures kept { OnErr result (self.new ≡ self.old) }
+    {
+        let place = self.count / CHUNK;
+        if self.chunks.len() <= place {
+            begin_chunk(&mut self.chunks, self.count, self.alloc)?;
+        }
+        let chunk = &mut self.chunks[place];
+        chunk.items.push_reserved(item);
+        self.count += 1;
+        Ok(())
+    }
+}
+
+/// An empty chunk behind the others, with room for all its items. `count`: how many there are.
+#[cold]
+#[inline(never)]
+fn begin_chunk<T: Drop>(
+    chunks: &mut Vec<Chunk<T>>,
+    count: usize,
+    alloc: Global,
+) -> Result<(), AllocError>
+    ensures begun { OnOk result (HasBegun chunks.old.items chunks.new.items) }
+    ensures few { OnOk result (count ≤ most_items) }
+    ensures kept { OnErr result (chunks.new.items ≡ chunks.old.items) }
+{
+    if count > MOST {
+        return Err(AllocError);
+    }
+    let items = Vec::with_capacity(alloc, CHUNK)?;
+    chunks.push(Chunk { items })?;
+    Ok(())
+}

@@ -1,0 +1,7 @@
+#![tactic(auto)]
+
+//! Lists that are kept in chunks of one size.
+
+mod chunks;
+
+pub use chunks::Chunks;
