@@ -51,6 +51,7 @@ impl<T: Drop> Chunks<T> {
         }
     }
 
+    /// How many items it has.
     #[inline(always)]
     pub fn len(&self) -> usize
         ensures value { result ≡ length self.now }
