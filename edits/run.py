@@ -27,6 +27,8 @@ import tempfile
 HERE = os.path.dirname(os.path.abspath(__file__))
 ROOT = os.path.dirname(HERE)
 ONE_JOB = ['--jobs', '1']
+# What a try of one edit comes to where the prover refuses it: a word, and in older kits whether it does.
+REFUSED = ('refused', 'limit', True)
 
 # What a proof file says where the edit took a name away: that says little of the contract.
 MISSING = re.compile(r'has no field|is not in scope|has no `|was not admitted')
@@ -216,8 +218,8 @@ def tried(crate, words, kept):
         alone += [] if done else group
         left = [it for it in left if it not in (done or group)]
     for edit in alone:
-        well, said = RT.must_fail(crate, edit.file, ONE_JOB, kept)
-        yield edit.name, well and 'only because a proof file' not in said and 'BAD EDIT' not in said, said.partition(': ')[2]
+        came_to, said = RT.must_fail(crate, edit.file, ONE_JOB, kept)
+        yield edit.name, came_to in REFUSED and 'only because a proof file' not in said, said.partition(': ')[2]
 
 
 def tried_crate(crate, words, is_built):

@@ -1,6 +1,8 @@
-"""Proves and builds the program, for the launcher at the top, which calls it where bin/jslint is missing or older than a source.
+"""Proves and builds the program, for the launcher at the top, which calls it where the sources are not those of the program in release/.
 
     build.py                  makes bin/jslint
+    build.py --since WHY      the same, and says this reason where anything is to be proved
+    build.py --rebuild        proves and builds the program from nothing, in a folder of its own, and compares it with the release, byte for byte
     build.py --try WORD ..    runs the program of these words unproved
     build.py --stamp          prints the sum of what the program is made of
     build.py --take STAMP     makes bin/jslint of the program that `rt ci` proved and built here just now, if the sum is still this
@@ -18,6 +20,7 @@ import fcntl
 import importlib.machinery
 import importlib.util
 import os
+import re
 import shutil
 import signal
 import subprocess
@@ -30,6 +33,8 @@ TOP = os.path.dirname(os.path.dirname(os.path.realpath(__file__)))
 BIN = f'{TOP}/bin'
 PROGRAM = f'{BIN}/jslint'
 STAMP = f'{PROGRAM}.stamp'
+RELEASE = f'{TOP}/release/x86_64-linux/jslint'
+MADE = f'{TOP}/release/MADE'
 # What the work of all crates takes on the disk, in GB.
 DISK = 3
 # A second processor for one crate adds this much of the first.
@@ -56,13 +61,10 @@ def load():
     global RT
     found = shutil.which('rt')
     if not found:
-        raise Refused('not built, since the command `rt` of the toolchain that proves and builds it is not found')
+        raise Refused('not built, since the command `rt` of the toolchain that proves and builds the program is not found')
     loader = importlib.machinery.SourceFileLoader('rt', os.path.realpath(found))
     RT = importlib.util.module_from_spec(importlib.util.spec_from_loader('rt', loader))
     loader.exec_module(RT)
-    # (a kit that has no such call shares no work between copies)
-    if hasattr(RT, 'share_work'):
-        RT.share_work(True)
 
 
 def text_of(path):
@@ -149,13 +151,13 @@ def alone():
         yield
 
 
-def hold_room(left, cost):
-    """Refuses where memory or the disk has no room for what is left."""
+def hold_room(left, cost, place):
+    """Refuses where memory or the disk at that place has no room for what is left."""
     largest = max(left, key=lambda it: cost[it].memory)
     free = RT.free()
     if free < 0.8 * cost[largest].memory:
         raise Refused(f'not built, since the proof of {largest} takes some {cost[largest].memory / 1e9:.1f} GB of memory and {free / 1e9:.1f} are free')
-    for place in (TOP, tempfile.gettempdir()):
+    for place in (place, tempfile.gettempdir()):
         free = shutil.disk_usage(place).free / 1e9
         if free < DISK:
             raise Refused(f'not built, since the proofs take some {DISK} GB of disk and {free:.1f} are free in {place}')
@@ -230,12 +232,13 @@ def build_libraries(crates, left, order, tell):
                 tell(it.name, time.time() - it.begun)
 
 
-def build_program(program, tell):
-    """Proves, compiles and links the program over its libraries."""
+def build_program(program, tell, is_shared):
+    """Proves, compiles and links the program over its libraries; where work is shared, it begins with what earlier checks kept."""
     begun = time.time()
+    words = ['rt', 'run', '--', '--help'] if is_shared else [sys.executable, os.path.realpath(__file__), '--run', program.folder]
     with tempfile.TemporaryFile('w+', errors='replace') as log:
         how = {'cwd': program.folder, 'stdin': subprocess.DEVNULL, 'stdout': log, 'stderr': log}
-        ran = subprocess.Popen([*RT.rtlib.guarded(), 'rt', 'run', '--', '--help'], **how)
+        ran = subprocess.Popen([*RT.rtlib.guarded(), *words], **how)
         status = Status()
         while ran.poll() is None:
             status.draw([Run(program.name, 0, 1, begun)])
@@ -252,36 +255,38 @@ def is_of(program, stamp):
     return text_of(f'{found}.stamp') == stamp + RT.rtlib.sum_of(found)
 
 
-def install(program, stamp, begun):
-    """Gives bin/jslint the program by one rename. It is as old as the first look at its sources, so that what changed since is newer."""
+def is_program_of(stamp):
+    """Whether bin/jslint is the program that was proved and built of the sources with that sum."""
+    return os.access(PROGRAM, os.X_OK) and text_of(STAMP) == stamp + RT.rtlib.sum_of(PROGRAM)
+
+
+def install(program, stamp):
+    """Gives bin/jslint the program by one rename."""
     new = f'{PROGRAM}.new-{os.getpid()}'
     shutil.copyfile(f'{program.folder}/out/{program.name}', new)
     os.chmod(new, 0o755)
-    os.utime(new, (begun, begun))
     with contextlib.suppress(FileNotFoundError):
         os.remove(STAMP)
     os.rename(new, PROGRAM)
     with open(f'{STAMP}.new', 'w', encoding='utf-8') as file:
-        file.write(stamp)
+        file.write(stamp + RT.rtlib.sum_of(PROGRAM))
     os.rename(f'{STAMP}.new', STAMP)
 
 
-def crates_of_program():
+def crates_of_program(top=TOP):
     """The crates that the program stands on, each after those below it, and the program's own, the last."""
-    found = RT.rtlib.crates_below(f'{TOP}/crates/jslint')
+    found = RT.rtlib.crates_below(f'{top}/crates/jslint')
     # (as `rt run` does: its sum of a program has the files args and status)
     RT.read_files(found[-1])
     return [it for it in found if not it.is_program], found[-1]
 
 
-def build():
-    begun = time.time()
-    libraries, program = crates_of_program()
+def prove(libraries, program, why, is_shared):
+    """Proves what isn't yet of these crates, and builds the program. Answers the sum of what it was made of. is_shared: it takes what checks in
+    other copies of the repository kept (a kit that has no such call shares nothing)."""
+    if is_shared and hasattr(RT, 'share_work'):
+        RT.share_work(True)
     stamp = program.stamp()
-    if os.access(PROGRAM, os.X_OK) and text_of(STAMP) == stamp:
-        # (a source has a new date and its old text)
-        os.utime(PROGRAM, (begun, begun))
-        return
     RT.rtlib.guarded()
     held = RT.rtlib.lock([*libraries, program])
     standing = [it.name for it in libraries if it.is_built()]
@@ -290,7 +295,9 @@ def build():
     below = {it.name: [b.name for b in it.below() if b.name in left] for it in [*libraries, program] if it.name in left}
     order = Order(below, cost, lanes)
     if left:
-        hold_room(left, cost)
+        hold_room(left, cost, program.folder)
+        if why:
+            say(why)
         proved = f', {len(standing)} of them proved already' if standing else ''
         say(f'the program is proved before it is built: {number} crates{proved}, about {minutes(order.seconds())} on {lanes} processor{"s" * (lanes > 1)}, '
             'less where earlier checks are kept; what is proved stays so if this is interrupted')
@@ -304,14 +311,88 @@ def build():
     for it in held:
         os.close(it)
     if left:
-        build_program(program, tell)
+        build_program(program, tell, is_shared)
     if not is_of(program, program.stamp()) or program.stamp() != stamp:
         raise Refused('not built, since a source changed while it was proved: start it again')
-    install(program, stamp, begun)
+    return stamp
+
+
+def build(why=None):
+    libraries, program = crates_of_program()
+    # (where a source has a new date and its old text, the program stands)
+    if not is_program_of(program.stamp()):
+        install(program, prove(libraries, program, why, True))
+
+
+def said_of_release():
+    """What release/MADE says, by name."""
+    return dict(line.split(' ', 1) for line in (text_of(MADE) or '').splitlines() if ' ' in line)
+
+
+def sum_of_sources(top, crates, command='sha256sum'):
+    """One sum of all that the program is made of (tools/made-of)."""
+    words = ['sh', '-c', '. "$0/tools/made-of"; made_of "$@"', TOP, command, top, *crates]
+    return subprocess.run(words, stdout=subprocess.PIPE, text=True, check=True).stdout.strip()
+
+
+def kit():
+    """The toolchain's one-line identity."""
+    return subprocess.run(['rt', 'version'], stdout=subprocess.PIPE, text=True, check=True).stdout.strip()
+
+
+def differences(one, other):
+    """In what two files of programs differ, in words, or nothing if they are the same."""
+    with open(one, 'rb') as first, open(other, 'rb') as second:
+        first, second = first.read(), second.read()
+    if first == second:
+        return ''
+    at = [it for it, (a, b) in enumerate(zip(first, second)) if a != b]
+    more = f'{len(at)} bytes differ, the first of them byte {at[0]}' if at else 'one is a beginning of the other'
+    return f'{len(first)} and {len(second)} bytes; {more}'
+
+
+def copy_sources(libraries, program, top):
+    """Copies the sources of the program to a folder, with nothing that earlier checks left."""
+    names = [it.name for it in [*libraries, program]]
+    os.makedirs(f'{top}/.git')
+    with open(f'{top}/crates.txt', 'w', encoding='utf-8') as file:
+        # (each crate of that list has to stand there)
+        file.writelines(it for it in text_of(f'{TOP}/crates.txt').splitlines(True) if re.split('[ :]', it)[0] in names)
+    for it in [*libraries, program]:
+        for part in RT.rtlib.PARTS:
+            if os.path.isdir(f'{it.folder}/{part}'):
+                shutil.copytree(f'{it.folder}/{part}', f'{top}/crates/{it.name}/{part}', symlinks=True)
+
+
+def rebuild():
+    """Proves and builds the program from nothing, and compares it with the release. Answers 1 if they aren't the same."""
+    if not os.path.isfile(RELEASE):
+        raise Refused(f'there is no {os.path.relpath(RELEASE, TOP)} to compare with')
+    with tempfile.TemporaryDirectory(prefix='jslint-rebuild-') as top:
+        ENDING.append(top)
+        copy_sources(*crates_of_program(), top)
+        libraries, program = crates_of_program(top)
+        prove(libraries, program, f'proved and built from nothing, in {top}', False)
+        found, names, said = f'{program.folder}/out/{program.name}', [it.name for it in [*libraries, program]], said_of_release()
+        differs, sums = differences(found, RELEASE), {it: RT.rtlib.sum_of(path) for it, path in [('rebuilt', found), ('release', RELEASE)]}
+        sources = sum_of_sources(top, names)
+    print('the same program' if not differs else f'another program than {os.path.relpath(RELEASE, TOP)}: {differs}')
+    print(f'program {sums["rebuilt"]}, just built by {kit()}')
+    for name, value in [('program', sums['release']), ('sources', sources), ('kit', kit())]:
+        if said.get(name) != value:
+            print(f'release/MADE says {name} {said.get(name)}, and it is {value}')
+            differs = differs or name != 'kit'
+    return int(bool(differs))
+
+
+# Folders that go when an interrupt ends this.
+ENDING = []
 
 
 def end_at_signal(number, _):
     Status().clear()
+    for it in ENDING:
+        shutil.rmtree(it, ignore_errors=True)
     say('not built, since it was interrupted; the crates that are proved stay so')
     # (the checks end with this process)
     os._exit(128 + number)
@@ -332,15 +413,20 @@ def try_unproved(words):
 
 def take(stamp):
     """Gives bin/jslint the program that `rt ci` left, if its sources are still those with the sum."""
-    begun = time.time()
     program = crates_of_program()[1]
     if program.stamp() == stamp and os.path.isfile(f'{program.folder}/out/{program.name}'):
         with alone():
-            install(program, stamp, begun)
+            install(program, stamp)
 
 
 def main(words):
-    load()
+    why = f'{words[1]}, so the program is proved and built here' if words[:1] == ['--since'] else None
+    try:
+        load()
+    except Refused:
+        if why:
+            say(why)
+        raise
     if words[:1] == ['--try']:
         return try_unproved(words[1:])
     if words == ['--stamp']:
@@ -349,10 +435,17 @@ def main(words):
     if words[:1] == ['--take']:
         take(words[1])
         return 0
+    if words[:1] == ['--run']:
+        # (a step of --rebuild)
+        program = crates_of_program(os.path.dirname(os.path.dirname(words[1])))[1]
+        program.held = []
+        return program.run([], ['--help'])
     for it in (signal.SIGINT, signal.SIGTERM, signal.SIGHUP):
         signal.signal(it, end_at_signal)
+    if words == ['--rebuild']:
+        return rebuild()
     with alone():
-        build()
+        build(why)
     return 0
 
 

@@ -4,7 +4,7 @@
 const fs = require('node:fs');
 const os = require('node:os');
 const path = require('node:path');
-const { spawnSync } = require('node:child_process');
+const { execFileSync, spawnSync } = require('node:child_process');
 const CRATES = path.join(__dirname, '..', 'crates');
 
 // The word behind --name on the command line.
@@ -15,6 +15,33 @@ function option(name, otherwise) {
 
 // A script's text in pieces of about a token.
 const pieces = (text) => text.match(/\s+|[$\w]+|'[^']*'|"[^"]*"|=>|\*\*|\+\+|--|\?\.|\?\?|\|\||&&|\.\.\.|\$\{|[^]/g) ?? [];
+
+// Numbers with separators, right ones and wrong ones.
+const NUMBERS = ['1_0', '1_000.5_0', '0x1_F', '0b1_0', '0o7_7', '.1_2e1_0', '1_0n'];
+const NO_NUMBERS = ['1__0', '1_', '0_1', '1_.5', '1_e1', '0x_1'];
+const LOGICAL = ['&&=', '||=', '??='];
+const BEFORE_OPERAND = /^([=+*/%<>!~?&|(]|\*\*|&&|\|\||\?\?|=>|return|typeof|throw|\.\.\.)$/;
+const BEHIND_OPERAND = /^([;)\]},+*/%<>?&|]|\*\*|&&|\|\||\?\?|)$/;
+
+// The text with what the 12th edition adds: logical assignments in place of others, and numbers with separators. In three texts of four only
+// where they have a chance to stand; in the fourth anywhere, and numbers that are none too.
+function extended(source, text) {
+  const list = pieces(text), isWild = source.below(4) === 0;
+  const seen = list.map((_, i) => i).filter((i) => !/^\s/.test(list[i]));
+  const numbers = isWild ? [...NUMBERS, ...NO_NUMBERS] : NUMBERS;
+  seen.forEach((i, k) => {
+    const [first, before, it, next] = [-2, -1, 0, 1].map((by) => list[seen[k + by]] ?? '');
+    const isTarget = isWild || (/^[$\w]+$/.test(before) && !/^(let|var|const|[[{(,])$/.test(first));
+    const isOperand = isWild ? source.below(6) === 0 : BEFORE_OPERAND.test(before) && BEHIND_OPERAND.test(next);
+    if (it === '=' && isTarget && source.below(2) === 0) list[i] = source.pick(LOGICAL);
+    else if (/^\d+$/.test(it) && source.below(2) === 0) list[i] = source.pick(numbers);
+    else if (/^[a-z]$/.test(it) && isOperand && source.below(3) === 0) list[i] = source.pick([...numbers, ...LOGICAL.map((w) => `(a ${w} b)`)]);
+  });
+  return list.join('');
+}
+
+// The texts, half of which are extended so, where they have room.
+const withAdditions = (source, texts) => texts.map((it) => (source.below(2) === 0 ? extended(source, it) : it));
 
 // A line of crates.txt: a crate and the libraries that it names.
 function crateLines() {
@@ -70,4 +97,12 @@ function answersOf(folder, texts, size) {
   return answers;
 }
 
-module.exports = { answersOf, copied, option, pieces };
+let named = process.env.JSLINT;
+
+// The program that JSLINT names, or else the one that the launcher runs; where it is to be built first, the launcher does so and says it.
+function program() {
+  named ??= execFileSync(path.join(__dirname, '..', 'jslint'), ['--program'], { encoding: 'utf8', stdio: ['ignore', 'pipe', 'inherit'] }).trim();
+  return named;
+}
+
+module.exports = { answersOf, copied, option, pieces, program, withAdditions };

@@ -4,13 +4,13 @@
 //
 //   node compare.js [--n COUNT] [--seed S] [--show K]
 //
-// JSLINT names the program (default: bin/jslint of this repository, which the launcher builds). Exit status 1 where anything disagrees.
+// JSLINT names the program (default: the one that ./jslint runs). Exit status 1 where anything disagrees.
 
 const fs = require('node:fs');
 const os = require('node:os');
 const path = require('node:path');
 const { spawnSync } = require('node:child_process');
-const { option } = require('../dump.js');
+const { option, program, withAdditions } = require('../dump.js');
 const { makeTexts, nested } = require('../parser/compare.js');
 const { LIMITS, parse } = require('../reference/parse.js');
 const { extraPairs, plan } = require('../reference/plan.js');
@@ -20,8 +20,6 @@ const { resolve } = require('../reference/scopes.js');
 const { linesColumns, words } = require('../scripts/compare.js');
 const { OWN, scopeScript } = require('../scopes/texts.js');
 
-const TOP = path.join(__dirname, '..', '..');
-const PROGRAM = process.env.JSLINT ?? path.join(TOP, 'bin', 'jslint');
 
 // A settings file: mostly a right one.
 function settingsText(source) {
@@ -57,9 +55,9 @@ const placed = (line) => line.replace(/^(jslint: syntax error) at \d+:\d+\n$/, '
 function main() {
   const source = randomSource(Number(option('seed', 1)));
   const count = Number(option('n', 500));
-  const texts = [...OWN, ...makeTexts(count, Number(option('seed', 1)))];
-  for (let k = 0; k < count; k++) texts.push(nested(source), scopeScript(source), scopeScript(source));
-  if (!process.env.JSLINT) spawnSync(path.join(TOP, 'jslint'), ['--help'], { stdio: ['ignore', 'ignore', 'inherit'] });
+  const made = [];
+  for (let k = 0; k < count; k++) made.push(nested(source), scopeScript(source), scopeScript(source));
+  const texts = [...OWN, ...makeTexts(count, Number(option('seed', 1))), ...withAdditions(source, made)];
   const folder = fs.mkdtempSync(path.join(os.tmpdir(), 'rules-'));
   const file = path.join(folder, 'a.js'), second = path.join(folder, 'settings.toml');
   const counts = { reports: 0, clean: 0, refused: 0, apart: 0 };
@@ -68,7 +66,7 @@ function main() {
     fs.writeFileSync(file, text);
     fs.writeFileSync(second, settings);
     const words = source.below(2) || settings !== '' ? ['check', file, '--settings', second] : ['check', file];
-    const done = spawnSync(PROGRAM, words, { encoding: 'utf8', maxBuffer: 1 << 28 });
+    const done = spawnSync(program(), words, { encoding: 'utf8', maxBuffer: 1 << 28 });
     const wanted = model(text, settings);
     if (done.status === wanted.status && done.stdout === wanted.out && placed(done.stderr) === placed(wanted.err)) {
       counts[['clean', 'reports', 'refused'][wanted.status]] += 1;

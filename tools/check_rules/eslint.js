@@ -1,5 +1,5 @@
 'use strict';
-// Counts where ESLint's rules of the same names (Debian's eslint 6.4, strict scripts of ES2020) answer otherwise than `jslint check`,
+// Counts where ESLint's rules of the same names (Debian's eslint 6.4, strict scripts of ES2021) answer otherwise than `jslint check`,
 // over the scripts of Debian's packages that both read. A report is a rule and a place; `eqeqeq` is counted by script, since ESLint
 // reports it at the operator.
 //
@@ -9,24 +9,23 @@
 
 const fs = require('node:fs');
 const { Linter } = require('/usr/share/nodejs/eslint');
-const path = require('node:path');
 const { spawnSync } = require('node:child_process');
+const { program } = require('../dump.js');
 const { files } = require('../scripts/compare.js');
 
-const PROGRAM = process.env.JSLINT ?? path.join(__dirname, '..', '..', 'bin', 'jslint');
 const RULES = ['eqeqeq', 'no-debugger', 'no-empty', 'no-extra-parens', 'no-shadow', 'no-undef', 'no-unused-vars', 'no-var', 'prefer-const'];
 
 function byEslint(text) {
   const config = {
     env: { es2020: true },
-    parserOptions: { ecmaVersion: 2020, sourceType: 'script', ecmaFeatures: { impliedStrict: true } },
+    parserOptions: { ecmaVersion: 2021, sourceType: 'script', ecmaFeatures: { impliedStrict: true } },
     rules: Object.fromEntries(RULES.map((it) => [it, 2])),
   };
   return new Linter().verify(text, config, { allowInlineConfig: false });
 }
 
 function bySelf(file) {
-  const done = spawnSync(PROGRAM, ['check', file], { encoding: 'utf8', maxBuffer: 1 << 30 });
+  const done = spawnSync(program(), ['check', file], { encoding: 'utf8', maxBuffer: 1 << 30 });
   if (done.status === 2) return null;
   return done.stdout.split('\n').filter((it) => it !== '').map((it) => /^(\d+):(\d+) (\S+) (.*)$/.exec(it)).map((it) => ({ line: +it[1], column: +it[2], rule: it[3], text: it[4] }));
 }

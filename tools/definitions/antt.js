@@ -14,10 +14,24 @@ const path = require('path');
 
 class AnttError extends Error {}
 
-// Modules that aren't loaded: they speak of the program's own values (its trees, devices, code of trees).
 // Of proofs/, only examples and the words that they are written with.
 const EXAMPLES = /\/(language|early_errors|scopes)\/proofs\/(Trees|Sources|Nest|Tables|\w*Examples|\w*Rows)\.antt$/;
-const LEFT_OUT = /^Rattle\.(language\.specs\.Promises|tree\.specs\.(TreeCode|Sizes|Node|Fields)|source_text\.specs\.(Io|Memory|Source|LineBytes|Writing)|tokens\.specs\.(Scanned|Reading|Closing|Fronts|States|Marks|Sets|Escaped|Laws)|rules\.specs\.(Toml|Order|Run|Views|Used|Nodes|Grows|Refusals)|scopes\.(specs\.(Shown|Walks|Gathered|Tables)|proofs\.Tables)|early_errors\.(specs\.(Owns|Walk|Walks)|proofs\.Tables))$/;
+// Modules that aren't loaded, by crate: they speak of the program's own values (its trees, devices, tables), not of texts and trees.
+const LEFT_OUT = {
+  source_text: 'specs: Io Memory Source LineBytes Writing',
+  tokens: 'specs: Scanned Reading Closing Fronts States Marks Sets Escaped Laws',
+  tree: 'specs: Whole Places PartNumber Linked Flat Growth NodeText TreeCode Sizes Node Fields',
+  language: 'specs: Promises',
+  early_errors: 'specs: Owns Walk Walks; proofs: Tables',
+  name_tables: 'specs: Keys Sets Tables',
+  scopes: 'specs: Shown Walks Gathered; proofs: Tables',
+  rules: 'specs: Toml Order Run Views Used Nodes Grows Refusals',
+};
+const LEFT_OUT_NAMES = new Set(Object.entries(LEFT_OUT).flatMap(([crate, parts]) => parts.split('; ').flatMap((part) => {
+  const [folder, names] = part.split(': ');
+  return names.split(' ').map((name) => `Rattle.${crate}.${folder}.${name}`);
+})));
+const HINT = 'A module that speaks of the program\'s own values alone is left out by its name (LEFT_OUT in tools/definitions/antt.js). One that says what a text or a tree is has to be read: a crate that is missing is added to CRATES (model.js), a new form to antt.js.';
 
 // ---------------------------------------------------------------- values
 
@@ -383,7 +397,7 @@ class Module {
 }
 
 class Spec {
-  constructor() { this.modules = new Map(); this.enums = new Map(); this.records = new Map(); this.n = 0; this.examples = []; this.skipped = []; this.called = new Map(); }
+  constructor() { this.modules = new Map(); this.crates = new Set(); this.enums = new Map(); this.records = new Map(); this.n = 0; this.examples = []; this.skipped = []; this.called = new Map(); }
 
   // ---- loading
   addFolder(folder) {
@@ -403,9 +417,9 @@ class Spec {
       const at = Math.max(bits.lastIndexOf('specs'), bits.lastIndexOf('proofs'));
       roots.add(bits.slice(0, at).join(path.sep));
       const name = ['Rattle', ...bits.slice(at - 1)].join('.').replace(/\.antt$/, '');
-      if (!LEFT_OUT.test(name) && !this.modules.has(name)) this.modules.set(name, new Module(name, file));
+      if (!LEFT_OUT_NAMES.has(name) && !this.modules.has(name)) this.modules.set(name, new Module(name, file));
     }
-    for (const root of roots) this.addDeclared(root);
+    for (const root of roots) { this.crates.add(path.basename(root)); this.addDeclared(root); }
   }
   addDeclared(root) {                       // enums and structs of src/
     const crate = path.basename(root);
@@ -504,7 +518,8 @@ class Spec {
     const bits = [];
     let i = 0;
     while (tokens[i]?.k === 'name' || tokens[i]?.k === 'number') { bits.push(String(tokens[i].v)); i++; if (tokens[i]?.k === '.') i++; else break; }
-    if (tokens[i] === undefined) { m.uses.push({ module: bits.join('.'), names: null }); return; }
+    if (tokens[i] === undefined) { m.uses.push({ module: bits.join('.'), names: null, as: bits[bits.length - 1] }); return; }
+    if (tokens[i].k === 'as' && tokens[i + 1]?.k === 'name') { m.uses.push({ module: bits.join('.'), names: null, as: tokens[i + 1].v }); return; }
     if (tokens[i].k !== '{') throw new AnttError(`${where}:${tokens[0].no}: unknown use`);
     const names = []; i++;
     while (tokens[i].k !== '}') {
@@ -536,7 +551,8 @@ class Spec {
     }
     if (/\.specs\.declared\./.test(moduleName)) return { k: 'type', name };
     if (/^(Rattle\.(std|core|std_alloc|unicode_ident)\b|Prim\.|lib\.|mathlib\.)/.test(moduleName)) return this.library(name) ?? { k: 'missing', name: moduleName + '.' + name };
-    if (LEFT_OUT.test(moduleName)) return { k: 'missing', name: moduleName + '.' + name };   // types alone are taken from these
+    // types alone are taken from what is left out, and from a crate that isn't there
+    if (LEFT_OUT_NAMES.has(moduleName) || !this.crates.has(moduleName.split('.')[1])) return { k: 'missing', name: moduleName + '.' + name };
     throw new AnttError(`${where}: module ${moduleName} isn't loaded`);
   }
   library(name) {
@@ -548,7 +564,7 @@ class Spec {
   }
   link(m) {
     for (const use of m.uses) {
-      if (use.names === null) { m.scope.set(use.module.split('.').pop(), { k: 'module', name: use.module }); continue; }
+      if (use.names === null) { m.scope.set(use.as, { k: 'module', name: use.module }); continue; }
       for (const [name, as, no] of use.names) m.scope.set(as, this.entryOf(use.module, name, `${m.file}:${no}`));
     }
     for (const [name, e] of m.exports) m.scope.set(name, e);
@@ -898,9 +914,14 @@ function memo(arity, types, f) {
 function load(folders, overrides = {}) {
   const spec = new Spec();
   spec.overrides = overrides;               // name -> {module, run}: run instead of the definition
-  for (const f of folders) spec.addFolder(f);
-  spec.readModules();
-  spec.compile();
+  try {
+    for (const f of folders) spec.addFolder(f);
+    spec.readModules();
+    spec.compile();
+  } catch (error) {
+    if (error instanceof AnttError) error.message += '\n' + HINT;
+    throw error;
+  }
   return spec;
 }
 

@@ -1,7 +1,7 @@
 #!/usr/bin/env node
 'use strict';
 // Does the tester see faults? Plants one fault at a time into a copy of the definitions and runs
-// run.js on it:  node plant.js [--specs FOLDER] [--n N] [--only NAME|NAME..]
+// run.js on it, JOBS side by side:  node plant.js [--specs FOLDER] [--n N] [--jobs J] [--only NAME|NAME..]
 // FOLDER: a folder of crates. A fault whose text isn't found any more is named. Exit status 1 where one isn't seen.
 
 const fs = require('fs');
@@ -20,7 +20,7 @@ const FAULTS = [
   ['left side of ?? takes ||', 'not (nat_eq y 4 && (nat_eq z 5 || nat_eq z 6))', 'true'],
   ['new without arguments takes a call', '&& not (nat_eq y 19 && nat_eq z 20)', ''],
   ['&&= assigns nothing', '∷ "&&=" ∷ "||=" ∷ "??=" ∷ [], assigns)', '∷ "||=" ∷ "??=" ∷ [], assigns)'],
-  ['pattern on the left of ||=', 'cond (is w "=" && is_pattern (lead_kind ps))', 'cond ((is w "=" || is w "||=") && is_pattern (lead_kind ps))'],
+  ['a pattern on the left of a logical assignment', 'cond (is w "=" && is_pattern (lead_kind ps))', 'cond ((is w "=" || is w "||=") && is_pattern (lead_kind ps))'],
   ['** takes a unary left', 'sub (lead Update) ∷ infix_pieces w', 'sub (lead Unary) ∷ infix_pieces w'],
   ['** is left associative', 'put (expr Exponentiation true Any) ∷ []) ∷ []', 'put (expr Update true Any) ∷ []) ∷ []'],
   ['right operand at the node\'s symbol', 'sub (tail q Any) ∷ [])', 'sub (tail z Any) ∷ [])'],
@@ -149,6 +149,8 @@ const FAULTS = [
   ['template token keeps CR LF', 'table_text Template w = raw_value w\n', ''],
 ];
 
+let bad = 0;
+
 function plant(fault) {
   const dir = fs.mkdtempSync(path.join(os.tmpdir(), 'plant-'));
   for (const c of crates) for (const part of ['specs', 'src']) fs.cpSync(path.join(folder, c, part), path.join(dir, c, part), { recursive: true });
@@ -170,7 +172,7 @@ function plant(fault) {
 function one(fault) {
   return new Promise((resolve) => {
     const { dir, hit } = plant(fault);
-    if (fault !== null && hit.length === 0) { fs.rmSync(dir, { recursive: true }); process.exitCode = 1; resolve(`not applicable   ${fault[0]}`); return; }
+    if (fault !== null && hit.length === 0) { fs.rmSync(dir, { recursive: true }); bad += 1; resolve(`not applicable   ${fault[0]}`); return; }
     const parts = fault === null ? 'odd,programs,generated,early,tokens' : hit.some((c) => c === 'tokens' || c === 'source_text') || fault[0].startsWith('code points') ? 'tokens,odd' : hit.includes('early_errors') ? 'odd,early' : 'odd,programs,generated';
     const p = spawn(process.execPath, [path.join(__dirname, 'run.js'), '--specs', dir, '--n', n, '--jobs', '1', '--only', parts, '--fast', '--first']);
     let out = '';
@@ -179,7 +181,7 @@ function one(fault) {
       fs.rmSync(dir, { recursive: true });
       const kinds = [...out.matchAll(/^\* ([^\n]*)/gm)].map((m) => m[1]).filter((k) => !k.startsWith('example'));
       const broken = !/kinds of disagreement/.test(out);
-      if (broken || (kinds.length > 0) === (fault === null)) process.exitCode = 1;
+      if (broken || (kinds.length > 0) === (fault === null)) bad += 1;
       resolve(broken ? `BROKEN           ${fault?.[0]}: ${out.slice(0, 300)}` : `${kinds.length > 0 ? 'seen  ' : 'NOT SEEN'}  ${fault === null ? '(nothing planted)' : fault[0]}${kinds.length > 0 ? '   ' + kinds.slice().sort((a, b) => a.length - b.length)[0].slice(0, 150) : ''}`);
     });
   });
@@ -187,6 +189,9 @@ function one(fault) {
 (async () => {
   const only = value('--only', null);            // faults whose name has this text
   const queue = [null, ...FAULTS.filter((f) => only === null || only.split('|').some((w) => f[0].includes(w)))].reverse();
+  const count = queue.length - 1;
   const next = async () => { while (queue.length > 0) console.log(await one(queue.shift())); };
-  await Promise.all([next(), next(), next(), next()]);
+  await Promise.all(Array.from({ length: Number(value('--jobs', '4')) }, next));
+  console.log(`${count} faults, and nothing planted; of these ${bad} otherwise than they should`);
+  process.exitCode = bad === 0 ? 0 : 1;
 })();

@@ -1,19 +1,21 @@
 #!/usr/bin/env node
 'use strict';
 // Runs all comparisons of the definitions with the reference:
-//   node run.js [--specs FOLDER]... [--n N] [--seed S] [--jobs J] [--only PART,..] [--text TEXT] [--fast] [--first]
+//   node run.js [--specs FOLDER]... [--n N] [--seed S] [--jobs J] [--only PART,..] [--text TEXT] [--fast] [--first] [--brief]
 // FOLDER: a crate or a folder of crates (default tokens, tree, language, early_errors of ../../crates). N scales
 // the numbers of texts (default 1000). --text checks one text alone, with its mutations. --fast takes fewer mutations,
 // --first stops at the first disagreement.
-// Prints counts and disagreements, smallest first, minimised where they hang on a text alone.
+// Prints counts and disagreements, smallest first, minimised where they hang on a text alone; with --brief one line for all counts.
+// JOBs run side by side: as many as there are processors, at most four.
 
+const os = require('os');
 const path = require('path');
 const { Worker, isMainThread, workerData, parentPort } = require('worker_threads');
 
 const { CRATES } = require('./model.js');
 
 function options(argv) {
-  const o = { specs: [], n: 1000, seed: 1, jobs: 4, only: null, text: null };
+  const o = { specs: [], n: 1000, seed: 1, jobs: Math.min(4, os.availableParallelism()), only: null, text: null };
   for (let i = 0; i < argv.length; i++) {
     const a = argv[i];
     if (a === '--specs') o.specs.push(argv[++i]);
@@ -24,7 +26,8 @@ function options(argv) {
     else if (a === '--text') o.text = argv[++i];
     else if (a === '--fast') o.fast = true;
     else if (a === '--first') o.first = true;
-    else { console.error('usage: run.js [--specs FOLDER]... [--n N] [--seed S] [--jobs J] [--only PART,..] [--text TEXT] [--fast] [--first]'); process.exit(2); }
+    else if (a === '--brief') o.brief = true;
+    else { console.error('usage: run.js [--specs FOLDER]... [--n N] [--seed S] [--jobs J] [--only PART,..] [--text TEXT] [--fast] [--first] [--brief]'); process.exit(2); }
   }
   if (o.specs.length === 0) o.specs.push(...CRATES);
   return o;
@@ -365,6 +368,23 @@ function work({ o, job }) {
 
 // ---------------------------------------------------------------- the whole
 
+const seconds = (started) => Math.round((Date.now() - started) / 1000);
+
+function tellBriefly(counts, definitions, started) {
+  const n = (k) => counts[k] ?? 0;
+  console.log(`${definitions} definitions and ${n('examples of the definitions')} examples of them, run beside the model on ${n('texts')} texts, ${n('mutated texts')} mutated ones, ` +
+    `${n('mutated trees')} mutated trees, ${n('tokens looked for (place and goal)')} places for tokens; ${seconds(started)} s`);
+}
+
+function tell(counts, kinds, { all, skipped }, called, started) {
+  for (const [k, v] of Object.entries(counts)) if (!k.startsWith('ms ')) console.log(String(v).padStart(9), k);
+  console.log('nodes and early errors seen:', Object.entries(kinds).sort().map(([k, v]) => `${k} ${v}`).join(', '));
+  const never = all.filter((n) => !called[n]);
+  console.log('definitions never run:', never.map((n) => n.replace(/^Rattle\.\w+\.specs\./, '')).filter((n) => !/^(Examples|Rows|EarlyRows|Nest)\./.test(n)).join(' ') || 'none');
+  console.log('types, not run (the search stands for Step, Spells, Runs):', skipped.map((n) => n.split('.').pop()).join(' '));
+  console.log(`${seconds(started)} s (${Object.entries(counts).filter(([k]) => k.startsWith('ms ')).map(([k, v]) => `${k.slice(3)} ${Math.round(v / 1000)}`).join(', ')} s of work)`);
+}
+
 async function main() {
   const o = options(process.argv.slice(2));
   if (o.text !== null) o.jobs = 1;
@@ -380,13 +400,9 @@ async function main() {
     for (const [k, v] of Object.entries(a.called)) called[k] = (called[k] ?? 0) + v;
     for (const r of a.results) { const old = found.get(r.what); if (old === undefined) found.set(r.what, { ...r }); else { if (r.text.length < old.text.length) { r.others.push(old.text); found.set(r.what, { ...r, others: [...r.others, ...old.others] }); } else old.others.push(r.text, ...r.others); } }
   }
-  for (const [k, v] of Object.entries(counts)) if (!k.startsWith('ms ')) console.log(String(v).padStart(9), k);
-  console.log('nodes and early errors seen:', Object.entries(kinds).sort().map(([k, v]) => `${k} ${v}`).join(', '));
-  const never = answers[0].all.filter((n) => !called[n]);
-  console.log('definitions never run:', never.map((n) => n.replace(/^Rattle\.\w+\.specs\./, '')).filter((n) => !/^(Examples|Rows|EarlyRows|Nest)\./.test(n)).join(' ') || 'none');
-  console.log('types, not run (the search stands for Step, Spells, Runs):', answers[0].skipped.map((n) => n.split('.').pop()).join(' '));
-  console.log(`${Math.round((Date.now() - started) / 1000)} s (${Object.entries(counts).filter(([k]) => k.startsWith('ms ')).map(([k, v]) => `${k.slice(3)} ${Math.round(v / 1000)}`).join(', ')} s of work)`);
-  console.log(`\n${found.size} kinds of disagreement`);
+  if (o.brief) tellBriefly(counts, answers[0].all.length, started);
+  else tell(counts, kinds, answers[0], called, started);
+  console.log(`${o.brief ? "" : "\n"}${found.size} kinds of disagreement`);
   for (const r of [...found.values()].sort((a, b) => a.text.length - b.text.length)) {
     console.log(`\n* ${r.what}: ${JSON.stringify(r.text)}\n   ${r.detail}`);
     const others = [...new Set(r.others)].filter((t) => t !== r.text).sort((a, b) => a.length - b.length).slice(0, 6);

@@ -4,12 +4,12 @@
 //   node compare.js [--n COUNT] [--seed S] [--show K] [--keep FOLDER] [--file TEXTS]
 //
 // Makes COUNT scripts that are dense in names, labels, jumps, functions and classes, beside the model's own programs and
-// mutations of them, copies the crates to a temporary folder, runs the program dump.txt there by `rt try` (no proof) and
+// mutations of them, half of them with what the 12th edition adds, copies the crates to a temporary folder, runs the program dump.txt there by `rt try` (no proof) and
 // compares its answers with early.js. Exit status 1 where anything disagrees.
 
 const fs = require('node:fs');
 const path = require('node:path');
-const { answersOf, copied, option, pieces } = require('../dump.js');
+const { answersOf, copied, option, pieces, withAdditions } = require('../dump.js');
 const { sample } = require('../reference/brute.js');
 const { earlyErrors } = require('../reference/early.js');
 const { PROGRAMS } = require('../reference/fuzz-programs.js');
@@ -111,13 +111,13 @@ function mutated(source, pool) {
 function makeTexts(count, seed) {
   const source = randomSource(seed);
   const pool = PROGRAMS.flatMap(pieces).filter((p) => p.trim() !== '');
-  const texts = [...PROGRAMS];
+  const texts = [];
   for (let k = 0; k < count; k++) {
     texts.push(makeScript(source));
     if (k % 4 === 0) texts.push(mutated(source, pool));
     if (k % 4 === 1) texts.push(sample(source.next, 10 + source.below(80)).join(' '));
   }
-  return texts.filter((t) => t.isWellFormed() && !t.includes('\0'));
+  return [...PROGRAMS, ...withAdditions(source, texts)].filter((t) => t.isWellFormed() && !t.includes('\0'));
 }
 
 function answer(text) {

@@ -5,12 +5,12 @@
 //   node compare.js [--n COUNT] [--seed S] [--show K] [--keep FOLDER] [--file TEXTS]
 //
 // Makes COUNT texts of each of three kinds (constructs that stand in each other, with groups; scripts dense in names, functions and
-// classes; sentences and mutated programs), runs the program dump.txt over copies of the crates by `rt try` (no proof) and compares
+// classes; sentences and mutated programs), half of them with what the 12th edition adds, runs the program dump.txt over copies of the crates by `rt try` (no proof) and compares
 // its answers with plan.js and print.js. Exit status 1 where anything disagrees.
 
 const fs = require('node:fs');
 const path = require('node:path');
-const { answersOf, copied, option } = require('../dump.js');
+const { answersOf, copied, option, withAdditions } = require('../dump.js');
 const { makeScript } = require('../early/compare.js');
 const { makeTexts, nested } = require('../parser/compare.js');
 const { LIMITS, parse } = require('../reference/parse.js');
@@ -21,9 +21,9 @@ const { plainTree } = require('../definitions/model.js');
 
 function someTexts(count, seed) {
   const source = randomSource(seed);
-  const texts = makeTexts(count, seed);
+  const texts = [];
   for (let k = 0; k < count; k++) texts.push(nested(source), makeScript(source));
-  return texts;
+  return [...makeTexts(count, seed), ...withAdditions(source, texts)];
 }
 
 // The model's answer, and the tree of what it accepts.

@@ -4,7 +4,8 @@
 //   node compare.js [--n COUNT] [--nested COUNT] [--seed S] [--show K] [--keep FOLDER] [--file TEXTS]
 //                   [--high H --open M]
 //
-// Makes COUNT texts of each kind (sentences of the declarative grammar, mutated programs, random token strings), copies
+// Makes COUNT texts of each kind (sentences of the declarative grammar, mutated programs, random token strings), half of them with
+// what the 12th edition adds, copies
 // the crates that the parser stands on and the program dump.txt to a temporary folder, runs the program there by `rt try`
 // (it needs no proof; the environment's RT may name another command) and compares its answers with parse.js.
 // --nested: that many texts in which constructs stand in each other, and no others.
@@ -13,7 +14,7 @@
 
 const fs = require('node:fs');
 const path = require('node:path');
-const { answersOf, copied, option, pieces } = require('../dump.js');
+const { answersOf, copied, option, pieces, withAdditions } = require('../dump.js');
 const { sample } = require('../reference/brute.js');
 const { PROGRAMS } = require('../reference/fuzz-programs.js');
 const { LIMITS, parseOnly } = require('../reference/parse.js');
@@ -53,7 +54,7 @@ function makeTexts(count, seed) {
   const source = randomSource(seed);
   const pool = PROGRAMS.flatMap(pieces).filter((p) => p.trim() !== '');
   const lists = alphabets();
-  const texts = [...PROGRAMS];
+  const texts = [];
   for (let k = 0; k < count; k++) {
     texts.push(sample(source.next, 10 + source.below(80)).join(source.pick([' ', ' ', '\n'])));
     texts.push(mutated(source, pool));
@@ -61,7 +62,7 @@ function makeTexts(count, seed) {
     const glue = source.pick([' ', ' ', '']);
     texts.push(Array.from({ length: 1 + source.below(9) }, () => source.pick(list)).join(glue));
   }
-  return texts.filter((t) => t.isWellFormed() && !t.includes('\0'));
+  return [...PROGRAMS, ...withAdditions(source, texts)].filter((t) => t.isWellFormed() && !t.includes('\0'));
 }
 
 // What holds an expression at its `@`, as an expression or as a statement (`ended`), and what holds a statement, as an
@@ -124,7 +125,7 @@ function main() {
   const count = Number(option('nested', 0));
   const source = randomSource(Number(option('seed', 1)));
   const texts = file !== null ? fs.readFileSync(file, 'utf8').split('\0')
-    : count > 0 ? Array.from({ length: count }, () => nested(source)) : makeTexts(Number(option('n', 1000)), Number(option('seed', 1)));
+    : count > 0 ? withAdditions(source, Array.from({ length: count }, () => nested(source))) : makeTexts(Number(option('n', 1000)), Number(option('seed', 1)));
   const answers = run(texts);
   let accepted = 0;
   let deep = 0;

@@ -3,14 +3,15 @@
 //
 //   node compare.js [--n COUNT] [--seed S] [FILE..]
 //
-// The scripts are the files, and COUNT sentences of the declarative grammar (0 where files are given, else 2,000). Copies the crates
+// The scripts are the files, and COUNT sentences of the declarative grammar (0 where files are given, else 2,000), half of them with what
+// the 12th edition adds. Copies the crates
 // that the planner and the parser stand on and the program dump.txt to a temporary folder and runs it there by `rt try` (it needs no
 // proof; the environment's RT may name another command). What the parser refuses must be refused by the model. Exit status 1 where
 // anything disagrees.
 
 const fs = require('node:fs');
 const path = require('node:path');
-const { answersOf, copied, option } = require('../dump.js');
+const { answersOf, copied, option, withAdditions } = require('../dump.js');
 const { runInBigStack } = require('../reference/bigstack.js');
 const { sample } = require('../reference/brute.js');
 const { parseOnly } = require('../reference/parse.js');
@@ -20,10 +21,10 @@ const { randomSource } = require('../reference/random.js');
 const files = process.argv.slice(2).filter((word, i, words) => !word.startsWith('--') && !words[i - 1]?.startsWith('--'));
 
 function scripts() {
-  const { next } = randomSource(Number(option('seed', 1)));
+  const source = randomSource(Number(option('seed', 1)));
   const count = Number(option('n', files.length > 0 ? 0 : 2000));
-  const sentences = Array.from({ length: count }, () => sample(next, 10 + Math.floor(next() * 80)).join(' '));
-  return [...files.map((file) => fs.readFileSync(file, 'utf8')), ...sentences].filter((t) => t.isWellFormed() && !t.includes('\0'));
+  const sentences = Array.from({ length: count }, () => sample(source.next, 10 + source.below(80)).join(' '));
+  return [...files.map((file) => fs.readFileSync(file, 'utf8')), ...withAdditions(source, sentences)].filter((t) => t.isWellFormed() && !t.includes('\0'));
 }
 
 // Which the model answers.

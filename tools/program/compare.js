@@ -5,39 +5,26 @@
 //   node compare.js [--n COUNT] [--seed S] [--show K] [--height H --open M]
 //
 // COUNT texts of each of five kinds: sentences, mutated programs and random tokens; constructs in each other; scripts dense in names, functions
-// and classes. To every second text something of the 12th edition is added, where it has room. JSLINT names the program (default: bin/jslint
-// of this repository, which the launcher builds), --height and --open its limits. Exit status 1 where anything disagrees.
+// and classes. To half of them what the 12th edition adds is added, where they have room. JSLINT names the program (default: the
+// one that ./jslint runs), --height and --open its limits. Exit status 1 where anything disagrees.
 
 const fs = require('node:fs');
 const os = require('node:os');
 const path = require('node:path');
 const { spawnSync } = require('node:child_process');
-const { option, pieces } = require('../dump.js');
+const { option, program, withAdditions } = require('../dump.js');
 const { makeScript } = require('../early/compare.js');
 const { makeTexts, nested } = require('../parser/compare.js');
 const { runInBigStack } = require('../reference/bigstack.js');
 const { randomSource } = require('../reference/random.js');
 const { modelOf } = require('../scripts/compare.js');
-const TOP = path.join(__dirname, '..', '..');
-const PROGRAM = process.env.JSLINT ?? path.join(TOP, 'bin', 'jslint');
 const COMMANDS = ['tree', 'fix', 'cost', 'check', 'verify'];
-const NUMBERS = ['1_0', '1_000.5_0', '0x1_F', '0b1_0', '.1_2e1_0', '1__0', '1_', '0_1', '1_.5', '0o7_7'];
-
-// The text with logical assignments in place of others, and numbers with separators, right and wrong ones.
-function extended(source, text) {
-  return pieces(text).map((it) => {
-    if (it === '=' && source.below(3) === 0) return source.pick(['&&=', '||=', '??=']);
-    if (/^\d+$/.test(it) && source.below(2) === 0) return source.pick(NUMBERS);
-    if (/^[a-z]$/.test(it) && source.below(12) === 0) return source.pick([...NUMBERS, 'a &&= b', 'a ||= b', '(a ??= b)']);
-    return it;
-  }).join('');
-}
 
 function someTexts(count, seed) {
   const source = randomSource(seed);
-  const texts = makeTexts(count, seed);
+  const texts = [];
   for (let k = 0; k < count; k++) texts.push(nested(source), makeScript(source));
-  return texts.map((it, i) => (i % 2 ? extended(source, it) : it)).filter((it) => it.isWellFormed() && !it.includes('\0'));
+  return [...makeTexts(count, seed), ...withAdditions(source, texts)].filter((it) => it.isWellFormed() && !it.includes('\0'));
 }
 
 const plain = (said) => said.replace(/syntax error at .*/, 'syntax error');
@@ -51,7 +38,7 @@ function modelAnswers(texts, limits) {
 }
 
 function jslint(...words) {
-  const done = spawnSync(PROGRAM, words, { encoding: 'utf8', maxBuffer: 1 << 30 });
+  const done = spawnSync(program(), words, { encoding: 'utf8', maxBuffer: 1 << 30 });
   return { text: `${done.status} ${plain(done.stderr)}${done.stdout}`, out: done.stdout };
 }
 
@@ -70,7 +57,6 @@ function answers(text, folder) {
 }
 
 function main() {
-  if (!process.env.JSLINT) spawnSync(path.join(TOP, 'jslint'), ['--help'], { stdio: ['ignore', 'ignore', 'inherit'] });
   const texts = someTexts(Number(option('n', 1000)), Number(option('seed', 1)));
   const limits = { maxHeight: Number(option('height', 600)), maxParens: Number(option('open', 1200)) };
   const model = runInBigStack(__filename, 'modelAnswers', [texts, limits]);

@@ -11,6 +11,7 @@ const path = require('node:path');
 const antt = require('../definitions/antt.js');
 const { CRATES, Model, plainTree } = require('../definitions/model.js');
 const { ODD, rowTexts, programs } = require('../definitions/texts.js');
+const { withAdditions } = require('../dump.js');
 const { makeScript } = require('../early/compare.js');
 const { parseOnly } = require('../reference/parse.js');
 const { randomSource } = require('../reference/random.js');
@@ -78,7 +79,9 @@ function main() {
   const random = randomSource(Number(option('seed', 1)));
   const texts = option('file', null) !== null ? JSON.parse(fs.readFileSync(option('file'), 'utf8')) : [...OWN, ...rowTexts(), ...ODD, ...programs()];
   if (option('file', null) === null) {
-    for (let k = 0; k < n; k++) { texts.push(scopeScript(random)); if (k % 3 === 0) texts.push(makeScript(random)); }
+    const made = [];
+    for (let k = 0; k < n; k++) { made.push(scopeScript(random)); if (k % 3 === 0) made.push(makeScript(random)); }
+    texts.push(...withAdditions(random, made));
   }
   const count = { texts: 0, scopes: 0, bindings: 0, references: 0, bound: 0, reports: {} };
   let differ = 0;
@@ -88,7 +91,7 @@ function main() {
     if (differ <= show) console.log(`${what}: ${JSON.stringify(text)}\n  definitions ${JSON.stringify(ours)}\n  model       ${JSON.stringify(theirs)}`);
   };
   for (const text of texts) {
-    const answer = parseOnly(text, { edition2021: true });
+    const answer = parseOnly(text);
     if (!answer.ok) continue;
     count.texts += 1;
     const tree = model.tree(plainTree(answer.tree));

@@ -16,7 +16,7 @@ const words = new Set();
 const out = [];
 for (let i = 2; i + 1 < process.argv.length; i += 2) {
   const [name, text] = process.argv.slice(i, i + 2);
-  const answer = parseOnly(text.replace(/\\n/g, '\n'), { edition2021: true });
+  const answer = parseOnly(text.replace(/\\n/g, '\n'));
   if (!answer.ok) throw new Error('refused: ' + text);
   const tree = bare(term(plainTree(answer.tree), words));
   const { scopes, references } = resolve(answer.tree);

@@ -6,7 +6,7 @@
 // All grouping pairs count as extra here. Exit status 1 where anything disagrees.
 
 const path = require('node:path');
-const { answersOf, copied, option } = require('../dump.js');
+const { answersOf, copied, option, withAdditions } = require('../dump.js');
 const { parseOnly } = require('../reference/parse.js');
 const { randomSource } = require('../reference/random.js');
 const { resolve } = require('../reference/scopes.js');
@@ -14,11 +14,10 @@ const { RULE_NAMES, runRules } = require('../reference/rules.js');
 const { OWN, scopeScript } = require('./texts.js');
 
 const source = randomSource(Number(option('seed', 1)));
-const texts = [...OWN];
-for (let k = 0; k < Number(option('n', 1000)); k++) texts.push(scopeScript(source));
+const texts = [...OWN, ...withAdditions(source, Array.from({ length: Number(option('n', 1000)) }, () => scopeScript(source)))];
 
 function answer(text) {
-  const result = parseOnly(text, { edition2021: true });
+  const result = parseOnly(text);
   if (!result.ok) return 'refused';
   const settings = { rules: Object.fromEntries(RULE_NAMES.map((r) => [r, r !== 'no-var'])), globals: ['a', 'zz'], allowNull: true, ignoreUnderscore: false };
   const extra = result.pairs.map((p) => ({ start: p.left, end: p.right + 1 }));

@@ -1,17 +1,19 @@
 'use strict';
 // Holds the commands of `jslint` against the plain model, byte for byte, over scripts of Debian's packages.
 //
-//   node compare.js check|tree|fix|cost|verify [FILE..]
+//   node compare.js [all|COMMAND,..] [FILE..]
 //
-// Without files: every .js file of the packages named below, as far as they are installed; what the model refuses must be refused
-// with the same line. Of `fix` also: fixing the fixed text gives it again. `verify` is given the table that `cost` writes, and its
-// two numbers are the pairs of the script and those of its fixed text. JSLINT names another program than bin/jslint, which the
-// launcher builds. Exit status 1 where anything disagrees.
+// The commands are check, tree, fix, cost and verify. Without files: every .js file of the packages named below, as far as they are
+// installed; what the model refuses must be refused with the same line. Of `fix` also: fixing the fixed text gives it again. `verify` is
+// given the table that `cost` writes, and its two numbers are the pairs of the script and those of its fixed text. JSLINT names another
+// program than the one that ./jslint runs. Exit status 1 where anything disagrees.
 
+const crypto = require('node:crypto');
 const fs = require('node:fs');
 const os = require('node:os');
 const path = require('node:path');
 const { spawnSync } = require('node:child_process');
+const { program } = require('../dump.js');
 const { LIMITS, parse } = require('../reference/parse.js');
 const { treeJson } = require('../reference/json.js');
 const { extraPairs, plan, writeTable } = require('../reference/plan.js');
@@ -19,20 +21,25 @@ const { layout } = require('../reference/print.js');
 const { defaultSettings, runRules } = require('../reference/rules.js');
 const { resolve } = require('../reference/scopes.js');
 const { runInBigStack } = require('../reference/bigstack.js');
-const TOP = path.join(__dirname, '..', '..');
 const PACKAGES = ['libjs-jquery', 'libjs-d3', 'libjs-three', 'node-react-dom', 'node-react', 'node-acorn', 'libjs-underscore', 'libjs-highlight.js'];
+
+const plans = new WeakMap();
+function planOf(tree) {
+  if (!plans.has(tree)) plans.set(tree, plan(tree));
+  return plans.get(tree);
+}
 
 // What each command writes of an accepted script, from its tree, its grouping pairs and its bytes, and the exit status.
 const ANSWERS = {
   check: (tree, pairs, bytes) => {
-    const reports = runRules({ tree, scopes: resolve(tree), extra: extraPairs(pairs, plan(tree).wrapped), settings: defaultSettings() });
+    const reports = runRules({ tree, scopes: resolve(tree), extra: extraPairs(pairs, planOf(tree).wrapped), settings: defaultSettings() });
     const places = linesColumns(bytes, reports.map((it) => it.start));
     return [reports.map((it, i) => `${places[i]} ${it.rule} ${it.text}\n`).join(''), reports.length > 0 ? 1 : 0];
   },
   tree: (tree) => [treeJson(tree) + '\n', 0],
-  fix: (tree) => [layout(tree, plan(tree).wrapped), 0],
-  cost: (tree) => [writeTable(plan(tree)), 0],
-  verify: (tree, pairs) => [`pairs ${pairs.length} least ${plan(tree).total}\n`, 0],
+  fix: (tree) => [layout(tree, planOf(tree).wrapped), 0],
+  cost: (tree) => [writeTable(planOf(tree)), 0],
+  verify: (tree, pairs) => [`pairs ${pairs.length} least ${planOf(tree).total}\n`, 0],
 };
 
 // The files of the command line, from this word on, or those of the packages.
@@ -90,23 +97,30 @@ function words(fault, bytes) {
   }
 }
 
-function model(command, file) {
-  return modelOf(command, fs.readFileSync(file), LIMITS);
+// What a command answers by the model.
+function modelOf(command, bytes, limits) {
+  return modelsOf([command], bytes, limits)[0];
 }
 
-function modelOf(command, bytes, limits) {
+function modelsOf(commands, bytes, limits) {
   const parsed = parse(bytes, limits);
-  if (parsed.ok) {
+  if (!parsed.ok) return commands.map(() => ({ status: 2, out: '', err: `jslint: ${words(parsed.fault, bytes)}\n` }));
+  return commands.map((command) => {
     const [out, status] = ANSWERS[command](parsed.tree, parsed.pairs, bytes);
     return { status, out, err: '' };
-  }
-  return { status: 2, out: '', err: `jslint: ${words(parsed.fault, bytes)}\n` };
+  });
 }
 
-const PROGRAM = process.env.JSLINT ?? path.join(TOP, 'bin', 'jslint');
+const sum = (text) => crypto.createHash('sha256').update(text).digest('hex');
+const short = ({ status, out, err }) => `${status} ${out.length} ${sum(out)} ${err}`;
+
+// Which the model answers: of each file what each command does, in short.
+function models(commands, list) {
+  return list.map((file) => modelsOf(commands, fs.readFileSync(file), LIMITS).map(short));
+}
 
 function jslint(...words) {
-  const done = spawnSync(PROGRAM, words, { encoding: 'utf8', maxBuffer: 1 << 30 });
+  const done = spawnSync(program(), words, { encoding: 'utf8', maxBuffer: 1 << 30 });
   return { status: done.status, out: done.stdout, err: done.stderr };
 }
 
@@ -126,31 +140,45 @@ function isStable(fixed, folder) {
   return jslint('fix', file).out === fixed;
 }
 
-function main() {
-  const command = process.argv[2];
-  if (!(command in ANSWERS)) throw new Error('check, tree, fix, cost or verify?');
-  if (!process.env.JSLINT) spawnSync(path.join(TOP, 'jslint'), ['--help'], { stdio: ['ignore', 'ignore', 'inherit'] });
-  const folder = fs.mkdtempSync(path.join(os.tmpdir(), 'scripts-'));
-  let written = 0, refused = 0, apart = 0, size = 0;
-  for (const file of files()) {
-    const ours = answer(command, file, folder);
-    const theirs = runInBigStack(__filename, 'model', [command, file]);
-    if (ours.status !== theirs.status || ours.out !== theirs.out || ours.err !== theirs.err) {
-      apart += 1;
-      console.log(`${file}: status ${ours.status} and ${theirs.status}; ${ours.err.trim()} | ${theirs.err.trim()}`);
+// What is seen of one command over all files.
+class Seen {
+  constructor(command) { Object.assign(this, { command, written: 0, refused: 0, apart: 0, size: 0 }); }
+
+  look(file, folder, wanted) {
+    const ours = answer(this.command, file, folder);
+    if (short(ours) !== wanted) {
+      this.apart += 1;
+      console.log(`${this.command} ${file}: ${short(ours).trim()} | ${wanted.trim()}`);
     } else if (ours.status === 2) {
-      refused += 1;
-    } else if (command === 'fix' && !isStable(ours.out, folder)) {
-      apart += 1;
-      console.log(`${file}: fixed again it is another text`);
+      this.refused += 1;
+    } else if (this.command === 'fix' && !isStable(ours.out, folder)) {
+      this.apart += 1;
+      console.log(`${this.command} ${file}: fixed again it is another text`);
     } else {
-      written += 1;
-      size += ours.out.length;
+      this.written += 1;
+      this.size += ours.out.length;
     }
   }
-  console.log(`${written} answers alike (${size} characters), ${refused} texts refused alike, ${apart} disagreements`);
-  return apart === 0 ? 0 : 1;
+
+  tell() { console.log(`${this.command}: ${this.written} answers alike (${this.size} characters), ${this.refused} texts refused alike, ${this.apart} disagreements`); }
 }
 
-module.exports = { files, lineColumn, linesColumns, model, modelOf, words };
+function main() {
+  const word = process.argv[2] ?? 'all';
+  const commands = word === 'all' ? Object.keys(ANSWERS) : word.split(',');
+  if (!commands.every((it) => it in ANSWERS)) throw new Error('check, tree, fix, cost or verify?');
+  const folder = fs.mkdtempSync(path.join(os.tmpdir(), 'scripts-'));
+  const every = files(), seen = commands.map((it) => new Seen(it));
+  for (let i = 0; i < every.length; i += 20) {
+    const list = every.slice(i, i + 20);
+    const wanted = runInBigStack(__filename, 'models', [commands, list]);
+    list.forEach((file, k) => seen.forEach((it, c) => it.look(file, folder, wanted[k][c])));
+  }
+  fs.rmSync(folder, { recursive: true });
+  if (every.length === 0) console.log('there is no script: install the packages, or name files');
+  for (const it of seen) it.tell();
+  return every.length > 0 && seen.every((it) => it.apart === 0) ? 0 : 1;
+}
+
+module.exports = { files, lineColumn, linesColumns, modelOf, models, words };
 if (require.main === module) process.exitCode = main();

@@ -1,7 +1,7 @@
 //! A list in chunks.
 
-ghost use Rattle.std.specs.Prelude.{◌≡◌, ◌≤◌, OnOk, OnErr};
-ghost use Rattle.chunks.specs.Chunks.{HasBegun, most_items, most_in_all};
+ghost use Rattle.std.specs.Prelude.{◌≡◌, ◌<◌, ◌≤◌, OnOk, OnErr};
+ghost use Rattle.chunks.specs.Chunks.{HasBegun, chunk_size, most_items, most_in_all};
 
 use std::alloc::{AllocError, Global};
 use std::marker::Model;
@@ -9,7 +9,7 @@ use std::marker::Model;
 /// How many items a chunk has room for. A chunk is small: it fits where other memory was let go.
 const CHUNK: usize = 1024;
 
-/// How many items there may be where one more chunk is begun.
+/// How many items there may be for one more chunk to be begun: with it there is room for no more than a `Vec` may hold.
 const MOST: usize = 9_223_372_036_854_774_783;
 
 /// Some items, one behind the other.
@@ -74,7 +74,8 @@ impl<T: Drop> Chunks<T> {
     ///
     /// # Errors
     ///
-    /// `AllocError` where memory is refused.
+    /// `AllocError` where memory is refused. Where there would be more items than a `Vec` may hold, room for all of them is asked for, as a `Vec`
+    /// of them would do.
     #[inline(always)]
     pub fn push(&mut self, item: T) -> Result<(), AllocError>
         ensures items { OnOk result (self.new ≡ self.old ++ item ∷ []) }
@@ -91,7 +92,19 @@ impl<T: Drop> Chunks<T> {
     }
 }
 
-/// An empty chunk behind the others, with room for all its items. `count`: how many there are.
+/// How many items the chunk behind `count` others is to have room for: as many as any chunk. Where all items would be more than a `Vec` may hold,
+/// as many as all: a `Vec` refuses that room, as it would refuse one more item if it held them.
+fn room_behind(count: usize) -> usize
+    ensures chunk { chunk_size ≤ result }
+    ensures few { result < 9223372036854775808 → count ≤ most_items }
+{
+    if count > MOST {
+        return count.saturating_add(CHUNK);
+    }
+    CHUNK
+}
+
+/// An empty chunk behind the others, with room for all its items. `count`: how many items there are.
 #[cold]
 #[inline(never)]
 fn begin_chunk<T: Drop>(
@@ -103,10 +116,7 @@ fn begin_chunk<T: Drop>(
     ensures few { OnOk result (count ≤ most_items) }
     ensures kept { OnErr result (chunks.new.items ≡ chunks.old.items) }
 {
-    if count > MOST {
-        return Err(AllocError);
-    }
-    let items = Vec::with_capacity(alloc, CHUNK)?;
+    let items = Vec::with_capacity(alloc, room_behind(count))?;
     chunks.push(Chunk { items })?;
     Ok(())
 }

@@ -1,5 +1,5 @@
 -- The command line, by clap's own definitions.
-use Rattle.std.specs.Prelude.{◌≡◌, Bool, codes, false, true, List, Option, Some, None, is_some, option_map}
+use Rattle.std.specs.Prelude.{◌≡◌, ℕ, Bool, codes, false, true, List, Option, Some, None, is_some, option_map}
 use Rattle.clap.specs.Words.{App, Row, Rule, Text, first_of, new_app, new_rule, with_rule, with_subcommand}
 use Rattle.clap.specs.Simple.{on_top}
 use Rattle.clap.specs.declared.error.kind.ErrorKind.{ErrorKind}
@@ -48,6 +48,10 @@ HasSecond other rows second = second ≡ None
 abbrev pub Chooses : Option (Text × List Row) → Line → Type 0
 Chooses met line = (rows : List Row) × (met ≡ Some (word_of line.command, rows)) × (first_of (codes "file") rows ≡ Some line.file.now)
     × HasSecond line.command rows (option_map (λ s. s.now) line.second)
+
+-- the line for a word of the command line that isn't UTF-8
+abbrev pub not_utf8_line : List ℕ
+not_utf8_line = codes "jslint: the command line is not UTF-8\n"
 
 -- help or the version was asked for: no mistake
 abbrev pub is_asked_for : ErrorKind → Bool

@@ -1,23 +1,47 @@
 -- Words of the user as they are shown on a terminal.
-use Rattle.std.specs.Prelude.{ℕ, ◌/◌, ◌%◌, List, [], ◌∷◌, ◌++◌, Bool, not, ◌&&◌, ◌==◌, if◌then◌else◌, Option, codes, chars, encode_utf8_all, flat_map}
+use Rattle.std.specs.Prelude.{◌≡◌, ℕ, ◌/◌, ◌%◌, List, [], ◌∷◌, ◌++◌, Bool, not, ◌&&◌, ◌||◌, ◌==◌, if◌then◌else◌, Option, codes, chars, encode_utf8_all, flat_map, map, nat_lt}
 use Rattle.std.specs.Char.{digit_char, is_control}
+use Rattle.std.specs.Int.{is_in_range}
 use Rattle.streams.specs.Refusal.{WritesLine}
 
--- a control character that isn't a line feed: a terminal may obey it
+-- Unicode's Bidi_Control: the characters that turn a text round
+abbrev pub is_bidi_control : ℕ → Bool
+is_bidi_control c = (c == 0x61C) || (is_in_range 0x200E 0x200F c || (is_in_range 0x202A 0x202E c || is_in_range 0x2066 0x2069 c))
+
+-- Unicode's separators of lines and paragraphs
+abbrev pub is_separator : ℕ → Bool
+is_separator c = is_in_range 0x2028 0x2029 c
+
+-- a character that is not seen itself, and changes what is seen round it
 abbrev pub is_hidden : ℕ → Bool
-is_hidden c = is_control c && not (c == 10)
+is_hidden c = is_control c || (is_bidi_control c || is_separator c)
 
--- `\x` and two hexadecimal digits; control characters are below 256
+abbrev pub two_digits : ℕ → List ℕ
+two_digits n = digit_char (n / 16) ∷ digit_char (n % 16) ∷ []
+
+-- `\x` and two hexadecimal digits, or `\u{`, four of them and `}`; hidden characters are below 65,536
 abbrev pub escape : ℕ → List ℕ
-escape c = codes "\\x" ++ digit_char (c / 16) ∷ digit_char (c % 16) ∷ []
+escape c = if nat_lt c 256 then codes "\\x" ++ two_digits c else codes "\\u{" ++ two_digits (c / 256) ++ two_digits (c % 256) ++ codes "}"
 
--- a character, or what is shown in its place
+-- a character, or what is shown in its place; a line feed stays
 abbrev pub shown : ℕ → List ℕ
-shown c = if is_hidden c then escape c else c ∷ []
+shown c = if is_hidden c && not (c == 10) then escape c else c ∷ []
 
--- a text, each hidden character escaped
+-- a text, each hidden character escaped but line feeds
 abbrev pub escaped : List ℕ → List ℕ
 escaped text = encode_utf8_all (flat_map shown (chars text))
+
+-- a character of a text that is to stand on one line
+abbrev pub within_line : ℕ → List ℕ
+within_line c = if c == 10 then escape c else c ∷ []
+
+-- a text on one line: each line feed escaped
+abbrev pub on_one_line : List ℕ → List ℕ
+on_one_line text = encode_utf8_all (flat_map within_line (chars text))
+
+-- texts that are some texts on one line each
+abbrev pub AreOnOneLine : List (List ℕ) → Type 0
+AreOnOneLine lines = (texts : List (List ℕ)) × (lines ≡ map on_one_line texts)
 
 -- some text was written so, or a beginning of that and the writer has failed
 abbrev pub WritesEscaped : Option (List ℕ) → Option (List ℕ) → Bool → Type 0

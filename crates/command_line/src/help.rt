@@ -32,6 +32,10 @@ Examples:
   jslint fix app.js > fixed.js
   jslint cost app.js > app.cost
   jslint verify app.js app.cost
+  jslint check -- -h.js
+
+A name that may begin with `-` stands behind `--`, or it is read as an option:
+`jslint check -- FILE`, `jslint check --settings=FILE -- FILE`.
 
 Limits: 16,777,216 bytes of a script in UTF-8, and of settings; a tree of height
 600; 1,200 parentheses open at one point that group or hold an arrow's

@@ -8,5 +8,5 @@ mod mistake;
 mod shown;
 
 pub use line::{Line, command_line};
-pub use mistake::explain;
+pub use mistake::{explain, explain_not_utf8};
 pub use shown::escaped_text;

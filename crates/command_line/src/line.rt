@@ -93,7 +93,7 @@ fn bare_command<'a>(alloc: Global) -> clap::Command<'a>
 }
 
 /// The whole command line.
-fn jslint_command<'a>(alloc: Global) -> Result<clap::Command<'a>, AllocError>
+pub(crate) fn jslint_command<'a>(alloc: Global) -> Result<clap::Command<'a>, AllocError>
     ensures shape { IfOk result (λ c. app_of c ≡ jslint_app) }
 {
     let jslint = with_command(bare_command(alloc), check_command(alloc))?;

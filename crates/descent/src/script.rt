@@ -5,6 +5,8 @@ ghost use Rattle.std.specs.Prelude.{◌≡◌, ◌≤◌, length, IfErr, IfOk};
 ghost use Rattle.std.specs.Str.{IsUtf8};
 ghost use Rattle.language.specs.Claims.{WithinLimits};
 ghost use Rattle.phrases.specs.Refusals.{IsRefusal};
+ghost use Rattle.source_text.specs.declared.fault.Fault.TheVariants.{OutOfMemory};
+ghost use Rattle.tree.specs.Tree.{program_tree};
 ghost use Rattle.descent.specs.Scripts.{IsAnswered};
 
 use crate::position::Parser;
@@ -13,7 +15,7 @@ use phrases::{Context, Until};
 use source_text::{Fault, Source};
 use std::alloc::Global;
 use token_cursor::Cursor;
-use tree::{Pair, Program, Span};
+use tree::{BuildError, Pair, Parts, Program, Span};
 
 /// A script, with the pairs of parentheses that group, in order of their `(`.
 #[derive(Drop)]
@@ -49,6 +51,17 @@ pub fn read<'s>(alloc: Global, source: &Source<'s>) -> Result<Script<'s>, Fault>
         start: 0,
         end: source.text().len(),
     };
-    let program = Program::build(alloc, items.into_parts(), span)?;
+    let program = finished(alloc, items.into_parts(), span)?;
     Ok(Script { program, pairs })
+}
+
+/// The finished script of these items. `OutOfMemory` says also that it is too large to be finished.
+fn finished<'s>(alloc: Global, items: Parts<'s>, span: Span) -> Result<Program<'s>, Fault>
+    ensures built { IfOk result (λ program. program ≡ program_tree items.entry span) }
+    ensures refused { IfErr result (λ fault. fault ≡ OutOfMemory) }
+{
+    match Program::build(alloc, items, span) {
+        Ok(program) => Ok(program),
+        Err(BuildError::Memory | BuildError::TooLarge) => Err(Fault::OutOfMemory),
+    }
 }

@@ -1,7 +1,7 @@
 -- Names one by one, as loops over them go.
-use Rattle.std.proofs.Common.{◌≡◌, ℕ, ◌+◌, ◌<◌, Bool, true, false, cond, List, [], ◌∷◌, ◌++◌, length, get_or, take, filter, Option, refl, sym, ap, ◌∙◌, arith}
+use Rattle.std.proofs.Common.{◌≡◌, ℕ, zero, suc, ◌+◌, ◌<◌, ◌≤◌, Bool, true, false, cond, List, [], ◌∷◌, ◌++◌, length, get_or, take, drop, filter, Option, refl, sym, ap, ◌∙◌, arith}
 use Rattle.std.proofs.lemmas.Bool.Decides.{nat_tests}
-use Rattle.std.proofs.lemmas.List.{map-append, take_more}
+use Rattle.std.proofs.lemmas.List.{map-append, take_more, drop_more}
 use Rattle.std.proofs.lemmas.List.Elements.{filter-append}
 use Rattle.std.specs.Prelude.{◌||◌, ◌&&◌, nat_eq}
 use Rattle.std.specs.Str.{bytes_eq}
@@ -104,6 +104,24 @@ module _ (p : names.Named → Bool) (e : EarlyError) (o found : Option Error) (x
       so_far ∙ sym (passing-one false e (after o (passing p e (all_named (take i xs)))) (named (get_or xs i d)) p h)
       ∙ sym (passing-turn p e o xs i d l)
 
+-- whether a name is among the names so far, in either order
+has_name-behind : (w : List ℕ) (before xs : List names.Named) → has_name w (behind before xs) ≡ (has_name w xs || has_name w before)
+has_name-behind w before [] = refl
+has_name-behind w before (x ∷ xs) = has_name-behind w (x ∷ before) xs ∙ turned (has_name w xs) (bytes_eq w x.0) (has_name w before)
+  where
+    turned : (a b c : Bool) → (a || (b || c)) ≡ ((b || a) || c)
+    turned true true c = refl
+    turned true false c = refl
+    turned false true c = refl
+    turned false false c = refl
+
+behind_is : (w : List ℕ) (xs : List names.Named) → has_name w (behind [] xs) ≡ has_name w xs
+behind_is w xs = has_name-behind w [] xs ∙ or_false (has_name w xs)
+  where
+    or_false : (b : Bool) → (b || false) ≡ b
+    or_false true = refl
+    or_false false = refl
+
 abbrev pub doubles : EarlyError → List names.Named → List Error
 doubles e xs = each e (places (twice xs))
 
@@ -124,7 +142,20 @@ module _ (e : EarlyError) (o found : Option Error) (xs : List Named) (i : ℕ) (
   pub turn-alone : has_name (get_or xs i d).name.now (behind [] (all_named (take i xs))) ≡ false → found ≡ after o (doubles e (all_named (take (i + 1) xs)))
   turn-alone h = so_far ∙ sym (sooner-none (after o (doubles e (all_named (take i xs))))) ∙ sym (double-turn false h)
 
-pub few_doubles : (e : EarlyError) (o : Option Error) (xs : List Named) → length xs < 2 → o ≡ after o (doubles e (all_named xs))
-few_doubles e o [] l = sym (sooner-none o)
-few_doubles e o (x ∷ []) l = sym (sooner-none o)
-few_doubles e o (x ∷ y ∷ xs) l = absurd (omega (arith, l))
+  -- where the names so far are looked at in their order
+  pub turn-again : has_name (get_or xs i d).name.now (all_named (take i xs)) ≡ true → after found ((number e, (get_or xs i d).at) ∷ []) ≡ after o (doubles e (all_named (take (i + 1) xs)))
+  turn-again h = turn-doubles (behind_is (get_or xs i d).name.now (all_named (take i xs)) ∙ h)
+
+  pub turn-first : has_name (get_or xs i d).name.now (all_named (take i xs)) ≡ false → found ≡ after o (doubles e (all_named (take (i + 1) xs)))
+  turn-first h = turn-alone (behind_is (get_or xs i d).name.now (all_named (take i xs)) ∙ h)
+
+-- whether a name is among names, looked at one by one
+module _ (w : List ℕ) where
+  pub among-turn : (xs : List Named) (i : ℕ) (d : Named) → i < length xs → (b : Bool) → b ≡ bytes_eq w (get_or xs i d).name.now → (b || has_name w (all_named (drop (i + 1) xs))) ≡ has_name w (all_named (drop i xs))
+  among-turn xs i d l b e = ap (λ c. c || has_name w (all_named (drop (i + 1) xs))) e ∙ sym (ap (λ ys. has_name w (all_named ys)) (drop_more xs i d l))
+
+  pub among-none : (xs : List Named) (i : ℕ) → length xs ≤ i → false ≡ has_name w (all_named (drop i xs))
+  among-none [] zero l = refl
+  among-none [] (suc i) l = refl
+  among-none (x ∷ xs) zero l = absurd (omega (arith, l))
+  among-none (x ∷ xs) (suc i) l = among-none xs i (omega (arith, l))

@@ -1,5 +1,5 @@
 -- Tables of names, as loops write and undo them.
-use Rattle.std.proofs.Common.{◌≡◌, ℕ, ◌+◌, ◌<◌, Bool, true, false, cond, List, [], ◌∷◌, ◌++◌, length, get_or, take, Option, Some, is_some, refl, sym, ap, ◌∙◌}
+use Rattle.std.proofs.Common.{◌≡◌, ℕ, ◌+◌, ◌<◌, Bool, true, false, true≢false, not, cond, List, [], ◌∷◌, ◌++◌, length, get_or, take, Option, Some, refl, sym, ap, ◌∙◌}
 use Rattle.std.specs.Prelude.{◌||◌}
 use Rattle.std.specs.Str.{bytes_eq}
 use Rattle.std.proofs.lemmas.Slice.Eq.{bytes_eq-Decides}
@@ -10,25 +10,28 @@ use Rattle.early_errors.specs.Names as names
 use Rattle.early_errors.specs.Names.{has_name}
 use Rattle.early_errors.specs.Early.{Error, number}
 use Rattle.early_errors.specs.Walk.{sooner, after, named, all_named, with_value, Agree, clashing, undone}
-use Rattle.early_errors.proofs.Naming.{bytes_eq-swaps, one_more, behind, behind-more, has_name-more}
+use Rattle.early_errors.proofs.Naming.{one_more, behind, behind-more, has_name-more}
 
-module _ {V : Type 0} (f g : List ℕ → Option V) (v : V) (xs : List Named) (i : ℕ) (d : Named) (l : i < length xs) (h : Agree g (with_value f (get_or xs i d).name.now (Some v))) where
-  stands-with : (w : List ℕ) → is_some (g w) ≡ (bytes_eq w (get_or xs i d).name.now || is_some (f w))
-  stands-with w = ap is_some (h w) ∙ one (bytes_eq (get_or xs i d).name.now w) ∙ ap (λ b. b || is_some (f w)) (bytes_eq-swaps (get_or xs i d).name.now w)
-    where
-      one : (b : Bool) → is_some (cond b (Some v) (f w)) ≡ (b || is_some (f w))
-      one true = refl
-      one false = refl
-
-  pub seen-turn : ((w : List ℕ) → is_some (f w) ≡ has_name w (behind [] (all_named (take i xs)))) → (w : List ℕ) → is_some (g w) ≡ has_name w (behind [] (all_named (take (i + 1) xs)))
+-- a set with one more of the names
+module _ (f g : List ℕ → Bool) (xs : List Named) (i : ℕ) (d : Named) (l : i < length xs) (h : (w : List ℕ) → g w ≡ (bytes_eq w (get_or xs i d).name.now || f w)) where
+  pub seen-turn : ((w : List ℕ) → f w ≡ has_name w (behind [] (all_named (take i xs)))) → (w : List ℕ) → g w ≡ has_name w (behind [] (all_named (take (i + 1) xs)))
   seen-turn so w =
-      stands-with w ∙ ap (λ b. bytes_eq w (get_or xs i d).name.now || b) (so w)
+      h w ∙ ap (λ b. bytes_eq w (get_or xs i d).name.now || b) (so w)
       ∙ sym (ap (λ ys. has_name w (behind [] ys)) (one_more xs i d l) ∙ ap (has_name w) (behind-more [] (all_named (take i xs)) (named (get_or xs i d))))
 
-  pub there-turn : ((w : List ℕ) → is_some (f w) ≡ has_name w (all_named (take i xs))) → (w : List ℕ) → is_some (g w) ≡ has_name w (all_named (take (i + 1) xs))
+  pub there-turn : ((w : List ℕ) → f w ≡ has_name w (all_named (take i xs))) → (w : List ℕ) → g w ≡ has_name w (all_named (take (i + 1) xs))
   there-turn so w =
-      stands-with w ∙ ap (λ b. bytes_eq w (get_or xs i d).name.now || b) (so w)
+      h w ∙ ap (λ b. bytes_eq w (get_or xs i d).name.now || b) (so w)
       ∙ sym (ap (has_name w) (one_more xs i d l) ∙ has_name-more w (all_named (take i xs)) (named (get_or xs i d)))
+
+-- what an insertion says of the set before
+pub stood : (b s : Bool) → b ≡ not s → b ≡ false → s ≡ true
+stood b true e f = refl
+stood b false e f = absurd (true≢false (sym e ∙ f))
+
+pub stood_not : (b s : Bool) → b ≡ not s → b ≡ true → s ≡ false
+stood_not b true e f = absurd (true≢false (sym f ∙ e))
+stood_not b false e f = refl
 
 -- ---- names that clash
 

@@ -1,9 +1,10 @@
 //! Names that clash with names.
 
-ghost use Rattle.std.specs.Prelude.{◌≡◌, [], ◌∷◌, filter, IfOk, None, OnOk};
+ghost use Rattle.std.specs.Prelude.{◌≡◌, ℕ, List, [], ◌∷◌, false, filter, IfOk, OnOk};
 ghost use Rattle.language.specs.Words.{among};
 ghost use Rattle.early_errors.specs.Early.{each};
-ghost use Rattle.early_errors.specs.Names.{places, shared, twice};
+ghost use Rattle.name_tables.specs.Sets.{contains};
+ghost use Rattle.early_errors.specs.Names.{has_name, places, shared, twice};
 ghost use Rattle.early_errors.specs.Strict.{is_restricted};
 ghost use Rattle.early_errors.specs.Walk.{Agree, after, all_named, clashing, hits, look, sooner, stands, undone};
 
@@ -11,7 +12,11 @@ use crate::EarlyError;
 use crate::found::{Found, sooner, with_error};
 use crate::names::Named;
 use crate::table::Table;
+use name_tables::{HashKey, KeyBuilder, NameSet};
 use std::alloc::{AllocError, Global};
+
+/// So few names are compared one by one: a set of them would cost more.
+const FEW: usize = 32;
 
 /// For each name, the least error that it would clash with.
 pub(crate) type Clashes<'t> = Table<'t, (u8, usize)>;
@@ -42,6 +47,27 @@ pub(crate) fn restricted(names: &[Named], found: Found) -> Found
     found
 }
 
+/// Whether a name is among the names.
+fn is_among(names: &[Named], name: &str) -> bool
+    ensures { result ≡ has_name name.now (all_named names.now) }
+{
+    for other in names {
+        if name == other.name {
+            return true;
+        }
+    }
+    false
+}
+
+/// The key of a set of these names, drawn from them.
+fn key_of(names: &[Named]) -> HashKey {
+    let mut builder = KeyBuilder::new();
+    for named in names {
+        builder.add(named.name);
+    }
+    builder.build()
+}
+
 /// The second and later of each name.
 pub(crate) fn repeated<'t>(
     alloc: Global,
@@ -51,26 +77,40 @@ pub(crate) fn repeated<'t>(
 ) -> Result<Found, AllocError>
     ensures { IfOk result (λ r. r ≡ after found (each error (places (twice (all_named names.now))))) }
 {
-    if names.len() < 2 {
-        return Ok(found);
+    if names.len() <= FEW {
+        return Ok(repeated_of_few(names, error, found));
     }
-    let mut seen = Table::new(alloc);
+    let mut seen = NameSet::new(alloc, key_of(names));
     repeated_after(names, &mut seen, error, found)
 }
 
-/// The same, with a table for the names that were seen.
+/// The same of few names.
+fn repeated_of_few(names: &[Named], error: EarlyError, found: Found) -> Found
+    ensures { result ≡ after found (each error (places (twice (all_named names.now)))) }
+{
+    let mut found = found;
+    for index in 0..names.len() {
+        let named = names[index];
+        if is_among(&names[..index], named.name) {
+            found = with_error(found, error, named.at);
+        }
+    }
+    found
+}
+
+/// The same, with a set for the names that were seen.
 fn repeated_after<'t>(
     names: &[Named<'t>],
-    seen: &mut Table<'t, ()>,
+    seen: &mut NameSet<'t>,
     error: EarlyError,
     found: Found,
 ) -> Result<Found, AllocError>
-    requires { Agree (look seen.now) (λ _. None) }
+    requires { (w : List ℕ) → contains seen.now w ≡ false }
     ensures { IfOk result (λ r. r ≡ after found (each error (places (twice (all_named names.now))))) }
 {
     let mut found = found;
     for named in names {
-        if seen.replace(named.name, Some(()))?.is_some() {
+        if !seen.insert(named.name)? {
             found = with_error(found, error, named.at);
         }
     }
@@ -87,28 +127,54 @@ pub(crate) fn shared<'t>(
 ) -> Result<Found, AllocError>
     ensures { IfOk result (λ r. r ≡ after found (each error (places (shared (all_named names.now) (all_named others.now))))) }
 {
-    if names.is_empty() {
-        return Ok(found);
+    if names.len() <= FEW || others.len() <= FEW {
+        return Ok(shared_of_few(names, others, error, found));
     }
-    let mut there = Table::new(alloc);
+    let mut there = NameSet::new(alloc, key_of(others));
     shared_by(names, others, &mut there, error, found)
 }
 
-/// The same, with a table for the second names.
+/// The same where one of the two are few.
+fn shared_of_few(names: &[Named], others: &[Named], error: EarlyError, found: Found) -> Found
+    ensures { result ≡ after found (each error (places (shared (all_named names.now) (all_named others.now)))) }
+{
+    let mut found = found;
+    for named in names {
+        if is_among(others, named.name) {
+            found = with_error(found, error, named.at);
+        }
+    }
+    found
+}
+
+/// The same, with a set for the second names.
 fn shared_by<'t>(
     names: &[Named],
     others: &[Named<'t>],
-    there: &mut Table<'t, ()>,
+    there: &mut NameSet<'t>,
     error: EarlyError,
     found: Found,
 ) -> Result<Found, AllocError>
-    requires { Agree (look there.now) (λ _. None) }
+    requires { (w : List ℕ) → contains there.now w ≡ false }
     ensures { IfOk result (λ r. r ≡ after found (each error (places (shared (all_named names.now) (all_named others.now))))) }
 {
     for named in others {
-        there.replace(named.name, Some(()))?;
+        there.insert(named.name)?;
     }
-    Ok(reported(names, there, error, found))
+    Ok(held(names, there, error, found))
+}
+
+/// Those of the names that are in a set.
+fn held(names: &[Named], there: &NameSet, error: EarlyError, found: Found) -> Found
+    ensures { result ≡ after found (each error (places (filter (λ x. contains there.now x.0) (all_named names.now)))) }
+{
+    let mut found = found;
+    for named in names {
+        if there.contains(named.name) {
+            found = with_error(found, error, named.at);
+        }
+    }
+    found
 }
 
 /// Those of the names that are in a table.

@@ -7,8 +7,8 @@ use std::alloc::{AllocError, Global};
 use std::collections::BTreeMap;
 use std::mem;
 
-/// What names stand for: a name stands for a value or for none. In a tree by order, not by hash: who writes the text
-/// chooses the names, and could choose them to collide.
+/// What names stand for: a name stands for a value or for none. A tree by the order of bytes, not a hash table: who writes the
+/// text chooses the names, and could choose them to collide; and names come scope by scope, so no key can be drawn from them first.
 #[derive(Drop)]
 pub(crate) struct Table<'t, V> {
     entries: BTreeMap<&'t str, Option<V>>,

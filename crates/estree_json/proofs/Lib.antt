@@ -2,7 +2,8 @@ pub mod Steps
 pub mod Quotes
 mod Rows
 pub mod Lines
-pub mod Tokens
 pub mod Lists
 pub mod Objects
-pub mod Written
+pub mod Floatless
+pub mod Sent
+pub mod SentTexts

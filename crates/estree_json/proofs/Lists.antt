@@ -1,9 +1,11 @@
 -- The values of a node's parts, by their places.
 use Rattle.std.proofs.Common.{◌≡◌, ℕ, zero, suc, ◌+◌, ◌-◌, ◌<◌, ◌≤◌, max, Bool, true, false, List, [], ◌∷◌, length, take, drop, Some, None, refl, sym, ap, ◌∙◌, arith, add-one, nat_eq, inl, inr}
 use Rattle.std.proofs.lemmas.Bool.Decides.{eqb_tells}
-use Rattle.std.proofs.lemmas.List.{length-drop, drop-drop}
+use Rattle.std.proofs.lemmas.List.{length-drop, length-take, drop-drop}
+use Rattle.std.specs.Int.{div_ceil}
 use Rattle.serde_json.specs.Data.{Data, null, array}
 use Rattle.serde_json.specs.View.{items_of}
+use Rattle.serde_json.specs.Events.{items_len}
 use Rattle.tree.specs.Tree.{Tree, Parts, none, part, gap, parts_of, part_at, part_count}
 use Rattle.tree.proofs.PartWalk.{parts_drop, parts_drop-some, parts_drop-past}
 use Rattle.estree_json.specs.Json.{first_or_null, odd_ones, ends_parts, node_json, parts_json}
@@ -131,6 +133,27 @@ past (suc i) (d ∷ ds) l = past i ds (omega (arith, l))
 pub turns_none : (b : Bool) (i : ℕ) (ds : List Data) → length ds ≤ i → in_turns b (drop i ds) ≡ []
 turns_none true i ds l = ap (in_turns true) (past i ds l)
 turns_none false i ds l = ap (in_turns false) (past i ds l)
+
+-- how many they are
+items_count : (ds : List Data) → items_len (items_of ds) ≡ length ds
+items_count [] = refl
+items_count (d ∷ ds) = ap suc (items_count ds)
+
+pub between_count : (n i j : ℕ) (ps : Parts) → n ≡ j - i → j ≤ part_count ps → n ≡ items_len (items_of (between i j (parts_json ps)))
+between_count n i j ps e l =
+    let ds = parts_json ps in
+    omega (arith, e, items_count (between i j ds), length-take (j - i) (drop i ds), length-drop i ds, count_json ps, l)
+
+odd_count : (ds : List Data) → items_len (items_of (odd_ones ds)) ≡ div_ceil (length ds) 2
+odd_count [] = refl
+odd_count (d ∷ []) = refl
+odd_count (d ∷ e ∷ ds) = omega (arith, odd_count ds)
+
+pub turns_count : (n i m : ℕ) (ps : Parts) → n ≡ div_ceil m 2 → m ≡ part_count ps - i → n ≡ items_len (items_of (odd_ones (drop i (parts_json ps))))
+turns_count n i m ps e h =
+    let ds = parts_json ps in
+    let left : m ≡ length (drop i ds) = omega (arith, h, count_json ps, length-drop i ds) in
+    e ∙ ap (λ k. div_ceil k 2) left ∙ sym (odd_count (drop i ds))
 
 -- the array of a list, and the part behind it
 pub list_same : (s b to n : ℕ) (ds : List Data) → n ≡ length ds → to ≡ n - b → array (items_of (take (to - s) (drop s ds))) ≡ array (items_of (take (length (from s ds) - b) (from s ds)))

@@ -11,8 +11,7 @@ use Rattle.tree.specs.declared.kind.Kind.{Kind}
 use Rattle.tree.specs.Tree.{Tree, node, kind_of}
 use Rattle.estree_json.specs.declared.table.Line.{Line}
 use Rattle.estree_json.specs.Json.{label_of, first_or_null, node_json, parts_json}
-use Rattle.estree_json.specs.Table.{Subject, from, option_put, put_line, put_lines, PutsAll}
-use Rattle.estree_json.specs.Tokens.{subject_of}
+use Rattle.estree_json.specs.Table.{Subject, from, option_put, put_line, put_lines, PutsAll, subject_of}
 use Rattle.estree_json.proofs.Lists.{in_turns, turns_taken, turns_passed}
 
 pub view_null : view Null ≡ null

@@ -3,5 +3,6 @@ pub mod Texts
 pub mod Fields
 pub mod Json
 pub mod Table
-pub mod Tokens
+pub mod Sent
 pub mod Primitives
+pub mod Estree

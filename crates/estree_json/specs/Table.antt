@@ -10,7 +10,8 @@ use Rattle.estree_json.specs.declared.table.Flag.TheVariants.{Never, Always, Com
 use Rattle.estree_json.specs.Types.{type_name}
 use Rattle.estree_json.specs.Texts.{literal_value, literal_regex, template_value}
 use Rattle.estree_json.specs.Fields.{Label, fields, property_kind, method_kind, is_method, is_shorthand, directive}
-use Rattle.estree_json.specs.Json.{first_or_null, odd_ones, begun, with_fields}
+use Rattle.tree.specs.Tree.{Tree, kind_of, start_of, stop_of, parts_of}
+use Rattle.estree_json.specs.Json.{first_or_null, odd_ones, begun, with_fields, label_of, parts_json}
 
 -- a node, as its lines see it: its parts are their values
 pub record Subject : Type 0 where
@@ -20,6 +21,9 @@ pub record Subject : Type 0 where
   pub start : ℕ
   pub stop : ℕ
   pub values : List Data
+
+abbrev pub subject_of : Bool → Tree → Subject
+subject_of is_last t = record { is_last = is_last; kind = kind_of t; label = label_of t; start = start_of t; stop = stop_of t; values = parts_json (parts_of t) }
 
 abbrev pub flag_of : Flag → Label → Bool
 flag_of Never l = false

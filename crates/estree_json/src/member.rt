@@ -1,4 +1,5 @@
-//! Members of an object, written one by one.
+//! The members of an object, one by one. None is inlined, so that a level of the walk needs no room for what a serializer answers. Those
+//! that every node has have constant keys, which need no search for escapes.
 
 ghost use Rattle.std.specs.Prelude.{◌≡◌, OnOk, codes, option_map};
 ghost use Rattle.serde_json.specs.Data.{Members, boolean, null, number, unsigned, string, member};
@@ -8,120 +9,186 @@ ghost use Rattle.estree_json.specs.Fields.{directive};
 ghost use Rattle.estree_json.specs.Json.{label_of};
 ghost use Rattle.estree_json.specs.Table.{option_member};
 ghost use Rattle.estree_json.specs.Primitives.{data_of};
-ghost use Rattle.estree_json.specs.Tokens.{Adds};
+ghost use Rattle.estree_json.specs.Types.{type_name as type_name_of};
+ghost use Rattle.estree_json.specs.Sent.{Adds};
 
+use crate::events::{
+    Refused, begin_object, end_object, send_boolean, send_key, send_null, send_number, send_text,
+};
 use crate::fields::first_text;
 use crate::texts::{Primitive, cooked_value, literal_value, regex_parts, unquoted};
-use json::Writer;
-use std::alloc::{AllocError, Global};
-use tree::Node;
+use crate::types::type_name;
+use serde::Serializer;
+use std::alloc::Global;
+use tree::{Kind, Node};
 
 /// A text.
-pub fn text_member(out: &mut Writer, name: &str, text: &str) -> Result<(), AllocError>
-    ensures added { OnOk result (Adds (member name.now (string text.now)) out.old.tokens out.new.tokens) }
-    ensures before { out.new.before ≡ out.old.before }
+#[inline(never)]
+pub fn text_member<S: Serializer>(
+    out: &mut S,
+    error: &mut S::Error,
+    name: &str,
+    text: &str,
+) -> Result<(), Refused>
+    ensures { OnOk result (Adds (member name.now (string text.now)) (S.written out.old) (S.written out.new)) }
 {
-    out.key(name)?;
-    out.string(text)
+    send_key(out, error, name)?;
+    send_text(out, error, text)
 }
 
-/// Yes or no.
-pub fn flag_member(out: &mut Writer, name: &str, flag: bool) -> Result<(), AllocError>
-    ensures added { OnOk result (Adds (member name.now (boolean flag)) out.old.tokens out.new.tokens) }
-    ensures before { out.new.before ≡ out.old.before }
+/// A boolean.
+#[inline(never)]
+pub fn boolean_member<S: Serializer>(
+    out: &mut S,
+    error: &mut S::Error,
+    name: &str,
+    flag: bool,
+) -> Result<(), Refused>
+    ensures { OnOk result (Adds (member name.now (boolean flag)) (S.written out.old) (S.written out.new)) }
 {
-    out.key(name)?;
-    out.boolean(flag)
+    send_key(out, error, name)?;
+    send_boolean(out, error, flag)
 }
 
 /// Null.
-pub fn null_member(out: &mut Writer, name: &str) -> Result<(), AllocError>
-    ensures added { OnOk result (Adds (member name.now null) out.old.tokens out.new.tokens) }
-    ensures before { out.new.before ≡ out.old.before }
+#[inline(never)]
+pub fn null_member<S: Serializer>(
+    out: &mut S,
+    error: &mut S::Error,
+    name: &str,
+) -> Result<(), Refused>
+    ensures { OnOk result (Adds (member name.now null) (S.written out.old) (S.written out.new)) }
 {
-    out.key(name)?;
-    out.null()
+    send_key(out, error, name)?;
+    send_null(out, error)
 }
 
-/// A place in bytes.
-pub fn place_member(out: &mut Writer, name: &str, place: usize) -> Result<(), AllocError>
-    ensures added { OnOk result (Adds (member name.now (number (unsigned place))) out.old.tokens out.new.tokens) }
-    ensures before { out.new.before ≡ out.old.before }
+/// The node's type.
+#[inline(never)]
+pub fn type_member<S: Serializer>(
+    out: &mut S,
+    error: &mut S::Error,
+    kind: Kind,
+) -> Result<(), Refused>
+    ensures { OnOk result (Adds (member (codes "type") (string (type_name_of kind))) (S.written out.old) (S.written out.new)) }
 {
-    out.key(name)?;
-    out.u64(place as u64)
+    send_key(out, error, "type")?;
+    send_text(out, error, type_name(kind))
+}
+
+/// Where the node begins.
+#[inline(never)]
+pub fn start_member<S: Serializer>(
+    out: &mut S,
+    error: &mut S::Error,
+    start: usize,
+) -> Result<(), Refused>
+    ensures { OnOk result (Adds (member (codes "start") (number (unsigned start))) (S.written out.old) (S.written out.new)) }
+{
+    send_key(out, error, "start")?;
+    send_number(out, error, start)
+}
+
+/// Where the node ends.
+#[inline(never)]
+pub fn end_member<S: Serializer>(
+    out: &mut S,
+    error: &mut S::Error,
+    end: usize,
+) -> Result<(), Refused>
+    ensures { OnOk result (Adds (member (codes "end") (number (unsigned end))) (S.written out.old) (S.written out.new)) }
+{
+    send_key(out, error, "end")?;
+    send_number(out, error, end)
 }
 
 /// A primitive value, or nothing.
-fn primitive_member(
-    out: &mut Writer,
+fn primitive_member<S: Serializer>(
+    out: &mut S,
+    error: &mut S::Error,
     name: &str,
     value: &Option<Primitive>,
-) -> Result<(), AllocError>
-    ensures added { OnOk result (Adds (option_member name.now (option_map data_of value.now)) out.old.tokens out.new.tokens) }
-    ensures before { out.new.before ≡ out.old.before }
+) -> Result<(), Refused>
+    ensures { OnOk result (Adds (option_member name.now (option_map data_of value.now)) (S.written out.old) (S.written out.new)) }
 {
     match value {
-        Some(Primitive::Null) => null_member(out, name),
-        Some(Primitive::Boolean(flag)) => flag_member(out, name, *flag),
-        Some(Primitive::Text(text)) => text_member(out, name, text),
+        Some(Primitive::Null) => null_member(out, error, name),
+        Some(Primitive::Boolean(flag)) => boolean_member(out, error, name, *flag),
+        Some(Primitive::Text(text)) => text_member(out, error, name, text),
         None => Ok(()),
     }
 }
 
-/// `value` of a literal: of strings in well-formed UTF-16, booleans and null.
-pub fn literal_member(out: &mut Writer, alloc: Global, raw: &str) -> Result<(), AllocError>
-    ensures added { OnOk result (Adds (option_member (codes "value") (value_of_literal raw.now)) out.old.tokens out.new.tokens) }
-    ensures before { out.new.before ≡ out.old.before }
+/// `value` of a literal, if it is a string in well-formed UTF-16, a boolean or null.
+#[inline(never)]
+pub fn literal_member<S: Serializer>(
+    out: &mut S,
+    error: &mut S::Error,
+    alloc: Global,
+    raw: &str,
+) -> Result<(), Refused>
+    ensures { OnOk result (Adds (option_member (codes "value") (value_of_literal raw.now)) (S.written out.old) (S.written out.new)) }
 {
     let value = literal_value(alloc, raw)?;
-    primitive_member(out, "value", &value)
+    primitive_member(out, error, "value", &value)
 }
 
-/// `regex` of a literal, where it is a regular expression.
-pub fn regex_member(out: &mut Writer, raw: &str) -> Result<(), AllocError>
-    ensures added { OnOk result (Adds (option_member (codes "regex") (literal_regex raw.now)) out.old.tokens out.new.tokens) }
-    ensures before { out.new.before ≡ out.old.before }
+/// `regex` of a literal, if it is a regular expression.
+#[inline(never)]
+pub fn regex_member<S: Serializer>(
+    out: &mut S,
+    error: &mut S::Error,
+    raw: &str,
+) -> Result<(), Refused>
+    ensures { OnOk result (Adds (option_member (codes "regex") (literal_regex raw.now)) (S.written out.old) (S.written out.new)) }
 {
     match raw.strip_prefix('/') {
-        Some(rest) => regex_object(out, rest),
+        Some(rest) => regex_object(out, error, rest),
         None => Ok(()),
     }
 }
 
-/// Flags and pattern of what stands behind the first `/`.
-fn regex_object(out: &mut Writer, rest: &str) -> Result<(), AllocError>
-    ensures added { OnOk result (Adds (member (codes "regex") (regex_of rest.now)) out.old.tokens out.new.tokens) }
-    ensures before { out.new.before ≡ out.old.before }
+/// The flags and the pattern, of what stands behind the first `/`.
+fn regex_object<S: Serializer>(out: &mut S, error: &mut S::Error, rest: &str) -> Result<(), Refused>
+    ensures { OnOk result (Adds (member (codes "regex") (regex_of rest.now)) (S.written out.old) (S.written out.new)) }
 {
     let (pattern, flags) = regex_parts(rest);
-    out.key("regex")?;
-    out.begin_object()?;
-    text_member(out, "flags", flags)?;
-    text_member(out, "pattern", pattern)?;
-    out.end_object()
+    send_key(out, error, "regex")?;
+    begin_object(out, error)?;
+    text_member(out, error, "flags", flags)?;
+    text_member(out, error, "pattern", pattern)?;
+    end_object(out, error)
 }
 
-/// `value` of a template's part, of its raw value.
-pub fn template_member(out: &mut Writer, alloc: Global, raw: &str) -> Result<(), AllocError>
-    ensures added { OnOk result (Adds (member (codes "value") (template_value raw.now)) out.old.tokens out.new.tokens) }
-    ensures before { out.new.before ≡ out.old.before }
+/// `value` of a template's part, with its cooked and its raw value.
+#[inline(never)]
+pub fn template_member<S: Serializer>(
+    out: &mut S,
+    error: &mut S::Error,
+    alloc: Global,
+    raw: &str,
+) -> Result<(), Refused>
+    ensures { OnOk result (Adds (member (codes "value") (template_value raw.now)) (S.written out.old) (S.written out.new)) }
 {
-    out.key("value")?;
-    out.begin_object()?;
     let cooked = cooked_value(alloc, raw)?;
-    primitive_member(out, "cooked", &cooked)?;
-    text_member(out, "raw", raw)?;
-    out.end_object()
+    send_key(out, error, "value")?;
+    begin_object(out, error)?;
+    primitive_member(out, error, "cooked", &cooked)?;
+    text_member(out, error, "raw", raw)?;
+    end_object(out, error)
 }
 
 /// The text of a directive, if the node is one.
-pub fn directive_member(out: &mut Writer, node: Node) -> Result<(), AllocError>
-    ensures added { OnOk result (Adds (option_member (codes "directive") (directive (label_of (node_tree node.entry)))) out.old.tokens out.new.tokens) }
-    ensures before { out.new.before ≡ out.old.before }
+#[inline(never)]
+pub fn directive_member<S: Serializer>(
+    out: &mut S,
+    error: &mut S::Error,
+    node: Node,
+) -> Result<(), Refused>
+    ensures { OnOk result (Adds (option_member (codes "directive") (directive (label_of (node_tree node.entry)))) (S.written out.old) (S.written out.new)) }
 {
     if !node.flags().directive {
         return Ok(());
     }
-    text_member(out, "directive", unquoted(first_text(node)))
+    text_member(out, error, "directive", unquoted(first_text(node)))
 }

@@ -6,8 +6,7 @@ ghost use Rattle.serde_json.specs.View.{view, items_of, members_view};
 ghost use Rattle.tree.specs.Node.{node_tree};
 ghost use Rattle.tree.specs.Tree.{part_count, parts_of};
 ghost use Rattle.estree_json.specs.Json.{first_or_null, odd_ones, node_json, parts_json, json_of};
-ghost use Rattle.estree_json.specs.Table.{value_of, put_line as with_line, from as parts_from};
-ghost use Rattle.estree_json.specs.Tokens.{subject_of};
+ghost use Rattle.estree_json.specs.Table.{value_of, put_line as with_line, subject_of, from as parts_from};
 
 use crate::fields::{is_set, method_kind, property_kind};
 use crate::table::{Line, lines};

@@ -13,4 +13,4 @@ keeps_itself (Some bytes) = refl
 pub no_first : (line : Line) (taken : Option (List ℕ)) (failed : Bool) (result : Result ℕ Refused)
     → result ≡ Err no_file → failed ≡ false → RunsOnFiles line taken taken failed result
 no_first line taken failed result same ready =
-    subst (RunsOnFiles line taken taken failed) (sym same) (None, Some [], true, false, (λ none. refl), (λ view. [], (ready, keeps_itself taken, inl (refl, refl), refl)))
+    subst (RunsOnFiles line taken taken failed) (sym same) (None, Some [], true, false, (λ none. refl), (ready, keeps_itself taken, inl (refl, refl), refl))

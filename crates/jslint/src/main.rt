@@ -2,12 +2,12 @@
 
 //! The program `jslint`: its words, its files, its rules, its streams and its exit status.
 
-ghost use Rattle.std.specs.Prelude.{◌≡◌, ◌≢◌, IfErr, IfOk, false};
+ghost use Rattle.std.specs.Prelude.{◌≡◌, ◌≢◌, IfErr, IfOk, false, map};
 ghost use Rattle.source_text.specs.declared.fault.Fault.TheVariants.{Usage};
 ghost use Rattle.streams.specs.declared.command.Command.TheVariants.{Check};
-ghost use Rattle.jslint.specs.Program.{RunsByRules, RunsOnFiles, no_file};
+ghost use Rattle.jslint.specs.Program.{Answers, FindAs, NoWordsSaid, Obeys, RunsByRules, RunsLine, RunsOnFiles, no_file};
 
-use command_line::{Line, command_line, explain};
+use command_line::{Line, command_line, explain, explain_not_utf8};
 use lint::run::run;
 use rules::{
     EqEqEq, NoDebugger, NoEmpty, NoExtraParens, NoShadow, NoUndef, NoUnusedVars, NoVar,
@@ -20,17 +20,39 @@ use std::rt::{Env, Files};
 use std::{env, fs, io};
 use streams::{Command, Refused, write_refusal};
 
-/// The words of the command line, the program's name first. Words that are not UTF-8 name no file that can be read.
-fn own_words<R: Env + AllocGlobal>(rt: &R) -> Result<Vec<String>, Fault>
-    ensures { IfErr result (λ fault. fault ≢ Usage) }
-{
+/// Why the command line has no words for us.
+#[derive(Clone, Copy, Debug, PartialEq, Eq)]
+enum NoWords {
+    /// Memory was refused for them.
+    OutOfMemory,
+    /// One isn't UTF-8.
+    NotUtf8,
+}
+
+/// The words of the command line, the program's name first.
+fn own_words<R: Env + AllocGlobal>(rt: &R) -> Result<Vec<String>, NoWords> {
     match env::args(rt) {
         Ok(words) => match words.collect(rt.alloc()) {
             Ok(words) => Ok(words),
-            Err(_) => Err(Fault::OutOfMemory),
+            Err(_) => Err(NoWords::OutOfMemory),
         },
-        Err(error) if error.kind() == io::ErrorKind::OutOfMemory => Err(Fault::OutOfMemory),
-        Err(_) => Err(Fault::ReadFailed),
+        Err(error) if error.kind() == io::ErrorKind::OutOfMemory => Err(NoWords::OutOfMemory),
+        Err(_) => Err(NoWords::NotUtf8),
+    }
+}
+
+/// Says why there are no words. Answers the exit status.
+fn explain_no_words<W: Sink>(why: NoWords, errors: &mut W) -> u8
+    requires { W.failed errors.old ≡ false }
+    ensures { NoWordsSaid (record {
+      before = W.taken errors.old;
+      after = W.taken errors.new;
+      failed = W.failed errors.new;
+    }) result }
+{
+    match why {
+        NoWords::OutOfMemory => write_refusal(&Refused::at_no_place(Fault::OutOfMemory), errors),
+        NoWords::NotUtf8 => explain_not_utf8(errors),
     }
 }
 
@@ -43,6 +65,32 @@ fn open<R: Files>(rt: &R, name: &str) -> Result<Device<R::File>, Refused>
         Ok(file) => Ok(Device::of_reader(file)),
         Err(_) => Err(Refused::at_no_place(Fault::ReadFailed)),
     }
+}
+
+/// Runs `check` with these rules, which find what the nine find.
+fn check_by<F: Feed, S: Feed, W: Sink>(
+    alloc: Global,
+    rules: &[Box<dyn Rule>],
+    file: &mut F,
+    settings: &mut S,
+    output: &mut W,
+) -> Result<u8, Refused>
+    requires nine { FindAs (λ b. called b) (λ b. finds b) Check rules.now }
+    requires reads { F.failed file.old ≡ false }
+    requires reads_settings { S.failed settings.old ≡ false }
+    requires writes { W.failed output.old ≡ false }
+    ensures told { IfErr result (λ refused. refused.fault ≢ Usage) }
+    ensures answer { RunsByRules Check (record {
+      given = F.left file.old;
+      second = S.left settings.old;
+      before = W.taken output.old;
+      after = W.taken output.new;
+      reader_failed = F.failed file.new;
+      second_failed = S.failed settings.new;
+      writer_failed = W.failed output.new;
+    }) result }
+{
+    run(alloc, Command::Check, rules, file, settings, output)
 }
 
 /// Runs `check` with the nine rules.
@@ -66,17 +114,18 @@ fn check<F: Feed, S: Feed, W: Sink>(
       writer_failed = W.failed output.new;
     }) result }
 {
-    let mut rules: Vec<Box<dyn Rule>> = Vec::new(alloc);
-    rules.push(Box::new(alloc, EqEqEq::new(alloc))?)?;
-    rules.push(Box::new(alloc, NoDebugger::new(alloc))?)?;
-    rules.push(Box::new(alloc, NoEmpty::new(alloc))?)?;
-    rules.push(Box::new(alloc, NoExtraParens::new(alloc))?)?;
-    rules.push(Box::new(alloc, NoShadow::new(alloc))?)?;
-    rules.push(Box::new(alloc, NoUndef::new(alloc))?)?;
-    rules.push(Box::new(alloc, NoUnusedVars::new(alloc))?)?;
-    rules.push(Box::new(alloc, NoVar::new(alloc))?)?;
-    rules.push(Box::new(alloc, PreferConst::new(alloc))?)?;
-    run(alloc, Command::Check, &rules, file, settings, output)
+    let rules: [Box<dyn Rule>; 9] = [
+        Box::new(alloc, EqEqEq::new(alloc))?,
+        Box::new(alloc, NoDebugger::new(alloc))?,
+        Box::new(alloc, NoEmpty::new(alloc))?,
+        Box::new(alloc, NoExtraParens::new(alloc))?,
+        Box::new(alloc, NoShadow::new(alloc))?,
+        Box::new(alloc, NoUndef::new(alloc))?,
+        Box::new(alloc, NoUnusedVars::new(alloc))?,
+        Box::new(alloc, NoVar::new(alloc))?,
+        Box::new(alloc, PreferConst::new(alloc))?,
+    ];
+    check_by(alloc, &rules, file, settings, output)
 }
 
 /// Runs the command, with its rules where it is `check`.
@@ -130,6 +179,31 @@ fn open_and_run<R: Files + AllocGlobal, W: Sink>(
     }
 }
 
+/// Runs a line over its files, and says why where it is refused. Answers the exit status.
+fn run_line<R: Files + AllocGlobal, O: Sink, W: Sink>(
+    rt: &R,
+    line: Line,
+    output: &mut O,
+    errors: &mut W,
+) -> u8
+    requires writes { O.failed output.old ≡ false }
+    requires tells { W.failed errors.old ≡ false }
+    ensures { RunsLine line.entry (record {
+      before = O.taken output.old;
+      after = O.taken output.new;
+      failed = O.failed output.new;
+    }) (record {
+      before = W.taken errors.old;
+      after = W.taken errors.new;
+      failed = W.failed errors.new;
+    }) result }
+{
+    match open_and_run(rt, line, output) {
+        Ok(status) => status,
+        Err(refused) => write_refusal(&refused, errors),
+    }
+}
+
 /// Does what the words ask for, and answers the exit status.
 fn obey<R: Files + AllocGlobal + Print + Eprint, O: Sink, W: Sink>(
     rt: &R,
@@ -139,34 +213,63 @@ fn obey<R: Files + AllocGlobal + Print + Eprint, O: Sink, W: Sink>(
 ) -> u8
     requires writes { O.failed output.old ≡ false }
     requires tells { W.failed errors.old ≡ false }
+    ensures { Obeys (map (λ w. w.now) words.now) (record {
+      before = O.taken output.old;
+      after = O.taken output.new;
+      failed = O.failed output.new;
+    }) (record {
+      before = W.taken errors.old;
+      after = W.taken errors.new;
+      failed = W.failed errors.new;
+    }) result }
 {
     match command_line(rt.alloc(), words) {
-        Ok(line) => match open_and_run(rt, line, output) {
-            Ok(status) => status,
-            Err(refused) => write_refusal(&refused, errors),
-        },
-        Err(error) => explain(rt, &error, errors),
+        Ok(line) => run_line(rt, line, output, errors),
+        Err(error) => explain(rt, words, &error, errors),
     }
+}
+
+/// The words of the command line as they are lent.
+fn lent<'a>(alloc: Global, words: &'a [String]) -> Result<Vec<&'a str>, NoWords> {
+    match words.iter().map(|word| word.as_str()).collect(alloc) {
+        Ok(lent) => Ok(lent),
+        Err(_) => Err(NoWords::OutOfMemory),
+    }
+}
+
+/// Does what the words of the command line ask for, and answers the exit status.
+fn obey_own_words<R: Env + Files + AllocGlobal + Print + Eprint, O: Sink, W: Sink>(
+    rt: &R,
+    output: &mut O,
+    errors: &mut W,
+) -> u8
+    requires writes { O.failed output.old ≡ false }
+    requires tells { W.failed errors.old ≡ false }
+    ensures { Answers (record {
+      before = O.taken output.old;
+      after = O.taken output.new;
+      failed = O.failed output.new;
+    }) (record {
+      before = W.taken errors.old;
+      after = W.taken errors.new;
+      failed = W.failed errors.new;
+    }) result }
+{
+    let owned = match own_words(rt) {
+        Ok(owned) => owned,
+        Err(why) => return explain_no_words(why, errors),
+    };
+    let words = match lent(rt.alloc(), &owned) {
+        Ok(words) => words,
+        Err(why) => return explain_no_words(why, errors),
+    };
+    obey(rt, &words, output, errors)
 }
 
 fn main(rt: HostRuntime) -> ExitCode {
     let mut output = Device::of_writer(rt.stdout());
     let mut errors = Device::of_writer(rt.stderr());
-    let owned = match own_words(&rt) {
-        Ok(owned) => owned,
-        Err(fault) => return ExitCode::from(write_refusal(
-            &Refused::at_no_place(fault),
-            &mut errors,
-        )),
-    };
-    let words: Vec<&str> = match owned.iter().map(|word| word.as_str()).collect(rt.alloc()) {
-        Ok(words) => words,
-        Err(_) => return ExitCode::from(write_refusal(
-            &Refused::at_no_place(Fault::OutOfMemory),
-            &mut errors,
-        )),
-    };
-    ExitCode::from(obey(&rt, &words, &mut output, &mut errors))
+    ExitCode::from(obey_own_words(&rt, &mut output, &mut errors))
 }
 
 #[cfg(test)]

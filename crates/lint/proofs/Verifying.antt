@@ -183,7 +183,7 @@ planned text n P parsed plan is meets = λ finds given. (
       record {
         table = table_of plan.table.rows.items plan.table.total;
         bounds = meets.bounds;
-        exact = meets.exact is.text P is.utf8 (max_open, is.derived.1);
+        exact = meets.exact is.text P is.utf8 is.derived;
         is_text = refl;
       },
       refl,

@@ -47,9 +47,9 @@ RefusesReading text (Early number at) = IsPlace text at × HasEarlyError text nu
 RefusesReading text OutOfMemory = Unit {0}
 RefusesReading text other = ⊥
 
--- some source text derives this tree within the limits, with these pairs
+-- some source text derives this tree, of any height and nesting, with these pairs
 pub record IsScript (n : Tree) (P : List Pair) : Type 0 where
   pub text : List ℕ
   pub utf8 : IsUtf8 text
   pub short : length text ≤ max_bytes
-  pub derived : WithinLimits text n P
+  pub derived : Derives text n P

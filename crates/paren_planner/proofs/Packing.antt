@@ -5,31 +5,31 @@ use Rattle.std.proofs.lemmas.List.{map-append, map_push, reverse-append, reverse
 use Rattle.std.proofs.lemmas.List.Elements.{All-nil, All-cons, All-append, All-head, All-tail}
 use Rattle.tree.specs.declared.kind.Kind.{Kind}
 use Rattle.paren_planner.specs.declared.costs.Costs as own
-use Rattle.paren_planner.specs.declared.packed.Numbers.{Numbers}
-use Rattle.paren_planner.specs.declared.packed.Numbers.TheVariants.{Same, Apart}
+use Rattle.paren_planner.specs.declared.packed.Place.{Place}
 use Rattle.paren_planner.specs.declared.packed.Packed.{Packed}
+use Rattle.paren_planner.specs.declared.packed.Packed.TheVariants.{Same, Apart}
 use Rattle.paren_planner.specs.Costs.{same_everywhere}
-use Rattle.paren_planner.specs.Packed.{numbers_in, unpacked, IsIn, IsPacked}
+use Rattle.paren_planner.specs.Packed.{index_of, unpacked, IsPacked}
 use Rattle.paren_planner.specs.Rows.{row_with}
 
 -- One more row
 
-numbers_kept : (cs : List own.Costs) (c : own.Costs) (n : Numbers) → IsIn (length cs) n → numbers_in (cs ++ c ∷ []) n ≡ numbers_in cs n
-numbers_kept cs c (Same s m) h = refl
-numbers_kept cs c (Apart i) h = get_or_append_left cs (c ∷ []) (same_everywhere None) i h
+row_kept : (cs : List own.Costs) (c : own.Costs) (p : Packed) → IsPacked (length cs) p → unpacked (cs ++ c ∷ []) p ≡ unpacked cs p
+row_kept cs c (Same k s m) h = refl
+row_kept cs c (Apart k p) h = ap (row_with k) (get_or_append_left cs (c ∷ []) (same_everywhere None) (index_of p) h)
 
 -- numbers that stand apart behind the others change no row
 pub rows_kept : (cs : List own.Costs) (c : own.Costs) (ps : List Packed) → All (IsPacked (length cs)) ps → map (unpacked (cs ++ c ∷ [])) ps ≡ map (unpacked cs) ps
 rows_kept cs c [] h = refl
 rows_kept cs c (p ∷ ps) h =
-    λ j. row_with p.kind (numbers_kept cs c p.numbers (All-head (IsPacked (length cs)) p ps h) j) ∷ rows_kept cs c ps (All-tail (IsPacked (length cs)) p ps h) j
+    λ j. row_kept cs c p (All-head (IsPacked (length cs)) p ps h) j ∷ rows_kept cs c ps (All-tail (IsPacked (length cs)) p ps h) j
 
-pub apart_pushed : (cs ds : List own.Costs) (c : own.Costs) (ps qs : List Packed) (k : Kind) (i : ℕ) → All (IsPacked (length cs)) ps → ds ≡ cs ++ c ∷ [] → i ≡ length cs → qs ≡ ps ++ record { kind = k; numbers = Apart i } ∷ [] →
+pub apart_pushed : (cs ds : List own.Costs) (c : own.Costs) (ps qs : List Packed) (k : Kind) (i : Place) → All (IsPacked (length cs)) ps → ds ≡ cs ++ c ∷ [] → index_of i ≡ length cs → qs ≡ ps ++ Apart k i ∷ [] →
     map (unpacked ds) qs ≡ map (unpacked cs) ps ++ row_with k c ∷ []
 apart_pushed cs ds c ps qs k i h e n q =
     (λ j. map (unpacked (e j)) (q j))
-    ∙ map_push (unpacked (cs ++ c ∷ [])) ps (record { kind = k; numbers = Apart i })
-    ∙ (λ j. rows_kept cs c ps h j ++ row_with k (get_or_push cs c (same_everywhere None) i (sym n) j) ∷ [])
+    ∙ map_push (unpacked (cs ++ c ∷ [])) ps (Apart k i)
+    ∙ (λ j. rows_kept cs c ps h j ++ row_with k (get_or_push cs c (same_everywhere None) (index_of i) (sym n) j) ∷ [])
 
 pub pushed_order : {X : Type 0} (ts ps qs : List X) (x : X) → qs ≡ ps ++ x ∷ [] → reverse ts ++ qs ≡ (reverse ts ++ ps) ++ x ∷ []
 pushed_order ts ps qs x e = ap (λ us. reverse ts ++ us) e ∙ sym (append_assoc (reverse ts) ps (x ∷ []))
@@ -37,14 +37,14 @@ pushed_order ts ps qs x e = ap (λ us. reverse ts ++ us) e ∙ sym (append_assoc
 pub one_more_packed : (n : ℕ) (ts ps qs : List Packed) (x : Packed) → All (IsPacked n) (reverse ts ++ ps) → qs ≡ ps ++ x ∷ [] → IsPacked n x → All (IsPacked n) (reverse ts ++ qs)
 one_more_packed n ts ps qs x h e i = subst (All (IsPacked n)) (sym (pushed_order ts ps qs x e)) (All-append (IsPacked n) (reverse ts ++ ps) (x ∷ []) h (All-cons (IsPacked n) x [] i (All-nil (IsPacked n))))
 
-in_more : (n m : ℕ) (k : Numbers) → n ≤ m → IsIn n k → IsIn m k
-in_more n m (Same s k) l h = h
-in_more n m (Apart i) l h = omega (arith, l, h)
+in_more : (n m : ℕ) (p : Packed) → n ≤ m → IsPacked n p → IsPacked m p
+in_more n m (Same k s c) l h = h
+in_more n m (Apart k p) l h = omega (arith, l, h)
 
 -- what is said of numbers apart holds of more of them
 pub all_in_more : (n m : ℕ) (ps : List Packed) → n ≤ m → All (IsPacked n) ps → All (IsPacked m) ps
 all_in_more n m [] l h = All-nil (IsPacked m)
-all_in_more n m (p ∷ ps) l h = All-cons (IsPacked m) p ps (in_more n m p.numbers l (All-head (IsPacked n) p ps h)) (all_in_more n m ps l (All-tail (IsPacked n) p ps h))
+all_in_more n m (p ∷ ps) l h = All-cons (IsPacked m) p ps (in_more n m p l (All-head (IsPacked n) p ps h)) (all_in_more n m ps l (All-tail (IsPacked n) p ps h))
 
 -- The other way round
 

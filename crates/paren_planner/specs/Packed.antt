@@ -1,5 +1,5 @@
 -- Rows in few bytes, and the rows that they stand for.
-use Rattle.std.specs.Prelude.{ℕ, ◌<◌, cond, List, ◌++◌, reverse, Some, None, get_or}
+use Rattle.std.specs.Prelude.{ℕ, ◌+◌, ◌*◌, ◌<◌, cond, List, ◌++◌, reverse, Some, None, get_or}
 use Rattle.language.specs.declared.Rank.{Rank}
 use Rattle.language.specs.declared.Rank.TheVariants.{Member}
 use Rattle.language.specs.Words.{takes}
@@ -8,9 +8,9 @@ use Rattle.paren_planner.specs.declared.costs.Costs as own
 use Rattle.paren_planner.specs.declared.packed.Filled.{Filled}
 use Rattle.paren_planner.specs.declared.packed.Filled.TheVariants.{Each, NotStatement, OnlyAny, Nowhere}
 use Rattle.paren_planner.specs.declared.packed.Shape.{Shape}
-use Rattle.paren_planner.specs.declared.packed.Numbers.{Numbers}
-use Rattle.paren_planner.specs.declared.packed.Numbers.TheVariants.{Same, Apart}
+use Rattle.paren_planner.specs.declared.packed.Place.{Place}
 use Rattle.paren_planner.specs.declared.packed.Packed.{Packed}
+use Rattle.paren_planner.specs.declared.packed.Packed.TheVariants.{Same, Apart}
 use Rattle.paren_planner.specs.declared.table.Row.{Row}
 use Rattle.paren_planner.specs.Costs.{same_everywhere}
 use Rattle.paren_planner.specs.Rows.{row_with}
@@ -30,21 +30,19 @@ shaped s m = record { with_in = filled s.with_in m; without_in = filled s.withou
 abbrev pub free_shape : Rank → Shape
 free_shape z = record { with_in = Each; without_in = Each; at_member = cond (takes Member z) Each Nowhere }
 
--- the numbers of a packed row, by those that stand apart
-abbrev pub numbers_in : List own.Costs → Numbers → own.Costs
-numbers_in apart (Same s m) = shaped s m
-numbers_in apart (Apart i) = get_or apart i (same_everywhere None)
+-- the place that two halves of 32 bits say
+abbrev pub index_of : Place → ℕ
+index_of p = p.high * 4294967296 + p.low
 
+-- the row of a packed one, by the numbers that stand apart
 abbrev pub unpacked : List own.Costs → Packed → Row
-unpacked apart p = row_with p.kind (numbers_in apart p.numbers)
+unpacked apart (Same k s m) = row_with k (shaped s m)
+unpacked apart (Apart k p) = row_with k (get_or apart (index_of p) (same_everywhere None))
 
 -- what it says of numbers apart is there
-abbrev pub IsIn : ℕ → Numbers → Type 0
-IsIn count (Same s m) = Unit {0}
-IsIn count (Apart i) = i < count
-
 abbrev pub IsPacked : ℕ → Packed → Type 0
-IsPacked count p = IsIn count p.numbers
+IsPacked count (Same k s m) = Unit {0}
+IsPacked count (Apart k p) = index_of p < count
 
 -- the first rows stand the other way round
 abbrev pub in_order : List Packed → List Packed → List Packed

@@ -4,7 +4,7 @@ ghost use Rattle.std.specs.Prelude.{◌≡◌, true, cond, Some, IfSome};
 ghost use Rattle.paren_planner.specs.declared.packed.Filled.TheVariants.{Each, Nowhere};
 ghost use Rattle.positions.specs.Outlines.{role_of};
 ghost use Rattle.paren_planner.specs.Costs.{started_at, eight, cost_at as cost_of_costs};
-ghost use Rattle.paren_planner.specs.Packed.{filled, free_shape, shaped};
+ghost use Rattle.paren_planner.specs.Packed.{filled, free_shape, shaped, index_of, unpacked};
 ghost use Rattle.paren_planner.specs.Weighed.{cost_of};
 
 use crate::costs::{Costs, Starts};
@@ -180,17 +180,50 @@ impl Shape {
     }
 }
 
-/// The numbers of a row: one number in some shape, or numbers that stand apart.
+/// A place in a list, in two halves: a row with one takes twelve bytes, where a `usize` would make it sixteen.
 #[derive(Clone, Copy)]
-pub(crate) enum Numbers {
-    Same(Shape, u32),
-    /// Their place among those.
-    Apart(u32),
+pub(crate) struct Place {
+    high: u32,
+    low: u32,
 }
+
+impl Place {
+    pub(crate) fn of(index: usize) -> Place
+        ensures { index_of result ≡ index }
+    {
+        Place {
+            high: (index / HALF) as u32,
+            low: (index % HALF) as u32,
+        }
+    }
+
+    /// The index, counted from 0.
+    pub(crate) fn index(self) -> usize
+        ensures { result ≡ index_of self }
+    {
+        self.high as usize * HALF + self.low as usize
+    }
+}
+
+/// How many places have the same upper half.
+const HALF: usize = 4_294_967_296;
 
 /// A row, packed: the node's kind, and what it costs.
 #[derive(Clone, Copy)]
-pub(crate) struct Packed {
-    pub kind: Kind,
-    pub numbers: Numbers,
+pub(crate) enum Packed {
+    /// One number, in a shape.
+    Same(Kind, Shape, u32),
+    /// The place of its numbers among those that stand apart.
+    Apart(Kind, Place),
+}
+
+impl Packed {
+    pub(crate) fn kind(self) -> Kind
+        ensures { (apart : _) → result ≡ (unpacked apart self).kind }
+    {
+        match self {
+            Packed::Same(kind, _, _) => kind,
+            Packed::Apart(kind, _) => kind,
+        }
+    }
 }

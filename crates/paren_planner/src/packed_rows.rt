@@ -8,7 +8,7 @@ ghost use Rattle.paren_planner.specs.Rows.{row_with};
 ghost use Rattle.paren_planner.specs.Weighed.{cost_of};
 
 use crate::costs::Costs;
-use crate::packed::{Numbers, Packed, Shape};
+use crate::packed::{Packed, Place, Shape};
 use crate::weighed::cost_at;
 use chunks::Chunks;
 use positions::Position;
@@ -61,10 +61,7 @@ impl PackedRows {
         ensures rows { OnOk result (self.new.items ≡ self.old.items ++ row_with kind (shaped shape number) ∷ []) }
         ensures kept { OnErr result (self.new.items ≡ self.old.items) }
     {
-        self.packed.push(Packed {
-            kind,
-            numbers: Numbers::Same(shape, number),
-        })?;
+        self.packed.push(Packed::Same(kind, shape, number))?;
         Ok(())
     }
 
@@ -85,15 +82,9 @@ impl PackedRows {
         ensures rows { OnOk result (self.new.items ≡ self.old.items ++ row_with kind costs.now ∷ []) }
         ensures kept { OnErr result (self.new.items ≡ self.old.items) }
     {
-        let place = self.apart.len();
-        if place > 4_294_967_295 {
-            return Err(AllocError);
-        }
+        let place = Place::of(self.apart.len());
         self.apart.push(*costs)?;
-        self.packed.push(Packed {
-            kind,
-            numbers: Numbers::Apart(place as u32),
-        })?;
+        self.packed.push(Packed::Apart(kind, place))?;
         Ok(())
     }
 
@@ -115,7 +106,7 @@ impl PackedRows {
         requires { index < length self.now.items }
         ensures { (r : _) → result ≡ (slice_index_or self.now.items index r).kind }
     {
-        packed_at(&self.turned, &self.packed, index).kind
+        packed_at(&self.turned, &self.packed, index).kind()
     }
 
     /// The cells of a row, by its index.
@@ -123,9 +114,9 @@ impl PackedRows {
         requires { index < length self.now.items }
         ensures { (r : _) → result ≡ eight (slice_index_or self.now.items index r).costs }
     {
-        match packed_at(&self.turned, &self.packed, index).numbers {
-            Numbers::Same(shape, number) => shape.cells(number),
-            Numbers::Apart(place) => self.apart[place as usize].cells(),
+        match *packed_at(&self.turned, &self.packed, index) {
+            Packed::Same(_, shape, number) => shape.cells(number),
+            Packed::Apart(_, place) => self.apart[place.index()].cells(),
         }
     }
 
@@ -136,9 +127,9 @@ impl PackedRows {
         if index >= self.len() {
             return None;
         }
-        match packed_at(&self.turned, &self.packed, index).numbers {
-            Numbers::Same(shape, number) => shape.cost_at(number, position),
-            Numbers::Apart(place) => cost_at(&self.apart[place as usize], position),
+        match *packed_at(&self.turned, &self.packed, index) {
+            Packed::Same(_, shape, number) => shape.cost_at(number, position),
+            Packed::Apart(_, place) => cost_at(&self.apart[place.index()], position),
         }
     }
 }

@@ -3,7 +3,9 @@
 use crate::finished::push_difference_of_source;
 use crate::refusals::push_refusal;
 use crate::rows::Row;
-use crate::{cursors, devices, heights, lexemes, nodes, parsed, plans, refusals, runs, words};
+use crate::{
+    cursors, devices, heights, lexemes, nodes, parsed, plans, refusals, reports, runs, words,
+};
 use source_text::Source;
 use std::alloc::{AllocError, Global};
 
@@ -52,6 +54,7 @@ fn of_commands(alloc: Global, row: &Row, out: &mut String) -> Result<(), AllocEr
         "check" | "cost" | "verify" => runs::push_command(alloc, row, out),
         "check bytes" => runs::push_second_bytes(alloc, row, out),
         "check by ten" => runs::push_with_tenth(alloc, row, out),
+        "gauged run" => runs::push_gauged(alloc, row, out),
         _ => of_trees(alloc, row, out),
     }
 }
@@ -62,6 +65,8 @@ fn of_trees(alloc: Global, row: &Row, out: &mut String) -> Result<(), AllocError
         "joined" => heights::push_joined(alloc, row, out),
         "only" => heights::push_only(alloc, row.text(1), out),
         "table" => plans::push_table(alloc, out),
+        "read table" => plans::push_read_table(alloc, row.text(1), out),
+        "settings" => reports::push_settings(alloc, row.text(1), out),
         "template" => lexemes::push_template(alloc, row.text(1), out),
         "get" => lexemes::push_get(row.text(1), out),
         _ => of_call(alloc, row, out),
@@ -96,7 +101,7 @@ fn of_source(
         "units" => lexemes::push_units(alloc, source, out),
         "place" => devices::push_place(source, row, out),
         "cursor" => cursors::push_steps(source, row, out),
-        "begins" => parsed::push_beginnings(alloc, row.text(1), out),
+        "begins" => runs::push_beginnings(alloc, row.text(1), out),
         "early" => parsed::push_accepted(alloc, source, out),
         "fix" => parsed::push_fixed(alloc, source, out),
         "fixes" => parsed::push_fixes(alloc, source, out),

@@ -1,5 +1,6 @@
 //! Bytes, and devices that take or give little, or fail.
 
+use crate::refusals::push_fault;
 use crate::rows::Row;
 use source_text::{Device, Fault, MemoryFeed, MemorySink, Plan, Source, write_text};
 use std::alloc::{AllocError, Global};
@@ -88,7 +89,7 @@ pub(crate) fn push_device(text: &str, out: &mut String) -> Result<(), AllocError
 fn push_got(got: Result<Vec<u8>, Fault>, out: &mut String) -> Result<(), AllocError> {
     match got {
         Ok(bytes) => push_bytes(&bytes, out),
-        Err(fault) => write!(out, "{fault}"),
+        Err(fault) => push_fault(fault, out),
     }
 }
 

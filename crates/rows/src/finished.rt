@@ -3,7 +3,7 @@
 use crate::print::{show, word};
 use crate::sketch::parts;
 use parser::parse;
-use source_text::Source;
+use source_text::{Fault, Source};
 use std::alloc::{AllocError, Global};
 use tree::{Node, NodeText, Parts, Program, Span, Syntax};
 
@@ -35,7 +35,10 @@ fn push_difference(alloc: Global, parts: Parts, out: &mut String) -> Result<(), 
     let parts = parts.into_items();
     let mut boxed = String::new(alloc);
     push_boxed(&parts, &mut boxed)?;
-    let program = Program::build(alloc, Parts::from_items(parts), Span { start: 0, end: 0 })?;
+    let span = Span { start: 0, end: 0 };
+    let Ok(program) = Program::build(alloc, Parts::from_items(parts), span) else {
+        return Err(AllocError);
+    };
     let mut flat = String::new(alloc);
     push_flat(&program, &mut flat)?;
     out.push_str(word(boxed.as_str() != flat.as_str(), "another tree: "))
@@ -86,6 +89,7 @@ pub(crate) fn push_difference_of_source(
 ) -> Result<(), AllocError> {
     match parse(alloc, source) {
         Ok(parsed) => push_difference_of(alloc, parsed.program(), out),
+        Err(Fault::OutOfMemory) => Err(AllocError),
         Err(_) => Ok(()),
     }
 }

@@ -1,6 +1,7 @@
 //! Parts that are put together, and taken apart.
 
 use crate::print::show;
+use crate::refusals::push_fault;
 use crate::rows::Row;
 use crate::sketch::parts;
 use productions::{Nodes, Tall, plain};
@@ -23,7 +24,7 @@ fn joined<'s>(alloc: Global, row: &'s Row) -> Result<Tall<'s>, Fault> {
 pub(crate) fn push_joined(alloc: Global, row: &Row, out: &mut String) -> Result<(), AllocError> {
     match joined(alloc, row) {
         Ok(array) => show(array.node(), out),
-        Err(fault) => write!(out, "{fault}"),
+        Err(fault) => push_fault(fault, out),
     }
 }
 
@@ -38,5 +39,8 @@ fn only_height(alloc: Global, text: &str) -> Result<Option<u32>, Fault> {
 }
 
 pub(crate) fn push_only(alloc: Global, text: &str, out: &mut String) -> Result<(), AllocError> {
-    write!(out, "{:?}", only_height(alloc, text))
+    match only_height(alloc, text) {
+        Ok(height) => write!(out, "{height:?}"),
+        Err(fault) => push_fault(fault, out),
+    }
 }

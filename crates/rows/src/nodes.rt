@@ -55,7 +55,8 @@ fn push_height(program: &Program, out: &mut String) -> Result<(), AllocError> {
 }
 
 fn push_error(alloc: Global, program: &Program, out: &mut String) -> Result<(), AllocError> {
-    write!(out, "{:?}", first_early_error(alloc, program))
+    let error = first_early_error(alloc, program)?;
+    write!(out, "{error:?}")
 }
 
 /// Whether a tree is the same as another, whichever comes first.
@@ -77,6 +78,25 @@ pub(crate) fn push_copy(
 fn push_copied(program: &Program, copy: &Program, out: &mut String) -> Result<(), AllocError> {
     push_compared(program, copy, out)?;
     show(copy.root(), out)
+}
+
+/// The line of a script.
+fn line(alloc: Global, program: &Program) -> Result<String, AllocError> {
+    let mut out = String::new(alloc);
+    show(program.root(), &mut out)?;
+    Ok(out)
+}
+
+/// Whether a copy is the same tree, and whether its line is the same, places included.
+pub(crate) fn push_equal_copy(
+    alloc: Global,
+    program: &Program,
+    out: &mut String,
+) -> Result<(), AllocError> {
+    let copy = try_copy(alloc, program)?;
+    push_compared(program, &copy, out)?;
+    let is_equal = line(alloc, program)?.as_str() == line(alloc, &copy)?.as_str();
+    write!(out, "{is_equal}")
 }
 
 fn push_same(

@@ -2,52 +2,21 @@
 
 use crate::devices::{plan, push_answer};
 use crate::finished::push_nodes;
-use crate::nodes::push_copy;
-use crate::plans::{push_extra, push_extra_pairs, push_plan};
-use crate::printing::{is_fixed, push_layout, push_pieces, push_written};
+use crate::nodes::{push_copy, push_equal_copy};
+use crate::plans::{push_extra, push_extra_pairs, push_gauged_table, push_plan};
+use crate::printing::{is_fixed, push_gauged_layout, push_layout, push_pieces, push_written};
 use crate::refusals::push_refusal;
+use crate::reports::{push_rules, push_scopes};
 use crate::rows::Row;
+use crate::runs::is_written;
 use estree_json::{to_value, tree_text, write_tree};
 use lint::{fix_text, read_script};
 use parser::{Parsed, parse};
 use serde_json::Value;
 use source_text::{Fault, MemorySink, Source};
 use std::alloc::{AllocError, Global};
+use streams::Command;
 use tree::{Program, same_tree};
-
-/// Of the text's beginnings, each asked twice, which are scripts: a `;` for each that is, an `x` for each that isn't, and `?` where the
-/// second answer is another, or a syntax error is inside a character.
-pub(crate) fn push_beginnings(
-    alloc: Global,
-    text: &str,
-    out: &mut String,
-) -> Result<(), AllocError> {
-    for end in 0..text.len() {
-        if let Some(beginning) = text.get(..end) {
-            out.push(beginning_answer(alloc, beginning))?;
-        }
-    }
-    Ok(())
-}
-
-fn beginning_answer(alloc: Global, text: &str) -> char {
-    let first = pairs(alloc, text);
-    if first != pairs(alloc, text) {
-        return '?';
-    }
-    match first {
-        Ok(_) => ';',
-        Err(Fault::Syntax(at)) if text.is_char_boundary(at) => 'x',
-        Err(_) => '?',
-    }
-}
-
-/// How many pairs group.
-fn pairs(alloc: Global, text: &str) -> Result<usize, Fault> {
-    let source = Source::new(text.as_bytes())?;
-    let parsed = parse(alloc, &source)?;
-    Ok(parsed.grouping_pairs().len())
-}
 
 /// That the text is accepted.
 pub(crate) fn push_accepted(
@@ -82,9 +51,24 @@ pub(crate) fn push_fixed(
     match fix_text(alloc, source) {
         Ok(text) => {
             push_again(alloc, &text, out)?;
-            push_unless_written(alloc, source, &text, out)
+            push_unless_written(alloc, source, &text, out)?;
+            push_unless_run(alloc, Command::Fix, source.text(), &text, out)
         }
         Err(fault) => push_refusal(source.text(), fault, out),
+    }
+}
+
+/// That a run of a command over devices that pass a byte a call writes another text, if it does.
+fn push_unless_run(
+    alloc: Global,
+    command: Command,
+    source: &str,
+    text: &str,
+    out: &mut String,
+) -> Result<(), AllocError> {
+    match is_written(alloc, command, source, text)? {
+        true => Ok(()),
+        false => out.push_str(" run otherwise"),
     }
 }
 
@@ -108,7 +92,10 @@ fn push_again(alloc: Global, text: &str, out: &mut String) -> Result<(), AllocEr
     match fixed(alloc, text) {
         Ok(again) if again.as_str() == text => Ok(()),
         Ok(again) => write!(out, " fixed again: {}", again.as_str()),
-        Err(fault) => write!(out, " refused: {fault}"),
+        Err(fault) => {
+            out.push_str(" refused: ")?;
+            push_refusal(text, fault, out)
+        }
     }
 }
 
@@ -143,6 +130,7 @@ fn push_shown(
         "pairs" => push_count(parsed.grouping_pairs().len(), out),
         "items" => push_count(program.root().part_count(), out),
         "extra" => push_extra(alloc, program, parsed.grouping_pairs(), out),
+        "rules" | "refused rule" => push_rules(alloc, row, parsed, out),
         "alike" => push_alike(alloc, program, row.text(2), out),
         _ => push_printed(alloc, row, parsed, out),
     }
@@ -159,7 +147,25 @@ fn push_printed(
         "layout" => push_layout(alloc, parsed, row.text(2), out),
         "written" => push_written(alloc, parsed, row, out),
         "pieces" => push_pieces(alloc, parsed, row.text(2), out),
-        _ => push_tree(alloc, row, parsed.program(), out),
+        "gauged layout" => push_gauged_layout(alloc, parsed, row.text(2), out),
+        "gauged table" => push_gauged_table(alloc, parsed.program(), out),
+        _ => push_json_of(alloc, row, parsed.program(), out),
+    }
+}
+
+/// What the row's call makes of a script's JSON.
+fn push_json_of(
+    alloc: Global,
+    row: &Row,
+    program: &Program,
+    out: &mut String,
+) -> Result<(), AllocError> {
+    match row.text(0) {
+        "tree" => push_json(alloc, program, row.text(1), out),
+        "json" => push_json_to(alloc, program, row.text(2), out),
+        "value" => push_values(alloc, program, out),
+        "value text" => push_value_text(alloc, program, out),
+        _ => push_tree(alloc, row, program, out),
     }
 }
 
@@ -173,11 +179,10 @@ fn push_tree(
     match row.text(0) {
         "extra of" => push_extra_pairs(alloc, program, row.text(2), out),
         "plan" => push_plan(alloc, program, out),
-        "tree" => push_json(alloc, program, out),
-        "json" => push_json_to(alloc, program, row.text(2), out),
+        "scopes" => push_scopes(alloc, program, out),
         "copied" => push_copy(alloc, program, out),
+        "equal copy" => push_equal_copy(alloc, program, out),
         "numbers" => push_nodes(program, out),
-        "value" => push_values(alloc, program, out),
         call => write!(out, "no call {call}"),
     }
 }
@@ -206,9 +211,17 @@ fn push_alike(
     }
 }
 
-fn push_json(alloc: Global, program: &Program, out: &mut String) -> Result<(), AllocError> {
-    let text = tree_text(alloc, program)?;
-    out.push_str(&text)
+/// A script's JSON, which a run of `tree` writes too, and a line feed behind it.
+fn push_json(
+    alloc: Global,
+    program: &Program,
+    source: &str,
+    out: &mut String,
+) -> Result<(), AllocError> {
+    let mut text = tree_text(alloc, program)?;
+    out.push_str(&text)?;
+    text.push('\n')?;
+    push_unless_run(alloc, Command::Tree, source, &text, out)
 }
 
 /// What is written of the JSON to a device.
@@ -219,8 +232,10 @@ fn push_json_to(
     out: &mut String,
 ) -> Result<(), AllocError> {
     let mut writer = MemorySink::new(alloc, 2_000_000, plan(writes))?;
-    let written = write_tree(alloc, program, &mut writer);
-    push_answer(&written, writer.bytes(), out)
+    match write_tree(alloc, program, &mut writer) {
+        Err(Fault::OutOfMemory) if writer.bytes().is_empty() => Err(AllocError),
+        written => push_answer(&written, writer.bytes(), out),
+    }
 }
 
 /// The value of a script's first literal, and where the script ends.
@@ -236,4 +251,11 @@ fn values(value: &Value) -> (Option<bool>, Option<u64>) {
 fn push_values(alloc: Global, program: &Program, out: &mut String) -> Result<(), AllocError> {
     let value = to_value(alloc, program)?;
     write!(out, "{:?}", values(&value))
+}
+
+/// The text of a script's value.
+fn push_value_text(alloc: Global, program: &Program, out: &mut String) -> Result<(), AllocError> {
+    let value = to_value(alloc, program)?;
+    let text = value.to_string(alloc)?;
+    out.push_str(&text)
 }

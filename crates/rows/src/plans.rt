@@ -1,7 +1,13 @@
 //! The plan of a script, and its extra pairs.
 
+ghost use Rattle.std.specs.Prelude.{◌≡◌, ◌≤◌, length, true};
+
+use crate::gauge::Gauge;
+use crate::refusals::push_fault;
+use cost_certificate::{read_table, write_table};
 use paren_planner::{CostTable, Plan, extra_pairs, plan_if_any};
 use positions::{Grouping, groupings};
+use source_text::PIECE;
 use std::alloc::{AllocError, Global};
 use tree::{Kind, Pair, Program, Span};
 
@@ -53,6 +59,41 @@ pub(crate) fn push_plan(
     }
 }
 
+/// Whether a table has no more rows than any text may say.
+fn is_short(table: &CostTable) -> bool
+    ensures { result ≡ true → length table.now.rows.items ≤ 16777216 }
+{
+    table.row_count() <= 16_777_216
+}
+
+/// How many bytes the text of a script's table has, and whether no piece of it that is written has more than 4,096.
+pub(crate) fn push_gauged_table(
+    alloc: Global,
+    program: &Program,
+    out: &mut String,
+) -> Result<(), AllocError> {
+    let mut writer = Gauge::new();
+    match plan_if_any(alloc, program)? {
+        Some(plan) if is_short(plan.table()) => {
+            let written = write_table(program, plan.table(), &mut writer);
+            write!(out, "{:?}", (written, writer.bytes, writer.most <= PIECE))
+        }
+        _ => Ok(()),
+    }
+}
+
+/// How many rows the table of a text has, and its total.
+pub(crate) fn push_read_table(
+    alloc: Global,
+    text: &str,
+    out: &mut String,
+) -> Result<(), AllocError> {
+    match read_table(alloc, text.as_bytes()) {
+        Ok(table) => write!(out, "{:?}", (table.row_count(), table.total())),
+        Err(fault) => push_fault(fault, out),
+    }
+}
+
 /// A table with one row.
 fn table(alloc: Global) -> Result<CostTable, AllocError> {
     let mut table = CostTable::new(alloc);
@@ -95,7 +136,7 @@ fn push_spans(out: &mut String, spans: &[Span]) -> Result<(), AllocError> {
 }
 
 /// Which of these pairs are extra; none where the script has no plan.
-fn spans_of(
+pub(crate) fn spans_of(
     alloc: Global,
     program: &Program,
     groups: &[Grouping],

@@ -1,6 +1,7 @@
 //! The layouts of scripts, as texts and to writers that take little, or fail.
 
 use crate::devices::{plan, push_answer};
+use crate::gauge::Gauge;
 use crate::rows::Row;
 use paren_planner::plan_if_any;
 use parser::{Parsed, parse};
@@ -34,6 +35,19 @@ pub(crate) fn push_layout(
         out.push_str(" written otherwise")?;
     }
     Ok(())
+}
+
+/// How many bytes the layout has, and whether no piece of it that is written has more than 4,096.
+pub(crate) fn push_gauged_layout(
+    alloc: Global,
+    parsed: &Parsed,
+    wrapped: &str,
+    out: &mut String,
+) -> Result<(), AllocError> {
+    let flags = flags(alloc, wrapped)?;
+    let mut writer = Gauge::new();
+    let written = print(parsed.program(), &flags, &mut writer);
+    write!(out, "{:?}", (written, writer.bytes, writer.most <= PIECE))
 }
 
 /// What is written of the layout where there is so much room.

@@ -6,13 +6,21 @@ use source_text::{Fault, MemorySink, Reason};
 use std::alloc::{AllocError, Global};
 use streams::{Refused, write_refusal};
 
-/// A refusal: of a syntax error whether its place is one of the text; of an early error its number and its place.
+/// A refusal in words. A row whose call was refused memory has no answer.
+pub(crate) fn push_fault(fault: Fault, out: &mut String) -> Result<(), AllocError> {
+    match fault {
+        Fault::OutOfMemory => Err(AllocError),
+        fault => write!(out, "{fault}"),
+    }
+}
+
+/// The same: of a syntax error whether its place is one of the text; of an early error its number and its place.
 pub(crate) fn push_refusal(text: &str, fault: Fault, out: &mut String) -> Result<(), AllocError> {
     match fault {
         Fault::Syntax(at) if text.is_char_boundary(at) => out.push_str("syntax"),
         Fault::Syntax(at) => write!(out, "syntax in a character at {at}"),
         Fault::Early(number, at) => write!(out, "E{number} {at}"),
-        fault => write!(out, "{fault}"),
+        fault => push_fault(fault, out),
     }
 }
 

@@ -3,6 +3,7 @@
 use crate::kinds::kind;
 use crate::ranks::rank;
 use crate::rows::Row;
+use clap::error::ErrorKind;
 use command_line::{command_line, escaped_text};
 use early_errors::{EarlyError, number_of};
 use grammar::{
@@ -67,11 +68,19 @@ pub(crate) fn push_number(word: &str, out: &mut String) -> Result<(), AllocError
     write!(out, "{}", number_of(early_error(word)))
 }
 
+/// The kind of a refusal. A row whose call was refused memory has no answer.
+fn push_mistake(kind: ErrorKind, out: &mut String) -> Result<(), AllocError> {
+    match kind {
+        ErrorKind::OutOfMemory => Err(AllocError),
+        kind => write!(out, "{kind:?}"),
+    }
+}
+
 /// What a command line asks for, or the kind of its refusal.
 fn push_asked(alloc: Global, words: &[&str], out: &mut String) -> Result<(), AllocError> {
     match command_line(alloc, words) {
         Ok(line) => write!(out, "{:?}", (line.command, line.file, line.second)),
-        Err(error) => write!(out, "{:?}", error.kind()),
+        Err(error) => push_mistake(error.kind(), out),
     }
 }
 

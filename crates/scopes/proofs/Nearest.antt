@@ -10,7 +10,7 @@ use Rattle.scopes.specs.Bindings.{Binding, has_name}
 use Rattle.scopes.specs.Found.{Frame, index_of, here_or_outer, nearest, added, collected}
 use Rattle.scopes.specs.declared.binding.Binding.{Binding as CodeBinding}
 use Rattle.scopes.specs.Shown.{Below, Meant, all_shown, frame, is_of, shown}
-use Rattle.scopes.specs.Tables.{Agree, with_value}
+use Rattle.name_tables.specs.Tables.{Agree, with_value}
 
 mapped : (o : Option ℕ) → is_some (option_map suc o) ≡ is_some o
 mapped None = refl

@@ -1,5 +1,7 @@
 -- What the walk has found so far, and what it is given, in the words of `Found`.
-use Rattle.std.specs.Prelude.{ℕ, Bool, cond, ◌-◌, List}
+use Rattle.std.specs.Prelude.{ℕ, Bool, true, false, cond, ◌-◌, List}
+use Rattle.tree.specs.declared.kind.Kind.{Kind}
+use Rattle.tree.specs.declared.kind.Kind.TheVariants.{Identifier, Literal, ThisExpression}
 use Rattle.tree.specs.Tree.{Tree, kind_of, text_of, flags_of, parts_of, part_count, start_of, stop_of, parts_drop}
 use Rattle.std.specs.Prelude.{unwrap_or}
 use Rattle.scopes.specs.declared.roles.Role.{Role}
@@ -18,6 +20,13 @@ round a fs = record { frames = fs; in_function = a.in_function; role = a.role }
 
 abbrev pub inside_of : Role → Tree → Inside
 inside_of u t = record { role = u; kind = kind_of t; text = text_of t; flags = flags_of t; last = part_count (parts_of t) - 1 }
+
+-- the kinds of nodes without parts that may be references at most
+abbrev pub is_leaf_kind : Kind → Bool
+is_leaf_kind Identifier = true
+is_leaf_kind Literal = true
+is_leaf_kind ThisExpression = true
+is_leaf_kind _ = false
 
 -- the reference that an identifier makes
 abbrev pub reference_at : Around → Tree → Reference

@@ -5,8 +5,8 @@ ghost use Rattle.scopes.specs.Found.{found};
 
 use crate::binding::{Binding, Reference, Scope};
 use crate::roles::Role;
-use crate::table::Table;
 use crate::walk::{Around, Walk, walk_node};
+use name_tables::{HashKey, NameTable};
 use std::alloc::{AllocError, Global};
 use std::marker::Model;
 use tree::Program;
@@ -29,7 +29,7 @@ impl<'t> Model for Scopes<'t> {
 }
 
 /// Finds the scopes of a script, what they declare, and what its references mean. The only error is want of memory. Takes
-/// time and memory in proportion to the script, but for a look-up in a tree of names at each name.
+/// time and memory in proportion to the script, as far as its names don't collide under the key that is drawn from them.
 pub fn resolve<'t>(alloc: Global, program: &'t Program<'_>) -> Result<Scopes<'t>, AllocError>
     ensures { IfOk result (λ s. s ≡ found program.now) }
 {
@@ -37,7 +37,7 @@ pub fn resolve<'t>(alloc: Global, program: &'t Program<'_>) -> Result<Scopes<'t>
         alloc,
         scopes: Vec::new(alloc),
         references: Vec::new(alloc),
-        meanings: Table::new(alloc),
+        meanings: NameTable::new(alloc, HashKey::drawn_from(program.root())),
         names: Vec::new(alloc),
     };
     let outside = Around {

@@ -1,21 +1,21 @@
 //! The walk over a tree.
 
-ghost use Rattle.std.specs.Prelude.{◌≡◌, ◌∷◌, ◌++◌, ◌-◌, [], List, length, map, IfOk, OnOk, Some, None, cond};
+ghost use Rattle.std.specs.Prelude.{◌≡◌, ℕ, ◌∷◌, ◌++◌, ◌-◌, [], List, length, map, IfOk, OnOk, Some, None, cond};
+ghost use Rattle.std.specs.Bool.{OnTrue};
 ghost use Rattle.tree.specs.Node.{node_tree};
 ghost use Rattle.tree.specs.Tree.{flags_of, kind_of, parts_of, part_count, text_of};
 ghost use Rattle.scopes.specs.Found.{Frame, all_parts, at_place, collected, enter, found_in, in_scope, joined, opened, own_reference, parts_from, round_others};
 ghost use Rattle.scopes.specs.Openings.{scope_round_all, scope_round_others};
 ghost use Rattle.scopes.specs.Shown.{Knows, all_shown, frame, reference_shown};
-ghost use Rattle.scopes.specs.Walks.{all_within, inside_of, others_within, parts_within, reference_at, round, seen};
-ghost use Rattle.scopes.specs.Tables.{Agree, look, undone};
+ghost use Rattle.scopes.specs.Walks.{all_within, inside_of, is_leaf_kind, others_within, parts_within, reference_at, round, seen};
+ghost use Rattle.name_tables.specs.Tables.{Agree, look, undone};
 
 use crate::binding::{Binding, Reference, Scope};
 use crate::gather::{push_round_all, push_round_others};
-use crate::opening::{Meanings, Saved, close, declare_all};
+use crate::opening::{Before, Meanings, close, declare_all};
 use crate::roles::{
     Role, does_read, does_write, has_arguments, is_reference, is_typeof_operand, part_role,
 };
-use crate::table::Table;
 use std::alloc::{AllocError, Global};
 use tree::{Kind, Node};
 
@@ -102,10 +102,29 @@ fn refer<'t>(
     Ok(())
 }
 
+/// Whether nothing is found in a node but the reference that it may be: a name, a literal or `this`, without parts.
+fn is_leaf(node: Node) -> bool
+    ensures { OnTrue result ((z : _) → (n : ℕ) → found_in z n (node_tree node.entry) ≡ record { scopes = []; references = own_reference z (node_tree node.entry) }) }
+{
+    if node.part_count() > 0 {
+        return false;
+    }
+    is_leaf_kind(node.kind())
+}
+
+fn is_leaf_kind(kind: Kind) -> bool
+    ensures { result ≡ is_leaf_kind kind }
+{
+    match kind {
+        Kind::Identifier | Kind::Literal | Kind::ThisExpression => true,
+        _ => false,
+    }
+}
+
 /// Opens a scope of the names that were gathered; answers what stands round the nodes in it.
 fn open<'t>(
     around: Around,
-    saved: &mut Vec<Saved<'t>>,
+    saved: &mut Vec<Before<'t>>,
     walk: &mut Walk<'t>,
 ) -> Result<Around, AllocError>
     requires { saved.now.items ≡ [] }
@@ -146,6 +165,9 @@ pub(crate) fn walk_node<'t>(
     ensures meanings { OnOk result (Agree (look walk.new.meanings) (look walk.old.meanings)) }
 {
     refer(node, around, &walk.meanings, &mut walk.references)?;
+    if is_leaf(node) {
+        return Ok(());
+    }
     walk.names.clear();
     if push_round_all(around.role, node, &mut walk.names)? {
         walk_in_scope(node, around, false, walk)
@@ -215,7 +237,7 @@ fn walk_opened<'t>(
     node: Node<'t, '_>,
     around: Around,
     others: bool,
-    saved: &mut Vec<Saved<'t>>,
+    saved: &mut Vec<Before<'t>>,
     walk: &mut Walk<'t>,
 ) -> Result<(), AllocError>
     requires { saved.now.items ≡ [] }

@@ -1,9 +1,10 @@
 //! Devices made of std's readers and writers.
 
-ghost use Rattle.std.specs.Prelude.{◌≡◌, false};
+ghost use Rattle.std.specs.Prelude.{◌≡◌, ◌<◌, false, length};
+ghost use Rattle.source_text.specs.Io.{GivesBytes, TakesBytes, TellsRead, TellsWrite};
 
+use crate::inner::{Reader, Writer};
 use crate::sink::{DeviceFault, Feed, Sink};
-use std::io::{Read, Write};
 
 /// A reader or a writer of std as a device: the first error of `read` or `write` is its failure, and so is a
 /// `write` that takes none of the bytes that it is handed.
@@ -25,7 +26,7 @@ impl<T> Device<T> {
     }
 }
 
-impl<T: Write> Device<T> {
+impl<T: Writer> Device<T> {
     /// The writer as a device that has not failed.
     pub fn of_writer(inner: T) -> Device<T>
         ensures same { ⟦<Device<T> as Sink>⟧.taken result ≡ T.contents inner }
@@ -35,7 +36,7 @@ impl<T: Write> Device<T> {
     }
 }
 
-impl<T: Read> Device<T> {
+impl<T: Reader> Device<T> {
     /// The reader as a device that has not failed.
     pub fn of_reader(inner: T) -> Device<T>
         ensures same { ⟦<Device<T> as Feed>⟧.left result ≡ T.remaining inner }
@@ -45,13 +46,17 @@ impl<T: Read> Device<T> {
     }
 }
 
-impl<T: Write> Sink for Device<T> {
+impl<T: Writer> Sink for Device<T> {
     ghost taken = { λ d. T.contents d.inner };
 
     ghost failed = { λ d. d.has_failed };
 
-    fn put(&mut self, piece: &[u8]) -> Result<usize, DeviceFault> {
-        match self.inner.write(piece) {
+    fn put(&mut self, piece: &[u8]) -> Result<usize, DeviceFault>
+        requires { self.old.has_failed ≡ false }
+        ensures bytes { TakesBytes piece.now result (T.contents self.old.inner) (T.contents self.new.inner) self.new.has_failed }
+        ensures told { TellsWrite (λ answer. T.may_answer self.old.inner piece.now answer self.new.inner) piece.now result }
+    {
+        match self.inner.ask(piece) {
             Ok(count) if count > 0 || piece.is_empty() => Ok(count),
             _ => {
                 self.has_failed = true;
@@ -65,13 +70,18 @@ impl<T: Write> Sink for Device<T> {
     }
 }
 
-impl<T: Read> Feed for Device<T> {
+impl<T: Reader> Feed for Device<T> {
     ghost left = { λ d. T.remaining d.inner };
 
     ghost failed = { λ d. d.has_failed };
 
-    fn get(&mut self, room: &mut [u8]) -> Result<usize, DeviceFault> {
-        match self.inner.read(room) {
+    fn get(&mut self, room: &mut [u8]) -> Result<usize, DeviceFault>
+        requires ready { self.old.has_failed ≡ false }
+        requires room { 0 < length room.old }
+        ensures bytes { GivesBytes room.new result (T.remaining self.old.inner) (T.remaining self.new.inner) self.new.has_failed }
+        ensures told { TellsRead (λ answer. T.may_answer self.old.inner room.new answer self.new.inner) result }
+    {
+        match self.inner.ask(room) {
             Ok(count) => Ok(count),
             Err(_) => {
                 self.has_failed = true;

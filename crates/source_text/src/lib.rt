@@ -5,6 +5,7 @@
 mod character;
 mod device;
 mod fault;
+mod inner;
 mod memory;
 mod sink;
 mod source;
@@ -13,6 +14,7 @@ mod write;
 pub use character::{is_line_terminator, is_space};
 pub use device::Device;
 pub use fault::{Fault, Reason};
+pub use inner::{Reader, Writer};
 pub use memory::{MemoryFeed, MemorySink, Plan};
 pub use sink::{DeviceFault, Feed, Sink};
 pub use source::{MAX_BYTES, Source};

@@ -1,6 +1,6 @@
 -- A vector of nodes while it is filled: what stands in it stays, and what is added shows the tree that it was made of.
 use Rattle.std.proofs.Common.{◌≡◌, cond, ℕ, suc, ◌+◌, ◌-◌, ◌≤◌, List, [], ◌∷◌, ◌++◌, length, map, Option, Some, None, slice_get, take, drop, refl, sym, ap, ◌∙◌, arith, append_assoc, length-append, append-nil, subst, length-drop}
-use Rattle.std.proofs.lemmas.List.{take-append-le, drop-append-le, map-append, take_all}
+use Rattle.std.proofs.lemmas.List.{take-append-le, drop-append-le, map-append, take_all, length-map}
 use Rattle.std.proofs.Math.Seq.{drop-append_seam, take-append_seam}
 use Rattle.tree.specs.NodeText.{text_bytes}
 use Rattle.tree.specs.Tree.{Tree, Parts, node, none, part, gap, kind_of, text_of, flags_of, start_of, stop_of, parts_of, parts_with_gaps, part_count, node_total, parts_total}
@@ -13,6 +13,8 @@ use Rattle.tree.specs.declared.standing.Around.{Around}
 use Rattle.tree.specs.Standings.{has_row, own_rows, rows_in, parts_rows, row_list, parts_row_list, standing_in}
 use Rattle.tree.specs.Growth.{grown_trees, grown_runs, node_runs, node_rows, IsSound, Pushes, PushesParts}
 use Rattle.tree.specs.Finished.{Finishes, NumbersRow}
+use Rattle.tree.specs.TooLarge.{part_total, parts_part_total}
+use Rattle.tree.proofs.PartLemmas.{part_count-gaps}
 use Rattle.tree.proofs.FlatTrees.{Pool, length-trees, slice_get-append_mid, AreBefore-more, AreBefore-append, map_named-front}
 
 mutual
@@ -91,7 +93,12 @@ parts_runs-append i (Some t ∷ os) us =
     (parts_runs-append (i + node_total t) os us ∙ ap (λ n. parts_runs (i + node_total t) (parts_with_gaps os) ++ parts_runs n (parts_with_gaps us)) at)
     ∙ sym (append_assoc (runs_of i t) (parts_runs (i + node_total t) (parts_with_gaps os)) (parts_runs (i + (node_total t + parts_total (parts_with_gaps os))) (parts_with_gaps us)))
 
-parts_rows-append : (a : Around) (n i : ℕ) (os us : List (Option Tree)) → parts_rows a n i (parts_with_gaps (os ++ us)) ≡ parts_rows a n i (parts_with_gaps os) + parts_rows a n (i + length os) (parts_with_gaps us)
+pub parts_part_total-append : (os us : List (Option Tree)) → parts_part_total (parts_with_gaps (os ++ us)) ≡ parts_part_total (parts_with_gaps os) + parts_part_total (parts_with_gaps us)
+parts_part_total-append [] us = omega arith
+parts_part_total-append (None ∷ os) us = parts_part_total-append os us
+parts_part_total-append (Some t ∷ os) us = omega (arith, parts_part_total-append os us)
+
+pub parts_rows-append : (a : Around) (n i : ℕ) (os us : List (Option Tree)) → parts_rows a n i (parts_with_gaps (os ++ us)) ≡ parts_rows a n i (parts_with_gaps os) + parts_rows a n (i + length os) (parts_with_gaps us)
 parts_rows-append a n i [] us = let at : i ≡ i + 0 = omega arith in omega (arith, ap (λ m. parts_rows a n m (parts_with_gaps us)) at)
 parts_rows-append a n i (None ∷ os) us =
     let at : (i + 1) + length os ≡ i + suc (length os) = omega arith in
@@ -123,7 +130,7 @@ parts_row_list-append a n i r (Some t ∷ os) us =
     ∙ sym (append_assoc own front (parts_row_list a n (i + suc (length os)) (r + (more + parts_rows a n (i + 1) (parts_with_gaps os))) (parts_with_gaps us)))
 
 -- how many nodes stand then
-length-parts : (a b : Growing) (os : List (Option Tree)) → grown_trees b ≡ grown_trees a ++ parts_post_order (parts_with_gaps os) → length b.nodes ≡ length a.nodes + parts_total (parts_with_gaps os)
+pub length-parts : (a b : Growing) (os : List (Option Tree)) → grown_trees b ≡ grown_trees a ++ parts_post_order (parts_with_gaps os) → length b.nodes ≡ length a.nodes + parts_total (parts_with_gaps os)
 length-parts a b os h =
     omega (arith, length-grown a, length-grown b, ap length h, length-append (grown_trees a) (parts_post_order (parts_with_gaps os)), length-parts_post_order (parts_with_gaps os))
 
@@ -146,6 +153,7 @@ no_parts g r n s = record {
   numbers = [];
   pending = sym (append-nil g.pending.items);
   before = tt;
+  parts = omega arith;
   show = refl;
   runs = sym (append-nil (grown_runs g));
   next = omega arith;
@@ -165,6 +173,7 @@ next_gap a b d r m os h n p w x =
       numbers = h.numbers ++ None ∷ [];
       pending = w ∙ ap (λ (us : Pool). us ++ None ∷ []) h.pending ∙ append_assoc a.pending.items h.numbers (None ∷ []);
       before = subst (λ (es : List FlatNode). AreBefore (length es) (h.numbers ++ None ∷ [])) (sym n) (AreBefore-append (length b.nodes) h.numbers (None ∷ []) h.before (tt, tt));
+      parts = omega (arith, ap length p, h.parts, parts_part_total-append os (None ∷ []));
       show = ap (λ (ts : List Tree). map (named ts) (h.numbers ++ None ∷ [])) same ∙ last;
       runs = same_runs b d n p ∙ h.runs ∙ ap (λ (rs : List Pool). grown_runs a ++ rs) (sym (append-nil (parts_runs (length a.nodes) (parts_with_gaps os))) ∙ sym (parts_runs-append (length a.nodes) os (None ∷ [])));
       next = omega (arith, x, h.next, parts_rows-append r m 0 os (None ∷ []));
@@ -199,6 +208,7 @@ next_part a b c d r q os k st t h m stands n p w x =
       pending = w ∙ ap (λ (us : Pool). us ++ Some k ∷ []) (m.pending ∙ h.pending) ∙ append_assoc a.pending.items h.numbers (Some k ∷ []);
       before = subst (λ (es : List FlatNode). AreBefore (length es) (h.numbers ++ Some k ∷ [])) (sym n)
           (AreBefore-append (length c.nodes) h.numbers (Some k ∷ []) waited (let here : k.number + 1 ≤ length c.nodes = omega (arith, m.last) in here, tt));
+      parts = omega (arith, ap length p, m.parts, h.parts, parts_part_total-append os (Some t ∷ []));
       show = ap (λ (ts : List Tree). map (named ts) (h.numbers ++ Some k ∷ [])) same ∙ all;
       runs = same_runs c d n p ∙ m.runs ∙ ap (λ (rs : List Pool). rs ++ runs_of (length b.nodes) t) h.runs
           ∙ append_assoc (grown_runs a) (parts_runs (length a.nodes) (parts_with_gaps os)) (runs_of (length b.nodes) t)
@@ -236,6 +246,13 @@ row_list-whole st r (node k w g s e ps) = refl
 rows_in-whole : (st : Standing) (t : Tree) → rows_in st t ≡ own_rows st (kind_of t) + parts_rows (record { standing = st; kind = kind_of t; flags = flags_of t }) (part_count (parts_of t)) 0 (parts_of t)
 rows_in-whole st (node k w g s e ps) = refl
 
+pub part_total-whole : (t : Tree) → part_total t ≡ part_count (parts_of t) + parts_part_total (parts_of t)
+part_total-whole (node k w g s e ps) = refl
+
+-- as many parts wait as there are
+pub waiting_parts : (a b : Growing) (r : Around) (n : ℕ) (os : List (Option Tree)) (h : PushesParts a b r n os) → length h.numbers ≡ part_count (parts_with_gaps os)
+waiting_parts a b r n os h = omega (arith, length-map h.numbers (named (grown_trees b)), ap length h.show, part_count-gaps os)
+
 -- a node without parts
 pub no_items : (os : List (Option Tree)) → length os ≡ 0 → parts_with_gaps os ≡ none
 no_items [] h = refl
@@ -259,6 +276,7 @@ relabelled b c waiting u t own k kinds texts flags starts stops f = record {
   stop = f.stop ∙ stops;
   row = f.row;
   next = f.next;
+  numbered = f.numbered;
 }
 
 pub finished : (a0 a b c : Growing) (os : List (Option Tree)) (waiting k : ℕ) (st : Standing) (row : Option ℕ) (t : Tree) (r : Around) (n : ℕ)
@@ -298,6 +316,7 @@ finished a0 a b c os waiting k st row t r n z h f l o ar an =
     let whole_around : Around = record { standing = st; kind = kind_of t; flags = flags_of t } in
     let own : Option ℕ = cond (has_row st (kind_of t)) (Some a0.next_row) None in
     let at : k ≡ length ts = f.number ∙ sym (length-grown b) in
+    let counted_row : a.next_row ≡ a0.next_row + own_rows st (kind_of t) = z.next (omega (arith, h.next, f.numbered.1)) in
     record {
       sound = subst (λ (us : Pool). AreLinked us 0 c.nodes) (sym pool) (subst (λ (es : List FlatNode). AreLinked (b.parts.items ++ numbers) 0 es) (sym f.nodes) sound);
       nodes = grown ∙ ap (λ (us : List Tree). us ++ t ∷ []) h.nodes ∙ append_assoc (grown_trees a) (parts_post_order (parts_with_gaps os)) (t ∷ [])
@@ -305,6 +324,18 @@ finished a0 a b c os waiting k st row t r n z h f l o ar an =
           ∙ ap (λ (us : List Tree). us ++ post_order t) (same_trees a0 a z.nodes z.parts);
       last = omega (arith, f.number, ap length f.nodes, length-append b.nodes (f.added ∷ []));
       shows = ap (λ (us : List Tree). slice_get us k) grown ∙ ap (λ n. slice_get (ts ++ t ∷ []) n) at ∙ slice_get-append_mid ts t [];
+      low = f.numbered.0;
+      parts = omega (
+        arith,
+        ap length pool,
+        length-append b.parts.items numbers,
+        h.parts,
+        ap length z.parts,
+        waiting_parts a b r n os h,
+        part_total-whole t,
+        ap part_count o,
+        ap parts_part_total o,
+      );
       pending = f.pending ∙ taken ∙ z.pending;
       runs = ran ∙ ap (λ (rs : List Pool). rs ++ numbers ∷ []) h.runs ∙ append_assoc (grown_runs a) (parts_runs (length a.nodes) (parts_with_gaps os)) (numbers ∷ [])
           ∙ ap (λ (ns : Pool). grown_runs a ++ (parts_runs (length a.nodes) (parts_with_gaps os) ++ ns ∷ [])) h.numbered
@@ -315,7 +346,7 @@ finished a0 a b c os waiting k st row t r n z h f l o ar an =
         arith,
         f.next,
         h.next,
-        z.next,
+        counted_row,
         rows_in-whole st t,
         ap (λ (x : Around). parts_rows x n 0 (parts_with_gaps os)) ar,
         ap (λ m. parts_rows whole_around m 0 (parts_with_gaps os)) an,
@@ -329,7 +360,7 @@ finished a0 a b c os waiting k st row t r n z h f l o ar an =
           ∙ ap (λ (rs : List (Option ℕ)). node_rows a0.nodes ++ (rs ++ own ∷ []))
           (ap (λ (x : Around). parts_row_list x n 0 a.next_row (parts_with_gaps os)) ar
           ∙ ap (λ m. parts_row_list whole_around m 0 a.next_row (parts_with_gaps os)) an
-          ∙ ap (λ m. parts_row_list whole_around (part_count (parts_of t)) 0 m (parts_with_gaps os)) z.next
+          ∙ ap (λ m. parts_row_list whole_around (part_count (parts_of t)) 0 m (parts_with_gaps os)) counted_row
           ∙ ap (λ (qs : Parts). parts_row_list whole_around (part_count (parts_of t)) 0 (a0.next_row + own_rows st (kind_of t)) qs) o)
           ∙ ap (λ (rs : List (Option ℕ)). node_rows a0.nodes ++ rs) (sym (row_list-whole st a0.next_row t));
     }

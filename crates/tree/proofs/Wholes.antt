@@ -33,7 +33,7 @@ row_named f i h l =
     ap (λ (rs : List (Option ℕ)). slice_get rs i) (sym h.rows) ∙ there ∙ ap Some (sym (ap held there))
 
 -- what is pushed onto nothing is whole
-last_pushed : (old new : Growing) (k : ℕ) (a : Standing) (t : Tree) → Pushes old new k a t → tree_at new.parts.items new.nodes (length new.nodes - 1) ≡ t
+pub last_pushed : (old new : Growing) (k : ℕ) (a : Standing) (t : Tree) → Pushes old new k a t → tree_at new.parts.items new.nodes (length new.nodes - 1) ≡ t
 last_pushed old new k a t h =
     let at : length new.nodes - 1 ≡ k = omega (arith, h.last) in
     ap (tree_at new.parts.items new.nodes) at ∙ get_or_from_slice_get (grown_trees new) k t no_tree h.shows

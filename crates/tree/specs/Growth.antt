@@ -1,5 +1,5 @@
 -- What is added to a vector of nodes that is being filled.
-use Rattle.std.specs.Prelude.{◌≡◌, ℕ, ◌+◌, List, [], ◌++◌, length, map, Option, Some, None}
+use Rattle.std.specs.Prelude.{◌≡◌, ℕ, ◌+◌, ◌≤◌, List, [], ◌++◌, length, map, Option, Some, None}
 use Rattle.std.specs.List.{slice_get}
 use Rattle.tree.specs.Tree.{Tree, parts_with_gaps}
 use Rattle.tree.specs.Flat.{named, trees, AreBefore, AreLinked, post_order, parts_post_order, numbers_of, run_of, runs_of, parts_runs}
@@ -8,6 +8,7 @@ use Rattle.tree.specs.declared.growing.Growing.{Growing}
 use Rattle.tree.specs.declared.flat_node.FlatNode.{FlatNode}
 use Rattle.tree.specs.declared.standing.Standing.{Standing}
 use Rattle.tree.specs.declared.standing.Around.{Around}
+use Rattle.tree.specs.TooLarge.{most, part_total, parts_part_total}
 use Rattle.tree.specs.Standings.{rows_in, parts_rows, row_list, parts_row_list}
 
 abbrev pub grown_trees : Growing → List Tree
@@ -39,6 +40,8 @@ pub record Pushes (old new : Growing) (k : ℕ) (a : Standing) (t : Tree) : Type
   pub nodes : grown_trees new ≡ grown_trees old ++ post_order t
   pub last : k + 1 ≡ length new.nodes
   pub shows : slice_get (grown_trees new) k ≡ Some t
+  pub low : k ≤ most
+  pub parts : length new.parts.items ≡ length old.parts.items + part_total t
   pub pending : new.pending.items ≡ old.pending.items
   pub runs : grown_runs new ≡ grown_runs old ++ runs_of (length old.nodes) t
   pub next : new.next_row ≡ old.next_row + rows_in a t
@@ -51,6 +54,7 @@ pub record PushesParts (old new : Growing) (a : Around) (count : ℕ) (os : List
   pub numbers : List (Option NodeNumber)
   pub pending : new.pending.items ≡ old.pending.items ++ numbers
   pub before : AreBefore (length new.nodes) numbers
+  pub parts : length new.parts.items ≡ length old.parts.items + parts_part_total (parts_with_gaps os)
   pub show : map (named (grown_trees new)) numbers ≡ os
   pub runs : grown_runs new ≡ grown_runs old ++ parts_runs (length old.nodes) (parts_with_gaps os)
   pub next : new.next_row ≡ old.next_row + parts_rows a count 0 (parts_with_gaps os)

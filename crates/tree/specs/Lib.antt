@@ -14,6 +14,7 @@ pub mod Places
 pub mod Growth
 pub mod Finished
 pub mod Whole
+pub mod TooLarge
 pub mod Alike
 pub mod Standings
 pub mod Laws

@@ -3,6 +3,7 @@
 //! The tree of a script: ESTree nodes.
 
 mod build;
+mod build_error;
 mod copy;
 mod finish;
 mod flat_node;
@@ -24,6 +25,7 @@ mod standing;
 mod syntax;
 mod walk;
 
+pub use build_error::BuildError;
 pub use copy::try_copy;
 pub use kind::{Flags, Form, Kind, Pair, Span};
 pub use list::NodeList;

@@ -1,7 +1,6 @@
 //! A part of a node in the finished tree.
 
 use crate::flat_node::NodeNumber;
-use std::alloc::AllocError;
 use std::marker::Model;
 
 /// The number of a part's node, or none for a gap, in four bytes; contracts see it as that option.
@@ -29,7 +28,7 @@ impl Model for PartNumber {
 }
 
 impl PartNumber {
-    ghost use Rattle.std.specs.Prelude.{◌≡◌, IfOk, Some, None};
+    ghost use Rattle.std.specs.Prelude.{◌≡◌, ◌<◌, Some, None};
 
     pub(crate) fn gap() -> PartNumber
         ensures { result ≡ None }
@@ -37,16 +36,14 @@ impl PartNumber {
         PartNumber { above: 0 }
     }
 
-    /// The part with this number. The greatest is answered as where memory is refused.
-    pub(crate) fn of(number: NodeNumber) -> Result<PartNumber, AllocError>
-        ensures { IfOk result (λ part. part ≡ Some number) }
+    /// The part with this number.
+    pub(crate) fn of(number: NodeNumber) -> PartNumber
+        requires { number.number < u32.MAX }
+        ensures { result ≡ Some number }
     {
-        if number.number == 4_294_967_295 {
-            return Err(AllocError);
-        }
-        Ok(PartNumber {
+        PartNumber {
             above: number.number + 1,
-        })
+        }
     }
 
     /// The number, none for a gap.

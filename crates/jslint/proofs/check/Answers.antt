@@ -1,59 +1,16 @@
-use Rattle.std.proofs.Common.{[], rules}
+use Rattle.std.proofs.Common.{refl}
+use Rattle.jslint.proofs.Ruling.{by_nine, by_vtable}
 use Rattle.jslint.proofs.check.Goals as goal
 
-pub returns-in_err-new-clause-answer : goal.returns-in_err-new-clause-answer
-returns-in_err-new-clause-answer g c = (λ view. [], search rules)
-
-pub returns-in_err-push-clause-answer : goal.returns-in_err-push-clause-answer
-returns-in_err-push-clause-answer g c = (λ view. [], search rules)
-
-pub returns-in_err-new-2-clause-answer : goal.returns-in_err-new-2-clause-answer
-returns-in_err-new-2-clause-answer g c = (λ view. [], search rules)
-
-pub returns-in_err-push-2-clause-answer : goal.returns-in_err-push-2-clause-answer
-returns-in_err-push-2-clause-answer g c = (λ view. [], search rules)
-
-pub returns-in_err-new-3-clause-answer : goal.returns-in_err-new-3-clause-answer
-returns-in_err-new-3-clause-answer g c = (λ view. [], search rules)
-
-pub returns-in_err-push-3-clause-answer : goal.returns-in_err-push-3-clause-answer
-returns-in_err-push-3-clause-answer g c = (λ view. [], search rules)
-
-pub returns-in_err-new-4-clause-answer : goal.returns-in_err-new-4-clause-answer
-returns-in_err-new-4-clause-answer g c = (λ view. [], search rules)
-
-pub returns-in_err-push-4-clause-answer : goal.returns-in_err-push-4-clause-answer
-returns-in_err-push-4-clause-answer g c = (λ view. [], search rules)
-
-pub returns-in_err-new-5-clause-answer : goal.returns-in_err-new-5-clause-answer
-returns-in_err-new-5-clause-answer g c = (λ view. [], search rules)
-
-pub returns-in_err-push-5-clause-answer : goal.returns-in_err-push-5-clause-answer
-returns-in_err-push-5-clause-answer g c = (λ view. [], search rules)
-
-pub returns-in_err-new-6-clause-answer : goal.returns-in_err-new-6-clause-answer
-returns-in_err-new-6-clause-answer g c = (λ view. [], search rules)
-
-pub returns-in_err-push-6-clause-answer : goal.returns-in_err-push-6-clause-answer
-returns-in_err-push-6-clause-answer g c = (λ view. [], search rules)
-
-pub returns-in_err-new-7-clause-answer : goal.returns-in_err-new-7-clause-answer
-returns-in_err-new-7-clause-answer g c = (λ view. [], search rules)
-
-pub returns-in_err-push-7-clause-answer : goal.returns-in_err-push-7-clause-answer
-returns-in_err-push-7-clause-answer g c = (λ view. [], search rules)
-
-pub returns-in_err-new-8-clause-answer : goal.returns-in_err-new-8-clause-answer
-returns-in_err-new-8-clause-answer g c = (λ view. [], search rules)
-
-pub returns-in_err-push-8-clause-answer : goal.returns-in_err-push-8-clause-answer
-returns-in_err-push-8-clause-answer g c = (λ view. [], search rules)
-
-pub returns-in_err-new-9-clause-answer : goal.returns-in_err-new-9-clause-answer
-returns-in_err-new-9-clause-answer g c = (λ view. [], search rules)
-
-pub returns-in_err-push-9-clause-answer : goal.returns-in_err-push-9-clause-answer
-returns-in_err-push-9-clause-answer g c = (λ view. [], search rules)
-
-pub returns-clause-answer : goal.returns-clause-answer
-returns-clause-answer g c = (_, c.run.ensures.answer)
+-- the nine boxes find what the nine rules find
+pub check_by-requires-clause-nine : goal.check_by-requires-clause-nine
+check_by-requires-clause-nine g c = by_nine
+    (by_vtable _ c.into_dyn_box.ensures.0 (λ w. refl))
+    (by_vtable _ c.into_dyn_box-in_ok-new-2.ensures.0 (λ w. refl))
+    (by_vtable _ c.into_dyn_box-in_ok-new-3.ensures.0 (λ w. refl))
+    (by_vtable _ c.into_dyn_box-in_ok-new-4.ensures.0 (λ w. refl))
+    (by_vtable _ c.into_dyn_box-in_ok-new-5.ensures.0 (λ w. refl))
+    (by_vtable _ c.into_dyn_box-in_ok-new-6.ensures.0 (λ w. refl))
+    (by_vtable _ c.into_dyn_box-in_ok-new-7.ensures.0 (λ w. refl))
+    (by_vtable _ c.into_dyn_box-in_ok-new-8.ensures.0 (λ w. refl))
+    (by_vtable _ c.into_dyn_box-in_ok-new-9.ensures.0 (λ w. refl))

@@ -1,7 +1,8 @@
-use Rattle.estree_json.proofs.Tokens.{regex_added}
+use Rattle.estree_json.proofs.Sent.{regex_sent}
 use Rattle.estree_json.proofs.member.regex_object.Goals as goal
 
-pub returns-clause-added : goal.returns-clause-added
-returns-clause-added c =
-    regex_added c.end_object.result c.args.rest.now c.regex_parts.result.0.now c.regex_parts.result.1.now c.args.out.now.tokens c.key.new.self.tokens c.begin_object.new.self.tokens c.text_member.new.out.tokens c.text_member-2.new.out.tokens c.end_object.new.self.tokens
-    c.regex_parts.ensures.pattern c.regex_parts.ensures.flags c.in_ok-key.ensures.ok c.in_ok-begin_object.ensures.ok c.in_ok-text_member.ensures.added c.in_ok-text_member-2.ensures.added c.end_object.ensures.ok
+pub returns : goal.returns
+returns g c =
+    let log = g.S.Serializer.written in
+    regex_sent c.end_object.result c.args.rest.now c.regex_parts.result.0.now c.regex_parts.result.1.now (log c.args.out.now) (log c.send_key.new.out) (log c.begin_object.new.out) (log c.text_member.new.out) (log c.text_member-2.new.out) (log c.end_object.new.out)
+    c.regex_parts.ensures.pattern c.regex_parts.ensures.flags c.in_ok-send_key.ensures c.in_ok-begin_object.ensures c.in_ok-text_member.ensures c.in_ok-text_member-2.ensures c.end_object.ensures

@@ -1,7 +1,8 @@
-use Rattle.estree_json.proofs.Tokens.{template_added}
+use Rattle.estree_json.proofs.Sent.{template_sent}
 use Rattle.estree_json.proofs.member.template_member.Goals as goal
 
-pub returns-clause-added : goal.returns-clause-added
-returns-clause-added c =
-    template_added c.end_object.result c.args.raw.now _ c.args.out.now.tokens c.key.new.self.tokens c.begin_object.new.self.tokens c.primitive_member.new.out.tokens c.text_member.new.out.tokens c.end_object.new.self.tokens
-    c.in_ok-cooked.ensures c.in_ok-key.ensures.ok c.in_ok-begin_object.ensures.ok c.in_ok-primitive_member.ensures.added c.in_ok-text_member.ensures.added c.end_object.ensures.ok
+pub returns : goal.returns
+returns g c =
+    let log = g.S.Serializer.written in
+    template_sent c.end_object.result c.args.raw.now _ (log c.args.out.now) (log c.send_key.new.out) (log c.begin_object.new.out) (log c.primitive_member.new.out) (log c.text_member.new.out) (log c.end_object.new.out)
+    c.in_ok-cooked.ensures c.in_ok-send_key.ensures c.in_ok-begin_object.ensures c.in_ok-primitive_member.ensures c.in_ok-text_member.ensures c.end_object.ensures

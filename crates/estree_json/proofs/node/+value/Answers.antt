@@ -7,8 +7,7 @@ use Rattle.tree.specs.Node.{node_tree}
 use Rattle.tree.proofs.PartWalk.{part_smaller}
 use Rattle.estree_json.specs.Texts.{literal_value, literal_regex}
 use Rattle.estree_json.specs.Json.{first_or_null, odd_ones, node_json, parts_json}
-use Rattle.estree_json.specs.Table.{from, key_of, value_of}
-use Rattle.estree_json.specs.Tokens.{subject_of}
+use Rattle.estree_json.specs.Table.{from, key_of, value_of, subject_of}
 use Rattle.estree_json.proofs.Lists.{from_is_drop, count_json, part_found, part_missing, between, between_more, between_none, in_turns, turns_none, list_same, behind_same}
 use Rattle.estree_json.proofs.Objects.{view_null, data_as, option_as, put_as, put_nothing, one_more, array_found, turn_taken, turn_passed, put_more, node_made}
 use Rattle.estree_json.proofs.node.+value.Goals as goal

@@ -3,8 +3,7 @@ use Rattle.serde_json.specs.View.{view, members_view}
 use Rattle.tree.specs.Tree.{parts_of, node_total}
 use Rattle.tree.specs.Node.{node_tree}
 use Rattle.estree_json.specs.Json.{parts_json}
-use Rattle.estree_json.specs.Table.{put_lines}
-use Rattle.estree_json.specs.Tokens.{subject_of}
+use Rattle.estree_json.specs.Table.{put_lines, subject_of}
 use Rattle.estree_json.proofs.Lists.{between, in_turns}
 use Rattle.estree_json.proofs.node.+value.Given as goal
 

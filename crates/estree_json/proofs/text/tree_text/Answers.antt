@@ -1,15 +1,17 @@
-use Rattle.std.proofs.Common.{◌∙◌, ◌++◌, true, ap}
+use Rattle.std.proofs.Common.{◌≡◌, true, ap, ◌∙◌}
 use Rattle.std.specs.String.{string_bytes}
-use Rattle.json.specs.Tree.{json_tokens}
-use Rattle.serde_json.specs.Written.{outline}
-use Rattle.tree.specs.Node.{node_tree}
-use Rattle.estree_json.specs.Json.{node_json}
-use Rattle.estree_json.proofs.Written.{text_printed}
+use Rattle.serde_json.specs.Written.{has_float, compact_text}
+use Rattle.estree_json.specs.Json.{json_of}
+use Rattle.estree_json.specs.Estree.{estree_data}
+use Rattle.estree_json.proofs.Floatless.{node_fine, text_written}
+use Rattle.estree_json.proofs.SentTexts.{text_of_sent}
 use Rattle.estree_json.proofs.text.tree_text.Goals as goal
 
-pub returns : goal.returns
-returns c =
-    let bytes = ap (λ v. v.items) c.from_utf8_unchecked.ensures.value ∙ c.into_inner.ensures.items in
-    let empty = c.in_ok-write_node.ensures.before ∙ c.new-out.ensures.before ∙ c.in_ok-with_capacity.ensures.items in
-    let written = c.in_ok-write_node.ensures.added ∙ ap (λ ts. ts ++ json_tokens (outline (node_json true (node_tree c.root.result)))) c.new-out.ensures.tokens in
-    text_printed (string_bytes c.from_utf8_unchecked.result) c.write_node.new.out.before c.write_node.new.out.tokens c.args.program.now bytes empty (written ∙ ap (λ u. json_tokens (outline (node_json true u))) c.root.ensures)
+pub returns-in-Ok : goal.returns-in-Ok
+returns-in-Ok c =
+    let sent = c.in-Ok.ensures.events in
+    let same : estree_data c.of_program.result ≡ json_of c.args.program.now = c.of_program.ensures in
+    text_of_sent (estree_data c.of_program.result) sent.0 (string_bytes c.in-Ok.text) sent.1 sent.2 (ap has_float same ∙ node_fine true c.args.program.now) ∙ ap compact_text same
+
+pub returns-in_ok-to_value-in-Err-2 : goal.returns-in_ok-to_value-in-Err-2
+returns-in_ok-to_value-in-Err-2 c = text_written string_bytes _ _ _ c.in_ok-to_value-in-Err-2.ensures c.to_string-in-Err-2.ensures.text

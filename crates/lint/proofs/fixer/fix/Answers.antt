@@ -15,13 +15,13 @@ use Rattle.lint.proofs.fixer.fix.Goals as goal
 pub plan-requires-clause-spelled : goal.plan-requires-clause-spelled
 plan-requires-clause-spelled c =
     let is = c.requires.script in
-    subst (λ m. IsSome (least m script)) (sym c.program-program.ensures) (derived_least is.text c.args.parsed.now.program c.args.parsed.now.pairs.items (max_open, is.derived.1))
+    subst (λ m. IsSome (least m script)) (sym c.program-program.ensures) (derived_least is.text c.args.parsed.now.program c.args.parsed.now.pairs.items is.derived)
 
 pub plan-requires-clause-few : goal.plan-requires-clause-few
 plan-requires-clause-few c =
     let is = c.requires.script in
     let short = is.short in
-    let within : rows c.args.parsed.now.program script ≤ length is.text = rows_within is.text c.args.parsed.now.program c.args.parsed.now.pairs.items is.utf8 (max_open, is.derived.1) in
+    let within : rows c.args.parsed.now.program script ≤ length is.text = rows_within is.text c.args.parsed.now.program c.args.parsed.now.pairs.items is.utf8 is.derived in
     subst (λ m. rows m script ≤ 16777216) (sym c.program-program.ensures) (omega (arith, within, short))
 
 pub returns-clause-laid : goal.returns-clause-laid
@@ -30,7 +30,7 @@ returns-clause-laid c =
     let is = c.requires.script in
     let same = c.program-program.ensures in
     subst (λ m. string_bytes c.in_ok-text.text ≡ fixed_text m) same
-    (c.in_ok-text.ensures.fixed is.text c.args.parsed.now.pairs.items (subst (λ m. Derives is.text m c.args.parsed.now.pairs.items) (sym same) (max_open, is.derived.1))
+    (c.in_ok-text.ensures.fixed is.text c.args.parsed.now.pairs.items (subst (λ m. Derives is.text m c.args.parsed.now.pairs.items) (sym same) is.derived)
     (is_planned c.program-program.result.now c.flags.result.now (λ x. ap (λ (bs : List Bool). is_flagged bs x) c.flags.ensures ∙ c.in_ok-plan.ensures.wrapped x)))
 
 pub returns-clause-fixed : goal.returns-clause-fixed

@@ -1,11 +1,12 @@
 use Rattle.std.proofs.Common.{string_bytes}
+use Rattle.language.specs.Claims.{max_open}
 use Rattle.lint.proofs.Fixing.{stable}
 use Rattle.lint.proofs.fixer.fix_text.Goals as goal
 
 pub fix-requires : goal.fix-requires
 fix-requires c =
     let is = c.in_ok-parsed.ensures in
-    record { script = record { text = c.args.source.now; utf8 = is.accepted.source; short = is.short; derived = is.accepted.derived } }
+    record { script = record { text = c.args.source.now; utf8 = is.accepted.source; short = is.short; derived = (max_open, is.accepted.derived.1) } }
 
 pub returns-clause-fixed : goal.returns-clause-fixed
 returns-clause-fixed c = c.in_ok-text.ensures.fixed c.args.source.now c.in_ok-parsed.ensures.accepted

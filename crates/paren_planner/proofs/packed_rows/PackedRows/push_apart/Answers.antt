@@ -17,10 +17,10 @@ invariant_of-self-2 c =
     let count = ap length c.in_ok-push.ensures.items ∙ length-append c.self.inside.apart.items (c.args.costs.now ∷ []) in
     one_more_packed (length c.push.new.self.items) c.self.inside.turned c.self.inside.packed c.push-2.new.self _
     (all_in_more (length c.self.inside.apart.items) (length c.push.new.self.items) (in_order c.self.inside.turned c.self.inside.packed) (omega (arith, count)) c.self.invariant) c.in_ok-push-2.ensures.items
-    (omega (arith, count, c.len-place.ensures, c.self.inside.apart.ok.0))
+    (omega (arith, count, c.of-place.ensures, c.len.ensures, c.self.inside.apart.ok.0))
 
 pub returns-clause-rows : goal.returns-clause-rows
 returns-clause-rows c =
-    apart_pushed c.self.inside.apart.items c.push.new.self.items c.args.costs.now (in_order c.self.inside.turned c.self.inside.packed) (in_order c.self.inside.turned c.push-2.new.self) c.args.kind c.len-place.result c.self.invariant
-    c.in_ok-push.ensures.items (c.len-place.ensures ∙ c.self.inside.apart.ok.0) (pushed_order c.self.inside.turned c.self.inside.packed c.push-2.new.self _ c.in_ok-push-2.ensures.items)
+    apart_pushed c.self.inside.apart.items c.push.new.self.items c.args.costs.now (in_order c.self.inside.turned c.self.inside.packed) (in_order c.self.inside.turned c.push-2.new.self) c.args.kind c.of-place.result c.self.invariant
+    c.in_ok-push.ensures.items (c.of-place.ensures ∙ c.len.ensures ∙ c.self.inside.apart.ok.0) (pushed_order c.self.inside.turned c.self.inside.packed c.push-2.new.self _ c.in_ok-push-2.ensures.items)
     ∙ ap (λ v. v.items ++ row_with c.args.kind c.args.costs.now ∷ []) c.self.view_is

@@ -1,0 +1,16 @@
+use Rattle.std.proofs.Common.{subst}
+use Rattle.lint.specs.Run.{Runs}
+use Rattle.streams.specs.declared.command.Command.TheVariants.{Check}
+use Rattle.jslint.proofs.check_by.Goals as goal
+
+-- the rules find what the nine do
+pub returns-clause-answer : goal.returns-clause-answer
+returns-clause-answer g c = subst (λ finds. Runs finds Check (record {
+  given = g.F.Feed.left c.args.file.now;
+  second = g.S.Feed.left c.args.settings.now;
+  before = g.W.Sink.taken c.args.output.now;
+  after = g.W.Sink.taken c.run.new.writer;
+  reader_failed = g.F.Feed.failed c.run.new.file;
+  second_failed = g.S.Feed.failed c.run.new.second;
+  writer_failed = g.W.Sink.failed c.run.new.writer;
+}) c.run.result) c.requires.nine.is c.run.ensures.answer

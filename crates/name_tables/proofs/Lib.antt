@@ -1,0 +1,4 @@
+mod Drawing
+mod Places
+mod Sets
+pub mod Undone

@@ -1,0 +1,27 @@
+-- Tables of names: what a name stands for, and what it stood for before.
+use Rattle.std.specs.Prelude.{◌≡◌, ℕ, cond, List, [], ◌∷◌, Option, Some, None}
+use Rattle.std.specs.Str.{bytes_eq}
+use Rattle.indexmap.specs.IndexMap.{get_by}
+use Rattle.name_tables.specs.declared.table.NameTable.{NameTable}
+use Rattle.name_tables.specs.declared.table.Saved.{Saved}
+
+abbrev pub value_of : {V : Type 0} → Option (Option V) → Option V
+value_of None = None
+value_of (Some o) = o
+
+-- what a name stands for in a table
+abbrev pub look : {V : Type 0} → NameTable V → List ℕ → Option V
+look t w = value_of (get_by (λ k. bytes_eq w k.now) t.entries)
+
+-- the same, with another value at one name
+abbrev pub with_value : {V : Type 0} → (List ℕ → Option V) → List ℕ → Option V → List ℕ → Option V
+with_value f name o w = cond (bytes_eq name w) o (f w)
+
+-- two tables say the same of each name
+abbrev pub Agree : {V : Type 0} → (f g : List ℕ → Option V) → Type 0
+Agree f g = (w : List ℕ) → f w ≡ g w
+
+-- with what names stood for before, the last first
+abbrev pub undone : {V : Type 0} → (List ℕ → Option V) → List (Saved V) → List ℕ → Option V
+undone f [] = f
+undone f (x ∷ xs) = with_value (undone f xs) x.name.now x.value

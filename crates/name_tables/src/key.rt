@@ -1,0 +1,133 @@
+//! The key under which a script's names are hashed.
+
+ghost use Rattle.std.specs.Prelude.{◌≡◌};
+ghost use Rattle.tree.specs.Node.{node_tree};
+ghost use Rattle.name_tables.specs.Keys.{drawn, drawn_part, is_identifier, key_of, keyed_by, may_declare, nothing_read, read_name, read_names};
+
+use std::hash::{BuildHasher, DefaultHasher, Hash, Hasher};
+use tree::{Kind, Node};
+
+/// The key under which a table hashes its names, by SipHash. It is drawn before the first look-up from all names that can get
+/// into the table: who writes a script chooses its names, but with each choice the key is another. No answer depends on it.
+#[derive(Clone, Copy)]
+pub struct HashKey {
+    /// What each hash begins with: a hasher that has read the key.
+    keyed: DefaultHasher,
+}
+
+impl HashKey {
+    /// The key that is drawn from all names of a tree that scopes may declare.
+    pub fn drawn_from(root: Node) -> HashKey
+        ensures { result.keyed ≡ key_of (drawn (node_tree root.entry)) }
+    {
+        let mut builder = KeyBuilder::new();
+        draw(root, &mut builder);
+        builder.build()
+    }
+}
+
+/// Draws a key from names, one by one.
+#[derive(Clone, Copy)]
+pub struct KeyBuilder {
+    /// A hasher that has read the names.
+    hasher: DefaultHasher,
+}
+
+impl KeyBuilder {
+    /// No names yet.
+    pub fn new() -> KeyBuilder
+        ensures { result.hasher ≡ nothing_read }
+    {
+        KeyBuilder {
+            hasher: DefaultHasher::new(),
+        }
+    }
+
+    /// One more name.
+    pub fn add(&mut self, name: &str)
+        ensures { self.new.hasher ≡ read_name self.old.hasher name.now }
+    {
+        name.hash(&mut self.hasher);
+    }
+
+    /// The key that the names give.
+    pub fn build(mut self) -> HashKey
+        ensures { result.keyed ≡ keyed_by self.hasher }
+    {
+        let first = self.hasher.finish();
+        self.hasher.write_u64(first);
+        let second = self.hasher.finish();
+        let mut keyed = DefaultHasher::new();
+        keyed.write_u64(first);
+        keyed.write_u64(second);
+        HashKey { keyed }
+    }
+}
+
+impl BuildHasher for HashKey {
+    type Hasher = DefaultHasher;
+
+    ghost build_hasher = { λ key. key.keyed };
+
+    fn build_hasher(&self) -> DefaultHasher {
+        self.keyed
+    }
+}
+
+/// Draws the names in a node that scopes may declare.
+#[cycle(drawing)]
+#[tactic(auto, using(tree::proofs::PartWalk::part_steps))]
+fn draw(node: Node, builder: &mut KeyBuilder)
+    ensures { builder.new.hasher ≡ read_names builder.old.hasher (drawn (node_tree node.entry)) }
+{
+    let declares = may_declare(node.kind());
+    let parts = node.parts();
+    for index in 0..parts.len() {
+        if let Some(part) = parts.get(index) {
+            draw_part(part, declares, builder);
+        }
+    }
+}
+
+/// Those of a part: a name only where the node above may declare it.
+#[cycle(drawing)]
+#[tactic(auto, using(tree::proofs::PartWalk::part_steps))]
+fn draw_part(part: Node, declares: bool, builder: &mut KeyBuilder)
+    ensures { builder.new.hasher ≡ read_names builder.old.hasher (drawn_part declares (node_tree part.entry)) }
+{
+    if !is_identifier(part.kind()) {
+        draw(part, builder);
+    } else if declares {
+        builder.add(part.text());
+    }
+}
+
+fn is_identifier(kind: Kind) -> bool
+    ensures { result ≡ is_identifier kind }
+{
+    match kind {
+        Kind::Identifier => true,
+        _ => false,
+    }
+}
+
+/// Whether a name that is a part of such a node may be one that a scope declares.
+fn may_declare(kind: Kind) -> bool
+    ensures { result ≡ may_declare kind }
+{
+    match kind {
+        Kind::VariableDeclarator
+        | Kind::FunctionDeclaration
+        | Kind::FunctionExpression
+        | Kind::ArrowFunctionExpression
+        | Kind::ClassDeclaration
+        | Kind::ClassExpression
+        | Kind::CatchClause
+        | Kind::ArrayPattern
+        | Kind::ObjectPattern
+        | Kind::Property
+        | Kind::RestElement
+        | Kind::AssignmentPattern => true,
+        _ => false,
+    }
+}

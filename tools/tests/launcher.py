@@ -1,0 +1,154 @@
+"""The launcher, in a copy of the sources whose release is the program that is tested."""
+import os
+import shutil
+import subprocess
+import time
+
+TOP = os.path.dirname(os.path.dirname(os.path.dirname(os.path.realpath(__file__))))
+SOURCE = 'crates/tree/src/kind.rt'
+OTHERS = 'crates/rows/src/main.rt'
+# What it may call; no python3 and no toolchain.
+TOOLS = 'sh find sha256sum cksum sort xargs touch mv rm mkdir readlink'.split()
+
+
+def crates_of_program():
+    """The crates that the program stands on, by crates.txt."""
+    with open(f'{TOP}/crates.txt', encoding='utf-8') as file:
+        uses = {head.split()[0]: words.split() for head, _, words in (it.partition(':') for it in file) if head.strip()}
+    found, left = set(), ['jslint']
+    while left:
+        name = left.pop()
+        if name in uses and name not in found:
+            found.add(name)
+            left += uses[name]
+    return sorted(found)
+
+
+class Copy:
+    """A copy of what the launcher reads."""
+
+    def __init__(self, folder, program):
+        self.top, self.path = f'{folder}/checkout', f'{folder}/tools'
+        os.makedirs(self.path)
+        for it in TOOLS:
+            os.symlink(shutil.which(it), f'{self.path}/{it}')
+        for crate in os.listdir(f'{TOP}/crates'):
+            for part in ('src', 'specs', 'proofs'):
+                if os.path.isdir(f'{TOP}/crates/{crate}/{part}'):
+                    shutil.copytree(f'{TOP}/crates/{crate}/{part}', f'{self.top}/crates/{crate}/{part}')
+        os.makedirs(f'{self.top}/release/x86_64-linux')
+        os.makedirs(f'{self.top}/tools')
+        for name in ('jslint', 'crates.txt', 'tools/made-of', 'tools/build.py'):
+            shutil.copy(f'{TOP}/{name}', f'{self.top}/{name}')
+        self.release = f'{self.top}/release/x86_64-linux/jslint'
+        shutil.copy(program, self.release)
+        names = crates_of_program()
+        quick = self.told(['sh', '-c', '. ./tools/made-of; made_of "$@"', '', 'cksum', '.', *names])
+        check = self.told(['sh', '-c', 'cksum <release/x86_64-linux/jslint'])
+        with open(f'{self.top}/release/MADE', 'w', encoding='utf-8') as file:
+            file.write(f'cksum {check}\nquick {quick}\ncrates {" ".join(names)}\n')
+
+    def told(self, words):
+        return subprocess.run(words, cwd=self.top, stdout=subprocess.PIPE, text=True, check=True).stdout.strip()
+
+    def run(self, *words, given='((a));', at='.', name=None):
+        """The status and both streams of the launcher, without python3."""
+        ran = subprocess.run([name or f'{self.top}/jslint', *words], cwd=f'{self.top}/{at}', input=given, stdout=subprocess.PIPE, stderr=subprocess.PIPE, text=True, env={'PATH': self.path})
+        return ran.returncode, ran.stdout, ran.stderr
+
+    def gives(self, wanted, *words, **more):
+        found = self.run(*words, **more)
+        assert found == wanted, f'{words}: {found}'
+
+    def answers(self, told=''):
+        found = self.run('fix', '/dev/stdin')
+        assert found == (0, 'a;\n', ''), f'{told}: {found}'
+
+    def refuses(self, reason, told=''):
+        status, out, err = self.run('fix', '/dev/stdin')
+        assert (status, out) == (2, '') and reason in err and 'python3' in err, f'{told}: {(status, out, err)}'
+
+    def note(self):
+        """Runs until what was compared is noted: what changed within the last two seconds isn't."""
+        for _ in range(40):
+            self.answers()
+            if os.path.exists(f'{self.top}/bin/seen'):
+                return
+            time.sleep(0.2)
+        raise AssertionError('nothing is noted')
+
+
+def launcher(copy):
+    """It answers at once, by each name; and not where a source or the release is another, whatever their dates say."""
+    copy.answers('first')
+    copy.note()
+    copy.answers('noted')
+    copy.gives((1, '1:1 no-debugger debugger statement\n', ''), 'check', '/dev/stdin', given='debugger;')
+    copy.gives((2, '', 'jslint: syntax error at 1:2\n'), 'fix', '/dev/stdin', given='(')
+    copy.gives((2, '', 'jslint: read failed\n'), 'fix', '--', 'a b', at='crates', name='../jslint')
+    os.symlink(f'{copy.top}/jslint', f'{copy.path}/linked')
+    copy.gives((0, 'a;\n', ''), 'fix', '/dev/stdin', name='linked')
+    copy.gives((0, f'{os.path.realpath(copy.release)}\n', ''), '--program')
+
+
+def other_sources(copy):
+    copy.note()
+    path, differs = f'{copy.top}/{SOURCE}', 'a source differs'
+    kept = f'{path}.kept'
+    os.rename(path, kept)
+    copy.refuses(differs, 'one is missing')
+    with open(kept, 'rb') as file:
+        text = file.read()
+    with open(path, 'wb') as file:
+        file.write(text[:-1] + bytes([text[-1] ^ 1]))
+    os.remove(kept)
+    copy.refuses(differs, 'a byte differs')
+    os.utime(path, (1, 1))
+    copy.refuses(differs, 'a byte differs, with an old date')
+    with open(path, 'r+b') as file:
+        file.write(text)
+    copy.answers('it is as it was')
+    copy.note()
+    with open(f'{path}.new', 'wb') as file:
+        file.write(text + b'\n')
+    os.utime(f'{path}.new', (1, 1))
+    os.rename(f'{path}.new', path)
+    copy.refuses(differs, 'another with an old date came in its place')
+    with open(path, 'wb') as file:
+        file.write(text)
+    copy.note()
+    with open(f'{copy.top}/crates/tree/specs/New.antt', 'w', encoding='utf-8'):
+        pass
+    copy.refuses(differs, 'one more')
+    os.remove(f'{copy.top}/crates/tree/specs/New.antt')
+    with open(f'{copy.top}/{OTHERS}', 'a', encoding='utf-8') as file:
+        file.write('\n')
+    copy.answers('of a crate that is no part of the program')
+    with open(f'{copy.top}/crates.txt', encoding='utf-8') as file:
+        crates = file.read()
+    with open(f'{copy.top}/crates.txt', 'w', encoding='utf-8') as file:
+        file.write(crates.replace('\ntokens: ', '\ntokens: tree '))
+    copy.refuses(differs, 'tokens stands on one more')
+
+
+def other_release(copy):
+    copy.note()
+    with open(copy.release, 'r+b') as file:
+        file.seek(100_000)
+        byte = file.read(1)
+        file.seek(100_000)
+        file.write(bytes([byte[0] ^ 1]))
+    copy.refuses('is not the program of release/MADE')
+    os.remove(copy.release)
+    copy.refuses('there is no program in release/')
+
+
+def unwritable(copy):
+    """Where nothing can be noted, it compares each time."""
+    with open(f'{copy.top}/bin', 'w', encoding='utf-8'):
+        pass
+    copy.answers()
+    copy.answers()
+
+
+TESTS = [launcher, other_sources, other_release, unwritable]

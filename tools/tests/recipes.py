@@ -1,0 +1,382 @@
+"""The recipes of docs/USAGE.md as they stand in the page, its examples, and what `jslint-files` answers, with the program as `make install` puts it.
+
+Each test is a function that raises where something is wrong. Its argument is a room: a folder of its own, in which it works.
+"""
+import json
+import os
+import re
+import shutil
+import stat
+import subprocess
+import sys
+
+TOP = os.path.dirname(os.path.dirname(os.path.dirname(os.path.realpath(__file__))))
+with open(f'{TOP}/docs/USAGE.md', encoding='utf-8') as page:
+    PAGE = page.read()
+WRONG = 'let x = (1);\n'
+RIGHT = '"use strict";\n'
+REFUSED = 'a +\n;\n'
+FOUND = ["1:5 no-unused-vars 'x' is never read", "1:5 prefer-const 'x' is never reassigned", '1:9 no-extra-parens unnecessary parentheses']
+# Where `make install` put the program.
+BIN = None
+
+
+def install(folder):
+    """What `make install` puts into a folder."""
+    ran = subprocess.run(['make', '-s', 'install', f'PREFIX={folder}'], cwd=TOP, stdout=subprocess.PIPE, stderr=subprocess.STDOUT, text=True)
+    is_well(ran.returncode == 0, ran.stdout)
+
+
+def begin(room):
+    global BIN
+    install(f'{room}/installed')
+    BIN = f'{room}/installed/bin'
+
+
+def blocks(heading):
+    """The code blocks of a recipe: their languages and texts."""
+    at = PAGE.index(f'\n### {heading}\n')
+    section = re.split(r'\n##+ ', PAGE[at + 1:], maxsplit=1)[0] if at < 0 else PAGE[at + 1:]
+    section = section[:(re.search(r'\n##+ ', section[4:]) or re.search(r'\Z', section[4:])).start() + 4]
+    return re.findall(r'^```(\w*)\n(.*?)^```$', section, re.M | re.S)
+
+
+def block(heading, language, number=0):
+    return [text for it, text in blocks(heading) if it == language][number]
+
+
+class Room:
+    """A folder of its own, in which a test works."""
+
+    def __init__(self, folder):
+        self.folder = folder
+        os.makedirs(folder)
+
+    def path(self, name):
+        return os.path.join(os.fsencode(self.folder), os.fsencode(name))
+
+    def put(self, name, text, mode=None):
+        os.makedirs(os.path.dirname(self.path(name)), exist_ok=True)
+        with open(self.path(name), 'wb') as file:
+            file.write(text.encode())
+        if mode is not None:
+            os.chmod(self.path(name), mode)
+
+    def text(self, name):
+        with open(self.path(name), 'rb') as file:
+            return file.read().decode()
+
+    def names(self, below='.'):
+        return sorted(os.fsdecode(it) for it in os.listdir(self.path(below)))
+
+    def run(self, words, given=None, status=None, at='.', **more):
+        """The status and both streams of a command, which ends with this status if one is named."""
+        path = os.pathsep.join([BIN, '/usr/bin', '/bin', os.path.dirname(sys.executable)])
+        who = {f'GIT_{it}_{what}': 'nobody@example.org' for it in ('AUTHOR', 'COMMITTER') for what in ('NAME', 'EMAIL')}
+        env = {'PATH': path, 'HOME': self.folder, 'LC_ALL': 'C.UTF-8', 'GIT_CONFIG_NOSYSTEM': '1', 'GIT_CONFIG_GLOBAL': '/dev/null', **who, **more}
+        how = {'cwd': self.path(at), 'stdout': subprocess.PIPE, 'stderr': subprocess.PIPE, 'env': env}
+        how.update({'input': given} if given is not None else {'stdin': subprocess.DEVNULL})
+        ran = subprocess.run(words, **how)
+        out, err = ran.stdout.decode(errors='surrogateescape'), ran.stderr.decode(errors='surrogateescape')
+        is_well(status is None or ran.returncode == status, f'{words}: status {ran.returncode}: {out}{err}')
+        return ran.returncode, out, err
+
+    def sh(self, text, status=None, **more):
+        return self.run(['sh', '-c', text], status=status, **more)
+
+    def git(self, *words, status=0):
+        return self.run(['git', *words], status=status)[1]
+
+
+def is_well(holds, told=''):
+    if not holds:
+        raise AssertionError(told)
+
+
+def same(found, wanted, told=''):
+    is_well(found == wanted, f'{told} {found!r} where {wanted!r} is wanted')
+
+
+def examples_of(page, room):
+    """Each command of a page that stands behind a `$`, and what it prints, or how that begins where it ends in two dots."""
+    for text in re.findall(r'^```\n(\$ .*?)^```$', page, re.M | re.S):
+        for command, wanted in re.findall(r'^\$ (.*)\n((?:(?!\$ ).*\n)*)', text, re.M):
+            name = re.fullmatch(r'cat (\S+)', command)
+            if name:
+                room.put(name[1], wanted.rstrip('\n') + '\n')
+                continue
+            _, out, err = room.sh(command)
+            found, wanted = (out + err).rstrip('\n'), wanted.rstrip('\n')
+            is_well(found.startswith(wanted[:-2].rstrip(' ')) if wanted.endswith(' ..') else found == wanted, f'{command}: {found!r} where {wanted!r} is wanted')
+
+
+def examples(room):
+    examples_of(PAGE, room)
+
+
+def readme_examples(room):
+    os.symlink(f'{BIN}/jslint', room.path('jslint'))
+    with open(f'{TOP}/README.md', encoding='utf-8') as file:
+        examples_of(file.read(), room)
+
+
+def standard_input(room):
+    room.git('init', '-q')
+    room.put('a.js', WRONG)
+    room.git('add', 'a.js')
+    room.git('commit', '-q', '-m', 'a')
+    room.put('a.js', RIGHT)
+    same(room.sh(block('Standard input', 'sh')), (1, ''.join(f'{it}\n' for it in FOUND), ''))
+
+
+def in_place(room, number=0):
+    """Fixes; keeps the mode; follows a link; leaves what is refused; nothing stays beside it."""
+    text = block('In place', 'sh', number)
+    room.put('a.js', WRONG, 0o754)
+    room.put('bad.js', REFUSED)
+    room.put('-h.js', WRONG)
+    room.put('my file.js', WRONG)
+    os.makedirs(room.path('below'))
+    os.symlink('../a.js', room.path('below/link.js'))
+    names = room.names()
+    room.sh(text, status=0)
+    same((room.text('a.js'), stat.S_IMODE(os.stat(room.path('a.js')).st_mode)), ('let x = 1;\n', 0o754))
+    for name in ('-h.js', "'my file.js'", 'below/link.js'):
+        room.put('a.js', WRONG)
+        room.sh(text.replace('fix_in_place a.js', f'fix_in_place {name}'), status=0)
+        same(room.text(name.strip("'")), 'let x = 1;\n', name)
+    is_well(os.path.islink(room.path('below/link.js')), 'the link is gone')
+    same(room.sh(text.replace('fix_in_place a.js', 'fix_in_place bad.js'))[::2], (2, 'jslint: syntax error at 2:1\n'))
+    same((room.text('bad.js'), room.names()), (REFUSED, names))
+
+
+def with_cr(room):
+    in_place(room, 1)
+    room.put('cr.js', 'let a = `x\r\ny\r\r\nz`,\r\n b = "p\\\r\nq";\r\n')
+    tree = room.run(['jslint', 'tree', '--', 'cr.js'], status=0)[1]
+    room.sh(block('In place', 'sh', 1).replace('fix_in_place a.js', 'fix_in_place cr.js'), status=0)
+    found = room.text('cr.js')
+    is_well(re.fullmatch(r'(?:[^\n]*\r\n)+', found), repr(found))
+    values = [re.findall(r'"cooked":"[^"]*"|"value":"[^"]*"', it) for it in (tree, room.run(['jslint', 'tree', '--', 'cr.js'], status=0)[1])]
+    same(values[0], values[1])
+
+
+def folder(room):
+    text = block('A folder', 'sh')
+    good = ['src/a.js', 'src/deep/-h.js', 'src/deep/two words.js', 'src/deep/line\nfeed.js']
+    for name in good:
+        room.put(name, WRONG, 0o640)
+    room.sh(text, status=0)
+    for name in good:
+        same((room.text(name), stat.S_IMODE(os.stat(room.path(name)).st_mode)), ('let x = 1;\n', 0o640), name)
+    room.put('src/bad\n::error::x.js', REFUSED)
+    room.put('src/a.js', WRONG)
+    status, _, err = room.sh(text)
+    is_well(status != 0 and err == 'jslint: syntax error at 2:1\nsrc/bad\\n::error::x.js\n', f'{status} {err!r}')
+    same((room.text('src/bad\n::error::x.js'), room.text('src/a.js'), room.names('src')), (REFUSED, 'let x = 1;\n', ['a.js', 'bad\n::error::x.js', 'deep']))
+
+
+def many_files(room):
+    room.git('init', '-q')
+    for name in ('src/a.js', 'src/deep/b.js', 'c.js'):
+        room.put(name, WRONG)
+    room.git('add', '.')
+    _, out, err = room.sh(block('Many files', 'sh'))
+    lines = out.splitlines()
+    same(lines[:-1], [f'{name}:{it.replace(" ", ": ", 1)}' for name in ('src/a.js', 'src/deep/b.js') for it in FOUND])
+    found = json.loads(lines[-1])
+    same([it['filePath'] for it in found], ['c.js', 'src/a.js', 'src/deep/b.js'])
+    same(found[0]['messages'][2], {'ruleId': 'no-extra-parens', 'severity': 2, 'message': 'unnecessary parentheses', 'line': 1, 'column': 9})
+    same(err, '')
+
+
+def redirections(room):
+    """Devices as a shell gives them: full, closed, slow, a folder."""
+    room.put('a.js', '(a) + b;\n')
+    room.put('table', 'jslint-cost 2\n1 BinaryExpression 0 0 0 0 0 - - -\n2 Identifier\n3 Identifier\ntotal 0\n')
+    lost, unread = (2, '', 'jslint: write failed\n'), (2, '', 'jslint: read failed\n')
+    for words in ('check a.js', 'fix a.js', 'tree a.js', 'cost a.js', 'verify a.js table', '--help', '--version'):
+        same(room.sh(f'jslint {words} >/dev/full'), lost, words)
+        same(room.sh(f'jslint {words} >&-'), lost, words)
+        same(room.sh(f'jslint {words} >/dev/full 2>&-'), (2, '', ''), words)
+    for words in ('fix /dev/stdin <&-', 'fix .', 'fix none.js', 'check --settings . a.js', 'check --settings none a.js', 'verify a.js .', 'verify a.js none'):
+        same(room.sh(f'jslint {words}'), unread, words)
+    for words in ('(printf "(a"; sleep 0.2; printf ") + b;") | jslint fix /dev/stdin', 'jslint fix /dev/stdin <a.js', 'cat a.js | jslint fix /dev/stdin | cat', 'jslint fix a.js </dev/null'):
+        same(room.sh(words), (0, 'a + b;\n', ''), words)
+    same(room.sh('jslint verify a.js /dev/stdin <table'), (0, 'pairs 1 least 0\n', ''))
+
+
+def statuses(room):
+    """0, 1, 2; names that are no option; the order of the files, however many run side by side."""
+    for name, text in [('a.js', WRONG), ('good.js', RIGHT), ('bad.js', REFUSED), ('-h.js', WRONG), ('off.toml', '[rules]\nno-unused-vars = false\nprefer-const = false\nno-extra-parens = false\n')]:
+        room.put(name, text)
+    call = lambda *words, **more: room.run(['jslint-files', *words], **more)
+    same(call('good.js'), (0, '', ''))
+    same(call('--settings', 'off.toml', '--', 'a.js', '-h.js'), (0, '', ''))
+    same(call('a.js', 'good.js')[0], 1)
+    same(call('--', '-h.js'), (1, ''.join(f'-h.js:{it.replace(" ", ": ", 1)}\n' for it in FOUND), ''))
+    same(call('bad.js', 'none.js', '.'), (2, 'bad.js:2:1: syntax error\nnone.js:1:1: read failed\n.:1:1: read failed\n', ''))
+    same(call('--settings=a.js', 'good.js')[:2], (2, 'good.js:1:1: bad settings\n'))
+    for words in [('--settings', 'none.toml', 'a.js'), ('-h.js',), (), ('--format', 'xml', 'a.js'), ('--jobs', '0', 'a.js'), ('--jobs',), ('--nope', 'a.js'), ('--files-from', 'none')]:
+        status, out, err = call(*words)
+        is_well(status == 2 and not out and err.startswith('jslint-files: ') and err.count('\n') == 1, f'{words} {status} {out} {err}')
+    same(call('none*.js'), (2, 'none*.js:1:1: read failed\n', ''))
+    same(call('--files-from', '-', given=b'a.js\ngood.js\n')[1].count('\n'), 3)
+    same(call('--files-from', '-', given=b''), (0, '', ''))
+    many = [f'{it:03}.js' for it in range(60)]
+    for it in many:
+        room.put(it, WRONG if int(it[:3]) % 2 else REFUSED)
+    alone = call('--jobs', '1', *many)
+    same(call('--jobs', '8', *many), alone)
+    same([it.split(':')[0] for it in alone[1].splitlines()], [it for it in many for _ in range(3 if int(it[:3]) % 2 else 1)])
+    is_well(call('--help')[1].startswith('usage: jslint-files'))
+
+
+def forged_names(room):
+    """No name breaks its line, turns its order, or begins what GitHub's runner would obey."""
+    names = ['a\n::error file=x.js::forged.js', '::error file=x.js::forged.js', ' ::error::y.js', 'b\r##[error]z.js', 'e\x1b[31m.js', 'u\u202e.js', 'p%,:.js', b'not\xffutf8.js']
+    for name in names:
+        with open(room.path(name), 'wb') as file:
+            file.write(b'debugger;\n')
+    listed = b'\0'.join(os.fsencode(it) for it in names) + b'\0'
+    for words in ([], ['--format', 'github'], ['--format', 'json']):
+        status, out, err = room.run(['jslint-files', *words, '--files-from', '-'], given=listed)
+        lines = out.splitlines(keepends=True)
+        same((status, err, out.count('\n'), len(lines)), (1, '', *[1 if 'json' in words else len(names)] * 2), repr(out))
+        is_well(not re.search('[\x00-\x09\x0b-\x1f\x7f-\x9f\u2028-\u202e\udc80-\udcff]', out), repr(out))
+        if 'json' in words:
+            same([os.fsencode(it['filePath']) for it in json.loads(out)], [os.fsencode(it) for it in names])
+        elif words:
+            same([it.split(',line=1,col=1,title=no-debugger::')[0] for it in lines][0], '::error file=a%0A%3A%3Aerror file=x.js%3A%3Aforged.js')
+            is_well(all(re.fullmatch(r'::error file=[^:,]*,line=1,col=1,title=no-debugger::[^\n]*\n', it) for it in lines), repr(lines))
+        else:
+            is_well(not any(it.lstrip().startswith('::') or '##[' in it for it in lines), repr(lines))
+
+
+def shown_progress(room):
+    """On a terminal a line says how far it is, after a second, and is gone at the end."""
+    room.put('slow', '#!/bin/sh\nsleep 0.7\n', 0o755)
+    names = [f'{it}.js' for it in range(3)]
+    text = f'import pty, sys; sys.exit(pty.spawn(["jslint-files", "--jobs", "1", "--", *{names!r}]) >> 8)'
+    _, out, _ = room.run([sys.executable, '-c', text], status=0, JSLINT=room.folder + '/slow')
+    is_well('2 of 3' in out and '1 of 3' not in out and out.endswith('\r\x1b[K'), repr(out))
+
+
+def git_hook(room):
+    room.git('init', '-q')
+    room.put('.git/hooks/pre-commit', block('A git hook', 'sh'), 0o755)
+    room.put('a.js', RIGHT)
+    room.put('target.js', WRONG)
+    room.git('add', 'a.js')
+    room.git('commit', '-q', '-m', 'right')
+    # what is staged counts, and not what lies in the folder
+    room.put('a.js', WRONG)
+    room.git('add', 'a.js')
+    room.put('a.js', RIGHT)
+    status, out, err = room.run(['git', 'commit', '-q', '-m', 'wrong'])
+    is_well(status and out + err == ''.join(f'./a.js:{it.replace(" ", ": ", 1)}\n' for it in FOUND), f'{status} {out}{err}')
+    # so do the settings
+    room.put('jslint.toml', 'rules = { no-unused-vars = false, prefer-const = false, no-extra-parens = false }\n')
+    room.git('commit', '-q', '-m', 'wrong', status=1)
+    room.git('add', 'jslint.toml')
+    room.put('jslint.toml', 'no settings')
+    room.git('commit', '-q', '-m', 'by settings')
+    # a link is no script, whatever its target is called; a refused script and a name like an option count
+    os.symlink('debugger;', room.path('link.js'))
+    room.git('add', 'link.js')
+    room.git('commit', '-q', '-m', 'a link')
+    for name, text in [('-h.js', 'debugger;'), ('two words.js', REFUSED), ('new\nline.js', 'debugger;')]:
+        room.put(name, text)
+        room.git('add', '--', name)
+        room.git('commit', '-q', '-m', 'wrong', status=1)
+        room.git('rm', '-q', '--cached', '--', name)
+    room.git('rm', '-q', '-f', 'a.js')
+    room.git('commit', '-q', '-m', 'gone')
+
+
+def make(room):
+    room.put('Makefile', block('make', 'make'))
+    room.put('src/a.js', RIGHT)
+    room.put('src/b.js', 'x = (1);\n')
+    run = lambda *words: room.run(['make', *words])
+    is_well(run('check')[0] != 0, 'no settings: b.js has reports')
+    room.put('jslint.toml', 'globals = ["x"]\n[rules]\nno-extra-parens = false\n')
+    same(run('check')[0], 0)
+    is_well('jslint' not in run('check')[1], 'checked again')
+    room.put('jslint.toml', 'globals = ["x"]\n')
+    later = os.stat(room.path('build/b.checked')).st_mtime + 5
+    os.utime(room.path('jslint.toml'), (later, later))
+    is_well(run('check')[0] != 0, 'other settings, and nothing is checked again')
+    same(run('fixed')[0], 0)
+    same(room.text('build/b.js'), 'x = 1;\n')
+    room.put('src/c.js', REFUSED)
+    is_well(run('fixed')[0] != 0)
+    is_well(not any(it.startswith('c.js') for it in room.names('build')), 'of a refused script something stays')
+
+
+def github(room):
+    install(f'{room.folder}/ci')
+    room.git('init', '-q')
+    room.put('a.js', WRONG)
+    room.git('add', 'a.js')
+    line = re.search(r'^ +- run: (.*)$', block('GitHub Actions', 'yaml'), re.M)[1]
+    status, out, err = room.sh(line)
+    same((status, out.splitlines()[2], err), (1, '::error file=a.js,line=1,col=9,title=no-extra-parens::unnecessary parentheses', ''))
+
+
+def vim_patterns(text):
+    """The regular expressions of an `errorformat`, with a `%f` or not, as Vim reads it."""
+    line = re.search(r'^set errorformat=(.*)$', text, re.M)[1].replace('\\ ', ' ')
+    groups = {'%f': r'(?P<f>.+?)', '%l': r'(?P<l>\d+)', '%c': r'(?P<c>\d+)', '%m': r'(?P<m>.+)'}
+    return [re.sub('%[flcm]', lambda it: groups[it[0]], it) for it in line.split(',')]
+
+
+def editors(room):
+    """The patterns of Vim, Emacs and VS Code on what is printed."""
+    room.put('src/a.js', WRONG)
+    room.put('bad.js', REFUSED)
+    alone, many = (block('Vim', 'vim', it) for it in (0, 1))
+    for name, wanted in [('src/a.js', ('1', '5', FOUND[0].split(' ', 1)[1])), ('bad.js', ('2', '1', 'syntax error')), ('none.js', (None, None, 'read failed'))]:
+        words = re.search(r'^set makeprg=(.*)$', alone, re.M)[1].replace('\\ ', ' ').replace('%:S', name)
+        _, out, err = room.sh(words)
+        first = next(filter(None, (re.fullmatch(it, (out + err).splitlines()[0]) for it in vim_patterns(alone))))
+        same(tuple(first.groupdict().get(it) for it in 'lcm'), wanted)
+    program = re.search(r'^set makeprg=(.*)$', many, re.M)[1]
+    lines = room.run([program, 'src/a.js', 'bad.js'])[1].splitlines()
+    same([re.fullmatch(vim_patterns(many)[0], it).group('f', 'l', 'c') for it in lines], [('src/a.js', '1', '5')] * 2 + [('src/a.js', '1', '9'), ('bad.js', '2', '1')])
+    # (`gnu` in compilation-error-regexp-alist-alist)
+    same([re.match(r'([^ \n:][^\n:]*):(\d+):(\d+): ', it).groups() for it in lines], [('src/a.js', '1', '5')] * 2 + [('src/a.js', '1', '9'), ('bad.js', '2', '1')])
+    task = json.loads(block('VS Code', 'json'))['tasks'][0]
+    words = [task['command'], *(it.replace('${relativeFile}', 'src/a.js') for it in task['args'])]
+    pattern = task['problemMatcher']['pattern']
+    found = [re.fullmatch(pattern['regexp'], it) for it in room.run(words)[1].splitlines()]
+    same([tuple(it[pattern[key]] for key in ('file', 'line', 'column', 'message')) for it in found][2], ('src/a.js', '1', '9', FOUND[2].split(' ', 1)[1]))
+
+
+def settings_example(room):
+    """The example of a settings file is one."""
+    room.put('jslint.toml', re.search(r'^```toml\n(.*?)^```$', PAGE, re.M | re.S)[1])
+    room.put('a.js', 'jQuery(_ => null == null);')
+    same(room.run(['jslint', 'check', '--settings', 'jslint.toml', '--', 'a.js']), (0, '', ''))
+
+
+def pages(room):
+    """The manual pages have no faults that man(1) sees, and bash completes."""
+    for name in ('jslint', 'jslint-files'):
+        page = f'{os.path.dirname(BIN)}/share/man/man1/{name}.1'
+        if shutil.which('man'):
+            same(room.sh(f'LC_ALL=C.UTF-8 MANROFFSEQ= MANWIDTH=80 man --warnings -E UTF-8 -l -Tutf8 -Z {page} >/dev/null')[2], '', name)
+        is_well(os.path.isfile(page))
+    completed = f'''. {os.path.dirname(BIN)}/share/bash-completion/completions/jslint
+        compopt() {{ :; }}
+        COMP_WORDS=(jslint ver) COMP_CWORD=1; _jslint; echo "${{COMPREPLY[*]}}"
+        COMP_WORDS=(jslint check --s) COMP_CWORD=2; _jslint; echo "${{COMPREPLY[*]}}"
+        COMP_WORDS=(jslint-files --format g) COMP_CWORD=2; _jslint_files; echo "${{COMPREPLY[*]}}"'''
+    if shutil.which('bash'):
+        same(room.run(['bash', '-c', completed])[1:], ('verify\n--settings\ngithub\n', ''))
+
+
+TESTS = [
+    examples, readme_examples, settings_example, standard_input, in_place, with_cr, folder, many_files, redirections, statuses, forged_names,
+    shown_progress, git_hook, make, github, editors, pages,
+]
