@@ -1,10 +1,10 @@
-"""Prints the lemma files of the crates, each with the comment that it begins with, or the examples that compute.
+"""Prints the files of definitions and of lemmas of the crates, each with the comment that it begins with, or the examples that compute.
 
-    python3 tools/lemmas/lemmas.py [CRATE ..]               # the lemma files, of all crates or of those that are named
+    python3 tools/lemmas/lemmas.py [CRATE ..]               # the files, of all crates or of those that are named
     python3 tools/lemmas/lemmas.py --examples [CRATE ..]    # the examples: file and name, the text, what is computed of it
     python3 tools/lemmas/lemmas.py --check                  # names the files that begin with no comment: status 1 where there is one
 
-A lemma file is a file `proofs/NAME.antt` of a crate; those in folders below `proofs` are answers at the goals of one function and are only
+Definitions are in `specs/NAME.antt` of a crate, lemmas in `proofs/NAME.antt`; those in folders below `proofs` are answers at the goals of one function and are only
 counted. An example's text is what its statement hands to `tokens`, or the comment above it or above the tree that it names; what is
 computed of it follows the `≡`. docs/PROOFS.md says how the proof goes.
 """
@@ -20,7 +20,7 @@ OTHERS = ('SoundTables', 'SameTrees', 'Nest')
 
 
 def crates_in_order():
-    """The crates with a folder `proofs`, each after those that it stands on, as crates.txt has them."""
+    """The crates of crates.txt, each after those that it stands on."""
     below = {}
     for line in (TOP / 'crates.txt').read_text().splitlines():
         name, _, rest = line.partition(':')
@@ -35,11 +35,15 @@ def crates_in_order():
 
     for name in below:
         visit(name)
-    return [name for name in order if (TOP / 'crates' / name / 'proofs').is_dir()]
+    return order
+
+
+def files_of(crate, folder):
+    return [path for path in sorted((TOP / 'crates' / crate / folder).glob('*.antt')) if path.name != 'Lib.antt']
 
 
 def lemma_files(crate):
-    return [path for path in sorted((TOP / 'crates' / crate / 'proofs').glob('*.antt')) if path.name != 'Lib.antt']
+    return files_of(crate, 'proofs')
 
 
 def comment_of(path):
@@ -55,12 +59,11 @@ def comment_of(path):
 
 def show_files(crates):
     for crate in crates:
-        files = lemma_files(crate)
+        specs, files = files_of(crate, 'specs'), lemma_files(crate)
         answers = sum(1 for path in (TOP / 'crates' / crate / 'proofs').glob('*/**/*.antt'))
-        if files or answers:
-            print(f'{crate}: {len(files)} lemma files, {answers} files of answers')
-        for path in files:
-            print(f'    {path.stem}: {comment_of(path)}')
+        print(f'{crate}: {len(specs)} files of definitions, {len(files)} of lemmas, {answers} of answers')
+        for path in [*specs, *files]:
+            print(f'    {path.parent.name}/{path.stem}: {comment_of(path)}')
 
 
 def has_examples(path):
@@ -101,7 +104,7 @@ def main(words):
         return 2
     chosen = [it for it in crates if not names or it in names]
     if '--check' in words:
-        silent = [path.relative_to(TOP) for it in chosen for path in lemma_files(it) if not comment_of(path)]
+        silent = [path.relative_to(TOP) for it in chosen for path in [*files_of(it, 'specs'), *lemma_files(it)] if not comment_of(path)]
         for path in silent:
             print(f'{path}: begins with no comment', file=sys.stderr)
         return 1 if silent else 0
