@@ -4,9 +4,9 @@
     python3 tools/lemmas/lemmas.py --examples [CRATE ..]    # the examples: file and name, the text, what is computed of it
     python3 tools/lemmas/lemmas.py --check                  # names the files that begin with no comment: status 1 where there is one
 
-Definitions are in `specs/NAME.antt` of a crate, lemmas in `proofs/NAME.antt`; those in folders below `proofs` are answers at the goals of one function and are only
-counted. An example's text is what its statement hands to `tokens`, or the comment above it or above the tree that it names; what is
-computed of it follows the `≡`. docs/PROOFS.md says how the proof goes.
+Definitions are in `specs/NAME.antt` of a crate, lemmas in `proofs/NAME.antt`; files in folders below `proofs` are answers at the goals of one
+function and are only counted. An example's text is what its statement hands to `tokens`, or the comment above it or above the tree that it
+names; what is computed of it follows the `≡`. docs/PROOFS.md says how the proof goes.
 """
 import pathlib
 import re
