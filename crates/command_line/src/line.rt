@@ -1,6 +1,6 @@
 //! The words of the command line.
 
-ghost use Rattle.std.specs.Prelude.{◌≡◌, IfErr, IfOk, IsOkAnd, Some, [], false, map, true};
+ghost use Rattle.std.specs.Prelude.{◌≡◌, ◌↔◌, IfErr, IfOk, IsOkAnd, Some, [], false, map, true};
 ghost use Rattle.clap.specs.Words.{FailsBy, app_of, fault_of, kind_of, subcommand_of, subcommand_rows_of, takes, with_subcommand};
 ghost use Rattle.clap.specs.declared.builder.command.Command.TheViews.{out-Command};
 ghost use Rattle.streams.specs.Commands.{word_of};
@@ -106,7 +106,7 @@ pub(crate) fn jslint_command<'a>(alloc: Global) -> Result<clap::Command<'a>, All
 
 /// The command of this word, if there is one.
 fn command_of(word: &str) -> Option<Command>
-    ensures { (command : _) → word_of command ≡ word.now → result ≡ Some command }
+    ensures { (command : _) → (result ≡ Some command) ↔ (word_of command ≡ word.now) }
 {
     for command in Command::ALL {
         if command.word() == word {

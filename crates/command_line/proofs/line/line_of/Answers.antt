@@ -76,7 +76,7 @@ returns c =
     let rows_are : rows_of found ≡ rows = rows_met _ _ c.unwrap.result _ _ rows c.unwrap.ensures c.subcommand.ensures.rows c.requires.2 in
     let named : Some (word_of command) ≡ Some c.unwrap.result.0.now = sym (ap (option_map (λ p. p.0.now)) (sym c.unwrap.ensures) ∙ c.subcommand.ensures.name ∙ word_met _ _ (out-ArgMatches c.args.matches.now).subcommand (word_of command) rows c.requires.2) in
     let word_is : word_of command ≡ c.unwrap.result.0.now = ap (λ o. unwrap_or o (word_of command)) named in
-    let command_is : c.unwrap-command.result ≡ command = same_value c.command_of.result c.unwrap-command.result command c.unwrap-command.ensures (c.command_of.ensures command word_is) in (
+    let command_is : c.unwrap-command.result ≡ command = same_value c.command_of.result c.unwrap-command.result command c.unwrap-command.ensures ((c.command_of.ensures command).1 word_is) in (
       rows,
       c.requires.2 ∙ ap (λ k. Some (word_of k, rows)) (sym command_is),
       sym (some_text found rows (codes "file") _ c.get_str.ensures rows_are) ∙ ap text_of c.unwrap-file.ensures,
