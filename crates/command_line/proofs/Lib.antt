@@ -1,2 +1,4 @@
+mod GivenValues
 mod Memory
+mod MetCommand
 mod ShownMore

@@ -49,6 +49,15 @@ abbrev pub Chooses : Option (Text × List Row) → Line → Type 0
 Chooses met line = (rows : List Row) × (met ≡ Some (word_of line.command, rows)) × (first_of (codes "file") rows ≡ Some line.file.now)
     × HasSecond line.command rows (option_map (λ s. s.now) line.second)
 
+-- the files that a command must have are among what its words matched
+abbrev pub HasFiles : Command → List Row → Type 0
+HasFiles Verify rows = (is_some (first_of (codes "file") rows) ≡ true) × (is_some (first_of (codes "table") rows) ≡ true)
+HasFiles other rows = is_some (first_of (codes "file") rows) ≡ true
+
+-- the subcommand that was met is a command, and has its files
+abbrev pub MeetsCommand : Option (Text × List Row) → Type 0
+MeetsCommand met = (command : Command) × (rows : List Row) × (met ≡ Some (word_of command, rows)) × HasFiles command rows
+
 -- the line for a word of the command line that isn't UTF-8
 abbrev pub not_utf8_line : List ℕ
 not_utf8_line = codes "jslint: the command line is not UTF-8\n"

@@ -1,10 +1,11 @@
 //! The words of the command line.
 
-ghost use Rattle.std.specs.Prelude.{◌≡◌, IfErr, IfOk, IfSome, IsOkAnd, false, map, true};
+ghost use Rattle.std.specs.Prelude.{◌≡◌, ◌↔◌, IfErr, IfOk, IsOkAnd, Some, [], false, map, true};
 ghost use Rattle.clap.specs.Words.{FailsBy, app_of, fault_of, kind_of, subcommand_of, subcommand_rows_of, takes, with_subcommand};
 ghost use Rattle.clap.specs.declared.builder.command.Command.TheViews.{out-Command};
+ghost use Rattle.streams.specs.Commands.{word_of};
 ghost use Rattle.streams.specs.declared.command.Command.TheVariants.{Check, Verify};
-ghost use Rattle.command_line.specs.CommandLine.{Chooses, bare_app, command_app, file_app, jslint_app};
+ghost use Rattle.command_line.specs.CommandLine.{Chooses, MeetsCommand, bare_app, command_app, file_app, jslint_app};
 
 use crate::help;
 use clap::error::ErrorKind;
@@ -103,52 +104,51 @@ pub(crate) fn jslint_command<'a>(alloc: Global) -> Result<clap::Command<'a>, All
     with_command(jslint, verify_command(alloc))
 }
 
-/// This command, if it was met, with its files.
-fn line_of<'a>(matches: &ArgMatches<'a>, command: Command) -> Option<Line<'a>>
-    ensures { IfSome result (λ line. Chooses (subcommand_rows_of matches.now) line) }
-{
-    let met = matches.subcommand_matches(command.word())?;
-    let file = met.get_str("file")?;
-    let second = match command {
-        Command::Check => met.get_str("settings"),
-        Command::Verify => Some(met.get_str("table")?),
-        Command::Tree | Command::Fix | Command::Cost => None,
-    };
-    Some(Line {
-        command,
-        file,
-        second,
-    })
-}
-
-/// The command that was met, with its files.
-fn chosen_line<'a>(matches: &ArgMatches<'a>) -> Option<Line<'a>>
-    ensures { IfSome result (λ line. Chooses (subcommand_rows_of matches.now) line) }
+/// The command of this word, if there is one.
+fn command_of(word: &str) -> Option<Command>
+    ensures { (command : _) → (result ≡ Some command) ↔ (word_of command ≡ word.now) }
 {
     for command in Command::ALL {
-        if let Some(line) = line_of(matches, command) {
-            return Some(line);
+        if command.word() == word {
+            return Some(command);
         }
     }
     None
 }
 
-/// Reads all words of a command line, the program's name first.
+/// The command that was met, with its files.
+fn line_of<'a>(matches: &ArgMatches<'a>) -> Line<'a>
+    requires { MeetsCommand (subcommand_rows_of matches.now) }
+    ensures { Chooses (subcommand_rows_of matches.now) result }
+{
+    let (word, met) = matches.subcommand().unwrap();
+    let command = command_of(word).unwrap();
+    let file = met.get_str("file").unwrap();
+    let second = match command {
+        Command::Check => met.get_str("settings"),
+        Command::Verify => met.get_str("table"),
+        Command::Tree | Command::Fix | Command::Cost => None,
+    };
+    Line {
+        command,
+        file,
+        second,
+    }
+}
+
+/// Reads all words of a command line, the program's name first. Words in which clap finds no fault name a command and its files.
 ///
 /// # Errors
 ///
 /// Help or the version that was asked for, a command line that is not understood, or no memory: `kind()` says which, and the
-/// error's text is for the user.
+/// error's text is for the user. Words in which clap finds no fault fail only for want of memory.
 pub fn command_line<'a>(alloc: Global, words: &'a [&'a str]) -> Result<Line<'a>, Error>
     ensures ok { IfOk result (λ line. Chooses (subcommand_of jslint_app (map (λ w. w.now) words.entry.now)) line) }
     ensures kinds { FailsBy (fault_of jslint_app (map (λ w. w.now) words.entry.now)) result }
+    ensures meets { fault_of jslint_app (map (λ w. w.now) words.entry.now) ≡ [] → MeetsCommand (subcommand_of jslint_app (map (λ w. w.now) words.entry.now)) }
     ensures passes { IfErr result (λ e. takes jslint_app (map (λ w. w.now) words.entry.now) ≡ true → kind_of e ≡ ErrorKind.OutOfMemory) }
 {
     let jslint = jslint_command(alloc)?;
     let matches = jslint.try_get_matches_from(words)?;
-    // A parse that succeeds has met a command with its files; clap's clauses do not say so of a subcommand.
-    match chosen_line(&matches) {
-        Some(line) => Ok(line),
-        None => Err(Error::from(AllocError)),
-    }
+    Ok(line_of(&matches))
 }

@@ -1,8 +1,10 @@
-use Rattle.std.proofs.Common.{◌≡◌, ◌∙◌, ap, sym, refl, map, List, true}
+use Rattle.std.proofs.Common.{◌≡◌, ◌∙◌, ap, sym, refl, subst, map, List, [], true}
 use Rattle.std.proofs.lemmas.Result.{err_from_is_err_and}
-use Rattle.clap.specs.Words.{App, Text, fault_of, takes}
+use Rattle.clap.specs.Words.{App, HasMatchesOf, Text, fault_of, is_simple, subcommand_of, subcommand_rows_of, takes}
 use Rattle.clap.specs.Faults.{is_simple_and_free}
-use Rattle.command_line.specs.CommandLine.{jslint_app}
+use Rattle.clap.specs.declared.parser.matches.ArgMatches.{ArgMatches}
+use Rattle.command_line.specs.CommandLine.{MeetsCommand, jslint_app}
+use Rattle.command_line.proofs.MetCommand.{meets_command}
 use Rattle.command_line.proofs.line.command_line.Goals as goal
 
 pub returns-in_err-matches-clause-passes : goal.returns-in_err-matches-clause-passes
@@ -14,8 +16,27 @@ returns-in_err-matches-clause-passes c =
 simple : is_simple_and_free jslint_app ≡ true
 simple = refl
 
-pub returns-in-Some-clause-kinds : goal.returns-in-Some-clause-kinds
-returns-in-Some-clause-kinds c =
-    let words : List Text = map (λ w. w.now) c.args.words.now in
-    let shape = c.in_ok-jslint.ensures.shape in
-    sym (ap (λ (a : App). fault_of a words) shape) ∙ c.in_ok-matches.ensures.kinds (ap is_simple_and_free shape ∙ simple)
+jslint_is_simple : is_simple jslint_app ≡ true
+jslint_is_simple = refl
+
+-- a line that `clap` takes has no fault
+no_fault : (app : App) (words : List Text) → app ≡ jslint_app → (is_simple_and_free app ≡ true → fault_of app words ≡ []) → fault_of jslint_app words ≡ []
+no_fault app words shape none = sym (ap (λ (a : App). fault_of a words) shape) ∙ none (ap is_simple_and_free shape ∙ simple)
+
+-- and so it meets a command
+met : (app : App) (words : List Text) (m : ArgMatches) → app ≡ jslint_app → HasMatchesOf app words m → (is_simple_and_free app ≡ true → fault_of app words ≡ []) → MeetsCommand (subcommand_rows_of m)
+met app words m shape matches none =
+    let same = matches (ap is_simple shape ∙ jslint_is_simple) in
+    subst MeetsCommand (sym (same.1 ∙ ap (λ (a : App). subcommand_of a words) shape)) (meets_command words (no_fault app words shape none))
+
+pub returns-clause-kinds : goal.returns-clause-kinds
+returns-clause-kinds c = no_fault _ (map (λ w. w.now) c.args.words.now) c.in_ok-jslint.ensures.shape c.in_ok-matches.ensures.kinds
+
+pub line_of-requires : goal.line_of-requires
+line_of-requires c = met _ (map (λ w. w.now) c.args.words.now) c.in_ok-matches.matches c.in_ok-jslint.ensures.shape c.in_ok-matches.ensures.matches c.in_ok-matches.ensures.kinds
+
+pub returns-in_err-jslint-clause-meets : goal.returns-in_err-jslint-clause-meets
+returns-in_err-jslint-clause-meets c = meets_command (map (λ w. w.now) c.args.words.now)
+
+pub returns-in_err-matches-clause-meets : goal.returns-in_err-matches-clause-meets
+returns-in_err-matches-clause-meets c = meets_command (map (λ w. w.now) c.args.words.now)
