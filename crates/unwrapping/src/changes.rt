@@ -3,7 +3,7 @@
 use std::alloc::Global;
 use tree::Pair;
 
-/// What comes behind a node.
+/// What comes after a node.
 #[derive(Clone, Copy, Debug, PartialEq, Eq)]
 pub enum Addition {
     /// The `)` of a pair.
@@ -12,7 +12,7 @@ pub enum Addition {
     Arguments,
 }
 
-/// What comes behind the node that ends at a place, in bytes.
+/// What comes after the node that ends at a place, in bytes.
 #[derive(Clone, Copy, Debug, PartialEq, Eq)]
 pub struct Closing {
     pub at: usize,
@@ -26,7 +26,7 @@ pub struct Changes {
     pub removed: Vec<Pair>,
     /// Where the nodes begin that get a `(`, in order.
     pub opened: Vec<usize>,
-    /// What comes behind nodes, in order, of those that end alike the inner one first.
+    /// What comes after nodes, in order, of those that end alike the inner one first.
     pub closed: Vec<Closing>,
 }
 

@@ -1,10 +1,11 @@
 //! Which nodes are grouped in the answer, and so which parentheses go and which come: a walk over the script, from the outside inwards.
 
-ghost use Rattle.std.specs.Prelude.{◌≡◌, true};
+ghost use Rattle.std.specs.Prelude.{◌≡◌, ◌<◌, length, true, IfSome};
 ghost use Rattle.tree.specs.Node.{node_tree, list_parts};
 ghost use Rattle.tree.specs.Tree.{parts_of};
 ghost use Rattle.language.specs.Expressions.{chained, first_chained};
 ghost use Rattle.positions.specs.Wherever.{spelled_by};
+ghost use Rattle.unwrapping.specs.Ties.{costs_more};
 
 use crate::changes::{Addition, Changes, Closing};
 use language::{Rank, Start};
@@ -65,7 +66,7 @@ struct Chosen {
 /// # Errors
 ///
 /// `AllocError` where memory is refused.
-pub fn changes(
+pub fn changes_of(
     alloc: Global,
     program: &Program<'_>,
     groupings: &[Grouping],
@@ -99,7 +100,14 @@ fn choose_node(
     let Some(production) = node_production(node, own, around.in_chain) else {
         return Ok(());
     };
-    let choice = choose(node, position, production, around.is_bare_callee, given, chosen)?;
+    let choice = choose(
+        node,
+        position,
+        production,
+        around.is_bare_callee,
+        given,
+        chosen,
+    )?;
     let inside = inside(choice.is_grouped, position);
     choose_parts(node, own, inside, production, choice.is_bare, given, chosen)?;
     if let Some(addition) = choice.addition {
@@ -201,7 +209,10 @@ fn addition(is_opened: bool, is_called: bool) -> Option<Addition> {
 fn wants_arguments(position: Position) -> bool {
     match position {
         Position::Expression { rank, .. } => {
-            matches!(rank, Rank::Call | Rank::Member | Rank::Primary | Rank::Grouped)
+            matches!(
+                rank,
+                Rank::Call | Rank::Member | Rank::Primary | Rank::Grouped
+            )
         }
         _ => false,
     }
@@ -244,7 +255,7 @@ impl Given<'_> {
     ) -> Result<(), AllocError> {
         let mut next = chosen.passed;
         while let Some(pair) = self.pair_of(row, next) {
-            next = next.saturating_add(1);
+            next += 1;
             if !is_grouped || self.is_paired(row, next) {
                 chosen.changes.removed.push(pair)?;
             }
@@ -254,7 +265,9 @@ impl Given<'_> {
     }
 
     /// The pair with an index, if its node has this row.
-    fn pair_of(&self, row: usize, index: usize) -> Option<Pair> {
+    fn pair_of(&self, row: usize, index: usize) -> Option<Pair>
+        ensures { IfSome result (λ _. index < length self.now.groupings.now) }
+    {
         match self.groupings.get(index) {
             Some(grouping) if grouping.row == row => Some(Pair {
                 left: grouping.left,
@@ -298,7 +311,8 @@ fn cell_at(cells: [Option<u32>; 8], position: Position) -> Option<u32> {
         rank,
         with_in,
         start,
-    } = position else {
+    } = position
+    else {
         return cells[0];
     };
     let at_member = matches!(rank, Rank::Member | Rank::Primary | Rank::Grouped);
@@ -315,14 +329,13 @@ fn cell_at(cells: [Option<u32>; 8], position: Position) -> Option<u32> {
     }
 }
 
-/// Whether a node costs more without a pair, none being more than anything, or as much and the text has one.
-fn is_dearer(direct: Option<u32>, inside: Option<u32>, is_paired: bool) -> bool {
+/// Whether a node costs more without a pair than with one, or as much and the text has one.
+fn is_dearer(direct: Option<u32>, inside: Option<u32>, is_paired: bool) -> bool
+    ensures { result ≡ costs_more direct inside is_paired }
+{
     match (direct, inside) {
         (None, _) => true,
         (Some(_), None) => false,
-        (Some(direct), Some(inside)) => {
-            let grouped = inside.saturating_add(1);
-            direct > grouped || (direct == grouped && is_paired)
-        }
+        (Some(direct), Some(inside)) => { direct > inside && (is_paired || direct - inside > 1) }
     }
 }

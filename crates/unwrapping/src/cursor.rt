@@ -1,5 +1,7 @@
 //! What is ahead of the tokens: notes and changes, each in order.
 
+ghost use Rattle.std.specs.Prelude.{◌≡◌, ◌<◌, length, true, IfSome};
+
 use crate::changes::{Changes, Closing};
 use crate::lexeme::Note;
 use tree::Pair;
@@ -53,7 +55,9 @@ impl<'c> Cursor<'c> {
     }
 
     /// Whether a `(` comes before the token at a place, once more.
-    pub(crate) fn take_opened(&mut self, at: usize) -> bool {
+    pub(crate) fn take_opened(&mut self, at: usize) -> bool
+        ensures { result ≡ true → length self.new.opened.now < length self.old.opened.now }
+    {
         let opened = self.opened;
         match opened.first() {
             Some(start) if *start <= at => {
@@ -64,8 +68,10 @@ impl<'c> Cursor<'c> {
         }
     }
 
-    /// What comes next behind the token before a place.
-    pub(crate) fn take_closed(&mut self, at: usize) -> Option<Closing> {
+    /// What comes next after the token before a place.
+    pub(crate) fn take_closed(&mut self, at: usize) -> Option<Closing>
+        ensures { IfSome result (λ _. length self.new.closed.now < length self.old.closed.now) }
+    {
         let closed = self.closed;
         match closed.first() {
             Some(closing) if closing.at <= at => {

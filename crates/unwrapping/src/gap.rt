@@ -1,6 +1,6 @@
 //! What stands between two tokens: blanks and comments (ECMA-262 11.2 to 11.4).
 
-ghost use Rattle.std.specs.Prelude.{◌≤◌, ◌<◌, length, OnSome};
+ghost use Rattle.std.specs.Prelude.{◌≤◌, ◌<◌, length, IfSome};
 
 use crate::lines::{first_line_end, has_line_end};
 use std::alloc::AllocError;
@@ -10,7 +10,7 @@ use std::alloc::AllocError;
 pub(crate) enum PartKind {
     /// White space and line ends, as many as stand there.
     Blank,
-    /// A comment that ends with its line.
+    /// A comment that ends with its line, which has a line end after it.
     LineComment,
     /// A comment in `/*` and `*/`.
     BlockComment,
@@ -37,7 +37,7 @@ impl<'s> Part<'s> {
         self.is_blank() && has_line_end(self.text)
     }
 
-    /// Whether it is a comment that holds a line end, or needs one behind it.
+    /// Whether it is a comment that holds a line end, or needs one after it.
     pub(crate) fn is_broken_comment(self) -> bool {
         match self.kind {
             PartKind::Blank => false,
@@ -46,7 +46,7 @@ impl<'s> Part<'s> {
         }
     }
 
-    /// It from its first line end on.
+    /// The same from its first line end on.
     pub(crate) fn from_line_end(self) -> Part<'s> {
         let text = self.text;
         let start = first_line_end(text);
@@ -115,8 +115,10 @@ fn part_end(gap: &[u8], kind: PartKind) -> usize
     }
 }
 
-/// The part at the front of a gap, and what stands behind it.
-pub(crate) fn next_part<'s>(gap: &'s [u8]) -> Option<(Part<'s>, &'s [u8])> {
+/// The part at the front of a gap, and the rest of the gap.
+pub(crate) fn next_part<'s>(gap: &'s [u8]) -> Option<(Part<'s>, &'s [u8])>
+    ensures { IfSome result (λ found. length found.1.now < length gap.now) }
+{
     if gap.is_empty() {
         return None;
     }
@@ -134,11 +136,8 @@ pub(crate) fn is_all_blank(gap: &[u8]) -> bool {
     blank_end(gap) == gap.len()
 }
 
-/// Puts the parts of a gap behind others.
-pub(crate) fn push_parts<'s>(
-    parts: &mut Vec<Part<'s>>,
-    gap: &'s [u8],
-) -> Result<(), AllocError> {
+/// Puts the parts of a gap after others.
+pub(crate) fn push_parts<'s>(parts: &mut Vec<Part<'s>>, gap: &'s [u8]) -> Result<(), AllocError> {
     let mut rest = gap;
     while let Some((part, others)) = next_part(rest) {
         parts.push(part)?;

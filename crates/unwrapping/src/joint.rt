@@ -1,10 +1,10 @@
-//! The gaps before and behind a parenthesis that goes, as one gap.
+//! The gaps before and after a parenthesis that goes, as one gap.
 
 use crate::gap::{Part, PartKind, next_part, push_parts};
 use std::alloc::AllocError;
 
-/// Puts what stands behind a `(` that goes behind what stands before it. The blanks behind the `(` go with it, line ends too. A comment
-/// on a line of its own stays on one.
+/// Puts the gap after a `(` that goes after the parts before it. The blanks after the `(` go with it, line ends too. A comment on a line
+/// of its own stays on one.
 pub(crate) fn join_over_opening<'s>(
     parts: &mut Vec<Part<'s>>,
     gap: &'s [u8],
@@ -25,8 +25,8 @@ pub(crate) fn join_over_opening<'s>(
     push_parts(parts, rest)
 }
 
-/// Puts what stands behind a `)` that goes behind what stands before it. The blanks before the `)` go with it, line ends too but for one
-/// that ends a comment.
+/// Puts the gap after a `)` that goes after the parts before it. The blanks before the `)` go with it, line ends too but for one that
+/// ends a comment.
 pub(crate) fn join_over_closing<'s>(
     parts: &mut Vec<Part<'s>>,
     gap: &'s [u8],
@@ -44,7 +44,7 @@ pub(crate) fn join_over_closing<'s>(
     }
 }
 
-/// Puts a gap behind a comment that its line ends, with the line end that stood there, or one of the gap's own where it begins with one.
+/// Puts a gap after a comment that its line ends, with the line end that stood there, or the gap's own where it begins with one.
 fn end_line<'s>(
     parts: &mut Vec<Part<'s>>,
     ending: Part<'s>,
@@ -75,7 +75,9 @@ pub(crate) fn last_part<'s>(parts: &Vec<Part<'s>>) -> Option<Part<'s>> {
 /// The blanks that stand last go.
 fn drop_last_blank(parts: &mut Vec<Part>) {
     match last_part(parts) {
-        Some(part) if part.is_blank() => { parts.pop(); }
+        Some(part) if part.is_blank() => {
+            parts.pop();
+        }
         _ => {}
     }
 }

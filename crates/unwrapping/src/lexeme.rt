@@ -1,6 +1,6 @@
 //! The tokens of a script, as its tree reads them.
 
-ghost use Rattle.std.specs.Prelude.{◌≡◌, ◌≢◌, ◌≤◌, ◌<◌, length};
+ghost use Rattle.std.specs.Prelude.{◌≡◌, ◌≢◌, ◌≤◌, ◌<◌, ◌↔◌, IsTrue};
 ghost use Rattle.source_text.specs.Source.{IsPlace};
 ghost use Rattle.tokens.specs.declared.token.Class.TheVariants.{End};
 
@@ -15,7 +15,7 @@ pub enum Reading {
     RegularExpression,
     /// A part of a template that begins with `}`.
     TemplateTail,
-    /// `++` or `--` behind its operand.
+    /// `++` or `--` after its operand.
     Postfix,
 }
 
@@ -87,7 +87,8 @@ impl<'s> Lexeme<'s> {
     /// The end of the text, with what is left of it.
     fn rest(source: &Source<'s>, at: usize) -> Lexeme<'s>
         requires { IsPlace source.now at }
-        ensures { result.class ≡ End }
+        ensures class { result.class ≡ End }
+        ensures end { IsPlace source.now result.end }
     {
         let bytes = source.bytes();
         Lexeme {
@@ -105,8 +106,8 @@ impl<'s> Lexeme<'s> {
         requires first { at ≤ token.start }
         requires start { token.start ≤ token.end }
         requires end { IsPlace source.now token.end }
-        ensures class { result.class ≡ token.class }
-        ensures end { result.end ≡ token.end }
+        ensures class { result.class ≡ token.entry.class }
+        ensures end { result.end ≡ token.entry.end }
     {
         let bytes = source.bytes();
         Lexeme {
@@ -119,7 +120,9 @@ impl<'s> Lexeme<'s> {
         }
     }
 
-    pub(crate) fn is_end(self) -> bool {
+    pub(crate) fn is_end(self) -> bool
+        ensures { IsTrue result ↔ (self.entry.class ≡ End) }
+    {
         matches!(self.class, Class::End)
     }
 }
@@ -139,7 +142,15 @@ pub(crate) fn lexeme_at<'s>(source: &Source<'s>, at: usize, note: Option<Note>) 
     }
 }
 
-fn noted_at<'s>(source: &Source<'s>, at: usize, reading: Reading, token: Token<'s>) -> Lexeme<'s> {
+fn noted_at<'s>(source: &Source<'s>, at: usize, reading: Reading, token: Token<'s>) -> Lexeme<'s>
+    requires place { IsPlace source.now at }
+    requires first { at ≤ token.start }
+    requires start { token.start ≤ token.end }
+    requires end { IsPlace source.now token.end }
+    requires forward { token.class ≢ End → token.start < token.end }
+    ensures place { IsPlace source.now result.end }
+    ensures forward { result.class ≢ End → at < result.end }
+{
     let goal = match reading {
         Reading::Postfix => return Lexeme::of(source, at, token, true),
         Reading::RegularExpression => Goal::RegExp,

@@ -10,12 +10,12 @@ mod joint;
 mod lexeme;
 mod lines;
 mod moving;
+mod text;
 mod touching;
-mod unwrapped;
 mod writer;
 
 pub use changes::{Addition, Changes, Closing};
-pub use choice::changes;
+pub use choice::changes_of;
 pub use lexeme::{Note, Reading, notes};
-pub use unwrapped::unwrapped;
+pub use text::unwrapped;
 pub use writer::rewritten;

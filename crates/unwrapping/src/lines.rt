@@ -77,14 +77,9 @@ pub(crate) fn indentation(line: &[u8]) -> usize
 }
 
 /// How many characters the bytes of a text are.
-pub(crate) fn character_count(bytes: &[u8]) -> usize
-    ensures { result ≤ length bytes.now }
-{
-    let mut count = 0;
-    for index in 0..bytes.len() {
-        if !matches!(bytes[index], 0x80..=0xBF) {
-            count += 1;
-        }
-    }
-    count
+pub(crate) fn character_count(bytes: &[u8]) -> usize {
+    bytes
+        .iter()
+        .filter(|byte| !matches!(**byte, 0x80..=0xBF))
+        .count()
 }

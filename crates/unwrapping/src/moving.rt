@@ -24,7 +24,7 @@ impl Indent {
         }
     }
 
-    /// Writes it behind the text.
+    /// Writes it after the text.
     fn write(self, out: &mut Vec<u8>) -> Result<(), AllocError> {
         for index in self.start..self.end {
             if let Some(byte) = byte_at(out, index) {
@@ -34,7 +34,7 @@ impl Indent {
         Ok(())
     }
 
-    /// Writes blanks that end a line, and behind them this indentation, or their own if that is less.
+    /// Writes blanks that end a line, and then this indentation, or their own if that is less.
     fn write_line_end(self, blanks: &[u8], out: &mut Vec<u8>) -> Result<(), AllocError> {
         let own = last_line(blanks);
         if character_count(&blanks[own..]) < self.characters {
@@ -51,8 +51,8 @@ impl Indent {
         out.extend_from_slice(part.text)
     }
 
-    /// Writes comments before a word: all parts up to an index but blanks in front, and behind them the line end that the next part
-    /// begins with and this indentation, or a space.
+    /// Writes comments before a word: all parts up to an index but blanks in front, and then the line end that the next part begins with
+    /// and this indentation, or a space.
     pub(crate) fn write_lifted(
         self,
         parts: &[Part<'_>],

@@ -4,7 +4,7 @@ use crate::gap::Part;
 use crate::writer::Last;
 use tokens::Class;
 
-/// What comes next behind a token that is written: the first character, and whether it is that of a word with nothing before it.
+/// What comes next after a token that is written: the first character, and whether it is that of a word with nothing before it.
 #[derive(Clone, Copy)]
 pub(crate) struct Next {
     first: u8,

@@ -22,14 +22,14 @@ pub(crate) struct Last<'s> {
     /// Where it begins in what is written.
     pub start: usize,
     pub is_postfix: bool,
-    /// Whether `)` or `()` was put behind it.
+    /// Whether `)` or `()` was put after it.
     pub is_closed: bool,
-    /// Whether it is a `!` right behind a `<`.
+    /// Whether it is a `!` right after a `<`.
     pub follows_less: bool,
 }
 
 impl Last<'_> {
-    /// Whether it is a word that no line may end behind.
+    /// Whether it is a word that no line may end after.
     fn binds_its_line(&self) -> bool {
         matches!(self.class, Class::Name) && matches!(self.text, b"return" | b"throw")
     }
@@ -40,9 +40,7 @@ impl Last<'_> {
 enum Went {
     Nothing,
     /// `(`, and whether a line ended before the first.
-    Opening {
-        is_broken: bool,
-    },
+    Opening { is_broken: bool },
     Closing,
 }
 
@@ -98,17 +96,16 @@ impl<'s> Writer<'s> {
 
     /// Whether the `)` at a place is that of the innermost pair that goes.
     fn closes_removed(&mut self, at: usize) -> bool {
-        match self.open.pop() {
-            Some(right) if right == at => true,
-            Some(right) => {
-                self.open.push_reserved(right);
-                false
+        match self.open.last() {
+            Some(right) if *right == at => {
+                let _ = self.open.pop();
+                true
             }
-            None => false,
+            _ => false,
         }
     }
 
-    /// A `(` goes that stands behind a gap.
+    /// A `(` goes, with a gap before it.
     fn pass_opening(&mut self, gap: &'s [u8]) -> Result<(), AllocError> {
         match self.went {
             Went::Opening { .. } => join_over_opening(&mut self.parts, gap),
@@ -121,7 +118,7 @@ impl<'s> Writer<'s> {
         }
     }
 
-    /// A `)` goes that stands behind a gap.
+    /// A `)` goes, with a gap before it.
     fn pass_closing(&mut self, gap: &'s [u8]) -> Result<(), AllocError> {
         match self.went {
             Went::Closing if is_all_blank(gap) => Ok(()),
@@ -151,7 +148,7 @@ impl<'s> Writer<'s> {
         self.out.extend_from_slice(lexeme.text)
     }
 
-    /// Writes what comes behind the last token.
+    /// Writes what comes after the last token.
     fn write_closed(&mut self, at: usize, cursor: &mut Cursor<'_>) -> Result<(), AllocError> {
         while let Some(closing) = cursor.take_closed(at) {
             self.last.is_closed = true;
@@ -174,7 +171,7 @@ impl<'s> Writer<'s> {
         }
     }
 
-    /// A gap in which no parenthesis went, behind comments that moved there.
+    /// A gap in which no parenthesis went, after comments that moved there.
     fn write_plain(&mut self, gap: &'s [u8]) -> Result<bool, AllocError> {
         if self.parts.is_empty() {
             self.out.extend_from_slice(gap)?;
@@ -214,7 +211,7 @@ impl<'s> Writer<'s> {
         Ok(is_tight)
     }
 
-    /// A gap in which a `)` went. What can't stand before the token moves behind it.
+    /// A gap in which a `)` went. What can't stand before the token moves over it.
     fn write_over_closing(&mut self, lexeme: Lexeme<'s>) -> Result<bool, AllocError> {
         join_over_closing(&mut self.parts, lexeme.gap)?;
         let binds = lexeme.is_postfix
@@ -225,7 +222,7 @@ impl<'s> Writer<'s> {
             self.parts.len()
         };
         let next = Next::of(
-            &self.parts[..staying],
+            front(&self.parts, staying),
             false,
             lexeme.class,
             lexeme.text,
@@ -235,7 +232,7 @@ impl<'s> Writer<'s> {
             _ => false,
         };
         let is_tight = self.write_blank_if(touches)? && staying == 0;
-        write_parts(&self.parts[..staying], binds, &mut self.out)?;
+        write_parts(front(&self.parts, staying), binds, &mut self.out)?;
         drop_front(&mut self.parts, staying)?;
         Ok(is_tight)
     }
@@ -248,7 +245,7 @@ impl<'s> Writer<'s> {
         Ok(!wanted)
     }
 
-    /// Writes the comments up to an index before the last token, a word that no line may end behind, and the others behind it.
+    /// Writes the comments up to an index before the last token, a word that no line may end after, and the others after it.
     fn lift(&mut self, index: usize) -> Result<bool, AllocError> {
         let indent = Indent::of_last_line(&self.out);
         self.out.truncate(self.last.start);
@@ -269,11 +266,7 @@ impl<'s> Writer<'s> {
 }
 
 /// Writes parts of a gap, on one line if it is wanted.
-fn write_parts(
-    parts: &[Part<'_>],
-    on_one_line: bool,
-    out: &mut Vec<u8>,
-) -> Result<(), AllocError> {
+fn write_parts(parts: &[Part<'_>], on_one_line: bool, out: &mut Vec<u8>) -> Result<(), AllocError> {
     for part in parts {
         let part = if on_one_line {
             part.on_one_line()
@@ -283,6 +276,14 @@ fn write_parts(
         out.extend_from_slice(part.text)?;
     }
     Ok(())
+}
+
+/// So many parts in front, or all where there are no more.
+fn front<'p, 's>(parts: &'p [Part<'s>], count: usize) -> &'p [Part<'s>] {
+    if count < parts.len() {
+        return &parts[..count];
+    }
+    parts
 }
 
 /// So many parts in front go.
@@ -329,7 +330,8 @@ pub fn rewritten(
     notes: &[Note],
     changes: &Changes,
 ) -> Result<Vec<u8>, AllocError> {
-    let mut writer = Writer::new(alloc, source.len())?;
+    let text = source.text();
+    let mut writer = Writer::new(alloc, text.len())?;
     let mut cursor = Cursor::new(notes, changes);
     let mut at = 0;
     loop {

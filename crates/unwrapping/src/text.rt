@@ -1,6 +1,6 @@
 //! A script's text without its unnecessary pairs.
 
-use crate::choice::changes;
+use crate::choice::changes_of;
 use crate::lexeme::notes;
 use crate::writer::rewritten;
 use paren_planner::CostTable;
@@ -23,7 +23,7 @@ pub fn unwrapped(
     groupings: &[Grouping],
     table: &CostTable,
 ) -> Result<Vec<u8>, AllocError> {
-    let changes = changes(alloc, program, groupings, table)?;
+    let changes = changes_of(alloc, program, groupings, table)?;
     let notes = notes(alloc, source, program)?;
     rewritten(alloc, source, &notes, &changes)
 }
