@@ -120,7 +120,7 @@ pub fn unwrap_text(alloc: Global, source: &Source<'_>) -> Result<String, Unwrapp
 {
     let parsed = match read_script(alloc, source) {
         Ok(parsed) => parsed,
-        Err(fault) => return Err(UnwrappingFault::Refused(fault)),
+        Err(refusal) => return Err(UnwrappingFault::Refused(refusal)),
     };
     let plan = match plan(alloc, parsed.program()) {
         Ok(plan) => plan,
