@@ -7,11 +7,11 @@
 //
 // 1 `choose` says which nodes are grouped in the answer: as the planner does, by its cells; but where a pair
 //   round a node costs as much as pairs further in, a pair that the text has there stays.
-// 2 `markParens` turns that into marks on tokens: it goes; `(` comes before it; `)` or `()` comes behind it.
+// 2 `markParens` turns that into marks on tokens: it goes; `(` comes before it; `)` or `()` comes after it.
 // 3 `write` copies the text. A gap between two tokens in which no parenthesis went is copied byte by byte;
 //   one in which some went is put together from its blanks and comments.
 //
-// options: those of `parse`; ties: 'planner' leaves the words behind "but" in 1 out, so that pairs move more often.
+// options: those of `parse`; ties: 'planner' leaves the words after "but" in 1 out, so that pairs move more often.
 
 const { parse, children } = require('./parse.js');
 const { scan, makeSource, GOAL } = require('./scan.js');
@@ -67,7 +67,7 @@ function tokensOf(text, tree) {
 
 // wrapped: the nodes that are grouped in the answer, `total` of them.
 // called: the `new` expressions that get `()`: they have no arguments, have lost their pair, and stand where
-// only one with arguments may: `(new a).b`. Behind a `new` that has none itself they need none: `new new a`.
+// only one with arguments may: `(new a).b`. After a `new` that has none itself they need none: `new new a`.
 function choose(tree, pairs, cellsOfNode, ties) {
   const paired = new Set(ties === 'planner' ? [] : pairs.map((pair) => pair.node));
   const outermost = new Map([...pairs].reverse().map((pair) => [pair.node, pair]));       // they come in order of their `(`
@@ -75,7 +75,7 @@ function choose(tree, pairs, cellsOfNode, ties) {
   const isBareNew = (node) => node.type === 'NewExpression' && endWithPairs(node.callee) === node.end;
   const wrapped = new Set();
   const called = new Set();
-  const visit = (positions, behindBareNew) => {
+  const visit = (positions, afterBareNew) => {
     for (const position of positions) {
       const { node } = position;
       const cells = cellsOfNode(node);
@@ -83,7 +83,7 @@ function choose(tree, pairs, cellsOfNode, ties) {
       const grouped = 1 + cells[0];
       const wraps = position.forced === true || direct > grouped || (direct === grouped && paired.has(node));
       const bare = isBareNew(node);
-      const calls = bare && !wraps && position.symbol >= SYMBOL.Call && !behindBareNew;
+      const calls = bare && !wraps && position.symbol >= SYMBOL.Call && !afterBareNew;
       if (wraps) wrapped.add(node);
       if (calls) called.add(node);
       visit(directPositions(node, CONTEXTS[wraps ? 0 : cellOf(position)]), bare && !calls);
@@ -136,7 +136,7 @@ const holdsLineEnd = (part) => isLineComment(part) || (!isBlank(part) && BREAK.t
 const fromLineEnd = (part) => part.slice(part.search(BREAK));
 const onOneLine = (parts) => parts.map((part) => (isLineEnd(part) ? ' ' : part));
 
-// A `(` goes, and with it the blanks behind it, line breaks too. A comment on a line of its own stays on one.
+// A `(` goes, and with it the blanks after it, line breaks too. A comment on a line of its own stays on one.
 function withoutOpening(outer, inner) {
   if (inner.every(isBlank)) return outer;
   if (!isBlank(inner[0])) return [...outer, ...inner];
@@ -157,7 +157,7 @@ function withoutClosing(inner, outer) {
 function write(tokens) {
   const out = [];                                         // a gap, a token, a gap, a token ..
   let last = { text: '', cls: 'start', closes: '', postfix: false };
-  let gaps = [];                                          // behind `last`: one gap more than parentheses went
+  let gaps = [];                                          // after `last`: one gap more than parentheses went
   let opening = false;                                    // they were `(`
   tokens.forEach((token, index) => {
     gaps.push(token.gap);
@@ -167,7 +167,7 @@ function write(tokens) {
       let parts;
       if (opening) {
         parts = gaps.map(partsOf).reduce(withoutOpening);
-        if (/^(return|throw)$/.test(last.text) && !BREAK.test(gaps[0])) parts = withoutBreakBehind(out, parts);
+        if (/^(return|throw)$/.test(last.text) && !BREAK.test(gaps[0])) parts = withoutBreakAfter(out, parts);
         if (last.postfix && token.opens === 0 && /^([+-]$|\/)/.test(token.text)) out.push('', ';');
       } else {
         parts = gaps.map(partsOf).reduceRight((outer, inner) => withoutClosing(inner, outer));
@@ -187,9 +187,9 @@ function write(tokens) {
   return out.join('');
 }
 
-// Behind `return` and `throw` no line may end. Comments in which one does go before the word, each on a line
+// After `return` and `throw` no line may end. Comments in which one does go before the word, each on a line
 // of its own, with the indentation of the word's line, or their own if that is less.
-function withoutBreakBehind(out, parts) {
+function withoutBreakAfter(out, parts) {
   const index = parts.findLastIndex(holdsLineEnd);
   if (index < 0) return onOneLine(parts);
   let line = '';
@@ -201,13 +201,13 @@ function withoutBreakBehind(out, parts) {
     return ends + (own.length < indent.length ? own : indent);
   };
   const moved = parts.slice(isBlank(parts[0]) ? 1 : 0, index + 1).map(indented).join('');
-  const behind = parts[index + 1];
+  const next = parts[index + 1];
   const word = out.pop();
-  out.push(moved + (isLineEnd(behind) ? BREAKS.exec(behind)[0] + indent : ' '), word);
-  return [' ', ...onOneLine(parts.slice(index + (isBlank(behind) ? 2 : 1)))];
+  out.push(moved + (isLineEnd(next) ? BREAKS.exec(next)[0] + indent : ' '), word);
+  return [' ', ...onOneLine(parts.slice(index + (isBlank(next) ? 2 : 1)))];
 }
 
-// Nor may one before a postfix `++`. Comments in which one does go behind it. Where `;` or `,` would begin
+// Nor may one before a postfix `++`. Comments in which one does go after it. Where `;` or `,` would begin
 // a line, it goes before such comments too.
 function withoutBreakBefore(parts) {
   let index = parts.findIndex(holdsLineEnd);
@@ -222,12 +222,12 @@ function joins(out, gap, last, token, opening) {
   const x = out.length === 0 ? ' ' : out.at(-1).at(-1);
   const y = (gap + '('.repeat(token.opens) + token.text)[0] ?? ' ';
   if (/\s/.test(x + y)) return false;
-  const behindWord = opening && last.cls === 'name' && last.closes === '' && y !== '(';          // typeof(a)
+  const afterWord = opening && last.cls === 'name' && last.closes === '' && y !== '(';          // typeof(a)
   const beforeWord = !opening && gap === '' && token.cls === 'name' && x !== ')';                // (a)in b
   const sameSign = x === y && '+-/'.includes(x);                                                 // -(-a), a/(/b/)
   const numberDot = y === '.' && last.cls === 'number' && /^[0-9_]+$/.test(last.text);           // (1).a
   const htmlComment = (x === '<' && y === '!') || (x === '!' && y === '-' && out.slice(-3).join('') === '<!');  // a<(!--b)
-  return behindWord || beforeWord || sameSign || numberDot || htmlComment;
+  return afterWord || beforeWord || sameSign || numberDot || htmlComment;
 }
 
 module.exports = { unwrap, tokensOf, choose, FINAL };

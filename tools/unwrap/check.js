@@ -6,7 +6,7 @@
 //
 // 1 `after` is accepted                          5 the comments are the same, in order
 // 2 it has the same tree, places aside           6 the tokens are the same, in order, grouping pairs
-// 3 it has as many pairs as the planner's total    aside, and `()` behind `new`, `;` behind `++`, `--`
+// 3 it has as many pairs as the planner's total    aside, and `()` after `new`, `;` after `++`, `--`
 // 4 unwrapped again it is the same text          7 where the text had just so many, it is the same text
 //                                                8 gaps without a pair at them are the same, bytes and all
 //                                                9 no browser sees an HTML-like comment that wasn't there
@@ -46,7 +46,7 @@ function htmlLike(parsed) {
   return count;
 }
 
-// Goes over both lists of tokens; null, or what is wrong. Where `()` was put in behind a `new` isn't told, so
+// Goes over both lists of tokens; null, or what is wrong. Where `()` was put in after a `new` isn't told, so
 // each `()` that may be one is tried both ways.
 function compare(source, written) {
   const isPut = (j) => written[j]?.text === '(' && written[j + 1]?.text === ')' && written[j + 1].gap === ''
@@ -86,8 +86,8 @@ function compare(source, written) {
 }
 const commentsOf = (token) => token.gap.match(COMMENTS) ?? [];
 
-// For each comment the number of the token behind it, before and after: it may have gone before a `return` or
-// `throw`, and behind `++`, `--`, `;` and `,`.
+// For each comment the number of the token after it, before and after: it may have gone before a `return` or
+// `throw`, and after `++`, `--`, `;` and `,`.
 function misplaced(source, from, to) {
   for (let k = 0; k < from.length; k++) {
     const over = source.slice(Math.min(from[k], to[k]), Math.max(from[k], to[k])).map((token) => token.text);

@@ -19,7 +19,7 @@ use tree::{Kind, Node, Pair, Program};
 
 /// What the choice goes by.
 #[derive(Clone, Copy)]
-struct Given<'c> {
+struct Basis<'c> {
     table: &'c CostTable,
     /// The pairs of the text with the rows of their nodes, in order of their `(`, and so of their rows.
     groupings: &'c [Grouping],
@@ -80,8 +80,8 @@ pub fn changes_of(
         in_chain: false,
         is_bare_callee: false,
     };
-    let given = Given { table, groupings };
-    choose_node(program.root(), Position::Script, around, given, &mut chosen)?;
+    let basis = Basis { table, groupings };
+    choose_node(program.root(), Position::Script, around, basis, &mut chosen)?;
     Ok(chosen.changes)
 }
 
@@ -91,7 +91,7 @@ fn choose_node(
     node: Node,
     position: Position,
     around: Around,
-    given: Given<'_>,
+    basis: Basis<'_>,
     chosen: &mut Chosen,
 ) -> Result<(), AllocError>
     requires { around.in_chain ≡ true → chained (node_tree node) ≡ true }
@@ -105,11 +105,11 @@ fn choose_node(
         position,
         production,
         around.is_bare_callee,
-        given,
+        basis,
         chosen,
     )?;
     let inside = inside(choice.is_grouped, position);
-    choose_parts(node, own, inside, production, choice.is_bare, given, chosen)?;
+    choose_parts(node, own, inside, production, choice.is_bare, basis, chosen)?;
     if let Some(addition) = choice.addition {
         chosen.changes.closed.push(Closing {
             at: node.span().end,
@@ -129,7 +129,7 @@ fn choose_parts(
     inside: Position,
     production: Production,
     is_bare: bool,
-    given: Given<'_>,
+    basis: Basis<'_>,
     chosen: &mut Chosen,
 ) -> Result<(), AllocError>
     requires { (spelled_by node own production).holds_chain ≡ true → first_chained (parts_of (node_tree node)) ≡ true }
@@ -144,11 +144,12 @@ fn choose_parts(
         let Some(slot) = slots.take(parts, part, index) else {
             return Ok(());
         };
+        let in_chain = leads_chain(is_chain, index);
         let around = Around {
-            in_chain: leads_chain(is_chain, index),
+            in_chain,
             is_bare_callee: is_bare,
         };
-        choose_node(part, settled(inside, slot), around, given, chosen)?;
+        choose_node(part, settled(inside, slot), around, basis, chosen)?;
     }
     Ok(())
 }
@@ -174,17 +175,17 @@ fn choose(
     position: Position,
     production: Production,
     is_bare_callee: bool,
-    given: Given<'_>,
+    basis: Basis<'_>,
     chosen: &mut Chosen,
 ) -> Result<Choice, AllocError> {
     let Some(row) = node.row() else {
         return Ok(Choice::PLAIN);
     };
     let row = row as usize;
-    let is_paired = given.is_paired(row, chosen.passed);
-    let is_grouped = given.is_grouped(row, position, production, is_paired);
-    given.pass_pairs(row, is_grouped, chosen)?;
-    let is_bare = given.is_bare_new(node, chosen.passed);
+    let is_paired = basis.is_paired(row, chosen.passed);
+    let is_grouped = basis.is_grouped(row, position, production, is_paired);
+    basis.pass_pairs(row, is_grouped, chosen)?;
+    let is_bare = basis.is_bare_new(node, chosen.passed);
     let is_called = is_bare && !is_grouped && !is_bare_callee && wants_arguments(position);
     let is_opened = is_grouped && !is_paired;
     if is_opened {
@@ -218,7 +219,7 @@ fn wants_arguments(position: Position) -> bool {
     }
 }
 
-impl Given<'_> {
+impl Basis<'_> {
     /// Whether the text has a pair round the node of a row; `passed` pairs stand before.
     fn is_paired(&self, row: usize, passed: usize) -> bool {
         match self.groupings.get(passed) {
