@@ -56,7 +56,7 @@ below None c k is most = absurd (cc)
 below (Some m) c k is (at_most h) = let same : c ≡ m = cc in omega arith
 
 -- no derivation of the same tree has fewer pairs than a plan wraps nodes
-fewest : (n m : Tree) (p : Plan) (source : List ℕ) (P : List Pair) → IsPlan n p → SameTree m n → Derives source m P → length (wrapped_rows n script 1) ≤ length P
+pub fewest : (n m : Tree) (p : Plan) (source : List ℕ) (P : List Pair) → IsPlan n p → SameTree m n → Derives source m P → length (wrapped_rows n script 1) ≤ length P
 fewest n m p source P is same derived =
     let most : p.table.total ≤ length P = below (least n script) p.table.total (length P) is.total (derived_at_least n m source P same derived) in
     let count : p.table.total ≡ length (wrapped_rows n script 1) = is.count in

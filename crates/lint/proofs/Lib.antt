@@ -1,4 +1,5 @@
 pub mod Fixing
+pub mod Unwrapping
 pub mod Running
 pub mod OneScript
 pub mod Verifying

@@ -1,5 +1,6 @@
 pub mod ReadScripts
 pub mod Fixes
+pub mod Unwraps
 pub mod Outputs
 pub mod Run
 pub mod Steps

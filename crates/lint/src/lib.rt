@@ -9,6 +9,10 @@ mod commands;
 mod fixer;
 mod reader;
 pub mod run;
+mod unwrap;
+mod unwrapping_fault;
 
 pub use fixer::{fix, fix_text};
 pub use reader::read_script;
+pub use unwrap::unwrap_text;
+pub use unwrapping_fault::UnwrappingFault;

@@ -1,0 +1,130 @@
+//! Unwrapping a script: its text without its unnecessary pairs, comments kept.
+
+ghost use Rattle.std.specs.Prelude.{IfErr, IfOk, ◌≡◌, true, string_bytes};
+ghost use Rattle.early_errors.specs.Accepted.{Accepted};
+ghost use Rattle.paren_planner.specs.Plans.{IsPlan};
+ghost use Rattle.lint.specs.ReadScripts.{IsOnly};
+ghost use Rattle.lint.specs.Unwraps.{Unwraps, IsUnwrapped, HasNoRoom, IsUnfit, RefusesUnwrapping, SpellsWith};
+
+use crate::reader::read_script;
+use crate::unwrapping_fault::UnwrappingFault;
+use paren_planner::{Plan, plan};
+use parser::{Parsed, parse};
+use positions::groupings;
+use source_text::{Fault, Source};
+use std::alloc::{AllocError, Global};
+use tree::{Program, same_tree};
+use unwrapping::unwrapped;
+
+/// Whether bytes are a script within the limits with the same tree and so many pairs.
+///
+/// # Errors
+///
+/// `TooLong` and `OutOfMemory`.
+fn spells(alloc: Global, bytes: &[u8], program: &Program<'_>, count: usize) -> Result<bool, Fault>
+    ensures spells { IfOk result (λ spells. spells ≡ true → SpellsWith bytes.now program.now count) }
+    ensures room { IfErr result HasNoRoom }
+{
+    let source = match Source::new(bytes) {
+        Ok(source) => source,
+        Err(Fault::TooLong) => return Err(Fault::TooLong),
+        Err(_) => return Ok(false),
+    };
+    let again = match parse(alloc, &source) {
+        Ok(again) => again,
+        Err(Fault::OutOfMemory) => return Err(Fault::OutOfMemory),
+        Err(_) => return Ok(false),
+    };
+    Ok(again.grouping_pairs().len() == count && same_tree(again.program(), program))
+}
+
+/// What is made of a script whose pairs are more than the fewest, as bytes: no more is known of them.
+///
+/// # Errors
+///
+/// `AllocError` where memory is refused.
+fn rewritten(
+    alloc: Global,
+    source: &Source<'_>,
+    parsed: &Parsed<'_>,
+    plan: &Plan,
+) -> Result<Vec<u8>, AllocError> {
+    let program = parsed.program();
+    let groupings = groupings(alloc, program, parsed.grouping_pairs())?;
+    unwrapped(alloc, source, program, &groupings, plan.table())
+}
+
+/// The text that bytes are, if they are a script within the limits with the same tree and so many pairs.
+///
+/// # Errors
+///
+/// `Unfit` where they aren't; `TooLong` and `OutOfMemory`.
+fn validated(
+    alloc: Global,
+    bytes: Vec<u8>,
+    program: &Program<'_>,
+    count: usize,
+) -> Result<String, UnwrappingFault>
+    ensures spells { IfOk result (λ text. SpellsWith (string_bytes text) program.now count) }
+    ensures refused { IfErr result IsUnfit }
+{
+    match spells(alloc, &bytes, program, count) {
+        Ok(true) => {}
+        Ok(false) => return Err(UnwrappingFault::Unfit),
+        Err(fault) => return Err(UnwrappingFault::Refused(fault)),
+    }
+    match String::from_utf8(bytes) {
+        Ok(text) => Ok(text),
+        Err(_) => Err(UnwrappingFault::Unfit),
+    }
+}
+
+/// The text of a script as it is, with pairs just round the nodes that want them. Comments stay.
+fn unwrap_script(
+    alloc: Global,
+    source: &Source<'_>,
+    parsed: &Parsed<'_>,
+    plan: &Plan,
+) -> Result<String, UnwrappingFault>
+    requires accepted { Accepted source.now parsed.now.program parsed.now.pairs.items }
+    requires only { IsOnly source.now parsed.now.program parsed.now.pairs.items }
+    requires plan { IsPlan parsed.now.program plan.now }
+    ensures unwrapped { IfOk result (λ text. Unwraps source.now (string_bytes text)) }
+    ensures refused { IfErr result IsUnfit }
+{
+    let count = plan.total() as usize;
+    if parsed.grouping_pairs().len() == count {
+        return match String::from_str(alloc, source.text()) {
+            Ok(text) => Ok(text),
+            Err(AllocError) => Err(UnwrappingFault::Refused(Fault::OutOfMemory)),
+        };
+    }
+    match rewritten(alloc, source, parsed, plan) {
+        Ok(bytes) => validated(alloc, bytes, parsed.program(), count),
+        Err(AllocError) => Err(UnwrappingFault::Refused(Fault::OutOfMemory)),
+    }
+}
+
+/// The text of a script as it stands, without its unnecessary pairs; comments stay. What is made of the text is read again before it is
+/// answered, and compared: it has the same tree, and as few pairs as any text with that tree. A text that has no more is answered as
+/// it is.
+///
+/// # Errors
+///
+/// What `read_script` answers of a text that is no script; `OutOfMemory`; `TooLong` where the unwrapped text is longer than a source text
+/// may be; and `Unfit` where it doesn't compare: no such text is known.
+pub fn unwrap_text(alloc: Global, source: &Source<'_>) -> Result<String, UnwrappingFault>
+    ensures unwrapped { IfOk result (λ text. Unwraps source.now (string_bytes text)) }
+    ensures stable { IfOk result (λ text. IsUnwrapped (string_bytes text)) }
+    ensures refused { IfErr result (RefusesUnwrapping source.now) }
+{
+    let parsed = match read_script(alloc, source) {
+        Ok(parsed) => parsed,
+        Err(refusal) => return Err(UnwrappingFault::Refused(refusal)),
+    };
+    let plan = match plan(alloc, parsed.program()) {
+        Ok(plan) => plan,
+        Err(AllocError) => return Err(UnwrappingFault::Refused(Fault::OutOfMemory)),
+    };
+    unwrap_script(alloc, source, &parsed, &plan)
+}

@@ -1,0 +1,342 @@
+//! Which nodes are grouped in the answer, and so which parentheses go and which come: a walk over the script, from the outside inwards.
+
+ghost use Rattle.std.specs.Prelude.{◌≡◌, ◌<◌, length, true, IfSome};
+ghost use Rattle.tree.specs.Node.{node_tree, list_parts};
+ghost use Rattle.tree.specs.Tree.{parts_of};
+ghost use Rattle.language.specs.Expressions.{chained, first_chained};
+ghost use Rattle.positions.specs.Wherever.{spelled_by};
+ghost use Rattle.unwrapping.specs.Ties.{costs_more};
+
+use crate::changes::{Addition, Changes, Closing};
+use language::{Rank, Start};
+use paren_planner::{CostTable, widest};
+use positions::{
+    Grouping, Position, Production, SlotCursor, admits, holds_chain, leads_chain, node_production,
+    settled,
+};
+use std::alloc::{AllocError, Global};
+use tree::{Kind, Node, Pair, Program};
+
+/// What the choice goes by.
+#[derive(Clone, Copy)]
+struct Basis<'c> {
+    table: &'c CostTable,
+    /// The pairs of the text with the rows of their nodes, in order of their `(`, and so of their rows.
+    groupings: &'c [Grouping],
+}
+
+/// What stands round a node.
+#[derive(Clone, Copy)]
+struct Around {
+    /// The node is known to be part of a chain, with a `?.` in it or below it.
+    in_chain: bool,
+    /// It is the callee of a `new` that has no arguments in the answer.
+    is_bare_callee: bool,
+}
+
+/// What was chosen of a node.
+#[derive(Clone, Copy)]
+struct Choice {
+    is_grouped: bool,
+    addition: Option<Addition>,
+    /// It is a `new` that has no arguments in the answer.
+    is_bare: bool,
+}
+
+impl Choice {
+    /// That of a node that is no expression.
+    const PLAIN: Choice = Choice {
+        is_grouped: false,
+        addition: None,
+        is_bare: false,
+    };
+}
+
+/// What was chosen so far.
+#[derive(Drop)]
+struct Chosen {
+    changes: Changes,
+    /// How many pairs were passed.
+    passed: usize,
+}
+
+/// Which parentheses of a script go, and which come: each node that costs less with a pair has one, and each that costs as much with it
+/// where the text has one round it. Pairs further out are chosen first.
+///
+/// # Errors
+///
+/// `AllocError` where memory is refused.
+pub fn changes_of(
+    alloc: Global,
+    program: &Program<'_>,
+    groupings: &[Grouping],
+    table: &CostTable,
+) -> Result<Changes, AllocError> {
+    let mut chosen = Chosen {
+        changes: Changes::new(alloc),
+        passed: 0,
+    };
+    let around = Around {
+        in_chain: false,
+        is_bare_callee: false,
+    };
+    let basis = Basis { table, groupings };
+    choose_node(program.root(), Position::Script, around, basis, &mut chosen)?;
+    Ok(chosen.changes)
+}
+
+/// Chooses for a node at a position, and then for its parts.
+#[cycle(choosing)]
+fn choose_node(
+    node: Node,
+    position: Position,
+    around: Around,
+    basis: Basis<'_>,
+    chosen: &mut Chosen,
+) -> Result<(), AllocError>
+    requires { around.in_chain ≡ true → chained (node_tree node) ≡ true }
+{
+    let own = widest(position);
+    let Some(production) = node_production(node, own, around.in_chain) else {
+        return Ok(());
+    };
+    let choice = choose(
+        node,
+        position,
+        production,
+        around.is_bare_callee,
+        basis,
+        chosen,
+    )?;
+    let inside = inside(choice.is_grouped, position);
+    choose_parts(node, own, inside, production, choice.is_bare, basis, chosen)?;
+    if let Some(addition) = choice.addition {
+        chosen.changes.closed.push(Closing {
+            at: node.span().end,
+            addition,
+        })?;
+    }
+    Ok(())
+}
+
+/// Chooses for the parts of a node that is spelled so. Its widest position says which slots they have, and where it stands, inside its
+/// pair if it has one, at which positions these are.
+#[cycle(choosing)]
+#[tactic(auto, using(tree::proofs::PartWalk::part_steps))]
+fn choose_parts(
+    node: Node,
+    own: Position,
+    inside: Position,
+    production: Production,
+    is_bare: bool,
+    basis: Basis<'_>,
+    chosen: &mut Chosen,
+) -> Result<(), AllocError>
+    requires { (spelled_by node own production).holds_chain ≡ true → first_chained (parts_of (node_tree node)) ≡ true }
+{
+    let is_chain = holds_chain(own, node.kind(), production);
+    let parts = node.parts();
+    let mut slots = SlotCursor::new(production);
+    for index in 0..parts.len() {
+        let Some(part) = parts.get(index) else {
+            continue;
+        };
+        let Some(slot) = slots.take(parts, part, index) else {
+            return Ok(());
+        };
+        let in_chain = leads_chain(is_chain, index);
+        let around = Around {
+            in_chain,
+            is_bare_callee: is_bare,
+        };
+        choose_node(part, settled(inside, slot), around, basis, chosen)?;
+    }
+    Ok(())
+}
+
+/// Where a node stands, with a pair round it or without.
+fn inside(is_grouped: bool, position: Position) -> Position {
+    if is_grouped {
+        return WHOLE;
+    }
+    position
+}
+
+/// Where an expression in a pair stands.
+const WHOLE: Position = Position::Expression {
+    rank: Rank::Expression,
+    with_in: true,
+    start: Start::Any,
+};
+
+/// Chooses for a node alone.
+fn choose(
+    node: Node,
+    position: Position,
+    production: Production,
+    is_bare_callee: bool,
+    basis: Basis<'_>,
+    chosen: &mut Chosen,
+) -> Result<Choice, AllocError> {
+    let Some(row) = node.row() else {
+        return Ok(Choice::PLAIN);
+    };
+    let row = row as usize;
+    let is_paired = basis.is_paired(row, chosen.passed);
+    let is_grouped = basis.is_grouped(row, position, production, is_paired);
+    basis.pass_pairs(row, is_grouped, chosen)?;
+    let is_bare = basis.is_bare_new(node, chosen.passed);
+    let is_called = is_bare && !is_grouped && !is_bare_callee && wants_arguments(position);
+    let is_opened = is_grouped && !is_paired;
+    if is_opened {
+        chosen.changes.opened.push(node.span().start)?;
+    }
+    Ok(Choice {
+        is_grouped,
+        addition: addition(is_opened, is_called),
+        is_bare: is_bare && !is_called,
+    })
+}
+
+fn addition(is_opened: bool, is_called: bool) -> Option<Addition> {
+    match (is_opened, is_called) {
+        (true, _) => Some(Addition::Parenthesis),
+        (_, true) => Some(Addition::Arguments),
+        _ => None,
+    }
+}
+
+/// Whether a `new` may stand at a position only with arguments.
+fn wants_arguments(position: Position) -> bool {
+    match position {
+        Position::Expression { rank, .. } => {
+            matches!(
+                rank,
+                Rank::Call | Rank::Member | Rank::Primary | Rank::Grouped
+            )
+        }
+        _ => false,
+    }
+}
+
+impl Basis<'_> {
+    /// Whether the text has a pair round the node of a row; `passed` pairs stand before.
+    fn is_paired(&self, row: usize, passed: usize) -> bool {
+        match self.groupings.get(passed) {
+            Some(grouping) => grouping.row == row,
+            None => false,
+        }
+    }
+
+    /// Whether the node of a row is grouped at a position: where it costs more without a pair, and where it costs as much and the text
+    /// has one.
+    fn is_grouped(
+        &self,
+        row: usize,
+        position: Position,
+        production: Production,
+        is_paired: bool,
+    ) -> bool {
+        let Some(cells) = cells_of(self.table, row) else {
+            return false;
+        };
+        let asks = production.asks();
+        if !admits(position, asks.rank, asks.needs_in, asks.opens) {
+            return true;
+        }
+        is_dearer(cell_at(cells, position), cells[0], is_paired)
+    }
+
+    /// Goes past the pairs of a row. They go, but for the innermost of a grouped node.
+    fn pass_pairs(
+        &self,
+        row: usize,
+        is_grouped: bool,
+        chosen: &mut Chosen,
+    ) -> Result<(), AllocError> {
+        let mut next = chosen.passed;
+        while let Some(pair) = self.pair_of(row, next) {
+            next += 1;
+            if !is_grouped || self.is_paired(row, next) {
+                chosen.changes.removed.push(pair)?;
+            }
+        }
+        chosen.passed = next;
+        Ok(())
+    }
+
+    /// The pair with an index, if its node has this row.
+    fn pair_of(&self, row: usize, index: usize) -> Option<Pair>
+        ensures { IfSome result (λ _. index < length self.now.groupings.now) }
+    {
+        match self.groupings.get(index) {
+            Some(grouping) if grouping.row == row => Some(Pair {
+                left: grouping.left,
+                right: grouping.right,
+            }),
+            _ => None,
+        }
+    }
+
+    /// Whether a node is a `new` without arguments: it ends where its callee ends, with the outermost pair that the text has round it.
+    fn is_bare_new(&self, node: Node, passed: usize) -> bool {
+        if !matches!(node.kind(), Kind::NewExpression) {
+            return false;
+        }
+        let Some(callee) = node.part(0) else {
+            return false;
+        };
+        let Some(row) = callee.row() else {
+            return false;
+        };
+        let end = match self.pair_of(row as usize, passed) {
+            Some(pair) => pair.right.saturating_add(1),
+            None => callee.span().end,
+        };
+        end == node.span().end
+    }
+}
+
+/// The cells of a row; none where there is no such row.
+fn cells_of(table: &CostTable, row: usize) -> Option<[Option<u32>; 8]> {
+    if row < 1 || row > table.row_count() {
+        return None;
+    }
+    let (_, cells) = table.row(row);
+    Some(cells)
+}
+
+/// The cell of a position: with In, without In, and where only what is at Member may stand, at each start.
+fn cell_at(cells: [Option<u32>; 8], position: Position) -> Option<u32> {
+    let Position::Expression {
+        rank,
+        with_in,
+        start,
+    } = position
+    else {
+        return cells[0];
+    };
+    let at_member = matches!(rank, Rank::Member | Rank::Primary | Rank::Grouped);
+    match (at_member, with_in, start) {
+        (true, _, Start::Any) => cells[5],
+        (true, _, Start::NoBrace) => cells[6],
+        (true, _, Start::Statement) => cells[7],
+        (false, true, Start::Any) => cells[0],
+        (false, true, Start::NoBrace) => cells[1],
+        (false, true, Start::Statement) => cells[2],
+        (false, false, Start::Any) => cells[3],
+        (false, false, Start::NoBrace) => cells[4],
+        (false, false, Start::Statement) => None,
+    }
+}
+
+/// Whether a node costs more without a pair than with one, or as much and the text has one.
+fn is_dearer(direct: Option<u32>, inside: Option<u32>, is_paired: bool) -> bool
+    ensures { result ≡ costs_more direct inside is_paired }
+{
+    match (direct, inside) {
+        (None, _) => true,
+        (Some(_), None) => false,
+        (Some(direct), Some(inside)) => { direct > inside && (is_paired || direct - inside > 1) }
+    }
+}

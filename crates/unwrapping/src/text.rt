@@ -1,0 +1,29 @@
+//! A script's text without its unnecessary pairs.
+
+use crate::choice::changes_of;
+use crate::lexeme::notes;
+use crate::writer::rewritten;
+use paren_planner::CostTable;
+use positions::Grouping;
+use source_text::Source;
+use std::alloc::{AllocError, Global};
+use tree::Program;
+
+/// The text of a script as it is, with pairs just round the nodes that want them: each where the text has it, if that costs no more.
+/// Comments stay, and so do blanks and lines where no parenthesis goes. `table` is the cost table of the script's plan, `groupings` are
+/// its pairs with their rows.
+///
+/// # Errors
+///
+/// `AllocError` where memory is refused, and nothing else.
+pub fn unwrapped(
+    alloc: Global,
+    source: &Source<'_>,
+    program: &Program<'_>,
+    groupings: &[Grouping],
+    table: &CostTable,
+) -> Result<Vec<u8>, AllocError> {
+    let changes = changes_of(alloc, program, groupings, table)?;
+    let notes = notes(alloc, source, program)?;
+    rewritten(alloc, source, &notes, &changes)
+}

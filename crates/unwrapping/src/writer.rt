@@ -1,0 +1,345 @@
+//! The one pass that writes the text anew.
+
+ghost use Rattle.std.specs.Prelude.{◌≤◌, length};
+
+use crate::changes::{Addition, Changes};
+use crate::cursor::Cursor;
+use crate::gap::{Part, is_all_blank};
+use crate::joint::{ends_in_line_comment, join_over_closing, join_over_opening, last_part};
+use crate::lexeme::{Lexeme, Note, lexeme_at};
+use crate::lines::has_line_end;
+use crate::moving::{Indent, first_broken, last_broken};
+use crate::touching::{Next, touch_over_closing, touch_over_opening};
+use source_text::Source;
+use std::alloc::{AllocError, Global};
+use tokens::Class;
+
+/// The token that was written last.
+#[derive(Clone, Copy)]
+pub(crate) struct Last<'s> {
+    pub class: Class,
+    pub text: &'s [u8],
+    /// Where it begins in what is written.
+    pub start: usize,
+    pub is_postfix: bool,
+    /// Whether `)` or `()` was put after it.
+    pub is_closed: bool,
+    /// Whether it is a `!` right after a `<`.
+    pub follows_less: bool,
+}
+
+impl Last<'_> {
+    /// Whether it is a word that no line may end after.
+    fn binds_its_line(&self) -> bool {
+        matches!(self.class, Class::Name) && matches!(self.text, b"return" | b"throw")
+    }
+}
+
+/// The parentheses that went since the last token was written; those between two tokens that stay are all of one side.
+#[derive(Clone, Copy)]
+enum Went {
+    Nothing,
+    /// `(`, and whether a line ended before the first.
+    Opening { is_broken: bool },
+    Closing,
+}
+
+/// What is written so far, and what stands before the next token.
+#[derive(Drop)]
+struct Writer<'s> {
+    out: Vec<u8>,
+    last: Last<'s>,
+    /// The parts of the gap, up to the last parenthesis that went.
+    parts: Vec<Part<'s>>,
+    went: Went,
+    /// The `)` of the pairs that go whose `(` was passed, the innermost last.
+    open: Vec<usize>,
+}
+
+impl<'s> Writer<'s> {
+    fn new(alloc: Global, capacity: usize) -> Result<Writer<'s>, AllocError> {
+        Ok(Writer {
+            out: Vec::with_capacity(alloc, capacity)?,
+            last: Last {
+                class: Class::End,
+                text: b"",
+                start: 0,
+                is_postfix: false,
+                is_closed: false,
+                follows_less: false,
+            },
+            parts: Vec::new(alloc),
+            went: Went::Nothing,
+            open: Vec::new(alloc),
+        })
+    }
+
+    /// Takes the next token: it is written, unless it is a parenthesis that goes.
+    fn take(&mut self, lexeme: Lexeme<'s>, cursor: &mut Cursor<'_>) -> Result<(), AllocError> {
+        cursor.pass_note(lexeme.end);
+        match lexeme.text {
+            b"(" => {
+                if let Some(pair) = cursor.take_removed(lexeme.start) {
+                    self.open.push(pair.right)?;
+                    return self.pass_opening(lexeme.gap);
+                }
+            }
+            b")" => {
+                if self.closes_removed(lexeme.start) {
+                    return self.pass_closing(lexeme.gap);
+                }
+            }
+            _ => {}
+        }
+        self.keep(lexeme, cursor)
+    }
+
+    /// Whether the `)` at a place is that of the innermost pair that goes.
+    fn closes_removed(&mut self, at: usize) -> bool {
+        match self.open.last() {
+            Some(right) if *right == at => {
+                let _ = self.open.pop();
+                true
+            }
+            _ => false,
+        }
+    }
+
+    /// A `(` goes, with a gap before it.
+    fn pass_opening(&mut self, gap: &'s [u8]) -> Result<(), AllocError> {
+        match self.went {
+            Went::Opening { .. } => join_over_opening(&mut self.parts, gap),
+            _ => {
+                self.went = Went::Opening {
+                    is_broken: has_line_end(gap),
+                };
+                join_over_closing(&mut self.parts, gap)
+            }
+        }
+    }
+
+    /// A `)` goes, with a gap before it.
+    fn pass_closing(&mut self, gap: &'s [u8]) -> Result<(), AllocError> {
+        match self.went {
+            Went::Closing if is_all_blank(gap) => Ok(()),
+            _ => {
+                self.went = Went::Closing;
+                join_over_closing(&mut self.parts, gap)
+            }
+        }
+    }
+
+    /// Writes a token that stays, with what stands before it.
+    fn keep(&mut self, lexeme: Lexeme<'s>, cursor: &mut Cursor<'_>) -> Result<(), AllocError> {
+        self.write_closed(lexeme.start, cursor)?;
+        let opened = count_opened(lexeme.start, cursor);
+        let is_tight = self.write_gap(lexeme, opened > 0)?;
+        for _ in 0..opened {
+            self.out.push(b'(')?;
+        }
+        self.last = Last {
+            class: lexeme.class,
+            text: lexeme.text,
+            start: self.out.len(),
+            is_postfix: lexeme.is_postfix,
+            is_closed: false,
+            follows_less: is_tight && opened == 0 && is_less_and_not(self.last.text, lexeme.text),
+        };
+        self.out.extend_from_slice(lexeme.text)
+    }
+
+    /// Writes what comes after the last token.
+    fn write_closed(&mut self, at: usize, cursor: &mut Cursor<'_>) -> Result<(), AllocError> {
+        while let Some(closing) = cursor.take_closed(at) {
+            self.last.is_closed = true;
+            self.out.extend_from_slice(match closing.addition {
+                Addition::Parenthesis => b")",
+                Addition::Arguments => b"()",
+            })?;
+        }
+        Ok(())
+    }
+
+    /// Writes the gap before a token, and says whether it is nothing.
+    fn write_gap(&mut self, lexeme: Lexeme<'s>, is_opened: bool) -> Result<bool, AllocError> {
+        let went = self.went;
+        self.went = Went::Nothing;
+        match went {
+            Went::Nothing => self.write_plain(lexeme.gap),
+            Went::Opening { is_broken } => self.write_over_opening(lexeme, is_opened, is_broken),
+            Went::Closing => self.write_over_closing(lexeme),
+        }
+    }
+
+    /// A gap in which no parenthesis went, after comments that moved there.
+    fn write_plain(&mut self, gap: &'s [u8]) -> Result<bool, AllocError> {
+        if self.parts.is_empty() {
+            self.out.extend_from_slice(gap)?;
+            return Ok(gap.is_empty());
+        }
+        join_over_closing(&mut self.parts, gap)?;
+        write_parts(&self.parts, false, &mut self.out)?;
+        self.parts.clear();
+        Ok(false)
+    }
+
+    /// A gap in which a `(` went.
+    fn write_over_opening(
+        &mut self,
+        lexeme: Lexeme<'s>,
+        is_opened: bool,
+        is_broken: bool,
+    ) -> Result<bool, AllocError> {
+        join_over_opening(&mut self.parts, lexeme.gap)?;
+        let binds = self.last.binds_its_line() && !is_broken;
+        if binds {
+            if let Some(index) = last_broken(&self.parts) {
+                return self.lift(index);
+            }
+        }
+        if self.last.is_postfix && !is_opened && goes_on(lexeme.text) {
+            self.out.push(b';')?;
+        }
+        let next = Next::of(&self.parts, is_opened, lexeme.class, lexeme.text);
+        let touches = match (self.out.last(), next) {
+            (Some(end), Some(next)) => touch_over_opening(self.last, *end, next),
+            _ => false,
+        };
+        let is_tight = self.write_blank_if(touches)? && self.parts.is_empty();
+        write_parts(&self.parts, binds, &mut self.out)?;
+        self.parts.clear();
+        Ok(is_tight)
+    }
+
+    /// A gap in which a `)` went. What can't stand before the token moves over it.
+    fn write_over_closing(&mut self, lexeme: Lexeme<'s>) -> Result<bool, AllocError> {
+        join_over_closing(&mut self.parts, lexeme.gap)?;
+        let binds = lexeme.is_postfix
+            || (matches!(lexeme.text, b";" | b",") && ends_in_line_comment(&self.parts));
+        let staying = if binds {
+            first_broken(&self.parts)
+        } else {
+            self.parts.len()
+        };
+        let next = Next::of(
+            front(&self.parts, staying),
+            false,
+            lexeme.class,
+            lexeme.text,
+        );
+        let touches = match (self.out.last(), next) {
+            (Some(end), Some(next)) => touch_over_closing(self.last, *end, next),
+            _ => false,
+        };
+        let is_tight = self.write_blank_if(touches)? && staying == 0;
+        write_parts(front(&self.parts, staying), binds, &mut self.out)?;
+        drop_front(&mut self.parts, staying)?;
+        Ok(is_tight)
+    }
+
+    /// Writes a space if it is wanted, and says whether none is.
+    fn write_blank_if(&mut self, wanted: bool) -> Result<bool, AllocError> {
+        if wanted {
+            self.out.push(b' ')?;
+        }
+        Ok(!wanted)
+    }
+
+    /// Writes the comments up to an index before the last token, a word that no line may end after, and the others after it.
+    fn lift(&mut self, index: usize) -> Result<bool, AllocError> {
+        let indent = Indent::of_last_line(&self.out);
+        self.out.truncate(self.last.start);
+        indent.write_lifted(&self.parts, index, &mut self.out)?;
+        self.last.start = self.out.len();
+        self.out.extend_from_slice(self.last.text)?;
+        self.out.push(b' ')?;
+        drop_front(&mut self.parts, index.saturating_add(1))?;
+        if let Some(part) = self.parts.first() {
+            if part.is_blank() {
+                drop_front(&mut self.parts, 1)?;
+            }
+        }
+        write_parts(&self.parts, true, &mut self.out)?;
+        self.parts.clear();
+        Ok(false)
+    }
+}
+
+/// Writes parts of a gap, on one line if it is wanted.
+fn write_parts(parts: &[Part<'_>], on_one_line: bool, out: &mut Vec<u8>) -> Result<(), AllocError> {
+    for part in parts {
+        let part = if on_one_line {
+            part.on_one_line()
+        } else {
+            *part
+        };
+        out.extend_from_slice(part.text)?;
+    }
+    Ok(())
+}
+
+/// So many parts in front, or all where there are no more.
+fn front<'p, 's>(parts: &'p [Part<'s>], count: usize) -> &'p [Part<'s>] {
+    if count < parts.len() {
+        return &parts[..count];
+    }
+    parts
+}
+
+/// So many parts in front go.
+fn drop_front(parts: &mut Vec<Part<'_>>, count: usize) -> Result<(), AllocError> {
+    if count >= parts.len() {
+        parts.clear();
+        return Ok(());
+    }
+    let rest = parts.split_off(count)?;
+    *parts = rest;
+    Ok(())
+}
+
+/// How many `(` come before the token at a place.
+fn count_opened(at: usize, cursor: &mut Cursor<'_>) -> usize {
+    let mut count = 0usize;
+    while cursor.take_opened(at) {
+        count = count.saturating_add(1);
+    }
+    count
+}
+
+/// Whether a token would go on with an expression that ends in a postfix `++` or `--`, though a statement begins with it.
+fn goes_on(token: &[u8]) -> bool {
+    match token {
+        b"+" | b"-" => true,
+        [b'/', ..] => true,
+        _ => false,
+    }
+}
+
+fn is_less_and_not(last: &[u8], token: &[u8]) -> bool {
+    matches!(last, b"<") && matches!(token, b"!")
+}
+
+/// The text of a script with changes: one pass over its tokens.
+///
+/// # Errors
+///
+/// `AllocError` where memory is refused.
+pub fn rewritten(
+    alloc: Global,
+    source: &Source<'_>,
+    notes: &[Note],
+    changes: &Changes,
+) -> Result<Vec<u8>, AllocError> {
+    let text = source.text();
+    let mut writer = Writer::new(alloc, text.len())?;
+    let mut cursor = Cursor::new(notes, changes);
+    let mut at = 0;
+    loop {
+        let lexeme = lexeme_at(source, at, cursor.note());
+        writer.take(lexeme, &mut cursor)?;
+        if lexeme.is_end() {
+            return Ok(writer.out);
+        }
+        at = lexeme.end;
+    }
+}

@@ -1,0 +1,134 @@
+#!/usr/bin/env node
+'use strict';
+// Checks one answer of `unwrap` against the text it was made from, by the reference parser alone:
+//
+//   check(before, after, unwrap) -> null, or what is wrong
+//
+// 1 `after` is accepted                          5 the comments are the same, in order
+// 2 it has the same tree, places aside           6 the tokens are the same, in order, grouping pairs
+// 3 it has as many pairs as the planner's total    aside, and `()` after `new`, `;` after `++`, `--`
+// 4 unwrapped again it is the same text          7 where the text had just so many, it is the same text
+//                                                8 gaps without a pair at them are the same, bytes and all
+//                                                9 no browser sees an HTML-like comment that wasn't there
+
+const { parse } = require('../reference/parse.js');
+const { plan } = require('../reference/plan.js');
+const { canon } = require('../reference/canon.js');
+const { tokensOf, FINAL } = require('../reference/unwrap.js');
+
+const COMMENTS = /\/\/[^\n\r\u2028\u2029]*|\/\*[^]*?\*\//g;
+
+function pieces(parsed) {
+  const tokens = tokensOf(parsed.text, parsed.tree);
+  const grouping = new Set(parsed.pairs.flatMap((pair) => [pair.left, pair.right]));
+  const list = [];
+  let gap = '';
+  let touched = false;
+  for (const token of tokens) {
+    gap += token.gap;
+    if (grouping.has(token.start)) { touched = true; continue; }
+    list.push({ text: token.text, cls: token.cls, postfix: token.postfix, gap, touched });
+    gap = '';
+    touched = false;
+  }
+  return { list, comments: tokens.flatMap((token) => token.gap.match(COMMENTS) ?? []) };
+}
+
+// `<!--` where tokens stand, and `-->` where nothing but blanks and comments stands before it on its line.
+function htmlLike(parsed) {
+  const { list } = pieces(parsed);
+  let count = 0;
+  for (let i = 0; i < list.length; i++) {
+    const [a, b, c] = [list[i], list[i + 1], list[i + 2]];
+    if (a.text === '<' && b?.text === '!' && c?.text === '--' && b.gap + c.gap === '' && !b.touched && !c.touched) count += 1;
+    if (a.text === '--' && b?.text === '>' && b.gap === '' && !b.touched && (i === 0 || /[\n\r\u2028\u2029]/.test(a.gap))) count += 1;
+  }
+  return count;
+}
+
+// Goes over both lists of tokens; null, or what is wrong. Where `()` was put in after a `new` isn't told, so
+// each `()` that may be one is tried both ways.
+function compare(source, written) {
+  const isPut = (j) => written[j]?.text === '(' && written[j + 1]?.text === ')' && written[j + 1].gap === ''
+    && !written[j + 1].touched && (written[j].gap === '' || written[j].touched);
+  const choices = [];                                    // where else to go on: [i, j, places of comments so far]
+  let first = null;
+  let [i, j, from, to] = [0, 0, [], []];
+  for (let tries = 0; tries < 5000; ) {
+    let fault = null;
+    const put = [];
+    if (written[j]?.text === ';' && source[i - 1]?.postfix && source[i].text !== ';') put.push(written[j++]);
+    if (j - i + 2 <= written.length - source.length && isPut(j)) choices.push([i, j + 2, from.slice(), [...to, ...commentsOf(written[j]).map(() => i)]]);
+    const [a, b] = [source[i], written[j]];
+    if (b === undefined || a.text !== b.text || a.cls !== b.cls) fault = `6 token ${i}: ${a.text} became ${b?.text}`;
+    else {
+      from.push(...commentsOf(a).map(() => i));
+      to.push(...[...put, b].flatMap(commentsOf).map(() => i));
+      const before = source[i - 1];
+      const moved = (/^(return|throw)$/.test(a.text) && source[i + 1].touched)
+        || (/^(\+\+|--|;|,)$/.test(before?.text) && before.touched);
+      if (!a.touched && a.gap !== b.gap && !moved) fault = `8 gap before token ${i}: ${JSON.stringify(a.gap)} became ${JSON.stringify(b.gap)}`;
+      i += 1;
+      j += 1;
+      if (fault === null && i === source.length) {
+        fault = j === written.length ? misplaced(source, from, to) : '6 more tokens';
+        if (fault === null) return null;
+      }
+    }
+    if (fault !== null) {
+      first ??= fault;
+      if (choices.length === 0) return first;
+      [i, j, from, to] = choices.pop();
+      tries += 1;
+    }
+  }
+  return first;
+}
+const commentsOf = (token) => token.gap.match(COMMENTS) ?? [];
+
+// For each comment the number of the token after it, before and after: it may have gone before a `return` or
+// `throw`, and after `++`, `--`, `;` and `,`.
+function misplaced(source, from, to) {
+  for (let k = 0; k < from.length; k++) {
+    const over = source.slice(Math.min(from[k], to[k]), Math.max(from[k], to[k])).map((token) => token.text);
+    const isLawful = to[k] === from[k] || (to[k] === from[k] - 1 && /^(return|throw)$/.test(over[0]))
+      || (to[k] > from[k] && over.every((text) => /^(\+\+|--|;|,)$/.test(text)));
+    if (!isLawful) return `5 comment ${k} moved from ${from[k]} to ${to[k]}`;
+  }
+  return null;
+}
+
+function check(before, after, unwrap, options = FINAL) {
+  const source = parse(before, options);
+  if (!source.ok) return 'the source is refused';
+  const { total } = plan(source.tree);
+  const written = parse(after, options);
+  if (!written.ok) return '1 refused: ' + JSON.stringify(written.fault);
+  if (canon(source.tree) !== canon(written.tree)) return '2 another tree';
+  if (written.pairs.length !== total) return `3 ${written.pairs.length} pairs, not ${total}`;
+  const again = unwrap(after, options);
+  if (!again.ok || again.text !== after) return '4 changes when unwrapped again';
+  const [s, w] = [pieces(source), pieces(written)];
+  if (s.comments.join('\n') !== w.comments.join('\n') || s.comments.length !== w.comments.length) return '5 other comments';
+  if (source.pairs.length === total && source.text !== written.text && options.ties !== 'planner') return '7 not the same text';
+
+  const fault = compare(s.list, w.list);
+  if (fault !== null) return fault;
+  if (htmlLike(written) > htmlLike(source)) return '9 an HTML-like comment';
+  return null;
+}
+
+module.exports = { check };
+
+if (require.main === module) {
+  const fs = require('fs');
+  const { unwrap } = require('../reference/unwrap.js');
+  let bad = 0;
+  for (const name of process.argv.slice(2)) {
+    const before = fs.readFileSync(name);
+    const answer = unwrap(before);
+    const fault = answer.ok ? check(before, answer.text, unwrap) : 'refused: ' + JSON.stringify(answer.fault);
+    if (fault !== null) { bad += 1; console.log(`${name}: ${fault}`); }
+  }
+  process.exitCode = bad > 0 ? 1 : 0;
+}

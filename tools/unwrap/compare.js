@@ -1,0 +1,80 @@
+'use strict';
+// Holds the crate `unwrapping` against the plain model over generated scripts: their texts without unnecessary pairs, byte for byte.
+//
+//   node compare.js [--n COUNT] [--seed S] [--show K] [--keep FOLDER] [--file TEXTS] [--cases]
+//
+// The texts are COUNT of each of four kinds (sentences, mutated programs, constructs that stand in each other, scripts dense in names,
+// functions and classes), those of them that the model accepts once as they are and three times with pairs round expressions, and blanks,
+// line ends and comments between tokens; or those of a file, with U+0000 between them; or, with --cases, the worked texts of
+// crates/rows/data/unwrap alone. Runs the program dump.txt over copies of the crates by `rt try` (no proof). Exit status 1 where anything
+// disagrees, or where check.js finds a fault in an answer.
+
+const fs = require('node:fs');
+const path = require('node:path');
+const { answersOf, copied, option, withAdditions } = require('../dump.js');
+const { makeScript } = require('../early/compare.js');
+const { makeTexts, nested } = require('../parser/compare.js');
+const { runInBigStack } = require('../reference/bigstack.js');
+const { parse } = require('../reference/parse.js');
+const { randomSource } = require('../reference/random.js');
+const { unwrap } = require('../reference/unwrap.js');
+const { check } = require('./check.js');
+const { strewn } = require('./strew.js');
+const CRATES = ['source_text', 'tree', 'parser', 'positions', 'paren_planner', 'unwrapping'];
+const ROWS = path.join(__dirname, '..', '..', 'crates', 'rows', 'data', 'unwrap');
+
+const isWhole = (text) => text.isWellFormed() && !text.includes('\0');
+
+// Texts that the model accepts, and each of them strewn.
+function someTexts(count, seed) {
+  const source = randomSource(seed);
+  const made = [];
+  for (let k = 0; k < count; k++) made.push(nested(source), makeScript(source));
+  const texts = [];
+  for (const text of [...makeTexts(count, seed), ...withAdditions(source, made)]) {
+    if (!isWhole(text) || !parse(text).ok) continue;
+    texts.push(text, ...[1, 2, 3].map(() => strewn(source, text)).filter((it) => isWhole(it) && parse(it).ok));
+  }
+  return texts;
+}
+
+// The worked texts, with their answers.
+function workedRows() {
+  const lines = fs.readFileSync(ROWS, 'utf8').split('\n').filter((line) => line !== '' && !line.startsWith('#'));
+  return lines.map((line) => line.split('\t').slice(1).map((it) => it.replace(/[\u2400-\u241f]/g, (c) => String.fromCharCode(c.charCodeAt(0) - 0x2400))));
+}
+
+// The model's answer of each text, and what is wrong with it if anything is.
+function modelAnswers(texts) {
+  return texts.map((text) => {
+    const answer = unwrap(text);
+    if (!answer.ok) return { text: 'refused', fault: null, changed: false };
+    return { text: answer.text, fault: check(text, answer.text, unwrap), changed: answer.text !== text, before: answer.before, total: answer.total };
+  });
+}
+
+function main() {
+  const file = option('file', null);
+  const rows = process.argv.includes('--cases') ? workedRows() : [];
+  const texts = rows.length > 0 ? rows.map(([text]) => text)
+    : file !== null ? fs.readFileSync(file, 'utf8').split('\0') : someTexts(Number(option('n', 300)), Number(option('seed', 1)));
+  const answers = answersOf(copied(path.join(__dirname, 'dump.txt'), CRATES), texts, 4000);
+  const model = runInBigStack(__filename, 'modelAnswers', [texts]);
+  const counts = { changed: 0, before: 0, after: 0, differ: 0 };
+  answers.forEach((found, i) => {
+    const { text, fault, changed, before, total } = model[i];
+    counts.changed += changed ? 1 : 0;
+    counts.before += before ?? 0;
+    counts.after += total ?? 0;
+    const wanted = rows.length > 0 ? rows[i][1] : text;
+    if (wanted === found && fault === null) return;
+    counts.differ += 1;
+    if (counts.differ > Number(option('show', 20))) return;
+    console.log([texts[i], wanted, found].map((it) => JSON.stringify(it)).join('\n  ') + (fault === null ? '' : '\n  ' + fault));
+  });
+  console.log(`${answers.length} texts, ${counts.changed} changed, ${counts.before} pairs, ${counts.after} after, ${counts.differ} disagreements`);
+  if (counts.differ > 0 || answers.length < texts.length) process.exitCode = 1;
+}
+
+module.exports = { modelAnswers, someTexts };
+if (require.main === module) main();
