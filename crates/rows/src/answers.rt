@@ -105,6 +105,7 @@ fn of_source(
         "early" => parsed::push_accepted(alloc, source, out),
         "fix" => parsed::push_fixed(alloc, source, out),
         "fixes" => parsed::push_fixes(alloc, source, out),
+        "unwrap" => parsed::push_unwrapped(alloc, source, out),
         _ => parsed::push_parsed(alloc, row, source, out),
     }
 }

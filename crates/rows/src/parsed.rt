@@ -10,7 +10,7 @@ use crate::reports::{push_rules, push_scopes};
 use crate::rows::Row;
 use crate::runs::is_written;
 use estree_json::{to_value, tree_text, write_tree};
-use lint::{fix_text, read_script};
+use lint::{UnwrappingFault, fix_text, read_script, unwrap_text};
 use parser::{Parsed, parse};
 use serde_json::Value;
 use source_text::{Fault, MemorySink, Source};
@@ -103,6 +103,50 @@ fn push_again(alloc: Global, text: &str, out: &mut String) -> Result<(), AllocEr
 fn fixed(alloc: Global, text: &str) -> Result<String, Fault> {
     let source = Source::new(text.as_bytes())?;
     fix_text(alloc, &source)
+}
+
+/// A script without its unnecessary pairs, which is unwrapped to itself.
+pub(crate) fn push_unwrapped(
+    alloc: Global,
+    source: &Source,
+    out: &mut String,
+) -> Result<(), AllocError> {
+    match unwrap_text(alloc, source) {
+        Ok(text) => push_unwrapped_again(alloc, &text, out),
+        Err(fault) => push_unwrapping_fault(source.text(), fault, out),
+    }
+}
+
+/// The text, and what it is unwrapped to if that is another.
+fn push_unwrapped_again(alloc: Global, text: &str, out: &mut String) -> Result<(), AllocError> {
+    out.push_str(text)?;
+    match text_unwrapped(alloc, text) {
+        Ok(again) if again.as_str() == text => Ok(()),
+        Ok(again) => write!(out, " unwrapped again: {}", again.as_str()),
+        Err(fault) => {
+            out.push_str(" refused: ")?;
+            push_unwrapping_fault(text, fault, out)
+        }
+    }
+}
+
+/// What a text is unwrapped to.
+fn text_unwrapped(alloc: Global, text: &str) -> Result<String, UnwrappingFault> {
+    match Source::new(text.as_bytes()) {
+        Ok(source) => unwrap_text(alloc, &source),
+        Err(fault) => Err(UnwrappingFault::Refused(fault)),
+    }
+}
+
+fn push_unwrapping_fault(
+    text: &str,
+    fault: UnwrappingFault,
+    out: &mut String,
+) -> Result<(), AllocError> {
+    match fault {
+        UnwrappingFault::Refused(fault) => push_refusal(text, fault, out),
+        UnwrappingFault::Unfit => out.push_str("can't be unwrapped"),
+    }
 }
 
 /// What is answered of the script that is read.
