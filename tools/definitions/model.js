@@ -4,7 +4,7 @@
 const path = require('path');
 const antt = require('./antt.js');
 const REFERENCE = path.join(__dirname, '../reference');
-const CRATES = ['source_text', 'tokens', 'tree', 'language', 'early_errors'].map((c) => path.join(__dirname, '../../crates', c));
+const CRATES = ['source_text', 'tokens', 'tree', 'language', 'name_tables', 'early_errors'].map((c) => path.join(__dirname, '../../crates', c));
 
 // Names of the definitions: ours -> [name, the last part of its module, its crate].
 // Change these when the definitions move or are renamed.

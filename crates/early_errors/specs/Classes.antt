@@ -4,7 +4,8 @@ use Rattle.tree.specs.declared.kind.Kind.TheVariants.{ClassBody, MethodDefinitio
 use Rattle.tree.specs.Tree.{Tree, node, Parts, part, kind_of, flags_of, start_of, parts_of}
 use Rattle.language.specs.Words.{is, is_super}
 use Rattle.early_errors.specs.Keys.{key_value}
-use Rattle.early_errors.specs.Names.{when, each_part}
+use Rattle.name_tables.specs.BoundNames.{each_part}
+use Rattle.early_errors.specs.Names.{when}
 use Rattle.early_errors.specs.Around.{Around, is_constructor, is_accessor}
 
 abbrev pub super_places : Parts → List ℕ

@@ -2,7 +2,8 @@
 use Rattle.std.specs.Prelude.{ℕ, Bool, true, false, not, ◌&&◌, List, [], ◌∷◌}
 use Rattle.tree.specs.Tree.{Tree, node, Parts, none, part, gap, kind_of, text_of, flags_of, start_of, parts_of}
 use Rattle.language.specs.Words.{among, is_identifier}
-use Rattle.early_errors.specs.Names.{places, when, each_part, twice, shared, lexical_names, parameter_names, parameters_on, body_items}
+use Rattle.name_tables.specs.BoundNames.{each_part}
+use Rattle.early_errors.specs.Names.{places, when, twice, shared, lexical_names, parameter_names, parameters_on, body_items}
 
 -- A parameter name twice (14.1.2, 14.2.1, 14.3.1): the second and later names.
 unfoldable pub duplicate_parameter : Tree → List ℕ

@@ -2,10 +2,11 @@
 use Rattle.std.specs.Prelude.{ℕ, Bool, true, false, cond, ◌||◌, List, [], ◌∷◌, ◌++◌, map, filter}
 use Rattle.std.specs.Str.{bytes_eq}
 use Rattle.tree.specs.declared.kind.Kind.{Kind}
-use Rattle.tree.specs.declared.kind.Kind.TheVariants.{Identifier, Property, FunctionExpression, ArrowFunctionExpression, ArrayPattern, ObjectPattern, AssignmentPattern, RestElement, BlockStatement, VariableDeclaration, FunctionDeclaration, ClassDeclaration}
-use Rattle.tree.specs.Tree.{Tree, node, Parts, none, part, gap, parts_of}
+use Rattle.tree.specs.declared.kind.Kind.TheVariants.{FunctionExpression, ArrowFunctionExpression, BlockStatement, VariableDeclaration, FunctionDeclaration, ClassDeclaration}
+use Rattle.tree.specs.Tree.{Tree, node, Parts, none, part, gap, parts_of, text_of, start_of}
 use Rattle.language.specs.FirstPart.{others}
 use Rattle.language.specs.Words.{is}
+use Rattle.name_tables.specs.BoundNames.{each_part, bound_names, first_bound_names}
 
 -- a name and its place
 abbrev pub Named : Type 0
@@ -16,11 +17,6 @@ places xs = map (λ x. x.1) xs
 
 abbrev pub when : Bool → List ℕ → List ℕ
 when b xs = cond b xs []
-
-abbrev pub each_part {ℓ} : {B : Type ℓ} → (Tree → List B) → Parts → List B
-each_part f none = []
-each_part f (part n ps) = f n ++ each_part f ps
-each_part f (gap ps) = each_part f ps
 
 abbrev pub has_name : List ℕ → List Named → Bool
 has_name w [] = false
@@ -44,33 +40,17 @@ is_function FunctionDeclaration = true
 is_function ArrowFunctionExpression = true
 is_function _ = false
 
-unfoldable mutual
-  -- the names that a pattern or a target binds or assigns (13.3.3.1)
-  pub names_in : Tree → List Named
-  names_in (node Identifier w g s e ps) = (w, s) ∷ []
-  names_in (node ArrayPattern w g s e ps) = all_names ps
-  names_in (node ObjectPattern w g s e ps) = all_names ps
-  names_in (node RestElement w g s e ps) = all_names ps
-  names_in (node AssignmentPattern w g s e ps) = first_names ps
-  names_in (node Property w g s e ps) = last_names ps
-  names_in (node _ w g s e ps) = []
+-- an identifier's name and place
+abbrev pub name_at : Tree → Named
+name_at t = (text_of t, start_of t)
 
-  pub all_names : Parts → List Named
-  all_names none = []
-  all_names (part n ps) = names_in n ++ all_names ps
-  all_names (gap ps) = all_names ps
+-- the names that a pattern or a target binds or assigns (13.3.3.1)
+abbrev pub names_in : Tree → List Named
+names_in t = bound_names name_at t
 
-  pub first_names : Parts → List Named
-  first_names none = []
-  first_names (part n ps) = names_in n
-  first_names (gap ps) = []
-
-  pub last_names : Parts → List Named
-  last_names none = []
-  last_names (part n none) = names_in n
-  last_names (part n (part m ps)) = last_names (part m ps)
-  last_names (part n (gap ps)) = last_names ps
-  last_names (gap ps) = last_names ps
+-- those of the first part
+abbrev pub first_names : Parts → List Named
+first_names ps = first_bound_names name_at ps
 
 -- the names of a declaration, whose parts are its declarators
 abbrev pub declared_names : Parts → List Named

@@ -5,7 +5,8 @@ use Rattle.tree.specs.declared.kind.Kind.TheVariants.{Program, BlockStatement, S
 use Rattle.tree.specs.Tree.{Tree, node, Parts, part, parts_of, start_of}
 use Rattle.language.specs.FirstPart.{others}
 use Rattle.language.specs.Words.{is}
-use Rattle.early_errors.specs.Names.{Named, places, when, each_part, twice, shared, first_names, declared_names, parts_vars, lexical_names, function_names, body_items}
+use Rattle.name_tables.specs.BoundNames.{each_part}
+use Rattle.early_errors.specs.Names.{Named, places, when, twice, shared, first_names, declared_names, parts_vars, lexical_names, function_names, body_items}
 use Rattle.early_errors.specs.Around.{Around}
 
 -- the lexical names of a scope; at the top of a Program or body functions are var names

@@ -1,3 +1,4 @@
+pub mod BoundNames
 pub mod Keys
 pub mod Sets
 pub mod Tables

@@ -8,12 +8,13 @@ use Rattle.tree.specs.Tree.{Tree, node, Parts, none, part, plain}
 use Rattle.scopes.specs.declared.kind.BindingKind.{BindingKind}
 use Rattle.scopes.specs.declared.roles.Role.{Role}
 use Rattle.scopes.specs.declared.roles.Role.TheVariants.{Read, Write, ReadWrite, Typeof}
-use Rattle.scopes.specs.Bindings.{names_in, all_names, first_names, last_names, vars_in, parts_vars}
+use Rattle.name_tables.specs.BoundNames.{bound_names, all_bound_names, first_bound_names, last_bound_names}
+use Rattle.scopes.specs.Bindings.{vars_in, parts_vars}
 use Rattle.scopes.specs.Found.{Reference, found, found_in, all_parts, parts_from}
 
 -- all that the definitions compute with
 unfoldable pub computing : ℕ
-unfolding names_in all_names first_names last_names vars_in parts_vars found_in all_parts parts_from
+unfolding bound_names all_bound_names first_bound_names last_bound_names vars_in parts_vars found_in all_parts parts_from
 computing = 0
 
 -- of each scope the one round it and its bindings: name, kind, start

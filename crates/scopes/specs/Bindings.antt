@@ -2,10 +2,11 @@
 use Rattle.std.specs.Prelude.{ℕ, Bool, true, false, cond, ◌||◌, List, [], ◌∷◌, ◌++◌}
 use Rattle.std.specs.Str.{bytes_eq}
 use Rattle.tree.specs.declared.kind.Kind.{Kind}
-use Rattle.tree.specs.declared.kind.Kind.TheVariants.{Identifier, ArrayPattern, ObjectPattern, AssignmentPattern, RestElement, Property, BlockStatement, VariableDeclaration, FunctionDeclaration, ClassDeclaration, LabeledStatement, IfStatement, SwitchStatement, SwitchCase, TryStatement, CatchClause, WhileStatement, DoWhileStatement, ForStatement, ForInStatement, ForOfStatement}
-use Rattle.tree.specs.Tree.{Tree, node, Parts, none, part, gap, parts_of}
+use Rattle.tree.specs.declared.kind.Kind.TheVariants.{BlockStatement, VariableDeclaration, FunctionDeclaration, ClassDeclaration, LabeledStatement, IfStatement, SwitchStatement, SwitchCase, TryStatement, CatchClause, WhileStatement, DoWhileStatement, ForStatement, ForInStatement, ForOfStatement}
+use Rattle.tree.specs.Tree.{Tree, node, Parts, none, part, gap, parts_of, text_of, start_of, stop_of}
 use Rattle.language.specs.FirstPart.{others}
 use Rattle.language.specs.Words.{is}
+use Rattle.name_tables.specs.BoundNames.{each_part, bound_names, first_bound_names}
 use Rattle.scopes.specs.declared.kind.BindingKind.{BindingKind}
 use Rattle.scopes.specs.declared.names.DeclaredIn.{DeclaredIn}
 use Rattle.scopes.specs.declared.names.DeclaredIn.TheVariants.{Statement, ForHead, ForInOfHead}
@@ -21,38 +22,17 @@ pub record Binding : Type 0 where
   pub settled : Bool
   pub shadows : Bool
 
-abbrev pub each_part : {B : Type 0} → (Tree → List B) → Parts → List B
-each_part f none = []
-each_part f (part t ps) = f t ++ each_part f ps
-each_part f (gap ps) = each_part f ps
+-- the binding that an identifier makes, not shadowing as yet
+abbrev pub binding_at : BindingKind → Bool → Tree → Binding
+binding_at k b t = record { name = text_of t; kind = k; start = start_of t; stop = stop_of t; settled = b; shadows = false }
 
-unfoldable mutual
-  -- the names of a pattern (BoundNames, 12.1.2, 13.3.3.1)
-  pub names_in : BindingKind → Bool → Tree → List Binding
-  names_in k b (node Identifier w g s e ps) = record { name = w; kind = k; start = s; stop = e; settled = b; shadows = false } ∷ []
-  names_in k b (node ArrayPattern w g s e ps) = all_names k b ps
-  names_in k b (node ObjectPattern w g s e ps) = all_names k b ps
-  names_in k b (node RestElement w g s e ps) = all_names k b ps
-  names_in k b (node AssignmentPattern w g s e ps) = first_names k b ps
-  names_in k b (node Property w g s e ps) = last_names k b ps
-  names_in k b (node _ w g s e ps) = []
+-- the names of a pattern (BoundNames, 12.1.2, 13.3.3.1), all declared alike
+abbrev pub names_in : BindingKind → Bool → Tree → List Binding
+names_in k b t = bound_names (binding_at k b) t
 
-  pub all_names : BindingKind → Bool → Parts → List Binding
-  all_names k b none = []
-  all_names k b (part t ps) = names_in k b t ++ all_names k b ps
-  all_names k b (gap ps) = all_names k b ps
-
-  pub first_names : BindingKind → Bool → Parts → List Binding
-  first_names k b none = []
-  first_names k b (part t ps) = names_in k b t
-  first_names k b (gap ps) = []
-
-  pub last_names : BindingKind → Bool → Parts → List Binding
-  last_names k b none = []
-  last_names k b (part t none) = names_in k b t
-  last_names k b (part t (part u ps)) = last_names k b (part u ps)
-  last_names k b (part t (gap ps)) = last_names k b ps
-  last_names k b (gap ps) = last_names k b ps
+-- those of the first part
+abbrev pub first_names : BindingKind → Bool → Parts → List Binding
+first_names k b ps = first_bound_names (binding_at k b) ps
 
 abbrev pub is_initialised : Parts → Bool
 is_initialised (part t ps) = true

@@ -14,7 +14,8 @@ use Rattle.scopes.specs.declared.names.DeclaredIn.TheVariants.{Statement, ForHea
 use Rattle.scopes.specs.declared.gather.ScopeKind.{ScopeKind}
 use Rattle.scopes.specs.declared.gather.ScopeKind.TheVariants.{Script, Function, FirstPart, Block, For, Switch, NoScope}
 use Rattle.scopes.specs.Roles.{is_body}
-use Rattle.scopes.specs.Bindings.{Binding, each_part, names_in, lexical, vars_in}
+use Rattle.name_tables.specs.BoundNames.{each_part}
+use Rattle.scopes.specs.Bindings.{Binding, names_in, lexical, vars_in}
 
 -- the names of a block or of a case (13.2.5, 13.12)
 abbrev pub block_names : Parts → List Binding
