@@ -1,13 +1,15 @@
 -- The constructors of a class, one by one: all but the first are errors.
 use Rattle.std.proofs.Common.{◌≡◌, ℕ, Bool, true, false, ◌+◌, ◌<◌, ◌≤◌, List, [], ◌∷◌, ◌++◌, Option, Some, None, refl, sym, ap, ◌∙◌}
-use Rattle.tree.specs.Tree.{Tree, Parts, part_at, part_count}
+use Rattle.tree.specs.Tree.{Tree, Parts, part_at, part_count, parts_drop}
 use Rattle.early_errors.specs.declared.EarlyError.TheVariants.{DuplicateConstructor}
 use Rattle.early_errors.specs.Classes.{constructor_places, behind_first}
-use Rattle.early_errors.specs.Names.{each_part, when}
+use Rattle.name_tables.specs.PatternParts.{at_part}
+use Rattle.name_tables.specs.BoundNames.{each_part}
+use Rattle.early_errors.specs.Names.{when}
 use Rattle.early_errors.specs.Early.{Error, each}
-use Rattle.early_errors.specs.Walk.{after, at_part, listed, parts_drop}
+use Rattle.early_errors.specs.Walk.{after, listed}
 use Rattle.early_errors.proofs.Least.{sooner-none, after-append, each-append}
-use Rattle.early_errors.proofs.Dropping.{drop-step, drop-past}
+use Rattle.name_tables.proofs.EachPart.{drop-step, drop-past}
 
 -- those that are errors, where one stands before or none
 abbrev pub further : Bool → List ℕ → List ℕ

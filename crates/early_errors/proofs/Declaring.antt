@@ -10,6 +10,7 @@ use Rattle.early_errors.specs.declared.EarlyError.TheVariants as error
 use Rattle.early_errors.specs.declared.own.Own.TheVariants as own
 use Rattle.early_errors.specs.declared.quiet.Telling.{Telling}
 use Rattle.early_errors.specs.declared.quiet.Telling.TheVariants as telling
+use Rattle.name_tables.specs.BoundNames.{first_bound_names}
 use Rattle.early_errors.specs.Names.{places, twice, first_names, names_in, var_names}
 use Rattle.early_errors.specs.Scopes.{without_initializer}
 use Rattle.early_errors.specs.Strict.{is_restricted}
@@ -46,7 +47,7 @@ declaration_given t d b h v l k n = none_where b (open_declaration t d h v l k) 
 
 -- a declarator with an initializer, and with a target given
 binds : (t u x : Tree) → Some x ≡ part_at (parts_of t) 1 → Some u ≡ part_at (parts_of t) 0 → AreFree (names_in u) → BindsOne t
-unfolding first_names
+unfolding first_bound_names
 binds (node k w g s e none) u x i h n = absurd (cc)
 binds (node k w g s e (gap ps)) u x i h n = absurd (cc)
 binds (node k w g s e (part v none)) u x i h n = absurd (cc)

@@ -9,7 +9,8 @@ use Rattle.language.specs.Words.{is, is_identifier, is_super}
 use Rattle.language.specs.Derivation.{Among, first, later}
 use Rattle.early_errors.specs.declared.EarlyError.{EarlyError}
 use Rattle.early_errors.specs.Keys.{key_value}
-use Rattle.early_errors.specs.Names.{when, each_part, twice, shared, first_names, declared_names, parts_vars, lexical_names, parameter_names, parameters_on, body_items}
+use Rattle.name_tables.specs.BoundNames.{each_part}
+use Rattle.early_errors.specs.Names.{when, twice, shared, first_names, declared_names, parts_vars, lexical_names, parameter_names, parameters_on, body_items}
 use Rattle.early_errors.specs.Around.{Around, outside, around_first, around_others, is_constructor, is_accessor}
 use Rattle.early_errors.specs.Scopes.{scope_lexical, scope_vars, declaration_names, duplicate_lexical_name, lexical_name_is_var, without_initializer, const_without_initializer, catch_parameter_conflict, head_lexical, for_name_is_var}
 use Rattle.early_errors.specs.Functions.{is_simple, use_strict, duplicate_parameter, parameter_is_lexical_name, use_strict_behind_pattern}

@@ -4,16 +4,17 @@ use Rattle.std.proofs.lemmas.List.{map-append}
 use Rattle.std.proofs.lemmas.List.Elements.{filter-append}
 use Rattle.tree.specs.declared.kind.Kind.{Kind}
 use Rattle.tree.specs.declared.kind.Kind.TheVariants.{FunctionDeclaration, FunctionExpression, ArrowFunctionExpression}
-use Rattle.tree.specs.Tree.{Tree, Parts, kind_of, parts_of}
+use Rattle.tree.specs.Tree.{Tree, Parts, kind_of, parts_of, parts_drop}
 use Rattle.early_errors.specs.declared.EarlyError.TheVariants.{EvalOrArguments, DuplicateParameter, ParameterIsLexicalName, UseStrictBehindPattern}
 use Rattle.early_errors.specs.declared.own.Own.TheVariants as own
 use Rattle.early_errors.specs.Around.{Around}
-use Rattle.early_errors.specs.Names.{Named, places, when, each_part, twice, shared, lexical_names, parameter_names, parameters_on, body_items}
+use Rattle.name_tables.specs.BoundNames.{each_part}
+use Rattle.early_errors.specs.Names.{Named, places, when, twice, shared, lexical_names, parameter_names, parameters_on, body_items}
 use Rattle.early_errors.specs.Functions.{is_simple, use_strict}
 use Rattle.early_errors.specs.Strict.{is_restricted, names_given}
 use Rattle.early_errors.specs.Early.{Error, each, own_errors}
 use Rattle.early_errors.specs.Owns.{own_of, items_at, parameter_place, function_name}
-use Rattle.early_errors.specs.Walk.{after, names_at, parts_drop}
+use Rattle.early_errors.specs.Walk.{after, names_at}
 use Rattle.early_errors.proofs.Least.{after-append, each-append}
 use Rattle.early_errors.proofs.Dropping.{first_names-at}
 use Rattle.early_errors.proofs.Listing.{others-drop}

@@ -2,16 +2,18 @@
 use Rattle.std.proofs.Common.{◌≡◌, ℕ, zero, suc, ◌+◌, ◌-◌, ◌<◌, ◌≤◌, Bool, true, List, [], ◌∷◌, Option, Some, None, refl, sym, ap, ◌∙◌, arith, add-one}
 use Rattle.std.specs.Prelude.{◌&&◌}
 use Rattle.tree.specs.declared.kind.Kind.TheVariants.{BlockStatement}
-use Rattle.tree.specs.Tree.{Tree, node, Parts, none, part, gap, flags_of, start_of, parts_of, part_at, part_count}
+use Rattle.tree.specs.Tree.{Tree, node, Parts, none, part, gap, flags_of, start_of, parts_of, part_at, part_count, parts_drop}
 use Rattle.language.specs.FirstPart.{others}
 use Rattle.early_errors.specs.declared.EarlyError.{EarlyError}
 use Rattle.early_errors.specs.Functions.{is_simple, use_strict}
-use Rattle.early_errors.specs.Names.{when, each_part, items_of, body_items}
+use Rattle.name_tables.specs.PatternParts.{at_part}
+use Rattle.name_tables.specs.BoundNames.{each_part}
+use Rattle.early_errors.specs.Names.{when, items_of, body_items}
 use Rattle.early_errors.specs.Early.{Error, each}
 use Rattle.early_errors.specs.Owns.{block_at, items_at, is_plain, says_use_strict}
-use Rattle.early_errors.specs.Walk.{after, at_part, parts_drop}
+use Rattle.early_errors.specs.Walk.{after}
 use Rattle.early_errors.proofs.Least.{sooner-none, after-append, each-append}
-use Rattle.early_errors.proofs.Dropping.{drop-step, drop-past}
+use Rattle.name_tables.proofs.EachPart.{drop-step, drop-past}
 
 -- a loop that reports the places that each part gives
 module _ (f : Tree → List ℕ) (e : EarlyError) (ps : Parts) (i : ℕ) (total : Option Error) where

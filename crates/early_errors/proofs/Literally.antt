@@ -7,11 +7,10 @@ use Rattle.std.proofs.lemmas.List.{drop_more, take_rest}
 use Rattle.tokens.specs.Templates.{cooked_value}
 use Rattle.tree.specs.declared.kind.Kind.{Kind}
 use Rattle.tree.specs.declared.kind.Kind.TheVariants.{TemplateElement}
-use Rattle.tree.specs.Tree.{Tree, Parts, none, part, gap, kind_of, text_of, part_at, part_count}
+use Rattle.tree.specs.Tree.{Tree, Parts, none, part, gap, kind_of, text_of, part_at, part_count, parts_drop}
 use Rattle.early_errors.specs.Cooked.{cooks}
 use Rattle.early_errors.specs.Literals.{holds, flags_part, are_flags, some_uncooked, is_uncooked}
 use Rattle.early_errors.specs.Owns.{is_element, uncooked_at}
-use Rattle.early_errors.specs.Walk.{parts_drop}
 use Rattle.early_errors.proofs.Points.{points_are_chars}
 
 pub holds-any : (w : List ℕ) (c : ℕ) → list_any (λ d. d == c) w ≡ holds w c

@@ -6,11 +6,10 @@ use Rattle.std.proofs.lemmas.List.Elements.{filter-append}
 use Rattle.std.specs.Prelude.{◌||◌, ◌&&◌, nat_eq}
 use Rattle.std.specs.Str.{bytes_eq}
 use Rattle.early_errors.specs.declared.EarlyError.{EarlyError}
-use Rattle.early_errors.specs.declared.names.Named.{Named}
 use Rattle.early_errors.specs.Names as names
 use Rattle.early_errors.specs.Names.{places, has_name, repeated, twice, shared}
 use Rattle.early_errors.specs.Early.{Error, each, number}
-use Rattle.early_errors.specs.Walk.{sooner, after, named, all_named, hits}
+use Rattle.early_errors.specs.Walk.{Named, sooner, after, named, all_named, hits}
 use Rattle.early_errors.proofs.Least.{sooner-none, sooner-twice, after-append, each-append}
 
 pub bytes_eq-swaps : (v w : List ℕ) → bytes_eq v w ≡ bytes_eq w v
@@ -93,9 +92,9 @@ hits_turn f o xs i d l =
 
 -- one turn of a loop that reports the names that pass a test
 module _ (p : names.Named → Bool) (e : EarlyError) (o found : Option Error) (xs : List Named) (i : ℕ) (d : Named) (l : i < length xs) (so_far : found ≡ after o (passing p e (all_named (take i xs)))) where
-  pub turn-passes : p (named (get_or xs i d)) ≡ true → after found ((number e, (get_or xs i d).at) ∷ []) ≡ after o (passing p e (all_named (take (i + 1) xs)))
+  pub turn-passes : p (named (get_or xs i d)) ≡ true → after found ((number e, (get_or xs i d).start) ∷ []) ≡ after o (passing p e (all_named (take (i + 1) xs)))
   turn-passes h =
-      ap (λ q. after q ((number e, (get_or xs i d).at) ∷ [])) so_far
+      ap (λ q. after q ((number e, (get_or xs i d).start) ∷ [])) so_far
       ∙ sym (passing-one true e (after o (passing p e (all_named (take i xs)))) (named (get_or xs i d)) p h)
       ∙ sym (passing-turn p e o xs i d l)
 
@@ -136,14 +135,14 @@ module _ (e : EarlyError) (o found : Option Error) (xs : List Named) (i : ℕ) (
       ∙ ap (after o) (each-append e (places (twice (all_named (take i xs)))) (places (cond b (named (get_or xs i d) ∷ []) [])))
       ∙ after-append o (doubles e (all_named (take i xs))) (each e (places (cond b (named (get_or xs i d) ∷ []) [])))
 
-  pub turn-doubles : has_name (get_or xs i d).name.now (behind [] (all_named (take i xs))) ≡ true → after found ((number e, (get_or xs i d).at) ∷ []) ≡ after o (doubles e (all_named (take (i + 1) xs)))
-  turn-doubles h = ap (λ q. after q ((number e, (get_or xs i d).at) ∷ [])) so_far ∙ sym (double-turn true h)
+  pub turn-doubles : has_name (get_or xs i d).name.now (behind [] (all_named (take i xs))) ≡ true → after found ((number e, (get_or xs i d).start) ∷ []) ≡ after o (doubles e (all_named (take (i + 1) xs)))
+  turn-doubles h = ap (λ q. after q ((number e, (get_or xs i d).start) ∷ [])) so_far ∙ sym (double-turn true h)
 
   pub turn-alone : has_name (get_or xs i d).name.now (behind [] (all_named (take i xs))) ≡ false → found ≡ after o (doubles e (all_named (take (i + 1) xs)))
   turn-alone h = so_far ∙ sym (sooner-none (after o (doubles e (all_named (take i xs))))) ∙ sym (double-turn false h)
 
   -- where the names so far are looked at in their order
-  pub turn-again : has_name (get_or xs i d).name.now (all_named (take i xs)) ≡ true → after found ((number e, (get_or xs i d).at) ∷ []) ≡ after o (doubles e (all_named (take (i + 1) xs)))
+  pub turn-again : has_name (get_or xs i d).name.now (all_named (take i xs)) ≡ true → after found ((number e, (get_or xs i d).start) ∷ []) ≡ after o (doubles e (all_named (take (i + 1) xs)))
   turn-again h = turn-doubles (behind_is (get_or xs i d).name.now (all_named (take i xs)) ∙ h)
 
   pub turn-first : has_name (get_or xs i d).name.now (all_named (take i xs)) ≡ false → found ≡ after o (doubles e (all_named (take (i + 1) xs)))

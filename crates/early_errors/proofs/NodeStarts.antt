@@ -7,7 +7,8 @@ use Rattle.tree.specs.Tree.{Tree, node, Parts, none, part, gap, parts_of}
 use Rattle.language.specs.FirstPart.{others}
 use Rattle.language.specs.Words.{is}
 use Rattle.language.specs.Derivation.{Among, first, later}
-use Rattle.early_errors.specs.Names.{Named, places, when, each_part, has_name, repeated, twice, shared, names_in, all_names, first_names, last_names, declared_names, own_vars, lexical_names, parameter_names, parameters_on, items_of, body_items}
+use Rattle.name_tables.specs.BoundNames.{each_part, bound_names, all_bound_names, first_bound_names, last_bound_names}
+use Rattle.early_errors.specs.Names.{Named, places, when, has_name, repeated, twice, shared, name_at, names_in, first_names, declared_names, own_vars, lexical_names, parameter_names, parameters_on, items_of, body_items}
 use Rattle.early_errors.specs.Starts.{starts, parts_starts}
 
 among_front : {A : Type 0} {x : A} (xs ys : List A) → Among x xs → Among x (xs ++ ys)
@@ -121,7 +122,7 @@ module _ (Q : ℕ → Type 0) where
   starting_parts (node k w g s e ps) h = h.1
 
   mutual
-    unfolding names_in all_names first_names last_names
+    unfolding bound_names all_bound_names first_bound_names last_bound_names
 
     pub at_names : (n : Tree) → Starting n → EachNamed (names_in n)
     at_names (node Identifier w g s e ps) h = (h.0, tt)
@@ -132,9 +133,9 @@ module _ (Q : ℕ → Type 0) where
     at_names (node Property w g s e ps) h = at_last ps h.1
     at_names (node _ w g s e ps) h = tt
 
-    at_all : (ps : Parts) → AllStarting ps → EachNamed (all_names ps)
+    at_all : (ps : Parts) → AllStarting ps → EachNamed (all_bound_names name_at ps)
     at_all none h = tt
-    at_all (part n ps) h = named_append (names_in n) (all_names ps) (at_names n h.0) (at_all ps h.1)
+    at_all (part n ps) h = named_append (names_in n) (all_bound_names name_at ps) (at_names n h.0) (at_all ps h.1)
     at_all (gap ps) h = at_all ps h
 
     pub at_first : (ps : Parts) → AllStarting ps → EachNamed (first_names ps)
@@ -142,7 +143,7 @@ module _ (Q : ℕ → Type 0) where
     at_first (part n ps) h = at_names n h.0
     at_first (gap ps) h = tt
 
-    at_last : (ps : Parts) → AllStarting ps → EachNamed (last_names ps)
+    at_last : (ps : Parts) → AllStarting ps → EachNamed (last_bound_names name_at ps)
     at_last none h = tt
     at_last (part n none) h = at_names n h.0
     at_last (part n (part m ps)) h = at_last (part m ps) h.1

@@ -10,7 +10,8 @@ use Rattle.early_errors.specs.declared.own.Own.{Own}
 use Rattle.early_errors.specs.declared.own.Own.TheVariants as own
 use Rattle.early_errors.specs.declared.own.Sort.TheVariants as sort
 use Rattle.early_errors.specs.Around.{Around}
-use Rattle.early_errors.specs.Names.{Named, places, when, each_part, twice, declared_names}
+use Rattle.name_tables.specs.BoundNames.{each_part}
+use Rattle.early_errors.specs.Names.{Named, places, when, twice, declared_names}
 use Rattle.early_errors.specs.Strict.{is_restricted}
 use Rattle.early_errors.specs.Scopes.{without_initializer}
 use Rattle.early_errors.specs.Early.{Error, each, own_errors}

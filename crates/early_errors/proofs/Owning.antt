@@ -12,7 +12,8 @@ use Rattle.early_errors.specs.declared.own.Own.{Own}
 use Rattle.early_errors.specs.declared.own.Own.TheVariants as own
 use Rattle.early_errors.specs.Keys.{key_value}
 use Rattle.early_errors.specs.Around.{Around, is_accessor}
-use Rattle.early_errors.specs.Names.{places, when, each_part, first_names, twice, shared, lexical_names, parameter_names, parameters_on, body_items}
+use Rattle.name_tables.specs.BoundNames.{each_part}
+use Rattle.early_errors.specs.Names.{places, when, first_names, twice, shared, lexical_names, parameter_names, parameters_on, body_items}
 use Rattle.early_errors.specs.Scopes.{declaration_names, without_initializer, duplicate_lexical_name, lexical_name_is_var, const_without_initializer, catch_parameter_conflict, for_name_is_var}
 use Rattle.early_errors.specs.Functions.{is_simple, use_strict, duplicate_parameter, parameter_is_lexical_name, use_strict_behind_pattern}
 use Rattle.early_errors.specs.Strict.{is_restricted, names_given, eval_or_arguments, delete_of_identifier}

@@ -13,7 +13,8 @@ use Rattle.early_errors.specs.declared.own.Own.TheVariants as own
 use Rattle.early_errors.specs.declared.quiet.Telling.{Telling}
 use Rattle.early_errors.specs.declared.quiet.Telling.TheVariants as telling
 use Rattle.early_errors.specs.Around.{Around, outside, around_first, around_others, within, is_method, in_method}
-use Rattle.early_errors.specs.Names.{places, when, each_part, twice, shared, function_names, lexical_names, names_in, var_names, parts_vars}
+use Rattle.name_tables.specs.BoundNames.{each_part}
+use Rattle.early_errors.specs.Names.{places, when, twice, shared, function_names, lexical_names, names_in, var_names, parts_vars}
 use Rattle.early_errors.specs.Scopes.{duplicate_lexical_name, lexical_name_is_var, const_without_initializer, catch_parameter_conflict, for_name_is_var}
 use Rattle.early_errors.specs.Functions.{duplicate_parameter, parameter_is_lexical_name, use_strict_behind_pattern}
 use Rattle.early_errors.specs.Strict.{is_restricted, eval_or_arguments, delete_of_identifier}

@@ -11,7 +11,8 @@ use Rattle.language.specs.Words.{is, among, is_identifier, is_super}
 use Rattle.early_errors.specs.declared.EarlyError.{EarlyError}
 use Rattle.early_errors.specs.declared.EarlyError.TheVariants.{EvalOrArguments, DeleteOfIdentifier, DuplicateLexicalName, LexicalNameIsVar, ConstWithoutInitializer, DuplicateParameter, ParameterIsLexicalName, UseStrictBehindPattern, MisplacedJump, UndefinedLabel, DuplicateLabel, CatchParameterConflict, ForNameIsVar, SuperPropertyOutsideMethod, SuperCallOutsideConstructor, NewTargetOutsideFunction, DuplicateConstructor, SpecialConstructor, StaticPrototype, UncookedTemplate, RegExpFlags}
 use Rattle.early_errors.specs.Keys.{key_value}
-use Rattle.early_errors.specs.Names.{places, when, each_part, twice, shared, first_names, declared_names, parts_vars, lexical_names, function_names, parameter_names, parameters_on, body_items}
+use Rattle.name_tables.specs.BoundNames.{each_part}
+use Rattle.early_errors.specs.Names.{places, when, twice, shared, first_names, declared_names, parts_vars, lexical_names, function_names, parameter_names, parameters_on, body_items}
 use Rattle.early_errors.specs.Around.{Around, Label, outside, within, is_loop, is_label, labels_loop, last_loop, own_label, has_heritage, around_first, around_others, is_constructor, is_accessor}
 use Rattle.early_errors.specs.Scopes.{scope_lexical, scope_vars, declaration_names, duplicate_lexical_name, lexical_name_is_var, without_initializer, const_without_initializer, catch_parameter_conflict, head_lexical, for_name_is_var}
 use Rattle.early_errors.specs.Functions.{is_simple, use_strict, duplicate_parameter, parameter_is_lexical_name, use_strict_behind_pattern}

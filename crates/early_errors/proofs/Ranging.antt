@@ -2,11 +2,11 @@
 use Rattle.std.proofs.Common.{◌≡◌, ℕ, zero, suc, ◌+◌, ◌-◌, ◌<◌, ◌≤◌, Bool, true, false, cond, nat_eq, List, [], ◌++◌, None, ◌⊎◌, inl, inr, refl, sym, ap, subst, ◌∙◌, arith, add-one, append_assoc}
 use Rattle.std.proofs.Math.Dec.{leb}
 use Rattle.std.proofs.lemmas.Bool.Decides.{leb_tells, nat_tests}
-use Rattle.tree.specs.Tree.{Tree, node, Parts, none, part, gap, kind_of, flags_of, parts_of, part_at, part_count}
+use Rattle.tree.specs.Tree.{Tree, node, Parts, none, part, gap, kind_of, flags_of, parts_of, part_at, part_count, parts_drop}
 use Rattle.early_errors.specs.Around.{Around, around_first, around_others}
 use Rattle.early_errors.specs.Names.{var_names, parts_vars}
 use Rattle.early_errors.specs.Early.{own_errors, errors_within, parts_errors}
-use Rattle.early_errors.specs.Walk.{at_part, parts_drop}
+use Rattle.name_tables.specs.PatternParts.{at_part}
 use Rattle.early_errors.specs.Walks.{ranged, errors_at, vars_at, range_errors, range_vars}
 
 module _ {B : Type 0} where

@@ -4,7 +4,7 @@ use Rattle.std.proofs.Math.Dec.{leb}
 use Rattle.std.proofs.lemmas.Bool.{false≢true}
 use Rattle.std.proofs.lemmas.Bool.Decides.{leb_tells}
 use Rattle.tree.specs.declared.kind.Kind.TheVariants.{Program, BlockStatement, SwitchStatement, CatchClause, ForStatement, ForInStatement, ForOfStatement, Property}
-use Rattle.tree.specs.Tree.{Tree, node, Parts, none, part, gap, kind_of, flags_of, parts_of, part_at, part_count}
+use Rattle.tree.specs.Tree.{Tree, node, Parts, none, part, gap, kind_of, flags_of, parts_of, part_at, part_count, parts_drop}
 use Rattle.language.specs.FirstPart.{others}
 use Rattle.early_errors.specs.declared.EarlyError.{EarlyError}
 use Rattle.early_errors.specs.declared.EarlyError.TheVariants as error
@@ -12,7 +12,9 @@ use Rattle.early_errors.specs.declared.scopes.ScopeKind.{ScopeKind}
 use Rattle.early_errors.specs.declared.scopes.ScopeKind.TheVariants as scope
 use Rattle.early_errors.specs.declared.walk.Inside.TheVariants as inside
 use Rattle.early_errors.specs.Around.{Around, is_method}
-use Rattle.early_errors.specs.Names.{Named, places, each_part, twice, shared, first_names, var_names, parts_vars, lexical_names, function_names, body_items}
+use Rattle.name_tables.specs.PatternParts.{at_part}
+use Rattle.name_tables.specs.BoundNames.{each_part}
+use Rattle.early_errors.specs.Names.{Named, places, twice, shared, first_names, var_names, parts_vars, lexical_names, function_names, body_items}
 use Rattle.early_errors.specs.Scopes.{head_lexical, duplicate_lexical_name, lexical_name_is_var, const_without_initializer, catch_parameter_conflict, for_name_is_var}
 use Rattle.early_errors.specs.Functions.{duplicate_parameter, parameter_is_lexical_name, use_strict_behind_pattern}
 use Rattle.early_errors.specs.Strict.{is_restricted, eval_or_arguments, delete_of_identifier}
@@ -21,7 +23,7 @@ use Rattle.early_errors.specs.Classes.{super_property_outside_method, super_call
 use Rattle.early_errors.specs.Literals.{uncooked_template, reg_exp_flags}
 use Rattle.early_errors.specs.Early.{Error, each, own_errors, least}
 use Rattle.early_errors.specs.Owns.{inside_of, scope_kind, scope_error, names_of_scope, place_of_scope, body_place, block_at, is_block, items_at, found_of_scope, plain_errors, doubled, clash_with, case_names}
-use Rattle.early_errors.specs.Walk.{sooner, at_part, parts_drop}
+use Rattle.early_errors.specs.Walk.{sooner}
 use Rattle.early_errors.specs.Walks.{vars_at, range_vars}
 use Rattle.early_errors.proofs.Dropping.{first_names-at}
 use Rattle.early_errors.proofs.Insides.{in_scope, not_scope}

@@ -15,7 +15,8 @@ use Rattle.early_errors.specs.Labels.{misplaced_jump, undefined_label, duplicate
 use Rattle.early_errors.specs.Classes.{super_property_outside_method, super_call_outside_constructor, new_target_outside_function, duplicate_constructor, special_constructor, static_prototype}
 use Rattle.early_errors.specs.Literals.{are_flags, flags_part, uncooked_template, reg_exp_flags}
 use Rattle.early_errors.specs.Early.{Error, each, own_errors, errors_within}
-use Rattle.early_errors.specs.Walk.{after, at_part, hits, sooner}
+use Rattle.name_tables.specs.PatternParts.{at_part}
+use Rattle.early_errors.specs.Walk.{after, hits, sooner}
 use Rattle.early_errors.specs.Walks.{IsQuiet, IsSilent, is_quiet}
 use Rattle.early_errors.proofs.Least.{sooner-none}
 use Rattle.early_errors.proofs.Owning.{small_by_kind}

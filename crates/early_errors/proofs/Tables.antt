@@ -4,12 +4,11 @@ use Rattle.std.specs.Prelude.{◌||◌}
 use Rattle.std.specs.Str.{bytes_eq}
 use Rattle.std.proofs.lemmas.Slice.Eq.{bytes_eq-Decides}
 use Rattle.early_errors.specs.declared.EarlyError.{EarlyError}
-use Rattle.early_errors.specs.declared.names.Named.{Named}
 use Rattle.early_errors.specs.declared.clashes.Saved.{Saved}
 use Rattle.early_errors.specs.Names as names
 use Rattle.early_errors.specs.Names.{has_name}
 use Rattle.early_errors.specs.Early.{Error, number}
-use Rattle.early_errors.specs.Walk.{sooner, after, named, all_named, with_value, Agree, clashing, undone}
+use Rattle.early_errors.specs.Walk.{Named, sooner, after, named, all_named, with_value, Agree, clashing, undone}
 use Rattle.early_errors.proofs.Naming.{one_more, behind, behind-more, has_name-more}
 
 -- a set with one more of the names
@@ -43,10 +42,10 @@ clashing-more f e [] y = refl
 clashing-more f e (x ∷ ys) y = clashing-more (clash_one f e x) e ys y
 
 pub entered-turn : (f g h : List ℕ → Option Error) (e : EarlyError) (xs : List Named) (i : ℕ) (d : Named) → i < length xs → (v r : Option Error) → Agree g (clashing f e (all_named (take i xs))) →
-    v ≡ g (get_or xs i d).name.now → r ≡ after v ((number e, (get_or xs i d).at) ∷ []) → Agree h (with_value g (get_or xs i d).name.now r) → Agree h (clashing f e (all_named (take (i + 1) xs)))
+    v ≡ g (get_or xs i d).name.now → r ≡ after v ((number e, (get_or xs i d).start) ∷ []) → Agree h (with_value g (get_or xs i d).name.now r) → Agree h (clashing f e (all_named (take (i + 1) xs)))
 entered-turn f g h e xs i d l v r so a b k w =
     let x = get_or xs i d in
-    k w ∙ (λ j. cond (bytes_eq x.name.now w) ((b ∙ ap (λ o. sooner o (Some (number e, x.at))) (a ∙ so x.name.now)) j) (so w j))
+    k w ∙ (λ j. cond (bytes_eq x.name.now w) ((b ∙ ap (λ o. sooner o (Some (number e, x.start))) (a ∙ so x.name.now)) j) (so w j))
     ∙ sym (ap (λ ys. clashing f e ys w) (one_more xs i d l) ∙ ap (λ q. q w) (clashing-more f e (all_named (take i xs)) (named x)))
 
 -- ---- what names stood for before

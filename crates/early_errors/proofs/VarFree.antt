@@ -6,7 +6,7 @@ use Rattle.tree.specs.declared.kind.Kind.{Kind}
 use Rattle.tree.specs.declared.kind.Kind.TheVariants.{VariableDeclaration}
 use Rattle.tree.specs.Tree.{Tree, node, Parts, kind_of, text_of, parts_of, part_at, part_count}
 use Rattle.early_errors.specs.Names.{Named, is_function, declared_names, own_vars, var_names, parts_vars}
-use Rattle.early_errors.specs.Walk.{at_part}
+use Rattle.name_tables.specs.PatternParts.{at_part}
 use Rattle.early_errors.specs.Walks.{is_var, range_vars, vars_at}
 use Rattle.early_errors.proofs.Ranging.{ranged-step, ranged-past, vars_whole}
 

@@ -7,7 +7,8 @@ use Rattle.tree.specs.declared.kind.Kind.TheVariants.{Identifier, Property, Func
 use Rattle.tree.specs.Tree.{Tree, node, Parts, none, part, gap, bare, bare_parts, parts_of}
 use Rattle.language.specs.FirstPart.{others}
 use Rattle.language.specs.Words.{is}
-use Rattle.early_errors.specs.Names.{Named, places, each_part, has_name, repeated, twice, shared, is_function, names_in, all_names, first_names, last_names, declared_names, own_vars, var_names, parts_vars, lexical_names, function_names, parameter_names, parameters_on, items_of, body_items}
+use Rattle.name_tables.specs.BoundNames.{each_part, bound_names, all_bound_names, first_bound_names, last_bound_names}
+use Rattle.early_errors.specs.Names.{Named, places, has_name, repeated, twice, shared, is_function, name_at, names_in, first_names, declared_names, own_vars, var_names, parts_vars, lexical_names, function_names, parameter_names, parameters_on, items_of, body_items}
 
 abbrev pub words : List Named → List (List ℕ)
 words xs = map (λ x. x.0) xs
@@ -91,7 +92,7 @@ others-bare (part n ps) = refl
 others-bare (gap ps) = refl
 
 mutual
-  unfolding names_in all_names first_names last_names
+  unfolding bound_names all_bound_names first_bound_names last_bound_names
 
   pub names_in-bare : (n : Tree) → Alike (names_in (bare n)) (names_in n)
   names_in-bare (node Identifier w g s e ps) = refl
@@ -102,9 +103,9 @@ mutual
   names_in-bare (node Property w g s e ps) = last_names-bare ps
   names_in-bare (node _ w g s e ps) = refl
 
-  pub all_names-bare : (ps : Parts) → Alike (all_names (bare_parts ps)) (all_names ps)
+  pub all_names-bare : (ps : Parts) → Alike (all_bound_names name_at (bare_parts ps)) (all_bound_names name_at ps)
   all_names-bare none = refl
-  all_names-bare (part n ps) = alike-append (names_in (bare n)) (names_in n) (all_names (bare_parts ps)) (all_names ps) (names_in-bare n) (all_names-bare ps)
+  all_names-bare (part n ps) = alike-append (names_in (bare n)) (names_in n) (all_bound_names name_at (bare_parts ps)) (all_bound_names name_at ps) (names_in-bare n) (all_names-bare ps)
   all_names-bare (gap ps) = all_names-bare ps
 
   pub first_names-bare : (ps : Parts) → Alike (first_names (bare_parts ps)) (first_names ps)
@@ -112,7 +113,7 @@ mutual
   first_names-bare (part n ps) = names_in-bare n
   first_names-bare (gap ps) = refl
 
-  pub last_names-bare : (ps : Parts) → Alike (last_names (bare_parts ps)) (last_names ps)
+  pub last_names-bare : (ps : Parts) → Alike (last_bound_names name_at (bare_parts ps)) (last_bound_names name_at ps)
   last_names-bare none = refl
   last_names-bare (part n none) = names_in-bare n
   last_names-bare (part n (part m ps)) = last_names-bare (part m ps)

@@ -5,7 +5,7 @@ use Rattle.std.specs.Str.{bytes_eq}
 use Rattle.tree.specs.declared.kind.Kind.{Kind}
 use Rattle.tree.specs.declared.kind.Kind.TheVariants as kind
 use Rattle.tree.specs.declared.kind.Flags.{Flags}
-use Rattle.tree.specs.Tree.{Tree, Parts, none, kind_of, text_of, start_of, parts_of, part_at, part_count}
+use Rattle.tree.specs.Tree.{Tree, Parts, none, kind_of, text_of, start_of, parts_of, part_at, part_count, parts_drop}
 use Rattle.language.specs.Words.{among, is_identifier}
 use Rattle.early_errors.specs.declared.EarlyError.{EarlyError}
 use Rattle.early_errors.specs.declared.EarlyError.TheVariants as error
@@ -22,8 +22,10 @@ use Rattle.early_errors.specs.declared.own.Own.TheVariants.{Variables, Function,
 use Rattle.early_errors.specs.Around as around
 use Rattle.early_errors.specs.Around.{Around}
 use Rattle.language.specs.FirstPart.{others}
-use Rattle.early_errors.specs.Names.{Named, places, each_part, twice, shared, lexical_names, function_names, body_items, own_vars}
-use Rattle.early_errors.specs.Walk.{at_part, names_at, parts_drop}
+use Rattle.name_tables.specs.PatternParts.{at_part}
+use Rattle.name_tables.specs.BoundNames.{each_part}
+use Rattle.early_errors.specs.Names.{Named, places, twice, shared, lexical_names, function_names, body_items, own_vars}
+use Rattle.early_errors.specs.Walk.{names_at}
 use Rattle.early_errors.specs.declared.scopes.ScopeKind.{ScopeKind}
 use Rattle.early_errors.specs.declared.scopes.ScopeKind.TheVariants as scope
 use Rattle.early_errors.specs.Strict.{eval_or_arguments}

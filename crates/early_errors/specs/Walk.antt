@@ -1,20 +1,18 @@
 -- What the program's own calls say on the way: the least error so far, tables of names, and what a `var` clashes with.
-use Rattle.std.specs.Prelude.{◌≡◌, ℕ, zero, suc, Bool, cond, List, [], ◌∷◌, map, Option, Some, None, is_some}
+use Rattle.std.specs.Prelude.{◌≡◌, ℕ, Bool, cond, List, [], ◌∷◌, map, Option, Some, None, is_some}
 use Rattle.std.specs.BTreeMap.{get_by}
 use Rattle.std.specs.Cmp.Lexicographic.{slice_cmp}
 use Rattle.std.specs.Ordering.{nat_cmp}
 use Rattle.std.specs.Str.{bytes_eq}
-use Rattle.tree.specs.declared.kind.Kind.{Kind}
-use Rattle.tree.specs.declared.kind.Kind.TheVariants.{Identifier, ArrayPattern, ObjectPattern, RestElement, AssignmentPattern, Property, VariableDeclaration, ClassDeclaration, FunctionDeclaration}
-use Rattle.tree.specs.Tree.{Tree, node, Parts, none, part, gap, parts_of}
+use Rattle.tree.specs.declared.kind.Kind.TheVariants.{VariableDeclaration, ClassDeclaration, FunctionDeclaration}
+use Rattle.tree.specs.Tree.{Tree, node, parts_of}
 use Rattle.language.specs.Words.{is}
+use Rattle.name_tables.specs.declared.bound.BoundName.{BoundName}
+use Rattle.name_tables.specs.PatternParts.{Bound, at_part, bound}
 use Rattle.early_errors.specs.declared.EarlyError.{EarlyError}
-use Rattle.early_errors.specs.declared.names.Binding.{Binding}
-use Rattle.early_errors.specs.declared.names.Binding.TheVariants.{Name, AllParts, FirstPart, LastPart, Nothing}
 use Rattle.early_errors.specs.declared.names.Lexical.{Lexical}
 use Rattle.early_errors.specs.declared.names.Lexical.TheVariants as lexical
 use Rattle.early_errors.specs.Names.{names_in, first_names}
-use Rattle.early_errors.specs.declared.names.Named.{Named}
 use Rattle.early_errors.specs.declared.table.Table.{Table}
 use Rattle.early_errors.specs.declared.clashes.Saved.{Saved}
 use Rattle.early_errors.specs.Names as names
@@ -29,8 +27,15 @@ sooner (Some x) o = Some (lesser x o)
 abbrev pub after : Option Error → List Error → Option Error
 after o xs = sooner o (least xs)
 
+-- an identifier that the program has found, with its name and place
+abbrev pub Named : Type 0
+Named = BoundName (Unit {0})
+
+abbrev pub name_of : Bound (Unit {0}) → names.Named
+name_of b = (b.name, b.start)
+
 abbrev pub named : Named → names.Named
-named x = (x.name.now, x.at)
+named x = name_of (bound x)
 
 abbrev pub all_named : List Named → List names.Named
 all_named xs = map named xs
@@ -47,27 +52,13 @@ look t w = value_of (get_by (λ k. slice_cmp nat_cmp w k.now) t.entries)
 abbrev pub with_value : {V : Type 0} → (List ℕ → Option V) → List ℕ → Option V → List ℕ → Option V
 with_value f name o w = cond (bytes_eq name w) o (f w)
 
--- how a node binds names, by its kind
-abbrev pub binding_of : Kind → Binding
-binding_of Identifier = Name
-binding_of ArrayPattern = AllParts
-binding_of ObjectPattern = AllParts
-binding_of RestElement = AllParts
-binding_of AssignmentPattern = FirstPart
-binding_of Property = LastPart
-binding_of _ = Nothing
-
 abbrev pub lexical_of : Bool → Tree → Lexical
 lexical_of b (node VariableDeclaration w g s e ps) = cond (is w "var") lexical.Nothing lexical.Declarators
 lexical_of b (node ClassDeclaration w g s e ps) = lexical.FirstPart
 lexical_of b (node FunctionDeclaration w g s e ps) = cond b lexical.FirstPart lexical.Nothing
 lexical_of b (node _ w g s e ps) = lexical.Nothing
 
--- of a part that may be missing
-abbrev pub at_part : {B : Type 0} → (Tree → List B) → Option Tree → List B
-at_part f None = []
-at_part f (Some t) = f t
-
+-- the names of a part that may be missing
 abbrev pub names_at : Option Tree → List names.Named
 names_at o = at_part names_in o
 
@@ -78,13 +69,6 @@ listed (Some p) = p ∷ []
 -- the names of a declarator
 abbrev pub declared_by : Tree → List names.Named
 declared_by n = first_names (parts_of n)
-
--- the parts from a place on
-abbrev pub parts_drop : ℕ → Parts → Parts
-parts_drop zero ps = ps
-parts_drop (suc i) none = none
-parts_drop (suc i) (part n ps) = parts_drop i ps
-parts_drop (suc i) (gap ps) = parts_drop i ps
 
 -- a name stands for something
 abbrev pub stands : {V : Type 0} → (List ℕ → Option V) → names.Named → Bool

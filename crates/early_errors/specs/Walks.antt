@@ -9,7 +9,7 @@ use Rattle.early_errors.specs.Around.{Around, labels_loop}
 use Rattle.early_errors.specs.Names.{Named, var_names}
 use Rattle.early_errors.specs.Literals.{is_reg_exp}
 use Rattle.early_errors.specs.Early.{Error, errors_within}
-use Rattle.early_errors.specs.Walk.{at_part}
+use Rattle.name_tables.specs.PatternParts.{at_part}
 
 -- so many lists, from a place on
 abbrev pub ranged : {B : Type 0} → (ℕ → List B) → ℕ → ℕ → List B

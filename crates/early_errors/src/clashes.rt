@@ -41,7 +41,7 @@ pub(crate) fn restricted(names: &[Named], found: Found) -> Found
     let mut found = found;
     for named in names {
         if is_restricted(named.name) {
-            found = with_error(found, EarlyError::EvalOrArguments, named.at);
+            found = with_error(found, EarlyError::EvalOrArguments, named.start);
         }
     }
     found
@@ -92,7 +92,7 @@ fn repeated_of_few(names: &[Named], error: EarlyError, found: Found) -> Found
     for index in 0..names.len() {
         let named = names[index];
         if is_among(&names[..index], named.name) {
-            found = with_error(found, error, named.at);
+            found = with_error(found, error, named.start);
         }
     }
     found
@@ -111,7 +111,7 @@ fn repeated_after<'t>(
     let mut found = found;
     for named in names {
         if !seen.insert(named.name)? {
-            found = with_error(found, error, named.at);
+            found = with_error(found, error, named.start);
         }
     }
     Ok(found)
@@ -141,7 +141,7 @@ fn shared_of_few(names: &[Named], others: &[Named], error: EarlyError, found: Fo
     let mut found = found;
     for named in names {
         if is_among(others, named.name) {
-            found = with_error(found, error, named.at);
+            found = with_error(found, error, named.start);
         }
     }
     found
@@ -171,7 +171,7 @@ fn held(names: &[Named], there: &NameSet, error: EarlyError, found: Found) -> Fo
     let mut found = found;
     for named in names {
         if there.contains(named.name) {
-            found = with_error(found, error, named.at);
+            found = with_error(found, error, named.start);
         }
     }
     found
@@ -189,7 +189,7 @@ pub(crate) fn reported<V: Copy>(
     let mut found = found;
     for named in names {
         if there.value(named.name).is_some() {
-            found = with_error(found, error, named.at);
+            found = with_error(found, error, named.start);
         }
     }
     found
@@ -218,7 +218,7 @@ pub(crate) fn enter<'t>(
 {
     for named in names {
         let value = clashes.value(named.name);
-        clashes.replace(named.name, with_error(value, error, named.at))?;
+        clashes.replace(named.name, with_error(value, error, named.start))?;
         saved.push(Saved {
             name: named.name,
             value,

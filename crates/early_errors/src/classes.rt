@@ -11,7 +11,8 @@ ghost use Rattle.early_errors.specs.Classes.{constructor_places, super_places};
 ghost use Rattle.early_errors.specs.Early.{each, own_errors};
 ghost use Rattle.early_errors.specs.Names.{when};
 ghost use Rattle.early_errors.specs.Owns.{key_says, own_of, places_at, round};
-ghost use Rattle.early_errors.specs.Walk.{after, at_part, listed};
+ghost use Rattle.name_tables.specs.PatternParts.{at_part};
+ghost use Rattle.early_errors.specs.Walk.{after, listed};
 ghost use Rattle.early_errors.specs.declared.own.Own.{Own};
 
 use crate::EarlyError;

@@ -2,13 +2,15 @@
 
 ghost use Rattle.std.specs.Prelude.{◌≡◌, [], ◌∷◌, false, not, option_map, IfOk};
 ghost use Rattle.tree.specs.Node.{node_tree};
-ghost use Rattle.tree.specs.Tree.{kind_of, parts_of};
+ghost use Rattle.tree.specs.Tree.{kind_of, parts_of, parts_drop};
 ghost use Rattle.language.specs.Words.{among, is_identifier};
 ghost use Rattle.early_errors.specs.Early.{each, own_errors};
 ghost use Rattle.early_errors.specs.Functions.{is_simple, use_strict};
-ghost use Rattle.early_errors.specs.Names.{body_items, each_part, lexical_names, places, shared, when};
+ghost use Rattle.name_tables.specs.PatternParts.{at_part};
+ghost use Rattle.name_tables.specs.BoundNames.{each_part};
+ghost use Rattle.early_errors.specs.Names.{body_items, lexical_names, places, shared, when};
 ghost use Rattle.early_errors.specs.Owns.{function_name, is_plain, items_at, own_of, parameter_place, says_use_strict};
-ghost use Rattle.early_errors.specs.Walk.{after, all_named, at_part, listed, names_at, parts_drop};
+ghost use Rattle.early_errors.specs.Walk.{after, all_named, listed, names_at};
 ghost use Rattle.early_errors.specs.declared.own.Own.{Own};
 
 use crate::EarlyError;

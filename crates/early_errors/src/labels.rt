@@ -16,8 +16,9 @@ ghost use Rattle.early_errors.specs.declared.own.Own.{Own};
 use crate::EarlyError;
 use crate::around::{Around, is_loop};
 use crate::found::{Found, with_error, with_error_if};
-use crate::names::{Named, last_part};
+use crate::names::Named;
 use crate::table::Table;
+use name_tables::last_part;
 use tree::{Kind, Node};
 
 /// The labels round a node, of the same function: whether one of the name labels a loop.
@@ -84,7 +85,7 @@ fn undefined(names: &[Named], labels: &Labels, loops: bool, found: Found) -> Fou
     let mut found = found;
     for named in names {
         if !is_label_for(loops, labels.value(named.name)) {
-            found = with_error(found, EarlyError::UndefinedLabel, named.at);
+            found = with_error(found, EarlyError::UndefinedLabel, named.start);
         }
     }
     found

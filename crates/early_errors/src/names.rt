@@ -1,102 +1,28 @@
 //! The names that a tree binds, declares or assigns, each with the place of its identifier.
 
-ghost use Rattle.std.specs.Prelude.{◌≡◌, ◌++◌, ◌-◌, option_map, OnOk};
+ghost use Rattle.std.specs.Prelude.{◌≡◌, ◌++◌, option_map, OnOk};
 ghost use Rattle.tree.specs.Node.{node_tree};
-ghost use Rattle.tree.specs.Tree.{part_at, part_count, parts_of};
-ghost use Rattle.early_errors.specs.Names.{declared_names, each_part, lexical_names, names_in, parameter_names};
-ghost use Rattle.early_errors.specs.Walk.{all_named, at_part, binding_of, declared_by, lexical_of, names_at, parts_drop};
+ghost use Rattle.tree.specs.Tree.{parts_drop, parts_of};
+ghost use Rattle.name_tables.specs.PatternParts.{at_part};
+ghost use Rattle.name_tables.specs.BoundNames.{each_part};
+ghost use Rattle.early_errors.specs.Names.{declared_names, lexical_names, parameter_names};
+ghost use Rattle.early_errors.specs.Walk.{all_named, declared_by, lexical_of, names_at};
 
+use name_tables::BoundName;
 use std::alloc::AllocError;
 use tree::{Kind, Node};
 
 /// A name and the place of its identifier, in bytes.
-#[derive(Clone, Copy)]
-pub(crate) struct Named<'t> {
-    pub(crate) name: &'t str,
-    pub(crate) at: usize,
-}
+pub(crate) type Named<'t> = BoundName<'t, ()>;
 
-/// How a node binds names, as a pattern.
-#[derive(Clone, Copy)]
-pub(crate) enum Binding {
-    Name,
-    AllParts,
-    FirstPart,
-    LastPart,
-    Nothing,
-}
-
-pub(crate) fn binding_of(kind: Kind) -> Binding
-    ensures { result ≡ binding_of kind }
-{
-    match kind {
-        Kind::Identifier => Binding::Name,
-        Kind::ArrayPattern | Kind::ObjectPattern | Kind::RestElement => Binding::AllParts,
-        Kind::AssignmentPattern => Binding::FirstPart,
-        Kind::Property => Binding::LastPart,
-        _ => Binding::Nothing,
-    }
-}
-
-/// The part that stands last, where it isn't missing.
-pub(crate) fn last_part<'t, 's>(node: Node<'t, 's>) -> Option<Node<'t, 's>>
-    ensures { option_map node_tree result ≡ part_at (parts_of (node_tree node.entry)) (part_count (parts_of (node_tree node.entry)) - 1) }
-{
-    let count = node.part_count();
-    if count == 0 {
-        return None;
-    }
-    node.part(count - 1)
-}
-
-/// Pushes the names that a pattern or a target binds or assigns (ECMA-262 13.3.3.1).
-#[cycle(pattern)]
-#[tactic(auto, using(tree::proofs::PartWalk::part_steps))]
-pub(crate) fn push_names<'t>(
-    node: Node<'t, '_>,
-    names: &mut Vec<Named<'t>>,
-) -> Result<(), AllocError>
-    ensures { OnOk result (all_named names.new.items ≡ all_named names.old.items ++ names_in (node_tree node.entry)) }
-{
-    match binding_of(node.kind()) {
-        Binding::Name => {
-            names.push(Named {
-                name: node.text(),
-                at: node.span().start,
-            })?;
-            Ok(())
-        }
-        Binding::AllParts => push_all_names(node, names),
-        Binding::FirstPart => push_part_names(node.part(0), names),
-        Binding::LastPart => push_part_names(last_part(node), names),
-        Binding::Nothing => Ok(()),
-    }
-}
-
-#[cycle(pattern)]
-#[tactic(auto, using(tree::proofs::PartWalk::part_steps))]
-fn push_all_names<'t>(node: Node<'t, '_>, names: &mut Vec<Named<'t>>) -> Result<(), AllocError>
-    ensures { OnOk result (all_named names.new.items ≡ all_named names.old.items ++ each_part names_in (parts_of (node_tree node.entry))) }
-{
-    for index in 0..node.part_count() {
-        push_part_names(node.part(index), names)?;
-    }
-    Ok(())
-}
-
-/// The same of a part that may be missing.
-#[cycle(pattern)]
-#[tactic(auto, using(tree::proofs::PartWalk::part_steps))]
+/// Pushes the names that a part binds or assigns which may be missing (ECMA-262 13.3.3.1).
 pub(crate) fn push_part_names<'t>(
     part: Option<Node<'t, '_>>,
     names: &mut Vec<Named<'t>>,
 ) -> Result<(), AllocError>
     ensures { OnOk result (all_named names.new.items ≡ all_named names.old.items ++ names_at (option_map node_tree part.entry)) }
 {
-    match part {
-        Some(part) => push_names(part, names),
-        None => Ok(()),
-    }
+    name_tables::push_part_names(part, (), names)
 }
 
 /// Pushes the names of a declaration, whose parts are its declarators.

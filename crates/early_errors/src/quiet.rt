@@ -4,18 +4,21 @@ ghost use Rattle.std.specs.Prelude.{◌≡◌, [], filter, option_map};
 ghost use Rattle.std.specs.Bool.{OnFalse, OnTrue};
 ghost use Rattle.tree.specs.Node.{node_tree};
 ghost use Rattle.tree.specs.Tree.{Tree, kind_of, part_at, parts_of, text_of};
-ghost use Rattle.early_errors.specs.Names.{each_part, lexical_names, names_in};
+ghost use Rattle.name_tables.specs.PatternParts.{at_part};
+ghost use Rattle.name_tables.specs.BoundNames.{each_part};
+ghost use Rattle.early_errors.specs.Names.{lexical_names, names_in};
 ghost use Rattle.early_errors.specs.Passed.{BindsOne, AreFree, IsOpen, IsWhere, is_super_at, telling_of};
 ghost use Rattle.early_errors.specs.Strict.{is_restricted};
-ghost use Rattle.early_errors.specs.Walk.{at_part, names_at};
+ghost use Rattle.early_errors.specs.Walk.{names_at};
 ghost use Rattle.early_errors.specs.Walks.{IsQuiet, IsSilent, is_quiet as says_nothing};
 
 use crate::around::is_method;
 use crate::clashes::is_restricted;
 use crate::classes::is_super;
 use crate::literals::begins_with_slash;
-use crate::names::{Binding, Lexical, binding_of, lexical_of};
+use crate::names::{Lexical, lexical_of};
 use crate::own::deletes_identifier;
+use name_tables::{Pattern, pattern_of};
 use tree::{Kind, Node};
 
 /// Where errors of a node may be.
@@ -202,9 +205,9 @@ fn binds_restricted(target: Option<Node>) -> bool
 fn names_restricted(target: Node) -> bool
     ensures { OnFalse result (filter is_restricted (names_in (node_tree target.entry)) ≡ []) }
 {
-    match binding_of(target.kind()) {
-        Binding::Nothing => false,
-        Binding::Name => is_restricted(target.text()),
+    match pattern_of(target.kind()) {
+        Pattern::Nothing => false,
+        Pattern::Name => is_restricted(target.text()),
         _ => true,
     }
 }
@@ -274,8 +277,8 @@ fn binds_more(declarator: Node) -> bool
 fn is_restricted_or_pattern(target: Node) -> bool
     ensures { OnFalse result (AreFree (names_in (node_tree target.entry))) }
 {
-    match binding_of(target.kind()) {
-        Binding::Name => is_restricted(target.text()),
+    match pattern_of(target.kind()) {
+        Pattern::Name => is_restricted(target.text()),
         _ => true,
     }
 }

@@ -2,17 +2,20 @@
 
 ghost use Rattle.std.specs.Prelude.{◌≡◌, ◌-◌, ◌++◌, true, option_map, IfOk, OnOk};
 ghost use Rattle.tree.specs.Node.{node_tree};
-ghost use Rattle.tree.specs.Tree.{kind_of, part_at, part_count, parts_of, text_of};
+ghost use Rattle.tree.specs.Tree.{kind_of, part_at, part_count, parts_of, text_of, parts_drop};
 ghost use Rattle.early_errors.specs.Early.{each};
-ghost use Rattle.early_errors.specs.Names.{body_items, each_part, function_names, lexical_names, places, shared, twice};
+ghost use Rattle.name_tables.specs.PatternParts.{at_part};
+ghost use Rattle.name_tables.specs.BoundNames.{each_part};
+ghost use Rattle.early_errors.specs.Names.{body_items, function_names, lexical_names, places, shared, twice};
 ghost use Rattle.early_errors.specs.Owns.{block_at, body_place, case_names, found_of_scope, is_block, items_at, names_of_scope, place_of_scope, declares_function, scope_error, scope_kind};
 ghost use Rattle.early_errors.specs.Scopes.{without_initializer};
-ghost use Rattle.early_errors.specs.Walk.{after, all_named, at_part, listed, parts_drop};
+ghost use Rattle.early_errors.specs.Walk.{after, all_named, listed};
 
 use crate::EarlyError;
 use crate::clashes::{repeated, shared};
 use crate::found::{Found, with_place};
-use crate::names::{Named, last_part, push_lexical_part, push_lexical_parts, push_part_names};
+use crate::names::{Named, push_lexical_part, push_lexical_parts, push_part_names};
+use name_tables::last_part;
 use std::alloc::{AllocError, Global};
 use tree::{Kind, Node};
 

@@ -5,7 +5,7 @@ ghost use Rattle.std.specs.Bool.{OnTrue};
 ghost use Rattle.tree.specs.Node.{node_tree};
 ghost use Rattle.tree.specs.Tree.{kind_of, part_count, parts_of, text_of};
 ghost use Rattle.early_errors.specs.Names.{is_function, var_names};
-ghost use Rattle.early_errors.specs.Walk.{at_part};
+ghost use Rattle.name_tables.specs.PatternParts.{at_part};
 ghost use Rattle.early_errors.specs.Walks.{is_var, range_vars};
 
 use tree::{Kind, Node};

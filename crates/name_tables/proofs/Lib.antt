@@ -1,4 +1,8 @@
 mod Drawing
+pub mod EachPart
+pub mod Patterns
 mod Places
+pub mod Results
+pub mod Retold
 mod Sets
 pub mod Undone

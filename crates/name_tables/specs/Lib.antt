@@ -1,4 +1,5 @@
 pub mod BoundNames
+pub mod PatternParts
 pub mod Keys
 pub mod Sets
 pub mod Tables

@@ -1,10 +1,13 @@
-//! Tables and sets of a script's names, in the order in which the names came, hashed under a key that is drawn from them.
+//! Names of a script: those that a pattern binds; tables and sets of names, in the order in which the names came, hashed under
+//! a key that is drawn from them.
 #![tactic(auto)]
 
+mod bound;
 mod key;
 mod set;
 mod table;
 
+pub use bound::{BoundName, Pattern, last_part, pattern_of, push_names, push_part_names};
 pub use key::{HashKey, KeyBuilder};
 pub use set::NameSet;
 pub use table::{NameTable, Saved};

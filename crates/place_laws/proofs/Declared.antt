@@ -12,7 +12,8 @@ use Rattle.scopes.specs.declared.kind.BindingKind.{BindingKind}
 use Rattle.scopes.specs.declared.kind.BindingKind.TheVariants.{Function, Class, Param, Catch, Itself}
 use Rattle.scopes.specs.declared.roles.Role.{Role}
 use Rattle.scopes.specs.declared.roles.Role.TheVariants.{Body}
-use Rattle.scopes.specs.Bindings.{Binding, each_part, names_in, all_names, first_names, last_names, word_kind, holds_statements, own_vars, vars_in, parts_vars}
+use Rattle.name_tables.specs.BoundNames.{each_part, bound_names, all_bound_names, first_bound_names, last_bound_names}
+use Rattle.scopes.specs.Bindings.{Binding, binding_at, names_in, first_names, word_kind, holds_statements, own_vars, vars_in, parts_vars}
 use Rattle.scopes.specs.Openings.{block_names, case_names, item_names, body_names, function_names, first_scope, scope_round_all, scope_round_others}
 use Rattle.place_laws.specs.InOrder.{is_shorthand}
 use Rattle.place_laws.proofs.Ordered.{Ordered, PartsOrdered, KeyInValue, by_shape, span_ordered, parts_forward}
@@ -51,7 +52,7 @@ module _ (Q : List ℕ → ℕ → ℕ → Type 0) (wide : (w : List ℕ) (s e :
   behind_alone s e t xs l o h = let y = span_ordered Q t o in names_within s (stop_of t) e e xs (omega (arith, l, y)) (omega arith) h
 
   mutual
-    unfolding names_in all_names first_names last_names
+    unfolding bound_names all_bound_names first_bound_names last_bound_names
 
     -- of a pattern
     pub names_apart : (i : BindingKind) (b : Bool) (t : Tree) → Ordered Q t → NamesApart (start_of t) (stop_of t) (names_in i b t)
@@ -63,24 +64,24 @@ module _ (Q : List ℕ → ℕ → ℕ → Type 0) (wide : (w : List ℕ) (s e :
     names_apart i b (node Property w g s e ps) h = by_shape (is_shorthand Property g) (λ j. value_apart i b s e ps (h.2 j).1) (λ j. last_apart i b s e ps (h.3 j))
     names_apart i b (node _ w g s e ps) h = h.1
 
-    all_apart : (i : BindingKind) (b : Bool) (s e : ℕ) (ps : Parts) → PartsOrdered Q s e ps → NamesApart s e (all_names i b ps)
+    all_apart : (i : BindingKind) (b : Bool) (s e : ℕ) (ps : Parts) → PartsOrdered Q s e ps → NamesApart s e (all_bound_names (binding_at i b) ps)
     all_apart i b s e none h = h
     all_apart i b s e (gap ps) h = all_apart i b s e ps h
-    all_apart i b s e (part t ps) h = part_apart s e t (names_in i b t) (all_names i b ps) h.0 (names_apart i b t h.1) (all_apart i b (stop_of t) e ps h.2)
+    all_apart i b s e (part t ps) h = part_apart s e t (names_in i b t) (all_bound_names (binding_at i b) ps) h.0 (names_apart i b t h.1) (all_apart i b (stop_of t) e ps h.2)
 
     pub first_apart : (i : BindingKind) (b : Bool) (s e : ℕ) (ps : Parts) → PartsOrdered Q s e ps → NamesApart s e (first_names i b ps)
     first_apart i b s e none h = h
     first_apart i b s e (gap ps) h = parts_forward Q s e ps h
     first_apart i b s e (part t ps) h = first_alone s e t ps (names_in i b t) h (names_apart i b t h.1)
 
-    last_apart : (i : BindingKind) (b : Bool) (s e : ℕ) (ps : Parts) → PartsOrdered Q s e ps → NamesApart s e (last_names i b ps)
+    last_apart : (i : BindingKind) (b : Bool) (s e : ℕ) (ps : Parts) → PartsOrdered Q s e ps → NamesApart s e (last_bound_names (binding_at i b) ps)
     last_apart i b s e none h = h
     last_apart i b s e (gap ps) h = last_apart i b s e ps h
     last_apart i b s e (part t none) h = first_alone s e t none (names_in i b t) h (names_apart i b t h.1)
-    last_apart i b s e (part t (gap ps)) h = behind_alone s e t (last_names i b ps) h.0 h.1 (last_apart i b (stop_of t) e ps h.2)
-    last_apart i b s e (part t (part u ps)) h = behind_alone s e t (last_names i b (part u ps)) h.0 h.1 (last_apart i b (stop_of t) e (part u ps) h.2)
+    last_apart i b s e (part t (gap ps)) h = behind_alone s e t (last_bound_names (binding_at i b) ps) h.0 h.1 (last_apart i b (stop_of t) e ps h.2)
+    last_apart i b s e (part t (part u ps)) h = behind_alone s e t (last_bound_names (binding_at i b) (part u ps)) h.0 h.1 (last_apart i b (stop_of t) e (part u ps) h.2)
 
-    value_apart : (i : BindingKind) (b : Bool) (s e : ℕ) (ps : Parts) → KeyInValue Q s e ps → NamesApart s e (last_names i b ps)
+    value_apart : (i : BindingKind) (b : Bool) (s e : ℕ) (ps : Parts) → KeyInValue Q s e ps → NamesApart s e (last_bound_names (binding_at i b) ps)
     value_apart i b s e none h = absurd h
     value_apart i b s e (gap ps) h = absurd h
     value_apart i b s e (part k none) h = absurd h
@@ -91,7 +92,7 @@ module _ (Q : List ℕ → ℕ → ℕ → Type 0) (wide : (w : List ℕ) (s e :
 
   -- of the first part of a node
   key_apart : (i : BindingKind) (b : Bool) (s e : ℕ) (ps : Parts) → KeyInValue Q s e ps → NamesApart s e (first_names i b ps)
-  unfolding first_names
+  unfolding first_bound_names
   key_apart i b s e none h = absurd h
   key_apart i b s e (gap ps) h = absurd h
   key_apart i b s e (part k none) h = absurd h

@@ -4,7 +4,8 @@ use Rattle.tree.specs.declared.kind.Kind.TheVariants.{ArrowFunctionExpression, A
 use Rattle.tree.specs.declared.kind.Form.TheVariants.{Method, Shorthand}
 use Rattle.tree.specs.Tree.{Tree, gap, none, part}
 use Rattle.language.proofs.Trees.{computed, formed, id, lit, n, one, program, short, st, t, three, two}
-use Rattle.scopes.specs.Bindings.{names_in, all_names, first_names, last_names, vars_in, parts_vars}
+use Rattle.name_tables.specs.BoundNames.{bound_names, all_bound_names, first_bound_names, last_bound_names}
+use Rattle.scopes.specs.Bindings.{vars_in, parts_vars}
 use Rattle.place_laws.specs.InOrder.{in_order, parts_in_order, key_in_value}
 use Rattle.place_laws.specs.ScopePlaces.{scope_places, places_in, all_places, places_from, nested, apart_from}
 
@@ -46,30 +47,30 @@ beside_is_none = refl
 
 -- `switch (() => a) { case 1: let a; a }`: the cases' scope begins behind what is tested
 switch_places : scope_places (program 37 (one (n SwitchStatement 0 37 (two (short (n ArrowFunctionExpression 8 15 (one (id "a" 14)))) (n SwitchCase 19 35 (three (lit "1" 24) (t VariableDeclaration "let" 27 33 (one (n VariableDeclarator 31 32 (part (id "a" 31) (gap none))))) (st 34 35 (id "a" 34)))))))) ≡ (0, 37) ∷ (8, 15) ∷ (15, 37) ∷ []
-unfolding places_in all_places places_from names_in all_names first_names last_names vars_in parts_vars
+unfolding places_in all_places places_from bound_names all_bound_names first_bound_names last_bound_names vars_in parts_vars
 switch_places = refl
 
 -- `class A extends A { m() { A } }`
 class_places : scope_places (program 31 (one (n ClassDeclaration 0 31 (three (id "A" 6) (id "A" 16) (n ClassBody 18 31 (one (formed Method (n MethodDefinition 20 29 (two (id "m" 20) (n FunctionExpression 21 29 (gap (one (n BlockStatement 24 29 (one (st 26 27 (id "A" 26)))))))))))))))) ≡ (0, 31) ∷ (7, 31) ∷ (21, 29) ∷ []
-unfolding places_in all_places places_from names_in all_names first_names last_names vars_in parts_vars
+unfolding places_in all_places places_from bound_names all_bound_names first_bound_names last_bound_names vars_in parts_vars
 class_places = refl
 
 -- `a => a`: the script and the arrow have one place
 arrow_places : scope_places (program 6 (one (st 0 6 (short (n ArrowFunctionExpression 0 6 (two (id "a" 0) (id "a" 5))))))) ≡ (0, 6) ∷ (0, 6) ∷ []
-unfolding places_in all_places places_from names_in all_names first_names last_names vars_in parts_vars
+unfolding places_in all_places places_from bound_names all_bound_names first_bound_names last_bound_names vars_in parts_vars
 arrow_places = refl
 
 -- `for (let b of []) { }`, `function f(b) { var b }`, `try {} catch (e) {}`
 for_places : scope_places (program 21 (one (n ForOfStatement 0 21 (three (t VariableDeclaration "let" 5 10 (one (n VariableDeclarator 9 10 (part (id "b" 9) (gap none))))) (lit "1" 14) (n BlockStatement 18 21 none))))) ≡ (0, 21) ∷ (0, 21) ∷ (18, 21) ∷ []
-unfolding places_in all_places places_from names_in all_names first_names last_names vars_in parts_vars
+unfolding places_in all_places places_from bound_names all_bound_names first_bound_names last_bound_names vars_in parts_vars
 for_places = refl
 
 function_places : scope_places (program 23 (one (n FunctionDeclaration 0 23 (three (id "f" 9) (id "b" 11) (n BlockStatement 14 23 (one (t VariableDeclaration "var" 16 21 (one (n VariableDeclarator 20 21 (part (id "b" 20) (gap none))))))))))) ≡ (0, 23) ∷ (10, 23) ∷ []
-unfolding places_in all_places places_from names_in all_names first_names last_names vars_in parts_vars
+unfolding places_in all_places places_from bound_names all_bound_names first_bound_names last_bound_names vars_in parts_vars
 function_places = refl
 
 catch_places : scope_places (program 19 (one (n TryStatement 0 19 (part (n BlockStatement 4 6 none) (part (n CatchClause 7 19 (two (id "e" 14) (n BlockStatement 17 19 none))) (gap none)))))) ≡ (0, 19) ∷ (4, 6) ∷ (7, 19) ∷ (17, 19) ∷ []
-unfolding places_in all_places places_from names_in all_names first_names last_names vars_in parts_vars
+unfolding places_in all_places places_from bound_names all_bound_names first_bound_names last_bound_names vars_in parts_vars
 catch_places = refl
 
 -- outer before inner, then the next; not inner before outer, nor one that begins in another and ends behind it

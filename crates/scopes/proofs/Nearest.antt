@@ -8,8 +8,9 @@ use Rattle.std.proofs.lemmas.Bool.Decides.{nat_tests}
 use Rattle.std.proofs.lemmas.Slice.Eq.{bytes_eq-Decides}
 use Rattle.scopes.specs.Bindings.{Binding, has_name}
 use Rattle.scopes.specs.Found.{Frame, index_of, here_or_outer, nearest, added, collected}
-use Rattle.scopes.specs.declared.binding.Binding.{Binding as CodeBinding}
-use Rattle.scopes.specs.Shown.{Below, Meant, all_shown, frame, is_of, shown}
+use Rattle.name_tables.specs.declared.bound.BoundName.{BoundName}
+use Rattle.scopes.specs.declared.names.DeclaredAs.{DeclaredAs}
+use Rattle.scopes.specs.Shown.{Below, Meant, all_declared, declared_shown, frame, is_of}
 use Rattle.name_tables.specs.Tables.{Agree, with_value}
 
 mapped : (o : Option ℕ) → is_some (option_map suc o) ≡ is_some o
@@ -100,7 +101,7 @@ pub added-new : (fs : List Frame) (bs : List Binding) (b : Binding) → has_name
 added-new fs bs b h = ap (λ c. cond c bs (bs ++ record b { shadows = is_some (nearest b.name fs) } ∷ [])) h
 
 -- a turn of the loop over the names
-pub collected-turn : (fs : List Frame) (names : List CodeBinding) (i : ℕ) (d : CodeBinding) (bs more total : List Binding) → i < length names → more ≡ added fs bs (shown (get_or names i d)) →
-    collected fs bs (all_shown (drop i names)) ≡ total → collected fs more (all_shown (drop (i + 1) names)) ≡ total
+pub collected-turn : (fs : List Frame) (names : List (BoundName DeclaredAs)) (i : ℕ) (d : BoundName DeclaredAs) (bs more total : List Binding) → i < length names → more ≡ added fs bs (declared_shown (get_or names i d)) →
+    collected fs bs (all_declared (drop i names)) ≡ total → collected fs more (all_declared (drop (i + 1) names)) ≡ total
 collected-turn fs names i d bs more total l e so =
-    rw (add-one i) (ap (λ x. collected fs x (all_shown (drop (suc i) names))) e ∙ sym (ap (λ xs. collected fs bs (all_shown xs)) (drop-cons names i d l)) ∙ so)
+    rw (add-one i) (ap (λ x. collected fs x (all_declared (drop (suc i) names))) e ∙ sym (ap (λ xs. collected fs bs (all_declared xs)) (drop-cons names i d l)) ∙ so)

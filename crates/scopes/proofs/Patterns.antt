@@ -1,41 +1,16 @@
--- What a pattern or an item declares, by its kind.
-use Rattle.std.proofs.Common.{◌≡◌, ◌-◌, Bool, true, false, cond, List, [], ◌∷◌, ◌++◌, refl, sym, ap, ◌∙◌, append-nil}
-use Rattle.tree.specs.declared.kind.Kind.{Kind}
-use Rattle.tree.specs.declared.kind.Kind.TheVariants.{Identifier, ArrayPattern, ObjectPattern, RestElement, AssignmentPattern, Property, VariableDeclaration, ClassDeclaration, FunctionDeclaration}
-use Rattle.tree.specs.Tree.{Tree, Parts, none, part, gap, node, kind_of, text_of, parts_of, part_at, part_count}
+-- What an item declares, by its kind.
+use Rattle.std.proofs.Common.{◌≡◌, Bool, true, false, cond, List, [], ◌++◌, refl, sym, ap, ◌∙◌, append-nil}
+use Rattle.tree.specs.declared.kind.Kind.TheVariants.{VariableDeclaration, ClassDeclaration, FunctionDeclaration}
+use Rattle.tree.specs.Tree.{Tree, Parts, none, part, gap, node, kind_of, text_of, parts_of, part_at}
 use Rattle.language.specs.Words.{is}
-use Rattle.scopes.specs.declared.kind.BindingKind.{BindingKind}
 use Rattle.scopes.specs.declared.names.DeclaredIn.{DeclaredIn}
 use Rattle.scopes.specs.declared.names.DeclaredIn.TheVariants.{Statement}
-use Rattle.scopes.specs.declared.names.Pattern.{Pattern}
-use Rattle.scopes.specs.declared.names.Pattern.TheVariants.{Name, AllParts, FirstPart, LastPart, Nothing}
 use Rattle.scopes.specs.declared.names.Item.{Item}
 use Rattle.scopes.specs.declared.names.Item.TheVariants as item
-use Rattle.scopes.specs.Bindings.{Binding, each_part, names_in, declared, lexical, vars_in, parts_vars, holds_statements}
-use Rattle.scopes.specs.Gathered.{name_of, names_at, pattern_of, item_of}
-use Rattle.scopes.proofs.Dropping.{all_names-each, first_names-at, last_names-at}
-
-abbrev given_by : BindingKind → Bool → Pattern → Tree → List Binding
-given_by k b Name t = name_of k b t ∷ []
-given_by k b AllParts t = each_part (names_in k b) (parts_of t)
-given_by k b FirstPart t = names_at k b (part_at (parts_of t) 0)
-given_by k b LastPart t = names_at k b (part_at (parts_of t) (part_count (parts_of t) - 1))
-given_by k b Nothing t = []
-
-names_by_kind : (k : BindingKind) (b : Bool) (t : Tree) → names_in k b t ≡ given_by k b (pattern_of (kind_of t)) t
-unfolding names_in
-names_by_kind k b (node Identifier w g s e ps) = refl
-names_by_kind k b (node ArrayPattern w g s e ps) = all_names-each k b ps
-names_by_kind k b (node ObjectPattern w g s e ps) = all_names-each k b ps
-names_by_kind k b (node RestElement w g s e ps) = all_names-each k b ps
-names_by_kind k b (node AssignmentPattern w g s e ps) = first_names-at k b ps
-names_by_kind k b (node Property w g s e ps) = last_names-at k b ps
-names_by_kind k b (node _ w g s e ps) = refl
-
-pub names_given : (k : BindingKind) (b : Bool) (t : Tree) (i : Kind) (p : Pattern) → i ≡ kind_of t → p ≡ pattern_of i → names_in k b t ≡ given_by k b p t
-names_given k b t i p e f = names_by_kind k b t ∙ ap (λ x. given_by k b x t) (sym (f ∙ ap pattern_of e))
-
--- ---- items
+use Rattle.name_tables.specs.BoundNames.{each_part}
+use Rattle.scopes.specs.Bindings.{Binding, declared, lexical, vars_in, parts_vars, holds_statements}
+use Rattle.scopes.specs.Gathered.{names_at, item_of}
+use Rattle.scopes.proofs.Dropping.{first_names-at}
 
 abbrev lexical_by : DeclaredIn → Item → Tree → List Binding
 lexical_by h item.Lexical t = declared h (text_of t) (parts_of t)

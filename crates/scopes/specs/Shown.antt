@@ -1,8 +1,11 @@
 -- The code's own values as those of the definitions.
 use Rattle.std.specs.Prelude.{◌≡◌, ◌<◌, ℕ, Bool, nat_eq, List, map, Option, Some, None, IfSome, false}
+use Rattle.name_tables.specs.declared.bound.BoundName.{BoundName}
+use Rattle.name_tables.specs.PatternParts.{Bound, bound}
 use Rattle.scopes.specs.declared.binding.Binding.{Binding as CodeBinding}
 use Rattle.scopes.specs.declared.binding.Reference.{Reference as CodeReference}
 use Rattle.scopes.specs.declared.binding.Scope.{Scope as CodeScope}
+use Rattle.scopes.specs.declared.names.DeclaredAs.{DeclaredAs}
 use Rattle.scopes.specs.Bindings.{Binding}
 use Rattle.scopes.specs.Found.{Frame, Reference, Scope, Found, nearest, scope_of}
 
@@ -11,6 +14,16 @@ shown b = record { name = b.name.now; kind = b.kind; start = b.start; stop = b.e
 
 abbrev pub all_shown : List CodeBinding → List Binding
 all_shown bs = map shown bs
+
+-- a name as it is declared, as the binding that it makes
+abbrev pub made_of : Bound DeclaredAs → Binding
+made_of b = record { name = b.name; kind = b.how.kind; start = b.start; stop = b.stop; settled = b.how.settled; shadows = false }
+
+abbrev pub declared_shown : BoundName DeclaredAs → Binding
+declared_shown x = made_of (bound x)
+
+abbrev pub all_declared : List (BoundName DeclaredAs) → List Binding
+all_declared xs = map declared_shown xs
 
 abbrev pub reference_shown : CodeReference → Reference
 reference_shown r = record { name = r.name.now; scope = r.scope; reads = r.reads; writes = r.writes; start = r.start; stop = r.end; typeof_operand = r.typeof_operand; meaning = r.meaning }

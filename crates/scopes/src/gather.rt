@@ -3,15 +3,18 @@
 ghost use Rattle.std.specs.Prelude.{◌≡◌, ◌++◌, [], cond, option_map, IfOk, OnOk, Some, None};
 ghost use Rattle.tree.specs.Node.{node_tree};
 ghost use Rattle.tree.specs.Tree.{kind_of, parts_drop, parts_of};
-ghost use Rattle.scopes.specs.Bindings.{each_part, lexical};
-ghost use Rattle.scopes.specs.Gathered.{at_part};
+ghost use Rattle.name_tables.specs.PatternParts.{at_part};
+ghost use Rattle.name_tables.specs.BoundNames.{each_part};
+ghost use Rattle.scopes.specs.Bindings.{lexical};
 ghost use Rattle.scopes.specs.Openings.{body_names, case_names, function_names, is_lexical, item_names, opens_all, opens_others, scope_names, scope_round_all, scope_round_others};
 ghost use Rattle.scopes.specs.Roles.{is_body};
 ghost use Rattle.scopes.specs.declared.names.DeclaredIn.TheVariants.{Statement};
-ghost use Rattle.scopes.specs.Shown.{all_shown};
+ghost use Rattle.scopes.specs.Shown.{all_declared};
 
-use crate::binding::{Binding, BindingKind};
-use crate::names::{DeclaredAs, DeclaredIn, push_lexical, push_names, push_part_names, push_vars};
+use crate::binding::BindingKind;
+use crate::names::{
+    Declared, DeclaredAs, DeclaredIn, push_lexical, push_names, push_part_names, push_vars,
+};
 use crate::roles::{Role, is_body};
 use std::alloc::AllocError;
 use tree::{Kind, Node};
@@ -70,10 +73,10 @@ fn opens_others(kind: Kind) -> ScopeKind
 pub(crate) fn push_round_all<'t>(
     role: Role,
     node: Node<'t, '_>,
-    names: &mut Vec<Binding<'t>>,
+    names: &mut Vec<Declared<'t>>,
 ) -> Result<bool, AllocError>
     requires { names.now.items ≡ [] }
-    ensures { IfOk result (λ b. scope_round_all role (kind_of (node_tree node.entry)) (parts_of (node_tree node.entry)) ≡ cond b (Some (all_shown names.new.items)) None) }
+    ensures { IfOk result (λ b. scope_round_all role (kind_of (node_tree node.entry)) (parts_of (node_tree node.entry)) ≡ cond b (Some (all_declared names.new.items)) None) }
 {
     push_scope(opens_all(role, node.kind()), node, names)
 }
@@ -81,10 +84,10 @@ pub(crate) fn push_round_all<'t>(
 /// Pushes the names of the scope that a node makes round all its parts but the first; answers whether it makes one.
 pub(crate) fn push_round_others<'t>(
     node: Node<'t, '_>,
-    names: &mut Vec<Binding<'t>>,
+    names: &mut Vec<Declared<'t>>,
 ) -> Result<bool, AllocError>
     requires { names.now.items ≡ [] }
-    ensures { IfOk result (λ b. scope_round_others (kind_of (node_tree node.entry)) (parts_of (node_tree node.entry)) ≡ cond b (Some (all_shown names.new.items)) None) }
+    ensures { IfOk result (λ b. scope_round_others (kind_of (node_tree node.entry)) (parts_of (node_tree node.entry)) ≡ cond b (Some (all_declared names.new.items)) None) }
 {
     push_scope(opens_others(node.kind()), node, names)
 }
@@ -92,10 +95,10 @@ pub(crate) fn push_round_others<'t>(
 fn push_scope<'t>(
     opens: ScopeKind,
     node: Node<'t, '_>,
-    names: &mut Vec<Binding<'t>>,
+    names: &mut Vec<Declared<'t>>,
 ) -> Result<bool, AllocError>
     requires { names.now.items ≡ [] }
-    ensures { IfOk result (λ b. scope_names opens (parts_of (node_tree node.entry)) ≡ cond b (Some (all_shown names.new.items)) None) }
+    ensures { IfOk result (λ b. scope_names opens (parts_of (node_tree node.entry)) ≡ cond b (Some (all_declared names.new.items)) None) }
 {
     match opens {
         ScopeKind::Script => push_items(node, names)?,
@@ -112,10 +115,10 @@ fn push_scope<'t>(
 fn push_first<'t>(
     node: Node<'t, '_>,
     kind: BindingKind,
-    names: &mut Vec<Binding<'t>>,
+    names: &mut Vec<Declared<'t>>,
 ) -> Result<bool, AllocError>
     requires { names.now.items ≡ [] }
-    ensures { IfOk result (λ b. scope_names (ScopeKind.FirstPart kind) (parts_of (node_tree node.entry)) ≡ cond b (Some (all_shown names.new.items)) None) }
+    ensures { IfOk result (λ b. scope_names (ScopeKind.FirstPart kind) (parts_of (node_tree node.entry)) ≡ cond b (Some (all_declared names.new.items)) None) }
 {
     let Some(part) = node.part(0) else {
         return Ok(false);
@@ -143,10 +146,10 @@ fn is_lexical(item: Node) -> bool
 fn push_head<'t>(
     node: Node<'t, '_>,
     head: DeclaredIn,
-    names: &mut Vec<Binding<'t>>,
+    names: &mut Vec<Declared<'t>>,
 ) -> Result<bool, AllocError>
     requires { names.now.items ≡ [] }
-    ensures { IfOk result (λ b. scope_names (ScopeKind.For head) (parts_of (node_tree node.entry)) ≡ cond b (Some (all_shown names.new.items)) None) }
+    ensures { IfOk result (λ b. scope_names (ScopeKind.For head) (parts_of (node_tree node.entry)) ≡ cond b (Some (all_declared names.new.items)) None) }
 {
     let Some(part) = node.part(0) else {
         return Ok(false);
@@ -159,8 +162,8 @@ fn push_head<'t>(
 }
 
 /// Pushes what the items of a Program or of a function's body declare there.
-fn push_items<'t>(node: Node<'t, '_>, names: &mut Vec<Binding<'t>>) -> Result<(), AllocError>
-    ensures { OnOk result (all_shown names.new.items ≡ all_shown names.old.items ++ each_part item_names (parts_of (node_tree node.entry))) }
+fn push_items<'t>(node: Node<'t, '_>, names: &mut Vec<Declared<'t>>) -> Result<(), AllocError>
+    ensures { OnOk result (all_declared names.new.items ≡ all_declared names.old.items ++ each_part item_names (parts_of (node_tree node.entry))) }
 {
     for index in 0..node.part_count() {
         push_item(node.part(index), names)?;
@@ -168,8 +171,11 @@ fn push_items<'t>(node: Node<'t, '_>, names: &mut Vec<Binding<'t>>) -> Result<()
     Ok(())
 }
 
-fn push_item<'t>(item: Option<Node<'t, '_>>, names: &mut Vec<Binding<'t>>) -> Result<(), AllocError>
-    ensures { OnOk result (all_shown names.new.items ≡ all_shown names.old.items ++ at_part item_names (option_map node_tree item.entry)) }
+fn push_item<'t>(
+    item: Option<Node<'t, '_>>,
+    names: &mut Vec<Declared<'t>>,
+) -> Result<(), AllocError>
+    ensures { OnOk result (all_declared names.new.items ≡ all_declared names.old.items ++ at_part item_names (option_map node_tree item.entry)) }
 {
     let Some(item) = item else {
         return Ok(());
@@ -182,9 +188,9 @@ fn push_item<'t>(item: Option<Node<'t, '_>>, names: &mut Vec<Binding<'t>>) -> Re
 fn push_block<'t>(
     node: Node<'t, '_>,
     from: usize,
-    names: &mut Vec<Binding<'t>>,
+    names: &mut Vec<Declared<'t>>,
 ) -> Result<(), AllocError>
-    ensures { OnOk result (all_shown names.new.items ≡ all_shown names.old.items ++ each_part (lexical Statement) (parts_drop from (parts_of (node_tree node.entry)))) }
+    ensures { OnOk result (all_declared names.new.items ≡ all_declared names.old.items ++ each_part (lexical Statement) (parts_drop from (parts_of (node_tree node.entry)))) }
 {
     for index in from..node.part_count() {
         push_block_item(node.part(index), names)?;
@@ -194,9 +200,9 @@ fn push_block<'t>(
 
 fn push_block_item<'t>(
     item: Option<Node<'t, '_>>,
-    names: &mut Vec<Binding<'t>>,
+    names: &mut Vec<Declared<'t>>,
 ) -> Result<(), AllocError>
-    ensures { OnOk result (all_shown names.new.items ≡ all_shown names.old.items ++ at_part (lexical Statement) (option_map node_tree item.entry)) }
+    ensures { OnOk result (all_declared names.new.items ≡ all_declared names.old.items ++ at_part (lexical Statement) (option_map node_tree item.entry)) }
 {
     match item {
         Some(item) => push_lexical(DeclaredIn::Statement, item, names),
@@ -204,8 +210,8 @@ fn push_block_item<'t>(
     }
 }
 
-fn push_cases<'t>(node: Node<'t, '_>, names: &mut Vec<Binding<'t>>) -> Result<(), AllocError>
-    ensures { OnOk result (all_shown names.new.items ≡ all_shown names.old.items ++ each_part case_names (parts_drop 1 (parts_of (node_tree node.entry)))) }
+fn push_cases<'t>(node: Node<'t, '_>, names: &mut Vec<Declared<'t>>) -> Result<(), AllocError>
+    ensures { OnOk result (all_declared names.new.items ≡ all_declared names.old.items ++ each_part case_names (parts_drop 1 (parts_of (node_tree node.entry)))) }
 {
     for index in 1..node.part_count() {
         push_case(node.part(index), names)?;
@@ -213,8 +219,11 @@ fn push_cases<'t>(node: Node<'t, '_>, names: &mut Vec<Binding<'t>>) -> Result<()
     Ok(())
 }
 
-fn push_case<'t>(case: Option<Node<'t, '_>>, names: &mut Vec<Binding<'t>>) -> Result<(), AllocError>
-    ensures { OnOk result (all_shown names.new.items ≡ all_shown names.old.items ++ at_part case_names (option_map node_tree case.entry)) }
+fn push_case<'t>(
+    case: Option<Node<'t, '_>>,
+    names: &mut Vec<Declared<'t>>,
+) -> Result<(), AllocError>
+    ensures { OnOk result (all_declared names.new.items ≡ all_declared names.old.items ++ at_part case_names (option_map node_tree case.entry)) }
 {
     match case {
         Some(case) => push_block(case, 1, names),
@@ -226,9 +235,9 @@ fn push_case<'t>(case: Option<Node<'t, '_>>, names: &mut Vec<Binding<'t>>) -> Re
 fn push_function<'t>(
     node: Node<'t, '_>,
     from: usize,
-    names: &mut Vec<Binding<'t>>,
+    names: &mut Vec<Declared<'t>>,
 ) -> Result<(), AllocError>
-    ensures { OnOk result (all_shown names.new.items ≡ all_shown names.old.items ++ function_names (parts_drop from (parts_of (node_tree node.entry)))) }
+    ensures { OnOk result (all_declared names.new.items ≡ all_declared names.old.items ++ function_names (parts_drop from (parts_of (node_tree node.entry)))) }
 {
     let count = node.part_count();
     if count <= from {
@@ -244,8 +253,11 @@ fn push_function<'t>(
     push_body(node.part(count - 1), names)
 }
 
-fn push_body<'t>(body: Option<Node<'t, '_>>, names: &mut Vec<Binding<'t>>) -> Result<(), AllocError>
-    ensures { OnOk result (all_shown names.new.items ≡ all_shown names.old.items ++ at_part body_names (option_map node_tree body.entry)) }
+fn push_body<'t>(
+    body: Option<Node<'t, '_>>,
+    names: &mut Vec<Declared<'t>>,
+) -> Result<(), AllocError>
+    ensures { OnOk result (all_declared names.new.items ≡ all_declared names.old.items ++ at_part body_names (option_map node_tree body.entry)) }
 {
     let Some(body) = body else {
         return Ok(());

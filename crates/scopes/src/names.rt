@@ -1,13 +1,16 @@
 //! The names that patterns and statement list items declare, in the order of the tree.
 
-ghost use Rattle.std.specs.Prelude.{◌≡◌, ◌++◌, ◌∷◌, [], ◌-◌, option_map, OnOk};
+ghost use Rattle.std.specs.Prelude.{◌≡◌, ◌++◌, option_map, OnOk};
 ghost use Rattle.tree.specs.Node.{node_tree};
-ghost use Rattle.tree.specs.Tree.{kind_of, part_at, part_count, parts_of, parts_drop, text_of};
-ghost use Rattle.scopes.specs.Bindings.{declared, each_part, holds_statements, lexical, names_in, settles, vars_in, word_kind};
-ghost use Rattle.scopes.specs.Gathered.{at_part, declared_by, item_of, name_of, names_at, pattern_of};
-ghost use Rattle.scopes.specs.Shown.{all_shown};
+ghost use Rattle.tree.specs.Tree.{kind_of, parts_of, text_of};
+ghost use Rattle.name_tables.specs.PatternParts.{at_part};
+ghost use Rattle.name_tables.specs.BoundNames.{each_part};
+ghost use Rattle.scopes.specs.Bindings.{declared, holds_statements, lexical, names_in, settles, vars_in, word_kind};
+ghost use Rattle.scopes.specs.Gathered.{declared_by, item_of, names_at};
+ghost use Rattle.scopes.specs.Shown.{all_declared};
 
-use crate::binding::{Binding, BindingKind};
+use crate::binding::BindingKind;
+use name_tables::BoundName;
 use std::alloc::AllocError;
 use tree::{Kind, Node};
 
@@ -29,106 +32,29 @@ pub(crate) enum DeclaredIn {
     ForInOfHead,
 }
 
-/// Which parts of a node have the names that it binds as a pattern.
-#[derive(Clone, Copy)]
-pub(crate) enum Pattern {
-    Name,
-    AllParts,
-    FirstPart,
-    LastPart,
-    Nothing,
-}
-
-fn pattern_of(kind: Kind) -> Pattern
-    ensures { result ≡ pattern_of kind }
-{
-    match kind {
-        Kind::Identifier => Pattern::Name,
-        Kind::ArrayPattern | Kind::ObjectPattern | Kind::RestElement => Pattern::AllParts,
-        Kind::AssignmentPattern => Pattern::FirstPart,
-        Kind::Property => Pattern::LastPart,
-        _ => Pattern::Nothing,
-    }
-}
-
-/// The last part, where it isn't missing.
-pub(crate) fn last_part<'t, 's>(node: Node<'t, 's>) -> Option<Node<'t, 's>>
-    ensures { option_map node_tree result ≡ part_at (parts_of (node_tree node.entry)) (part_count (parts_of (node_tree node.entry)) - 1) }
-{
-    let count = node.part_count();
-    if count == 0 {
-        return None;
-    }
-    node.part(count - 1)
-}
+/// A name as it is declared, before its scope has it.
+pub(crate) type Declared<'t> = BoundName<'t, DeclaredAs>;
 
 /// Pushes the names of a pattern.
-#[cycle(pattern)]
-#[tactic(auto, using(tree::proofs::PartWalk::part_steps))]
 pub(crate) fn push_names<'t>(
     node: Node<'t, '_>,
     how: DeclaredAs,
-    names: &mut Vec<Binding<'t>>,
+    names: &mut Vec<Declared<'t>>,
 ) -> Result<(), AllocError>
-    ensures { OnOk result (all_shown names.new.items ≡ all_shown names.old.items ++ names_in how.kind how.settled (node_tree node.entry)) }
+    ensures { OnOk result (all_declared names.new.items ≡ all_declared names.old.items ++ names_in how.kind how.settled (node_tree node.entry)) }
 {
-    match pattern_of(node.kind()) {
-        Pattern::Name => push_name(node, how, names),
-        Pattern::AllParts => push_all_names(node, how, names),
-        Pattern::FirstPart => push_part_names(node.part(0), how, names),
-        Pattern::LastPart => push_part_names(last_part(node), how, names),
-        Pattern::Nothing => Ok(()),
-    }
-}
-
-fn push_name<'t>(
-    node: Node<'t, '_>,
-    how: DeclaredAs,
-    names: &mut Vec<Binding<'t>>,
-) -> Result<(), AllocError>
-    ensures { OnOk result (all_shown names.new.items ≡ all_shown names.old.items ++ name_of how.kind how.settled (node_tree node.entry) ∷ []) }
-{
-    let span = node.span();
-    names.push(Binding {
-        name: node.text(),
-        kind: how.kind,
-        start: span.start,
-        end: span.end,
-        settled: how.settled,
-        shadows: false,
-    })?;
-    Ok(())
-}
-
-#[cycle(pattern)]
-#[tactic(auto, using(tree::proofs::PartWalk::part_steps))]
-fn push_all_names<'t>(
-    node: Node<'t, '_>,
-    how: DeclaredAs,
-    names: &mut Vec<Binding<'t>>,
-) -> Result<(), AllocError>
-    ensures { OnOk result (all_shown names.new.items ≡ all_shown names.old.items ++ each_part (names_in how.kind how.settled) (parts_of (node_tree node.entry))) }
-{
-    for index in 0..node.part_count() {
-        push_part_names(node.part(index), how, names)?;
-    }
-    Ok(())
+    name_tables::push_names(node, how, names)
 }
 
 /// Pushes the names of a part that may be missing.
-#[cycle(pattern)]
-#[tactic(auto, using(tree::proofs::PartWalk::part_steps))]
 pub(crate) fn push_part_names<'t>(
     part: Option<Node<'t, '_>>,
     how: DeclaredAs,
-    names: &mut Vec<Binding<'t>>,
+    names: &mut Vec<Declared<'t>>,
 ) -> Result<(), AllocError>
-    ensures { OnOk result (all_shown names.new.items ≡ all_shown names.old.items ++ names_at how.kind how.settled (option_map node_tree part.entry)) }
+    ensures { OnOk result (all_declared names.new.items ≡ all_declared names.old.items ++ names_at how.kind how.settled (option_map node_tree part.entry)) }
 {
-    match part {
-        Some(part) => push_names(part, how, names),
-        None => Ok(()),
-    }
+    name_tables::push_part_names(part, how, names)
 }
 
 fn word_kind(word: &str) -> BindingKind
@@ -158,9 +84,9 @@ fn settles(head: DeclaredIn, declarator: Node) -> bool
 pub(crate) fn push_declared<'t>(
     head: DeclaredIn,
     node: Node<'t, '_>,
-    names: &mut Vec<Binding<'t>>,
+    names: &mut Vec<Declared<'t>>,
 ) -> Result<(), AllocError>
-    ensures { OnOk result (all_shown names.new.items ≡ all_shown names.old.items ++ declared head (text_of (node_tree node.entry)) (parts_of (node_tree node.entry))) }
+    ensures { OnOk result (all_declared names.new.items ≡ all_declared names.old.items ++ declared head (text_of (node_tree node.entry)) (parts_of (node_tree node.entry))) }
 {
     let kind = word_kind(node.text());
     for index in 0..node.part_count() {
@@ -173,9 +99,9 @@ fn push_declarator<'t>(
     head: DeclaredIn,
     kind: BindingKind,
     declarator: Option<Node<'t, '_>>,
-    names: &mut Vec<Binding<'t>>,
+    names: &mut Vec<Declared<'t>>,
 ) -> Result<(), AllocError>
-    ensures { OnOk result (all_shown names.new.items ≡ all_shown names.old.items ++ at_part (declared_by head kind) (option_map node_tree declarator.entry)) }
+    ensures { OnOk result (all_declared names.new.items ≡ all_declared names.old.items ++ at_part (declared_by head kind) (option_map node_tree declarator.entry)) }
 {
     let Some(declarator) = declarator else {
         return Ok(());
@@ -246,9 +172,9 @@ fn item_of(node: Node) -> Item
 pub(crate) fn push_lexical<'t>(
     head: DeclaredIn,
     item: Node<'t, '_>,
-    names: &mut Vec<Binding<'t>>,
+    names: &mut Vec<Declared<'t>>,
 ) -> Result<(), AllocError>
-    ensures { OnOk result (all_shown names.new.items ≡ all_shown names.old.items ++ lexical head (node_tree item.entry)) }
+    ensures { OnOk result (all_declared names.new.items ≡ all_declared names.old.items ++ lexical head (node_tree item.entry)) }
 {
     match item_of(item) {
         Item::Lexical => push_declared(head, item, names),
@@ -269,9 +195,9 @@ pub(crate) fn push_lexical<'t>(
 #[tactic(auto, using(tree::proofs::PartWalk::part_steps))]
 pub(crate) fn push_vars<'t>(
     item: Node<'t, '_>,
-    names: &mut Vec<Binding<'t>>,
+    names: &mut Vec<Declared<'t>>,
 ) -> Result<(), AllocError>
-    ensures { OnOk result (all_shown names.new.items ≡ all_shown names.old.items ++ vars_in (node_tree item.entry)) }
+    ensures { OnOk result (all_declared names.new.items ≡ all_declared names.old.items ++ vars_in (node_tree item.entry)) }
 {
     match item_of(item) {
         Item::Var => push_declared(DeclaredIn::Statement, item, names),
@@ -282,8 +208,8 @@ pub(crate) fn push_vars<'t>(
 
 #[cycle(vars)]
 #[tactic(auto, using(tree::proofs::PartWalk::part_steps))]
-fn push_parts_vars<'t>(node: Node<'t, '_>, names: &mut Vec<Binding<'t>>) -> Result<(), AllocError>
-    ensures { OnOk result (all_shown names.new.items ≡ all_shown names.old.items ++ each_part vars_in (parts_of (node_tree node.entry))) }
+fn push_parts_vars<'t>(node: Node<'t, '_>, names: &mut Vec<Declared<'t>>) -> Result<(), AllocError>
+    ensures { OnOk result (all_declared names.new.items ≡ all_declared names.old.items ++ each_part vars_in (parts_of (node_tree node.entry))) }
 {
     for index in 0..node.part_count() {
         if let Some(part) = node.part(index) {

@@ -6,12 +6,13 @@ ghost use Rattle.tree.specs.Node.{node_tree};
 ghost use Rattle.tree.specs.Tree.{flags_of, kind_of, parts_of, part_count, text_of};
 ghost use Rattle.scopes.specs.Found.{Frame, all_parts, at_place, collected, enter, found_in, in_scope, joined, opened, own_reference, parts_from, round_others};
 ghost use Rattle.scopes.specs.Openings.{scope_round_all, scope_round_others};
-ghost use Rattle.scopes.specs.Shown.{Knows, all_shown, frame, reference_shown};
+ghost use Rattle.scopes.specs.Shown.{Knows, all_declared, frame, reference_shown};
 ghost use Rattle.scopes.specs.Walks.{all_within, inside_of, is_leaf_kind, others_within, parts_within, reference_at, round, seen};
 ghost use Rattle.name_tables.specs.Tables.{Agree, look, undone};
 
-use crate::binding::{Binding, Reference, Scope};
+use crate::binding::{Reference, Scope};
 use crate::gather::{push_round_all, push_round_others};
+use crate::names::Declared;
 use crate::opening::{Before, Meanings, close, declare_all};
 use crate::roles::{
     Role, does_read, does_write, has_arguments, is_reference, is_typeof_operand, part_role,
@@ -28,7 +29,7 @@ pub(crate) struct Walk<'t> {
     /// What names mean here.
     pub(crate) meanings: Meanings<'t>,
     /// Room for the names of one scope.
-    pub(crate) names: Vec<Binding<'t>>,
+    pub(crate) names: Vec<Declared<'t>>,
 }
 
 /// What stands round a node: the nearest scope; whether the node stands in a function that isn't an arrow, and so has an
@@ -128,9 +129,9 @@ fn open<'t>(
     walk: &mut Walk<'t>,
 ) -> Result<Around, AllocError>
     requires { saved.now.items ≡ [] }
-    ensures found { OnOk result ((fs : List Frame) → Knows (look walk.old.meanings) (length walk.old.scopes.items) around.scope fs → seen walk.new ≡ joined (seen walk.old) (opened (round around fs) (all_shown walk.old.names.items))) }
-    ensures known { IfOk result (λ inner. (fs : List Frame) → Knows (look walk.old.meanings) (length walk.old.scopes.items) around.scope fs → Knows (look walk.new.meanings) (length walk.new.scopes.items) inner.scope (frame (length walk.old.scopes.items) (collected fs [] (all_shown walk.old.names.items)) ∷ fs)) }
-    ensures inner { IfOk result (λ inner. (fs : List Frame) → round inner (frame (length walk.old.scopes.items) (collected fs [] (all_shown walk.old.names.items)) ∷ fs) ≡ enter (round around fs) (length walk.old.scopes.items) (all_shown walk.old.names.items)) }
+    ensures found { OnOk result ((fs : List Frame) → Knows (look walk.old.meanings) (length walk.old.scopes.items) around.scope fs → seen walk.new ≡ joined (seen walk.old) (opened (round around fs) (all_declared walk.old.names.items))) }
+    ensures known { IfOk result (λ inner. (fs : List Frame) → Knows (look walk.old.meanings) (length walk.old.scopes.items) around.scope fs → Knows (look walk.new.meanings) (length walk.new.scopes.items) inner.scope (frame (length walk.old.scopes.items) (collected fs [] (all_declared walk.old.names.items)) ∷ fs)) }
+    ensures inner { IfOk result (λ inner. (fs : List Frame) → round inner (frame (length walk.old.scopes.items) (collected fs [] (all_declared walk.old.names.items)) ∷ fs) ≡ enter (round around fs) (length walk.old.scopes.items) (all_declared walk.old.names.items)) }
     ensures role { IfOk result (λ inner. inner.role ≡ around.role) }
     ensures kept { OnOk result (Agree (undone (look walk.new.meanings) saved.new.items) (look walk.old.meanings)) }
 {
@@ -223,7 +224,7 @@ fn walk_in_scope<'t>(
     others: bool,
     walk: &mut Walk<'t>,
 ) -> Result<(), AllocError>
-    ensures found { OnOk result ((fs : List Frame) → Knows (look walk.old.meanings) (length walk.old.scopes.items) around.scope fs → seen walk.new ≡ joined (seen walk.old) (in_scope (Some (all_shown walk.old.names.items)) (round around fs) (length walk.old.scopes.items) (parts_within others around.role (node_tree node.entry)))) }
+    ensures found { OnOk result ((fs : List Frame) → Knows (look walk.old.meanings) (length walk.old.scopes.items) around.scope fs → seen walk.new ≡ joined (seen walk.old) (in_scope (Some (all_declared walk.old.names.items)) (round around fs) (length walk.old.scopes.items) (parts_within others around.role (node_tree node.entry)))) }
     ensures meanings { OnOk result (Agree (look walk.new.meanings) (look walk.old.meanings)) }
 {
     let mut saved = Vec::new(walk.alloc);
@@ -241,7 +242,7 @@ fn walk_opened<'t>(
     walk: &mut Walk<'t>,
 ) -> Result<(), AllocError>
     requires { saved.now.items ≡ [] }
-    ensures found { OnOk result ((fs : List Frame) → Knows (look walk.old.meanings) (length walk.old.scopes.items) around.scope fs → seen walk.new ≡ joined (seen walk.old) (in_scope (Some (all_shown walk.old.names.items)) (round around fs) (length walk.old.scopes.items) (parts_within others around.role (node_tree node.entry)))) }
+    ensures found { OnOk result ((fs : List Frame) → Knows (look walk.old.meanings) (length walk.old.scopes.items) around.scope fs → seen walk.new ≡ joined (seen walk.old) (in_scope (Some (all_declared walk.old.names.items)) (round around fs) (length walk.old.scopes.items) (parts_within others around.role (node_tree node.entry)))) }
     ensures meanings { OnOk result (Agree (look walk.new.meanings) (look walk.old.meanings)) }
 {
     let inner = open(around, saved, walk)?;

@@ -1,8 +1,7 @@
 use Rattle.std.proofs.Common.{◌≡◌}
 use Rattle.tree.specs.Node.{node_tree}
-use Rattle.tree.specs.Tree.{parts_of}
+use Rattle.tree.specs.Tree.{parts_of, parts_drop}
 use Rattle.early_errors.specs.Literals.{some_uncooked}
-use Rattle.early_errors.specs.Walk.{parts_drop}
 use Rattle.early_errors.proofs.literals.some_uncooked.Given as goal
 
 abbrev pub invariant-loop-index : goal.invariant-loop-index

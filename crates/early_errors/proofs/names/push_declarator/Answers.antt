@@ -1,9 +1,10 @@
 use Rattle.std.proofs.Common.{sym, ap, ◌∙◌, ◌++◌, option_map}
 use Rattle.tree.specs.Node.{node_tree}
 use Rattle.tree.specs.Tree.{parts_of}
-use Rattle.early_errors.specs.Walk.{all_named, at_part, declared_by, names_at}
+use Rattle.name_tables.specs.PatternParts.{at_part}
+use Rattle.early_errors.specs.Walk.{all_named, declared_by, names_at}
 use Rattle.early_errors.proofs.Dropping.{first_names-at}
-use Rattle.early_errors.proofs.Results.{on_ok}
+use Rattle.name_tables.proofs.Results.{on_ok}
 use Rattle.early_errors.proofs.names.push_declarator.Goals as goal
 
 pub returns-in-Some : goal.returns-in-Some

@@ -2,7 +2,7 @@ use Rattle.std.proofs.Common.{◌≤◌, ◌<◌, subst}
 use Rattle.tree.specs.Node.{node_tree}
 use Rattle.tree.specs.Tree.{parts_of}
 use Rattle.early_errors.specs.Walk.{all_named, declared_by}
-use Rattle.early_errors.proofs.Dropping.{push-turn, push-end}
+use Rattle.name_tables.proofs.EachPart.{push-turn, push-end}
 use Rattle.early_errors.proofs.names.push_declared.Goals as goal
 
 pub loop-index-preserved : goal.loop-index-preserved

@@ -3,7 +3,7 @@ use Rattle.tree.specs.Node.{node_tree}
 use Rattle.early_errors.specs.declared.names.Lexical.TheVariants.{Declarators, FirstPart, Nothing}
 use Rattle.early_errors.specs.Walk.{all_named, names_at}
 use Rattle.early_errors.proofs.Bindings.{lexical_given}
-use Rattle.early_errors.proofs.Results.{on_ok}
+use Rattle.name_tables.proofs.Results.{on_ok}
 use Rattle.early_errors.proofs.names.push_lexical.Goals as goal
 
 pub returns-in-Declarators : goal.returns-in-Declarators

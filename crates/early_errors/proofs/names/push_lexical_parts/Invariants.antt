@@ -1,8 +1,9 @@
 use Rattle.std.proofs.Common.{◌≡◌, ◌++◌}
 use Rattle.tree.specs.Node.{node_tree}
-use Rattle.tree.specs.Tree.{parts_of}
-use Rattle.early_errors.specs.Names.{each_part, lexical_names}
-use Rattle.early_errors.specs.Walk.{all_named, parts_drop}
+use Rattle.tree.specs.Tree.{parts_of, parts_drop}
+use Rattle.name_tables.specs.BoundNames.{each_part}
+use Rattle.early_errors.specs.Names.{lexical_names}
+use Rattle.early_errors.specs.Walk.{all_named}
 use Rattle.early_errors.proofs.names.push_lexical_parts.Given as goal
 
 abbrev pub invariant-loop-index : goal.invariant-loop-index

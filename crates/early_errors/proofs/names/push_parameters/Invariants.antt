@@ -1,8 +1,8 @@
 use Rattle.std.proofs.Common.{◌≡◌, ◌++◌}
 use Rattle.tree.specs.Node.{node_tree}
-use Rattle.tree.specs.Tree.{parts_of}
+use Rattle.tree.specs.Tree.{parts_of, parts_drop}
 use Rattle.early_errors.specs.Names.{parameter_names}
-use Rattle.early_errors.specs.Walk.{all_named, parts_drop}
+use Rattle.early_errors.specs.Walk.{all_named}
 use Rattle.early_errors.proofs.names.push_parameters.Given as goal
 
 abbrev pub invariant-loop-index : goal.invariant-loop-index

@@ -1,9 +1,9 @@
 use Rattle.std.proofs.Common.{◌+◌, ◌++◌, ◌<◌, ◌≤◌, subst, ap, ◌∙◌}
 use Rattle.tree.specs.Node.{node_tree}
-use Rattle.tree.specs.Tree.{parts_of}
-use Rattle.early_errors.specs.Names.{each_part, lexical_names}
-use Rattle.early_errors.specs.Walk.{parts_drop}
-use Rattle.early_errors.proofs.Dropping.{drop-step, drop-past}
+use Rattle.tree.specs.Tree.{parts_of, parts_drop}
+use Rattle.name_tables.specs.BoundNames.{each_part}
+use Rattle.early_errors.specs.Names.{lexical_names}
+use Rattle.name_tables.proofs.EachPart.{drop-step, drop-past}
 use Rattle.early_errors.proofs.Passing.{on_false}
 use Rattle.early_errors.proofs.quiet.declares_names.Goals as goal
 

@@ -1,8 +1,8 @@
 use Rattle.std.proofs.Common.{◌≡◌, Bool}
 use Rattle.tree.specs.Node.{node_tree}
-use Rattle.tree.specs.Tree.{parts_of}
-use Rattle.early_errors.specs.Names.{each_part, lexical_names}
-use Rattle.early_errors.specs.Walk.{parts_drop}
+use Rattle.tree.specs.Tree.{parts_of, parts_drop}
+use Rattle.name_tables.specs.BoundNames.{each_part}
+use Rattle.early_errors.specs.Names.{lexical_names}
 use Rattle.early_errors.proofs.quiet.declares_names.Given as goal
 
 abbrev pub invariant-loop-index : goal.invariant-loop-index

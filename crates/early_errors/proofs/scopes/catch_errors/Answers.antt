@@ -3,7 +3,8 @@ use Rattle.tree.specs.Node.{node_tree}
 use Rattle.tree.specs.Tree.{parts_of}
 use Rattle.early_errors.specs.declared.EarlyError.TheVariants.{CatchParameterConflict}
 use Rattle.early_errors.specs.Early.{each}
-use Rattle.early_errors.specs.Names.{each_part, lexical_names, places, shared}
+use Rattle.name_tables.specs.BoundNames.{each_part}
+use Rattle.early_errors.specs.Names.{lexical_names, places, shared}
 use Rattle.early_errors.specs.Owns.{items_at}
 use Rattle.early_errors.specs.Walk.{after, all_named}
 use Rattle.early_errors.proofs.Listing.{body-whole}

@@ -1,9 +1,10 @@
 use Rattle.std.proofs.Common.{◌++◌, option_map, sym, ap, ◌∙◌}
 use Rattle.tree.specs.Node.{node_tree}
 use Rattle.early_errors.specs.Names.{function_names}
-use Rattle.early_errors.specs.Walk.{all_named, at_part, names_at}
+use Rattle.name_tables.specs.PatternParts.{at_part}
+use Rattle.early_errors.specs.Walk.{all_named, names_at}
 use Rattle.early_errors.proofs.Bindings.{function_given}
-use Rattle.early_errors.proofs.Results.{on_ok}
+use Rattle.name_tables.proofs.Results.{on_ok}
 use Rattle.early_errors.proofs.scopes.push_function.Goals as goal
 
 pub returns-then-is_function : goal.returns-then-is_function

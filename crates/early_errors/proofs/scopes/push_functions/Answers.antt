@@ -3,7 +3,7 @@ use Rattle.tree.specs.Node.{node_tree}
 use Rattle.tree.specs.Tree.{parts_of}
 use Rattle.early_errors.specs.Names.{function_names}
 use Rattle.early_errors.specs.Walk.{all_named}
-use Rattle.early_errors.proofs.Dropping.{push-turn, push-end}
+use Rattle.name_tables.proofs.EachPart.{push-turn, push-end}
 use Rattle.early_errors.proofs.scopes.push_functions.Goals as goal
 
 pub loop-index-preserved : goal.loop-index-preserved

@@ -2,7 +2,8 @@ use Rattle.std.proofs.Common.{true, sym, ap, ◌∙◌}
 use Rattle.tree.specs.Node.{node_tree}
 use Rattle.tree.specs.Tree.{parts_of}
 use Rattle.early_errors.specs.declared.EarlyError.TheVariants.{DuplicateLexicalName, LexicalNameIsVar, CatchParameterConflict}
-use Rattle.early_errors.specs.Names.{each_part, function_names, lexical_names, body_items}
+use Rattle.name_tables.specs.BoundNames.{each_part}
+use Rattle.early_errors.specs.Names.{function_names, lexical_names, body_items}
 use Rattle.early_errors.specs.Owns.{doubled, clash_with, found_of_scope}
 use Rattle.early_errors.specs.declared.scopes.ScopeKind.TheVariants.{Block}
 use Rattle.early_errors.specs.Walk.{after, all_named}

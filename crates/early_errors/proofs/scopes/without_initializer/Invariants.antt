@@ -1,11 +1,11 @@
 use Rattle.std.proofs.Common.{◌≡◌}
 use Rattle.tree.specs.Node.{node_tree}
-use Rattle.tree.specs.Tree.{parts_of}
+use Rattle.tree.specs.Tree.{parts_of, parts_drop}
 use Rattle.early_errors.specs.declared.EarlyError.TheVariants.{ConstWithoutInitializer}
 use Rattle.early_errors.specs.Scopes.{without_initializer}
-use Rattle.early_errors.specs.Names.{each_part}
+use Rattle.name_tables.specs.BoundNames.{each_part}
 use Rattle.early_errors.specs.Early.{each}
-use Rattle.early_errors.specs.Walk.{after, parts_drop}
+use Rattle.early_errors.specs.Walk.{after}
 use Rattle.early_errors.proofs.scopes.without_initializer.Given as goal
 
 abbrev pub invariant-loop-index : goal.invariant-loop-index

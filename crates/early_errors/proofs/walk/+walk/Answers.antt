@@ -14,7 +14,7 @@ use Rattle.early_errors.proofs.VarFree.{is_free}
 use Rattle.early_errors.proofs.Silent.{quiet_found}
 use Rattle.early_errors.proofs.Ahead.{ahead-part, ahead-gap, ahead-end, open_found, declared_found}
 use Rattle.early_errors.proofs.ScopeErrors.{split_given}
-use Rattle.early_errors.proofs.Results.{on_ok}
+use Rattle.name_tables.proofs.Results.{on_ok}
 use Rattle.early_errors.proofs.Tables.{restored, undone-agrees}
 use Rattle.early_errors.proofs.walk.+walk.Goals as goal
 use Rattle.early_errors.proofs.walk.+walk.Goals.{walk_parts-in-Some+in_ok-walk_node, walk_parts-then-index-eq0, walk_parts-else-index-eq0, walk_parts-in_default, walk_passed-in-Nowhere, walk_passed-in-InParts+in_ok-walk_passed-in-InParts, walk_passed-in-Anywhere+in_ok-walk_special-in-Anywhere}

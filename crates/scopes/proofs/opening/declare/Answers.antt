@@ -6,7 +6,7 @@ use Rattle.name_tables.specs.Tables.{look, undone}
 use Rattle.name_tables.proofs.Undone.{kept-turn, undone-agrees}
 use Rattle.scopes.specs.Bindings.{has_name}
 use Rattle.scopes.specs.Found.{here_or_outer, index_of, nearest}
-use Rattle.scopes.specs.Shown.{all_shown, is_of, shown}
+use Rattle.scopes.specs.Shown.{all_shown, declared_shown, is_of, shown}
 use Rattle.scopes.proofs.Nearest.{is_of-here, meant-further_out, one-more, added-stands, added-new}
 use Rattle.scopes.proofs.opening.declare.Goals as goal
 
@@ -14,8 +14,8 @@ use Rattle.scopes.proofs.opening.declare.Goals as goal
 pub returns-then-is_of-clause-bindings : goal.returns-then-is_of-clause-bindings
 returns-then-is_of-clause-bindings c = λ fs m b.
     let bs = all_shown c.args.bindings.now.items in
-    let w = c.args.binding.name.now in
-    sym (added-stands fs bs (shown c.args.binding) (sym (is_of-here c.args.number w bs fs b) ∙ ap (λ o. is_of o c.args.number) (sym (c.in_ok-before.ensures.value ∙ m w)) ∙ sym c.is_of.ensures ∙ c.if-is_of.true))
+    let w = c.args.declared.name.now in
+    sym (added-stands fs bs (declared_shown c.args.declared) (sym (is_of-here c.args.number w bs fs b) ∙ ap (λ o. is_of o c.args.number) (sym (c.in_ok-before.ensures.value ∙ m w)) ∙ sym c.is_of.ensures ∙ c.if-is_of.true))
 
 pub returns-then-is_of-clause-meanings : goal.returns-then-is_of-clause-meanings
 returns-then-is_of-clause-meanings c = λ fs m b w. c.in_ok-before.ensures.same w ∙ m w
@@ -26,15 +26,15 @@ returns-then-is_of-clause-kept c = undone-agrees (look c.save.new.self) (look c.
 pub returns-clause-bindings : goal.returns-clause-bindings
 returns-clause-bindings c = λ fs m b.
     let bs = all_shown c.args.bindings.now.items in
-    let w = c.args.binding.name.now in
+    let w = c.args.declared.name.now in
     let new : has_name w bs ≡ false = sym (is_of-here c.args.number w bs fs b) ∙ ap (λ o. is_of o c.args.number) (sym (c.in_ok-before.ensures.value ∙ m w)) ∙ sym c.is_of.ensures ∙ c.if-is_of.false in
     let out = c.is_some.ensures ∙ ap is_some (c.in_ok-before.ensures.value ∙ m w ∙ meant-further_out c.args.number w bs fs new) in
-    ap all_shown c.in_ok-push-2.ensures.items ∙ map-append shown c.args.bindings.now.items _ ∙ ap (λ s. bs ++ record (shown c.args.binding) { shadows = s } ∷ []) out ∙ sym (added-new fs bs (shown c.args.binding) new)
+    ap all_shown c.in_ok-push-2.ensures.items ∙ map-append shown c.args.bindings.now.items _ ∙ ap (λ s. bs ++ record (declared_shown c.args.declared) { shadows = s } ∷ []) out ∙ sym (added-new fs bs (declared_shown c.args.declared) new)
 
 pub returns-clause-meanings : goal.returns-clause-meanings
 returns-clause-meanings c = λ fs m b.
     let bs = all_shown c.args.bindings.now.items in
-    let w = c.args.binding.name.now in
+    let w = c.args.declared.name.now in
     let new : has_name w bs ≡ false = sym (is_of-here c.args.number w bs fs b) ∙ ap (λ o. is_of o c.args.number) (sym (c.in_ok-before.ensures.value ∙ m w)) ∙ sym c.is_of.ensures ∙ c.if-is_of.false in
     let long = c.len.ensures ∙ c.args.bindings.now.ok.0 ∙ sym (length-map c.args.bindings.now.items shown) in
     let pushed = ap all_shown c.in_ok-push-2.ensures.items ∙ map-append shown c.args.bindings.now.items _ in
@@ -46,5 +46,5 @@ pub returns-clause-kept : goal.returns-clause-kept
 returns-clause-kept c =
     let e = c.in_ok-before.ensures in
     kept-turn (undone (look c.args.meanings.now) c.args.saved.now.items) (look c.save.new.self) (look c.set.new.self) _ c.args.saved.now.items c.push.new.self.items _ c.in_ok-push.ensures.items
-    (e.value ∙ sym (e.same c.args.binding.name.now) ∙ ap (look c.save.new.self) (sym e.name)) c.in_ok-set.ensures.ok
+    (e.value ∙ sym (e.same c.args.declared.name.now) ∙ ap (look c.save.new.self) (sym e.name)) c.in_ok-set.ensures.ok
     (undone-agrees (look c.save.new.self) (look c.args.meanings.now) c.args.saved.now.items e.same)
