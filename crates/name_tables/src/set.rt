@@ -2,6 +2,7 @@
 
 ghost use Rattle.std.specs.Prelude.{◌≡◌, ◌||◌, ℕ, List, false, not, IfOk, OnErr, OnOk};
 ghost use Rattle.std.specs.Str.{bytes_eq};
+ghost use Rattle.indexmap.specs.IndexSet.{hasher_of};
 ghost use Rattle.name_tables.specs.Sets.{contains};
 
 use crate::key::HashKey;
@@ -15,9 +16,10 @@ pub struct NameSet<'t> {
 }
 
 impl<'t> NameSet<'t> {
-    /// No names.
+    /// No names; those that come are hashed under this key.
     pub fn new(alloc: Global, key: HashKey) -> NameSet<'t>
-        ensures { (w : List ℕ) → contains result w ≡ false }
+        ensures empty { (w : List ℕ) → contains result w ≡ false }
+        ensures hasher { hasher_of result.names ≡ key }
     {
         NameSet {
             names: IndexSet::with_hasher(alloc, key),

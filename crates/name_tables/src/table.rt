@@ -2,6 +2,7 @@
 
 ghost use Rattle.std.specs.Prelude.{◌≡◌, IfOk, OnErr, OnOk, None};
 ghost use Rattle.std.specs.Bool.{OnFalse, OnTrue};
+ghost use Rattle.indexmap.specs.IndexMap.{hasher_of};
 ghost use Rattle.name_tables.specs.Tables.{Agree, look, with_value};
 
 use crate::key::HashKey;
@@ -24,9 +25,10 @@ pub struct Saved<'t, V> {
 }
 
 impl<'t, V: Copy> NameTable<'t, V> {
-    /// No name stands for anything.
+    /// No name stands for anything; names are hashed under this key.
     pub fn new(alloc: Global, key: HashKey) -> NameTable<'t, V>
-        ensures { Agree (look result) (λ _. None) }
+        ensures empty { Agree (look result) (λ _. None) }
+        ensures hasher { hasher_of result.entries ≡ key }
     {
         NameTable {
             entries: IndexMap::with_hasher(alloc, key),
