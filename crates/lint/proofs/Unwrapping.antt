@@ -1,5 +1,8 @@
 -- From a text that is read again and compared to what unwrapping promises.
-use Rattle.std.proofs.Common.{◌≡◌, ℕ, List, refl, sym, ap, subst, ◌∙◌, ◌≤◌, length, arith}
+use Rattle.std.proofs.Common.{◌≡◌, ℕ, List, refl, sym, ap, subst, ◌∙◌, ◌≤◌, length, arith, Result, Ok, Err, string_bytes}
+use Rattle.std.specs.Result.{IfOk}
+use Rattle.std.specs.Prelude.{String}
+use Rattle.lint.specs.declared.unwrapping_fault.UnwrappingFault.{UnwrappingFault}
 use Rattle.tree.specs.Tree.{Tree, SameTree, bare}
 use Rattle.tree.specs.declared.kind.Pair.{Pair}
 use Rattle.early_errors.specs.Accepted.{Accepted}
@@ -61,3 +64,17 @@ is_unwrapped text out u again v =
     let low : length u.pairs_again ≤ length v.pairs_again = u.fewest.least again v.again v.pairs_again alike (max_open, v.accepted_again.derived.1) in
     let high : length v.pairs_again ≤ length v.pairs = v.fewest.least out v.tree v.pairs refl (max_open, v.accepted.derived.1) in
     v.untouched (omega arith)
+
+-- what is answered of a text with more pairs than the fewest, where it spells the tree with the fewest
+pub unwraps_each : {A : Type 0} (text : List ℕ) (n : Tree) (P : List Pair) (p : Plan) → Accepted text n P → IsOnly text n P → IsPlan n p → (length P ≡ p.table.total → ⊥)
+    → (answer : Result (String A) UnwrappingFault) (m : Tree) (count : ℕ) → m ≡ n → count ≡ p.table.total
+    → IfOk answer (λ t. SpellsWith (string_bytes t) m count) → IfOk answer (λ t. Unwraps text (string_bytes t))
+unwraps_each text n P p is only plan more (Ok t) m count program total spells =
+    let by_count : SpellsWith (string_bytes t) m p.table.total = subst (SpellsWith (string_bytes t) m) total spells in
+    unwraps_to text (string_bytes t) n P p is only plan more (subst (λ k. SpellsWith (string_bytes t) k p.table.total) program by_count)
+unwraps_each text n P p is only plan more (Err fault) m count program total spells = tt
+
+-- each unwrapped text is unwrapped to itself
+pub unwrapped_each : {A : Type 0} (text : List ℕ) (answer : Result (String A) UnwrappingFault) → IfOk answer (λ t. Unwraps text (string_bytes t)) → IfOk answer (λ t. IsUnwrapped (string_bytes t))
+unwrapped_each text (Ok t) unwraps = is_unwrapped text (string_bytes t) unwraps
+unwrapped_each text (Err fault) unwraps = tt
