@@ -1,5 +1,5 @@
 'use strict';
-// Holds the crate `unwrapping` against the plain model over generated scripts: their texts without unnecessary pairs, byte for byte.
+// Holds `unwrap_text` against the plain model over generated scripts: their texts without unnecessary pairs, byte for byte.
 //
 //   node compare.js [--n COUNT] [--seed S] [--show K] [--keep FOLDER] [--file TEXTS] [--cases]
 //
@@ -20,7 +20,7 @@ const { randomSource } = require('../reference/random.js');
 const { unwrap } = require('../reference/unwrap.js');
 const { check } = require('./check.js');
 const { strewn } = require('./strew.js');
-const CRATES = ['source_text', 'tree', 'parser', 'positions', 'paren_planner', 'unwrapping'];
+const CRATES = ['source_text', 'lint'];
 const ROWS = path.join(__dirname, '..', '..', 'crates', 'rows', 'data', 'unwrap');
 
 const isWhole = (text) => text.isWellFormed() && !text.includes('\0');
