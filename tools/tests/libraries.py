@@ -38,7 +38,11 @@ def find():
     spec = importlib.util.spec_from_file_location('libraries_build', f'{TOP}/tools/wasm/build.py')
     build = importlib.util.module_from_spec(spec)
     spec.loader.exec_module(build)
-    sources = build.sum_of_sources()
+    try:
+        sources = build.sum_of_sources()
+    except build.Refused as why:
+        WHY = str(why)
+        return
     for folder, made in ((build.FOLDER, f'{build.FOLDER}/MADE'), (f'{TOP}/release', f'{TOP}/release/MADE.libraries')):
         said = build.said_of(made)
         if said.get('sources') == sources and build.is_whole(folder, said):
@@ -130,9 +134,27 @@ def python_example(room):
     for found, (call, want) in zip(out.splitlines(), wanted):
         # (the page's string shows its escapes; what comes after a value explains it)
         want = want.replace('\\\\', '\\')
-        is_well(found == want or want.startswith(f'{found}:') or found == f'[{want.strip("[]")}]', f'{call}: {found} where {want} is wanted')
+        is_well(found == want or want.startswith(f'{found}:'), f'{call}: {found} where {want} is wanted')
     refused = "import jslint\ntry: jslint.fix('a b')\nexcept jslint.Refused as it: print(it, it.status)"
     same(ran([sys.executable, '-c', refused], cwd=folder), ('syntax error at 1:3 2\n', ''))
+
+
+def documented(language):
+    """The code of docs/EMBEDDING.md in a language."""
+    with open(f'{TOP}/docs/EMBEDDING.md', encoding='utf-8') as file:
+        return re.search(rf'^```{language}\n(.*?)^```$', file.read(), re.M | re.S)[1]
+
+
+def documented_c(room):
+    """The examples in C and Python of docs/EMBEDDING.md."""
+    folder = make_c(room.folder)
+    room.put('example.c', documented('c'))
+    ran([tool('cc'), '-Wall', '-Wextra', '-Werror', f'-I{folder}', '-o', 'example', 'example.c', library('x86_64-linux/libjslint.a')], cwd=room.folder)
+    same(ran([f'{room.folder}/example']), ('a;\n', ''))
+    calls = re.findall(r'^(jslint\..*?) +# (.*)$', documented('python'), re.M)
+    is_well(len(calls) == 2, calls)
+    out, _ = ran([sys.executable, '-c', '\n'.join(['import jslint', *(f'print(repr({call}))' for call, _ in calls)])], cwd=folder)
+    same(out.splitlines(), [it for _, it in calls])
 
 
 # ---- Node
@@ -175,12 +197,12 @@ def node_pack(room):
 
 
 def node_readme(room):
-    """Each call of the package's README gives what stands behind it."""
+    """Each call of the package's README and of docs/EMBEDDING.md gives what stands after it."""
     program, made = node(), package(room.folder)
     with open(f'{made}/README.md', encoding='utf-8') as file:
-        block = re.search(r'```js\n(.*?)```', file.read(), re.S)[1]
-    wanted = re.findall(r'^(\w+\(.*);\s+// (\S.*)$', block, re.M)
-    is_well(len(wanted) == 5, wanted)
+        blocks = re.search(r'```js\n(.*?)```', file.read(), re.S)[1] + documented('js')
+    wanted = re.findall(r'^(\w+\(.*);\s+// (\S.*)$', blocks, re.M)
+    is_well(len(wanted) == 7, wanted)
     checks = '\n'.join(f'assert.deepEqual({call}, {want});' for call, want in wanted)
     asked = f"import assert from 'node:assert/strict';\nimport {{ check, cost, fix, tree, verify }} from './jslint.mjs';\n{checks}"
     ran([program, '--input-type=module', '-e', asked], cwd=made)
@@ -197,7 +219,7 @@ def page(room):
     is_well(re.search(r'^(\d+) as wanted, 0 not$', out, re.M), out)
 
 
-TESTS = [c_example, refused_memory, python_example, node_tests, node_pack, node_readme, page]
+TESTS = [c_example, documented_c, refused_memory, python_example, node_tests, node_pack, node_readme, page]
 
 
 # ---- the rows
@@ -236,6 +258,11 @@ def begin_node(folder):
     rows.begin(None, by_node(folder))
 
 
+def make_node(room):
+    node()
+    return package(room)
+
+
 def make_aarch64(room):
     """The example in C for aarch64, as a program that runs here."""
     library('aarch64-linux/libjslint.a')
@@ -248,4 +275,4 @@ def make_aarch64(room):
 
 
 # By the name of who answers: what is made in a folder, and what each process begins with.
-ANSWERERS = {'rows_by_c': (make_c, begin_c), 'rows_by_module': (package, begin_node), 'rows_on_aarch64': (make_aarch64, rows.begin)}
+ANSWERERS = {'rows_by_c': (make_c, begin_c), 'rows_by_module': (make_node, begin_node), 'rows_on_aarch64': (make_aarch64, rows.begin)}

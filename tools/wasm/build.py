@@ -53,6 +53,8 @@ def names_of_crates():
     """The crates of the repository that the libraries are made of, by crates.txt."""
     lines = [it.partition('#')[0].partition(':') for it in build.text_of(f'{TOP}/crates.txt').splitlines()]
     uses = {head.split()[0]: words.split() for head, _, words in lines if head.strip()}
+    if CRATE not in uses:
+        raise Refused(f'crates.txt has no {CRATE}')
     found, left = set(), [CRATE]
     while left:
         name = left.pop()
