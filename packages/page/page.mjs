@@ -1,5 +1,5 @@
 // The page: what the commands answer for the script in the box.
-import { commandsOf, indexOf } from 'jslint/core';
+import { Refused, commandsOf, indexOf } from 'jslint/core';
 
 const at = (id) => document.getElementById(id);
 const [script, settings, panel, state] = ['script', 'settings', 'panel', 'state'].map(at);
@@ -87,7 +87,7 @@ const SHOWN = {
 };
 
 function refused(error, text) {
-  const told = element('p', { className: 'refused' }, element('strong', {}, 'Refused: '), error.message);
+  const told = element('p', { className: 'refused' }, element('strong', {}, error instanceof Refused ? 'Refused: ' : 'Failed: '), error.message);
   if (typeof error.line !== 'number') return [told];
   const index = Math.min(indexOf(text, error.line, error.column), text.length);
   return [told, element('ul', { className: 'reports' }, located(text, index, `${error.line}:${error.column}`, '', ''))];

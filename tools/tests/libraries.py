@@ -171,7 +171,7 @@ def package(folder):
 def node_tests(room):
     """The package's own tests."""
     program = node()
-    out, _ = ran([program, '--test', 'test'], cwd=package(room.folder))
+    out, _ = ran([program, '--test', '--test-reporter=tap', 'test/jslint.test.mjs', 'test/bin.test.mjs'], cwd=package(room.folder))
     found = dict(re.findall(r'^# (pass|fail|skipped) (\d+)$', out, re.M))
     is_well(int(found['pass']) >= 14 and found['fail'] == '0' == found['skipped'], found)
 

@@ -61,14 +61,15 @@ static long refuse_each(uint32_t command, const char *text, const char *second) 
     long calls = 0;
     refused = 0;
     ask(&whole, command, text, second);
-    for (refused = 1; asked >= refused; refused++) {
+    do {
+        refused++;
         ask(&now, command, text, second);
         calls++;
         if (held || !(is_same(&now, &whole) || (asked >= refused && is_no_memory(&now)))) {
             fprintf(stderr, "command %u, request %ld of %ld refused, %ld blocks held: %.*s\n", command, refused, asked, held, (int)now.outcome.length, now.bytes);
             return -1;
         }
-    }
+    } while (asked >= refused);
     return calls;
 }
 

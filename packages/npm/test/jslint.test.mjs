@@ -1,6 +1,8 @@
 // What the package answers: node --test
 import assert from 'node:assert/strict';
+import { readFileSync } from 'node:fs';
 import { test } from 'node:test';
+import { Worker } from 'node:worker_threads';
 import { Refused, check, cost, fix, indexOf, run, tree, treeText, verify } from '../jslint.mjs';
 
 /** The refusal of a call. */
@@ -93,4 +95,20 @@ test('scripts at the limits of nesting', () => {
   assert.equal(JSON.stringify(tree(arrays)).match(/ArrayExpression/g).length, 595);
   assert.deepEqual(verify(pairs, cost(pairs)), { pairs: 1200, least: 0 });
   assert.equal(fix('a'), 'a;\n');
+});
+
+// Answers calls in a thread with a small stack, without a deeper one.
+const SMALL = `
+  import { parentPort, workerData } from 'node:worker_threads';
+  import { commandsOf } from '${new URL('../core.mjs', import.meta.url)}';
+  const { fix } = commandsOf(workerData);
+  const told = (text) => { try { return fix(text); } catch (error) { return error.code; } };
+  parentPort.postMessage([told('('.repeat(1200) + 'a' + ')'.repeat(1200)), told('((a))')]);
+`;
+
+test('too small a stack is an answer of its own, and the next call works', async () => {
+  const workerData = new WebAssembly.Module(readFileSync(new URL('../jslint.wasm', import.meta.url)));
+  const worker = new Worker(new URL(`data:text/javascript,${encodeURIComponent(SMALL)}`), { workerData, resourceLimits: { stackSizeMb: 0.5 } });
+  const answers = await new Promise((resolve, reject) => worker.once('message', resolve).once('error', reject));
+  assert.deepEqual(answers, ['stack', 'a;\n']);
 });
