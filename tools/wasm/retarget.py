@@ -36,6 +36,11 @@ frame.out:
 frame.in:
 '''
 INTRINSICS = {'llvm.frameaddress': 'declare ptr @llvm.frameaddress.p0(i32 immarg)', 'llvm.trap': 'declare void @llvm.trap()'}
+# x86-64's shuffle of bytes. Its index counts by its low four bits, and an index with the high bit gives 0. WebAssembly's gives 0 for each index above
+# 15, so the three bits between are taken out.
+SHUFFLE = re.compile(r'  (%\S+) = (tail )?call <16 x i8> @llvm\.x86\.ssse3\.pshuf\.b\.128\(<16 x i8> (%\S+), <16 x i8> (%\S+)\)( #\d+)?$')
+SHUFFLE_DECLARED = 'declare <16 x i8> @llvm.x86.ssse3.pshuf.b.128(<16 x i8>, <16 x i8>)'
+SWIZZLE_DECLARED = 'declare <16 x i8> @llvm.wasm.swizzle(<16 x i8>, <16 x i8>)'
 PLACE = r'(%[\w.]+|@"[^"]*"|@[\w.]+)'
 LOAD = re.compile(rf'  (%\S+) = load (\{{[^}}]*\}}), ptr {PLACE}(?:, align (\d+))?(.*)$')
 STORE = re.compile(rf'  store (\{{[^}}]*\}}) (%[\w.]+), ptr {PLACE}(?:, align (\d+))?(.*)$')
@@ -102,8 +107,17 @@ class Module:
         """Puts what `change` makes of each line in the line's place."""
         self.text = '\n'.join(made for line in self.text.split('\n') for made in change(line))
 
+    def shuffled(self, line):
+        """Step 3: a shuffle of bytes."""
+        found = SHUFFLE.match(line)
+        if not found:
+            return [SWIZZLE_DECLARED + line[len(SHUFFLE_DECLARED):] if line.startswith(SHUFFLE_DECLARED) else line]
+        self.count('shuffles of bytes')
+        index = self.fresh()
+        return [f'  {index} = and <16 x i8> {found[4]}, splat (i8 -113)', f'  {found[1]} = call <16 x i8> @llvm.wasm.swizzle(<16 x i8> {found[3]}, <16 x i8> {index})']
+
     def head(self):
-        """Step 1: the target, and no calls of a processor's own."""
+        """Step 2: the target, and no calls of a processor's own."""
         found = re.search(r'^declare .*@"?(llvm\.x86[^"(]*)', self.text, re.M)
         if found or '"target-features"' in self.text:
             raise Unknown(f'a call of {found[1]}' if found else 'features of a processor')
@@ -113,7 +127,7 @@ class Module:
         self.text = re.sub(r'"target-cpu"="[^"]*"', own, self.text)
 
     def exports(self):
-        """Step 2: each function that isn't internal gets its name as an export. Answers the names."""
+        """Step 4: each function that isn't internal gets its name as an export. Answers the names."""
         names = []
 
         def change(line):
@@ -147,7 +161,7 @@ class Module:
         return lines
 
     def split(self, line):
-        """A load or a store of a value with several parts, at the offsets that they have where a pointer has 64 bits."""
+        """Step 5: a load or a store of a value with several parts, at the offsets that they have where a pointer has 64 bits."""
         load, store = LOAD.match(line), STORE.match(line)
         found = load or store
         if not found:
@@ -162,7 +176,7 @@ class Module:
         return (self.loaded if load else self.stored)(found, kinds, int(found[4] or 8))
 
     def widened(self, line):
-        """A packed constant with pointers: each pointer gets 4 bytes behind it, so that it has the 8 that the code counts with."""
+        """Step 5 too: in a packed constant each pointer gets 4 bytes after it, so that it has the 8 that the code counts with."""
         found = re.match(r'(@\S+|@"[^"]*") = (.*)$', line)
         if not found or not re.search(r'\bptr\b', found[2]):
             return [line]
@@ -176,7 +190,7 @@ class Module:
         return [f'{found[1]} = {packed[1]} <{{ {", ".join(kinds)} }}> <{{ {", ".join(values)} }}>{packed[4]}']
 
     def addresses(self):
-        """Step 5: the number of a pointer has 64 bits as before; its upper half is 0."""
+        """Step 6: the number of a pointer has 64 bits as before; its upper half is 0."""
         self.text, number = re.subn(r'ptrtoaddr ptr (\S+) to i64', r'ptrtoint ptr \1 to i64', self.text)
         self.count('numbers of pointers', number)
         if 'inttoptr' in self.text:
@@ -195,7 +209,7 @@ class Module:
         return function[:found.end()] + CHECK + rest
 
     def stack(self):
-        """Step 6: a run that has used up the stack stops. In the optimized text: before, a check would keep functions from being inlined."""
+        """Step 8: a run that has used up the stack stops. In the optimized text: before, a check would keep functions from being inlined."""
         self.text = ''.join(self.guarded(it) for it in re.split(r'(?m)^(?=define )', self.text))
         for name, line in INTRINSICS.items():
             if not re.search(rf'^declare .*@{re.escape(name)}', self.text, re.M):
@@ -223,6 +237,7 @@ def compiled(given, room):
     clang, flags = given.clang, [given.clang, f'--target={TRIPLE}', f'-mcpu={CPU}', *FLAGS]
     run([clang, '-x', 'ir', given.module, '-S', '-emit-llvm', '-Xclang', '-disable-llvm-passes', '--target=x86_64-unknown-linux-gnu', '-o', f'{room}/given.ll'])
     module = Module(text_of(f'{room}/given.ll'))
+    module.by_lines(module.shuffled)
     module.head()
     names = module.exports()
     module.by_lines(module.split)

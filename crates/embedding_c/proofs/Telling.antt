@@ -1,5 +1,5 @@
 -- A refusal that is told.
-use Rattle.std.proofs.Common.{◌≡◌, ◌⊎◌, ℕ, List, Some, Err, inl, inr, refl}
+use Rattle.std.proofs.Common.{ℕ, List, Some, Err, inl, inr, refl}
 use Rattle.streams.specs.Refused.{no_memory}
 use Rattle.streams.specs.declared.command.Command.{Command}
 use Rattle.streams.specs.declared.refused.Refused.{Refused}
