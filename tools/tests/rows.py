@@ -12,8 +12,8 @@ import signal
 import subprocess
 import tempfile
 
-# Which program answers, and the folder for the files of this process.
-PROGRAM, ROOM = None, None
+# Which program answers, what gives a command's answer, and the folder for the files of this process.
+PROGRAM, ANSWERS, ROOM = None, None, None
 ONLY_PARENS = b'[rules]\n' + b''.join(
     b'%s = false\n' % it for it in b'eqeqeq no-debugger no-empty no-shadow no-undef no-unused-vars no-var prefer-const'.split()
 )
@@ -33,10 +33,10 @@ class Answer:
         return f'status {self.status}, {self.out[-300:]!r}, {self.err[-300:]!r}'
 
 
-def begin(program):
-    """Each process of the pool works in a folder of its own."""
-    global PROGRAM, ROOM
-    PROGRAM, ROOM = program, tempfile.TemporaryDirectory(prefix='jslint-test-')
+def begin(program, answers=None):
+    """Each process of the pool works in a folder of its own. A library has no program: `answers` gives its answers by command, text and second text."""
+    global PROGRAM, ANSWERS, ROOM
+    PROGRAM, ANSWERS, ROOM = program, answers or by_program, tempfile.TemporaryDirectory(prefix='jslint-test-')
 
 
 def file_of(name, content):
@@ -65,10 +65,10 @@ def call(words, given=None, room=None):
 
 def command(name, text, second=None):
     """What a command answers for the bytes of a script, and of a second file."""
-    return short_command(name, text, second) if len(text) + len(second or b'') < 2000 else any_command(name, text, second)
+    return short_command(name, text, second) if len(text) + len(second or b'') < 2000 else ANSWERS(name, text, second)
 
 
-def any_command(name, text, second):
+def by_program(name, text, second):
     words = [name, '--', file_of('script', text)]
     if second is not None and name == 'check':
         words[1:1] = ['--settings', file_of('settings', second)]
@@ -77,8 +77,10 @@ def any_command(name, text, second):
     return call(words)
 
 
-# (many rows ask the same of a text)
-short_command = functools.lru_cache(maxsize=8192)(any_command)
+@functools.lru_cache(maxsize=8192)
+def short_command(name, text, second):
+    """(many rows ask the same of a text)"""
+    return ANSWERS(name, text, second)
 
 
 def meant(written):
@@ -191,7 +193,17 @@ def mark(said, ended):
     return next((mark for words, mark in MARKS if ended == '2' and said.startswith(words) and said.count('\n') == 1), '?')
 
 
+def begins_alone(texts, want):
+    """Each beginning of a text, one call after the other."""
+    text = texts[0].encode()
+    answers = [command('fix', text[:it]) for it in range(len(text) + 1)]
+    found = ''.join(mark(it.err, f'{it.status}{"w" if it.out else ""}') for it in answers)
+    return hold(found == want, found)
+
+
 def begins(texts, want):
+    if ANSWERS is not by_program:
+        return begins_alone(texts, want)
     text = texts[0].encode()
     names = [file_of(f'beginning{it}', text[:it]) for it in range(len(text) + 1)]
     ran = subprocess.run(['sh', '-c', EACH, PROGRAM, *names], cwd=ROOM.name, stdin=subprocess.DEVNULL, stdout=subprocess.PIPE, check=True)
@@ -249,6 +261,11 @@ def ordered(name):
 
 def check_bytes(texts, want):
     answer = command('check', texts[0].encode(), bytes.fromhex(texts[1]))
+    return hold(outcome(answer) == want, answer)
+
+
+def embedded(texts, want):
+    answer = command(texts[0], texts[1].encode(), texts[2].encode() if texts[0] in ('check', 'verify') else None)
     return hold(outcome(answer) == want, answer)
 
 
@@ -359,8 +376,15 @@ def command_line(texts, want):
 CALLS = {
     'begins': begins, 'run': run, 'run bytes': run_bytes, 'fixes': fixes, 'fix': fix, 'pairs': pairs, 'items': items, 'tree': tree, 'alike': alike,
     'early': early, 'extra': extra, 'plan': plan, 'check': ordered('check'), 'cost': ordered('cost'), 'verify': ordered('verify'),
-    'check bytes': check_bytes, 'source': source, 'json': json_row, 'command line': command_line,
+    'check bytes': check_bytes, 'embedded': embedded, 'source': source, 'json': json_row, 'command line': command_line,
 }
+# Calls that say how the program treats its words, files and streams: a library has none.
+OF_PROGRAM = {'run', 'run bytes', 'json', 'command line'}
+
+
+def asks_command(row):
+    """Whether a row asks what a command answers, and not how the program treats its files."""
+    return row[1].split('\t')[0] not in OF_PROGRAM
 
 
 def rows_in(folder):

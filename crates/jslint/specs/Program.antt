@@ -1,62 +1,21 @@
 -- Runs of a command by the program.
-use Rattle.std.specs.Prelude.{◌≡◌, ◌⊎◌, List, [], ◌∷◌, ℕ, Bool, false, true, Option, None, Some, Result, Ok, Err, codes}
+use Rattle.std.specs.Prelude.{◌≡◌, ◌⊎◌, List, [], ℕ, Bool, false, true, Option, None, Some, Result, Ok, Err}
 use Rattle.clap.specs.Words.{HasKind, Text, fault_of, kind_of, subcommand_of}
 use Rattle.clap.specs.declared.error.Error.{Error}
 use Rattle.clap.specs.declared.error.kind.ErrorKind.{ErrorKind}
 use Rattle.clap.specs.declared.error.kind.ErrorKind.TheVariants as error_kind
 use Rattle.source_text.specs.declared.fault.Fault.{Fault}
 use Rattle.source_text.specs.declared.fault.Fault.TheVariants.{OutOfMemory, ReadFailed, WriteFailed}
-use Rattle.rules.specs.Reports.{Report}
-use Rattle.rules.specs.Rules.{View, eqeqeq, no_debugger, no_empty, no_extra_parens, no_shadow, no_undef, no_unused_vars, no_var, prefer_const}
-use Rattle.rules.specs.Run.{all_found}
 use Rattle.command_line.specs.CommandLine.{Chooses, is_asked_for, jslint_app, not_utf8_line}
 use Rattle.command_line.specs.Shown.{WritesEscaped}
 use Rattle.command_line.specs.declared.line.Line.{Line}
-use Rattle.lint.specs.Run.{Runs, Seen}
-use Rattle.streams.specs.declared.command.Command.{Command}
-use Rattle.streams.specs.declared.command.Command.TheVariants.{Check}
+use Rattle.nine_rules.specs.NineRules.{RunsByRules}
 use Rattle.streams.specs.Refusal.{WritesLine, refusal_line, status_of}
 use Rattle.streams.specs.declared.refused.Refused.{Refused}
 
 -- a file can't be opened
 abbrev pub no_file : Refused
 no_file = record { fault = ReadFailed; line = 0; column = 0 }
-
--- a rule: what it is called in settings, and what it finds
-pub record NamedRule : Type 0 where
-  pub called : List ℕ
-  pub finds : View → List Report
-
--- the nine rules
-abbrev pub nine_rules : List NamedRule
-nine_rules =
-    record { called = codes "eqeqeq"; finds = eqeqeq }
-    ∷ record { called = codes "no-debugger"; finds = no_debugger }
-    ∷ record { called = codes "no-empty"; finds = no_empty }
-    ∷ record { called = codes "no-extra-parens"; finds = no_extra_parens }
-    ∷ record { called = codes "no-shadow"; finds = no_shadow }
-    ∷ record { called = codes "no-undef"; finds = no_undef }
-    ∷ record { called = codes "no-unused-vars"; finds = no_unused_vars }
-    ∷ record { called = codes "no-var"; finds = no_var }
-    ∷ record { called = codes "prefer-const"; finds = prefer_const }
-    ∷ []
-
--- the rules of a command: `check` has the nine, no other has any
-abbrev pub rules_of : Command → List NamedRule
-rules_of Check = nine_rules
-rules_of other = []
-
--- what the rules of a command find, where the settings don't turn them off
-abbrev pub finds_of : Command → View → List Report
-finds_of command view = all_found (λ (r : NamedRule). r.called) (λ (r : NamedRule). r.finds) (rules_of command) view
-
--- boxed rules find just what the rules of a command find
-pub record FindAs {B : Type 0} (called : B → List ℕ) (finds : B → View → List Report) (command : Command) (rules : List B) : Type 0 where
-  pub is : all_found called finds rules ≡ finds_of command
-
--- a run by the rules of the command
-abbrev pub RunsByRules : Command → Seen → Result ℕ Refused → Type 0
-RunsByRules command seen result = Runs (finds_of command) command seen result
 
 -- A run over the files of a line, by what the writer took before and after, and whether it has failed. Of the bytes of the files
 -- nothing is known but that a second file that isn't named is empty.

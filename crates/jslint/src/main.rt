@@ -1,24 +1,19 @@
 #![tactic(auto)]
 
-//! The program `jslint`: its words, its files, its rules, its streams and its exit status.
+//! The program `jslint`: its words, its files, its streams and its exit status.
 
 ghost use Rattle.std.specs.Prelude.{◌≡◌, ◌≢◌, IfErr, IfOk, false, map};
 ghost use Rattle.source_text.specs.declared.fault.Fault.TheVariants.{Usage};
-ghost use Rattle.streams.specs.declared.command.Command.TheVariants.{Check};
-ghost use Rattle.jslint.specs.Program.{Answers, FindAs, NoWordsSaid, Obeys, RunsByRules, RunsLine, RunsOnFiles, no_file};
+ghost use Rattle.jslint.specs.Program.{Answers, NoWordsSaid, Obeys, RunsLine, RunsOnFiles, no_file};
 
 use command_line::{Line, command_line, explain, explain_not_utf8};
-use lint::run::run;
-use rules::{
-    EqEqEq, NoDebugger, NoEmpty, NoExtraParens, NoShadow, NoUndef, NoUnusedVars, NoVar,
-    PreferConst, Rule,
-};
+use nine_rules::run_with_rules;
 use source_text::{Device, Fault, Feed, Sink};
 use std::alloc::Global;
 use std::process::ExitCode;
 use std::rt::{Env, Files};
 use std::{env, fs, io};
-use streams::{Command, Refused, write_refusal};
+use streams::{Refused, write_refusal};
 
 /// Why the command line has no words for us.
 #[derive(Clone, Copy, Debug, PartialEq, Eq)]
@@ -64,95 +59,6 @@ fn open<R: Files>(rt: &R, name: &str) -> Result<Device<R::File>, Refused>
     match fs::open(rt, name) {
         Ok(file) => Ok(Device::of_reader(file)),
         Err(_) => Err(Refused::at_no_place(Fault::ReadFailed)),
-    }
-}
-
-/// Runs `check` with these rules, which find what the nine find.
-fn check_by<F: Feed, S: Feed, W: Sink>(
-    alloc: Global,
-    rules: &[Box<dyn Rule>],
-    file: &mut F,
-    settings: &mut S,
-    output: &mut W,
-) -> Result<u8, Refused>
-    requires nine { FindAs (λ b. called b) (λ b. finds b) Check rules.now }
-    requires reads { F.failed file.old ≡ false }
-    requires reads_settings { S.failed settings.old ≡ false }
-    requires writes { W.failed output.old ≡ false }
-    ensures told { IfErr result (λ refused. refused.fault ≢ Usage) }
-    ensures answer { RunsByRules Check (record {
-      given = F.left file.old;
-      second = S.left settings.old;
-      before = W.taken output.old;
-      after = W.taken output.new;
-      reader_failed = F.failed file.new;
-      second_failed = S.failed settings.new;
-      writer_failed = W.failed output.new;
-    }) result }
-{
-    run(alloc, Command::Check, rules, file, settings, output)
-}
-
-/// Runs `check` with the nine rules.
-fn check<F: Feed, S: Feed, W: Sink>(
-    alloc: Global,
-    file: &mut F,
-    settings: &mut S,
-    output: &mut W,
-) -> Result<u8, Refused>
-    requires reads { F.failed file.old ≡ false }
-    requires reads_settings { S.failed settings.old ≡ false }
-    requires writes { W.failed output.old ≡ false }
-    ensures told { IfErr result (λ refused. refused.fault ≢ Usage) }
-    ensures answer { RunsByRules Check (record {
-      given = F.left file.old;
-      second = S.left settings.old;
-      before = W.taken output.old;
-      after = W.taken output.new;
-      reader_failed = F.failed file.new;
-      second_failed = S.failed settings.new;
-      writer_failed = W.failed output.new;
-    }) result }
-{
-    let rules: [Box<dyn Rule>; 9] = [
-        Box::new(alloc, EqEqEq::new(alloc))?,
-        Box::new(alloc, NoDebugger::new(alloc))?,
-        Box::new(alloc, NoEmpty::new(alloc))?,
-        Box::new(alloc, NoExtraParens::new(alloc))?,
-        Box::new(alloc, NoShadow::new(alloc))?,
-        Box::new(alloc, NoUndef::new(alloc))?,
-        Box::new(alloc, NoUnusedVars::new(alloc))?,
-        Box::new(alloc, NoVar::new(alloc))?,
-        Box::new(alloc, PreferConst::new(alloc))?,
-    ];
-    check_by(alloc, &rules, file, settings, output)
-}
-
-/// Runs the command, with its rules where it is `check`.
-fn run_with_rules<F: Feed, S: Feed, W: Sink>(
-    alloc: Global,
-    command: Command,
-    file: &mut F,
-    second: &mut S,
-    output: &mut W,
-) -> Result<u8, Refused>
-    requires reads { F.failed file.old ≡ false }
-    requires reads_second { S.failed second.old ≡ false }
-    requires writes { W.failed output.old ≡ false }
-    ensures told { IfErr result (λ refused. refused.fault ≢ Usage) }
-    ensures answer { RunsByRules command (record {
-      given = F.left file.old;
-      second = S.left second.old;
-      before = W.taken output.old;
-      after = W.taken output.new;
-      reader_failed = F.failed file.new;
-      second_failed = S.failed second.new;
-      writer_failed = W.failed output.new;
-    }) result }
-{
-    match command {
-        Command::Check => check(alloc, file, second, output),
-        _ => run(alloc, command, &[], file, second, output),
     }
 }
 

@@ -4,7 +4,8 @@ use crate::finished::push_difference_of_source;
 use crate::refusals::push_refusal;
 use crate::rows::Row;
 use crate::{
-    cursors, devices, heights, lexemes, nodes, parsed, plans, refusals, reports, runs, words,
+    cursors, devices, embedded, heights, lexemes, nodes, parsed, plans, refusals, reports, runs,
+    words,
 };
 use source_text::Source;
 use std::alloc::{AllocError, Global};
@@ -55,6 +56,7 @@ fn of_commands(alloc: Global, row: &Row, out: &mut String) -> Result<(), AllocEr
         "check bytes" => runs::push_second_bytes(alloc, row, out),
         "check by ten" => runs::push_with_tenth(alloc, row, out),
         "gauged run" => runs::push_gauged(alloc, row, out),
+        "embedded" => embedded::push_embedded(alloc, row, out),
         _ => of_trees(alloc, row, out),
     }
 }

@@ -13,6 +13,7 @@
 mod answers;
 mod cursors;
 mod devices;
+mod embedded;
 mod finished;
 mod gauge;
 mod heights;

@@ -20,7 +20,8 @@ use streams::{Command, Refused, write_refusal};
 /// The room of a writer.
 const ROOM: usize = 1_000_000;
 
-fn command(word: &str) -> Command {
+/// The command of this word.
+pub(crate) fn command(word: &str) -> Command {
     match word {
         "check" => Command::Check,
         "tree" => Command::Tree,

@@ -1,5 +1,5 @@
-use Rattle.jslint.proofs.Ruling.{without_rules}
-use Rattle.jslint.proofs.run_with_rules.Goals as goal
+use Rattle.nine_rules.proofs.Ruling.{without_rules}
+use Rattle.nine_rules.proofs.run_with_rules.Goals as goal
 
 pub returns-in_default : goal.returns-in_default
 returns-in_default g c = record { told = c.run.ensures.told; answer = without_rules _ _ _ c.in_default.not-Check c.run.ensures.answer }

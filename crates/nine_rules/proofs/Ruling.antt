@@ -10,7 +10,7 @@ use Rattle.rules.specs.Settings.{is_on}
 use Rattle.streams.specs.declared.command.Command.{Command}
 use Rattle.streams.specs.declared.command.Command.TheVariants.{Check, Tree, Fix, Cost, Verify}
 use Rattle.streams.specs.declared.refused.Refused.{Refused}
-use Rattle.jslint.specs.Program.{FindAs, NamedRule, RunsByRules, rules_of}
+use Rattle.nine_rules.specs.NineRules.{FindAs, NamedRule, RunsByRules, rules_of}
 
 -- ---- no rules
 

@@ -1,6 +1,6 @@
 use Rattle.std.proofs.Common.{refl}
-use Rattle.jslint.proofs.Ruling.{by_nine, by_vtable}
-use Rattle.jslint.proofs.check.Goals as goal
+use Rattle.nine_rules.proofs.Ruling.{by_nine, by_vtable}
+use Rattle.nine_rules.proofs.check.Goals as goal
 
 -- the nine boxes find what the nine rules find
 pub check_by-requires-clause-nine : goal.check_by-requires-clause-nine

@@ -1,7 +1,7 @@
 use Rattle.std.proofs.Common.{subst}
 use Rattle.lint.specs.Run.{Runs}
 use Rattle.streams.specs.declared.command.Command.TheVariants.{Check}
-use Rattle.jslint.proofs.check_by.Goals as goal
+use Rattle.nine_rules.proofs.check_by.Goals as goal
 
 -- the rules find what the nine do
 pub returns-clause-answer : goal.returns-clause-answer

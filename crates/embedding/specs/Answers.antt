@@ -1,0 +1,26 @@
+-- What a command answers for bytes in memory.
+use Rattle.std.specs.Prelude.{◌≡◌, ◌⊎◌, List, [], ℕ, false, Some, Result, Ok, Err}
+use Rattle.lint.specs.Run.{Seen}
+use Rattle.nine_rules.specs.NineRules.{RunsByRules}
+use Rattle.streams.specs.Refused.{no_memory}
+use Rattle.streams.specs.declared.command.Command.{Command}
+use Rattle.streams.specs.declared.refused.Refused.{Refused}
+use Rattle.embedding.specs.declared.output.Output.{Output}
+
+-- Two readers that give just these texts and a writer that had nothing and has this now, none of which has failed.
+abbrev pub in_memory : (text second written : List ℕ) → Seen
+in_memory text second written = record {
+  given = Some text;
+  second = Some second;
+  before = Some [];
+  after = Some written;
+  reader_failed = false;
+  second_failed = false;
+  writer_failed = false;
+}
+
+-- The output is all that a run over these texts wrote, and the status is the run's; or a run over them that wrote nothing is refused so; or
+-- memory was refused.
+abbrev pub AnswersBytes : Command → (text second : List ℕ) → Result Output Refused → Type 0
+AnswersBytes command text second (Ok output) = RunsByRules command (in_memory text second output.bytes.items) (Ok output.status)
+AnswersBytes command text second (Err refused) = RunsByRules command (in_memory text second []) (Err refused) ⊎ (refused ≡ no_memory)

@@ -1,0 +1,14 @@
+-- A refusal that is told.
+use Rattle.std.proofs.Common.{ℕ, List, Some, Err, inl, inr, refl}
+use Rattle.streams.specs.Refused.{no_memory}
+use Rattle.streams.specs.declared.command.Command.{Command}
+use Rattle.streams.specs.declared.refused.Refused.{Refused}
+use Rattle.embedding.specs.Answers.{AnswersBytes}
+use Rattle.embedding_c.specs.Calls.{TellsOf, TellsRefusal}
+use Rattle.embedding_c.specs.declared.Outcome.{Outcome}
+
+-- it is the command's answer, or memory was refused for its line, which is an answer too
+pub tells_refusal : (command : Command) (text second before after : List ℕ) (refused : Refused) (outcome : Outcome)
+    → AnswersBytes command text second (Err refused) → TellsRefusal refused before after outcome → TellsOf (Some command) text second before after outcome
+tells_refusal command text second before after refused outcome answered (inl line) = (Err refused, answered, line)
+tells_refusal command text second before after refused outcome answered (inr line) = (Err no_memory, inr refl, line)

@@ -1,0 +1,89 @@
+#![tactic(auto)]
+
+//! The commands for C and for WebAssembly: one call, from bytes in memory to bytes in memory.
+
+ghost use Rattle.std.specs.Prelude.{◌≡◌, ◌≢◌, length};
+ghost use Rattle.source_text.specs.declared.fault.Fault.TheVariants.{Usage};
+ghost use Rattle.embedding_c.specs.Calls.{Names, Tells, TellsRefusal, flag, overwritten};
+
+use embedding::{refusal_text, run_on_bytes};
+use std::alloc::{AllocError, Global};
+use streams::{Command, Refused, status};
+
+/// What a call tells beside the bytes.
+#[repr(C)]
+#[derive(Clone, Copy)]
+pub struct Outcome {
+    /// How many bytes the answer has. Where there is less room, its beginning stands there.
+    pub length: usize,
+    /// The exit status of the program.
+    pub status: u32,
+    /// 1 where the bytes are the line of a refusal, else 0.
+    pub is_refusal: u32,
+}
+
+/// The command of a number: 0 `check`, 1 `tree`, 2 `fix`, 3 `cost`, 4 `verify`.
+fn command_of(number: u32) -> Option<Command>
+    ensures { Names number result }
+{
+    match number {
+        0 => Some(Command::Check),
+        1 => Some(Command::Tree),
+        2 => Some(Command::Fix),
+        3 => Some(Command::Cost),
+        4 => Some(Command::Verify),
+        _ => None,
+    }
+}
+
+/// Puts an answer into the room, as far as it goes.
+fn tell(bytes: &[u8], status: u8, is_refusal: bool, room: &mut [u8]) -> Outcome
+    ensures outcome { result ≡ record { length = length bytes.now; status = status; is_refusal = flag is_refusal } }
+    ensures bytes { room.new ≡ overwritten bytes.now room.old }
+{
+    let count = bytes.len().min(room.len());
+    room[..count].copy_from_slice(&bytes[..count]);
+    Outcome {
+        length: bytes.len(),
+        status: u32::from(status),
+        is_refusal: u32::from(is_refusal),
+    }
+}
+
+/// Puts the line of a refusal into the room; where memory is refused for it, that of `out of memory`.
+fn tell_refusal(alloc: Global, refused: &Refused, room: &mut [u8]) -> Outcome
+    requires { refused.now.fault ≢ Usage }
+    ensures { TellsRefusal refused.now room.old room.new result }
+{
+    match refusal_text(alloc, refused) {
+        Ok(line) => tell(&line, status(refused.fault), true, room),
+        Err(AllocError) => tell(b"jslint: out of memory\n", 2, true, room),
+    }
+}
+
+/// Answers a command for a script and a second text, which `check` reads as its settings and `verify` as its table: the answer's beginning, as
+/// far as there is room, how long it is, its status, and whether it is a refusal. A number of no command has no answer: length 0, status 2 and
+/// a refusal, and nothing is put into the room.
+#[unsafe(no_mangle)]
+pub extern "C" fn jslint_answer(
+    alloc: Global,
+    command: u32,
+    text: &[u8],
+    second: &[u8],
+    room: &mut [u8],
+    outcome: &mut Outcome,
+)
+    ensures { Tells command text.now second.now room.old room.new outcome.new }
+{
+    *outcome = match command_of(command) {
+        Some(command) => match run_on_bytes(alloc, command, text, second) {
+            Ok(output) => tell(&output.bytes, output.status, false, room),
+            Err(refused) => tell_refusal(alloc, &refused, room),
+        },
+        None => Outcome {
+            length: 0,
+            status: 2,
+            is_refusal: 1,
+        },
+    };
+}

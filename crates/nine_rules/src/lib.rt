@@ -1,0 +1,110 @@
+#![tactic(auto)]
+
+//! Runs of a command with the nine rules.
+
+ghost use Rattle.std.specs.Prelude.{◌≡◌, ◌≢◌, IfErr, false};
+ghost use Rattle.source_text.specs.declared.fault.Fault.TheVariants.{Usage};
+ghost use Rattle.streams.specs.declared.command.Command.TheVariants.{Check};
+ghost use Rattle.nine_rules.specs.NineRules.{FindAs, RunsByRules};
+
+use lint::run::run;
+use rules::{
+    EqEqEq, NoDebugger, NoEmpty, NoExtraParens, NoShadow, NoUndef, NoUnusedVars, NoVar,
+    PreferConst, Rule,
+};
+use source_text::{Feed, Sink};
+use std::alloc::Global;
+use streams::{Command, Refused};
+
+/// Runs `check` with these rules, which find what the nine find.
+fn check_by<F: Feed, S: Feed, W: Sink>(
+    alloc: Global,
+    rules: &[Box<dyn Rule>],
+    file: &mut F,
+    settings: &mut S,
+    output: &mut W,
+) -> Result<u8, Refused>
+    requires nine { FindAs (λ b. called b) (λ b. finds b) Check rules.now }
+    requires reads { F.failed file.old ≡ false }
+    requires reads_settings { S.failed settings.old ≡ false }
+    requires writes { W.failed output.old ≡ false }
+    ensures told { IfErr result (λ refused. refused.fault ≢ Usage) }
+    ensures answer { RunsByRules Check (record {
+      given = F.left file.old;
+      second = S.left settings.old;
+      before = W.taken output.old;
+      after = W.taken output.new;
+      reader_failed = F.failed file.new;
+      second_failed = S.failed settings.new;
+      writer_failed = W.failed output.new;
+    }) result }
+{
+    run(alloc, Command::Check, rules, file, settings, output)
+}
+
+/// Runs `check` with the nine rules.
+fn check<F: Feed, S: Feed, W: Sink>(
+    alloc: Global,
+    file: &mut F,
+    settings: &mut S,
+    output: &mut W,
+) -> Result<u8, Refused>
+    requires reads { F.failed file.old ≡ false }
+    requires reads_settings { S.failed settings.old ≡ false }
+    requires writes { W.failed output.old ≡ false }
+    ensures told { IfErr result (λ refused. refused.fault ≢ Usage) }
+    ensures answer { RunsByRules Check (record {
+      given = F.left file.old;
+      second = S.left settings.old;
+      before = W.taken output.old;
+      after = W.taken output.new;
+      reader_failed = F.failed file.new;
+      second_failed = S.failed settings.new;
+      writer_failed = W.failed output.new;
+    }) result }
+{
+    let rules: [Box<dyn Rule>; 9] = [
+        Box::new(alloc, EqEqEq::new(alloc))?,
+        Box::new(alloc, NoDebugger::new(alloc))?,
+        Box::new(alloc, NoEmpty::new(alloc))?,
+        Box::new(alloc, NoExtraParens::new(alloc))?,
+        Box::new(alloc, NoShadow::new(alloc))?,
+        Box::new(alloc, NoUndef::new(alloc))?,
+        Box::new(alloc, NoUnusedVars::new(alloc))?,
+        Box::new(alloc, NoVar::new(alloc))?,
+        Box::new(alloc, PreferConst::new(alloc))?,
+    ];
+    check_by(alloc, &rules, file, settings, output)
+}
+
+/// Runs a command over its two readers and a writer, with the nine rules where it is `check`.
+///
+/// # Errors
+///
+/// Those of `lint::run::run`, in its order.
+pub fn run_with_rules<F: Feed, S: Feed, W: Sink>(
+    alloc: Global,
+    command: Command,
+    file: &mut F,
+    second: &mut S,
+    output: &mut W,
+) -> Result<u8, Refused>
+    requires reads { F.failed file.old ≡ false }
+    requires reads_second { S.failed second.old ≡ false }
+    requires writes { W.failed output.old ≡ false }
+    ensures told { IfErr result (λ refused. refused.fault ≢ Usage) }
+    ensures answer { RunsByRules command (record {
+      given = F.left file.old;
+      second = S.left second.old;
+      before = W.taken output.old;
+      after = W.taken output.new;
+      reader_failed = F.failed file.new;
+      second_failed = S.failed second.new;
+      writer_failed = W.failed output.new;
+    }) result }
+{
+    match command {
+        Command::Check => check(alloc, file, second, output),
+        _ => run(alloc, command, &[], file, second, output),
+    }
+}

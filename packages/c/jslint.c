@@ -1,0 +1,114 @@
+/* An example: the commands of the program by the library, with the program's words, answers and statuses.
+
+       cc -o jslint jslint.c libjslint.a
+       ./jslint fix|tree|cost|check FILE
+       ./jslint check --settings SETTINGS FILE
+       ./jslint verify FILE TABLE */
+#include "jslint.h"
+#include <stdio.h>
+#include <stdlib.h>
+#include <string.h>
+
+struct bytes {
+    uint8_t *data;
+    size_t length, capacity;
+};
+
+static int refuse(const char *line) {
+    fprintf(stderr, "jslint: %s\n", line);
+    return 2;
+}
+
+/* Gives the bytes room for so many in all. */
+static int reserve(struct bytes *bytes, size_t capacity) {
+    uint8_t *data = realloc(bytes->data, capacity);
+    if (!data) {
+        return 0;
+    }
+    bytes->data = data;
+    bytes->capacity = capacity;
+    return 1;
+}
+
+/* Reads a file to its end, no name as an empty one. Answers what went wrong, if anything did. */
+static const char *read_file(const char *name, struct bytes *bytes) {
+    FILE *file = name ? fopen(name, "rb") : NULL;
+    const char *wrong = reserve(bytes, 1 << 16) ? NULL : "out of memory";
+    if (name && !file) {
+        return "read failed";
+    }
+    for (size_t got = 1; file && !wrong && got;) {
+        got = fread(bytes->data + bytes->length, 1, bytes->capacity - bytes->length, file);
+        bytes->length += got;
+        if (bytes->length == bytes->capacity && !reserve(bytes, 2 * bytes->capacity)) {
+            wrong = "out of memory";
+        }
+    }
+    if (file && ferror(file)) {
+        wrong = "read failed";
+    }
+    if (file) {
+        fclose(file);
+    }
+    return wrong;
+}
+
+static int write_answer(const struct bytes *answer, const struct jslint_outcome *outcome) {
+    FILE *to = outcome->is_refusal ? stderr : stdout;
+    if (fwrite(answer->data, 1, answer->length, to) < answer->length || fflush(to)) {
+        return refuse("write failed");
+    }
+    return (int)outcome->status;
+}
+
+static int run(uint32_t command, const char *name, const char *second_name) {
+    struct bytes text = {0}, second = {0}, answer = {0};
+    struct jslint_outcome outcome;
+    const char *wrong = read_file(name, &text);
+    wrong = wrong ? wrong : read_file(second_name, &second);
+    wrong = wrong || reserve(&answer, 3 * text.length + 4096) ? wrong : "out of memory";
+    if (wrong) {
+        return refuse(wrong);
+    }
+    jslint_answer(command, text.data, text.length, second.data, second.length, answer.data, answer.capacity, &outcome);
+    if (outcome.length > answer.capacity) {
+        if (!reserve(&answer, outcome.length)) {
+            return refuse("out of memory");
+        }
+        jslint_answer(command, text.data, text.length, second.data, second.length, answer.data, answer.capacity, &outcome);
+    }
+    answer.length = outcome.length;
+    int status = write_answer(&answer, &outcome);
+    free(text.data);
+    free(second.data);
+    free(answer.data);
+    return status;
+}
+
+/* The number of a command's name, or 5. */
+static uint32_t command_of(const char *name) {
+    static const char *const names[] = {"check", "tree", "fix", "cost", "verify"};
+    uint32_t command = 0;
+    while (command < 5 && strcmp(name, names[command])) {
+        command++;
+    }
+    return command;
+}
+
+int main(int count, char **words) {
+    const char *names[2] = {NULL, NULL}, *settings = NULL;
+    uint32_t command = count > 1 ? command_of(words[1]) : 5;
+    int files = 0, is_well = command < 5;
+    for (int at = 2; at < count && is_well; at++) {
+        if (!strcmp(words[at], "--settings") && command == JSLINT_CHECK && at + 1 < count) {
+            settings = words[++at];
+        } else if (strcmp(words[at], "--")) {
+            is_well = files < 2;
+            names[is_well ? files++ : 0] = words[at];
+        }
+    }
+    if (!is_well || files != (command == JSLINT_VERIFY ? 2 : 1)) {
+        return refuse("usage: jslint check [--settings SETTINGS] FILE, jslint fix|tree|cost FILE, or jslint verify FILE TABLE");
+    }
+    return run(command, names[0], command == JSLINT_CHECK ? settings : names[1]);
+}

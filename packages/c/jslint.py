@@ -1,0 +1,81 @@
+"""An example: jslint for Python, by ctypes over libjslint.so, which `make` puts beside this file.
+
+    import jslint
+    jslint.fix('((a))')                                     'a;\\n'
+    jslint.check('debugger;')                               [Report(line=1, column=1, rule='no-debugger', message='debugger statement')]
+    jslint.tree('a')['body'][0]['type']                     'ExpressionStatement'
+    jslint.verify('(({})).a', jslint.cost('(({})).a'))      (2, 1): the text has two pairs, and each text with its tree has one at least
+
+A text that is refused raises Refused, with the program's own words. The thread that calls needs a stack of 6 MiB (`threading.stack_size`).
+"""
+import collections
+import ctypes
+import json
+import os
+import re
+
+COMMANDS = {'check': 0, 'tree': 1, 'fix': 2, 'cost': 3, 'verify': 4}
+Report = collections.namedtuple('Report', 'line column rule message')
+Answer = collections.namedtuple('Answer', 'bytes status is_refusal')
+
+
+class Outcome(ctypes.Structure):
+    _fields_ = [('length', ctypes.c_size_t), ('status', ctypes.c_uint32), ('is_refusal', ctypes.c_uint32)]
+
+
+class Refused(Exception):
+    """A text that was refused: the words of the program, as `syntax error at 1:9`, and its status."""
+
+    def __init__(self, words, status):
+        super().__init__(words)
+        self.status = status
+
+
+_BYTES = [ctypes.c_char_p, ctypes.c_size_t]
+_library = ctypes.CDLL(os.environ.get('JSLINT_LIBRARY') or os.path.join(os.path.dirname(os.path.abspath(__file__)), 'libjslint.so'))
+_library.jslint_answer.restype = None
+_library.jslint_answer.argtypes = [ctypes.c_uint32, *_BYTES, *_BYTES, ctypes.c_void_p, ctypes.c_size_t, ctypes.POINTER(Outcome)]
+
+
+def run(command, text, second=b''):
+    """What the program answers for these bytes."""
+    outcome, size = Outcome(), 3 * len(text) + 4096
+    while True:
+        room = ctypes.create_string_buffer(size)
+        _library.jslint_answer(COMMANDS[command], text, len(text), second, len(second), room, size, ctypes.byref(outcome))
+        if outcome.length <= size:
+            return Answer(room.raw[:outcome.length], outcome.status, outcome.is_refusal == 1)
+        size = outcome.length
+
+
+def _output(command, text, second=''):
+    answer = run(command, text.encode(), second.encode())
+    if answer.is_refusal:
+        raise Refused(answer.bytes.decode()[len('jslint: '):-1], answer.status)
+    return answer.bytes.decode()
+
+
+def fix(text):
+    """The script in one layout, with the fewest parentheses that its tree allows."""
+    return _output('fix', text)
+
+
+def check(text, settings=''):
+    """What the nine rules find; the settings are TOML."""
+    lines = re.findall(r'^(\d+):(\d+) (\S+) (.*)$', _output('check', text, settings), re.M)
+    return [Report(int(line), int(column), rule, message) for line, column, rule, message in lines]
+
+
+def tree(text):
+    """The tree, as ESTree has it; places are bytes."""
+    return json.loads(_output('tree', text))
+
+
+def cost(text):
+    """The cost table, which shows why no text with this tree has fewer pairs of parentheses."""
+    return _output('cost', text)
+
+
+def verify(text, table):
+    """Of a table from anyone: the pairs of the text, and the fewest that a text with its tree has."""
+    return tuple(int(it) for it in re.fullmatch(r'pairs (\d+) least (\d+)\n', _output('verify', text, table)).groups())

@@ -1,0 +1,214 @@
+// The commands over a compiled module of jslint: what Node, browsers and pages share.
+//
+// Nothing here is proved. What it has to keep: the four stretches of memory that a call is handed lie apart, are as long as it says, and stay
+// until the call is back; an instance in which a call did not come back is not called again.
+
+const COMMANDS = { check: 0, tree: 1, fix: 2, cost: 3, verify: 4 };
+// Bytes of room for each byte of text at the first try. Where the answer is longer, the command runs again with all the room that it takes.
+const ROOM = { check: 2, tree: 48, fix: 3, cost: 24, verify: 0 };
+const LEAST_ROOM = 16384;
+// Of an outcome: its length in 8 bytes, its status and whether it is a refusal in 4 each.
+const OUTCOME = 16;
+// An instance that has taken more memory than this is let go after the call: a memory doesn't shrink.
+const MOST_KEPT = 256 * 1024 * 1024;
+const OUT_OF_STACK = { text: 'jslint: out of stack\n', status: 2, isRefusal: true };
+const OUT_OF_MEMORY = { text: 'jslint: out of memory\n', status: 2, isRefusal: true };
+// The words of each refusal, its code, and what its numbers are.
+const REFUSALS = [
+  [/^syntax error at (\d+):(\d+)$/, 'syntax', ['line', 'column']],
+  [/^early error E(\d+) at (\d+):(\d+)$/, 'early', ['number', 'line', 'column']],
+  [/^nested too deep$/, 'deep', []],
+  [/^not UTF-8 at byte (\d+)$/, 'utf8', ['byte']],
+  [/^longer than (\d+) bytes$/, 'long', ['most']],
+  [/^bad settings$/, 'settings', []],
+  [/^bad table row (\d+) (\w+)$/, 'table', ['row', 'reason']],
+  [/^out of memory$/, 'memory', []],
+  [/^out of stack$/, 'stack', []],
+];
+
+/** A text that was refused, or one for which the engine had too little stack or memory. */
+export class Refused extends Error {
+  constructor(command, words, status) {
+    super(words);
+    this.name = 'Refused';
+    this.command = command;
+    this.status = status;
+    for (const [form, code, names] of REFUSALS) {
+      const found = form.exec(words);
+      if (found === null) continue;
+      this.code = code;
+      names.forEach((name, at) => { this[name] = /^\d+$/.test(found[at + 1]) ? Number(found[at + 1]) : found[at + 1]; });
+    }
+  }
+}
+
+/** One instance of the module, with the stretches of memory that it has handed out. */
+class Running {
+  constructor(module) {
+    this.exports = new WebAssembly.Instance(module).exports;
+    this.taken = [];
+  }
+
+  /** Room for so many bytes, or null. */
+  take(length) {
+    const at = this.exports.jslint_take(BigInt(length)) >>> 0;
+    if (at === 0) return null;
+    this.taken.push(at);
+    return at;
+  }
+
+  /** Gives the last of it back. */
+  giveBack() {
+    this.exports.jslint_give(this.taken.pop());
+  }
+
+  /** (a memory that has grown has another buffer) */
+  bytes(at, length) {
+    return new Uint8Array(this.exports.memory.buffer, at, length);
+  }
+
+  /** Room that holds these bytes, or null. */
+  put(bytes) {
+    const at = this.take(bytes.length);
+    if (at !== null) this.bytes(at, bytes.length).set(bytes);
+    return at;
+  }
+
+  outcome(at) {
+    const view = new DataView(this.exports.memory.buffer, at, OUTCOME);
+    return { length: Number(view.getBigUint64(0, true)), status: view.getUint32(8, true), isRefusal: view.getUint32(12, true) === 1 };
+  }
+
+  /** The answer's bytes with its outcome; null where the engine has no memory for them. */
+  answer(command, text, second, room) {
+    const from = this.put(text), other = this.put(second), told = this.take(OUTCOME), to = this.take(room);
+    if ([from, other, told, to].includes(null)) return null;
+    this.exports.jslint_answer(COMMANDS[command], from, BigInt(text.length), other, BigInt(second.length), to, BigInt(room), told);
+    const outcome = this.outcome(told);
+    const bytes = outcome.length <= room ? this.bytes(to, outcome.length).slice() : null;
+    while (this.taken.length) this.giveBack();
+    return bytes ? { bytes, ...outcome } : this.answer(command, text, second, outcome.length);
+  }
+}
+
+const decode = (bytes) => new TextDecoder('utf-8', { fatal: true, ignoreBOM: true }).decode(bytes);
+
+/** The bytes of a text. A text with half a pair of surrogates has none. */
+function bytesOf(text) {
+  if (text instanceof Uint8Array) return text;
+  if (typeof text !== 'string') throw new TypeError('a text is a string or a Uint8Array');
+  if (/\p{Surrogate}/u.test(text)) throw new TypeError('this text has half a pair of surrogates, and so no UTF-8');
+  return new TextEncoder().encode(text);
+}
+
+const stringOf = (text) => (typeof text === 'string' ? text : decode(text));
+
+/** Where the lines of a text begin, as indices into the string. A line ends as ECMAScript says, at U+2028 and U+2029 too. */
+function lineStarts(text) {
+  return [0, ...Array.from(text.matchAll(/\r\n|[\n\r\u2028\u2029]/g), (it) => it.index + it[0].length)];
+}
+
+/** Finds places, which come in order, as indices into the string: lines and columns count from 1, columns in characters. */
+function placesIn(text) {
+  const starts = lineStarts(text);
+  let [line, column, at] = [1, 1, 0];
+  return (toLine, toColumn) => {
+    if (toLine !== line) [line, column, at] = [toLine, 1, starts[toLine - 1]];
+    for (; column < toColumn; column++) at += text.codePointAt(at) > 0xffff ? 2 : 1;
+    return at;
+  };
+}
+
+/** The index into the string of a line and a column. */
+export function indexOf(text, line, column) {
+  return placesIn(text)(line, column);
+}
+
+/** For each byte of a text's UTF-8, and for the place after the last, the index into the string. */
+function indices(text, length) {
+  const found = new Uint32Array(length + 1);
+  let byte = 0;
+  for (let at = 0; at < text.length;) {
+    const code = text.codePointAt(at), bytes = code < 0x80 ? 1 : code < 0x800 ? 2 : code < 0x10000 ? 3 : 4;
+    found.fill(at, byte, byte + bytes);
+    byte += bytes;
+    at += code > 0xffff ? 2 : 1;
+  }
+  found[byte] = text.length;
+  return found;
+}
+
+/** Puts the places of all nodes below, which are bytes, where they are in the string. */
+function placeNodes(program, text) {
+  const at = indices(text, program.end), left = [program];
+  while (left.length) {
+    const node = left.pop();
+    if (typeof node.start === 'number') [node.start, node.end] = [at[node.start], at[node.end]];
+    for (const it of Object.values(node)) if (it !== null && typeof it === 'object') left.push(it);
+  }
+}
+
+function reportsOf(lines, text) {
+  if (lines === '') return [];
+  const index = placesIn(text);
+  return lines.slice(0, -1).split('\n').map((each) => {
+    const [, line, column, rule, message] = /^(\d+):(\d+) (\S+) (.*)$/s.exec(each);
+    return { line: Number(line), column: Number(column), rule, message, index: index(Number(line), Number(column)) };
+  });
+}
+
+/** Whether the engine's stack was used up, or the module's own. Either ends a call half done. */
+const isOutOfStack = (error) => error instanceof RangeError || error instanceof WebAssembly.RuntimeError || error?.name === 'InternalError';
+
+/**
+ * The commands over a compiled module. `runDeeper` is asked where the stack was too small: what it answers, if anything, is the answer.
+ */
+export function commandsOf(module, runDeeper = () => null) {
+  let kept = null;
+
+  /** The answer's bytes as the module gives them. */
+  function answerOf(command, text, second) {
+    const running = kept ?? new Running(module);
+    kept = null;
+    const answer = running.answer(command, text, second, Math.max(LEAST_ROOM, ROOM[command] * text.length));
+    if (answer !== null && running.exports.memory.buffer.byteLength <= MOST_KEPT) kept = running;
+    return answer;
+  }
+
+  /** Answers a command as the program does: what it writes to its standard output or, where it refuses, to its standard error. */
+  function run(command, text, second = new Uint8Array(0)) {
+    if (!Object.hasOwn(COMMANDS, command)) throw new TypeError(`jslint has no command ${command}`);
+    let answer;
+    try {
+      answer = answerOf(command, text, second);
+    } catch (error) {
+      if (isOutOfStack(error)) return runDeeper(command, text, second) ?? OUT_OF_STACK;
+      throw error;
+    }
+    return answer === null ? OUT_OF_MEMORY : { text: decode(answer.bytes), status: answer.status, isRefusal: answer.isRefusal };
+  }
+
+  /** What a command writes for a text; a refusal is thrown. */
+  function output(command, text, second) {
+    const answer = run(command, bytesOf(text), second);
+    if (answer.isRefusal) throw new Refused(command, answer.text.slice('jslint: '.length, -1), answer.status);
+    return answer.text;
+  }
+
+  return {
+    run,
+    check: (text, { settings = '' } = {}) => reportsOf(output('check', text, bytesOf(settings)), stringOf(text)),
+    fix: (text) => output('fix', text),
+    treeText: (text) => output('tree', text),
+    tree(text, { places = 'indices' } = {}) {
+      const program = JSON.parse(output('tree', text)), string = stringOf(text);
+      if (places === 'indices' && program.end !== string.length) placeNodes(program, string);
+      return program;
+    },
+    cost: (text) => output('cost', text),
+    verify(text, table) {
+      const [, pairs, least] = /^pairs (\d+) least (\d+)\n$/.exec(output('verify', text, bytesOf(table)));
+      return { pairs: Number(pairs), least: Number(least) };
+    },
+  };
+}

@@ -1,0 +1,27 @@
+import type { Text } from './jslint.mjs';
+
+export interface Message {
+  ruleId: string | null;
+  fatal?: true;
+  severity: 2;
+  message: string;
+  line: number;
+  column: number;
+}
+
+export interface Result {
+  filePath: string;
+  messages: Message[];
+  suppressedMessages: never[];
+  errorCount: number;
+  fatalErrorCount: number;
+  warningCount: 0;
+  fixableErrorCount: 0;
+  fixableWarningCount: 0;
+  usedDeprecatedRules: never[];
+}
+
+/** A file's result: its path, and what was found in its text. Settings that are refused are thrown. */
+export function resultOf(filePath: string, text: Text, options?: { settings?: Text }): Result;
+/** The results of several files as ESLint's formatter `json` writes them. */
+export function format(results: Result[]): string;

@@ -1,0 +1,55 @@
+/** A script or a second text: a string, or its UTF-8. */
+export type Text = string | Uint8Array;
+export type Command = 'check' | 'tree' | 'fix' | 'cost' | 'verify';
+
+/** What a rule finds at a place. Lines and columns count from 1, columns in characters; `index` is the place in the string. */
+export interface Report {
+  line: number;
+  column: number;
+  rule: string;
+  message: string;
+  index: number;
+}
+
+export type Code = 'syntax' | 'early' | 'deep' | 'utf8' | 'long' | 'settings' | 'table' | 'memory' | 'stack';
+
+/** A text that was refused, in the program's words; `memory` and `stack` are the engine's limits. */
+export class Refused extends Error {
+  command: Command;
+  status: 1 | 2;
+  code: Code;
+  /** The place of a syntax error or an early error. */
+  line?: number;
+  column?: number;
+  /** The number of an early error. */
+  number?: number;
+  byte?: number;
+  most?: number;
+  row?: number;
+  reason?: 'Form' | 'Shape' | 'None' | 'High' | 'Total';
+}
+
+/** A node of ESTree. A number has `raw` and no `value`. */
+export interface Node {
+  type: string;
+  start: number;
+  end: number;
+  [key: string]: unknown;
+}
+
+/** What the nine rules find, by place and rule. The settings are TOML, as the program takes them. */
+export function check(text: Text, options?: { settings?: Text }): Report[];
+/** The script in one layout, with the fewest parentheses that its tree allows. */
+export function fix(text: Text): string;
+/** The tree. Places are indices into the string, as other parsers give them, or bytes. */
+export function tree(text: Text, options?: { places?: 'indices' | 'bytes' }): Node;
+/** The tree as the program writes it: one line of JSON, places in bytes. */
+export function treeText(text: Text): string;
+/** The cost table, which shows why no text with this tree has fewer pairs of parentheses than its total. */
+export function cost(text: Text): string;
+/** Checks such a table, whoever made it: the pairs of the text, and the fewest that a text with its tree has. */
+export function verify(text: Text, table: Text): { pairs: number; least: number };
+/** The index into the string of a line and a column. */
+export function indexOf(text: string, line: number, column: number): number;
+/** A command as the program runs it: what it writes, and its exit status. */
+export function run(command: Command, text: Uint8Array, second?: Uint8Array): { text: string; status: 0 | 1 | 2; isRefusal: boolean };

@@ -1,0 +1,278 @@
+"""The libraries and the packages over them: the rows by each, the examples in C and Python, the package for Node, and the page.
+
+They are those that tools/wasm/build.py left in bin/libraries, or those of release/, where they are made of the sources here. Each test is a function
+that raises where something is wrong, and Skipped where it can't be tried. Its argument is a room: a folder of its own, in which it works.
+"""
+import base64
+import importlib.util
+import json
+import os
+import re
+import shutil
+import subprocess
+import sys
+
+import rows
+from recipes import is_well, same
+
+TOP = os.path.dirname(os.path.dirname(os.path.dirname(os.path.realpath(__file__))))
+PACKAGES = f'{TOP}/packages'
+SCRIPT = 'let x = (1); x; { let x = 2; x = 3; }\n'
+REPORTS = "1:5 prefer-const 'x' is never reassigned\n1:9 no-extra-parens unnecessary parentheses\n1:23 no-shadow 'x' shadows an outer name\n1:23 no-unused-vars 'x' is never read\n"
+# What is in the package that `npm pack` makes.
+PACKED = {
+    'LICENSE-APACHE', 'LICENSE-MIT', 'README.md', 'bin/eslint-json.mjs', 'bin/jslint.mjs', 'core.mjs', 'eslint-json.d.mts', 'eslint-json.mjs', 'jslint.d.mts',
+    'jslint.mjs', 'jslint.wasm', 'package.json', 'worker.mjs',
+}
+# Where the libraries are, or why there are none.
+PLACE, WHY = None, None
+
+
+class Skipped(Exception):
+    """Why a test can't be tried here, in a few words."""
+
+
+def find():
+    """Looks for the libraries of the sources here."""
+    global PLACE, WHY
+    spec = importlib.util.spec_from_file_location('libraries_build', f'{TOP}/tools/wasm/build.py')
+    build = importlib.util.module_from_spec(spec)
+    spec.loader.exec_module(build)
+    try:
+        sources = build.sum_of_sources()
+    except build.Refused as why:
+        WHY = str(why)
+        return
+    for folder, made in ((build.FOLDER, f'{build.FOLDER}/MADE'), (f'{TOP}/release', f'{TOP}/release/MADE.libraries')):
+        said = build.said_of(made)
+        if said.get('sources') == sources and build.is_whole(folder, said):
+            PLACE = folder
+            return
+    WHY = 'there are no libraries of the sources here: tools/wasm/build.py makes them'
+
+
+def library(name):
+    if PLACE is None:
+        raise Skipped(WHY)
+    return f'{PLACE}/{name}'
+
+
+def tool(*names):
+    """The path of the first of these commands that is here."""
+    found = next(filter(None, map(shutil.which, names)), None)
+    if found is None:
+        raise Skipped(f'there is no {names[0]} here')
+    return found
+
+
+def node():
+    found = tool('node')
+    version = subprocess.run([found, '--version'], stdout=subprocess.PIPE, text=True).stdout
+    if int(re.match(r'v(\d+)', version)[1]) < 18:
+        raise Skipped(f'node is {version.strip()}, and the package needs 18')
+    return found
+
+
+def ran(words, status=0, **how):
+    """Both streams of a command, which has to end with this status."""
+    done = subprocess.run(words, stdout=subprocess.PIPE, stderr=subprocess.PIPE, text=True, **how)
+    is_well(done.returncode == status, f'{words}: status {done.returncode}: {done.stdout[-2000:]}{done.stderr[-2000:]}')
+    return done.stdout, done.stderr
+
+
+# ---- C and Python
+
+def make_c(folder, place='x86_64-linux', compiler=('cc',), **more):
+    """A copy of packages/c with what `make` makes of it."""
+    archive, made = library(f'{place}/libjslint.a'), f'{folder}/c'
+    if place.split('-')[0] != os.uname().machine and compiler == ('cc',):
+        raise Skipped(f'this machine is no {place}')
+    words = [tool('make'), f'CC={tool(*compiler)}', f'LIBRARY={archive}', *(f'{name}={value}' for name, value in more.items())]
+    shutil.copytree(f'{PACKAGES}/c', made)
+    ran(words, cwd=made)
+    return made
+
+
+def c_example(room):
+    """The program's words, answers and statuses."""
+    program = f'{make_c(room.folder)}/jslint'
+    for name, text in [('a.js', SCRIPT), ('b.js', 'a b'), ('s.toml', '[rules]\nprefer-const = false\nno-shadow = false\nno-unused-vars = false\nno-extra-parens = false\n')]:
+        room.put(name, text)
+    how = {'cwd': room.folder}
+    same(ran([program, 'check', 'a.js'], 1, **how), (REPORTS, ''))
+    same(ran([program, 'check', '--settings', 's.toml', '--', 'a.js'], **how), ('', ''))
+    same(ran([program, 'fix', 'b.js'], 2, **how), ('', 'jslint: syntax error at 1:3\n'))
+    table, _ = ran([program, 'cost', 'a.js'], **how)
+    room.put('table', table)
+    same(ran([program, 'verify', 'a.js', 'table'], **how), ('pairs 1 least 0\n', ''))
+    same(ran([program, 'fix', 'none'], 2, **how), ('', 'jslint: read failed\n'))
+    with open('/dev/full', 'w') as full:
+        done = subprocess.run([program, 'fix', 'a.js'], stdout=full, stderr=subprocess.PIPE, text=True, **how)
+    same((done.returncode, done.stderr), (2, 'jslint: write failed\n'))
+    # (an answer that is longer than the room at first)
+    room.put('long.js', 'a==b;' * 5000)
+    same(ran([program, 'check', 'long.js'], 1, **how)[0].count('\n'), 15000)
+
+
+def refused_memory(room):
+    """Each request for memory refused in turn: the answer, or `out of memory`."""
+    folder = make_c(room.folder)
+    wraps = [f'-Wl,--wrap={it}' for it in ('malloc', 'realloc', 'free')]
+    ran([tool('cc'), '-O1', '-Wall', '-Wextra', '-Werror', f'-I{folder}', '-o', 'memory', f'{TOP}/tools/tests/memory.c', library('x86_64-linux/libjslint.a'), *wraps], cwd=folder)
+    out, _ = ran([f'{folder}/memory'])
+    is_well(int(out.split()[0]) > 1000, out)
+
+
+def python_example(room):
+    folder = make_c(room.folder)
+    with open(f'{folder}/jslint.py', encoding='utf-8') as file:
+        said = file.read()
+    wanted = re.findall(r'^    (jslint\.\S.*?)  +(\S.*)$', said, re.M)
+    is_well(len(wanted) == 4, wanted)
+    asked = '\n'.join(f'print(repr({call}))' for call, _ in wanted)
+    out, _ = ran([sys.executable, '-c', f'import jslint\n{asked}'], cwd=folder)
+    for found, (call, want) in zip(out.splitlines(), wanted):
+        # (the page's string shows its escapes; what comes after a value explains it)
+        want = want.replace('\\\\', '\\')
+        is_well(found == want or want.startswith(f'{found}:'), f'{call}: {found} where {want} is wanted')
+    refused = "import jslint\ntry: jslint.fix('a b')\nexcept jslint.Refused as it: print(it, it.status)"
+    same(ran([sys.executable, '-c', refused], cwd=folder), ('syntax error at 1:3 2\n', ''))
+
+
+def documented(language):
+    """The code of docs/EMBEDDING.md in a language."""
+    with open(f'{TOP}/docs/EMBEDDING.md', encoding='utf-8') as file:
+        return re.search(rf'^```{language}\n(.*?)^```$', file.read(), re.M | re.S)[1]
+
+
+def documented_c(room):
+    """The examples in C and Python of docs/EMBEDDING.md."""
+    folder = make_c(room.folder)
+    room.put('example.c', documented('c'))
+    ran([tool('cc'), '-Wall', '-Wextra', '-Werror', f'-I{folder}', '-o', 'example', 'example.c', library('x86_64-linux/libjslint.a')], cwd=room.folder)
+    same(ran([f'{room.folder}/example']), ('a;\n', ''))
+    calls = re.findall(r'^(jslint\..*?) +# (.*)$', documented('python'), re.M)
+    is_well(len(calls) == 2, calls)
+    out, _ = ran([sys.executable, '-c', '\n'.join(['import jslint', *(f'print(repr({call}))' for call, _ in calls)])], cwd=folder)
+    same(out.splitlines(), [it for _, it in calls])
+
+
+# ---- Node
+
+def package(folder):
+    """A copy of the package with its module."""
+    made = f'{folder}/package'
+    os.makedirs(folder, exist_ok=True)
+    shutil.copytree(f'{PACKAGES}/npm', made, ignore=shutil.ignore_patterns('jslint.wasm', 'node_modules'))
+    shutil.copy(library('wasm/jslint.wasm'), f'{made}/jslint.wasm')
+    return made
+
+
+def node_tests(room):
+    """The package's own tests."""
+    program = node()
+    out, _ = ran([program, '--test', '--test-reporter=tap', 'test/jslint.test.mjs', 'test/bin.test.mjs'], cwd=package(room.folder))
+    found = dict(re.findall(r'^# (pass|fail|skipped) (\d+)$', out, re.M))
+    is_well(int(found['pass']) >= 14 and found['fail'] == '0' == found['skipped'], found)
+
+
+def node_pack(room):
+    """What `npm pack` makes of the repository has all that it needs, and nothing else."""
+    program, npm, wasm = node(), tool('npm'), library('wasm/jslint.wasm')
+    for name in ('packages/npm', 'LICENSE-APACHE', 'LICENSE-MIT'):
+        copy = shutil.copytree if os.path.isdir(f'{TOP}/{name}') else shutil.copy
+        os.makedirs(os.path.dirname(f'{room.folder}/{name}'), exist_ok=True)
+        copy(f'{TOP}/{name}', f'{room.folder}/{name}')
+    env = {**os.environ, 'JSLINT_WASM': wasm, 'HOME': room.folder, 'npm_config_update_notifier': 'false', 'npm_config_cache': f'{room.folder}/cache'}
+    ran([npm, 'pack', '--offline', '--pack-destination', room.folder], cwd=f'{room.folder}/packages/npm', env=env)
+    packed = next(it for it in os.listdir(room.folder) if it.endswith('.tgz'))
+    ran(['tar', 'xzf', packed], cwd=room.folder)
+    found = {os.path.relpath(f'{at}/{it}', f'{room.folder}/package') for at, _, names in os.walk(f'{room.folder}/package') for it in names}
+    same(found, PACKED)
+    os.makedirs(f'{room.folder}/user/node_modules')
+    os.rename(f'{room.folder}/package', f'{room.folder}/user/node_modules/jslint-with-proofs')
+    asked = "import { fix } from 'jslint-with-proofs'; import { format, resultOf } from 'jslint-with-proofs/eslint-json'; console.log(fix('((a))') + format([resultOf('a', 'a;')]));"
+    out, _ = ran([program, '--input-type=module', '-e', asked], cwd=f'{room.folder}/user')
+    is_well(out.startswith('a;\n[{"filePath":"a","messages":[{"ruleId":"no-undef"'), out)
+
+
+def node_readme(room):
+    """Each call of the package's README and of docs/EMBEDDING.md gives what stands after it."""
+    program, made = node(), package(room.folder)
+    with open(f'{made}/README.md', encoding='utf-8') as file:
+        blocks = re.search(r'```js\n(.*?)```', file.read(), re.S)[1] + documented('js')
+    wanted = re.findall(r'^(\w+\(.*);\s+// (\S.*)$', blocks, re.M)
+    is_well(len(wanted) == 7, wanted)
+    checks = '\n'.join(f'assert.deepEqual({call}, {want});' for call, want in wanted)
+    asked = f"import assert from 'node:assert/strict';\nimport {{ check, cost, fix, tree, verify }} from './jslint.mjs';\n{checks}"
+    ran([program, '--input-type=module', '-e', asked], cwd=made)
+
+
+# ---- the page
+
+def page(room):
+    """The page in headless Chromium, from a folder without a server."""
+    browser, program = tool('chromium', 'chromium-browser', 'google-chrome'), node()
+    made = f'{room.folder}/jslint.html'
+    ran([sys.executable, f'{PACKAGES}/page/build.py', library('wasm/jslint.wasm'), made])
+    out, _ = ran([program, f'{PACKAGES}/page/test.mjs', '--chromium', browser, made], env={**os.environ, 'HOME': room.folder})
+    is_well(re.search(r'^(\d+) as wanted, 0 not$', out, re.M), out)
+
+
+TESTS = [c_example, documented_c, refused_memory, python_example, node_tests, node_pack, node_readme, page]
+
+
+# ---- the rows
+
+def by_ctypes(folder):
+    """Answers by libjslint.so in this process."""
+    sys.path.insert(0, folder)
+    import jslint
+
+    def answers(name, text, second):
+        it = jslint.run(name, text, second or b'')
+        said = it.bytes.decode(errors='replace')
+        return rows.Answer(it.status, '' if it.is_refusal else said, said if it.is_refusal else '')
+    return answers
+
+
+def by_node(folder):
+    """Answers by the package in a process of its own."""
+    words = [node(), f'{TOP}/tools/tests/answers.mjs', folder]
+    process = subprocess.Popen(words, stdin=subprocess.PIPE, stdout=subprocess.PIPE, text=True)
+
+    def answers(name, text, second):
+        asked = {'command': name, 'text': base64.b64encode(text).decode(), 'second': base64.b64encode(second or b'').decode()}
+        process.stdin.write(f'{json.dumps(asked)}\n')
+        process.stdin.flush()
+        it = json.loads(process.stdout.readline())
+        return rows.Answer(it['status'], '' if it['isRefusal'] else it['text'], it['text'] if it['isRefusal'] else '')
+    return answers
+
+
+def begin_c(folder):
+    rows.begin(None, by_ctypes(folder))
+
+
+def begin_node(folder):
+    rows.begin(None, by_node(folder))
+
+
+def make_node(room):
+    node()
+    return package(room)
+
+
+def make_aarch64(room):
+    """The example in C for aarch64, as a program that runs here."""
+    library('aarch64-linux/libjslint.a')
+    emulator = tool('qemu-aarch64', 'qemu-aarch64-static')
+    folder = make_c(room, 'aarch64-linux', ('aarch64-linux-gnu-gcc',), LDFLAGS='-static')
+    with open(f'{room}/jslint', 'w', encoding='utf-8') as file:
+        file.write(f'#!/bin/sh\nexec {emulator} {folder}/jslint "$@"\n')
+    os.chmod(file.name, 0o755)
+    return file.name
+
+
+# By the name of who answers: what is made in a folder, and what each process begins with.
+ANSWERERS = {'rows_by_c': (make_c, begin_c), 'rows_by_module': (make_node, begin_node), 'rows_on_aarch64': (make_aarch64, rows.begin)}
