@@ -223,16 +223,18 @@ def tried(crate, words, kept):
 
 
 def tried_crate(crate, words, is_built):
-    """Tries the crate's edits, over a copy of what its check kept, if it may be taken; prints each, and counts those refused and those not."""
+    """Tries the crate's edits, over a copy of what its check kept, if it may be taken, and prints each. How many are refused, and a line for each that isn't."""
     with tempfile.TemporaryDirectory(prefix='jslint-edits-') as room:
         kept = f'{room}/kept'
         if os.path.isdir(f'{crate.folder}/out/incremental') and not is_built:
             shutil.copytree(f'{crate.folder}/out/incremental', kept)
-        counts = collections.Counter()
+        refused, not_refused = 0, []
         for name, well, why in tried(crate, words, kept):
-            print(f'{crate.name}/{name}: {"refused" if well else "NOT REFUSED"}: {why[:160]}', flush=True)
-            counts[well] += 1
-    return counts
+            line = f'{crate.name}/{name}: {"refused" if well else "NOT REFUSED"}: {why[:160]}'
+            print(line, flush=True)
+            refused += well
+            not_refused += [] if well else [line]
+    return refused, not_refused
 
 
 def main(words):
@@ -248,9 +250,11 @@ def main(words):
             sys.exit(f'{crate.name}: a library below it is not proved')
     crates.sort(key=lambda it: -it.count(b'\n'))
     with concurrent.futures.ThreadPoolExecutor(int(os.environ.get('RT_JOBS') or RT.processors())) as pool:
-        counts = sum(pool.map(lambda it: tried_crate(it, words, is_built), crates), collections.Counter())
-    print(f'{counts[True]} refused, {counts[False]} not')
-    return 1 if counts[False] else 0
+        found = list(pool.map(lambda it: tried_crate(it, words, is_built), crates))
+    not_refused = [line for _, lines in found for line in lines]
+    # (once more at the end, where a log that was cut short still has them)
+    print(*not_refused, f'{sum(refused for refused, _ in found)} refused, {len(not_refused)} not', sep='\n')
+    return 1 if not_refused else 0
 
 
 if __name__ == '__main__':

@@ -1,25 +1,26 @@
-"""The list of lemma files: writes docs/LEMMAS.md from the comment that each file begins with.
+"""Prints the files of definitions and of lemmas of the crates, each with the comment that it begins with, or the examples that compute.
 
-    python3 tools/lemmas/lemmas.py            # writes docs/LEMMAS.md
-    python3 tools/lemmas/lemmas.py --check    # writes nothing
+    python3 tools/lemmas/lemmas.py [CRATE ..]               # the files, of all crates or of those that are named
+    python3 tools/lemmas/lemmas.py --examples [CRATE ..]    # the examples: file and name, the text, what is computed of it
+    python3 tools/lemmas/lemmas.py --check                  # names the files that begin with no comment: status 1 where there is one
 
-A lemma file is a file `proofs/NAME.antt` of a crate; those in folders below `proofs` are answers at the goals of one function and are only
-counted. Files that don't begin with a comment are named on standard error. Exit status 1 where there are such files, or where with --check
-the page isn't what would be written.
+Definitions are in `specs/NAME.antt` of a crate, lemmas in `proofs/NAME.antt`; files in folders below `proofs` are answers at the goals of one
+function and are only counted. An example's text is what its statement hands to `tokens`, or the comment above it or above the tree that it
+names; what is computed of it follows the `≡`. docs/PROOFS.md says how the proof goes.
 """
 import pathlib
+import re
+import signal
 import sys
 
 TOP = pathlib.Path(__file__).resolve().parents[2]
-PAGE = TOP / 'docs' / 'LEMMAS.md'
-HEAD = """# Lemma files
-
-Made by `python3 tools/lemmas/lemmas.py` from the comment at the head of each file: change it there. [ARCHITECTURE.md](ARCHITECTURE.md) says how the proof goes. A lemma file `NAME` of a crate is `crates/CRATE/proofs/NAME.antt`. Answers at the goals of one function stand in folders below, named as the function; a comment at their head is rare, and they are only counted here.
-"""
+# The most of a statement that is printed.
+MOST = 110
+OTHERS = ('SoundTables', 'SameTrees', 'Nest')
 
 
 def crates_in_order():
-    """The crates with a folder `proofs`, each behind those that it stands on, as crates.txt has them."""
+    """The crates of crates.txt, each after those that it stands on."""
     below = {}
     for line in (TOP / 'crates.txt').read_text().splitlines():
         name, _, rest = line.partition(':')
@@ -34,7 +35,15 @@ def crates_in_order():
 
     for name in below:
         visit(name)
-    return [name for name in order if (TOP / 'crates' / name / 'proofs').is_dir()]
+    return order
+
+
+def files_of(crate, folder):
+    return [path for path in sorted((TOP / 'crates' / crate / folder).glob('*.antt')) if path.name != 'Lib.antt']
+
+
+def lemma_files(crate):
+    return files_of(crate, 'proofs')
 
 
 def comment_of(path):
@@ -48,45 +57,61 @@ def comment_of(path):
     return ' '.join(words)
 
 
-def page():
-    """The page, and the files without a comment."""
-    text, silent, total, all_answers = [HEAD], [], 0, 0
-    for crate in crates_in_order():
-        folder = TOP / 'crates' / crate / 'proofs'
-        files = [path for path in sorted(folder.glob('*.antt')) if path.name != 'Lib.antt']
-        answers = sum(1 for path in folder.glob('*/**/*.antt'))
-        if not files and not answers:
-            continue
-        all_answers += answers
-        total += len(files)
-        text.append(f'## {crate}\n\nLemma files: {len(files)}. Files of answers: {answers}.\n')
-        if files:
-            text.append('| File | What |\n|---|---|')
-            for path in files:
-                comment = comment_of(path)
-                if not comment:
-                    silent.append(path.relative_to(TOP))
-                text.append(f'| `{path.stem}` | {comment.replace("|", chr(92) + "|")} |')
-            text.append('')
-    text.insert(1, f'{total} lemma files and {all_answers} files of answers, lower crates first.\n')
-    return '\n'.join(text).rstrip() + '\n', silent
+def show_files(crates):
+    for crate in crates:
+        specs, files = files_of(crate, 'specs'), lemma_files(crate)
+        answers = sum(1 for path in (TOP / 'crates' / crate / 'proofs').glob('*/**/*.antt'))
+        print(f'{crate}: {len(specs)} files of definitions, {len(files)} of lemmas, {answers} of answers')
+        for path in [*specs, *files]:
+            print(f'    {path.parent.name}/{path.stem}: {comment_of(path)}')
 
 
-def main():
-    text, silent = page()
-    for path in silent:
-        print(f'{path}: begins with no comment', file=sys.stderr)
-    if sys.argv[1:] == ['--check']:
-        same = PAGE.exists() and PAGE.read_text(encoding='utf-8') == text
-        if not same:
-            print(f'{PAGE.relative_to(TOP)}: not what tools/lemmas/lemmas.py writes', file=sys.stderr)
-        return 1 if silent or not same else 0
-    if sys.argv[1:]:
+def has_examples(path):
+    return path.stem.endswith('Examples') or path.stem in OTHERS or comment_of(path).startswith(('Examples', 'Worked examples'))
+
+
+def shortened(text):
+    return text if len(text) <= MOST else text[:MOST - 3] + ' ..'
+
+
+def examples_of(path):
+    """The name of each example of a file, its text and what is computed of it."""
+    above, texts = '', {}
+    for line in path.read_text(encoding='utf-8').splitlines():
+        comment, word = re.fullmatch(r'-- (`.*`)', line), re.match(r'(?:abbrev |pub )+(\S+) : (.*)', line)
+        if word and above:
+            texts[word[1]] = above
+        if word and 'pub ' in line[:word.start(1)] and 'abbrev ' not in line[:word.start(1)]:
+            own = re.search(r'tokens "((?:[^"\\]|\\.)*)"', word[2])
+            named = [texts[it] for it in re.findall(r'[\w-]+', word[2]) if it in texts]
+            text = f'`{own[1]}`' if own else above or ''.join(named[:1])
+            right = word[2].rpartition(' ≡ ')[2]
+            yield word[1], text, shortened(right if text else word[2])
+        above = comment[1] if comment else ''
+
+
+def show_examples(crates):
+    for crate in crates:
+        for path in filter(has_examples, lemma_files(crate)):
+            for name, text, told in examples_of(path):
+                print(f'{crate} {path.stem}.{name}: {text + ": " if text else ""}{told}')
+
+
+def main(words):
+    crates, names = crates_in_order(), [it for it in words if it not in ('--examples', '--check')]
+    if any(it not in crates for it in names) or {'--examples', '--check'} <= {*words}:
         print(__doc__, file=sys.stderr)
         return 2
-    PAGE.write_text(text, encoding='utf-8')
-    return 1 if silent else 0
+    chosen = [it for it in crates if not names or it in names]
+    if '--check' in words:
+        silent = [path.relative_to(TOP) for it in chosen for path in [*files_of(it, 'specs'), *lemma_files(it)] if not comment_of(path)]
+        for path in silent:
+            print(f'{path}: begins with no comment', file=sys.stderr)
+        return 1 if silent else 0
+    (show_examples if '--examples' in words else show_files)(chosen)
+    return 0
 
 
 if __name__ == '__main__':
-    sys.exit(main())
+    signal.signal(signal.SIGPIPE, signal.SIG_DFL)
+    sys.exit(main(sys.argv[1:]))
