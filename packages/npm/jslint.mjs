@@ -16,15 +16,25 @@ async function compiled() {
 const threads = globalThis.process?.versions?.node ? await import('node:worker_threads') : null;
 const STACK_MB = 64;
 const module = await compiled();
+let deeper = null;
 
-function runDeeper(command, text, second) {
+/** A thread with more stack, which doesn't keep the process from ending. */
+function startDeeper() {
   const isDone = new Int32Array(new SharedArrayBuffer(4));
   const { port1, port2 } = new threads.MessageChannel();
   new threads.Worker(new URL('./worker.mjs', import.meta.url), {
-    workerData: { module, command, text, second, isDone, port: port2 }, transferList: [port2], resourceLimits: { stackSizeMb: STACK_MB },
+    workerData: { module, isDone, port: port2 }, transferList: [port2], resourceLimits: { stackSizeMb: STACK_MB },
   }).unref();
-  Atomics.wait(isDone, 0, 0);
-  return threads.receiveMessageOnPort(port1)?.message ?? null;
+  port1.unref();
+  return { isDone, port: port1 };
+}
+
+function runDeeper(command, text, second) {
+  deeper ??= startDeeper();
+  Atomics.store(deeper.isDone, 0, 0);
+  deeper.port.postMessage({ command, text, second });
+  Atomics.wait(deeper.isDone, 0, 0);
+  return threads.receiveMessageOnPort(deeper.port)?.message ?? null;
 }
 
 export const { run, check, fix, tree, treeText, cost, verify } = commandsOf(module, threads ? runDeeper : undefined);

@@ -1,14 +1,20 @@
-// A run in a thread of its own, with more stack: jslint.mjs starts it, and waits for it.
+// Runs commands in a thread of its own, with more stack: jslint.mjs starts it once, and waits for each answer.
 import { workerData } from 'node:worker_threads';
 import { commandsOf } from './core.mjs';
 
-const { module, command, text, second, isDone, port } = workerData;
-let answer = null;
-try {
-  answer = commandsOf(module).run(command, text, second);
-} finally {
-  port.postMessage(answer);
-  port.close();
+const { module, isDone, port } = workerData;
+const { run } = commandsOf(module);
+
+function answered({ command, text, second }) {
+  try {
+    return run(command, text, second);
+  } catch {
+    return null;
+  }
+}
+
+port.on('message', (asked) => {
+  port.postMessage(answered(asked));
   Atomics.store(isDone, 0, 1);
   Atomics.notify(isDone, 0);
-}
+});

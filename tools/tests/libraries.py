@@ -250,12 +250,18 @@ def by_node(folder):
     return answers
 
 
-def begin_c(folder):
-    rows.begin(None, by_ctypes(folder))
+def by_emulator(words):
+    """Answers by answers.c in a process of its own."""
+    process, numbers = subprocess.Popen(words, stdin=subprocess.PIPE, stdout=subprocess.PIPE), ['check', 'tree', 'fix', 'cost', 'verify']
 
-
-def begin_node(folder):
-    rows.begin(None, by_node(folder))
+    def answers(name, text, second):
+        second = second or b''
+        process.stdin.write(f'{numbers.index(name)} {len(text)} {len(second)}\n'.encode() + text + second)
+        process.stdin.flush()
+        status, is_refusal, length = map(int, process.stdout.readline().split())
+        said = process.stdout.read(length).decode(errors='replace')
+        return rows.Answer(status, '' if is_refusal else said, said if is_refusal else '')
+    return answers
 
 
 def make_node(room):
@@ -264,15 +270,24 @@ def make_node(room):
 
 
 def make_aarch64(room):
-    """The example in C for aarch64, as a program that runs here."""
-    library('aarch64-linux/libjslint.a')
-    emulator = tool('qemu-aarch64', 'qemu-aarch64-static')
-    folder = make_c(room, 'aarch64-linux', ('aarch64-linux-gnu-gcc',), LDFLAGS='-static')
-    with open(f'{room}/jslint', 'w', encoding='utf-8') as file:
-        file.write(f'#!/bin/sh\nexec {emulator} {folder}/jslint "$@"\n')
-    os.chmod(file.name, 0o755)
-    return file.name
+    """answers.c for aarch64, with what runs it here."""
+    archive, emulator = library('aarch64-linux/libjslint.a'), tool('qemu-aarch64', 'qemu-aarch64-static')
+    compiler, program = tool('aarch64-linux-gnu-gcc'), f'{room}/answers'
+    ran([compiler, '-O1', '-Wall', '-Wextra', '-Werror', '-static', f'-I{PACKAGES}/c', '-o', program, f'{TOP}/tools/tests/answers.c', archive])
+    return [emulator, program]
+
+
+def begin_c(folder):
+    rows.begin(None, by_ctypes(folder))
+
+
+def begin_node(folder):
+    rows.begin(None, by_node(folder))
+
+
+def begin_aarch64(words):
+    rows.begin(None, by_emulator(words))
 
 
 # By the name of who answers: what is made in a folder, and what each process begins with.
-ANSWERERS = {'rows_by_c': (make_c, begin_c), 'rows_by_module': (make_node, begin_node), 'rows_on_aarch64': (make_aarch64, rows.begin)}
+ANSWERERS = {'rows_by_c': (make_c, begin_c), 'rows_by_module': (make_node, begin_node), 'rows_on_aarch64': (make_aarch64, begin_aarch64)}

@@ -1,0 +1,58 @@
+#!/usr/bin/env node
+// The program's commands over the WebAssembly module: the same words, answers and statuses.
+import { readFileSync, writeSync } from 'node:fs';
+import { run } from '../jslint.mjs';
+
+const USAGE = `usage: jslint-with-proofs check [--settings SETTINGS] FILE
+       jslint-with-proofs fix|tree|cost FILE
+       jslint-with-proofs verify FILE TABLE
+`;
+
+function write(to, text) {
+  const bytes = Buffer.from(text);
+  for (let at = 0; at < bytes.length;) {
+    try {
+      at += writeSync(to, bytes, at);
+    } catch (error) {
+      if (error.code !== 'EAGAIN') throw error;
+    }
+  }
+}
+
+/** The command and the names of its files, or null where these are no words of the program. */
+function lineOf(words) {
+  const [command, ...rest] = words, at = rest.indexOf('--settings');
+  const settings = command === 'check' && at >= 0 ? rest.splice(at, 2)[1] : undefined;
+  const files = rest.filter((it) => it !== '--');
+  const isWell = ['check', 'fix', 'tree', 'cost', 'verify'].includes(command) && files.length === (command === 'verify' ? 2 : 1);
+  return isWell && (at < 0 || settings !== undefined) ? { command, names: [files[0], files[1] ?? settings] } : null;
+}
+
+function refuse(words) {
+  write(2, `jslint: ${words}\n`);
+  return 2;
+}
+
+function main(words) {
+  const line = lineOf(words);
+  if (line === null) {
+    write(words[0] === '--help' ? 1 : 2, USAGE);
+    return words[0] === '--help' ? 0 : 2;
+  }
+  let texts;
+  try {
+    // (a pipe that is a socket can't be opened by its name)
+    texts = line.names.map((it) => (it === undefined ? new Uint8Array(0) : readFileSync(it === '/dev/stdin' ? 0 : it)));
+  } catch {
+    return refuse('read failed');
+  }
+  const answer = run(line.command, ...texts);
+  try {
+    write(answer.isRefusal ? 2 : 1, answer.text);
+  } catch {
+    return refuse('write failed');
+  }
+  return answer.status;
+}
+
+process.exitCode = main(process.argv.slice(2));
