@@ -1,8 +1,8 @@
 // How long the commands take: the package in this process, the program, and acorn with escodegen where they are here.
 //
-//   node speed.mjs --program JSLINT --package FOLDER [--rounds N] SCRIPT ..
+//   NODE_PATH=/usr/share/nodejs node speed.mjs --program JSLINT --package FOLDER [--rounds N] SCRIPT ..
 //
-// Milliseconds, the least of the rounds; of the program the processor's time of the whole process. acorn and escodegen are Debian's node-acorn and
+// Milliseconds of the processor's time, the least of the rounds; of the program those of the whole process. acorn and escodegen are Debian's node-acorn and
 // node-escodegen; acorn parses and escodegen prints, which is the nearest to `fix`.
 import { spawnSync } from 'node:child_process';
 import { readFileSync } from 'node:fs';
@@ -15,14 +15,15 @@ const { values, positionals } = parseArgs({
   allowPositionals: true, options: { program: { type: 'string' }, package: { type: 'string' }, rounds: { type: 'string', default: '7' } },
 });
 const ROUNDS = Number(values.rounds);
-const require = createRequire('/usr/share/nodejs/');
+const require = createRequire(import.meta.url);
 
 /** The least and the first time of a call. */
 function timed(call) {
   const times = Array.from({ length: ROUNDS }, () => {
-    const begun = performance.now();
+    const begun = process.cpuUsage();
     call();
-    return performance.now() - begun;
+    const { user, system } = process.cpuUsage(begun);
+    return (user + system) / 1000;
   });
   return [Math.min(...times), times[0]];
 }
