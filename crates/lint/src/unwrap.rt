@@ -1,16 +1,14 @@
 //! Unwrapping a script: its text without its unnecessary pairs, comments kept.
 
-ghost use Rattle.std.specs.Prelude.{IfErr, IfOk, ◌≡◌, true, string_bytes};
-ghost use Rattle.early_errors.specs.Accepted.{Accepted};
+ghost use Rattle.std.specs.Prelude.{IfErr, IfOk, ◌≡◌, ◌≤◌, true, length, string_bytes};
 ghost use Rattle.paren_planner.specs.Plans.{IsPlan};
-ghost use Rattle.lint.specs.ReadScripts.{IsOnly};
+ghost use Rattle.lint.specs.ReadScripts.{IsReading};
 ghost use Rattle.lint.specs.Unwraps.{Unwraps, IsUnwrapped, HasNoRoom, IsUnfit, RefusesUnwrapping, SpellsWith};
 
 use crate::reader::read_script;
 use crate::unwrapping_fault::UnwrappingFault;
 use paren_planner::{Plan, plan};
 use parser::{Parsed, parse};
-use positions::groupings;
 use source_text::{Fault, Source};
 use std::alloc::{AllocError, Global};
 use tree::{Program, same_tree};
@@ -49,9 +47,8 @@ fn rewritten(
     parsed: &Parsed<'_>,
     plan: &Plan,
 ) -> Result<Vec<u8>, AllocError> {
-    let program = parsed.program();
-    let groupings = groupings(alloc, program, parsed.grouping_pairs())?;
-    unwrapped(alloc, source, program, &groupings, plan.table())
+    let pairs = parsed.grouping_pairs();
+    unwrapped(alloc, source, parsed.program(), pairs, plan.table())
 }
 
 /// The text that bytes are, if they are a script within the limits with the same tree and so many pairs.
@@ -79,15 +76,14 @@ fn validated(
     }
 }
 
-/// The text of a script as it is, with pairs just round the nodes that want them. Comments stay.
-fn unwrap_script(
+/// The same by the script's plan.
+fn unwrap_planned(
     alloc: Global,
     source: &Source<'_>,
     parsed: &Parsed<'_>,
     plan: &Plan,
 ) -> Result<String, UnwrappingFault>
-    requires accepted { Accepted source.now parsed.now.program parsed.now.pairs.items }
-    requires only { IsOnly source.now parsed.now.program parsed.now.pairs.items }
+    requires reading { IsReading source.now parsed.now.program parsed.now.pairs.items }
     requires plan { IsPlan parsed.now.program plan.now }
     ensures unwrapped { IfOk result (λ text. Unwraps source.now (string_bytes text)) }
     ensures refused { IfErr result IsUnfit }
@@ -105,6 +101,27 @@ fn unwrap_script(
     }
 }
 
+/// The text of a script as it stands, without its unnecessary pairs; comments stay.
+///
+/// # Errors
+///
+/// `OutOfMemory`, `TooLong` and `Unfit`, as `unwrap_text`.
+pub(crate) fn unwrap_script(
+    alloc: Global,
+    source: &Source<'_>,
+    parsed: &Parsed<'_>,
+) -> Result<String, UnwrappingFault>
+    requires reading { IsReading source.now parsed.now.program parsed.now.pairs.items }
+    requires small { length source.now ≤ 16777216 }
+    ensures unwrapped { IfOk result (λ text. Unwraps source.now (string_bytes text)) }
+    ensures refused { IfErr result IsUnfit }
+{
+    match plan(alloc, parsed.program()) {
+        Ok(plan) => unwrap_planned(alloc, source, parsed, &plan),
+        Err(AllocError) => Err(UnwrappingFault::Refused(Fault::OutOfMemory)),
+    }
+}
+
 /// The text of a script as it stands, without its unnecessary pairs; comments stay. What is made of the text is read again before it is
 /// answered, and compared: it has the same tree, and as few pairs as any text with that tree. A text that has no more is answered as
 /// it is.
@@ -118,13 +135,8 @@ pub fn unwrap_text(alloc: Global, source: &Source<'_>) -> Result<String, Unwrapp
     ensures stable { IfOk result (λ text. IsUnwrapped (string_bytes text)) }
     ensures refused { IfErr result (RefusesUnwrapping source.now) }
 {
-    let parsed = match read_script(alloc, source) {
-        Ok(parsed) => parsed,
-        Err(refusal) => return Err(UnwrappingFault::Refused(refusal)),
-    };
-    let plan = match plan(alloc, parsed.program()) {
-        Ok(plan) => plan,
-        Err(AllocError) => return Err(UnwrappingFault::Refused(Fault::OutOfMemory)),
-    };
-    unwrap_script(alloc, source, &parsed, &plan)
+    match read_script(alloc, source) {
+        Ok(parsed) => unwrap_script(alloc, source, &parsed),
+        Err(refusal) => Err(UnwrappingFault::Refused(refusal)),
+    }
 }

@@ -11,8 +11,7 @@ use crate::changes::{Addition, Changes, Closing};
 use language::{Rank, Start};
 use paren_planner::{CostTable, widest};
 use positions::{
-    Grouping, Position, Production, SlotCursor, admits, holds_chain, leads_chain, node_production,
-    settled,
+    Position, Production, SlotCursor, admits, holds_chain, leads_chain, node_production, settled,
 };
 use std::alloc::{AllocError, Global};
 use tree::{Kind, Node, Pair, Program};
@@ -21,8 +20,8 @@ use tree::{Kind, Node, Pair, Program};
 #[derive(Clone, Copy)]
 struct Basis<'c> {
     table: &'c CostTable,
-    /// The pairs of the text with the rows of their nodes, in order of their `(`, and so of their rows.
-    groupings: &'c [Grouping],
+    /// The pairs of the text, in order of their `(`: the node in a pair is the first with a row that starts after that.
+    pairs: &'c [Pair],
 }
 
 /// What stands round a node.
@@ -41,6 +40,8 @@ struct Choice {
     addition: Option<Addition>,
     /// It is a `new` that has no arguments in the answer.
     is_bare: bool,
+    /// Nothing in it changes.
+    is_settled: bool,
 }
 
 impl Choice {
@@ -49,6 +50,7 @@ impl Choice {
         is_grouped: false,
         addition: None,
         is_bare: false,
+        is_settled: false,
     };
 }
 
@@ -69,7 +71,7 @@ struct Chosen {
 pub fn changes_of(
     alloc: Global,
     program: &Program<'_>,
-    groupings: &[Grouping],
+    pairs: &[Pair],
     table: &CostTable,
 ) -> Result<Changes, AllocError> {
     let mut chosen = Chosen {
@@ -80,7 +82,7 @@ pub fn changes_of(
         in_chain: false,
         is_bare_callee: false,
     };
-    let basis = Basis { table, groupings };
+    let basis = Basis { table, pairs };
     choose_node(program.root(), Position::Script, around, basis, &mut chosen)?;
     Ok(chosen.changes)
 }
@@ -96,6 +98,9 @@ fn choose_node(
 ) -> Result<(), AllocError>
     requires { around.in_chain ≡ true → chained (node_tree node) ≡ true }
 {
+    if basis.leaves_alone(node, position, chosen.passed) {
+        return Ok(());
+    }
     let own = widest(position);
     let Some(production) = node_production(node, own, around.in_chain) else {
         return Ok(());
@@ -108,8 +113,10 @@ fn choose_node(
         basis,
         chosen,
     )?;
-    let inside = inside(choice.is_grouped, position);
-    choose_parts(node, own, inside, production, choice.is_bare, basis, chosen)?;
+    if !choice.is_settled {
+        let inside = inside(choice.is_grouped, position);
+        choose_parts(node, own, inside, production, choice.is_bare, basis, chosen)?;
+    }
     if let Some(addition) = choice.addition {
         chosen.changes.closed.push(Closing {
             at: node.span().end,
@@ -181,20 +188,23 @@ fn choose(
     let Some(row) = node.row() else {
         return Ok(Choice::PLAIN);
     };
-    let row = row as usize;
-    let is_paired = basis.is_paired(row, chosen.passed);
-    let is_grouped = basis.is_grouped(row, position, production, is_paired);
-    basis.pass_pairs(row, is_grouped, chosen)?;
+    let span = node.span();
+    let costs = basis.costs(row as usize, position, production);
+    let is_paired = basis.starts_before(span.start, chosen.passed);
+    let is_grouped = costs.want_pair(is_paired);
+    basis.pass_pairs(span.start, is_grouped, chosen)?;
     let is_bare = basis.is_bare_new(node, chosen.passed);
     let is_called = is_bare && !is_grouped && !is_bare_callee && wants_arguments(position);
     let is_opened = is_grouped && !is_paired;
     if is_opened {
-        chosen.changes.opened.push(node.span().start)?;
+        chosen.changes.opened.push(span.start)?;
     }
+    let is_free = !is_grouped && !is_called && matches!(costs.direct, Some(0));
     Ok(Choice {
         is_grouped,
         addition: addition(is_opened, is_called),
         is_bare: is_bare && !is_called,
+        is_settled: is_free && !basis.starts_before(span.end, chosen.passed),
     })
 }
 
@@ -220,44 +230,50 @@ fn wants_arguments(position: Position) -> bool {
 }
 
 impl Basis<'_> {
-    /// Whether the text has a pair round the node of a row; `passed` pairs stand before.
-    fn is_paired(&self, row: usize, passed: usize) -> bool {
-        match self.groupings.get(passed) {
-            Some(grouping) => grouping.row == row,
+    /// Whether nothing changes in a node without a row, since the text has no pair in it: a statement, or another node that is spelled
+    /// alike wherever the node above stands. `passed` pairs stand before it.
+    fn leaves_alone(&self, node: Node, position: Position, passed: usize) -> bool {
+        match position {
+            Position::Expression { .. } | Position::Spine { .. } | Position::Pattern { .. } =>
+                false,
+            _ => !self.starts_before(node.span().end, passed),
+        }
+    }
+
+    /// Whether the next pair, after so many, starts before a place.
+    fn starts_before(&self, place: usize, passed: usize) -> bool {
+        match self.pairs.get(passed) {
+            Some(pair) => pair.left < place,
             None => false,
         }
     }
 
-    /// Whether the node of a row is grouped at a position: where it costs more without a pair, and where it costs as much and the text
-    /// has one.
-    fn is_grouped(
-        &self,
-        row: usize,
-        position: Position,
-        production: Production,
-        is_paired: bool,
-    ) -> bool {
-        let Some(cells) = cells_of(self.table, row) else {
-            return false;
-        };
+    /// What the node of a row costs at a position.
+    fn costs(&self, row: usize, position: Position, production: Production) -> Costs {
+        let cells = cells_of(self.table, row);
         let asks = production.asks();
-        if !admits(position, asks.rank, asks.needs_in, asks.opens) {
-            return true;
+        let direct = if admits(position, asks.rank, asks.needs_in, asks.opens) {
+            cell_at(cells, position)
+        } else {
+            None
+        };
+        Costs {
+            direct,
+            inside: cells[0],
         }
-        is_dearer(cell_at(cells, position), cells[0], is_paired)
     }
 
-    /// Goes past the pairs of a row. They go, but for the innermost of a grouped node.
+    /// Goes past the pairs of the node that starts at a place. They go, but for the innermost of a grouped node.
     fn pass_pairs(
         &self,
-        row: usize,
+        start: usize,
         is_grouped: bool,
         chosen: &mut Chosen,
     ) -> Result<(), AllocError> {
         let mut next = chosen.passed;
-        while let Some(pair) = self.pair_of(row, next) {
+        while let Some(pair) = self.pair_before(start, next) {
             next += 1;
-            if !is_grouped || self.is_paired(row, next) {
+            if !is_grouped || self.starts_before(start, next) {
                 chosen.changes.removed.push(pair)?;
             }
         }
@@ -265,15 +281,12 @@ impl Basis<'_> {
         Ok(())
     }
 
-    /// The pair with an index, if its node has this row.
-    fn pair_of(&self, row: usize, index: usize) -> Option<Pair>
-        ensures { IfSome result (λ _. index < length self.now.groupings.now) }
+    /// The pair with an index, if it starts before a place.
+    fn pair_before(&self, place: usize, index: usize) -> Option<Pair>
+        ensures { IfSome result (λ _. index < length self.now.pairs.now) }
     {
-        match self.groupings.get(index) {
-            Some(grouping) if grouping.row == row => Some(Pair {
-                left: grouping.left,
-                right: grouping.right,
-            }),
+        match self.pairs.get(index) {
+            Some(pair) if pair.left < place => Some(*pair),
             _ => None,
         }
     }
@@ -286,24 +299,44 @@ impl Basis<'_> {
         let Some(callee) = node.part(0) else {
             return false;
         };
-        let Some(row) = callee.row() else {
-            return false;
-        };
-        let end = match self.pair_of(row as usize, passed) {
+        let span = callee.span();
+        let end = match self.pair_before(span.start, passed) {
             Some(pair) => pair.right.saturating_add(1),
-            None => callee.span().end,
+            None => span.end,
         };
         end == node.span().end
     }
 }
 
-/// The cells of a row; none where there is no such row.
-fn cells_of(table: &CostTable, row: usize) -> Option<[Option<u32>; 8]> {
+/// What a node costs at a position: the pairs in it where it stands without a pair, none where it can't, and where it stands in one.
+#[derive(Clone, Copy)]
+struct Costs {
+    direct: Option<u32>,
+    inside: Option<u32>,
+}
+
+impl Costs {
+    /// Whether a node costs more without a pair than with one, or as much and the text has one.
+    fn want_pair(self, is_paired: bool) -> bool
+        ensures { result ≡ costs_more self.direct self.inside is_paired }
+    {
+        match (self.direct, self.inside) {
+            (None, _) => true,
+            (Some(_), None) => false,
+            (Some(direct), Some(inside)) => {
+                direct > inside && (is_paired || direct - inside > 1)
+            }
+        }
+    }
+}
+
+/// The cells of a row; zeros where there is no such row.
+fn cells_of(table: &CostTable, row: usize) -> [Option<u32>; 8] {
     if row < 1 || row > table.row_count() {
-        return None;
+        return [Some(0u32); 8];
     }
     let (_, cells) = table.row(row);
-    Some(cells)
+    cells
 }
 
 /// The cell of a position: with In, without In, and where only what is at Member may stand, at each start.
@@ -327,16 +360,5 @@ fn cell_at(cells: [Option<u32>; 8], position: Position) -> Option<u32> {
         (false, false, Start::Any) => cells[3],
         (false, false, Start::NoBrace) => cells[4],
         (false, false, Start::Statement) => None,
-    }
-}
-
-/// Whether a node costs more without a pair than with one, or as much and the text has one.
-fn is_dearer(direct: Option<u32>, inside: Option<u32>, is_paired: bool) -> bool
-    ensures { result ≡ costs_more direct inside is_paired }
-{
-    match (direct, inside) {
-        (None, _) => true,
-        (Some(_), None) => false,
-        (Some(direct), Some(inside)) => { direct > inside && (is_paired || direct - inside > 1) }
     }
 }

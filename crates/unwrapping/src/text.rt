@@ -4,14 +4,13 @@ use crate::choice::changes_of;
 use crate::lexeme::notes;
 use crate::writer::rewritten;
 use paren_planner::CostTable;
-use positions::Grouping;
 use source_text::Source;
 use std::alloc::{AllocError, Global};
-use tree::Program;
+use tree::{Pair, Program};
 
 /// The text of a script as it is, with pairs just round the nodes that want them: each where the text has it, if that costs no more.
-/// Comments stay, and so do blanks and lines where no parenthesis goes. `table` is the cost table of the script's plan, `groupings` are
-/// its pairs with their rows.
+/// Comments stay, and so do blanks and lines where no parenthesis goes. `pairs` are the grouping pairs of the text, in order of their
+/// `(`, and `table` is the cost table of the script's plan.
 ///
 /// # Errors
 ///
@@ -20,10 +19,10 @@ pub fn unwrapped(
     alloc: Global,
     source: &Source<'_>,
     program: &Program<'_>,
-    groupings: &[Grouping],
+    pairs: &[Pair],
     table: &CostTable,
 ) -> Result<Vec<u8>, AllocError> {
-    let changes = changes_of(alloc, program, groupings, table)?;
+    let changes = changes_of(alloc, program, pairs, table)?;
     let notes = notes(alloc, source, program)?;
     rewritten(alloc, source, &notes, &changes)
 }

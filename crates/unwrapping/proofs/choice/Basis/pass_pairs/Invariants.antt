@@ -2,4 +2,4 @@ use Rattle.std.proofs.Common.{◌-◌, length}
 use Rattle.unwrapping.proofs.choice.Basis.pass_pairs.Given as goal
 
 abbrev pub decreases-loop-pair : goal.decreases-loop-pair
-decreases-loop-pair l = length l.self.groupings.now - l.next
+decreases-loop-pair l = length l.self.pairs.now - l.next
