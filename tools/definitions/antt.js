@@ -15,17 +15,17 @@ const path = require('path');
 class AnttError extends Error {}
 
 // Of proofs/, only examples and the words that they are written with.
-const EXAMPLES = /\/(language|early_errors|scopes)\/proofs\/(Trees|Sources|Nest|Tables|\w*Examples|\w*Rows)\.antt$/;
+const EXAMPLES = /\/(?:language\/proofs\/examples|(?:early_errors|scopes)\/proofs)\/(Trees|Sources|Tables|\w*Examples|\w*Rows)\.antt$/;
 // Modules that aren't loaded, by crate: they speak of the program's own values (its trees, devices, tables), not of texts and trees.
 const LEFT_OUT = {
   source_text: 'specs: Io Memory Source LineBytes Writing',
-  tokens: 'specs: Scanned Reading Closing Fronts States Marks Sets Escaped Laws',
+  tokens: 'specs: Scanned Reading Closers TokenStarts States PunctuatorSets Sets Escaped Laws',
   tree: 'specs: Whole Places PartNumber Linked Flat Growth NodeText TreeCode Sizes Node Fields',
   language: 'specs: Promises',
   early_errors: 'specs: Owns Walk Walks; proofs: Tables',
   name_tables: 'specs: Keys PatternParts Sets Tables',
   scopes: 'specs: Shown Walks Gathered; proofs: Tables',
-  rules: 'specs: Toml Order Run Views Used Nodes Grows Refusals',
+  rules: 'specs: Toml Order Run RuleViews Used Nodes Appends Refusals',
 };
 const LEFT_OUT_NAMES = new Set(Object.entries(LEFT_OUT).flatMap(([crate, parts]) => parts.split('; ').flatMap((part) => {
   const [folder, names] = part.split(': ');

@@ -14,15 +14,15 @@ const NAMES = {
   is_lean: ['is_lean', 'Uses', 'tree'],
   expr: ['expr', 'Pieces', 'language'], script: ['script', 'Pieces', 'language'],
   // the relation
-  ways: ['ways', 'Grammar', 'language'], place: ['place', 'Derivation', 'language'], rows: ['rows', 'Positions', 'language'],
+  ways: ['ways', 'Grammar', 'language'], place: ['place', 'Derivation', 'language'], rows: ['rows', 'RowPositions', 'language'],
   is_token: ['is_token', 'Token', 'language'], is_mark: ['is_mark', 'Token', 'language'], as_read: ['as_read', 'Token', 'language'],
-  may_miss: ['may_miss', 'Edges', 'language'], is_semicolon: ['is_semicolon', 'Edges', 'language'],
+  may_miss: ['may_omit_semicolon', 'Edges', 'language'], is_semicolon: ['is_semicolon', 'Edges', 'language'],
   beginning: ['beginning', 'Cursor', 'language'],
   // a search that the definitions have themselves
   spelled: ['spelled', 'Search', 'language'],
   // costs and layout
   least: ['least', 'Cost', 'language'], cells: ['cells', 'Cost', 'language'], fixed_text: ['fixed_text', 'Layout', 'language'], layout: ['layout', 'Layout', 'language'],
-  fits: ['fits', 'Fits', 'language'], printed: ['printed', 'Printed', 'language'], items_text: ['items_text', 'Printed', 'language'], stand_apart: ['stand_apart', 'Readable', 'language'],
+  fits: ['fits', 'LayoutFits', 'language'], printed: ['printed', 'Printed', 'language'], items_text: ['items_text', 'Printed', 'language'], stand_apart: ['stand_apart', 'Readable', 'language'],
   wrapped_rows: ['wrapped_rows', 'Layout', 'language'], row_nodes: ['row_nodes', 'Claims', 'language'], cell_bound: ['cell_bound', 'Claims', 'language'],
   total_bound: ['total_bound', 'Claims', 'language'], contexts: ['contexts', 'Claims', 'language'],
   // early errors
@@ -34,7 +34,7 @@ const NAMES = {
   literal_units: ['literal_units', 'Strings', 'language'], cooks: ['cooks', 'Cooked', 'early_errors'],
 };
 // The constructors of the classes and goals of tokens, by the words of the model; enumerations of the Rust source.
-const CLASS = { name: 'Name', punctuator: 'Punctuator', number: 'Number', string: 'Text', template: 'Template', regexp: 'RegExp', end: 'End' };
+const CLASS = { name: 'IdentifierName', punctuator: 'Punctuator', number: 'NumericLiteral', string: 'StringLiteral', template: 'Template', regexp: 'RegularExpressionLiteral', end: 'End' };
 const GOALS = ['Div', 'RegExp', 'TemplateTail'];
 const FORM = { init: 'Init', get: 'Get', set: 'Set', method: 'Method', shorthand: 'Shorthand', constructor: 'Constructor' };
 const FLAGS = ['computed', 'optional', 'is_static', 'prefix', 'directive', 'expression'];
@@ -45,7 +45,7 @@ class Model {
     for (const [key, where] of Object.entries(NAMES)) this[key] = this.spec.fn(...where);
     const unwrap = (v) => (typeof v === 'function' ? v() : v);
     this.none = unwrap(this.none); this.script = unwrap(this.script); this.contexts = unwrap(this.contexts); this.beginning = unwrap(this.beginning);
-    this.classes = Object.fromEntries(Object.entries(CLASS).map(([k, v]) => [k, this.spec.variant('Class', v)]));
+    this.classes = Object.fromEntries(Object.entries(CLASS).map(([k, v]) => [k, this.spec.variant('TokenClass', v)]));
     this.goals = Object.fromEntries(GOALS.map((v) => [v, this.spec.variant('Goal', v)]));
     this.forms = Object.fromEntries(Object.entries(FORM).map(([k, v]) => [k, this.spec.variant('Form', v)]));
     const wide = [this.spec.variant('Rank', 'Expression'), true, this.spec.variant('Start', 'Any')];

@@ -10,7 +10,7 @@ const { GOAL, makeSource, scan, stringValue, templateValue, lineColumn } = requi
 const points = (text) => [...text].map((c) => c.codePointAt(0));
 const units = (text) => Array.from({ length: text.length }, (_, i) => text.charCodeAt(i));
 const show = (cs) => JSON.stringify(String.fromCodePoint(...cs));
-const WORD = { name: 'Name', punctuator: 'Punctuator', number: 'Number', string: 'Text', template: 'Template', regexp: 'RegExp', end: 'End' };
+const WORD = { name: 'IdentifierName', punctuator: 'Punctuator', number: 'NumericLiteral', string: 'StringLiteral', template: 'Template', regexp: 'RegularExpressionLiteral', end: 'End' };
 const yes = (o) => (o.$.name === 'None' ? null : antt.toArray(o.a[0]));
 
 // [{what, detail}] of one text; `info` counts

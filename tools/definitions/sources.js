@@ -6,7 +6,7 @@ const path = require('path');
 const antt = require('./antt.js');
 const { tokensOf } = require('./tree_of.js');
 
-const PROOFS = path.join(__dirname, '../../crates/language/proofs');
+const PROOFS = path.join(__dirname, '../../crates/language/proofs/examples');
 const CALL = /\((tokens|tokens_with_regexps) ("(?:[^"\\]|\\.)*")\)/g;
 
 // problems [{what, text, detail}], and how many texts were looked at

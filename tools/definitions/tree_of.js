@@ -11,7 +11,7 @@ const { parseOnly } = require(path.join(REFERENCE, 'parse.js'));
 const { GOAL, scan } = require(path.join(REFERENCE, 'scan.js'));
 
 const quoted = (s) => '"' + s.replace(/\\/g, '\\\\').replace(/"/g, '\\"').replace(/\n/g, '\\n') + '"';
-const KIND = { string: 'Text', name: 'Name', punctuator: 'Punctuator', number: 'Number', template: 'Template', regexp: 'RegExp', end: 'End' };
+const KIND = { string: 'StringLiteral', name: 'IdentifierName', punctuator: 'Punctuator', number: 'NumericLiteral', template: 'Template', regexp: 'RegularExpressionLiteral', end: 'End' };
 const FORMS = { get: 'Get', set: 'Set', method: 'Method', shorthand: 'Shorthand', constructor: 'Constructor' };
 const WRAPPERS = { computed: 'computed', optional: 'optional', is_static: 'static_one', prefix: 'before', directive: 'directive', expression: 'short' };
 

@@ -70,8 +70,8 @@ def with_holes(pieces, kept):
 def cited(folder, crate, file, seen):
     """Adds the lemma files that this one cites, and those that they cite."""
     with open(f'{folder}/{file}.antt') as it:
-        names = re.findall(rf'\bRattle\.{crate}\.proofs\.(\w+)', it.read())
-    for name in names:
+        names = re.findall(rf'\bRattle\.{crate}\.proofs\.((?:[a-z]\w*\.)?[A-Z]\w*)', it.read())
+    for name in (it.replace('.', '/') for it in names):
         if name not in seen and os.path.exists(f'{folder}/{name}.antt'):
             seen.append(name)
             cited(folder, crate, name, seen)
@@ -88,7 +88,11 @@ def copied(crate, files, room):
     for file in files:
         cited(f'{crate.folder}/proofs', crate.name, file, needed)
     for name in needed:
-        shutil.copy(f'{crate.folder}/proofs/{name}.antt', f'{room}/proofs')
+        os.makedirs(os.path.dirname(f'{room}/proofs/{name}'), exist_ok=True)
+        shutil.copy(f'{crate.folder}/proofs/{name}.antt', f'{room}/proofs/{name}.antt')
+        node = os.path.dirname(name)
+        if node:
+            shutil.copy(f'{crate.folder}/proofs/{node}.antt', f'{room}/proofs/{node}.antt')
     return needed
 
 

@@ -39,11 +39,14 @@ def crates_in_order():
 
 
 def files_of(crate, folder):
-    return [path for path in sorted((TOP / 'crates' / crate / folder).glob('*.antt')) if path.name != 'Lib.antt']
+    return [path for path in sorted((TOP / 'crates' / crate / folder).glob('**/*.antt')) if path.name not in ('Lib.antt', *ANSWERS) and not path.with_suffix('').is_dir()]
 
 
 def lemma_files(crate):
     return files_of(crate, 'proofs')
+
+
+ANSWERS = ('Answers.antt', 'Invariants.antt', 'Proof.antt')
 
 
 def comment_of(path):
@@ -60,7 +63,7 @@ def comment_of(path):
 def show_files(crates):
     for crate in crates:
         specs, files = files_of(crate, 'specs'), lemma_files(crate)
-        answers = sum(1 for path in (TOP / 'crates' / crate / 'proofs').glob('*/**/*.antt'))
+        answers = sum(1 for path in (TOP / 'crates' / crate / 'proofs').glob('**/*.antt') if path.name in ANSWERS)
         print(f'{crate}: {len(specs)} files of definitions, {len(files)} of lemmas, {answers} of answers')
         for path in [*specs, *files]:
             print(f'    {path.parent.name}/{path.stem}: {comment_of(path)}')

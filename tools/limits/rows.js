@@ -2,7 +2,7 @@
 // Writes the rows of texts at the limits: `limits`, where each construct stands in itself up to the greatest height, and `mixes`, where
 // a construct, or two in turn, go to the greatest height with the most open parentheses. The answers are those of the plain model.
 //
-//   node rows.js limits|mixes > ../../crates/rows/data/limits|mixes
+//   node rows.js limits|mixes > ../../crates/cases/data/limits|mixes
 
 const { HOLDERS } = require('../parser/compare.js');
 const { runInBigStack } = require('../reference/bigstack.js');

@@ -3,7 +3,7 @@ its contract is taken as it stands. A check of it takes 10 to 60 seconds, where 
 
     stub.py CRATE COPY [FUNCTION]
 
-CRATE is crates/descent, COPY the same folder of a copy of the repository (with the other crates' out/). Its answers and invariants are
+CRATE is crates/recursive_descent, COPY the same folder of a copy of the repository (with the other crates' out/). Its answers and invariants are
 taken from proofs/position/Parser/+grammar of CRATE, by their names; with no FUNCTION all of the cycle refuse, for a check of another
 function. In COPY: rt check --only position::Parser::FUNCTION --allow-holes
 """

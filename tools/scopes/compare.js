@@ -24,7 +24,7 @@ const option = (name, otherwise) => { const i = process.argv.indexOf('--' + name
 
 // ---------------------------------------------------------------- both sides in one form
 
-const KINDS = { Var: 'var', Let: 'let', Const: 'const', Function: 'function', Class: 'class', Param: 'param', Catch: 'catch', Itself: 'self' };
+const KINDS = { Var: 'var', Let: 'let', Const: 'const', Function: 'function', Class: 'class', Param: 'param', Catch: 'catch', OwnName: 'self' };
 const opt = (o) => (o.a.length === 0 ? null : o.a[0]);
 
 function ofDefinitions(found) {

@@ -8,7 +8,7 @@ const { bare, quoted, term } = require('../definitions/tree_of.js');
 const { parseOnly } = require('../reference/parse.js');
 const { resolve } = require('../reference/scopes.js');
 
-const KINDS = { var: 'Var', let: 'Let', const: 'Const', function: 'Function', class: 'Class', param: 'Param', catch: 'Catch', self: 'Itself' };
+const KINDS = { var: 'Var', let: 'Let', const: 'Const', function: 'Function', class: 'Class', param: 'Param', catch: 'Catch', self: 'OwnName' };
 const list = (items) => items.map((x) => x + ' ∷ ').join('') + '[]';
 const wordOf = (r) => (r.underTypeof ? 'Typeof' : r.reads && r.writes ? 'ReadWrite' : r.writes ? 'Write' : 'Read');
 

@@ -6,7 +6,7 @@ import time
 
 TOP = os.path.dirname(os.path.dirname(os.path.dirname(os.path.realpath(__file__))))
 SOURCE = 'crates/tree/src/kind.rt'
-OTHERS = 'crates/rows/src/main.rt'
+OTHERS = 'crates/cases/src/main.rt'
 # What it may call; no python3 and no toolchain.
 TOOLS = 'sh find sha256sum cksum sort xargs touch mv rm mkdir readlink'.split()
 

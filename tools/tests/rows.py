@@ -1,4 +1,4 @@
-"""The rows of crates/rows/data that the command line can say: what a command answers for their texts, beside what they want.
+"""The rows of crates/cases/data that the command line can say: what a command answers for their texts, beside what they want.
 
 Some calls of `rows` are less than a command: `pairs`, `items`, `alike`, `extra`, `plan` and `tree` ask the parser alone. Where a command
 finds an early error in such a row's text, it holds so much that the text is a script, as the row has it.
@@ -405,4 +405,4 @@ def try_row(row):
         found = CALLS[name]([meant(it) for it in texts], meant(want))
     except Exception as error:
         found = f'{type(error).__name__}: {error}'
-    return found and f'crates/rows/data/{at}: {line[:300]}\n    is {found[:900]}'
+    return found and f'crates/cases/data/{at}: {line[:300]}\n    is {found[:900]}'

@@ -6,7 +6,7 @@
 // The texts are COUNT of each of four kinds (sentences, mutated programs, constructs that stand in each other, scripts dense in names,
 // functions and classes), those of them that the model accepts once as they are and three times with pairs round expressions, and blanks,
 // line ends and comments between tokens; or those of a file, with U+0000 between them; or, with --cases, the worked texts of
-// crates/rows/data/unwrap alone. Runs the program dump.txt over copies of the crates by `rt try` (no proof). Exit status 1 where anything
+// crates/cases/data/unwrap alone. Runs the program dump.txt over copies of the crates by `rt try` (no proof). Exit status 1 where anything
 // disagrees, or where check.js finds a fault in an answer.
 
 const fs = require('node:fs');

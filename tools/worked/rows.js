@@ -1,7 +1,7 @@
 'use strict';
 // Writes the rows of the worked texts (texts.js) that are made by rule. The answers are those of the plain model.
 //
-//   node rows.js beginnings|flat|failures|worked|resolved|calls|gauged > ../../crates/rows/data/NAME
+//   node rows.js beginnings|flat|failures|worked|resolved|calls|gauged > ../../crates/cases/data/NAME
 
 const fs = require('node:fs');
 const path = require('node:path');
@@ -167,7 +167,7 @@ const worked = () => [
 
 // ---------------------------------------------------------------- scopes
 
-const KINDS = { var: 'Var', let: 'Let', const: 'Const', function: 'Function', class: 'Class', param: 'Param', catch: 'Catch', self: 'Itself' };
+const KINDS = { var: 'Var', let: 'Let', const: 'Const', function: 'Function', class: 'Class', param: 'Param', catch: 'Catch', self: 'OwnName' };
 
 function isSettled({ kind, initialised, inLoopHead, inForHead }) {
   if (kind === 'var') return Boolean(initialised);

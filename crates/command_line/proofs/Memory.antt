@@ -3,8 +3,8 @@ use Rattle.std.proofs.Common.{◌≡◌, ℕ, List, Bool, refl, sym, subst}
 use Rattle.std.specs.Char.{encode_utf8}
 use Rattle.std.specs.Prelude.{Option}
 use Rattle.std.specs.Str.{chars}
-use Rattle.streams.specs.Refusal.{WritesLine, refusal_line}
-use Rattle.streams.specs.Refused.{no_memory}
+use Rattle.commands.specs.Refusal.{WritesLine, refusal_line}
+use Rattle.commands.specs.Refused.{no_memory}
 use Rattle.command_line.specs.Shown.{WritesEscaped, escaped}
 
 line_shown : escaped (refusal_line no_memory) ≡ refusal_line no_memory

@@ -4,9 +4,9 @@ use Rattle.clap.specs.Words.{App, Row, Rule, Text, first_of, new_app, new_rule, 
 use Rattle.clap.specs.Simple.{on_top}
 use Rattle.clap.specs.declared.error.kind.ErrorKind.{ErrorKind}
 use Rattle.clap.specs.declared.error.kind.ErrorKind.TheVariants.{DisplayHelp, DisplayVersion}
-use Rattle.streams.specs.Commands.{word_of}
-use Rattle.streams.specs.declared.command.Command.{Command}
-use Rattle.streams.specs.declared.command.Command.TheVariants.{Check, Tree, Fix, Cost, Verify}
+use Rattle.commands.specs.Commands.{word_of}
+use Rattle.commands.specs.declared.command.Command.{Command}
+use Rattle.commands.specs.declared.command.Command.TheVariants.{Check, Tree, Fix, Cost, Verify}
 use Rattle.command_line.specs.declared.line.Line.{Line}
 
 -- an argument that must stand there, by its id: FILE and TABLE

@@ -2,7 +2,7 @@
 use Rattle.std.specs.Prelude.{◌≡◌, ℕ, ◌/◌, ◌%◌, List, [], ◌∷◌, ◌++◌, Bool, not, ◌&&◌, ◌||◌, ◌==◌, if◌then◌else◌, Option, codes, chars, encode_utf8_all, flat_map, map, nat_lt}
 use Rattle.std.specs.Char.{digit_char, is_control}
 use Rattle.std.specs.Int.{is_in_range}
-use Rattle.streams.specs.Refusal.{WritesLine}
+use Rattle.commands.specs.Refusal.{WritesLine}
 
 -- Unicode's Bidi_Control: the characters that turn a text round
 abbrev pub is_bidi_control : ℕ → Bool

@@ -3,15 +3,15 @@
 ghost use Rattle.std.specs.Prelude.{◌≡◌, ◌↔◌, IfErr, IfOk, IsOkAnd, Some, [], false, map, true};
 ghost use Rattle.clap.specs.Words.{FailsBy, app_of, fault_of, kind_of, subcommand_of, subcommand_rows_of, takes, with_subcommand};
 ghost use Rattle.clap.specs.declared.builder.command.Command.TheViews.{out-Command};
-ghost use Rattle.streams.specs.Commands.{word_of};
-ghost use Rattle.streams.specs.declared.command.Command.TheVariants.{Check, Verify};
+ghost use Rattle.commands.specs.Commands.{word_of};
+ghost use Rattle.commands.specs.declared.command.Command.TheVariants.{Check, Verify};
 ghost use Rattle.command_line.specs.CommandLine.{Chooses, MeetsCommand, bare_app, command_app, file_app, jslint_app};
 
 use crate::help;
 use clap::error::ErrorKind;
 use clap::{Arg, ArgMatches, Error};
+use commands::Command;
 use std::alloc::{AllocError, Global};
-use streams::Command;
 
 /// What a command line asks for.
 #[derive(Clone, Copy, Debug, PartialEq, Eq)]

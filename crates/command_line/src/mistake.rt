@@ -5,14 +5,14 @@ ghost use Rattle.clap.specs.Words.{kind_of};
 ghost use Rattle.command_line.specs.CommandLine.{is_asked_for, not_utf8_line};
 ghost use Rattle.command_line.specs.Shown.{AreOnOneLine, WritesEscaped, escaped, on_one_line};
 ghost use Rattle.source_text.specs.declared.fault.Fault.TheVariants.{OutOfMemory, WriteFailed};
-ghost use Rattle.streams.specs.Refusal.{WritesLine, refusal_line};
+ghost use Rattle.commands.specs.Refusal.{WritesLine, refusal_line};
 
 use crate::line::jslint_command;
 use crate::shown::{escaped_text, text_on_one_line};
 use clap::error::ErrorKind;
+use commands::{Refused, write_refusal};
 use source_text::{Fault, Sink, write_text};
 use std::alloc::{AllocError, Global};
-use streams::{Refused, write_refusal};
 
 /// The line for a word that isn't UTF-8.
 const NOT_UTF8: &[u8] = b"jslint: the command line is not UTF-8\n";

@@ -11,7 +11,7 @@ use Rattle.language.specs.Claims.{Table, table_cell, cell_bound, total_bound, ro
 use Rattle.cost_certificate.specs.Types.{has_type, same_type, all_typed}
 use Rattle.cost_certificate.specs.Faults.{TableFault, or_else, shape_fault, lacks, is_above, some_cell, row_fault, rows_fault, total_fault, first_fault}
 use Rattle.cost_certificate.proofs.SoundBound.{below_at_least}
-use Rattle.cost_certificate.proofs.Named.{same_by_name, same_itself}
+use Rattle.cost_certificate.proofs.KindNames.{same_by_name, same_itself}
 
 -- Faults that are none
 

@@ -1,20 +1,20 @@
 mod FormExamples
 mod FaultExamples
-pub mod Named
+pub mod KindNames
 pub mod SoundBound
 pub mod PlanTables
 pub mod PlanForms
 pub mod Faultless
-pub mod Passing
+pub mod CheckedRows
 pub mod CellRows
 pub mod Bounds
-pub mod Answering
+pub mod FaultAnswers
 pub mod Numerals
-pub mod Splitting
-pub mod Reading
-pub mod Departing
+pub mod LinesAndWords
+pub mod TableTexts
+pub mod FirstWrongLine
 pub mod Decimal
-pub mod Lining
+pub mod WrittenLines
 pub mod Fronts
 pub mod CellWords
 pub mod RowLines

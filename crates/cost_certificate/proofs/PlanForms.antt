@@ -17,23 +17,23 @@ use Rattle.language.specs.declared.Start.TheVariants.{Any, NoBrace, Statement}
 use Rattle.language.specs.Pieces.{Role, expr, script, PieceOf, Spelling}
 use Rattle.language.specs.Expressions.{expressions}
 use Rattle.language.specs.Grammar.{ways, ways_bare, spellings}
-use Rattle.language.specs.Positions.{first_roles, widest, rows, parts_rows}
+use Rattle.language.specs.RowPositions.{first_roles, widest, rows, parts_rows}
 use Rattle.language.specs.Derivation.{Among}
 use Rattle.language.specs.Cost.{cell, cells, least}
 use Rattle.language.specs.Claims.{row_nodes, parts_row_nodes, Derives}
-use Rattle.language.proofs.Domination.{ways_of}
-use Rattle.positions.proofs.Slots.{is_wide, all_pass, parts_wide}
-use Rattle.paren_planner.specs.declared.planned.Plan.{Plan}
+use Rattle.language.proofs.lower_bound.Domination.{ways_of}
+use Rattle.spellings.proofs.Slots.{is_wide, all_pass, parts_wide}
+use Rattle.paren_planner.specs.declared.wrap_plan.Plan.{Plan}
 use Rattle.paren_planner.specs.Plans.{IsPlan}
 use Rattle.paren_planner.specs.Rows.{shown, celled}
 use Rattle.paren_planner.specs.Tables.{table_of}
-use Rattle.paren_planner.proofs.Bounded.{split_at, nodes-length}
+use Rattle.paren_planner.proofs.CellBounds.{split_at, nodes-length}
 use Rattle.paren_planner.proofs.Bounds.{Below, nothing, something, below_more, least_below, cell_below}
-use Rattle.paren_planner.proofs.Celled.{wide_itself, wide_start}
+use Rattle.paren_planner.proofs.CellRows.{wide_itself, wide_start}
 use Rattle.paren_planner.proofs.Somewhere.{row_somewhere}
 use Rattle.cost_certificate.specs.Types.{has_type}
 use Rattle.cost_certificate.specs.Forms.{is_small, is_row, all_rows, is_formed}
-use Rattle.cost_certificate.proofs.Reading.{small_number}
+use Rattle.cost_certificate.proofs.TableTexts.{small_number}
 
 -- Types
 
@@ -151,6 +151,6 @@ plan_formed text n P p u d few h =
     let formed : all_rows (map shown p.table.rows.items) ≡ true =
     subst (λ xs. all_rows xs ≡ true) (sym h.cells)
     (rows_formed (row_nodes n script)
-    (λ k m e. let x = row_somewhere text n P u d k m e in row_formed m (way_typed m x.rank x.with_in x.start x.way x.among) (let l = inner_rows n script refl k m e in omega (arith, l, few)))) in
+    (λ k m e. let x = row_somewhere text n P u d k m e in row_formed m (way_typed m x.rank x.has_in x.start x.way x.among) (let l = inner_rows n script refl k m e in omega (arith, l, few)))) in
     and_from _ _ (small_number (length (map shown p.table.rows.items)) (omega (arith, short, whole)))
     (and_from _ _ formed (small_number p.table.total (total_small (least n script) p.table.total (below_more (least_below n script) few) h.total)))

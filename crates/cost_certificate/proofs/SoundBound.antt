@@ -9,26 +9,26 @@ use Rattle.language.specs.declared.Rank.{Rank}
 use Rattle.language.specs.declared.Rank.TheVariants.{Expression, Member}
 use Rattle.language.specs.declared.Start.{Start}
 use Rattle.language.specs.declared.Start.TheVariants.{Any, NoBrace, Statement}
-use Rattle.language.specs.Words.{tightness}
+use Rattle.language.specs.Vocabulary.{precedence}
 use Rattle.language.specs.Pieces.{Role, expr, script, PieceOf}
 use Rattle.language.specs.Token.{Token}
 use Rattle.language.specs.Grammar.{ways}
-use Rattle.language.specs.Positions.{roles, first_roles, widest, rows}
+use Rattle.language.specs.RowPositions.{roles, first_roles, widest, rows}
 use Rattle.language.specs.Derivation.{Among, Spells, direct, grouped, Runs, done, step, opened, closed, within, missing}
 use Rattle.language.specs.Places.{NextIn, itself}
 use Rattle.tokens.specs.Reading.{any_goal}
 use Rattle.language.specs.Cost.{add_cost, lesser, AtMost, at_most, if_any, cell_position}
 use Rattle.language.specs.Claims.{Table, table_cell, cell_number, bound_at, parts_bound, cell_bound, total_bound, row_nodes, parts_row_nodes, contexts, NoGreater, Sound, Derives}
-use Rattle.language.proofs.Ranks.{looser_rank, looser_start, looser_refl, looser_all, looser_member, looser_start_refl}
-use Rattle.language.proofs.Looser.{AtMost-lesser_left, AtMost-lesser_right, AtMost-add, Looser, same, looser, looser_spine, looser_pattern, AllLooser, next}
-use Rattle.language.proofs.LowerBound.{Step-roles}
-use Rattle.language.proofs.Alike.{Like, same as alike_same, at_expressions, at_chains, at_patterns, AllLike, next as next_alike, like_back}
-use Rattle.language.proofs.Marked.{rows_like}
-use Rattle.language.proofs.Least.{ways-bare}
-use Rattle.language.proofs.SameLayouts.{rows-bare}
-use Rattle.positions.proofs.Slots.{is_wide, all_pass, parts_wide}
-use Rattle.paren_planner.proofs.Celled.{wide_itself, wide_start}
-use Rattle.paren_planner.proofs.Bounded.{nodes-length}
+use Rattle.language.proofs.table.Ranks.{looser_rank, looser_start, looser_refl, looser_all, looser_member, looser_start_refl}
+use Rattle.language.proofs.table.LooserPositions.{AtMost-lesser_left, AtMost-lesser_right, AtMost-add, Looser, same, looser, looser_spine, looser_pattern, AllLooser, next}
+use Rattle.language.proofs.lower_bound.LowerBound.{Step-roles}
+use Rattle.language.proofs.table.Alike.{Like, same as alike_same, at_expressions, at_chains, at_patterns, AllLike, next as next_alike, like_back}
+use Rattle.language.proofs.layout.WrappedRows.{rows_like}
+use Rattle.language.proofs.lower_bound.LeastPairs.{ways-bare}
+use Rattle.language.proofs.layout.SameLayouts.{rows-bare}
+use Rattle.spellings.proofs.Slots.{is_wide, all_pass, parts_wide}
+use Rattle.paren_planner.proofs.CellRows.{wide_itself, wide_start}
+use Rattle.paren_planner.proofs.CellBounds.{nodes-length}
 use Rattle.paren_planner.proofs.Tighter.{parts_alike, dominated_at}
 
 -- of a row each cell is no greater than its bound
@@ -78,10 +78,10 @@ at_start false _ = expr Expression false NoBrace
 
 -- the position of the cell that counts at a symbol, In and start
 abbrev context_of : Rank → Bool → Start → Role
-context_of y i f = cond (nat_le 21 (tightness y)) (expr Member true f) (at_start i f)
+context_of y i f = cond (nat_le 21 (precedence y)) (expr Member true f) (at_start i f)
 
 context_at : (y : Rank) (i : Bool) (f : Start) → slice_get contexts (cell_number (cell_position (expr y i f))) ≡ Some (context_of y i f)
-context_at y i f = of (nat_le 21 (tightness y)) i f
+context_at y i f = of (nat_le 21 (precedence y)) i f
   where
     of : (b i : Bool) (f : Start) → slice_get contexts (cell_number (cond b (expr Member true f) (expr Expression i f))) ≡ Some (cond b (expr Member true f) (at_start i f))
     of true i Any = refl
@@ -111,22 +111,22 @@ no_brace NoBrace h = refl
 no_brace Statement h = refl
 
 context_looser : (y z : Rank) (i j : Bool) (f g : Start) → IsTrue (looser_rank y z) → IsTrue (implies i j) → IsTrue (looser_start f g) → Looser (expr y i f) (context_of z j g)
-context_looser y z i j f g u v w = of (nat_le 21 (tightness z)) j g refl v w
+context_looser y z i j f g u v w = of (nat_le 21 (precedence z)) j g refl v w
   where
-    of : (b j : Bool) (g : Start) → nat_le 21 (tightness z) ≡ b → IsTrue (implies i j) → IsTrue (looser_start f g) → Looser (expr y i f) (cond b (expr Member true g) (at_start j g))
-    of true j g e v w = looser (looser_member (tightness y) (tightness z) u e) (implies_true i) w
-    of false true g e v w = looser (looser_all (tightness y)) v w
-    of false false Any e v w = looser (looser_all (tightness y)) v w
-    of false false NoBrace e v w = looser (looser_all (tightness y)) v w
-    of false false Statement e v w = looser (looser_all (tightness y)) v (no_brace f w)
+    of : (b j : Bool) (g : Start) → nat_le 21 (precedence z) ≡ b → IsTrue (implies i j) → IsTrue (looser_start f g) → Looser (expr y i f) (cond b (expr Member true g) (at_start j g))
+    of true j g e v w = looser (looser_member (precedence y) (precedence z) u e) (implies_true i) w
+    of false true g e v w = looser (looser_all (precedence y)) v w
+    of false false Any e v w = looser (looser_all (precedence y)) v w
+    of false false NoBrace e v w = looser (looser_all (precedence y)) v w
+    of false false Statement e v w = looser (looser_all (precedence y)) v (no_brace f w)
 
 looser_context : {a : Role} {y : Rank} {i : Bool} {f : Start} → Looser a (expr y i f) → Looser a (context_of y i f)
-looser_context {y = y} {i = i} {f = f} same = context_looser y y i i f f (looser_refl (tightness y)) (implies_refl i) (looser_start_refl f)
+looser_context {y = y} {i = i} {f = f} same = context_looser y y i i f f (looser_refl (precedence y)) (implies_refl i) (looser_start_refl f)
 looser_context (looser {y = y} {z = z} {i = i} {j = j} {f = f} {g = g} u v w) = context_looser y z i j f g u v w
 
 -- the same symbol with In, whatever the start
 looser_whole : {a : Role} {y : Rank} {i : Bool} {f : Start} → Looser a (expr y i f) → Looser a (expr y true Any)
-looser_whole {y = y} {i = i} {f = f} same = looser (looser_refl (tightness y)) (implies_true i) (any_start f)
+looser_whole {y = y} {i = i} {f = f} same = looser (looser_refl (precedence y)) (implies_true i) (any_start f)
 looser_whole (looser {i = i} {f = f} u v w) = looser u (implies_true i) (any_start f)
 
 like_looser : {a b : Role} → Looser a b → Like false a b

@@ -4,9 +4,9 @@ use Rattle.std.specs.Str.{IsUtf8}
 use Rattle.tree.specs.declared.kind.Pair.{Pair}
 use Rattle.tree.specs.Tree.{Tree, SameTree}
 use Rattle.language.specs.Pieces.{script}
-use Rattle.language.specs.Positions.{rows}
+use Rattle.language.specs.RowPositions.{rows}
 use Rattle.language.specs.Claims.{Table, Sound, Derives}
-use Rattle.paren_planner.specs.declared.planned.Plan.{Plan}
+use Rattle.paren_planner.specs.declared.wrap_plan.Plan.{Plan}
 use Rattle.paren_planner.specs.Plans.{IsPlan}
 use Rattle.paren_planner.specs.Tables.{table_of}
 use Rattle.cost_certificate.specs.Types.{all_typed}

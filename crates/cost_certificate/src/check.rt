@@ -4,16 +4,16 @@ ghost use Rattle.std.specs.Prelude.{◌≡◌, ◌≤◌, length, Err, IfOk};
 ghost use Rattle.tree.specs.Tree.{SameTree};
 ghost use Rattle.language.specs.Claims.{Derives};
 ghost use Rattle.language.specs.Pieces.{script};
-ghost use Rattle.language.specs.Positions.{rows};
+ghost use Rattle.language.specs.RowPositions.{rows};
 ghost use Rattle.paren_planner.specs.Tables.{table_of};
 ghost use Rattle.cost_certificate.specs.Checked.{Answers, PassesIfSound};
 ghost use Rattle.cost_certificate.specs.Faults.{first_fault};
 
 use crate::cells::is_above;
-use crate::judge::judge_node;
+use crate::check_rows::check_node;
 use paren_planner::{CostTable, least};
-use positions::Position;
 use source_text::Reason;
+use spellings::Position;
 use tree::Program;
 
 /// What is wrong with a table: the number of a row, counted from 1, or 0 for the total, and the reason.
@@ -37,7 +37,7 @@ pub fn check_table(program: &Program, table: &CostTable) -> Result<u32, BadTable
     ensures sound { PassesIfSound (table_of table.now.rows.items table.now.total) program.now result }
     ensures bound { IfOk result (λ n. (text m P : _) → SameTree m program.now → Derives text m P → n ≤ length P) }
 {
-    let judged = judge_node(program.root(), Position::Script, false, table, 0);
+    let judged = check_node(program.root(), Position::Script, false, table, 0);
     if let Some(index) = judged.passed.misshapen {
         return bad(index + 1, Reason::Shape);
     }

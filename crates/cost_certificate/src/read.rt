@@ -6,12 +6,12 @@ ghost use Rattle.source_text.specs.declared.fault.Reason.TheVariants.{Form};
 ghost use Rattle.cost_certificate.specs.Forms.{cells_in, is_number, is_short, number_of, read_text, row_in, split_words, total_in};
 ghost use Rattle.cost_certificate.specs.Listed.{listed};
 ghost use Rattle.cost_certificate.specs.Read.{IsHeader, LeavesOut, Reads};
-ghost use Rattle.cost_certificate.specs.Words.{format_of, words_behind};
+ghost use Rattle.cost_certificate.specs.Words.{format_of, words_after};
 
-use crate::types::all_zero;
-use crate::words::{
+use crate::table_words::{
     Format, cell, is_word, kind_named, line_length, next_word, number, split_line, split_word,
 };
+use crate::types::all_zero;
 use paren_planner::CostTable;
 use source_text::{Fault, Reason};
 use std::alloc::Global;
@@ -39,7 +39,7 @@ fn is_left_out(format: Format, cells: [Option<u32>; 8]) -> bool
 
 /// The eight cells that words say, each behind a space.
 fn row_cells(text: &[u8], format: Format) -> Option<[Option<u32>; 8]>
-    ensures { result ≡ cells_in (format_of format) (words_behind text.now) }
+    ensures { result ≡ cells_in (format_of format) (words_after text.now) }
 {
     if leaves_out(text, format) {
         return Some([Some(0u32); 8]);

@@ -4,12 +4,12 @@ ghost use Rattle.std.specs.Prelude.{◌≡◌};
 ghost use Rattle.tree.specs.Tree.{parts_with_gaps};
 ghost use Rattle.covers.specs.Patterns.{pattern_tree, pattern_parts};
 
-use tree::{Kind, NodeText, Syntax};
+use tree::{BoxedNode, Kind, NodeText};
 
 /// The pattern of an array, an object or an assignment, the rest of a spread, and the property of a pattern of one of an object;
 /// another node is its own target.
 #[cycle(patterns)]
-pub(crate) fn make_pattern(node: &mut Syntax<'_>)
+pub(crate) fn make_pattern(node: &mut BoxedNode<'_>)
     ensures { node.new ≡ pattern_tree node.old }
 {
     match node.kind {
@@ -23,7 +23,7 @@ pub(crate) fn make_pattern(node: &mut Syntax<'_>)
         }
         Kind::AssignmentExpression => {
             node.kind = Kind::AssignmentPattern;
-            node.text = NodeText::Slice("");
+            node.text = NodeText::Borrowed("");
         }
         Kind::SpreadElement => {
             node.kind = Kind::RestElement;
@@ -36,7 +36,7 @@ pub(crate) fn make_pattern(node: &mut Syntax<'_>)
 
 /// The patterns of elements, parameters or properties from a place on.
 #[cycle(patterns)]
-pub(crate) fn make_patterns(parts: &mut [Option<Syntax<'_>>], from: usize)
+pub(crate) fn make_patterns(parts: &mut [Option<BoxedNode<'_>>], from: usize)
     ensures { parts_with_gaps parts.new ≡ pattern_parts from (parts_with_gaps parts.old) }
 {
     for index in from..parts.len() {

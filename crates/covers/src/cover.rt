@@ -6,36 +6,36 @@ ghost use Rattle.covers.specs.Patterns.{pattern_tree, pattern_parts};
 ghost use Rattle.covers.specs.Shapes.{Becomes, is_bound, is_pattern, is_target, shape_of};
 
 use crate::conversions::{make_pattern, make_patterns};
-use crate::shape::Shape;
-use productions::{Nodes, Tall};
+use crate::shape::CoverShape;
+use productions::{MeasuredNode, MeasuredParts};
 use source_text::Fault;
-use tree::{Parts, Syntax};
+use tree::{BoxedNode, Parts};
 
 /// What was read where an expression, a pattern, a target or parameters may stand.
 #[derive(Drop)]
 pub struct Cover<'s> {
     /// It as an expression. A name with a default in an object, which is in no expression, is a property whose form is
     /// Shorthand and whose value is an assignment to the name.
-    pub node: Tall<'s>,
+    pub node: MeasuredNode<'s>,
     /// What else it may be.
-    pub shape: Shape,
+    pub shape: CoverShape,
 }
 
 impl<'s> Cover<'s> {
     /// An expression that is no array, no object and no assignment.
-    pub fn plain(node: Tall<'s>) -> Cover<'s>
+    pub fn plain(node: MeasuredNode<'s>) -> Cover<'s>
         ensures same { result.node ≡ node.entry }
         ensures shape { result.shape ≡ shape_of node.entry }
     {
-        let shape = Shape::of(node.node());
+        let shape = CoverShape::of(node.node());
         Cover { node, shape }
     }
 
     /// The expression; `at` is the place that a refusal names.
     ///
     /// # Errors
-    /// `Syntax` where a name in it has a default.
-    pub fn to_expression(self, at: usize) -> Result<Tall<'s>, Fault>
+    /// `BoxedNode` where a name in it has a default.
+    pub fn to_expression(self, at: usize) -> Result<MeasuredNode<'s>, Fault>
         ensures { Becomes self.entry.node self.entry.shape.is_expression at result }
     {
         match self.shape.is_expression {
@@ -47,12 +47,12 @@ impl<'s> Cover<'s> {
     /// The simple target: a name or a member, in parentheses or not; `at` is the place that a refusal names.
     ///
     /// # Errors
-    /// `Syntax` where it is anything else.
-    pub fn to_target(self, at: usize) -> Result<Tall<'s>, Fault>
+    /// `BoxedNode` where it is anything else.
+    pub fn to_target(self, at: usize) -> Result<MeasuredNode<'s>, Fault>
         ensures { Becomes (pattern_tree self.entry.node) (is_target self.entry.shape.assigned) at result }
     {
         match self.shape.assigned.is_target() {
-            true => Ok(patterned(self.node)),
+            true => Ok(as_pattern_node(self.node)),
             false => Err(Fault::Syntax(at)),
         }
     }
@@ -60,12 +60,12 @@ impl<'s> Cover<'s> {
     /// The simple target or the pattern that is assigned to; `at` is the place that a refusal names.
     ///
     /// # Errors
-    /// `Syntax` where it is neither.
-    pub fn to_pattern(self, at: usize) -> Result<Tall<'s>, Fault>
+    /// `BoxedNode` where it is neither.
+    pub fn to_pattern(self, at: usize) -> Result<MeasuredNode<'s>, Fault>
         ensures { Becomes (pattern_tree self.entry.node) (is_pattern self.entry.shape.assigned) at result }
     {
         match self.shape.assigned.is_pattern() {
-            true => Ok(patterned(self.node)),
+            true => Ok(as_pattern_node(self.node)),
             false => Err(Fault::Syntax(at)),
         }
     }
@@ -73,8 +73,8 @@ impl<'s> Cover<'s> {
     /// The name or the pattern that is bound; `at` is the place that a refusal names.
     ///
     /// # Errors
-    /// `Syntax` where it is neither.
-    pub fn to_binding(self, at: usize) -> Result<Tall<'s>, Fault>
+    /// `BoxedNode` where it is neither.
+    pub fn to_binding(self, at: usize) -> Result<MeasuredNode<'s>, Fault>
         ensures { Becomes (pattern_tree self.entry.node) (self.entry.shape.binds && is_pattern self.entry.shape.assigned) at result }
     {
         match self.shape.binds {
@@ -86,17 +86,17 @@ impl<'s> Cover<'s> {
 
 // The pattern that a node is, as high as it.
 #[tactic(auto, using(crate::proofs::Patterns::same_height))]
-fn patterned<'s>(node: Tall<'s>) -> Tall<'s>
+fn as_pattern_node<'s>(node: MeasuredNode<'s>) -> MeasuredNode<'s>
     ensures { result ≡ pattern_tree node.entry }
 {
     let height = node.height();
     let mut syntax = node.into_syntax();
     make_pattern(&mut syntax);
-    Tall::of_height(syntax, height)
+    MeasuredNode::of_height(syntax, height)
 }
 
 // The patterns that all parts are.
-fn patterned_items<'s>(parts: Vec<Option<Syntax<'s>>>) -> Vec<Option<Syntax<'s>>>
+fn as_pattern_items<'s>(parts: Vec<Option<BoxedNode<'s>>>) -> Vec<Option<BoxedNode<'s>>>
     ensures { parts_with_gaps result.items ≡ pattern_parts 0 (parts_with_gaps parts.entry.items) }
 {
     let mut parts = parts;
@@ -108,14 +108,18 @@ fn patterned_items<'s>(parts: Vec<Option<Syntax<'s>>>) -> Vec<Option<Syntax<'s>>
 /// place that a refusal names.
 ///
 /// # Errors
-/// `Syntax` where one is no name and no pattern that is bound, with a default or without.
-pub fn to_parameters<'s>(covers: Nodes<'s>, shape: Shape, at: usize) -> Result<Nodes<'s>, Fault>
+/// `BoxedNode` where one is no name and no pattern that is bound, with a default or without.
+pub fn to_parameters<'s>(
+    covers: MeasuredParts<'s>,
+    shape: CoverShape,
+    at: usize,
+) -> Result<MeasuredParts<'s>, Fault>
     ensures { Becomes (pattern_parts 0 covers.entry) (is_bound shape) at result }
 {
     if !shape.is_bound() {
         return Err(Fault::Syntax(at));
     }
     let height = covers.height();
-    let items = patterned_items(covers.into_parts().into_items());
-    Ok(Nodes::of_height(Parts::from_items(items), height))
+    let items = as_pattern_items(covers.into_parts().into_items());
+    Ok(MeasuredParts::of_height(Parts::from_items(items), height))
 }

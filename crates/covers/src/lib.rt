@@ -9,5 +9,5 @@ mod list;
 mod shape;
 
 pub use cover::{Cover, to_parameters};
-pub use list::{Item, List, Listed, Seen};
-pub use shape::{Assigned, Shape};
+pub use list::{ListBuilder, ListItem, ListKind, ListSummary};
+pub use shape::{CoverShape, TargetForm};

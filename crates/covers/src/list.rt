@@ -3,22 +3,22 @@
 
 ghost use Rattle.std.specs.Prelude.{◌≡◌, false, IfOk, IfErr, option_map};
 ghost use Rattle.tree.specs.Tree.{none, push, push_gap, part_count};
-ghost use Rattle.covers.specs.Lists.{opening, closing, reads, nothing_seen, seen_with, with_hole, separated, is_ended, is_excess, takes};
+ghost use Rattle.covers.specs.Lists.{opening, closing, reads, nothing_seen, seen_with, with_hole, separated, is_ended, is_surplus, takes};
 ghost use Rattle.covers.specs.Patterns.{pattern_parts};
 ghost use Rattle.covers.specs.Refusals.{IsRefusedAt, IsMemory, IsTaken};
 ghost use Rattle.covers.specs.Shapes.{Becomes, is_bound};
 
 use crate::cover::to_parameters;
-use crate::shape::Shape;
+use crate::shape::CoverShape;
 use language::Edge;
-use productions::{Nodes, Tall};
+use productions::{MeasuredNode, MeasuredParts};
 use source_text::Fault;
 use std::alloc::Global;
 use tree::Span;
 
 /// What is listed.
 #[derive(Clone, Copy, Debug, PartialEq, Eq)]
-pub enum Listed {
+pub enum ListKind {
     /// Of a call or of `new`, in parentheses (ECMA-262 12.3).
     Arguments,
     /// Of an array or its pattern, in brackets (12.2.5).
@@ -26,7 +26,7 @@ pub enum Listed {
     /// Of an object or its pattern, in braces (12.2.6).
     Properties,
     /// What parentheses group, or an arrow's parameters (12.2.10, 14.2).
-    Covers,
+    ParenthesizedItems,
     /// Of a function or a method that is no getter and no setter, in parentheses (14.1).
     Parameters,
     /// Of a getter, in parentheses (14.3).
@@ -45,42 +45,42 @@ pub enum Listed {
     Members,
 }
 
-impl Listed {
+impl ListKind {
     /// The punctuator before the first item.
-    pub fn opening(self) -> Option<&'static str>
+    pub fn opener(self) -> Option<&'static str>
         ensures { option_map (λ mark. mark.now) result ≡ opening self }
     {
         match self {
-            Listed::Arguments | Listed::Covers => Some("("),
-            Listed::Parameters | Listed::NoParameter | Listed::OneParameter => Some("("),
-            Listed::Elements => Some("["),
-            Listed::Properties | Listed::Cases { .. } | Listed::Members => Some("{"),
-            Listed::Template | Listed::Sequence { .. } | Listed::Declarators { .. } => None,
+            ListKind::Arguments | ListKind::ParenthesizedItems => Some("("),
+            ListKind::Parameters | ListKind::NoParameter | ListKind::OneParameter => Some("("),
+            ListKind::Elements => Some("["),
+            ListKind::Properties | ListKind::Cases { .. } | ListKind::Members => Some("{"),
+            ListKind::Template | ListKind::Sequence { .. } | ListKind::Declarators { .. } => None,
         }
     }
 
     /// The punctuator behind the last item.
-    pub fn closing(self) -> Option<&'static str>
+    pub fn closer(self) -> Option<&'static str>
         ensures { option_map (λ mark. mark.now) result ≡ closing self }
     {
         match self {
-            Listed::Arguments | Listed::Covers => Some(")"),
-            Listed::Parameters | Listed::NoParameter | Listed::OneParameter => Some(")"),
-            Listed::Elements => Some("]"),
-            Listed::Properties | Listed::Cases { .. } | Listed::Members => Some("}"),
-            Listed::Template | Listed::Sequence { .. } | Listed::Declarators { .. } => None,
+            ListKind::Arguments | ListKind::ParenthesizedItems => Some(")"),
+            ListKind::Parameters | ListKind::NoParameter | ListKind::OneParameter => Some(")"),
+            ListKind::Elements => Some("]"),
+            ListKind::Properties | ListKind::Cases { .. } | ListKind::Members => Some("}"),
+            ListKind::Template | ListKind::Sequence { .. } | ListKind::Declarators { .. } => None,
         }
     }
 
     // Whether items of this shape, taken together, have a reading here: as expressions, as what is assigned to, or as what is
     // bound.
-    fn reads(self, shape: Shape) -> bool
+    fn reads(self, shape: CoverShape) -> bool
         ensures { result ≡ reads self shape }
     {
         match self {
-            Listed::Elements | Listed::Properties => shape.is_either(),
-            Listed::Covers => shape.is_expression || shape.is_bound(),
-            Listed::Parameters | Listed::OneParameter => shape.is_bound(),
+            ListKind::Elements | ListKind::Properties => shape.is_either(),
+            ListKind::ParenthesizedItems => shape.is_expression || shape.is_bound(),
+            ListKind::Parameters | ListKind::OneParameter => shape.is_bound(),
             _ => shape.is_expression,
         }
     }
@@ -88,28 +88,28 @@ impl Listed {
 
 /// An item of a list, as it is read.
 #[derive(Drop)]
-pub struct Item<'s> {
-    pub node: Tall<'s>,
+pub struct ListItem<'s> {
+    pub node: MeasuredNode<'s>,
     /// What it may be, without its `...`.
-    pub shape: Shape,
+    pub shape: CoverShape,
     /// `...` stands before it.
     pub spreads: bool,
     /// A declarator of a pattern without a value; a case that is `default`; or the last part of a template.
-    pub is_marked: bool,
+    pub is_flagged: bool,
     /// Its right edge.
     pub edge: Edge,
 }
 
-impl<'s> Item<'s> {
+impl<'s> ListItem<'s> {
     /// A node that is an expression, or none at all, and no pattern.
-    pub fn plain(node: Tall<'s>) -> Item<'s>
-        ensures { result ≡ record { node = node.entry; shape = Shape.VALUE; spreads = false; is_marked = false; edge = Edge.Closed } }
+    pub fn plain(node: MeasuredNode<'s>) -> ListItem<'s>
+        ensures { result ≡ record { node = node.entry; shape = CoverShape.VALUE; spreads = false; is_flagged = false; edge = Edge.Closed } }
     {
-        Item {
+        ListItem {
             node,
-            shape: Shape::VALUE,
+            shape: CoverShape::VALUE,
             spreads: false,
-            is_marked: false,
+            is_flagged: false,
             edge: Edge::Closed,
         }
     }
@@ -117,60 +117,60 @@ impl<'s> Item<'s> {
 
 /// What was seen of the items so far.
 #[derive(Clone, Copy)]
-pub struct Seen {
+pub struct ListSummary {
     /// What they may be together, as elements of an array or properties of an object.
-    pub shape: Shape,
+    pub shape: CoverShape,
     /// What the last may be.
-    pub last: Shape,
+    pub last: CoverShape,
     /// The last stands behind `...`.
     pub is_rest: bool,
     /// A comma follows the last.
     pub has_comma: bool,
     /// One of them is marked.
-    pub is_marked: bool,
+    pub is_flagged: bool,
     /// The right edge of the last.
     pub edge: Edge,
 }
 
-impl Seen {
+impl ListSummary {
     // Of no items.
-    const NOTHING: Seen = Seen {
-        shape: Shape::EMPTY,
-        last: Shape::EMPTY,
+    const NOTHING: ListSummary = ListSummary {
+        shape: CoverShape::EMPTY,
+        last: CoverShape::EMPTY,
         is_rest: false,
         has_comma: false,
-        is_marked: false,
+        is_flagged: false,
         edge: Edge::Closed,
     };
 
     // With one more item; behind `...`, what parentheses hold is no expression.
-    fn with(self, item: &Item<'_>, listed: Listed) -> Seen
+    fn with(self, item: &ListItem<'_>, listed: ListKind) -> ListSummary
         ensures { result ≡ seen_with self item.now listed }
     {
         let shape = match (item.spreads, listed) {
             (false, _) => self.shape.with_element(item.shape),
-            (true, Listed::Covers) => self.shape.with_rest(item.shape).initialized(),
+            (true, ListKind::ParenthesizedItems) => self.shape.with_rest(item.shape).initialized(),
             (true, _) => self.shape.with_rest(item.shape),
         };
-        Seen {
+        ListSummary {
             shape,
             last: item.shape,
             is_rest: item.spreads,
             has_comma: false,
-            is_marked: self.is_marked || item.is_marked,
+            is_flagged: self.is_flagged || item.is_flagged,
             edge: item.edge,
         }
     }
 
     // With a comma behind the last item, or without; a pattern has none behind its rest.
-    fn separated(self, has_comma: bool) -> Seen
+    fn separated(self, has_comma: bool) -> ListSummary
         ensures { result ≡ separated self has_comma }
     {
         let shape = match has_comma && self.is_rest {
             true => self.shape.unassigned(),
             false => self.shape,
         };
-        Seen {
+        ListSummary {
             shape,
             has_comma,
             ..self
@@ -180,19 +180,19 @@ impl Seen {
 
 /// A list, as far as it is read.
 #[derive(Drop)]
-pub struct List<'s> {
-    pub listed: Listed,
-    pub nodes: Nodes<'s>,
-    pub seen: Seen,
+pub struct ListBuilder<'s> {
+    pub listed: ListKind,
+    pub nodes: MeasuredParts<'s>,
+    pub seen: ListSummary,
     /// From the first item to the last.
     pub inside: Span,
     /// With the brackets round them.
     pub span: Span,
 }
 
-impl<'s> List<'s> {
+impl<'s> ListBuilder<'s> {
     /// A list without items, from this place on.
-    pub fn new(alloc: Global, listed: Listed, start: usize) -> List<'s>
+    pub fn new(alloc: Global, listed: ListKind, start: usize) -> ListBuilder<'s>
         ensures listed { result.listed ≡ listed }
         ensures empty { result.nodes ≡ none }
         ensures seen { result.seen ≡ nothing_seen }
@@ -200,10 +200,10 @@ impl<'s> List<'s> {
         ensures span { result.span ≡ record { start = start; end = start } }
     {
         let span = Span { start, end: start };
-        List {
+        ListBuilder {
             listed,
-            nodes: Nodes::new(alloc),
-            seen: Seen::NOTHING,
+            nodes: MeasuredParts::new(alloc),
+            seen: ListSummary::NOTHING,
             inside: span,
             span,
         }
@@ -222,10 +222,10 @@ impl<'s> List<'s> {
         ensures { result ≡ is_ended self.now.listed self.now.seen (part_count self.now.nodes) }
     {
         match self.listed {
-            Listed::Covers | Listed::Parameters => self.seen.is_rest,
-            Listed::OneParameter => self.nodes.len() > 0,
-            Listed::NoParameter => true,
-            Listed::Template => self.seen.is_marked,
+            ListKind::ParenthesizedItems | ListKind::Parameters => self.seen.is_rest,
+            ListKind::OneParameter => self.nodes.len() > 0,
+            ListKind::NoParameter => true,
+            ListKind::Template => self.seen.is_flagged,
             _ => false,
         }
     }
@@ -249,7 +249,7 @@ impl<'s> List<'s> {
     ///
     /// # Errors
     /// `Syntax` where no reading of the items is left, or a case is the second `default` (13.12); `OutOfMemory`.
-    pub fn push(&mut self, item: Item<'s>, at: usize) -> Result<(), Fault>
+    pub fn push(&mut self, item: ListItem<'s>, at: usize) -> Result<(), Fault>
         ensures listed { self.new.listed ≡ self.old.listed }
         ensures pushed { IfOk result (λ _. self.new ≡ record self.old { nodes = push self.old.nodes item.entry.node; seen = seen_with self.old.seen item.entry self.old.listed }) }
         ensures kept { IfErr result (λ _. self.new ≡ self.old) }
@@ -257,7 +257,7 @@ impl<'s> List<'s> {
         ensures refused { IfErr result (IsRefusedAt at) }
     {
         let seen = self.seen.with(&item, self.listed);
-        if self.is_excess(&item) || !self.listed.reads(seen.shape) {
+        if self.is_surplus(&item) || !self.listed.reads(seen.shape) {
             return Err(Fault::Syntax(at));
         }
         self.nodes.push(item.node)?;
@@ -266,12 +266,12 @@ impl<'s> List<'s> {
     }
 
     // Whether it can't be one more item: a second `default`, or the rest of a setter.
-    fn is_excess(&self, item: &Item<'_>) -> bool
-        ensures { result ≡ is_excess self.now.listed self.now.seen item.now }
+    fn is_surplus(&self, item: &ListItem<'_>) -> bool
+        ensures { result ≡ is_surplus self.now.listed self.now.seen item.now }
     {
         match self.listed {
-            Listed::Cases { .. } => self.seen.is_marked && item.is_marked,
-            Listed::OneParameter => item.spreads,
+            ListKind::Cases { .. } => self.seen.is_flagged && item.is_flagged,
+            ListKind::OneParameter => item.spreads,
             _ => false,
         }
     }
@@ -280,7 +280,7 @@ impl<'s> List<'s> {
     ///
     /// # Errors
     /// `Syntax` where one is no name and no pattern that is bound, with a default or without.
-    pub fn into_parameters(self, at: usize) -> Result<Nodes<'s>, Fault>
+    pub fn into_parameters(self, at: usize) -> Result<MeasuredParts<'s>, Fault>
         ensures made { Becomes (pattern_parts 0 self.entry.nodes) (is_bound self.entry.seen.shape) at result }
         ensures refused { IfErr result (IsRefusedAt at) }
     {

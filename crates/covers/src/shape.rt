@@ -8,18 +8,18 @@ use tree::{Kind, Node};
 
 /// What a cover may be.
 #[derive(Clone, Copy, Debug, PartialEq, Eq)]
-pub struct Shape {
+pub struct CoverShape {
     /// An expression: no name in an object in it has a default, but for those in a pattern that is assigned to.
     pub is_expression: bool,
     /// What it may be as an element of a pattern.
-    pub assigned: Assigned,
+    pub assigned: TargetForm,
     /// Where it may be such an element: its targets are names alone, none of them in parentheses.
     pub binds: bool,
 }
 
 /// What a cover may be as an element of a pattern.
 #[derive(Clone, Copy, Debug, PartialEq, Eq)]
-pub enum Assigned {
+pub enum TargetForm {
     Nothing,
     /// A simple target: a name, or a member outside an optional chain (ECMA-262 clause 12.15.1).
     Target,
@@ -29,103 +29,103 @@ pub enum Assigned {
     Defaulted,
 }
 
-impl Assigned {
+impl TargetForm {
     /// Whether it is a target or a pattern, with a default or without.
     pub fn is_element(self) -> bool
         ensures { result ≡ is_element self }
     {
-        !matches!(self, Assigned::Nothing)
+        !matches!(self, TargetForm::Nothing)
     }
 
     /// Whether it is a target or a pattern.
     pub fn is_pattern(self) -> bool
         ensures { result ≡ is_pattern self }
     {
-        matches!(self, Assigned::Target | Assigned::Pattern)
+        matches!(self, TargetForm::Target | TargetForm::Pattern)
     }
 
     /// Whether it is a target.
     pub fn is_target(self) -> bool
         ensures { result ≡ is_target self }
     {
-        matches!(self, Assigned::Target)
+        matches!(self, TargetForm::Target)
     }
 }
 
-impl Shape {
+impl CoverShape {
     /// Of an array or object with nothing in it.
-    pub const EMPTY: Shape = Shape {
+    pub const EMPTY: CoverShape = CoverShape {
         is_expression: true,
-        assigned: Assigned::Pattern,
+        assigned: TargetForm::Pattern,
         binds: true,
     };
 
     /// Of an expression that is no element of a pattern.
-    pub const VALUE: Shape = Shape {
+    pub const VALUE: CoverShape = CoverShape {
         is_expression: true,
-        assigned: Assigned::Nothing,
+        assigned: TargetForm::Nothing,
         binds: false,
     };
 
     /// Of a member outside an optional chain.
-    pub const TARGET: Shape = Shape {
+    pub const TARGET: CoverShape = CoverShape {
         is_expression: true,
-        assigned: Assigned::Target,
+        assigned: TargetForm::Target,
         binds: false,
     };
 
     /// Of a name.
-    pub const NAME: Shape = Shape {
+    pub const NAME: CoverShape = CoverShape {
         is_expression: true,
-        assigned: Assigned::Target,
+        assigned: TargetForm::Target,
         binds: true,
     };
 
     /// Of an expression that is no array, no object and no assignment: a name, a member outside an optional chain, or another.
-    pub fn of(expression: Node<'_, '_>) -> Shape
+    pub fn of(expression: Node<'_, '_>) -> CoverShape
         ensures { result ≡ shape_of (node_tree expression.entry) }
     {
         match expression.kind() {
-            Kind::Identifier => Shape::NAME,
-            Kind::MemberExpression if !expression.flags().optional => Shape::TARGET,
-            _ => Shape::VALUE,
+            Kind::Identifier => CoverShape::NAME,
+            Kind::MemberExpression if !expression.flags().optional => CoverShape::TARGET,
+            _ => CoverShape::VALUE,
         }
     }
 
     /// Of `target = value`, by the shape of the target.
-    pub fn defaulted(self) -> Shape
+    pub fn defaulted(self) -> CoverShape
         ensures { result ≡ defaulted self }
     {
-        Shape {
+        CoverShape {
             is_expression: true,
             assigned: match self.assigned.is_pattern() {
-                true => Assigned::Defaulted,
-                false => Assigned::Nothing,
+                true => TargetForm::Defaulted,
+                false => TargetForm::Nothing,
             },
             binds: self.binds,
         }
     }
 
     /// The same, but assigned to only where it is a target: behind `...` among properties (12.15.5).
-    pub fn simple(self) -> Shape
+    pub fn simple(self) -> CoverShape
         ensures { result ≡ simple self }
     {
-        Shape {
+        CoverShape {
             is_expression: self.is_expression,
             assigned: match self.assigned.is_target() {
-                true => Assigned::Target,
-                false => Assigned::Nothing,
+                true => TargetForm::Target,
+                false => TargetForm::Nothing,
             },
             binds: self.binds,
         }
     }
 
     /// The same in parentheses (12.15.5): only a target may still be assigned to, and nothing bound.
-    pub fn grouped(self) -> Shape
+    pub fn grouped(self) -> CoverShape
         ensures { result ≡ grouped self }
     {
         let simple = self.simple();
-        Shape {
+        CoverShape {
             is_expression: simple.is_expression,
             assigned: simple.assigned,
             binds: false,
@@ -133,21 +133,21 @@ impl Shape {
     }
 
     /// The same, but no pattern.
-    pub fn unassigned(self) -> Shape
+    pub fn unassigned(self) -> CoverShape
         ensures { result ≡ unassigned self }
     {
-        Shape {
+        CoverShape {
             is_expression: self.is_expression,
-            assigned: Assigned::Nothing,
+            assigned: TargetForm::Nothing,
             binds: false,
         }
     }
 
     /// The same, but no expression: a name in it has a default (CoverInitializedName, 12.2.6).
-    pub fn initialized(self) -> Shape
+    pub fn initialized(self) -> CoverShape
         ensures { result ≡ initialized self }
     {
-        Shape {
+        CoverShape {
             is_expression: false,
             assigned: self.assigned,
             binds: self.binds,
@@ -155,28 +155,28 @@ impl Shape {
     }
 
     // With a part that may be in a pattern or may not.
-    fn with(self, part: Shape, fits: bool) -> Shape
+    fn with(self, part: CoverShape, fits: bool) -> CoverShape
         ensures { result ≡ together self part fits }
     {
-        Shape {
+        CoverShape {
             is_expression: self.is_expression && part.is_expression,
             assigned: match fits {
                 true => self.assigned,
-                false => Assigned::Nothing,
+                false => TargetForm::Nothing,
             },
             binds: self.binds && part.binds,
         }
     }
 
     /// With one more element, or the value of one more property.
-    pub fn with_element(self, element: Shape) -> Shape
+    pub fn with_element(self, element: CoverShape) -> CoverShape
         ensures { result ≡ with_element self element }
     {
         self.with(element, element.assigned.is_element())
     }
 
     /// With a last element behind `...` (12.15.5).
-    pub fn with_rest(self, argument: Shape) -> Shape
+    pub fn with_rest(self, argument: CoverShape) -> CoverShape
         ensures { result ≡ with_rest self argument }
     {
         self.with(argument, argument.assigned.is_pattern())

@@ -2,8 +2,8 @@
 use Rattle.std.proofs.Common.{Bool, true, false, cond, ◌≡◌, ℕ, List, Option, None, sym, ap, ◌∙◌, ◌++◌}
 use Rattle.std.proofs.lemmas.Bool.{false≢true}
 use Rattle.tree.specs.declared.kind.Kind.TheVariants.{Property, VariableDeclaration}
-use Rattle.early_errors.specs.declared.walk.Inside.{Inside}
-use Rattle.early_errors.specs.declared.walk.Inside.TheVariants as inside
+use Rattle.early_errors.specs.declared.walk.WalkKind.{WalkKind}
+use Rattle.early_errors.specs.declared.walk.WalkKind.TheVariants as inside
 use Rattle.early_errors.specs.Owns.{inside_of, plain_errors, vars_of}
 use Rattle.tree.specs.Tree.{Tree, node, kind_of, flags_of, Parts, none, part, gap, parts_of}
 use Rattle.early_errors.specs.Around.{Around, is_method, within}
@@ -11,10 +11,10 @@ use Rattle.early_errors.specs.Passed.{IsOpen}
 use Rattle.early_errors.specs.Names.{var_names, parts_vars}
 use Rattle.early_errors.specs.Early.{Error, own_errors, errors_within, parts_errors}
 use Rattle.early_errors.specs.Walk.{sooner, after, hits, Agree}
-use Rattle.early_errors.proofs.Joining.{joined}
-use Rattle.early_errors.proofs.Passing.{same_round}
+use Rattle.early_errors.proofs.JoinedHits.{joined}
+use Rattle.early_errors.proofs.PartsByKind.{same_round}
 use Rattle.early_errors.proofs.Least.{sooner-none}
-use Rattle.early_errors.proofs.Turning.{hits-agree}
+use Rattle.early_errors.proofs.VarConflictSymmetry.{hits-agree}
 
 -- what is found once these parts are walked too
 abbrev pub ahead : (List ℕ → Option Error) → Around → Option Error → Parts → Option Error
@@ -39,7 +39,7 @@ ahead-end f z q total ps e so = sym (sooner-none q) ∙ sym (sooner-none (sooner
 pub open_found : (f : List ℕ → Option Error) (y z : Around) (t : Tree) (q r : Option Error) → IsOpen t → y ≡ within z → r ≡ ahead f y q (parts_of t) → r ≡ sooner (after q (errors_within z t)) (hits f (var_names t))
 open_found f y z t q r h e found = found ∙ (λ i. sooner (after q ((ap (λ x. parts_errors x x (parts_of t)) e ∙ sym (h.0 z)) i)) (hits f (sym h.1 i)))
 
-abbrev in_declaration : Inside → Bool
+abbrev in_declaration : WalkKind → Bool
 in_declaration inside.Declaration = true
 in_declaration _ = false
 

@@ -3,14 +3,14 @@ use Rattle.std.proofs.Common.{◌≡◌, Bool, true, false, cond, List, [], refl
 use Rattle.tree.specs.declared.kind.Kind.{Kind}
 use Rattle.tree.specs.declared.kind.Kind.TheVariants.{VariableDeclaration, ClassDeclaration, FunctionDeclaration}
 use Rattle.tree.specs.Tree.{Tree, node, kind_of, parts_of, part_at}
-use Rattle.language.specs.Words.{is}
+use Rattle.language.specs.Vocabulary.{is}
 use Rattle.early_errors.specs.declared.names.Lexical.{Lexical}
 use Rattle.early_errors.specs.declared.names.Lexical.TheVariants as lexical
 use Rattle.early_errors.specs.Names as names
 use Rattle.early_errors.specs.Names.{declared_names, lexical_names, function_names}
 use Rattle.early_errors.specs.Owns.{declares_function}
 use Rattle.early_errors.specs.Walk.{names_at, lexical_of}
-use Rattle.early_errors.proofs.Dropping.{first_names-at}
+use Rattle.early_errors.proofs.RemainingParts.{first_names-at}
 
 abbrev declared_as : Lexical → Tree → List names.Named
 declared_as lexical.Declarators t = declared_names (parts_of t)

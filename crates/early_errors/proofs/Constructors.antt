@@ -2,7 +2,7 @@
 use Rattle.std.proofs.Common.{◌≡◌, ℕ, Bool, true, false, ◌+◌, ◌<◌, ◌≤◌, List, [], ◌∷◌, ◌++◌, Option, Some, None, refl, sym, ap, ◌∙◌}
 use Rattle.tree.specs.Tree.{Tree, Parts, part_at, part_count, parts_drop}
 use Rattle.early_errors.specs.declared.EarlyError.TheVariants.{DuplicateConstructor}
-use Rattle.early_errors.specs.Classes.{constructor_places, behind_first}
+use Rattle.early_errors.specs.Classes.{constructor_places, after_first}
 use Rattle.name_tables.specs.PatternParts.{at_part}
 use Rattle.name_tables.specs.BoundNames.{each_part}
 use Rattle.early_errors.specs.Names.{when}
@@ -14,7 +14,7 @@ use Rattle.name_tables.proofs.EachPart.{drop-step, drop-past}
 -- those that are errors, where one stands before or none
 abbrev pub further : Bool → List ℕ → List ℕ
 further true xs = xs
-further false xs = behind_first xs
+further false xs = after_first xs
 
 -- what is still to be found
 abbrev pub to_come : Bool → ℕ → Parts → List Error

@@ -5,7 +5,7 @@ use Rattle.tree.specs.declared.kind.Kind.{Kind}
 use Rattle.tree.specs.declared.kind.Kind.TheVariants.{Program, Literal, FunctionExpression, ArrowFunctionExpression, ClassExpression, ClassBody, MethodDefinition, TemplateLiteral, MemberExpression, CallExpression, MetaProperty, UpdateExpression, UnaryExpression, AssignmentExpression, BlockStatement, BreakStatement, ContinueStatement, LabeledStatement, SwitchStatement, CatchClause, ForStatement, ForInStatement, ForOfStatement, VariableDeclaration, FunctionDeclaration, ClassDeclaration}
 use Rattle.tree.specs.Tree.{Tree, node, Parts, none, part, gap, kind_of, flags_of, start_of, parts_of}
 use Rattle.language.specs.FirstPart.{lead, others}
-use Rattle.language.specs.Words.{is, is_identifier, is_super}
+use Rattle.language.specs.Vocabulary.{is, is_identifier, is_super}
 use Rattle.language.specs.Derivation.{Among, first, later}
 use Rattle.early_errors.specs.declared.EarlyError.{EarlyError}
 use Rattle.early_errors.specs.Keys.{key_value}
@@ -13,10 +13,10 @@ use Rattle.name_tables.specs.BoundNames.{each_part}
 use Rattle.early_errors.specs.Names.{when, twice, shared, first_names, declared_names, parts_vars, lexical_names, parameter_names, parameters_on, body_items}
 use Rattle.early_errors.specs.Around.{Around, outside, around_first, around_others, is_constructor, is_accessor}
 use Rattle.early_errors.specs.Scopes.{scope_lexical, scope_vars, declaration_names, duplicate_lexical_name, lexical_name_is_var, without_initializer, const_without_initializer, catch_parameter_conflict, head_lexical, for_name_is_var}
-use Rattle.early_errors.specs.Functions.{is_simple, use_strict, duplicate_parameter, parameter_is_lexical_name, use_strict_behind_pattern}
+use Rattle.early_errors.specs.Functions.{is_simple, use_strict, duplicate_parameter, parameter_is_lexical_name, use_strict_after_pattern}
 use Rattle.early_errors.specs.Strict.{names_given, is_restricted, eval_or_arguments, delete_of_identifier}
 use Rattle.early_errors.specs.Labels.{is_bare, labels_statement, labels_a_loop, misplaced_jump, undefined_label, duplicate_label}
-use Rattle.early_errors.specs.Classes.{super_places, key_places, has_key, constructor_places, behind_first, super_property_outside_method, super_call_outside_constructor, new_target_outside_function, duplicate_constructor, special_constructor, static_prototype}
+use Rattle.early_errors.specs.Classes.{super_places, key_places, has_key, constructor_places, after_first, super_property_outside_method, super_call_outside_constructor, new_target_outside_function, duplicate_constructor, special_constructor, static_prototype}
 use Rattle.early_errors.specs.Literals.{some_uncooked, good_flags, uncooked_template, reg_exp_flags}
 use Rattle.early_errors.specs.Early.{Error, each, each_of, own_places, own_errors, errors_within, parts_errors, errors}
 use Rattle.early_errors.specs.Starts.{starts}
@@ -124,8 +124,8 @@ module _ (Q : ℕ → Type 0) where
   at_use_strict : (n : Tree) → Starting Q n → Each Q (use_strict n)
   at_use_strict n h = each_when Q _ (start_of n ∷ []) (at_start n h, tt)
 
-  at_strict : (n : Tree) → Starting Q n → Each Q (use_strict_behind_pattern n)
-  unfolding use_strict_behind_pattern
+  at_strict : (n : Tree) → Starting Q n → Each Q (use_strict_after_pattern n)
+  unfolding use_strict_after_pattern
   at_strict (node k w g s e ps) h =
       let q = parameters_on k ps in
       each_when Q (not (is_simple q)) (each_part use_strict (body_items q)) (each_each_part Q use_strict at_use_strict (body_items q) (starting_body Q q (starting_parameters Q k ps h.1)))
@@ -177,7 +177,7 @@ module _ (Q : ℕ → Type 0) where
   at_constructor : (n : Tree) → Starting Q n → Each Q (constructor_places n)
   at_constructor n h = each_when Q (is_constructor (flags_of n).form) (key_places (parts_of n)) (at_key (parts_of n) (starting_parts Q n h))
 
-  at_behind_first : (xs : List ℕ) → Each Q xs → Each Q (behind_first xs)
+  at_behind_first : (xs : List ℕ) → Each Q xs → Each Q (after_first xs)
   at_behind_first [] h = tt
   at_behind_first (x ∷ xs) h = h.1
 

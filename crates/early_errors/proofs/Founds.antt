@@ -3,11 +3,11 @@ use Rattle.std.proofs.Common.{◌≡◌, ℕ, Bool, true, false, not, List, [], 
 use Rattle.std.specs.Prelude.{◌||◌, ◌&&◌, codes}
 use Rattle.tree.specs.declared.kind.Flags.{Flags}
 use Rattle.tree.specs.Tree.{Tree, kind_of, start_of, parts_of, flags_of, part_at}
-use Rattle.language.specs.Words.{is}
+use Rattle.language.specs.Vocabulary.{is}
 use Rattle.early_errors.specs.Keys.{key_value}
 use Rattle.early_errors.specs.Classes.{has_key, key_places}
 use Rattle.early_errors.specs.declared.EarlyError.TheVariants.{MisplacedJump, UndefinedLabel, SpecialConstructor, StaticPrototype}
-use Rattle.early_errors.specs.declared.own.Own.TheVariants as own
+use Rattle.early_errors.specs.declared.own.OwnErrors.TheVariants as own
 use Rattle.early_errors.specs.Around.{Around, is_accessor}
 use Rattle.early_errors.specs.Names.{Named, places, when, first_names}
 use Rattle.early_errors.specs.Labels.{is_bare, labels_statement, labels_a_loop}
@@ -15,8 +15,8 @@ use Rattle.early_errors.specs.Early.{Error, each, own_errors}
 use Rattle.early_errors.specs.Owns.{own_of, Knows, misses, key_says, places_at}
 use Rattle.early_errors.specs.Walk.{after}
 use Rattle.early_errors.proofs.Least.{after-append}
-use Rattle.early_errors.proofs.Owning.{small_given}
-use Rattle.early_errors.proofs.Keyed.{key-says, key-places}
+use Rattle.early_errors.proofs.OwnErrorsByKind.{small_given}
+use Rattle.early_errors.proofs.MemberKeys.{key-says, key-places}
 use Rattle.early_errors.proofs.Jumps.{misses_any, misses_loop}
 
 pub breaks : (z : Around) (t : Tree) (f : List ℕ → Option Bool) (ns : List Named) (b may : Bool) (s : ℕ) (o p q : Option Error) → own_of (kind_of t) ≡ own.Break → Knows f z.labels → ns ≡ first_names (parts_of t) →

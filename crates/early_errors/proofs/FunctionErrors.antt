@@ -6,7 +6,7 @@ use Rattle.tree.specs.declared.kind.Kind.{Kind}
 use Rattle.tree.specs.declared.kind.Kind.TheVariants.{FunctionDeclaration, FunctionExpression, ArrowFunctionExpression}
 use Rattle.tree.specs.Tree.{Tree, Parts, kind_of, parts_of, parts_drop}
 use Rattle.early_errors.specs.declared.EarlyError.TheVariants.{EvalOrArguments, DuplicateParameter, ParameterIsLexicalName, UseStrictBehindPattern}
-use Rattle.early_errors.specs.declared.own.Own.TheVariants as own
+use Rattle.early_errors.specs.declared.own.OwnErrors.TheVariants as own
 use Rattle.early_errors.specs.Around.{Around}
 use Rattle.name_tables.specs.BoundNames.{each_part}
 use Rattle.early_errors.specs.Names.{Named, places, when, twice, shared, lexical_names, parameter_names, parameters_on, body_items}
@@ -16,9 +16,9 @@ use Rattle.early_errors.specs.Early.{Error, each, own_errors}
 use Rattle.early_errors.specs.Owns.{own_of, items_at, parameter_place, function_name}
 use Rattle.early_errors.specs.Walk.{after, names_at}
 use Rattle.early_errors.proofs.Least.{after-append, each-append}
-use Rattle.early_errors.proofs.Dropping.{first_names-at}
-use Rattle.early_errors.proofs.Listing.{others-drop}
-use Rattle.early_errors.proofs.Owning.{small_given, names_of, doubles_of, lexicals_of, directives_of}
+use Rattle.early_errors.proofs.RemainingParts.{first_names-at}
+use Rattle.early_errors.proofs.FunctionLists.{others-drop}
+use Rattle.early_errors.proofs.OwnErrorsByKind.{small_given, names_of, doubles_of, lexicals_of, directives_of}
 
 parameters-from : (k : Kind) (ps : Parts) → own_of k ≡ own.Function → parts_drop (parameter_place k) ps ≡ parameters_on k ps
 parameters-from FunctionDeclaration ps e = sym (others-drop ps)

@@ -7,8 +7,8 @@ use Rattle.std.proofs.lemmas.Slice.Eq.{bytes_eq-Decides}
 use Rattle.tree.specs.declared.kind.Kind.TheVariants.{Program, BlockStatement, SwitchStatement, CatchClause, ForStatement, ForInStatement, ForOfStatement, FunctionDeclaration, FunctionExpression, ArrowFunctionExpression, MethodDefinition, Property, LabeledStatement, VariableDeclaration}
 use Rattle.tree.specs.Tree.{Tree, node, Parts, none, part, gap, kind_of, text_of, flags_of, parts_of, part_at, part_count}
 use Rattle.language.specs.FirstPart.{others}
-use Rattle.early_errors.specs.declared.walk.Inside.{Inside}
-use Rattle.early_errors.specs.declared.walk.Inside.TheVariants as inside
+use Rattle.early_errors.specs.declared.walk.WalkKind.{WalkKind}
+use Rattle.early_errors.specs.declared.walk.WalkKind.TheVariants as inside
 use Rattle.early_errors.specs.Around.{Around, Label, is_method, labels_loop, last_loop, own_label}
 use Rattle.early_errors.specs.Names.{Named, var_names, parts_vars}
 use Rattle.early_errors.specs.Early.{own_errors}
@@ -20,23 +20,23 @@ abbrev Facts : Tree → Around → List Label → (first others : List Label) �
 Facts t z ls xs ys vs =
     (first_labels (kind_of t) (flags_of t) (parts_of t) ls ≡ xs) × ((inner_labels (kind_of t) (flags_of t) (parts_of t) ls ≡ ys) × ((var_names t ≡ vs) × (plain_errors z t ≡ own_errors z t)))
 
-abbrev in_function : Inside → Bool
+abbrev in_function : WalkKind → Bool
 in_function inside.Function = true
 in_function _ = false
 
-abbrev in_method : Inside → Bool
+abbrev in_method : WalkKind → Bool
 in_method inside.Method = true
 in_method _ = false
 
-abbrev in_plain : Inside → Bool
+abbrev in_plain : WalkKind → Bool
 in_plain inside.Plain = true
 in_plain _ = false
 
-abbrev in_label : Inside → Bool
+abbrev in_label : WalkKind → Bool
 in_label inside.Label = true
 in_label _ = false
 
-abbrev pub in_scope : Inside → Bool
+abbrev pub in_scope : WalkKind → Bool
 in_scope inside.Scope = true
 in_scope _ = false
 

@@ -4,11 +4,11 @@ use Rattle.std.specs.Prelude.{◌&&◌, codes}
 use Rattle.std.proofs.lemmas.Slice.Eq.{bytes_eq-Decides}
 use Rattle.tree.specs.declared.kind.Kind.TheVariants.{VariableDeclaration}
 use Rattle.tree.specs.Tree.{Tree, node, Parts, kind_of, text_of, parts_of}
-use Rattle.language.specs.Words.{is}
+use Rattle.language.specs.Vocabulary.{is}
 use Rattle.early_errors.specs.declared.EarlyError.TheVariants.{EvalOrArguments, DuplicateLexicalName, ConstWithoutInitializer}
-use Rattle.early_errors.specs.declared.own.Own.{Own}
-use Rattle.early_errors.specs.declared.own.Own.TheVariants as own
-use Rattle.early_errors.specs.declared.own.Sort.TheVariants as sort
+use Rattle.early_errors.specs.declared.own.OwnErrors.{OwnErrors}
+use Rattle.early_errors.specs.declared.own.OwnErrors.TheVariants as own
+use Rattle.early_errors.specs.declared.own.OwnErrorInput.TheVariants as sort
 use Rattle.early_errors.specs.Around.{Around}
 use Rattle.name_tables.specs.BoundNames.{each_part}
 use Rattle.early_errors.specs.Names.{Named, places, when, twice, declared_names}
@@ -18,18 +18,18 @@ use Rattle.early_errors.specs.Early.{Error, each, own_errors}
 use Rattle.early_errors.specs.Owns.{own_of, sort_of, doubled, plain_errors, named_errors, nameless, vars_of}
 use Rattle.early_errors.specs.Walk.{sooner, after, hits}
 use Rattle.early_errors.proofs.Least.{sooner-none, after-append}
-use Rattle.early_errors.proofs.Owning.{small_given, names_of, named_plain, nameless_plain}
+use Rattle.early_errors.proofs.OwnErrorsByKind.{small_given, names_of, named_plain, nameless_plain}
 
 no_hits : (f : List ℕ → Option Error) (o : Option Error) (vs : List Named) → vs ≡ [] → o ≡ sooner o (hits f vs)
 no_hits f o vs e = sym (sooner-none o) ∙ ap (λ v. sooner o (hits f v)) (sym e)
 
-pub named_found : (z : Around) (t : Tree) (f : List ℕ → Option Error) (w : Own) (o q : Option Error) → w ≡ own_of (kind_of t) → sort_of w ≡ sort.Named → q ≡ after o (named_errors w z t) →
+pub named_found : (z : Around) (t : Tree) (f : List ℕ → Option Error) (w : OwnErrors) (o q : Option Error) → w ≡ own_of (kind_of t) → sort_of w ≡ sort.Named → q ≡ after o (named_errors w z t) →
     q ≡ sooner (after o (plain_errors z t)) (hits f (vars_of t))
 named_found z t f w o q e s x =
     let p = named_plain z t (ap sort_of (sym e) ∙ s) in
     x ∙ ap (λ v. after o (named_errors v z t)) e ∙ ap (after o) p.0 ∙ no_hits f (after o (plain_errors z t)) (vars_of t) p.1
 
-pub nameless_found : (z : Around) (t : Tree) (f : List ℕ → Option Error) (w : Own) (o q : Option Error) → w ≡ own_of (kind_of t) → sort_of w ≡ sort.Nameless → q ≡ after o (nameless w z t) →
+pub nameless_found : (z : Around) (t : Tree) (f : List ℕ → Option Error) (w : OwnErrors) (o q : Option Error) → w ≡ own_of (kind_of t) → sort_of w ≡ sort.Nameless → q ≡ after o (nameless w z t) →
     q ≡ sooner (after o (plain_errors z t)) (hits f (vars_of t))
 nameless_found z t f w o q e s x =
     let p = nameless_plain z t (ap sort_of (sym e) ∙ s) in

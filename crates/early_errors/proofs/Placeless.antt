@@ -7,7 +7,7 @@ use Rattle.tree.specs.declared.kind.Kind.TheVariants.{Program, Literal, Property
 use Rattle.tree.specs.declared.kind.Flags.{Flags}
 use Rattle.tree.specs.Tree.{Tree, node, Parts, none, part, gap, bare, bare_parts, SameTree, parts_of}
 use Rattle.language.specs.FirstPart.{lead, others}
-use Rattle.language.specs.Words.{is, among, is_identifier, is_super}
+use Rattle.language.specs.Vocabulary.{is, among, is_identifier, is_super}
 use Rattle.early_errors.specs.declared.EarlyError.{EarlyError}
 use Rattle.early_errors.specs.declared.EarlyError.TheVariants.{EvalOrArguments, DeleteOfIdentifier, DuplicateLexicalName, LexicalNameIsVar, ConstWithoutInitializer, DuplicateParameter, ParameterIsLexicalName, UseStrictBehindPattern, MisplacedJump, UndefinedLabel, DuplicateLabel, CatchParameterConflict, ForNameIsVar, SuperPropertyOutsideMethod, SuperCallOutsideConstructor, NewTargetOutsideFunction, DuplicateConstructor, SpecialConstructor, StaticPrototype, UncookedTemplate, RegExpFlags}
 use Rattle.early_errors.specs.Keys.{key_value}
@@ -15,10 +15,10 @@ use Rattle.name_tables.specs.BoundNames.{each_part}
 use Rattle.early_errors.specs.Names.{places, when, twice, shared, first_names, declared_names, parts_vars, lexical_names, function_names, parameter_names, parameters_on, body_items}
 use Rattle.early_errors.specs.Around.{Around, Label, outside, within, is_loop, is_label, labels_loop, last_loop, own_label, has_heritage, around_first, around_others, is_constructor, is_accessor}
 use Rattle.early_errors.specs.Scopes.{scope_lexical, scope_vars, declaration_names, duplicate_lexical_name, lexical_name_is_var, without_initializer, const_without_initializer, catch_parameter_conflict, head_lexical, for_name_is_var}
-use Rattle.early_errors.specs.Functions.{is_simple, use_strict, duplicate_parameter, parameter_is_lexical_name, use_strict_behind_pattern}
+use Rattle.early_errors.specs.Functions.{is_simple, use_strict, duplicate_parameter, parameter_is_lexical_name, use_strict_after_pattern}
 use Rattle.early_errors.specs.Strict.{names_given, eval_or_arguments, delete_of_identifier}
 use Rattle.early_errors.specs.Labels.{is_bare, labels_statement, labels_a_loop, misplaced_jump, undefined_label, duplicate_label}
-use Rattle.early_errors.specs.Classes.{super_places, key_places, has_key, constructor_places, behind_first, super_property_outside_method, super_call_outside_constructor, new_target_outside_function, duplicate_constructor, special_constructor, static_prototype}
+use Rattle.early_errors.specs.Classes.{super_places, key_places, has_key, constructor_places, after_first, super_property_outside_method, super_call_outside_constructor, new_target_outside_function, duplicate_constructor, special_constructor, static_prototype}
 use Rattle.early_errors.specs.Literals.{is_uncooked, some_uncooked, good_flags, uncooked_template, reg_exp_flags}
 use Rattle.early_errors.specs.Early.{Error, number, each, each_of, own_places, own_errors, errors_within, parts_errors, errors}
 use Rattle.early_errors.proofs.Words.{words, Alike, alike-append, alike-twice, alike-shared, alike-filter, alike-cond, alike-places, alike-each, others-bare, first_names-bare, declared-bare, vars-bare, lexical-bare, function_names-bare, parameters-bare, parameters_on-bare, body_items-bare}
@@ -241,8 +241,8 @@ use_strict-bare (node k w g s e none) = one (g.directive && false) 0 s
 use_strict-bare (node k w g s e (part (node k2 w2 g2 s2 e2 ps2) ps)) = one (g.directive && among w2 ("'use strict'" ∷ "\"use strict\"" ∷ [])) 0 s
 use_strict-bare (node k w g s e (gap ps)) = one (g.directive && false) 0 s
 
-strict-bare : (n : Tree) → Even (use_strict_behind_pattern (bare n)) (use_strict_behind_pattern n)
-unfolding use_strict_behind_pattern
+strict-bare : (n : Tree) → Even (use_strict_after_pattern (bare n)) (use_strict_after_pattern n)
+unfolding use_strict_after_pattern
 strict-bare (node k w g s e ps) =
     let q' = parameters_on k (bare_parts ps) in
     let q = parameters_on k ps in
@@ -311,7 +311,7 @@ abbrev less : ℕ → ℕ
 less zero = zero
 less (suc n) = n
 
-behind_first-length : (xs : List ℕ) → length (behind_first xs) ≡ less (length xs)
+behind_first-length : (xs : List ℕ) → length (after_first xs) ≡ less (length xs)
 behind_first-length [] = refl
 behind_first-length (x ∷ xs) = refl
 

@@ -10,13 +10,13 @@ use Rattle.early_errors.specs.declared.EarlyError.{EarlyError}
 use Rattle.early_errors.specs.declared.EarlyError.TheVariants as error
 use Rattle.early_errors.specs.declared.scopes.ScopeKind.{ScopeKind}
 use Rattle.early_errors.specs.declared.scopes.ScopeKind.TheVariants as scope
-use Rattle.early_errors.specs.declared.walk.Inside.TheVariants as inside
+use Rattle.early_errors.specs.declared.walk.WalkKind.TheVariants as inside
 use Rattle.early_errors.specs.Around.{Around, is_method}
 use Rattle.name_tables.specs.PatternParts.{at_part}
 use Rattle.name_tables.specs.BoundNames.{each_part}
 use Rattle.early_errors.specs.Names.{Named, places, twice, shared, first_names, var_names, parts_vars, lexical_names, function_names, body_items}
 use Rattle.early_errors.specs.Scopes.{head_lexical, duplicate_lexical_name, lexical_name_is_var, const_without_initializer, catch_parameter_conflict, for_name_is_var}
-use Rattle.early_errors.specs.Functions.{duplicate_parameter, parameter_is_lexical_name, use_strict_behind_pattern}
+use Rattle.early_errors.specs.Functions.{duplicate_parameter, parameter_is_lexical_name, use_strict_after_pattern}
 use Rattle.early_errors.specs.Strict.{is_restricted, eval_or_arguments, delete_of_identifier}
 use Rattle.early_errors.specs.Labels.{misplaced_jump, undefined_label, duplicate_label}
 use Rattle.early_errors.specs.Classes.{super_property_outside_method, super_call_outside_constructor, new_target_outside_function, duplicate_constructor, special_constructor, static_prototype}
@@ -25,12 +25,12 @@ use Rattle.early_errors.specs.Early.{Error, each, own_errors, least}
 use Rattle.early_errors.specs.Owns.{inside_of, scope_kind, scope_error, names_of_scope, place_of_scope, body_place, block_at, is_block, items_at, found_of_scope, plain_errors, doubled, clash_with, case_names}
 use Rattle.early_errors.specs.Walk.{sooner}
 use Rattle.early_errors.specs.Walks.{vars_at, range_vars}
-use Rattle.early_errors.proofs.Dropping.{first_names-at}
+use Rattle.early_errors.proofs.RemainingParts.{first_names-at}
 use Rattle.early_errors.proofs.Insides.{in_scope, not_scope}
 use Rattle.early_errors.proofs.Least.{sooner-twice, least-append}
-use Rattle.early_errors.proofs.Listing.{others-drop, body-whole}
-use Rattle.early_errors.proofs.Ranging.{past, ranged-step, ranged-past, vars_drop}
-use Rattle.early_errors.proofs.Turning.{shared-both}
+use Rattle.early_errors.proofs.FunctionLists.{others-drop, body-whole}
+use Rattle.early_errors.proofs.PartRanges.{past, ranged-step, ranged-past, vars_drop}
+use Rattle.early_errors.proofs.VarConflictSymmetry.{shared-both}
 
 each-places : (e : EarlyError) (xs ys : List Named) → each e (places (xs ++ ys)) ≡ each e (places xs) ++ each e (places ys)
 each-places e [] ys = refl
@@ -139,7 +139,7 @@ module _ (z : Around) where
       least (own_errors z t) ≡ sooner (least (plain_errors z t)) (sooner (least (found_of_scope k z.is_body ps ns)) (least (clash_with (scope_error k) ns (range_vars ps (place_of_scope k ps) (part_count ps - place_of_scope k ps)))))
 
   pub scope-split : (t : Tree) → inside_of (kind_of t) (flags_of t).form ≡ inside.Scope → Split t
-  unfolding own_errors duplicate_lexical_name lexical_name_is_var const_without_initializer catch_parameter_conflict for_name_is_var duplicate_parameter parameter_is_lexical_name use_strict_behind_pattern eval_or_arguments delete_of_identifier misplaced_jump undefined_label duplicate_label super_property_outside_method super_call_outside_constructor new_target_outside_function duplicate_constructor special_constructor static_prototype uncooked_template reg_exp_flags
+  unfolding own_errors duplicate_lexical_name lexical_name_is_var const_without_initializer catch_parameter_conflict for_name_is_var duplicate_parameter parameter_is_lexical_name use_strict_after_pattern eval_or_arguments delete_of_identifier misplaced_jump undefined_label duplicate_label super_property_outside_method super_call_outside_constructor new_target_outside_function duplicate_constructor special_constructor static_prototype uncooked_template reg_exp_flags
   scope-split (node Program w g s e ps) h =
       let ns = each_part (lexical_names false) ps in
       top ns (each_part function_names ps) (parts_vars ps)

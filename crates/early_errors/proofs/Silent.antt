@@ -9,7 +9,7 @@ use Rattle.early_errors.specs.declared.EarlyError.TheVariants.{RegExpFlags}
 use Rattle.early_errors.specs.Around.{Around}
 use Rattle.early_errors.specs.Names.{when, var_names}
 use Rattle.early_errors.specs.Scopes.{duplicate_lexical_name, lexical_name_is_var, const_without_initializer, catch_parameter_conflict, for_name_is_var}
-use Rattle.early_errors.specs.Functions.{duplicate_parameter, parameter_is_lexical_name, use_strict_behind_pattern}
+use Rattle.early_errors.specs.Functions.{duplicate_parameter, parameter_is_lexical_name, use_strict_after_pattern}
 use Rattle.early_errors.specs.Strict.{eval_or_arguments, delete_of_identifier}
 use Rattle.early_errors.specs.Labels.{misplaced_jump, undefined_label, duplicate_label}
 use Rattle.early_errors.specs.Classes.{super_property_outside_method, super_call_outside_constructor, new_target_outside_function, duplicate_constructor, special_constructor, static_prototype}
@@ -19,12 +19,12 @@ use Rattle.name_tables.specs.PatternParts.{at_part}
 use Rattle.early_errors.specs.Walk.{after, hits, sooner}
 use Rattle.early_errors.specs.Walks.{IsQuiet, IsSilent, is_quiet}
 use Rattle.early_errors.proofs.Least.{sooner-none}
-use Rattle.early_errors.proofs.Owning.{small_by_kind}
-use Rattle.early_errors.proofs.Ranging.{errors_whole}
+use Rattle.early_errors.proofs.OwnErrorsByKind.{small_by_kind}
+use Rattle.early_errors.proofs.PartRanges.{errors_whole}
 use Rattle.early_errors.proofs.VarFree.{parts_free}
 
 no_own : (t : Tree) (z : Around) → is_quiet (kind_of t) (text_of t) ≡ true → own_errors z t ≡ []
-unfolding own_errors duplicate_lexical_name lexical_name_is_var const_without_initializer catch_parameter_conflict for_name_is_var duplicate_parameter parameter_is_lexical_name use_strict_behind_pattern eval_or_arguments delete_of_identifier misplaced_jump undefined_label duplicate_label super_property_outside_method super_call_outside_constructor new_target_outside_function duplicate_constructor special_constructor static_prototype uncooked_template reg_exp_flags
+unfolding own_errors duplicate_lexical_name lexical_name_is_var const_without_initializer catch_parameter_conflict for_name_is_var duplicate_parameter parameter_is_lexical_name use_strict_after_pattern eval_or_arguments delete_of_identifier misplaced_jump undefined_label duplicate_label super_property_outside_method super_call_outside_constructor new_target_outside_function duplicate_constructor special_constructor static_prototype uncooked_template reg_exp_flags
 no_own (node Identifier w g s e ps) z h = refl
 no_own (node ThisExpression w g s e ps) z h = refl
 no_own (node Literal w g s e ps) z h =

@@ -6,7 +6,7 @@ use Rattle.std.specs.Str.{IsUtf8}
 use Rattle.std.proofs.lemmas.Bool.Decides.{nat_tests}
 use Rattle.std.proofs.lemmas.Str.{IsCharBoundary-start, len_utf8_ascii}
 use Rattle.source_text.specs.Source.{IsPlace}
-use Rattle.tokens.specs.declared.token.Class.TheVariants.{Template}
+use Rattle.tokens.specs.declared.token.TokenClass.TheVariants.{Template}
 use Rattle.tokens.specs.Alphabet.{one_of}
 use Rattle.tokens.specs.Lexical.{is_of}
 use Rattle.tokens.specs.Templates.{is_template, closes_template}
@@ -14,18 +14,18 @@ use Rattle.tokens.specs.Tokens.{size}
 use Rattle.tokens.specs.Reading.{behind, any_goal}
 use Rattle.tokens.proofs.Bounds.{pass_word, rest_of_word, token_places}
 use Rattle.tokens.proofs.Classes.{token_is}
-use Rattle.tokens.proofs.Passing.{size_one}
+use Rattle.tokens.proofs.PassedCharacters.{size_one}
 use Rattle.tree.specs.declared.kind.Pair.{Pair}
 use Rattle.tree.specs.Tree.{Tree, node, Parts, start_of}
 use Rattle.language.specs.Claims.{Derives}
-use Rattle.language.specs.Pieces.{Role, chunk, script, PieceOf}
+use Rattle.language.specs.Pieces.{Role, template_element, script, PieceOf}
 use Rattle.language.specs.Token.{Token}
 use Rattle.language.specs.Places.{NextIn, next_in, itself, SpellsIn}
 use Rattle.language.specs.Grammar.{ways}
 use Rattle.language.specs.Derivation.{Among, Reads, Step, token, with_mark, without_mark, one_more, no_more, seen, same_line, explicit, implicit, laid, Placed, placed, direct, grouped, Runs, done, step, opened, closed, within, missing}
-use Rattle.language.proofs.Templates.{chunk_told}
-use Rattle.language.proofs.TextPlaces.{text_determined}
-use Rattle.language.proofs.TokenWords.{read_place}
+use Rattle.language.proofs.list_loops.TemplateElements.{chunk_told}
+use Rattle.language.proofs.texts.TextOffsets.{text_determined}
+use Rattle.language.proofs.table.TokenWords.{read_place}
 use Rattle.early_errors.specs.Early.{Error, errors}
 use Rattle.early_errors.specs.Starts.{starts}
 use Rattle.early_errors.proofs.NodeStarts.{Starting, AllStarting, of_each, starting_each}
@@ -60,7 +60,7 @@ module _ (text : List ℕ) (u : IsUtf8 text) where
           (subst (λ c. IsTrue (is_of c h.word)) k (token_is t.class h.word rest h.longest))
 
   node_start : (a : Role) {o : ℕ} {n : Tree} {s e : Token} {P : List Pair} → SpellsIn text o a n s e P → Placed Token (NextIn text any_goal) itself a n s e → IsPlace text s.stop → IsPlace text (start_of n)
-  node_start (chunk b l) d pl p =
+  node_start (template_element b l) d pl p =
       let c = chunk_told Token (NextIn text any_goal) itself (text_determined text) d in
       subst (λ m. IsPlace text (start_of m)) (sym c.tree) (behind_mark c.reads p)
   node_start script d (placed nx e) p = subst (IsPlace text) (ap (λ (x : ℕ × ℕ). x.0) e) (IsCharBoundary-start text u)

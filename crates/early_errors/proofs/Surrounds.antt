@@ -6,7 +6,7 @@ use Rattle.tree.specs.declared.kind.Kind.{Kind}
 use Rattle.tree.specs.declared.kind.Kind.TheVariants.{Property, FunctionExpression, ArrowFunctionExpression, ClassExpression, ClassBody, MethodDefinition, TaggedTemplateExpression, LabeledStatement, SwitchStatement, ForInStatement, ForOfStatement, FunctionDeclaration, ClassDeclaration}
 use Rattle.tree.specs.declared.kind.Flags.{Flags}
 use Rattle.tree.specs.Tree.{Parts, none, part, gap, part_at}
-use Rattle.early_errors.specs.declared.around.Around.{Around as Code}
+use Rattle.early_errors.specs.declared.around.Context.{Context as Code}
 use Rattle.early_errors.specs.Around.{Label, is_loop, around_first, around_others, has_heritage, within}
 use Rattle.language.specs.FirstPart.{others}
 use Rattle.early_errors.specs.Owns.{round, inner_labels, first_labels, first_part}

@@ -4,12 +4,12 @@ use Rattle.std.specs.Prelude.{◌||◌}
 use Rattle.std.specs.Str.{bytes_eq}
 use Rattle.std.proofs.lemmas.Slice.Eq.{bytes_eq-Decides}
 use Rattle.early_errors.specs.declared.EarlyError.{EarlyError}
-use Rattle.early_errors.specs.declared.clashes.Saved.{Saved}
+use Rattle.early_errors.specs.declared.conflicts.Saved.{Saved}
 use Rattle.early_errors.specs.Names as names
 use Rattle.early_errors.specs.Names.{has_name}
 use Rattle.early_errors.specs.Early.{Error, number}
 use Rattle.early_errors.specs.Walk.{Named, sooner, after, named, all_named, with_value, Agree, clashing, undone}
-use Rattle.early_errors.proofs.Naming.{one_more, behind, behind-more, has_name-more}
+use Rattle.early_errors.proofs.NameLoops.{one_more, behind, behind-more, has_name-more}
 
 -- a set with one more of the names
 module _ (f g : List ℕ → Bool) (xs : List Named) (i : ℕ) (d : Named) (l : i < length xs) (h : (w : List ℕ) → g w ≡ (bytes_eq w (get_or xs i d).name.now || f w)) where

@@ -9,7 +9,7 @@ use Rattle.name_tables.specs.BoundNames.{bound_names, all_bound_names, first_bou
 use Rattle.early_errors.specs.Names.{var_names, parts_vars}
 use Rattle.early_errors.specs.Around.{labels_loop, last_loop}
 use Rattle.early_errors.specs.Scopes.{duplicate_lexical_name, lexical_name_is_var, const_without_initializer, catch_parameter_conflict, for_name_is_var}
-use Rattle.early_errors.specs.Functions.{duplicate_parameter, parameter_is_lexical_name, use_strict_behind_pattern}
+use Rattle.early_errors.specs.Functions.{duplicate_parameter, parameter_is_lexical_name, use_strict_after_pattern}
 use Rattle.early_errors.specs.Strict.{eval_or_arguments, delete_of_identifier}
 use Rattle.early_errors.specs.Labels.{misplaced_jump, undefined_label, duplicate_label}
 use Rattle.early_errors.specs.Classes.{super_property_outside_method, super_call_outside_constructor, new_target_outside_function, duplicate_constructor, special_constructor, static_prototype}
@@ -18,7 +18,7 @@ use Rattle.early_errors.specs.Early.{own_errors, errors_within, parts_errors}
 
 -- all that the definitions compute with
 unfoldable pub computing : ℕ
-unfolding bound_names all_bound_names first_bound_names last_bound_names var_names parts_vars labels_loop last_loop duplicate_lexical_name lexical_name_is_var const_without_initializer catch_parameter_conflict for_name_is_var duplicate_parameter parameter_is_lexical_name use_strict_behind_pattern eval_or_arguments delete_of_identifier misplaced_jump undefined_label duplicate_label super_property_outside_method super_call_outside_constructor new_target_outside_function duplicate_constructor special_constructor static_prototype uncooked_template reg_exp_flags own_errors errors_within parts_errors
+unfolding bound_names all_bound_names first_bound_names last_bound_names var_names parts_vars labels_loop last_loop duplicate_lexical_name lexical_name_is_var const_without_initializer catch_parameter_conflict for_name_is_var duplicate_parameter parameter_is_lexical_name use_strict_after_pattern eval_or_arguments delete_of_identifier misplaced_jump undefined_label duplicate_label super_property_outside_method super_call_outside_constructor new_target_outside_function duplicate_constructor special_constructor static_prototype uncooked_template reg_exp_flags own_errors errors_within parts_errors
 computing = 0
 
 -- a node with neither text nor flags

@@ -8,7 +8,7 @@ use Rattle.tree.specs.Tree.{Tree, node, Parts, kind_of, text_of, parts_of, part_
 use Rattle.early_errors.specs.Names.{Named, is_function, declared_names, own_vars, var_names, parts_vars}
 use Rattle.name_tables.specs.PatternParts.{at_part}
 use Rattle.early_errors.specs.Walks.{is_var, range_vars, vars_at}
-use Rattle.early_errors.proofs.Ranging.{ranged-step, ranged-past, vars_whole}
+use Rattle.early_errors.proofs.PartRanges.{ranged-step, ranged-past, vars_whole}
 
 no_own : (k : Kind) (w : List ℕ) (ps : Parts) → is_var k w ≡ false → own_vars k w ps ≡ []
 no_own VariableDeclaration w ps h = ap (λ b. cond b (declared_names ps) []) h

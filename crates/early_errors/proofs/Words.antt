@@ -6,7 +6,7 @@ use Rattle.tree.specs.declared.kind.Kind.{Kind}
 use Rattle.tree.specs.declared.kind.Kind.TheVariants.{Identifier, Property, FunctionExpression, ArrowFunctionExpression, ArrayPattern, ObjectPattern, AssignmentPattern, RestElement, BlockStatement, VariableDeclaration, FunctionDeclaration, ClassDeclaration}
 use Rattle.tree.specs.Tree.{Tree, node, Parts, none, part, gap, bare, bare_parts, parts_of}
 use Rattle.language.specs.FirstPart.{others}
-use Rattle.language.specs.Words.{is}
+use Rattle.language.specs.Vocabulary.{is}
 use Rattle.name_tables.specs.BoundNames.{each_part, bound_names, all_bound_names, first_bound_names, last_bound_names}
 use Rattle.early_errors.specs.Names.{Named, places, has_name, repeated, twice, shared, is_function, name_at, names_in, first_names, declared_names, own_vars, var_names, parts_vars, lexical_names, function_names, parameter_names, parameters_on, items_of, body_items}
 

@@ -55,19 +55,19 @@ is_label _ = false
 unfoldable mutual
   -- a label's statement is a loop, further labels aside
   pub labels_loop : Tree → Bool
-  labels_loop (node k w g s e ps) = is_loop k || (is_label k && last_loop ps)
+  labels_loop (node kind text flags from to parts) = is_loop kind || (is_label kind && last_loop parts)
 
   pub last_loop : Parts → Bool
   last_loop none = false
-  last_loop (part n none) = labels_loop n
-  last_loop (part n (part m ps)) = last_loop (part m ps)
-  last_loop (part n (gap ps)) = last_loop ps
-  last_loop (gap ps) = last_loop ps
+  last_loop (part tree none) = labels_loop tree
+  last_loop (part tree (part m ps)) = last_loop (part m ps)
+  last_loop (part tree (gap ps)) = last_loop ps
+  last_loop (gap rest) = last_loop rest
 
 abbrev pub own_label : Parts → List Label → List Label
 own_label none ls = ls
-own_label (gap ps) ls = ls
-own_label (part n ps) ls = (text_of n, last_loop ps) ∷ ls
+own_label (gap rest) ls = ls
+own_label (part tree rest) ls = (text_of tree, last_loop rest) ∷ ls
 
 abbrev pub is_constructor : Form → Bool
 is_constructor Constructor = true
@@ -80,33 +80,33 @@ is_accessor _ = false
 
 abbrev pub is_method : Form → Bool
 is_method Method = true
-is_method f = is_accessor f
+is_method form = is_accessor form
 
 -- of a class's parts behind the name
 abbrev pub has_heritage : Parts → Bool
-has_heritage (part n ps) = true
+has_heritage (part tree rest) = true
 has_heritage _ = false
 
 -- round the parts behind the first
 abbrev pub around_others : Around → Kind → Flags → Parts → Around
-around_others z FunctionDeclaration g ps = record outside { new_target = true; is_body = true }
-around_others z FunctionExpression g ps = record outside { super_property = z.of_method && z.super_property; super_call = z.of_method && z.super_call; new_target = true; is_body = true }
-around_others z ArrowFunctionExpression g ps = record (within z) { in_loop = false; in_switch = false; labels = []; is_body = true }
-around_others z MethodDefinition g ps = in_method (z.derived && is_constructor g.form)
-around_others z Property g ps = cond (is_method g.form) (in_method false) (within z)
-around_others z ClassExpression g ps = record (within z) { derived = has_heritage (others ps) }
-around_others z ClassDeclaration g ps = record (within z) { derived = has_heritage (others ps) }
-around_others z ClassBody g ps = record (within z) { derived = z.derived }
-around_others z LabeledStatement g ps = record (within z) { labels = own_label ps z.labels }
-around_others z SwitchStatement g ps = record (within z) { in_switch = true }
-around_others z TaggedTemplateExpression g ps = record (within z) { tagged = true }
-around_others z k g ps = record (within z) { in_loop = z.in_loop || is_loop k }
+around_others z FunctionDeclaration flags parts = record outside { new_target = true; is_body = true }
+around_others z FunctionExpression flags parts = record outside { super_property = z.of_method && z.super_property; super_call = z.of_method && z.super_call; new_target = true; is_body = true }
+around_others z ArrowFunctionExpression flags parts = record (within z) { in_loop = false; in_switch = false; labels = []; is_body = true }
+around_others z MethodDefinition flags parts = in_method (z.derived && is_constructor flags.form)
+around_others z Property flags parts = cond (is_method flags.form) (in_method false) (within z)
+around_others z ClassExpression flags parts = record (within z) { derived = has_heritage (others parts) }
+around_others z ClassDeclaration flags parts = record (within z) { derived = has_heritage (others parts) }
+around_others z ClassBody flags parts = record (within z) { derived = z.derived }
+around_others z LabeledStatement flags parts = record (within z) { labels = own_label parts z.labels }
+around_others z SwitchStatement flags parts = record (within z) { in_switch = true }
+around_others z TaggedTemplateExpression flags parts = record (within z) { tagged = true }
+around_others z kind flags parts = record (within z) { in_loop = z.in_loop || is_loop kind }
 
 -- Round the first part: a key belongs to what surrounds its node, a tag is no template, and a head is not in the loop.
 abbrev pub around_first : Around → Kind → Flags → Parts → Around
-around_first z MethodDefinition g ps = within z
-around_first z Property g ps = within z
-around_first z TaggedTemplateExpression g ps = within z
-around_first z ForInStatement g ps = record (within z) { in_head = true }
-around_first z ForOfStatement g ps = record (within z) { in_head = true }
-around_first z k g ps = around_others z k g ps
+around_first z MethodDefinition flags parts = within z
+around_first z Property flags parts = within z
+around_first z TaggedTemplateExpression flags parts = within z
+around_first z ForInStatement flags parts = record (within z) { in_head = true }
+around_first z ForOfStatement flags parts = record (within z) { in_head = true }
+around_first z kind flags parts = around_others z kind flags parts

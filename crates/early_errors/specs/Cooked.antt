@@ -5,4 +5,4 @@ use Rattle.language.specs.Strings.{points}
 
 -- a template part's raw value, which is in UTF-8, has a cooked value (11.8.6.1)
 abbrev pub cooks : List ℕ → Bool
-cooks w = is_some (cooked_value (points w))
+cooks text = is_some (cooked_value (points text))

@@ -5,7 +5,7 @@ use Rattle.early_errors.specs.declared.EarlyError.{EarlyError}
 use Rattle.early_errors.specs.declared.EarlyError.TheVariants.{EvalOrArguments, DeleteOfIdentifier, DuplicateLexicalName, LexicalNameIsVar, ConstWithoutInitializer, DuplicateParameter, ParameterIsLexicalName, UseStrictBehindPattern, MisplacedJump, UndefinedLabel, DuplicateLabel, CatchParameterConflict, ForNameIsVar, SuperPropertyOutsideMethod, SuperCallOutsideConstructor, NewTargetOutsideFunction, DuplicateConstructor, SpecialConstructor, StaticPrototype, UncookedTemplate, RegExpFlags}
 use Rattle.early_errors.specs.Around.{Around, outside, around_first, around_others}
 use Rattle.early_errors.specs.Scopes.{duplicate_lexical_name, lexical_name_is_var, const_without_initializer, catch_parameter_conflict, for_name_is_var}
-use Rattle.early_errors.specs.Functions.{duplicate_parameter, parameter_is_lexical_name, use_strict_behind_pattern}
+use Rattle.early_errors.specs.Functions.{duplicate_parameter, parameter_is_lexical_name, use_strict_after_pattern}
 use Rattle.early_errors.specs.Strict.{eval_or_arguments, delete_of_identifier}
 use Rattle.early_errors.specs.Labels.{misplaced_jump, undefined_label, duplicate_label}
 use Rattle.early_errors.specs.Classes.{super_property_outside_method, super_call_outside_constructor, new_target_outside_function, duplicate_constructor, special_constructor, static_prototype}
@@ -40,32 +40,32 @@ abbrev pub Error : Type 0
 Error = ℕ × ℕ
 
 abbrev pub each : EarlyError → List ℕ → List Error
-each error at = map (λ p. (number error, p)) at
+each error text = map (λ p. (number error, p)) text
 
 -- the places that a node itself gives for each early error
 abbrev pub own_places : Around → Tree → List (EarlyError × List ℕ)
-own_places z n =
-    (EvalOrArguments, eval_or_arguments n) ∷
-    (DeleteOfIdentifier, delete_of_identifier n) ∷
-    (DuplicateLexicalName, duplicate_lexical_name z n) ∷
-    (LexicalNameIsVar, lexical_name_is_var z n) ∷
-    (ConstWithoutInitializer, const_without_initializer z n) ∷
-    (DuplicateParameter, duplicate_parameter n) ∷
-    (ParameterIsLexicalName, parameter_is_lexical_name n) ∷
-    (UseStrictBehindPattern, use_strict_behind_pattern n) ∷
-    (MisplacedJump, misplaced_jump z n) ∷
-    (UndefinedLabel, undefined_label z n) ∷
-    (DuplicateLabel, duplicate_label z n) ∷
-    (CatchParameterConflict, catch_parameter_conflict n) ∷
-    (ForNameIsVar, for_name_is_var n) ∷
-    (SuperPropertyOutsideMethod, super_property_outside_method z n) ∷
-    (SuperCallOutsideConstructor, super_call_outside_constructor z n) ∷
-    (NewTargetOutsideFunction, new_target_outside_function z n) ∷
-    (DuplicateConstructor, duplicate_constructor n) ∷
-    (SpecialConstructor, special_constructor n) ∷
-    (StaticPrototype, static_prototype n) ∷
-    (UncookedTemplate, uncooked_template z n) ∷
-    (RegExpFlags, reg_exp_flags n) ∷
+own_places z tree =
+    (EvalOrArguments, eval_or_arguments tree) ∷
+    (DeleteOfIdentifier, delete_of_identifier tree) ∷
+    (DuplicateLexicalName, duplicate_lexical_name z tree) ∷
+    (LexicalNameIsVar, lexical_name_is_var z tree) ∷
+    (ConstWithoutInitializer, const_without_initializer z tree) ∷
+    (DuplicateParameter, duplicate_parameter tree) ∷
+    (ParameterIsLexicalName, parameter_is_lexical_name tree) ∷
+    (UseStrictBehindPattern, use_strict_after_pattern tree) ∷
+    (MisplacedJump, misplaced_jump z tree) ∷
+    (UndefinedLabel, undefined_label z tree) ∷
+    (DuplicateLabel, duplicate_label z tree) ∷
+    (CatchParameterConflict, catch_parameter_conflict tree) ∷
+    (ForNameIsVar, for_name_is_var tree) ∷
+    (SuperPropertyOutsideMethod, super_property_outside_method z tree) ∷
+    (SuperCallOutsideConstructor, super_call_outside_constructor z tree) ∷
+    (NewTargetOutsideFunction, new_target_outside_function z tree) ∷
+    (DuplicateConstructor, duplicate_constructor tree) ∷
+    (SpecialConstructor, special_constructor tree) ∷
+    (StaticPrototype, static_prototype tree) ∷
+    (UncookedTemplate, uncooked_template z tree) ∷
+    (RegExpFlags, reg_exp_flags tree) ∷
     []
 
 abbrev pub each_of : List (EarlyError × List ℕ) → List Error
@@ -74,21 +74,21 @@ each_of (x ∷ xs) = each x.0 x.1 ++ each_of xs
 
 -- the errors of the node itself
 unfoldable pub own_errors : Around → Tree → List Error
-own_errors z n = each_of (own_places z n)
+own_errors z tree = each_of (own_places z tree)
 
 unfoldable mutual
   -- the errors of a node and of all below it, with what holds round it
   pub errors_within : Around → Tree → List Error
-  errors_within z (node k w g s e ps) = own_errors z (node k w g s e ps) ++ parts_errors (around_first z k g ps) (around_others z k g ps) ps
+  errors_within z (node kind text flags from to parts) = own_errors z (node kind text flags from to parts) ++ parts_errors (around_first z kind flags parts) (around_others z kind flags parts) parts
 
   pub parts_errors : Around → Around → Parts → List Error
   parts_errors y z none = []
-  parts_errors y z (part n ps) = errors_within y n ++ parts_errors z z ps
-  parts_errors y z (gap ps) = parts_errors z z ps
+  parts_errors y z (part tree rest) = errors_within y tree ++ parts_errors z z rest
+  parts_errors y z (gap rest) = parts_errors z z rest
 
 -- All early errors of a tree, in no particular order. Which there are depends on the tree; their places are the nodes' own.
 abbrev pub errors : Tree → List Error
-errors n = errors_within outside n
+errors tree = errors_within outside tree
 
 -- before another one: by place, then by number
 abbrev pub comes_first : Error → Error → Bool
@@ -104,4 +104,4 @@ least (x ∷ xs) = Some (lesser x (least xs))
 
 -- the early error that is reported, where there is any
 abbrev pub least_error : Tree → Option Error
-least_error n = least (errors n)
+least_error tree = least (errors tree)

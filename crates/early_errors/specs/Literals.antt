@@ -2,27 +2,27 @@
 use Rattle.std.specs.Prelude.{ℕ, Bool, true, false, not, cond, ◌&&◌, ◌||◌, List, [], ◌∷◌, nat_eq, codes}
 use Rattle.tree.specs.declared.kind.Kind.{Kind}
 use Rattle.tree.specs.declared.kind.Kind.TheVariants.{Literal, TemplateLiteral, TemplateElement}
-use Rattle.tokens.specs.declared.token.Class.{Class}
-use Rattle.tokens.specs.declared.token.Class.TheVariants.{RegExp}
+use Rattle.tokens.specs.declared.token.TokenClass.{TokenClass}
+use Rattle.tokens.specs.declared.token.TokenClass.TheVariants.{RegularExpressionLiteral}
 use Rattle.tree.specs.Tree.{Tree, node, Parts, none, part, gap, kind_of, text_of}
-use Rattle.language.specs.Words.{literal_class}
+use Rattle.language.specs.Vocabulary.{literal_class}
 use Rattle.early_errors.specs.Cooked.{cooks}
 use Rattle.early_errors.specs.Names.{when}
 use Rattle.early_errors.specs.Around.{Around}
 
 abbrev pub is_uncooked : Kind → List ℕ → Bool
-is_uncooked TemplateElement w = not (cooks w)
-is_uncooked _ w = false
+is_uncooked TemplateElement text = not (cooks text)
+is_uncooked _ text = false
 
 abbrev pub some_uncooked : Parts → Bool
 some_uncooked none = false
-some_uncooked (part n ps) = is_uncooked (kind_of n) (text_of n) || some_uncooked ps
-some_uncooked (gap ps) = some_uncooked ps
+some_uncooked (part tree rest) = is_uncooked (kind_of tree) (text_of tree) || some_uncooked rest
+some_uncooked (gap rest) = some_uncooked rest
 
 -- An untagged template with a part that has no cooked value (12.2.9.1): the template.
 unfoldable pub uncooked_template : Around → Tree → List ℕ
-uncooked_template z (node TemplateLiteral w g s e ps) = when (not z.tagged && some_uncooked ps) (s ∷ [])
-uncooked_template z (node _ w g s e ps) = []
+uncooked_template z (node TemplateLiteral text flags from to parts) = when (not z.tagged && some_uncooked parts) (from ∷ [])
+uncooked_template z (node _ text flags from to parts) = []
 
 abbrev pub holds : List ℕ → ℕ → Bool
 holds [] c = false
@@ -38,15 +38,15 @@ abbrev pub are_flags : List ℕ → Bool
 are_flags [] = true
 are_flags (c ∷ w) = holds (codes "gimsuy") c && (not (holds w c) && are_flags w)
 
-abbrev pub is_reg_exp : Class → Bool
-is_reg_exp RegExp = true
+abbrev pub is_reg_exp : TokenClass → Bool
+is_reg_exp RegularExpressionLiteral = true
 is_reg_exp _ = false
 
 -- a literal that isn't a regular expression, or one with good flags (12.2.8.1)
 abbrev pub good_flags : List ℕ → Bool
-good_flags w = not (is_reg_exp (literal_class w)) || are_flags (flags_part [] w)
+good_flags text = not (is_reg_exp (literal_class text)) || are_flags (flags_part [] text)
 
 -- Flags other than `g i m s u y`, or one twice (12.2.8.1): the literal.
 unfoldable pub reg_exp_flags : Tree → List ℕ
-reg_exp_flags (node Literal w g s e ps) = when (not (good_flags w)) (s ∷ [])
-reg_exp_flags (node _ w g s e ps) = []
+reg_exp_flags (node Literal text flags from to parts) = when (not (good_flags text)) (from ∷ [])
+reg_exp_flags (node _ text flags from to parts) = []

@@ -5,7 +5,7 @@ use Rattle.tree.specs.declared.kind.Kind.{Kind}
 use Rattle.tree.specs.declared.kind.Kind.TheVariants.{FunctionExpression, ArrowFunctionExpression, BlockStatement, VariableDeclaration, FunctionDeclaration, ClassDeclaration}
 use Rattle.tree.specs.Tree.{Tree, node, Parts, none, part, gap, parts_of, text_of, start_of}
 use Rattle.language.specs.FirstPart.{others}
-use Rattle.language.specs.Words.{is}
+use Rattle.language.specs.Vocabulary.{is}
 use Rattle.name_tables.specs.BoundNames.{each_part, bound_names, first_bound_names}
 
 -- a name and its place
@@ -16,11 +16,11 @@ abbrev pub places : List Named → List ℕ
 places xs = map (λ x. x.1) xs
 
 abbrev pub when : Bool → List ℕ → List ℕ
-when b xs = cond b xs []
+when b text = cond b text []
 
 abbrev pub has_name : List ℕ → List Named → Bool
-has_name w [] = false
-has_name w (x ∷ xs) = bytes_eq w x.0 || has_name w xs
+has_name text [] = false
+has_name text (x ∷ xs) = bytes_eq text x.0 || has_name text xs
 
 -- the second and later of each name
 abbrev pub repeated : List Named → List Named → List Named
@@ -42,66 +42,66 @@ is_function _ = false
 
 -- an identifier's name and place
 abbrev pub name_at : Tree → Named
-name_at t = (text_of t, start_of t)
+name_at tree = (text_of tree, start_of tree)
 
 -- the names that a pattern or a target binds or assigns (13.3.3.1)
 abbrev pub names_in : Tree → List Named
-names_in t = bound_names name_at t
+names_in tree = bound_names name_at tree
 
 -- those of the first part
 abbrev pub first_names : Parts → List Named
-first_names ps = first_bound_names name_at ps
+first_names parts = first_bound_names name_at parts
 
 -- the names of a declaration, whose parts are its declarators
 abbrev pub declared_names : Parts → List Named
-declared_names ps = each_part (λ n. first_names (parts_of n)) ps
+declared_names parts = each_part (λ n. first_names (parts_of n)) parts
 
 abbrev pub own_vars : Kind → List ℕ → Parts → List Named
-own_vars VariableDeclaration w ps = cond (is w "var") (declared_names ps) []
-own_vars _ w ps = []
+own_vars VariableDeclaration text parts = cond (is text "var") (declared_names parts) []
+own_vars _ text parts = []
 
 unfoldable mutual
   -- the names of `var` at any depth outside inner functions (13.1.5)
   pub var_names : Tree → List Named
-  var_names (node k w g s e ps) = cond (is_function k) [] (own_vars k w ps ++ parts_vars ps)
+  var_names (node kind text flags from to parts) = cond (is_function kind) [] (own_vars kind text parts ++ parts_vars parts)
 
   pub parts_vars : Parts → List Named
   parts_vars none = []
-  parts_vars (part n ps) = var_names n ++ parts_vars ps
-  parts_vars (gap ps) = parts_vars ps
+  parts_vars (part tree rest) = var_names tree ++ parts_vars rest
+  parts_vars (gap rest) = parts_vars rest
 
 -- the names of an item that is a `let`, a `const` or a class, and of a function too where `b` says so (13.2.5, 13.2.7)
 abbrev pub lexical_names : Bool → Tree → List Named
-lexical_names b (node VariableDeclaration w g s e ps) = cond (is w "var") [] (declared_names ps)
-lexical_names b (node ClassDeclaration w g s e ps) = first_names ps
-lexical_names b (node FunctionDeclaration w g s e ps) = cond b (first_names ps) []
-lexical_names b (node _ w g s e ps) = []
+lexical_names b (node VariableDeclaration text flags from to parts) = cond (is text "var") [] (declared_names parts)
+lexical_names b (node ClassDeclaration text flags from to parts) = first_names parts
+lexical_names b (node FunctionDeclaration text flags from to parts) = cond b (first_names parts) []
+lexical_names b (node _ text flags from to parts) = []
 
 abbrev pub function_names : Tree → List Named
-function_names (node FunctionDeclaration w g s e ps) = first_names ps
-function_names (node _ w g s e ps) = []
+function_names (node FunctionDeclaration text flags from to parts) = first_names parts
+function_names (node _ text flags from to parts) = []
 
 -- the parameters' names: all parts but the last, which is the body
 abbrev pub parameter_names : Parts → List Named
 parameter_names none = []
-parameter_names (part n none) = []
-parameter_names (part n ps) = names_in n ++ parameter_names ps
-parameter_names (gap ps) = parameter_names ps
+parameter_names (part tree none) = []
+parameter_names (part tree rest) = names_in tree ++ parameter_names rest
+parameter_names (gap rest) = parameter_names rest
 
 -- the parts of a function from its first parameter on
 abbrev pub parameters_on : Kind → Parts → Parts
-parameters_on ArrowFunctionExpression ps = ps
-parameters_on FunctionExpression ps = others ps
-parameters_on FunctionDeclaration ps = others ps
-parameters_on _ ps = none
+parameters_on ArrowFunctionExpression parts = parts
+parameters_on FunctionExpression parts = others parts
+parameters_on FunctionDeclaration parts = others parts
+parameters_on _ parts = none
 
 abbrev pub items_of : Tree → Parts
-items_of (node BlockStatement w g s e ps) = ps
-items_of (node _ w g s e ps) = none
+items_of (node BlockStatement text flags from to parts) = parts
+items_of (node _ text flags from to parts) = none
 
 -- the items of the last part where that is a block
 abbrev pub body_items : Parts → Parts
 body_items none = none
-body_items (part n none) = items_of n
-body_items (part n ps) = body_items ps
-body_items (gap ps) = body_items ps
+body_items (part tree none) = items_of tree
+body_items (part tree rest) = body_items rest
+body_items (gap rest) = body_items rest

@@ -6,19 +6,19 @@ use Rattle.tree.specs.declared.kind.Kind.{Kind}
 use Rattle.tree.specs.declared.kind.Kind.TheVariants as kind
 use Rattle.tree.specs.declared.kind.Flags.{Flags}
 use Rattle.tree.specs.Tree.{Tree, Parts, none, kind_of, text_of, start_of, parts_of, part_at, part_count, parts_drop}
-use Rattle.language.specs.Words.{among, is_identifier}
+use Rattle.language.specs.Vocabulary.{among, is_identifier}
 use Rattle.early_errors.specs.declared.EarlyError.{EarlyError}
 use Rattle.early_errors.specs.declared.EarlyError.TheVariants as error
-use Rattle.early_errors.specs.declared.around.Around.{Around as Code}
+use Rattle.early_errors.specs.declared.around.Context.{Context as Code}
 use Rattle.early_errors.specs.declared.around.FirstPart.{FirstPart}
 use Rattle.early_errors.specs.declared.around.FirstPart.TheVariants as first
 use Rattle.tree.specs.declared.kind.Form.{Form}
-use Rattle.early_errors.specs.declared.walk.Inside.{Inside}
-use Rattle.early_errors.specs.declared.walk.Inside.TheVariants as inside
-use Rattle.early_errors.specs.declared.own.Sort.{Sort}
-use Rattle.early_errors.specs.declared.own.Sort.TheVariants as sort
-use Rattle.early_errors.specs.declared.own.Own.{Own}
-use Rattle.early_errors.specs.declared.own.Own.TheVariants.{Variables, Function, FirstNames, Break, Continue, Label, Delete, SuperProperty, SuperCall, Target, Constructors, Member, Template, Literal, Nothing}
+use Rattle.early_errors.specs.declared.walk.WalkKind.{WalkKind}
+use Rattle.early_errors.specs.declared.walk.WalkKind.TheVariants as inside
+use Rattle.early_errors.specs.declared.own.OwnErrorInput.{OwnErrorInput}
+use Rattle.early_errors.specs.declared.own.OwnErrorInput.TheVariants as sort
+use Rattle.early_errors.specs.declared.own.OwnErrors.{OwnErrors}
+use Rattle.early_errors.specs.declared.own.OwnErrors.TheVariants.{Variables, Function, FirstNames, Break, Continue, Label, Delete, SuperProperty, SuperCall, Target, Constructors, Member, Template, Literal, Nothing}
 use Rattle.early_errors.specs.Around as around
 use Rattle.early_errors.specs.Around.{Around}
 use Rattle.language.specs.FirstPart.{others}
@@ -51,14 +51,14 @@ misses loops f x = not (is_label_for loops (f x.0))
 
 -- whether a label of the name stands there, and whether one of them labels a loop
 abbrev pub label_of : List around.Label → List ℕ → Option Bool
-label_of [] w = None
-label_of (l ∷ ls) w = cond (bytes_eq l.0 w) (Some (l.1 || or_false (label_of ls w))) (label_of ls w)
+label_of [] text = None
+label_of (l ∷ ls) text = cond (bytes_eq l.0 text) (Some (l.1 || or_false (label_of ls text))) (label_of ls text)
 
 -- a table answers as the labels do
 abbrev pub Knows : (List ℕ → Option Bool) → List around.Label → Type 0
 Knows f ls = (w : List ℕ) → f w ≡ label_of ls w
 
-abbrev pub own_of : Kind → Own
+abbrev pub own_of : Kind → OwnErrors
 own_of kind.VariableDeclaration = Variables
 own_of kind.FunctionDeclaration = Function
 own_of kind.FunctionExpression = Function
@@ -96,7 +96,7 @@ makes_scope _ = false
 
 -- a node's own errors, without those of the scope that it makes
 abbrev pub plain_errors : Around → Tree → List Error
-plain_errors z n = cond (makes_scope (kind_of n)) (each error.EvalOrArguments (eval_or_arguments n)) (own_errors z n)
+plain_errors z tree = cond (makes_scope (kind_of tree)) (each error.EvalOrArguments (eval_or_arguments tree)) (own_errors z tree)
 
 abbrev pub is_element : Kind → Bool
 is_element kind.TemplateElement = true
@@ -108,8 +108,8 @@ uncooked_at (Some t) = is_uncooked (kind_of t) (text_of t)
 
 -- a key's value is a word
 abbrev pub key_says : Option Tree → List ℕ → Bool
-key_says None w = false
-key_says (Some t) w = bytes_eq (key_value t) w
+key_says None text = false
+key_says (Some t) text = bytes_eq (key_value t) text
 
 abbrev pub places_at : Option Tree → List ℕ
 places_at None = []
@@ -134,8 +134,8 @@ parameter_place kind.ArrowFunctionExpression = 0
 parameter_place _ = 1
 
 abbrev pub function_name : ℕ → Parts → Option Tree
-function_name zero ps = None
-function_name (suc n) ps = part_at ps 0
+function_name zero parts = None
+function_name (suc n) parts = part_at parts 0
 
 abbrev pub is_plain : Option Tree → Bool
 is_plain None = true
@@ -159,17 +159,17 @@ scope_kind _ = scope.Nothing
 
 -- the lexical names of a switch's case
 abbrev pub case_names : Tree → List Named
-case_names c = each_part (lexical_names true) (others (parts_of c))
+case_names tree = each_part (lexical_names true) (others (parts_of tree))
 
 -- the names that clash with `var`s inside; the flag says whether the node is a function's body
 abbrev pub names_of_scope : ScopeKind → Bool → Parts → List Named
-names_of_scope scope.Program b ps = each_part (lexical_names false) ps
-names_of_scope scope.Block b ps = each_part (lexical_names (not b)) ps
-names_of_scope scope.Switch b ps = each_part case_names (parts_drop 1 ps)
-names_of_scope scope.Catch b ps = names_at (part_at ps 0)
-names_of_scope scope.For b ps = at_part (lexical_names false) (part_at ps 0)
-names_of_scope scope.ForEach b ps = at_part (lexical_names false) (part_at ps 0)
-names_of_scope scope.Nothing b ps = []
+names_of_scope scope.Program b parts = each_part (lexical_names false) parts
+names_of_scope scope.Block b parts = each_part (lexical_names (not b)) parts
+names_of_scope scope.Switch b parts = each_part case_names (parts_drop 1 parts)
+names_of_scope scope.Catch b parts = names_at (part_at parts 0)
+names_of_scope scope.For b parts = at_part (lexical_names false) (part_at parts 0)
+names_of_scope scope.ForEach b parts = at_part (lexical_names false) (part_at parts 0)
+names_of_scope scope.Nothing b parts = []
 
 -- the error of a name that clashes so
 abbrev pub scope_error : ScopeKind → EarlyError
@@ -179,15 +179,15 @@ scope_error scope.ForEach = error.ForNameIsVar
 scope_error _ = error.LexicalNameIsVar
 
 abbrev pub body_place : Parts → ℕ
-body_place ps = cond (is_some (block_at (part_at ps (part_count ps - 1)))) (part_count ps - 1) (part_count ps)
+body_place parts = cond (is_some (block_at (part_at parts (part_count parts - 1)))) (part_count parts - 1) (part_count parts)
 
 -- the part from which on a `var` clashes
 abbrev pub place_of_scope : ScopeKind → Parts → ℕ
-place_of_scope scope.Switch ps = 1
-place_of_scope scope.Catch ps = body_place ps
-place_of_scope scope.For ps = 3
-place_of_scope scope.ForEach ps = 2
-place_of_scope _ ps = 0
+place_of_scope scope.Switch parts = 1
+place_of_scope scope.Catch parts = body_place parts
+place_of_scope scope.For parts = 3
+place_of_scope scope.ForEach parts = 2
+place_of_scope _ parts = 0
 
 abbrev pub declares_function : Kind → Bool
 declares_function kind.FunctionDeclaration = true
@@ -201,38 +201,38 @@ clash_with e ns vs = each e (places (shared ns vs))
 
 -- the errors of these names that aren't about `var`s inside
 abbrev pub found_of_scope : ScopeKind → Bool → Parts → List Named → List Error
-found_of_scope scope.Program b ps ns = doubled error.DuplicateLexicalName ns ++ clash_with error.LexicalNameIsVar ns (each_part function_names ps)
-found_of_scope scope.Block true ps ns = doubled error.DuplicateLexicalName ns ++ clash_with error.LexicalNameIsVar ns (each_part function_names ps)
-found_of_scope scope.Block false ps ns = doubled error.DuplicateLexicalName ns
-found_of_scope scope.Switch b ps ns = doubled error.DuplicateLexicalName ns
-found_of_scope scope.Catch b ps ns = doubled error.CatchParameterConflict ns ++ clash_with error.CatchParameterConflict ns (each_part (lexical_names true) (body_items ps))
-found_of_scope _ b ps ns = []
+found_of_scope scope.Program b parts ns = doubled error.DuplicateLexicalName ns ++ clash_with error.LexicalNameIsVar ns (each_part function_names parts)
+found_of_scope scope.Block true parts ns = doubled error.DuplicateLexicalName ns ++ clash_with error.LexicalNameIsVar ns (each_part function_names parts)
+found_of_scope scope.Block false parts ns = doubled error.DuplicateLexicalName ns
+found_of_scope scope.Switch b parts ns = doubled error.DuplicateLexicalName ns
+found_of_scope scope.Catch b parts ns = doubled error.CatchParameterConflict ns ++ clash_with error.CatchParameterConflict ns (each_part (lexical_names true) (body_items parts))
+found_of_scope _ b parts ns = []
 
 -- ---- a node's own errors, by what it is
 
 -- the names that a node itself declares by `var`
 abbrev pub vars_of : Tree → List Named
-vars_of n = own_vars (kind_of n) (text_of n) (parts_of n)
+vars_of tree = own_vars (kind_of tree) (text_of tree) (parts_of tree)
 
 -- those of nodes whose first part's names don't matter
-abbrev pub nameless : Own → Around → Tree → List Error
-nameless Variables z n = []
-nameless FirstNames z n = []
-nameless Break z n = []
-nameless Continue z n = []
-nameless Label z n = []
-nameless Nothing z n = []
-nameless _ z n = own_errors z n
+abbrev pub nameless : OwnErrors → Around → Tree → List Error
+nameless Variables z tree = []
+nameless FirstNames z tree = []
+nameless Break z tree = []
+nameless Continue z tree = []
+nameless Label z tree = []
+nameless Nothing z tree = []
+nameless _ z tree = own_errors z tree
 
 -- those of nodes whose first part's names matter
-abbrev pub named_errors : Own → Around → Tree → List Error
-named_errors Break z n = own_errors z n
-named_errors Continue z n = own_errors z n
-named_errors Label z n = own_errors z n
-named_errors FirstNames z n = each error.EvalOrArguments (eval_or_arguments n)
-named_errors _ z n = []
+abbrev pub named_errors : OwnErrors → Around → Tree → List Error
+named_errors Break z tree = own_errors z tree
+named_errors Continue z tree = own_errors z tree
+named_errors Label z tree = own_errors z tree
+named_errors FirstNames z tree = each error.EvalOrArguments (eval_or_arguments tree)
+named_errors _ z tree = []
 
-abbrev pub sort_of : Own → Sort
+abbrev pub sort_of : OwnErrors → OwnErrorInput
 sort_of Variables = sort.Variables
 sort_of FirstNames = sort.Named
 sort_of Break = sort.Named
@@ -242,13 +242,13 @@ sort_of _ = sort.Nameless
 
 -- the labels round a node's parts: a function and a method have none of those above
 abbrev pub inner_labels : Kind → Flags → Parts → List around.Label → List around.Label
-inner_labels kind.FunctionDeclaration g ps ls = []
-inner_labels kind.FunctionExpression g ps ls = []
-inner_labels kind.ArrowFunctionExpression g ps ls = []
-inner_labels kind.MethodDefinition g ps ls = []
-inner_labels kind.Property g ps ls = cond (around.is_method g.form) [] ls
-inner_labels kind.LabeledStatement g ps ls = around.own_label ps ls
-inner_labels _ g ps ls = ls
+inner_labels kind.FunctionDeclaration flags parts ls = []
+inner_labels kind.FunctionExpression flags parts ls = []
+inner_labels kind.ArrowFunctionExpression flags parts ls = []
+inner_labels kind.MethodDefinition flags parts ls = []
+inner_labels kind.Property flags parts ls = cond (around.is_method flags.form) [] ls
+inner_labels kind.LabeledStatement flags parts ls = around.own_label parts ls
+inner_labels _ flags parts ls = ls
 
 abbrev pub first_part : Kind → FirstPart
 first_part kind.MethodDefinition = first.Plain
@@ -260,24 +260,24 @@ first_part _ = first.LikeOthers
 
 -- the labels round a node's first part
 abbrev pub first_labels : Kind → Flags → Parts → List around.Label → List around.Label
-first_labels kind.MethodDefinition g ps ls = ls
-first_labels kind.Property g ps ls = ls
-first_labels k g ps ls = inner_labels k g ps ls
+first_labels kind.MethodDefinition flags parts ls = ls
+first_labels kind.Property flags parts ls = ls
+first_labels node_kind flags parts ls = inner_labels node_kind flags parts ls
 
 -- how a walk goes on inside a node
-abbrev pub inside_of : Kind → Form → Inside
-inside_of kind.FunctionDeclaration f = inside.Function
-inside_of kind.FunctionExpression f = inside.Function
-inside_of kind.ArrowFunctionExpression f = inside.Function
-inside_of kind.MethodDefinition f = inside.Method
-inside_of kind.Property f = cond (around.is_method f) inside.Method inside.Plain
-inside_of kind.LabeledStatement f = inside.Label
-inside_of kind.VariableDeclaration f = inside.Declaration
-inside_of kind.Program f = inside.Scope
-inside_of kind.BlockStatement f = inside.Scope
-inside_of kind.SwitchStatement f = inside.Scope
-inside_of kind.CatchClause f = inside.Scope
-inside_of kind.ForStatement f = inside.Scope
-inside_of kind.ForInStatement f = inside.Scope
-inside_of kind.ForOfStatement f = inside.Scope
-inside_of _ f = inside.Plain
+abbrev pub inside_of : Kind → Form → WalkKind
+inside_of kind.FunctionDeclaration form = inside.Function
+inside_of kind.FunctionExpression form = inside.Function
+inside_of kind.ArrowFunctionExpression form = inside.Function
+inside_of kind.MethodDefinition form = inside.Method
+inside_of kind.Property form = cond (around.is_method form) inside.Method inside.Plain
+inside_of kind.LabeledStatement form = inside.Label
+inside_of kind.VariableDeclaration form = inside.Declaration
+inside_of kind.Program form = inside.Scope
+inside_of kind.BlockStatement form = inside.Scope
+inside_of kind.SwitchStatement form = inside.Scope
+inside_of kind.CatchClause form = inside.Scope
+inside_of kind.ForStatement form = inside.Scope
+inside_of kind.ForInStatement form = inside.Scope
+inside_of kind.ForOfStatement form = inside.Scope
+inside_of _ form = inside.Plain

@@ -3,13 +3,13 @@ use Rattle.std.specs.Prelude.{◌≡◌, Bool, false, List, [], filter, Option, 
 use Rattle.tree.specs.declared.kind.Kind.{Kind}
 use Rattle.tree.specs.declared.kind.Kind.TheVariants as kind
 use Rattle.tree.specs.Tree.{Tree, kind_of, parts_of}
-use Rattle.language.specs.Words.{is_super}
-use Rattle.early_errors.specs.declared.quiet.Where.{Where}
-use Rattle.early_errors.specs.declared.quiet.Where.TheVariants.{Nowhere, InParts, Anywhere}
-use Rattle.early_errors.specs.declared.quiet.Telling.{Telling}
-use Rattle.early_errors.specs.declared.quiet.Telling.TheVariants as telling
+use Rattle.language.specs.Vocabulary.{is_super}
+use Rattle.early_errors.specs.declared.skipping.ErrorPlaces.{ErrorPlaces}
+use Rattle.early_errors.specs.declared.skipping.ErrorPlaces.TheVariants.{Nowhere, InParts, Anywhere}
+use Rattle.early_errors.specs.declared.skipping.SkipTest.{SkipTest}
+use Rattle.early_errors.specs.declared.skipping.SkipTest.TheVariants as telling
 use Rattle.early_errors.specs.Around.{Around, Label, within}
-use Rattle.early_errors.specs.declared.around.Around.{Around as Code}
+use Rattle.early_errors.specs.declared.around.Context.{Context as Code}
 use Rattle.early_errors.specs.Owns.{round}
 use Rattle.early_errors.specs.Names.{Named, twice, first_names, var_names, parts_vars}
 use Rattle.early_errors.specs.Scopes.{without_initializer}
@@ -19,20 +19,20 @@ use Rattle.early_errors.specs.Walks.{IsQuiet}
 
 -- a node that has no errors itself, whatever stands round it, and whose parts have round them what stands round it
 abbrev pub IsOpen : Tree → Type 0
-IsOpen t = ((z : Around) → errors_within z t ≡ parts_errors (within z) (within z) (parts_of t)) × (var_names t ≡ parts_vars (parts_of t))
+IsOpen tree = ((z : Around) → errors_within z tree ≡ parts_errors (within z) (within z) (parts_of tree)) × (var_names tree ≡ parts_vars (parts_of tree))
 
 -- where a node's errors may be
-abbrev pub IsWhere : Where → Tree → Type 0
-IsWhere Nowhere t = IsQuiet t
-IsWhere InParts t = IsOpen t
-IsWhere Anywhere t = Unit
+abbrev pub IsWhere : ErrorPlaces → Tree → Type 0
+IsWhere Nowhere tree = IsQuiet tree
+IsWhere InParts tree = IsOpen tree
+IsWhere Anywhere tree = Unit
 
 -- what stands round a node stands round the parts too where it is handed on
 abbrev pub IsHandedOn : Code → Type 0
 IsHandedOn a = (ls : List Label) → within (round a ls) ≡ round a ls
 
 -- what tells it, by the kind
-abbrev pub telling_of : Kind → Telling
+abbrev pub telling_of : Kind → SkipTest
 telling_of kind.Identifier = telling.Leaf
 telling_of kind.ThisExpression = telling.Leaf
 telling_of kind.Literal = telling.Leaf
@@ -77,4 +77,4 @@ AreFree xs = (filter is_restricted xs ≡ []) × (twice xs ≡ [])
 
 -- a declarator of such a name, with an initializer
 abbrev pub BindsOne : Tree → Type 0
-BindsOne d = (without_initializer d ≡ []) × AreFree (first_names (parts_of d))
+BindsOne tree = (without_initializer tree ≡ []) × AreFree (first_names (parts_of tree))

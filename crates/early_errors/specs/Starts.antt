@@ -5,9 +5,9 @@ use Rattle.tree.specs.Tree.{Tree, node, Parts, none, part, gap}
 unfoldable mutual
   -- the starts of a node and of all below it
   pub starts : Tree → List ℕ
-  starts (node k w g s e ps) = s ∷ parts_starts ps
+  starts (node kind text flags from to parts) = from ∷ parts_starts parts
 
   pub parts_starts : Parts → List ℕ
   parts_starts none = []
-  parts_starts (part n ps) = starts n ++ parts_starts ps
-  parts_starts (gap ps) = parts_starts ps
+  parts_starts (part tree rest) = starts tree ++ parts_starts rest
+  parts_starts (gap rest) = parts_starts rest

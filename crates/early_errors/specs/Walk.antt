@@ -6,7 +6,7 @@ use Rattle.std.specs.Ordering.{nat_cmp}
 use Rattle.std.specs.Str.{bytes_eq}
 use Rattle.tree.specs.declared.kind.Kind.TheVariants.{VariableDeclaration, ClassDeclaration, FunctionDeclaration}
 use Rattle.tree.specs.Tree.{Tree, node, parts_of}
-use Rattle.language.specs.Words.{is}
+use Rattle.language.specs.Vocabulary.{is}
 use Rattle.name_tables.specs.declared.bound.BoundName.{BoundName}
 use Rattle.name_tables.specs.PatternParts.{Bound, at_part, bound}
 use Rattle.early_errors.specs.declared.EarlyError.{EarlyError}
@@ -14,7 +14,7 @@ use Rattle.early_errors.specs.declared.names.Lexical.{Lexical}
 use Rattle.early_errors.specs.declared.names.Lexical.TheVariants as lexical
 use Rattle.early_errors.specs.Names.{names_in, first_names}
 use Rattle.early_errors.specs.declared.table.Table.{Table}
-use Rattle.early_errors.specs.declared.clashes.Saved.{Saved}
+use Rattle.early_errors.specs.declared.conflicts.Saved.{Saved}
 use Rattle.early_errors.specs.Names as names
 use Rattle.early_errors.specs.Early.{Error, number, lesser, least}
 
@@ -46,17 +46,17 @@ value_of (Some o) = o
 
 -- what a name stands for in a table
 abbrev pub look : {V : Type 0} → Table V → List ℕ → Option V
-look t w = value_of (get_by (λ k. slice_cmp nat_cmp w k.now) t.entries)
+look t text = value_of (get_by (λ k. slice_cmp nat_cmp text k.now) t.entries)
 
 -- the same, with another value at one name
 abbrev pub with_value : {V : Type 0} → (List ℕ → Option V) → List ℕ → Option V → List ℕ → Option V
 with_value f name o w = cond (bytes_eq name w) o (f w)
 
 abbrev pub lexical_of : Bool → Tree → Lexical
-lexical_of b (node VariableDeclaration w g s e ps) = cond (is w "var") lexical.Nothing lexical.Declarators
-lexical_of b (node ClassDeclaration w g s e ps) = lexical.FirstPart
-lexical_of b (node FunctionDeclaration w g s e ps) = cond b lexical.FirstPart lexical.Nothing
-lexical_of b (node _ w g s e ps) = lexical.Nothing
+lexical_of b (node VariableDeclaration text flags from to parts) = cond (is text "var") lexical.Nothing lexical.Declarators
+lexical_of b (node ClassDeclaration text flags from to parts) = lexical.FirstPart
+lexical_of b (node FunctionDeclaration text flags from to parts) = cond b lexical.FirstPart lexical.Nothing
+lexical_of b (node _ text flags from to parts) = lexical.Nothing
 
 -- the names of a part that may be missing
 abbrev pub names_at : Option Tree → List names.Named
@@ -68,7 +68,7 @@ listed (Some p) = p ∷ []
 
 -- the names of a declarator
 abbrev pub declared_by : Tree → List names.Named
-declared_by n = first_names (parts_of n)
+declared_by tree = first_names (parts_of tree)
 
 -- a name stands for something
 abbrev pub stands : {V : Type 0} → (List ℕ → Option V) → names.Named → Bool

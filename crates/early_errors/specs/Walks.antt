@@ -2,9 +2,9 @@
 use Rattle.std.specs.Prelude.{◌≡◌, ℕ, zero, suc, Bool, true, false, not, cond, nat_eq, Option, List, [], ◌++◌, IfSome}
 use Rattle.tree.specs.declared.kind.Kind.{Kind}
 use Rattle.tree.specs.declared.kind.Kind.TheVariants.{Identifier, Literal, ThisExpression, VariableDeclaration}
-use Rattle.language.specs.Words.{is, literal_class}
+use Rattle.language.specs.Vocabulary.{is, literal_class}
 use Rattle.tree.specs.Tree.{Tree, Parts, part_at}
-use Rattle.early_errors.specs.declared.around.Around.{Around as Code}
+use Rattle.early_errors.specs.declared.around.Context.{Context as Code}
 use Rattle.early_errors.specs.Around.{Around, labels_loop}
 use Rattle.early_errors.specs.Names.{Named, var_names}
 use Rattle.early_errors.specs.Literals.{is_reg_exp}
@@ -18,29 +18,29 @@ ranged f i (suc n) = f i ++ ranged f (suc i) n
 
 -- the errors of a part, by its place
 abbrev pub errors_at : Around → Around → Parts → ℕ → List Error
-errors_at y z ps i = at_part (errors_within (cond (nat_eq i 0) y z)) (part_at ps i)
+errors_at y z parts i = at_part (errors_within (cond (nat_eq i 0) y z)) (part_at parts i)
 
 -- a declaration by `var`
 abbrev pub is_var : Kind → List ℕ → Bool
-is_var VariableDeclaration w = is w "var"
-is_var _ w = false
+is_var VariableDeclaration text = is text "var"
+is_var _ text = false
 
 abbrev pub vars_at : Parts → ℕ → List Named
-vars_at ps i = at_part var_names (part_at ps i)
+vars_at parts i = at_part var_names (part_at parts i)
 
 abbrev pub range_errors : Around → Around → Parts → ℕ → ℕ → List Error
-range_errors y z ps from n = ranged (errors_at y z ps) from n
+range_errors y z parts from n = ranged (errors_at y z parts) from n
 
 abbrev pub range_vars : Parts → ℕ → ℕ → List Named
-range_vars ps from n = ranged (vars_at ps) from n
+range_vars parts from n = ranged (vars_at parts) from n
 
 -- what is known of a label's statement holds of the node
 abbrev pub Fits : Code → Tree → Type 0
-Fits a t = IfSome a.labels_loop (λ b. b ≡ labels_loop t)
+Fits a tree = IfSome a.labels_loop (λ b. b ≡ labels_loop tree)
 
 -- a node that has no errors whatever stands round it, and no `var`s
 abbrev pub IsQuiet : Tree → Type 0
-IsQuiet t = ((z : Around) → errors_within z t ≡ []) × (var_names t ≡ [])
+IsQuiet tree = ((z : Around) → errors_within z tree ≡ []) × (var_names tree ≡ [])
 
 -- a part that may be missing
 abbrev pub IsSilent : Option Tree → Type 0
@@ -48,7 +48,7 @@ IsSilent o = ((z : Around) → at_part (errors_within z) o ≡ []) × (at_part v
 
 -- a leaf is quiet that is a name, `this`, or a literal but for a regular expression
 abbrev pub is_quiet : Kind → List ℕ → Bool
-is_quiet Identifier w = true
-is_quiet ThisExpression w = true
-is_quiet Literal w = not (is_reg_exp (literal_class w))
-is_quiet _ w = false
+is_quiet Identifier text = true
+is_quiet ThisExpression text = true
+is_quiet Literal text = not (is_reg_exp (literal_class text))
+is_quiet _ text = false

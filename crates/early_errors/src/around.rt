@@ -12,7 +12,7 @@ use tree::{Form, Kind, Node};
 
 /// What holds round a node, its labels aside.
 #[derive(Clone, Copy)]
-pub(crate) struct Around {
+pub(crate) struct Context {
     pub(crate) in_loop: bool,
     pub(crate) in_switch: bool,
     pub(crate) super_property: bool,
@@ -67,7 +67,7 @@ pub(crate) fn is_method(form: Form) -> bool
     }
 }
 
-impl Around {
+impl Context {
     ghost use Rattle.std.specs.Prelude.{◌≡◌, ◌||◌, ◌&&◌, [], None};
     ghost use Rattle.language.specs.FirstPart.{others};
     ghost use Rattle.early_errors.specs.Around.{around_first, around_others, has_heritage, in_method, within};
@@ -76,7 +76,7 @@ impl Around {
     ghost use Rattle.tree.specs.declared.kind.Kind.TheVariants.{ArrowFunctionExpression, FunctionExpression, Property};
 
     /// Round the Program.
-    pub(crate) const OUTSIDE: Around = Around {
+    pub(crate) const OUTSIDE: Context = Context {
         in_loop: false,
         in_switch: false,
         super_property: false,
@@ -91,12 +91,12 @@ impl Around {
     };
 
     /// Round a part that is nothing special to its node.
-    pub(crate) fn within(self) -> Around
+    pub(crate) fn within(self) -> Context
         ensures around { (ls : _) → round result ls ≡ within (round self ls) }
         ensures handed_on { IsHandedOn result }
         ensures unknown { result.labels_loop ≡ None }
     {
-        Around {
+        Context {
             derived: false,
             tagged: false,
             is_body: false,
@@ -114,36 +114,36 @@ impl Around {
         self.in_loop || self.in_switch
     }
 
-    fn in_method(calls: bool) -> Around
+    fn in_method(calls: bool) -> Context
         ensures around { round result [] ≡ in_method calls }
         ensures unknown { result.labels_loop ≡ None }
     {
-        Around {
+        Context {
             super_property: true,
             super_call: calls,
             of_method: true,
-            ..Around::OUTSIDE
+            ..Context::OUTSIDE
         }
     }
 
-    fn in_function_expression(self) -> Around
+    fn in_function_expression(self) -> Context
         ensures around { (ls : _) → (g : _) → (ps : _) → round result [] ≡ around_others (round self ls) FunctionExpression g ps }
         ensures unknown { result.labels_loop ≡ None }
     {
-        Around {
+        Context {
             super_property: self.of_method && self.super_property,
             super_call: self.of_method && self.super_call,
             new_target: true,
             is_body: true,
-            ..Around::OUTSIDE
+            ..Context::OUTSIDE
         }
     }
 
-    fn in_arrow(self) -> Around
+    fn in_arrow(self) -> Context
         ensures around { (ls : _) → (g : _) → (ps : _) → round result [] ≡ around_others (round self ls) ArrowFunctionExpression g ps }
         ensures unknown { result.labels_loop ≡ None }
     {
-        Around {
+        Context {
             in_loop: false,
             in_switch: false,
             is_body: true,
@@ -151,26 +151,26 @@ impl Around {
         }
     }
 
-    fn in_property(self, form: Form) -> Around
+    fn in_property(self, form: Form) -> Context
         ensures around { (ls : _) → (g : _) → (ps : _) → g.form ≡ form → round result (inner_labels Property g ps ls) ≡ around_others (round self ls) Property g ps }
         ensures unknown { result.labels_loop ≡ None }
     {
         if is_method(form) {
-            Around::in_method(false)
+            Context::in_method(false)
         } else {
             self.within()
         }
     }
 
     /// Round the first part of a node of a kind, by what holds round the others.
-    fn first(self, kind: Kind, others: Around) -> Around
+    fn first(self, kind: Kind, others: Context) -> Context
         requires { others.labels_loop ≡ None }
         ensures around { (ls : _) → (g : _) → (ps : _) → round others (inner_labels kind g ps ls) ≡ around_others (round self ls) kind g ps → round result (first_labels kind g ps ls) ≡ around_first (round self ls) kind g ps }
         ensures unknown { result.labels_loop ≡ None }
     {
         match first_part(kind) {
             FirstPart::Plain => self.within(),
-            FirstPart::Head => Around {
+            FirstPart::Head => Context {
                 in_head: true,
                 ..self.within()
             },
@@ -179,39 +179,39 @@ impl Around {
     }
 
     /// Round the parts behind the first of a node of a kind, by its form and whether it has a second part.
-    fn others(self, kind: Kind, form: Form, has_second: bool) -> Around
+    fn others(self, kind: Kind, form: Form, has_second: bool) -> Context
         ensures around { (ls : _) → (g : _) → (ps : _) → g.form ≡ form → has_heritage (others ps) ≡ has_second → round result (inner_labels kind g ps ls) ≡ around_others (round self ls) kind g ps }
         ensures unknown { result.labels_loop ≡ None }
     {
         match kind {
-            Kind::FunctionDeclaration => Around {
+            Kind::FunctionDeclaration => Context {
                 new_target: true,
                 is_body: true,
-                ..Around::OUTSIDE
+                ..Context::OUTSIDE
             },
             Kind::FunctionExpression => self.in_function_expression(),
             Kind::ArrowFunctionExpression => self.in_arrow(),
             Kind::MethodDefinition => {
-                Around::in_method(both(self.derived, is_constructor(form)))
+                Context::in_method(both(self.derived, is_constructor(form)))
             }
             Kind::Property => self.in_property(form),
-            Kind::ClassExpression | Kind::ClassDeclaration => Around {
+            Kind::ClassExpression | Kind::ClassDeclaration => Context {
                 derived: has_second,
                 ..self.within()
             },
-            Kind::ClassBody => Around {
+            Kind::ClassBody => Context {
                 derived: self.derived,
                 ..self.within()
             },
-            Kind::SwitchStatement => Around {
+            Kind::SwitchStatement => Context {
                 in_switch: true,
                 ..self.within()
             },
-            Kind::TaggedTemplateExpression => Around {
+            Kind::TaggedTemplateExpression => Context {
                 tagged: true,
                 ..self.within()
             },
-            kind => Around {
+            kind => Context {
                 in_loop: either(self.in_loop, is_loop(kind)),
                 ..self.within()
             },
@@ -240,13 +240,13 @@ fn first_part(kind: Kind) -> FirstPart
 
 /// What holds round the first part of a node, and round the others.
 #[derive(Clone, Copy)]
-pub(crate) struct Rounds {
-    pub(crate) first: Around,
-    pub(crate) others: Around,
+pub(crate) struct PartContexts {
+    pub(crate) first: Context,
+    pub(crate) others: Context,
 }
 
 /// What holds round a node's parts.
-pub(crate) fn rounds_of(node: Node, around: Around) -> Rounds
+pub(crate) fn contexts_of(node: Node, around: Context) -> PartContexts
     ensures first { (ls : _) → round result.first (first_labels (kind_of (node_tree node.entry)) (flags_of (node_tree node.entry)) (parts_of (node_tree node.entry)) ls) ≡ around_first (round around ls) (kind_of (node_tree node.entry)) (flags_of (node_tree node.entry)) (parts_of (node_tree node.entry)) }
     ensures others { (ls : _) → round result.others (inner_labels (kind_of (node_tree node.entry)) (flags_of (node_tree node.entry)) (parts_of (node_tree node.entry)) ls) ≡ around_others (round around ls) (kind_of (node_tree node.entry)) (flags_of (node_tree node.entry)) (parts_of (node_tree node.entry)) }
     ensures first_unknown { result.first.labels_loop ≡ None }
@@ -254,7 +254,7 @@ pub(crate) fn rounds_of(node: Node, around: Around) -> Rounds
 {
     let kind = node.kind();
     let others = around.others(kind, node.flags().form, has_second(node));
-    Rounds {
+    PartContexts {
         first: around.first(kind, others),
         others,
     }

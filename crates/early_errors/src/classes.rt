@@ -6,25 +6,30 @@ ghost use Rattle.tree.specs.Node.{node_tree};
 ghost use Rattle.tree.specs.Tree.{kind_of, parts_of, text_of};
 ghost use Rattle.language.specs.Statements.{is_string_literal};
 ghost use Rattle.early_errors.specs.Keys.{key_value};
-ghost use Rattle.language.specs.Words.{is_super};
+ghost use Rattle.language.specs.Vocabulary.{is_super};
 ghost use Rattle.early_errors.specs.Classes.{constructor_places, super_places};
 ghost use Rattle.early_errors.specs.Early.{each, own_errors};
 ghost use Rattle.early_errors.specs.Names.{when};
 ghost use Rattle.early_errors.specs.Owns.{key_says, own_of, places_at, round};
 ghost use Rattle.name_tables.specs.PatternParts.{at_part};
 ghost use Rattle.early_errors.specs.Walk.{after, listed};
-ghost use Rattle.early_errors.specs.declared.own.Own.{Own};
+ghost use Rattle.early_errors.specs.declared.own.OwnErrors.{OwnErrors};
 
 use crate::EarlyError;
-use crate::around::{Around, is_accessor, is_constructor};
-use crate::found::{Found, with_error_if};
+use crate::around::{Context, is_accessor, is_constructor};
+use crate::found::{FirstError, with_error_if};
 use crate::literals::{begins_with_quote, both};
 use std::alloc::{AllocError, Global};
 use tokens::quoted_units;
 use tree::{Kind, Node};
 
 /// A `super` at the head of a node, where it may not stand (ECMA-262 14.1.2, 14.6.1, 15.1.1).
-pub(crate) fn super_errors(node: Node, may_stand: bool, error: EarlyError, found: Found) -> Found
+pub(crate) fn super_errors(
+    node: Node,
+    may_stand: bool,
+    error: EarlyError,
+    found: FirstError,
+) -> FirstError
     ensures { result ≡ after found (each error (when (not may_stand) (super_places (parts_of (node_tree node.entry))))) }
 {
     if may_stand {
@@ -46,8 +51,8 @@ pub(crate) fn is_super(kind: Kind) -> bool
 }
 
 /// `new.target` outside every function that isn't an arrow (ECMA-262 15.1.1).
-pub(crate) fn target_errors(node: Node, around: Around, found: Found) -> Found
-    requires { own_of (kind_of (node_tree node)) ≡ Own.Target }
+pub(crate) fn target_errors(node: Node, around: Context, found: FirstError) -> FirstError
+    requires { own_of (kind_of (node_tree node)) ≡ OwnErrors.Target }
     ensures { (ls : _) → result ≡ after found (own_errors (round around ls) (node_tree node.entry)) }
 {
     with_error_if(
@@ -59,8 +64,8 @@ pub(crate) fn target_errors(node: Node, around: Around, found: Found) -> Found
 }
 
 /// A second or later constructor of one class (ECMA-262 14.6.1).
-pub(crate) fn constructor_errors(body: Node, found: Found) -> Found
-    requires { own_of (kind_of (node_tree body)) ≡ Own.Constructors }
+pub(crate) fn constructor_errors(body: Node, found: FirstError) -> FirstError
+    requires { own_of (kind_of (node_tree body)) ≡ OwnErrors.Constructors }
     ensures { (z : _) → result ≡ after found (own_errors z (node_tree body.entry)) }
 {
     let mut found = found;
@@ -91,8 +96,12 @@ fn constructor_place(member: Option<Node>) -> Option<usize>
 }
 
 /// A getter or setter `constructor` that isn't static, a static member `prototype` (ECMA-262 14.6.1).
-pub(crate) fn member_errors(alloc: Global, member: Node, found: Found) -> Result<Found, AllocError>
-    requires { own_of (kind_of (node_tree member)) ≡ Own.Member }
+pub(crate) fn member_errors(
+    alloc: Global,
+    member: Node,
+    found: FirstError,
+) -> Result<FirstError, AllocError>
+    requires { own_of (kind_of (node_tree member)) ≡ OwnErrors.Member }
     ensures { IfOk result (λ r. (z : _) → r ≡ after found (own_errors z (node_tree member.entry))) }
 {
     let flags = member.flags();
@@ -108,7 +117,7 @@ pub(crate) fn member_errors(alloc: Global, member: Node, found: Found) -> Result
 }
 
 /// The error of a key, where it is one.
-fn key_error(key: Option<Node>, is_one: bool, error: EarlyError, found: Found) -> Found
+fn key_error(key: Option<Node>, is_one: bool, error: EarlyError, found: FirstError) -> FirstError
     ensures { result ≡ after found (each error (when is_one (places_at (option_map node_tree key.entry)))) }
 {
     match key {

@@ -8,17 +8,22 @@ ghost use Rattle.early_errors.specs.Walk.{after, listed, sooner};
 use crate::{EarlyError, number_of};
 
 /// The number and the place of the least early error found so far, by place, then by number.
-pub(crate) type Found = Option<(u8, usize)>;
+pub(crate) type FirstError = Option<(u8, usize)>;
 
 /// With one more error at a place.
-pub(crate) fn with_error(found: Found, error: EarlyError, at: usize) -> Found
+pub(crate) fn with_error(found: FirstError, error: EarlyError, at: usize) -> FirstError
     ensures { result ≡ after found ((number error, at) ∷ []) }
 {
-    sooner(found, Some((number_of(error), at)))
+    earlier_error(found, Some((number_of(error), at)))
 }
 
 /// With one more error at a place, where it is one.
-pub(crate) fn with_error_if(is_one: bool, found: Found, error: EarlyError, at: usize) -> Found
+pub(crate) fn with_error_if(
+    is_one: bool,
+    found: FirstError,
+    error: EarlyError,
+    at: usize,
+) -> FirstError
     ensures { result ≡ after found (each error (when is_one (at ∷ []))) }
 {
     if is_one {
@@ -29,7 +34,7 @@ pub(crate) fn with_error_if(is_one: bool, found: Found, error: EarlyError, at: u
 }
 
 /// With one more error, where it has a place.
-pub(crate) fn with_place(found: Found, error: EarlyError, place: Option<usize>) -> Found
+pub(crate) fn with_place(found: FirstError, error: EarlyError, place: Option<usize>) -> FirstError
     ensures { result ≡ after found (each error (listed place)) }
 {
     match place {
@@ -39,7 +44,7 @@ pub(crate) fn with_place(found: Found, error: EarlyError, place: Option<usize>) 
 }
 
 /// The lesser of two.
-pub(crate) fn sooner(first: Found, second: Found) -> Found
+pub(crate) fn earlier_error(first: FirstError, second: FirstError) -> FirstError
     ensures { result ≡ sooner first second }
 {
     let Some((first_number, first_at)) = first else {

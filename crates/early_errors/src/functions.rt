@@ -3,7 +3,7 @@
 ghost use Rattle.std.specs.Prelude.{◌≡◌, [], ◌∷◌, false, not, option_map, IfOk};
 ghost use Rattle.tree.specs.Node.{node_tree};
 ghost use Rattle.tree.specs.Tree.{kind_of, parts_of, parts_drop};
-ghost use Rattle.language.specs.Words.{among, is_identifier};
+ghost use Rattle.language.specs.Vocabulary.{among, is_identifier};
 ghost use Rattle.early_errors.specs.Early.{each, own_errors};
 ghost use Rattle.early_errors.specs.Functions.{is_simple, use_strict};
 ghost use Rattle.name_tables.specs.PatternParts.{at_part};
@@ -11,12 +11,12 @@ ghost use Rattle.name_tables.specs.BoundNames.{each_part};
 ghost use Rattle.early_errors.specs.Names.{body_items, lexical_names, places, shared, when};
 ghost use Rattle.early_errors.specs.Owns.{function_name, is_plain, items_at, own_of, parameter_place, says_use_strict};
 ghost use Rattle.early_errors.specs.Walk.{after, all_named, listed, names_at};
-ghost use Rattle.early_errors.specs.declared.own.Own.{Own};
+ghost use Rattle.early_errors.specs.declared.own.OwnErrors.{OwnErrors};
 
 use crate::EarlyError;
-use crate::clashes::{repeated, restricted, shared};
-use crate::found::{Found, with_place};
-use crate::names::{Named, push_lexical_parts, push_parameters, push_part_names};
+use crate::conflicts::{repeated, restricted, shared};
+use crate::found::{FirstError, with_place};
+use crate::names::{NamePlace, push_lexical_parts, push_parameters, push_part_names};
 use crate::scopes::body_of;
 use std::alloc::{AllocError, Global};
 use tree::{Kind, Node};
@@ -25,10 +25,10 @@ use tree::{Kind, Node};
 pub(crate) fn function_errors<'t>(
     alloc: Global,
     node: Node<'t, '_>,
-    names: &mut Vec<Named<'t>>,
-    found: Found,
-) -> Result<Found, AllocError>
-    requires { own_of (kind_of (node_tree node)) ≡ Own.Function }
+    names: &mut Vec<NamePlace<'t>>,
+    found: FirstError,
+) -> Result<FirstError, AllocError>
+    requires { own_of (kind_of (node_tree node)) ≡ OwnErrors.Function }
     ensures { IfOk result (λ r. (z : _) → r ≡ after found (own_errors z (node_tree node.entry))) }
 {
     let from = parameter_place(node.kind());
@@ -80,9 +80,9 @@ fn body_errors(
     alloc: Global,
     body: Option<Node>,
     simple: bool,
-    parameters: &[Named],
-    found: Found,
-) -> Result<Found, AllocError>
+    parameters: &[NamePlace],
+    found: FirstError,
+) -> Result<FirstError, AllocError>
     ensures { IfOk result (λ r. r ≡ after (after found (each EarlyError.ParameterIsLexicalName (places (shared (each_part (lexical_names false) (items_at (option_map node_tree body.entry))) (all_named parameters.now))))) (each EarlyError.UseStrictBehindPattern (when (not simple) (each_part use_strict (items_at (option_map node_tree body.entry)))))) }
 {
     let Some(body) = body else {
@@ -139,7 +139,7 @@ pub(crate) fn is_identifier(kind: Kind) -> bool
 }
 
 /// The directives `use strict` of a body.
-fn use_strict(body: Node, found: Found) -> Found
+fn use_strict(body: Node, found: FirstError) -> FirstError
     ensures { result ≡ after found (each EarlyError.UseStrictBehindPattern (each_part use_strict (parts_of (node_tree body.entry)))) }
 {
     let mut found = found;

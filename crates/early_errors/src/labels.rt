@@ -11,12 +11,12 @@ ghost use Rattle.early_errors.specs.Labels.{is_bare};
 ghost use Rattle.early_errors.specs.Names.{first_names, places};
 ghost use Rattle.early_errors.specs.Owns.{Knows, own_of, is_label_for, misses, or_false, round};
 ghost use Rattle.early_errors.specs.Walk.{after, all_named, look};
-ghost use Rattle.early_errors.specs.declared.own.Own.{Own};
+ghost use Rattle.early_errors.specs.declared.own.OwnErrors.{OwnErrors};
 
 use crate::EarlyError;
-use crate::around::{Around, is_loop};
-use crate::found::{Found, with_error, with_error_if};
-use crate::names::Named;
+use crate::around::{Context, is_loop};
+use crate::found::{FirstError, with_error, with_error_if};
+use crate::names::NamePlace;
 use crate::table::Table;
 use name_tables::last_part;
 use tree::{Kind, Node};
@@ -27,12 +27,12 @@ pub(crate) type Labels<'t> = Table<'t, bool>;
 /// A `break` without label outside loop and switch, or to labels, given, that aren't there (ECMA-262 13.9.1).
 pub(crate) fn break_errors(
     node: Node,
-    around: Around,
+    around: Context,
     labels: &Labels,
-    names: &[Named],
-    found: Found,
-) -> Found
-    requires kind { own_of (kind_of (node_tree node)) ≡ Own.Break }
+    names: &[NamePlace],
+    found: FirstError,
+) -> FirstError
+    requires kind { own_of (kind_of (node_tree node)) ≡ OwnErrors.Break }
     requires names { all_named names.now ≡ first_names (parts_of (node_tree node)) }
     ensures { (ls : _) → Knows (look labels.now) ls → result ≡ after found (own_errors (round around ls) (node_tree node.entry)) }
 {
@@ -49,12 +49,12 @@ pub(crate) fn break_errors(
 /// A `continue` without label outside a loop, or to labels, given, that aren't there or label no loop (ECMA-262 13.8.1).
 pub(crate) fn continue_errors(
     node: Node,
-    around: Around,
+    around: Context,
     labels: &Labels,
-    names: &[Named],
-    found: Found,
-) -> Found
-    requires kind { own_of (kind_of (node_tree node)) ≡ Own.Continue }
+    names: &[NamePlace],
+    found: FirstError,
+) -> FirstError
+    requires kind { own_of (kind_of (node_tree node)) ≡ OwnErrors.Continue }
     requires names { all_named names.now ≡ first_names (parts_of (node_tree node)) }
     ensures { (ls : _) → Knows (look labels.now) ls → result ≡ after found (own_errors (round around ls) (node_tree node.entry)) }
 {
@@ -79,7 +79,7 @@ fn is_misplaced(node: Node, may_stand: bool) -> bool
 }
 
 /// The names that label nothing, or no loop where the flag asks for one.
-fn undefined(names: &[Named], labels: &Labels, loops: bool, found: Found) -> Found
+fn undefined(names: &[NamePlace], labels: &Labels, loops: bool, found: FirstError) -> FirstError
     ensures { result ≡ after found (each EarlyError.UndefinedLabel (places (filter (misses loops (look labels.now)) (all_named names.now)))) }
 {
     let mut found = found;

@@ -2,8 +2,8 @@
 #![tactic(auto)]
 
 mod around;
-mod clashes;
 mod classes;
+mod conflicts;
 mod found;
 mod functions;
 mod labels;
@@ -11,14 +11,14 @@ pub mod laws;
 mod literals;
 mod names;
 mod own;
-mod quiet;
 mod scopes;
+mod skipping;
 mod table;
 mod vars;
 mod walk;
 
-use around::Around;
-use found::Found;
+use around::Context;
+use found::FirstError;
 use std::alloc::{AllocError, Global};
 use tree::{Node, Program};
 use walk::{Walk, walk_node};
@@ -121,12 +121,12 @@ pub fn first_early_error(
 }
 
 /// The same of a tree, by a walk that has found nothing yet.
-fn found_from<'t>(root: Node<'t, '_>, walk: &mut Walk<'t>) -> Result<Found, AllocError>
+fn found_from<'t>(root: Node<'t, '_>, walk: &mut Walk<'t>) -> Result<FirstError, AllocError>
     requires found { walk.now.found ≡ None }
     requires vars { Agree (look walk.now.vars) (λ _. None) }
     requires labels { Agree (look walk.now.labels) (λ _. None) }
     ensures { IfOk result (λ r. r ≡ least (errors (node_tree root.entry))) }
 {
-    walk_node(root, Around::OUTSIDE, walk)?;
+    walk_node(root, Context::OUTSIDE, walk)?;
     Ok(walk.found)
 }

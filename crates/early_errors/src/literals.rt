@@ -3,16 +3,16 @@
 ghost use Rattle.std.specs.Prelude.{◌≡◌, ◌≤◌, ◌&&◌, ◌||◌, [], drop, length, codes, option_map, slice_index_or, IfOk};
 ghost use Rattle.tree.specs.Node.{node_tree};
 ghost use Rattle.tree.specs.Tree.{kind_of, parts_of};
-ghost use Rattle.language.specs.Words.{is_string, literal_class};
+ghost use Rattle.language.specs.Vocabulary.{is_string, literal_class};
 ghost use Rattle.early_errors.specs.Early.{own_errors};
 ghost use Rattle.early_errors.specs.Literals.{are_flags, flags_part, good_flags, holds, is_reg_exp, some_uncooked};
 ghost use Rattle.early_errors.specs.Owns.{is_element, own_of, round, uncooked_at};
 ghost use Rattle.early_errors.specs.Walk.{after};
-ghost use Rattle.early_errors.specs.declared.own.Own.{Own};
+ghost use Rattle.early_errors.specs.declared.own.OwnErrors.{OwnErrors};
 
 use crate::EarlyError;
-use crate::around::Around;
-use crate::found::{Found, with_error_if};
+use crate::around::Context;
+use crate::found::{FirstError, with_error_if};
 use std::alloc::{AllocError, Global};
 use tokens::template_value;
 use tree::{Kind, Node};
@@ -21,10 +21,10 @@ use tree::{Kind, Node};
 pub(crate) fn template_errors(
     alloc: Global,
     node: Node,
-    around: Around,
-    found: Found,
-) -> Result<Found, AllocError>
-    requires { own_of (kind_of (node_tree node)) ≡ Own.Template }
+    around: Context,
+    found: FirstError,
+) -> Result<FirstError, AllocError>
+    requires { own_of (kind_of (node_tree node)) ≡ OwnErrors.Template }
     ensures { IfOk result (λ r. (ls : _) → r ≡ after found (own_errors (round around ls) (node_tree node.entry))) }
 {
     let is_uncooked = some_uncooked(alloc, node)?;
@@ -82,8 +82,8 @@ fn is_element(kind: Kind) -> bool
 }
 
 /// Flags of a regular expression that aren't known, or stand twice (ECMA-262 12.2.8.1).
-pub(crate) fn literal_errors(node: Node, found: Found) -> Found
-    requires { own_of (kind_of (node_tree node)) ≡ Own.Literal }
+pub(crate) fn literal_errors(node: Node, found: FirstError) -> FirstError
+    requires { own_of (kind_of (node_tree node)) ≡ OwnErrors.Literal }
     ensures { (z : _) → result ≡ after found (own_errors z (node_tree node.entry)) }
 {
     with_error_if(

@@ -13,12 +13,12 @@ use std::alloc::AllocError;
 use tree::{Kind, Node};
 
 /// A name and the place of its identifier, in bytes.
-pub(crate) type Named<'t> = BoundName<'t, ()>;
+pub(crate) type NamePlace<'t> = BoundName<'t, ()>;
 
 /// Pushes the names that a part binds or assigns which may be missing (ECMA-262 13.3.3.1).
 pub(crate) fn push_part_names<'t>(
     part: Option<Node<'t, '_>>,
-    names: &mut Vec<Named<'t>>,
+    names: &mut Vec<NamePlace<'t>>,
 ) -> Result<(), AllocError>
     ensures { OnOk result (all_named names.new.items ≡ all_named names.old.items ++ names_at (option_map node_tree part.entry)) }
 {
@@ -28,7 +28,7 @@ pub(crate) fn push_part_names<'t>(
 /// Pushes the names of a declaration, whose parts are its declarators.
 pub(crate) fn push_declared<'t>(
     node: Node<'t, '_>,
-    names: &mut Vec<Named<'t>>,
+    names: &mut Vec<NamePlace<'t>>,
 ) -> Result<(), AllocError>
     ensures { OnOk result (all_named names.new.items ≡ all_named names.old.items ++ declared_names (parts_of (node_tree node.entry))) }
 {
@@ -40,7 +40,7 @@ pub(crate) fn push_declared<'t>(
 
 fn push_declarator<'t>(
     declarator: Option<Node<'t, '_>>,
-    names: &mut Vec<Named<'t>>,
+    names: &mut Vec<NamePlace<'t>>,
 ) -> Result<(), AllocError>
     ensures { OnOk result (all_named names.new.items ≡ all_named names.old.items ++ at_part declared_by (option_map node_tree declarator.entry)) }
 {
@@ -86,7 +86,7 @@ pub(crate) fn lexical_of(functions: bool, item: Node) -> Lexical
 pub(crate) fn push_lexical<'t>(
     functions: bool,
     item: Node<'t, '_>,
-    names: &mut Vec<Named<'t>>,
+    names: &mut Vec<NamePlace<'t>>,
 ) -> Result<(), AllocError>
     ensures { OnOk result (all_named names.new.items ≡ all_named names.old.items ++ lexical_names functions (node_tree item.entry)) }
 {
@@ -101,7 +101,7 @@ pub(crate) fn push_lexical<'t>(
 pub(crate) fn push_lexical_part<'t>(
     functions: bool,
     item: Option<Node<'t, '_>>,
-    names: &mut Vec<Named<'t>>,
+    names: &mut Vec<NamePlace<'t>>,
 ) -> Result<(), AllocError>
     ensures { OnOk result (all_named names.new.items ≡ all_named names.old.items ++ at_part (lexical_names functions) (option_map node_tree item.entry)) }
 {
@@ -116,7 +116,7 @@ pub(crate) fn push_lexical_parts<'t>(
     functions: bool,
     node: Node<'t, '_>,
     from: usize,
-    names: &mut Vec<Named<'t>>,
+    names: &mut Vec<NamePlace<'t>>,
 ) -> Result<(), AllocError>
     ensures { OnOk result (all_named names.new.items ≡ all_named names.old.items ++ each_part (lexical_names functions) (parts_drop from (parts_of (node_tree node.entry)))) }
 {
@@ -130,7 +130,7 @@ pub(crate) fn push_lexical_parts<'t>(
 pub(crate) fn push_parameters<'t>(
     node: Node<'t, '_>,
     from: usize,
-    names: &mut Vec<Named<'t>>,
+    names: &mut Vec<NamePlace<'t>>,
 ) -> Result<(), AllocError>
     ensures { OnOk result (all_named names.new.items ≡ all_named names.old.items ++ parameter_names (parts_drop from (parts_of (node_tree node.entry)))) }
 {

@@ -4,7 +4,7 @@ ghost use Rattle.std.specs.Prelude.{◌≡◌, ◌&&◌, true, false, not, IfOk}
 ghost use Rattle.tree.specs.Node.{node_tree};
 ghost use Rattle.tree.specs.Tree.{kind_of, parts_of, text_of};
 ghost use Rattle.language.specs.FirstPart.{lead};
-ghost use Rattle.language.specs.Words.{is, is_identifier};
+ghost use Rattle.language.specs.Vocabulary.{is, is_identifier};
 ghost use Rattle.early_errors.specs.Early.{each, own_errors};
 ghost use Rattle.name_tables.specs.BoundNames.{each_part};
 ghost use Rattle.early_errors.specs.Names.{first_names, when};
@@ -13,21 +13,21 @@ ghost use Rattle.early_errors.specs.Scopes.{without_initializer};
 ghost use Rattle.early_errors.specs.Walk.{after, all_named, hits, look, sooner};
 
 use crate::EarlyError;
-use crate::around::Around;
-use crate::clashes::{Clashes, hits, repeated, reported, restricted};
+use crate::around::Context;
 use crate::classes::{constructor_errors, member_errors, super_errors, target_errors};
-use crate::found::{Found, with_error_if};
+use crate::conflicts::{VarConflicts, hits, repeated, reported, restricted};
+use crate::found::{FirstError, with_error_if};
 use crate::functions::{function_errors, is_identifier};
 use crate::labels::{Labels, break_errors, continue_errors};
 use crate::literals::{both, literal_errors, template_errors};
-use crate::names::{Named, push_declared, push_part_names};
+use crate::names::{NamePlace, push_declared, push_part_names};
 use crate::scopes::without_initializer;
 use std::alloc::{AllocError, Global};
 use tree::{Kind, Node};
 
 /// Which errors a node itself can have.
 #[derive(Clone, Copy)]
-pub(crate) enum Own {
+pub(crate) enum OwnErrors {
     Variables,
     Function,
     FirstNames,
@@ -45,13 +45,13 @@ pub(crate) enum Own {
     Nothing,
 }
 
-fn own_of(kind: Kind) -> Own
+fn own_of(kind: Kind) -> OwnErrors
     ensures { result ≡ own_of kind }
 {
     match kind {
-        Kind::VariableDeclaration => Own::Variables,
+        Kind::VariableDeclaration => OwnErrors::Variables,
         Kind::FunctionDeclaration | Kind::FunctionExpression | Kind::ArrowFunctionExpression => {
-            Own::Function
+            OwnErrors::Function
         }
         Kind::ClassDeclaration
         | Kind::ClassExpression
@@ -59,19 +59,19 @@ fn own_of(kind: Kind) -> Own
         | Kind::AssignmentExpression
         | Kind::UpdateExpression
         | Kind::ForInStatement
-        | Kind::ForOfStatement => Own::FirstNames,
-        Kind::BreakStatement => Own::Break,
-        Kind::ContinueStatement => Own::Continue,
-        Kind::LabeledStatement => Own::Label,
-        Kind::UnaryExpression => Own::Delete,
-        Kind::MemberExpression => Own::SuperProperty,
-        Kind::CallExpression => Own::SuperCall,
-        Kind::MetaProperty => Own::Target,
-        Kind::ClassBody => Own::Constructors,
-        Kind::MethodDefinition => Own::Member,
-        Kind::TemplateLiteral => Own::Template,
-        Kind::Literal => Own::Literal,
-        _ => Own::Nothing,
+        | Kind::ForOfStatement => OwnErrors::FirstNames,
+        Kind::BreakStatement => OwnErrors::Break,
+        Kind::ContinueStatement => OwnErrors::Continue,
+        Kind::LabeledStatement => OwnErrors::Label,
+        Kind::UnaryExpression => OwnErrors::Delete,
+        Kind::MemberExpression => OwnErrors::SuperProperty,
+        Kind::CallExpression => OwnErrors::SuperCall,
+        Kind::MetaProperty => OwnErrors::Target,
+        Kind::ClassBody => OwnErrors::Constructors,
+        Kind::MethodDefinition => OwnErrors::Member,
+        Kind::TemplateLiteral => OwnErrors::Template,
+        Kind::Literal => OwnErrors::Literal,
+        _ => OwnErrors::Nothing,
     }
 }
 
@@ -79,37 +79,38 @@ fn own_of(kind: Kind) -> Own
 pub(crate) fn own_errors<'t>(
     alloc: Global,
     node: Node<'t, '_>,
-    around: Around,
-    vars: &Clashes,
+    around: Context,
+    vars: &VarConflicts,
     labels: &Labels,
-    names: &mut Vec<Named<'t>>,
-    found: Found,
-) -> Result<Found, AllocError>
+    names: &mut Vec<NamePlace<'t>>,
+    found: FirstError,
+) -> Result<FirstError, AllocError>
     ensures { IfOk result (λ r. (ls : _) → Knows (look labels.now) ls → r ≡ sooner (after found (plain_errors (round around ls) (node_tree node.entry))) (hits (look vars.now) (vars_of (node_tree node.entry)))) }
 {
     let own = own_of(node.kind());
     match sort_of(own) {
-        Sort::Variables => variable_errors(alloc, node, around, vars, names, found),
-        Sort::Named => first_name_errors(node, own, around, labels, names, found),
-        Sort::Nameless => nameless_errors(alloc, node, own, around, names, found),
+        OwnErrorInput::Variables => variable_errors(alloc, node, around, vars, names, found),
+        OwnErrorInput::Named => first_name_errors(node, own, around, labels, names, found),
+        OwnErrorInput::Nameless => nameless_errors(alloc, node, own, around, names, found),
     }
 }
 
 /// Whether the names of a node's first part matter, or those of declarators.
 #[derive(Clone, Copy)]
-pub(crate) enum Sort {
+pub(crate) enum OwnErrorInput {
     Variables,
     Named,
     Nameless,
 }
 
-fn sort_of(own: Own) -> Sort
+fn sort_of(own: OwnErrors) -> OwnErrorInput
     ensures { result ≡ sort_of own }
 {
     match own {
-        Own::Variables => Sort::Variables,
-        Own::FirstNames | Own::Break | Own::Continue | Own::Label => Sort::Named,
-        _ => Sort::Nameless,
+        OwnErrors::Variables => OwnErrorInput::Variables,
+        OwnErrors::FirstNames | OwnErrors::Break | OwnErrors::Continue | OwnErrors::Label =>
+            OwnErrorInput::Named,
+        _ => OwnErrorInput::Nameless,
     }
 }
 
@@ -117,34 +118,34 @@ fn sort_of(own: Own) -> Sort
 fn nameless_errors<'t>(
     alloc: Global,
     node: Node<'t, '_>,
-    own: Own,
-    around: Around,
-    names: &mut Vec<Named<'t>>,
-    found: Found,
-) -> Result<Found, AllocError>
+    own: OwnErrors,
+    around: Context,
+    names: &mut Vec<NamePlace<'t>>,
+    found: FirstError,
+) -> Result<FirstError, AllocError>
     requires { own ≡ own_of (kind_of (node_tree node)) }
     ensures { IfOk result (λ r. (ls : _) → r ≡ after found (nameless own (round around ls) (node_tree node.entry))) }
 {
     match own {
-        Own::Function => function_errors(alloc, node, names, found),
-        Own::Member => member_errors(alloc, node, found),
-        Own::Template => template_errors(alloc, node, around, found),
-        Own::Delete => Ok(delete_errors(node, found)),
-        Own::SuperProperty => Ok(super_errors(
+        OwnErrors::Function => function_errors(alloc, node, names, found),
+        OwnErrors::Member => member_errors(alloc, node, found),
+        OwnErrors::Template => template_errors(alloc, node, around, found),
+        OwnErrors::Delete => Ok(delete_errors(node, found)),
+        OwnErrors::SuperProperty => Ok(super_errors(
             node,
             around.super_property,
             EarlyError::SuperPropertyOutsideMethod,
             found,
         )),
-        Own::SuperCall => Ok(super_errors(
+        OwnErrors::SuperCall => Ok(super_errors(
             node,
             around.super_call,
             EarlyError::SuperCallOutsideConstructor,
             found,
         )),
-        Own::Target => Ok(target_errors(node, around, found)),
-        Own::Constructors => Ok(constructor_errors(node, found)),
-        Own::Literal => Ok(literal_errors(node, found)),
+        OwnErrors::Target => Ok(target_errors(node, around, found)),
+        OwnErrors::Constructors => Ok(constructor_errors(node, found)),
+        OwnErrors::Literal => Ok(literal_errors(node, found)),
         _ => Ok(found),
     }
 }
@@ -153,12 +154,12 @@ fn nameless_errors<'t>(
 fn variable_errors<'t>(
     alloc: Global,
     node: Node<'t, '_>,
-    around: Around,
-    vars: &Clashes,
-    names: &mut Vec<Named<'t>>,
-    found: Found,
-) -> Result<Found, AllocError>
-    requires { own_of (kind_of (node_tree node)) ≡ Own.Variables }
+    around: Context,
+    vars: &VarConflicts,
+    names: &mut Vec<NamePlace<'t>>,
+    found: FirstError,
+) -> Result<FirstError, AllocError>
+    requires { own_of (kind_of (node_tree node)) ≡ OwnErrors.Variables }
     ensures { IfOk result (λ r. (ls : _) → r ≡ sooner (after found (own_errors (round around ls) (node_tree node.entry))) (hits (look vars.now) (vars_of (node_tree node.entry)))) }
 {
     names.clear();
@@ -173,10 +174,10 @@ fn declared_errors(
     alloc: Global,
     node: Node,
     in_head: bool,
-    vars: &Clashes,
-    names: &[Named],
-    found: Found,
-) -> Result<Found, AllocError>
+    vars: &VarConflicts,
+    names: &[NamePlace],
+    found: FirstError,
+) -> Result<FirstError, AllocError>
     ensures var { IfOk result (λ r. is (text_of (node_tree node.entry)) "var" ≡ true → r ≡ sooner found (hits (look vars.now) (all_named names.now))) }
     ensures lexical { IfOk result (λ r. is (text_of (node_tree node.entry)) "var" ≡ false → r ≡ after (after found (doubled EarlyError.DuplicateLexicalName (all_named names.now))) (each EarlyError.ConstWithoutInitializer (when (is (text_of (node_tree node.entry)) "const" && not in_head) (each_part without_initializer (parts_of (node_tree node.entry)))))) }
 {
@@ -194,12 +195,12 @@ fn declared_errors(
 /// The names of a node's first part: those that it binds or assigns, or labels.
 fn first_name_errors<'t>(
     node: Node<'t, '_>,
-    own: Own,
-    around: Around,
+    own: OwnErrors,
+    around: Context,
     labels: &Labels,
-    names: &mut Vec<Named<'t>>,
-    found: Found,
-) -> Result<Found, AllocError>
+    names: &mut Vec<NamePlace<'t>>,
+    found: FirstError,
+) -> Result<FirstError, AllocError>
     requires { own ≡ own_of (kind_of (node_tree node)) }
     ensures { IfOk result (λ r. (ls : _) → Knows (look labels.now) ls → r ≡ after found (named_errors own (round around ls) (node_tree node.entry))) }
 {
@@ -211,28 +212,28 @@ fn first_name_errors<'t>(
 /// The errors of these names.
 fn named_found(
     node: Node,
-    own: Own,
-    around: Around,
+    own: OwnErrors,
+    around: Context,
     labels: &Labels,
-    names: &[Named],
-    found: Found,
-) -> Found
+    names: &[NamePlace],
+    found: FirstError,
+) -> FirstError
     requires own { own ≡ own_of (kind_of (node_tree node)) }
     requires names { all_named names.now ≡ first_names (parts_of (node_tree node)) }
     ensures { (ls : _) → Knows (look labels.now) ls → result ≡ after found (named_errors own (round around ls) (node_tree node.entry)) }
 {
     match own {
-        Own::Break => break_errors(node, around, labels, names, found),
-        Own::Continue => continue_errors(node, around, labels, names, found),
-        Own::Label => reported(names, labels, EarlyError::DuplicateLabel, found),
-        Own::FirstNames => restricted(names, found),
+        OwnErrors::Break => break_errors(node, around, labels, names, found),
+        OwnErrors::Continue => continue_errors(node, around, labels, names, found),
+        OwnErrors::Label => reported(names, labels, EarlyError::DuplicateLabel, found),
+        OwnErrors::FirstNames => restricted(names, found),
         _ => found,
     }
 }
 
 /// `delete` of an identifier, grouped or not (ECMA-262 12.5.3.1).
-fn delete_errors(node: Node, found: Found) -> Found
-    requires { own_of (kind_of (node_tree node)) ≡ Own.Delete }
+fn delete_errors(node: Node, found: FirstError) -> FirstError
+    requires { own_of (kind_of (node_tree node)) ≡ OwnErrors.Delete }
     ensures { (z : _) → result ≡ after found (own_errors z (node_tree node.entry)) }
 {
     with_error_if(

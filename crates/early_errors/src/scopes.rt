@@ -12,9 +12,9 @@ ghost use Rattle.early_errors.specs.Scopes.{without_initializer};
 ghost use Rattle.early_errors.specs.Walk.{after, all_named, listed};
 
 use crate::EarlyError;
-use crate::clashes::{repeated, shared};
-use crate::found::{Found, with_place};
-use crate::names::{Named, push_lexical_part, push_lexical_parts, push_part_names};
+use crate::conflicts::{repeated, shared};
+use crate::found::{FirstError, with_place};
+use crate::names::{NamePlace, push_lexical_part, push_lexical_parts, push_part_names};
 use name_tables::last_part;
 use std::alloc::{AllocError, Global};
 use tree::{Kind, Node};
@@ -50,7 +50,7 @@ pub(crate) fn push_scope<'t>(
     kind: ScopeKind,
     node: Node<'t, '_>,
     is_body: bool,
-    names: &mut Vec<Named<'t>>,
+    names: &mut Vec<NamePlace<'t>>,
 ) -> Result<(), AllocError>
     ensures { OnOk result (all_named names.new.items ≡ all_named names.old.items ++ names_of_scope kind is_body (parts_of (node_tree node.entry))) }
 {
@@ -64,7 +64,7 @@ pub(crate) fn push_scope<'t>(
     }
 }
 
-fn push_cases<'t>(node: Node<'t, '_>, names: &mut Vec<Named<'t>>) -> Result<(), AllocError>
+fn push_cases<'t>(node: Node<'t, '_>, names: &mut Vec<NamePlace<'t>>) -> Result<(), AllocError>
     ensures { OnOk result (all_named names.new.items ≡ all_named names.old.items ++ each_part case_names (parts_drop 1 (parts_of (node_tree node.entry)))) }
 {
     for index in 1..node.part_count() {
@@ -73,7 +73,10 @@ fn push_cases<'t>(node: Node<'t, '_>, names: &mut Vec<Named<'t>>) -> Result<(), 
     Ok(())
 }
 
-fn push_case<'t>(case: Option<Node<'t, '_>>, names: &mut Vec<Named<'t>>) -> Result<(), AllocError>
+fn push_case<'t>(
+    case: Option<Node<'t, '_>>,
+    names: &mut Vec<NamePlace<'t>>,
+) -> Result<(), AllocError>
     ensures { OnOk result (all_named names.new.items ≡ all_named names.old.items ++ at_part case_names (option_map node_tree case.entry)) }
 {
     match case {
@@ -147,9 +150,9 @@ pub(crate) fn scope_errors(
     kind: ScopeKind,
     node: Node,
     is_body: bool,
-    names: &[Named],
-    found: Found,
-) -> Result<Found, AllocError>
+    names: &[NamePlace],
+    found: FirstError,
+) -> Result<FirstError, AllocError>
     ensures { IfOk result (λ r. r ≡ after found (found_of_scope kind is_body (parts_of (node_tree node.entry)) (all_named names.now))) }
 {
     match kind {
@@ -168,7 +171,12 @@ pub(crate) fn scope_errors(
 }
 
 /// At the top of a Program or body: functions are var names there.
-fn top_errors(alloc: Global, node: Node, names: &[Named], found: Found) -> Result<Found, AllocError>
+fn top_errors(
+    alloc: Global,
+    node: Node,
+    names: &[NamePlace],
+    found: FirstError,
+) -> Result<FirstError, AllocError>
     ensures { IfOk result (λ r. r ≡ after (after found (each EarlyError.DuplicateLexicalName (places (twice (all_named names.now))))) (each EarlyError.LexicalNameIsVar (places (shared (all_named names.now) (each_part function_names (parts_of (node_tree node.entry))))))) }
 {
     if names.is_empty() {
@@ -186,7 +194,7 @@ fn top_errors(alloc: Global, node: Node, names: &[Named], found: Found) -> Resul
     )
 }
 
-fn push_functions<'t>(node: Node<'t, '_>, names: &mut Vec<Named<'t>>) -> Result<(), AllocError>
+fn push_functions<'t>(node: Node<'t, '_>, names: &mut Vec<NamePlace<'t>>) -> Result<(), AllocError>
     ensures { OnOk result (all_named names.new.items ≡ all_named names.old.items ++ each_part function_names (parts_of (node_tree node.entry))) }
 {
     for index in 0..node.part_count() {
@@ -197,7 +205,7 @@ fn push_functions<'t>(node: Node<'t, '_>, names: &mut Vec<Named<'t>>) -> Result<
 
 fn push_function<'t>(
     item: Option<Node<'t, '_>>,
-    names: &mut Vec<Named<'t>>,
+    names: &mut Vec<NamePlace<'t>>,
 ) -> Result<(), AllocError>
     ensures { OnOk result (all_named names.new.items ≡ all_named names.old.items ++ at_part function_names (option_map node_tree item.entry)) }
 {
@@ -223,9 +231,9 @@ fn is_function(kind: Kind) -> bool
 fn catch_errors(
     alloc: Global,
     node: Node,
-    names: &[Named],
-    found: Found,
-) -> Result<Found, AllocError>
+    names: &[NamePlace],
+    found: FirstError,
+) -> Result<FirstError, AllocError>
     ensures { IfOk result (λ r. r ≡ after (after found (each EarlyError.CatchParameterConflict (places (twice (all_named names.now))))) (each EarlyError.CatchParameterConflict (places (shared (all_named names.now) (each_part (lexical_names true) (body_items (parts_of (node_tree node.entry)))))))) }
 {
     let error = EarlyError::CatchParameterConflict;
@@ -235,7 +243,10 @@ fn catch_errors(
     shared(alloc, names, lexical.as_slice(), error, found)
 }
 
-fn push_body<'t>(body: Option<Node<'t, '_>>, names: &mut Vec<Named<'t>>) -> Result<(), AllocError>
+fn push_body<'t>(
+    body: Option<Node<'t, '_>>,
+    names: &mut Vec<NamePlace<'t>>,
+) -> Result<(), AllocError>
     ensures { OnOk result (all_named names.new.items ≡ all_named names.old.items ++ each_part (lexical_names true) (items_at (option_map node_tree body.entry))) }
 {
     match body {
@@ -245,7 +256,7 @@ fn push_body<'t>(body: Option<Node<'t, '_>>, names: &mut Vec<Named<'t>>) -> Resu
 }
 
 /// The declarators without initializer.
-pub(crate) fn without_initializer(node: Node, found: Found) -> Found
+pub(crate) fn without_initializer(node: Node, found: FirstError) -> FirstError
     ensures { result ≡ after found (each EarlyError.ConstWithoutInitializer (each_part without_initializer (parts_of (node_tree node.entry)))) }
 {
     let mut found = found;

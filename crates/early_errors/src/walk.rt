@@ -10,15 +10,15 @@ ghost use Rattle.early_errors.specs.Passed.{IsHandedOn};
 ghost use Rattle.early_errors.specs.Walk.{Agree, after, hits, look, sooner};
 ghost use Rattle.early_errors.specs.Walks.{Fits, range_errors, range_vars};
 
-use crate::around::{Around, Rounds, is_method, rounds_of};
-use crate::clashes::{Clashes, Saved, enter, leave};
-use crate::found::Found;
+use crate::around::{Context, PartContexts, contexts_of, is_method};
+use crate::conflicts::{Saved, VarConflicts, close_scope, open_scope};
+use crate::found::FirstError;
 use crate::labels::{Labels, is_true, known_loop, label_is_loop};
 use crate::literals::either;
-use crate::names::Named;
+use crate::names::NamePlace;
 use crate::own::own_errors;
-use crate::quiet::{Where, where_errors};
 use crate::scopes::{place_of_scope, push_scope, scope_error, scope_errors, scope_kind};
+use crate::skipping::{ErrorPlaces, error_places};
 use crate::table::Table;
 use crate::vars::has_no_var;
 use std::alloc::{AllocError, Global};
@@ -32,13 +32,13 @@ const NODES_PER_NAME: usize = 8;
 pub(crate) struct Walk<'t> {
     pub(crate) alloc: Global,
     /// The least error so far.
-    pub(crate) found: Found,
+    pub(crate) found: FirstError,
     /// What a `var` of a name would clash with, in the scopes round a node, of the same function.
-    pub(crate) vars: Clashes<'t>,
+    pub(crate) vars: VarConflicts<'t>,
     /// The labels round a node, of the same function.
     pub(crate) labels: Labels<'t>,
     /// Room for the names of one node.
-    pub(crate) names: Vec<Named<'t>>,
+    pub(crate) names: Vec<NamePlace<'t>>,
 }
 
 impl<'t> Walk<'t> {
@@ -60,7 +60,7 @@ impl<'t> Walk<'t> {
 
 /// How a walk goes on inside a node.
 #[derive(Clone, Copy)]
-pub(crate) enum Inside {
+pub(crate) enum WalkKind {
     Function,
     Method,
     Label,
@@ -69,30 +69,30 @@ pub(crate) enum Inside {
     Plain,
 }
 
-fn inside_of(kind: Kind, form: Form) -> Inside
+fn inside_of(kind: Kind, form: Form) -> WalkKind
     ensures { result ≡ inside_of kind form }
 {
     match kind {
         Kind::FunctionDeclaration | Kind::FunctionExpression | Kind::ArrowFunctionExpression =>
-            Inside::Function,
-        Kind::MethodDefinition => Inside::Method,
+            WalkKind::Function,
+        Kind::MethodDefinition => WalkKind::Method,
         Kind::Property => {
             if is_method(form) {
-                Inside::Method
+                WalkKind::Method
             } else {
-                Inside::Plain
+                WalkKind::Plain
             }
         }
-        Kind::LabeledStatement => Inside::Label,
-        Kind::VariableDeclaration => Inside::Declaration,
+        Kind::LabeledStatement => WalkKind::Label,
+        Kind::VariableDeclaration => WalkKind::Declaration,
         Kind::Program
         | Kind::BlockStatement
         | Kind::SwitchStatement
         | Kind::CatchClause
         | Kind::ForStatement
         | Kind::ForInStatement
-        | Kind::ForOfStatement => Inside::Scope,
-        _ => Inside::Plain,
+        | Kind::ForOfStatement => WalkKind::Scope,
+        _ => WalkKind::Plain,
     }
 }
 
@@ -101,7 +101,7 @@ fn inside_of(kind: Kind, form: Form) -> Inside
 #[tactic(auto, using(tree::proofs::PartWalk::part_steps))]
 pub(crate) fn walk_node<'t>(
     node: Node<'t, '_>,
-    around: Around,
+    around: Context,
     walk: &mut Walk<'t>,
 ) -> Result<(), AllocError>
     requires { Fits around (node_tree node) }
@@ -109,13 +109,13 @@ pub(crate) fn walk_node<'t>(
     ensures vars { OnOk result (Agree (look walk.new.vars) (look walk.old.vars)) }
     ensures labels { OnOk result (Agree (look walk.new.labels) (look walk.old.labels)) }
 {
-    match where_errors(node) {
-        Where::Nowhere => Ok(()),
-        Where::InParts => {
+    match error_places(node) {
+        ErrorPlaces::Nowhere => Ok(()),
+        ErrorPlaces::InParts => {
             let inner = around.within();
             walk_passed(node, &inner, walk)
         }
-        Where::Anywhere => walk_special(node, around, walk),
+        ErrorPlaces::Anywhere => walk_special(node, around, walk),
     }
 }
 
@@ -124,7 +124,7 @@ pub(crate) fn walk_node<'t>(
 #[tactic(auto, using(tree::proofs::PartWalk::part_steps))]
 fn walk_passed<'t>(
     node: Node<'t, '_>,
-    around: &Around,
+    around: &Context,
     walk: &mut Walk<'t>,
 ) -> Result<(), AllocError>
     requires handed_on { IsHandedOn around.now }
@@ -138,10 +138,10 @@ fn walk_passed<'t>(
         let Some(part) = parts.get(index) else {
             continue;
         };
-        match where_errors(part) {
-            Where::Nowhere => {}
-            Where::InParts => walk_passed(part, around, walk)?,
-            Where::Anywhere => walk_special(part, *around, walk)?,
+        match error_places(part) {
+            ErrorPlaces::Nowhere => {}
+            ErrorPlaces::InParts => walk_passed(part, around, walk)?,
+            ErrorPlaces::Anywhere => walk_special(part, *around, walk)?,
         }
     }
     Ok(())
@@ -153,7 +153,7 @@ fn walk_passed<'t>(
 #[inline(never)]
 fn walk_special<'t>(
     node: Node<'t, '_>,
-    around: Around,
+    around: Context,
     walk: &mut Walk<'t>,
 ) -> Result<(), AllocError>
     requires { Fits around (node_tree node) }
@@ -171,15 +171,15 @@ fn walk_special<'t>(
         walk.found,
     )?;
     match inside_of(node.kind(), node.flags().form) {
-        Inside::Function => walk_function(node, around, walk),
-        Inside::Method => walk_method(node, around, walk),
-        Inside::Label => walk_label(node, around, walk),
-        Inside::Scope => walk_scope(node, around, walk),
-        Inside::Declaration => {
+        WalkKind::Function => walk_function(node, around, walk),
+        WalkKind::Method => walk_method(node, around, walk),
+        WalkKind::Label => walk_label(node, around, walk),
+        WalkKind::Scope => walk_scope(node, around, walk),
+        WalkKind::Declaration => {
             let inner = around.within();
             walk_passed(node, &inner, walk)
         }
-        Inside::Plain => walk_parts(node, 0, node.part_count(), rounds_of(node, around), walk),
+        WalkKind::Plain => walk_parts(node, 0, node.part_count(), contexts_of(node, around), walk),
     }
 }
 
@@ -190,7 +190,7 @@ fn walk_parts<'t>(
     node: Node<'t, '_>,
     from: usize,
     to: usize,
-    rounds: Rounds,
+    rounds: PartContexts,
     walk: &mut Walk<'t>,
 ) -> Result<(), AllocError>
     requires first { rounds.first.labels_loop ≡ None }
@@ -217,10 +217,10 @@ fn walk_parts<'t>(
 #[tactic(auto, using(tree::proofs::PartWalk::part_steps))]
 fn walk_function<'t>(
     node: Node<'t, '_>,
-    around: Around,
+    around: Context,
     walk: &mut Walk<'t>,
 ) -> Result<(), AllocError>
-    requires inside { inside_of (kind_of (node_tree node)) (flags_of (node_tree node)).form ≡ Inside.Function }
+    requires inside { inside_of (kind_of (node_tree node)) (flags_of (node_tree node)).form ≡ WalkKind.Function }
     requires fits { Fits around (node_tree node) }
     ensures found { OnOk result ((o : _) → (ls : _) → Knows (look walk.old.labels) ls → walk.old.found ≡ sooner (after o (plain_errors (round around ls) (node_tree node.entry))) (hits (look walk.old.vars) (vars_of (node_tree node.entry))) → walk.new.found ≡ sooner (after o (errors_within (round around ls) (node_tree node.entry))) (hits (look walk.old.vars) (var_names (node_tree node.entry)))) }
     ensures vars { OnOk result (Agree (look walk.new.vars) (look walk.old.vars)) }
@@ -228,7 +228,7 @@ fn walk_function<'t>(
 {
     let vars = walk.vars.take(walk.alloc);
     let labels = walk.labels.take(walk.alloc);
-    let done = walk_parts(node, 0, node.part_count(), rounds_of(node, around), walk);
+    let done = walk_parts(node, 0, node.part_count(), contexts_of(node, around), walk);
     walk.vars.put(vars);
     walk.labels.put(labels);
     done
@@ -239,16 +239,16 @@ fn walk_function<'t>(
 #[tactic(auto, using(tree::proofs::PartWalk::part_steps))]
 fn walk_method<'t>(
     node: Node<'t, '_>,
-    around: Around,
+    around: Context,
     walk: &mut Walk<'t>,
 ) -> Result<(), AllocError>
-    requires inside { inside_of (kind_of (node_tree node)) (flags_of (node_tree node)).form ≡ Inside.Method }
+    requires inside { inside_of (kind_of (node_tree node)) (flags_of (node_tree node)).form ≡ WalkKind.Method }
     requires fits { Fits around (node_tree node) }
     ensures found { OnOk result ((o : _) → (ls : _) → Knows (look walk.old.labels) ls → walk.old.found ≡ sooner (after o (plain_errors (round around ls) (node_tree node.entry))) (hits (look walk.old.vars) (vars_of (node_tree node.entry))) → walk.new.found ≡ sooner (after o (errors_within (round around ls) (node_tree node.entry))) (hits (look walk.old.vars) (var_names (node_tree node.entry)))) }
     ensures vars { OnOk result (Agree (look walk.new.vars) (look walk.old.vars)) }
     ensures labels { OnOk result (Agree (look walk.new.labels) (look walk.old.labels)) }
 {
-    let rounds = rounds_of(node, around);
+    let rounds = contexts_of(node, around);
     walk_parts(node, 0, 1, rounds, walk)?;
     let labels = walk.labels.take(walk.alloc);
     let done = walk_parts(node, 1, node.part_count(), rounds, walk);
@@ -259,14 +259,18 @@ fn walk_method<'t>(
 /// A label stands round the parts of its statement.
 #[cycle(walk)]
 #[tactic(auto, using(tree::proofs::PartWalk::part_steps))]
-fn walk_label<'t>(node: Node<'t, '_>, around: Around, walk: &mut Walk<'t>) -> Result<(), AllocError>
-    requires inside { inside_of (kind_of (node_tree node)) (flags_of (node_tree node)).form ≡ Inside.Label }
+fn walk_label<'t>(
+    node: Node<'t, '_>,
+    around: Context,
+    walk: &mut Walk<'t>,
+) -> Result<(), AllocError>
+    requires inside { inside_of (kind_of (node_tree node)) (flags_of (node_tree node)).form ≡ WalkKind.Label }
     requires fits { Fits around (node_tree node) }
     ensures found { OnOk result ((o : _) → (ls : _) → Knows (look walk.old.labels) ls → walk.old.found ≡ sooner (after o (plain_errors (round around ls) (node_tree node.entry))) (hits (look walk.old.vars) (vars_of (node_tree node.entry))) → walk.new.found ≡ sooner (after o (errors_within (round around ls) (node_tree node.entry))) (hits (look walk.old.vars) (var_names (node_tree node.entry)))) }
     ensures vars { OnOk result (Agree (look walk.new.vars) (look walk.old.vars)) }
     ensures labels { OnOk result (Agree (look walk.new.labels) (look walk.old.labels)) }
 {
-    let mut rounds = rounds_of(node, around);
+    let mut rounds = contexts_of(node, around);
     let Some(label) = node.part(0) else {
         return walk_parts(node, 0, node.part_count(), rounds, walk);
     };
@@ -284,8 +288,12 @@ fn walk_label<'t>(node: Node<'t, '_>, around: Around, walk: &mut Walk<'t>) -> Re
 /// Names of a scope clash with `var`s inside.
 #[cycle(walk)]
 #[tactic(auto, using(tree::proofs::PartWalk::part_steps))]
-fn walk_scope<'t>(node: Node<'t, '_>, around: Around, walk: &mut Walk<'t>) -> Result<(), AllocError>
-    requires inside { inside_of (kind_of (node_tree node)) (flags_of (node_tree node)).form ≡ Inside.Scope }
+fn walk_scope<'t>(
+    node: Node<'t, '_>,
+    around: Context,
+    walk: &mut Walk<'t>,
+) -> Result<(), AllocError>
+    requires inside { inside_of (kind_of (node_tree node)) (flags_of (node_tree node)).form ≡ WalkKind.Scope }
     requires fits { Fits around (node_tree node) }
     ensures found { OnOk result ((o : _) → (ls : _) → Knows (look walk.old.labels) ls → walk.old.found ≡ sooner (after o (plain_errors (round around ls) (node_tree node.entry))) (hits (look walk.old.vars) (vars_of (node_tree node.entry))) → walk.new.found ≡ sooner (after o (errors_within (round around ls) (node_tree node.entry))) (hits (look walk.old.vars) (var_names (node_tree node.entry)))) }
     ensures vars { OnOk result (Agree (look walk.new.vars) (look walk.old.vars)) }
@@ -301,12 +309,12 @@ fn walk_scope<'t>(node: Node<'t, '_>, around: Around, walk: &mut Walk<'t>) -> Re
 #[tactic(auto, using(tree::proofs::PartWalk::part_steps))]
 fn walk_in_scope<'t>(
     node: Node<'t, '_>,
-    around: Around,
-    names: &mut Vec<Named<'t>>,
+    around: Context,
+    names: &mut Vec<NamePlace<'t>>,
     saved: &mut Vec<Saved<'t>>,
     walk: &mut Walk<'t>,
 ) -> Result<(), AllocError>
-    requires inside { inside_of (kind_of (node_tree node)) (flags_of (node_tree node)).form ≡ Inside.Scope }
+    requires inside { inside_of (kind_of (node_tree node)) (flags_of (node_tree node)).form ≡ WalkKind.Scope }
     requires fits { Fits around (node_tree node) }
     requires names { names.now.items ≡ [] }
     requires saved { saved.now.items ≡ [] }
@@ -318,14 +326,14 @@ fn walk_in_scope<'t>(
     push_scope(kind, node, around.is_body, names)?;
     let declared = names.as_slice();
     walk.found = scope_errors(walk.alloc, kind, node, around.is_body, declared, walk.found)?;
-    let rounds = rounds_of(node, around);
+    let rounds = contexts_of(node, around);
     let from = place_of_scope(kind, node);
     let to = node.part_count();
     walk_parts(node, 0, from, rounds, walk)?;
     if has_no_var(node, from, declared.len().saturating_mul(NODES_PER_NAME)) {
         return walk_parts(node, from, to, rounds, walk);
     }
-    enter(&mut walk.vars, declared, scope_error(kind), saved)?;
+    open_scope(&mut walk.vars, declared, scope_error(kind), saved)?;
     walk_parts(node, from, to, rounds, walk)?;
-    leave(&mut walk.vars, saved)
+    close_scope(&mut walk.vars, saved)
 }

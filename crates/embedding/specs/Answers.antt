@@ -2,9 +2,9 @@
 use Rattle.std.specs.Prelude.{◌≡◌, ◌⊎◌, List, [], ℕ, false, Some, Result, Ok, Err}
 use Rattle.lint.specs.Run.{Seen}
 use Rattle.nine_rules.specs.NineRules.{RunsByRules}
-use Rattle.streams.specs.Refused.{no_memory}
-use Rattle.streams.specs.declared.command.Command.{Command}
-use Rattle.streams.specs.declared.refused.Refused.{Refused}
+use Rattle.commands.specs.Refused.{no_memory}
+use Rattle.commands.specs.declared.command.Command.{Command}
+use Rattle.commands.specs.declared.refused.Refused.{Refused}
 use Rattle.embedding.specs.declared.output.Output.{Output}
 
 -- Two readers that give just these texts and a writer that had nothing and has this now, none of which has failed.

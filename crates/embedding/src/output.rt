@@ -2,16 +2,16 @@
 
 ghost use Rattle.std.specs.Prelude.{◌≡◌, ◌≢◌, ◌⊎◌, IfErr, IfOk};
 ghost use Rattle.source_text.specs.declared.fault.Fault.TheVariants.{Usage, WriteFailed};
-ghost use Rattle.streams.specs.Refusal.{refusal_line};
-ghost use Rattle.streams.specs.Refused.{no_memory};
+ghost use Rattle.commands.specs.Refusal.{refusal_line};
+ghost use Rattle.commands.specs.Refused.{no_memory};
 ghost use Rattle.embedding.specs.Answers.{AnswersBytes};
 
 use crate::bytes_feed::BytesFeed;
 use crate::vec_sink::VecSink;
+use commands::{Command, Refused, write_refusal};
 use nine_rules::run_with_rules;
 use source_text::{Fault, Sink};
 use std::alloc::{AllocError, Global};
-use streams::{Command, Refused, write_refusal};
 
 /// What a command wrote, and its exit status.
 #[derive(Drop)]

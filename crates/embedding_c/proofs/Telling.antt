@@ -1,8 +1,8 @@
 -- A refusal that is told.
 use Rattle.std.proofs.Common.{ℕ, List, Some, Err, inl, inr, refl}
-use Rattle.streams.specs.Refused.{no_memory}
-use Rattle.streams.specs.declared.command.Command.{Command}
-use Rattle.streams.specs.declared.refused.Refused.{Refused}
+use Rattle.commands.specs.Refused.{no_memory}
+use Rattle.commands.specs.declared.command.Command.{Command}
+use Rattle.commands.specs.declared.refused.Refused.{Refused}
 use Rattle.embedding.specs.Answers.{AnswersBytes}
 use Rattle.embedding_c.specs.Calls.{TellsOf, TellsRefusal}
 use Rattle.embedding_c.specs.declared.Outcome.{Outcome}

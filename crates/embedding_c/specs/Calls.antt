@@ -1,10 +1,10 @@
 -- What a call from C or from a page tells.
 use Rattle.std.specs.Prelude.{◌≡◌, ◌≤◌, ◌⊎◌, ℕ, List, ◌++◌, Bool, true, false, length, take, drop, Option, Some, None, Result, Ok, Err}
-use Rattle.streams.specs.Refusal.{refusal_line, status_of}
-use Rattle.streams.specs.Refused.{no_memory}
-use Rattle.streams.specs.declared.command.Command.{Command}
-use Rattle.streams.specs.declared.command.Command.TheVariants.{Check, Tree, Fix, Cost, Verify}
-use Rattle.streams.specs.declared.refused.Refused.{Refused}
+use Rattle.commands.specs.Refusal.{refusal_line, status_of}
+use Rattle.commands.specs.Refused.{no_memory}
+use Rattle.commands.specs.declared.command.Command.{Command}
+use Rattle.commands.specs.declared.command.Command.TheVariants.{Check, Tree, Fix, Cost, Verify}
+use Rattle.commands.specs.declared.refused.Refused.{Refused}
 use Rattle.embedding.specs.Answers.{AnswersBytes}
 use Rattle.embedding.specs.declared.output.Output.{Output}
 use Rattle.embedding_c.specs.declared.Outcome.{Outcome}

@@ -6,9 +6,9 @@ ghost use Rattle.std.specs.Prelude.{◌≡◌, ◌≢◌, length};
 ghost use Rattle.source_text.specs.declared.fault.Fault.TheVariants.{Usage};
 ghost use Rattle.embedding_c.specs.Calls.{Names, Tells, TellsRefusal, flag, overwritten};
 
+use commands::{Command, Refused, status};
 use embedding::{refusal_text, run_on_bytes};
 use std::alloc::{AllocError, Global};
-use streams::{Command, Refused, status};
 
 /// What a call tells beside the bytes.
 #[repr(C)]

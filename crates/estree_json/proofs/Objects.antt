@@ -9,7 +9,7 @@ use Rattle.serde_json.specs.declared.value.Value.{Value, Null, Array, the_lemmas
 use Rattle.serde_json.proofs.Views.{view-Array}
 use Rattle.tree.specs.declared.kind.Kind.{Kind}
 use Rattle.tree.specs.Tree.{Tree, node, kind_of}
-use Rattle.estree_json.specs.declared.table.Line.{Line}
+use Rattle.estree_json.specs.declared.table.Member.{Member}
 use Rattle.estree_json.specs.Json.{label_of, first_or_null, node_json, parts_json}
 use Rattle.estree_json.specs.Table.{Subject, from, option_put, put_line, put_lines, PutsAll, subject_of}
 use Rattle.estree_json.proofs.Lists.{in_turns, turns_taken, turns_passed}
@@ -54,16 +54,16 @@ turn_passed false i ds vs whole b l w = ap (λ es. map view vs ++ es) (sym (turn
 turn_passed true i ds vs whole b l w = absurd (false≢true (sym b))
 
 -- the members that the lines put which are left, after one more
-pub put_more : (x : Subject) (ls : List Line) (i : ℕ) (d : Line) (old new whole : Members) → i < length ls → new ≡ put_line x (get_or ls i d) old → put_lines x (drop i ls) old ≡ whole → put_lines x (drop (i + 1) ls) new ≡ whole
+pub put_more : (x : Subject) (ls : List Member) (i : ℕ) (d : Member) (old new whole : Members) → i < length ls → new ≡ put_line x (get_or ls i d) old → put_lines x (drop i ls) old ≡ whole → put_lines x (drop (i + 1) ls) new ≡ whole
 put_more x ls i d old new whole l e w = ap (put_lines x (drop (i + 1) ls)) e ∙ ap (λ ys. put_lines x ys old) (sym (drop_more ls i d l)) ∙ w
 
-pub no_lines : (ls : List Line) (i : ℕ) → length ls ≤ i → drop i ls ≡ []
+pub no_lines : (ls : List Member) (i : ℕ) → length ls ≤ i → drop i ls ≡ []
 no_lines [] zero l = refl
 no_lines [] (suc i) l = refl
 no_lines (x ∷ ls) zero l = absurd (omega (arith, l))
 no_lines (x ∷ ls) (suc i) l = no_lines ls i (omega (arith, l))
 
-pub node_made : (is_last : Bool) (t : Tree) (kind : Kind) (ls : List Line) (i : ℕ) (start ms : Members) (d : Data) → kind ≡ kind_of t → PutsAll kind ls → start ≡ no_members → length ls ≤ i
+pub node_made : (is_last : Bool) (t : Tree) (kind : Kind) (ls : List Member) (i : ℕ) (start ms : Members) (d : Data) → kind ≡ kind_of t → PutsAll kind ls → start ≡ no_members → length ls ≤ i
     → put_lines (subject_of is_last t) (drop i ls) ms ≡ put_lines (subject_of is_last t) ls start → d ≡ object ms → d ≡ node_json is_last t
 unfolding node_json
 node_made is_last (node k w g s e ps) kind ls i start ms d is table n l h o =

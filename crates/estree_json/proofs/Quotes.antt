@@ -4,7 +4,7 @@ use Rattle.std.proofs.lemmas.Bool.{ne_eqb}
 use Rattle.std.specs.Str.Pattern.{RFindsChar, SplitsAroundMatch}
 use Rattle.std.proofs.lemmas.Str.Pattern.{NoCharPasses-char, drop_at_char}
 use Rattle.tokens.specs.Alphabet.{one_of}
-use Rattle.estree_json.specs.Texts.{without_first, without_last, has_slash, before_slash, behind_slash, literal_regex}
+use Rattle.estree_json.specs.Texts.{without_first, without_last, has_slash, before_slash, after_slash, literal_regex}
 
 pub no_quote_first : (bs : List ℕ) → ((rest : List ℕ) → ¬ (bs ≡ 34 ∷ rest)) → ((rest : List ℕ) → ¬ (bs ≡ 39 ∷ rest)) → bs ≡ without_first bs
 no_quote_first [] h k = refl
@@ -53,7 +53,7 @@ pub none_before : (bs : List ℕ) → has_slash bs ≡ false → [] ≡ before_s
 none_before [] h = refl
 none_before (c ∷ cs) h = rw (or_right (c == 47) (has_slash cs) h)
 
-pub none_behind : (bs : List ℕ) → has_slash bs ≡ false → [] ≡ behind_slash bs
+pub none_behind : (bs : List ℕ) → has_slash bs ≡ false → [] ≡ after_slash bs
 none_behind [] h = refl
 none_behind (c ∷ cs) h = rw (or_right (c == 47) (has_slash cs) h, or_left (c == 47) (has_slash cs) h)
 
@@ -65,7 +65,7 @@ pub stands_before : (front back : List ℕ) → has_slash back ≡ false → fro
 stands_before [] back h = rw h
 stands_before (c ∷ cs) back h = rw (has_one cs back) (ap (λ zs. c ∷ zs) (stands_before cs back h))
 
-pub stands_behind : (front back : List ℕ) → has_slash back ≡ false → back ≡ behind_slash (front ++ 47 ∷ back)
+pub stands_behind : (front back : List ℕ) → has_slash back ≡ false → back ≡ after_slash (front ++ 47 ∷ back)
 stands_behind [] back h = rw h
 stands_behind (c ∷ cs) back h = rw (has_one cs back) (stands_behind cs back h)
 

@@ -12,8 +12,8 @@ use Rattle.serde_json.specs.Events.{items_len}
 use Rattle.tokens.specs.Templates.{cooked_value}
 use Rattle.tree.specs.declared.kind.Kind.{Kind}
 use Rattle.tree.specs.Tree.{Tree, node, kind_of}
-use Rattle.estree_json.specs.declared.table.Line.{Line}
-use Rattle.estree_json.specs.Texts.{literal_regex, regex_of, unquoted, cooked_of_units, template_value, with_cooked, before_slash, behind_slash}
+use Rattle.estree_json.specs.declared.table.Member.{Member}
+use Rattle.estree_json.specs.Texts.{literal_regex, regex_of, unquoted, cooked_of_units, template_value, with_cooked, before_slash, after_slash}
 use Rattle.estree_json.specs.Fields.{Label, directive}
 use Rattle.estree_json.specs.Json.{first_or_null, label_of, node_json, parts_json}
 use Rattle.estree_json.specs.Table.{Subject, subject_of, from, option_member, by_line, by_lines, InOrder}
@@ -52,7 +52,7 @@ pub directive_some : (l : Label) → l.flags.directive ≡ true → Some (string
 directive_some l e = rw e
 
 -- flags and pattern of a regular expression
-pub regex_sent : {A E : Type 0} (r : Result A E) (rest pattern flags : List ℕ) (old named first mid last new : Log) → pattern ≡ before_slash rest → flags ≡ behind_slash rest
+pub regex_sent : {A E : Type 0} (r : Result A E) (rest pattern flags : List ℕ) (old named first mid last new : Log) → pattern ≡ before_slash rest → flags ≡ after_slash rest
     → Logs old named (event.field_key (codes "regex") AsIs) → Logs named first (event.map_begins None)
     → Adds (member (codes "flags") (string flags)) first mid → Adds (member (codes "pattern") (string pattern)) mid last
     → OnOk r (Logs last new event.map_ends) → OnOk r (Adds (member (codes "regex") (regex_of rest)) old new)
@@ -115,12 +115,12 @@ list_sent (Ok x) name ds left count old named first last new n k b w none e = λ
 )
 
 -- one more line of those that are left
-pub line_more : (x : Subject) (ls : List Line) (i : ℕ) (d : Line) (old new : Log) (All : Log → Type 0) → i < length ls → Adds (by_line x (get_or ls i d)) old new
+pub line_more : (x : Subject) (ls : List Member) (i : ℕ) (d : Member) (old new : Log) (All : Log → Type 0) → i < length ls → Adds (by_line x (get_or ls i d)) old new
     → ((end : Log) → SendsMembers (by_lines x (drop i ls)) old end → All end) → (end : Log) → SendsMembers (by_lines x (drop (i + 1) ls)) new end → All end
 line_more x ls i d old new All l h w end s = w end (subst (λ ys. SendsMembers (by_lines x ys) old end) (sym (drop_more ls i d l)) (h (by_lines x (drop (i + 1) ls)) end s))
 
 -- a node's object
-pub node_sent : {A E : Type 0} (r : Result A E) (is_last : Bool) (t : Tree) (kind : Kind) (lines : List Line) (i : ℕ) (old first last new : Log) → kind ≡ kind_of t → InOrder kind lines
+pub node_sent : {A E : Type 0} (r : Result A E) (is_last : Bool) (t : Tree) (kind : Kind) (lines : List Member) (i : ℕ) (old first last new : Log) → kind ≡ kind_of t → InOrder kind lines
     → Logs old first (event.map_begins None) → ((end : Log) → SendsMembers (by_lines (subject_of is_last t) (drop i lines)) last end → SendsMembers (by_lines (subject_of is_last t) lines) first end)
     → length lines ≤ i → OnOk r (Logs last new event.map_ends) → OnOk r (Sends (node_json is_last t) old new)
 unfolding node_json

@@ -7,7 +7,7 @@ use Rattle.std.specs.declared.alloc.AllocError.{AllocError}
 use Rattle.serde_json.specs.Data.{Data, null, boolean, string, object, Members, member, no_members, put}
 use Rattle.tokens.specs.Strings.{string_units}
 use Rattle.tokens.specs.Templates.{cooked_value}
-use Rattle.estree_json.specs.Texts.{with_cooked, is_quoted, text_of_units, literal_value, before_slash, behind_slash, regex_of, cooked_of_units, template_value}
+use Rattle.estree_json.specs.Texts.{with_cooked, is_quoted, text_of_units, literal_value, before_slash, after_slash, regex_of, cooked_of_units, template_value}
 use Rattle.estree_json.specs.Table.{option_put}
 use Rattle.estree_json.specs.Primitives.{data_of}
 use Rattle.estree_json.specs.declared.texts.Primitive.{Primitive}
@@ -23,7 +23,7 @@ is_set false e = absurd (false≢true (sym e))
 -- the members of a regular expression and of a template's part, one after the other
 pub regex_made : (rest pattern flags : List ℕ) (a b c : Members) (d : Data) → a ≡ no_members
     → b ≡ put (codes "flags") (string flags) a → c ≡ put (codes "pattern") (string pattern) b → d ≡ object c
-    → pattern ≡ before_slash rest → flags ≡ behind_slash rest → d ≡ regex_of rest
+    → pattern ≡ before_slash rest → flags ≡ after_slash rest → d ≡ regex_of rest
 regex_made rest pattern flags a b c d e f g h i j = h ∙ rw (g, f, e, i, j)
 
 cooked_first : (cooked : Option Data) (raw : List ℕ) → put (codes "raw") (string raw) (option_put (codes "cooked") cooked no_members) ≡ with_cooked cooked (member (codes "raw") (string raw) no_members)

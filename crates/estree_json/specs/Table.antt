@@ -3,10 +3,10 @@ use Rattle.std.specs.Prelude.{◌≡◌, ℕ, zero, suc, ◌-◌, Bool, true, fa
 use Rattle.tree.specs.declared.kind.Kind.{Kind}
 use Rattle.serde_json.specs.Data.{Data, null, boolean, number, unsigned, string, array, Members, no_members, member, put}
 use Rattle.serde_json.specs.View.{items_of}
-use Rattle.estree_json.specs.declared.table.Line.{Line}
-use Rattle.estree_json.specs.declared.table.Line.TheVariants as line
-use Rattle.estree_json.specs.declared.table.Flag.{Flag}
-use Rattle.estree_json.specs.declared.table.Flag.TheVariants.{Never, Always, Computed, Expression, Method, Optional, Prefix, Shorthand, Static}
+use Rattle.estree_json.specs.declared.table.Member.{Member}
+use Rattle.estree_json.specs.declared.table.Member.TheVariants as line
+use Rattle.estree_json.specs.declared.table.FlagSource.{FlagSource}
+use Rattle.estree_json.specs.declared.table.FlagSource.TheVariants.{Never, Always, Computed, Expression, Method, Optional, Prefix, Shorthand, Static}
 use Rattle.estree_json.specs.Types.{type_name}
 use Rattle.estree_json.specs.Texts.{literal_value, literal_regex, template_value}
 use Rattle.estree_json.specs.Fields.{Label, fields, property_kind, method_kind, is_method, is_shorthand, directive}
@@ -25,7 +25,7 @@ pub record Subject : Type 0 where
 abbrev pub subject_of : Bool → Tree → Subject
 subject_of is_last t = record { is_last = is_last; kind = kind_of t; label = label_of t; start = start_of t; stop = stop_of t; values = parts_json (parts_of t) }
 
-abbrev pub flag_of : Flag → Label → Bool
+abbrev pub flag_of : FlagSource → Label → Bool
 flag_of Never l = false
 flag_of Always l = true
 flag_of Computed l = l.flags.computed
@@ -42,16 +42,16 @@ from zero ds = ds
 from (suc n) ds = drop 1 (from n ds)
 
 -- a line's key
-abbrev pub key_of : Line → List ℕ
+abbrev pub key_of : Member → List ℕ
 key_of line.Type = codes "type"
 key_of line.Start = codes "start"
 key_of line.End = codes "end"
 key_of (line.Part name skip) = name.now
 key_of (line.List name skip behind) = name.now
-key_of (line.Behind name skip behind) = name.now
-key_of (line.Turns name skip) = name.now
+key_of (line.PartFromEnd name skip behind) = name.now
+key_of (line.EveryOther name skip) = name.now
 key_of (line.Null name) = name.now
-key_of (line.Word name word) = name.now
+key_of (line.Constant name word) = name.now
 key_of (line.Text name) = name.now
 key_of (line.Boolean name flag) = name.now
 key_of line.PropertyKind = codes "kind"
@@ -63,16 +63,16 @@ key_of line.TemplateValue = codes "value"
 key_of line.Tail = codes "tail"
 
 -- its value, none where the node has no such member
-abbrev pub value_of : Subject → Line → Option Data
+abbrev pub value_of : Subject → Member → Option Data
 value_of x line.Type = Some (string (type_name x.kind))
 value_of x line.Start = Some (number (unsigned x.start))
 value_of x line.End = Some (number (unsigned x.stop))
 value_of x (line.Part name skip) = Some (first_or_null (from skip x.values))
 value_of x (line.List name skip behind) = Some (array (items_of (take (length (from skip x.values) - behind) (from skip x.values))))
-value_of x (line.Behind name skip behind) = Some (first_or_null (drop (length (from skip x.values) - behind) (from skip x.values)))
-value_of x (line.Turns name skip) = Some (array (items_of (odd_ones (from skip x.values))))
+value_of x (line.PartFromEnd name skip behind) = Some (first_or_null (drop (length (from skip x.values) - behind) (from skip x.values)))
+value_of x (line.EveryOther name skip) = Some (array (items_of (odd_ones (from skip x.values))))
 value_of x (line.Null name) = Some null
-value_of x (line.Word name word) = Some (string word.now)
+value_of x (line.Constant name word) = Some (string word.now)
 value_of x (line.Text name) = Some (string x.label.text)
 value_of x (line.Boolean name flag) = Some (boolean (flag_of flag x.label))
 value_of x line.PropertyKind = Some (string (property_kind x.label.flags.form))
@@ -88,10 +88,10 @@ abbrev pub option_member : List ℕ → Option Data → Members → Members
 option_member name None ms = ms
 option_member name (Some d) ms = member name d ms
 
-abbrev pub by_line : Subject → Line → Members → Members
+abbrev pub by_line : Subject → Member → Members → Members
 by_line x l ms = option_member (key_of l) (value_of x l) ms
 
-abbrev pub by_lines : Subject → List Line → Members
+abbrev pub by_lines : Subject → List Member → Members
 by_lines x [] = no_members
 by_lines x (l ∷ ls) = by_line x l (by_lines x ls)
 
@@ -100,21 +100,21 @@ abbrev pub option_put : List ℕ → Option Data → Members → Members
 option_put name None ms = ms
 option_put name (Some d) ms = put name d ms
 
-abbrev pub put_line : Subject → Line → Members → Members
+abbrev pub put_line : Subject → Member → Members → Members
 put_line x l ms = option_put (key_of l) (value_of x l) ms
 
-abbrev pub put_lines : Subject → List Line → Members → Members
+abbrev pub put_lines : Subject → List Member → Members → Members
 put_lines x [] ms = ms
 put_lines x (l ∷ ls) ms = put_lines x ls (put_line x l ms)
 
 -- The lines of a kind: one after the other they are the members that the definition gives its nodes, and so is what they put into an
 -- object
-abbrev pub InOrder : Kind → List Line → Type 0
+abbrev pub InOrder : Kind → List Member → Type 0
 InOrder kind lines =
     (b : Bool) (l : Label) (start stop : ℕ) (values : List Data)
     → by_lines (record { is_last = b; kind = kind; label = l; start = start; stop = stop; values = values }) lines ≡ (with_fields (fields b kind l) (begun kind start stop values)).members
 
-abbrev pub PutsAll : Kind → List Line → Type 0
+abbrev pub PutsAll : Kind → List Member → Type 0
 PutsAll kind lines =
     (b : Bool) (l : Label) (start stop : ℕ) (values : List Data)
     → put_lines (record { is_last = b; kind = kind; label = l; start = start; stop = stop; values = values }) lines no_members ≡ (with_fields (fields b kind l) (begun kind start stop values)).members

@@ -16,9 +16,9 @@ abbrev pub has_slash : List ℕ → Bool
 has_slash [] = false
 has_slash (c ∷ cs) = one_of "/" c || has_slash cs
 
-abbrev pub behind_slash : List ℕ → List ℕ
-behind_slash [] = []
-behind_slash (c ∷ cs) = if has_slash cs then behind_slash cs else if one_of "/" c then cs else []
+abbrev pub after_slash : List ℕ → List ℕ
+after_slash [] = []
+after_slash (c ∷ cs) = if has_slash cs then after_slash cs else if one_of "/" c then cs else []
 
 abbrev pub before_slash : List ℕ → List ℕ
 before_slash [] = []
@@ -26,7 +26,7 @@ before_slash (c ∷ cs) = if has_slash cs then c ∷ before_slash cs else []
 
 -- of `/pattern/flags`, behind the first `/`
 abbrev pub regex_of : List ℕ → Data
-regex_of w = object (member (codes "flags") (string (behind_slash w)) (member (codes "pattern") (string (before_slash w)) no_members))
+regex_of w = object (member (codes "flags") (string (after_slash w)) (member (codes "pattern") (string (before_slash w)) no_members))
 
 abbrev pub is_quoted : List ℕ → Bool
 is_quoted w = begins_with (one_of "'\"") w

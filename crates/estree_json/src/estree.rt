@@ -1,8 +1,8 @@
 //! A tree as a value that serde writes.
 #![tactic(auto, unfolding(crate::specs::Estree::estree_data))]
 
-use crate::events::Refused;
-use crate::send::send_node;
+use crate::events::SerializeRefused;
+use crate::serialize::serialize_node;
 use serde::{Described, Serialize, Serializer};
 use std::alloc::Global;
 use tree::{Node, Program};
@@ -52,9 +52,9 @@ impl Described for Estree<'_, '_> {
 impl Serialize for Estree<'_, '_> {
     fn serialize<S: Serializer>(&self, out: &mut S) -> Result<(), S::Error> {
         let mut error = out.custom("out of memory");
-        match send_node(out, &mut error, self.alloc, self.node, self.is_last) {
+        match serialize_node(out, &mut error, self.alloc, self.node, self.is_last) {
             Ok(()) => Ok(()),
-            Err(Refused) => Err(error),
+            Err(SerializeRefused) => Err(error),
         }
     }
 }

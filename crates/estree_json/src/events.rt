@@ -9,51 +9,58 @@ use std::alloc::AllocError;
 
 /// Something was refused, and `error` says what: the error of the serializer, or the one that stood there from the start, of memory for a
 /// value.
-pub struct Refused;
+pub struct SerializeRefused;
 
-impl From<AllocError> for Refused {
-    fn from(_refused: AllocError) -> Refused {
-        Refused
+impl From<AllocError> for SerializeRefused {
+    fn from(_refused: AllocError) -> SerializeRefused {
+        SerializeRefused
     }
 }
 
 #[cold]
 #[inline(never)]
-fn set_aside<E: Drop>(found: E, error: &mut E) -> Refused {
+fn keep_error<E: Drop>(found: E, error: &mut E) -> SerializeRefused {
     *error = found;
-    Refused
+    SerializeRefused
 }
 
 /// Begins an object.
 #[inline(never)]
-pub fn begin_object<S: Serializer>(out: &mut S, error: &mut S::Error) -> Result<(), Refused>
+pub fn begin_object<S: Serializer>(
+    out: &mut S,
+    error: &mut S::Error,
+) -> Result<(), SerializeRefused>
     ensures { OnOk result (Logs (S.written out.old) (S.written out.new) (map_begins None)) }
 {
     match out.begin_map(None) {
         Ok(()) => Ok(()),
-        Err(found) => Err(set_aside(found, error)),
+        Err(found) => Err(keep_error(found, error)),
     }
 }
 
 /// Ends an object.
 #[inline(never)]
-pub fn end_object<S: Serializer>(out: &mut S, error: &mut S::Error) -> Result<(), Refused>
+pub fn end_object<S: Serializer>(out: &mut S, error: &mut S::Error) -> Result<(), SerializeRefused>
     ensures { OnOk result (Logs (S.written out.old) (S.written out.new) map_ends) }
 {
     match out.end_map() {
         Ok(()) => Ok(()),
-        Err(found) => Err(set_aside(found, error)),
+        Err(found) => Err(keep_error(found, error)),
     }
 }
 
 /// A key of an object.
 #[inline(always)]
-pub fn send_key<S: Serializer>(out: &mut S, error: &mut S::Error, name: &str) -> Result<(), Refused>
+pub fn serialize_key<S: Serializer>(
+    out: &mut S,
+    error: &mut S::Error,
+    name: &str,
+) -> Result<(), SerializeRefused>
     ensures { OnOk result (Logs (S.written out.old) (S.written out.new) (field_key name.now AsIs)) }
 {
     match out.key(name) {
         Ok(()) => Ok(()),
-        Err(found) => Err(set_aside(found, error)),
+        Err(found) => Err(keep_error(found, error)),
     }
 }
 
@@ -63,78 +70,81 @@ pub fn begin_array<S: Serializer>(
     out: &mut S,
     error: &mut S::Error,
     count: usize,
-) -> Result<(), Refused>
+) -> Result<(), SerializeRefused>
     ensures { OnOk result (Logs (S.written out.old) (S.written out.new) (seq_begins (Some count))) }
 {
     match out.begin_seq(Some(count)) {
         Ok(()) => Ok(()),
-        Err(found) => Err(set_aside(found, error)),
+        Err(found) => Err(keep_error(found, error)),
     }
 }
 
 /// Ends an array.
 #[inline(never)]
-pub fn end_array<S: Serializer>(out: &mut S, error: &mut S::Error) -> Result<(), Refused>
+pub fn end_array<S: Serializer>(out: &mut S, error: &mut S::Error) -> Result<(), SerializeRefused>
     ensures { OnOk result (Logs (S.written out.old) (S.written out.new) seq_ends) }
 {
     match out.end_seq() {
         Ok(()) => Ok(()),
-        Err(found) => Err(set_aside(found, error)),
+        Err(found) => Err(keep_error(found, error)),
     }
 }
 
 /// Null.
 #[inline(never)]
-pub fn send_null<S: Serializer>(out: &mut S, error: &mut S::Error) -> Result<(), Refused>
+pub fn serialize_null<S: Serializer>(
+    out: &mut S,
+    error: &mut S::Error,
+) -> Result<(), SerializeRefused>
     ensures { OnOk result (Logs (S.written out.old) (S.written out.new) nothing) }
 {
     match out.unit() {
         Ok(()) => Ok(()),
-        Err(found) => Err(set_aside(found, error)),
+        Err(found) => Err(keep_error(found, error)),
     }
 }
 
 /// A boolean.
 #[inline(always)]
-pub fn send_boolean<S: Serializer>(
+pub fn serialize_boolean<S: Serializer>(
     out: &mut S,
     error: &mut S::Error,
     value: bool,
-) -> Result<(), Refused>
+) -> Result<(), SerializeRefused>
     ensures { OnOk result (Logs (S.written out.old) (S.written out.new) (boolean value)) }
 {
     match out.bool(value) {
         Ok(()) => Ok(()),
-        Err(found) => Err(set_aside(found, error)),
+        Err(found) => Err(keep_error(found, error)),
     }
 }
 
 /// A number.
 #[inline(always)]
-pub fn send_number<S: Serializer>(
+pub fn serialize_number<S: Serializer>(
     out: &mut S,
     error: &mut S::Error,
     value: usize,
-) -> Result<(), Refused>
+) -> Result<(), SerializeRefused>
     ensures { OnOk result (Logs (S.written out.old) (S.written out.new) (unsigned value)) }
 {
     match out.u64(value as u64) {
         Ok(()) => Ok(()),
-        Err(found) => Err(set_aside(found, error)),
+        Err(found) => Err(keep_error(found, error)),
     }
 }
 
 /// A text.
 #[inline(always)]
-pub fn send_text<S: Serializer>(
+pub fn serialize_text<S: Serializer>(
     out: &mut S,
     error: &mut S::Error,
     value: &str,
-) -> Result<(), Refused>
+) -> Result<(), SerializeRefused>
     ensures { OnOk result (Logs (S.written out.old) (S.written out.new) (text_event value.now)) }
 {
     match out.str(value) {
         Ok(()) => Ok(()),
-        Err(found) => Err(set_aside(found, error)),
+        Err(found) => Err(keep_error(found, error)),
     }
 }

@@ -7,24 +7,24 @@ ghost use Rattle.estree_json.specs.Fields.{first_text as text_of_first, property
 ghost use Rattle.estree_json.specs.Json.{label_of};
 ghost use Rattle.estree_json.specs.Table.{flag_of};
 
-use crate::table::Flag;
+use crate::table::FlagSource;
 use tree::{Form, Node};
 
 /// Whether a node is what is asked.
-pub fn is_set(flag: &Flag, node: Node) -> bool
+pub fn is_set(flag: &FlagSource, node: Node) -> bool
     ensures { result ≡ flag_of flag.now (label_of (node_tree node.entry)) }
 {
     let flags = node.flags();
     match flag {
-        Flag::Never => false,
-        Flag::Always => true,
-        Flag::Computed => flags.computed,
-        Flag::Expression => flags.expression,
-        Flag::Method => flags.form == Form::Method,
-        Flag::Optional => flags.optional,
-        Flag::Prefix => flags.prefix,
-        Flag::Shorthand => flags.form == Form::Shorthand,
-        Flag::Static => flags.is_static,
+        FlagSource::Never => false,
+        FlagSource::Always => true,
+        FlagSource::Computed => flags.computed,
+        FlagSource::Expression => flags.expression,
+        FlagSource::Method => flags.form == Form::Method,
+        FlagSource::Optional => flags.optional,
+        FlagSource::Prefix => flags.prefix,
+        FlagSource::Shorthand => flags.form == Form::Shorthand,
+        FlagSource::Static => flags.is_static,
     }
 }
 

@@ -7,7 +7,7 @@ mod events;
 mod fields;
 mod member;
 mod node;
-mod send;
+mod serialize;
 mod table;
 mod text;
 mod texts;

@@ -13,7 +13,8 @@ ghost use Rattle.estree_json.specs.Types.{type_name as type_name_of};
 ghost use Rattle.estree_json.specs.Sent.{Adds};
 
 use crate::events::{
-    Refused, begin_object, end_object, send_boolean, send_key, send_null, send_number, send_text,
+    SerializeRefused, begin_object, end_object, serialize_boolean, serialize_key, serialize_null,
+    serialize_number, serialize_text,
 };
 use crate::fields::first_text;
 use crate::texts::{Primitive, cooked_value, literal_value, regex_parts, unquoted};
@@ -29,11 +30,11 @@ pub fn text_member<S: Serializer>(
     error: &mut S::Error,
     name: &str,
     text: &str,
-) -> Result<(), Refused>
+) -> Result<(), SerializeRefused>
     ensures { OnOk result (Adds (member name.now (string text.now)) (S.written out.old) (S.written out.new)) }
 {
-    send_key(out, error, name)?;
-    send_text(out, error, text)
+    serialize_key(out, error, name)?;
+    serialize_text(out, error, text)
 }
 
 /// A boolean.
@@ -43,11 +44,11 @@ pub fn boolean_member<S: Serializer>(
     error: &mut S::Error,
     name: &str,
     flag: bool,
-) -> Result<(), Refused>
+) -> Result<(), SerializeRefused>
     ensures { OnOk result (Adds (member name.now (boolean flag)) (S.written out.old) (S.written out.new)) }
 {
-    send_key(out, error, name)?;
-    send_boolean(out, error, flag)
+    serialize_key(out, error, name)?;
+    serialize_boolean(out, error, flag)
 }
 
 /// Null.
@@ -56,11 +57,11 @@ pub fn null_member<S: Serializer>(
     out: &mut S,
     error: &mut S::Error,
     name: &str,
-) -> Result<(), Refused>
+) -> Result<(), SerializeRefused>
     ensures { OnOk result (Adds (member name.now null) (S.written out.old) (S.written out.new)) }
 {
-    send_key(out, error, name)?;
-    send_null(out, error)
+    serialize_key(out, error, name)?;
+    serialize_null(out, error)
 }
 
 /// The node's type.
@@ -69,11 +70,11 @@ pub fn type_member<S: Serializer>(
     out: &mut S,
     error: &mut S::Error,
     kind: Kind,
-) -> Result<(), Refused>
+) -> Result<(), SerializeRefused>
     ensures { OnOk result (Adds (member (codes "type") (string (type_name_of kind))) (S.written out.old) (S.written out.new)) }
 {
-    send_key(out, error, "type")?;
-    send_text(out, error, type_name(kind))
+    serialize_key(out, error, "type")?;
+    serialize_text(out, error, type_name(kind))
 }
 
 /// Where the node begins.
@@ -82,11 +83,11 @@ pub fn start_member<S: Serializer>(
     out: &mut S,
     error: &mut S::Error,
     start: usize,
-) -> Result<(), Refused>
+) -> Result<(), SerializeRefused>
     ensures { OnOk result (Adds (member (codes "start") (number (unsigned start))) (S.written out.old) (S.written out.new)) }
 {
-    send_key(out, error, "start")?;
-    send_number(out, error, start)
+    serialize_key(out, error, "start")?;
+    serialize_number(out, error, start)
 }
 
 /// Where the node ends.
@@ -95,11 +96,11 @@ pub fn end_member<S: Serializer>(
     out: &mut S,
     error: &mut S::Error,
     end: usize,
-) -> Result<(), Refused>
+) -> Result<(), SerializeRefused>
     ensures { OnOk result (Adds (member (codes "end") (number (unsigned end))) (S.written out.old) (S.written out.new)) }
 {
-    send_key(out, error, "end")?;
-    send_number(out, error, end)
+    serialize_key(out, error, "end")?;
+    serialize_number(out, error, end)
 }
 
 /// A primitive value, or nothing.
@@ -108,7 +109,7 @@ fn primitive_member<S: Serializer>(
     error: &mut S::Error,
     name: &str,
     value: &Option<Primitive>,
-) -> Result<(), Refused>
+) -> Result<(), SerializeRefused>
     ensures { OnOk result (Adds (option_member name.now (option_map data_of value.now)) (S.written out.old) (S.written out.new)) }
 {
     match value {
@@ -126,7 +127,7 @@ pub fn literal_member<S: Serializer>(
     error: &mut S::Error,
     alloc: Global,
     raw: &str,
-) -> Result<(), Refused>
+) -> Result<(), SerializeRefused>
     ensures { OnOk result (Adds (option_member (codes "value") (value_of_literal raw.now)) (S.written out.old) (S.written out.new)) }
 {
     let value = literal_value(alloc, raw)?;
@@ -139,7 +140,7 @@ pub fn regex_member<S: Serializer>(
     out: &mut S,
     error: &mut S::Error,
     raw: &str,
-) -> Result<(), Refused>
+) -> Result<(), SerializeRefused>
     ensures { OnOk result (Adds (option_member (codes "regex") (literal_regex raw.now)) (S.written out.old) (S.written out.new)) }
 {
     match raw.strip_prefix('/') {
@@ -149,11 +150,15 @@ pub fn regex_member<S: Serializer>(
 }
 
 /// The flags and the pattern, of what stands behind the first `/`.
-fn regex_object<S: Serializer>(out: &mut S, error: &mut S::Error, rest: &str) -> Result<(), Refused>
+fn regex_object<S: Serializer>(
+    out: &mut S,
+    error: &mut S::Error,
+    rest: &str,
+) -> Result<(), SerializeRefused>
     ensures { OnOk result (Adds (member (codes "regex") (regex_of rest.now)) (S.written out.old) (S.written out.new)) }
 {
     let (pattern, flags) = regex_parts(rest);
-    send_key(out, error, "regex")?;
+    serialize_key(out, error, "regex")?;
     begin_object(out, error)?;
     text_member(out, error, "flags", flags)?;
     text_member(out, error, "pattern", pattern)?;
@@ -167,11 +172,11 @@ pub fn template_member<S: Serializer>(
     error: &mut S::Error,
     alloc: Global,
     raw: &str,
-) -> Result<(), Refused>
+) -> Result<(), SerializeRefused>
     ensures { OnOk result (Adds (member (codes "value") (template_value raw.now)) (S.written out.old) (S.written out.new)) }
 {
     let cooked = cooked_value(alloc, raw)?;
-    send_key(out, error, "value")?;
+    serialize_key(out, error, "value")?;
     begin_object(out, error)?;
     primitive_member(out, error, "cooked", &cooked)?;
     text_member(out, error, "raw", raw)?;
@@ -184,7 +189,7 @@ pub fn directive_member<S: Serializer>(
     out: &mut S,
     error: &mut S::Error,
     node: Node,
-) -> Result<(), Refused>
+) -> Result<(), SerializeRefused>
     ensures { OnOk result (Adds (option_member (codes "directive") (directive (label_of (node_tree node.entry)))) (S.written out.old) (S.written out.new)) }
 {
     if !node.flags().directive {

@@ -9,7 +9,7 @@ ghost use Rattle.estree_json.specs.Json.{first_or_null, odd_ones, node_json, par
 ghost use Rattle.estree_json.specs.Table.{value_of, put_line as with_line, subject_of, from as parts_from};
 
 use crate::fields::{is_set, method_kind, property_kind};
-use crate::table::{Line, lines};
+use crate::table::{Member, member_table};
 use crate::types::type_name;
 use crate::values::{directive_value, literal_regex, literal_value, template_value, text_value};
 use serde_json::{Map, Value};
@@ -34,24 +34,24 @@ fn node_value(alloc: Global, node: Node, is_last: bool) -> Result<Value, AllocEr
     ensures { IfOk result (λ v. view v ≡ node_json is_last (node_tree node.entry)) }
 {
     let mut members = Map::new(alloc);
-    for line in lines(node.kind()) {
-        put_line(&mut members, alloc, node, is_last, line)?;
+    for line in member_table(node.kind()) {
+        put_member(&mut members, alloc, node, is_last, line)?;
     }
     Ok(Value::Object(members))
 }
 
 /// One more member of a node's object, or none.
 #[cycle(value)]
-fn put_line(
+fn put_member(
     members: &mut Map<String, Value>,
     alloc: Global,
     node: Node,
     is_last: bool,
-    line: &Line,
+    line: &Member,
 ) -> Result<(), AllocError>
     ensures { OnOk result (members_view members.new.entries ≡ with_line (subject_of is_last (node_tree node.entry)) line.now (members_view members.old.entries)) }
 {
-    match line_value(alloc, node, is_last, line)? {
+    match member_value(alloc, node, is_last, line)? {
         Some(value) => serde_json::put(members, alloc, line.key(), value),
         None => Ok(()),
     }
@@ -59,39 +59,39 @@ fn put_line(
 
 /// The value of a member, none where the node has no such member.
 #[cycle(value)]
-fn line_value(
+fn member_value(
     alloc: Global,
     node: Node,
     is_last: bool,
-    line: &Line,
+    line: &Member,
 ) -> Result<Option<Value>, AllocError>
     ensures { IfOk result (λ o. option_map view o ≡ value_of (subject_of is_last (node_tree node.entry)) line.now) }
 {
     match line {
-        Line::Type => text_value(alloc, type_name(node.kind())),
-        Line::Start => Ok(Some(Value::from(node.span().start))),
-        Line::End => Ok(Some(Value::from(node.span().end))),
-        Line::Part(_, index) => Ok(Some(part_value(alloc, node, *index)?)),
-        Line::List(_, from, behind) => {
+        Member::Type => text_value(alloc, type_name(node.kind())),
+        Member::Start => Ok(Some(Value::from(node.span().start))),
+        Member::End => Ok(Some(Value::from(node.span().end))),
+        Member::Part(_, index) => Ok(Some(part_value(alloc, node, *index)?)),
+        Member::List(_, from, behind) => {
             let to = node.part_count().saturating_sub(*behind);
             list_value(alloc, node, *from, to)
         }
-        Line::Behind(_, from, behind) => {
+        Member::PartFromEnd(_, from, behind) => {
             let index = node.part_count().saturating_sub(*behind);
             Ok(Some(part_value(alloc, node, index.max(*from))?))
         }
-        Line::Turns(_, from) => turns_value(alloc, node, *from),
-        Line::Null(_) => Ok(Some(Value::Null)),
-        Line::Word(_, word) => text_value(alloc, word),
-        Line::Text(_) => text_value(alloc, node.text()),
-        Line::Boolean(_, flag) => Ok(Some(Value::Bool(is_set(flag, node)))),
-        Line::PropertyKind => text_value(alloc, property_kind(node.flags().form)),
-        Line::MethodKind => text_value(alloc, method_kind(node.flags().form)),
-        Line::Directive => directive_value(alloc, node),
-        Line::LiteralValue => literal_value(alloc, node.text()),
-        Line::LiteralRegex => literal_regex(alloc, node.text()),
-        Line::TemplateValue => template_value(alloc, node.text()),
-        Line::Tail => Ok(Some(Value::Bool(is_last))),
+        Member::EveryOther(_, from) => every_other_value(alloc, node, *from),
+        Member::Null(_) => Ok(Some(Value::Null)),
+        Member::Constant(_, word) => text_value(alloc, word),
+        Member::Text(_) => text_value(alloc, node.text()),
+        Member::Boolean(_, flag) => Ok(Some(Value::Bool(is_set(flag, node)))),
+        Member::PropertyKind => text_value(alloc, property_kind(node.flags().form)),
+        Member::MethodKind => text_value(alloc, method_kind(node.flags().form)),
+        Member::Directive => directive_value(alloc, node),
+        Member::LiteralValue => literal_value(alloc, node.text()),
+        Member::LiteralRegex => literal_regex(alloc, node.text()),
+        Member::TemplateValue => template_value(alloc, node.text()),
+        Member::Tail => Ok(Some(Value::Bool(is_last))),
     }
 }
 
@@ -116,7 +116,7 @@ fn list_value(
 
 /// Every other part, from one on.
 #[cycle(value)]
-fn turns_value(alloc: Global, node: Node, from: usize) -> Result<Option<Value>, AllocError>
+fn every_other_value(alloc: Global, node: Node, from: usize) -> Result<Option<Value>, AllocError>
     ensures { IfOk result (λ o. option_map view o ≡ Some (array (items_of (odd_ones (drop from (parts_json (parts_of (node_tree node.entry)))))))) }
 {
     let mut items = Vec::new(alloc);

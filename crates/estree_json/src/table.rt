@@ -4,14 +4,14 @@
 ghost use Rattle.std.specs.Prelude.{◌≡◌};
 ghost use Rattle.estree_json.specs.Table.{InOrder, PutsAll, key_of};
 
-use self::Line::{
-    Behind, Boolean, Directive, End, List, LiteralRegex, LiteralValue, MethodKind, Null, Part,
-    PropertyKind, Start, Tail, TemplateValue, Text, Turns, Type, Word,
+use self::Member::{
+    Boolean, Constant, Directive, End, EveryOther, List, LiteralRegex, LiteralValue, MethodKind,
+    Null, Part, PartFromEnd, PropertyKind, Start, Tail, TemplateValue, Text, Type,
 };
 use tree::Kind;
 
 /// What says yes or no of a node.
-pub enum Flag {
+pub enum FlagSource {
     Never,
     Always,
     Computed,
@@ -24,7 +24,7 @@ pub enum Flag {
 }
 
 /// A member, by its key and where its value is. Parts are counted from 0 in source order.
-pub enum Line {
+pub enum Member {
     /// The node's type.
     Type,
     /// Where it begins.
@@ -36,17 +36,17 @@ pub enum Line {
     /// An array of the parts from one on, all but the last so many.
     List(&'static str, usize, usize),
     /// The part behind such an array.
-    Behind(&'static str, usize, usize),
+    PartFromEnd(&'static str, usize, usize),
     /// An array of every other part, from one on.
-    Turns(&'static str, usize),
+    EveryOther(&'static str, usize),
     /// Null.
     Null(&'static str),
     /// A word.
-    Word(&'static str, &'static str),
+    Constant(&'static str, &'static str),
     /// The node's text.
     Text(&'static str),
     /// Yes or no.
-    Boolean(&'static str, Flag),
+    Boolean(&'static str, FlagSource),
     /// `kind` of a property.
     PropertyKind,
     /// `kind` of a method.
@@ -63,7 +63,7 @@ pub enum Line {
     Tail,
 }
 
-impl Line {
+impl Member {
     /// The key.
     pub fn key(&self) -> &'static str
         ensures { result.now ≡ key_of self.now }
@@ -74,10 +74,10 @@ impl Line {
             End => "end",
             Part(key, _)
             | List(key, _, _)
-            | Behind(key, _, _)
-            | Turns(key, _)
+            | PartFromEnd(key, _, _)
+            | EveryOther(key, _)
             | Null(key)
-            | Word(key, _)
+            | Constant(key, _)
             | Text(key)
             | Boolean(key, _) => key,
             PropertyKind | MethodKind => "kind",
@@ -91,7 +91,7 @@ impl Line {
 
 /// The members of a node of a kind: what stands in the text one after the other, and what an object holds once each is put into it.
 #[tactic(auto, unfolding(crate::proofs::Lines::lines_computed))]
-pub fn lines(kind: Kind) -> &'static [Line]
+pub fn member_table(kind: Kind) -> &'static [Member]
     ensures in_order { InOrder kind result.now }
     ensures put { PutsAll kind result.now }
 {
@@ -100,28 +100,28 @@ pub fn lines(kind: Kind) -> &'static [Line]
         Kind::Literal => &[End, Text("raw"), LiteralRegex, Start, Type, LiteralValue],
         Kind::TemplateLiteral => &[
             End,
-            Turns("expressions", 1),
-            Turns("quasis", 0),
+            EveryOther("expressions", 1),
+            EveryOther("quasis", 0),
             Start,
             Type,
         ],
         Kind::TemplateElement => &[End, Start, Tail, Type, TemplateValue],
         Kind::FunctionDeclaration | Kind::FunctionExpression => &[
-            Boolean("async", Flag::Never),
-            Behind("body", 1, 1),
+            Boolean("async", FlagSource::Never),
+            PartFromEnd("body", 1, 1),
             End,
-            Boolean("generator", Flag::Never),
+            Boolean("generator", FlagSource::Never),
             Part("id", 0),
             List("params", 1, 1),
             Start,
             Type,
         ],
         Kind::ArrowFunctionExpression => &[
-            Boolean("async", Flag::Never),
-            Behind("body", 0, 1),
+            Boolean("async", FlagSource::Never),
+            PartFromEnd("body", 0, 1),
             End,
-            Boolean("expression", Flag::Expression),
-            Boolean("generator", Flag::Never),
+            Boolean("expression", FlagSource::Expression),
+            Boolean("generator", FlagSource::Never),
             Null("id"),
             List("params", 0, 1),
             Start,
@@ -137,22 +137,22 @@ pub fn lines(kind: Kind) -> &'static [Line]
         ],
         Kind::ClassBody => &[List("body", 0, 0), End, Start, Type],
         Kind::MethodDefinition => &[
-            Boolean("computed", Flag::Computed),
+            Boolean("computed", FlagSource::Computed),
             End,
             Part("key", 0),
             MethodKind,
             Start,
-            Boolean("static", Flag::Static),
+            Boolean("static", FlagSource::Static),
             Type,
             Part("value", 1),
         ],
         Kind::Property => &[
-            Boolean("computed", Flag::Computed),
+            Boolean("computed", FlagSource::Computed),
             End,
             Part("key", 0),
             PropertyKind,
-            Boolean("method", Flag::Method),
-            Boolean("shorthand", Flag::Shorthand),
+            Boolean("method", FlagSource::Method),
+            Boolean("shorthand", FlagSource::Shorthand),
             Start,
             Type,
             Part("value", 1),
@@ -179,7 +179,7 @@ pub fn lines(kind: Kind) -> &'static [Line]
             Part("argument", 0),
             End,
             Text("operator"),
-            Boolean("prefix", Flag::Always),
+            Boolean("prefix", FlagSource::Always),
             Start,
             Type,
         ],
@@ -187,7 +187,7 @@ pub fn lines(kind: Kind) -> &'static [Line]
             Part("argument", 0),
             End,
             Text("operator"),
-            Boolean("prefix", Flag::Prefix),
+            Boolean("prefix", FlagSource::Prefix),
             Start,
             Type,
         ],
@@ -204,17 +204,17 @@ pub fn lines(kind: Kind) -> &'static [Line]
             List("arguments", 1, 0),
             Part("callee", 0),
             End,
-            Boolean("optional", Flag::Optional),
+            Boolean("optional", FlagSource::Optional),
             Start,
             Type,
         ],
         Kind::NewExpression => &[List("arguments", 1, 0), Part("callee", 0), End, Start, Type],
         Kind::ImportExpression => &[End, Part("source", 0), Start, Type],
         Kind::MemberExpression => &[
-            Boolean("computed", Flag::Computed),
+            Boolean("computed", FlagSource::Computed),
             End,
             Part("object", 0),
-            Boolean("optional", Flag::Optional),
+            Boolean("optional", FlagSource::Optional),
             Part("property", 1),
             Start,
             Type,
@@ -224,7 +224,7 @@ pub fn lines(kind: Kind) -> &'static [Line]
         Kind::Program => &[
             List("body", 0, 0),
             End,
-            Word("sourceType", "script"),
+            Constant("sourceType", "script"),
             Start,
             Type,
         ],
@@ -278,7 +278,7 @@ pub fn lines(kind: Kind) -> &'static [Line]
             Type,
         ],
         Kind::ForOfStatement => &[
-            Boolean("await", Flag::Never),
+            Boolean("await", FlagSource::Never),
             Part("body", 2),
             End,
             Part("left", 0),

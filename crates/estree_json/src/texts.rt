@@ -4,7 +4,7 @@ ghost use Rattle.std.specs.Prelude.{◌≡◌, IfOk, option_map};
 ghost use Rattle.std.specs.Str.{chars};
 ghost use Rattle.serde_json.specs.View.{view};
 ghost use Rattle.tokens.specs.Templates.{cooked_value as units_of_template};
-ghost use Rattle.estree_json.specs.Texts.{text_of_units, cooked_of_units, before_slash, behind_slash, literal_value as value_of_literal, unquoted as contents_of, is_quoted as begins_with_quote, without_first as without_first_quote, without_last as without_last_quote};
+ghost use Rattle.estree_json.specs.Texts.{text_of_units, cooked_of_units, before_slash, after_slash, literal_value as value_of_literal, unquoted as contents_of, is_quoted as begins_with_quote, without_first as without_first_quote, without_last as without_last_quote};
 ghost use Rattle.estree_json.specs.Primitives.{data_of};
 
 use serde_json::Value;
@@ -54,7 +54,7 @@ pub fn literal_value(alloc: Global, raw: &str) -> Result<Option<Primitive>, Allo
 /// What stands before and behind the last `/`.
 pub fn regex_parts(rest: &str) -> (&str, &str)
     ensures pattern { result.0.now ≡ before_slash rest.now }
-    ensures flags { result.1.now ≡ behind_slash rest.now }
+    ensures flags { result.1.now ≡ after_slash rest.now }
 {
     match rest.rsplit_once('/') {
         Some((pattern, flags)) => (pattern, flags),

@@ -5,7 +5,7 @@ use Rattle.std.proofs.lemmas.Slice.Eq.{bytes_eq-Decides}
 use Rattle.std.proofs.lemmas.Bool.{false≢true}
 use Rattle.std.proofs.lemmas.Bool.Decides.{nat_tests}
 use Prim.Native.String.{String}
-use Rattle.language.specs.Words.{is, among, is_reserved}
+use Rattle.language.specs.Vocabulary.{is, among, is_reserved}
 
 -- the words whose length is so
 abbrev pub where_length : (ℕ → Bool) → List String → List String

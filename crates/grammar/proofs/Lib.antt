@@ -1,5 +1,5 @@
 pub mod Bytewise
-pub mod Chained
+pub mod ChainParts
 pub mod Lengths
 pub mod Operations
-pub mod Ranked
+pub mod ExpressionRanks

@@ -5,10 +5,10 @@ use Rattle.std.proofs.lemmas.Slice.Eq.{bytes_eq-Decides}
 use Rattle.std.proofs.lemmas.Bool.{false≢true}
 use Rattle.std.proofs.lemmas.Bool.Decides.{nat_tests}
 use Prim.Native.String.{String}
-use Rattle.language.specs.Words.{is, among, Operator, binds, powers, no_operator, does_assign, is_assignment, operators, operator_among, operator_of}
+use Rattle.language.specs.Vocabulary.{is, among, Operator, op_binary, op_power, op_none, is_assign_op, is_assignment, operators, operator_among, operator_of}
 use Rattle.grammar.specs.declared.operators.Operation.TheVariants.{Other}
 use Rattle.grammar.specs.Ranks.{binary_symbol, logical_symbol}
-use Rattle.grammar.specs.Operations.{operation, operation_at, plain_symbol, joined_symbol}
+use Rattle.grammar.specs.Operations.{operation, operation_at, rank_of_binary, rank_of_logical}
 use Rattle.grammar.proofs.Lengths.{where_length, among-where}
 
 -- the text is none of these
@@ -26,7 +26,7 @@ none_among w (s ∷ ss) h = of (is w s) refl (none_among w ss h.1)
 
 -- the rows that hold a text don't do this
 abbrev pub Quiet : (Operator → Bool) → List ℕ → List (List String × Operator) → Type 0
-Quiet f w [] = f no_operator ≡ false
+Quiet f w [] = f op_none ≡ false
 Quiet f w (row ∷ rows) = (among w row.0 ≡ true → f row.1 ≡ false) × Quiet f w rows
 
 pub quiet : (f : Operator → Bool) (w : List ℕ) (rows : List (List String × Operator)) → Quiet f w rows → f (operator_among w rows) ≡ false
@@ -62,13 +62,13 @@ none_within w ts (s ∷ ss) h u =
     of false e g f = f
 
 abbrev makes : Operator → Bool
-makes (binds l z q) = true
-makes powers = true
+makes (op_binary l z q) = true
+makes op_power = true
 makes _ = false
 
 as_other : (o : Operator) → makes o ≡ false → Other ≡ operation o
-as_other (binds l z q) h = absurd (false≢true (sym h))
-as_other powers h = absurd (false≢true (sym h))
+as_other (op_binary l z q) h = absurd (false≢true (sym h))
+as_other op_power h = absurd (false≢true (sym h))
 as_other _ h = refl
 
 -- the rows with the texts whose length is so
@@ -137,23 +137,23 @@ of_byte (b ∷ []) e = refl
 of_byte (b ∷ (c ∷ w)) e = cc
 
 -- the symbol of a text's node is that of what it makes
-pub plain_same : (w : List ℕ) → plain_symbol (operation_at w) ≡ binary_symbol (operator_of w)
+pub plain_same : (w : List ℕ) → rank_of_binary (operation_at w) ≡ binary_symbol (operator_of w)
 unfolding operation_at
 plain_same w = of (operator_of w)
   where
-    of : (o : Operator) → plain_symbol (operation o) ≡ binary_symbol o
-    of (binds false z q) = refl
-    of (binds true z q) = refl
-    of powers = refl
+    of : (o : Operator) → rank_of_binary (operation o) ≡ binary_symbol o
+    of (op_binary false z q) = refl
+    of (op_binary true z q) = refl
+    of op_power = refl
     of _ = refl
 
-pub joined_same : (w : List ℕ) → joined_symbol (operation_at w) ≡ logical_symbol (operator_of w)
+pub joined_same : (w : List ℕ) → rank_of_logical (operation_at w) ≡ logical_symbol (operator_of w)
 unfolding operation_at
 joined_same w = of (operator_of w)
   where
-    of : (o : Operator) → joined_symbol (operation o) ≡ logical_symbol o
-    of (binds true z q) = refl
-    of (binds false z q) = refl
+    of : (o : Operator) → rank_of_logical (operation o) ≡ logical_symbol o
+    of (op_binary true z q) = refl
+    of (op_binary false z q) = refl
     of _ = refl
 
 abbrev pub assignments : List String
@@ -180,5 +180,5 @@ assigned w h = one_assigns w assignments h (refl, (refl, (refl, (refl, (refl, (r
 
 pub unassigned : (w : List ℕ) → NoneOf w assignments → false ≡ is_assignment w
 unassigned w h =
-    sym (quiet does_assign w operators
+    sym (quiet is_assign_op w operators
     ((λ x. refl), ((λ x. refl), ((λ x. refl), ((λ x. refl), ((λ x. refl), ((λ x. refl), ((λ x. refl), ((λ x. refl), ((λ x. refl), ((λ x. refl), ((λ x. refl), ((λ x. refl), ((λ x. refl), (unless w assignments h, ((λ x. refl), ((λ x. refl), ((λ x. refl), ((λ x. refl), ((λ x. refl), ((λ x. refl), ((λ x. refl), refl))))))))))))))))))))))

@@ -1,8 +1,8 @@
 -- Chains.
 use Rattle.std.specs.Prelude.{Bool, false, Option, Some, None}
 use Rattle.tree.specs.Tree.{Tree}
-use Rattle.language.specs.Expressions.{chained}
+use Rattle.language.specs.Expressions.{has_optional}
 
-abbrev pub is_chained_part : Option Tree → Bool
-is_chained_part None = false
-is_chained_part (Some n) = chained n
+abbrev pub part_has_optional : Option Tree → Bool
+part_has_optional None = false
+part_has_optional (Some n) = has_optional n

@@ -8,10 +8,10 @@ use Rattle.tree.specs.Tree.{Tree, Parts, text_of}
 use Rattle.language.specs.declared.Rank.{Rank}
 use Rattle.language.specs.declared.Rank.TheVariants.{Expression, Assignment, Conditional, Exponentiation, Unary, Update, LeftHandSide, Call, Member, Primary}
 use Rattle.language.specs.FirstPart.{lead, others}
-use Rattle.language.specs.Words.{is, among, Operator, binds, powers, operator_of, is_assignment, is_step, is_prefix, is_reserved, literal_class, is_name, is_target, is_pattern}
+use Rattle.language.specs.Vocabulary.{is, among, Operator, op_binary, op_power, operator_of, is_assignment, is_update_operator, is_prefix, is_reserved, literal_class, is_name, is_target, is_pattern}
 use Rattle.language.specs.Pieces.{is_none}
-use Rattle.language.specs.Expressions.{first_chained, lead_is}
-use Rattle.language.specs.Grammar.{standard}
+use Rattle.language.specs.Expressions.{first_has_optional, lead_is}
+use Rattle.language.specs.Grammar.{production_rank}
 
 -- of the names only `true`, `false` and `null` are literals
 abbrev pub is_spelled_literal : List ℕ → Bool
@@ -19,13 +19,13 @@ is_spelled_literal w = not (is_name (literal_class w) && not (among w ("true" �
 
 -- the symbol of the node that a binary operator makes
 abbrev pub binary_symbol : Operator → Option Rank
-binary_symbol (binds false z q) = Some (standard z)
-binary_symbol powers = Some Exponentiation
+binary_symbol (op_binary false z q) = Some (production_rank z)
+binary_symbol op_power = Some Exponentiation
 binary_symbol _ = None
 
 -- the symbol of the node that a logical operator makes
 abbrev pub logical_symbol : Operator → Option Rank
-logical_symbol (binds true z q) = Some (standard z)
+logical_symbol (op_binary true z q) = Some (production_rank z)
 logical_symbol _ = None
 
 -- what an assignment's operator can assign to
@@ -57,8 +57,8 @@ rank_by CallExpression w g ps = rank_if (not g.optional) Call
 rank_by NewExpression w g ps = Some Member
 rank_by MetaProperty w g ps = rank_if (lead_is ps "new" && lead_is (others ps) "target") Member
 rank_by ImportExpression w g ps = Some Call
-rank_by ChainExpression w g ps = rank_if (first_chained ps) LeftHandSide
-rank_by UpdateExpression w g ps = rank_if (is_step w && is_target (lead ps)) Update
+rank_by ChainExpression w g ps = rank_if (first_has_optional ps) LeftHandSide
+rank_by UpdateExpression w g ps = rank_if (is_update_operator w && is_target (lead ps)) Update
 rank_by UnaryExpression w g ps = rank_if (is_prefix w) Unary
 rank_by BinaryExpression w g ps = binary_symbol (operator_of w)
 rank_by LogicalExpression w g ps = logical_symbol (operator_of w)

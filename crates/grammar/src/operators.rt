@@ -1,16 +1,16 @@
 //! Operators, by their text.
 
 ghost use Rattle.std.specs.Prelude.{◌≡◌, true, false, length, [], ◌∷◌};
-ghost use Rattle.language.specs.Words.{is_prefix, is_step as is_step_text, is_assignment as is_assignment_text, operator_of};
-ghost use Rattle.language.specs.Grammar.{standard};
+ghost use Rattle.language.specs.Vocabulary.{is_prefix, is_update_operator as is_step_text, is_assignment as is_assignment_text, operator_of};
+ghost use Rattle.language.specs.Grammar.{production_rank};
 ghost use Rattle.grammar.specs.Ranks.{binary_symbol, logical_symbol};
-ghost use Rattle.grammar.specs.Operations.{operation_at, plain_symbol, joined_symbol};
+ghost use Rattle.grammar.specs.Operations.{operation_at, rank_of_binary, rank_of_logical};
 ghost use Rattle.grammar.specs.declared.operators.Operation.TheVariants;
 
 use language::Rank;
 
 /// Whether the text is `++` or `--`.
-pub fn is_step(operator: &str) -> bool
+pub fn is_update_operator(operator: &str) -> bool
     ensures { result ≡ is_step_text operator.now }
 {
     matches!(operator, "++" | "--")
@@ -155,18 +155,18 @@ fn logical(own: Rank, right: Rank) -> Operation
 pub(crate) fn binary_rank(operator: &str) -> Option<Rank>
     ensures { result ≡ binary_symbol (operator_of operator.now) }
 {
-    plain_symbol(operation_of(operator))
+    rank_of_binary(operation_of(operator))
 }
 
-fn plain_symbol(operation: Operation) -> Option<Rank>
-    ensures { result ≡ plain_symbol operation }
+fn rank_of_binary(operation: Operation) -> Option<Rank>
+    ensures { result ≡ rank_of_binary operation }
 {
     match operation {
         Operation::Binds {
             is_logical: true,
             ..
         } => None,
-        Operation::Binds { own, .. } => Some(standard(own)),
+        Operation::Binds { own, .. } => Some(production_rank(own)),
         Operation::Powers => Some(Rank::Exponentiation),
         Operation::Other => None,
     }
@@ -176,25 +176,25 @@ fn plain_symbol(operation: Operation) -> Option<Rank>
 pub(crate) fn logical_rank(operator: &str) -> Option<Rank>
     ensures { result ≡ logical_symbol (operator_of operator.now) }
 {
-    joined_symbol(operation_of(operator))
+    rank_of_logical(operation_of(operator))
 }
 
-fn joined_symbol(operation: Operation) -> Option<Rank>
-    ensures { result ≡ joined_symbol operation }
+fn rank_of_logical(operation: Operation) -> Option<Rank>
+    ensures { result ≡ rank_of_logical operation }
 {
     match operation {
         Operation::Binds {
             is_logical: true,
             own,
             ..
-        } => Some(standard(own)),
+        } => Some(production_rank(own)),
         _ => None,
     }
 }
 
 /// The symbol at which the left side of `??` stands by itself is that of its node.
-fn standard(symbol: Rank) -> Rank
-    ensures { result ≡ standard symbol }
+fn production_rank(symbol: Rank) -> Rank
+    ensures { result ≡ production_rank symbol }
 {
     match symbol {
         Rank::Coalesce => Rank::ShortCircuit,

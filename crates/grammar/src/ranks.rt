@@ -4,15 +4,17 @@ ghost use Rattle.std.specs.Prelude.{◌≡◌, not, ◌&&◌, option_map};
 ghost use Rattle.tree.specs.Node.{node_tree};
 ghost use Rattle.tree.specs.Tree.{text_of, parts_of};
 ghost use Rattle.language.specs.FirstPart.{lead, others};
-ghost use Rattle.language.specs.Words.{is_step as is_step_text, is_target as is_target_kind, is_assignment as is_assignment_text};
+ghost use Rattle.language.specs.Vocabulary.{is_update_operator as is_step_text, is_target as is_target_kind, is_assignment as is_assignment_text};
 ghost use Rattle.language.specs.Expressions.{lead_is};
 ghost use Rattle.language.specs.Pieces.{is_none};
 ghost use Rattle.language.specs.Grammar.{rank_of};
 ghost use Rattle.grammar.specs.Ranks.{rank_if, is_assigned, is_text};
 
-use crate::chain::is_chained;
+use crate::chain::has_optional;
 use crate::literals::is_literal;
-use crate::operators::{binary_rank, is_assignment, is_prefix_operator, is_step, logical_rank};
+use crate::operators::{
+    binary_rank, is_assignment, is_prefix_operator, is_update_operator, logical_rank,
+};
 use crate::targets::{is_pattern, is_target};
 use crate::words::is_reserved;
 use language::Rank;
@@ -38,8 +40,8 @@ pub fn rank_of(node: Node<'_, '_>) -> Option<Rank>
         Kind::MetaProperty => rank_if(is_new_target(node), Rank::Member),
         Kind::CallExpression => rank_if(!node.flags().optional, Rank::Call),
         Kind::ImportExpression => Some(Rank::Call),
-        Kind::ChainExpression => rank_if(is_chained(node.part(0)), Rank::LeftHandSide),
-        Kind::UpdateExpression => rank_if(can_step(node), Rank::Update),
+        Kind::ChainExpression => rank_if(has_optional(node.part(0)), Rank::LeftHandSide),
+        Kind::UpdateExpression => rank_if(is_update(node), Rank::Update),
         Kind::UnaryExpression => rank_if(is_prefix_operator(text), Rank::Unary),
         Kind::BinaryExpression => binary_rank(text),
         Kind::LogicalExpression => logical_rank(text),
@@ -71,10 +73,10 @@ fn first_kind(node: Node<'_, '_>) -> Kind
 }
 
 /// Whether it is an update of a simple target.
-fn can_step(node: Node<'_, '_>) -> bool
+fn is_update(node: Node<'_, '_>) -> bool
     ensures { result ≡ (is_step_text (text_of (node_tree node.entry)) && is_target_kind (lead (parts_of (node_tree node.entry)))) }
 {
-    is_step(node.text()) && is_target(first_kind(node))
+    is_update_operator(node.text()) && is_target(first_kind(node))
 }
 
 /// Whether it assigns to what its operator can assign to: a pattern behind `=` alone.

@@ -1,7 +1,7 @@
 //! Kinds of nodes that a value is assigned to.
 
 ghost use Rattle.std.specs.Prelude.{◌≡◌};
-ghost use Rattle.language.specs.Words.{is_target, is_pattern};
+ghost use Rattle.language.specs.Vocabulary.{is_target, is_pattern};
 
 use tree::Kind;
 

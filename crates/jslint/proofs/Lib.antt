@@ -1,2 +1,2 @@
-pub mod Opening
-pub mod Explaining
+pub mod UnopenedFiles
+pub mod HelpAnswers

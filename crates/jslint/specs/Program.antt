@@ -10,8 +10,8 @@ use Rattle.command_line.specs.CommandLine.{Chooses, is_asked_for, jslint_app, no
 use Rattle.command_line.specs.Shown.{WritesEscaped}
 use Rattle.command_line.specs.declared.line.Line.{Line}
 use Rattle.nine_rules.specs.NineRules.{RunsByRules}
-use Rattle.streams.specs.Refusal.{WritesLine, refusal_line, status_of}
-use Rattle.streams.specs.declared.refused.Refused.{Refused}
+use Rattle.commands.specs.Refusal.{WritesLine, refusal_line, status_of}
+use Rattle.commands.specs.declared.refused.Refused.{Refused}
 
 -- a file can't be opened
 abbrev pub no_file : Refused

@@ -7,13 +7,13 @@ ghost use Rattle.source_text.specs.declared.fault.Fault.TheVariants.{Usage};
 ghost use Rattle.jslint.specs.Program.{Answers, NoWordsSaid, Obeys, RunsLine, RunsOnFiles, no_file};
 
 use command_line::{Line, command_line, explain, explain_not_utf8};
+use commands::{Refused, write_refusal};
 use nine_rules::run_with_rules;
 use source_text::{Device, Fault, Feed, Sink};
 use std::alloc::Global;
 use std::process::ExitCode;
 use std::rt::{Env, Files};
 use std::{env, fs, io};
-use streams::{Refused, write_refusal};
 
 /// Why the command line has no words for us.
 #[derive(Clone, Copy, Debug, PartialEq, Eq)]
@@ -25,7 +25,7 @@ enum NoWords {
 }
 
 /// The words of the command line, the program's name first.
-fn own_words<R: Env + AllocGlobal>(rt: &R) -> Result<Vec<String>, NoWords> {
+fn arguments<R: Env + AllocGlobal>(rt: &R) -> Result<Vec<String>, NoWords> {
     match env::args(rt) {
         Ok(words) => match words.collect(rt.alloc()) {
             Ok(words) => Ok(words),
@@ -111,7 +111,7 @@ fn run_line<R: Files + AllocGlobal, O: Sink, W: Sink>(
 }
 
 /// Does what the words ask for, and answers the exit status.
-fn obey<R: Files + AllocGlobal + Print + Eprint, O: Sink, W: Sink>(
+fn run_arguments<R: Files + AllocGlobal + Print + Eprint, O: Sink, W: Sink>(
     rt: &R,
     words: &[&str],
     output: &mut O,
@@ -161,7 +161,7 @@ fn obey_own_words<R: Env + Files + AllocGlobal + Print + Eprint, O: Sink, W: Sin
       failed = W.failed errors.new;
     }) result }
 {
-    let owned = match own_words(rt) {
+    let owned = match arguments(rt) {
         Ok(owned) => owned,
         Err(why) => return explain_no_words(why, errors),
     };
@@ -169,7 +169,7 @@ fn obey_own_words<R: Env + Files + AllocGlobal + Print + Eprint, O: Sink, W: Sin
         Ok(words) => words,
         Err(why) => return explain_no_words(why, errors),
     };
-    obey(rt, &words, output, errors)
+    run_arguments(rt, &words, output, errors)
 }
 
 fn main(rt: HostRuntime) -> ExitCode {

@@ -1,16 +1,16 @@
 ghost use Rattle.std.specs.Prelude.{◌≡◌, IfOk, false};
 
-use super::{obey, open_and_run};
+use super::{open_and_run, run_arguments};
 use command_line::Line;
-use source_text::{Fault, MemorySink, Plan};
+use commands::{Command, Refused};
+use source_text::{FailurePlan, Fault, MemorySink};
 use std::alloc::{AllocError, Global};
 use std::test::Fail;
-use streams::{Command, Refused};
 
 fn writer(alloc: Global) -> Result<MemorySink, AllocError>
     ensures { IfOk result (λ sink. sink.failed ≡ false) }
 {
-    let plan = Plan {
+    let plan = FailurePlan {
         per_call: 64,
         fails_at: None,
     };
@@ -49,7 +49,7 @@ fn files_that_cannot_be_read(rt: HostRuntime) -> Result<(), Fail> {
 fn refusals_go_to_the_errors(rt: HostRuntime) -> Result<(), Fail> {
     let mut output = writer(rt.alloc())?;
     let mut errors = writer(rt.alloc())?;
-    let status = obey(
+    let status = run_arguments(
         &rt,
         &["jslint", "fix", "no such file"],
         &mut output,
@@ -60,7 +60,10 @@ fn refusals_go_to_the_errors(rt: HostRuntime) -> Result<(), Fail> {
     assert_eq!(rt; errors.bytes(), b"jslint: read failed\n".as_slice());
     let mut output = writer(rt.alloc())?;
     let mut errors = writer(rt.alloc())?;
-    assert_eq!(rt; obey(&rt, &["jslint", "fix"], &mut output, &mut errors), 2);
+    assert_eq!(rt;
+        run_arguments(&rt, &["jslint", "fix"], &mut output, &mut errors),
+        2
+    );
     assert!(rt; output.bytes().is_empty());
     Ok(())
 }
@@ -70,7 +73,7 @@ fn help_is_shown(rt: HostRuntime) -> Result<(), Fail> {
     let mut output = writer(rt.alloc())?;
     let mut errors = writer(rt.alloc())?;
     assert_eq!(rt;
-        obey(&rt, &["jslint", "--help"], &mut output, &mut errors),
+        run_arguments(&rt, &["jslint", "--help"], &mut output, &mut errors),
         0
     );
     assert!(rt; output.bytes().is_empty());

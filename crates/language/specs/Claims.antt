@@ -10,17 +10,17 @@ use Rattle.language.specs.Pieces.{Role, expr, script, PieceOf}
 use Rattle.language.specs.Token.{Token}
 use Rattle.language.specs.Grammar.{ways}
 use Rattle.language.specs.Derivation.{Runs, Among}
-use Rattle.language.specs.Positions.{rows, first_roles}
+use Rattle.language.specs.RowPositions.{rows, first_roles}
 use Rattle.language.specs.Places.{SpellsIn}
 use Rattle.language.specs.Cursor.{beginning, Next, behind}
 use Rattle.language.specs.Cost.{add_cost, lesser, cell_position, if_any}
 
 -- the text, in UTF-8, spells the tree as a Script, with at most o parentheses open at one point
 abbrev pub DerivesOpen : ℕ → List ℕ → Tree → List Pair → Type 0
-DerivesOpen o text n P = (last : Token) × SpellsIn text o script n beginning last P
+DerivesOpen o text tree P = (last : Token) × SpellsIn text o script tree beginning last P
 
 abbrev pub Derives : List ℕ → Tree → List Pair → Type 0
-Derives text n P = (o : ℕ) × DerivesOpen o text n P
+Derives text tree P = (o : ℕ) × DerivesOpen o text tree P
 
 -- the greatest height of a tree, and the most parentheses that are open at one point
 abbrev pub max_height : ℕ
@@ -34,7 +34,7 @@ abbrev pub short_bytes : ℕ
 short_bytes = 300
 
 abbrev pub WithinLimits : List ℕ → Tree → List Pair → Type 0
-WithinLimits text n P = (height n ≤ max_height) × DerivesOpen max_open text n P
+WithinLimits text tree P = (height tree ≤ max_height) × DerivesOpen max_open text tree P
 
 -- some text derives the tree with this number of pairs, and none derives it with fewer
 pub record Fewest (n : Tree) (count : ℕ) : Type 0 where
@@ -53,10 +53,10 @@ start_number Statement = 2
 
 -- the number, from 0, of the cell that counts at a position; no position has start Statement without In
 abbrev pub cell_number : Role → ℕ
-cell_number (expr Member i f) = 5 + start_number f
-cell_number (expr y true f) = start_number f
-cell_number (expr y false Any) = 3
-cell_number (expr y false _) = 4
+cell_number (expr Member has_in start) = 5 + start_number start
+cell_number (expr rank true start) = start_number start
+cell_number (expr rank false Any) = 3
+cell_number (expr rank false _) = 4
 cell_number _ = 0
 
 abbrev pub cell_at : Option (Kind × List (Option ℕ)) → ℕ → Option ℕ
@@ -71,36 +71,36 @@ table_cell t (suc r) c = cell_at (slice_get t.rows r) c
 unfoldable mutual
   -- the least number of pairs of a node at a position, by the table
   pub bound_at : Table → Tree → Role → ℕ → Option ℕ
-  bound_at t (node k w g s e ps) (expr y i f) r =
+  bound_at t (node kind text flags from to parts) (expr rank has_in start) r =
       lesser
-      (if_any (ways (expr y true Any) (node k w g s e ps)) (table_cell t r (cell_number (cell_position (expr y i f)))))
+      (if_any (ways (expr rank true Any) (node kind text flags from to parts)) (table_cell t r (cell_number (cell_position (expr rank has_in start)))))
       (add_cost (Some 1) (table_cell t r 0))
-  bound_at t (node k w g s e ps) a r = if_any (ways a (node k w g s e ps)) (parts_bound t ps (first_roles (ways a (node k w g s e ps))) r)
+  bound_at t (node kind text flags from to parts) role r = if_any (ways role (node kind text flags from to parts)) (parts_bound t parts (first_roles (ways role (node kind text flags from to parts))) r)
 
   pub parts_bound : Table → Parts → List Role → ℕ → Option ℕ
   parts_bound t none xs r = Some 0
-  parts_bound t (gap ps) xs r = parts_bound t ps xs r
-  parts_bound t (part n ps) [] r = None
-  parts_bound t (part n ps) (a ∷ xs) r = add_cost (bound_at t n a r) (parts_bound t ps xs (r + rows n a))
+  parts_bound t (gap rest) xs r = parts_bound t rest xs r
+  parts_bound t (part tree rest) [] r = None
+  parts_bound t (part tree rest) (a ∷ xs) r = add_cost (bound_at t tree a r) (parts_bound t rest xs (r + rows tree a))
 
 -- the bound of a cell of the row r, that of the node n
 unfoldable pub cell_bound : Table → Tree → Role → ℕ → Option ℕ
-cell_bound t n a r = if_any (ways a n) (parts_bound t (parts_of n) (first_roles (ways a n)) (suc r))
+cell_bound t tree role r = if_any (ways role tree) (parts_bound t (parts_of tree) (first_roles (ways role tree)) (suc r))
 
 unfoldable pub total_bound : Table → Tree → Option ℕ
-total_bound t n = bound_at t n script 1
+total_bound t tree = bound_at t tree script 1
 
 unfoldable mutual
   -- the nodes that have rows, in source order
   pub row_nodes : Tree → Role → List Tree
-  row_nodes (node k w g s e ps) (expr y i f) = node k w g s e ps ∷ parts_row_nodes ps (first_roles (ways (expr Expression true Any) (node k w g s e ps)))
-  row_nodes (node k w g s e ps) a = parts_row_nodes ps (first_roles (ways a (node k w g s e ps)))
+  row_nodes (node kind text flags from to parts) (expr rank has_in start) = node kind text flags from to parts ∷ parts_row_nodes parts (first_roles (ways (expr Expression true Any) (node kind text flags from to parts)))
+  row_nodes (node kind text flags from to parts) role = parts_row_nodes parts (first_roles (ways role (node kind text flags from to parts)))
 
   pub parts_row_nodes : Parts → List Role → List Tree
   parts_row_nodes none xs = []
-  parts_row_nodes (gap ps) xs = parts_row_nodes ps xs
-  parts_row_nodes (part n ps) [] = []
-  parts_row_nodes (part n ps) (a ∷ xs) = row_nodes n a ++ parts_row_nodes ps xs
+  parts_row_nodes (gap rest) xs = parts_row_nodes rest xs
+  parts_row_nodes (part tree rest) [] = []
+  parts_row_nodes (part tree rest) (a ∷ xs) = row_nodes tree a ++ parts_row_nodes rest xs
 
 -- the positions of the eight cells
 abbrev pub contexts : List Role
@@ -122,4 +122,4 @@ pub record Sound (t : Table) (n : Tree) : Type 0 where
 
 -- the tokens between the cursors spell the node directly at the position
 abbrev pub SpellsDirectly : Role → Tree → List Token → List Token → List Pair → Type 0
-SpellsDirectly a n ts us P = (m : Tree) × (o : ℕ) × (qs : List (PieceOf Role)) × SameTree m n × Among qs (ways a m) × Runs ways (List Token) Next behind o qs (parts_of m) ts us P
+SpellsDirectly role tree ts us P = (m : Tree) × (o : ℕ) × (qs : List (PieceOf Role)) × SameTree m tree × Among qs (ways role m) × Runs ways (List Token) Next behind o qs (parts_of m) ts us P

@@ -3,10 +3,10 @@ use Rattle.std.specs.Prelude.{ℕ, ◌+◌, ◌≤◌, true, false, cond, List, 
 use Rattle.language.specs.declared.Rank.TheVariants.{Expression, Member}
 use Rattle.language.specs.declared.Start.TheVariants.{Any, NoBrace, Statement}
 use Rattle.tree.specs.Tree.{Tree, node, Parts, none, part, gap, parts_of}
-use Rattle.language.specs.Words.{tightness}
+use Rattle.language.specs.Vocabulary.{precedence}
 use Rattle.language.specs.Pieces.{Role, expr}
 use Rattle.language.specs.Grammar.{ways}
-use Rattle.language.specs.Positions.{first_roles}
+use Rattle.language.specs.RowPositions.{first_roles}
 
 unfoldable pub add_cost : Option ℕ → Option ℕ → Option ℕ
 add_cost None y = None
@@ -29,30 +29,30 @@ if_any (y ∷ ys) x = x
 
 -- the position of the cell that counts at a position
 abbrev pub cell_position : Role → Role
-cell_position (expr y i f) = cond (nat_le 21 (tightness y)) (expr Member true f) (expr Expression i f)
-cell_position a = a
+cell_position (expr rank has_in start) = cond (nat_le 21 (precedence rank)) (expr Member true start) (expr Expression has_in start)
+cell_position role = role
 
 unfoldable mutual
   -- the least number of pairs of a node at a position
   pub least : Tree → Role → Option ℕ
-  least (node k w g s e ps) (expr y i f) =
+  least (node kind text flags from to parts) (expr rank has_in start) =
       lesser
-      (if_any (ways (expr y i f) (node k w g s e ps)) (parts_least ps (first_roles (ways (cell_position (expr y i f)) (node k w g s e ps)))))
-      (add_cost (Some 1) (if_any (ways (expr Expression true Any) (node k w g s e ps)) (parts_least ps (first_roles (ways (expr Expression true Any) (node k w g s e ps))))))
-  least (node k w g s e ps) a = if_any (ways a (node k w g s e ps)) (parts_least ps (first_roles (ways a (node k w g s e ps))))
+      (if_any (ways (expr rank has_in start) (node kind text flags from to parts)) (parts_least parts (first_roles (ways (cell_position (expr rank has_in start)) (node kind text flags from to parts)))))
+      (add_cost (Some 1) (if_any (ways (expr Expression true Any) (node kind text flags from to parts)) (parts_least parts (first_roles (ways (expr Expression true Any) (node kind text flags from to parts))))))
+  least (node kind text flags from to parts) role = if_any (ways role (node kind text flags from to parts)) (parts_least parts (first_roles (ways role (node kind text flags from to parts))))
 
   pub parts_least : Parts → List Role → Option ℕ
   parts_least none xs = Some 0
-  parts_least (gap ps) xs = parts_least ps xs
-  parts_least (part n ps) [] = None
-  parts_least (part n ps) (a ∷ xs) = add_cost (least n a) (parts_least ps xs)
+  parts_least (gap rest) xs = parts_least rest xs
+  parts_least (part tree rest) [] = None
+  parts_least (part tree rest) (a ∷ xs) = add_cost (least tree a) (parts_least rest xs)
 
 -- the cell of a node at a position: the number of pairs inside the node, spelled directly there
 unfoldable pub cell : Tree → Role → Option ℕ
-cell n a = if_any (ways a n) (parts_least (parts_of n) (first_roles (ways a n)))
+cell tree role = if_any (ways role tree) (parts_least (parts_of tree) (first_roles (ways role tree)))
 
 unfoldable pub cells : Tree → List (Option ℕ)
-cells n =
-    cell n (expr Expression true Any) ∷ cell n (expr Expression true NoBrace) ∷ cell n (expr Expression true Statement) ∷
-    cell n (expr Expression false Any) ∷ cell n (expr Expression false NoBrace) ∷
-    cell n (expr Member true Any) ∷ cell n (expr Member true NoBrace) ∷ cell n (expr Member true Statement) ∷ []
+cells tree =
+    cell tree (expr Expression true Any) ∷ cell tree (expr Expression true NoBrace) ∷ cell tree (expr Expression true Statement) ∷
+    cell tree (expr Expression false Any) ∷ cell tree (expr Expression false NoBrace) ∷
+    cell tree (expr Member true Any) ∷ cell tree (expr Member true NoBrace) ∷ cell tree (expr Member true Statement) ∷ []

@@ -11,7 +11,7 @@ use Rattle.tree.specs.declared.kind.Pair.{Pair}
 use Rattle.tree.specs.Tree.{Tree, node, Parts, none, part, gap, kind_of, height}
 use Rattle.language.specs.declared.Rank.TheVariants.{Assignment}
 use Rattle.language.specs.declared.Start.TheVariants.{Any}
-use Rattle.language.specs.Words.{is, is_rest, is_spread}
+use Rattle.language.specs.Vocabulary.{is, is_rest, is_spread}
 use Rattle.language.specs.FirstPart.{lead}
 use Rattle.language.specs.Pieces.{Role, expr, spread, property, pattern_property, rest, with_default}
 use Rattle.language.specs.Token.{Token}
@@ -29,8 +29,8 @@ shaped e x y as_expression = e
 shaped e x y (as_pattern b) = cond b y x
 
 abbrev pub with_parts : Kind → List ℕ → Flags → ℕ → ℕ → Option Parts → Option Tree
-with_parts k w g s e None = None
-with_parts k w g s e (Some ps) = Some (node k w g s e ps)
+with_parts kind text flags s e None = None
+with_parts kind text flags s e (Some ps) = Some (node kind text flags s e ps)
 
 abbrev pub and_then : Option Tree → Option Parts → Option Parts
 and_then None qs = None
@@ -54,45 +54,45 @@ is_default _ = false
 -- The refinements of 12.15.5 and 14.2.1: an array, an object, their properties and rests by their parts; the assignment is the default of its
 -- target; names and members are themselves.
 abbrev pub refined : Kind → List ℕ → Flags → ℕ → ℕ → Parts → Option Parts → Option Parts → Option Tree
-refined Identifier w g s e ps qs vs = Some (node Identifier w g s e ps)
-refined MemberExpression w g s e ps qs vs = cond g.optional None (Some (node MemberExpression w g s e ps))
-refined ArrayExpression w g s e ps qs vs = with_parts ArrayPattern w g s e qs
-refined ObjectExpression w g s e ps qs vs = with_parts ObjectPattern w g s e qs
-refined AssignmentExpression w g s e ps qs vs = cond (is w "=") (Some (node AssignmentPattern [] g s e ps)) None
-refined SpreadElement w g s e ps qs vs = cond (is_default (lead ps)) None (with_parts RestElement w g s e qs)
-refined Property w g s e ps qs vs = cond (has_value g.form) (with_parts Property w g s e vs) None
-refined _ w g s e ps qs vs = None
+refined Identifier text flags s e parts qs vs = Some (node Identifier text flags s e parts)
+refined MemberExpression text flags s e parts qs vs = cond flags.optional None (Some (node MemberExpression text flags s e parts))
+refined ArrayExpression text flags s e parts qs vs = with_parts ArrayPattern text flags s e qs
+refined ObjectExpression text flags s e parts qs vs = with_parts ObjectPattern text flags s e qs
+refined AssignmentExpression text flags s e parts qs vs = cond (is text "=") (Some (node AssignmentPattern [] flags s e parts)) None
+refined SpreadElement text flags s e parts qs vs = cond (is_default (lead parts)) None (with_parts RestElement text flags s e qs)
+refined Property text flags s e parts qs vs = cond (has_value flags.form) (with_parts Property text flags s e vs) None
+refined _ text flags s e parts qs vs = None
 
 unfoldable mutual
   -- The tree of the pattern that an expression's tokens spell, or an element's, a property's or a rest's; none where no pattern has such
   -- tokens. Whether a rest is the last part, and which parts stand in parentheses, isn't said by the tree.
   pub pattern_of : Tree → Option Tree
-  pattern_of (node k w g s e ps) = refined k w g s e ps (patterns_of ps) (values_of ps)
+  pattern_of (node kind text flags from to parts) = refined kind text flags from to parts (patterns_of parts) (values_of parts)
 
   pub patterns_of : Parts → Option Parts
   patterns_of none = Some none
-  patterns_of (part n ps) = and_then (pattern_of n) (patterns_of ps)
-  patterns_of (gap ps) = and_gap (patterns_of ps)
+  patterns_of (part tree others) = and_then (pattern_of tree) (patterns_of others)
+  patterns_of (gap others) = and_gap (patterns_of others)
 
   -- of a property: behind its key
   pub values_of : Parts → Option Parts
   values_of none = None
-  values_of (part n ps) = and_then (Some n) (patterns_of ps)
-  values_of (gap ps) = None
+  values_of (part tree others) = and_then (Some tree) (patterns_of others)
+  values_of (gap others) = None
 
 -- the tree, and the parts, of a reading
 abbrev pub tree_as : Reading → Tree → Option Tree
-tree_as as_expression n = Some n
-tree_as (as_pattern b) n = pattern_of n
+tree_as as_expression tree = Some tree
+tree_as (as_pattern b) tree = pattern_of tree
 
 abbrev pub parts_as : Reading → Parts → Option Parts
-parts_as as_expression ps = Some ps
-parts_as (as_pattern b) ps = patterns_of ps
+parts_as as_expression parts = Some parts
+parts_as (as_pattern b) parts = patterns_of parts
 
 -- the position of an element of an array or its pattern, and of an argument or a parameter
 abbrev pub element_as : Reading → Kind → Option Role
-element_as as_expression k = Some (cond (is_spread k) spread (expr Assignment true Any))
-element_as (as_pattern b) k = cond (is_rest k) (Some (rest b false)) (with_default b k)
+element_as as_expression kind = Some (cond (is_spread kind) spread (expr Assignment true Any))
+element_as (as_pattern b) kind = cond (is_rest kind) (Some (rest b false)) (with_default b kind)
 
 -- the position of what stands in an object or its pattern
 abbrev pub property_as : Reading → Kind → Option Role
@@ -126,7 +126,7 @@ module _ (S : Type 0) (Next : S → Token → S → Type 0) (behind : S → Toke
 -- The one fact about a cover that was read from s to e: of each reading, by its shape, that it is found, with the same pairs, or that there is
 -- none. A cover that may be nothing any more is refused at once.
 abbrev pub Cover : (S : Type 0) (Next : S → Token → S → Type 0) (behind : S → Token) (Ends : S → Type 0) → (Reading → Kind → Option Role) → (Reading → Bool) → ℕ → S → S → Tree → List Pair → Type 0
-Cover S Next behind Ends at fits o s e n P = (a : Reading) → Decided S Next behind Ends (at a) o s e (tree_as a n) P (fits a)
+Cover S Next behind Ends at fits tree s e n P = (a : Reading) → Decided S Next behind Ends (at a) tree s e (tree_as a n) P (fits a)
 
 -- no reading
 abbrev pub NoCover : (S : Type 0) (Next : S → Token → S → Type 0) (behind : S → Token) (Ends : S → Type 0) → (Reading → Kind → Option Role) → S → Type 0

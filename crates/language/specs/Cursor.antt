@@ -1,6 +1,6 @@
 -- Lists of tokens as places: the head stands behind, the others stand ahead.
 use Rattle.std.specs.Prelude.{false, List, [], ◌∷◌}
-use Rattle.tokens.specs.declared.token.Class.TheVariants.{End}
+use Rattle.tokens.specs.declared.token.TokenClass.TheVariants.{End}
 use Rattle.language.specs.Token.{Token}
 
 -- the token before the first

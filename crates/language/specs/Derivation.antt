@@ -1,17 +1,17 @@
 -- Derivations. S is where a token may be read; Next s t e says that behind s the token t is read, and that reading goes on
 -- at e; behind s is the token before s.
 use Rattle.std.specs.Prelude.{◌≡◌, ℕ, suc, ◌+◌, ◌-◌, true, false, cond, List, [], ◌∷◌, ◌++◌, Bool, IsTrue, codes}
-use Rattle.tokens.specs.declared.token.Class.{Class}
-use Rattle.tokens.specs.declared.token.Class.TheVariants.{Name, Punctuator}
+use Rattle.tokens.specs.declared.token.TokenClass.{TokenClass}
+use Rattle.tokens.specs.declared.token.TokenClass.TheVariants.{IdentifierName, Punctuator}
 use Rattle.language.specs.declared.Rank.{Rank}
 use Rattle.language.specs.declared.Rank.TheVariants.{Expression}
 use Rattle.language.specs.declared.Start.{Start}
 use Rattle.language.specs.declared.Start.TheVariants.{Any}
 use Rattle.tree.specs.declared.kind.Pair.{Pair}
 use Rattle.tree.specs.Tree.{Tree, Parts, none, part, gap, start_of, stop_of, parts_of}
-use Rattle.language.specs.Pieces.{Role, expr, chunk, echo, script, Ending, PieceOf, tok, may, many, ahead, unbroken, ending, open_parameters, close_parameters, sub, absent, lay, Hint}
+use Rattle.language.specs.Pieces.{Role, expr, template_element, shorthand_key, script, Ending, PieceOf, tok, may, many, ahead, unbroken, ending, open_parameters, close_parameters, sub, absent, lay, Hint}
 use Rattle.language.specs.Token.{Token}
-use Rattle.language.specs.Edges.{may_miss}
+use Rattle.language.specs.Edges.{may_omit_semicolon}
 
 pub data Among {X : Type 0} (x : X) : List X → Type 0 where
   first : {xs : List X} → Among x (x ∷ xs)
@@ -19,8 +19,8 @@ pub data Among {X : Type 0} (x : X) : List X → Type 0 where
 
 -- the start and the stop of a node at a position, from its first token and its last; a shorthand key has the token that follows
 abbrev pub place : Role → Token → Token → ℕ × ℕ
-place echo t l = (t.start, t.stop)
-place (chunk b c) t l = (t.start + 1, l.stop - cond c 1 2)
+place shorthand_key t l = (t.start, t.stop)
+place (template_element b c) t l = (t.start + 1, l.stop - cond c 1 2)
 place script t l = (0, l.stop)
 place _ t l = (t.start, l.stop)
 
@@ -30,22 +30,22 @@ pair_of left right = record { left = left.start; right = right.start }
 
 module _ (S : Type 0) (Next : S → Token → S → Type 0) (behind : S → Token) where
   -- a token of this class and text is read
-  pub record Reads (c : Class) (w : List ℕ) (s : S) (t : Token) (e : S) : Type 0 where
+  pub record Reads (c : TokenClass) (w : List ℕ) (s : S) (t : Token) (e : S) : Type 0 where
     pub next : Next s t e
     pub class : t.class ≡ c
     pub text : t.text ≡ w
 
   -- a piece that is no node
   pub data Step : PieceOf Role → S → S → Type 0 where
-    token : {c : Class} {w : List ℕ} {t : Token} {s e : S} → Reads c w s t e → Step (tok c w) s e
+    token : {c : TokenClass} {w : List ℕ} {t : Token} {s e : S} → Reads c w s t e → Step (tok c w) s e
     with_mark : {w : List ℕ} {t : Token} {s e : S} → Reads Punctuator w s t e → Step (may w) s e
     without_mark : {w : List ℕ} {s : S} → Step (may w) s s
     one_more : {w : List ℕ} {t : Token} {s m e : S} → Reads Punctuator w s t m → Step (many w) m e → Step (many w) s e
     no_more : {w : List ℕ} {s : S} → Step (many w) s s
-    seen : {w : List ℕ} {t : Token} {s e : S} → Reads Name w s t e → Step (ahead w) s s
+    seen : {w : List ℕ} {t : Token} {s e : S} → Reads IdentifierName w s t e → Step (ahead w) s s
     same_line : {t : Token} {s e : S} → Next s t e → t.after_break ≡ false → Step unbroken s s
     explicit : {x : Ending} {t : Token} {s e : S} → Reads Punctuator (codes ";") s t e → Step (ending x) s e
-    implicit : {x : Ending} {t : Token} {s e : S} → Next s t e → IsTrue (may_miss x (behind s) t) → Step (ending x) s s
+    implicit : {x : Ending} {t : Token} {s e : S} → Next s t e → IsTrue (may_omit_semicolon x (behind s) t) → Step (ending x) s s
     laid : {h : Hint} {s : S} → Step (lay h) s s
 
   -- the node has the span that its first and its last token give it

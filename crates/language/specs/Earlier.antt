@@ -9,7 +9,7 @@ use Rattle.tokens.specs.declared.token.Goal.{Goal}
 use Rattle.tokens.specs.Tokens.{LexicalToken}
 use Rattle.tokens.specs.Earlier.{EarlierReads, new_punctuators}
 use Rattle.language.specs.Token.{Token, as_read}
-use Rattle.language.specs.Words.{among}
+use Rattle.language.specs.Vocabulary.{among}
 use Rattle.language.specs.Pieces.{Role, script, PieceOf}
 use Rattle.language.specs.Grammar.{ways}
 use Rattle.language.specs.Cursor.{beginning}
@@ -23,15 +23,15 @@ pub data EarlierNextIn (text : List ℕ) : Token → Token → Token → Type 0 
 
 -- an assignment by one of the new operators
 abbrev pub is_new_node : Tree → Bool
-is_new_node (node AssignmentExpression w g s e ps) = among w new_punctuators
-is_new_node (node _ w g s e ps) = false
+is_new_node (node AssignmentExpression text flags from to parts) = among text new_punctuators
+is_new_node (node _ text flags from to parts) = false
 
 abbrev pub earlier_ways : Role → Tree → List (List (PieceOf Role))
-earlier_ways a n = cond (is_new_node n) [] (ways a n)
+earlier_ways role tree = cond (is_new_node tree) [] (ways role tree)
 
 -- the text, in UTF-8, spelled the tree as a Script, with at most o parentheses open at one point
 abbrev pub EarlierDerivesOpen : ℕ → List ℕ → Tree → List Pair → Type 0
-EarlierDerivesOpen o text n P = (last : Token) × Spells earlier_ways Token (EarlierNextIn text) itself o script n beginning last P
+EarlierDerivesOpen o text tree P = (last : Token) × Spells earlier_ways Token (EarlierNextIn text) itself o script tree beginning last P
 
 -- a text that derived before derives the same tree now, with the same places and pairs
 abbrev pub EarlierScriptsStay : Type 0

@@ -6,10 +6,10 @@ use Rattle.tree.specs.Tree.{Parts, none, part, gap, kind_of}
 -- the kind of the first part, that of the Program where there is none
 abbrev pub lead : Parts → Kind
 lead none = Program
-lead (part n ps) = kind_of n
-lead (gap ps) = Program
+lead (part tree rest) = kind_of tree
+lead (gap rest) = Program
 
 abbrev pub others : Parts → Parts
 others none = none
-others (part n ps) = ps
-others (gap ps) = ps
+others (part tree rest) = rest
+others (gap rest) = rest

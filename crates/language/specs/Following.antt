@@ -1,29 +1,29 @@
 -- What a function promises that reads what ends where the next token says: a statement, a case, a declarator, an item of a list. `Fine`
 -- says what holds of such a node and of the place behind it, once something follows that may.
 use Rattle.std.specs.Prelude.{◌≡◌, ℕ, ◌≤◌, Bool, true, not, ◌&&◌, ◌||◌, List, [], ◌∷◌, IsTrue, codes}
-use Rattle.tokens.specs.declared.token.Class.TheVariants.{Name, Punctuator}
+use Rattle.tokens.specs.declared.token.TokenClass.TheVariants.{IdentifierName, Punctuator}
 use Rattle.tokens.specs.declared.token.Goal.TheVariants.{Div, RegExp}
 use Rattle.tokens.specs.Alphabet.{one_of, begins_with}
 use Rattle.tree.specs.declared.kind.Pair.{Pair}
 use Rattle.tree.specs.Tree.{Tree, Parts, height, parts_height}
 use Rattle.language.specs.declared.Rank.TheVariants.{Assignment}
-use Rattle.language.specs.Words.{is, among}
+use Rattle.language.specs.Vocabulary.{is, among}
 use Rattle.language.specs.Pieces.{Role, PieceOf}
 use Rattle.language.specs.Token.{Token, same_class}
 use Rattle.language.specs.Edges.{edge, ends_in_if, is_sign, is_end}
-use Rattle.language.specs.Beginning.{begins_item}
-use Rattle.language.specs.Follow.{stops}
+use Rattle.language.specs.StatementStart.{begins_item}
+use Rattle.language.specs.Continuations.{stops}
 use Rattle.language.specs.Promises.{ReadBy}
 use Rattle.language.specs.Grammar.{ways}
 use Rattle.language.specs.Derivation.{Reads, Spells, Runs}
 
 -- the token ends a list of statements: `}`, the end of the text, or the next case
 abbrev pub ends_list : Token → Bool
-ends_list t = is_end t || ((is_sign t && among t.text ("}" ∷ [])) || (same_class Name t.class && among t.text ("case" ∷ "default" ∷ [])))
+ends_list next = is_end next || ((is_sign next && among next.text ("}" ∷ [])) || (same_class IdentifierName next.class && among next.text ("case" ∷ "default" ∷ [])))
 
 -- it may follow a statement; the flag says that the statement ends in an `if` without `else`
 abbrev pub may_follow : Bool → Token → Bool
-may_follow b t = begins_item t || (ends_list t || (same_class Name t.class && (is t.text "else" && not b)))
+may_follow b next = begins_item next || (ends_list next || (same_class IdentifierName next.class && (is next.text "else" && not b)))
 
 module _ (S : Type 0) (Next : S → Token → S → Type 0) (behind : S → Token) where
   -- what is read at one place begins with `}` by each goal, or by none

@@ -5,7 +5,7 @@ use Rattle.tree.specs.declared.kind.Kind.TheVariants.{ArrowFunctionExpression, N
 use Rattle.tree.specs.declared.kind.Pair.{Pair}
 use Rattle.tree.specs.Tree.{Tree, node, Parts, none, part, kind_of, bare, SameTree}
 use Rattle.language.specs.FirstPart.{others}
-use Rattle.language.specs.Words.{is_identifier}
+use Rattle.language.specs.Vocabulary.{is_identifier}
 use Rattle.language.specs.Pieces.{Role, script, PieceOf, is_none}
 use Rattle.language.specs.Grammar.{ways}
 use Rattle.language.specs.Token.{Token, as_read}
@@ -14,7 +14,7 @@ use Rattle.language.specs.Derivation.{Among, Spells}
 use Rattle.language.specs.Search.{spelled}
 use Rattle.language.specs.Cost.{AtMost, least}
 use Rattle.language.specs.Layout.{wrapped_rows, has_number, fixed_text}
-use Rattle.language.specs.Fits.{fits}
+use Rattle.language.specs.LayoutFits.{fits}
 use Rattle.language.specs.Printed.{items_text, printed, open_in, pair_count, Follows, GoesOn}
 use Rattle.std.specs.Str.{IsUtf8}
 use Rattle.language.specs.Places.{NextIn, itself}
@@ -26,12 +26,12 @@ use Rattle.std.specs.Str.{chars, IsUtf8}
 -- Two ways to spell a node: an arrow with one plain parameter, with its parentheses or without; a `new` without arguments,
 -- with its parentheses or without.
 abbrev pub two_ways_at : Kind → Parts → Bool
-two_ways_at ArrowFunctionExpression (part n (part b none)) = is_identifier (kind_of n)
-two_ways_at NewExpression ps = is_none (others ps)
-two_ways_at _ ps = false
+two_ways_at ArrowFunctionExpression (part tree (part b none)) = is_identifier (kind_of tree)
+two_ways_at NewExpression parts = is_none (others parts)
+two_ways_at _ parts = false
 
 abbrev pub has_two_ways : Tree → Bool
-has_two_ways (node k w g s e ps) = two_ways_at k ps
+has_two_ways (node kind text flags from to parts) = two_ways_at kind parts
 
 -- any other node has at most one way at a position
 abbrev pub AtMostOneWay : Type 0

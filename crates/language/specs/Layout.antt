@@ -5,7 +5,7 @@ use Rattle.language.specs.declared.Start.TheVariants.{Any}
 use Rattle.tree.specs.Tree.{Tree, node, Parts, none, part, gap}
 use Rattle.language.specs.Pieces.{Role, expr, script, PieceOf, tok, ending, open_parameters, close_parameters, sub, absent, lay, space, line, feed, deeper, shallower, apart, loose}
 use Rattle.language.specs.Grammar.{ways}
-use Rattle.language.specs.Positions.{has_row, rows, roles, first_roles}
+use Rattle.language.specs.RowPositions.{has_row, rows, roles, first_roles}
 use Rattle.language.specs.Cost.{cell, cell_position, add_cost}
 
 -- none is greater than any number
@@ -20,25 +20,25 @@ some_way (qs ∷ others) = true
 
 -- at its position its direct cost is none, or greater than that of a pair round it
 abbrev pub wants_pair : Tree → Role → Bool
-wants_pair n (expr y i f) =
-    exceeds (cond (some_way (ways (expr y i f) n)) (cell n (cell_position (expr y i f))) None) (add_cost (Some 1) (cell n (expr Expression true Any)))
-wants_pair n a = false
+wants_pair tree (expr rank has_in start) =
+    exceeds (cond (some_way (ways (expr rank has_in start) tree)) (cell tree (cell_position (expr rank has_in start))) None) (add_cost (Some 1) (cell tree (expr Expression true Any)))
+wants_pair tree role = false
 
 abbrev pub inside : Bool → Role → Role
-inside wrapped a = cond wrapped (expr Expression true Any) a
+inside wrapped role = cond wrapped (expr Expression true Any) role
 
 unfoldable mutual
   -- the rows of the wrapped nodes, from the outermost inwards
   pub wrapped_rows : Tree → Role → ℕ → List ℕ
-  wrapped_rows (node k w g s e ps) a r =
-      let b = wants_pair (node k w g s e ps) a in
-      cond b (r ∷ []) [] ++ parts_wrapped ps (first_roles (ways (inside b a) (node k w g s e ps))) (has_row a + r)
+  wrapped_rows (node kind text flags from to parts) role r =
+      let b = wants_pair (node kind text flags from to parts) role in
+      cond b (r ∷ []) [] ++ parts_wrapped parts (first_roles (ways (inside b role) (node kind text flags from to parts))) (has_row role + r)
 
   pub parts_wrapped : Parts → List Role → ℕ → List ℕ
   parts_wrapped none xs r = []
-  parts_wrapped (gap ps) xs r = parts_wrapped ps xs r
-  parts_wrapped (part n ps) [] r = []
-  parts_wrapped (part n ps) (a ∷ xs) r = wrapped_rows n a r ++ parts_wrapped ps xs (r + rows n a)
+  parts_wrapped (gap rest) xs r = parts_wrapped rest xs r
+  parts_wrapped (part tree rest) [] r = []
+  parts_wrapped (part tree rest) (a ∷ xs) r = wrapped_rows tree a r ++ parts_wrapped rest xs (r + rows tree a)
 
 abbrev pub has_number : List ℕ → ℕ → Bool
 has_number [] r = false
@@ -74,11 +74,11 @@ lead_depth d (q ∷ qs) = lead_depth d qs
 lead_depth d [] = d
 
 -- what follows the next part or gap
-abbrev pub behind_part : List (PieceOf Role) → List (PieceOf Role)
-behind_part [] = []
-behind_part (sub a ∷ qs) = qs
-behind_part (absent ∷ qs) = qs
-behind_part (q ∷ qs) = behind_part qs
+abbrev pub after_part : List (PieceOf Role) → List (PieceOf Role)
+after_part [] = []
+after_part (sub a ∷ qs) = qs
+after_part (absent ∷ qs) = qs
+after_part (q ∷ qs) = after_part qs
 
 abbrev pub first_way : List (List (PieceOf Role)) → List (PieceOf Role)
 first_way [] = []
@@ -91,19 +91,19 @@ next_role (a ∷ xs) = a
 unfoldable mutual
   -- the text of a node at a position, with these nodes wrapped, at a depth of two spaces each
   pub layout : (ℕ → Bool) → Tree → Role → ℕ → ℕ → List ℕ
-  layout W (node k w g s e ps) a r d =
+  layout W (node kind text flags from to parts) role r d =
       let b = W r in
-      cond (nat_eq (has_row a) 1 && b)
-      (codes "(" ++ parts_layout W ps (first_way (ways (expr Expression true Any) (node k w g s e ps))) (suc r) d false ++ codes ")")
-      (parts_layout W ps (first_way (ways a (node k w g s e ps))) (has_row a + r) d false)
+      cond (nat_eq (has_row role) 1 && b)
+      (codes "(" ++ parts_layout W parts (first_way (ways (expr Expression true Any) (node kind text flags from to parts))) (suc r) d false ++ codes ")")
+      (parts_layout W parts (first_way (ways role (node kind text flags from to parts))) (has_row role + r) d false)
 
   pub parts_layout : (ℕ → Bool) → Parts → List (PieceOf Role) → ℕ → ℕ → Bool → List ℕ
   parts_layout W none qs r d b = lead_text d b qs []
-  parts_layout W (gap ps) qs r d b = lead_text d b qs (parts_layout W ps (behind_part qs) r (lead_depth d qs) false)
-  parts_layout W (part n ps) qs r d b =
+  parts_layout W (gap rest) qs r d b = lead_text d b qs (parts_layout W rest (after_part qs) r (lead_depth d qs) false)
+  parts_layout W (part tree rest) qs r d b =
       let a = next_role (roles qs) in
-      lead_text d b qs (layout W n a r (lead_depth d qs) ++ parts_layout W ps (behind_part qs) (r + rows n a) (lead_depth d qs) (not (W r)))
+      lead_text d b qs (layout W tree a r (lead_depth d qs) ++ parts_layout W rest (after_part qs) (r + rows tree a) (lead_depth d qs) (not (W r)))
 
 -- the fixed text
 unfoldable pub fixed_text : Tree → List ℕ
-fixed_text n = layout (has_number (wrapped_rows n script 1)) n script 1 0
+fixed_text tree = layout (has_number (wrapped_rows tree script 1)) tree script 1 0

@@ -7,19 +7,19 @@ use Rattle.language.specs.declared.Start.{Start}
 use Rattle.language.specs.declared.Start.TheVariants.{Any}
 use Rattle.language.specs.declared.Edge.{Edge}
 use Rattle.tree.specs.declared.kind.Form.{Form}
-use Rattle.tokens.specs.declared.token.Class.{Class}
-use Rattle.tokens.specs.declared.token.Class.TheVariants.{Name, Punctuator}
+use Rattle.tokens.specs.declared.token.TokenClass.{TokenClass}
+use Rattle.tokens.specs.declared.token.TokenClass.TheVariants.{IdentifierName, Punctuator}
 use Rattle.tree.specs.declared.kind.Kind.{Kind}
 use Rattle.tree.specs.declared.kind.Kind.TheVariants.{AssignmentPattern}
 use Rattle.tree.specs.Tree.{Tree, Parts, none, part, gap, kind_of}
-use Rattle.language.specs.Words.{is_target, is_pattern, is_identifier, is_rest, is_spread, takes}
+use Rattle.language.specs.Vocabulary.{is_target, is_pattern, is_identifier, is_rest, is_spread, takes}
 
 -- where a node stands
 pub data Role : Type 0 where
   -- an expression: symbol, In, start. It may be grouped, and has a row
   expr : Rank → Bool → Start → Role
   -- a part of a chain above its base
-  spine : Start → Role
+  chain_part : Start → Role
   -- a name that binds or labels, or a shorthand value
   name : Role
   -- an identifier's characters, reserved or not
@@ -27,13 +27,13 @@ pub data Role : Type 0 where
   -- a property's key without brackets
   key : Role
   -- a shorthand property's key, which has no token of its own
-  echo : Role
+  shorthand_key : Role
   -- `super`; a directive's string; the template behind a tag
   base : Role
-  quoted : Role
-  quasi : Role
+  directive_string : Role
+  tagged_quasi : Role
   -- a part of a template: whether it is the first, and the last
-  chunk : Bool → Bool → Role
+  template_element : Bool → Bool → Role
   spread : Role
   property : Role
   -- a pattern; the flag says that it binds names
@@ -82,12 +82,12 @@ pub data Slot : Type 0 where
   -- the object of a member and the tag of a template, with In and the node's own start: behind `new` at Member, else at Call
   callee : Slot
   -- with its own start
-  lead_spine lead_pattern : Slot
+  lead_chain lead_pattern : Slot
 
 -- a piece of a spelling; R says how positions are written
 pub data PieceOf (R : Type 0) : Type 0 where
   -- a token of this class and text
-  tok : Class → List ℕ → PieceOf R
+  tok : TokenClass → List ℕ → PieceOf R
   -- such a punctuator, or nothing
   may : List ℕ → PieceOf R
   -- such punctuators in any number
@@ -113,35 +113,35 @@ Piece = PieceOf Slot
 
 -- a part at a position that the node's own doesn't change
 abbrev pub put : Role → Piece
-put a = sub (fixed a)
+put role = sub (fixed role)
 
 -- the symbols at which no call may stand
 abbrev pub is_tight : Rank → Bool
-is_tight y = not (takes y Call)
+is_tight own_rank = not (takes own_rank Call)
 
 -- the position that a node's own symbol, In and start leave
 abbrev pub settle : Rank → Bool → Start → Slot → Role
-settle z i f (fixed a) = a
-settle z i f (left y) = expr y i f
-settle z i f (lead y) = expr y true f
-settle z i f (tail y x) = expr y i x
-settle z i f callee = expr (cond (is_tight z) Member Call) true f
-settle z i f lead_spine = spine f
-settle z i f lead_pattern = pattern false f
+settle own_rank i start (fixed a) = a
+settle own_rank i start (left y) = expr y i start
+settle own_rank i start (lead y) = expr y true start
+settle own_rank i start (tail y x) = expr y i x
+settle own_rank i start callee = expr (cond (is_tight own_rank) Member Call) true start
+settle own_rank i start lead_chain = chain_part start
+settle own_rank i start lead_pattern = pattern false start
 
 abbrev pub settle_piece : Rank → Bool → Start → Piece → PieceOf Role
-settle_piece z i f (tok c w) = tok c w
-settle_piece z i f (may w) = may w
-settle_piece z i f (many w) = many w
-settle_piece z i f (ahead w) = ahead w
-settle_piece z i f unbroken = unbroken
-settle_piece z i f (ending e) = ending e
-settle_piece z i f open_parameters = open_parameters
-settle_piece z i f close_parameters = close_parameters
-settle_piece z i f (sub x) = sub (settle z i f x)
-settle_piece z i f absent = absent
-settle_piece z i f never = never
-settle_piece z i f (lay h) = lay h
+settle_piece own_rank i start (tok c w) = tok c w
+settle_piece own_rank i start (may w) = may w
+settle_piece own_rank i start (many w) = many w
+settle_piece own_rank i start (ahead w) = ahead w
+settle_piece own_rank i start unbroken = unbroken
+settle_piece own_rank i start (ending e) = ending e
+settle_piece own_rank i start open_parameters = open_parameters
+settle_piece own_rank i start close_parameters = close_parameters
+settle_piece own_rank i start (sub x) = sub (settle own_rank i start x)
+settle_piece own_rank i start absent = absent
+settle_piece own_rank i start never = never
+settle_piece own_rank i start (lay h) = lay h
 
 -- a way to spell a node: the symbol at which it then stands, whether it needs In, and its pieces
 pub record Spelling : Type 0 where
@@ -150,20 +150,20 @@ pub record Spelling : Type 0 where
   pub pieces : List Piece
 
 abbrev pub at : Rank → List Piece → Spelling
-at z ps = record { rank = z; needs_in = false; pieces = ps }
+at own_rank slots = record { rank = own_rank; needs_in = false; pieces = slots }
 
 abbrev pub at_in : Bool → Rank → List Piece → Spelling
-at_in b z ps = record { rank = z; needs_in = b; pieces = ps }
+at_in b own_rank slots = record { rank = own_rank; needs_in = b; pieces = slots }
 
 -- the one way to spell a node that is no expression
 abbrev pub only : List Piece → List Spelling
-only ps = at Primary ps ∷ []
+only slots = at Primary slots ∷ []
 
 abbrev pub sign : String → Piece
 sign s = tok Punctuator (codes s)
 
 abbrev pub term : String → Piece
-term s = tok Name (codes s)
+term s = tok IdentifierName (codes s)
 
 -- one space
 abbrev pub sp : Piece
@@ -179,52 +179,52 @@ put_at None = never
 
 -- the one way to spell a node, which begins with its first part
 abbrev pub only_at : Option Role → List Piece → List Spelling
-only_at (Some a) qs = only (put a ∷ qs)
-only_at None qs = []
+only_at (Some a) slots = only (put a ∷ slots)
+only_at None slots = []
 
 -- the position of what is bound, a name or a binding pattern; or of what is assigned, a simple target or an assignment pattern
 abbrev pub bound : Bool → Kind → Option Role
-bound true k = cond (is_pattern k) (Some (pattern true Any)) (cond (is_identifier k) (Some name) None)
-bound false k = cond (is_pattern k) (Some (pattern false Any)) (cond (is_target k) (Some (expr LeftHandSide true Any)) None)
+bound true kind = cond (is_pattern kind) (Some (pattern true Any)) (cond (is_identifier kind) (Some name) None)
+bound false kind = cond (is_pattern kind) (Some (pattern false Any)) (cond (is_target kind) (Some (expr LeftHandSide true Any)) None)
 
 abbrev pub is_none : Parts → Bool
 is_none none = true
-is_none (part n ps) = false
-is_none (gap ps) = false
+is_none (part tree others) = false
+is_none (gap others) = false
 
 -- behind an element of a list: a comma may trail, but not behind a rest, which is the last
 abbrev pub separator : Kind → Bool → List Piece
-separator k true = cond (is_rest k) [] (may (codes ",") ∷ [])
-separator k false = cond (is_rest k) nothing (sign "," ∷ sp ∷ [])
+separator kind true = cond (is_rest kind) [] (may (codes ",") ∷ [])
+separator kind false = cond (is_rest kind) nothing (sign "," ∷ sp ∷ [])
 
 -- parts with commas between them, and perhaps one behind the last
 abbrev pub listed : (Tree → Piece) → Parts → List Piece
 listed f none = []
-listed f (part n ps) = (f n ∷ separator (kind_of n) (is_none ps)) ++ listed f ps
-listed f (gap ps) = nothing
+listed f (part tree others) = (f tree ∷ separator (kind_of tree) (is_none others)) ++ listed f others
+listed f (gap others) = nothing
 
 -- the same, where a gap is a hole, with a comma of its own
 abbrev pub elements : (Tree → Piece) → Parts → List Piece
 elements f none = []
-elements f (part n ps) = (f n ∷ separator (kind_of n) (is_none ps)) ++ elements f ps
-elements f (gap ps) = (absent ∷ sign "," ∷ cond (is_none ps) [] (sp ∷ [])) ++ elements f ps
+elements f (part tree others) = (f tree ∷ separator (kind_of tree) (is_none others)) ++ elements f others
+elements f (gap others) = (absent ∷ sign "," ∷ cond (is_none others) [] (sp ∷ [])) ++ elements f others
 
 abbrev pub argument : Tree → Piece
-argument n = put (cond (is_spread (kind_of n)) spread (expr Assignment true Any))
+argument tree = put (cond (is_spread (kind_of tree)) spread (expr Assignment true Any))
 
 -- a target, name or pattern, with or without a default
 abbrev pub with_default : Bool → Kind → Option Role
 with_default b AssignmentPattern = Some (element b)
-with_default b k = bound b k
+with_default b kind = bound b kind
 
 -- the element of an array pattern, and a parameter
 abbrev pub pattern_element : Bool → Tree → Piece
-pattern_element b n = put_at (cond (is_rest (kind_of n)) (Some (rest b false)) (with_default b (kind_of n)))
+pattern_element b tree = put_at (cond (is_rest (kind_of tree)) (Some (rest b false)) (with_default b (kind_of tree)))
 
 -- parameters, then what closes them and the body, which is the last part
 abbrev pub parameters : List Piece → Parts → List Piece
 parameters after none = nothing
-parameters after (part n none) = after
-parameters after (part n (part m ps)) = (pattern_element true n ∷ separator (kind_of n) (is_none ps)) ++ parameters after (part m ps)
-parameters after (part n (gap ps)) = nothing
-parameters after (gap ps) = nothing
+parameters after (part tree none) = after
+parameters after (part tree (part m ps)) = (pattern_element true tree ∷ separator (kind_of tree) (is_none ps)) ++ parameters after (part m ps)
+parameters after (part tree (gap ps)) = nothing
+parameters after (gap others) = nothing

@@ -16,7 +16,7 @@ pub data NextIn (text : List ℕ) (goals : Goal → Bool) : Token → Token → 
 
 -- the token behind which reading goes on is the place itself
 abbrev pub itself : Token → Token
-itself t = t
+itself token = token
 
 -- from one place of a text to another the tokens spell the node: at `/` and `}` both choices are there
 abbrev pub SpellsIn : List ℕ → ℕ → Role → Tree → Token → Token → List Pair → Type 0

@@ -1,20 +1,20 @@
 -- The layout of a tree as tokens and what stands between them, and what it is to read them, at any kind of places.
 use Rattle.std.specs.Prelude.{◌≡◌, ℕ, suc, pred, ◌+◌, max, Bool, true, false, not, cond, ◌&&◌, List, [], ◌∷◌, ◌++◌, nat_eq, slice_index_or, codes}
-use Rattle.tokens.specs.declared.token.Class.{Class}
-use Rattle.tokens.specs.declared.token.Class.TheVariants.{Name, Punctuator}
+use Rattle.tokens.specs.declared.token.TokenClass.{TokenClass}
+use Rattle.tokens.specs.declared.token.TokenClass.TheVariants.{IdentifierName, Punctuator}
 use Rattle.tree.specs.Tree.{Tree, node, Parts, none, part, gap}
 use Rattle.language.specs.declared.Rank.TheVariants.{Expression}
 use Rattle.language.specs.declared.Start.TheVariants.{Any}
 use Rattle.language.specs.Token.{Token}
 use Rattle.language.specs.Pieces.{Role, expr, PieceOf, tok, ahead, unbroken, ending, open_parameters, close_parameters, sub, absent, lay, space, line, feed, deeper, shallower, apart, loose}
 use Rattle.language.specs.Grammar.{ways}
-use Rattle.language.specs.Positions.{has_row, rows, roles, first_roles}
+use Rattle.language.specs.RowPositions.{has_row, rows, roles, first_roles}
 use Rattle.language.specs.Derivation.{Reads}
-use Rattle.language.specs.Layout.{inside, indent, lead_depth, behind_part, first_way, next_role}
+use Rattle.language.specs.Layout.{inside, indent, lead_depth, after_part, first_way, next_role}
 
 pub data Item : Type 0 where
   -- a token of this class and text
-  word : Class → List ℕ → Item
+  word : TokenClass → List ℕ → Item
   -- a space, or a line break and its indent
   blank : List ℕ → Item
   -- the next token is a name of this text, and stays
@@ -29,7 +29,7 @@ items_text (blank w ∷ is) = w ++ items_text is
 items_text (_ ∷ is) = items_text is
 
 abbrev pub sign_item : List ℕ → Item
-sign_item w = word Punctuator w
+sign_item text = word Punctuator text
 
 -- pieces up to the next part, with the items that follow them; b says that the part before is not wrapped
 abbrev pub lead_items : ℕ → Bool → List (PieceOf Role) → List Item → List Item
@@ -54,17 +54,17 @@ lead_items d b (_ ∷ qs) next = lead_items d b qs next
 unfoldable mutual
   -- the items of a node at a position, with these nodes wrapped, at a depth of two spaces each
   pub printed : (ℕ → Bool) → Tree → Role → ℕ → ℕ → List Item
-  printed W (node k w g s e ps) a r d =
-      cond (nat_eq (has_row a) 1 && W r)
-      (sign_item (codes "(") ∷ parts_printed W ps (first_way (ways (expr Expression true Any) (node k w g s e ps))) (suc r) d false ++ sign_item (codes ")") ∷ [])
-      (parts_printed W ps (first_way (ways a (node k w g s e ps))) (has_row a + r) d false)
+  printed W (node kind text flags from to parts) role r d =
+      cond (nat_eq (has_row role) 1 && W r)
+      (sign_item (codes "(") ∷ parts_printed W parts (first_way (ways (expr Expression true Any) (node kind text flags from to parts))) (suc r) d false ++ sign_item (codes ")") ∷ [])
+      (parts_printed W parts (first_way (ways role (node kind text flags from to parts))) (has_row role + r) d false)
 
   pub parts_printed : (ℕ → Bool) → Parts → List (PieceOf Role) → ℕ → ℕ → Bool → List Item
   parts_printed W none qs r d b = lead_items d b qs []
-  parts_printed W (gap ps) qs r d b = lead_items d b qs (parts_printed W ps (behind_part qs) r (lead_depth d qs) false)
-  parts_printed W (part n ps) qs r d b =
+  parts_printed W (gap rest) qs r d b = lead_items d b qs (parts_printed W rest (after_part qs) r (lead_depth d qs) false)
+  parts_printed W (part tree rest) qs r d b =
       let a = next_role (roles qs) in
-      lead_items d b qs (printed W n a r (lead_depth d qs) ++ parts_printed W ps (behind_part qs) (r + rows n a) (lead_depth d qs) (not (W r)))
+      lead_items d b qs (printed W tree a r (lead_depth d qs) ++ parts_printed W rest (after_part qs) (r + rows tree a) (lead_depth d qs) (not (W r)))
 
 -- how many parentheses stand open at one point, of those that group or hold an arrow's parameters, with so many behind the pieces
 abbrev pub lead_open : List (PieceOf Role) → ℕ → ℕ
@@ -78,36 +78,36 @@ lead_open (_ ∷ qs) k = lead_open qs k
 unfoldable mutual
   -- the greatest number of them in a node, with these nodes wrapped
   pub open_in : (ℕ → Bool) → Tree → Role → ℕ → ℕ
-  open_in W (node k w g s e ps) a r =
-      cond (nat_eq (has_row a) 1 && W r)
-      (suc (parts_open W ps (first_way (ways (expr Expression true Any) (node k w g s e ps))) (suc r)))
-      (parts_open W ps (first_way (ways a (node k w g s e ps))) (has_row a + r))
+  open_in W (node kind text flags from to parts) role r =
+      cond (nat_eq (has_row role) 1 && W r)
+      (suc (parts_open W parts (first_way (ways (expr Expression true Any) (node kind text flags from to parts))) (suc r)))
+      (parts_open W parts (first_way (ways role (node kind text flags from to parts))) (has_row role + r))
 
   pub parts_open : (ℕ → Bool) → Parts → List (PieceOf Role) → ℕ → ℕ
   parts_open W none qs r = lead_open qs 0
-  parts_open W (gap ps) qs r = lead_open qs (parts_open W ps (behind_part qs) r)
-  parts_open W (part n ps) qs r = let a = next_role (roles qs) in lead_open qs (max (open_in W n a r) (parts_open W ps (behind_part qs) (r + rows n a)))
+  parts_open W (gap rest) qs r = lead_open qs (parts_open W rest (after_part qs) r)
+  parts_open W (part tree rest) qs r = let a = next_role (roles qs) in lead_open qs (max (open_in W tree a r) (parts_open W rest (after_part qs) (r + rows tree a)))
 
 unfoldable mutual
   -- how many nodes are wrapped
   pub pair_count : (ℕ → Bool) → Tree → Role → ℕ → ℕ
-  pair_count W (node k w g s e ps) a r =
-      let b = nat_eq (has_row a) 1 && W r in
-      cond b 1 0 + parts_pair_count W ps (first_roles (ways (inside b a) (node k w g s e ps))) (has_row a + r)
+  pair_count W (node kind text flags from to parts) role r =
+      let b = nat_eq (has_row role) 1 && W r in
+      cond b 1 0 + parts_pair_count W parts (first_roles (ways (inside b role) (node kind text flags from to parts))) (has_row role + r)
 
   pub parts_pair_count : (ℕ → Bool) → Parts → List Role → ℕ → ℕ
   parts_pair_count W none xs r = 0
-  parts_pair_count W (gap ps) xs r = parts_pair_count W ps xs r
-  parts_pair_count W (part n ps) [] r = 0
-  parts_pair_count W (part n ps) (a ∷ xs) r = pair_count W n a r + parts_pair_count W ps xs (r + rows n a)
+  parts_pair_count W (gap rest) xs r = parts_pair_count W rest xs r
+  parts_pair_count W (part tree rest) [] r = 0
+  parts_pair_count W (part tree rest) (a ∷ xs) r = pair_count W tree a r + parts_pair_count W rest xs (r + rows tree a)
 
 module _ (S : Type 0) (Next : S → Token → S → Type 0) (behind : S → Token) where
   -- from place to place the items are read
   pub data Follows : List Item → S → S → Type 0 where
     over : {s : S} → Follows [] s s
-    reads : {c : Class} {w : List ℕ} {is : List Item} {t : Token} {s m e : S} → Reads S Next behind c w s t m → Follows is m e → Follows (word c w ∷ is) s e
+    reads : {c : TokenClass} {w : List ℕ} {is : List Item} {t : Token} {s m e : S} → Reads S Next behind c w s t m → Follows is m e → Follows (word c w ∷ is) s e
     passes : {w : List ℕ} {is : List Item} {s e : S} → Follows is s e → Follows (blank w ∷ is) s e
-    sees : {w : List ℕ} {is : List Item} {t : Token} {s m e : S} → Reads S Next behind Name w s t m → Follows is s e → Follows (name_ahead w ∷ is) s e
+    sees : {w : List ℕ} {is : List Item} {t : Token} {s m e : S} → Reads S Next behind IdentifierName w s t m → Follows is s e → Follows (name_ahead w ∷ is) s e
     stays : {is : List Item} {t : Token} {s m e : S} → Next s t m → t.after_break ≡ false → Follows is s e → Follows (joined ∷ is) s e
 
   -- a token is read at the place

@@ -1,7 +1,7 @@
 -- What a function promises that reads an expression at a place, or something else: that it is found, the only one there; or that there is none.
 use Rattle.std.specs.Prelude.{◌≡◌, ℕ, ◌≤◌, Bool, true, false, List, [], ◌∷◌, IsTrue, map, codes}
-use Rattle.tokens.specs.declared.token.Class.{Class}
-use Rattle.tokens.specs.declared.token.Class.TheVariants.{Name, Punctuator, Number, Text, End}
+use Rattle.tokens.specs.declared.token.TokenClass.{TokenClass}
+use Rattle.tokens.specs.declared.token.TokenClass.TheVariants.{IdentifierName, Punctuator, NumericLiteral, StringLiteral, End}
 use Rattle.tokens.specs.declared.token.Goal.{Goal}
 use Rattle.tokens.specs.declared.token.Goal.TheVariants.{Div}
 use Rattle.tokens.specs.Goals.{allows}
@@ -15,23 +15,23 @@ use Rattle.language.specs.Pieces.{Role, expr, PieceOf, sub, never, settle_piece}
 use Rattle.language.specs.Token.{Token}
 use Rattle.language.specs.Edges.{edge, last_edge}
 use Rattle.language.specs.Expressions.{sequence}
-use Rattle.language.specs.Follow.{stops}
+use Rattle.language.specs.Continuations.{stops}
 use Rattle.language.specs.Grammar.{ways}
 use Rattle.language.specs.Derivation.{Reads, Spells, Runs}
 
 -- the classes that every goal reads
-abbrev pub is_free : Class → Bool
-is_free Name = true
-is_free Number = true
-is_free Text = true
+abbrev pub is_free : TokenClass → Bool
+is_free IdentifierName = true
+is_free NumericLiteral = true
+is_free StringLiteral = true
 is_free End = true
 is_free _ = false
 
 -- the pieces of a sequence behind its first comma (12.16)
 abbrev pub later_parts : Bool → Parts → List (PieceOf Role)
 later_parts i none = never ∷ []
-later_parts i (gap ps) = never ∷ []
-later_parts i (part n ps) = sub (expr Assignment i Any) ∷ map (settle_piece Expression i Any) (sequence (bare_parts ps))
+later_parts i (gap rest) = never ∷ []
+later_parts i (part tree rest) = sub (expr Assignment i Any) ∷ map (settle_piece Expression i Any) (sequence (bare_parts rest))
 
 module _ (S : Type 0) (Next : S → Token → S → Type 0) (behind : S → Token) where
   -- Where tokens are determined once a goal is chosen: by a goal at most one is read at a place; behind it, it is the token before;
@@ -51,7 +51,7 @@ module _ (S : Type 0) (Next : S → Token → S → Type 0) (behind : S → Toke
 
   -- the expression that ends here, at this symbol and with this In, can't go on with the token that is read behind an operand
   abbrev pub Stops : Rank → Bool → Tree → S → Type 0
-  Stops y i n e = (t : Token) (m : S) → ReadBy Div e t m → IsTrue (stops y i (edge n) (behind e) t)
+  Stops rank i tree e = (t : Token) (m : S) → ReadBy Div e t m → IsTrue (stops rank i (edge tree) (behind e) t)
 
   -- the only thing that the position spells here and that can't go on
   pub record Found (o : ℕ) (y : Rank) (i : Bool) (f : Start) (s e : S) (n : Tree) (P : List Pair) : Type 0 where
@@ -122,7 +122,7 @@ module _ (S : Type 0) (Next : S → Token → S → Type 0) (behind : S → Toke
 
   -- the sequence that ends here can't go on, with a comma neither
   abbrev pub LaterStop : Bool → Parts → S → Type 0
-  LaterStop i ps e = (t : Token) (m : S) → ReadBy Div e t m → IsTrue (stops Expression i (last_edge ps) (behind e) t)
+  LaterStop i parts e = (t : Token) (m : S) → ReadBy Div e t m → IsTrue (stops Expression i (last_edge parts) (behind e) t)
 
   -- the only parts of a sequence behind its first comma that can't go on; none; none within the limits
   pub record FoundLater (o : ℕ) (i : Bool) (s e : S) (ps : Parts) (P : List Pair) : Type 0 where

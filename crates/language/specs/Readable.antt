@@ -9,21 +9,21 @@ use Rattle.tokens.specs.Lexical.{is_token}
 use Rattle.tokens.specs.Goals.{allows}
 use Rattle.tokens.specs.declared.token.Goal.{Goal}
 use Rattle.tokens.specs.declared.token.Goal.TheVariants.{Div, TemplateTail}
-use Rattle.tokens.specs.declared.token.Class.{Class}
-use Rattle.tokens.specs.declared.token.Class.TheVariants.{Name, Template, RegExp}
+use Rattle.tokens.specs.declared.token.TokenClass.{TokenClass}
+use Rattle.tokens.specs.declared.token.TokenClass.TheVariants.{IdentifierName, Template, RegularExpressionLiteral}
 use Rattle.language.specs.Token.{table_text}
 use Rattle.language.specs.Printed.{Item, word, blank, name_ahead, joined, items_text}
 
 -- the goal that reads a token of a class, whatever it begins with
-abbrev pub goal_of : Class → Goal
-goal_of RegExp = Goal.RegExp
+abbrev pub goal_of : TokenClass → Goal
+goal_of RegularExpressionLiteral = Goal.RegExp
 goal_of Template = TemplateTail
 goal_of _ = Div
 
 -- a word of a class in front of a rest, with which it makes no longer token
-abbrev pub stands : Class → List ℕ → List ℕ → Bool
-stands c w rest =
-    is_utf8 w && (is_token c (chars w) (chars rest) && (not (begins_comment (chars w ++ chars rest)) && (allows (goal_of c) c (chars w) && bytes_eq (table_text c w) w)))
+abbrev pub stands : TokenClass → List ℕ → List ℕ → Bool
+stands class w rest =
+    is_utf8 w && (is_token class (chars w) (chars rest) && (not (begins_comment (chars w ++ chars rest)) && (allows (goal_of class) class (chars w) && bytes_eq (table_text class w) w)))
 
 abbrev pub is_blank : ℕ → Bool
 is_blank c = is_white_space c || is_line_terminator c
@@ -49,8 +49,8 @@ abbrev pub may_precede : List ℕ → List Item → Bool
 may_precede gap is = not (breaks gap) || joins_none is
 
 abbrev pub is_name_next : List ℕ → List Item → Bool
-is_name_next w (word Name v ∷ is) = bytes_eq v w
-is_name_next w _ = false
+is_name_next text (word IdentifierName v ∷ is) = bytes_eq v text
+is_name_next text _ = false
 
 abbrev pub stand_apart : List Item → Bool
 stand_apart [] = true

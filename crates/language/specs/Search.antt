@@ -1,13 +1,13 @@
 -- A plain program for the relation: from a cursor, every cursor up to which the tokens spell a node, with the pairs.
 use Rattle.std.specs.Prelude.{ℕ, Bool, true, false, not, cond, ◌&&◌, List, [], ◌∷◌, ◌++◌, nat_eq, codes, map, filter}
-use Rattle.tokens.specs.declared.token.Class.TheVariants.{Name}
+use Rattle.tokens.specs.declared.token.TokenClass.TheVariants.{IdentifierName}
 use Rattle.language.specs.declared.Rank.TheVariants.{Expression}
 use Rattle.language.specs.declared.Start.TheVariants.{Any}
 use Rattle.tree.specs.declared.kind.Pair.{Pair}
 use Rattle.tree.specs.Tree.{Tree, node, Parts, none, part, gap, start_of, stop_of}
 use Rattle.language.specs.Pieces.{Role, expr, PieceOf, tok, may, many, ahead, unbroken, ending, open_parameters, close_parameters, sub, absent, lay}
 use Rattle.language.specs.Token.{Token, is_token, is_mark}
-use Rattle.language.specs.Edges.{may_miss, is_semicolon}
+use Rattle.language.specs.Edges.{may_omit_semicolon, is_semicolon}
 use Rattle.language.specs.Grammar.{ways}
 use Rattle.language.specs.Derivation.{place, pair_of}
 
@@ -29,28 +29,28 @@ if_next p (b ∷ []) = []
 if_next p (b ∷ t ∷ ts) = cond (p b t) ((b ∷ t ∷ ts) ∷ []) []
 
 abbrev pub over_many : List ℕ → List Token → List (List Token)
-over_many w [] = [] ∷ []
-over_many w (b ∷ []) = (b ∷ []) ∷ []
-over_many w (b ∷ t ∷ ts) = cond (is_mark w t) (over_many w (t ∷ ts)) [] ++ (b ∷ t ∷ ts) ∷ []
+over_many text [] = [] ∷ []
+over_many text (b ∷ []) = (b ∷ []) ∷ []
+over_many text (b ∷ t ∷ ts) = cond (is_mark text t) (over_many text (t ∷ ts)) [] ++ (b ∷ t ∷ ts) ∷ []
 
 abbrev pub steps_of : PieceOf Role → List Token → List (List Token)
-steps_of (tok c w) ts = over (is_token c w) ts
-steps_of (may w) ts = over (is_mark w) ts ++ ts ∷ []
-steps_of (many w) ts = over_many w ts
-steps_of (ahead w) ts = if_next (λ b t. is_token Name w t) ts
-steps_of unbroken ts = if_next (λ b t. not t.after_break) ts
-steps_of (ending e) ts = over is_semicolon ts ++ if_next (may_miss e) ts
-steps_of open_parameters ts = over (is_mark (codes "(")) ts
-steps_of close_parameters ts = over (is_mark (codes ")")) ts
-steps_of (lay h) ts = ts ∷ []
-steps_of _ ts = []
+steps_of (tok c w) tokens = over (is_token c w) tokens
+steps_of (may w) tokens = over (is_mark w) tokens ++ tokens ∷ []
+steps_of (many w) tokens = over_many w tokens
+steps_of (ahead w) tokens = if_next (λ b t. is_token IdentifierName w t) tokens
+steps_of unbroken tokens = if_next (λ b t. not t.after_break) tokens
+steps_of (ending e) tokens = over is_semicolon tokens ++ if_next (may_omit_semicolon e) tokens
+steps_of open_parameters tokens = over (is_mark (codes "(")) tokens
+steps_of close_parameters tokens = over (is_mark (codes ")")) tokens
+steps_of (lay h) tokens = tokens ∷ []
+steps_of _ tokens = []
 
 -- over the pieces before the next part
 abbrev pub lead_steps : List (PieceOf Role) → List Token → List (List Token)
-lead_steps [] ts = ts ∷ []
-lead_steps (sub a ∷ qs) ts = ts ∷ []
-lead_steps (absent ∷ qs) ts = ts ∷ []
-lead_steps (q ∷ qs) ts = each (lead_steps qs) (steps_of q ts)
+lead_steps [] tokens = tokens ∷ []
+lead_steps (sub a ∷ qs) tokens = tokens ∷ []
+lead_steps (absent ∷ qs) tokens = tokens ∷ []
+lead_steps (q ∷ qs) tokens = each (lead_steps qs) (steps_of q tokens)
 
 -- the pieces from the next part on
 abbrev pub tail_pieces : List (PieceOf Role) → List (PieceOf Role)
@@ -63,14 +63,14 @@ abbrev pub same_place : ℕ × ℕ → ℕ → ℕ → Bool
 same_place p s e = nat_eq p.0 s && nat_eq p.1 e
 
 abbrev pub in_place : Role → Tree → List Token → List Token → Bool
-in_place a n (b ∷ t ∷ ts) (l ∷ us) = same_place (place a t l) (start_of n) (stop_of n)
-in_place a n _ _ = false
+in_place role tree (b ∷ t ∷ ts) (l ∷ us) = same_place (place role t l) (start_of tree) (stop_of tree)
+in_place role tree _ _ = false
 
 -- the group is closed by the `)` that stands ahead
 abbrev pub close : Token → List Token → List Pair → List Result
-close l [] P = []
-close l (c ∷ []) P = []
-close l (c ∷ right ∷ us) P = cond (is_mark (codes ")") right) ((right ∷ us, pair_of l right ∷ P) ∷ []) []
+close token [] P = []
+close token (c ∷ []) P = []
+close token (c ∷ right ∷ us) P = cond (is_mark (codes ")") right) ((right ∷ us, pair_of token right ∷ P) ∷ []) []
 
 -- each number of pairs round the node, by the `(` that stand ahead
 abbrev pub groups : (List Token → List Result) → List Token → List Result
@@ -81,12 +81,12 @@ groups inner (b ∷ left ∷ ts) =
 
 -- the node spelled directly, and in groups, once its parts are
 abbrev pub directly : (List (PieceOf Role) → List Token → List Result) → Tree → Role → List Token → List Result
-directly inner n a ts =
-    filter (λ x. in_place a n ts x.0) (each (λ qs. inner qs ts) (ways a n))
+directly inner tree role tokens =
+    filter (λ x. in_place role tree tokens x.0) (each (λ qs. inner qs tokens) (ways role tree))
 
 abbrev pub everywhere : (List (PieceOf Role) → List Token → List Result) → Tree → Role → List Token → List Result
-everywhere inner n (expr y i f) ts = directly inner n (expr y i f) ts ++ groups (directly inner n (expr Expression true Any)) ts
-everywhere inner n a ts = directly inner n a ts
+everywhere inner tree (expr rank has_in start) tokens = directly inner tree (expr rank has_in start) tokens ++ groups (directly inner tree (expr Expression true Any)) tokens
+everywhere inner tree role tokens = directly inner tree role tokens
 
 -- the pieces from the next part on: none left, a gap, or a part
 abbrev pub at_end : List (PieceOf Role) → List Result → List Result
@@ -103,11 +103,11 @@ at_part _ f = []
 
 unfoldable mutual
   pub spelled : Tree → Role → List Token → List Result
-  spelled (node k w g s e ps) a ts = everywhere (λ qs us. parts_spelled ps qs us) (node k w g s e ps) a ts
+  spelled (node kind text flags from to parts) role tokens = everywhere (λ qs us. parts_spelled parts qs us) (node kind text flags from to parts) role tokens
 
   pub parts_spelled : Parts → List (PieceOf Role) → List Token → List Result
-  parts_spelled none qs ts = at_end (tail_pieces qs) (map (λ us. (us, [])) (lead_steps qs ts))
-  parts_spelled (gap ps) qs ts = at_gap (tail_pieces qs) (λ rest. each (λ us. parts_spelled ps rest us) (lead_steps qs ts))
-  parts_spelled (part n ps) qs ts =
+  parts_spelled none qs tokens = at_end (tail_pieces qs) (map (λ us. (us, [])) (lead_steps qs tokens))
+  parts_spelled (gap others) qs tokens = at_gap (tail_pieces qs) (λ rest. each (λ us. parts_spelled others rest us) (lead_steps qs tokens))
+  parts_spelled (part tree others) qs tokens =
       at_part (tail_pieces qs) (λ a rest.
-      each (λ us. each (λ x. map (λ y. (y.0, x.1 ++ y.1)) (parts_spelled ps rest x.0)) (spelled n a us)) (lead_steps qs ts))
+      each (λ us. each (λ x. map (λ y. (y.0, x.1 ++ y.1)) (parts_spelled others rest x.0)) (spelled tree a us)) (lead_steps qs tokens))

@@ -13,7 +13,7 @@ points_from (suc zero) v (c ∷ cs) = (v * 64 + (c - 0x80)) ∷ points_from 0 0 
 points_from (suc (suc n)) v (c ∷ cs) = points_from (suc n) (v * 64 + (c - 0x80)) cs
 
 abbrev pub points : List ℕ → List ℕ
-points w = points_from 0 0 w
+points text = points_from 0 0 text
 
 abbrev pub literal_units : List ℕ → List ℕ
-literal_units w = string_units (points w)
+literal_units text = string_units (points text)

@@ -1,35 +1,35 @@
 -- Tokens, as the table has them. A template's part has its raw value as its text, with its delimiters; the end of the text is a token too.
 use Rattle.std.specs.Prelude.{ℕ, Bool, true, false, ◌&&◌, List}
 use Rattle.std.specs.Str.{bytes_eq}
-use Rattle.tokens.specs.declared.token.Class.{Class}
+use Rattle.tokens.specs.declared.token.TokenClass.{TokenClass}
 use Rattle.tokens.specs.Templates.{raw_value}
 use Rattle.tokens.specs.Tokens.{LexicalToken}
-use Rattle.tokens.specs.declared.token.Class.TheVariants.{Name, Punctuator, Number, Text, Template, RegExp, End}
+use Rattle.tokens.specs.declared.token.TokenClass.TheVariants.{IdentifierName, Punctuator, NumericLiteral, StringLiteral, Template, RegularExpressionLiteral, End}
 
 abbrev pub Token : Type 0
 Token = LexicalToken
 
-abbrev pub same_class : Class → Class → Bool
-same_class Name Name = true
+abbrev pub same_class : TokenClass → TokenClass → Bool
+same_class IdentifierName IdentifierName = true
 same_class Punctuator Punctuator = true
-same_class Number Number = true
-same_class Text Text = true
+same_class NumericLiteral NumericLiteral = true
+same_class StringLiteral StringLiteral = true
 same_class Template Template = true
-same_class RegExp RegExp = true
+same_class RegularExpressionLiteral RegularExpressionLiteral = true
 same_class End End = true
 same_class _ _ = false
 
 -- the token has this class and text
-abbrev pub is_token : Class → List ℕ → Token → Bool
-is_token c w t = same_class c t.class && bytes_eq t.text w
+abbrev pub is_token : TokenClass → List ℕ → Token → Bool
+is_token token_class word token = same_class token_class token.class && bytes_eq token.text word
 
 abbrev pub is_mark : List ℕ → Token → Bool
-is_mark w t = is_token Punctuator w t
+is_mark text token = is_token Punctuator text token
 
 -- a template token's text with its line ends turned (11.8.6.1), any other token's as it stands
-abbrev pub table_text : Class → List ℕ → List ℕ
-table_text Template w = raw_value w
-table_text _ w = w
+abbrev pub table_text : TokenClass → List ℕ → List ℕ
+table_text Template text = raw_value text
+table_text _ text = text
 
 abbrev pub as_read : LexicalToken → Token
 as_read t = record t { text = table_text t.class t.text }

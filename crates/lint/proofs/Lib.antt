@@ -1,7 +1,7 @@
-pub mod Fixing
+pub mod FixAnswers
 pub mod Unwrapping
-pub mod Running
+pub mod RunAnswers
 pub mod OneScript
-pub mod Verifying
-pub mod Checking
-pub mod Planning
+pub mod VerifyAnswers
+pub mod CheckAnswers
+pub mod PlannedScripts

@@ -7,9 +7,9 @@ use Rattle.tree.specs.declared.kind.Pair.{Pair}
 use Rattle.tree.specs.Tree.{Tree, height}
 use Rattle.language.specs.Claims.{DerivesOpen, WithinLimits, max_height, max_open, short_bytes}
 use Rattle.early_errors.specs.Early.{Error, least, least_error}
-use Rattle.unambiguous.proofs.Steps.{one_script}
-use Rattle.descent.specs.Given.{Agrees}
-use Rattle.phrases.specs.Refusals.{IsRefusal}
+use Rattle.unambiguity_laws.proofs.Steps.{one_script}
+use Rattle.recursive_descent.specs.Completeness.{Agrees}
+use Rattle.parser_tables.specs.Refusals.{IsRefusal}
 use Rattle.lint.specs.ReadScripts.{IsOnly, HasEarlyError, RefusesReading}
 
 unlike : {x : Error} → None ≡ Some x → ⊥

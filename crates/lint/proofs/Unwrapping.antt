@@ -8,11 +8,11 @@ use Rattle.tree.specs.declared.kind.Pair.{Pair}
 use Rattle.early_errors.specs.Accepted.{Accepted}
 use Rattle.early_errors.proofs.Placeless.{none_either}
 use Rattle.language.specs.Claims.{Derives, Fewest, max_open}
-use Rattle.paren_planner.specs.declared.planned.Plan.{Plan}
+use Rattle.paren_planner.specs.declared.wrap_plan.Plan.{Plan}
 use Rattle.paren_planner.specs.Plans.{IsPlan}
 use Rattle.lint.specs.ReadScripts.{IsOnly}
 use Rattle.lint.specs.Unwraps.{Unwraps, IsUnwrapped, SpellsWith}
-use Rattle.lint.proofs.Fixing.{fewest}
+use Rattle.lint.proofs.FixAnswers.{fewest}
 use Rattle.lint.proofs.OneScript.{only_script}
 
 -- a tree with a plan is derived with as many pairs as the plan's total, and with no fewer

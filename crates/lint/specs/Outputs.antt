@@ -8,8 +8,8 @@ use Rattle.source_text.specs.declared.fault.Fault.{Fault}
 use Rattle.source_text.specs.declared.fault.Fault.TheVariants.{BadSettings, BadTable}
 use Rattle.source_text.specs.declared.fault.Reason.{Reason}
 use Rattle.source_text.specs.declared.fault.Reason.TheVariants as reason
-use Rattle.streams.specs.declared.command.Command.{Command}
-use Rattle.streams.specs.declared.command.Command.TheVariants.{Check, Tree, Fix, Cost, Verify}
+use Rattle.commands.specs.declared.command.Command.{Command}
+use Rattle.commands.specs.declared.command.Command.TheVariants.{Check, Tree, Fix, Cost, Verify}
 use Rattle.tree.specs.declared.kind.Pair.{Pair}
 use Rattle.tree.specs.declared.kind.Span.{Span}
 use Rattle.tree.specs.Tree.{Tree as SyntaxTree, SameTree}
@@ -21,7 +21,7 @@ use Rattle.language.specs.Cursor.{beginning}
 use Rattle.language.specs.Places.{SpellsIn, NextIn, itself}
 use Rattle.language.specs.Layout.{has_number, wrapped_rows}
 use Rattle.language.specs.Claims.{Table, Derives, Sound}
-use Rattle.language.specs.Laid.{Exact}
+use Rattle.language.specs.ExactCells.{Exact}
 use Rattle.estree_json.specs.Json.{json_text}
 use Rattle.paren_planner.specs.Tables.{MeetsBounds}
 use Rattle.paren_planner.specs.Wrapped.{is_flagged}

@@ -6,9 +6,9 @@ use Rattle.source_text.specs.Source.{IsRefusal, max_bytes}
 use Rattle.source_text.specs.Writing.{AppendsBeginning}
 use Rattle.source_text.specs.declared.fault.Fault.{Fault}
 use Rattle.source_text.specs.declared.fault.Fault.TheVariants.{NotUtf8, TooLong, OutOfMemory, ReadFailed, WriteFailed, BadSettings, BadTable}
-use Rattle.streams.specs.declared.command.Command.{Command}
-use Rattle.streams.specs.declared.refused.Refused.{Refused}
-use Rattle.streams.specs.Refused.{place_of}
+use Rattle.commands.specs.declared.command.Command.{Command}
+use Rattle.commands.specs.declared.refused.Refused.{Refused}
+use Rattle.commands.specs.Refused.{place_of}
 use Rattle.tree.specs.Tree.{Tree as SyntaxTree}
 use Rattle.tree.specs.declared.kind.Pair.{Pair}
 use Rattle.rules.specs.Reports.{Report}
@@ -88,8 +88,8 @@ FailsToRead command seen =
     ⊎ ((seen.reader_failed ≡ false) × (seen.second_failed ≡ true) × IsSome (second_limit command) × ReadsScript seen.given)
 
 -- the second file is refused, behind a script
-abbrev pub RefusesBehind : Command → Seen → Fault → Type 0
-RefusesBehind command seen fault = (read : ReadsBoth command seen.given seen.second) × RefusesSecond command read.script.tree read.second fault
+abbrev pub RefusesAfter : Command → Seen → Fault → Type 0
+RefusesAfter command seen fault = (read : ReadsBoth command seen.given seen.second) × RefusesSecond command read.script.tree read.second fault
 
 -- the text of the first file is refused, at this place
 abbrev pub RefusesFirst : Seen → Fault → ℕ × ℕ → Type 0
@@ -101,8 +101,8 @@ Refuses finds command seen ReadFailed place = (seen.writer_failed ≡ false) × 
 Refuses finds command seen WriteFailed place =
     (seen.reader_failed ≡ false) × (seen.second_failed ≡ false) × (seen.writer_failed ≡ true) × BeginsOutput finds command seen × (place ≡ (0, 0))
 Refuses finds command seen OutOfMemory place = NoneFailed seen × NothingWritten seen × (place ≡ (0, 0))
-Refuses finds command seen BadSettings place = NoneFailed seen × NothingWritten seen × RefusesBehind command seen BadSettings × (place ≡ (0, 0))
-Refuses finds command seen (BadTable row why) place = NoneFailed seen × NothingWritten seen × RefusesBehind command seen (BadTable row why) × (place ≡ (0, 0))
+Refuses finds command seen BadSettings place = NoneFailed seen × NothingWritten seen × RefusesAfter command seen BadSettings × (place ≡ (0, 0))
+Refuses finds command seen (BadTable row why) place = NoneFailed seen × NothingWritten seen × RefusesAfter command seen (BadTable row why) × (place ≡ (0, 0))
 Refuses finds command seen fault place = NoneFailed seen × NothingWritten seen × RefusesFirst seen fault place
 
 -- a run: the whole output and its status, or a refusal

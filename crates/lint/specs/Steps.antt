@@ -5,9 +5,9 @@ use Rattle.source_text.specs.Source.{max_bytes}
 use Rattle.source_text.specs.declared.fault.Fault.{Fault}
 use Rattle.source_text.specs.declared.fault.Fault.TheVariants.{OutOfMemory, ReadFailed, BadSettings, BadTable}
 use Rattle.source_text.specs.declared.fault.Reason.TheVariants as reason
-use Rattle.streams.specs.declared.command.Command.{Command}
-use Rattle.streams.specs.declared.command.Command.TheVariants.{Check, Verify}
-use Rattle.streams.specs.declared.refused.Refused.{Refused}
+use Rattle.commands.specs.declared.command.Command.{Command}
+use Rattle.commands.specs.declared.command.Command.TheVariants.{Check, Verify}
+use Rattle.commands.specs.declared.refused.Refused.{Refused}
 use Rattle.tree.specs.Tree.{Tree as SyntaxTree}
 use Rattle.tree.specs.declared.kind.Pair.{Pair}
 use Rattle.rules.specs.Reports.{Report}

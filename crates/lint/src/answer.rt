@@ -4,7 +4,7 @@ ghost use Rattle.std.specs.Prelude.{◌≡◌, false};
 ghost use Rattle.source_text.specs.Writing.{WritesText};
 ghost use Rattle.lint.specs.Steps.{output_of, status_of, IsWritable};
 
-use crate::fixer::write_fixed;
+use crate::fix_command::write_fixed;
 use cost_certificate::write_table;
 use paren_planner::Plan;
 use parser::Parsed;

@@ -1,22 +1,22 @@
 //! What each command answers of a script.
 
 ghost use Rattle.std.specs.Prelude.{◌≡◌, ◌≤◌, false, length, IfOk, None, string_bytes};
-ghost use Rattle.streams.specs.declared.command.Command.TheVariants.{Fix, Tree};
+ghost use Rattle.commands.specs.declared.command.Command.TheVariants.{Fix, Tree};
 ghost use Rattle.rules.specs.Run.{all_found};
 ghost use Rattle.lint.specs.ReadScripts.{IsReading};
 ghost use Rattle.lint.specs.Outputs.{second_limit, tree_line as tree_line_of};
 ghost use Rattle.lint.specs.Steps.{Answers, AnswersAlone, IsWritable};
 
 use crate::answer::Answer;
-use crate::certificate::{cost, verify};
-use crate::checker::check;
+use crate::check_command::check;
+use crate::cost_commands::{cost, verify};
+use commands::Command;
 use estree_json::tree_text;
 use paren_planner::plan;
 use parser::Parsed;
 use rules::Rule;
 use source_text::{Fault, Feed, Source};
 use std::alloc::{AllocError, Global};
-use streams::Command;
 
 /// The tree of a script as JSON, and a line feed.
 fn tree_line(alloc: Global, parsed: &Parsed<'_>) -> Result<String, AllocError>

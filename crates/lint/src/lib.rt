@@ -3,16 +3,16 @@
 //! Whole calls over a script: reading it, fixing it, and a run of a command over two readers and a writer.
 
 mod answer;
-mod certificate;
-mod checker;
+mod check_command;
 mod commands;
-mod fixer;
-mod reader;
+mod cost_commands;
+mod fix_command;
 pub mod run;
+mod script_reader;
 mod unwrap;
 mod unwrapping_fault;
 
-pub use fixer::{fix, fix_text};
-pub use reader::read_script;
+pub use fix_command::{fix, fix_text};
+pub use script_reader::read_script;
 pub use unwrap::unwrap_text;
 pub use unwrapping_fault::UnwrappingFault;

@@ -1,7 +1,7 @@
 //! A run of a command: read all, answer, write all.
 
 ghost use Rattle.std.specs.Prelude.{IfErr, IfOk, ◌≡◌, ◌≢◌, None, false};
-ghost use Rattle.streams.specs.Refused.{HasPlace, place_of};
+ghost use Rattle.commands.specs.Refused.{HasPlace, place_of};
 ghost use Rattle.rules.specs.Run.{all_found};
 ghost use Rattle.lint.specs.Outputs.{second_limit};
 ghost use Rattle.lint.specs.Run.{Runs};
@@ -9,11 +9,11 @@ ghost use Rattle.lint.specs.Steps.{AnswersBytes, IsWritable};
 
 use crate::answer::Answer;
 use crate::commands::answer;
-use crate::reader::read_script;
+use crate::script_reader::read_script;
+use commands::{Command, Refused, read_up_to};
 use rules::Rule;
 use source_text::{DeviceFault, Fault, Feed, MAX_BYTES, Sink, Source};
 use std::alloc::Global;
-use streams::{Command, Refused, read_up_to};
 
 /// A refusal of a text, with the line and the column of its place.
 fn refused_at(source: &Source<'_>, fault: Fault) -> Refused

@@ -5,7 +5,7 @@ ghost use Rattle.paren_planner.specs.Plans.{IsPlan};
 ghost use Rattle.lint.specs.ReadScripts.{IsReading};
 ghost use Rattle.lint.specs.Unwraps.{Unwraps, IsUnwrapped, HasNoRoom, IsUnfit, RefusesUnwrapping, SpellsWith};
 
-use crate::reader::read_script;
+use crate::script_reader::read_script;
 use crate::unwrapping_fault::UnwrappingFault;
 use paren_planner::{Plan, plan};
 use parser::{Parsed, parse};

@@ -1,4 +1,4 @@
-mod Drawing
+mod DeclarableNames
 pub mod EachPart
 pub mod Patterns
 mod Places

@@ -3,8 +3,8 @@ use Rattle.std.proofs.Common.{◌≡◌, ℕ, zero, suc, ◌+◌, ◌-◌, List,
 use Rattle.tree.specs.declared.kind.Kind.{Kind}
 use Rattle.tree.specs.declared.kind.Kind.TheVariants.{Identifier, ArrayPattern, ObjectPattern, RestElement, AssignmentPattern, Property}
 use Rattle.tree.specs.Tree.{Tree, Parts, none, part, gap, node, kind_of, parts_of, part_at, part_count}
-use Rattle.name_tables.specs.declared.bound.Pattern.{Pattern}
-use Rattle.name_tables.specs.declared.bound.Pattern.TheVariants.{Name, AllParts, FirstPart, LastPart, Nothing}
+use Rattle.name_tables.specs.declared.bound.PatternNames.{PatternNames}
+use Rattle.name_tables.specs.declared.bound.PatternNames.TheVariants.{Name, AllParts, FirstPart, LastPart, Nothing}
 use Rattle.name_tables.specs.PatternParts.{at_part, pattern_of}
 use Rattle.name_tables.specs.BoundNames.{each_part, bound_names, all_bound_names, first_bound_names, last_bound_names}
 
@@ -46,7 +46,7 @@ module _ {B : Type 0} (f : Tree → B) where
   last_bound_names-at (part t ps) = last-bound (part t ps) (part_count ps) (add-one (part_count ps)) ∙ ap (λ k. at_part (bound_names f) (part_at (part t ps) k)) (less (part_count ps))
   last_bound_names-at (gap ps) = last-bound (gap ps) (part_count ps) (add-one (part_count ps)) ∙ ap (λ k. at_part (bound_names f) (part_at (gap ps) k)) (less (part_count ps))
 
-  abbrev given_by : Pattern → Tree → List B
+  abbrev given_by : PatternNames → Tree → List B
   given_by Name t = f t ∷ []
   given_by AllParts t = each_part (bound_names f) (parts_of t)
   given_by FirstPart t = at_part (bound_names f) (part_at (parts_of t) 0)
@@ -63,5 +63,5 @@ module _ {B : Type 0} (f : Tree → B) where
   names_by_kind (node Property w g s e ps) = last_bound_names-at ps
   names_by_kind (node _ w g s e ps) = refl
 
-  pub names_given : (t : Tree) (k : Kind) (p : Pattern) → k ≡ kind_of t → p ≡ pattern_of k → bound_names f t ≡ given_by p t
+  pub names_given : (t : Tree) (k : Kind) (p : PatternNames) → k ≡ kind_of t → p ≡ pattern_of k → bound_names f t ≡ given_by p t
   names_given t k p e h = names_by_kind t ∙ ap (λ x. given_by x t) (sym (h ∙ ap pattern_of e))

@@ -51,14 +51,14 @@ is_identifier _ = false
 
 unfoldable mutual
   -- the names that scopes may declare, among some parts and in them: those among them only where `b` says so
-  pub drawn_parts : Bool → Parts → List (List ℕ)
-  drawn_parts b none = []
-  drawn_parts b (part t ps) = drawn_part b t ++ drawn_parts b ps
-  drawn_parts b (gap ps) = drawn_parts b ps
+  pub declarable_names_of_parts : Bool → Parts → List (List ℕ)
+  declarable_names_of_parts b none = []
+  declarable_names_of_parts b (part t ps) = declarable_names_of_part b t ++ declarable_names_of_parts b ps
+  declarable_names_of_parts b (gap ps) = declarable_names_of_parts b ps
 
-  pub drawn_part : Bool → Tree → List (List ℕ)
-  drawn_part b (node k w g s e ps) = cond (is_identifier k) (cond b (w ∷ []) []) (drawn_parts (may_declare k) ps)
+  pub declarable_names_of_part : Bool → Tree → List (List ℕ)
+  declarable_names_of_part b (node k w g s e ps) = cond (is_identifier k) (cond b (w ∷ []) []) (declarable_names_of_parts (may_declare k) ps)
 
 -- the names in a tree that scopes may declare
-abbrev pub drawn : Tree → List (List ℕ)
-drawn t = drawn_parts (may_declare (kind_of t)) (parts_of t)
+abbrev pub declarable_names : Tree → List (List ℕ)
+declarable_names t = declarable_names_of_parts (may_declare (kind_of t)) (parts_of t)

@@ -4,8 +4,8 @@ use Rattle.tree.specs.declared.kind.Kind.{Kind}
 use Rattle.tree.specs.declared.kind.Kind.TheVariants.{Identifier, ArrayPattern, ObjectPattern, AssignmentPattern, RestElement, Property}
 use Rattle.tree.specs.Tree.{Tree, text_of, start_of, stop_of}
 use Rattle.name_tables.specs.declared.bound.BoundName.{BoundName}
-use Rattle.name_tables.specs.declared.bound.Pattern.{Pattern}
-use Rattle.name_tables.specs.declared.bound.Pattern.TheVariants.{Name, AllParts, FirstPart, LastPart, Nothing}
+use Rattle.name_tables.specs.declared.bound.PatternNames.{PatternNames}
+use Rattle.name_tables.specs.declared.bound.PatternNames.TheVariants.{Name, AllParts, FirstPart, LastPart, Nothing}
 
 -- what a part gives that may be missing
 abbrev pub at_part : {B : Type 0} → (Tree → List B) → Option Tree → List B
@@ -30,7 +30,7 @@ abbrev pub all_bound : {H : Type 0} → List (BoundName H) → List (Bound H)
 all_bound xs = map bound xs
 
 -- which parts of a node have the names that it binds, by its kind
-abbrev pub pattern_of : Kind → Pattern
+abbrev pub pattern_of : Kind → PatternNames
 pattern_of Identifier = Name
 pattern_of ArrayPattern = AllParts
 pattern_of ObjectPattern = AllParts

@@ -3,15 +3,15 @@ use Rattle.std.specs.Prelude.{◌≡◌, ℕ, cond, List, [], ◌∷◌, Option,
 use Rattle.std.specs.Str.{bytes_eq}
 use Rattle.indexmap.specs.IndexMap.{get_by}
 use Rattle.name_tables.specs.declared.table.NameTable.{NameTable}
-use Rattle.name_tables.specs.declared.table.Saved.{Saved}
+use Rattle.name_tables.specs.declared.table.SavedName.{SavedName}
 
 abbrev pub value_of : {V : Type 0} → Option (Option V) → Option V
 value_of None = None
 value_of (Some o) = o
 
 -- what a name stands for in a table
-abbrev pub look : {V : Type 0} → NameTable V → List ℕ → Option V
-look t w = value_of (get_by (λ k. bytes_eq w k.now) t.entries)
+abbrev pub value_at : {V : Type 0} → NameTable V → List ℕ → Option V
+value_at t w = value_of (get_by (λ k. bytes_eq w k.now) t.entries)
 
 -- the same, with another value at one name
 abbrev pub with_value : {V : Type 0} → (List ℕ → Option V) → List ℕ → Option V → List ℕ → Option V
@@ -22,6 +22,6 @@ abbrev pub Agree : {V : Type 0} → (f g : List ℕ → Option V) → Type 0
 Agree f g = (w : List ℕ) → f w ≡ g w
 
 -- with what names stood for before, the last first
-abbrev pub undone : {V : Type 0} → (List ℕ → Option V) → List (Saved V) → List ℕ → Option V
+abbrev pub undone : {V : Type 0} → (List ℕ → Option V) → List (SavedName V) → List ℕ → Option V
 undone f [] = f
 undone f (x ∷ xs) = with_value (undone f xs) x.name.now x.value

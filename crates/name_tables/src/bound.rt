@@ -23,7 +23,7 @@ pub struct BoundName<'t, H> {
 
 /// Which parts of a node have the names that it binds as a pattern.
 #[derive(Clone, Copy)]
-pub enum Pattern {
+pub enum PatternNames {
     /// The node itself: it is an identifier.
     Name,
     /// All that it has, as an array's elements.
@@ -37,15 +37,15 @@ pub enum Pattern {
 }
 
 /// Which parts of a node of this kind have the names that it binds.
-pub fn pattern_of(kind: Kind) -> Pattern
+pub fn pattern_names_of(kind: Kind) -> PatternNames
     ensures { result ≡ pattern_of kind }
 {
     match kind {
-        Kind::Identifier => Pattern::Name,
-        Kind::ArrayPattern | Kind::ObjectPattern | Kind::RestElement => Pattern::AllParts,
-        Kind::AssignmentPattern => Pattern::FirstPart,
-        Kind::Property => Pattern::LastPart,
-        _ => Pattern::Nothing,
+        Kind::Identifier => PatternNames::Name,
+        Kind::ArrayPattern | Kind::ObjectPattern | Kind::RestElement => PatternNames::AllParts,
+        Kind::AssignmentPattern => PatternNames::FirstPart,
+        Kind::Property => PatternNames::LastPart,
+        _ => PatternNames::Nothing,
     }
 }
 
@@ -70,12 +70,12 @@ pub fn push_names<'t, H: Copy>(
 ) -> Result<(), AllocError>
     ensures { OnOk result (all_bound names.new.items ≡ all_bound names.old.items ++ bound_names (bound_as how) (node_tree node.entry)) }
 {
-    match pattern_of(node.kind()) {
-        Pattern::Name => push_name(node, how, names),
-        Pattern::AllParts => push_all_names(node, how, names),
-        Pattern::FirstPart => push_part_names(node.part(0), how, names),
-        Pattern::LastPart => push_part_names(last_part(node), how, names),
-        Pattern::Nothing => Ok(()),
+    match pattern_names_of(node.kind()) {
+        PatternNames::Name => push_name(node, how, names),
+        PatternNames::AllParts => push_all_names(node, how, names),
+        PatternNames::FirstPart => push_part_names(node.part(0), how, names),
+        PatternNames::LastPart => push_part_names(last_part(node), how, names),
+        PatternNames::Nothing => Ok(()),
     }
 }
 

@@ -2,7 +2,7 @@
 
 ghost use Rattle.std.specs.Prelude.{◌≡◌};
 ghost use Rattle.tree.specs.Node.{node_tree};
-ghost use Rattle.name_tables.specs.Keys.{drawn, drawn_part, is_identifier, key_of, keyed_by, may_declare, nothing_read, read_name, read_names};
+ghost use Rattle.name_tables.specs.Keys.{declarable_names, declarable_names_of_part, is_identifier, key_of, keyed_by, may_declare, nothing_read, read_name, read_names};
 
 use std::hash::{BuildHasher, DefaultHasher, Hash, Hasher};
 use tree::{Kind, Node};
@@ -18,10 +18,10 @@ pub struct HashKey {
 impl HashKey {
     /// The key that is drawn from all names of a tree that scopes may declare.
     pub fn drawn_from(root: Node) -> HashKey
-        ensures { result.keyed ≡ key_of (drawn (node_tree root.entry)) }
+        ensures { result.keyed ≡ key_of (declarable_names (node_tree root.entry)) }
     {
         let mut builder = KeyBuilder::new();
-        draw(root, &mut builder);
+        add_declarable_names(root, &mut builder);
         builder.build()
     }
 }
@@ -77,14 +77,14 @@ impl BuildHasher for HashKey {
 /// Draws the names in a node that scopes may declare.
 #[cycle(drawing)]
 #[tactic(auto, using(tree::proofs::PartWalk::part_steps))]
-fn draw(node: Node, builder: &mut KeyBuilder)
-    ensures { builder.new.hasher ≡ read_names builder.old.hasher (drawn (node_tree node.entry)) }
+fn add_declarable_names(node: Node, builder: &mut KeyBuilder)
+    ensures { builder.new.hasher ≡ read_names builder.old.hasher (declarable_names (node_tree node.entry)) }
 {
     let declares = may_declare(node.kind());
     let parts = node.parts();
     for index in 0..parts.len() {
         if let Some(part) = parts.get(index) {
-            draw_part(part, declares, builder);
+            add_declarable_names_of_part(part, declares, builder);
         }
     }
 }
@@ -92,11 +92,11 @@ fn draw(node: Node, builder: &mut KeyBuilder)
 /// Those of a part: a name only where the node above may declare it.
 #[cycle(drawing)]
 #[tactic(auto, using(tree::proofs::PartWalk::part_steps))]
-fn draw_part(part: Node, declares: bool, builder: &mut KeyBuilder)
-    ensures { builder.new.hasher ≡ read_names builder.old.hasher (drawn_part declares (node_tree part.entry)) }
+fn add_declarable_names_of_part(part: Node, declares: bool, builder: &mut KeyBuilder)
+    ensures { builder.new.hasher ≡ read_names builder.old.hasher (declarable_names_of_part declares (node_tree part.entry)) }
 {
     if !is_identifier(part.kind()) {
-        draw(part, builder);
+        add_declarable_names(part, builder);
     } else if declares {
         builder.add(part.text());
     }

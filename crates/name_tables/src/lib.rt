@@ -7,7 +7,9 @@ mod key;
 mod set;
 mod table;
 
-pub use bound::{BoundName, Pattern, last_part, pattern_of, push_names, push_part_names};
+pub use bound::{
+    BoundName, PatternNames, last_part, pattern_names_of, push_names, push_part_names,
+};
 pub use key::{HashKey, KeyBuilder};
 pub use set::NameSet;
-pub use table::{NameTable, Saved};
+pub use table::{NameTable, SavedName};

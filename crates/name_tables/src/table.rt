@@ -3,7 +3,7 @@
 ghost use Rattle.std.specs.Prelude.{◌≡◌, IfOk, OnErr, OnOk, None};
 ghost use Rattle.std.specs.Bool.{OnFalse, OnTrue};
 ghost use Rattle.indexmap.specs.IndexMap.{hasher_of};
-ghost use Rattle.name_tables.specs.Tables.{Agree, look, with_value};
+ghost use Rattle.name_tables.specs.Tables.{Agree, value_at, with_value};
 
 use crate::key::HashKey;
 use indexmap::IndexMap;
@@ -18,7 +18,7 @@ pub struct NameTable<'t, V> {
 
 /// A name that was saved: what it stood for then, and its place in the table.
 #[derive(Clone, Copy)]
-pub struct Saved<'t, V> {
+pub struct SavedName<'t, V> {
     name: &'t str,
     place: usize,
     pub value: Option<V>,
@@ -27,7 +27,7 @@ pub struct Saved<'t, V> {
 impl<'t, V: Copy> NameTable<'t, V> {
     /// No name stands for anything; names are hashed under this key.
     pub fn new(alloc: Global, key: HashKey) -> NameTable<'t, V>
-        ensures empty { Agree (look result) (λ _. None) }
+        ensures empty { Agree (value_at result) (λ _. None) }
         ensures hasher { hasher_of result.entries ≡ key }
     {
         NameTable {
@@ -37,7 +37,7 @@ impl<'t, V: Copy> NameTable<'t, V> {
 
     /// What a name stands for.
     pub fn value(&self, name: &str) -> Option<V>
-        ensures { result ≡ look self.now name.now }
+        ensures { result ≡ value_at self.now name.now }
     {
         match self.entries.get(name) {
             Some(value) => *value,
@@ -46,29 +46,29 @@ impl<'t, V: Copy> NameTable<'t, V> {
     }
 
     /// Saves a name: answers what it stands for, with its place, so that it isn't looked up again by `set`.
-    pub fn save(&mut self, name: &'t str) -> Result<Saved<'t, V>, AllocError>
+    pub fn save(&mut self, name: &'t str) -> Result<SavedName<'t, V>, AllocError>
         ensures name { IfOk result (λ s. s.name.now ≡ name.now) }
-        ensures value { IfOk result (λ s. s.value ≡ look self.old name.now) }
-        ensures same { OnOk result (Agree (look self.new) (look self.old)) }
-        ensures err { OnErr result (Agree (look self.new) (look self.old)) }
+        ensures value { IfOk result (λ s. s.value ≡ value_at self.old name.now) }
+        ensures same { OnOk result (Agree (value_at self.new) (value_at self.old)) }
+        ensures err { OnErr result (Agree (value_at self.new) (value_at self.old)) }
     {
         let (place, before) = self.entries.insert_full(name, None)?;
         let Some(value) = before else {
-            return Ok(Saved {
+            return Ok(SavedName {
                 name,
                 place,
                 value: None,
             });
         };
         self.entries[place] = value;
-        Ok(Saved { name, place, value })
+        Ok(SavedName { name, place, value })
     }
 
     /// Lets a saved name stand for something else. It is looked up only where another name stands at its place, as in another
     /// table than the one that saved it.
-    pub fn set(&mut self, saved: &Saved<'t, V>, value: Option<V>) -> Result<(), AllocError>
-        ensures ok { OnOk result (Agree (look self.new) (with_value (look self.old) saved.now.name.now value)) }
-        ensures err { OnErr result (Agree (look self.new) (look self.old)) }
+    pub fn set(&mut self, saved: &SavedName<'t, V>, value: Option<V>) -> Result<(), AllocError>
+        ensures ok { OnOk result (Agree (value_at self.new) (with_value (value_at self.old) saved.now.name.now value)) }
+        ensures err { OnErr result (Agree (value_at self.new) (value_at self.old)) }
     {
         if self.write(saved, value) {
             return Ok(());
@@ -78,8 +78,8 @@ impl<'t, V: Copy> NameTable<'t, V> {
     }
 
     /// Writes at a name's place, if the name stands there.
-    fn write(&mut self, saved: &Saved<'t, V>, value: Option<V>) -> bool
-        ensures written { OnTrue result (Agree (look self.new) (with_value (look self.old) saved.now.name.now value)) }
+    fn write(&mut self, saved: &SavedName<'t, V>, value: Option<V>) -> bool
+        ensures written { OnTrue result (Agree (value_at self.new) (with_value (value_at self.old) saved.now.name.now value)) }
         ensures same { OnFalse result (self.new ≡ self.old) }
     {
         if saved.place >= self.entries.len() {

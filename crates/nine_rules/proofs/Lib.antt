@@ -1,1 +1,1 @@
-pub mod Ruling
+pub mod RuleLists

@@ -4,9 +4,9 @@ use Rattle.lint.specs.Run.{Runs, Seen}
 use Rattle.rules.specs.Reports.{Report}
 use Rattle.rules.specs.Rules.{View, eqeqeq, no_debugger, no_empty, no_extra_parens, no_shadow, no_undef, no_unused_vars, no_var, prefer_const}
 use Rattle.rules.specs.Run.{all_found}
-use Rattle.streams.specs.declared.command.Command.{Command}
-use Rattle.streams.specs.declared.command.Command.TheVariants.{Check}
-use Rattle.streams.specs.declared.refused.Refused.{Refused}
+use Rattle.commands.specs.declared.command.Command.{Command}
+use Rattle.commands.specs.declared.command.Command.TheVariants.{Check}
+use Rattle.commands.specs.declared.refused.Refused.{Refused}
 
 -- a rule: what it is called in settings, and what it finds
 pub record NamedRule : Type 0 where

@@ -4,9 +4,10 @@
 
 ghost use Rattle.std.specs.Prelude.{◌≡◌, ◌≢◌, IfErr, false};
 ghost use Rattle.source_text.specs.declared.fault.Fault.TheVariants.{Usage};
-ghost use Rattle.streams.specs.declared.command.Command.TheVariants.{Check};
+ghost use Rattle.commands.specs.declared.command.Command.TheVariants.{Check};
 ghost use Rattle.nine_rules.specs.NineRules.{FindAs, RunsByRules};
 
+use commands::{Command, Refused};
 use lint::run::run;
 use rules::{
     EqEqEq, NoDebugger, NoEmpty, NoExtraParens, NoShadow, NoUndef, NoUnusedVars, NoVar,
@@ -14,7 +15,6 @@ use rules::{
 };
 use source_text::{Feed, Sink};
 use std::alloc::Global;
-use streams::{Command, Refused};
 
 /// Runs `check` with these rules, which find what the nine find.
 fn check_by<F: Feed, S: Feed, W: Sink>(

@@ -4,21 +4,21 @@ use Rattle.std.proofs.lemmas.Bool.{false≢true, true≢false}
 use Rattle.tree.specs.Tree.{Tree, node, Parts, none, part, kind_of, parts_of}
 use Rattle.language.specs.declared.Rank.{Rank}
 use Rattle.language.specs.declared.Rank.TheVariants.{Primary}
-use Rattle.positions.specs.Outlines.{leaf}
+use Rattle.spellings.specs.Outlines.{leaf}
 use Rattle.language.specs.declared.Start.{Start}
-use Rattle.language.specs.Pieces.{Role, expr, spine, pattern, script, Slot, fixed, left as left_slot, lead, tail, callee, lead_spine, lead_pattern}
+use Rattle.language.specs.Pieces.{Role, expr, chain_part, pattern, script, Slot, fixed, left as left_slot, lead, tail, callee, lead_chain, lead_pattern}
 use Rattle.language.specs.Grammar.{ways}
-use Rattle.language.specs.Positions.{first_roles, widest}
+use Rattle.language.specs.RowPositions.{first_roles, widest}
 use Rattle.language.specs.Cost.{add_cost, least}
-use Rattle.positions.specs.declared.outline.Outline.{Outline}
-use Rattle.positions.specs.declared.spelled.Spelled.{Spelled}
-use Rattle.positions.specs.Spelled.{fits_outline, settled_roles}
-use Rattle.positions.specs.Remaining.{left}
-use Rattle.positions.specs.Wherever.{with_own, IsSpelledWherever}
+use Rattle.spellings.specs.declared.outline.Outline.{Outline}
+use Rattle.spellings.specs.declared.spelled_node.NodeSpelling.{NodeSpelling}
+use Rattle.spellings.specs.Spelled.{fits_outline, settled_roles}
+use Rattle.spellings.specs.Remaining.{left}
+use Rattle.spellings.specs.Wherever.{with_own, IsSpelledWherever}
 use Rattle.paren_planner.specs.declared.costs.Costs as own
-use Rattle.paren_planner.specs.declared.weighed.Weighed.{Weighed}
+use Rattle.paren_planner.specs.declared.node_costs.NodeCosts.{NodeCosts}
 use Rattle.paren_planner.specs.declared.table.Row.{Row}
-use Rattle.paren_planner.specs.declared.steps.Visit.{Visit}
+use Rattle.paren_planner.specs.declared.steps.NodeStep.{NodeStep}
 use Rattle.paren_planner.specs.declared.steps.Step.{Step}
 use Rattle.paren_planner.specs.declared.steps.Step.TheVariants.{Leaf, Enter, Leave}
 use Rattle.paren_planner.specs.Costs.{capped, capped_sum, each, cost_at, sums, same_everywhere, cells_at}
@@ -29,7 +29,7 @@ use Rattle.paren_planner.specs.Noted.{IsVisit, Steps, unspelled, alone, around, 
 use Rattle.paren_planner.proofs.Plainly.{plain_uses, free_row_at}
 use Rattle.paren_planner.proofs.Sums.{sums-assoc, sums-zero, zero-zero, zero-sums}
 use Rattle.paren_planner.proofs.Known.{least_known}
-use Rattle.paren_planner.proofs.Filled.{sums-part, sums-gap, sums-end, sums-stop, table-part, table-gap, table-end, table-stop, table-empty, weighed_some, weighed_none, roles_some, roles_none}
+use Rattle.paren_planner.proofs.NodeRowNumbers.{sums-part, sums-gap, sums-end, sums-stop, table-part, table-gap, table-end, table-stop, table-empty, weighed_some, weighed_none, roles_some, roles_none}
 
 -- Sums in the other order
 
@@ -68,10 +68,10 @@ own_row_at (left_slot y) a r = refl
 own_row_at (lead y) a r = refl
 own_row_at (tail y x) a r = refl
 own_row_at callee a r = refl
-own_row_at lead_spine a r = refl
+own_row_at lead_chain a r = refl
 own_row_at lead_pattern a r = refl
 
-own_row_of : (p : Role) (n : Tree) (w : Weighed) → IsWeighed p n w → own_row p (row_with (kind_of n) w.costs) ≡ own_row p (row_of n)
+own_row_of : (p : Role) (n : Tree) (w : NodeCosts) → IsWeighed p n w → own_row p (row_with (kind_of n) w.costs) ≡ own_row p (row_of n)
 unfolding row_of cells_at
 own_row_of (expr y i f) n w h = ap (λ c. row_with (kind_of n) c ∷ []) h.costs
 own_row_of _ n w h = refl
@@ -84,7 +84,7 @@ rows_of_node (node k w g s e ps) p = refl
 abbrev below : Tree → Role → List Row
 below n p = parts_table (parts_of n) (first_roles (ways (widest p) n))
 
-visit_row : (a : Role) (s : Slot) (n : Tree) (v : Visit) (c : own.Costs) (w : Weighed) → IsVisit a s n v → weighed_of v c ≡ w → IsWeighed (settled_at a s) n w → row_of_visit v c ≡ own_row (settled_at a s) (row_of n)
+visit_row : (a : Role) (s : Slot) (n : Tree) (v : NodeStep) (c : own.Costs) (w : NodeCosts) → IsVisit a s n v → weighed_of v c ≡ w → IsWeighed (settled_at a s) n w → row_of_visit v c ≡ own_row (settled_at a s) (row_of n)
 visit_row a s n v c w i e h =
     (λ j. cond (has_row_at (i.slot j)) (row_with (i.kind j) (e j).costs ∷ []) [])
     ∙ own_row_at s a (row_with (kind_of n) w.costs) ∙ own_row_of (settled_at a s) n w h
@@ -92,31 +92,31 @@ visit_row a s n v c w i e h =
 -- A node that is joined to those behind it
 
 pub record Joined (a : Role) (s : Slot) (n : Tree) (t u : Sums) : Type 0 where
-  pub weighed : Weighed
+  pub weighed : NodeCosts
   pub known : IsWeighed (settled_at a s) n weighed
   pub is : u ≡ record { here = sums t.here (uses a s weighed); outer = t.outer; rows = table_rows n (settled_at a s) ++ t.rows }
 
-joined_node : (a : Role) (s : Slot) (n : Tree) (v : Visit) (c : own.Costs) (w : Weighed) (t : Sums) → IsVisit a s n v → weighed_of v c ≡ w → IsWeighed (settled_at a s) n w →
+joined_node : (a : Role) (s : Slot) (n : Tree) (v : NodeStep) (c : own.Costs) (w : NodeCosts) (t : Sums) → IsVisit a s n v → weighed_of v c ≡ w → IsWeighed (settled_at a s) n w →
     joined v c (record { here = t.here; outer = t.outer; rows = below n (settled_at a s) ++ t.rows }) ≡ record { here = sums t.here (uses a s w); outer = t.outer; rows = table_rows n (settled_at a s) ++ t.rows }
 joined_node a s n v c w t i e h =
     let r : row_of_visit v c ++ (below n (settled_at a s) ++ t.rows) ≡ table_rows n (settled_at a s) ++ t.rows =
     ap (λ u. u ++ (below n (settled_at a s) ++ t.rows)) (visit_row a s n v c w i e h) ∙ sym (append_assoc (own_row (settled_at a s) (row_of n)) (below n (settled_at a s)) t.rows) ∙ ap (λ u. u ++ t.rows) (rows_of_node n (settled_at a s)) in
     λ j. record { here = sums t.here (uses (i.above j) (i.slot j) (e j)); outer = t.outer; rows = r j }
 
-labelled : (a : Role) (s : Slot) (n : Tree) (v : Visit) (x : Outline) (c : own.Costs) → IsVisit a s n v → v.label ≡ Some (label_of x) →
+labelled : (a : Role) (s : Slot) (n : Tree) (v : NodeStep) (x : Outline) (c : own.Costs) → IsVisit a s n v → v.label ≡ Some (label_of x) →
     weighed_of v c ≡ record { outline = Some (outline_of (label_of x)); costs = fitting (widest (settled_at a s)) x c }
 labelled a s n v x c i l =
     (λ j. weighed_as (widest (settled_at (i.above j) (i.slot j))) (l j) c)
     ∙ ap (λ d. record { outline = Some (outline_of (label_of x)); costs = d }) (fitting_outlined (widest (settled_at a s)) x c)
 
-unlabelled : (a : Role) (s : Slot) (n : Tree) (v : Visit) (c : own.Costs) → IsVisit a s n v → v.label ≡ None → weighed_of v c ≡ record { outline = None; costs = same_everywhere None }
+unlabelled : (a : Role) (s : Slot) (n : Tree) (v : NodeStep) (c : own.Costs) → IsVisit a s n v → v.label ≡ None → weighed_of v c ≡ record { outline = None; costs = same_everywhere None }
 unlabelled a s n v c i l = λ j. weighed_as (widest (settled_at (i.above j) (i.slot j))) (l j) c
 
 nothing_below : (n : Tree) (p : Role) → (parts_of n ≡ none) → below n p ≡ []
 nothing_below n p h = ap (λ ps. parts_table ps (first_roles (ways (widest p) n))) h ∙ table-end (first_roles (ways (widest p) n))
 
 -- of what is spelled, with the sums over its parts
-spelled_node : (a : Role) (s : Slot) (n : Tree) (v : Visit) (x : Spelled) (c : own.Costs) (t : Sums) → IsVisit a s n v → v.label ≡ Some (label_of x.outline) → IsSpelledWherever (widest (settled_at a s)) n (Some x) →
+spelled_node : (a : Role) (s : Slot) (n : Tree) (v : NodeStep) (x : NodeSpelling) (c : own.Costs) (t : Sums) → IsVisit a s n v → v.label ≡ Some (label_of x.outline) → IsSpelledWherever (widest (settled_at a s)) n (Some x) →
     c ≡ sums_over (parts_of n) (widest (settled_at a s)) (left x.slots) → (u : Sums) → u ≡ joined v c (record { here = t.here; outer = t.outer; rows = below n (settled_at a s) ++ t.rows }) → Joined a s n t u
 spelled_node a s n v x c t i l k e u h =
     let d : own.Costs = fitting (widest (settled_at a s)) x.outline c in
@@ -129,11 +129,11 @@ unfolding taken_from
 taken_append [] ys t = refl
 taken_append (x ∷ xs) ys t = ap (taken x) (taken_append xs ys t)
 
-taken_leaf : (v : Visit) (t : Sums) → taken_from (Leaf v ∷ []) t ≡ joined v no_pairs t
+taken_leaf : (v : NodeStep) (t : Sums) → taken_from (Leaf v ∷ []) t ≡ joined v no_pairs t
 unfolding taken_from
 taken_leaf v t = refl
 
-taken_around : (v : Visit) (ys : List Step) (t : Sums) → taken_from (Enter v ∷ (ys ++ Leave ∷ [])) t ≡ taken (Enter v) (taken_from ys (record { here = no_pairs; outer = t.here ∷ t.outer; rows = t.rows }))
+taken_around : (v : NodeStep) (ys : List Step) (t : Sums) → taken_from (Enter v ∷ (ys ++ Leave ∷ [])) t ≡ taken (Enter v) (taken_from ys (record { here = no_pairs; outer = t.here ∷ t.outer; rows = t.rows }))
 unfolding taken_from
 taken_around v ys t = ap (taken (Enter v)) (taken_append ys (Leave ∷ []) t)
 
@@ -149,7 +149,7 @@ rowless_free (left_slot y) z h = absurd (true≢false h)
 rowless_free (lead y) z h = absurd (true≢false h)
 rowless_free (tail y x) z h = absurd (true≢false h)
 rowless_free callee z h = absurd (true≢false h)
-rowless_free lead_spine z h = refl
+rowless_free lead_chain z h = refl
 rowless_free lead_pattern z h = refl
 
 pub settled_rowless : (s : Slot) → is_settled_slot s ≡ true → has_row_at s ≡ false
@@ -159,13 +159,13 @@ settled_rowless (left_slot y) h = absurd (false≢true h)
 settled_rowless (lead y) h = absurd (false≢true h)
 settled_rowless (tail y x) h = absurd (false≢true h)
 settled_rowless callee h = absurd (false≢true h)
-settled_rowless lead_spine h = absurd (false≢true h)
+settled_rowless lead_chain h = absurd (false≢true h)
 settled_rowless lead_pattern h = absurd (false≢true h)
 
 settled_role : (ps : Parts) (b : Role) (x : Outline) (ss : List Slot) → is_settled b ≡ true → (a : Role) →
     sums_over ps (widest b) ss ≡ uses a (fixed b) (record { outline = Some x; costs = fitting (widest b) x (sums_over ps (widest b) ss) })
 settled_role ps (expr y i f) x ss h a = absurd (false≢true h)
-settled_role ps (spine f) x ss h a = absurd (false≢true h)
+settled_role ps (chain_part f) x ss h a = absurd (false≢true h)
 settled_role ps (pattern c f) x ss h a = absurd (false≢true h)
 settled_role ps b x ss h a = refl
 
@@ -176,7 +176,7 @@ settled_uses ps a (left_slot y) x ss h = absurd (false≢true h)
 settled_uses ps a (lead y) x ss h = absurd (false≢true h)
 settled_uses ps a (tail y f) x ss h = absurd (false≢true h)
 settled_uses ps a callee x ss h = absurd (false≢true h)
-settled_uses ps a lead_spine x ss h = absurd (false≢true h)
+settled_uses ps a lead_chain x ss h = absurd (false≢true h)
 settled_uses ps a lead_pattern x ss h = absurd (false≢true h)
 
 -- without parts, and with the numbers that its spelling leaves of none
@@ -184,7 +184,7 @@ record Bare (a : Role) (s : Slot) (n : Tree) (x : Outline) : Type 0 where
   known : IsWeighed (settled_at a s) n (record { outline = Some (outline_of (label_of x)); costs = fitting (widest (settled_at a s)) x no_pairs })
   uses : (is_plain_outline x ≡ true) → (slot_free s x.rank ≡ true) → uses a s (record { outline = Some (outline_of (label_of x)); costs = fitting (widest (settled_at a s)) x no_pairs }) ≡ no_pairs
 
-bare : (a : Role) (s : Slot) (n : Tree) (x : Spelled) → IsSpelledWherever (widest (settled_at a s)) n (Some x) → parts_of n ≡ none → Bare a s n x.outline
+bare : (a : Role) (s : Slot) (n : Tree) (x : NodeSpelling) → IsSpelledWherever (widest (settled_at a s)) n (Some x) → parts_of n ≡ none → Bare a s n x.outline
 bare a s n x k e =
     let b : Role = widest (settled_at a s) in
     let o : Outline = outline_of (label_of x.outline) in
@@ -194,7 +194,7 @@ bare a s n x k e =
       uses = λ p f. ap (λ c. uses a s (record { outline = Some o; costs = c })) (sym (fitting_outlined b x.outline no_pairs)) ∙ plain_uses s o b p f a;
     }
 
-word_node : (a : Role) (s : Slot) (n : Tree) (x : Spelled) (t : Sums) → IsSpelledWherever (widest (settled_at a s)) n (Some x) → x.outline ≡ leaf Primary → parts_of n ≡ none → has_row_at s ≡ true → slot_free s Primary ≡ true → IsHeld t.here →
+word_node : (a : Role) (s : Slot) (n : Tree) (x : NodeSpelling) (t : Sums) → IsSpelledWherever (widest (settled_at a s)) n (Some x) → x.outline ≡ leaf Primary → parts_of n ≡ none → has_row_at s ≡ true → slot_free s Primary ≡ true → IsHeld t.here →
     Joined a s n t (record { here = t.here; outer = t.outer; rows = word_row (kind_of n) ∷ t.rows })
 word_node a s n x t k o e r f h =
     let b : Role = widest (settled_at a s) in
@@ -214,7 +214,7 @@ word_node a s n x t k o e r f h =
       is = λ j. record { here = (sym h ∙ ap (sums t.here) (sym nothing)) j; outer = t.outer; rows = rows j ++ t.rows };
     }
 
-hidden_node : (a : Role) (s : Slot) (n : Tree) (x : Spelled) (t : Sums) → IsSpelledWherever (widest (settled_at a s)) n (Some x) → is_plain_outline x.outline ≡ true → parts_of n ≡ none → has_row_at s ≡ false → IsHeld t.here → Joined a s n t t
+hidden_node : (a : Role) (s : Slot) (n : Tree) (x : NodeSpelling) (t : Sums) → IsSpelledWherever (widest (settled_at a s)) n (Some x) → is_plain_outline x.outline ≡ true → parts_of n ≡ none → has_row_at s ≡ false → IsHeld t.here → Joined a s n t t
 hidden_node a s n x t k p e r h =
     let b : Role = widest (settled_at a s) in
     let y : Bare a s n x.outline = bare a s n x k e in
@@ -229,7 +229,7 @@ hidden_node a s n x t k p e r h =
       is = λ j. record { here = (sym h ∙ ap (sums t.here) (sym nothing)) j; outer = t.outer; rows = rows j ++ t.rows };
     }
 
-settled_here : (a : Role) (s : Slot) (n : Tree) (x : Spelled) (t u : Sums) → IsSpelledWherever (widest (settled_at a s)) n (Some x) → is_settled_slot s ≡ true →
+settled_here : (a : Role) (s : Slot) (n : Tree) (x : NodeSpelling) (t u : Sums) → IsSpelledWherever (widest (settled_at a s)) n (Some x) → is_settled_slot s ≡ true →
     u ≡ record { here = sums t.here (sums_over (parts_of n) (widest (settled_at a s)) (left x.slots)); outer = t.outer; rows = parts_table (parts_of n) (settled_roles (widest (settled_at a s)) (left x.slots)) ++ t.rows } → Joined a s n t u
 settled_here a s n x t u k r h =
     let b : Role = widest (settled_at a s) in
@@ -292,9 +292,9 @@ mutual
 pub script_rows : (n : Tree) (xs : List Step) → Steps script (fixed script) n xs → (taken_from xs at_the_end).rows ≡ table_rows n script
 script_rows n xs h = ap (λ t. t.rows) (node_taken h at_the_end zero-zero).is ∙ append-nil (table_rows n script)
 
-pub script_total : (n : Tree) (xs : List Step) → Steps script (fixed script) n xs → (taken_from xs at_the_end).here.with_in.any ≡ capped (least n script)
+pub script_total : (n : Tree) (xs : List Step) → Steps script (fixed script) n xs → (taken_from xs at_the_end).here.has_in.any ≡ capped (least n script)
 script_total n xs h =
     let N : Joined script (fixed script) n at_the_end (taken_from xs at_the_end) = node_taken h at_the_end zero-zero in
-    ap (λ t. t.here.with_in.any) N.is
+    ap (λ t. t.here.has_in.any) N.is
     ∙ ap (capped_sum (Some 0)) (least_known script n N.weighed N.known Rattle.language.specs.declared.Rank.TheVariants.Expression true Rattle.language.specs.declared.Start.TheVariants.Any)
-    ∙ ap (λ c. c.with_in.any) (zero-sums (λ y i f. least n script))
+    ∙ ap (λ c. c.has_in.any) (zero-sums (λ y i f. least n script))

@@ -5,14 +5,14 @@ use Rattle.language.specs.declared.Rank.{Rank}
 use Rattle.language.specs.declared.Rank.TheVariants.{Expression, Member}
 use Rattle.language.specs.declared.Start.{Start}
 use Rattle.language.specs.declared.Start.TheVariants.{Any}
-use Rattle.language.specs.Words.{tightness}
+use Rattle.language.specs.Vocabulary.{precedence}
 use Rattle.language.specs.Pieces.{Role, expr, PieceOf}
 use Rattle.language.specs.Grammar.{ways}
-use Rattle.language.specs.Positions.{first_roles, widest, rows, parts_rows}
+use Rattle.language.specs.RowPositions.{first_roles, widest, rows, parts_rows}
 use Rattle.language.specs.Layout.{some_way}
 use Rattle.language.specs.Cost.{add_cost, lesser, if_any, least, parts_least, cell, cell_position}
 use Rattle.paren_planner.specs.Costs.{capped, capped_sum}
-use Rattle.paren_planner.proofs.Wrapping.{rows_at, rows-empty, no_roles}
+use Rattle.paren_planner.proofs.WrappedRows.{rows_at, rows-empty, no_roles}
 
 pub data Below : Option ℕ → ℕ → Type 0 where
   nothing : {m : ℕ} → Below None m
@@ -48,7 +48,7 @@ way_below : (b : Role) (n : Tree) (ps : Parts) (xs : List (List (PieceOf Role)))
 way_below b n ps xs h = below_any xs (below_more h (rows_within b n ps (some_way (ways b n)) refl))
 
 pub widest-cell : (y : Rank) (i : Bool) (f : Start) → widest (cell_position (expr y i f)) ≡ expr Expression true Any
-widest-cell y i f = of (nat_le 21 (tightness y))
+widest-cell y i f = of (nat_le 21 (precedence y))
   where
     of : (b : Bool) → widest (cond b (expr Member true f) (expr Expression i f)) ≡ expr Expression true Any
     of true = refl

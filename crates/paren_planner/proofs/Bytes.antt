@@ -4,8 +4,8 @@ use Rattle.std.specs.Prelude.{IsTrue, IsSome, map, filter}
 use Rattle.std.specs.Str.{IsUtf8, IsCharBoundary}
 use Rattle.std.proofs.lemmas.Bool.{and_parts, and_from}
 use Rattle.std.proofs.lemmas.Str.{IsCharBoundary-from_drop}
-use Rattle.tokens.specs.declared.token.Class.{Class}
-use Rattle.tokens.specs.declared.token.Class.TheVariants.{End}
+use Rattle.tokens.specs.declared.token.TokenClass.{TokenClass}
+use Rattle.tokens.specs.declared.token.TokenClass.TheVariants.{End}
 use Rattle.tokens.specs.Reading.{any_goal}
 use Rattle.tokens.proofs.Bounds.{IsWithin, token_within, token_places, token_goes_on}
 use Rattle.tree.specs.declared.kind.Pair.{Pair}
@@ -15,21 +15,21 @@ use Rattle.language.specs.declared.Rank.{Rank}
 use Rattle.language.specs.declared.Rank.TheVariants.{Expression}
 use Rattle.language.specs.declared.Start.{Start}
 use Rattle.language.specs.declared.Start.TheVariants.{Any}
-use Rattle.language.specs.Pieces.{Role, expr, script, spine, pattern, Slot, PieceOf, Piece, tok, may, many, ahead, unbroken, ending, open_parameters, close_parameters, sub, absent, never, lay, Spelling, settle, settle_piece}
+use Rattle.language.specs.Pieces.{Role, expr, script, chain_part, pattern, Slot, PieceOf, Piece, tok, may, many, ahead, unbroken, ending, open_parameters, close_parameters, sub, absent, never, lay, Spelling, settle, settle_piece}
 use Rattle.language.specs.Token.{Token}
 use Rattle.language.specs.Places.{NextIn, next_in, itself}
 use Rattle.language.specs.Claims.{Derives}
 use Rattle.language.specs.Derivation.{Among, Reads, Step, token, with_mark, without_mark, one_more, no_more, seen, same_line, explicit, implicit, laid, Spells, direct, grouped, Runs, done, step, opened, closed, within, missing}
 use Rattle.language.specs.Grammar.{ways, ways_bare, spellings, fits_position, can_run, own_rank, own_in, own_start}
-use Rattle.language.specs.Positions.{roles, first_roles, widest, has_row, rows, parts_rows}
+use Rattle.language.specs.RowPositions.{roles, first_roles, widest, has_row, rows, parts_rows}
 use Rattle.language.specs.Cost.{AtMost, at_most, least}
-use Rattle.language.proofs.Looser.{Looser, same, looser, looser_spine, looser_pattern, AllLooser, end, next}
-use Rattle.language.proofs.Domination.{settled, fits, ways_of, Tidy, none_at_all, one_way, two_ways, Among-one, Among-two}
-use Rattle.language.proofs.TidyTable.{tidy_table}
-use Rattle.language.proofs.LowerBound.{Step-roles, at_least}
-use Rattle.positions.specs.Spelled.{settled_roles}
+use Rattle.language.proofs.table.LooserPositions.{Looser, same, looser, looser_spine, looser_pattern, AllLooser, end, next}
+use Rattle.language.proofs.lower_bound.Domination.{settled, fits, ways_of, Tidy, none_at_all, one_way, two_ways, Among-one, Among-two}
+use Rattle.language.proofs.table.TidyTable.{tidy_table}
+use Rattle.language.proofs.lower_bound.LowerBound.{Step-roles, at_least}
+use Rattle.spellings.specs.Spelled.{settled_roles}
 use Rattle.paren_planner.proofs.Known.{takes_all}
-use Rattle.paren_planner.proofs.Wrapping.{parts-rows}
+use Rattle.paren_planner.proofs.WrappedRows.{parts-rows}
 use Rattle.paren_planner.proofs.Heavy.{own_tokens, is_end, piece_tokens, tokens, way_tokens}
 
 -- The rows of a node don't depend on the way in which it is spelled.
@@ -79,7 +79,7 @@ implies_true false = refl
 fits-widest : (a : Role) (x : Spelling) → IsTrue (fits a x) → IsTrue (fits (widest a) x)
 fits-widest (expr y i f) x h =
     and_from _ _ (and_from _ _ (takes_all x.rank) (and_from _ _ (implies_true x.needs_in) refl)) (and_parts (fits_position (expr y i f) x) (can_run x.pieces) h).1
-fits-widest (spine f) x h = h
+fits-widest (chain_part f) x h = h
 fits-widest (pattern b f) x h = and_from _ _ refl (and_parts (fits_position (pattern b f) x) (can_run x.pieces) h).1
 fits-widest _ x h = h
 
@@ -104,7 +104,7 @@ spelled-rows ps a _ qs (two_ways {x = x} {y = y} n covers alike) h = of (Among-t
 spellings-widest : (a : Role) (n : Tree) → spellings (widest a) n ≡ spellings a n
 unfolding spellings
 spellings-widest (expr y i f) (node k w g s e ps) = refl
-spellings-widest (spine f) (node k w g s e ps) = refl
+spellings-widest (chain_part f) (node k w g s e ps) = refl
 spellings-widest (pattern b f) (node k w g s e ps) = refl
 spellings-widest _ n = refl
 
@@ -126,7 +126,7 @@ group-rows (node k w g s e ps) y i f = refl
 
 -- Places go forward, by one at least behind each token but the end.
 
-record Moves (S : Type 0) (Ok : S → Type 0) (at : S → ℕ) (s e : S) (c : Class) : Type 0 where
+record Moves (S : Type 0) (Ok : S → Type 0) (at : S → ℕ) (s e : S) (c : TokenClass) : Type 0 where
   ok : Ok e
   on : at s ≤ at e
   further : is_end c ≡ false → at s < at e
@@ -136,7 +136,7 @@ module _ (S : Type 0) (Next : S → Token → S → Type 0) (behind : S → Toke
     ok : Ok e
     far : at s + k ≤ at e
 
-  read_forward : {c : Class} {w : List ℕ} {s e : S} {t : Token} → Reads S Next behind c w s t e → Ok s → Forward s e (cond (is_end c) 0 1)
+  read_forward : {c : TokenClass} {w : List ℕ} {s e : S} {t : Token} → Reads S Next behind c w s t e → Ok s → Forward s e (cond (is_end c) 0 1)
   read_forward {c = c} {s = s} {e = e} {t = t} r k =
       let m = moves s e t r.next k in
       record { ok = m.ok; far = of (is_end c) refl m.on (λ h. m.further (ap is_end r.class ∙ h)) }
@@ -219,7 +219,7 @@ module _ (S : Type 0) (Next : S → Token → S → Type 0) (behind : S → Toke
 
 -- In a text
 
-not_end : (c : Class) → is_end c ≡ false → c ≢ End
+not_end : (c : TokenClass) → is_end c ≡ false → c ≢ End
 not_end End h = λ e. absurd (cc)
 not_end _ h = λ e. absurd (cc)
 

@@ -10,15 +10,15 @@ use Rattle.language.specs.Pieces.{Role, expr, script}
 use Rattle.language.specs.Cost.{AtMost, at_most, least, cell}
 use Rattle.language.specs.Layout.{fixed_text, wrapped_rows}
 use Rattle.language.specs.Claims.{Derives, Fewest, row_nodes, contexts, table_cell, cell_at}
-use Rattle.language.proofs.Least.{derived_at_least}
-use Rattle.language.proofs.FixedReads.{fixed_always}
-use Rattle.language.proofs.ReadableScript.{script_readable}
+use Rattle.language.proofs.lower_bound.LeastPairs.{derived_at_least}
+use Rattle.language.proofs.layout.FixedReads.{fixed_always}
+use Rattle.language.proofs.layout.ReadableScript.{script_readable}
 use Rattle.paren_planner.specs.declared.table.Row.{Row}
 use Rattle.paren_planner.specs.Rows.{celled, shown, cell_rows}
 use Rattle.paren_planner.specs.Tables.{table_of}
-use Rattle.language.specs.Laid.{IsLeast, Exact}
+use Rattle.language.specs.ExactCells.{IsLeast, Exact}
 use Rattle.paren_planner.proofs.Somewhere.{row_somewhere}
-use Rattle.paren_planner.proofs.CellsAttained.{least_cell}
+use Rattle.paren_planner.proofs.AttainedCells.{least_cell}
 
 celled_row : (ns : List Tree) (r : ℕ) (m : Tree) → slice_get ns r ≡ Some m → slice_get (map celled ns) r ≡ Some (celled m)
 celled_row [] r m h = absurd (cc)
@@ -28,13 +28,13 @@ celled_row (n ∷ ns) (suc r) m h = celled_row ns r m h
 -- the position of a cell is an expression's, and the cell is the node's there
 pub record Context (m : Tree) (c : ℕ) (a : Role) : Type 0 where
   pub rank : Rank
-  pub with_in : Bool
+  pub has_in : Bool
   pub start : Start
-  pub is : expr rank with_in start ≡ a
+  pub is : expr rank has_in start ≡ a
   pub cell : cell_at (Some (celled m)) c ≡ Rattle.language.specs.Cost.cell m a
 
 at_context : (m : Tree) (c : ℕ) (y : Rank) (i : Bool) (f : Start) (a : Role) → expr y i f ≡ a → cell_at (Some (celled m)) c ≡ cell m (expr y i f) → Context m c a
-at_context m c y i f a e h = record { rank = y; with_in = i; start = f; is = e; cell = h ∙ ap (cell m) e }
+at_context m c y i f a e h = record { rank = y; has_in = i; start = f; is = e; cell = h ∙ ap (cell m) e }
 
 pub context : (m : Tree) (c : ℕ) (a : Role) → slice_get contexts c ≡ Some a → Context m c a
 unfolding Rattle.language.specs.Cost.cells
@@ -72,7 +72,7 @@ exact_cells T total n cells shape h count text P u d = record {
   cells = λ r m x c a y.
       let k = context m c a y in
       subst (λ b. IsLeast b m (table_cell (table_of T total) (suc r) c)) k.is
-      (subst (λ v. IsLeast (expr k.rank k.with_in k.start) m v) (sym (table_cell_is T total n cells r m x c a y))
-      (least_cell text u m k.rank k.with_in k.start _ (row_somewhere text n P u d r m x) (ap (cell m) k.is)));
+      (subst (λ v. IsLeast (expr k.rank k.has_in k.start) m v) (sym (table_cell_is T total n cells r m x c a y))
+      (least_cell text u m k.rank k.has_in k.start _ (row_somewhere text n P u d r m x) (ap (cell m) k.is)));
   total = fewest text n P total u d h count;
 }

@@ -1,11 +1,11 @@
 -- Examples: the extra ones of the grouping pairs of small scripts, by the flags of their plans.
 use Rattle.std.specs.Prelude.{◌≡◌, ℕ, true, false, refl, [], ◌∷◌}
 use Rattle.tree.specs.declared.kind.Span.{Span}
-use Rattle.positions.specs.declared.pairs.Grouping.{Grouping}
+use Rattle.spellings.specs.declared.pairs.PairRow.{PairRow}
 use Rattle.paren_planner.specs.Extra.{extra_spans}
 
 -- a pair, by its `(`, its `)` and its row; a span
-abbrev g : ℕ → ℕ → ℕ → Grouping
+abbrev g : ℕ → ℕ → ℕ → PairRow
 g l r row = record { left = l; right = r; row = row }
 
 abbrev span : ℕ → ℕ → Span

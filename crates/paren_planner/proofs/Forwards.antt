@@ -9,23 +9,23 @@ use Rattle.language.specs.declared.Rank.{Rank}
 use Rattle.language.specs.declared.Rank.TheVariants.{Expression, Primary}
 use Rattle.language.specs.declared.Start.{Start}
 use Rattle.language.specs.declared.Start.TheVariants.{Any}
-use Rattle.language.specs.Pieces.{Role, expr, spine, pattern, script, Slot, fixed, left as left_slot, lead, tail, callee, lead_spine, lead_pattern}
+use Rattle.language.specs.Pieces.{Role, expr, chain_part, pattern, script, Slot, fixed, left as left_slot, lead, tail, callee, lead_chain, lead_pattern}
 use Rattle.language.specs.Grammar.{ways}
-use Rattle.language.specs.Positions.{first_roles, widest, has_row, rows, parts_rows}
+use Rattle.language.specs.RowPositions.{first_roles, widest, has_row, rows, parts_rows}
 use Rattle.language.specs.Layout.{some_way, wants_pair, inside, parts_wrapped}
 use Rattle.language.specs.Cost.{if_any, cell, cell_position, parts_least}
-use Rattle.positions.specs.declared.outline.Outline.{Outline}
-use Rattle.positions.specs.declared.spelled.Spelled.{Spelled}
-use Rattle.positions.specs.Outlines.{slot_of, leaf}
-use Rattle.positions.specs.Spelled.{fits_outline, settled_roles, Verdict}
-use Rattle.positions.specs.Remaining.{left}
-use Rattle.positions.specs.Wherever.{with_own, IsSpelledWherever, spelled_roles}
-use Rattle.positions.proofs.Walked.{spelled_here}
-use Rattle.positions.proofs.Slots.{is_plain, all_pass, parts_plain}
+use Rattle.spellings.specs.declared.outline.Outline.{Outline}
+use Rattle.spellings.specs.declared.spelled_node.NodeSpelling.{NodeSpelling}
+use Rattle.spellings.specs.Outlines.{slot_of, leaf}
+use Rattle.spellings.specs.Spelled.{fits_outline, settled_roles, Verdict}
+use Rattle.spellings.specs.Remaining.{left}
+use Rattle.spellings.specs.Wherever.{with_own, IsSpelledWherever, spelled_roles}
+use Rattle.spellings.proofs.SlotSteps.{spelled_here}
+use Rattle.spellings.proofs.Slots.{is_plain, all_pass, parts_plain}
 use Rattle.paren_planner.specs.declared.costs.Costs.{Costs}
 use Rattle.paren_planner.specs.declared.table.Row.{Row}
-use Rattle.paren_planner.specs.declared.steps.Label.{Label}
-use Rattle.paren_planner.specs.declared.steps.Visit.{Visit}
+use Rattle.paren_planner.specs.declared.steps.SpellingNeeds.{SpellingNeeds}
+use Rattle.paren_planner.specs.declared.steps.NodeStep.{NodeStep}
 use Rattle.paren_planner.specs.declared.steps.Step.{Step}
 use Rattle.paren_planner.specs.declared.steps.Step.TheVariants.{Leaf, Enter, Leave}
 use Rattle.paren_planner.specs.Costs.{capped, cells_at}
@@ -36,8 +36,8 @@ use Rattle.paren_planner.specs.Steps.{label_of, outline_of, stands_at, has_row_a
 use Rattle.paren_planner.specs.Noted.{IsVisit, Steps, unspelled, alone, around, word, hidden, through, is_settled_slot, is_fixed, are_fixed, PartsSteps, over, skipped, unplaced, next}
 use Rattle.paren_planner.specs.Marked.{Round, Marks, fits_label, wants, is_free, around_parts, flag_at, round_at, plain_round, flag_of, round_of, marked, marked_through, at_the_start}
 use Rattle.paren_planner.proofs.Known.{own_widest, counted}
-use Rattle.paren_planner.proofs.Filled.{roles_some, weighed_some, sums-end}
-use Rattle.paren_planner.proofs.Wrapping.{parts-rows, parts-flags-length, parts-numbers, no_number, rows-empty, no_roles}
+use Rattle.paren_planner.proofs.NodeRowNumbers.{roles_some, weighed_some, sums-end}
+use Rattle.paren_planner.proofs.WrappedRows.{parts-rows, parts-flags-length, parts-numbers, no_number, rows-empty, no_roles}
 use Rattle.paren_planner.proofs.Turns.{front_rows, table_turn, inner_some, inner_none, plain_flags, wanted, table_below, rows_below, own_standing, own_few, own_result, plain_standing, plain_few, spelled_inside, all_rows}
 use Rattle.paren_planner.proofs.Totals.{parts_count, cell_roles}
 use Rattle.paren_planner.proofs.Backwards.{fits_outlined, settled_rowless}
@@ -50,11 +50,11 @@ unfolding marked_through
 marked_append T [] ys t = refl
 marked_append T (x ∷ xs) ys t = marked_append T xs ys (marked T x t)
 
-marked_leaf : (T : List Row) (v : Visit) (t : Marks) → marked_through T (Leaf v ∷ []) t ≡ marked T (Leaf v) t
+marked_leaf : (T : List Row) (v : NodeStep) (t : Marks) → marked_through T (Leaf v ∷ []) t ≡ marked T (Leaf v) t
 unfolding marked_through
 marked_leaf T v t = refl
 
-marked_around : (T : List Row) (v : Visit) (ys : List Step) (t : Marks) → marked_through T (Enter v ∷ (ys ++ Leave ∷ [])) t ≡ marked T Leave (marked_through T ys (marked T (Enter v) t))
+marked_around : (T : List Row) (v : NodeStep) (ys : List Step) (t : Marks) → marked_through T (Enter v ∷ (ys ++ Leave ∷ [])) t ≡ marked T Leave (marked_through T ys (marked T (Enter v) t))
 unfolding marked_through
 marked_around T v ys t = marked_append T ys (Leave ∷ []) (marked T (Enter v) t)
 
@@ -77,7 +77,7 @@ row_count (left_slot y) a = refl
 row_count (lead y) a = refl
 row_count (tail y x) a = refl
 row_count callee a = refl
-row_count lead_spine a = refl
+row_count lead_chain a = refl
 row_count lead_pattern a = refl
 
 is_row : (s : Slot) (a : Role) → has_row_at s ≡ is_expression (settled_at a s)
@@ -86,7 +86,7 @@ is_row (left_slot y) a = refl
 is_row (lead y) a = refl
 is_row (tail y x) a = refl
 is_row callee a = refl
-is_row lead_spine a = refl
+is_row lead_chain a = refl
 is_row lead_pattern a = refl
 
 with_settled : (y : Rank) (i : Bool) (f : Start) (b c : Role) (s : Slot) → with_own y i f (settled_at b s) ≡ with_own y i f (settled_at c s)
@@ -95,11 +95,11 @@ with_settled y i f b c (left_slot z) = refl
 with_settled y i f b c (lead z) = refl
 with_settled y i f b c (tail z x) = refl
 with_settled y i f b c callee = refl
-with_settled y i f b c lead_spine = refl
+with_settled y i f b c lead_chain = refl
 with_settled y i f b c lead_pattern = refl
 
 -- what is known of a node is known wherever it stands
-spelled_at : (a o : Role) (s : Slot) (n : Tree) (r : Option Spelled) → IsSpelledWherever (widest (settled_at a s)) n r → IsSpelledWherever (settled_at o s) n r
+spelled_at : (a o : Role) (s : Slot) (n : Tree) (r : Option NodeSpelling) → IsSpelledWherever (widest (settled_at a s)) n r → IsSpelledWherever (settled_at o s) n r
 spelled_at a o s n r h = λ y i f. subst (λ b. Verdict (ways b n) (spelled_roles b r)) (own_widest y i f (settled_at a s) ∙ with_settled y i f a o s) (h y i f)
 
 rows_split : (n : Tree) (p : Role) → rows n p ≡ has_row p + parts_rows (parts_of n) (first_roles (ways (widest p) n))
@@ -111,14 +111,14 @@ unwrapped_sum m k = replicate-append-replicate m k false
 
 -- Where nothing may be wrapped
 
-dead_round : (T : List Row) (v : Visit) (x : Round) (bs : List Bool) → x.lives ≡ false → round_of T v x bs ≡ x
+dead_round : (T : List Row) (v : NodeStep) (x : Round) (bs : List Bool) → x.may_wrap ≡ false → round_of T v x bs ≡ x
 dead_round T v x bs h = ap (λ b. cond b (cond (has_row_at (slot_of v.slot)) (round_at (slice_get T (length bs)) (stands_at x.own v) v.label) (plain_round (stands_at x.own v) v.label)) x) h
 
-dead_flag : (T : List Row) (a : Role) (s : Slot) (n : Tree) (v : Visit) (x : Round) (bs : List Bool) → IsVisit a s n v → x.lives ≡ false → flag_of T v x bs ≡ unwrapped (has_row (settled_at a s))
+dead_flag : (T : List Row) (a : Role) (s : Slot) (n : Tree) (v : NodeStep) (x : Round) (bs : List Bool) → IsVisit a s n v → x.may_wrap ≡ false → flag_of T v x bs ≡ unwrapped (has_row (settled_at a s))
 dead_flag T a s n v x bs i h =
     (λ j. cond (has_row_at (i.slot j)) (cond (h j) (flag_at (slice_get T (length bs)) (stands_at x.own v) v.label) false ∷ []) []) ∙ row_count s a
 
-dead_leaf : (T : List Row) (a : Role) (s : Slot) (n : Tree) (v : Visit) (t : Marks) → IsVisit a s n v → t.here.lives ≡ false → parts_rows (parts_of n) (first_roles (ways (widest (settled_at a s)) n)) ≡ 0 →
+dead_leaf : (T : List Row) (a : Role) (s : Slot) (n : Tree) (v : NodeStep) (t : Marks) → IsVisit a s n v → t.here.may_wrap ≡ false → parts_rows (parts_of n) (first_roles (ways (widest (settled_at a s)) n)) ≡ 0 →
     marked T (Leaf v) t ≡ flagged t (unwrapped (rows n (settled_at a s)))
 dead_leaf T a s n v t i h z =
     let e : has_row (settled_at a s) ≡ rows n (settled_at a s) = (let r = rows_split n (settled_at a s) in omega (arith, r, z)) in
@@ -129,7 +129,7 @@ unfolding parts_rows
 no_part_rows n xs h = ap (λ ps. parts_rows ps xs) h
 
 no_way_rows : (a : Role) (s : Slot) (n : Tree) → IsSpelledWherever (widest (settled_at a s)) n None → parts_rows (parts_of n) (first_roles (ways (widest (settled_at a s)) n)) ≡ 0
-no_way_rows a s n k = ap (λ u. parts_rows (parts_of n) (first_roles u)) (subst (λ b. ways b n ≡ []) (own_widest Expression true Any (settled_at a s) ∙ Rattle.paren_planner.proofs.Wrapping.widest_own (settled_at a s)) (k Expression true Any)) ∙ rows-empty (parts_of n)
+no_way_rows a s n k = ap (λ u. parts_rows (parts_of n) (first_roles u)) (subst (λ b. ways b n ≡ []) (own_widest Expression true Any (settled_at a s) ∙ Rattle.paren_planner.proofs.WrappedRows.widest_own (settled_at a s)) (k Expression true Any)) ∙ rows-empty (parts_of n)
 
 -- A node that has no step of its own
 
@@ -140,7 +140,7 @@ no_row_here (left_slot y) a h = absurd (true≢false h)
 no_row_here (lead y) a h = absurd (true≢false h)
 no_row_here (tail y x) a h = absurd (true≢false h)
 no_row_here callee a h = absurd (true≢false h)
-no_row_here lead_spine a h = refl
+no_row_here lead_chain a h = refl
 no_row_here lead_pattern a h = refl
 
 word_rows : (a : Role) (s : Slot) (n : Tree) → has_row_at s ≡ true → parts_of n ≡ none → false ∷ [] ≡ unwrapped (rows n (settled_at a s))
@@ -157,7 +157,7 @@ hidden_rows a s n h e =
     let o = no_row_here s a h in
     omega (arith, r, z, o)
 
-through_rows : (a : Role) (s : Slot) (n : Tree) (x : Spelled) → IsSpelledWherever (widest (settled_at a s)) n (Some x) → is_settled_slot s ≡ true →
+through_rows : (a : Role) (s : Slot) (n : Tree) (x : NodeSpelling) → IsSpelledWherever (widest (settled_at a s)) n (Some x) → is_settled_slot s ≡ true →
     parts_rows (parts_of n) (settled_roles (widest (settled_at a s)) (left x.slots)) ≡ rows n (settled_at a s)
 through_rows a s n x k h =
     let r = rows_split n (settled_at a s) in
@@ -168,7 +168,7 @@ through_rows a s n x k h =
 mutual
   unfolding marked_through parts_rows
 
-  dead_node : (T : List Row) {a : Role} {s : Slot} {n : Tree} {xs : List Step} → Steps a s n xs → (t : Marks) → t.here.lives ≡ false → marked_through T xs t ≡ flagged t (unwrapped (rows n (settled_at a s)))
+  dead_node : (T : List Row) {a : Role} {s : Slot} {n : Tree} {xs : List Step} → Steps a s n xs → (t : Marks) → t.here.may_wrap ≡ false → marked_through T xs t ≡ flagged t (unwrapped (rows n (settled_at a s)))
   dead_node T {a} {s} {n} (unspelled v i l k e) t h =
       ap (λ u. marked_through T u t) e ∙ marked_leaf T v t ∙ dead_leaf T a s n v t i h (no_way_rows a s n k)
   dead_node T {a} {s} {n} (alone v x i l k p e) t h =
@@ -190,7 +190,7 @@ mutual
   dead_node T {a} {s} {n} (through x k r g q) t h =
       dead_parts T q t h ∙ ap (λ m. flagged t (unwrapped m)) (through_rows a s n x k r)
 
-  dead_parts : (T : List Row) {a : Role} {ss : List Slot} {ps : Parts} {xs : List Step} → PartsSteps a ss ps xs → (t : Marks) → t.here.lives ≡ false → marked_through T xs t ≡ flagged t (unwrapped (parts_rows ps (settled_roles a ss)))
+  dead_parts : (T : List Row) {a : Role} {ss : List Slot} {ps : Parts} {xs : List Step} → PartsSteps a ss ps xs → (t : Marks) → t.here.may_wrap ≡ false → marked_through T xs t ≡ flagged t (unwrapped (parts_rows ps (settled_roles a ss)))
   dead_parts T over t h = flagged_not t
   dead_parts T (skipped q) t h = dead_parts T q t h
   dead_parts T (unplaced {n = n}) t h = refl
@@ -248,22 +248,22 @@ unfolding row_of
 row_cells n = refl
 
 -- the label says what is known of the spelling
-abbrev Says : Option Label → Option Spelled → Type 0
+abbrev Says : Option SpellingNeeds → Option NodeSpelling → Type 0
 Says l r = (q : Role) → fits_label q l ≡ fits_spelled q r
 
-says_none : (l : Option Label) → l ≡ None → Says l None
+says_none : (l : Option SpellingNeeds) → l ≡ None → Says l None
 says_none l e q = ap (fits_label q) e
 
-says_some : (l : Option Label) (x : Spelled) → l ≡ Some (label_of x.outline) → Says l (Some x)
+says_some : (l : Option SpellingNeeds) (x : NodeSpelling) → l ≡ Some (label_of x.outline) → Says l (Some x)
 says_some l x e q = ap (fits_label q) e ∙ fits_outlined q x.outline
 
-wants_is : (n : Tree) (p : Role) (l : Option Label) (r : Option Spelled) → is_expression p ≡ true → IsSpelledWherever p n r → Says l r → rows n p ≤ 16777216 → wants p l (row_of n).costs ≡ wants_pair n p
+wants_is : (n : Tree) (p : Role) (l : Option SpellingNeeds) (r : Option NodeSpelling) → is_expression p ≡ true → IsSpelledWherever p n r → Says l r → rows n p ≤ 16777216 → wants p l (row_of n).costs ≡ wants_pair n p
 wants_is n p l r h k q few =
-    ap (λ b. Rattle.language.specs.Layout.exceeds (cond b (cost_of (row_of n).costs p) None) (Rattle.paren_planner.specs.Costs.capped_sum (Some 1) (row_of n).costs.with_in.any)) (q p)
+    ap (λ b. Rattle.language.specs.Layout.exceeds (cond b (cost_of (row_of n).costs p) None) (Rattle.paren_planner.specs.Costs.capped_sum (Some 1) (row_of n).costs.has_in.any)) (q p)
     ∙ wanted n p r (row_of n).costs h k few (row_cells n)
 
 abbrev living : Role → Round
-living o = record { own = o; lives = true }
+living o = record { own = o; may_wrap = true }
 
 and_true : (b : Bool) → b ≡ (b && true)
 and_true true = refl
@@ -278,17 +278,17 @@ expression_inside true p h = refl
 expression_inside false p h = h
 
 -- what stands around the parts of a node, and that its flag and theirs are its flags
-record Entered (T : List Row) (v : Visit) (o : Role) (bs : List Bool) (n : Tree) (p : Role) (r : Option Spelled) : Type 0 where
+record Entered (T : List Row) (v : NodeStep) (o : Role) (bs : List Bool) (n : Tree) (p : Role) (r : Option NodeSpelling) : Type 0 where
   own : Role
   quiet : Bool
-  round : round_of T v (living o) bs ≡ record { own = own; lives = fits_label own v.label && not quiet }
+  round : round_of T v (living o) bs ≡ record { own = own; may_wrap = fits_label own v.label && not quiet }
   free : quiet ≡ true → some_way (ways own n) ≡ true → parts_flags (parts_of n) (first_roles (ways own n)) ≡ unwrapped (parts_rows (parts_of n) (first_roles (ways own n)))
   stands : HasRows T (length (bs ++ flag_of T v (living o) bs)) (parts_table (parts_of n) (first_roles (ways (widest own) n)))
   few : parts_rows (parts_of n) (first_roles (ways (widest own) n)) ≤ 16777216
   known : IsSpelledWherever own n r
   result : (vs : List Bool) → vs ≡ (bs ++ flag_of T v (living o) bs) ++ inner_flags n own → vs ≡ bs ++ flags n p
 
-entered_row : (T : List Row) (v : Visit) (o : Role) (bs : List Bool) (s : Slot) (n : Tree) (r : Option Spelled) → slot_of v.slot ≡ s → is_expression (settled_at o s) ≡ true → Says v.label r → IsSpelledWherever (settled_at o s) n r →
+entered_row : (T : List Row) (v : NodeStep) (o : Role) (bs : List Bool) (s : Slot) (n : Tree) (r : Option NodeSpelling) → slot_of v.slot ≡ s → is_expression (settled_at o s) ≡ true → Says v.label r → IsSpelledWherever (settled_at o s) n r →
     is_plain (settled_at o s) ≡ true → HasRows T (length bs) (table_rows n (settled_at o s)) → rows n (settled_at o s) ≤ 16777216 → Entered T v o bs n (settled_at o s) r
 entered_row T v o bs s n r i h q k pl st few =
     let p : Role = settled_at o s in
@@ -310,7 +310,7 @@ entered_row T v o bs s n r i h q k pl st few =
       result = λ vs e. own_result n p (inside b p) true b bs (bs ++ b ∷ []) vs h refl refl refl (e ∙ ap (λ u. (bs ++ u) ++ inner_flags n (inside b p)) flag);
     }
 
-entered_plain : (T : List Row) (v : Visit) (o : Role) (bs : List Bool) (s : Slot) (n : Tree) (r : Option Spelled) → slot_of v.slot ≡ s → is_expression (settled_at o s) ≡ false → IsSpelledWherever (settled_at o s) n r →
+entered_plain : (T : List Row) (v : NodeStep) (o : Role) (bs : List Bool) (s : Slot) (n : Tree) (r : Option NodeSpelling) → slot_of v.slot ≡ s → is_expression (settled_at o s) ≡ false → IsSpelledWherever (settled_at o s) n r →
     HasRows T (length bs) (table_rows n (settled_at o s)) → rows n (settled_at o s) ≤ 16777216 → Entered T v o bs n (settled_at o s) r
 entered_plain T v o bs s n r i h k st few =
     let p : Role = settled_at o s in
@@ -320,7 +320,7 @@ entered_plain T v o bs s n r i h k st few =
     record {
       own = p;
       quiet = false;
-      round = (λ j. cond (rowed j) (round_at (slice_get T (length bs)) (settled_at o (i j)) v.label) (plain_round (settled_at o (i j)) v.label)) ∙ ap (λ u. record { own = p; lives = u }) (and_true (fits_label p v.label));
+      round = (λ j. cond (rowed j) (round_at (slice_get T (length bs)) (settled_at o (i j)) v.label) (plain_round (settled_at o (i j)) v.label)) ∙ ap (λ u. record { own = p; may_wrap = u }) (and_true (fits_label p v.label));
       free = λ z y. absurd (false≢true z);
       stands = subst (λ u. HasRows T (length u) (parts_table (parts_of n) (first_roles (ways (widest p) n)))) (sym same) (plain_standing T (length bs) n p h st);
       few = plain_few n p 16777216 h few;
@@ -328,7 +328,7 @@ entered_plain T v o bs s n r i h k st few =
       result = λ vs e. e ∙ ap (λ u. u ++ inner_flags n p) same ∙ ap (λ u. bs ++ u) (plain_flags n p true h);
     }
 
-entered : (T : List Row) (v : Visit) (o : Role) (bs : List Bool) (s : Slot) (n : Tree) (r : Option Spelled) → slot_of v.slot ≡ s → Says v.label r → IsSpelledWherever (settled_at o s) n r → is_plain (settled_at o s) ≡ true →
+entered : (T : List Row) (v : NodeStep) (o : Role) (bs : List Bool) (s : Slot) (n : Tree) (r : Option NodeSpelling) → slot_of v.slot ≡ s → Says v.label r → IsSpelledWherever (settled_at o s) n r → is_plain (settled_at o s) ≡ true →
     HasRows T (length bs) (table_rows n (settled_at o s)) → rows n (settled_at o s) ≤ 16777216 → Entered T v o bs n (settled_at o s) r
 entered T v o bs s n r i q k pl st few = of (is_expression (settled_at o s)) refl
   where
@@ -346,7 +346,7 @@ inner_bare n c h =
     ap (λ ps. cond (some_way (ways c n)) (parts_flags ps (first_roles (ways c n))) (unwrapped (parts_rows ps (first_roles (ways (widest c) n))))) h ∙ either_way (some_way (ways c n)) []
 
 -- a node without parts at positions
-live_leaf : (T : List Row) (v : Visit) (o : Role) (us : List Round) (bs : List Bool) (n : Tree) (p : Role) (r : Option Spelled) → (x : Entered T v o bs n p r) → inner_flags n x.own ≡ [] →
+live_leaf : (T : List Row) (v : NodeStep) (o : Role) (us : List Round) (bs : List Bool) (n : Tree) (p : Role) (r : Option NodeSpelling) → (x : Entered T v o bs n p r) → inner_flags n x.own ≡ [] →
     marked T (Leaf v) (record { here = living o; outer = us; flags = bs }) ≡ record { here = living o; outer = us; flags = bs ++ flags n p }
 live_leaf T v o us bs n p r x h =
     ap (λ u. record { here = living o; outer = us; flags = u }) (x.result (bs ++ flag_of T v (living o) bs) (sym (append-nil _) ∙ ap (λ u. (bs ++ flag_of T v (living o) bs) ++ u) (sym h)))
@@ -357,14 +357,14 @@ inside_case true false P U I h z = h
 inside_case false q P U I h z = h
 
 -- the positions of the parts of what is spelled there
-here_roles : (c : Role) (n : Tree) (x : Spelled) → IsSpelledWherever c n (Some x) → fits_outline c x.outline ≡ true → (some_way (ways c n) ≡ true) × (first_roles (ways c n) ≡ settled_roles c (left x.slots))
+here_roles : (c : Role) (n : Tree) (x : NodeSpelling) → IsSpelledWherever c n (Some x) → fits_outline c x.outline ≡ true → (some_way (ways c n) ≡ true) × (first_roles (ways c n) ≡ settled_roles c (left x.slots))
 here_roles c n x k f = subst (λ u. Verdict (ways c n) (cond u (Some (settled_roles c (left x.slots))) None)) f (spelled_here c n (Some x) k)
 
 -- parts of a node in which some may be wrapped, or none
 within_parts : (T : List Row) (xs : List Step) (o : Role) (l : Bool) (us : List Round) (bs P U : List Bool) →
-    marked_through T xs (record { here = record { own = o; lives = false }; outer = us; flags = bs }) ≡ record { here = record { own = o; lives = false }; outer = us; flags = bs ++ U } →
+    marked_through T xs (record { here = record { own = o; may_wrap = false }; outer = us; flags = bs }) ≡ record { here = record { own = o; may_wrap = false }; outer = us; flags = bs ++ U } →
     (l ≡ true → marked_through T xs (record { here = living o; outer = us; flags = bs }) ≡ record { here = living o; outer = us; flags = bs ++ P }) →
-    marked_through T xs (record { here = record { own = o; lives = l }; outer = us; flags = bs }) ≡ record { here = record { own = o; lives = l }; outer = us; flags = bs ++ cond l P U }
+    marked_through T xs (record { here = record { own = o; may_wrap = l }; outer = us; flags = bs }) ≡ record { here = record { own = o; may_wrap = l }; outer = us; flags = bs ++ cond l P U }
 within_parts T xs o true us bs P U h k = k refl
 within_parts T xs o false us bs P U h k = h
 
@@ -377,9 +377,9 @@ never_exceeds : (w : Option ℕ) → Rattle.language.specs.Layout.exceeds (Some 
 never_exceeds None = refl
 never_exceeds (Some m) = grind (arith, nat_tests)
 
-word_unwrapped : (n : Tree) (p : Role) (x : Spelled) → is_expression p ≡ true → IsSpelledWherever p n (Some x) → x.outline ≡ leaf Primary → role_free p Primary ≡ true → parts_of n ≡ none → rows n p ≤ 16777216 → wants_pair n p ≡ false
+word_unwrapped : (n : Tree) (p : Role) (x : NodeSpelling) → is_expression p ≡ true → IsSpelledWherever p n (Some x) → x.outline ≡ leaf Primary → role_free p Primary ≡ true → parts_of n ≡ none → rows n p ≤ 16777216 → wants_pair n p ≡ false
 word_unwrapped n (expr y i f) x h k o t e few =
-    let l : Option Label = Some (label_of x.outline) in
+    let l : Option SpellingNeeds = Some (label_of x.outline) in
     let b : Role = expr Expression true Any in
     let plain : is_plain_outline x.outline ≡ true = ap is_plain_outline o in
     let takes_it : Rattle.language.specs.Words.takes y x.outline.rank ≡ true = ap (λ u. Rattle.language.specs.Words.takes y u.rank) o ∙ t in
@@ -388,11 +388,11 @@ word_unwrapped n (expr y i f) x h k o t e few =
     let fit : fits_label (expr y i f) l ≡ true = plain_fits (outline_of (label_of x.outline)) plain (expr y i f) takes_it in
     let cost : cost_of (row_of n).costs (expr y i f) ≡ Some 0 = ap (λ c. cost_of c (expr y i f)) costs ∙ cost_free x.outline plain b y i f takes_it in
     sym (wants_is n (expr y i f) l (Some x) refl k (says_some l x refl) few)
-    ∙ (λ j. Rattle.language.specs.Layout.exceeds (cond (fit j) (cost j) None) (Rattle.paren_planner.specs.Costs.capped_sum (Some 1) (row_of n).costs.with_in.any))
-    ∙ never_exceeds (Rattle.paren_planner.specs.Costs.capped_sum (Some 1) (row_of n).costs.with_in.any)
+    ∙ (λ j. Rattle.language.specs.Layout.exceeds (cond (fit j) (cost j) None) (Rattle.paren_planner.specs.Costs.capped_sum (Some 1) (row_of n).costs.has_in.any))
+    ∙ never_exceeds (Rattle.paren_planner.specs.Costs.capped_sum (Some 1) (row_of n).costs.has_in.any)
 word_unwrapped n _ x h k o t e few = absurd (false≢true h)
 
-word_flags : (o : Role) (s : Slot) (n : Tree) (x : Spelled) → IsSpelledWherever (settled_at o s) n (Some x) → x.outline ≡ leaf Primary → parts_of n ≡ none → has_row_at s ≡ true → slot_free s Primary ≡ true → rows n (settled_at o s) ≤ 16777216 → false ∷ [] ≡ flags n (settled_at o s)
+word_flags : (o : Role) (s : Slot) (n : Tree) (x : NodeSpelling) → IsSpelledWherever (settled_at o s) n (Some x) → x.outline ≡ leaf Primary → parts_of n ≡ none → has_row_at s ≡ true → slot_free s Primary ≡ true → rows n (settled_at o s) ≤ 16777216 → false ∷ [] ≡ flags n (settled_at o s)
 word_flags o s n x k q e r t few =
     let p : Role = settled_at o s in
     let h : is_expression p ≡ true = sym (is_row s o) ∙ r in
@@ -405,14 +405,14 @@ hidden_flags o s n h e = sym (plain_flags n (settled_at o s) true (rowless s o h
 
 settled_fits : (s : Slot) (o : Role) (x : Outline) → is_settled_slot s ≡ true → fits_outline (settled_at o s) x ≡ true
 settled_fits (fixed (expr y i f)) o x h = absurd (false≢true h)
-settled_fits (fixed (spine f)) o x h = absurd (false≢true h)
+settled_fits (fixed (chain_part f)) o x h = absurd (false≢true h)
 settled_fits (fixed (pattern b f)) o x h = absurd (false≢true h)
 settled_fits (fixed a) o x h = refl
 settled_fits (left_slot y) o x h = absurd (false≢true h)
 settled_fits (lead y) o x h = absurd (false≢true h)
 settled_fits (tail y f) o x h = absurd (false≢true h)
 settled_fits callee o x h = absurd (false≢true h)
-settled_fits lead_spine o x h = absurd (false≢true h)
+settled_fits lead_chain o x h = absurd (false≢true h)
 settled_fits lead_pattern o x h = absurd (false≢true h)
 
 fixed_same : (s : Slot) (a b : Role) → is_fixed s ≡ true → settled_at a s ≡ settled_at b s
@@ -421,7 +421,7 @@ fixed_same (left_slot y) a b h = absurd (false≢true h)
 fixed_same (lead y) a b h = absurd (false≢true h)
 fixed_same (tail y f) a b h = absurd (false≢true h)
 fixed_same callee a b h = absurd (false≢true h)
-fixed_same lead_spine a b h = absurd (false≢true h)
+fixed_same lead_chain a b h = absurd (false≢true h)
 fixed_same lead_pattern a b h = absurd (false≢true h)
 
 fixed_roles : (ss : List Slot) (a b : Role) → are_fixed ss ≡ true → settled_roles a ss ≡ settled_roles b ss
@@ -435,7 +435,7 @@ record Through (T : List Row) (o : Role) (bs : List Bool) (n : Tree) (p : Role) 
   few : parts_rows (parts_of n) (settled_roles o ss) ≤ 16777216
   result : parts_flags (parts_of n) (settled_roles o ss) ≡ flags n p
 
-passed : (T : List Row) (o : Role) (bs : List Bool) (s : Slot) (n : Tree) (x : Spelled) → IsSpelledWherever (settled_at o s) n (Some x) → is_settled_slot s ≡ true → are_fixed (left x.slots) ≡ true →
+passed : (T : List Row) (o : Role) (bs : List Bool) (s : Slot) (n : Tree) (x : NodeSpelling) → IsSpelledWherever (settled_at o s) n (Some x) → is_settled_slot s ≡ true → are_fixed (left x.slots) ≡ true →
     HasRows T (length bs) (table_rows n (settled_at o s)) → rows n (settled_at o s) ≤ 16777216 → Through T o bs n (settled_at o s) (left x.slots)
 passed T o bs s n x k r g st few =
     let p : Role = settled_at o s in
@@ -475,10 +475,10 @@ mutual
       let free : x.quiet ≡ true → F ≡ true → P ≡ U = λ z f. let g = here_roles x.own n y x.known f in subst (λ rs. parts_flags (parts_of n) rs ≡ unwrapped (parts_rows (parts_of n) rs)) g.1 (x.free z g.0) in
       let whole : cond (F && not x.quiet) P U ≡ inner_flags n x.own = inside_case F x.quiet P U (inner_flags n x.own) (inner_some x.own n y true x.known) free in
       ap (λ u. marked_through T u t) e ∙ marked_around T v ys t
-      ∙ ap (λ u. marked T Leave (marked_through T ys (record { here = u; outer = living o ∷ us; flags = gs }))) (x.round ∙ ap (λ u. record { own = x.own; lives = u && not x.quiet }) fit)
+      ∙ ap (λ u. marked T Leave (marked_through T ys (record { here = u; outer = living o ∷ us; flags = gs }))) (x.round ∙ ap (λ u. record { own = x.own; may_wrap = u && not x.quiet }) fit)
       ∙ ap (marked T Leave) (within_parts T ys x.own (F && not x.quiet) (living o ∷ us) gs P U
-      (dead_parts T q (record { here = record { own = x.own; lives = false }; outer = living o ∷ us; flags = gs }) refl
-      ∙ ap (λ m. record { here = record { own = x.own; lives = false }; outer = living o ∷ us; flags = gs ++ unwrapped m }) (parts-rows (parts_of n) (widest (settled_at a s)) x.own (left y.slots)))
+      (dead_parts T q (record { here = record { own = x.own; may_wrap = false }; outer = living o ∷ us; flags = gs }) refl
+      ∙ ap (λ m. record { here = record { own = x.own; may_wrap = false }; outer = living o ∷ us; flags = gs ++ unwrapped m }) (parts-rows (parts_of n) (widest (settled_at a s)) x.own (left y.slots)))
       (λ z. live_parts T q x.own (living o ∷ us) gs
       (subst (λ rs. all_pass is_plain rs ≡ true) (here_roles x.own n y x.known (and_parts F (not x.quiet) z).0).1 (parts_plain x.own n))
       (subst (HasRows T (length gs)) (table_below x.own n y x.known) x.stands)

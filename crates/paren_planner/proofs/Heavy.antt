@@ -7,34 +7,34 @@ use Rattle.tree.specs.declared.kind.Kind.TheVariants.{Identifier, Literal, ThisE
 use Rattle.tree.specs.declared.kind.Flags.{Flags}
 use Rattle.tree.specs.Tree.{Tree, node, Parts, none, part, gap, bare}
 use Rattle.tree.specs.Uses.{is_lean}
-use Rattle.tokens.specs.declared.token.Class.{Class}
-use Rattle.tokens.specs.declared.token.Class.TheVariants.{Name, Punctuator, Number, Text, RegExp, End}
+use Rattle.tokens.specs.declared.token.TokenClass.{TokenClass}
+use Rattle.tokens.specs.declared.token.TokenClass.TheVariants.{IdentifierName, Punctuator, NumericLiteral, StringLiteral, RegularExpressionLiteral, End}
 use Rattle.language.specs.declared.Rank.{Rank}
 use Rattle.language.specs.declared.Rank.TheVariants.{Call}
 use Rattle.language.specs.declared.Start.{Start}
 use Rattle.language.specs.FirstPart.{lead, others}
-use Rattle.language.specs.Words.{is, is_target, is_pattern, is_word_operator, literal_class, Operator, binds, powers, operator_of}
-use Rattle.language.specs.Pieces.{Role, expr, spine, quasi, chunk, Slot, fixed, left, tail, callee, lead_spine, lead_pattern, PieceOf, Piece, tok, may, many, ahead, unbroken, ending, open_parameters, close_parameters, sub, absent, never, lay, Spelling, only, settle, settle_piece, sign, put, is_none}
+use Rattle.language.specs.Vocabulary.{is, is_target, is_pattern, is_word_operator, literal_class, Operator, op_binary, op_power, operator_of}
+use Rattle.language.specs.Pieces.{Role, expr, chain_part, tagged_quasi, template_element, Slot, fixed, left, tail, callee, lead_chain, lead_pattern, PieceOf, Piece, tok, may, many, ahead, unbroken, ending, open_parameters, close_parameters, sub, absent, never, lay, Spelling, only, settle, settle_piece, sign, put, is_none}
 use Rattle.language.specs.Pieces as piece
-use Rattle.language.specs.Expressions.{expressions, arrows, arrow_end, binary_ways, logical_ways, selector, after_number, member_link, call_link, arguments, linked, first_chained, chunks, in_brackets, sequence}
+use Rattle.language.specs.Expressions.{expressions, op_arrow, arrow_end, binary_ways, logical_ways, selector, after_number, member_link, call_link, arguments, chain_element, first_has_optional, template_elements, in_brackets, sequence}
 use Rattle.language.specs.Grammar.{spellings, ways, ways_bare, own_rank, own_in, own_start}
-use Rattle.language.specs.Positions.{has_row}
+use Rattle.language.specs.RowPositions.{has_row}
 use Rattle.language.specs.Derivation.{Among, first, later}
-use Rattle.language.proofs.Domination.{settled, fits, ways_of}
+use Rattle.language.proofs.lower_bound.Domination.{settled, fits, ways_of}
 
 -- a part at this position has so many tokens beyond its rows
 abbrev pub own_tokens : Role → ℕ
-own_tokens (spine f) = 1
-own_tokens quasi = 1
-own_tokens (chunk b c) = 1
+own_tokens (chain_part f) = 1
+own_tokens tagged_quasi = 1
+own_tokens (template_element b c) = 1
 own_tokens _ = 0
 
 abbrev slot_tokens : Slot → ℕ
 slot_tokens (fixed a) = own_tokens a
-slot_tokens lead_spine = 1
+slot_tokens lead_chain = 1
 slot_tokens _ = 0
 
-abbrev pub is_end : Class → Bool
+abbrev pub is_end : TokenClass → Bool
 is_end End = true
 is_end _ = false
 
@@ -61,7 +61,7 @@ slot-settled z i f (left y) = refl
 slot-settled z i f (piece.lead y) = refl
 slot-settled z i f (tail y x) = refl
 slot-settled z i f callee = refl
-slot-settled z i f lead_spine = refl
+slot-settled z i f lead_chain = refl
 slot-settled z i f lead_pattern = refl
 
 piece-settled : (z : Rank) (i : Bool) (f : Start) (q : Piece) → piece_tokens own_tokens (settle_piece z i f q) ≡ piece_tokens slot_tokens q
@@ -100,7 +100,7 @@ heavy_any (x ∷ xs) = one_more (omega arith) (heavy_any xs)
 
 -- Tokens of an expression
 
-class_of : (a b c : Bool) → is_end (cond a Text (cond b RegExp (cond c Number Name))) ≡ false
+class_of : (a b c : Bool) → is_end (cond a StringLiteral (cond b RegularExpressionLiteral (cond c NumericLiteral IdentifierName))) ≡ false
 class_of true b c = refl
 class_of false true c = refl
 class_of false false true = refl
@@ -111,7 +111,7 @@ literal_token w =
     let c = slice_index_or w 0 0 in
     subst (λ b. 1 ≤ cond b 0 1) (sym (class_of (nat_eq c 34 || nat_eq c 39) (nat_eq c 47) (nat_eq c 46 || (nat_le 48 c && nat_le c 57)))) (omega arith)
 
-word_token : (b : Bool) → 1 ≤ cond (is_end (cond b Name Punctuator)) 0 1
+word_token : (b : Bool) → 1 ≤ cond (is_end (cond b IdentifierName Punctuator)) 0 1
 word_token true = omega arith
 word_token false = omega arith
 
@@ -144,7 +144,7 @@ selected_heavy g ps =
     let s = selector_tokens g in
     omega (arith, e, s)
 
-chunks_tokens : (b : Bool) (ps : Parts) → 1 ≤ tokens slot_tokens (chunks b ps)
+chunks_tokens : (b : Bool) (ps : Parts) → 1 ≤ tokens slot_tokens (template_elements b ps)
 chunks_tokens b none = omega arith
 chunks_tokens b (gap ps) = omega arith
 chunks_tokens b (part q none) = omega arith
@@ -154,7 +154,7 @@ chunks_tokens b (part q (part e ps)) = omega arith
 arrow_end_tokens : (g : Flags) → 1 ≤ tokens slot_tokens (arrow_end g)
 arrow_end_tokens g = omega arith
 
-arrows_heavy : (g : Flags) (ps : Parts) → Heavy 1 (arrows g ps)
+arrows_heavy : (g : Flags) (ps : Parts) → Heavy 1 (op_arrow g ps)
 arrows_heavy g none = heavy_one (omega arith)
 arrows_heavy g (gap ps) = heavy_one (omega arith)
 arrows_heavy g (part n none) = heavy_one (omega arith)
@@ -165,14 +165,14 @@ arrows_heavy g (part (node Identifier w h s e qs) (part b none)) = one_more (ome
 arrows_heavy g (part (node _ w h s e qs) (part b none)) = heavy_one (omega arith)
 
 binary_heavy : (w : List ℕ) (o : Operator) → Heavy 1 (binary_ways w o)
-binary_heavy w (binds true z q) = at_end
-binary_heavy w (binds false z q) = heavy_one (let t = word_token (is_word_operator w) in omega (arith, t))
-binary_heavy w powers = heavy_one (let t = word_token (is_word_operator w) in omega (arith, t))
+binary_heavy w (op_binary true z q) = at_end
+binary_heavy w (op_binary false z q) = heavy_one (let t = word_token (is_word_operator w) in omega (arith, t))
+binary_heavy w op_power = heavy_one (let t = word_token (is_word_operator w) in omega (arith, t))
 binary_heavy w _ = at_end
 
 logical_heavy : (w : List ℕ) (o : Operator) → Heavy 1 (logical_ways w o)
-logical_heavy w (binds false z q) = at_end
-logical_heavy w (binds true z q) = heavy_one (let t = word_token (is_word_operator w) in omega (arith, t))
+logical_heavy w (op_binary false z q) = at_end
+logical_heavy w (op_binary true z q) = heavy_one (let t = word_token (is_word_operator w) in omega (arith, t))
 logical_heavy w _ = at_end
 
 sequence_heavy : (ps : Parts) → Heavy 1 (cond (is_none ps) [] (piece.at Rattle.language.specs.declared.Rank.TheVariants.Expression (sub (left Rattle.language.specs.declared.Rank.TheVariants.Assignment) ∷ sequence ps) ∷ []))
@@ -214,10 +214,10 @@ expression_heavy AssignmentExpression w g ps = heavy-cond _ _ _ at_end (assigned
 expression_heavy SequenceExpression w g ps = sequence_heavy (others ps)
 expression_heavy _ w g ps = at_end
 
-linked_heavy : (o : Bool) (ps : Parts) (qs : List Piece) → 1 ≤ tokens slot_tokens qs → Heavy 1 (linked o ps qs)
-linked_heavy o ps qs h = of (first_chained ps) o
+linked_heavy : (o : Bool) (ps : Parts) (qs : List Piece) → 1 ≤ tokens slot_tokens qs → Heavy 1 (chain_element o ps qs)
+linked_heavy o ps qs h = of (first_has_optional ps) o
   where
-    of : (u v : Bool) → Heavy 1 (cond u (only (sub lead_spine ∷ qs)) (cond v (only (sub (piece.lead Call) ∷ qs)) []))
+    of : (u v : Bool) → Heavy 1 (cond u (only (sub lead_chain ∷ qs)) (cond v (only (sub (piece.lead Call) ∷ qs)) []))
     of true v = heavy_one (omega arith)
     of false true = heavy_one (omega (arith, h))
     of false false = at_end
@@ -225,13 +225,13 @@ linked_heavy o ps qs h = of (first_chained ps) o
 table_heavy : (a : Role) (n : Tree) → Heavy (own_tokens a + has_row a) (spellings a n)
 unfolding spellings
 table_heavy (expr y i f) (node k w g s e ps) = expression_heavy k w g ps
-table_heavy (spine f) (node MemberExpression w g s e ps) = linked_heavy g.optional ps (member_link g) (member_link_tokens g)
-table_heavy (spine f) (node CallExpression w g s e ps) = linked_heavy g.optional ps (call_link g ps) (call_link_tokens g ps)
-table_heavy (spine f) (node _ w g s e ps) = at_end
-table_heavy quasi (node TemplateLiteral w g s e ps) = heavy_one (chunks_tokens true ps)
-table_heavy quasi (node _ w g s e ps) = at_end
-table_heavy (chunk x y) (node TemplateElement w g s e ps) = heavy_one (omega arith)
-table_heavy (chunk x y) (node _ w g s e ps) = at_end
+table_heavy (chain_part f) (node MemberExpression w g s e ps) = linked_heavy g.optional ps (member_link g) (member_link_tokens g)
+table_heavy (chain_part f) (node CallExpression w g s e ps) = linked_heavy g.optional ps (call_link g ps) (call_link_tokens g ps)
+table_heavy (chain_part f) (node _ w g s e ps) = at_end
+table_heavy tagged_quasi (node TemplateLiteral w g s e ps) = heavy_one (chunks_tokens true ps)
+table_heavy tagged_quasi (node _ w g s e ps) = at_end
+table_heavy (template_element x y) (node TemplateElement w g s e ps) = heavy_one (omega arith)
+table_heavy (template_element x y) (node _ w g s e ps) = at_end
 table_heavy a n = heavy_any (spellings a n)
 
 -- Of a way

@@ -8,19 +8,19 @@ use Rattle.language.specs.declared.Rank.{Rank}
 use Rattle.language.specs.declared.Rank.TheVariants.{Expression, Member, Primary, Grouped}
 use Rattle.language.specs.declared.Start.{Start}
 use Rattle.language.specs.declared.Start.TheVariants.{Any, NoBrace, Statement}
-use Rattle.language.specs.Words.{tightness, takes}
-use Rattle.language.specs.Pieces.{Role, expr, spine, pattern, PieceOf, Slot, fixed, left, lead, tail, callee, lead_spine, lead_pattern}
+use Rattle.language.specs.Vocabulary.{precedence, takes}
+use Rattle.language.specs.Pieces.{Role, expr, chain_part, pattern, PieceOf, Slot, fixed, left, lead, tail, callee, lead_chain, lead_pattern}
 use Rattle.language.specs.Grammar.{ways, own_rank, own_in, own_start}
-use Rattle.language.specs.Positions.{first_roles, widest}
+use Rattle.language.specs.RowPositions.{first_roles, widest}
 use Rattle.language.specs.Layout.{some_way}
 use Rattle.language.specs.Cost.{add_cost, lesser, if_any, least, parts_least, cell, cell_position}
-use Rattle.positions.specs.declared.outline.Outline.{Outline}
-use Rattle.positions.specs.Outlines.{opens_at}
-use Rattle.positions.specs.Spelled.{fits_outline}
-use Rattle.positions.specs.Wherever.{with_own}
-use Rattle.positions.proofs.Walked.{own_again}
+use Rattle.spellings.specs.declared.outline.Outline.{Outline}
+use Rattle.spellings.specs.Outlines.{opens_at}
+use Rattle.spellings.specs.Spelled.{fits_outline}
+use Rattle.spellings.specs.Wherever.{with_own}
+use Rattle.spellings.proofs.SlotSteps.{own_again}
 use Rattle.paren_planner.specs.declared.costs.Costs as own
-use Rattle.paren_planner.specs.declared.weighed.Weighed.{Weighed}
+use Rattle.paren_planner.specs.declared.node_costs.NodeCosts.{NodeCosts}
 use Rattle.paren_planner.specs.Costs.{capped, capped_sum, started_at, each, cost_at, cells_at}
 use Rattle.paren_planner.specs.Weighed.{fits_any, least_of, settled_at, IsWeighed}
 use Rattle.paren_planner.proofs.Sums.{capped-one, capped-lesser}
@@ -29,7 +29,7 @@ use Rattle.paren_planner.proofs.Sums.{capped-one, capped-lesser}
 
 pub own_widest : (y : Rank) (i : Bool) (f : Start) (a : Role) → with_own y i f (widest a) ≡ with_own y i f a
 own_widest y i f (expr z j x) = refl
-own_widest y i f (spine x) = refl
+own_widest y i f (chain_part x) = refl
 own_widest y i f (pattern b x) = refl
 own_widest y i f _ = refl
 
@@ -63,7 +63,7 @@ tightest : (z : Rank) → takes Grouped z ≡ true → takes Member z ≡ true
 tightest Grouped k = refl
 tightest _ k = absurd (cc)
 
-pub takes_tight : (y z : Rank) → nat_le 21 (tightness y) ≡ true → takes y z ≡ true → takes Member z ≡ true
+pub takes_tight : (y z : Rank) → nat_le 21 (precedence y) ≡ true → takes y z ≡ true → takes Member z ≡ true
 takes_tight Member z h k = k
 takes_tight Primary z h k = tighter z k
 takes_tight Grouped z h k = tightest z k
@@ -72,14 +72,14 @@ takes_tight _ z h k = absurd (cc)
 -- at the widest position all fits
 pub fits_widest : (a : Role) (x : Outline) → fits_outline (widest a) x ≡ true
 fits_widest (expr y i f) x = both (takes Expression x.rank) (implies x.needs_in true && opens_at Any x.opens) (takes_all x.rank) (both (implies x.needs_in true) (opens_at Any x.opens) (implies_true x.needs_in) refl)
-fits_widest (spine f) x = refl
+fits_widest (chain_part f) x = refl
 fits_widest (pattern b f) x = refl
 fits_widest _ x = refl
 
 -- what fits a position fits that of the cell that counts there
 pub fits_cell : (y : Rank) (i : Bool) (f : Start) (o : Option Outline) → fits_any (expr y i f) o ≡ true → fits_any (cell_position (expr y i f)) o ≡ true
 fits_cell y i f None h = absurd (false≢true h)
-fits_cell y i f (Some x) h = of (nat_le 21 (tightness y)) refl
+fits_cell y i f (Some x) h = of (nat_le 21 (precedence y)) refl
   where
     behind : (implies x.needs_in i && opens_at f x.opens) ≡ true
     behind = and_right (takes y x.rank) (implies x.needs_in i && opens_at f x.opens) h
@@ -87,7 +87,7 @@ fits_cell y i f (Some x) h = of (nat_le 21 (tightness y)) refl
     front : takes y x.rank ≡ true
     front = and_left (takes y x.rank) (implies x.needs_in i && opens_at f x.opens) h
 
-    of : (b : Bool) → nat_le 21 (tightness y) ≡ b → fits_outline (cond b (expr Member true f) (expr Expression i f)) x ≡ true
+    of : (b : Bool) → nat_le 21 (precedence y) ≡ b → fits_outline (cond b (expr Member true f) (expr Expression i f)) x ≡ true
     of true e = both (takes Member x.rank) (implies x.needs_in true && opens_at f x.opens) (takes_tight y x.rank e front) (both (implies x.needs_in true) (opens_at f x.opens) (implies_true x.needs_in) (and_right (implies x.needs_in i) (opens_at f x.opens) behind))
     of false e = both (takes Expression x.rank) (implies x.needs_in i && opens_at f x.opens) (takes_all x.rank) behind
 
@@ -115,7 +115,7 @@ plain_known n b o x h e = of (fits_any b o) h
 abbrev cells_of : Tree → own.Costs
 cells_of n = each (λ y i f. capped (cell n (expr y i f)))
 
-counted_at : (n : Tree) (b i : Bool) (f : Start) → cond b (started_at (cells_of n).at_member f) (cond i (started_at (cells_of n).with_in f) (started_at (cells_of n).without_in f)) ≡ capped (cell n (cond b (expr Member true f) (expr Expression i f)))
+counted_at : (n : Tree) (b i : Bool) (f : Start) → cond b (started_at (cells_of n).at_member f) (cond i (started_at (cells_of n).has_in f) (started_at (cells_of n).without_in f)) ≡ capped (cell n (cond b (expr Member true f) (expr Expression i f)))
 counted_at n true i Any = refl
 counted_at n true i NoBrace = refl
 counted_at n true i Statement = refl
@@ -128,11 +128,11 @@ counted_at n false false Statement = refl
 
 pub counted : (c : own.Costs) (n : Tree) (z : Rank) (j : Bool) (g : Start) → c ≡ cells_at n (expr z j g) → (y : Rank) (i : Bool) (f : Start) → cost_at c y i f ≡ capped (cell n (cell_position (expr y i f)))
 unfolding cells_at
-counted c n z j g e y i f = ap (λ d. cost_at d y i f) e ∙ counted_at n (nat_le 21 (tightness y)) i f
+counted c n z j g e y i f = ap (λ d. cost_at d y i f) e ∙ counted_at n (nat_le 21 (precedence y)) i f
 
-cell_fits : (n : Tree) (z : Rank) (j : Bool) (g : Start) (w : Weighed) → IsWeighed (expr z j g) n w → (y : Rank) (i : Bool) (f : Start) →
+cell_fits : (n : Tree) (z : Rank) (j : Bool) (g : Start) (w : NodeCosts) → IsWeighed (expr z j g) n w → (y : Rank) (i : Bool) (f : Start) →
     some_way (ways (cell_position (expr y i f)) n) ≡ fits_any (cell_position (expr y i f)) w.outline
-cell_fits n z j g w h y i f = of (nat_le 21 (tightness y))
+cell_fits n z j g w h y i f = of (nat_le 21 (precedence y))
   where
     of : (b : Bool) → some_way (ways (cond b (expr Member true f) (expr Expression i f)) n) ≡ fits_any (cond b (expr Member true f) (expr Expression i f)) w.outline
     of true = h.fits Member true f
@@ -150,39 +150,39 @@ pub least_expr : (n : Tree) (y : Rank) (i : Bool) (f : Start) →
 unfolding least cell
 least_expr (node k w g s e ps) y i f = refl
 
-expression_known : (n : Tree) (z : Rank) (j : Bool) (g : Start) (w : Weighed) → IsWeighed (expr z j g) n w → (y : Rank) (i : Bool) (f : Start) → least_of w (expr y i f) ≡ capped (least n (expr y i f))
+expression_known : (n : Tree) (z : Rank) (j : Bool) (g : Start) (w : NodeCosts) → IsWeighed (expr z j g) n w → (y : Rank) (i : Bool) (f : Start) → least_of w (expr y i f) ≡ capped (least n (expr y i f))
 unfolding cells_at cell
 expression_known n z j g w h y i f =
     expr_lesser (fits_any (expr y i f) w.outline) (ways (expr y i f) n) (ways (cell_position (expr y i f)) n) (parts_least (parts_of n) (first_roles (ways (cell_position (expr y i f)) n)))
-    (add_cost (Some 1) (cell n (expr Expression true Any))) (cost_at w.costs y i f) (capped_sum (Some 1) w.costs.with_in.any)
+    (add_cost (Some 1) (cell n (expr Expression true Any))) (cost_at w.costs y i f) (capped_sum (Some 1) w.costs.has_in.any)
     (h.fits y i f) (λ t. cell_fits n z j g w h y i f ∙ fits_cell y i f w.outline t) (counted w.costs n z j g h.costs y i f)
-    (ap (λ c. capped_sum (Some 1) c.with_in.any) h.costs ∙ capped-one (cell n (expr Expression true Any)))
+    (ap (λ c. capped_sum (Some 1) c.has_in.any) h.costs ∙ capped-one (cell n (expr Expression true Any)))
     ∙ ap capped (sym (least_expr n y i f))
 
-pub least_known : (a : Role) (n : Tree) (w : Weighed) → IsWeighed a n w → (y : Rank) (i : Bool) (f : Start) → least_of w (with_own y i f a) ≡ capped (least n (with_own y i f a))
+pub least_known : (a : Role) (n : Tree) (w : NodeCosts) → IsWeighed a n w → (y : Rank) (i : Bool) (f : Start) → least_of w (with_own y i f a) ≡ capped (least n (with_own y i f a))
 unfolding cells_at least cell
 least_known (expr z j g) n w h y i f = expression_known n z j g w h y i f
-least_known (spine g) (node k t x s e ps) w h y i f = plain_known (node k t x s e ps) (spine f) w.outline _ (h.fits y i f) (of f)
+least_known (chain_part g) (node k t x s e ps) w h y i f = plain_known (node k t x s e ps) (chain_part f) w.outline _ (h.fits y i f) (of f)
   where
-    of : (f : Start) → started_at w.costs.with_in f ≡ capped (cell (node k t x s e ps) (spine f))
-    of Any = ap (λ c. c.with_in.any) h.costs
-    of NoBrace = ap (λ c. c.with_in.no_brace) h.costs
-    of Statement = ap (λ c. c.with_in.statement) h.costs
+    of : (f : Start) → started_at w.costs.has_in f ≡ capped (cell (node k t x s e ps) (chain_part f))
+    of Any = ap (λ c. c.has_in.any) h.costs
+    of NoBrace = ap (λ c. c.has_in.no_brace) h.costs
+    of Statement = ap (λ c. c.has_in.statement) h.costs
 least_known (pattern b g) (node k t x s e ps) w h y i f = plain_known (node k t x s e ps) (pattern b f) w.outline _ (h.fits y i f) (of f)
   where
-    of : (f : Start) → started_at w.costs.with_in f ≡ capped (cell (node k t x s e ps) (pattern b f))
-    of Any = ap (λ c. c.with_in.any) h.costs
-    of NoBrace = ap (λ c. c.with_in.no_brace) h.costs
-    of Statement = ap (λ c. c.with_in.statement) h.costs
-least_known a (node k t x s e ps) w h y i f = plain_known (node k t x s e ps) a w.outline w.costs.with_in.any (h.fits y i f) (ap (λ c. c.with_in.any) h.costs)
+    of : (f : Start) → started_at w.costs.has_in f ≡ capped (cell (node k t x s e ps) (pattern b f))
+    of Any = ap (λ c. c.has_in.any) h.costs
+    of NoBrace = ap (λ c. c.has_in.no_brace) h.costs
+    of Statement = ap (λ c. c.has_in.statement) h.costs
+least_known a (node k t x s e ps) w h y i f = plain_known (node k t x s e ps) a w.outline w.costs.has_in.any (h.fits y i f) (ap (λ c. c.has_in.any) h.costs)
 
 -- what a part costs in a node
-pub use_known : (a : Role) (s : Slot) (n : Tree) (w : Weighed) → IsWeighed (settled_at a s) n w → (y : Rank) (i : Bool) (f : Start) →
+pub use_known : (a : Role) (s : Slot) (n : Tree) (w : NodeCosts) → IsWeighed (settled_at a s) n w → (y : Rank) (i : Bool) (f : Start) →
     least_of w (settled_at (with_own y i f a) s) ≡ capped (least n (settled_at (with_own y i f a) s))
 use_known a (fixed r) n w h y i f = let P : Role → Type 0 = λ b. least_of w b ≡ capped (least n b) in subst P (own_again r) (least_known r n w h (own_rank r) (own_in r) (own_start r))
 use_known a (left t) n w h y i f = least_known (settled_at a (left t)) n w h t (own_in (with_own y i f a)) (own_start (with_own y i f a))
 use_known a (lead t) n w h y i f = least_known (settled_at a (lead t)) n w h t true (own_start (with_own y i f a))
 use_known a (tail t x) n w h y i f = least_known (settled_at a (tail t x)) n w h t (own_in (with_own y i f a)) x
 use_known a callee n w h y i f = least_known (settled_at a callee) n w h _ true (own_start (with_own y i f a))
-use_known a lead_spine n w h y i f = least_known (settled_at a lead_spine) n w h Expression true (own_start (with_own y i f a))
+use_known a lead_chain n w h y i f = least_known (settled_at a lead_chain) n w h Expression true (own_start (with_own y i f a))
 use_known a lead_pattern n w h y i f = least_known (settled_at a lead_pattern) n w h Expression true (own_start (with_own y i f a))

@@ -1,14 +1,14 @@
 -- Readable items, as tokens of a list.
 use Rattle.std.proofs.Common.{◌≡◌, ℕ, false, List, [], ◌∷◌, ◌++◌, refl}
 use Rattle.std.specs.Prelude.{codes}
-use Rattle.tokens.specs.declared.token.Class.TheVariants.{Name}
+use Rattle.tokens.specs.declared.token.TokenClass.TheVariants.{IdentifierName}
 use Rattle.language.specs.Token.{Token}
 use Rattle.language.specs.Cursor.{Next, next, behind}
 use Rattle.language.specs.Derivation.{Reads}
 use Rattle.language.specs.Printed.{Item, word, blank, name_ahead, joined, sign_item, Follows, over, reads, passes, sees, stays}
-use Rattle.language.proofs.ReadItems.{Readable, a_word, a_gap, a_name, a_line}
-use Rattle.language.proofs.Worded.{NameFirst, name_first}
-use Rattle.language.specs.Laid.{token_of, item_tokens, closing}
+use Rattle.language.proofs.layout.ReadItems.{Readable, a_word, a_gap, a_name, a_line}
+use Rattle.language.proofs.table.TreesOfWords.{NameFirst, name_first}
+use Rattle.language.specs.ExactCells.{token_of, item_tokens, closing}
 
 abbrev pub closing_items : List Item
 closing_items = sign_item (codes ")") ∷ []
@@ -45,11 +45,11 @@ named_next (a_name r) = name_first
 record NameAhead (w : List ℕ) (s : List Token) : Type 0 where
   ahead : Token
   place : List Token
-  is_read : Reads (List Token) Next behind Name w s ahead place
+  is_read : Reads (List Token) Next behind IdentifierName w s ahead place
 
 name_next : (w : List ℕ) (xs : List Item) (b : Token) → NameFirst w (xs ++ closing_items) → NameAhead w (b ∷ (item_tokens xs ++ closing ∷ []))
 name_next w [] b h = elim h [ ]
-name_next w (word c v ∷ xs) b name_first = record { ahead = token_of Name w; place = token_of Name w ∷ (item_tokens xs ++ closing ∷ []); is_read = record { next = next; class = refl; text = refl } }
+name_next w (word c v ∷ xs) b name_first = record { ahead = token_of IdentifierName w; place = token_of IdentifierName w ∷ (item_tokens xs ++ closing ∷ []); is_read = record { next = next; class = refl; text = refl } }
 name_next w (blank v ∷ xs) b h = elim h [ ]
 name_next w (name_ahead v ∷ xs) b h = elim h [ ]
 name_next w (joined ∷ xs) b h = elim h [ ]

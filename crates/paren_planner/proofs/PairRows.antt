@@ -6,8 +6,8 @@ use Rattle.std.proofs.lemmas.Bool.{and_parts, and_from}
 use Rattle.std.proofs.lemmas.Bool.Decides.{nat_tests}
 use Rattle.std.proofs.lemmas.List.{map-append, length-append}
 use Rattle.std.proofs.lemmas.Str.{IsCharBoundary-from_drop}
-use Rattle.tokens.specs.declared.token.Class.{Class}
-use Rattle.tokens.specs.declared.token.Class.TheVariants.{Punctuator, End}
+use Rattle.tokens.specs.declared.token.TokenClass.{TokenClass}
+use Rattle.tokens.specs.declared.token.TokenClass.TheVariants.{Punctuator, End}
 use Rattle.tokens.specs.Reading.{any_goal}
 use Rattle.tokens.proofs.Bounds.{IsWithin, token_within, token_places, token_goes_on}
 use Rattle.tree.specs.declared.kind.Pair.{Pair}
@@ -17,27 +17,27 @@ use Rattle.language.specs.declared.Rank.{Rank}
 use Rattle.language.specs.declared.Rank.TheVariants.{Expression}
 use Rattle.language.specs.declared.Start.{Start}
 use Rattle.language.specs.declared.Start.TheVariants.{Any}
-use Rattle.language.specs.Pieces.{Role, expr, script, spine, pattern, Slot, fixed, left, lead, tail, callee, lead_spine, lead_pattern, PieceOf, Piece, tok, may, many, ahead, unbroken, ending, open_parameters, close_parameters, sub, absent, never, lay, Spelling, settle, settle_piece}
+use Rattle.language.specs.Pieces.{Role, expr, script, chain_part, pattern, Slot, fixed, left, lead, tail, callee, lead_chain, lead_pattern, PieceOf, Piece, tok, may, many, ahead, unbroken, ending, open_parameters, close_parameters, sub, absent, never, lay, Spelling, settle, settle_piece}
 use Rattle.language.specs.Token.{Token}
 use Rattle.language.specs.Places.{NextIn, next_in, itself, SpellsIn}
 use Rattle.language.specs.Cursor.{beginning}
 use Rattle.language.specs.Derivation.{Among, Step, token, with_mark, without_mark, one_more, no_more, seen, same_line, explicit, implicit, laid, Placed, placed, Spells, direct, grouped, Runs, done, step, opened, closed, within, missing}
 use Rattle.language.specs.Grammar.{ways, ways_bare, spellings, fits_position, can_run, own_rank, own_in, own_start}
-use Rattle.language.specs.Positions.{roles, first_roles, widest, has_row, rows, parts_rows}
+use Rattle.language.specs.RowPositions.{roles, first_roles, widest, has_row, rows, parts_rows}
 use Rattle.language.specs.Claims.{row_nodes, parts_row_nodes}
-use Rattle.language.proofs.Looser.{Looser, same, looser, looser_spine, looser_pattern, AllLooser, end, next}
-use Rattle.language.proofs.Domination.{settled, fits, ways_of, Tidy, none_at_all, one_way, two_ways, Among-one, Among-two}
-use Rattle.language.proofs.TidyTable.{tidy_table}
-use Rattle.language.proofs.LowerBound.{Step-roles}
-use Rattle.language.proofs.TextPlaces.{text_determined}
-use Rattle.positions.specs.Groupings.{grouping, row_starts, row_behind}
-use Rattle.positions.proofs.Slots.{is_wide, all_pass, parts_wide}
+use Rattle.language.proofs.table.LooserPositions.{Looser, same, looser, looser_spine, looser_pattern, AllLooser, end, next}
+use Rattle.language.proofs.lower_bound.Domination.{settled, fits, ways_of, Tidy, none_at_all, one_way, two_ways, Among-one, Among-two}
+use Rattle.language.proofs.table.TidyTable.{tidy_table}
+use Rattle.language.proofs.lower_bound.LowerBound.{Step-roles}
+use Rattle.language.proofs.texts.TextOffsets.{text_determined}
+use Rattle.spellings.specs.Groupings.{grouping, row_starts, row_after}
+use Rattle.spellings.proofs.Slots.{is_wide, all_pass, parts_wide}
 use Rattle.paren_planner.proofs.Known.{takes_all}
-use Rattle.paren_planner.proofs.Celled.{wide_itself, wide_start}
+use Rattle.paren_planner.proofs.CellRows.{wide_itself, wide_start}
 use Rattle.paren_planner.specs.PairNodes.{pair_nodes, run_pair_nodes, node_of_row, PairsHaveTheirRows, is_direct, pair_rows, run_pair_rows, spans_but_needed, ExtraPairsAreExtra}
 use Rattle.paren_planner.specs.Extra.{extra_spans, span_of, is_innermost}
 use Rattle.paren_planner.specs.Wrapped.{is_flagged}
-use Rattle.paren_planner.proofs.Bounded.{nodes-length}
+use Rattle.paren_planner.proofs.CellBounds.{nodes-length}
 use Rattle.paren_planner.proofs.Bytes.{way-rows, node-rows}
 
 -- The rows of a node don't depend on the way in which it is spelled.
@@ -48,7 +48,7 @@ slot-wide a b (left y) = refl
 slot-wide a b (lead y) = refl
 slot-wide a b (tail y x) = refl
 slot-wide a b callee = refl
-slot-wide a b lead_spine = refl
+slot-wide a b lead_chain = refl
 slot-wide a b lead_pattern = refl
 
 pieces-wide : (a b : Role) (qs : List Piece) → map widest (roles (map (settle_piece (own_rank a) (own_in a) (own_start a)) qs)) ≡ map widest (roles (map (settle_piece (own_rank b) (own_in b) (own_start b)) qs))
@@ -83,7 +83,7 @@ implies_true false = refl
 fits-widest : (a : Role) (x : Spelling) → IsTrue (fits a x) → IsTrue (fits (widest a) x)
 fits-widest (expr y i f) x h =
     and_from _ _ (and_from _ _ (takes_all x.rank) (and_from _ _ (implies_true x.needs_in) refl)) (and_parts (fits_position (expr y i f) x) (can_run x.pieces) h).1
-fits-widest (spine f) x h = h
+fits-widest (chain_part f) x h = h
 fits-widest (pattern b f) x h = and_from _ _ refl (and_parts (fits_position (pattern b f) x) (can_run x.pieces) h).1
 fits-widest _ x h = h
 
@@ -108,7 +108,7 @@ spelled-wide a _ qs (two_ways {x = x} {y = y} n covers alike) h = of (Among-two 
 spellings-widest : (a : Role) (n : Tree) → spellings (widest a) n ≡ spellings a n
 unfolding spellings
 spellings-widest (expr y i f) (node k w g s e ps) = refl
-spellings-widest (spine f) (node k w g s e ps) = refl
+spellings-widest (chain_part f) (node k w g s e ps) = refl
 spellings-widest (pattern b f) (node k w g s e ps) = refl
 spellings-widest _ n = refl
 
@@ -147,7 +147,7 @@ parts-widest (part n ps) (a ∷ xs) h = let u = and_parts _ _ h in ap₂ (λ u v
 node-split : (n : Tree) (a : Role) → row_nodes n (widest a) ≡ own a n ++ parts_row_nodes (parts_of n) (first_roles (ways (widest a) n))
 unfolding row_nodes own
 node-split (node k w g s e ps) (expr y i f) = refl
-node-split (node k w g s e ps) (spine f) = refl
+node-split (node k w g s e ps) (chain_part f) = refl
 node-split (node k w g s e ps) (pattern b f) = refl
 node-split (node k w g s e ps) _ = refl
 
@@ -226,26 +226,26 @@ later_drop [] (suc k) n ns h = cc
 later_drop (x ∷ L) zero n ns h = cc
 later_drop (x ∷ L) (suc k) n ns h = later_drop L k n ns h
 
-numbered : (L ns : List Tree) (k at : ℕ) → drop k L ≡ ns → at_number L (row_behind (map start_of ns) at (suc k)) ≡ first_behind ns at
+numbered : (L ns : List Tree) (k at : ℕ) → drop k L ≡ ns → at_number L (row_after (map start_of ns) at (suc k)) ≡ first_behind ns at
 unfolding at_number first_behind
 numbered L [] k at h = refl
 numbered L (n ∷ ns) k at h = of (nat_lt at (start_of n)) (numbered L ns (suc k) at (later_drop L k n ns h))
   where
-    of : (b : Bool) → at_number L (row_behind (map start_of ns) at (suc (suc k))) ≡ first_behind ns at → at_number L (cond b (suc k) (row_behind (map start_of ns) at (suc (suc k)))) ≡ cond b (Some n) (first_behind ns at)
+    of : (b : Bool) → at_number L (row_after (map start_of ns) at (suc (suc k))) ≡ first_behind ns at → at_number L (cond b (suc k) (row_after (map start_of ns) at (suc (suc k)))) ≡ cond b (Some n) (first_behind ns at)
     of true e = got L k n ns h
     of false e = e
 
 -- The numbers of the rows
 
-row_skips : (ms ns : List Tree) (k r : ℕ) → AllUpTo ms k → row_behind (map start_of (ms ++ ns)) k r ≡ row_behind (map start_of ns) k (r + length ms)
+row_skips : (ms ns : List Tree) (k r : ℕ) → AllUpTo ms k → row_after (map start_of (ms ++ ns)) k r ≡ row_after (map start_of ns) k (r + length ms)
 unfolding AllUpTo
-row_skips [] ns k r u = ap (row_behind (map start_of ns) k) (let e : r ≡ r + 0 = omega arith in e)
+row_skips [] ns k r u = ap (row_after (map start_of ns) k) (let e : r ≡ r + 0 = omega arith in e)
 row_skips (m ∷ ms) ns k r u =
-    cond_false (nat_lt k (start_of m)) r (row_behind (map start_of (ms ++ ns)) k (suc r)) (not_before k (start_of m) u.0)
-    ∙ row_skips ms ns k (suc r) u.1 ∙ ap (row_behind (map start_of ns) k) (let e : suc r + length ms ≡ r + suc (length ms) = omega arith in e)
+    cond_false (nat_lt k (start_of m)) r (row_after (map start_of (ms ++ ns)) k (suc r)) (not_before k (start_of m) u.0)
+    ∙ row_skips ms ns k (suc r) u.1 ∙ ap (row_after (map start_of ns) k) (let e : suc r + length ms ≡ r + suc (length ms) = omega arith in e)
 
-row_here : (n : Tree) (ns : List Tree) (k r : ℕ) → k < start_of n → row_behind (map start_of (n ∷ ns)) k r ≡ r
-row_here n ns k r h = cond_true (nat_lt k (start_of n)) r (row_behind (map start_of ns) k (suc r)) (before k (start_of n) h)
+row_here : (n : Tree) (ns : List Tree) (k r : ℕ) → k < start_of n → row_after (map start_of (n ∷ ns)) k r ≡ r
+row_here n ns k r h = cond_true (nat_lt k (start_of n)) r (row_after (map start_of ns) k (suc r)) (before k (start_of n) h)
 
 own_length : (a : Role) (n : Tree) → length (own a n) ≡ has_row a
 unfolding own
@@ -254,14 +254,14 @@ own_length _ n = refl
 
 wide_widest : (a : Role) → is_wide (widest a) ≡ true
 wide_widest (expr y i f) = refl
-wide_widest (spine f) = refl
+wide_widest (chain_part f) = refl
 wide_widest (pattern b f) = refl
 wide_widest _ = refl
 
 rows_widest : (n : Tree) (a : Role) → rows n (widest a) ≡ rows n a
 unfolding rows
 rows_widest (node k w g s e ps) (expr y i f) = refl
-rows_widest (node k w g s e ps) (spine f) = refl
+rows_widest (node k w g s e ps) (chain_part f) = refl
 rows_widest (node k w g s e ps) (pattern b f) = refl
 rows_widest (node k w g s e ps) _ = refl
 
@@ -404,12 +404,12 @@ module _ (S : Type 0) (Next : S → Token → S → Type 0) (behind : S → Toke
 
   -- so the number of each pair's row is that of its node
   Numbered : (B N : List Tree) (P : List Pair) (X : List (ℕ × Bool)) → Type 0
-  Numbered B N P X = (C : List Tree) → map (λ p. row_behind (map start_of (B ++ (N ++ C))) p.left 1) P ≡ map (λ x. x.0) X
+  Numbered B N P X = (C : List Tree) → map (λ p. row_after (map start_of (B ++ (N ++ C))) p.left 1) P ≡ map (λ x. x.0) X
 
-  group_number : (n : Tree) (y : Rank) (i : Bool) (f : Start) (B C : List Tree) (k r : ℕ) → AllUpTo B k → k < start_of n → r ≡ suc (length B) → row_behind (map start_of (B ++ (nodes n (expr y i f) ++ C))) k 1 ≡ r
+  group_number : (n : Tree) (y : Rank) (i : Bool) (f : Start) (B C : List Tree) (k r : ℕ) → AllUpTo B k → k < start_of n → r ≡ suc (length B) → row_after (map start_of (B ++ (nodes n (expr y i f) ++ C))) k 1 ≡ r
   unfolding nodes own
   group_number n y i f B C k r u h e =
-      row_skips B (nodes n (expr y i f) ++ C) k 1 u ∙ ap (λ v. row_behind (map start_of (v ++ C)) k (1 + length B)) (node-split n (expr y i f))
+      row_skips B (nodes n (expr y i f) ++ C) k 1 u ∙ ap (λ v. row_after (map start_of (v ++ C)) k (1 + length B)) (node-split n (expr y i f))
       ∙ row_here n (parts_row_nodes (parts_of n) (first_roles (ways (expr Expression true Any) n)) ++ C) k (1 + length B) h ∙ (let g : 1 + length B ≡ r = omega (arith, e) in g)
 
   mutual
@@ -421,7 +421,7 @@ module _ (S : Type 0) (Next : S → Token → S → Type 0) (behind : S → Toke
         let l = length-append B (own a n) in
         let m = own_length a n in
         let w = runs_numbered d k (B ++ own a n) (own_upto a n B p u) (has_row a + r) (omega (arith, e, l, m)) in
-        λ C. ap (λ x. map (λ p. row_behind (map start_of x) p.left 1) P) (ap (λ x. B ++ (x ++ C)) (way-split a n qs h) ∙ ap (λ x. B ++ x) (append_assoc (own a n) N C) ∙ sym (append_assoc B (own a n) (N ++ C))) ∙ w C
+        λ C. ap (λ x. map (λ p. row_after (map start_of x) p.left 1) P) (ap (λ x. B ++ (x ++ C)) (way-split a n qs h) ∙ ap (λ x. B ++ x) (append_assoc (own a n) N C) ∙ sym (append_assoc B (own a n) (N ++ C))) ∙ w C
     spells_numbered {n = n} {s = s} (grouped {y = y} {i = i} {f = f} {left = l} {m = m} p d q) k B u r e =
         let v = next_on B p.next k u in
         let w = spells_numbered d v.ok B v.upto r e in
@@ -434,7 +434,7 @@ module _ (S : Type 0) (Next : S → Token → S → Type 0) (behind : S → Toke
     runs_numbered {P = P} (step {qs = qs} {ps = ps} p d) k B u r e =
         let v = step_on B p k u in
         let w = runs_numbered d v.ok B v.upto r e in
-        λ C. ap (λ x. map (λ p. row_behind (map start_of (B ++ (parts_nodes ps x ++ C))) p.left 1) P) (Step-roles S Next behind qs p) ∙ w C
+        λ C. ap (λ x. map (λ p. row_after (map start_of (B ++ (parts_nodes ps x ++ C))) p.left 1) P) (Step-roles S Next behind qs p) ∙ w C
     runs_numbered (opened p d) k B u r e = let v = next_on B p.next k u in runs_numbered d v.ok B v.upto r e
     runs_numbered (closed p d) k B u r e = let v = next_on B p.next k u in runs_numbered d v.ok B v.upto r e
     runs_numbered (within {a = a} {qs = qs} {n = n} {ps = ps} {P = P} {Q = Q} p d) k B u r e =
@@ -446,16 +446,16 @@ module _ (S : Type 0) (Next : S → Token → S → Type 0) (behind : S → Toke
         let v = spells_numbered p k B u r e in
         let w = runs_numbered d f.ok (B ++ N) f.past (r + rows n a) (omega (arith, e, l, c)) in
         λ C.
-        map-append (λ p. row_behind (map start_of (B ++ ((N ++ M) ++ C))) p.left 1) P Q
+        map-append (λ p. row_after (map start_of (B ++ ((N ++ M) ++ C))) p.left 1) P Q
         ∙ ap₂ (λ x y. x ++ y)
-        (ap (λ x. map (λ p. row_behind (map start_of (B ++ x)) p.left 1) P) (append_assoc N M C) ∙ v (M ++ C))
-        (ap (λ x. map (λ p. row_behind (map start_of x) p.left 1) Q) (ap (λ x. B ++ x) (append_assoc N M C) ∙ sym (append_assoc B N (M ++ C))) ∙ w C)
+        (ap (λ x. map (λ p. row_after (map start_of (B ++ x)) p.left 1) P) (append_assoc N M C) ∙ v (M ++ C))
+        (ap (λ x. map (λ p. row_after (map start_of x) p.left 1) Q) (ap (λ x. B ++ x) (append_assoc N M C) ∙ sym (append_assoc B N (M ++ C))) ∙ w C)
         ∙ sym (map-append (λ x. x.0) (pair_rows ways S Next behind p r) (run_pair_rows ways S Next behind d (r + rows n a)))
     runs_numbered (missing d) k B u r e = runs_numbered d k B u r e
 
 -- In a text
 
-no_end : (c : Class) → c ≡ Punctuator → c ≡ End → ⊥
+no_end : (c : TokenClass) → c ≡ Punctuator → c ≡ End → ⊥
 no_end c p q = let e : Punctuator ≡ End = sym p ∙ q in absurd (cc)
 
 text_past : (text : List ℕ) → IsUtf8 text → (s e t : Token) → NextIn text any_goal s t e → IsCharBoundary text s.stop → Past Token (λ p. IsCharBoundary text p.stop) (λ p. p.stop) s e t
@@ -478,7 +478,7 @@ first_rows text o n last P u d =
     ap (λ x. map (λ p. first_behind x p.left) P) (sym (append-nil (row_nodes n script))) ∙ f.rows []
 
 row_found : (n : Tree) (p : Pair) → node_of_row n (grouping (row_starts n) p).row ≡ first_behind (row_nodes n script) p.left
-row_found n p = number_is n (row_behind (row_starts n) p.left 1) ∙ numbered (row_nodes n script) (row_nodes n script) 0 p.left refl
+row_found n p = number_is n (row_after (row_starts n) p.left 1) ∙ numbered (row_nodes n script) (row_nodes n script) 0 p.left refl
 
 pub pairs_have_rows : PairsHaveTheirRows
 pairs_have_rows text o n last P u d = (λ j. map (λ p. row_found n p j) P) ∙ first_rows text o n last P u d
@@ -586,21 +586,21 @@ module _ (S : Type 0) (Next : S → Token → S → Type 0) (behind : S → Toke
 -- The extra pairs
 
 row_in : List ℕ → Pair → ℕ
-row_in ss p = row_behind ss p.left 1
+row_in ss p = row_after ss p.left 1
 
 innermost_told : (ss : List ℕ) (p : Pair) (P : List Pair) (x : ℕ × Bool) (X : List (ℕ × Bool)) → row_in ss p ≡ x.0 → map (row_in ss) P ≡ map (λ z. z.0) X → is_innermost (map (grouping ss) (p ∷ P)) ≡ stands_alone x.0 X
 unfolding row_in stands_alone
 innermost_told ss p [] x [] e h = refl
 innermost_told ss p [] x (z ∷ X) e h = absurd (cc)
 innermost_told ss p (q ∷ P) x [] e h = absurd (cc)
-innermost_told ss p (q ∷ P) x (z ∷ X) e h = let f : row_behind ss q.left 1 ≡ z.0 = cc in ap₂ (λ u v. not (nat_eq u v)) f e
+innermost_told ss p (q ∷ P) x (z ∷ X) e h = let f : row_after ss q.left 1 ≡ z.0 = cc in ap₂ (λ u v. not (nat_eq u v)) f e
 
 extra_told : (wrapped : List Bool) (ss : List ℕ) (P : List Pair) (X : List (ℕ × Bool)) → map (row_in ss) P ≡ map (λ x. x.0) X → Told X → extra_spans wrapped (map (grouping ss) P) ≡ spans_but_needed wrapped P X
 unfolding row_in Told
 extra_told wrapped ss [] X h t = refl
 extra_told wrapped ss (p ∷ P) [] h t = absurd (cc)
 extra_told wrapped ss (p ∷ P) (x ∷ X) h t =
-    let e : row_behind ss p.left 1 ≡ x.0 = cc in
+    let e : row_after ss p.left 1 ≡ x.0 = cc in
     let f : map (row_in ss) P ≡ map (λ z. z.0) X = cc in
     ap₂ (λ u v. cond (u && is_flagged wrapped v) [] (span_of (grouping ss p) ∷ []) ++ extra_spans wrapped (map (grouping ss) P)) (innermost_told ss p P x X e f ∙ sym t.0) e
     ∙ ap (λ u. cond (x.1 && is_flagged wrapped x.0) [] (span_of (grouping ss p) ∷ []) ++ u) (extra_told wrapped ss P X f t.1)
@@ -612,7 +612,7 @@ unfolding nodes UpTo AllUpTo Numbered row_in
 script_rows text o n last P u d =
     let first : IsCharBoundary text 0 = IsCharBoundary-from_drop text 0 (omega arith) u in
     let f = spells_numbered Token (NextIn text any_goal) itself (λ p. IsCharBoundary text p.stop) (λ p. p.stop) (text_past text u) ((text_determined text).start) d first [] (λ t e q. tt) 1 refl in
-    ap (λ x. map (λ p. row_behind (map start_of x) p.left 1) P) (sym (append-nil (row_nodes n script))) ∙ f []
+    ap (λ x. map (λ p. row_after (map start_of x) p.left 1) P) (sym (append-nil (row_nodes n script))) ∙ f []
 
 script_told : (text : List ℕ) (o : ℕ) (n : Tree) (last : Token) (P : List Pair) → (d : SpellsIn text o script n beginning last P) → Told (pair_rows ways Token (NextIn text any_goal) itself d 1)
 unfolding AllFrom Told

@@ -7,48 +7,48 @@ use Rattle.language.specs.declared.Rank.{Rank}
 use Rattle.language.specs.declared.Rank.TheVariants as rank
 use Rattle.language.specs.declared.Start.{Start}
 use Rattle.language.specs.declared.Start.TheVariants as start
-use Rattle.language.specs.Words.{takes, tightness}
+use Rattle.language.specs.Vocabulary.{takes, precedence}
 use Rattle.language.specs.Cost.{lesser}
 use Rattle.language.specs.Grammar.{own_rank}
 use Rattle.language.specs.Pieces.{Role, Slot, is_tight}
 use Rattle.language.specs.Pieces as role
-use Rattle.positions.specs.declared.outline.Opens.{Opens}
-use Rattle.positions.specs.declared.outline.Opens.TheVariants as opens
-use Rattle.positions.specs.declared.outline.Outline.{Outline}
-use Rattle.positions.specs.Outlines.{opens_at}
-use Rattle.positions.specs.Spelled.{fits_outline}
-use Rattle.positions.specs.Wherever.{with_own}
+use Rattle.spellings.specs.declared.outline.FirstToken.{FirstToken}
+use Rattle.spellings.specs.declared.outline.FirstToken.TheVariants as opens
+use Rattle.spellings.specs.declared.outline.Outline.{Outline}
+use Rattle.spellings.specs.Outlines.{opens_at}
+use Rattle.spellings.specs.Spelled.{fits_outline}
+use Rattle.spellings.specs.Wherever.{with_own}
 use Rattle.paren_planner.specs.declared.costs.Costs as own
-use Rattle.paren_planner.specs.declared.costs.Starts.{Starts}
+use Rattle.paren_planner.specs.declared.costs.StartCosts.{StartCosts}
 use Rattle.paren_planner.specs.Costs.{each, each_start, started_at, cost_at, capped_sum}
 use Rattle.paren_planner.specs.Weighed.{least_of, settled_at, uses, fitting}
 use Rattle.tree.specs.declared.kind.Kind.{Kind}
-use Rattle.language.specs.Positions.{widest}
-use Rattle.positions.specs.Outlines.{role_of, slot_of}
-use Rattle.paren_planner.specs.declared.packed.Filled.TheVariants.{Each, Nowhere}
-use Rattle.paren_planner.specs.declared.steps.Label.{Label}
-use Rattle.paren_planner.specs.declared.steps.Visit.{Visit}
-use Rattle.paren_planner.specs.declared.weighed.Weighed.{Weighed}
+use Rattle.language.specs.RowPositions.{widest}
+use Rattle.spellings.specs.Outlines.{role_of, slot_of}
+use Rattle.paren_planner.specs.declared.packed_row.FilledStarts.TheVariants.{Each, Nowhere}
+use Rattle.paren_planner.specs.declared.steps.SpellingNeeds.{SpellingNeeds}
+use Rattle.paren_planner.specs.declared.steps.NodeStep.{NodeStep}
+use Rattle.paren_planner.specs.declared.node_costs.NodeCosts.{NodeCosts}
 use Rattle.paren_planner.specs.Packed.{shaped, free_shape}
 use Rattle.paren_planner.specs.Rows.{row_with}
 use Rattle.paren_planner.specs.Steps.{no_pairs, is_plain_outline, role_free, slot_free, outline_of, place_of, has_row_at, weighed_as, used, row_of_visit}
 use Rattle.paren_planner.proofs.Known.{takes_all, takes_tight}
 use Rattle.paren_planner.proofs.Free.{zero_at, zero_or_one}
 
-plain_opens : (n : Bool) (o : Opens) → (not n && Rattle.paren_planner.specs.Steps.is_otherwise o) ≡ true → (i : Bool) (f : Start) → (implies n i && opens_at f o) ≡ true
-plain_opens false opens.Otherwise h i start.Any = refl
-plain_opens false opens.Otherwise h i start.NoBrace = refl
-plain_opens false opens.Otherwise h i start.Statement = refl
-plain_opens false opens.WithBrace h i f = absurd (false≢true h)
-plain_opens false opens.WithWord h i f = absurd (false≢true h)
+plain_opens : (n : Bool) (o : FirstToken) → (not n && Rattle.paren_planner.specs.Steps.is_otherwise o) ≡ true → (i : Bool) (f : Start) → (implies n i && opens_at f o) ≡ true
+plain_opens false opens.Other h i start.Any = refl
+plain_opens false opens.Other h i start.NoBrace = refl
+plain_opens false opens.Other h i start.Statement = refl
+plain_opens false opens.Brace h i f = absurd (false≢true h)
+plain_opens false opens.FunctionOrClass h i f = absurd (false≢true h)
 plain_opens true o h i f = absurd (false≢true h)
 
-plain_start : (n : Bool) (o : Opens) → (not n && Rattle.paren_planner.specs.Steps.is_otherwise o) ≡ true → (f : Start) → opens_at f o ≡ true
-plain_start false opens.Otherwise h start.Any = refl
-plain_start false opens.Otherwise h start.NoBrace = refl
-plain_start false opens.Otherwise h start.Statement = refl
-plain_start false opens.WithBrace h f = absurd (false≢true h)
-plain_start false opens.WithWord h f = absurd (false≢true h)
+plain_start : (n : Bool) (o : FirstToken) → (not n && Rattle.paren_planner.specs.Steps.is_otherwise o) ≡ true → (f : Start) → opens_at f o ≡ true
+plain_start false opens.Other h start.Any = refl
+plain_start false opens.Other h start.NoBrace = refl
+plain_start false opens.Other h start.Statement = refl
+plain_start false opens.Brace h f = absurd (false≢true h)
+plain_start false opens.FunctionOrClass h f = absurd (false≢true h)
 plain_start true o h f = absurd (false≢true h)
 
 pub plain_fits : (x : Outline) → is_plain_outline x ≡ true → (r : Role) → role_free r x.rank ≡ true → fits_outline r x ≡ true
@@ -58,7 +58,7 @@ plain_fits x p r t = refl
 
 fits_own : (x : Outline) → is_plain_outline x ≡ true → (a : Role) (y : Rank) (i : Bool) (f : Start) → takes y x.rank ≡ true → fits_outline (with_own y i f a) x ≡ true
 fits_own x p (role.expr z j g) y i f t = plain_fits x p (role.expr y i f) t
-fits_own x p (role.spine g) y i f t = refl
+fits_own x p (role.chain_part g) y i f t = refl
 fits_own x p (role.pattern b g) y i f t = plain_fits x p (role.pattern b f) refl
 fits_own x p a y i f t = refl
 
@@ -68,21 +68,21 @@ started_free x p a y i t start.NoBrace = ap (λ b. cond b (cost_at no_pairs y i 
 started_free x p a y i t start.Statement = ap (λ b. cond b (cost_at no_pairs y i start.Statement) None) (fits_own x p a y i start.Statement t) ∙ zero_at y i start.Statement
 
 pub cost_free : (x : Outline) → is_plain_outline x ≡ true → (a : Role) (y : Rank) (i : Bool) (f : Start) → takes y x.rank ≡ true → cost_at (fitting a x no_pairs) y i f ≡ Some 0
-cost_free x p a y i f t = of (nat_le 21 (tightness y)) refl i
+cost_free x p a y i f t = of (nat_le 21 (precedence y)) refl i
   where
-    of : (b : Bool) → nat_le 21 (tightness y) ≡ b → (j : Bool) → cond b (started_at (fitting a x no_pairs).at_member f) (cond j (started_at (fitting a x no_pairs).with_in f) (started_at (fitting a x no_pairs).without_in f)) ≡ Some 0
+    of : (b : Bool) → nat_le 21 (precedence y) ≡ b → (j : Bool) → cond b (started_at (fitting a x no_pairs).at_member f) (cond j (started_at (fitting a x no_pairs).has_in f) (started_at (fitting a x no_pairs).without_in f)) ≡ Some 0
     of true e j = started_free x p a rank.Member true (takes_tight y x.rank e t) f
     of false e true = started_free x p a rank.Expression true (takes_all x.rank) f
     of false e false = started_free x p a rank.Expression false (takes_all x.rank) f
 
 plain_least : (x : Outline) → is_plain_outline x ≡ true → (a r : Role) → role_free r x.rank ≡ true → least_of (record { outline = Some x; costs = fitting a x no_pairs }) r ≡ Some 0
 plain_least x p a (role.expr y i f) t =
-    ap (λ b. lesser (cond b (cost_at (fitting a x no_pairs) y i f) None) (capped_sum (Some 1) (fitting a x no_pairs).with_in.any)) (plain_fits x p (role.expr y i f) t)
-    ∙ ap (λ c. lesser c (capped_sum (Some 1) (fitting a x no_pairs).with_in.any)) (cost_free x p a y i f t)
+    ap (λ b. lesser (cond b (cost_at (fitting a x no_pairs) y i f) None) (capped_sum (Some 1) (fitting a x no_pairs).has_in.any)) (plain_fits x p (role.expr y i f) t)
+    ∙ ap (λ c. lesser c (capped_sum (Some 1) (fitting a x no_pairs).has_in.any)) (cost_free x p a y i f t)
     ∙ ap (λ c. lesser (Some 0) (capped_sum (Some 1) c)) (started_free x p a rank.Expression true (takes_all x.rank) start.Any) ∙ zero_or_one
-plain_least x p a (role.spine f) t = started_free x p a rank.Expression true (takes_all x.rank) f
+plain_least x p a (role.chain_part f) t = started_free x p a rank.Expression true (takes_all x.rank) f
 plain_least x p a (role.pattern b f) t =
-    ap (λ u. cond u (started_at (fitting a x no_pairs).with_in f) None) (plain_fits x p (role.pattern b f) t) ∙ started_free x p a rank.Expression true (takes_all x.rank) f
+    ap (λ u. cond u (started_at (fitting a x no_pairs).has_in f) None) (plain_fits x p (role.pattern b f) t) ∙ started_free x p a rank.Expression true (takes_all x.rank) f
 plain_least x p a r t = started_free x p a rank.Expression true (takes_all x.rank) start.Any
 
 call_takes : (z : Rank) → takes rank.Member z ≡ true → takes rank.Call z ≡ true
@@ -102,7 +102,7 @@ settled_free role.callee z t b = of (is_tight (own_rank b))
     of : (c : Bool) → takes (cond c rank.Member rank.Call) z ≡ true
     of true = t
     of false = call_takes z t
-settled_free role.lead_spine z t b = refl
+settled_free role.lead_chain z t b = refl
 settled_free role.lead_pattern z t b = refl
 
 -- it costs nothing at such a slot, wherever the node above stands
@@ -111,7 +111,7 @@ plain_uses s x a p t b = λ j. each (λ y i f. plain_least x p a (settled_at (wi
 
 -- What its numbers are
 
-starts_fit : (s : Starts) (g : Start → Bool) (b : Bool) → ((f : Start) → g f ≡ b) → each_start (λ f. cond (g f) (started_at s f) None) ≡ cond b s (each_start (λ f. None))
+starts_fit : (s : StartCosts) (g : Start → Bool) (b : Bool) → ((f : Start) → g f ≡ b) → each_start (λ f. cond (g f) (started_at s f) None) ≡ cond b s (each_start (λ f. None))
 starts_fit s g true h = λ j. each_start (λ f. cond (h f j) (started_at s f) None)
 starts_fit s g false h = λ j. each_start (λ f. cond (h f j) (started_at s f) None)
 
@@ -121,19 +121,19 @@ member_fits x p (role.pattern b g) f = plain_start x.needs_in x.opens p f
 member_fits x p a f = refl
 
 pub plain_fitting : (x : Outline) (a : Role) (c : own.Costs) (b : Bool) → is_plain_outline x ≡ true → fits_outline (with_own rank.Member true start.Any a) x ≡ b →
-    fitting a x c ≡ record { with_in = c.with_in; without_in = c.without_in; at_member = cond b c.at_member (each_start (λ f. None)) }
+    fitting a x c ≡ record { has_in = c.has_in; without_in = c.without_in; at_member = cond b c.at_member (each_start (λ f. None)) }
 plain_fitting x a c b p h = λ j. record {
-  with_in = starts_fit c.with_in (λ f. fits_outline (with_own rank.Expression true f a) x) true (λ f. fits_own x p a rank.Expression true f (takes_all x.rank)) j;
+  has_in = starts_fit c.has_in (λ f. fits_outline (with_own rank.Expression true f a) x) true (λ f. fits_own x p a rank.Expression true f (takes_all x.rank)) j;
   without_in = starts_fit c.without_in (λ f. fits_outline (with_own rank.Expression false f a) x) true (λ f. fits_own x p a rank.Expression false f (takes_all x.rank)) j;
   at_member = starts_fit c.at_member (λ f. fits_outline (with_own rank.Member true f a) x) b (λ f. member_fits x p a f ∙ h) j;
 }
 
 -- Its row, where its parts cost nothing
 
-free_shaped : (z : Rank) → record { with_in = no_pairs.with_in; without_in = no_pairs.without_in; at_member = cond (takes rank.Member z) no_pairs.at_member (each_start (λ f. None)) } ≡ shaped (free_shape z) 0
+free_shaped : (z : Rank) → record { has_in = no_pairs.has_in; without_in = no_pairs.without_in; at_member = cond (takes rank.Member z) no_pairs.at_member (each_start (λ f. None)) } ≡ shaped (free_shape z) 0
 free_shaped z = of (takes rank.Member z)
   where
-    of : (b : Bool) → record { with_in = no_pairs.with_in; without_in = no_pairs.without_in; at_member = cond b no_pairs.at_member (each_start (λ f. None)) } ≡ shaped (record { with_in = Each; without_in = Each; at_member = cond b Each Nowhere }) 0
+    of : (b : Bool) → record { has_in = no_pairs.has_in; without_in = no_pairs.without_in; at_member = cond b no_pairs.at_member (each_start (λ f. None)) } ≡ shaped (record { has_in = Each; without_in = Each; at_member = cond b Each Nowhere }) 0
     of true = refl
     of false = refl
 
@@ -153,21 +153,21 @@ free_row_at (role.left y) a k x p = ap (λ c. row_with k c ∷ []) (free_costs x
 free_row_at (role.lead y) a k x p = ap (λ c. row_with k c ∷ []) (free_costs x p)
 free_row_at (role.tail y g) a k x p = ap (λ c. row_with k c ∷ []) (free_costs x p)
 free_row_at role.callee a k x p = ap (λ c. row_with k c ∷ []) (free_costs x p)
-free_row_at role.lead_spine a k x p = refl
+free_row_at role.lead_chain a k x p = refl
 free_row_at role.lead_pattern a k x p = refl
 
-pub free_row : (v : Visit) (x : Label) → v.label ≡ Some x → is_plain_outline (outline_of x) ≡ true → row_of_visit v no_pairs ≡ cond (has_row_at (slot_of v.slot)) (row_with v.kind (shaped (free_shape x.rank) 0) ∷ []) []
+pub free_row : (v : NodeStep) (x : SpellingNeeds) → v.label ≡ Some x → is_plain_outline (outline_of x) ≡ true → row_of_visit v no_pairs ≡ cond (has_row_at (slot_of v.slot)) (row_with v.kind (shaped (free_shape x.rank) 0) ∷ []) []
 free_row v x e p =
     ap (λ l. cond (has_row_at (slot_of v.slot)) (row_with v.kind (weighed_as (place_of v) l no_pairs).costs ∷ []) []) e
     ∙ free_row_at (slot_of v.slot) (role_of v.above) v.kind (outline_of x) p
 
-pub free_used : (v : Visit) (x : Label) → v.label ≡ Some x → is_plain_outline (outline_of x) ≡ true → slot_free (slot_of v.slot) x.rank ≡ true → used v no_pairs ≡ no_pairs
+pub free_used : (v : NodeStep) (x : SpellingNeeds) → v.label ≡ Some x → is_plain_outline (outline_of x) ≡ true → slot_free (slot_of v.slot) x.rank ≡ true → used v no_pairs ≡ no_pairs
 free_used v x e p t =
     ap (λ l. uses (role_of v.above) (slot_of v.slot) (weighed_as (place_of v) l no_pairs)) e ∙ plain_uses (slot_of v.slot) (outline_of x) (place_of v) p t (role_of v.above)
 
 -- A part with such costs, whatever is known of it
 
-pub free_uses : (s : Slot) (w : Weighed) (x : Outline) → w.outline ≡ Some x → is_plain_outline x ≡ true → slot_free s x.rank ≡ true → w.costs ≡ shaped (free_shape x.rank) 0 → (b : Role) → uses b s w ≡ no_pairs
+pub free_uses : (s : Slot) (w : NodeCosts) (x : Outline) → w.outline ≡ Some x → is_plain_outline x ≡ true → slot_free s x.rank ≡ true → w.costs ≡ shaped (free_shape x.rank) 0 → (b : Role) → uses b s w ≡ no_pairs
 free_uses s w x o p t h b =
     let known : w ≡ record { outline = Some x; costs = fitting (role.expr rank.Expression true start.Any) x no_pairs } = λ j. record { outline = o j; costs = (h ∙ sym (free_costs x p)) j } in
     ap (uses b s) known ∙ plain_uses s x (role.expr rank.Expression true start.Any) p t b

@@ -5,8 +5,8 @@ use Rattle.tree.specs.Tree.{Tree}
 use Rattle.language.specs.Pieces.{script}
 use Rattle.language.specs.Cost.{least}
 use Rattle.language.specs.Layout.{has_number, wrapped_rows}
-use Rattle.language.specs.Positions.{rows}
-use Rattle.paren_planner.specs.declared.planned.Plan.{Plan}
+use Rattle.language.specs.RowPositions.{rows}
+use Rattle.paren_planner.specs.declared.wrap_plan.Plan.{Plan}
 use Rattle.paren_planner.specs.declared.table.Row.{Row}
 use Rattle.paren_planner.specs.Costs.{capped}
 use Rattle.paren_planner.specs.Rows.{table_rows, shown}
@@ -15,8 +15,8 @@ use Rattle.paren_planner.specs.Plans.{HasPlan, IsPlan}
 use Rattle.paren_planner.proofs.Bounds.{below_more, least_below, capped_below}
 use Rattle.paren_planner.proofs.Turns.{total_is, table-length}
 use Rattle.paren_planner.proofs.Totals.{wrapped_count}
-use Rattle.paren_planner.proofs.Celled.{script_shown}
-use Rattle.paren_planner.proofs.Bounded.{plan_bounds}
+use Rattle.paren_planner.proofs.CellRows.{script_shown}
+use Rattle.paren_planner.proofs.CellBounds.{plan_bounds}
 use Rattle.paren_planner.proofs.ExactPlans.{exact_cells}
 
 capped_some : (x : Option ℕ) → IsSome (capped x) → IsSome x

@@ -16,30 +16,30 @@ use Rattle.language.specs.Pieces.{Role, expr, script, PieceOf}
 use Rattle.language.specs.Token.{Token}
 use Rattle.language.specs.Places.{NextIn, itself}
 use Rattle.language.specs.Grammar.{ways}
-use Rattle.language.specs.Positions.{roles, first_roles, widest}
+use Rattle.language.specs.RowPositions.{roles, first_roles, widest}
 use Rattle.language.specs.Derivation.{Among, Placed, Spells, direct, grouped, Runs, done, step, opened, closed, within, missing, Step, token, with_mark, without_mark, one_more, no_more, seen, same_line, explicit, implicit, laid}
 use Rattle.language.specs.Claims.{row_nodes, parts_row_nodes, Derives}
-use Rattle.language.proofs.LowerBound.{Step-roles}
-use Rattle.language.proofs.Alike.{Like, same, at_expressions, AllLike, next}
-use Rattle.language.proofs.TokenWords.{read_place}
-use Rattle.language.proofs.TextWorded.{spells_place}
-use Rattle.positions.proofs.Slots.{is_wide, all_pass, parts_wide}
-use Rattle.paren_planner.proofs.Celled.{wide_itself, wide_start}
-use Rattle.paren_planner.proofs.Bounded.{split_at}
+use Rattle.language.proofs.lower_bound.LowerBound.{Step-roles}
+use Rattle.language.proofs.table.Alike.{Like, same, at_expressions, AllLike, next}
+use Rattle.language.proofs.table.TokenWords.{read_place}
+use Rattle.language.proofs.texts.DerivedWords.{spells_place}
+use Rattle.spellings.proofs.Slots.{is_wide, all_pass, parts_wide}
+use Rattle.paren_planner.proofs.CellRows.{wide_itself, wide_start}
+use Rattle.paren_planner.proofs.CellBounds.{split_at}
 use Rattle.paren_planner.proofs.Tighter.{parts_alike}
 
 -- directly, at an expression's position
 pub record Somewhere (text : List ℕ) (n : Tree) : Type 0 where
   pub most : ℕ
   pub rank : Rank
-  pub with_in : Bool
+  pub has_in : Bool
   pub start : Start
   pub from : Token
   pub to : Token
   pub pairs : List Pair
   pub way : List (PieceOf Role)
-  pub among : Among way (ways (expr rank with_in start) n)
-  pub stands : Placed Token (NextIn text any_goal) itself (expr rank with_in start) n from to
+  pub among : Among way (ways (expr rank has_in start) n)
+  pub stands : Placed Token (NextIn text any_goal) itself (expr rank has_in start) n from to
   pub runs : Runs ways Token (NextIn text any_goal) itself most way (parts_of n) from to pairs
   pub place : IsPlace text from.stop
 
@@ -61,7 +61,7 @@ module _ (text : List ℕ) (u : IsUtf8 text) where
   -- what is spelled at an expression's position is spelled directly, maybe in pairs
   itself_somewhere : {o : ℕ} {y : Rank} {i : Bool} {f : Start} {n : Tree} {s e : Token} {P : List Pair} → Spells ways Token (NextIn text any_goal) itself o (expr y i f) n s e P → IsPlace text s.stop → Somewhere text n
   itself_somewhere {o = o} {y = y} {i = i} {f = f} {s = s} {e = e} {P = P} (direct qs h pl d) p =
-      record { most = o; rank = y; with_in = i; start = f; from = s; to = e; pairs = P; way = qs; among = h; stands = pl; runs = d; place = p }
+      record { most = o; rank = y; has_in = i; start = f; from = s; to = e; pairs = P; way = qs; among = h; stands = pl; runs = d; place = p }
   itself_somewhere (grouped x d y) p = itself_somewhere d (read_place u p x.next)
 
   -- at a position of its sort

@@ -3,7 +3,7 @@ use Rattle.std.proofs.Common.{◌≡◌, Bool, true, false, cond, List, [], ◌�
 use Rattle.std.specs.Prelude.{option_to_list, unwrap_or, map}
 use Rattle.std.proofs.lemmas.List.{reverse-append, map-append}
 use Rattle.paren_planner.specs.declared.table.Row.{Row}
-use Rattle.paren_planner.specs.declared.wraps.Around.{Around}
+use Rattle.paren_planner.specs.declared.wrap_pass.WrapContext.{WrapContext}
 use Rattle.paren_planner.specs.Steps.{others}
 use Rattle.paren_planner.specs.Marked.{round, innermost_round}
 
@@ -18,15 +18,15 @@ popped xs ys None e h =
     ap (λ u. others (reverse u)) z ∙ sym (ap reverse w)
 popped xs ys (Some x) e h = ap others (pushed ys xs x e)
 
-pub popped_round : (xs ys : List Around) (o : Option Around) (d : Around) → xs ≡ ys ++ option_to_list o → (o ≡ None → xs ≡ []) → innermost_round (reverse (map round xs)) (round d) ≡ round (unwrap_or o d)
+pub popped_round : (xs ys : List WrapContext) (o : Option WrapContext) (d : WrapContext) → xs ≡ ys ++ option_to_list o → (o ≡ None → xs ≡ []) → innermost_round (reverse (map round xs)) (round d) ≡ round (unwrap_or o d)
 popped_round xs ys None d e h = ap (λ u. innermost_round (reverse (map round u)) (round d)) (h refl)
 popped_round xs ys (Some x) d e h = ap (λ u. innermost_round u (round d)) (pushed (map round ys) (map round xs) (round x) (ap (map round) e ∙ map-append round ys (x ∷ [])))
 
-pub popped_rounds : (xs ys : List Around) (o : Option Around) → xs ≡ ys ++ option_to_list o → (o ≡ None → xs ≡ []) → others (reverse (map round xs)) ≡ reverse (map round ys)
+pub popped_rounds : (xs ys : List WrapContext) (o : Option WrapContext) → xs ≡ ys ++ option_to_list o → (o ≡ None → xs ≡ []) → others (reverse (map round xs)) ≡ reverse (map round ys)
 popped_rounds xs ys None e h = popped (map round xs) (map round ys) None (ap (map round) (e ∙ append-nil ys) ∙ sym (append-nil (map round ys))) (λ z. ap (map round) (h refl))
 popped_rounds xs ys (Some x) e h = ap others (pushed (map round ys) (map round xs) (round x) (ap (map round) e ∙ map-append round ys (x ∷ [])))
 
-pub pushed_round : (xs ys : List Around) (x : Around) → ys ≡ xs ++ x ∷ [] → reverse (map round ys) ≡ round x ∷ reverse (map round xs)
+pub pushed_round : (xs ys : List WrapContext) (x : WrapContext) → ys ≡ xs ++ x ∷ [] → reverse (map round ys) ≡ round x ∷ reverse (map round xs)
 pushed_round xs ys x e = pushed (map round xs) (map round ys) (round x) (ap (map round) e ∙ map-append round xs (x ∷ []))
 
 -- a row, where there is one

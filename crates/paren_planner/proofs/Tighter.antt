@@ -3,22 +3,22 @@ use Rattle.std.proofs.Common.{◌≡◌, ℕ, Bool, true, false, cond, List, [],
 use Rattle.std.proofs.lemmas.Bool.{false≢true}
 use Rattle.tree.specs.Tree.{Tree, bare}
 use Rattle.tree.specs.Uses.{is_lean}
-use Rattle.language.specs.Pieces.{Role, expr, spine, pattern, PieceOf}
+use Rattle.language.specs.Pieces.{Role, expr, chain_part, pattern, PieceOf}
 use Rattle.language.specs.Grammar.{ways, ways_bare, spellings}
-use Rattle.language.specs.Positions.{roles, first_roles, widest}
+use Rattle.language.specs.RowPositions.{roles, first_roles, widest}
 use Rattle.language.specs.Layout.{some_way}
 use Rattle.language.specs.Derivation.{Among, first, later}
 use Rattle.language.specs.Cost.{AtMost, if_any}
-use Rattle.language.proofs.Looser.{Looser, AllLooser}
-use Rattle.language.proofs.Domination.{ways_of, spellings-looser, dominated-list}
-use Rattle.language.proofs.TidyTable.{tidy_table}
-use Rattle.language.proofs.Alike.{Like, same as alike_same, at_expressions, at_chains, at_patterns, AllLike}
-use Rattle.language.proofs.DerivedFits.{first_alike}
-use Rattle.language.proofs.Marked.{some_widest}
+use Rattle.language.proofs.table.LooserPositions.{Looser, AllLooser}
+use Rattle.language.proofs.lower_bound.Domination.{ways_of, spellings-looser, dominated-list}
+use Rattle.language.proofs.table.TidyTable.{tidy_table}
+use Rattle.language.proofs.table.Alike.{Like, same as alike_same, at_expressions, at_chains, at_patterns, AllLike}
+use Rattle.language.proofs.layout.DerivedFits.{first_alike}
+use Rattle.language.proofs.layout.WrappedRows.{some_widest}
 
 widest_like : (a : Role) → Like false a (widest a)
 widest_like (expr y i f) = at_expressions
-widest_like (spine f) = at_chains
+widest_like (chain_part f) = at_chains
 widest_like (pattern b f) = at_patterns
 widest_like _ = alike_same
 

@@ -9,17 +9,17 @@ use Rattle.language.specs.declared.Rank.{Rank}
 use Rattle.language.specs.declared.Rank.TheVariants.{Expression, New, Member, Primary, Grouped}
 use Rattle.language.specs.declared.Start.{Start}
 use Rattle.language.specs.declared.Start.TheVariants.{Any}
-use Rattle.language.specs.Words.{tightness}
-use Rattle.language.specs.Pieces.{Role, expr, script, PieceOf, Slot, fixed, left, lead, tail, callee, lead_spine, lead_pattern, settle, is_tight}
+use Rattle.language.specs.Vocabulary.{precedence}
+use Rattle.language.specs.Pieces.{Role, expr, script, PieceOf, Slot, fixed, left, lead, tail, callee, lead_chain, lead_pattern, settle, is_tight}
 use Rattle.language.specs.Grammar.{ways, own_rank, own_in, own_start}
-use Rattle.language.specs.Positions.{first_roles, rows}
+use Rattle.language.specs.RowPositions.{first_roles, rows}
 use Rattle.language.specs.Layout.{some_way, exceeds, wants_pair, inside, wrapped_rows, parts_wrapped}
 use Rattle.language.specs.Cost.{add_cost, lesser, if_any, least, parts_least, cell, cell_position}
-use Rattle.positions.specs.declared.outline.Outline.{Outline}
-use Rattle.positions.specs.Spelled.{fits_outline, settled_roles, Verdict}
-use Rattle.positions.proofs.Wherever.{found_roles, AnySpelling, any_spelling}
+use Rattle.spellings.specs.declared.outline.Outline.{Outline}
+use Rattle.spellings.specs.Spelled.{fits_outline, settled_roles, Verdict}
+use Rattle.spellings.proofs.Wherever.{found_roles, AnySpelling, any_spelling}
 use Rattle.paren_planner.proofs.Known.{fits_cell}
-use Rattle.positions.proofs.Slots.{is_plain, all_pass, parts_plain}
+use Rattle.spellings.proofs.Slots.{is_plain, all_pass, parts_plain}
 
 -- The cell that counts at a position
 
@@ -29,12 +29,12 @@ same_settle z y i j f t e (left r) = ap (λ u. expr r u f) e
 same_settle z y i j f t e (lead r) = refl
 same_settle z y i j f t e (tail r x) = ap (λ u. expr r u x) e
 same_settle z y i j f t e callee = ap (λ u. expr (cond u Member Rattle.language.specs.declared.Rank.TheVariants.Call) true f) t
-same_settle z y i j f t e lead_spine = refl
+same_settle z y i j f t e lead_chain = refl
 same_settle z y i j f t e lead_pattern = refl
 
-with_in : (i : Bool) → (i && true) ≡ true → i ≡ true
-with_in true h = refl
-with_in false h = h
+has_in : (i : Bool) → (i && true) ≡ true → i ≡ true
+has_in true h = refl
+has_in false h = h
 
 never_new : (i : Bool) → (i && false) ≡ true → false ≡ true
 never_new true h = h
@@ -43,9 +43,9 @@ never_new false h = h
 -- what the parts of a node at a plain position are settled at is what they are at that of its cell
 settle_cell : (y : Rank) (i : Bool) (f : Start) → is_plain (expr y i f) ≡ true → (s : Slot) →
     settle y i f s ≡ settle (own_rank (cell_position (expr y i f))) (own_in (cell_position (expr y i f))) (own_start (cell_position (expr y i f))) s
-settle_cell Member i f h s = same_settle Member Member i true f refl (with_in i h) s
-settle_cell Primary i f h s = same_settle Primary Member i true f refl (with_in i h) s
-settle_cell Grouped i f h s = same_settle Grouped Member i true f refl (with_in i h) s
+settle_cell Member i f h s = same_settle Member Member i true f refl (has_in i h) s
+settle_cell Primary i f h s = same_settle Primary Member i true f refl (has_in i h) s
+settle_cell Grouped i f h s = same_settle Grouped Member i true f refl (has_in i h) s
 settle_cell New i f h s = absurd (false≢true (never_new i h))
 settle_cell y i f h s = same_settle y Expression i i f refl refl s
 
@@ -54,7 +54,7 @@ same_map f g h [] = refl
 same_map f g h (s ∷ xs) = λ j. h s j ∷ same_map f g h xs j
 
 pub cell_known : (n : Tree) (y : Rank) (i : Bool) (f : Start) → (x : AnySpelling (expr y i f) n) → Verdict (ways (cell_position (expr y i f)) n) (found_roles (cell_position (expr y i f)) x.found)
-cell_known n y i f x = of (nat_le 21 (tightness y))
+cell_known n y i f x = of (nat_le 21 (precedence y))
   where
     of : (b : Bool) → Verdict (ways (cond b (expr Member true f) (expr Expression i f)) n) (found_roles (cond b (expr Member true f) (expr Expression i f)) x.found)
     of true = x.known Member true f

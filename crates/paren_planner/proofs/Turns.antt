@@ -7,14 +7,14 @@ use Rattle.language.specs.declared.Rank.TheVariants.{Expression}
 use Rattle.language.specs.declared.Start.TheVariants.{Any}
 use Rattle.language.specs.Pieces.{Role, expr}
 use Rattle.language.specs.Grammar.{ways}
-use Rattle.language.specs.Positions.{first_roles, widest, has_row, rows, parts_rows}
+use Rattle.language.specs.RowPositions.{first_roles, widest, has_row, rows, parts_rows}
 use Rattle.language.specs.Layout.{some_way, exceeds, wants_pair, inside}
 use Rattle.language.specs.Cost.{add_cost, cell, cell_position}
-use Rattle.positions.specs.declared.spelled.Spelled.{Spelled}
-use Rattle.positions.specs.Spelled.{fits_outline, settled_roles, Verdict}
-use Rattle.positions.specs.Remaining.{left}
-use Rattle.positions.specs.Wherever.{spelled_roles, IsSpelledWherever}
-use Rattle.positions.proofs.Walked.{spelled_here}
+use Rattle.spellings.specs.declared.spelled_node.NodeSpelling.{NodeSpelling}
+use Rattle.spellings.specs.Spelled.{fits_outline, settled_roles, Verdict}
+use Rattle.spellings.specs.Remaining.{left}
+use Rattle.spellings.specs.Wherever.{spelled_roles, IsSpelledWherever}
+use Rattle.spellings.proofs.SlotSteps.{spelled_here}
 use Rattle.paren_planner.specs.declared.costs.Costs as own
 use Rattle.paren_planner.specs.declared.table.Row.{Row}
 use Rattle.paren_planner.specs.Costs.{capped_sum, cells_at}
@@ -22,9 +22,9 @@ use Rattle.paren_planner.specs.Weighed.{cost_of, fits_spelled}
 use Rattle.paren_planner.specs.Rows.{row_of, is_expression, own_row, table_rows, parts_table}
 use Rattle.paren_planner.specs.Wrapped.{unwrapped, flags, parts_flags, inner_flags, HasRows}
 use Rattle.paren_planner.proofs.Known.{fits_widest, counted}
-use Rattle.paren_planner.proofs.Filled.{way_when, rows_inside}
+use Rattle.paren_planner.proofs.NodeRowNumbers.{way_when, rows_inside}
 use Rattle.paren_planner.proofs.Bounds.{Below, below_more, cell_below, widest-cell, capped_below, sum_below, rows_inner}
-use Rattle.paren_planner.proofs.Wrapping.{parts-rows, parts-table, widest_own, flags-length, rows-empty}
+use Rattle.paren_planner.proofs.WrappedRows.{parts-rows, parts-table, widest_own, flags-length, rows-empty}
 
 -- Rows from a place on
 
@@ -71,31 +71,31 @@ mutual
   parts-table-length (part n ps) [] = refl
   parts-table-length (part n ps) (a ∷ xs) = length-append (table_rows n a) (parts_table ps xs) ∙ ap₂ (λ u v. u + v) (table-length n a) (parts-table-length ps xs)
 
-given-length : (lives : Bool) (n : Tree) (a : Role) → length (cond lives (flags n a) (unwrapped (rows n a))) ≡ rows n a
+given-length : (may_wrap : Bool) (n : Tree) (a : Role) → length (cond may_wrap (flags n a) (unwrapped (rows n a))) ≡ rows n a
 given-length true n a = flags-length n a
 given-length false n a = length-replicate (rows n a) false
 
 -- behind a part
-pub table_turn : (t : List Row) (ws vs : List Bool) (lives : Bool) (n : Tree) (a : Role) (ys : List Row) → vs ≡ ws ++ cond lives (flags n a) (unwrapped (rows n a)) → HasRows t (length ws) (table_rows n a ++ ys) → HasRows t (length vs) ys
-table_turn t ws vs lives n a ys e h = rows_behind t (length ws) (length vs) (table_rows n a) ys (ap length e ∙ length-append ws _ ∙ ap (λ m. length ws + m) (given-length lives n a ∙ sym (table-length n a))) h
+pub table_turn : (t : List Row) (ws vs : List Bool) (may_wrap : Bool) (n : Tree) (a : Role) (ys : List Row) → vs ≡ ws ++ cond may_wrap (flags n a) (unwrapped (rows n a)) → HasRows t (length ws) (table_rows n a ++ ys) → HasRows t (length vs) ys
+table_turn t ws vs may_wrap n a ys e h = rows_behind t (length ws) (length vs) (table_rows n a) ys (ap length e ∙ length-append ws _ ∙ ap (λ m. length ws + m) (given-length may_wrap n a ∙ sym (table-length n a))) h
 
 -- Below a node
 
-widely_known : (b : Role) (n : Tree) (x : Spelled) → IsSpelledWherever b n (Some x) → first_roles (ways (widest b) n) ≡ settled_roles (widest b) (left x.slots)
+widely_known : (b : Role) (n : Tree) (x : NodeSpelling) → IsSpelledWherever b n (Some x) → first_roles (ways (widest b) n) ≡ settled_roles (widest b) (left x.slots)
 widely_known b n x h =
     let v : Verdict (ways (widest b) n) (spelled_roles (widest b) (Some x)) = subst (λ u. Verdict (ways u n) (spelled_roles u (Some x))) (widest_own b) (h Expression true Any) in
     let w : Verdict (ways (widest b) n) (Some (settled_roles (widest b) (left x.slots))) = subst (λ u. Verdict (ways (widest b) n) (cond u (Some (settled_roles (widest b) (left x.slots))) None)) (fits_widest b x.outline) v in
     w.1
 
-pub table_below : (b : Role) (n : Tree) (x : Spelled) → IsSpelledWherever b n (Some x) → parts_table (parts_of n) (first_roles (ways (widest b) n)) ≡ parts_table (parts_of n) (settled_roles b (left x.slots))
+pub table_below : (b : Role) (n : Tree) (x : NodeSpelling) → IsSpelledWherever b n (Some x) → parts_table (parts_of n) (first_roles (ways (widest b) n)) ≡ parts_table (parts_of n) (settled_roles b (left x.slots))
 table_below b n x h = ap (parts_table (parts_of n)) (widely_known b n x h) ∙ parts-table (parts_of n) (widest b) b (left x.slots)
 
-pub rows_below : (b : Role) (n : Tree) (x : Spelled) → IsSpelledWherever b n (Some x) → parts_rows (parts_of n) (first_roles (ways (widest b) n)) ≡ parts_rows (parts_of n) (settled_roles b (left x.slots))
+pub rows_below : (b : Role) (n : Tree) (x : NodeSpelling) → IsSpelledWherever b n (Some x) → parts_rows (parts_of n) (first_roles (ways (widest b) n)) ≡ parts_rows (parts_of n) (settled_roles b (left x.slots))
 rows_below b n x h = ap (parts_rows (parts_of n)) (widely_known b n x h) ∙ parts-rows (parts_of n) (widest b) b (left x.slots)
 
-pub inner_some : (b : Role) (n : Tree) (x : Spelled) (lives : Bool) → IsSpelledWherever b n (Some x) →
-    cond (lives && fits_outline b x.outline) (parts_flags (parts_of n) (settled_roles b (left x.slots))) (unwrapped (parts_rows (parts_of n) (settled_roles b (left x.slots))))
-    ≡ cond lives (inner_flags n b) (unwrapped (parts_rows (parts_of n) (first_roles (ways (widest b) n))))
+pub inner_some : (b : Role) (n : Tree) (x : NodeSpelling) (may_wrap : Bool) → IsSpelledWherever b n (Some x) →
+    cond (may_wrap && fits_outline b x.outline) (parts_flags (parts_of n) (settled_roles b (left x.slots))) (unwrapped (parts_rows (parts_of n) (settled_roles b (left x.slots))))
+    ≡ cond may_wrap (inner_flags n b) (unwrapped (parts_rows (parts_of n) (first_roles (ways (widest b) n))))
 unfolding inner_flags
 inner_some b n x false h = ap unwrapped (sym (rows_below b n x h))
 inner_some b n x true h = of (fits_outline b x.outline) (spelled_here b n (Some x) h)
@@ -106,9 +106,9 @@ inner_some b n x true h = of (fits_outline b x.outline) (spelled_here b n (Some 
     of true k = sym (ap (λ v. cond v (parts_flags (parts_of n) (first_roles (ways b n))) (unwrapped (parts_rows (parts_of n) (first_roles (ways (widest b) n))))) k.0 ∙ ap (parts_flags (parts_of n)) k.1)
     of false k = ap unwrapped (sym (rows_below b n x h)) ∙ sym (ap (λ u. cond (some_way u) (parts_flags (parts_of n) (first_roles u)) (unwrapped (parts_rows (parts_of n) (first_roles (ways (widest b) n))))) k)
 
-pub inner_none : (b : Role) (n : Tree) (lives : Bool) → IsSpelledWherever b n None → [] ≡ cond lives (inner_flags n b) (unwrapped (parts_rows (parts_of n) (first_roles (ways (widest b) n))))
+pub inner_none : (b : Role) (n : Tree) (may_wrap : Bool) → IsSpelledWherever b n None → [] ≡ cond may_wrap (inner_flags n b) (unwrapped (parts_rows (parts_of n) (first_roles (ways (widest b) n))))
 unfolding inner_flags
-inner_none b n lives h = of lives
+inner_none b n may_wrap h = of may_wrap
   where
     widely : ways (widest b) n ≡ []
     widely = subst (λ u. ways u n ≡ []) (widest_own b) (h Expression true Any)
@@ -122,10 +122,10 @@ inner_none b n lives h = of lives
 
 -- A node
 
-pub plain_flags : (n : Tree) (a : Role) (lives : Bool) → is_expression a ≡ false →
-    cond lives (inner_flags n a) (unwrapped (parts_rows (parts_of n) (first_roles (ways (widest a) n)))) ≡ cond lives (flags n a) (unwrapped (rows n a))
+pub plain_flags : (n : Tree) (a : Role) (may_wrap : Bool) → is_expression a ≡ false →
+    cond may_wrap (inner_flags n a) (unwrapped (parts_rows (parts_of n) (first_roles (ways (widest a) n)))) ≡ cond may_wrap (flags n a) (unwrapped (rows n a))
 unfolding inner_flags flags rows
-plain_flags (node k w g s e ps) (expr y i f) lives h = absurd (cc)
+plain_flags (node k w g s e ps) (expr y i f) may_wrap h = absurd (cc)
 plain_flags (node k w g s e ps) _ true h = refl
 plain_flags (node k w g s e ps) _ false h = ap unwrapped (let m : (m : ℕ) → m ≡ 0 + m = λ m. omega arith in m _)
 
@@ -140,8 +140,8 @@ unfolding table_rows
 first_row t m (node k w g s e ps) (expr y i f) h r = (head_in t m _ _ r.stand, λ d. head_is t m d _ _ r.stand, record { rest = r.rest; stand = head_behind t m _ _ r.stand })
 first_row t m n _ h r = absurd (cc)
 
-pub wanted : (n : Tree) (a : Role) (r : Option Spelled) (c : own.Costs) → is_expression a ≡ true → IsSpelledWherever a n r → rows n a ≤ 16777216 → c ≡ cells_at n (expr Expression true Any) →
-    exceeds (cond (fits_spelled a r) (cost_of c a) None) (capped_sum (Some 1) c.with_in.any) ≡ wants_pair n a
+pub wanted : (n : Tree) (a : Role) (r : Option NodeSpelling) (c : own.Costs) → is_expression a ≡ true → IsSpelledWherever a n r → rows n a ≤ 16777216 → c ≡ cells_at n (expr Expression true Any) →
+    exceeds (cond (fits_spelled a r) (cost_of c a) None) (capped_sum (Some 1) c.has_in.any) ≡ wants_pair n a
 unfolding cells_at
 wanted n (expr y i f) r c h s l e =
     let inner : parts_rows (parts_of n) (first_roles (ways (expr Expression true Any) n)) ≤ 16777216 = omega (arith, rows_inner n y i f, l) in
@@ -149,17 +149,17 @@ wanted n (expr y i f) r c h s l e =
     counted c n Expression true Any e y i f
     ∙ capped_below (below_more (subst (λ b. Below (cell n (cell_position (expr y i f))) (parts_rows (parts_of n) (first_roles (ways b n)))) (widest-cell y i f) (cell_below n (cell_position (expr y i f)))) inner) in
     let whole : Below (cell n (expr Expression true Any)) 16777216 = below_more (cell_below n (expr Expression true Any)) inner in
-    let around : capped_sum (Some 1) c.with_in.any ≡ add_cost (Some 1) (cell n (expr Expression true Any)) =
-    ap (λ d. capped_sum (Some 1) d.with_in.any) e ∙ ap (capped_sum (Some 1)) (capped_below whole) ∙ sum_below whole in
+    let around : capped_sum (Some 1) c.has_in.any ≡ add_cost (Some 1) (cell n (expr Expression true Any)) =
+    ap (λ d. capped_sum (Some 1) d.has_in.any) e ∙ ap (capped_sum (Some 1)) (capped_below whole) ∙ sum_below whole in
     let fit : fits_spelled (expr y i f) r ≡ some_way (ways (expr y i f) n) = sym (way_spelled (expr y i f) n r s) in
     (λ j. exceeds (cond (fit j) (direct j) None) (around j))
   where
-    way_spelled : (b : Role) (n : Tree) (r : Option Spelled) → IsSpelledWherever b n r → some_way (ways b n) ≡ fits_spelled b r
+    way_spelled : (b : Role) (n : Tree) (r : Option NodeSpelling) → IsSpelledWherever b n r → some_way (ways b n) ≡ fits_spelled b r
     way_spelled b n None k = ap some_way (spelled_here b n None k)
     way_spelled b n (Some x) k = way_when (ways b n) (spelled_roles b (Some x)) (spelled_here b n (Some x) k) (fits_outline b x.outline) (settled_roles b (left x.slots)) refl
 wanted n _ r c h s l e = absurd (cc)
 
-pub spelled_inside : (n : Tree) (a : Role) (b : Bool) (r : Option Spelled) → is_expression a ≡ true → IsSpelledWherever a n r → IsSpelledWherever (inside b a) n r
+pub spelled_inside : (n : Tree) (a : Role) (b : Bool) (r : Option NodeSpelling) → is_expression a ≡ true → IsSpelledWherever a n r → IsSpelledWherever (inside b a) n r
 spelled_inside n (expr y i f) true r h s = s
 spelled_inside n (expr y i f) false r h s = s
 spelled_inside n _ b r h s = absurd (cc)
@@ -173,16 +173,16 @@ one_more : (m : ℕ) → unwrapped (1 + m) ≡ false ∷ unwrapped m
 one_more m = let e : 1 + m ≡ suc m = omega arith in ap unwrapped e
 
 -- an expression's flag stands before those below it
-pub own_flags : (n : Tree) (a : Role) (lives : Bool) (ws vs : List Bool) → is_expression a ≡ true →
-    vs ≡ (ws ++ (lives && wants_pair n a) ∷ []) ++ cond lives (inner_flags n (inside (lives && wants_pair n a) a)) (unwrapped (parts_rows (parts_of n) (first_roles (ways (widest (inside (lives && wants_pair n a) a)) n)))) →
-    vs ≡ ws ++ cond lives (flags n a) (unwrapped (rows n a))
+pub own_flags : (n : Tree) (a : Role) (may_wrap : Bool) (ws vs : List Bool) → is_expression a ≡ true →
+    vs ≡ (ws ++ (may_wrap && wants_pair n a) ∷ []) ++ cond may_wrap (inner_flags n (inside (may_wrap && wants_pair n a) a)) (unwrapped (parts_rows (parts_of n) (first_roles (ways (widest (inside (may_wrap && wants_pair n a) a)) n)))) →
+    vs ≡ ws ++ cond may_wrap (flags n a) (unwrapped (rows n a))
 unfolding inner_flags flags
 own_flags (node k w g s e ps) (expr y i f) true ws vs h q =
     q ∙ append_assoc ws (wants_pair (node k w g s e ps) (expr y i f) ∷ []) _
     ∙ ap (λ b. ws ++ wants_pair (node k w g s e ps) (expr y i f) ∷ cond (some_way (ways (inside (wants_pair (node k w g s e ps) (expr y i f)) (expr y i f)) (node k w g s e ps))) (parts_flags ps (first_roles (ways (inside (wants_pair (node k w g s e ps) (expr y i f)) (expr y i f)) (node k w g s e ps)))) (unwrapped (parts_rows ps (first_roles (ways b (node k w g s e ps)))))) (widest_whole (expr y i f) (wants_pair (node k w g s e ps) (expr y i f)) refl)
 own_flags (node k w g s e ps) (expr y i f) false ws vs h q =
     q ∙ append_assoc ws (false ∷ []) _ ∙ ap (λ u. ws ++ u) (sym (ap unwrapped (rows_inner (node k w g s e ps) y i f) ∙ one_more _))
-own_flags n _ lives ws vs h q = absurd (cc)
+own_flags n _ may_wrap ws vs h q = absurd (cc)
 
 -- A script
 
@@ -213,13 +213,13 @@ own_few n a o b m h q l =
     let inner : parts_rows (parts_of n) (first_roles (ways (expr Expression true Any) n)) ≤ m = omega (arith, own_rows n a h, l) in
     subst (λ r. parts_rows (parts_of n) (first_roles (ways r n)) ≤ m) (sym wide) inner
 
-pub own_result : (n : Tree) (a o : Role) (lives b : Bool) (ws us vs : List Bool) → is_expression a ≡ true → o ≡ inside b a → b ≡ (lives && wants_pair n a) → us ≡ ws ++ b ∷ [] →
-    vs ≡ us ++ cond lives (inner_flags n o) (unwrapped (parts_rows (parts_of n) (first_roles (ways (widest o) n)))) → vs ≡ ws ++ cond lives (flags n a) (unwrapped (rows n a))
-own_result n a o lives b ws us vs h q e u k =
-    let r : o ≡ inside (lives && wants_pair n a) a = q ∙ ap (λ v. inside v a) e in
-    own_flags n a lives ws vs h
-    (k ∙ ap (λ w. w ++ cond lives (inner_flags n o) (unwrapped (parts_rows (parts_of n) (first_roles (ways (widest o) n))))) (u ∙ ap (λ v. ws ++ v ∷ []) e)
-    ∙ (λ j. (ws ++ (lives && wants_pair n a) ∷ []) ++ cond lives (inner_flags n (r j)) (unwrapped (parts_rows (parts_of n) (first_roles (ways (widest (r j)) n))))))
+pub own_result : (n : Tree) (a o : Role) (may_wrap b : Bool) (ws us vs : List Bool) → is_expression a ≡ true → o ≡ inside b a → b ≡ (may_wrap && wants_pair n a) → us ≡ ws ++ b ∷ [] →
+    vs ≡ us ++ cond may_wrap (inner_flags n o) (unwrapped (parts_rows (parts_of n) (first_roles (ways (widest o) n)))) → vs ≡ ws ++ cond may_wrap (flags n a) (unwrapped (rows n a))
+own_result n a o may_wrap b ws us vs h q e u k =
+    let r : o ≡ inside (may_wrap && wants_pair n a) a = q ∙ ap (λ v. inside v a) e in
+    own_flags n a may_wrap ws vs h
+    (k ∙ ap (λ w. w ++ cond may_wrap (inner_flags n o) (unwrapped (parts_rows (parts_of n) (first_roles (ways (widest o) n))))) (u ∙ ap (λ v. ws ++ v ∷ []) e)
+    ∙ (λ j. (ws ++ (may_wrap && wants_pair n a) ∷ []) ++ cond may_wrap (inner_flags n (r j)) (unwrapped (parts_rows (parts_of n) (first_roles (ways (widest (r j)) n))))))
 
 -- below a node that has no row
 pub plain_standing : (t : List Row) (m : ℕ) (n : Tree) (a : Role) → is_expression a ≡ false → HasRows t m (table_rows n a) → HasRows t m (parts_table (parts_of n) (first_roles (ways (widest a) n)))

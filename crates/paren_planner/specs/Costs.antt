@@ -5,11 +5,11 @@ use Rattle.language.specs.declared.Rank.TheVariants.{Expression, Member}
 use Rattle.language.specs.declared.Start.{Start}
 use Rattle.language.specs.declared.Start.TheVariants.{Any, NoBrace, Statement}
 use Rattle.tree.specs.Tree.{Tree}
-use Rattle.language.specs.Words.{tightness}
+use Rattle.language.specs.Vocabulary.{precedence}
 use Rattle.language.specs.Pieces.{Role}
 use Rattle.language.specs.Cost.{add_cost, cell}
-use Rattle.positions.specs.Wherever.{with_own}
-use Rattle.paren_planner.specs.declared.costs.Starts.{Starts}
+use Rattle.spellings.specs.Wherever.{with_own}
+use Rattle.paren_planner.specs.declared.costs.StartCosts.{StartCosts}
 use Rattle.paren_planner.specs.declared.costs.Costs as own
 
 -- what a u32 holds of a number of pairs
@@ -21,21 +21,21 @@ unfoldable pub capped_sum : Option ℕ → Option ℕ → Option ℕ
 capped_sum x y = capped (add_cost x y)
 
 -- the numbers at the three starts
-abbrev pub each_start : (Start → Option ℕ) → Starts
+abbrev pub each_start : (Start → Option ℕ) → StartCosts
 each_start h = record { any = h Any; no_brace = h NoBrace; statement = h Statement }
 
-abbrev pub started_at : Starts → Start → Option ℕ
+abbrev pub started_at : StartCosts → Start → Option ℕ
 started_at s Any = s.any
 started_at s NoBrace = s.no_brace
 started_at s Statement = s.statement
 
 -- a number for each symbol, In and start that matters: whatever symbol that is no tighter than a call, with In and without; Member, with In
 abbrev pub each : (Rank → Bool → Start → Option ℕ) → own.Costs
-each h = record { with_in = each_start (h Expression true); without_in = each_start (h Expression false); at_member = each_start (h Member true) }
+each h = record { has_in = each_start (h Expression true); without_in = each_start (h Expression false); at_member = each_start (h Member true) }
 
 -- the number that counts at a symbol, In and start
 abbrev pub cost_at : own.Costs → Rank → Bool → Start → Option ℕ
-cost_at c y i f = cond (nat_le 21 (tightness y)) (started_at c.at_member f) (cond i (started_at c.with_in f) (started_at c.without_in f))
+cost_at c y i f = cond (nat_le 21 (precedence y)) (started_at c.at_member f) (cond i (started_at c.has_in f) (started_at c.without_in f))
 
 abbrev pub same_everywhere : Option ℕ → own.Costs
 same_everywhere x = each (λ y i f. x)
@@ -46,12 +46,12 @@ sums c d = each (λ y i f. capped_sum (cost_at c y i f) (cost_at d y i f))
 -- the eight numbers of a row
 abbrev pub eight : own.Costs → List (Option ℕ)
 eight c =
-    c.with_in.any ∷ c.with_in.no_brace ∷ c.with_in.statement ∷ c.without_in.any ∷ c.without_in.no_brace ∷ c.at_member.any ∷ c.at_member.no_brace ∷ c.at_member.statement ∷ []
+    c.has_in.any ∷ c.has_in.no_brace ∷ c.has_in.statement ∷ c.without_in.any ∷ c.without_in.no_brace ∷ c.at_member.any ∷ c.at_member.no_brace ∷ c.at_member.statement ∷ []
 
 -- the numbers of a row's eight cells; a statement without In has none
 abbrev pub of_cells : List (Option ℕ) → own.Costs
 of_cells xs = record {
-  with_in = record { any = slice_index_or xs 0 None; no_brace = slice_index_or xs 1 None; statement = slice_index_or xs 2 None };
+  has_in = record { any = slice_index_or xs 0 None; no_brace = slice_index_or xs 1 None; statement = slice_index_or xs 2 None };
   without_in = record { any = slice_index_or xs 3 None; no_brace = slice_index_or xs 4 None; statement = None };
   at_member = record { any = slice_index_or xs 5 None; no_brace = slice_index_or xs 6 None; statement = slice_index_or xs 7 None };
 }

@@ -4,7 +4,7 @@ use Rattle.std.specs.Str.{IsUtf8}
 use Rattle.tree.specs.declared.kind.Pair.{Pair}
 use Rattle.tree.specs.Tree.{Tree}
 use Rattle.language.specs.Pieces.{script}
-use Rattle.language.specs.Positions.{rows}
+use Rattle.language.specs.RowPositions.{rows}
 use Rattle.language.specs.Cost.{least}
 use Rattle.language.specs.Claims.{Derives}
 

@@ -2,15 +2,15 @@
 use Rattle.std.specs.Prelude.{ℕ, zero, Bool, true, false, not, cond, ◌&&◌, List, [], ◌∷◌, ◌++◌, length, slice_get, map, reverse, Option, Some, None}
 use Rattle.language.specs.Pieces.{Role, script}
 use Rattle.language.specs.Layout.{exceeds, inside}
-use Rattle.positions.specs.Outlines.{role_of, slot_of}
-use Rattle.positions.specs.Spelled.{fits_outline}
+use Rattle.spellings.specs.Outlines.{role_of, slot_of}
+use Rattle.spellings.specs.Spelled.{fits_outline}
 use Rattle.paren_planner.specs.declared.costs.Costs.{Costs}
-use Rattle.paren_planner.specs.declared.steps.Label.{Label}
-use Rattle.paren_planner.specs.declared.steps.Visit.{Visit}
+use Rattle.paren_planner.specs.declared.steps.SpellingNeeds.{SpellingNeeds}
+use Rattle.paren_planner.specs.declared.steps.NodeStep.{NodeStep}
 use Rattle.paren_planner.specs.declared.steps.Step.{Step}
-use Rattle.paren_planner.specs.declared.steps.Step.TheVariants.{Word, Leaf, Enter, Leave}
+use Rattle.paren_planner.specs.declared.steps.Step.TheVariants.{Atom, Leaf, Enter, Leave}
 use Rattle.paren_planner.specs.declared.table.Row.{Row}
-use Rattle.paren_planner.specs.declared.wraps.Around.{Around}
+use Rattle.paren_planner.specs.declared.wrap_pass.WrapContext.{WrapContext}
 use Rattle.paren_planner.specs.Costs.{capped_sum}
 use Rattle.paren_planner.specs.Weighed.{cost_of}
 use Rattle.paren_planner.specs.Steps.{outline_of, stands_at, has_row_at, others}
@@ -18,10 +18,10 @@ use Rattle.paren_planner.specs.Steps.{outline_of, stands_at, has_row_at, others}
 -- where the steps stand: the position of the innermost open node, as it is with its pair or without, and whether a node in it may be wrapped
 pub record Round : Type 0 where
   pub own : Role
-  pub lives : Bool
+  pub may_wrap : Bool
 
-abbrev pub round : Around → Round
-round x = record { own = role_of x.own; lives = x.lives }
+abbrev pub round : WrapContext → Round
+round x = record { own = role_of x.own; may_wrap = x.may_wrap }
 
 -- the same of the open nodes round it, the innermost first, and the flags so far
 pub record Marks : Type 0 where
@@ -29,46 +29,46 @@ pub record Marks : Type 0 where
   pub outer : List Round
   pub flags : List Bool
 
-abbrev pub fits_label : Role → Option Label → Bool
+abbrev pub fits_label : Role → Option SpellingNeeds → Bool
 fits_label a None = false
 fits_label a (Some x) = fits_outline a (outline_of x)
 
 -- a node of these costs wants a pair round it
-abbrev pub wants : Role → Option Label → Costs → Bool
-wants a l c = exceeds (cond (fits_label a l) (cost_of c a) None) (capped_sum (Some 1) c.with_in.any)
+abbrev pub wants : Role → Option SpellingNeeds → Costs → Bool
+wants a l c = exceeds (cond (fits_label a l) (cost_of c a) None) (capped_sum (Some 1) c.has_in.any)
 
 abbrev pub is_free : Option ℕ → Bool
 is_free (Some zero) = true
 is_free x = false
 
 -- what stands around the parts of a node: where it costs nothing none of them is wrapped
-abbrev pub around_parts : Role → Option Label → Costs → Round
-around_parts a l c = record { own = a; lives = fits_label a l && not (is_free (cost_of c a)) }
+abbrev pub around_parts : Role → Option SpellingNeeds → Costs → Round
+around_parts a l c = record { own = a; may_wrap = fits_label a l && not (is_free (cost_of c a)) }
 
-abbrev pub flag_at : Option Row → Role → Option Label → Bool
+abbrev pub flag_at : Option Row → Role → Option SpellingNeeds → Bool
 flag_at None a l = false
 flag_at (Some r) a l = wants a l r.costs
 
-abbrev pub round_at : Option Row → Role → Option Label → Round
-round_at None a l = record { own = a; lives = false }
+abbrev pub round_at : Option Row → Role → Option SpellingNeeds → Round
+round_at None a l = record { own = a; may_wrap = false }
 round_at (Some r) a l = around_parts (inside (wants a l r.costs) a) l r.costs
 
-abbrev pub plain_round : Role → Option Label → Round
-plain_round a l = record { own = a; lives = fits_label a l }
+abbrev pub plain_round : Role → Option SpellingNeeds → Round
+plain_round a l = record { own = a; may_wrap = fits_label a l }
 
 -- the flag of a node, where it has a row
-abbrev pub flag_of : List Row → Visit → Round → List Bool → List Bool
-flag_of T v x bs = cond (has_row_at (slot_of v.slot)) (cond x.lives (flag_at (slice_get T (length bs)) (stands_at x.own v) v.label) false ∷ []) []
+abbrev pub flag_of : List Row → NodeStep → Round → List Bool → List Bool
+flag_of T v x bs = cond (has_row_at (slot_of v.slot)) (cond x.may_wrap (flag_at (slice_get T (length bs)) (stands_at x.own v) v.label) false ∷ []) []
 
-abbrev pub round_of : List Row → Visit → Round → List Bool → Round
-round_of T v x bs = cond x.lives (cond (has_row_at (slot_of v.slot)) (round_at (slice_get T (length bs)) (stands_at x.own v) v.label) (plain_round (stands_at x.own v) v.label)) x
+abbrev pub round_of : List Row → NodeStep → Round → List Bool → Round
+round_of T v x bs = cond x.may_wrap (cond (has_row_at (slot_of v.slot)) (round_at (slice_get T (length bs)) (stands_at x.own v) v.label) (plain_round (stands_at x.own v) v.label)) x
 
 abbrev pub innermost_round : List Round → Round → Round
 innermost_round [] x = x
 innermost_round (y ∷ ys) x = y
 
 abbrev pub marked : List Row → Step → Marks → Marks
-marked T (Word k) t = record { here = t.here; outer = t.outer; flags = t.flags ++ false ∷ [] }
+marked T (Atom k) t = record { here = t.here; outer = t.outer; flags = t.flags ++ false ∷ [] }
 marked T (Leaf v) t = record { here = t.here; outer = t.outer; flags = t.flags ++ flag_of T v t.here t.flags }
 marked T (Enter v) t = record { here = round_of T v t.here t.flags; outer = t.here ∷ t.outer; flags = t.flags ++ flag_of T v t.here t.flags }
 marked T Leave t = record { here = innermost_round t.outer t.here; outer = others t.outer; flags = t.flags }
@@ -78,8 +78,8 @@ marked_through T [] t = t
 marked_through T (x ∷ xs) t = marked_through T xs (marked T x t)
 
 abbrev pub at_the_start : Marks
-at_the_start = record { here = record { own = script; lives = true }; outer = []; flags = [] }
+at_the_start = record { here = record { own = script; may_wrap = true }; outer = []; flags = [] }
 
 -- the same as vectors, the innermost node last
-abbrev pub shown_marks : Around → List Around → List Bool → Marks
+abbrev pub shown_marks : WrapContext → List WrapContext → List Bool → Marks
 shown_marks x xs bs = record { here = round x; outer = reverse (map round xs); flags = bs }

@@ -1,26 +1,26 @@
 -- The steps that a walk over a node notes.
 use Rattle.std.specs.Prelude.{◌≡◌, Bool, true, false, ◌&&◌, List, [], ◌∷◌, ◌++◌, Some, None}
 use Rattle.tree.specs.Tree.{Tree, Parts, none, part, gap, kind_of, parts_of}
-use Rattle.language.specs.Pieces.{Role, expr, spine, pattern, Slot, fixed}
-use Rattle.language.specs.Positions.{widest}
-use Rattle.positions.specs.declared.outline.Front.{Front}
-use Rattle.positions.specs.declared.outline.Front.TheVariants as front
-use Rattle.positions.specs.declared.outline.Tail as tails
-use Rattle.positions.specs.declared.outline.Tail.TheVariants as tail
-use Rattle.positions.specs.declared.outline.Outline.{Outline}
-use Rattle.positions.specs.declared.spelled.Spelled.{Spelled}
+use Rattle.language.specs.Pieces.{Role, expr, chain_part, pattern, Slot, fixed}
+use Rattle.language.specs.RowPositions.{widest}
+use Rattle.spellings.specs.declared.outline.FixedSlots.{FixedSlots}
+use Rattle.spellings.specs.declared.outline.FixedSlots.TheVariants as front
+use Rattle.spellings.specs.declared.outline.ListSlots as tails
+use Rattle.spellings.specs.declared.outline.ListSlots.TheVariants as tail
+use Rattle.spellings.specs.declared.outline.Outline.{Outline}
+use Rattle.spellings.specs.declared.spelled_node.NodeSpelling.{NodeSpelling}
 use Rattle.language.specs.declared.Rank.TheVariants.{Primary}
-use Rattle.positions.specs.Outlines.{role_of, slot_of, leaf}
-use Rattle.positions.specs.Remaining.{left}
-use Rattle.positions.specs.Wherever.{IsSpelledWherever}
-use Rattle.paren_planner.specs.declared.steps.Visit.{Visit}
+use Rattle.spellings.specs.Outlines.{role_of, slot_of, leaf}
+use Rattle.spellings.specs.Remaining.{left}
+use Rattle.spellings.specs.Wherever.{IsSpelledWherever}
+use Rattle.paren_planner.specs.declared.steps.NodeStep.{NodeStep}
 use Rattle.paren_planner.specs.declared.steps.Step.{Step}
-use Rattle.paren_planner.specs.declared.steps.Step.TheVariants.{Word, Leaf, Enter, Leave}
+use Rattle.paren_planner.specs.declared.steps.Step.TheVariants.{Atom, Leaf, Enter, Leave}
 use Rattle.paren_planner.specs.Weighed.{settled_at}
 use Rattle.paren_planner.specs.Steps.{label_of, nowhere, has_row_at, slot_free, is_plain_outline}
 
 -- it is a visit to this node, at a slot of a node at a position
-pub record IsVisit (a : Role) (s : Slot) (n : Tree) (v : Visit) : Type 0 where
+pub record IsVisit (a : Role) (s : Slot) (n : Tree) (v : NodeStep) : Type 0 where
   pub kind : v.kind ≡ kind_of n
   pub above : role_of v.above ≡ a
   pub slot : slot_of v.slot ≡ s
@@ -28,7 +28,7 @@ pub record IsVisit (a : Role) (s : Slot) (n : Tree) (v : Visit) : Type 0 where
 -- a position that hands on no symbol, In and start of its own, and takes whatever is spelled there
 abbrev pub is_settled : Role → Bool
 is_settled (expr y i f) = false
-is_settled (spine f) = false
+is_settled (chain_part f) = false
 is_settled (pattern b f) = false
 is_settled a = true
 
@@ -46,7 +46,7 @@ are_fixed [] = true
 are_fixed (s ∷ ss) = is_fixed s && are_fixed ss
 
 -- all slots of an outline are such, where this is seen at once
-abbrev pub fixed_front : Front → Bool
+abbrev pub fixed_front : FixedSlots → Bool
 fixed_front front.Zero = true
 fixed_front (front.One a) = is_fixed (slot_of a)
 fixed_front (front.Two a b) = is_fixed (slot_of a) && is_fixed (slot_of b)
@@ -66,13 +66,13 @@ fixed_outline x = fixed_front x.front && fixed_tail x.tail
 mutual
   -- the steps of a node at a slot of a node at its widest position: none of its own where it costs nothing and has no row, or where it hands on what its parts cost
   pub data Steps : Role → Slot → Tree → List Step → Type 0 where
-    unspelled : {a : Role} {s : Slot} {n : Tree} {xs : List Step} (v : Visit) → IsVisit a s n v → v.label ≡ None → IsSpelledWherever (widest (settled_at a s)) n None → xs ≡ Leaf v ∷ [] → Steps a s n xs
-    alone : {a : Role} {s : Slot} {n : Tree} {xs : List Step} (v : Visit) (x : Spelled) → IsVisit a s n v → v.label ≡ Some (label_of x.outline) → IsSpelledWherever (widest (settled_at a s)) n (Some x) → parts_of n ≡ none → xs ≡ Leaf v ∷ [] → Steps a s n xs
-    around : {a : Role} {s : Slot} {n : Tree} {xs : List Step} (v : Visit) (x : Spelled) (ys : List Step) → IsVisit a s n v → v.label ≡ Some (label_of x.outline) → IsSpelledWherever (widest (settled_at a s)) n (Some x) →
+    unspelled : {a : Role} {s : Slot} {n : Tree} {xs : List Step} (v : NodeStep) → IsVisit a s n v → v.label ≡ None → IsSpelledWherever (widest (settled_at a s)) n None → xs ≡ Leaf v ∷ [] → Steps a s n xs
+    alone : {a : Role} {s : Slot} {n : Tree} {xs : List Step} (v : NodeStep) (x : NodeSpelling) → IsVisit a s n v → v.label ≡ Some (label_of x.outline) → IsSpelledWherever (widest (settled_at a s)) n (Some x) → parts_of n ≡ none → xs ≡ Leaf v ∷ [] → Steps a s n xs
+    around : {a : Role} {s : Slot} {n : Tree} {xs : List Step} (v : NodeStep) (x : NodeSpelling) (ys : List Step) → IsVisit a s n v → v.label ≡ Some (label_of x.outline) → IsSpelledWherever (widest (settled_at a s)) n (Some x) →
         PartsSteps (widest (settled_at a s)) (left x.slots) (parts_of n) ys → xs ≡ Enter v ∷ (ys ++ Leave ∷ []) → Steps a s n xs
-    word : {a : Role} {s : Slot} {n : Tree} {xs : List Step} (x : Spelled) → IsSpelledWherever (widest (settled_at a s)) n (Some x) → x.outline ≡ leaf Primary → parts_of n ≡ none → has_row_at s ≡ true → slot_free s Primary ≡ true → xs ≡ Word (kind_of n) ∷ [] → Steps a s n xs
-    hidden : {a : Role} {s : Slot} {n : Tree} {xs : List Step} (x : Spelled) → IsSpelledWherever (widest (settled_at a s)) n (Some x) → is_plain_outline x.outline ≡ true → parts_of n ≡ none → has_row_at s ≡ false → xs ≡ [] → Steps a s n xs
-    through : {a : Role} {s : Slot} {n : Tree} {xs : List Step} (x : Spelled) → IsSpelledWherever (widest (settled_at a s)) n (Some x) → is_settled_slot s ≡ true → are_fixed (left x.slots) ≡ true →
+    word : {a : Role} {s : Slot} {n : Tree} {xs : List Step} (x : NodeSpelling) → IsSpelledWherever (widest (settled_at a s)) n (Some x) → x.outline ≡ leaf Primary → parts_of n ≡ none → has_row_at s ≡ true → slot_free s Primary ≡ true → xs ≡ Atom (kind_of n) ∷ [] → Steps a s n xs
+    hidden : {a : Role} {s : Slot} {n : Tree} {xs : List Step} (x : NodeSpelling) → IsSpelledWherever (widest (settled_at a s)) n (Some x) → is_plain_outline x.outline ≡ true → parts_of n ≡ none → has_row_at s ≡ false → xs ≡ [] → Steps a s n xs
+    through : {a : Role} {s : Slot} {n : Tree} {xs : List Step} (x : NodeSpelling) → IsSpelledWherever (widest (settled_at a s)) n (Some x) → is_settled_slot s ≡ true → are_fixed (left x.slots) ≡ true →
         PartsSteps (widest (settled_at a s)) (left x.slots) (parts_of n) xs → Steps a s n xs
 
   -- those of parts at these slots

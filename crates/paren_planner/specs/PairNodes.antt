@@ -9,10 +9,10 @@ use Rattle.language.specs.Pieces.{Role, PieceOf, script}
 use Rattle.language.specs.Cursor.{beginning}
 use Rattle.language.specs.Places.{SpellsIn, NextIn, itself}
 use Rattle.language.specs.Derivation.{Spells, direct, grouped, Runs, done, step, opened, closed, within, missing}
-use Rattle.language.specs.Positions.{has_row, rows}
+use Rattle.language.specs.RowPositions.{has_row, rows}
 use Rattle.language.specs.Claims.{row_nodes}
 use Rattle.tree.specs.declared.kind.Span.{Span}
-use Rattle.positions.specs.Groupings.{grouping, row_starts}
+use Rattle.spellings.specs.Groupings.{grouping, row_starts}
 use Rattle.paren_planner.specs.Wrapped.{is_flagged}
 use Rattle.paren_planner.specs.Extra.{extra_spans, span_of}
 

@@ -1,7 +1,7 @@
 -- The sums of open nodes, as the planner keeps them: those that are nothing take no room.
 use Rattle.std.specs.Prelude.{Bool, true, false, cond, List, [], ◌∷◌, reverse, All}
 use Rattle.paren_planner.specs.declared.costs.Costs as own
-use Rattle.paren_planner.specs.declared.pending.Pending.{Pending}
+use Rattle.paren_planner.specs.declared.open_sums.OpenSums.{OpenSums}
 use Rattle.paren_planner.specs.declared.table.Row.{Row}
 use Rattle.paren_planner.specs.Steps.{no_pairs, innermost, others, Sums, IsHeld}
 
@@ -11,15 +11,15 @@ stacked [] cs = []
 stacked (true ∷ bs) cs = innermost cs ∷ stacked bs (others cs)
 stacked (false ∷ bs) cs = no_pairs ∷ stacked bs cs
 
-abbrev pub here_of : Pending → own.Costs
+abbrev pub here_of : OpenSums → own.Costs
 here_of p = cond p.counts p.here no_pairs
 
 -- the innermost first
-abbrev pub outer_of : Pending → List own.Costs
+abbrev pub outer_of : OpenSums → List own.Costs
 outer_of p = stacked (reverse p.outer_counts.items) (reverse p.outer.items)
 
 -- with the rows so far, the first row last
-abbrev pub shown_sums : Pending → List Row → Sums
+abbrev pub shown_sums : OpenSums → List Row → Sums
 shown_sums p rs = record { here = here_of p; outer = outer_of p; rows = reverse rs }
 
 pub record AreHeld (t : Sums) : Type 0 where

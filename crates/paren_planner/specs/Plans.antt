@@ -7,9 +7,9 @@ use Rattle.language.specs.Pieces.{script}
 use Rattle.language.specs.Cost.{least}
 use Rattle.language.specs.Layout.{has_number, wrapped_rows}
 use Rattle.language.specs.Claims.{Derives}
-use Rattle.language.specs.Positions.{rows}
-use Rattle.paren_planner.specs.declared.planned.Plan.{Plan}
-use Rattle.language.specs.Laid.{Exact}
+use Rattle.language.specs.RowPositions.{rows}
+use Rattle.paren_planner.specs.declared.wrap_plan.Plan.{Plan}
+use Rattle.language.specs.ExactCells.{Exact}
 use Rattle.paren_planner.specs.Rows.{cell_rows, shown}
 use Rattle.paren_planner.specs.Tables.{MeetsBounds, table_of}
 use Rattle.paren_planner.specs.Wrapped.{is_flagged}

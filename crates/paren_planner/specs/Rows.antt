@@ -5,7 +5,7 @@ use Rattle.language.specs.declared.Start.TheVariants.{Any}
 use Rattle.tree.specs.Tree.{Tree, node, Parts, none, part, gap, kind_of}
 use Rattle.language.specs.Pieces.{Role, expr}
 use Rattle.language.specs.Grammar.{ways}
-use Rattle.language.specs.Positions.{first_roles, widest}
+use Rattle.language.specs.RowPositions.{first_roles, widest}
 use Rattle.tree.specs.declared.kind.Kind.{Kind}
 use Rattle.paren_planner.specs.declared.costs.Costs.{Costs}
 use Rattle.paren_planner.specs.declared.table.Row.{Row}

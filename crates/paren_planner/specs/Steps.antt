@@ -1,61 +1,61 @@
 -- The steps of a walk over a script, and what the planner's two passes over them make of them.
 use Rattle.std.specs.Prelude.{◌≡◌, Bool, true, false, not, cond, ◌&&◌, List, [], ◌∷◌, ◌++◌, Option, Some, None}
 use Rattle.tree.specs.declared.kind.Kind.{Kind}
-use Rattle.language.specs.Pieces.{Role, expr, Slot, fixed, left, lead, tail, callee, lead_spine, lead_pattern}
-use Rattle.language.specs.Positions.{widest}
-use Rattle.positions.specs.declared.position.Position.TheVariants as at
-use Rattle.positions.specs.declared.position.Slot.TheVariants.{Fixed}
-use Rattle.positions.specs.declared.outline.Outline.{Outline}
-use Rattle.positions.specs.declared.outline.Opens.{Opens}
-use Rattle.positions.specs.declared.outline.Opens.TheVariants.{Otherwise}
+use Rattle.language.specs.Pieces.{Role, expr, Slot, fixed, left, lead, tail, callee, lead_chain, lead_pattern}
+use Rattle.language.specs.RowPositions.{widest}
+use Rattle.spellings.specs.declared.position.Position.TheVariants as at
+use Rattle.spellings.specs.declared.position.Slot.TheVariants.{Fixed}
+use Rattle.spellings.specs.declared.outline.Outline.{Outline}
+use Rattle.spellings.specs.declared.outline.FirstToken.{FirstToken}
+use Rattle.spellings.specs.declared.outline.FirstToken.TheVariants.{Other}
 use Rattle.language.specs.declared.Rank.{Rank}
 use Rattle.language.specs.declared.Rank.TheVariants.{Member, Primary}
-use Rattle.language.specs.Words.{takes}
-use Rattle.positions.specs.declared.outline.Front.TheVariants.{Zero}
-use Rattle.positions.specs.declared.outline.Tail.TheVariants.{Nothing}
-use Rattle.positions.specs.Outlines.{role_of, slot_of}
+use Rattle.language.specs.Vocabulary.{takes}
+use Rattle.spellings.specs.declared.outline.FixedSlots.TheVariants.{Zero}
+use Rattle.spellings.specs.declared.outline.ListSlots.TheVariants.{Nothing}
+use Rattle.spellings.specs.Outlines.{role_of, slot_of}
 use Rattle.paren_planner.specs.declared.costs.Costs as own
-use Rattle.paren_planner.specs.declared.steps.Label.{Label}
-use Rattle.paren_planner.specs.declared.steps.Visit.{Visit}
+use Rattle.paren_planner.specs.declared.steps.SpellingNeeds.{SpellingNeeds}
+use Rattle.paren_planner.specs.declared.steps.NodeStep.{NodeStep}
 use Rattle.paren_planner.specs.declared.steps.Step.{Step}
-use Rattle.paren_planner.specs.declared.steps.Step.TheVariants.{Word, Leaf, Enter, Leave}
+use Rattle.paren_planner.specs.declared.steps.Step.TheVariants.{Atom, Leaf, Enter, Leave}
 use Rattle.paren_planner.specs.declared.table.Row.{Row}
-use Rattle.paren_planner.specs.declared.weighed.Weighed.{Weighed}
+use Rattle.paren_planner.specs.declared.node_costs.NodeCosts.{NodeCosts}
 use Rattle.paren_planner.specs.Costs.{same_everywhere, sums}
 use Rattle.paren_planner.specs.Weighed.{settled_at, uses, fitting}
 use Rattle.paren_planner.specs.Rows.{row_with, is_expression}
 use Rattle.paren_planner.specs.Packed.{free_shape, shaped}
 
 -- what an outline asks of a position
-abbrev pub label_of : Outline → Label
+abbrev pub label_of : Outline → SpellingNeeds
 label_of x = record { rank = x.rank; needs_in = x.needs_in; opens = x.opens }
 
 -- an outline that asks the same
-abbrev pub outline_of : Label → Outline
+abbrev pub outline_of : SpellingNeeds → Outline
 outline_of x = record { rank = x.rank; needs_in = x.needs_in; opens = x.opens; front = Zero; tail = Nothing; from = 0 }
 
 -- where a node stands in the spelling of the one above it, whose position is given
-abbrev pub stands_at : Role → Visit → Role
+abbrev pub stands_at : Role → NodeStep → Role
 stands_at a v = settled_at a (slot_of v.slot)
 
 -- with all that its spelling may depend on left open
-abbrev pub place_of : Visit → Role
+abbrev pub place_of : NodeStep → Role
 place_of v = widest (stands_at (role_of v.above) v)
 
 -- a node at this slot has a row
 abbrev pub has_row_at : Slot → Bool
 has_row_at (fixed a) = is_expression a
-has_row_at lead_spine = false
+has_row_at lead_chain = false
 has_row_at lead_pattern = false
 has_row_at s = true
 
 -- a node that can't be spelled, in a place of a part that has none
-abbrev pub nowhere : Kind → Visit
+abbrev pub nowhere : Kind → NodeStep
 nowhere k = record { kind = k; above = at.Script; slot = Fixed at.Script; label = None }
 
 -- it asks for no In, and opens with no brace and no word
-abbrev pub is_otherwise : Opens → Bool
-is_otherwise Otherwise = true
+abbrev pub is_otherwise : FirstToken → Bool
+is_otherwise Other = true
 is_otherwise x = false
 
 abbrev pub is_plain_outline : Outline → Bool
@@ -83,12 +83,12 @@ no_pairs = same_everywhere (Some 0)
 abbrev pub IsHeld : own.Costs → Type 0
 IsHeld c = sums c no_pairs ≡ c
 
-abbrev pub weighed_as : Role → Option Label → own.Costs → Weighed
+abbrev pub weighed_as : Role → Option SpellingNeeds → own.Costs → NodeCosts
 weighed_as a None c = record { outline = None; costs = same_everywhere None }
 weighed_as a (Some x) c = record { outline = Some (outline_of x); costs = fitting a (outline_of x) c }
 
 -- what a node costs, of the sums over its parts
-abbrev pub weighed_of : Visit → own.Costs → Weighed
+abbrev pub weighed_of : NodeStep → own.Costs → NodeCosts
 weighed_of v c = weighed_as (place_of v) v.label c
 
 -- the sums over the parts behind a step, of the innermost open node and of those round it, and the rows behind the step
@@ -106,15 +106,15 @@ others [] = []
 others (c ∷ cs) = cs
 
 -- what it costs in the node above it
-abbrev pub used : Visit → own.Costs → own.Costs
+abbrev pub used : NodeStep → own.Costs → own.Costs
 used v c = uses (role_of v.above) (slot_of v.slot) (weighed_of v c)
 
 -- its row, where it has one
-abbrev pub row_of_visit : Visit → own.Costs → List Row
+abbrev pub row_of_visit : NodeStep → own.Costs → List Row
 row_of_visit v c = cond (has_row_at (slot_of v.slot)) (row_with v.kind (weighed_of v c).costs ∷ []) []
 
 -- a node, by the sums over its parts
-abbrev pub joined : Visit → own.Costs → Sums → Sums
+abbrev pub joined : NodeStep → own.Costs → Sums → Sums
 joined v c t = record {
   here = sums t.here (used v c);
   outer = t.outer;
@@ -126,7 +126,7 @@ abbrev pub word_row : Kind → Row
 word_row k = row_with k (shaped (free_shape Primary) 0)
 
 abbrev pub taken : Step → Sums → Sums
-taken (Word k) t = record { here = t.here; outer = t.outer; rows = word_row k ∷ t.rows }
+taken (Atom k) t = record { here = t.here; outer = t.outer; rows = word_row k ∷ t.rows }
 taken (Leaf v) t = joined v no_pairs t
 taken (Enter v) t = joined v t.here (record { here = innermost t.outer; outer = others t.outer; rows = t.rows })
 taken Leave t = record { here = no_pairs; outer = t.here ∷ t.outer; rows = t.rows }

@@ -3,16 +3,16 @@ use Rattle.std.specs.Prelude.{◌≡◌, ℕ, Bool, false, cond, Option, Some, N
 use Rattle.language.specs.declared.Rank.{Rank}
 use Rattle.language.specs.declared.Start.{Start}
 use Rattle.tree.specs.Tree.{Tree, Parts}
-use Rattle.language.specs.Pieces.{Role, expr, spine, pattern, Slot, settle}
+use Rattle.language.specs.Pieces.{Role, expr, chain_part, pattern, Slot, settle}
 use Rattle.language.specs.Grammar.{ways, own_rank, own_in, own_start}
 use Rattle.language.specs.Cost.{lesser, parts_least}
 use Rattle.language.specs.Layout.{some_way}
-use Rattle.positions.specs.declared.outline.Outline.{Outline}
-use Rattle.positions.specs.declared.spelled.Spelled.{Spelled}
-use Rattle.positions.specs.Spelled.{fits_outline, settled_roles}
-use Rattle.positions.specs.Wherever.{with_own}
+use Rattle.spellings.specs.declared.outline.Outline.{Outline}
+use Rattle.spellings.specs.declared.spelled_node.NodeSpelling.{NodeSpelling}
+use Rattle.spellings.specs.Spelled.{fits_outline, settled_roles}
+use Rattle.spellings.specs.Wherever.{with_own}
 use Rattle.paren_planner.specs.declared.costs.Costs as own
-use Rattle.paren_planner.specs.declared.weighed.Weighed.{Weighed}
+use Rattle.paren_planner.specs.declared.node_costs.NodeCosts.{NodeCosts}
 use Rattle.paren_planner.specs.Costs.{capped, capped_sum, started_at, each, cost_at, cells_at}
 
 -- a spelling by this outline, if there is one, fits the position
@@ -21,24 +21,24 @@ fits_any a None = false
 fits_any a (Some x) = fits_outline a x
 
 -- the same of what is known of a node's spelling
-abbrev pub fits_spelled : Role → Option Spelled → Bool
+abbrev pub fits_spelled : Role → Option NodeSpelling → Bool
 fits_spelled a None = false
 fits_spelled a (Some x) = fits_outline a x.outline
 
 -- the number that counts at a position
 abbrev pub cost_of : own.Costs → Role → Option ℕ
 cost_of c (expr y i f) = cost_at c y i f
-cost_of c (spine f) = started_at c.with_in f
-cost_of c (pattern b f) = started_at c.with_in f
-cost_of c a = c.with_in.any
+cost_of c (chain_part f) = started_at c.has_in f
+cost_of c (pattern b f) = started_at c.has_in f
+cost_of c a = c.has_in.any
 
 -- without a pair round it
-abbrev pub direct_cost : Weighed → Role → Option ℕ
+abbrev pub direct_cost : NodeCosts → Role → Option ℕ
 direct_cost w a = cond (fits_any a w.outline) (cost_of w.costs a) None
 
 -- with a pair round it or without
-abbrev pub least_of : Weighed → Role → Option ℕ
-least_of w (expr y i f) = lesser (direct_cost w (expr y i f)) (capped_sum (Some 1) w.costs.with_in.any)
+abbrev pub least_of : NodeCosts → Role → Option ℕ
+least_of w (expr y i f) = lesser (direct_cost w (expr y i f)) (capped_sum (Some 1) w.costs.has_in.any)
 least_of w a = direct_cost w a
 
 -- the position that a slot is
@@ -46,7 +46,7 @@ abbrev pub settled_at : Role → Slot → Role
 settled_at a s = settle (own_rank a) (own_in a) (own_start a) s
 
 -- what a part at a slot costs, wherever its node stands
-abbrev pub uses : Role → Slot → Weighed → own.Costs
+abbrev pub uses : Role → Slot → NodeCosts → own.Costs
 uses a s w = each (λ y i f. least_of w (settled_at (with_own y i f a) s))
 
 -- the numbers, none where the spelling doesn't fit
@@ -58,6 +58,6 @@ abbrev pub sums_over : Parts → Role → List Slot → own.Costs
 sums_over ps a xs = each (λ y i f. capped (parts_least ps (settled_roles (with_own y i f a) xs)))
 
 -- its outline says where it can be spelled directly, and its numbers are its cells
-pub record IsWeighed (a : Role) (n : Tree) (w : Weighed) : Type 0 where
+pub record IsWeighed (a : Role) (n : Tree) (w : NodeCosts) : Type 0 where
   pub fits : (y : Rank) (i : Bool) (f : Start) → some_way (ways (with_own y i f a) n) ≡ fits_any (with_own y i f a) w.outline
   pub costs : w.costs ≡ cells_at n a

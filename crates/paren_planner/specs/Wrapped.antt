@@ -3,7 +3,7 @@ use Rattle.std.specs.Prelude.{◌≡◌, ℕ, zero, suc, Bool, false, cond, List
 use Rattle.tree.specs.Tree.{Tree, node, Parts, none, part, gap, parts_of}
 use Rattle.language.specs.Pieces.{Role, expr}
 use Rattle.language.specs.Grammar.{ways}
-use Rattle.language.specs.Positions.{first_roles, widest, parts_rows}
+use Rattle.language.specs.RowPositions.{first_roles, widest, parts_rows}
 use Rattle.language.specs.Layout.{some_way, wants_pair, inside}
 use Rattle.paren_planner.specs.declared.table.Row.{Row}
 

@@ -4,24 +4,24 @@ ghost use Rattle.std.specs.Prelude.{◌≡◌, true, Option, Some, None};
 ghost use Rattle.paren_planner.specs.Packed.{free_shape, shaped};
 ghost use Rattle.paren_planner.specs.Costs.{cost_at, started_at, each_start, sums, same_everywhere, capped_sum, eight, of_cells};
 
-use crate::amount::{is_zero, sum};
-use grammar::{position_takes, tightness_of};
+use crate::pair_count::{is_zero, sum};
+use grammar::{accepts_rank, precedence_of};
 use language::{Rank, Start};
 
 /// The numbers at the three starts.
 #[derive(Clone, Copy)]
-pub struct Starts {
+pub struct StartCosts {
     pub any: Option<u32>,
     pub no_brace: Option<u32>,
     pub statement: Option<u32>,
 }
 
-impl Starts {
+impl StartCosts {
     /// The same number at each.
-    pub(crate) fn same(number: Option<u32>) -> Starts
+    pub(crate) fn same(number: Option<u32>) -> StartCosts
         ensures { result ≡ each_start (λ f. number) }
     {
-        Starts {
+        StartCosts {
             any: number,
             no_brace: number,
             statement: number,
@@ -52,10 +52,10 @@ impl Starts {
         }
     }
 
-    fn plus(&self, other: &Starts) -> Starts
+    fn plus(&self, other: &StartCosts) -> StartCosts
         ensures { result ≡ each_start (λ f. capped_sum (started_at self.now f) (started_at other.now f)) }
     {
-        Starts {
+        StartCosts {
             any: sum(self.any, other.any),
             no_brace: sum(self.no_brace, other.no_brace),
             statement: sum(self.statement, other.statement),
@@ -66,9 +66,9 @@ impl Starts {
 /// The pairs inside a node, spelled directly: with In, without In, and where only what is at Member may stand; none where it can't be.
 #[derive(Clone, Copy)]
 pub struct Costs {
-    pub with_in: Starts,
-    pub without_in: Starts,
-    pub at_member: Starts,
+    pub has_in: StartCosts,
+    pub without_in: StartCosts,
+    pub at_member: StartCosts,
 }
 
 impl Costs {
@@ -77,9 +77,9 @@ impl Costs {
         ensures { result ≡ same_everywhere number }
     {
         Costs {
-            with_in: Starts::same(number),
-            without_in: Starts::same(number),
-            at_member: Starts::same(number),
+            has_in: StartCosts::same(number),
+            without_in: StartCosts::same(number),
+            at_member: StartCosts::same(number),
         }
     }
 
@@ -87,37 +87,37 @@ impl Costs {
     pub(crate) fn is_nothing(&self) -> bool
         ensures { result ≡ true → self.now ≡ same_everywhere (Some 0) }
     {
-        self.with_in.is_nothing() && self.without_in.is_nothing() && self.at_member.is_nothing()
+        self.has_in.is_nothing() && self.without_in.is_nothing() && self.at_member.is_nothing()
     }
 
     /// Whether they are those of a node at a symbol which costs nothing wherever it may stand.
     pub(crate) fn is_free(&self, rank: Rank) -> bool
         ensures { result ≡ true → self.now ≡ shaped (free_shape rank) 0 }
     {
-        if !self.with_in.is_nothing() || !self.without_in.is_nothing() {
+        if !self.has_in.is_nothing() || !self.without_in.is_nothing() {
             return false;
         }
-        if position_takes(Rank::Member, rank) {
+        if accepts_rank(Rank::Member, rank) {
             return self.at_member.is_nothing();
         }
         self.at_member.is_none()
     }
 
     /// The number that counts at a symbol, In and start.
-    pub fn at(self, rank: Rank, with_in: bool, start: Start) -> Option<u32>
-        ensures { result ≡ cost_at self rank with_in start }
+    pub fn at(self, rank: Rank, has_in: bool, start: Start) -> Option<u32>
+        ensures { result ≡ cost_at self rank has_in start }
     {
-        self.number(rank, with_in, start)
+        self.number(rank, has_in, start)
     }
 
-    pub(crate) fn number(&self, rank: Rank, with_in: bool, start: Start) -> Option<u32>
-        ensures { result ≡ cost_at self.now rank with_in start }
+    pub(crate) fn number(&self, rank: Rank, has_in: bool, start: Start) -> Option<u32>
+        ensures { result ≡ cost_at self.now rank has_in start }
     {
-        if tightness_of(rank) >= 21 {
+        if precedence_of(rank) >= 21 {
             return self.at_member.at(start);
         }
-        if with_in {
-            return self.with_in.at(start);
+        if has_in {
+            return self.has_in.at(start);
         }
         self.without_in.at(start)
     }
@@ -127,7 +127,7 @@ impl Costs {
         ensures { result ≡ sums self.now other.now }
     {
         Costs {
-            with_in: self.with_in.plus(&other.with_in),
+            has_in: self.has_in.plus(&other.has_in),
             without_in: self.without_in.plus(&other.without_in),
             at_member: self.at_member.plus(&other.at_member),
         }
@@ -138,9 +138,9 @@ impl Costs {
         ensures { result ≡ eight self.now }
     {
         [
-            self.with_in.any,
-            self.with_in.no_brace,
-            self.with_in.statement,
+            self.has_in.any,
+            self.has_in.no_brace,
+            self.has_in.statement,
             self.without_in.any,
             self.without_in.no_brace,
             self.at_member.any,
@@ -154,17 +154,17 @@ impl Costs {
         ensures { result ≡ of_cells cells }
     {
         Costs {
-            with_in: Starts {
+            has_in: StartCosts {
                 any: cells[0],
                 no_brace: cells[1],
                 statement: cells[2],
             },
-            without_in: Starts {
+            without_in: StartCosts {
                 any: cells[3],
                 no_brace: cells[4],
                 statement: None,
             },
-            at_member: Starts {
+            at_member: StartCosts {
                 any: cells[5],
                 no_brace: cells[6],
                 statement: cells[7],

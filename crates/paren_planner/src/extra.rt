@@ -3,8 +3,8 @@
 ghost use Rattle.std.specs.Prelude.{◌≡◌, ◌+◌, ◌<◌, length, drop, IfOk};
 ghost use Rattle.paren_planner.specs.Extra.{extra_spans, is_innermost as is_innermost_of, span_of};
 
-use crate::planned::Plan;
-use positions::Grouping;
+use crate::wrap_plan::Plan;
+use spellings::PairRow;
 use std::alloc::{AllocError, Global};
 use tree::Span;
 
@@ -17,7 +17,7 @@ use tree::Span;
 /// `AllocError` where memory is refused.
 pub fn extra_pairs(
     alloc: Global,
-    groupings: &[Grouping],
+    groupings: &[PairRow],
     plan: &Plan,
 ) -> Result<Vec<Span>, AllocError>
     ensures { IfOk result (λ found. found.items ≡ extra_spans plan.now.wrapped.items groupings.now) }
@@ -34,7 +34,7 @@ pub fn extra_pairs(
 }
 
 /// Whether the pair at a place is the innermost of its node: the next pair, if there is one, stands round another.
-fn is_innermost(groupings: &[Grouping], index: usize) -> bool
+fn is_innermost(groupings: &[PairRow], index: usize) -> bool
     requires { index < length groupings.now }
     ensures { result ≡ is_innermost_of (drop index groupings.now) }
 {
@@ -46,7 +46,7 @@ fn is_innermost(groupings: &[Grouping], index: usize) -> bool
 }
 
 /// From a pair's `(` to behind its `)`, in bytes.
-fn span(grouping: Grouping) -> Span
+fn span(grouping: PairRow) -> Span
     ensures { result ≡ span_of grouping }
 {
     Span {

@@ -9,7 +9,7 @@ pub fn derived_has_plan()
     ensures { DerivedHasPlan }
 {}
 
-/// The row of each grouping pair of a script, as `positions::groupings` gives it, is that of the node which the derivation has in the pair.
+/// The row of each grouping pair of a script, as `spellings::groupings` gives it, is that of the node which the derivation has in the pair.
 pub fn pairs_have_their_rows()
     ensures { PairsHaveTheirRows }
 {}

@@ -2,25 +2,25 @@
 
 //! The planner: which expressions are wrapped in a pair of parentheses, and what each costs.
 
-mod amount;
+mod cost_pass;
 mod costs;
 mod extra;
 pub mod laws;
-mod packed;
+mod node_costs;
+mod open_sums;
+mod packed_row;
 mod packed_rows;
-mod pending;
-mod planned;
+mod pair_count;
 mod planner;
+mod step_walk;
 mod steps;
 mod table;
-mod visits;
-mod weighed;
-mod weighing;
-mod wraps;
+mod wrap_pass;
+mod wrap_plan;
 
-pub use costs::{Costs, Starts};
+pub use costs::{Costs, StartCosts};
 pub use extra::extra_pairs;
-pub use planned::Plan;
+pub use node_costs::{NodeCosts, added, fitting, least, widest};
 pub use planner::{plan, plan_if_any};
 pub use table::{CostTable, Row};
-pub use weighed::{Weighed, added, fitting, least, widest};
+pub use wrap_plan::Plan;

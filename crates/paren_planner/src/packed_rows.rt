@@ -1,17 +1,17 @@
 //! The rows of a table, packed.
 
 ghost use Rattle.std.specs.Prelude.{◌≡◌, ◌+◌, ◌<◌, [], ◌∷◌, ◌++◌, length, reverse, slice_get, slice_index_or, OnOk, OnErr, IfSome};
-ghost use Rattle.positions.specs.Outlines.{role_of};
+ghost use Rattle.spellings.specs.Outlines.{role_of};
 ghost use Rattle.paren_planner.specs.Costs.{eight};
 ghost use Rattle.paren_planner.specs.Packed.{in_order, shaped};
 ghost use Rattle.paren_planner.specs.Rows.{row_with};
 ghost use Rattle.paren_planner.specs.Weighed.{cost_of};
 
 use crate::costs::Costs;
-use crate::packed::{Packed, Place, Shape};
-use crate::weighed::cost_at;
-use chunks::Chunks;
-use positions::Position;
+use crate::node_costs::cost_at;
+use crate::packed_row::{CellShape, PackedRow, Place};
+use segmented_vec::SegmentedVec;
+use spellings::Position;
 use std::alloc::{AllocError, Global};
 use std::marker::Model;
 use std::mem;
@@ -21,9 +21,9 @@ use tree::Kind;
 #[derive(Drop)]
 pub struct PackedRows {
     /// The first rows, the last of them first.
-    turned: Chunks<Packed>,
+    turned: SegmentedVec<PackedRow>,
     /// Those behind them.
-    packed: Chunks<Packed>,
+    packed: SegmentedVec<PackedRow>,
     /// The numbers of those rows.
     apart: Vec<Costs>,
 }
@@ -45,8 +45,8 @@ impl PackedRows {
         ensures { result.items ≡ [] }
     {
         PackedRows {
-            turned: Chunks::new(alloc),
-            packed: Chunks::new(alloc),
+            turned: SegmentedVec::new(alloc),
+            packed: SegmentedVec::new(alloc),
             apart: Vec::new(alloc),
         }
     }
@@ -55,13 +55,13 @@ impl PackedRows {
     pub(crate) fn push_shaped(
         &mut self,
         kind: Kind,
-        shape: Shape,
+        shape: CellShape,
         number: u32,
     ) -> Result<(), AllocError>
         ensures rows { OnOk result (self.new.items ≡ self.old.items ++ row_with kind (shaped shape number) ∷ []) }
         ensures kept { OnErr result (self.new.items ≡ self.old.items) }
     {
-        self.packed.push(Packed::Same(kind, shape, number))?;
+        self.packed.push(PackedRow::Same(kind, shape, number))?;
         Ok(())
     }
 
@@ -70,8 +70,8 @@ impl PackedRows {
         ensures rows { OnOk result (self.new.items ≡ self.old.items ++ row_with kind costs.now ∷ []) }
         ensures kept { OnErr result (self.new.items ≡ self.old.items) }
     {
-        let number = costs.with_in.any.unwrap_or(0u32);
-        if let Some(shape) = Shape::of(costs, number) {
+        let number = costs.has_in.any.unwrap_or(0u32);
+        if let Some(shape) = CellShape::of(costs, number) {
             return self.push_shaped(kind, shape, number);
         }
         self.push_apart(kind, costs)
@@ -84,12 +84,12 @@ impl PackedRows {
     {
         let place = Place::of(self.apart.len());
         self.apart.push(*costs)?;
-        self.packed.push(Packed::Apart(kind, place))?;
+        self.packed.push(PackedRow::Apart(kind, place))?;
         Ok(())
     }
 
     /// The rows the other way round.
-    pub(crate) fn turn(&mut self)
+    pub(crate) fn reverse_rows(&mut self)
         ensures { self.new.items ≡ reverse self.old.items }
     {
         mem::swap(&mut self.turned, &mut self.packed);
@@ -115,8 +115,8 @@ impl PackedRows {
         ensures { (r : _) → result ≡ eight (slice_index_or self.now.items index r).costs }
     {
         match *packed_at(&self.turned, &self.packed, index) {
-            Packed::Same(_, shape, number) => shape.cells(number),
-            Packed::Apart(_, place) => self.apart[place.index()].cells(),
+            PackedRow::Same(_, shape, number) => shape.cells(number),
+            PackedRow::Apart(_, place) => self.apart[place.index()].cells(),
         }
     }
 
@@ -128,15 +128,19 @@ impl PackedRows {
             return None;
         }
         match *packed_at(&self.turned, &self.packed, index) {
-            Packed::Same(_, shape, number) => shape.cost_at(number, position),
-            Packed::Apart(_, place) => cost_at(&self.apart[place.index()], position),
+            PackedRow::Same(_, shape, number) => shape.cost_at(number, position),
+            PackedRow::Apart(_, place) => cost_at(&self.apart[place.index()], position),
         }
     }
 }
 
 /// A packed row, by its index, counted from 0.
 #[inline(always)]
-fn packed_at<'a>(turned: &'a Chunks<Packed>, packed: &'a Chunks<Packed>, index: usize) -> &'a Packed
+fn packed_at<'a>(
+    turned: &'a SegmentedVec<PackedRow>,
+    packed: &'a SegmentedVec<PackedRow>,
+    index: usize,
+) -> &'a PackedRow
     requires { index < length turned.now + length packed.now }
     ensures { result.now ≡ slice_index_or (in_order turned.now packed.now) index result.now }
 {

@@ -3,20 +3,20 @@
 ghost use Rattle.std.specs.Prelude.{◌≡◌, ◌≤◌, ◌↔◌, Option, Some, IfOk, IfSome, IfNone, IsSome, IsTrue};
 ghost use Rattle.language.specs.Pieces.{script, fixed};
 ghost use Rattle.language.specs.Cost.{least};
-ghost use Rattle.language.specs.Positions.{rows};
+ghost use Rattle.language.specs.RowPositions.{rows};
 ghost use Rattle.paren_planner.specs.Costs.{capped};
 ghost use Rattle.paren_planner.specs.Noted.{Steps};
 ghost use Rattle.paren_planner.specs.Plans.{HasPlan, IsPlan};
 ghost use Rattle.paren_planner.specs.Rows.{table_rows};
 
-use crate::planned::Plan;
+use crate::cost_pass::cost_pass;
+use crate::step_walk::visit_node;
 use crate::steps::Step;
 use crate::table::CostTable;
-use crate::visits::visit_node;
-use crate::weighing::weigh_steps;
-use crate::wraps::wrap_steps;
-use chunks::Chunks;
-use positions::{Position, Slot};
+use crate::wrap_pass::wrap_pass;
+use crate::wrap_plan::Plan;
+use segmented_vec::SegmentedVec;
+use spellings::{Position, Slot};
 use std::alloc::{AllocError, Global};
 use tree::Program;
 
@@ -24,7 +24,7 @@ use tree::Program;
 #[derive(Drop)]
 struct Weights {
     /// The steps of a walk over it.
-    steps: Chunks<Step>,
+    steps: SegmentedVec<Step>,
     /// A row for each node that has one.
     table: CostTable,
     /// The number of pairs of the whole, where some number spells it.
@@ -36,13 +36,13 @@ fn weigh(alloc: Global, program: &Program) -> Result<Weights, AllocError>
     ensures total { IfOk result (λ w. w.total ≡ capped (least program.now script)) }
     ensures steps { IfOk result (λ w. Steps script (fixed script) program.now w.steps) }
 {
-    let mut steps = Chunks::new(alloc);
+    let mut steps = SegmentedVec::new(alloc);
     let above = Position::Script;
     let slot = Slot::Fixed(above);
     visit_node(program.root(), &above, &slot, false, &mut steps)?;
     let mut table = CostTable::new(alloc);
-    let sums = weigh_steps(alloc, &steps, &mut table)?;
-    let total = sums.with_in.any;
+    let sums = cost_pass(alloc, &steps, &mut table)?;
+    let total = sums.has_in.any;
     Ok(Weights {
         steps,
         table,
@@ -66,7 +66,7 @@ fn planned(
     let mut table = weights.table;
     table.set_total(total);
     let mut wrapped = Vec::with_capacity(alloc, table.row_count())?;
-    wrap_steps(alloc, &weights.steps, &table, &mut wrapped)?;
+    wrap_pass(alloc, &weights.steps, &table, &mut wrapped)?;
     Ok(Plan { table, wrapped })
 }
 

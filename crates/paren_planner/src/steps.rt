@@ -1,31 +1,31 @@
 //! The steps of a walk over a script: its nodes in source order, a node before its parts, and what the planner has to know of each.
 
 ghost use Rattle.std.specs.Prelude.{◌≡◌};
-ghost use Rattle.positions.specs.Outlines.{role_of, slot_of};
-ghost use Rattle.positions.specs.Spelled.{fits_outline};
-ghost use Rattle.positions.specs.Productions.{outline_of as outline_of_production};
+ghost use Rattle.spellings.specs.Outlines.{role_of, slot_of};
+ghost use Rattle.spellings.specs.Spelled.{fits_outline};
+ghost use Rattle.spellings.specs.Productions.{outline_of as outline_of_production};
 ghost use Rattle.paren_planner.specs.Steps.{label_of, outline_of, place_of, has_row_at, is_plain_outline, role_free, slot_free};
 
-use crate::weighed::{is_plain, widest};
-use grammar::position_takes;
+use crate::node_costs::{is_plain, widest};
+use grammar::accepts_rank;
 use language::Rank;
-use positions::{Opens, Outline, Position, Production, Slot, fits, settled};
+use spellings::{FirstToken, Outline, Position, Production, Slot, fits, resolve_slot};
 use tree::Kind;
 
 /// What a spelling asks of the position that it stands at.
 #[derive(Clone, Copy)]
-pub(crate) struct Label {
+pub(crate) struct SpellingNeeds {
     pub rank: Rank,
     pub needs_in: bool,
-    pub opens: Opens,
+    pub opens: FirstToken,
 }
 
-impl Label {
-    pub(crate) fn of(production: Production) -> Label
+impl SpellingNeeds {
+    pub(crate) fn of(production: Production) -> SpellingNeeds
         ensures { result ≡ label_of (outline_of_production production) }
     {
-        let asks = production.asks();
-        Label {
+        let asks = production.requirements();
+        SpellingNeeds {
             rank: asks.rank,
             needs_in: asks.needs_in,
             opens: asks.opens,
@@ -57,9 +57,9 @@ impl Label {
         match slot {
             Slot::Fixed(position) => self.stands_freely_at(position),
             Slot::Left(rank) | Slot::Lead(rank) | Slot::Tail(rank, _) => {
-                position_takes(rank, self.rank)
+                accepts_rank(rank, self.rank)
             }
-            Slot::Callee => position_takes(Rank::Member, self.rank),
+            Slot::Callee => accepts_rank(Rank::Member, self.rank),
             _ => true,
         }
     }
@@ -68,7 +68,7 @@ impl Label {
         ensures { result ≡ role_free (role_of position) self.rank }
     {
         match position {
-            Position::Expression { rank, .. } => position_takes(rank, self.rank),
+            Position::Expression { rank, .. } => accepts_rank(rank, self.rank),
             _ => true,
         }
     }
@@ -83,22 +83,22 @@ impl Label {
 
 /// A node, and where it stands.
 #[derive(Clone, Copy)]
-pub(crate) struct Visit {
+pub(crate) struct NodeStep {
     pub kind: Kind,
     /// The widest position of the node that it is a part of.
     pub above: Position,
     /// Where it stands in the spelling of that node.
     pub slot: Slot,
     /// None where it can't be spelled there.
-    pub label: Option<Label>,
+    pub label: Option<SpellingNeeds>,
 }
 
-impl Visit {
+impl NodeStep {
     /// Where the node stands, with all that its spelling may depend on left open.
     pub(crate) fn position(self) -> Position
         ensures { role_of result ≡ place_of self }
     {
-        widest(settled(self.above, self.slot))
+        widest(resolve_slot(self.above, self.slot))
     }
 
     /// Whether the node has a row: it stands at an expression's position.
@@ -124,8 +124,8 @@ pub(crate) fn has_row(slot: &Slot) -> bool
 #[derive(Clone, Copy)]
 pub(crate) enum Step {
     /// A name or a literal that has a row.
-    Word(Kind),
-    Leaf(Visit),
-    Enter(Visit),
+    Atom(Kind),
+    Leaf(NodeStep),
+    Enter(NodeStep),
     Leave,
 }

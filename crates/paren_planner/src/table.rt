@@ -1,16 +1,16 @@
 //! Cost tables.
 
 ghost use Rattle.std.specs.Prelude.{◌≡◌, ◌-◌, ◌≤◌, [], ◌∷◌, ◌++◌, length, reverse, slice_get, slice_index_or, OnOk, OnErr, IfSome};
-ghost use Rattle.positions.specs.Outlines.{role_of};
+ghost use Rattle.spellings.specs.Outlines.{role_of};
 ghost use Rattle.paren_planner.specs.Costs.{eight, of_cells};
 ghost use Rattle.paren_planner.specs.Packed.{shaped};
 ghost use Rattle.paren_planner.specs.Rows.{row_with};
 ghost use Rattle.paren_planner.specs.Weighed.{cost_of};
 
 use crate::costs::Costs;
-use crate::packed::Shape;
+use crate::packed_row::CellShape;
 use crate::packed_rows::PackedRows;
-use positions::Position;
+use spellings::Position;
 use std::alloc::{AllocError, Global};
 use tree::Kind;
 
@@ -58,7 +58,7 @@ impl CostTable {
     }
 
     /// One more row behind the others, of zeros in a shape.
-    pub(crate) fn push_free(&mut self, kind: Kind, shape: Shape) -> Result<(), AllocError>
+    pub(crate) fn push_free(&mut self, kind: Kind, shape: CellShape) -> Result<(), AllocError>
         ensures { OnOk result (self.new.rows.items ≡ self.old.rows.items ++ row_with kind (shaped shape 0) ∷ []) }
     {
         self.rows.push_shaped(kind, shape, 0u32)
@@ -72,11 +72,11 @@ impl CostTable {
     }
 
     /// The rows the other way round.
-    pub(crate) fn turn(&mut self)
+    pub(crate) fn reverse_rows(&mut self)
         ensures rows { self.new.rows.items ≡ reverse self.old.rows.items }
         ensures total { self.new.total ≡ self.old.total }
     {
-        self.rows.turn();
+        self.rows.reverse_rows();
     }
 
     /// Sets the number of all pairs.

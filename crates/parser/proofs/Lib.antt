@@ -1,2 +1,2 @@
 pub mod ShortTexts
-pub mod Refused
+pub mod Refusals

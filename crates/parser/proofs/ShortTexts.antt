@@ -6,9 +6,9 @@ use Rattle.source_text.specs.declared.fault.Fault.TheVariants.{TooDeep}
 use Rattle.tree.specs.declared.kind.Pair.{Pair}
 use Rattle.tree.specs.Tree.{Tree}
 use Rattle.language.specs.Claims.{DerivesOpen, WithinLimits, max_open, short_bytes}
-use Rattle.unambiguous.proofs.Heights.{short_fits}
-use Rattle.descent.specs.declared.script.Script.{Script}
-use Rattle.descent.specs.Scripts.{IsAnswered}
+use Rattle.unambiguity_laws.proofs.heights.Heights.{short_fits}
+use Rattle.recursive_descent.specs.declared.script.Script.{Script}
+use Rattle.recursive_descent.specs.Scripts.{IsAnswered}
 
 pub short_refused : (text : List ℕ) (r : Result Script Fault) → IsUtf8 text → length text < short_bytes → r ≡ Err TooDeep → IsAnswered text r →
     (o : ℕ) (n : Tree) (P : List Pair) → DerivesOpen o text n P → ⊥

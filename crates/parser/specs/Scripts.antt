@@ -6,7 +6,7 @@ use Rattle.tree.specs.Tree.{Tree, height}
 use Rattle.language.specs.Claims.{DerivesOpen, max_height, max_open}
 use Rattle.language.specs.Earlier.{EarlierDerivesOpen}
 use Rattle.parser.specs.declared.script.Parsed.{Parsed}
-use Rattle.descent.specs.Given.{Agrees}
+use Rattle.recursive_descent.specs.Completeness.{Agrees}
 
 -- For each derivation of the text, of any height and nesting, the answer is its tree with its pairs; a refusal is no syntax error, and it is too deep only
 -- where the derivation isn't within the limits.

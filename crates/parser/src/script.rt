@@ -1,15 +1,15 @@
 //! Whole scripts (ECMA-262 15.1).
-#![tactic(auto, using(phrases::proofs::Refused::refusals))]
+#![tactic(auto, using(parser_tables::proofs::Refusals::refusals))]
 
 ghost use Rattle.std.specs.Prelude.{◌≡◌, ◌≤◌, length, IfErr, IfOk};
 ghost use Rattle.std.specs.Str.{IsUtf8};
 ghost use Rattle.language.specs.Claims.{WithinLimits, short_bytes};
-ghost use Rattle.unambiguous.specs.Laws.{InOrder};
-ghost use Rattle.phrases.specs.Refusals.{IsRefusal};
+ghost use Rattle.unambiguity_laws.specs.Laws.{InOrder};
+ghost use Rattle.parser_tables.specs.Refusals.{IsRefusal};
 ghost use Rattle.parser.specs.Scripts.{IsAnswered, IsAnsweredAsBefore};
 
-use descent::{Script, read};
 use language::limits::SHORT_BYTES;
+use recursive_descent::{Script, read};
 use source_text::{Fault, Source};
 use std::alloc::Global;
 use tree::{Pair, Program};

@@ -6,7 +6,7 @@ use denote.Enum.Bare.{sameb}
 use Rattle.tree.specs.contracts.kind.Kind.{the_type}
 use Rattle.tree.specs.declared.kind.Kind.{Kind}
 use Rattle.tree.specs.declared.kind.Kind.TheVariants.{Identifier}
-use Rattle.language.specs.Words.{is_identifier}
+use Rattle.language.specs.Vocabulary.{is_identifier}
 use Rattle.printer.specs.Shapes.{is_single}
 
 pub same_as_identifier : (k : Kind) → sameb the_type k Identifier ≡ is_identifier k

@@ -6,7 +6,7 @@ use Rattle.tree.specs.declared.kind.Flags.{Flags}
 use Rattle.tree.specs.Tree.{Parts}
 use Rattle.printer.specs.declared.site.Site.{Site}
 use Rattle.printer.specs.declared.site.Site.TheVariants.{Row}
-use Rattle.printer.specs.declared.site.Seat.TheVariants.{AtPlain}
+use Rattle.printer.specs.declared.site.SiteRule.TheVariants.{AtPlain}
 use Rattle.printer.specs.Sites.{told_at, all_at, course_at, definition_course, statement_course}
 
 pub course_default : (kind : Kind) (x : Site) (g : Flags) (ps : Parts) →

@@ -9,50 +9,50 @@ use Rattle.tree.specs.declared.kind.Flags.{Flags}
 use Rattle.tree.specs.Tree.{Tree, node, Parts, none, part, gap, kind_of, flags_of, parts_of}
 use Rattle.language.specs.declared.Rank.TheVariants.{Expression, Assignment, Unary, Update, LeftHandSide, Call, Member, Primary}
 use Rattle.language.specs.declared.Start.TheVariants.{Any, NoBrace}
-use Rattle.language.specs.Words.{is, among, is_identifier, is_reserved, is_rest, is_pattern, is_target, is_super, is_step, is_prefix, is_assignment, is_name, is_string, literal_class}
+use Rattle.language.specs.Vocabulary.{is, among, is_identifier, is_reserved, is_rest, is_pattern, is_target, is_super, is_update_operator, is_prefix, is_assignment, is_name, is_string, literal_class}
 use Rattle.language.specs.Pieces as piece
 use Rattle.language.specs.Pieces.{Role, Slot, is_none}
 use Rattle.language.specs.Grammar.{ways}
-use Rattle.language.specs.Positions.{first_roles}
+use Rattle.language.specs.RowPositions.{first_roles}
 use Rattle.language.specs.Layout.{some_way}
 use Rattle.language.specs.Statements.{is_declaration}
-use Rattle.language.specs.Expressions.{first_chained}
+use Rattle.language.specs.Expressions.{first_has_optional}
 use Rattle.grammar.specs.declared.operators.Operation.{Operation}
 use Rattle.grammar.specs.declared.operators.Operation.TheVariants.{Binds, Powers}
 use Rattle.grammar.specs.Operations.{operation_at}
-use Rattle.positions.specs.declared.position.Position.{Position}
-use Rattle.positions.specs.declared.position.Position.TheVariants as at
-use Rattle.positions.specs.declared.position.Entry.{Entry}
-use Rattle.positions.specs.declared.position.Entry.TheVariants.{Past, Gap, Part}
-use Rattle.positions.specs.declared.position.Slot.TheVariants.{Fixed, Lead, Callee, LeadSpine, LeadPattern}
-use Rattle.positions.specs.declared.position.Slot.TheVariants as slot
-use Rattle.positions.specs.declared.outline.Front.TheVariants.{Zero, One, Two}
-use Rattle.positions.specs.declared.outline.Tail.{Tail}
-use Rattle.positions.specs.declared.outline.Tail.TheVariants as tail
-use Rattle.positions.specs.declared.outline.Outline.{Outline}
-use Rattle.positions.specs.Outlines.{role_of, slot_of, whole_at, bound_at, default_at, element_at, listed_at, tail_slots, going, before, leaf, fronted, lined}
-use Rattle.positions.specs.Entries.{entry_at, text_at, around}
-use Rattle.positions.specs.Expressions.{kind_at, is_past, assigned, function_outline, class_outline, expression_outline, binary_outline, logical_outline}
-use Rattle.positions.specs.Others.{leaf_if, is_chunk, is_key_class, name_outline, key_outline, quoted_outline, quasi_outline, form_outline, keyed_at, echo_outline, pattern_form_outline, defaulted, one_at, linked_by, getter_outline, setter_outline, set_at, plain_method_outline, method_of, fits_form}
-use Rattle.positions.specs.Statements.{is_part, for_outline, init_at, left_at, each_outline, if_outline, try_outline, switch_outline, word_outline, statement_outline, item_outline, opening_outline, opened_outline, named_only, initialised, bare_name, declared_outline, tested_outline, caught, caught_outline, declarators_outline}
-use Rattle.positions.specs.Positions.{outline_by, outline_at}
-use Rattle.positions.proofs.Ways.{position_ways}
+use Rattle.spellings.specs.declared.position.Position.{Position}
+use Rattle.spellings.specs.declared.position.Position.TheVariants as at
+use Rattle.spellings.specs.declared.position.PartAt.{PartAt}
+use Rattle.spellings.specs.declared.position.PartAt.TheVariants.{Past, Gap, Part}
+use Rattle.spellings.specs.declared.position.Slot.TheVariants.{Fixed, Lead, Callee, LeadSpine, LeadPattern}
+use Rattle.spellings.specs.declared.position.Slot.TheVariants as slot
+use Rattle.spellings.specs.declared.outline.FixedSlots.TheVariants.{Zero, One, Two}
+use Rattle.spellings.specs.declared.outline.ListSlots.{ListSlots}
+use Rattle.spellings.specs.declared.outline.ListSlots.TheVariants as tail
+use Rattle.spellings.specs.declared.outline.Outline.{Outline}
+use Rattle.spellings.specs.Outlines.{role_of, slot_of, whole_at, bound_at, default_at, element_at, listed_at, tail_slots, going, before, leaf, fronted, lined}
+use Rattle.spellings.specs.Entries.{entry_at, text_at, around}
+use Rattle.spellings.specs.Expressions.{kind_at, is_past, assigned, function_outline, class_outline, expression_outline, binary_outline, logical_outline}
+use Rattle.spellings.specs.Others.{leaf_if, is_chunk, is_key_class, name_outline, key_outline, quoted_outline, quasi_outline, form_outline, keyed_at, echo_outline, pattern_form_outline, defaulted, one_at, linked_by, getter_outline, setter_outline, set_at, plain_method_outline, method_of, fits_form}
+use Rattle.spellings.specs.Statements.{is_part, for_outline, init_at, left_at, each_outline, if_outline, try_outline, switch_outline, word_outline, statement_outline, item_outline, opening_outline, opened_outline, named_only, initialised, bare_name, declared_outline, tested_outline, caught, caught_outline, declarators_outline}
+use Rattle.spellings.specs.Positions.{outline_by, outline_at}
+use Rattle.spellings.proofs.Ways.{position_ways}
 use Rattle.printer.specs.declared.site.Site.TheVariants as site
-use Rattle.printer.specs.declared.site.Seat.{Seat}
-use Rattle.printer.specs.declared.site.Seat.TheVariants.{AtRow, AtLink, AtEcho, AtChunk, AtMethod, AtPlain, Told, Concise}
-use Rattle.printer.specs.declared.course.Course.{Course}
+use Rattle.printer.specs.declared.site.SiteRule.{SiteRule}
+use Rattle.printer.specs.declared.site.SiteRule.TheVariants.{AtRow, AtLink, AtEcho, AtChunk, AtMethod, AtPlain, Told, Concise}
+use Rattle.printer.specs.declared.part_sites.PartSites.{PartSites}
 use Rattle.printer.specs.Shapes.{has_part}
 use Rattle.printer.specs.Sites.{chunk_site, site_of, seated_at, all_at, first_at, before_all, key_seat, value_seat, property_course, element_seat, entry_seat, link_seat, class_course, evaluated_course, arrow_course, case_course, rest_of_for, for_course, course_at, CanStand, Stands}
-use Rattle.printer.proofs.Seating.{allowed, seat_told, chunk_seat, plain_seat}
-use Rattle.printer.proofs.Outlining.{allows, Seated, bound_seated, default_seated, element_seated, Suited, SlotsStand, OutlineStands, suited_stands, stands_by}
+use Rattle.printer.proofs.SiteRules.{allowed, seat_told, chunk_seat, plain_seat}
+use Rattle.printer.proofs.SitesByOutline.{allows, Seated, bound_seated, default_seated, element_seated, Suited, SlotsStand, OutlineStands, suited_stands, stands_by}
 
 -- By cases
 
-suited_if : (b : Bool) (c : Course) (u v : Option Outline) → Suited c u → Suited c v → Suited c (cond b u v)
+suited_if : (b : Bool) (c : PartSites) (u v : Option Outline) → Suited c u → Suited c v → Suited c (cond b u v)
 suited_if true c u v h k = h
 suited_if false c u v h k = k
 
-leaf_suited : (b : Bool) (c : Course) → Suited c (leaf_if b)
+leaf_suited : (b : Bool) (c : PartSites) → Suited c (leaf_if b)
 leaf_suited true c = refl
 leaf_suited false c = tt
 
@@ -65,12 +65,12 @@ part_there (gap ps) (suc i) = part_there ps i
 
 -- Expressions
 
-function_suited : (e : Entry) → Suited (all_at AtPlain) (function_outline e)
+function_suited : (e : PartAt) → Suited (all_at AtPlain) (function_outline e)
 function_suited Past = tt
 function_suited Gap = refl
 function_suited (Part k) = refl
 
-class_suited : (a b : Entry) → Suited (class_course (is_part a) (is_part b)) (class_outline a b)
+class_suited : (a b : PartAt) → Suited (class_course (is_part a) (is_part b)) (class_outline a b)
 class_suited Past b = tt
 class_suited Gap Past = tt
 class_suited Gap Gap = refl
@@ -82,14 +82,14 @@ class_suited (Part j) (Part k) = refl
 class_placed : (ps : Parts) → Suited (class_course (has_part ps 0) (has_part ps 1)) (class_outline (entry_at ps 0) (entry_at ps 1))
 class_placed ps = subst (λ c. Suited c (class_outline (entry_at ps 0) (entry_at ps 1))) (λ i. class_course (part_there ps 0 i) (part_there ps 1 i)) (class_suited (entry_at ps 0) (entry_at ps 1))
 
-member_suited : (o s c : Bool) → Suited (first_at Told (key_seat c)) (cond o None (Some (fronted Member (Two (cond s (Fixed at.Base) Callee) (Fixed (cond c whole_at at.Word))))))
+member_suited : (o s c : Bool) → Suited (first_at Told (key_seat c)) (cond o None (Some (fronted Member (Two (cond s (Fixed at.Super) Callee) (Fixed (cond c whole_at at.IdentifierName))))))
 member_suited true s c = tt
 member_suited false true true = refl
 member_suited false true false = refl
 member_suited false false true = refl
 member_suited false false false = refl
 
-call_suited : (o s : Bool) → Suited (first_at Told Told) (cond o None (Some (lined Call (One (cond s (Fixed at.Base) (Lead Call))) (tail.Arguments false) 1)))
+call_suited : (o s : Bool) → Suited (first_at Told Told) (cond o None (Some (lined Call (One (cond s (Fixed at.Super) (Lead Call))) (tail.Arguments false) 1)))
 call_suited true s = tt
 call_suited false true = refl
 call_suited false false = refl
@@ -129,7 +129,7 @@ chunks_stand a (part n none) = (λ c. chunk_seat n true c, tt)
 chunks_stand a (part n (gap ps)) = tt
 chunks_stand a (part n (part m ps)) = go (tail_slots (tail.Chunks false) ps) (chunks_stand a ps)
   where
-    go : (z : Option (List Slot)) → SlotsStand (all_at Told) a ps z → SlotsStand (all_at Told) a (part n (part m ps)) (before (slot_of (Fixed (at.Chunk false false))) (before (slot_of (Fixed whole_at)) z))
+    go : (z : Option (List Slot)) → SlotsStand (all_at Told) a ps z → SlotsStand (all_at Told) a (part n (part m ps)) (before (slot_of (Fixed (at.TemplateElement false false))) (before (slot_of (Fixed whole_at)) z))
     go None h = tt
     go (Some xs) h = (λ c. chunk_seat n false c, (λ c. seat_told Told (role_of whole_at) m (is_none ps) refl c, h))
 
@@ -140,13 +140,13 @@ template_stands a (part n none) = (λ c. refl, tt)
 template_stands a (part n (gap ps)) = tt
 template_stands a (part n (part m ps)) = go (tail_slots (tail.Chunks false) ps) (chunks_stand a ps)
   where
-    go : (z : Option (List Slot)) → SlotsStand (all_at Told) a ps z → SlotsStand (first_at AtChunk Told) a (part n (part m ps)) (before (slot_of (Fixed (at.Chunk true false))) (before (slot_of (Fixed whole_at)) z))
+    go : (z : Option (List Slot)) → SlotsStand (all_at Told) a ps z → SlotsStand (first_at AtChunk Told) a (part n (part m ps)) (before (slot_of (Fixed (at.TemplateElement true false))) (before (slot_of (Fixed whole_at)) z))
     go None h = tt
     go (Some xs) h = (λ c. refl, (λ c. seat_told Told (role_of whole_at) m (is_none ps) refl c, h))
 
 -- Arrows whose body is an expression
 
-abbrev concise_tail : Tail
+abbrev concise_tail : ListSlots
 concise_tail = tail.Parameters (slot.Tail Assignment NoBrace)
 
 parameter_stands : (a : Role) (n : Tree) (us : Parts) (q : Option Position) (k : Kind) (l : Bool) → is_none us ≡ false → Seated AtPlain q → SlotsStand (all_at Concise) a us (tail_slots concise_tail us) →
@@ -174,7 +174,7 @@ arrow_stands true a ps = concise_stands a ps
 arrow_stands false a ps = suited_stands (all_at AtPlain) a ps (Some (lined Assignment Zero (tail.Parameters (Fixed at.Body)) 0)) refl
 
 module _ (a : Role) (w : List ℕ) (g : Flags) (ps : Parts) where
-  by : (c : Course) (o : Option Outline) → Suited c o → OutlineStands c a ps o
+  by : (c : PartSites) (o : Option Outline) → Suited c o → OutlineStands c a ps o
   by c o h = suited_stands c a ps o h
 
   at_row : (k : Kind) → Suited (course_at site.Row k g ps) (expression_outline k w g (around ps)) → OutlineStands (course_at site.Row k g ps) a ps (expression_outline k w g (around ps))
@@ -194,10 +194,10 @@ module _ (a : Role) (w : List ℕ) (g : Flags) (ps : Parts) where
   expression_stands kind.MemberExpression = at_row kind.MemberExpression (member_suited g.optional (is_super (kind_at (entry_at ps 0))) g.computed)
   expression_stands kind.CallExpression = at_row kind.CallExpression (call_suited g.optional (is_super (kind_at (entry_at ps 0))))
   expression_stands kind.NewExpression = at_row kind.NewExpression refl
-  expression_stands kind.MetaProperty = at_row kind.MetaProperty (suited_if (is (text_at ps 0) "new" && is (text_at ps 1) "target") (all_at AtPlain) (Some (fronted Member (Two (Fixed at.Word) (Fixed at.Word)))) None refl tt)
+  expression_stands kind.MetaProperty = at_row kind.MetaProperty (suited_if (is (text_at ps 0) "new" && is (text_at ps 1) "target") (all_at AtPlain) (Some (fronted Member (Two (Fixed at.IdentifierName) (Fixed at.IdentifierName)))) None refl tt)
   expression_stands kind.ImportExpression = at_row kind.ImportExpression refl
-  expression_stands kind.ChainExpression = at_row kind.ChainExpression (suited_if (first_chained ps) (all_at AtLink) (Some (fronted LeftHandSide (One LeadSpine))) None refl tt)
-  expression_stands kind.UpdateExpression = at_row kind.UpdateExpression (step_suited (is_step w && is_target (kind_at (entry_at ps 0))) g.prefix)
+  expression_stands kind.ChainExpression = at_row kind.ChainExpression (suited_if (first_has_optional ps) (all_at AtLink) (Some (fronted LeftHandSide (One LeadSpine))) None refl tt)
+  expression_stands kind.UpdateExpression = at_row kind.UpdateExpression (step_suited (is_update_operator w && is_target (kind_at (entry_at ps 0))) g.prefix)
   expression_stands kind.UnaryExpression = at_row kind.UnaryExpression (suited_if (is_prefix w) (all_at AtRow) (Some (fronted Unary (One (Fixed (at.Expression Unary true Any))))) None refl tt)
   expression_stands kind.BinaryExpression = at_row kind.BinaryExpression (binary_suited w (operation_at w))
   expression_stands kind.LogicalExpression = at_row kind.LogicalExpression (logical_suited w (operation_at w))
@@ -208,7 +208,7 @@ module _ (a : Role) (w : List ℕ) (g : Flags) (ps : Parts) where
 
   -- Chains
 
-  member_link_suited : (b o c : Bool) → Suited (first_at (link_seat o b) (key_seat c)) (linked_by b o (fronted Primary (Two LeadSpine (Fixed (cond c whole_at at.Word)))) (fronted Primary (Two (Lead Call) (Fixed (cond c whole_at at.Word)))))
+  member_link_suited : (b o c : Bool) → Suited (first_at (link_seat o b) (key_seat c)) (linked_by b o (fronted Primary (Two LeadSpine (Fixed (cond c whole_at at.IdentifierName)))) (fronted Primary (Two (Lead Call) (Fixed (cond c whole_at at.IdentifierName)))))
   member_link_suited true true true = refl
   member_link_suited true true false = refl
   member_link_suited true false true = refl
@@ -223,23 +223,23 @@ module _ (a : Role) (w : List ℕ) (g : Flags) (ps : Parts) where
   call_link_suited false true = refl
   call_link_suited false false = tt
 
-  spine_stands : (k : Kind) → OutlineStands (course_at site.Link k g ps) a ps (Rattle.positions.specs.Others.spine_outline k g (first_chained ps))
-  spine_stands kind.MemberExpression = by _ _ (member_link_suited (first_chained ps) g.optional g.computed)
-  spine_stands kind.CallExpression = by _ _ (call_link_suited (first_chained ps) g.optional)
+  spine_stands : (k : Kind) → OutlineStands (course_at site.ChainPart k g ps) a ps (Rattle.spellings.specs.Others.spine_outline k g (first_has_optional ps))
+  spine_stands kind.MemberExpression = by _ _ (member_link_suited (first_has_optional ps) g.optional g.computed)
+  spine_stands kind.CallExpression = by _ _ (call_link_suited (first_has_optional ps) g.optional)
   spine_stands _ = tt
 
   -- Names, keys and the like
 
-  name_stands : (c : Course) (k : Kind) → OutlineStands c a ps (name_outline k w)
+  name_stands : (c : PartSites) (k : Kind) → OutlineStands c a ps (name_outline k w)
   name_stands c kind.Identifier = by c (name_outline kind.Identifier w) (leaf_suited (not (is_reserved w)) c)
   name_stands c _ = tt
 
-  key_stands : (c : Course) (k : Kind) → OutlineStands c a ps (key_outline k w)
+  key_stands : (c : PartSites) (k : Kind) → OutlineStands c a ps (key_outline k w)
   key_stands c kind.Identifier = by c (Some (leaf Primary)) refl
   key_stands c kind.Literal = by c (key_outline kind.Literal w) (leaf_suited (is_key_class (literal_class w)) c)
   key_stands c _ = tt
 
-  quoted_stands : (c : Course) (k : Kind) → OutlineStands c a ps (quoted_outline k w)
+  quoted_stands : (c : PartSites) (k : Kind) → OutlineStands c a ps (quoted_outline k w)
   quoted_stands c kind.Literal = by c (quoted_outline kind.Literal w) (leaf_suited (is_string (literal_class w)) c)
   quoted_stands c _ = tt
 
@@ -249,7 +249,7 @@ module _ (a : Role) (w : List ℕ) (g : Flags) (ps : Parts) where
 
   -- Properties
 
-  keyed_suited : (s : Seat) (b : Bool) (o : Option Position) → Seated s o → Suited (first_at (key_seat b) s) (keyed_at b o)
+  keyed_suited : (s : SiteRule) (b : Bool) (o : Option Position) → Seated s o → Suited (first_at (key_seat b) s) (keyed_at b o)
   keyed_suited s b None h = tt
   keyed_suited s true (Some q) h = ap (λ u. u && true) h
   keyed_suited s false (Some q) h = ap (λ u. u && true) h
@@ -266,7 +266,7 @@ module _ (a : Role) (w : List ℕ) (g : Flags) (ps : Parts) where
   property_suited b form.Shorthand = echo_suited b at.Name refl
   property_suited b form.Constructor = tt
 
-  shorthand_suited : (b : Bool) (k : Kind) → Suited (first_at AtEcho AtPlain) (Rattle.positions.specs.Others.shorthand_outline b k)
+  shorthand_suited : (b : Bool) (k : Kind) → Suited (first_at AtEcho AtPlain) (Rattle.spellings.specs.Others.shorthand_outline b k)
   shorthand_suited b kind.Identifier = echo_suited b at.Name refl
   shorthand_suited b kind.AssignmentPattern = echo_suited b (at.Element true) refl
   shorthand_suited b _ = tt
@@ -280,48 +280,48 @@ module _ (a : Role) (w : List ℕ) (g : Flags) (ps : Parts) where
   pattern_property_suited b c form.Set k = tt
   pattern_property_suited b c form.Constructor k = tt
 
-  property_stands : (k : Kind) → OutlineStands (course_at site.Entry k g ps) a ps (Rattle.positions.specs.Others.property_outline k g)
+  property_stands : (k : Kind) → OutlineStands (course_at site.Entry k g ps) a ps (Rattle.spellings.specs.Others.property_outline k g)
   property_stands kind.Property = by _ _ (property_suited g.computed g.form)
   property_stands _ = tt
 
-  pattern_property_stands : (b : Bool) (k : Kind) → OutlineStands (course_at (site_of (piece.pattern_property b)) k g ps) a ps (Rattle.positions.specs.Others.pattern_property_outline b k g (kind_at (entry_at ps 1)))
+  pattern_property_stands : (b : Bool) (k : Kind) → OutlineStands (course_at (site_of (piece.pattern_property b)) k g ps) a ps (Rattle.spellings.specs.Others.pattern_property_outline b k g (kind_at (entry_at ps 1)))
   pattern_property_stands b kind.Property = by _ _ (pattern_property_suited b g.computed g.form (kind_at (entry_at ps 1)))
   pattern_property_stands b _ = tt
 
-  spread_stands : (k : Kind) → OutlineStands (course_at site.Entry k g ps) a ps (Rattle.positions.specs.Others.spread_outline k)
+  spread_stands : (k : Kind) → OutlineStands (course_at site.Entry k g ps) a ps (Rattle.spellings.specs.Others.spread_outline k)
   spread_stands kind.SpreadElement = by _ (Some (fronted Primary (One (Fixed (at.Expression Assignment true Any))))) refl
   spread_stands _ = tt
 
   -- Patterns
 
-  pattern_stands : (b : Bool) (k : Kind) → OutlineStands (course_at (site_of (piece.pattern b Any)) k g ps) a ps (Rattle.positions.specs.Others.pattern_outline b k)
+  pattern_stands : (b : Bool) (k : Kind) → OutlineStands (course_at (site_of (piece.pattern b Any)) k g ps) a ps (Rattle.spellings.specs.Others.pattern_outline b k)
   pattern_stands true kind.ArrayPattern = by _ (Some (lined Primary Zero (tail.PatternElements true) 0)) refl
   pattern_stands false kind.ArrayPattern = by _ (Some (lined Primary Zero (tail.PatternElements false) 0)) refl
-  pattern_stands true kind.ObjectPattern = by _ (Rattle.positions.specs.Others.pattern_outline true kind.ObjectPattern) refl
-  pattern_stands false kind.ObjectPattern = by _ (Rattle.positions.specs.Others.pattern_outline false kind.ObjectPattern) refl
+  pattern_stands true kind.ObjectPattern = by _ (Rattle.spellings.specs.Others.pattern_outline true kind.ObjectPattern) refl
+  pattern_stands false kind.ObjectPattern = by _ (Rattle.spellings.specs.Others.pattern_outline false kind.ObjectPattern) refl
   pattern_stands b _ = tt
 
-  defaulted_suited : (s : Seat) (o : Option Position) → Seated s o → Suited (first_at s AtRow) (defaulted o)
+  defaulted_suited : (s : SiteRule) (o : Option Position) → Seated s o → Suited (first_at s AtRow) (defaulted o)
   defaulted_suited s None h = tt
   defaulted_suited s (Some q) h = ap (λ u. u && true) h
 
-  element_stands : (b : Bool) (k : Kind) → OutlineStands (course_at (site_of (piece.element b)) k g ps) a ps (Rattle.positions.specs.Others.element_outline b k (kind_at (entry_at ps 0)))
+  element_stands : (b : Bool) (k : Kind) → OutlineStands (course_at (site_of (piece.element b)) k g ps) a ps (Rattle.spellings.specs.Others.element_outline b k (kind_at (entry_at ps 0)))
   element_stands true kind.AssignmentPattern = by _ _ (defaulted_suited AtPlain (bound_at true (kind_at (entry_at ps 0))) (bound_seated AtPlain true _ refl))
   element_stands false kind.AssignmentPattern = by _ _ (defaulted_suited Told (bound_at false (kind_at (entry_at ps 0))) (bound_seated Told false _ refl))
   element_stands b _ = tt
 
-  one_suited : (s : Seat) (o : Option Position) → Seated s o → Suited (all_at s) (one_at o)
+  one_suited : (s : SiteRule) (o : Option Position) → Seated s o → Suited (all_at s) (one_at o)
   one_suited s None h = tt
   one_suited s (Some q) h = ap (λ u. u && true) h
 
-  rest_stands : (b o : Bool) (k : Kind) → OutlineStands (course_at (site_of (piece.rest b o)) k g ps) a ps (Rattle.positions.specs.Others.rest_outline b o k (kind_at (entry_at ps 0)))
+  rest_stands : (b o : Bool) (k : Kind) → OutlineStands (course_at (site_of (piece.rest b o)) k g ps) a ps (Rattle.spellings.specs.Others.rest_outline b o k (kind_at (entry_at ps 0)))
   rest_stands true o kind.RestElement = by (all_at AtPlain) (cond (o && is_pattern (kind_at (entry_at ps 0))) None (one_at (bound_at true (kind_at (entry_at ps 0))))) (suited_if (o && is_pattern (kind_at (entry_at ps 0))) (all_at AtPlain) None (one_at (bound_at true (kind_at (entry_at ps 0)))) tt (one_suited AtPlain (bound_at true (kind_at (entry_at ps 0))) (bound_seated AtPlain true _ refl)))
   rest_stands false o kind.RestElement = by (all_at Told) (cond (o && is_pattern (kind_at (entry_at ps 0))) None (one_at (bound_at false (kind_at (entry_at ps 0))))) (suited_if (o && is_pattern (kind_at (entry_at ps 0))) (all_at Told) None (one_at (bound_at false (kind_at (entry_at ps 0)))) tt (one_suited Told (bound_at false (kind_at (entry_at ps 0))) (bound_seated Told false _ refl)))
   rest_stands b o _ = tt
 
   -- Methods and members
 
-  getter_suited : (d e h : Entry) → Suited (all_at AtPlain) (getter_outline d e h)
+  getter_suited : (d e h : PartAt) → Suited (all_at AtPlain) (getter_outline d e h)
   getter_suited Gap (Part k) Past = refl
   getter_suited Gap (Part k) Gap = tt
   getter_suited Gap (Part k) (Part j) = tt
@@ -334,7 +334,7 @@ module _ (a : Role) (w : List ℕ) (g : Flags) (ps : Parts) where
   set_suited None h = tt
   set_suited (Some q) h = ap (λ u. u && true) h
 
-  setter_suited : (d e h j : Entry) → Suited (all_at AtPlain) (setter_outline d e h j)
+  setter_suited : (d e h j : PartAt) → Suited (all_at AtPlain) (setter_outline d e h j)
   setter_suited Gap (Part k) (Part j) Past = suited_if (is_rest k) (all_at AtPlain) None (set_at (default_at true k)) tt (set_suited (default_at true k) (default_seated AtPlain true k refl))
   setter_suited Gap (Part k) (Part j) Gap = tt
   setter_suited Gap (Part k) (Part j) (Part i) = tt
@@ -345,12 +345,12 @@ module _ (a : Role) (w : List ℕ) (g : Flags) (ps : Parts) where
   setter_suited Past e h j = tt
   setter_suited (Part k) e h j = tt
 
-  plain_method_suited : (e : Entry) → Suited (all_at AtPlain) (plain_method_outline e)
+  plain_method_suited : (e : PartAt) → Suited (all_at AtPlain) (plain_method_outline e)
   plain_method_suited Gap = refl
   plain_method_suited Past = tt
   plain_method_suited (Part k) = tt
 
-  method_suited : (x : Form) → Suited (all_at AtPlain) (Rattle.positions.specs.Others.form_method_outline x (around ps))
+  method_suited : (x : Form) → Suited (all_at AtPlain) (Rattle.spellings.specs.Others.form_method_outline x (around ps))
   method_suited form.Get = getter_suited (entry_at ps 0) (entry_at ps 1) (entry_at ps 2)
   method_suited form.Set = setter_suited (entry_at ps 0) (entry_at ps 1) (entry_at ps 2) (entry_at ps 3)
   method_suited form.Init = plain_method_suited (entry_at ps 0)
@@ -358,7 +358,7 @@ module _ (a : Role) (w : List ℕ) (g : Flags) (ps : Parts) where
   method_suited form.Shorthand = plain_method_suited (entry_at ps 0)
   method_suited form.Constructor = plain_method_suited (entry_at ps 0)
 
-  method_stands : (x : Form) (k : Kind) → OutlineStands (course_at site.Method k g ps) a ps (Rattle.positions.specs.Others.method_outline x k (around ps))
+  method_stands : (x : Form) (k : Kind) → OutlineStands (course_at site.Method k g ps) a ps (Rattle.spellings.specs.Others.method_outline x k (around ps))
   method_stands x kind.FunctionExpression = by _ _ (method_suited x)
   method_stands x _ = tt
 
@@ -370,7 +370,7 @@ module _ (a : Role) (w : List ℕ) (g : Flags) (ps : Parts) where
   method_of_suited b form.Shorthand = keyed_suited AtMethod b (Some (at.Method form.Method)) refl
   method_of_suited b form.Constructor = keyed_suited AtMethod b (Some (at.Method form.Method)) refl
 
-  member_stands : (k : Kind) → OutlineStands (course_at site.Plain k g ps) a ps (Rattle.positions.specs.Others.member_outline k g (around ps))
+  member_stands : (k : Kind) → OutlineStands (course_at site.Plain k g ps) a ps (Rattle.spellings.specs.Others.member_outline k g (around ps))
   member_stands kind.MethodDefinition = by _ _ (suited_if (fits_form _ g.form) (first_at (key_seat g.computed) AtMethod) (method_of g.computed g.form) None (method_of_suited g.computed g.form) tt)
   member_stands _ = tt
 
@@ -383,12 +383,12 @@ module _ (a : Role) (w : List ℕ) (g : Flags) (ps : Parts) where
       four e = ap (λ v. v && (v && (v && v))) e
   declaration_suited false q h = tt
 
-  word_suited : (s : Seat) (e : Entry) (q : Position) → allowed s (role_of q) ≡ true → Suited (all_at s) (word_outline e q)
+  word_suited : (s : SiteRule) (e : PartAt) (q : Position) → allowed s (role_of q) ≡ true → Suited (all_at s) (word_outline e q)
   word_suited s Past q h = tt
   word_suited s Gap q h = refl
   word_suited s (Part k) q h = ap (λ u. u && true) h
 
-  if_suited : (r d : Bool) (e h i j : Entry) → Suited (first_at AtRow AtPlain) (if_outline r d e h i j)
+  if_suited : (r d : Bool) (e h i j : PartAt) → Suited (first_at AtRow AtPlain) (if_outline r d e h i j)
   if_suited r d (Part k) (Part l) Gap Past = refl
   if_suited r true (Part k) (Part l) (Part m) Past = tt
   if_suited r false (Part k) (Part l) (Part m) Past = refl
@@ -402,7 +402,7 @@ module _ (a : Role) (w : List ℕ) (g : Flags) (ps : Parts) where
   if_suited r d Past h i j = tt
   if_suited r d Gap h i j = tt
 
-  try_suited : (r : Bool) (e h i j : Entry) → Suited (all_at AtPlain) (try_outline r e h i j)
+  try_suited : (r : Bool) (e h i j : PartAt) → Suited (all_at AtPlain) (try_outline r e h i j)
   try_suited r (Part k) (Part l) Gap Past = refl
   try_suited r (Part k) (Part l) (Part m) Past = refl
   try_suited r (Part k) Gap (Part m) Past = refl
@@ -422,11 +422,11 @@ module _ (a : Role) (w : List ℕ) (g : Flags) (ps : Parts) where
   init_allowed : (k : Kind) → allows Told (slot_of (init_at k)) ≡ true
   init_allowed k = of (is_declaration k)
     where
-      of : (b : Bool) → allowed Told (role_of (cond b (at.Head true) (at.Expression Expression false Any))) ≡ true
+      of : (b : Bool) → allowed Told (role_of (cond b (at.ForDeclaration true) (at.Expression Expression false Any))) ≡ true
       of true = refl
       of false = refl
 
-  for_suited : (r : Bool) (d e h : Entry) → Suited (for_course (is_part d) (is_part e) (is_part h)) (for_outline r d e h)
+  for_suited : (r : Bool) (d e h : PartAt) → Suited (for_course (is_part d) (is_part e) (is_part h)) (for_outline r d e h)
   for_suited r Past e h = tt
   for_suited r Gap Past h = tt
   for_suited r Gap Gap Past = tt
@@ -449,7 +449,7 @@ module _ (a : Role) (w : List ℕ) (g : Flags) (ps : Parts) where
   left_seated : (k : Kind) → Seated Told (left_at k)
   left_seated k = of (is_declaration k)
     where
-      of : (b : Bool) → Seated Told (cond b (Some (at.Head false)) (bound_at false k))
+      of : (b : Bool) → Seated Told (cond b (Some (at.ForDeclaration false)) (bound_at false k))
       of true = refl
       of false = bound_seated Told false k refl
 
@@ -467,7 +467,7 @@ module _ (a : Role) (w : List ℕ) (g : Flags) (ps : Parts) where
   statement_suited r kind.EmptyStatement = refl
   statement_suited r kind.ExpressionStatement = of g.directive
     where
-      of : (b : Bool) → Suited (evaluated_course b) (cond b None (Rattle.positions.specs.Statements.one Rattle.positions.specs.Statements.evaluated))
+      of : (b : Bool) → Suited (evaluated_course b) (cond b None (Rattle.spellings.specs.Statements.one Rattle.spellings.specs.Statements.evaluated))
       of true = tt
       of false = refl
   statement_suited r kind.ContinueStatement = word_suited AtPlain (entry_at ps 0) at.Name refl
@@ -487,7 +487,7 @@ module _ (a : Role) (w : List ℕ) (g : Flags) (ps : Parts) where
   statement_suited r kind.ForOfStatement = each_suited r (left_at (kind_at (entry_at ps 0))) (at.Expression Assignment true Any) refl (left_seated _)
   statement_suited r _ = tt
 
-  named_suited : (c : Course) (e : Entry) (o : Option Outline) → Suited c o → Suited c (named_only e o)
+  named_suited : (c : PartSites) (e : PartAt) (o : Option Outline) → Suited c o → Suited c (named_only e o)
   named_suited c Past o h = tt
   named_suited c Gap o h = tt
   named_suited c (Part k) o h = h
@@ -508,7 +508,7 @@ module _ (a : Role) (w : List ℕ) (g : Flags) (ps : Parts) where
   opening_suited r kind.ExpressionStatement = opened_suited g.directive _
   opening_suited r k = item_suited r k
 
-  head_suited : (b : Bool) (k : Kind) → Suited (course_at site.Head k g ps) (Rattle.positions.specs.Statements.head_outline b k w (around ps))
+  head_suited : (b : Bool) (k : Kind) → Suited (course_at site.ForDeclaration k g ps) (Rattle.spellings.specs.Statements.head_outline b k w (around ps))
   head_suited b kind.VariableDeclaration = declaration_suited _ (at.Declarator false b) refl
   head_suited b _ = tt
 
@@ -520,7 +520,7 @@ module _ (a : Role) (w : List ℕ) (g : Flags) (ps : Parts) where
   bare_suited None h = tt
   bare_suited (Some q) h = ap (λ u. u && true) h
 
-  declared_suited : (i b : Bool) (d e h : Entry) → Suited (first_at AtPlain AtRow) (declared_outline i b d e h)
+  declared_suited : (i b : Bool) (d e h : PartAt) → Suited (first_at AtPlain AtRow) (declared_outline i b d e h)
   declared_suited i b (Part k) (Part j) Past = suited_if b (first_at AtPlain AtRow) _ None (initialised_suited i (bound_at true k) (bound_seated AtPlain true k refl)) tt
   declared_suited i b (Part k) Gap Past = suited_if _ (first_at AtPlain AtRow) None _ tt (bare_suited (bound_at true k) (bound_seated AtPlain true k refl))
   declared_suited i b (Part k) (Part j) Gap = tt
@@ -531,16 +531,16 @@ module _ (a : Role) (w : List ℕ) (g : Flags) (ps : Parts) where
   declared_suited i b Past e h = tt
   declared_suited i b Gap e h = tt
 
-  declarator_suited : (i b : Bool) (k : Kind) → Suited (course_at site.Plain k g ps) (Rattle.positions.specs.Statements.declarator_outline i b k (around ps))
+  declarator_suited : (i b : Bool) (k : Kind) → Suited (course_at site.Plain k g ps) (Rattle.spellings.specs.Statements.declarator_outline i b k (around ps))
   declarator_suited i b kind.VariableDeclarator = declared_suited i b (entry_at ps 0) (entry_at ps 1) (entry_at ps 2)
   declarator_suited i b _ = tt
 
-  tested_suited : (r : Bool) (e : Entry) → Suited (case_course (is_part e)) (tested_outline r e)
+  tested_suited : (r : Bool) (e : PartAt) → Suited (case_course (is_part e)) (tested_outline r e)
   tested_suited r Past = tt
   tested_suited r Gap = refl
   tested_suited r (Part k) = refl
 
-  case_suited : (r : Bool) (k : Kind) → Suited (course_at site.Plain k g ps) (Rattle.positions.specs.Statements.case_outline r k (around ps))
+  case_suited : (r : Bool) (k : Kind) → Suited (course_at site.Plain k g ps) (Rattle.spellings.specs.Statements.case_outline r k (around ps))
   case_suited r kind.SwitchCase = subst (λ b. Suited (case_course b) (tested_outline r (entry_at ps 0))) (part_there ps 0) (tested_suited r (entry_at ps 0))
   case_suited r _ = tt
 
@@ -548,28 +548,28 @@ module _ (a : Role) (w : List ℕ) (g : Flags) (ps : Parts) where
   caught_suited r None h = tt
   caught_suited r (Some q) h = ap (λ u. u && true) h
 
-  handled_suited : (r : Bool) (e : Entry) → Suited (all_at AtPlain) (caught_outline r e)
+  handled_suited : (r : Bool) (e : PartAt) → Suited (all_at AtPlain) (caught_outline r e)
   handled_suited r Past = tt
   handled_suited r Gap = refl
   handled_suited r (Part k) = caught_suited r (bound_at true k) (bound_seated AtPlain true k refl)
 
-  handler_suited : (r : Bool) (k : Kind) → Suited (course_at site.Plain k g ps) (Rattle.positions.specs.Statements.handler_outline r k (around ps))
+  handler_suited : (r : Bool) (k : Kind) → Suited (course_at site.Plain k g ps) (Rattle.spellings.specs.Statements.handler_outline r k (around ps))
   handler_suited r kind.CatchClause = handled_suited r (entry_at ps 0)
   handler_suited r _ = tt
 
-  block_suited : (r : Bool) (k : Kind) → Suited (course_at site.Plain k g ps) (Rattle.positions.specs.Statements.block_outline r k)
+  block_suited : (r : Bool) (k : Kind) → Suited (course_at site.Plain k g ps) (Rattle.spellings.specs.Statements.block_outline r k)
   block_suited r kind.BlockStatement = refl
   block_suited r _ = tt
 
-  body_suited : (k : Kind) → Suited (course_at site.Plain k g ps) (Rattle.positions.specs.Statements.body_outline k)
+  body_suited : (k : Kind) → Suited (course_at site.Plain k g ps) (Rattle.spellings.specs.Statements.body_outline k)
   body_suited kind.BlockStatement = refl
   body_suited _ = tt
 
-  script_suited : (k : Kind) → Suited (course_at site.Plain k g ps) (Rattle.positions.specs.Statements.script_outline k)
+  script_suited : (k : Kind) → Suited (course_at site.Plain k g ps) (Rattle.spellings.specs.Statements.script_outline k)
   script_suited kind.Program = refl
   script_suited _ = tt
 
-  class_body_suited : (k : Kind) → Suited (course_at site.Plain k g ps) (Rattle.positions.specs.Others.class_body_outline k)
+  class_body_suited : (k : Kind) → Suited (course_at site.Plain k g ps) (Rattle.spellings.specs.Others.class_body_outline k)
   class_body_suited kind.ClassBody = refl
   class_body_suited _ = tt
 
@@ -579,15 +579,15 @@ suited_at p k w g ps h = suited_stands (course_at (site_of (role_of p)) k g ps) 
 
 table_stands : (p : Position) (k : Kind) (w : List ℕ) (g : Flags) (ps : Parts) → OutlineStands (course_at (site_of (role_of p)) k g ps) (role_of p) ps (outline_by p k w g (around ps))
 table_stands (at.Expression y i f) k w g ps = expression_stands (piece.expr y i f) w g ps k
-table_stands (at.Spine f) k w g ps = spine_stands (piece.spine f) w g ps k
+table_stands (at.ChainPart f) k w g ps = spine_stands (piece.chain_part f) w g ps k
 table_stands at.Name k w g ps = name_stands piece.name w g ps (course_at site.Plain k g ps) k
-table_stands at.Word k w g ps = suited_at at.Word k w g ps (leaf_suited (is_identifier k) (course_at site.Plain k g ps))
-table_stands at.Key k w g ps = key_stands piece.key w g ps (course_at site.Plain k g ps) k
-table_stands at.Echo k w g ps = suited_at at.Echo k w g ps (leaf_suited (is_identifier k) (course_at site.Echo k g ps))
-table_stands at.Base k w g ps = suited_at at.Base k w g ps (leaf_suited (is_super k) (course_at site.Plain k g ps))
-table_stands at.Quoted k w g ps = quoted_stands piece.quoted w g ps (course_at site.Plain k g ps) k
-table_stands at.Quasi k w g ps = quasi_stands piece.quasi w g ps k
-table_stands (at.Chunk a b) k w g ps = suited_at (at.Chunk a b) k w g ps (leaf_suited (is_chunk k) (course_at (chunk_site a b) k g ps))
+table_stands at.IdentifierName k w g ps = suited_at at.IdentifierName k w g ps (leaf_suited (is_identifier k) (course_at site.Plain k g ps))
+table_stands at.PropertyName k w g ps = key_stands piece.key w g ps (course_at site.Plain k g ps) k
+table_stands at.ShorthandKey k w g ps = suited_at at.ShorthandKey k w g ps (leaf_suited (is_identifier k) (course_at site.ShorthandKey k g ps))
+table_stands at.Super k w g ps = suited_at at.Super k w g ps (leaf_suited (is_super k) (course_at site.Plain k g ps))
+table_stands at.DirectiveString k w g ps = quoted_stands piece.directive_string w g ps (course_at site.Plain k g ps) k
+table_stands at.TaggedQuasi k w g ps = quasi_stands piece.tagged_quasi w g ps k
+table_stands (at.TemplateElement a b) k w g ps = suited_at (at.TemplateElement a b) k w g ps (leaf_suited (is_chunk k) (course_at (chunk_site a b) k g ps))
 table_stands at.Spread k w g ps = spread_stands piece.spread w g ps k
 table_stands at.Property k w g ps = property_stands piece.property w g ps k
 table_stands (at.Pattern true f) k w g ps = pattern_stands (piece.pattern true f) w g ps true k
@@ -599,13 +599,13 @@ table_stands (at.Rest false o) k w g ps = rest_stands (piece.rest false o) w g p
 table_stands (at.Method x) k w g ps = method_stands (piece.method x) w g ps x k
 table_stands at.Body k w g ps = suited_at at.Body k w g ps (body_suited piece.body w g ps k)
 table_stands (at.Statement r) k w g ps = suited_at (at.Statement r) k w g ps (statement_suited (piece.statement r) w g ps r k)
-table_stands (at.Item r) k w g ps = suited_at (at.Item r) k w g ps (item_suited (piece.item r) w g ps r k)
-table_stands (at.Opening r) k w g ps = suited_at (at.Opening r) k w g ps (opening_suited (piece.opening r) w g ps r k)
+table_stands (at.StatementListItem r) k w g ps = suited_at (at.StatementListItem r) k w g ps (item_suited (piece.item r) w g ps r k)
+table_stands (at.PrologueItem r) k w g ps = suited_at (at.PrologueItem r) k w g ps (opening_suited (piece.opening r) w g ps r k)
 table_stands (at.Block r) k w g ps = suited_at (at.Block r) k w g ps (block_suited (piece.block r) w g ps r k)
-table_stands (at.Head b) k w g ps = suited_at (at.Head b) k w g ps (head_suited (piece.head b) w g ps b k)
+table_stands (at.ForDeclaration b) k w g ps = suited_at (at.ForDeclaration b) k w g ps (head_suited (piece.head b) w g ps b k)
 table_stands (at.Declarator i b) k w g ps = suited_at (at.Declarator i b) k w g ps (declarator_suited (piece.declarator i b) w g ps i b k)
 table_stands (at.SwitchCase r) k w g ps = suited_at (at.SwitchCase r) k w g ps (case_suited (piece.switch_case r) w g ps r k)
-table_stands (at.Handler r) k w g ps = suited_at (at.Handler r) k w g ps (handler_suited (piece.handler r) w g ps r k)
+table_stands (at.CatchClause r) k w g ps = suited_at (at.CatchClause r) k w g ps (handler_suited (piece.handler r) w g ps r k)
 table_stands at.ClassBody k w g ps = suited_at at.ClassBody k w g ps (class_body_suited piece.class_body w g ps k)
 table_stands at.Member k w g ps = member_stands piece.member w g ps k
 table_stands at.Script k w g ps = suited_at at.Script k w g ps (script_suited piece.script w g ps k)

@@ -3,12 +3,12 @@ use Rattle.std.proofs.Common.{◌≡◌, ℕ, zero, suc, ◌+◌, ◌-◌, Bool,
 use Rattle.std.specs.Prelude.{Some, None, slice_get}
 use Rattle.std.proofs.lemmas.Bool.Decides.{nat_tests}
 use Rattle.tree.specs.Tree.{Parts, none, part, gap, part_count}
-use Rattle.tokens.specs.declared.token.Class.TheVariants.{Number}
+use Rattle.tokens.specs.declared.token.TokenClass.TheVariants.{NumericLiteral}
 use Rattle.language.specs.Pieces.{is_none}
-use Rattle.language.specs.Words.{is_open_number}
-use Rattle.positions.specs.Outlines.{parts_behind}
+use Rattle.language.specs.Vocabulary.{is_open_number}
+use Rattle.spellings.specs.Outlines.{parts_after}
 
-filled_none : (i : ℕ) → false ≡ not (is_none (parts_behind i none))
+filled_none : (i : ℕ) → false ≡ not (is_none (parts_after i none))
 filled_none zero = refl
 filled_none (suc i) = filled_none i
 
@@ -21,14 +21,14 @@ above_more i c = grind (arith, nat_tests)
 nothing_above : (i : ℕ) → nat_lt i 0 ≡ false
 nothing_above i = grind (arith, nat_tests)
 
-pub filled : (ps : Parts) (i : ℕ) → nat_lt i (part_count ps) ≡ not (is_none (parts_behind i ps))
+pub filled : (ps : Parts) (i : ℕ) → nat_lt i (part_count ps) ≡ not (is_none (parts_after i ps))
 filled none i = nothing_above i ∙ filled_none i
 filled (part n ps) zero = above_none (part_count ps)
 filled (part n ps) (suc i) = above_more i (part_count ps) ∙ filled ps i
 filled (gap ps) zero = above_none (part_count ps)
 filled (gap ps) (suc i) = above_more i (part_count ps) ∙ filled ps i
 
-pub last_open : (w : List ℕ) (x : ℕ) → Some x ≡ slice_get w (length w - 1) → nat_eq x 110 ≡ not (is_open_number Number w)
+pub last_open : (w : List ℕ) (x : ℕ) → Some x ≡ slice_get w (length w - 1) → nat_eq x 110 ≡ not (is_open_number NumericLiteral w)
 last_open [] x h = absurd (cc)
 last_open (c ∷ []) x h = let e : x ≡ c = cc in ap (λ v. nat_eq v 110) e ∙ twice (nat_eq c 110)
   where
@@ -39,7 +39,7 @@ last_open (c ∷ d ∷ cs) x h =
     let e : length (c ∷ d ∷ cs) - 1 ≡ suc (length (d ∷ cs) - 1) = omega arith in
     last_open (d ∷ cs) x (h ∙ ap (slice_get (c ∷ d ∷ cs)) e)
 
-pub empty_open : (w : List ℕ) → None ≡ slice_get w (length w - 1) → false ≡ not (is_open_number Number w)
+pub empty_open : (w : List ℕ) → None ≡ slice_get w (length w - 1) → false ≡ not (is_open_number NumericLiteral w)
 empty_open [] h = refl
 empty_open (c ∷ []) h = absurd (cc)
 empty_open (c ∷ d ∷ cs) h =

@@ -5,10 +5,10 @@ use Rattle.std.proofs.lemmas.Bool.{false≢true}
 use Rattle.tree.specs.Tree.{Tree, Parts, none, part, gap}
 use Rattle.language.specs.Pieces.{Role, PieceOf, tok, may, many, ahead, unbroken, ending, open_parameters, close_parameters, sub, absent, never, lay}
 use Rattle.language.specs.Pieces as piece
-use Rattle.language.specs.Positions.{rows, roles}
+use Rattle.language.specs.RowPositions.{rows, roles}
 use Rattle.language.specs.Layout.{layout, parts_layout, indent}
 use Rattle.printer.specs.Bits.{marks_of}
-use Rattle.language.specs.Fits.{lines_up}
+use Rattle.language.specs.LayoutFits.{lines_up}
 use Rattle.printer.specs.Printed.{marks_text}
 
 abbrev pub apart_from : ℕ → List ℕ → List ℕ

@@ -6,21 +6,21 @@ use Rattle.language.specs.declared.Rank.TheVariants.{Expression}
 use Rattle.language.specs.declared.Start.TheVariants.{Any}
 use Rattle.language.specs.Pieces.{Role, expr, script, is_none}
 use Rattle.language.specs.Grammar.{ways}
-use Rattle.language.specs.Positions.{has_row, rows, parts_rows}
+use Rattle.language.specs.RowPositions.{has_row, rows, parts_rows}
 use Rattle.language.specs.Layout.{inside, layout}
-use Rattle.positions.specs.declared.position.Position.{Position}
-use Rattle.positions.specs.declared.position.Position.TheVariants as at
-use Rattle.positions.specs.Outlines.{role_of, parts_behind}
-use Rattle.printer.specs.declared.pieces.Sign.{Sign}
+use Rattle.spellings.specs.declared.position.Position.{Position}
+use Rattle.spellings.specs.declared.position.Position.TheVariants as at
+use Rattle.spellings.specs.Outlines.{role_of, parts_after}
+use Rattle.printer.specs.declared.fragments.SignOperator.{SignOperator}
 use Rattle.printer.specs.Bits.{here}
 use Rattle.printer.specs.Shapes.{sign_of_text}
 use Rattle.printer.specs.Sheets.{View, Leads, Shows, Writes, held, sign_code, flag_at, other_flags}
-use Rattle.language.specs.Fits.{fits, parts_fit}
+use Rattle.language.specs.LayoutFits.{fits, parts_fit}
 use Rattle.printer.specs.Fits.{wrapped_by}
 use Rattle.printer.specs.Standings.{Stands, Puts}
 use Rattle.printer.specs.Sites.{CanStand}
-use Rattle.printer.proofs.Writing.{leads_then, leads_at, nothing_held}
-use Rattle.printer.specs.declared.course.Course.{Course}
+use Rattle.printer.proofs.WrittenTexts.{leads_then, leads_at, nothing_held}
+use Rattle.printer.specs.declared.part_sites.PartSites.{PartSites}
 use Rattle.printer.specs.Printed.{spelled_so, marks_text, signed_marks, Reads, Printed, Direct, Passed, Gone, Written}
 use Rattle.printer.proofs.Whole.{spelled_parts, printed_direct, printed_wrapped}
 
@@ -118,7 +118,7 @@ module _ (W : ℕ → Bool) where
 
   -- Signs
 
-  abbrev apart_text : Sign → List ℕ → List ℕ
+  abbrev apart_text : SignOperator → List ℕ → List ℕ
   apart_text s t = cond (nat_eq (slice_index_or t 0 0) (sign_code s)) (32 ∷ t) t
 
   -- behind the last part nothing has a row
@@ -128,20 +128,20 @@ module _ (W : ℕ → Bool) where
   last_rows (part n ps) xs h = absurd (cc)
   last_rows (gap ps) xs h = absurd (cc)
 
-  sign_has_text : (w : List ℕ) (s : Sign) → sign_of_text w ≡ Some s → ¬ (w ≡ [])
+  sign_has_text : (w : List ℕ) (s : SignOperator) → sign_of_text w ≡ Some s → ¬ (w ≡ [])
   sign_has_text w s h e = let k : sign_of_text [] ≡ Some s = ap sign_of_text (sym e) ∙ h in cc
 
   -- the sign's text, the sign that is pending, the operand, and nothing pending
-  pub printed_signed : {a b c e g : View} (w : List ℕ) (s : Sign) (P : Parts) {xs : List Role} (k : Course) {x y : Bool} {d : ℕ} (r : ℕ) → sign_of_text w ≡ Some s → is_none (parts_behind 1 P) ≡ true →
+  pub printed_signed : {a b c e g : View} (w : List ℕ) (s : SignOperator) (P : Parts) {xs : List Role} (k : PartSites) {x y : Bool} {d : ℕ} (r : ℕ) → sign_of_text w ≡ Some s → is_none (parts_after 1 P) ≡ true →
       Writes a b w → (¬ (w ≡ []) → b.apart ≡ None) →
       c.out ≡ b.out → c.apart ≡ Some s → c.flags ≡ b.flags →
-      Reads W r a.flags → (Reads W r c.flags → Gone W c e (here ∷ []) [] P (parts_behind 1 P) xs k x y d r) →
+      Reads W r a.flags → (Reads W r c.flags → Gone W c e (here ∷ []) [] P (parts_after 1 P) xs k x y d r) →
       g.out ≡ e.out → g.apart ≡ None → g.flags ≡ e.flags →
       Written W a g (signed_marks w s) P xs x d r
   printed_signed {a} {b} {c} {e} {g} w s P {xs} k {x} {y} {d} r t one p q co ca cw h f go ga gw =
       let gone = f (subst (Reads W r) (sym (cw ∙ p.flags)) h) in
       let z = gone.passed in
-      let counted : z.row ≡ r + parts_rows P xs = let n = last_rows (parts_behind 1 P) gone.left one in let m = z.counts in omega (arith, n, m) in
+      let counted : z.row ≡ r + parts_rows P xs = let n = last_rows (parts_after 1 P) gone.left one in let m = z.counts in omega (arith, n, m) in
       record {
         reads = subst (λ m. Reads W m g.flags) counted (subst (Reads W z.row) (sym gw) z.reads);
         shows = λ next. shown_then z next;
@@ -154,7 +154,7 @@ module _ (W : ℕ → Bool) where
       A = apart_text s T
 
       -- the whole text behind the operand alone
-      operand : {ys : List Role} (z : Passed W c e (here ∷ []) [] P (parts_behind 1 P) xs ys x y d r) (next : List ℕ) → Leads b g (A ++ next) next
+      operand : {ys : List Role} (z : Passed W c e (here ∷ []) [] P (parts_after 1 P) xs ys x y d r) (next : List ℕ) → Leads b g (A ++ next) next
       operand z next = record {
         leads = λ before whole h.
             let u = h.0 in
@@ -168,7 +168,7 @@ module _ (W : ℕ → Bool) where
             );
       }
 
-      shown_then : {ys : List Role} (z : Passed W c e (here ∷ []) [] P (parts_behind 1 P) xs ys x y d r) (next : List ℕ) → Leads a g ((w ++ apart_text s T) ++ next) next
+      shown_then : {ys : List Role} (z : Passed W c e (here ∷ []) [] P (parts_after 1 P) xs ys x y d r) (next : List ℕ) → Leads a g ((w ++ apart_text s T) ++ next) next
       shown_then z next = leads_at (sym (append_assoc w A next)) (leads_then (p.follows (A ++ next)) (operand z next))
 
 -- The whole text

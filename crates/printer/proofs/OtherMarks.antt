@@ -9,19 +9,19 @@ use Rattle.tree.specs.Tree.{Parts, none, part, gap}
 use Rattle.language.specs.declared.Rank.TheVariants.{Expression, Assignment, Primary}
 use Rattle.language.specs.declared.Start.TheVariants.{Any}
 use Rattle.language.specs.FirstPart.{others}
-use Rattle.language.specs.Words.{is, among}
+use Rattle.language.specs.Vocabulary.{is, among}
 use Rattle.language.specs.Pieces as piece
 use Rattle.language.specs.Pieces.{Role, Piece, Slot, Spelling, at, only, only_at, put, put_at, sub, tok, may, many, ahead, unbroken, ending, absent, never, lay, sign, term, sp, is_none, listed, elements, parameters, pattern_element, open_parameters, close_parameters, bound, with_default}
-use Rattle.language.specs.Expressions.{spines, member_link, call_link, arguments, selector, in_brackets, first_chained, linked, properties, pattern_properties, keyed, object_pattern_part, shorthand_pattern, assignment, methods}
+use Rattle.language.specs.Expressions.{chain_parts, member_link, call_link, arguments, selector, in_brackets, first_has_optional, chain_element, properties, pattern_properties, keyed, object_pattern_part, shorthand_pattern, assignment, methods}
 use Rattle.language.specs.Statements.{statements, items, openings, braced, lines as table_lines, prologue, member_lines, members, class_members, heads, declarator_ways, cases, handlers, declaration, declarators, is_declaration, for_left, whole, end_of}
 use Rattle.language.specs.Edges.{last_edge, ends_in_if}
 use Rattle.language.specs.Grammar.{can_run}
-use Rattle.positions.specs.Outlines.{parts_behind}
+use Rattle.spellings.specs.Outlines.{parts_after}
 use Rattle.printer.specs.Bits.{Mark, text, here, deeper, marks_of, nothing, lines, fronted}
 use Rattle.printer.specs.Shapes.{expression_shape, method_shape, head_shape}
 use Rattle.printer.specs.Printed.{marks_in, front_marks, chain_marks, shape_marks}
 use Rattle.printer.proofs.ListMarks.{Standing, stands, refused, put_standing, lines-marks, members-marks, body-marks, declarators-marks}
-use Rattle.printer.proofs.Shaped.{Means, counts_up, Shaped, nowhere, one, shaped_if}
+use Rattle.printer.proofs.FirstWayFragments.{Means, counts_up, Shaped, nowhere, one, shaped_if}
 use Rattle.printer.proofs.TableMarks.{fixed_shape, fixed_means, function_means, class_means}
 
 module _ (w : List ℕ) where
@@ -31,7 +31,7 @@ module _ (w : List ℕ) where
   -- a node with no parts but its first ones, spelled so
   pub plain_one : (k : Kind) (g : Flags) (ps : Parts) (qs : List Piece) → (expression_shape k w g ps).chain ≡ nothing → (expression_shape k w g ps).opener ≡ [] →
       marks_of qs ≡ front_marks w (expression_shape k w g ps).front (marks_in w (expression_shape k w g ps).closer) →
-      (counts_up (marks_of qs) ps ≡ true → is_none (parts_behind (length (expression_shape k w g ps).front) ps) ≡ true) → Shaped ps (Of k g ps) (only qs)
+      (counts_up (marks_of qs) ps ≡ true → is_none (parts_after (length (expression_shape k w g ps).front) ps) ≡ true) → Shaped ps (Of k g ps) (only qs)
   plain_one k g ps qs e f h c = one (fixed_means w k g ps Primary qs e f h c)
 
   -- Braces

@@ -8,31 +8,31 @@ use Rattle.tree.specs.declared.kind.Form.{Form}
 use Rattle.tree.specs.declared.kind.Form.TheVariants as form
 use Rattle.tree.specs.declared.kind.Flags.{Flags}
 use Rattle.tree.specs.Tree.{Tree, node, Parts, none, part, gap, kind_of}
-use Rattle.tokens.specs.declared.token.Class.TheVariants as class
+use Rattle.tokens.specs.declared.token.TokenClass.TheVariants as class
 use Rattle.language.specs.declared.Rank.TheVariants.{Expression, Assignment, Primary}
 use Rattle.language.specs.declared.Start.TheVariants.{Any}
 use Rattle.language.specs.FirstPart.{lead, others}
-use Rattle.language.specs.Words.{is_reserved, literal_class, is_string, is_pattern, is_rest}
+use Rattle.language.specs.Vocabulary.{is_reserved, literal_class, is_string, is_pattern, is_rest}
 use Rattle.language.specs.Pieces as piece
 use Rattle.language.specs.Pieces.{Role, Piece, Slot, Spelling, at, only, only_at, put, put_at, sub, tok, may, many, ahead, unbroken, ending, absent, never, lay, sign, term, sp, is_none, listed, elements, parameters, pattern_element, open_parameters, close_parameters, bound, with_default}
-use Rattle.language.specs.Expressions.{spines, member_link, call_link, arguments, in_brackets, first_chained, properties, pattern_properties, keyed, object_pattern_part, shorthand_pattern, assignment, methods}
+use Rattle.language.specs.Expressions.{chain_parts, member_link, call_link, arguments, in_brackets, first_has_optional, properties, pattern_properties, keyed, object_pattern_part, shorthand_pattern, assignment, methods}
 use Rattle.language.specs.Statements.{prologue, members, class_members, heads, declarator_ways, cases, handlers, declaration, declarators}
-use Rattle.language.specs.Grammar.{spellings, can_run, keys, names, words, echoes, bases, quotes, quasis, template_parts, patterns, elements_with_default, rests}
-use Rattle.positions.specs.declared.position.Position.{Position}
-use Rattle.positions.specs.declared.position.Position.TheVariants as at_place
-use Rattle.positions.specs.Outlines.{role_of, parts_behind}
+use Rattle.language.specs.Grammar.{spellings, can_run, keys, names, words, shorthand_keys, bases, directive_strings, tagged_quasis, template_parts, patterns, elements_with_default, rests}
+use Rattle.spellings.specs.declared.position.Position.{Position}
+use Rattle.spellings.specs.declared.position.Position.TheVariants as at_place
+use Rattle.spellings.specs.Outlines.{role_of, parts_after}
 use Rattle.printer.specs.Bits.{Mark, text, line, here, deeper, shallower, marks_of, Bit, Chain, nothing, commas, lines, Shape, fronted}
 use Rattle.printer.specs.Shapes.{expression_shape, method_shape, head_shape, sign_at, property_shape, class_member_shape, case_shape, catch_shape, declarator_shape, member_shape, call_shape}
-use Rattle.printer.proofs.Placed.{shape_by}
+use Rattle.printer.proofs.FragmentsByPosition.{shape_by}
 use Rattle.printer.specs.Printed.{marks_in, front_marks, shape_marks}
 use Rattle.printer.proofs.ListMarks.{elements-marks, listed-marks, lines-marks, items-marks, declarators-marks, object_pattern_standing, element_standing}
-use Rattle.printer.proofs.Shaped.{Means, counts_up, Shaped, nowhere, one, shaped_if}
+use Rattle.printer.proofs.FirstWayFragments.{Means, counts_up, Shaped, nowhere, one, shaped_if}
 use Rattle.printer.proofs.TableMarks.{fixed_shape, arguments-marks, parameters_of, template_means, expressions_shaped}
 use Rattle.printer.proofs.OtherMarks.{Of, plain_one, block_means, body_means, class_body_means, statements_shaped, items_shaped, openings_shaped}
 
 module _ (w : List ℕ) where
   -- a shape with no parts but its first ones
-  shape_one : (s : Shape) (ps : Parts) (qs : List Piece) → s.chain ≡ nothing → s.opener ≡ [] → marks_of qs ≡ front_marks w s.front (marks_in w s.closer) → (counts_up (marks_of qs) ps ≡ true → is_none (parts_behind (length s.front) ps) ≡ true) →
+  shape_one : (s : Shape) (ps : Parts) (qs : List Piece) → s.chain ≡ nothing → s.opener ≡ [] → marks_of qs ≡ front_marks w s.front (marks_in w s.closer) → (counts_up (marks_of qs) ps ≡ true → is_none (parts_after (length s.front) ps) ≡ true) →
       Shaped ps (shape_marks w s ps) (only qs)
   shape_one s ps qs e f h c = one (λ r u. fixed_shape w s ps qs e f h (c u))
 
@@ -49,7 +49,7 @@ module _ (w : List ℕ) where
   keys_shaped kind.Literal g ps = shaped_if _ (λ e. nowhere) (λ e. plain_one w kind.Literal g ps _ refl refl refl (λ c. c))
   keys_shaped _ g ps = nowhere
 
-  echoes_shaped : (k : Kind) (ps : Parts) → Shaped ps (shape_marks w (fronted [] []) ps) (echoes k w)
+  echoes_shaped : (k : Kind) (ps : Parts) → Shaped ps (shape_marks w (fronted [] []) ps) (shorthand_keys k w)
   echoes_shaped kind.Identifier ps = shape_one (fronted [] []) ps _ refl refl refl (λ c. c)
   echoes_shaped _ ps = nowhere
 
@@ -57,11 +57,11 @@ module _ (w : List ℕ) where
   bases_shaped kind.Super g ps = plain_one w kind.Super g ps _ refl refl refl (λ c. c)
   bases_shaped _ g ps = nowhere
 
-  quotes_shaped : (k : Kind) (g : Flags) (ps : Parts) → Shaped ps (Of w k g ps) (quotes k w)
+  quotes_shaped : (k : Kind) (g : Flags) (ps : Parts) → Shaped ps (Of w k g ps) (directive_strings k w)
   quotes_shaped kind.Literal g ps = shaped_if (is_string (literal_class w)) (λ e. plain_one w kind.Literal g ps _ refl refl refl (λ c. c)) (λ e. nowhere)
   quotes_shaped _ g ps = nowhere
 
-  quasis_shaped : (k : Kind) (g : Flags) (ps : Parts) → Shaped ps (Of w k g ps) (quasis k ps)
+  quasis_shaped : (k : Kind) (g : Flags) (ps : Parts) → Shaped ps (Of w k g ps) (tagged_quasis k ps)
   quasis_shaped kind.TemplateLiteral g ps = one (template_means w g ps)
   quasis_shaped _ g ps = nowhere
 
@@ -73,7 +73,7 @@ module _ (w : List ℕ) where
 
   keyed_shaped : (ps : Parts) (b : Bool) (before after : List Piece) (s : Bool → Shape) → ((u : Bool) → (s u).chain ≡ nothing) → ((u : Bool) → (s u).opener ≡ []) →
       marks_of (before ++ sign "[" ∷ assignment ∷ sign "]" ∷ after) ≡ front_marks w (s true).front (marks_in w (s true).closer) → marks_of (before ++ put piece.key ∷ after) ≡ front_marks w (s false).front (marks_in w (s false).closer) →
-      (counts_up (marks_of (before ++ sign "[" ∷ assignment ∷ sign "]" ∷ after)) ps ≡ true → is_none (parts_behind (length (s true).front) ps) ≡ true) → (counts_up (marks_of (before ++ put piece.key ∷ after)) ps ≡ true → is_none (parts_behind (length (s false).front) ps) ≡ true) →
+      (counts_up (marks_of (before ++ sign "[" ∷ assignment ∷ sign "]" ∷ after)) ps ≡ true → is_none (parts_after (length (s true).front) ps) ≡ true) → (counts_up (marks_of (before ++ put piece.key ∷ after)) ps ≡ true → is_none (parts_after (length (s false).front) ps) ≡ true) →
       Shaped ps (shape_marks w (s b) ps) (keyed before b after)
   keyed_shaped ps true before after s e f h k c d = shape_one (s true) ps _ (e true) (f true) h c
   keyed_shaped ps false before after s e f h k c d = shape_one (s false) ps _ (e false) (f false) k d
@@ -206,7 +206,7 @@ module _ (w : List ℕ) where
       of false false false h d = fixed_shape w (member_shape false false false) ps (sub s ∷ sign "." ∷ put piece.word ∷ []) refl refl refl d
       of false false true h d = absurd (cc)
 
-  chained_closed : (ps : Parts) → first_chained ps ≡ true → Rattle.printer.specs.Shapes.after_open_number ps ≡ false
+  chained_closed : (ps : Parts) → first_has_optional ps ≡ true → Rattle.printer.specs.Shapes.after_open_number ps ≡ false
   chained_closed none h = refl
   chained_closed (gap ps) h = refl
   chained_closed (part (node kind.Literal v g s e us) ps) h = absurd (cc)
@@ -227,11 +227,11 @@ module _ (w : List ℕ) where
       of true u = ap (λ t. here ∷ text (codes "?.") ∷ t) (arguments-marks w (others ps) u)
       of false u = ap (λ t. here ∷ t) (arguments-marks w (others ps) u)
 
-  spines_shaped : (k : Kind) (g : Flags) (ps : Parts) → Shaped ps (Of w k g ps) (spines k g ps)
-  spines_shaped kind.MemberExpression g ps = shaped_if (first_chained ps)
-      (λ e. one (spine_member piece.lead_spine g ps false (chained_closed ps e) (λ u. tt) (never_false g.optional)))
+  spines_shaped : (k : Kind) (g : Flags) (ps : Parts) → Shaped ps (Of w k g ps) (chain_parts k g ps)
+  spines_shaped kind.MemberExpression g ps = shaped_if (first_has_optional ps)
+      (λ e. one (spine_member piece.lead_chain g ps false (chained_closed ps e) (λ u. tt) (never_false g.optional)))
       (λ e. shaped_if g.optional (λ u. one (spine_member (piece.lead Rattle.language.specs.declared.Rank.TheVariants.Call) g ps (Rattle.printer.specs.Shapes.after_open_number ps) refl (λ v. tt) (optional_false g.optional _ u))) (λ u. nowhere))
-  spines_shaped kind.CallExpression g ps = shaped_if (first_chained ps) (λ e. one (spine_call piece.lead_spine g ps))
+  spines_shaped kind.CallExpression g ps = shaped_if (first_has_optional ps) (λ e. one (spine_call piece.lead_chain g ps))
       (λ e. shaped_if g.optional (λ u. one (spine_call (piece.lead Rattle.language.specs.declared.Rank.TheVariants.Call) g ps)) (λ u. nowhere))
   spines_shaped _ g ps = nowhere
 
@@ -291,15 +291,15 @@ module _ (w : List ℕ) where
   pub places_shaped : (p : Position) (k : Kind) (g : Flags) (ps : Parts) → sign_at k w g ≡ None → Shaped ps (shape_marks w (shape_by p k w g ps) ps) (spellings (role_of p) (node k w g 0 0 ps))
   unfolding spellings
   places_shaped (at_place.Expression y i f) k g ps n = expressions_shaped w k g ps n
-  places_shaped (at_place.Spine f) k g ps n = spines_shaped k g ps
+  places_shaped (at_place.ChainPart f) k g ps n = spines_shaped k g ps
   places_shaped at_place.Name k g ps n = names_shaped k g ps
-  places_shaped at_place.Word k g ps n = words_shaped k g ps
-  places_shaped at_place.Key k g ps n = keys_shaped k g ps
-  places_shaped at_place.Echo k g ps n = echoes_shaped k ps
-  places_shaped at_place.Base k g ps n = bases_shaped k g ps
-  places_shaped at_place.Quoted k g ps n = quotes_shaped k g ps
-  places_shaped at_place.Quasi k g ps n = quasis_shaped k g ps
-  places_shaped (at_place.Chunk a b) k g ps n = chunks_shaped a b k ps
+  places_shaped at_place.IdentifierName k g ps n = words_shaped k g ps
+  places_shaped at_place.PropertyName k g ps n = keys_shaped k g ps
+  places_shaped at_place.ShorthandKey k g ps n = echoes_shaped k ps
+  places_shaped at_place.Super k g ps n = bases_shaped k g ps
+  places_shaped at_place.DirectiveString k g ps n = quotes_shaped k g ps
+  places_shaped at_place.TaggedQuasi k g ps n = quasis_shaped k g ps
+  places_shaped (at_place.TemplateElement a b) k g ps n = chunks_shaped a b k ps
   places_shaped at_place.Spread kind.SpreadElement g ps n = plain_one w kind.SpreadElement g ps _ refl refl refl (λ c. c)
   places_shaped at_place.Spread _ g ps n = nowhere
   places_shaped at_place.Property kind.Property g ps n = properties_shaped g.computed g.form ps
@@ -314,14 +314,14 @@ module _ (w : List ℕ) where
   places_shaped at_place.Body kind.BlockStatement g ps n = one (body_means w g ps)
   places_shaped at_place.Body _ g ps n = nowhere
   places_shaped (at_place.Statement r) k g ps n = statements_shaped w r k g ps
-  places_shaped (at_place.Item r) k g ps n = items_shaped w r k g ps
-  places_shaped (at_place.Opening r) k g ps n = openings_shaped w r k g ps
+  places_shaped (at_place.StatementListItem r) k g ps n = items_shaped w r k g ps
+  places_shaped (at_place.PrologueItem r) k g ps n = openings_shaped w r k g ps
   places_shaped (at_place.Block r) kind.BlockStatement g ps n = one (block_means w g (piece.item r) ps)
   places_shaped (at_place.Block r) _ g ps n = nowhere
-  places_shaped (at_place.Head b) k g ps n = heads_shaped b k ps
+  places_shaped (at_place.ForDeclaration b) k g ps n = heads_shaped b k ps
   places_shaped (at_place.Declarator i b) k g ps n = declarators_shaped i b k g ps
   places_shaped (at_place.SwitchCase r) k g ps n = cases_shaped r k g ps
-  places_shaped (at_place.Handler r) k g ps n = handlers_shaped r k g ps
+  places_shaped (at_place.CatchClause r) k g ps n = handlers_shaped r k g ps
   places_shaped at_place.ClassBody kind.ClassBody g ps n = one (class_body_means w g ps)
   places_shaped at_place.ClassBody _ g ps n = nowhere
   places_shaped at_place.Member k g ps n = class_members_shaped k g ps

@@ -8,23 +8,23 @@ use Rattle.language.specs.declared.Rank.TheVariants.{Expression}
 use Rattle.language.specs.declared.Rank.TheVariants as ranks
 use Rattle.language.specs.declared.Start.{Start}
 use Rattle.language.specs.declared.Start.TheVariants.{Any}
-use Rattle.language.specs.Words.{takes}
-use Rattle.language.specs.Pieces.{Role, expr, spine, pattern, Slot, PieceOf, fixed, left, lead, tail, callee, lead_spine, lead_pattern, settle}
+use Rattle.language.specs.Vocabulary.{takes}
+use Rattle.language.specs.Pieces.{Role, expr, chain_part, pattern, Slot, PieceOf, fixed, left, lead, tail, callee, lead_chain, lead_pattern, settle}
 use Rattle.language.specs.Grammar.{ways, own_rank, own_in, own_start}
-use Rattle.language.specs.Positions.{has_row, widest, rows, parts_rows, first_roles}
+use Rattle.language.specs.RowPositions.{has_row, widest, rows, parts_rows, first_roles}
 use Rattle.language.specs.Layout.{some_way}
-use Rattle.positions.specs.declared.position.Position.{Position}
-use Rattle.positions.specs.declared.position.Position.TheVariants as at
-use Rattle.positions.specs.declared.outline.Outline.{Outline}
-use Rattle.positions.specs.Outlines.{role_of, opens_at, outline_slots}
-use Rattle.positions.specs.Positions.{outline_at}
-use Rattle.positions.specs.Spelled.{fits_outline, settled_roles, outlined_roles, roles_by, Verdict}
-use Rattle.positions.proofs.Ways.{position_ways}
+use Rattle.spellings.specs.declared.position.Position.{Position}
+use Rattle.spellings.specs.declared.position.Position.TheVariants as at
+use Rattle.spellings.specs.declared.outline.Outline.{Outline}
+use Rattle.spellings.specs.Outlines.{role_of, opens_at, outline_slots}
+use Rattle.spellings.specs.Positions.{outline_at}
+use Rattle.spellings.specs.Spelled.{fits_outline, settled_roles, outlined_roles, roles_by, Verdict}
+use Rattle.spellings.proofs.Ways.{position_ways}
 
 pub rows-widest : (n : Tree) (a : Role) → rows n a ≡ rows n (widest a)
 unfolding rows
 rows-widest (node k w g s e ps) (expr y i f) = refl
-rows-widest (node k w g s e ps) (spine f) = refl
+rows-widest (node k w g s e ps) (chain_part f) = refl
 rows-widest (node k w g s e ps) (pattern b f) = refl
 rows-widest (node k w g s e ps) _ = refl
 
@@ -41,7 +41,7 @@ settle-widest y z i j f g (left k) = refl
 settle-widest y z i j f g (lead k) = refl
 settle-widest y z i j f g (tail k x) = refl
 settle-widest y z i j f g callee = refl
-settle-widest y z i j f g lead_spine = refl
+settle-widest y z i j f g lead_chain = refl
 settle-widest y z i j f g lead_pattern = refl
 
 settled-widest : (a b : Role) (xs : List Slot) → map widest (settled_roles a xs) ≡ map widest (settled_roles b xs)
@@ -87,7 +87,7 @@ implied false = refl
 
 fits-widest : (a : Role) (x : Outline) → fits_outline a x ≡ true → fits_outline (widest a) x ≡ true
 fits-widest (expr y i f) x h = ap₂ (λ u v. u && (v && true)) (takes_all x.rank) (implied x.needs_in)
-fits-widest (spine f) x h = refl
+fits-widest (chain_part f) x h = refl
 fits-widest (pattern b f) x h = refl
 fits-widest _ x h = h
 
@@ -123,7 +123,7 @@ of_verdicts ps us vs (Some xs) (Some ys) p q h s = ap (parts_rows ps) p.1 ∙ h 
 
 widest_at : Position → Position
 widest_at (at.Expression y i f) = at.Expression Expression true Any
-widest_at (at.Spine f) = at.Spine Any
+widest_at (at.ChainPart f) = at.ChainPart Any
 widest_at (at.Pattern b f) = at.Pattern b Any
 widest_at p = p
 
@@ -137,6 +137,6 @@ rows_at p q n e o h = of_verdicts (parts_of n) (ways (role_of p) n) (ways (wides
 pub rows_inside : (p : Position) (n : Tree) → some_way (ways (role_of p) n) ≡ true → rows n (role_of p) ≡ has_row (role_of p) + parts_rows (parts_of n) (first_roles (ways (role_of p) n))
 unfolding rows
 rows_inside (at.Expression y i f) (node k w g s e ps) h = ap (λ u. 1 + u) (sym (rows_at (at.Expression y i f) (at.Expression Expression true Any) (node k w g s e ps) refl refl h))
-rows_inside (at.Spine f) (node k w g s e ps) h = ap (λ u. 0 + u) (sym (rows_at (at.Spine f) (at.Spine Any) (node k w g s e ps) refl refl h))
+rows_inside (at.ChainPart f) (node k w g s e ps) h = ap (λ u. 0 + u) (sym (rows_at (at.ChainPart f) (at.ChainPart Any) (node k w g s e ps) refl refl h))
 rows_inside (at.Pattern b f) (node k w g s e ps) h = ap (λ u. 0 + u) (sym (rows_at (at.Pattern b f) (at.Pattern b Any) (node k w g s e ps) refl refl h))
 rows_inside p (node k w g s e ps) h = refl

@@ -6,25 +6,25 @@ use Rattle.tree.specs.declared.kind.Kind.{Kind}
 use Rattle.tree.specs.declared.kind.Kind.TheVariants as kind
 use Rattle.tree.specs.declared.kind.Flags.{Flags}
 use Rattle.tree.specs.Tree.{Tree, node, Parts, none, part, gap}
-use Rattle.tokens.specs.declared.token.Class.TheVariants as class
+use Rattle.tokens.specs.declared.token.TokenClass.TheVariants as class
 use Rattle.language.specs.declared.Rank.{Rank}
 use Rattle.language.specs.declared.Start.TheVariants.{Any, NoBrace}
 use Rattle.language.specs.declared.Rank.TheVariants.{Assignment, Conditional, Exponentiation, Unary, Update, LeftHandSide, Call, Member, Primary}
 use Rattle.language.specs.FirstPart.{lead, others}
-use Rattle.language.specs.Words.{is, among, Operator, binds, powers, steps, does_step, operators, operator_among, operator_of, is_assignment, is_step, is_prefix, is_reserved, literal_class, is_name, is_target, is_pattern, is_super, is_word_operator, is_open_number}
+use Rattle.language.specs.Vocabulary.{is, among, Operator, op_binary, op_power, op_update, is_update_op, operators, operator_among, operator_of, is_assignment, is_update_operator, is_prefix, is_reserved, literal_class, is_name, is_target, is_pattern, is_super, is_word_operator, is_open_number}
 use Rattle.language.specs.Pieces as piece
 use Rattle.language.specs.Pieces.{Piece, Slot, Spelling, at, only, put, sub, tok, lay, sign, term, sp, is_none, listed, elements, argument, parameters, unbroken, open_parameters, close_parameters}
-use Rattle.language.specs.Expressions.{expressions, arguments, selector, after_number, in_brackets, chunks, object_part, function_pieces, class_pieces, arrow_end, arrows, joined as joined_spelling, sequence, first_chained, binary_ways, logical_ways, infix_pieces}
+use Rattle.language.specs.Expressions.{expressions, arguments, selector, after_number, in_brackets, template_elements, object_part, function_pieces, class_pieces, arrow_end, op_arrow, joined as joined_spelling, sequence, first_has_optional, binary_ways, logical_ways, infix_pieces}
 use Rattle.language.specs.Grammar.{can_run}
-use Rattle.language.proofs.Looser.{same}
-use Rattle.language.proofs.TidyTable.{new-fits, arrow-fits}
-use Rattle.positions.specs.Outlines.{parts_behind}
+use Rattle.language.proofs.table.LooserPositions.{same}
+use Rattle.language.proofs.table.TidyTable.{new-fits, arrow-fits}
+use Rattle.spellings.specs.Outlines.{parts_after}
 use Rattle.printer.specs.Bits.{Mark, text, here, loose, apart, marks_of, Bit, own_text, Chain, nothing, commas, joined, Shape, fronted}
 use Rattle.printer.specs.Shapes.{expression_shape, sign_of_text, sign_at, spelled, gapped, close_space, between, infix_bits, is_single, after_open_number}
-use Rattle.printer.specs.declared.pieces.Sign.TheVariants.{Plus, Minus}
+use Rattle.printer.specs.declared.fragments.SignOperator.TheVariants.{Plus, Minus}
 use Rattle.printer.specs.Printed.{marks_in, front_marks, chain_marks, deep, shape_marks}
 use Rattle.printer.proofs.ListMarks.{listed-marks, elements-marks, parameters-marks, sequence-marks, chunks-marks, argument_standing, object_standing}
-use Rattle.printer.proofs.Shaped.{Means, counts_up, Shaped, nowhere, one, two, shaped_if}
+use Rattle.printer.proofs.FirstWayFragments.{Means, counts_up, Shaped, nowhere, one, two, shaped_if}
 
 -- behind a list nothing is left
 pub closed : (ms ns : List Mark) → ms ≡ ns → ms ≡ ns ++ []
@@ -43,11 +43,11 @@ module _ (w : List ℕ) where
   ended (gap ps) h = absurd (false≢true h)
 
   -- a node with no parts but its first ones
-  pub fixed_shape : (s : Shape) (ps : Parts) (qs : List Piece) → s.chain ≡ nothing → s.opener ≡ [] → marks_of qs ≡ front_marks w s.front (marks_in w s.closer) → is_none (parts_behind (length s.front) ps) ≡ true →
+  pub fixed_shape : (s : Shape) (ps : Parts) (qs : List Piece) → s.chain ≡ nothing → s.opener ≡ [] → marks_of qs ≡ front_marks w s.front (marks_in w s.closer) → is_none (parts_after (length s.front) ps) ≡ true →
       marks_of qs ≡ shape_marks w s ps
   fixed_shape s ps qs e f h c =
-      h ∙ ap (λ t. front_marks w s.front (t ++ marks_in w s.closer)) (sym (ended (parts_behind (length s.front) ps) c))
-      ∙ sym (ap₂ (λ o t. front_marks w s.front (marks_in w o ++ deep t (chain_marks w t (parts_behind (length s.front) ps)) (marks_in w s.closer))) f e)
+      h ∙ ap (λ t. front_marks w s.front (t ++ marks_in w s.closer)) (sym (ended (parts_after (length s.front) ps) c))
+      ∙ sym (ap₂ (λ o t. front_marks w s.front (marks_in w o ++ deep t (chain_marks w t (parts_after (length s.front) ps)) (marks_in w s.closer))) f e)
 
   abbrev pub Of : Kind → Flags → Parts → List Mark
   Of k g ps = shape_marks w (expression_shape k w g ps) ps
@@ -55,7 +55,7 @@ module _ (w : List ℕ) where
   -- such a node, spelled so
   pub fixed_means : (k : Kind) (g : Flags) (ps : Parts) (z : Rank) (qs : List Piece) → (expression_shape k w g ps).chain ≡ nothing → (expression_shape k w g ps).opener ≡ [] →
       marks_of qs ≡ front_marks w (expression_shape k w g ps).front (marks_in w (expression_shape k w g ps).closer) →
-      (counts_up (marks_of qs) ps ≡ true → is_none (parts_behind (length (expression_shape k w g ps).front) ps) ≡ true) → Means ps (Of k g ps) (at z qs)
+      (counts_up (marks_of qs) ps ≡ true → is_none (parts_after (length (expression_shape k w g ps).front) ps) ≡ true) → Means ps (Of k g ps) (at z qs)
   fixed_means k g ps z qs e f h c r u = fixed_shape (expression_shape k w g ps) ps qs e f h (c u)
 
   abbrev pub same_count : {b : Bool} → b ≡ true → b ≡ true
@@ -63,7 +63,7 @@ module _ (w : List ℕ) where
 
   fixed_one : (k : Kind) (g : Flags) (ps : Parts) (z : Rank) (qs : List Piece) → (expression_shape k w g ps).chain ≡ nothing → (expression_shape k w g ps).opener ≡ [] →
       marks_of qs ≡ front_marks w (expression_shape k w g ps).front (marks_in w (expression_shape k w g ps).closer) →
-      (counts_up (marks_of qs) ps ≡ true → is_none (parts_behind (length (expression_shape k w g ps).front) ps) ≡ true) → Shaped ps (Of k g ps) (at z qs ∷ [])
+      (counts_up (marks_of qs) ps ≡ true → is_none (parts_after (length (expression_shape k w g ps).front) ps) ≡ true) → Shaped ps (Of k g ps) (at z qs ∷ [])
   fixed_one k g ps z qs e f h c = one (fixed_means k g ps z qs e f h c)
 
   -- functions and classes, as expressions and as declarations
@@ -93,7 +93,7 @@ module _ (w : List ℕ) where
   pub object_means : (g : Flags) (ps : Parts) → Means ps (Of kind.ObjectExpression g ps) (at Primary ((sign "{" ∷ listed object_part ps) ++ sign "}" ∷ []))
   object_means g ps r c = ap (λ t. text (codes "{") ∷ t) (listed-marks w object_part object_standing ps (sign "}" ∷ []) r)
 
-  pub template_means : (g : Flags) (ps : Parts) → Means ps (Of kind.TemplateLiteral g ps) (at Primary (chunks true ps))
+  pub template_means : (g : Flags) (ps : Parts) → Means ps (Of kind.TemplateLiteral g ps) (at Primary (template_elements true ps))
   template_means g ps r c = closed _ _ (chunks-marks w true ps r)
 
   -- Members and calls
@@ -132,14 +132,14 @@ module _ (w : List ℕ) where
       ap (λ t. text (codes "(") ∷ t) (closed _ _ (parameters-marks w (spelled ")" ∷ between "=>") (close_parameters ∷ arrow_end g) (arrow_after g) ps r))
       ∙ ap (λ b. shape_marks w (Rattle.printer.specs.Shapes.arrow_shape b) ps) (sym e)
 
-  single_means : (g : Flags) (ps : Parts) → is_single ps ≡ true → (counts_up (marks_of (put piece.name ∷ arrow_end g)) ps ≡ true → is_none (parts_behind 2 ps) ≡ true) → Means ps (Of kind.ArrowFunctionExpression g ps) (at Assignment (put piece.name ∷ arrow_end g))
+  single_means : (g : Flags) (ps : Parts) → is_single ps ≡ true → (counts_up (marks_of (put piece.name ∷ arrow_end g)) ps ≡ true → is_none (parts_after 2 ps) ≡ true) → Means ps (Of kind.ArrowFunctionExpression g ps) (at Assignment (put piece.name ∷ arrow_end g))
   single_means g ps e k r c = fixed_shape (Rattle.printer.specs.Shapes.arrow_shape true) ps (put piece.name ∷ arrow_end g) refl refl (of g.expression) (k c) ∙ ap (λ b. shape_marks w (Rattle.printer.specs.Shapes.arrow_shape b) ps) (sym e)
     where
       of : (b : Bool) → marks_of (put piece.name ∷ unbroken ∷ sp ∷ sign "=>" ∷ sp ∷ cond b (sub (piece.tail Assignment NoBrace)) (put piece.body) ∷ []) ≡ front_marks w (Rattle.printer.specs.Shapes.arrow_shape true).front []
       of true = refl
       of false = refl
 
-  arrow_ways : (g : Flags) (ps : Parts) → Shaped ps (Of kind.ArrowFunctionExpression g ps) (arrows g ps)
+  arrow_ways : (g : Flags) (ps : Parts) → Shaped ps (Of kind.ArrowFunctionExpression g ps) (op_arrow g ps)
   arrow_ways g none = one (parenthesised g none refl)
   arrow_ways g (gap ps) = one (parenthesised g (gap ps) refl)
   arrow_ways g (part n none) = one (parenthesised g (part n none) refl)
@@ -220,9 +220,9 @@ module _ (w : List ℕ) where
 
   abbrev no_steps : Rows → Bool
   no_steps [] = true
-  no_steps (row ∷ rows) = not (does_step row.1) && no_steps rows
+  no_steps (row ∷ rows) = not (is_update_op row.1) && no_steps rows
 
-  by_row : (b : Bool) (o : Operator) (r : Operator) → not (does_step o) ≡ true → does_step (cond b o r) ≡ true → does_step r ≡ true
+  by_row : (b : Bool) (o : Operator) (r : Operator) → not (is_update_op o) ≡ true → is_update_op (cond b o r) ≡ true → is_update_op r ≡ true
   by_row false o r e h = h
   by_row true o r e h = let i : not true ≡ true = sym (ap not h) ∙ e in absurd (cc)
 
@@ -230,28 +230,28 @@ module _ (w : List ℕ) where
   halves true v h = (refl, h)
   halves false v h = absurd (false≢true h)
 
-  none_steps : (rows : Rows) → no_steps rows ≡ true → does_step (operator_among w rows) ≡ true → ⊥
+  none_steps : (rows : Rows) → no_steps rows ≡ true → is_update_op (operator_among w rows) ≡ true → ⊥
   none_steps [] e h = cc
-  none_steps (row ∷ rows) e h = let q = halves (not (does_step row.1)) (no_steps rows) e in none_steps rows q.1 (by_row (among w row.0) row.1 (operator_among w rows) q.0 h)
+  none_steps (row ∷ rows) e h = let q = halves (not (is_update_op row.1)) (no_steps rows) e in none_steps rows q.1 (by_row (among w row.0) row.1 (operator_among w rows) q.0 h)
 
-  row_found : (b : Bool) (r : Operator) → (does_step r ≡ true → ⊥) → does_step (cond b steps r) ≡ true → b ≡ true
+  row_found : (b : Bool) (r : Operator) → (is_update_op r ≡ true → ⊥) → is_update_op (cond b op_update r) ≡ true → b ≡ true
   row_found true r n h = refl
   row_found false r n h = absurd (n h)
 
-  found_step : (xs : Rows) (ss : List Prim.Native.String.String) (ys : Rows) → no_steps xs ≡ true → no_steps ys ≡ true → does_step (operator_among w (xs ++ (ss, steps) ∷ ys)) ≡ true → among w ss ≡ true
+  found_step : (xs : Rows) (ss : List Prim.Native.String.String) (ys : Rows) → no_steps xs ≡ true → no_steps ys ≡ true → is_update_op (operator_among w (xs ++ (ss, op_update) ∷ ys)) ≡ true → among w ss ≡ true
   found_step [] ss ys e f h = row_found (among w ss) (operator_among w ys) (none_steps ys f) h
   found_step (row ∷ xs) ss ys e f h =
-      let q = halves (not (does_step row.1)) (no_steps xs) e in
-      found_step xs ss ys q.1 f (by_row (among w row.0) row.1 (operator_among w (xs ++ (ss, steps) ∷ ys)) q.0 h)
+      let q = halves (not (is_update_op row.1)) (no_steps xs) e in
+      found_step xs ss ys q.1 f (by_row (among w row.0) row.1 (operator_among w (xs ++ (ss, op_update) ∷ ys)) q.0 h)
 
-  only_steps : is_step w ≡ true → among w ("++" ∷ "--" ∷ []) ≡ true
+  only_steps : is_update_operator w ≡ true → among w ("++" ∷ "--" ∷ []) ≡ true
   only_steps h = found_step before_steps ("++" ∷ "--" ∷ []) behind_steps refl refl h
 
   first_true : (a b : Bool) → not (a && b) ≡ false → a ≡ true
   first_true true b h = refl
   first_true false b h = absurd (true≢false h)
 
-  no_step_sign : is_step w ≡ true → sign_of_text w ≡ None → ⊥
+  no_step_sign : is_update_operator w ≡ true → sign_of_text w ≡ None → ⊥
   no_step_sign h n =
       let q = no_signs n in
       let i : false ≡ true = sym (ap₂ (λ a b. a || (b || false)) q.1 q.3) ∙ only_steps h in
@@ -259,8 +259,8 @@ module _ (w : List ℕ) where
 
   updates : (g : Flags) (ps : Parts) → sign_at kind.UpdateExpression w g ≡ None → Shaped ps (Of kind.UpdateExpression g ps) (expressions kind.UpdateExpression w g ps)
   unfolding expressions
-  updates g ps n = shaped_if (not (is_step w && is_target (lead ps))) (λ e. nowhere) (λ e. shaped_if g.prefix
-      (λ u. absurd (no_step_sign (first_true (is_step w) (is_target (lead ps)) e) (sym (ap (λ b. cond b (sign_of_text w) None) u) ∙ n)))
+  updates g ps n = shaped_if (not (is_update_operator w && is_target (lead ps))) (λ e. nowhere) (λ e. shaped_if g.prefix
+      (λ u. absurd (no_step_sign (first_true (is_update_operator w) (is_target (lead ps)) e) (sym (ap (λ b. cond b (sign_of_text w) None) u) ∙ n)))
       (λ u. one (λ r c. fixed_shape (Rattle.printer.specs.Shapes.update_shape false) ps (sub (piece.lead LeftHandSide) ∷ unbroken ∷ tok class.Punctuator w ∷ []) refl refl refl c ∙ ap (λ b. shape_marks w (Rattle.printer.specs.Shapes.update_shape b) ps) (sym u))))
 
   sign_spaces : (a b : Bool) → a ≡ false → b ≡ false → (qs : List Piece) → marks_of (cond a (lay (piece.apart 43) ∷ []) (cond b (lay (piece.apart 45) ∷ []) []) ++ qs) ≡ marks_of qs
@@ -274,7 +274,7 @@ module _ (w : List ℕ) where
   unaries : (g : Flags) (ps : Parts) → sign_at kind.UnaryExpression w g ≡ None → Shaped ps (Of kind.UnaryExpression g ps) (expressions kind.UnaryExpression w g ps)
   unfolding expressions
   unaries g ps n = shaped_if (not (is_prefix w)) (λ e. nowhere) (λ e. shaped_if (is_word_operator w)
-      (λ u. one (λ r c. fixed_shape (word_shape_by true) ps (tok class.Name w ∷ sp ∷ put (piece.expr Unary true Any) ∷ []) refl refl refl c ∙ ap (λ b. shape_marks w (word_shape_by b) ps) (sym u)))
+      (λ u. one (λ r c. fixed_shape (word_shape_by true) ps (tok class.IdentifierName w ∷ sp ∷ put (piece.expr Unary true Any) ∷ []) refl refl refl c ∙ ap (λ b. shape_marks w (word_shape_by b) ps) (sym u)))
       (λ u. one (λ r c.
       ap (λ t. text w ∷ t) (sign_spaces (is w "+") (is w "-") (no_signs n).0 (no_signs n).2 (put (piece.expr Unary true Any) ∷ []))
       ∙ fixed_shape (word_shape_by false) ps (tok class.Punctuator w ∷ put (piece.expr Unary true Any) ∷ []) refl refl refl
@@ -288,14 +288,14 @@ module _ (w : List ℕ) where
   joins k g ps z q e r c = infix_fixed k g ps z (piece.left z) (piece.tail q Any) e r c
 
   binaries : (g : Flags) (ps : Parts) (o : Operator) → Shaped ps (Of kind.BinaryExpression g ps) (binary_ways w o)
-  binaries g ps (binds false z q) = one (joins kind.BinaryExpression g ps z q refl)
-  binaries g ps (binds true z q) = nowhere
-  binaries g ps powers = one (infix_fixed kind.BinaryExpression g ps Exponentiation (piece.lead Update) (piece.fixed (piece.expr Exponentiation true Any)) refl)
+  binaries g ps (op_binary false z q) = one (joins kind.BinaryExpression g ps z q refl)
+  binaries g ps (op_binary true z q) = nowhere
+  binaries g ps op_power = one (infix_fixed kind.BinaryExpression g ps Exponentiation (piece.lead Update) (piece.fixed (piece.expr Exponentiation true Any)) refl)
   binaries g ps _ = nowhere
 
   logicals : (g : Flags) (ps : Parts) (o : Operator) → Shaped ps (Of kind.LogicalExpression g ps) (logical_ways w o)
-  logicals g ps (binds true z q) = one (joins kind.LogicalExpression g ps z q refl)
-  logicals g ps (binds false z q) = nowhere
+  logicals g ps (op_binary true z q) = one (joins kind.LogicalExpression g ps z q refl)
+  logicals g ps (op_binary false z q) = nowhere
   logicals g ps _ = nowhere
 
   assignments : (g : Flags) (ps : Parts) → Shaped ps (Of kind.AssignmentExpression g ps) (expressions kind.AssignmentExpression w g ps)
@@ -313,8 +313,8 @@ module _ (w : List ℕ) where
   sequences g (gap (part m ps)) = one (λ r c. closed _ _ (sequence-marks w (part m ps) m r))
   sequences g (gap (gap ps)) = one (λ r c. absurd (false≢true r))
 
-  tagged_fixed : (g : Flags) (ps : Parts) → Means ps (Of kind.TaggedTemplateExpression g ps) (at Member (sub piece.callee ∷ put piece.quasi ∷ []))
-  tagged_fixed g ps = fixed_means kind.TaggedTemplateExpression g ps Member (sub piece.callee ∷ put piece.quasi ∷ []) refl refl refl same_count
+  tagged_fixed : (g : Flags) (ps : Parts) → Means ps (Of kind.TaggedTemplateExpression g ps) (at Member (sub piece.callee ∷ put piece.tagged_quasi ∷ []))
+  tagged_fixed g ps = fixed_means kind.TaggedTemplateExpression g ps Member (sub piece.callee ∷ put piece.tagged_quasi ∷ []) refl refl refl same_count
 
   literals : (g : Flags) (ps : Parts) → Shaped ps (Of kind.Literal g ps) (expressions kind.Literal w g ps)
   unfolding expressions
@@ -338,7 +338,7 @@ module _ (w : List ℕ) where
   expressions_shaped kind.NewExpression g ps n = news g ps
   expressions_shaped kind.MetaProperty g ps n = shaped_if (Rattle.language.specs.Expressions.lead_is ps "new" && Rattle.language.specs.Expressions.lead_is (others ps) "target") (λ e. fixed_one kind.MetaProperty g ps Member _ refl refl refl same_count) (λ e. nowhere)
   expressions_shaped kind.ImportExpression g ps n = fixed_one kind.ImportExpression g ps Call _ refl refl refl same_count
-  expressions_shaped kind.ChainExpression g ps n = shaped_if (first_chained ps) (λ e. fixed_one kind.ChainExpression g ps LeftHandSide _ refl refl refl same_count) (λ e. nowhere)
+  expressions_shaped kind.ChainExpression g ps n = shaped_if (first_has_optional ps) (λ e. fixed_one kind.ChainExpression g ps LeftHandSide _ refl refl refl same_count) (λ e. nowhere)
   expressions_shaped kind.UpdateExpression g ps n = updates g ps n
   expressions_shaped kind.UnaryExpression g ps n = unaries g ps n
   expressions_shaped kind.BinaryExpression g ps n = binaries g ps (operator_of w)

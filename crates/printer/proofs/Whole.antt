@@ -9,34 +9,34 @@ use Rattle.tree.specs.declared.kind.Flags.{Flags}
 use Rattle.tree.specs.Tree.{Tree, node, Parts, none, part, gap, kind_of, text_of, flags_of, parts_of, bare_parts}
 use Rattle.language.specs.declared.Rank.{Rank}
 use Rattle.language.specs.declared.Rank.TheVariants.{Expression, LeftHandSide, Update}
-use Rattle.tokens.specs.declared.token.Class.TheVariants.{Punctuator}
+use Rattle.tokens.specs.declared.token.TokenClass.TheVariants.{Punctuator}
 use Rattle.language.specs.declared.Start.{Start}
 use Rattle.language.specs.declared.Start.TheVariants.{Any}
 use Rattle.language.specs.FirstPart.{lead, others}
-use Rattle.language.specs.Words.{is, is_target}
+use Rattle.language.specs.Vocabulary.{is, is_target}
 use Rattle.language.specs.Pieces as piece
 use Rattle.language.specs.Pieces.{Role, expr, PieceOf, tok, may, many, ahead, unbroken, ending, open_parameters, close_parameters, sub, absent, never, lay, is_none}
 use Rattle.language.specs.Expressions.{expressions}
 use Rattle.language.specs.Statements.{statements, items, openings}
 use Rattle.language.specs.Grammar.{ways, spellings}
-use Rattle.language.specs.Positions.{has_row, rows, roles, parts_rows, first_roles}
+use Rattle.language.specs.RowPositions.{has_row, rows, roles, parts_rows, first_roles}
 use Rattle.language.specs.Layout.{some_way, first_way, layout, parts_layout}
-use Rattle.positions.specs.declared.position.Position.{Position}
-use Rattle.positions.specs.declared.position.Position.TheVariants as at
-use Rattle.positions.specs.Outlines.{role_of, parts_behind, is_before_last}
-use Rattle.positions.proofs.Bare.{none-bare, others-bare}
-use Rattle.printer.specs.declared.pieces.Sign.{Sign}
-use Rattle.printer.specs.declared.pieces.Sign.TheVariants.{Plus, Minus}
+use Rattle.spellings.specs.declared.position.Position.{Position}
+use Rattle.spellings.specs.declared.position.Position.TheVariants as at
+use Rattle.spellings.specs.Outlines.{role_of, parts_after, is_before_last}
+use Rattle.spellings.proofs.Bare.{none-bare, others-bare}
+use Rattle.printer.specs.declared.fragments.SignOperator.{SignOperator}
+use Rattle.printer.specs.declared.fragments.SignOperator.TheVariants.{Plus, Minus}
 use Rattle.printer.specs.Bits.{Mark, here, marks_of, Chain, Shape, before_bits, after_bits}
 use Rattle.printer.specs.Shapes.{expression_shape, sign_of_text, sign_at, has_part, is_single, after_open_number, if_shape, try_shape, for_shape, declarator_shape, word_shape, braced_shape, case_shape, catch_shape, arrow_shape, class_shape, member_shape}
-use Rattle.printer.proofs.Placed.{shape_by}
+use Rattle.printer.proofs.FragmentsByPosition.{shape_by}
 use Rattle.printer.specs.Sheets.{View, Writes}
-use Rattle.printer.proofs.Writing.{leads_then, leads_at}
-use Rattle.language.specs.Fits.{lines_up, parts_fit}
+use Rattle.printer.proofs.WrittenTexts.{leads_then, leads_at}
+use Rattle.language.specs.LayoutFits.{lines_up, parts_fit}
 use Rattle.printer.specs.Printed.{marks_in, chain_marks, front_marks, deep, shape_marks, marks_text, Reads, Printed, Direct, Written, spelled_so, signed_marks}
 use Rattle.printer.proofs.Layouts.{layout_marks}
 use Rattle.printer.proofs.Rows.{rows-widest, rows_inside}
-use Rattle.printer.proofs.Shaped.{Means, counts_up, Shaped, nowhere, one, shaped_ways}
+use Rattle.printer.proofs.FirstWayFragments.{Means, counts_up, Shaped, nowhere, one, shaped_ways}
 use Rattle.printer.proofs.PlaceMarks.{places_shaped}
 
 -- Places change no shape
@@ -88,10 +88,10 @@ shape-bare kind.MemberExpression w g ps = ap (member_shape g.optional g.computed
 shape-bare _ w g ps = refl
 
 place-bare : (p : Position) (k : Kind) (w : List ℕ) (g : Flags) (ps : Parts) → shape_by p k w g (bare_parts ps) ≡ shape_by p k w g ps
-place-bare at.Echo k w g ps = refl
-place-bare (at.Chunk a b) k w g ps = refl
+place-bare at.ShorthandKey k w g ps = refl
+place-bare (at.TemplateElement a b) k w g ps = refl
 place-bare (at.Method x) k w g ps = refl
-place-bare (at.Head b) k w g ps = refl
+place-bare (at.ForDeclaration b) k w g ps = refl
 place-bare _ k w g ps = shape-bare k w g ps
 
 chain-bare : (w : List ℕ) (t : Chain) (ps : Parts) → chain_marks w t (bare_parts ps) ≡ chain_marks w t ps
@@ -99,12 +99,12 @@ chain-bare w t none = refl
 chain-bare w t (part n ps) = λ i. marks_in w (before_bits t (none-bare ps i)) ++ here ∷ (marks_in w (after_bits t false (none-bare ps i) (last-bare ps i)) ++ chain-bare w t ps i)
 chain-bare w t (gap ps) = λ i. marks_in w (before_bits t (none-bare ps i)) ++ here ∷ (marks_in w (after_bits t true (none-bare ps i) (last-bare ps i)) ++ chain-bare w t ps i)
 
-behind-bare : (i : ℕ) (ps : Parts) → parts_behind i (bare_parts ps) ≡ bare_parts (parts_behind i ps)
+behind-bare : (i : ℕ) (ps : Parts) → parts_after i (bare_parts ps) ≡ bare_parts (parts_after i ps)
 behind-bare zero ps = refl
-behind-bare (suc i) ps = ap (parts_behind i) (others-bare ps) ∙ behind-bare i (others ps)
+behind-bare (suc i) ps = ap (parts_after i) (others-bare ps) ∙ behind-bare i (others ps)
 
 marks-bare : (w : List ℕ) (s : Shape) (ps : Parts) → shape_marks w s (bare_parts ps) ≡ shape_marks w s ps
-marks-bare w s ps = ap (λ u. front_marks w s.front (marks_in w s.opener ++ deep s.chain u (marks_in w s.closer))) (ap (chain_marks w s.chain) (behind-bare (length s.front) ps) ∙ chain-bare w s.chain (parts_behind (length s.front) ps))
+marks-bare w s ps = ap (λ u. front_marks w s.front (marks_in w s.opener ++ deep s.chain u (marks_in w s.closer))) (ap (chain_marks w s.chain) (behind-bare (length s.front) ps) ∙ chain-bare w s.chain (parts_after (length s.front) ps))
 
 counts-bare : (ms : List Mark) (ps : Parts) → counts_up ms (bare_parts ps) ≡ counts_up ms ps
 counts-bare [] ps = none-bare ps
@@ -137,15 +137,15 @@ lines_counts (lay (piece.apart c) ∷ qs) ps h = lines_counts qs ps h
 lines_counts (lay piece.loose ∷ qs) ps h = lines_counts qs ps h
 
 -- a sign has one part behind it
-pub one_part : (qs : List (PieceOf Role)) (ps : Parts) (w : List ℕ) (s : Sign) → lines_up qs ps ≡ true → marks_of qs ≡ signed_marks w s → is_none (others ps) ≡ true
+pub one_part : (qs : List (PieceOf Role)) (ps : Parts) (w : List ℕ) (s : SignOperator) → lines_up qs ps ≡ true → marks_of qs ≡ signed_marks w s → is_none (others ps) ≡ true
 one_part qs ps w s h e = sym (ap (λ ms. counts_up ms ps) e) ∙ lines_counts qs ps h
 
 -- Signs
 
-signs : (w : List ℕ) (s : Sign) → Some s ≡ sign_of_text w → (P : List ℕ → Sign → Type 0) → P (codes "+") Plus → P (codes "++") Plus → P (codes "-") Minus → P (codes "--") Minus → P w s
+signs : (w : List ℕ) (s : SignOperator) → Some s ≡ sign_of_text w → (P : List ℕ → SignOperator → Type 0) → P (codes "+") Plus → P (codes "++") Plus → P (codes "-") Minus → P (codes "--") Minus → P w s
 signs w s h P p q x y = of (is w "+") refl (is w "++") refl (is w "-") refl (is w "--") refl h
   where
-    put_text : (t : String) (v : Sign) → is w t ≡ true → s ≡ v → P (codes t) v → P w s
+    put_text : (t : String) (v : SignOperator) → is w t ≡ true → s ≡ v → P (codes t) v → P w s
     put_text t v e f u = subst (λ z. P w z) (sym f) (subst (λ z. P z v) (sym ((bytes_eq-Decides w (codes t)).0 e)) u)
 
     of : (a : Bool) → is w "+" ≡ a → (b : Bool) → is w "++" ≡ b → (c : Bool) → is w "-" ≡ c → (d : Bool) → is w "--" ≡ d → Some s ≡ cond (a || (b || false)) (Some Plus) (cond (c || (d || false)) (Some Minus) None) → P w s
@@ -155,7 +155,7 @@ signs w s h P p q x y = of (is w "+") refl (is w "++") refl (is w "-") refl (is 
     of false ea false eb false ec true ed k = put_text "--" Minus ed (cc) y
     of false ea false eb false ec false ed k = absurd (cc)
 
-unary_signed : (w : List ℕ) (s : Sign) (g : Flags) (ps : Parts) → Some s ≡ sign_of_text w → Shaped ps (signed_marks w s) (expressions kind.UnaryExpression w g ps)
+unary_signed : (w : List ℕ) (s : SignOperator) (g : Flags) (ps : Parts) → Some s ≡ sign_of_text w → Shaped ps (signed_marks w s) (expressions kind.UnaryExpression w g ps)
 unfolding expressions
 unary_signed w s g ps h = signs w s h (λ v z. Shaped ps (signed_marks v z) (expressions kind.UnaryExpression v g ps)) (one (λ r c. refl)) nowhere (one (λ r c. refl)) nowhere
 
@@ -164,7 +164,7 @@ signed_if true c x y e m = nowhere
 signed_if false true x y e m = one m
 signed_if false false x y e m = absurd (cc)
 
-update_signed : (w : List ℕ) (s : Sign) (g : Flags) (ps : Parts) → g.prefix ≡ true → Some s ≡ sign_of_text w → Shaped ps (signed_marks w s) (expressions kind.UpdateExpression w g ps)
+update_signed : (w : List ℕ) (s : SignOperator) (g : Flags) (ps : Parts) → g.prefix ≡ true → Some s ≡ sign_of_text w → Shaped ps (signed_marks w s) (expressions kind.UpdateExpression w g ps)
 unfolding expressions
 update_signed w s g ps u h = signs w s h (λ v z. Shaped ps (signed_marks v z) (expressions kind.UpdateExpression v g ps)) nowhere
     (signed_if (not (true && is_target (lead ps))) g.prefix
@@ -174,29 +174,29 @@ update_signed w s g ps u h = signs w s h (λ v z. Shaped ps (signed_marks v z) (
     (piece.at Update (tok Punctuator (codes "--") ∷ lay (piece.apart 45) ∷ piece.put (expr LeftHandSide true Any) ∷ []))
     (piece.at Update (sub (piece.lead LeftHandSide) ∷ unbroken ∷ tok Punctuator (codes "--") ∷ [])) u (λ r c. refl))
 
-prefixed : (b : Bool) (w : List ℕ) (s : Sign) → Some s ≡ cond b (sign_of_text w) None → (b ≡ true) × (Some s ≡ sign_of_text w)
+prefixed : (b : Bool) (w : List ℕ) (s : SignOperator) → Some s ≡ cond b (sign_of_text w) None → (b ≡ true) × (Some s ≡ sign_of_text w)
 prefixed true w s h = (refl, h)
 prefixed false w s h = absurd (cc)
 
 none_some : {X : Type 0} {x : X} → Some x ≡ None → ⊥
 none_some h = cc
 
-unary_placed : (w : List ℕ) (p : Position) (g : Flags) (ps : Parts) (s : Sign) → Some s ≡ sign_of_text w → Shaped ps (signed_marks w s) (spellings (role_of p) (node kind.UnaryExpression w g 0 0 ps))
+unary_placed : (w : List ℕ) (p : Position) (g : Flags) (ps : Parts) (s : SignOperator) → Some s ≡ sign_of_text w → Shaped ps (signed_marks w s) (spellings (role_of p) (node kind.UnaryExpression w g 0 0 ps))
 unfolding spellings statements items openings
 unary_placed w (at.Expression y i f) g ps s h = unary_signed w s g ps h
 unary_placed w _ g ps s h = nowhere
 
-update_placed : (w : List ℕ) (p : Position) (g : Flags) (ps : Parts) (s : Sign) → (g.prefix ≡ true) × (Some s ≡ sign_of_text w) → Shaped ps (signed_marks w s) (spellings (role_of p) (node kind.UpdateExpression w g 0 0 ps))
+update_placed : (w : List ℕ) (p : Position) (g : Flags) (ps : Parts) (s : SignOperator) → (g.prefix ≡ true) × (Some s ≡ sign_of_text w) → Shaped ps (signed_marks w s) (spellings (role_of p) (node kind.UpdateExpression w g 0 0 ps))
 unfolding spellings statements items openings
 update_placed w (at.Expression y i f) g ps s u = update_signed w s g ps u.0 u.1
 update_placed w _ g ps s u = nowhere
 
-signed_shaped : (w : List ℕ) (p : Position) (k : Kind) (g : Flags) (ps : Parts) (s : Sign) → Some s ≡ sign_at k w g → Shaped ps (signed_marks w s) (spellings (role_of p) (node k w g 0 0 ps))
+signed_shaped : (w : List ℕ) (p : Position) (k : Kind) (g : Flags) (ps : Parts) (s : SignOperator) → Some s ≡ sign_at k w g → Shaped ps (signed_marks w s) (spellings (role_of p) (node k w g 0 0 ps))
 signed_shaped w p kind.UnaryExpression g ps s h = unary_placed w p g ps s h
 signed_shaped w p kind.UpdateExpression g ps s h = update_placed w p g ps s (prefixed g.prefix w s h)
 signed_shaped w p _ g ps s h = absurd (none_some h)
 
-pub sign_text : (n : Tree) (s : Sign) → Some s ≡ sign_at (kind_of n) (text_of n) (flags_of n) → sign_of_text (text_of n) ≡ Some s
+pub sign_text : (n : Tree) (s : SignOperator) → Some s ≡ sign_at (kind_of n) (text_of n) (flags_of n) → sign_of_text (text_of n) ≡ Some s
 sign_text (node kind.UnaryExpression w g b e ps) s h = sym h
 sign_text (node kind.UpdateExpression w g b e ps) s h = sym (prefixed g.prefix w s h).1
 sign_text (node _ w g b e ps) s h = absurd (none_some h)
@@ -211,7 +211,7 @@ module _ (W : ℕ → Bool) where
       (counts-bare (marks_of (first_way (ways (role_of p) (node k w g s e ps)))) ps ∙ lines_counts (first_way (ways (role_of p) (node k w g s e ps))) ps v)
       ∙ ap (λ x. shape_marks w x (bare_parts ps)) (place-bare p k w g ps) ∙ marks-bare w (shape_by p k w g ps) ps
 
-  pub marks_signed : (p : Position) (n : Tree) (s : Sign) → Some s ≡ sign_at (kind_of n) (text_of n) (flags_of n) → some_way (ways (role_of p) n) ≡ true → lines_up (first_way (ways (role_of p) n)) (parts_of n) ≡ true →
+  pub marks_signed : (p : Position) (n : Tree) (s : SignOperator) → Some s ≡ sign_at (kind_of n) (text_of n) (flags_of n) → some_way (ways (role_of p) n) ≡ true → lines_up (first_way (ways (role_of p) n)) (parts_of n) ≡ true →
       marks_of (first_way (ways (role_of p) n)) ≡ signed_marks (text_of n) s
   marks_signed p (node k w g b e ps) s h u v =
       shaped_ways (bare_parts ps) (signed_marks w s) (role_of p) (node k w g b e ps) (signed_shaped w p k g (bare_parts ps) s h) u (counts-bare (marks_of (first_way (ways (role_of p) (node k w g b e ps)))) ps ∙ lines_counts (first_way (ways (role_of p) (node k w g b e ps))) ps v)

@@ -8,17 +8,17 @@ use Rattle.tree.specs.declared.kind.Flags.{Flags}
 use Rattle.tree.specs.Tree.{Tree, node, Parts, none, part, gap, kind_of, text_of, parts_of}
 use Rattle.language.specs.Pieces.{Role, is_none}
 use Rattle.language.specs.Grammar.{ways}
-use Rattle.language.specs.Fits.{parts_fit}
-use Rattle.positions.specs.declared.position.Position.{Position}
-use Rattle.positions.specs.declared.position.Position.TheVariants as at
-use Rattle.positions.specs.Outlines.{role_of}
+use Rattle.language.specs.LayoutFits.{parts_fit}
+use Rattle.spellings.specs.declared.position.Position.{Position}
+use Rattle.spellings.specs.declared.position.Position.TheVariants as at
+use Rattle.spellings.specs.Outlines.{role_of}
 use Rattle.printer.specs.Bits.{text, own_text, fronted}
 use Rattle.printer.specs.Shapes.{expression_shape, sign_at}
-use Rattle.printer.proofs.Placed.{shape_by, is_plain_at, is_word_at}
+use Rattle.printer.proofs.FragmentsByPosition.{shape_by, is_plain_at, is_word_at}
 use Rattle.printer.specs.Sheets.{View, Writes}
 use Rattle.printer.specs.Printed.{shape_marks, Reads, Direct, Written, spelled_so}
-use Rattle.printer.proofs.Writing.{writes_as}
-use Rattle.printer.proofs.Passing.{passed_bits, passed_all}
+use Rattle.printer.proofs.WrittenTexts.{writes_as}
+use Rattle.printer.proofs.NodeFragments.{passed_bits, passed_all}
 use Rattle.printer.proofs.Whole.{spelled_parts, marks_framed, direct_by}
 
 both : (u v : Bool) → (u && v) ≡ true → (u ≡ true) × (v ≡ true)
@@ -26,10 +26,10 @@ both true v h = (refl, h)
 both false v h = absurd (false≢true h)
 
 plain_shape : (p : Position) (k : Kind) (w : List ℕ) (g : Flags) (ps : Parts) → is_plain_at p ≡ true → shape_by p k w g ps ≡ expression_shape k w g ps
-plain_shape at.Echo k w g ps h = absurd (false≢true h)
-plain_shape (at.Chunk a b) k w g ps h = absurd (false≢true h)
+plain_shape at.ShorthandKey k w g ps h = absurd (false≢true h)
+plain_shape (at.TemplateElement a b) k w g ps h = absurd (false≢true h)
 plain_shape (at.Method x) k w g ps h = absurd (false≢true h)
-plain_shape (at.Head b) k w g ps h = absurd (false≢true h)
+plain_shape (at.ForDeclaration b) k w g ps h = absurd (false≢true h)
 plain_shape _ k w g ps h = refl
 
 -- what is known of a word: no sign, its shape, and no parts

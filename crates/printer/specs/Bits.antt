@@ -2,11 +2,11 @@
 use Rattle.std.specs.Prelude.{ℕ, Bool, true, false, cond, List, [], ◌∷◌, ◌++◌, codes, map}
 use Rattle.language.specs.Pieces.{PieceOf, tok, may, many, ahead, unbroken, ending, open_parameters, close_parameters, sub, absent, never, lay}
 use Rattle.language.specs.Pieces as piece
-use Rattle.printer.specs.declared.pieces.Piece.{Piece}
-use Rattle.printer.specs.declared.pieces.Piece.TheVariants as own
-use Rattle.printer.specs.declared.pieces.Series as serieses
-use Rattle.printer.specs.declared.pieces.Series.TheVariants as series
-use Rattle.printer.specs.declared.pieces.Frame.{Frame}
+use Rattle.printer.specs.declared.fragments.Fragment.{Fragment}
+use Rattle.printer.specs.declared.fragments.Fragment.TheVariants as own
+use Rattle.printer.specs.declared.fragments.ListLayout as serieses
+use Rattle.printer.specs.declared.fragments.ListLayout.TheVariants as series
+use Rattle.printer.specs.declared.fragments.Frame.{Frame}
 
 -- the next part or gap is `here`
 pub data Mark : Type 0 where
@@ -42,16 +42,16 @@ pub data Bit : Type 0 where
   own_text newline feeding loosely : Bit
   chunk : Bool → Bool → Bit
 
-abbrev pub bit_of : Piece → Bit
+abbrev pub bit_of : Fragment → Bit
 bit_of (own.Token s) = token s.now
-bit_of own.Own = own_text
-bit_of (own.Chunk a b) = chunk a b
+bit_of own.NodeText = own_text
+bit_of (own.TemplateElement a b) = chunk a b
 bit_of own.Space = token (codes " ")
 bit_of own.Line = newline
-bit_of own.Feed = feeding
-bit_of own.Loose = loosely
+bit_of own.LineFeed = feeding
+bit_of own.SpaceAfterNumber = loosely
 
-abbrev pub bits_of : List Piece → List Bit
+abbrev pub bits_of : List Fragment → List Bit
 bits_of [] = []
 bits_of (p ∷ ps) = bit_of p ∷ bits_of ps
 

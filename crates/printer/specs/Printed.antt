@@ -2,14 +2,14 @@
 use Rattle.std.specs.Prelude.{◌≡◌, ℕ, zero, suc, ◌+◌, Bool, true, false, not, cond, ◌&&◌, nat_eq, slice_index_or, List, [], ◌∷◌, ◌++◌, length}
 use Rattle.tree.specs.Tree.{Tree, Parts, none, part, gap}
 use Rattle.language.specs.Pieces.{Role, PieceOf, is_none}
-use Rattle.language.specs.Positions.{rows, parts_rows, first_roles}
+use Rattle.language.specs.RowPositions.{rows, parts_rows, first_roles}
 use Rattle.language.specs.Layout.{some_way, indent, first_way, next_role, layout, parts_layout}
-use Rattle.positions.specs.Outlines.{parts_behind, is_before_last}
+use Rattle.spellings.specs.Outlines.{parts_after, is_before_last}
 use Rattle.printer.specs.Bits.{Mark, text, line, feed, deeper, shallower, loose, here, apart, Bit, token, own_text, newline, feeding, loosely, chunk, Chain, lines, Shape, before_bits, after_bits}
-use Rattle.language.specs.Fits.{lines_up, parts_fit}
+use Rattle.language.specs.LayoutFits.{lines_up, parts_fit}
 use Rattle.printer.specs.Sheets.{View, Leads, flag_at, chunk_text, sign_code}
-use Rattle.printer.specs.declared.pieces.Sign.{Sign}
-use Rattle.printer.specs.declared.course.Course.{Course}
+use Rattle.printer.specs.declared.fragments.SignOperator.{SignOperator}
+use Rattle.printer.specs.declared.part_sites.PartSites.{PartSites}
 use Rattle.printer.specs.Sites.{Stands}
 
 -- Marks of a shape, at a node of this text
@@ -41,7 +41,7 @@ deep lines ms rest = deeper ∷ (ms ++ shallower ∷ rest)
 deep _ ms rest = ms ++ rest
 
 abbrev pub shape_marks : List ℕ → Shape → Parts → List Mark
-shape_marks w s ps = front_marks w s.front (marks_in w s.opener ++ deep s.chain (chain_marks w s.chain (parts_behind (length s.front) ps)) (marks_in w s.closer))
+shape_marks w s ps = front_marks w s.front (marks_in w s.opener ++ deep s.chain (chain_marks w s.chain (parts_after (length s.front) ps)) (marks_in w s.closer))
 
 -- The text of marks
 
@@ -92,7 +92,7 @@ pub record Passed (W : ℕ → Bool) (old new : View) (ms ms' : List Mark) (ps p
   pub shows : (next : List ℕ) → Leads old new (marks_text W ms ps xs r d b ++ next) (marks_text W ms' ps' xs' row d b' ++ next)
 
 -- the same, with positions left that stand at a course
-pub record Gone (W : ℕ → Bool) (old new : View) (ms ms' : List Mark) (ps ps' : Parts) (xs : List Role) (c : Course) (b b' : Bool) (d r : ℕ) : Type 0 where
+pub record Gone (W : ℕ → Bool) (old new : View) (ms ms' : List Mark) (ps ps' : Parts) (xs : List Role) (c : PartSites) (b b' : Bool) (d r : ℕ) : Type 0 where
   pub left : List Role
   pub passed : Passed W old new ms ms' ps ps' xs left b b' d r
   pub stands : Stands c ps' left
@@ -103,5 +103,5 @@ pub record Written (W : ℕ → Bool) (old new : View) (ms : List Mark) (ps : Pa
   pub shows : (next : List ℕ) → Leads old new (marks_text W ms ps xs r d b ++ next) next
 
 -- a sign, and its operand
-abbrev pub signed_marks : List ℕ → Sign → List Mark
+abbrev pub signed_marks : List ℕ → SignOperator → List Mark
 signed_marks w s = text w ∷ apart (sign_code s) ∷ here ∷ []

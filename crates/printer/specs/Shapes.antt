@@ -7,11 +7,11 @@ use Rattle.tree.specs.declared.kind.Form.{Form}
 use Rattle.tree.specs.declared.kind.Form.TheVariants as form
 use Rattle.tree.specs.declared.kind.Flags.{Flags}
 use Rattle.tree.specs.Tree.{Parts, none, part, gap, kind_of, text_of, part_at}
-use Rattle.language.specs.Words.{literal_class, is_open_number, is_identifier, is_word_operator, among}
-use Rattle.printer.specs.declared.pieces.Sign.{Sign}
-use Rattle.printer.specs.declared.pieces.Sign.TheVariants.{Plus, Minus}
+use Rattle.language.specs.Vocabulary.{literal_class, is_open_number, is_identifier, is_word_operator, among}
+use Rattle.printer.specs.declared.fragments.SignOperator.{SignOperator}
+use Rattle.printer.specs.declared.fragments.SignOperator.TheVariants.{Plus, Minus}
 use Rattle.language.specs.Pieces.{is_none}
-use Rattle.positions.specs.Outlines.{parts_behind}
+use Rattle.spellings.specs.Outlines.{parts_after}
 use Rattle.printer.specs.declared.site.Site.{Site}
 use Rattle.printer.specs.declared.site.Site.TheVariants as site
 use Rattle.printer.specs.Bits.{Bit, token, own_text, newline, loosely, chunk, Chain, nothing, joined, commas, lines, feeds, parameters, Shape, fronted, listed}
@@ -34,8 +34,8 @@ infix_bits = gapped ∷ own_text ∷ gapped ∷ []
 abbrev pub between : String → List Bit
 between s = gapped ∷ spelled s ∷ gapped ∷ []
 
-abbrev pub behind_word : String → List Bit
-behind_word s = spelled s ∷ gapped ∷ []
+abbrev pub after_word : String → List Bit
+after_word s = spelled s ∷ gapped ∷ []
 
 abbrev pub headed : String → List Bit
 headed s = spelled s ∷ gapped ∷ spelled "(" ∷ []
@@ -59,7 +59,7 @@ abbrev pub for_shape : Bool → Bool → Shape
 for_shape t u = fronted (headed "for" ∷ cond t (spelled ";" ∷ gapped ∷ []) statement_end ∷ cond u (spelled ";" ∷ gapped ∷ []) statement_end ∷ close_space ∷ []) []
 
 abbrev pub do_shape : Shape
-do_shape = fronted (behind_word "do" ∷ (gapped ∷ spelled "while" ∷ gapped ∷ spelled "(" ∷ []) ∷ []) (spelled ")" ∷ spelled ";" ∷ [])
+do_shape = fronted (after_word "do" ∷ (gapped ∷ spelled "while" ∷ gapped ∷ spelled "(" ∷ []) ∷ []) (spelled ")" ∷ spelled ";" ∷ [])
 
 abbrev pub loop_shape : Kind → Parts → Shape
 loop_shape kind.WhileStatement ps = fronted (headed "while" ∷ close_space ∷ []) []
@@ -72,9 +72,9 @@ abbrev pub if_shape : Bool → Shape
 if_shape b = fronted (headed "if" ∷ close_space ∷ cond b (between "else") [] ∷ []) []
 
 abbrev pub try_shape : Bool → Bool → Shape
-try_shape true true = fronted (behind_word "try" ∷ (gapped ∷ []) ∷ between "finally" ∷ []) []
-try_shape true false = fronted (behind_word "try" ∷ (gapped ∷ []) ∷ [] ∷ []) []
-try_shape false b = fronted (behind_word "try" ∷ [] ∷ between "finally" ∷ []) []
+try_shape true true = fronted (after_word "try" ∷ (gapped ∷ []) ∷ between "finally" ∷ []) []
+try_shape true false = fronted (after_word "try" ∷ (gapped ∷ []) ∷ [] ∷ []) []
+try_shape false b = fronted (after_word "try" ∷ [] ∷ between "finally" ∷ []) []
 
 abbrev pub branch_shape : Kind → Parts → Shape
 branch_shape kind.IfStatement ps = if_shape (has_part ps 2)
@@ -84,7 +84,7 @@ branch_shape k ps = loop_shape k ps
 
 -- a word, with a part behind it or none
 abbrev pub word_shape : String → Bool → Shape
-word_shape s b = fronted (cond b (behind_word s) (spelled s ∷ []) ∷ []) statement_end
+word_shape s b = fronted (cond b (after_word s) (spelled s ∷ []) ∷ []) statement_end
 
 abbrev pub declarator_shape : Bool → Shape
 declarator_shape b = fronted ([] ∷ cond b (between "=") [] ∷ []) []
@@ -101,7 +101,7 @@ statement_shape kind.DebuggerStatement ps = fronted [] (spelled "debugger" ∷ s
 statement_shape kind.ReturnStatement ps = word_shape "return" (has_part ps 0)
 statement_shape kind.BreakStatement ps = word_shape "break" (has_part ps 0)
 statement_shape kind.ContinueStatement ps = word_shape "continue" (has_part ps 0)
-statement_shape kind.ThrowStatement ps = fronted (behind_word "throw" ∷ []) statement_end
+statement_shape kind.ThrowStatement ps = fronted (after_word "throw" ∷ []) statement_end
 statement_shape k ps = branch_shape k ps
 
 -- Lists of statements
@@ -112,18 +112,18 @@ braced_shape fs o true = record { front = fs; opener = o; chain = lines; closer 
 braced_shape fs o false = record { front = fs; opener = o; chain = nothing; closer = spelled "}" ∷ [] }
 
 abbrev pub case_shape : Bool → Shape
-case_shape true = record { front = behind_word "case" ∷ []; opener = spelled ":" ∷ []; chain = lines; closer = [] }
+case_shape true = record { front = after_word "case" ∷ []; opener = spelled ":" ∷ []; chain = lines; closer = [] }
 case_shape false = record { front = [] ∷ []; opener = spelled "default" ∷ spelled ":" ∷ []; chain = lines; closer = [] }
 
 abbrev pub catch_shape : Bool → Shape
 catch_shape true = fronted (headed "catch" ∷ close_space ∷ []) []
-catch_shape false = fronted ([] ∷ behind_word "catch" ∷ []) []
+catch_shape false = fronted ([] ∷ after_word "catch" ∷ []) []
 
 abbrev pub block_shape : Kind → Parts → Shape
 block_shape kind.Program ps = listed [] feeds (token [] ∷ [])
-block_shape kind.BlockStatement ps = braced_shape [] (spelled "{" ∷ []) (not (is_none (parts_behind 0 ps)))
-block_shape kind.ClassBody ps = braced_shape [] (spelled "{" ∷ []) (not (is_none (parts_behind 0 ps)))
-block_shape kind.SwitchStatement ps = braced_shape (headed "switch" ∷ []) (spelled ")" ∷ gapped ∷ spelled "{" ∷ []) (not (is_none (parts_behind 1 ps)))
+block_shape kind.BlockStatement ps = braced_shape [] (spelled "{" ∷ []) (not (is_none (parts_after 0 ps)))
+block_shape kind.ClassBody ps = braced_shape [] (spelled "{" ∷ []) (not (is_none (parts_after 0 ps)))
+block_shape kind.SwitchStatement ps = braced_shape (headed "switch" ∷ []) (spelled ")" ∷ gapped ∷ spelled "{" ∷ []) (not (is_none (parts_after 1 ps)))
 block_shape kind.SwitchCase ps = case_shape (has_part ps 0)
 block_shape kind.CatchClause ps = catch_shape (has_part ps 0)
 block_shape k ps = statement_shape k ps
@@ -143,10 +143,10 @@ arrow_shape true = fronted ([] ∷ between "=>" ∷ []) []
 arrow_shape false = listed (spelled "(" ∷ []) (parameters (spelled ")" ∷ between "=>")) []
 
 abbrev pub class_shape : Bool → Bool → Shape
-class_shape true true = fronted (behind_word "class" ∷ between "extends" ∷ (gapped ∷ []) ∷ []) []
-class_shape true false = fronted (behind_word "class" ∷ (gapped ∷ []) ∷ [] ∷ []) []
-class_shape false true = fronted (behind_word "class" ∷ behind_word "extends" ∷ (gapped ∷ []) ∷ []) []
-class_shape false false = fronted (behind_word "class" ∷ [] ∷ [] ∷ []) []
+class_shape true true = fronted (after_word "class" ∷ between "extends" ∷ (gapped ∷ []) ∷ []) []
+class_shape true false = fronted (after_word "class" ∷ (gapped ∷ []) ∷ [] ∷ []) []
+class_shape false true = fronted (after_word "class" ∷ after_word "extends" ∷ (gapped ∷ []) ∷ []) []
+class_shape false false = fronted (after_word "class" ∷ [] ∷ [] ∷ []) []
 
 -- the key of a method, computed or not
 abbrev pub method_key : List Bit → List Bit → Bool → Shape
@@ -156,18 +156,18 @@ abbrev pub value_shape : Bool → Shape
 value_shape b = fronted (cond b ((spelled "[" ∷ []) ∷ (spelled "]" ∷ colon_space) ∷ []) ([] ∷ colon_space ∷ [])) []
 
 abbrev pub getter_shape : Bool → Shape
-getter_shape b = method_key (behind_word "get") (spelled "get" ∷ gapped ∷ spelled "[" ∷ []) b
+getter_shape b = method_key (after_word "get") (spelled "get" ∷ gapped ∷ spelled "[" ∷ []) b
 
 abbrev pub setter_shape : Bool → Shape
-setter_shape b = method_key (behind_word "set") (spelled "set" ∷ gapped ∷ spelled "[" ∷ []) b
+setter_shape b = method_key (after_word "set") (spelled "set" ∷ gapped ∷ spelled "[" ∷ []) b
 
 abbrev pub plain_shape : Bool → Shape
 plain_shape b = method_key [] (spelled "[" ∷ []) b
 
 abbrev pub static_shape : Form → Bool → Shape
-static_shape form.Get b = method_key (spelled "static" ∷ gapped ∷ behind_word "get") (spelled "static" ∷ gapped ∷ spelled "get" ∷ gapped ∷ spelled "[" ∷ []) b
-static_shape form.Set b = method_key (spelled "static" ∷ gapped ∷ behind_word "set") (spelled "static" ∷ gapped ∷ spelled "set" ∷ gapped ∷ spelled "[" ∷ []) b
-static_shape _ b = method_key (behind_word "static") (spelled "static" ∷ gapped ∷ spelled "[" ∷ []) b
+static_shape form.Get b = method_key (spelled "static" ∷ gapped ∷ after_word "get") (spelled "static" ∷ gapped ∷ spelled "get" ∷ gapped ∷ spelled "[" ∷ []) b
+static_shape form.Set b = method_key (spelled "static" ∷ gapped ∷ after_word "set") (spelled "static" ∷ gapped ∷ spelled "set" ∷ gapped ∷ spelled "[" ∷ []) b
+static_shape _ b = method_key (after_word "static") (spelled "static" ∷ gapped ∷ spelled "[" ∷ []) b
 
 abbrev pub property_shape : Form → Bool → Shape
 property_shape form.Get b = getter_shape b
@@ -187,8 +187,8 @@ class_member_shape true x b = static_shape x b
 class_member_shape false x b = own_member_shape x b
 
 abbrev pub definition_shape : Kind → Flags → Parts → Shape
-definition_shape kind.FunctionExpression g ps = function_list_shape (behind_word "function" ∷ [])
-definition_shape kind.FunctionDeclaration g ps = function_list_shape (behind_word "function" ∷ [])
+definition_shape kind.FunctionExpression g ps = function_list_shape (after_word "function" ∷ [])
+definition_shape kind.FunctionDeclaration g ps = function_list_shape (after_word "function" ∷ [])
 definition_shape kind.ArrowFunctionExpression g ps = arrow_shape (is_single ps)
 definition_shape kind.ClassExpression g ps = class_shape (has_part ps 0) (has_part ps 1)
 definition_shape kind.ClassDeclaration g ps = class_shape (has_part ps 0) (has_part ps 1)
@@ -236,7 +236,7 @@ operation_shape kind.ConditionalExpression w g ps = fronted ([] ∷ between "?" 
 operation_shape kind.SequenceExpression w g ps = listed [] commas []
 operation_shape kind.MemberExpression w g ps = member_shape g.optional g.computed (after_open_number ps)
 operation_shape kind.CallExpression w g ps = call_shape g.optional
-operation_shape kind.NewExpression w g ps = call_list_shape (behind_word "new" ∷ []) (spelled "(" ∷ [])
+operation_shape kind.NewExpression w g ps = call_list_shape (after_word "new" ∷ []) (spelled "(" ∷ [])
 operation_shape k w g ps = definition_shape k g ps
 
 abbrev pub expression_shape : Kind → List ℕ → Flags → Parts → Shape
@@ -260,20 +260,20 @@ expression_shape k w g ps = operation_shape k w g ps
 
 -- at a site
 abbrev pub shape_on : Site → Kind → List ℕ → Flags → Parts → Shape
-shape_on site.Echo k w g ps = fronted [] []
-shape_on site.OnlyChunk k w g ps = fronted [] (chunk true true ∷ [])
-shape_on site.FirstChunk k w g ps = fronted [] (chunk true false ∷ [])
-shape_on site.LastChunk k w g ps = fronted [] (chunk false true ∷ [])
-shape_on site.InnerChunk k w g ps = fronted [] (chunk false false ∷ [])
+shape_on site.ShorthandKey k w g ps = fronted [] []
+shape_on site.OnlyTemplateElement k w g ps = fronted [] (chunk true true ∷ [])
+shape_on site.FirstTemplateElement k w g ps = fronted [] (chunk true false ∷ [])
+shape_on site.LastTemplateElement k w g ps = fronted [] (chunk false true ∷ [])
+shape_on site.InnerTemplateElement k w g ps = fronted [] (chunk false false ∷ [])
 shape_on site.Method k w g ps = method_shape
-shape_on site.Head k w g ps = head_shape
+shape_on site.ForDeclaration k w g ps = head_shape
 shape_on _ k w g ps = expression_shape k w g ps
 
 -- a prefix that may not touch its own sign
-abbrev pub sign_of_text : List ℕ → Option Sign
+abbrev pub sign_of_text : List ℕ → Option SignOperator
 sign_of_text w = cond (among w ("+" ∷ "++" ∷ [])) (Some Plus) (cond (among w ("-" ∷ "--" ∷ [])) (Some Minus) None)
 
-abbrev pub sign_at : Kind → List ℕ → Flags → Option Sign
+abbrev pub sign_at : Kind → List ℕ → Flags → Option SignOperator
 sign_at kind.UnaryExpression w g = sign_of_text w
 sign_at kind.UpdateExpression w g = cond g.prefix (sign_of_text w) None
 sign_at _ w g = None

@@ -1,19 +1,19 @@
 -- Sheets
 use Rattle.std.specs.Prelude.{◌≡◌, ℕ, zero, suc, Bool, false, cond, nat_eq, slice_index_or, List, [], ◌∷◌, ◌++◌, codes, Option, Some, None}
 use Rattle.language.specs.Layout.{indent}
-use Rattle.printer.specs.declared.pieces.Sign.{Sign}
-use Rattle.printer.specs.declared.pieces.Sign.TheVariants.{Plus, Minus}
-use Rattle.printer.specs.declared.pieces.Piece.{Piece}
-use Rattle.printer.specs.declared.pieces.Piece.TheVariants as own
-use Rattle.printer.specs.declared.sheet.Sheet.{Sheet}
+use Rattle.printer.specs.declared.fragments.SignOperator.{SignOperator}
+use Rattle.printer.specs.declared.fragments.SignOperator.TheVariants.{Plus, Minus}
+use Rattle.printer.specs.declared.fragments.Fragment.{Fragment}
+use Rattle.printer.specs.declared.fragments.Fragment.TheVariants as own
+use Rattle.printer.specs.declared.emitter.Emitter.{Emitter}
 use Rattle.printer.specs.Standings.{Standing, Stands}
 
-abbrev pub sign_code : Sign → ℕ
+abbrev pub sign_code : SignOperator → ℕ
 sign_code Plus = 43
 sign_code Minus = 45
 
 -- with a space first, where it begins with this sign
-abbrev pub held : Option Sign → List ℕ → List ℕ
+abbrev pub held : Option SignOperator → List ℕ → List ℕ
 held None t = t
 held (Some s) t = cond (nat_eq (slice_index_or t 0 0) (sign_code s)) (32 ∷ t) t
 
@@ -29,10 +29,10 @@ other_flags (b ∷ bs) = bs
 -- a sheet beside what it is written to
 pub record View : Type 0 where
   pub out : Standing
-  pub apart : Option Sign
+  pub apart : Option SignOperator
   pub flags : List Bool
 
-abbrev pub seen : Standing → Sheet → View
+abbrev pub seen : Standing → Emitter → View
 seen out s = record { out = out; apart = s.apart; flags = s.wraps.now }
 
 -- since `before`, this whole text is written once `next` follows; or the writing failed behind a beginning
@@ -51,15 +51,15 @@ pub record Writes (old new : View) (t : List ℕ) : Type 0 where
 abbrev pub chunk_text : Bool → Bool → List ℕ → List ℕ
 chunk_text a b w = codes (cond a "`" "}") ++ w ++ codes (cond b "`" "${")
 
-abbrev pub piece_text : List ℕ → ℕ → Bool → Piece → List ℕ
+abbrev pub piece_text : List ℕ → ℕ → Bool → Fragment → List ℕ
 piece_text w d b (own.Token s) = s.now
-piece_text w d b own.Own = w
-piece_text w d b (own.Chunk x y) = chunk_text x y w
+piece_text w d b own.NodeText = w
+piece_text w d b (own.TemplateElement x y) = chunk_text x y w
 piece_text w d b own.Space = codes " "
 piece_text w d b own.Line = 10 ∷ indent d
-piece_text w d b own.Feed = codes "\n"
-piece_text w d b own.Loose = cond b (codes " ") []
+piece_text w d b own.LineFeed = codes "\n"
+piece_text w d b own.SpaceAfterNumber = cond b (codes " ") []
 
-abbrev pub pieces_text : List ℕ → ℕ → Bool → List Piece → List ℕ
+abbrev pub pieces_text : List ℕ → ℕ → Bool → List Fragment → List ℕ
 pieces_text w d b [] = []
 pieces_text w d b (p ∷ ps) = piece_text w d b p ++ pieces_text w d b ps

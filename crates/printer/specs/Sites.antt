@@ -9,29 +9,29 @@ use Rattle.tree.specs.Tree.{Tree, Parts, none, part, gap, kind_of}
 use Rattle.language.specs.Pieces as piece
 use Rattle.language.specs.Pieces.{Role, is_none}
 use Rattle.language.specs.Grammar.{ways}
-use Rattle.language.specs.Positions.{has_row}
+use Rattle.language.specs.RowPositions.{has_row}
 use Rattle.language.specs.Layout.{some_way, inside}
-use Rattle.language.specs.Expressions.{first_chained}
+use Rattle.language.specs.Expressions.{first_has_optional}
 use Rattle.printer.specs.declared.site.Site.{Site}
 use Rattle.printer.specs.declared.site.Site.TheVariants as site
-use Rattle.printer.specs.declared.site.Seat.{Seat}
-use Rattle.printer.specs.declared.site.Seat.TheVariants.{AtRow, AtLink, AtEcho, AtChunk, AtMethod, AtEntry, AtTarget, AtPlain, Told, Concise}
-use Rattle.printer.specs.declared.course.Course.{Course}
+use Rattle.printer.specs.declared.site.SiteRule.{SiteRule}
+use Rattle.printer.specs.declared.site.SiteRule.TheVariants.{AtRow, AtLink, AtEcho, AtChunk, AtMethod, AtEntry, AtTarget, AtPlain, Told, Concise}
+use Rattle.printer.specs.declared.part_sites.PartSites.{PartSites}
 use Rattle.printer.specs.Shapes.{has_part}
 
 -- whether a part of a template is the first, and the last
 abbrev pub chunk_site : Bool → Bool → Site
-chunk_site true true = site.OnlyChunk
-chunk_site true false = site.FirstChunk
-chunk_site false true = site.LastChunk
-chunk_site false false = site.InnerChunk
+chunk_site true true = site.OnlyTemplateElement
+chunk_site true false = site.FirstTemplateElement
+chunk_site false true = site.LastTemplateElement
+chunk_site false false = site.InnerTemplateElement
 
 -- what the layout asks of a position
 abbrev pub site_of : Role → Site
 site_of (piece.expr y i f) = site.Row
-site_of (piece.spine f) = site.Link
-site_of piece.echo = site.Echo
-site_of (piece.chunk a b) = chunk_site a b
+site_of (piece.chain_part f) = site.ChainPart
+site_of piece.shorthand_key = site.ShorthandKey
+site_of (piece.template_element a b) = chunk_site a b
 site_of piece.spread = site.Entry
 site_of piece.property = site.Entry
 site_of (piece.pattern false f) = site.Target
@@ -39,7 +39,7 @@ site_of (piece.pattern_property false) = site.Target
 site_of (piece.element false) = site.Target
 site_of (piece.rest false o) = site.Target
 site_of (piece.method x) = site.Method
-site_of (piece.head b) = site.Head
+site_of (piece.head b) = site.ForDeclaration
 site_of _ = site.Plain
 
 abbrev pub is_row : Site → Bool
@@ -47,13 +47,13 @@ is_row site.Row = true
 is_row _ = false
 
 abbrev pub is_plain : Site → Bool
-is_plain site.Echo = false
-is_plain site.OnlyChunk = false
-is_plain site.FirstChunk = false
-is_plain site.LastChunk = false
-is_plain site.InnerChunk = false
+is_plain site.ShorthandKey = false
+is_plain site.OnlyTemplateElement = false
+is_plain site.FirstTemplateElement = false
+is_plain site.LastTemplateElement = false
+is_plain site.InnerTemplateElement = false
 is_plain site.Method = false
-is_plain site.Head = false
+is_plain site.ForDeclaration = false
 is_plain _ = true
 
 -- a name or a literal without parts, which is written as its own text
@@ -65,7 +65,7 @@ is_word x _ ps = false
 -- Seats
 
 abbrev pub first_chunk : Bool → Site
-first_chunk last = cond last site.OnlyChunk site.FirstChunk
+first_chunk last = cond last site.OnlyTemplateElement site.FirstTemplateElement
 
 abbrev pub concise : Bool → Site
 concise last = cond last site.Row site.Plain
@@ -79,15 +79,15 @@ told_at kind.ArrayPattern last = site.Target
 told_at kind.ObjectPattern last = site.Target
 told_at kind.AssignmentPattern last = site.Target
 told_at kind.RestElement last = site.Target
-told_at kind.VariableDeclaration last = site.Head
-told_at kind.TemplateElement last = cond last site.LastChunk site.InnerChunk
+told_at kind.VariableDeclaration last = site.ForDeclaration
+told_at kind.TemplateElement last = cond last site.LastTemplateElement site.InnerTemplateElement
 told_at _ last = site.Row
 
 -- of a part of this kind, and whether it is the last
-abbrev pub seated_at : Seat → Kind → Bool → Site
+abbrev pub seated_at : SiteRule → Kind → Bool → Site
 seated_at AtRow k last = site.Row
-seated_at AtLink k last = site.Link
-seated_at AtEcho k last = site.Echo
+seated_at AtLink k last = site.ChainPart
+seated_at AtEcho k last = site.ShorthandKey
 seated_at AtChunk k last = first_chunk last
 seated_at AtMethod k last = site.Method
 seated_at AtEntry k last = site.Entry
@@ -98,74 +98,74 @@ seated_at Concise k last = concise last
 
 -- Courses
 
-abbrev pub all_at : Seat → Course
+abbrev pub all_at : SiteRule → PartSites
 all_at s = record { next = s; second = s; third = s; others = s }
 
-abbrev pub first_at : Seat → Seat → Course
+abbrev pub first_at : SiteRule → SiteRule → PartSites
 first_at s o = record { next = s; second = o; third = o; others = o }
 
-abbrev pub before_all : Seat → Course → Course
+abbrev pub before_all : SiteRule → PartSites → PartSites
 before_all s c = record { next = s; second = c.next; third = c.second; others = c.third }
 
-abbrev pub behind_first : Course → Course
-behind_first c = record { next = c.second; second = c.third; third = c.others; others = c.others }
+abbrev pub after_first : PartSites → PartSites
+after_first c = record { next = c.second; second = c.third; third = c.others; others = c.others }
 
-abbrev pub key_seat : Bool → Seat
+abbrev pub key_seat : Bool → SiteRule
 key_seat computed = cond computed AtRow AtPlain
 
 -- of a property's value, at the property's site
-abbrev pub value_seat : Site → Seat
+abbrev pub value_seat : Site → SiteRule
 value_seat site.Entry = AtRow
 value_seat site.Target = Told
 value_seat _ = AtPlain
 
-abbrev pub property_course : Site → Form → Bool → Course
+abbrev pub property_course : Site → Form → Bool → PartSites
 property_course x form.Init computed = first_at (key_seat computed) (value_seat x)
 property_course x form.Shorthand computed = first_at AtEcho AtPlain
 property_course x _ computed = first_at (key_seat computed) AtMethod
 
 -- of a part of a pattern, and of an object's pattern, at the pattern's site
-abbrev pub element_seat : Site → Seat
+abbrev pub element_seat : Site → SiteRule
 element_seat site.Target = Told
 element_seat _ = AtPlain
 
-abbrev pub entry_seat : Site → Seat
+abbrev pub entry_seat : Site → SiteRule
 entry_seat site.Target = AtTarget
 entry_seat _ = AtPlain
 
 -- below a part of a chain, by whether that has a `?.`, and whether one stands further below
-abbrev pub link_seat : Bool → Bool → Seat
+abbrev pub link_seat : Bool → Bool → SiteRule
 link_seat true false = AtRow
 link_seat _ _ = AtLink
 
-abbrev pub callee_seat : Site → Bool → Bool → Seat
-callee_seat site.Link optional below = link_seat optional below
+abbrev pub callee_seat : Site → Bool → Bool → SiteRule
+callee_seat site.ChainPart optional below = link_seat optional below
 callee_seat _ optional below = Told
 
-abbrev pub arrow_course : Bool → Course
+abbrev pub arrow_course : Bool → PartSites
 arrow_course is_expression = cond is_expression (all_at Concise) (all_at AtPlain)
 
-abbrev pub class_course : Bool → Bool → Course
+abbrev pub class_course : Bool → Bool → PartSites
 class_course named false = all_at AtPlain
 class_course true true = before_all AtPlain (first_at AtRow AtPlain)
 class_course false true = first_at AtRow AtPlain
 
-abbrev pub evaluated_course : Bool → Course
+abbrev pub evaluated_course : Bool → PartSites
 evaluated_course directive = cond directive (all_at AtPlain) (all_at AtRow)
 
-abbrev pub case_course : Bool → Course
+abbrev pub case_course : Bool → PartSites
 case_course tested = cond tested (first_at AtRow AtPlain) (all_at AtPlain)
 
-abbrev pub rest_of_for : Bool → Bool → Course
+abbrev pub rest_of_for : Bool → Bool → PartSites
 rest_of_for true true = before_all AtRow (first_at AtRow AtPlain)
 rest_of_for true false = first_at AtRow AtPlain
 rest_of_for false true = first_at AtRow AtPlain
 rest_of_for false false = all_at AtPlain
 
-abbrev pub for_course : Bool → Bool → Bool → Course
+abbrev pub for_course : Bool → Bool → Bool → PartSites
 for_course begins tests updates = cond begins (before_all Told (rest_of_for tests updates)) (rest_of_for tests updates)
 
-abbrev pub statement_course : Kind → Flags → Parts → Course
+abbrev pub statement_course : Kind → Flags → Parts → PartSites
 statement_course kind.ExpressionStatement g ps = evaluated_course g.directive
 statement_course kind.VariableDeclarator g ps = first_at AtPlain AtRow
 statement_course kind.DoWhileStatement g ps = first_at AtPlain AtRow
@@ -178,7 +178,7 @@ statement_course kind.ForInStatement g ps = before_all Told (first_at AtRow AtPl
 statement_course kind.ForOfStatement g ps = before_all Told (first_at AtRow AtPlain)
 statement_course k g ps = all_at AtPlain
 
-abbrev pub definition_course : Site → Kind → Flags → Parts → Course
+abbrev pub definition_course : Site → Kind → Flags → Parts → PartSites
 definition_course x kind.ArrowFunctionExpression g ps = arrow_course g.expression
 definition_course x kind.ClassExpression g ps = class_course (has_part ps 0) (has_part ps 1)
 definition_course x kind.ClassDeclaration g ps = class_course (has_part ps 0) (has_part ps 1)
@@ -191,9 +191,9 @@ definition_course x kind.AssignmentPattern g ps = first_at (element_seat x) AtRo
 definition_course x k g ps = statement_course k g ps
 
 -- the seats of a node's parts, at a site of its own
-abbrev pub course_at : Site → Kind → Flags → Parts → Course
-course_at x kind.MemberExpression g ps = first_at (callee_seat x g.optional (first_chained ps)) (key_seat g.computed)
-course_at x kind.CallExpression g ps = first_at (callee_seat x g.optional (first_chained ps)) Told
+abbrev pub course_at : Site → Kind → Flags → Parts → PartSites
+course_at x kind.MemberExpression g ps = first_at (callee_seat x g.optional (first_has_optional ps)) (key_seat g.computed)
+course_at x kind.CallExpression g ps = first_at (callee_seat x g.optional (first_has_optional ps)) Told
 course_at x kind.BinaryExpression g ps = all_at AtRow
 course_at x kind.LogicalExpression g ps = all_at AtRow
 course_at x kind.ConditionalExpression g ps = all_at AtRow
@@ -220,8 +220,8 @@ abbrev pub CanStand : Tree → Role → Type 0
 CanStand n a = (b : Bool) × (some_way (ways (inside (nat_eq (has_row a) 1 && b) a) n) ≡ true)
 
 -- parts at these positions are at the sites of a course
-abbrev pub Stands : Course → Parts → List Role → Type 0
+abbrev pub Stands : PartSites → Parts → List Role → Type 0
 Stands c none xs = Unit {0}
 Stands c (gap ps) xs = Stands c ps xs
 Stands c (part n ps) [] = Unit {0}
-Stands c (part n ps) (a ∷ xs) = (CanStand n a → site_of a ≡ seated_at c.next (kind_of n) (is_none ps)) × Stands (behind_first c) ps xs
+Stands c (part n ps) (a ∷ xs) = (CanStand n a → site_of a ≡ seated_at c.next (kind_of n) (is_none ps)) × Stands (after_first c) ps xs

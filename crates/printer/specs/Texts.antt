@@ -9,7 +9,7 @@ use Rattle.tree.specs.declared.kind.Pair.{Pair}
 use Rattle.language.specs.Pieces.{script}
 use Rattle.language.specs.Layout.{layout, fixed_text}
 use Rattle.language.specs.Claims.{Derives}
-use Rattle.language.specs.Fits.{fits}
+use Rattle.language.specs.LayoutFits.{fits}
 use Rattle.printer.specs.Fits.{wrapped_by, IsPlanned}
 
 -- it is the layout, where each node, with these parentheses, can be spelled where it stands

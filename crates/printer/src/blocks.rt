@@ -6,23 +6,23 @@ ghost use Rattle.tree.specs.Tree.{kind_of, parts_of};
 ghost use Rattle.printer.specs.Bits.{shape_of, fused_shape};
 ghost use Rattle.printer.specs.Shapes.{spelled, gapped, headed, block_shape, braced_shape, case_shape, catch_shape};
 
-use crate::lists::{CLOSE_SPACE, has_part, is_filled};
-use crate::pieces::{Frame, Piece, Series, front_frame, list_frame};
+use crate::fragments::{Fragment, Frame, ListLayout, front_frame, list_frame};
+use crate::shared_fragments::{CLOSE_SPACE, has_part, is_filled};
 use crate::statements::statement_frame;
 use tree::{Kind, Node};
 
-const BRACE: &[Piece] = &[Piece::Token("{")];
+const BRACE: &[Fragment] = &[Fragment::Token("{")];
 
-const END_BRACE: &[Piece] = &[Piece::Token("}")];
+const END_BRACE: &[Fragment] = &[Fragment::Token("}")];
 
-const LINE_END_BRACE: &[Piece] = &[Piece::Line, Piece::Token("}")];
+const LINE_END_BRACE: &[Fragment] = &[Fragment::Line, Fragment::Token("}")];
 
-const SWITCH: &[Piece] = &[Piece::Token("switch (")];
+const SWITCH: &[Fragment] = &[Fragment::Token("switch (")];
 
-const SWITCH_BRACE: &[Piece] = &[Piece::Token(") {")];
+const SWITCH_BRACE: &[Fragment] = &[Fragment::Token(") {")];
 
 /// With nothing at its end.
-static SCRIPT: Frame = list_frame!(&[], Feeds, &[Piece::Token("")]);
+static SCRIPT: Frame = list_frame!(&[], Feeds, &[Fragment::Token("")]);
 
 static BLOCK: Frame = list_frame!(BRACE, Lines, LINE_END_BRACE);
 
@@ -31,34 +31,34 @@ static EMPTY_BLOCK: Frame = list_frame!(BRACE, Nothing, END_BRACE);
 static CASES: Frame = Frame {
     front: &[SWITCH],
     opener: SWITCH_BRACE,
-    series: Series::Lines,
+    series: ListLayout::Lines,
     closer: LINE_END_BRACE,
 };
 
 static NO_CASES: Frame = Frame {
     front: &[SWITCH],
     opener: SWITCH_BRACE,
-    series: Series::Nothing,
+    series: ListLayout::Nothing,
     closer: END_BRACE,
 };
 
 static CASE: Frame = Frame {
-    front: &[&[Piece::Token("case ")]],
-    opener: &[Piece::Token(":")],
-    series: Series::Lines,
+    front: &[&[Fragment::Token("case ")]],
+    opener: &[Fragment::Token(":")],
+    series: ListLayout::Lines,
     closer: &[],
 };
 
 static DEFAULT_CASE: Frame = Frame {
     front: &[&[]],
-    opener: &[Piece::Token("default:")],
-    series: Series::Lines,
+    opener: &[Fragment::Token("default:")],
+    series: ListLayout::Lines,
     closer: &[],
 };
 
-static CATCH_BINDING: Frame = front_frame!(&[&[Piece::Token("catch (")], CLOSE_SPACE,], &[]);
+static CATCH_BINDING: Frame = front_frame!(&[&[Fragment::Token("catch (")], CLOSE_SPACE,], &[]);
 
-static CATCH: Frame = front_frame!(&[&[], &[Piece::Token("catch ")]], &[]);
+static CATCH: Frame = front_frame!(&[&[], &[Fragment::Token("catch ")]], &[]);
 
 /// Scripts, blocks, class bodies, switches and cases.
 pub fn block_frame(node: Node) -> &'static Frame

@@ -7,35 +7,35 @@ ghost use Rattle.printer.specs.Bits.{shape_of, fused_shape};
 ghost use Rattle.printer.specs.Shapes.{definition_shape, method_shape, arrow_shape, is_single as is_single_arrow, class_shape, property_shape, class_member_shape, value_shape, getter_shape, setter_shape, plain_shape, static_shape};
 
 use crate::blocks::block_frame;
-use crate::lists::{COLON, END_BRACKET, OPEN, has_part};
-use crate::pieces::{Frame, Piece, Series, front_frame, list_frame};
+use crate::fragments::{Fragment, Frame, ListLayout, front_frame, list_frame};
+use crate::shared_fragments::{COLON, END_BRACKET, OPEN, has_part};
 use tree::{Flags, Form, Kind, Node};
 
-const FUNCTION: &[Piece] = &[Piece::Token("function ")];
+const FUNCTION: &[Fragment] = &[Fragment::Token("function ")];
 
-const CLASS: &[Piece] = &[Piece::Token("class ")];
+const CLASS: &[Fragment] = &[Fragment::Token("class ")];
 
-const ARROW: &[Piece] = &[Piece::Token(" => ")];
+const ARROW: &[Fragment] = &[Fragment::Token(" => ")];
 
-const EXTENDS: &[Piece] = &[Piece::Token("extends ")];
+const EXTENDS: &[Fragment] = &[Fragment::Token("extends ")];
 
-const SPACE_EXTENDS: &[Piece] = &[Piece::Token(" extends ")];
+const SPACE_EXTENDS: &[Fragment] = &[Fragment::Token(" extends ")];
 
-const GET: &[Piece] = &[Piece::Token("get ")];
+const GET: &[Fragment] = &[Fragment::Token("get ")];
 
-const SET: &[Piece] = &[Piece::Token("set ")];
+const SET: &[Fragment] = &[Fragment::Token("set ")];
 
-const STATIC: &[Piece] = &[Piece::Token("static ")];
+const STATIC: &[Fragment] = &[Fragment::Token("static ")];
 
-const STATIC_BRACKET: &[Piece] = &[Piece::Token("static [")];
+const STATIC_BRACKET: &[Fragment] = &[Fragment::Token("static [")];
 
-const STATIC_GET: &[Piece] = &[Piece::Token("static get ")];
+const STATIC_GET: &[Fragment] = &[Fragment::Token("static get ")];
 
-const STATIC_GET_BRACKET: &[Piece] = &[Piece::Token("static get [")];
+const STATIC_GET_BRACKET: &[Fragment] = &[Fragment::Token("static get [")];
 
-const STATIC_SET: &[Piece] = &[Piece::Token("static set ")];
+const STATIC_SET: &[Fragment] = &[Fragment::Token("static set ")];
 
-const STATIC_SET_BRACKET: &[Piece] = &[Piece::Token("static set [")];
+const STATIC_SET_BRACKET: &[Fragment] = &[Fragment::Token("static set [")];
 
 /// Parameters in their parentheses, and a body, behind a part that stands behind these pieces.
 macro_rules! function_frame {
@@ -43,7 +43,7 @@ macro_rules! function_frame {
         Frame {
             front: &[$front],
             opener: OPEN,
-            series: Series::Parameters,
+            series: ListLayout::Parameters,
             closer: &[],
         }
     };
@@ -57,11 +57,11 @@ static NAMED_ARROW: Frame = front_frame!(&[&[], ARROW], &[]);
 
 static LISTED_ARROW: Frame = list_frame!(OPEN, ArrowParameters, &[]);
 
-static NAMED_SUBCLASS: Frame = front_frame!(&[CLASS, SPACE_EXTENDS, &[Piece::Space]], &[]);
+static NAMED_SUBCLASS: Frame = front_frame!(&[CLASS, SPACE_EXTENDS, &[Fragment::Space]], &[]);
 
-static NAMED_CLASS: Frame = front_frame!(&[CLASS, &[Piece::Space], &[]], &[]);
+static NAMED_CLASS: Frame = front_frame!(&[CLASS, &[Fragment::Space], &[]], &[]);
 
-static SUBCLASS: Frame = front_frame!(&[CLASS, EXTENDS, &[Piece::Space]], &[]);
+static SUBCLASS: Frame = front_frame!(&[CLASS, EXTENDS, &[Fragment::Space]], &[]);
 
 static BARE_CLASS: Frame = front_frame!(&[CLASS, &[], &[]], &[]);
 
@@ -69,19 +69,22 @@ static SHORTHAND: Frame = front_frame!(&[&[], &[]], &[]);
 
 static VALUE: Frame = front_frame!(&[&[], COLON], &[]);
 
-static COMPUTED_VALUE: Frame = front_frame!(&[&[Piece::Token("[")], &[Piece::Token("]: ")],], &[]);
+static COMPUTED_VALUE: Frame = front_frame!(
+    &[&[Fragment::Token("[")], &[Fragment::Token("]: ")],],
+    &[]
+);
 
 static GETTER: Frame = front_frame!(&[GET, &[]], &[]);
 
-static COMPUTED_GETTER: Frame = front_frame!(&[&[Piece::Token("get [")], END_BRACKET,], &[]);
+static COMPUTED_GETTER: Frame = front_frame!(&[&[Fragment::Token("get [")], END_BRACKET,], &[]);
 
 static SETTER: Frame = front_frame!(&[SET, &[]], &[]);
 
-static COMPUTED_SETTER: Frame = front_frame!(&[&[Piece::Token("set [")], END_BRACKET,], &[]);
+static COMPUTED_SETTER: Frame = front_frame!(&[&[Fragment::Token("set [")], END_BRACKET,], &[]);
 
 static PLAIN: Frame = front_frame!(&[&[], &[]], &[]);
 
-static COMPUTED: Frame = front_frame!(&[&[Piece::Token("[")], END_BRACKET], &[]);
+static COMPUTED: Frame = front_frame!(&[&[Fragment::Token("[")], END_BRACKET], &[]);
 
 static STATIC_GETTER: Frame = front_frame!(&[STATIC_GET, &[]], &[]);
 

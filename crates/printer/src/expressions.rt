@@ -4,24 +4,24 @@ ghost use Rattle.std.specs.Prelude.{◌≡◌, not};
 ghost use Rattle.tree.specs.Node.{node_tree};
 ghost use Rattle.tree.specs.Tree.{kind_of, text_of, flags_of, parts_of};
 ghost use Rattle.printer.specs.Bits.{shape_of, fused_shape};
-ghost use Rattle.language.specs.Words.{is_word_operator as is_operator_word, is_open_number as is_open_number_text, literal_class as class_of_literal};
+ghost use Rattle.language.specs.Vocabulary.{is_word_operator as is_operator_word, is_open_number as is_open_number_text, literal_class as class_of_literal};
 ghost use Rattle.printer.specs.Shapes.{expression_shape, operation_shape, update_shape, unary_shape, after_open_number, is_open_literal, member_shape, call_shape};
 
 use crate::definitions::definition_frame;
-use crate::lists::{CLOSE, END_BRACKET, OPEN};
-use crate::pieces::{Frame, Piece, Series, front_frame, list_frame};
-use tokens::Class;
+use crate::fragments::{Fragment, Frame, ListLayout, front_frame, list_frame};
+use crate::shared_fragments::{CLOSE, END_BRACKET, OPEN};
+use tokens::TokenClass;
 use tree::{Flags, Kind, Node};
 
-const OWN: &[Piece] = &[Piece::Own];
+const OWN: &[Fragment] = &[Fragment::NodeText];
 
-const INFIX: &[Piece] = &[Piece::Space, Piece::Own, Piece::Space];
+const INFIX: &[Fragment] = &[Fragment::Space, Fragment::NodeText, Fragment::Space];
 
-const EQUALS: &[Piece] = &[Piece::Token(" = ")];
+const EQUALS: &[Fragment] = &[Fragment::Token(" = ")];
 
-const DOTS: &[Piece] = &[Piece::Token("...")];
+const DOTS: &[Fragment] = &[Fragment::Token("...")];
 
-const BRACKET: &[Piece] = &[Piece::Token("[")];
+const BRACKET: &[Fragment] = &[Fragment::Token("[")];
 
 /// Arguments behind a part.
 macro_rules! arguments_frame {
@@ -29,7 +29,7 @@ macro_rules! arguments_frame {
         Frame {
             front: $front,
             opener: $opener,
-            series: Series::Commas,
+            series: ListLayout::Commas,
             closer: CLOSE,
         }
     };
@@ -37,13 +37,13 @@ macro_rules! arguments_frame {
 
 static WORD: Frame = front_frame!(&[], OWN);
 
-static THIS: Frame = front_frame!(&[], &[Piece::Token("this")]);
+static THIS: Frame = front_frame!(&[], &[Fragment::Token("this")]);
 
-static SUPER: Frame = front_frame!(&[], &[Piece::Token("super")]);
+static SUPER: Frame = front_frame!(&[], &[Fragment::Token("super")]);
 
 static ARRAY: Frame = list_frame!(BRACKET, Commas, END_BRACKET);
 
-static OBJECT: Frame = list_frame!(&[Piece::Token("{")], Commas, &[Piece::Token("}")]);
+static OBJECT: Frame = list_frame!(&[Fragment::Token("{")], Commas, &[Fragment::Token("}")]);
 
 static TEMPLATE: Frame = list_frame!(&[], Joined, &[]);
 
@@ -55,40 +55,46 @@ static TAGGED: Frame = front_frame!(&[&[], &[]], &[]);
 
 static CHAIN: Frame = front_frame!(&[&[]], &[]);
 
-static IMPORT: Frame = front_frame!(&[&[Piece::Token("import(")]], CLOSE);
+static IMPORT: Frame = front_frame!(&[&[Fragment::Token("import(")]], CLOSE);
 
-static META_PROPERTY: Frame = front_frame!(&[&[], &[Piece::Token(".")]], &[]);
+static META_PROPERTY: Frame = front_frame!(&[&[], &[Fragment::Token(".")]], &[]);
 
 static PREFIX: Frame = front_frame!(&[OWN], &[]);
 
 static POSTFIX: Frame = front_frame!(&[&[]], OWN);
 
-static WORD_PREFIX: Frame = front_frame!(&[&[Piece::Own, Piece::Space]], &[]);
+static WORD_PREFIX: Frame = front_frame!(&[&[Fragment::NodeText, Fragment::Space]], &[]);
 
 static BINARY: Frame = front_frame!(&[&[], INFIX], &[]);
 
 static CONDITIONAL: Frame = front_frame!(
-    &[&[], &[Piece::Token(" ? ")], &[Piece::Token(" : ")],],
+    &[&[], &[Fragment::Token(" ? ")], &[Fragment::Token(" : ")],],
     &[]
 );
 
 static SEQUENCE: Frame = list_frame!(&[], Commas, &[]);
 
-static MEMBER: Frame = front_frame!(&[&[], &[Piece::Token(".")]], &[]);
+static MEMBER: Frame = front_frame!(&[&[], &[Fragment::Token(".")]], &[]);
 
-static NUMBER_MEMBER: Frame = front_frame!(&[&[], &[Piece::Loose, Piece::Token(".")]], &[]);
+static NUMBER_MEMBER: Frame = front_frame!(
+    &[&[], &[Fragment::SpaceAfterNumber, Fragment::Token(".")]],
+    &[]
+);
 
-static OPTIONAL_MEMBER: Frame = front_frame!(&[&[], &[Piece::Token("?.")]], &[]);
+static OPTIONAL_MEMBER: Frame = front_frame!(&[&[], &[Fragment::Token("?.")]], &[]);
 
 static COMPUTED_MEMBER: Frame = front_frame!(&[&[], BRACKET], END_BRACKET);
 
-static OPTIONAL_COMPUTED_MEMBER: Frame = front_frame!(&[&[], &[Piece::Token("?.[")]], END_BRACKET);
+static OPTIONAL_COMPUTED_MEMBER: Frame = front_frame!(
+    &[&[], &[Fragment::Token("?.[")]],
+    END_BRACKET
+);
 
 static CALL: Frame = arguments_frame!(&[&[]], OPEN);
 
-static OPTIONAL_CALL: Frame = arguments_frame!(&[&[]], &[Piece::Token("?.(")]);
+static OPTIONAL_CALL: Frame = arguments_frame!(&[&[]], &[Fragment::Token("?.(")]);
 
-static NEW: Frame = arguments_frame!(&[&[Piece::Token("new ")]], OPEN);
+static NEW: Frame = arguments_frame!(&[&[Fragment::Token("new ")]], OPEN);
 
 /// Words, lists and templates.
 pub fn expression_frame(node: Node) -> &'static Frame
@@ -172,18 +178,18 @@ fn is_number(kind: Kind, text: &str) -> bool
 
 /// Whether a literal of this class is a number without the suffix `n`.
 #[inline(never)]
-fn is_open(class: Class, text: &str) -> bool
+fn is_open(class: TokenClass, text: &str) -> bool
     ensures { result ≡ is_open_number_text class text.now }
 {
     match class {
-        Class::Number => !ends_in_n(text),
+        TokenClass::NumericLiteral => !ends_in_n(text),
         _ => false,
     }
 }
 
 #[tactic(auto, using(crate::proofs::Ends::last_open, crate::proofs::Ends::empty_open))]
 fn ends_in_n(text: &str) -> bool
-    ensures { result ≡ not (is_open_number_text Class.Number text.now) }
+    ensures { result ≡ not (is_open_number_text TokenClass.NumericLiteral text.now) }
 {
     match text.as_bytes().last() {
         Some(last) => *last == b'n',
@@ -192,14 +198,14 @@ fn ends_in_n(text: &str) -> bool
 }
 
 /// The class of a literal, which its first character tells.
-fn literal_class(raw: &str) -> Class
+fn literal_class(raw: &str) -> TokenClass
     ensures { result ≡ class_of_literal raw.now }
 {
     match raw.as_bytes() {
-        [b'"' | b'\'', ..] => Class::Text,
-        [b'/', ..] => Class::RegExp,
-        [b'.' | b'0'..=b'9', ..] => Class::Number,
-        _ => Class::Name,
+        [b'"' | b'\'', ..] => TokenClass::StringLiteral,
+        [b'/', ..] => TokenClass::RegularExpressionLiteral,
+        [b'.' | b'0'..=b'9', ..] => TokenClass::NumericLiteral,
+        _ => TokenClass::IdentifierName,
     }
 }
 

@@ -9,7 +9,7 @@ ghost use Rattle.printer.specs.Sites.{is_word as is_word_at};
 
 use crate::definitions::method_frame;
 use crate::expressions::expression_frame;
-use crate::pieces::{Frame, Piece, front_frame};
+use crate::fragments::{Fragment, Frame, front_frame};
 use crate::site::{Site, is_plain};
 use crate::statements::head_frame;
 use tree::{Kind, Node};
@@ -18,7 +18,7 @@ static NOTHING: Frame = front_frame!(&[], &[]);
 
 static ONLY_CHUNK: Frame = front_frame!(
     &[],
-    &[Piece::Chunk {
+    &[Fragment::TemplateElement {
         is_first: true,
         is_last: true,
     }]
@@ -26,7 +26,7 @@ static ONLY_CHUNK: Frame = front_frame!(
 
 static FIRST_CHUNK: Frame = front_frame!(
     &[],
-    &[Piece::Chunk {
+    &[Fragment::TemplateElement {
         is_first: true,
         is_last: false,
     }]
@@ -34,7 +34,7 @@ static FIRST_CHUNK: Frame = front_frame!(
 
 static LAST_CHUNK: Frame = front_frame!(
     &[],
-    &[Piece::Chunk {
+    &[Fragment::TemplateElement {
         is_first: false,
         is_last: true,
     }]
@@ -42,7 +42,7 @@ static LAST_CHUNK: Frame = front_frame!(
 
 static INNER_CHUNK: Frame = front_frame!(
     &[],
-    &[Piece::Chunk {
+    &[Fragment::TemplateElement {
         is_first: false,
         is_last: false,
     }]
@@ -53,13 +53,13 @@ pub fn frame_of(node: Node, site: Site) -> &'static Frame
     ensures { shape_of result.now ≡ fused_shape (shape_on site (kind_of (node_tree node.entry)) (text_of (node_tree node.entry)) (flags_of (node_tree node.entry)) (parts_of (node_tree node.entry))) }
 {
     match site {
-        Site::Echo => &NOTHING,
-        Site::OnlyChunk => &ONLY_CHUNK,
-        Site::FirstChunk => &FIRST_CHUNK,
-        Site::LastChunk => &LAST_CHUNK,
-        Site::InnerChunk => &INNER_CHUNK,
+        Site::ShorthandKey => &NOTHING,
+        Site::OnlyTemplateElement => &ONLY_CHUNK,
+        Site::FirstTemplateElement => &FIRST_CHUNK,
+        Site::LastTemplateElement => &LAST_CHUNK,
+        Site::InnerTemplateElement => &INNER_CHUNK,
         Site::Method => method_frame(),
-        Site::Head => head_frame(),
+        Site::ForDeclaration => head_frame(),
         _ => expression_frame(node),
     }
 }

@@ -3,16 +3,16 @@
 //! The text of a tree in its one layout, with parentheses round the nodes that are wrapped.
 
 mod blocks;
-mod course;
 mod definitions;
+mod emitter;
 mod expressions;
+mod fragments;
 mod frame;
-mod lists;
 mod output;
-mod pieces;
+mod output_buffer;
+mod part_sites;
 mod printer;
-mod room;
-mod sheet;
+mod shared_fragments;
 mod site;
 mod statements;
 

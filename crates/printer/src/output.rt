@@ -5,7 +5,7 @@ ghost use Rattle.tree.specs.declared.kind.Pair.{Pair};
 ghost use Rattle.language.specs.Pieces.{script};
 ghost use Rattle.language.specs.Layout.{layout, fixed_text};
 ghost use Rattle.language.specs.Claims.{Derives};
-ghost use Rattle.language.specs.Fits.{fits};
+ghost use Rattle.language.specs.LayoutFits.{fits};
 ghost use Rattle.printer.specs.Fits.{wrapped_by, IsPlanned};
 ghost use Rattle.printer.specs.Texts.{IsWritten};
 

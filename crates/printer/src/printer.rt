@@ -6,8 +6,8 @@ ghost use Rattle.tree.specs.Node.{node_tree};
 ghost use Rattle.tree.specs.Tree.{height, kind_of, text_of, flags_of, parts_of, part_count, none};
 ghost use Rattle.language.specs.Pieces.{Role, is_none};
 ghost use Rattle.language.specs.Grammar.{ways};
-ghost use Rattle.positions.specs.declared.position.Position.{Position};
-ghost use Rattle.positions.specs.Outlines.{role_of, parts_behind};
+ghost use Rattle.spellings.specs.declared.position.Position.{Position};
+ghost use Rattle.spellings.specs.Outlines.{role_of, parts_after};
 ghost use Rattle.printer.specs.Bits.{Mark, here, Bit, bits_of, chain_of, fused};
 ghost use Rattle.printer.specs.Shapes.{sign_at, sign_of_text, inner};
 ghost use Rattle.language.specs.Pieces.{script};
@@ -15,28 +15,28 @@ ghost use Rattle.language.specs.Layout.{layout};
 ghost use Rattle.printer.specs.Fits.{wrapped_by};
 ghost use Rattle.printer.specs.Standings.{Puts, Adds};
 ghost use Rattle.printer.specs.Sheets.{seen, flag_at};
-ghost use Rattle.language.specs.Fits.{fits, parts_fit, lines_up};
+ghost use Rattle.language.specs.LayoutFits.{fits, parts_fit, lines_up};
 ghost use Rattle.printer.specs.Texts.{IsLaid, IsFixed};
 ghost use Rattle.printer.specs.declared.site.Site.TheVariants.{Row};
 ghost use Rattle.printer.specs.Sites.{site_of, Stands};
 ghost use Rattle.printer.specs.Printed.{Reads, Printed, Direct, Gone, Written, spelled_so, front_marks, chain_marks, deep, shape_marks, marks_in, signed_marks};
 
-use crate::course::{Course, course_of};
+use crate::emitter::Emitter;
+use crate::fragments::{Fragment, Frame, ListLayout, SignOperator, after, before};
 use crate::frame::{frame_of, is_word};
-use crate::pieces::{Frame, Piece, Series, Sign, after, before};
-use crate::room::{Outlet, Text};
-use crate::sheet::Sheet;
-use crate::site::{Site, is_row, seated};
+use crate::output_buffer::{TextBuffer, TextSink};
+use crate::part_sites::{PartSites, part_sites_of};
+use crate::site::{Site, is_row, site_at};
 use std::alloc::{AllocError, Global};
 use tree::{Kind, Node, Program};
 
 /// What is left of a node.
 #[derive(Clone, Copy)]
-pub struct Walk {
+pub struct PartWalk {
     /// The seats of the parts that are left.
-    course: Course,
+    course: PartSites,
     /// The part before has no parentheses.
-    alone: bool,
+    previous_is_bare: bool,
 }
 
 /// The text of a script in its layout, with parentheses round the wrapped nodes. The flags say of the nodes at an
@@ -54,17 +54,17 @@ pub fn print_text(
     ensures laid { IfOk result (λ t. IsLaid wraps.now program.now (string_bytes t)) }
     ensures fixed { IfOk result (λ t. IsFixed wraps.now program.now (string_bytes t)) }
 {
-    let mut text = Text::new(alloc, program.root().span().end)?;
+    let mut text = TextBuffer::new(alloc, program.root().span().end)?;
     print_whole(program, wraps, &mut text);
     text.into_string()
 }
 
 /// Puts in the text of a script in its layout.
-pub fn print_whole<O: Outlet>(program: &Program<'_>, wraps: &[bool], out: &mut O)
+pub fn print_whole<O: TextSink>(program: &Program<'_>, wraps: &[bool], out: &mut O)
     ensures laid { fits (wrapped_by wraps.now) program.now script 1 ≡ true → Puts (O.stands out.old []) (O.stands out.new []) (layout (wrapped_by wraps.now) program.now script 1 0) }
     ensures adds { Adds (O.stands out.old []) (O.stands out.new []) }
 {
-    let mut sheet = Sheet::new(wraps);
+    let mut sheet = Emitter::new(wraps);
     // (no tree is higher than it has nodes, and these are counted)
     let _ = program.node_count();
     print_node(program.root(), Site::Plain, 0, &mut sheet, out);
@@ -74,7 +74,7 @@ pub fn print_whole<O: Outlet>(program: &Program<'_>, wraps: &[bool], out: &mut O
 /// A node at its site.
 #[cycle(print)]
 #[inline(always)]
-fn print_node<O: Outlet>(node: Node, site: Site, depth: usize, sheet: &mut Sheet, out: &mut O)
+fn print_node<O: TextSink>(node: Node, site: Site, depth: usize, sheet: &mut Emitter, out: &mut O)
     requires { depth + height (node_tree node) ≤ usize.MAX }
     ensures laid { (W : ℕ → Bool) → (r : ℕ) → (p : Position) → site_of (role_of p) ≡ site → Reads W r sheet.old.wraps.now → fits W (node_tree node.entry) (role_of p) r ≡ true → Printed W (seen (O.stands out.old sheet.old.room) sheet.old) (seen (O.stands out.new sheet.new.room) sheet.new) (node_tree node.entry) (role_of p) r depth }
     ensures adds { Adds (O.stands out.old sheet.old.room) (O.stands out.new sheet.new.room) }
@@ -89,7 +89,7 @@ fn print_node<O: Outlet>(node: Node, site: Site, depth: usize, sheet: &mut Sheet
 /// A node that has a row, in parentheses where it is wrapped.
 #[cycle(print)]
 #[inline(always)]
-fn print_row<O: Outlet>(node: Node, depth: usize, sheet: &mut Sheet, out: &mut O)
+fn print_row<O: TextSink>(node: Node, depth: usize, sheet: &mut Emitter, out: &mut O)
     requires { depth + height (node_tree node) ≤ usize.MAX }
     ensures laid { (W : ℕ → Bool) → (r : ℕ) → (p : Position) → site_of (role_of p) ≡ Row → Reads W r sheet.old.wraps.now → fits W (node_tree node.entry) (role_of p) r ≡ true → Printed W (seen (O.stands out.old sheet.old.room) sheet.old) (seen (O.stands out.new sheet.new.room) sheet.new) (node_tree node.entry) (role_of p) r depth }
     ensures adds { Adds (O.stands out.old sheet.old.room) (O.stands out.new sheet.new.room) }
@@ -106,7 +106,7 @@ fn print_row<O: Outlet>(node: Node, depth: usize, sheet: &mut Sheet, out: &mut O
 /// A node without parentheses of its own.
 #[cycle(print)]
 #[inline(always)]
-fn print_direct<O: Outlet>(node: Node, site: Site, depth: usize, sheet: &mut Sheet, out: &mut O)
+fn print_direct<O: TextSink>(node: Node, site: Site, depth: usize, sheet: &mut Emitter, out: &mut O)
     requires { depth + height (node_tree node) ≤ usize.MAX }
     ensures laid { (W : ℕ → Bool) → (r : ℕ) → (p : Position) → site_of (role_of p) ≡ site → Reads W r sheet.old.wraps.now → spelled_so W (parts_of (node_tree node.entry)) (ways (role_of p) (node_tree node.entry)) r ≡ true → Direct W (seen (O.stands out.old sheet.old.room) sheet.old) (seen (O.stands out.new sheet.new.room) sheet.new) (parts_of (node_tree node.entry)) (ways (role_of p) (node_tree node.entry)) r depth }
     ensures adds { Adds (O.stands out.old sheet.old.room) (O.stands out.new sheet.new.room) }
@@ -115,29 +115,29 @@ fn print_direct<O: Outlet>(node: Node, site: Site, depth: usize, sheet: &mut She
         sheet.push(node.text(), out);
         return;
     }
-    print_spelled(node, site, depth, sheet, out);
+    print_parts(node, site, depth, sheet, out);
 }
 
 /// A node by the sites of its parts.
 #[cycle(print)]
 #[inline(never)]
-fn print_spelled<O: Outlet>(node: Node, site: Site, depth: usize, sheet: &mut Sheet, out: &mut O)
+fn print_parts<O: TextSink>(node: Node, site: Site, depth: usize, sheet: &mut Emitter, out: &mut O)
     requires { depth + height (node_tree node) ≤ usize.MAX }
     ensures laid { (W : ℕ → Bool) → (r : ℕ) → (p : Position) → site_of (role_of p) ≡ site → Reads W r sheet.old.wraps.now → spelled_so W (parts_of (node_tree node.entry)) (ways (role_of p) (node_tree node.entry)) r ≡ true → Direct W (seen (O.stands out.old sheet.old.room) sheet.old) (seen (O.stands out.new sheet.new.room) sheet.new) (parts_of (node_tree node.entry)) (ways (role_of p) (node_tree node.entry)) r depth }
     ensures adds { Adds (O.stands out.old sheet.old.room) (O.stands out.new sheet.new.room) }
 {
-    let mut walk = Walk {
-        course: course_of(node, site),
-        alone: false,
+    let mut walk = PartWalk {
+        course: part_sites_of(node, site),
+        previous_is_bare: false,
     };
     match sign_of(node) {
-        Some(sign) => print_signed(node, sign, &mut walk, depth, sheet, out),
+        Some(sign) => print_sign_operator(node, sign, &mut walk, depth, sheet, out),
         None => print_framed(node, frame_of(node, site), &mut walk, depth, sheet, out),
     }
 }
 
 /// The sign of a prefix that may not touch itself.
-fn sign_of(node: Node) -> Option<Sign>
+fn sign_of(node: Node) -> Option<SignOperator>
     ensures { result ≡ sign_at (kind_of (node_tree node.entry)) (text_of (node_tree node.entry)) (flags_of (node_tree node.entry)) }
 {
     match node.kind() {
@@ -147,12 +147,12 @@ fn sign_of(node: Node) -> Option<Sign>
     }
 }
 
-fn sign_in(text: &str) -> Option<Sign>
+fn sign_in(text: &str) -> Option<SignOperator>
     ensures { result ≡ sign_of_text text.now }
 {
     match text {
-        "+" | "++" => Some(Sign::Plus),
-        "-" | "--" => Some(Sign::Minus),
+        "+" | "++" => Some(SignOperator::Plus),
+        "-" | "--" => Some(SignOperator::Minus),
         _ => None,
     }
 }
@@ -160,40 +160,40 @@ fn sign_in(text: &str) -> Option<Sign>
 /// A prefix with its operand.
 #[cycle(print)]
 #[inline(never)]
-fn print_signed<O: Outlet>(
+fn print_sign_operator<O: TextSink>(
     node: Node,
-    sign: Sign,
-    walk: &mut Walk,
+    sign: SignOperator,
+    walk: &mut PartWalk,
     depth: usize,
-    sheet: &mut Sheet,
+    sheet: &mut Emitter,
     out: &mut O,
 )
     requires { depth + height (node_tree node) ≤ usize.MAX }
-    ensures laid { (W : ℕ → Bool) → (xs : List Role) → (r : ℕ) → Reads W r sheet.old.wraps.now → parts_fit W (parts_of (node_tree node.entry)) xs r ≡ true → Stands walk.old.course (parts_of (node_tree node.entry)) xs → sign_of_text (text_of (node_tree node.entry)) ≡ Some sign → is_none (parts_behind 1 (parts_of (node_tree node.entry))) ≡ true → Written W (seen (O.stands out.old sheet.old.room) sheet.old) (seen (O.stands out.new sheet.new.room) sheet.new) (signed_marks (text_of (node_tree node.entry)) sign) (parts_of (node_tree node.entry)) xs walk.old.alone depth r }
+    ensures laid { (W : ℕ → Bool) → (xs : List Role) → (r : ℕ) → Reads W r sheet.old.wraps.now → parts_fit W (parts_of (node_tree node.entry)) xs r ≡ true → Stands walk.old.course (parts_of (node_tree node.entry)) xs → sign_of_text (text_of (node_tree node.entry)) ≡ Some sign → is_none (parts_after 1 (parts_of (node_tree node.entry))) ≡ true → Written W (seen (O.stands out.old sheet.old.room) sheet.old) (seen (O.stands out.new sheet.new.room) sheet.new) (signed_marks (text_of (node_tree node.entry)) sign) (parts_of (node_tree node.entry)) xs walk.old.previous_is_bare depth r }
     ensures adds { Adds (O.stands out.old sheet.old.room) (O.stands out.new sheet.new.room) }
 {
     sheet.push(node.text(), out);
-    sheet.set_apart(sign);
+    sheet.keep_apart(sign);
     print_part(node, 0, walk, depth, sheet, out);
     sheet.join();
 }
 
 /// A node's parts, with what stands round them.
 #[cycle(print)]
-fn print_framed<O: Outlet>(
+fn print_framed<O: TextSink>(
     node: Node,
     frame: &Frame,
-    walk: &mut Walk,
+    walk: &mut PartWalk,
     depth: usize,
-    sheet: &mut Sheet,
+    sheet: &mut Emitter,
     out: &mut O,
 )
     requires { depth + height (node_tree node) ≤ usize.MAX }
-    ensures laid { (W : ℕ → Bool) → (fs : List (List Bit)) → (os cs : List Bit) → map (λ p. bits_of p.now) frame.now.front.now ≡ map fused fs → bits_of frame.now.opener.now ≡ fused os → bits_of frame.now.closer.now ≡ fused cs → (xs : List Role) → (r : ℕ) → Reads W r sheet.old.wraps.now → parts_fit W (parts_of (node_tree node.entry)) xs r ≡ true → Stands walk.old.course (parts_of (node_tree node.entry)) xs → Written W (seen (O.stands out.old sheet.old.room) sheet.old) (seen (O.stands out.new sheet.new.room) sheet.new) (shape_marks (text_of (node_tree node.entry)) (record { front = fs; opener = os; chain = chain_of frame.now.series; closer = cs }) (parts_of (node_tree node.entry))) (parts_of (node_tree node.entry)) xs walk.old.alone depth r }
+    ensures laid { (W : ℕ → Bool) → (fs : List (List Bit)) → (os cs : List Bit) → map (λ p. bits_of p.now) frame.now.front.now ≡ map fused fs → bits_of frame.now.opener.now ≡ fused os → bits_of frame.now.closer.now ≡ fused cs → (xs : List Role) → (r : ℕ) → Reads W r sheet.old.wraps.now → parts_fit W (parts_of (node_tree node.entry)) xs r ≡ true → Stands walk.old.course (parts_of (node_tree node.entry)) xs → Written W (seen (O.stands out.old sheet.old.room) sheet.old) (seen (O.stands out.new sheet.new.room) sheet.new) (shape_marks (text_of (node_tree node.entry)) (record { front = fs; opener = os; chain = chain_of frame.now.series; closer = cs }) (parts_of (node_tree node.entry))) (parts_of (node_tree node.entry)) xs walk.old.previous_is_bare depth r }
     ensures adds { Adds (O.stands out.old sheet.old.room) (O.stands out.new sheet.new.room) }
 {
     print_front(node, frame.front, walk, depth, sheet, out);
-    sheet.push_all(frame.opener, node, depth, walk.alone, out);
+    sheet.push_all(frame.opener, node, depth, walk.previous_is_bare, out);
     let inside = inner_depth(frame.series, depth);
     print_list(
         node,
@@ -204,42 +204,42 @@ fn print_framed<O: Outlet>(
         sheet,
         out,
     );
-    sheet.push_all(frame.closer, node, depth, walk.alone, out);
+    sheet.push_all(frame.closer, node, depth, walk.previous_is_bare, out);
 }
 
 /// The first parts, with what stands before each.
 #[cycle(print)]
-fn print_front<O: Outlet>(
+fn print_front<O: TextSink>(
     node: Node,
-    front: &[&[Piece]],
-    walk: &mut Walk,
+    front: &[&[Fragment]],
+    walk: &mut PartWalk,
     depth: usize,
-    sheet: &mut Sheet,
+    sheet: &mut Emitter,
     out: &mut O,
 )
     requires { depth + height (node_tree node) ≤ usize.MAX }
-    ensures laid { (W : ℕ → Bool) → (fs : List (List Bit)) → map (λ p. bits_of p.now) front.now ≡ map fused fs → (ms : List Mark) → (xs : List Role) → (r : ℕ) → Reads W r sheet.old.wraps.now → parts_fit W (parts_of (node_tree node.entry)) xs r ≡ true → Stands walk.old.course (parts_of (node_tree node.entry)) xs → Gone W (seen (O.stands out.old sheet.old.room) sheet.old) (seen (O.stands out.new sheet.new.room) sheet.new) (front_marks (text_of (node_tree node.entry)) fs ms) ms (parts_of (node_tree node.entry)) (parts_behind (length front.now) (parts_of (node_tree node.entry))) xs walk.new.course walk.old.alone walk.new.alone depth r }
+    ensures laid { (W : ℕ → Bool) → (fs : List (List Bit)) → map (λ p. bits_of p.now) front.now ≡ map fused fs → (ms : List Mark) → (xs : List Role) → (r : ℕ) → Reads W r sheet.old.wraps.now → parts_fit W (parts_of (node_tree node.entry)) xs r ≡ true → Stands walk.old.course (parts_of (node_tree node.entry)) xs → Gone W (seen (O.stands out.old sheet.old.room) sheet.old) (seen (O.stands out.new sheet.new.room) sheet.new) (front_marks (text_of (node_tree node.entry)) fs ms) ms (parts_of (node_tree node.entry)) (parts_after (length front.now) (parts_of (node_tree node.entry))) xs walk.new.course walk.old.previous_is_bare walk.new.previous_is_bare depth r }
     ensures adds { Adds (O.stands out.old sheet.old.room) (O.stands out.new sheet.new.room) }
 {
     for index in 0..front.len() {
-        sheet.push_all(front[index], node, depth, walk.alone, out);
+        sheet.push_all(front[index], node, depth, walk.previous_is_bare, out);
         print_part(node, index, walk, depth, sheet, out);
     }
 }
 
 /// The other parts.
 #[cycle(print)]
-fn print_list<O: Outlet>(
+fn print_list<O: TextSink>(
     node: Node,
-    series: Series,
+    series: ListLayout,
     from: usize,
-    walk: &mut Walk,
+    walk: &mut PartWalk,
     depth: usize,
-    sheet: &mut Sheet,
+    sheet: &mut Emitter,
     out: &mut O,
 )
     requires { depth + height (node_tree node) ≤ usize.MAX + 1 }
-    ensures laid { (W : ℕ → Bool) → (ms : List Mark) → (xs : List Role) → (r : ℕ) → Reads W r sheet.old.wraps.now → parts_fit W (parts_behind from (parts_of (node_tree node.entry))) xs r ≡ true → Stands walk.old.course (parts_behind from (parts_of (node_tree node.entry))) xs → Gone W (seen (O.stands out.old sheet.old.room) sheet.old) (seen (O.stands out.new sheet.new.room) sheet.new) (chain_marks (text_of (node_tree node.entry)) (chain_of series) (parts_behind from (parts_of (node_tree node.entry))) ++ ms) ms (parts_behind from (parts_of (node_tree node.entry))) none xs walk.new.course walk.old.alone walk.new.alone depth r }
+    ensures laid { (W : ℕ → Bool) → (ms : List Mark) → (xs : List Role) → (r : ℕ) → Reads W r sheet.old.wraps.now → parts_fit W (parts_after from (parts_of (node_tree node.entry))) xs r ≡ true → Stands walk.old.course (parts_after from (parts_of (node_tree node.entry))) xs → Gone W (seen (O.stands out.old sheet.old.room) sheet.old) (seen (O.stands out.new sheet.new.room) sheet.new) (chain_marks (text_of (node_tree node.entry)) (chain_of series) (parts_after from (parts_of (node_tree node.entry))) ++ ms) ms (parts_after from (parts_of (node_tree node.entry))) none xs walk.new.course walk.old.previous_is_bare walk.new.previous_is_bare depth r }
     ensures adds { Adds (O.stands out.old sheet.old.room) (O.stands out.new sheet.new.room) }
 {
     let count = node.part_count();
@@ -250,35 +250,47 @@ fn print_list<O: Outlet>(
 
 /// One of them, with what stands before it and behind it.
 #[cycle(print)]
-fn print_item<O: Outlet>(
+fn print_item<O: TextSink>(
     node: Node,
-    series: Series,
+    series: ListLayout,
     index: usize,
-    walk: &mut Walk,
+    walk: &mut PartWalk,
     depth: usize,
-    sheet: &mut Sheet,
+    sheet: &mut Emitter,
     out: &mut O,
 )
     requires low { depth + height (node_tree node) ≤ usize.MAX + 1 }
     requires index { index < part_count (parts_of (node_tree node)) }
-    ensures laid { (W : ℕ → Bool) → (ms : List Mark) → (xs : List Role) → (r : ℕ) → Reads W r sheet.old.wraps.now → parts_fit W (parts_behind index (parts_of (node_tree node.entry))) xs r ≡ true → Stands walk.old.course (parts_behind index (parts_of (node_tree node.entry))) xs → Gone W (seen (O.stands out.old sheet.old.room) sheet.old) (seen (O.stands out.new sheet.new.room) sheet.new) (chain_marks (text_of (node_tree node.entry)) (chain_of series) (parts_behind index (parts_of (node_tree node.entry))) ++ ms) (chain_marks (text_of (node_tree node.entry)) (chain_of series) (parts_behind (suc index) (parts_of (node_tree node.entry))) ++ ms) (parts_behind index (parts_of (node_tree node.entry))) (parts_behind (suc index) (parts_of (node_tree node.entry))) xs walk.new.course walk.old.alone walk.new.alone depth r }
+    ensures laid { (W : ℕ → Bool) → (ms : List Mark) → (xs : List Role) → (r : ℕ) → Reads W r sheet.old.wraps.now → parts_fit W (parts_after index (parts_of (node_tree node.entry))) xs r ≡ true → Stands walk.old.course (parts_after index (parts_of (node_tree node.entry))) xs → Gone W (seen (O.stands out.old sheet.old.room) sheet.old) (seen (O.stands out.new sheet.new.room) sheet.new) (chain_marks (text_of (node_tree node.entry)) (chain_of series) (parts_after index (parts_of (node_tree node.entry))) ++ ms) (chain_marks (text_of (node_tree node.entry)) (chain_of series) (parts_after (suc index) (parts_of (node_tree node.entry))) ++ ms) (parts_after index (parts_of (node_tree node.entry))) (parts_after (suc index) (parts_of (node_tree node.entry))) xs walk.new.course walk.old.previous_is_bare walk.new.previous_is_bare depth r }
     ensures adds { Adds (O.stands out.old sheet.old.room) (O.stands out.new sheet.new.room) }
 {
     let behind = node.part_count() - index - 1;
-    sheet.push_all(before(series, behind == 0), node, depth, walk.alone, out);
+    sheet.push_all(
+        before(series, behind == 0),
+        node,
+        depth,
+        walk.previous_is_bare,
+        out,
+    );
     print_part(node, index, walk, depth, sheet, out);
     let is_gap = node.part(index).is_none();
-    sheet.push_all(after(series, is_gap, behind), node, depth, walk.alone, out);
+    sheet.push_all(
+        after(series, is_gap, behind),
+        node,
+        depth,
+        walk.previous_is_bare,
+        out,
+    );
 }
 
 /// How deep the parts of a list stand.
-fn inner_depth(series: Series, depth: usize) -> usize
+fn inner_depth(series: ListLayout, depth: usize) -> usize
     requires { depth < usize.MAX }
     ensures inner { result ≡ inner (chain_of series) depth }
     ensures near { result ≤ depth + 1 }
 {
     match series {
-        Series::Lines => depth + 1,
+        ListLayout::Lines => depth + 1,
         _ => depth,
     }
 }
@@ -287,25 +299,25 @@ fn inner_depth(series: Series, depth: usize) -> usize
 #[cycle(print)]
 #[inline(always)]
 #[tactic(auto, using(tree::proofs::PartWalk::part_steps))]
-fn print_part<O: Outlet>(
+fn print_part<O: TextSink>(
     node: Node,
     index: usize,
-    walk: &mut Walk,
+    walk: &mut PartWalk,
     depth: usize,
-    sheet: &mut Sheet,
+    sheet: &mut Emitter,
     out: &mut O,
 )
     requires { depth + height (node_tree node) ≤ usize.MAX + 1 }
-    ensures laid { (W : ℕ → Bool) → (ms : List Mark) → (xs : List Role) → (r : ℕ) → Reads W r sheet.old.wraps.now → parts_fit W (parts_behind index (parts_of (node_tree node.entry))) xs r ≡ true → Stands walk.old.course (parts_behind index (parts_of (node_tree node.entry))) xs → Gone W (seen (O.stands out.old sheet.old.room) sheet.old) (seen (O.stands out.new sheet.new.room) sheet.new) (here ∷ ms) ms (parts_behind index (parts_of (node_tree node.entry))) (parts_behind (suc index) (parts_of (node_tree node.entry))) xs walk.new.course walk.old.alone walk.new.alone depth r }
+    ensures laid { (W : ℕ → Bool) → (ms : List Mark) → (xs : List Role) → (r : ℕ) → Reads W r sheet.old.wraps.now → parts_fit W (parts_after index (parts_of (node_tree node.entry))) xs r ≡ true → Stands walk.old.course (parts_after index (parts_of (node_tree node.entry))) xs → Gone W (seen (O.stands out.old sheet.old.room) sheet.old) (seen (O.stands out.new sheet.new.room) sheet.new) (here ∷ ms) ms (parts_after index (parts_of (node_tree node.entry))) (parts_after (suc index) (parts_of (node_tree node.entry))) xs walk.new.course walk.old.previous_is_bare walk.new.previous_is_bare depth r }
     ensures adds { Adds (O.stands out.old sheet.old.room) (O.stands out.new sheet.new.room) }
 {
     let Some(part) = node.part(index) else {
-        walk.alone = false;
+        walk.previous_is_bare = false;
         return;
     };
-    let site = seated(walk.course.next, part.kind(), is_last(node, index));
-    walk.course = walk.course.behind();
-    walk.alone = !sheet.is_wrapped();
+    let site = site_at(walk.course.next, part.kind(), is_last(node, index));
+    walk.course = walk.course.after_next();
+    walk.previous_is_bare = !sheet.is_wrapped();
     print_node(part, site, depth, sheet, out);
 }
 

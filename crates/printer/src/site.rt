@@ -11,18 +11,18 @@ pub enum Site {
     /// An expression's: the node has a row.
     Row,
     /// That of a part of a chain.
-    Link,
+    ChainPart,
     /// That of a shorthand property's key, which has no text of its own.
-    Echo,
+    ShorthandKey,
     /// Those of a template's parts: of the only one, the first, the last, and another.
-    OnlyChunk,
-    FirstChunk,
-    LastChunk,
-    InnerChunk,
+    OnlyTemplateElement,
+    FirstTemplateElement,
+    LastTemplateElement,
+    InnerTemplateElement,
     /// That of a method's function.
     Method,
     /// That of a declaration in the head of a `for`.
-    Head,
+    ForDeclaration,
     /// That of a part of an object, and of a spread.
     Entry,
     /// That of a pattern that assigns, and of what has parts of one.
@@ -33,7 +33,7 @@ pub enum Site {
 
 /// Where a part stands, before its kind is known.
 #[derive(Clone, Copy)]
-pub enum Seat {
+pub enum SiteRule {
     AtRow,
     AtLink,
     AtEcho,
@@ -51,20 +51,20 @@ pub enum Seat {
 
 /// The site of a part of this kind, by its seat and whether it is the last.
 #[inline(always)]
-pub fn seated(seat: Seat, kind: Kind, is_last: bool) -> Site
+pub fn site_at(seat: SiteRule, kind: Kind, is_last: bool) -> Site
     ensures { result ≡ seated_at seat kind is_last }
 {
     match seat {
-        Seat::AtRow => Site::Row,
-        Seat::AtLink => Site::Link,
-        Seat::AtEcho => Site::Echo,
-        Seat::AtChunk => first_chunk(is_last),
-        Seat::AtMethod => Site::Method,
-        Seat::AtEntry => Site::Entry,
-        Seat::AtTarget => Site::Target,
-        Seat::AtPlain => Site::Plain,
-        Seat::Told => told(kind, is_last),
-        Seat::Concise => concise(is_last),
+        SiteRule::AtRow => Site::Row,
+        SiteRule::AtLink => Site::ChainPart,
+        SiteRule::AtEcho => Site::ShorthandKey,
+        SiteRule::AtChunk => first_chunk(is_last),
+        SiteRule::AtMethod => Site::Method,
+        SiteRule::AtEntry => Site::Entry,
+        SiteRule::AtTarget => Site::Target,
+        SiteRule::AtPlain => Site::Plain,
+        SiteRule::Told => site_of_kind(kind, is_last),
+        SiteRule::Concise => concise(is_last),
     }
 }
 
@@ -72,9 +72,9 @@ fn first_chunk(is_last: bool) -> Site
     ensures { result ≡ first_chunk_at is_last }
 {
     if is_last {
-        Site::OnlyChunk
+        Site::OnlyTemplateElement
     } else {
-        Site::FirstChunk
+        Site::FirstTemplateElement
     }
 }
 
@@ -86,7 +86,7 @@ fn concise(is_last: bool) -> Site
 
 /// What the kind tells.
 #[inline(always)]
-fn told(kind: Kind, is_last: bool) -> Site
+fn site_of_kind(kind: Kind, is_last: bool) -> Site
     ensures { result ≡ told_at kind is_last }
 {
     match kind {
@@ -94,9 +94,9 @@ fn told(kind: Kind, is_last: bool) -> Site
         Kind::SpreadElement | Kind::Property => Site::Entry,
         Kind::ArrayPattern | Kind::ObjectPattern | Kind::AssignmentPattern | Kind::RestElement =>
             Site::Target,
-        Kind::VariableDeclaration => Site::Head,
-        Kind::TemplateElement if is_last => Site::LastChunk,
-        Kind::TemplateElement => Site::InnerChunk,
+        Kind::VariableDeclaration => Site::ForDeclaration,
+        Kind::TemplateElement if is_last => Site::LastTemplateElement,
+        Kind::TemplateElement => Site::InnerTemplateElement,
         _ => Site::Row,
     }
 }
@@ -114,12 +114,12 @@ pub fn is_plain(site: Site) -> bool
 {
     !matches!(
         site,
-        Site::Echo
-            | Site::OnlyChunk
-            | Site::FirstChunk
-            | Site::LastChunk
-            | Site::InnerChunk
+        Site::ShorthandKey
+            | Site::OnlyTemplateElement
+            | Site::FirstTemplateElement
+            | Site::LastTemplateElement
+            | Site::InnerTemplateElement
             | Site::Method
-            | Site::Head
+            | Site::ForDeclaration
     )
 }

@@ -6,45 +6,45 @@ ghost use Rattle.tree.specs.Tree.{kind_of, parts_of};
 ghost use Rattle.printer.specs.Bits.{shape_of, fused_shape};
 ghost use Rattle.printer.specs.Shapes.{head_shape, statement_shape, branch_shape, loop_shape, declarator_shape, word_shape, if_shape, try_shape, for_shape};
 
-use crate::lists::{CLOSE_SPACE, COLON, has_part};
-use crate::pieces::{Frame, Piece, front_frame, list_frame};
+use crate::fragments::{Fragment, Frame, front_frame, list_frame};
+use crate::shared_fragments::{CLOSE_SPACE, COLON, has_part};
 use tree::{Kind, Node};
 
-const END: &[Piece] = &[Piece::Token(";")];
+const END: &[Fragment] = &[Fragment::Token(";")];
 
-const DECLARATION: &[Piece] = &[Piece::Own, Piece::Space];
+const DECLARATION: &[Fragment] = &[Fragment::NodeText, Fragment::Space];
 
-const IF: &[Piece] = &[Piece::Token("if (")];
+const IF: &[Fragment] = &[Fragment::Token("if (")];
 
-const ELSE: &[Piece] = &[Piece::Token(" else ")];
+const ELSE: &[Fragment] = &[Fragment::Token(" else ")];
 
-const WHILE: &[Piece] = &[Piece::Token("while (")];
+const WHILE: &[Fragment] = &[Fragment::Token("while (")];
 
-const FOR: &[Piece] = &[Piece::Token("for (")];
+const FOR: &[Fragment] = &[Fragment::Token("for (")];
 
-const IN: &[Piece] = &[Piece::Token(" in ")];
+const IN: &[Fragment] = &[Fragment::Token(" in ")];
 
-const OF: &[Piece] = &[Piece::Token(" of ")];
+const OF: &[Fragment] = &[Fragment::Token(" of ")];
 
-const SEMICOLON_SPACE: &[Piece] = &[Piece::Token("; ")];
+const SEMICOLON_SPACE: &[Fragment] = &[Fragment::Token("; ")];
 
-const TRY: &[Piece] = &[Piece::Token("try ")];
+const TRY: &[Fragment] = &[Fragment::Token("try ")];
 
-const SPACE: &[Piece] = &[Piece::Space];
+const SPACE: &[Fragment] = &[Fragment::Space];
 
-const FINALLY: &[Piece] = &[Piece::Token(" finally ")];
+const FINALLY: &[Fragment] = &[Fragment::Token(" finally ")];
 
-const RETURN: &[Piece] = &[Piece::Token("return")];
+const RETURN: &[Fragment] = &[Fragment::Token("return")];
 
-const RETURN_SPACE: &[Piece] = &[Piece::Token("return ")];
+const RETURN_SPACE: &[Fragment] = &[Fragment::Token("return ")];
 
-const BREAK: &[Piece] = &[Piece::Token("break")];
+const BREAK: &[Fragment] = &[Fragment::Token("break")];
 
-const BREAK_SPACE: &[Piece] = &[Piece::Token("break ")];
+const BREAK_SPACE: &[Fragment] = &[Fragment::Token("break ")];
 
-const CONTINUE: &[Piece] = &[Piece::Token("continue")];
+const CONTINUE: &[Fragment] = &[Fragment::Token("continue")];
 
-const CONTINUE_SPACE: &[Piece] = &[Piece::Token("continue ")];
+const CONTINUE_SPACE: &[Fragment] = &[Fragment::Token("continue ")];
 
 static HEAD: Frame = list_frame!(DECLARATION, Commas, &[]);
 
@@ -52,13 +52,13 @@ static VARIABLES: Frame = list_frame!(DECLARATION, Commas, END);
 
 static DECLARATOR: Frame = front_frame!(&[&[], &[]], &[]);
 
-static INITIALIZED: Frame = front_frame!(&[&[], &[Piece::Token(" = ")]], &[]);
+static INITIALIZED: Frame = front_frame!(&[&[], &[Fragment::Token(" = ")]], &[]);
 
 static EXPRESSION: Frame = front_frame!(&[&[]], END);
 
 static EMPTY: Frame = front_frame!(&[], END);
 
-static DEBUGGER: Frame = front_frame!(&[], &[Piece::Token("debugger;")]);
+static DEBUGGER: Frame = front_frame!(&[], &[Fragment::Token("debugger;")]);
 
 static RETURN_NOTHING: Frame = front_frame!(&[RETURN], END);
 
@@ -72,7 +72,7 @@ static CONTINUE_LOOP: Frame = front_frame!(&[CONTINUE], END);
 
 static CONTINUE_LABEL: Frame = front_frame!(&[CONTINUE_SPACE], END);
 
-static THROW: Frame = front_frame!(&[&[Piece::Token("throw ")]], END);
+static THROW: Frame = front_frame!(&[&[Fragment::Token("throw ")]], END);
 
 static IF_ALONE: Frame = front_frame!(&[IF, CLOSE_SPACE, &[]], &[]);
 
@@ -89,8 +89,8 @@ static TRY_BOTH: Frame = front_frame!(&[TRY, SPACE, FINALLY], &[]);
 static WHILE_LOOP: Frame = front_frame!(&[WHILE, CLOSE_SPACE], &[]);
 
 static DO_LOOP: Frame = front_frame!(
-    &[&[Piece::Token("do ")], &[Piece::Token(" while (")],],
-    &[Piece::Token(");")]
+    &[&[Fragment::Token("do ")], &[Fragment::Token(" while (")],],
+    &[Fragment::Token(");")]
 );
 
 static FOR_IN: Frame = front_frame!(&[FOR, IN, CLOSE_SPACE], &[]);

@@ -1,2 +1,2 @@
 mod Places
-pub mod Turning
+pub mod ReportLoop

@@ -1,25 +1,25 @@
 -- Names that every script has without declaring them (ECMA-262 clause 18). Names are bytes; they stand in six groups, since a
 -- chain of all is dear to prove.
 use Rattle.std.specs.Prelude.{ℕ, Bool, ◌||◌, List, [], ◌∷◌}
-use Rattle.language.specs.Words.{among}
+use Rattle.language.specs.Vocabulary.{among}
 
 abbrev pub is_value : List ℕ → Bool
-is_value w = among w ("globalThis" ∷ "Infinity" ∷ "NaN" ∷ "undefined" ∷ [])
+is_value text = among text ("globalThis" ∷ "Infinity" ∷ "NaN" ∷ "undefined" ∷ [])
 
 abbrev pub is_global_function : List ℕ → Bool
-is_global_function w = among w ("eval" ∷ "isFinite" ∷ "isNaN" ∷ "parseFloat" ∷ "parseInt" ∷ "decodeURI" ∷ "decodeURIComponent" ∷ "encodeURI" ∷ "encodeURIComponent" ∷ [])
+is_global_function text = among text ("eval" ∷ "isFinite" ∷ "isNaN" ∷ "parseFloat" ∷ "parseInt" ∷ "decodeURI" ∷ "decodeURIComponent" ∷ "encodeURI" ∷ "encodeURIComponent" ∷ [])
 
 abbrev pub is_error : List ℕ → Bool
-is_error w = among w ("Error" ∷ "EvalError" ∷ "RangeError" ∷ "ReferenceError" ∷ "SyntaxError" ∷ "TypeError" ∷ "URIError" ∷ [])
+is_error text = among text ("Error" ∷ "EvalError" ∷ "RangeError" ∷ "ReferenceError" ∷ "SyntaxError" ∷ "TypeError" ∷ "URIError" ∷ [])
 
 abbrev pub is_array : List ℕ → Bool
-is_array w = among w ("Array" ∷ "ArrayBuffer" ∷ "BigInt64Array" ∷ "BigUint64Array" ∷ "DataView" ∷ "Float32Array" ∷ "Float64Array" ∷ "Int8Array" ∷ "Int16Array" ∷ "Int32Array" ∷ "SharedArrayBuffer" ∷ "Uint8Array" ∷ "Uint8ClampedArray" ∷ "Uint16Array" ∷ "Uint32Array" ∷ [])
+is_array text = among text ("Array" ∷ "ArrayBuffer" ∷ "BigInt64Array" ∷ "BigUint64Array" ∷ "DataView" ∷ "Float32Array" ∷ "Float64Array" ∷ "Int8Array" ∷ "Int16Array" ∷ "Int32Array" ∷ "SharedArrayBuffer" ∷ "Uint8Array" ∷ "Uint8ClampedArray" ∷ "Uint16Array" ∷ "Uint32Array" ∷ [])
 
 abbrev pub is_other_object : List ℕ → Bool
-is_other_object w = among w ("BigInt" ∷ "Boolean" ∷ "Date" ∷ "Function" ∷ "Map" ∷ "Number" ∷ "Object" ∷ "Promise" ∷ "Proxy" ∷ [])
+is_other_object text = among text ("BigInt" ∷ "Boolean" ∷ "Date" ∷ "Function" ∷ "Map" ∷ "Number" ∷ "Object" ∷ "Promise" ∷ "Proxy" ∷ [])
 
 abbrev pub is_further_object : List ℕ → Bool
-is_further_object w = among w ("Reflect" ∷ "RegExp" ∷ "Set" ∷ "String" ∷ "Symbol" ∷ "WeakMap" ∷ "WeakSet" ∷ "Atomics" ∷ "JSON" ∷ "Math" ∷ [])
+is_further_object text = among text ("Reflect" ∷ "RegExp" ∷ "Set" ∷ "String" ∷ "Symbol" ∷ "WeakMap" ∷ "WeakSet" ∷ "Atomics" ∷ "JSON" ∷ "Math" ∷ [])
 
 unfoldable pub is_built_in : List ℕ → Bool
-is_built_in w = is_value w || (is_global_function w || (is_error w || (is_array w || (is_other_object w || is_further_object w))))
+is_built_in text = is_value text || (is_global_function text || (is_error text || (is_array text || (is_other_object text || is_further_object text))))

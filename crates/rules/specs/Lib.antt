@@ -5,8 +5,8 @@ pub mod Toml
 pub mod Refusals
 pub mod BuiltIn
 pub mod Rules
-pub mod Grows
+pub mod Appends
 pub mod Nodes
 pub mod Used
-pub mod Views
+pub mod RuleViews
 pub mod Run

@@ -2,7 +2,7 @@
 use Rattle.std.specs.Prelude.{Bool, false, ◌||◌, List, Option, Some, None}
 use Rattle.tree.specs.declared.kind.Kind.TheVariants.{BinaryExpression}
 use Rattle.tree.specs.Tree.{Tree, node}
-use Rattle.language.specs.Words.{is}
+use Rattle.language.specs.Vocabulary.{is}
 use Rattle.rules.specs.declared.walk.NodeRule.{NodeRule}
 use Rattle.rules.specs.declared.walk.NodeRule.TheVariants.{Equality, Debugger, Empty, Var}
 use Rattle.scopes.specs.Found.{Reference}
@@ -10,14 +10,14 @@ use Rattle.rules.specs.Reports.{Report}
 use Rattle.rules.specs.Rules.{is_null, of_debugger, of_empty, of_equality, of_var, quoted, report}
 
 abbrev pub of_node : NodeRule → Bool → Bool → Tree → List Report
-of_node Equality null b t = of_equality null t
-of_node Debugger null b t = of_debugger t
-of_node Empty null b t = of_empty b t
-of_node Var null b t = of_var t
+of_node Equality null b tree = of_equality null tree
+of_node Debugger null b tree = of_debugger tree
+of_node Empty null b tree = of_empty b tree
+of_node Var null b tree = of_var tree
 
 abbrev pub is_equality : Tree → Bool
-is_equality (node BinaryExpression w g s e ps) = is w "==" || is w "!="
-is_equality (node _ w g s e ps) = false
+is_equality (node BinaryExpression text flags from to parts) = is text "==" || is text "!="
+is_equality (node _ text flags from to parts) = false
 
 abbrev pub null_at : Option Tree → Bool
 null_at None = false

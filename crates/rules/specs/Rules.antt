@@ -8,9 +8,9 @@ use Rattle.tree.specs.declared.kind.Kind.TheVariants.{BinaryExpression, BlockSta
 use Rattle.tree.specs.declared.kind.Span.{Span}
 use Rattle.tree.specs.Tree.{Tree, node, Parts, none, part, gap}
 use Rattle.language.specs.FirstPart.{others}
-use Rattle.language.specs.Words.{is}
+use Rattle.language.specs.Vocabulary.{is}
 use Rattle.scopes.specs.declared.kind.BindingKind.{BindingKind}
-use Rattle.scopes.specs.declared.kind.BindingKind.TheVariants.{Let, Param, Catch, Itself}
+use Rattle.scopes.specs.declared.kind.BindingKind.TheVariants.{Let, Param, Catch, OwnName}
 use Rattle.scopes.specs.Bindings.{Binding}
 use Rattle.scopes.specs.Found.{Found, Reference, Scope}
 use Rattle.rules.specs.BuiltIn.{is_built_in}
@@ -29,7 +29,7 @@ report rule s e text = record { start = s; stop = e; rule = codes rule; text = t
 
 -- a name between quotes, and words behind it
 abbrev pub quoted : List ℕ → String → List ℕ
-quoted w rest = codes "'" ++ (w ++ (codes "' " ++ codes rest))
+quoted text rest = codes "'" ++ (text ++ (codes "' " ++ codes rest))
 
 -- Rules that look at single nodes.
 
@@ -42,44 +42,44 @@ is_function _ = false
 unfoldable mutual
   -- what is reported of a node and of all below it, in the order of the tree; the flag says that the node is a part of a function
   pub over_nodes : (Bool → Tree → List Report) → Bool → Tree → List Report
-  over_nodes f b (node k w g s e ps) = f b (node k w g s e ps) ++ over_parts f (is_function k) ps
+  over_nodes f b (node kind text flags from to parts) = f b (node kind text flags from to parts) ++ over_parts f (is_function kind) parts
 
   pub over_parts : (Bool → Tree → List Report) → Bool → Parts → List Report
   over_parts f b none = []
-  over_parts f b (part t ps) = over_nodes f b t ++ over_parts f b ps
-  over_parts f b (gap ps) = over_parts f b ps
+  over_parts f b (part first_tree rest) = over_nodes f b first_tree ++ over_parts f b rest
+  over_parts f b (gap rest) = over_parts f b rest
 
 abbrev pub is_null : Tree → Bool
-is_null (node Literal w g s e ps) = is w "null"
-is_null (node _ w g s e ps) = false
+is_null (node Literal text flags from to parts) = is text "null"
+is_null (node _ text flags from to parts) = false
 
 abbrev pub has_null : Parts → Bool
 has_null none = false
-has_null (part t ps) = is_null t || has_null ps
-has_null (gap ps) = has_null ps
+has_null (part first_tree rest) = is_null first_tree || has_null rest
+has_null (gap rest) = has_null rest
 
 abbrev pub of_equality : Bool → Tree → List Report
-of_equality null (node BinaryExpression w g s e ps) =
-    cond ((is w "==" || is w "!=") && not (null && has_null ps))
-    (report "eqeqeq" s e (codes "use '" ++ (w ++ (codes "=' instead of '" ++ (w ++ codes "'")))) ∷ []) []
-of_equality null (node _ w g s e ps) = []
+of_equality null (node BinaryExpression text flags from to parts) =
+    cond ((is text "==" || is text "!=") && not (null && has_null parts))
+    (report "eqeqeq" from to (codes "use '" ++ (text ++ (codes "=' instead of '" ++ (text ++ codes "'")))) ∷ []) []
+of_equality null (node _ text flags from to parts) = []
 
 abbrev pub of_debugger : Tree → List Report
-of_debugger (node DebuggerStatement w g s e ps) = report "no-debugger" s e (codes "debugger statement") ∷ []
-of_debugger (node _ w g s e ps) = []
+of_debugger (node DebuggerStatement text flags from to parts) = report "no-debugger" from to (codes "debugger statement") ∷ []
+of_debugger (node _ text flags from to parts) = []
 
 abbrev pub is_empty : Parts → Bool
 is_empty none = true
 is_empty _ = false
 
 abbrev pub of_empty : Bool → Tree → List Report
-of_empty b (node BlockStatement w g s e ps) = cond (is_empty ps && not b) (report "no-empty" s e (codes "empty block") ∷ []) []
-of_empty b (node SwitchStatement w g s e ps) = cond (is_empty (others ps)) (report "no-empty" s e (codes "empty switch") ∷ []) []
-of_empty b (node _ w g s e ps) = []
+of_empty b (node BlockStatement text flags from to parts) = cond (is_empty parts && not b) (report "no-empty" from to (codes "empty block") ∷ []) []
+of_empty b (node SwitchStatement text flags from to parts) = cond (is_empty (others parts)) (report "no-empty" from to (codes "empty switch") ∷ []) []
+of_empty b (node _ text flags from to parts) = []
 
 abbrev pub of_var : Tree → List Report
-of_var (node VariableDeclaration w g s e ps) = cond (is w "var") (report "no-var" s e (codes "use let or const instead of var") ∷ []) []
-of_var (node _ w g s e ps) = []
+of_var (node VariableDeclaration text flags from to parts) = cond (is text "var") (report "no-var" from to (codes "use let or const instead of var") ∷ []) []
+of_var (node _ text flags from to parts) = []
 
 abbrev pub eqeqeq : View → List Report
 eqeqeq v = over_nodes (λ b t. of_equality v.settings.allow_null t) false v.tree
@@ -102,7 +102,7 @@ no_extra_parens v = map of_extra v.extra
 -- Rules that look at scopes, bindings and references.
 
 abbrev pub is_known : Settings → List ℕ → Bool
-is_known s w = is_built_in w || list_any (λ x. bytes_eq w x) s.globals
+is_known s text = is_built_in text || list_any (λ x. bytes_eq text x) s.globals
 
 abbrev pub of_undefined : Settings → Reference → List Report
 of_undefined s r = cond (is_none r.meaning && not (r.typeof_operand || is_known s r.name)) (report "no-undef" r.start r.stop (quoted r.name "is not defined") ∷ []) []
@@ -142,7 +142,7 @@ abbrev pub is_used : Bool → List Reference → ℕ × ℕ → Bool
 is_used writes rs m = list_any (λ r. uses writes r && means r m) rs
 
 abbrev pub is_itself : BindingKind → Bool
-is_itself Itself = true
+is_itself OwnName = true
 is_itself _ = false
 
 -- the script's scope has none round it, so nothing in it shadows
@@ -152,7 +152,7 @@ of_shadow b = cond (b.shadows && not (is_itself b.kind)) (report "no-shadow" b.s
 abbrev pub is_for_reading : BindingKind → Bool
 is_for_reading Param = false
 is_for_reading Catch = false
-is_for_reading Itself = false
+is_for_reading OwnName = false
 is_for_reading _ = true
 
 abbrev pub begins_with_underscore : List ℕ → Bool

@@ -2,7 +2,7 @@
 use Rattle.std.specs.Prelude.{ℕ, Bool, false, not, List, [], ◌∷◌, map, codes}
 use Rattle.std.specs.List.{list_any}
 use Rattle.std.specs.Str.{bytes_eq}
-use Rattle.language.specs.Words.{among}
+use Rattle.language.specs.Vocabulary.{among}
 
 -- the names of the rules that are off; the global names, in order of their bytes, each once; the two options
 pub record Settings : Type 0 where
@@ -22,4 +22,4 @@ abbrev pub rule_names : List (List ℕ)
 rule_names = map codes ("eqeqeq" ∷ "no-debugger" ∷ "no-empty" ∷ "no-extra-parens" ∷ "no-shadow" ∷ "no-undef" ∷ "no-unused-vars" ∷ "no-var" ∷ "prefer-const" ∷ [])
 
 unfoldable pub is_rule : List ℕ → Bool
-is_rule w = among w ("eqeqeq" ∷ "no-debugger" ∷ "no-empty" ∷ "no-extra-parens" ∷ "no-shadow" ∷ "no-undef" ∷ "no-unused-vars" ∷ "no-var" ∷ "prefer-const" ∷ [])
+is_rule text = among text ("eqeqeq" ∷ "no-debugger" ∷ "no-empty" ∷ "no-extra-parens" ∷ "no-shadow" ∷ "no-undef" ∷ "no-unused-vars" ∷ "no-var" ∷ "prefer-const" ∷ [])

@@ -9,7 +9,7 @@ use Rattle.std.specs.Str.{bytes_eq}
 use Rattle.rules.specs.Settings.{Settings, is_rule, rule_names}
 
 unfoldable pub is_key : List ℕ → Bool
-is_key w = bytes_eq w (codes "rules") || (bytes_eq w (codes "globals") || (bytes_eq w (codes "allow-null") || bytes_eq w (codes "ignore-underscore")))
+is_key text = bytes_eq text (codes "rules") || (bytes_eq text (codes "globals") || (bytes_eq text (codes "allow-null") || bytes_eq text (codes "ignore-underscore")))
 
 abbrev pub knows_keys : Members → Bool
 knows_keys no_members = true

@@ -2,16 +2,16 @@
 
 ghost use Rattle.std.specs.Prelude.{◌≡◌, ◌++◌, ◌∷◌, [], ℕ, Bool, codes, OnOk};
 ghost use Rattle.scopes.specs.Shown.{all_shown, shown};
-ghost use Rattle.rules.specs.Grows.{Grows};
+ghost use Rattle.rules.specs.Appends.{Grows};
 ghost use Rattle.rules.specs.Used.{is_marked, of_binding};
 ghost use Rattle.rules.specs.Rules.{of_bindings, of_scopes};
 
+use crate::new_report::{push_report, quoted};
 use crate::no_shadow::push_shadow;
 use crate::no_unused_vars::push_unused;
 use crate::prefer_const::push_constant;
-use crate::push::{push_report, quoted};
 use crate::report::Report;
-use crate::used::Used;
+use crate::used_bindings::UsedBindings;
 use scopes::{Binding, Scopes};
 use std::alloc::{AllocError, Global};
 use tree::Span;
@@ -67,7 +67,7 @@ fn push_scope(
     rule: BindingRule,
     alloc: Global,
     ignore: bool,
-    used: &Used,
+    used: &UsedBindings,
     scope: usize,
     bindings: &[Binding],
     out: &mut Vec<Report>,
@@ -87,7 +87,7 @@ pub(crate) fn push_bindings(
     rule: BindingRule,
     alloc: Global,
     ignore: bool,
-    used: &Used,
+    used: &UsedBindings,
     scopes: &Scopes,
     out: &mut Vec<Report>,
 ) -> Result<(), AllocError>

@@ -3,11 +3,11 @@
 ghost use Rattle.std.specs.Prelude.{◌≡◌, ◌++◌, codes, option_map, string_bytes, IfOk, OnOk};
 ghost use Rattle.tree.specs.Node.{node_tree};
 ghost use Rattle.tree.specs.Tree.{parts_of};
-ghost use Rattle.rules.specs.Grows.{Grows};
+ghost use Rattle.rules.specs.Appends.{Grows};
 ghost use Rattle.rules.specs.Nodes.{is_equality, null_at};
 ghost use Rattle.rules.specs.Rules.{has_null, of_equality};
 
-use crate::push::push_report;
+use crate::new_report::push_report;
 use crate::report::Report;
 use crate::rule::Rule;
 use crate::view::View;
@@ -37,7 +37,7 @@ impl EqEqEq {
 impl Rule for EqEqEq {
     ghost use Rattle.std.specs.Prelude.{codes};
     ghost use Rattle.rules.specs.Rules.{eqeqeq};
-    ghost use Rattle.rules.specs.Views.{seen};
+    ghost use Rattle.rules.specs.RuleViews.{seen};
 
     ghost called = { λ _. codes "eqeqeq" };
 

@@ -4,7 +4,8 @@
 mod bindings;
 mod built_in;
 mod eqeqeq;
-mod keys;
+mod known_keys;
+mod new_report;
 mod no_debugger;
 mod no_empty;
 mod no_extra_parens;
@@ -13,13 +14,12 @@ mod no_undef;
 mod no_unused_vars;
 mod no_var;
 mod prefer_const;
-mod push;
-mod reading;
 mod report;
 mod rule;
 mod run;
 mod settings;
-mod used;
+mod settings_from_toml;
+mod used_bindings;
 mod view;
 mod walk;
 

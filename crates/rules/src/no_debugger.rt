@@ -2,10 +2,10 @@
 
 ghost use Rattle.std.specs.Prelude.{◌≡◌, ◌++◌, OnOk};
 ghost use Rattle.tree.specs.Node.{node_tree};
-ghost use Rattle.rules.specs.Grows.{Grows};
+ghost use Rattle.rules.specs.Appends.{Grows};
 ghost use Rattle.rules.specs.Rules.{of_debugger};
 
-use crate::push::push_words;
+use crate::new_report::push_fixed_report;
 use crate::report::Report;
 use crate::rule::Rule;
 use crate::view::View;
@@ -33,7 +33,7 @@ impl NoDebugger {
 impl Rule for NoDebugger {
     ghost use Rattle.std.specs.Prelude.{codes};
     ghost use Rattle.rules.specs.Rules.{no_debugger};
-    ghost use Rattle.rules.specs.Views.{seen};
+    ghost use Rattle.rules.specs.RuleViews.{seen};
 
     ghost called = { λ _. codes "no-debugger" };
 
@@ -65,7 +65,7 @@ pub(crate) fn push_debugger(
     ensures kept { Grows out.old.items out.new.items }
 {
     match node.kind() {
-        Kind::DebuggerStatement => push_words(
+        Kind::DebuggerStatement => push_fixed_report(
             alloc,
             "no-debugger",
             node.span(),

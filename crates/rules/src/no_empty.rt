@@ -2,10 +2,10 @@
 
 ghost use Rattle.std.specs.Prelude.{◌≡◌, ◌++◌, OnOk};
 ghost use Rattle.tree.specs.Node.{node_tree};
-ghost use Rattle.rules.specs.Grows.{Grows};
+ghost use Rattle.rules.specs.Appends.{Grows};
 ghost use Rattle.rules.specs.Rules.{of_empty};
 
-use crate::push::push_words;
+use crate::new_report::push_fixed_report;
 use crate::report::Report;
 use crate::rule::Rule;
 use crate::view::View;
@@ -35,7 +35,7 @@ impl NoEmpty {
 impl Rule for NoEmpty {
     ghost use Rattle.std.specs.Prelude.{codes};
     ghost use Rattle.rules.specs.Rules.{no_empty};
-    ghost use Rattle.rules.specs.Views.{seen};
+    ghost use Rattle.rules.specs.RuleViews.{seen};
 
     ghost called = { λ _. codes "no-empty" };
 
@@ -70,14 +70,14 @@ pub(crate) fn push_empty(
     match node.kind() {
         Kind::BlockStatement => {
             if node.part_count() == 0 && !of_function {
-                push_words(alloc, "no-empty", node.span(), "empty block", out)
+                push_fixed_report(alloc, "no-empty", node.span(), "empty block", out)
             } else {
                 Ok(())
             }
         }
         Kind::SwitchStatement => {
             if node.part_count() < 2 {
-                push_words(alloc, "no-empty", node.span(), "empty switch", out)
+                push_fixed_report(alloc, "no-empty", node.span(), "empty switch", out)
             } else {
                 Ok(())
             }

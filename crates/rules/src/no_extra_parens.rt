@@ -1,10 +1,10 @@
 //! `no-extra-parens`: no parentheses that the script can do without.
 
 ghost use Rattle.std.specs.Prelude.{◌≡◌, ◌++◌, map, OnOk};
-ghost use Rattle.rules.specs.Grows.{Grows};
+ghost use Rattle.rules.specs.Appends.{Grows};
 ghost use Rattle.rules.specs.Rules.{of_extra};
 
-use crate::push::push_words;
+use crate::new_report::push_fixed_report;
 use crate::report::Report;
 use crate::rule::Rule;
 use crate::view::View;
@@ -38,7 +38,7 @@ impl NoExtraParens {
 impl Rule for NoExtraParens {
     ghost use Rattle.std.specs.Prelude.{codes};
     ghost use Rattle.rules.specs.Rules.{no_extra_parens};
-    ghost use Rattle.rules.specs.Views.{seen};
+    ghost use Rattle.rules.specs.RuleViews.{seen};
 
     ghost called = { λ _. codes "no-extra-parens" };
 
@@ -59,7 +59,7 @@ fn push_extra(alloc: Global, extra: &[Span], out: &mut Vec<Report>) -> Result<()
     ensures kept { Grows out.old.items out.new.items }
 {
     for span in extra {
-        push_words(
+        push_fixed_report(
             alloc,
             "no-extra-parens",
             *span,

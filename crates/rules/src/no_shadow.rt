@@ -2,13 +2,13 @@
 
 ghost use Rattle.std.specs.Prelude.{◌≡◌, ◌++◌, OnOk};
 ghost use Rattle.scopes.specs.Shown.{shown};
-ghost use Rattle.rules.specs.Grows.{Grows};
+ghost use Rattle.rules.specs.Appends.{Grows};
 ghost use Rattle.rules.specs.Rules.{is_itself, of_shadow};
 
 use crate::bindings::{BindingRule, push_bindings, push_named};
 use crate::report::Report;
 use crate::rule::Rule;
-use crate::used::Used;
+use crate::used_bindings::UsedBindings;
 use crate::view::View;
 use scopes::{Binding, BindingKind};
 use std::alloc::{AllocError, Global};
@@ -36,7 +36,7 @@ impl NoShadow {
 impl Rule for NoShadow {
     ghost use Rattle.std.specs.Prelude.{codes};
     ghost use Rattle.rules.specs.Rules.{no_shadow};
-    ghost use Rattle.rules.specs.Views.{seen};
+    ghost use Rattle.rules.specs.RuleViews.{seen};
 
     ghost called = { λ _. codes "no-shadow" };
 
@@ -51,7 +51,7 @@ impl Rule for NoShadow {
             BindingRule::Shadow,
             self.alloc,
             false,
-            &Used::new(self.alloc),
+            &UsedBindings::new(self.alloc),
             view.scopes,
             out,
         )
@@ -79,7 +79,7 @@ fn is_itself(kind: BindingKind) -> bool
     ensures { result ≡ is_itself kind }
 {
     match kind {
-        BindingKind::Itself => true,
+        BindingKind::OwnName => true,
         _ => false,
     }
 }

@@ -2,12 +2,12 @@
 
 ghost use Rattle.std.specs.Prelude.{◌≡◌, ◌++◌, ◌∷◌, [], cond, map, OnOk};
 ghost use Rattle.scopes.specs.Shown.{reference_shown};
-ghost use Rattle.rules.specs.Grows.{Grows};
+ghost use Rattle.rules.specs.Appends.{Grows};
 ghost use Rattle.rules.specs.Rules.{each_undefined, of_undefined};
 ghost use Rattle.rules.specs.Nodes.{undefined_at};
 
 use crate::built_in::is_built_in;
-use crate::push::{push_report, quoted};
+use crate::new_report::{push_report, quoted};
 use crate::report::Report;
 use crate::rule::Rule;
 use crate::settings::Settings;
@@ -40,7 +40,7 @@ impl NoUndef {
 impl Rule for NoUndef {
     ghost use Rattle.std.specs.Prelude.{codes};
     ghost use Rattle.rules.specs.Rules.{no_undef};
-    ghost use Rattle.rules.specs.Views.{seen};
+    ghost use Rattle.rules.specs.RuleViews.{seen};
 
     ghost called = { λ _. codes "no-undef" };
 

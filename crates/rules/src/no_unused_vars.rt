@@ -2,13 +2,13 @@
 
 ghost use Rattle.std.specs.Prelude.{◌≡◌, ◌++◌, ℕ, Bool, OnOk};
 ghost use Rattle.scopes.specs.Shown.{shown};
-ghost use Rattle.rules.specs.Grows.{Grows};
+ghost use Rattle.rules.specs.Appends.{Grows};
 ghost use Rattle.rules.specs.Rules.{begins_with_underscore, is_for_reading, of_unused};
 
 use crate::bindings::{BindingRule, push_bindings, push_named};
 use crate::report::Report;
 use crate::rule::Rule;
-use crate::used::used_by;
+use crate::used_bindings::used_by;
 use crate::view::View;
 use scopes::{Binding, BindingKind};
 use std::alloc::{AllocError, Global};
@@ -37,7 +37,7 @@ impl NoUnusedVars {
 impl Rule for NoUnusedVars {
     ghost use Rattle.std.specs.Prelude.{codes};
     ghost use Rattle.rules.specs.Rules.{no_unused_vars};
-    ghost use Rattle.rules.specs.Views.{seen};
+    ghost use Rattle.rules.specs.RuleViews.{seen};
 
     ghost called = { λ _. codes "no-unused-vars" };
 
@@ -86,7 +86,7 @@ fn is_for_reading(kind: BindingKind) -> bool
     ensures { result ≡ is_for_reading kind }
 {
     match kind {
-        BindingKind::Param | BindingKind::Catch | BindingKind::Itself => false,
+        BindingKind::Param | BindingKind::Catch | BindingKind::OwnName => false,
         _ => true,
     }
 }

@@ -2,10 +2,10 @@
 
 ghost use Rattle.std.specs.Prelude.{◌≡◌, ◌++◌, OnOk};
 ghost use Rattle.tree.specs.Node.{node_tree};
-ghost use Rattle.rules.specs.Grows.{Grows};
+ghost use Rattle.rules.specs.Appends.{Grows};
 ghost use Rattle.rules.specs.Rules.{of_var};
 
-use crate::push::push_words;
+use crate::new_report::push_fixed_report;
 use crate::report::Report;
 use crate::rule::Rule;
 use crate::view::View;
@@ -33,7 +33,7 @@ impl NoVar {
 impl Rule for NoVar {
     ghost use Rattle.std.specs.Prelude.{codes};
     ghost use Rattle.rules.specs.Rules.{no_var};
-    ghost use Rattle.rules.specs.Views.{seen};
+    ghost use Rattle.rules.specs.RuleViews.{seen};
 
     ghost called = { λ _. codes "no-var" };
 
@@ -63,7 +63,7 @@ pub(crate) fn push_var(alloc: Global, node: Node, out: &mut Vec<Report>) -> Resu
     match node.kind() {
         Kind::VariableDeclaration => {
             if node.text() == "var" {
-                push_words(
+                push_fixed_report(
                     alloc,
                     "no-var",
                     node.span(),

@@ -2,13 +2,13 @@
 
 ghost use Rattle.std.specs.Prelude.{◌≡◌, ◌++◌, ℕ, Bool, OnOk};
 ghost use Rattle.scopes.specs.Shown.{shown};
-ghost use Rattle.rules.specs.Grows.{Grows};
+ghost use Rattle.rules.specs.Appends.{Grows};
 ghost use Rattle.rules.specs.Rules.{is_let, of_const};
 
 use crate::bindings::{BindingRule, push_bindings, push_named};
 use crate::report::Report;
 use crate::rule::Rule;
-use crate::used::used_by;
+use crate::used_bindings::used_by;
 use crate::view::View;
 use scopes::{Binding, BindingKind};
 use std::alloc::{AllocError, Global};
@@ -37,7 +37,7 @@ impl PreferConst {
 impl Rule for PreferConst {
     ghost use Rattle.std.specs.Prelude.{codes};
     ghost use Rattle.rules.specs.Rules.{prefer_const};
-    ghost use Rattle.rules.specs.Views.{seen};
+    ghost use Rattle.rules.specs.RuleViews.{seen};
 
     ghost called = { λ _. codes "prefer-const" };
 

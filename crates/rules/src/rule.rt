@@ -10,7 +10,7 @@ pub trait Rule: Drop {
     ghost use Rattle.std.specs.Prelude.{◌≡◌, ◌++◌, List, ℕ, OnOk};
     ghost use Rattle.rules.specs.Reports.{Report};
     ghost use Rattle.rules.specs.Rules.{View};
-    ghost use Rattle.rules.specs.Views.{seen};
+    ghost use Rattle.rules.specs.RuleViews.{seen};
 
     /// The rule's name, as bytes.
     ghost called: { Self → List ℕ };

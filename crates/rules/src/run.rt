@@ -4,7 +4,7 @@ ghost use Rattle.std.specs.Prelude.{◌≡◌, ◌++◌, IfOk, OnOk};
 ghost use Rattle.std.specs.List.Sorted.{IsPermutation, IsSorted};
 ghost use Rattle.rules.specs.Order.{report_cmp};
 ghost use Rattle.rules.specs.Run.{all_found, found_by};
-ghost use Rattle.rules.specs.Views.{seen};
+ghost use Rattle.rules.specs.RuleViews.{seen};
 
 use crate::report::Report;
 use crate::rule::Rule;

@@ -18,7 +18,7 @@ pub struct View<'v, 't, 's> {
 
 impl<'v, 't, 's> View<'v, 't, 's> {
     ghost use Rattle.std.specs.Prelude.{◌≡◌};
-    ghost use Rattle.rules.specs.Views.{seen};
+    ghost use Rattle.rules.specs.RuleViews.{seen};
 
     /// A view of these. Takes no memory.
     pub fn new(

@@ -2,17 +2,17 @@
 use Rattle.std.proofs.Common.{◌≡◌, Bool, true, false, cond, List, [], ◌++◌, refl, sym, ap, ◌∙◌, append-nil}
 use Rattle.tree.specs.declared.kind.Kind.TheVariants.{VariableDeclaration, ClassDeclaration, FunctionDeclaration}
 use Rattle.tree.specs.Tree.{Tree, Parts, none, part, gap, node, kind_of, text_of, parts_of, part_at}
-use Rattle.language.specs.Words.{is}
+use Rattle.language.specs.Vocabulary.{is}
 use Rattle.scopes.specs.declared.names.DeclaredIn.{DeclaredIn}
 use Rattle.scopes.specs.declared.names.DeclaredIn.TheVariants.{Statement}
-use Rattle.scopes.specs.declared.names.Item.{Item}
-use Rattle.scopes.specs.declared.names.Item.TheVariants as item
+use Rattle.scopes.specs.declared.names.DeclarationKind.{DeclarationKind}
+use Rattle.scopes.specs.declared.names.DeclarationKind.TheVariants as item
 use Rattle.name_tables.specs.BoundNames.{each_part}
 use Rattle.scopes.specs.Bindings.{Binding, declared, lexical, vars_in, parts_vars, holds_statements}
 use Rattle.scopes.specs.Gathered.{names_at, item_of}
-use Rattle.scopes.proofs.Dropping.{first_names-at}
+use Rattle.scopes.proofs.RemainingParts.{first_names-at}
 
-abbrev lexical_by : DeclaredIn → Item → Tree → List Binding
+abbrev lexical_by : DeclaredIn → DeclarationKind → Tree → List Binding
 lexical_by h item.Lexical t = declared h (text_of t) (parts_of t)
 lexical_by h (item.First k) t = names_at k false (part_at (parts_of t) 0)
 lexical_by h _ t = []
@@ -27,7 +27,7 @@ lexical_by_kind h (node FunctionDeclaration w g s e ps) = first_names-at _ false
 lexical_by_kind h (node ClassDeclaration w g s e ps) = first_names-at _ false ps
 lexical_by_kind h (node _ w g s e ps) = refl
 
-pub lexical_given : (h : DeclaredIn) (t : Tree) (i : Item) → i ≡ item_of (kind_of t) (text_of t) → lexical h t ≡ lexical_by h i t
+pub lexical_given : (h : DeclaredIn) (t : Tree) (i : DeclarationKind) → i ≡ item_of (kind_of t) (text_of t) → lexical h t ≡ lexical_by h i t
 lexical_given h t i e = lexical_by_kind h t ∙ ap (λ x. lexical_by h x t) (sym e)
 
 vars-each : (ps : Parts) → parts_vars ps ≡ each_part vars_in ps
@@ -36,7 +36,7 @@ vars-each none = refl
 vars-each (part t ps) = ap (λ l. vars_in t ++ l) (vars-each ps)
 vars-each (gap ps) = vars-each ps
 
-abbrev pub vars_by : Item → Tree → List Binding
+abbrev pub vars_by : DeclarationKind → Tree → List Binding
 vars_by item.Var t = declared Statement (text_of t) (parts_of t)
 vars_by item.Parts t = each_part vars_in (parts_of t)
 vars_by _ t = []
@@ -56,5 +56,5 @@ vars_by_kind (node FunctionDeclaration w g s e ps) = refl
 vars_by_kind (node ClassDeclaration w g s e ps) = refl
 vars_by_kind (node k w g s e ps) = held (holds_statements k) (node k w g s e ps)
 
-pub vars_given : (t : Tree) (i : Item) → i ≡ item_of (kind_of t) (text_of t) → vars_in t ≡ vars_by i t
+pub vars_given : (t : Tree) (i : DeclarationKind) → i ≡ item_of (kind_of t) (text_of t) → vars_in t ≡ vars_by i t
 vars_given t i e = vars_by_kind t ∙ ap (λ x. vars_by x t) (sym e)

@@ -6,8 +6,8 @@ use Rattle.tree.specs.declared.kind.Kind.TheVariants.{Identifier, Literal, Progr
 use Rattle.tree.specs.declared.kind.Form.{Form}
 use Rattle.tree.specs.Tree.{Tree, node, Parts, none, part, plain}
 use Rattle.scopes.specs.declared.kind.BindingKind.{BindingKind}
-use Rattle.scopes.specs.declared.roles.Role.{Role}
-use Rattle.scopes.specs.declared.roles.Role.TheVariants.{Read, Write, ReadWrite, Typeof}
+use Rattle.scopes.specs.declared.identifier_use.IdentifierUse.{IdentifierUse}
+use Rattle.scopes.specs.declared.identifier_use.IdentifierUse.TheVariants.{Read, Write, ReadWrite, Typeof}
 use Rattle.name_tables.specs.BoundNames.{bound_names, all_bound_names, first_bound_names, last_bound_names}
 use Rattle.scopes.specs.Bindings.{vars_in, parts_vars}
 use Rattle.scopes.specs.Found.{Reference, found, found_in, all_parts, parts_from}
@@ -21,11 +21,11 @@ computing = 0
 abbrev pub scopes_shown : Tree → List (Option ℕ × List (List ℕ × BindingKind × ℕ))
 scopes_shown t = map (λ s. (s.parent, map (λ b. (b.name, b.kind, b.start)) s.bindings)) (found t).scopes
 
-abbrev pub role_shown : Reference → Role
+abbrev pub role_shown : Reference → IdentifierUse
 role_shown r = cond r.typeof_operand Typeof (cond (r.reads && r.writes) ReadWrite (cond r.writes Write Read))
 
 -- of each reference its start, its scope, what it does, and what it means
-abbrev pub references_shown : Tree → List (ℕ × ℕ × Role × Option (ℕ × ℕ))
+abbrev pub references_shown : Tree → List (ℕ × ℕ × IdentifierUse × Option (ℕ × ℕ))
 references_shown t = map (λ r. (r.start, r.scope, role_shown r, r.meaning)) (found t).references
 
 -- a node with neither text nor flags

@@ -5,7 +5,7 @@ use Rattle.tree.specs.declared.kind.Kind.{Kind}
 use Rattle.tree.specs.declared.kind.Kind.TheVariants.{BlockStatement, VariableDeclaration, FunctionDeclaration, ClassDeclaration, LabeledStatement, IfStatement, SwitchStatement, SwitchCase, TryStatement, CatchClause, WhileStatement, DoWhileStatement, ForStatement, ForInStatement, ForOfStatement}
 use Rattle.tree.specs.Tree.{Tree, node, Parts, none, part, gap, parts_of, text_of, start_of, stop_of}
 use Rattle.language.specs.FirstPart.{others}
-use Rattle.language.specs.Words.{is}
+use Rattle.language.specs.Vocabulary.{is}
 use Rattle.name_tables.specs.BoundNames.{each_part, bound_names, first_bound_names}
 use Rattle.scopes.specs.declared.kind.BindingKind.{BindingKind}
 use Rattle.scopes.specs.declared.names.DeclaredIn.{DeclaredIn}
@@ -24,39 +24,39 @@ pub record Binding : Type 0 where
 
 -- the binding that an identifier makes, not shadowing as yet
 abbrev pub binding_at : BindingKind → Bool → Tree → Binding
-binding_at k b t = record { name = text_of t; kind = k; start = start_of t; stop = stop_of t; settled = b; shadows = false }
+binding_at k b tree = record { name = text_of tree; kind = k; start = start_of tree; stop = stop_of tree; settled = b; shadows = false }
 
 -- the names of a pattern (BoundNames, 12.1.2, 13.3.3.1), all declared alike
 abbrev pub names_in : BindingKind → Bool → Tree → List Binding
-names_in k b t = bound_names (binding_at k b) t
+names_in k b tree = bound_names (binding_at k b) tree
 
 -- those of the first part
 abbrev pub first_names : BindingKind → Bool → Parts → List Binding
-first_names k b ps = first_bound_names (binding_at k b) ps
+first_names k b parts = first_bound_names (binding_at k b) parts
 
 abbrev pub is_initialised : Parts → Bool
-is_initialised (part t ps) = true
+is_initialised (part tree rest) = true
 is_initialised _ = false
 
 -- whether a declarator gives its names a value, by where its declaration stands; in the head of a plain `for` it doesn't count
 abbrev pub settles : DeclaredIn → Parts → Bool
-settles Statement ps = is_initialised (others ps)
-settles ForHead ps = false
-settles ForInOfHead ps = true
+settles Statement parts = is_initialised (others parts)
+settles ForHead parts = false
+settles ForInOfHead parts = true
 
 abbrev pub word_kind : List ℕ → BindingKind
-word_kind w = cond (is w "var") Var (cond (is w "let") Let Const)
+word_kind text = cond (is text "var") Var (cond (is text "let") Let Const)
 
 -- the names of a declaration, whose parts are its declarators (13.3.1.2, 13.3.2.1)
 abbrev pub declared : DeclaredIn → List ℕ → Parts → List Binding
-declared h w ps = each_part (λ d. first_names (word_kind w) (settles h (parts_of d)) (parts_of d)) ps
+declared h text parts = each_part (λ d. first_names (word_kind text) (settles h (parts_of d)) (parts_of d)) parts
 
 -- what a node declares in the scope that it stands in: `let`, `const`, a function, a class (LexicallyDeclaredNames, 13.2.5)
 abbrev pub lexical : DeclaredIn → Tree → List Binding
-lexical h (node VariableDeclaration w g s e ps) = cond (is w "var") [] (declared h w ps)
-lexical h (node FunctionDeclaration w g s e ps) = first_names Function false ps
-lexical h (node ClassDeclaration w g s e ps) = first_names Class false ps
-lexical h (node _ w g s e ps) = []
+lexical h (node VariableDeclaration text flags from to parts) = cond (is text "var") [] (declared h text parts)
+lexical h (node FunctionDeclaration text flags from to parts) = first_names Function false parts
+lexical h (node ClassDeclaration text flags from to parts) = first_names Class false parts
+lexical h (node _ text flags from to parts) = []
 
 -- the kinds that have statements among their parts, the Program and functions aside
 abbrev pub holds_statements : Kind → Bool
@@ -75,19 +75,19 @@ holds_statements ForOfStatement = true
 holds_statements _ = false
 
 abbrev pub own_vars : Kind → List ℕ → Parts → List Binding
-own_vars VariableDeclaration w ps = cond (is w "var") (declared Statement w ps) []
-own_vars _ w ps = []
+own_vars VariableDeclaration text parts = cond (is text "var") (declared Statement text parts) []
+own_vars _ text parts = []
 
 unfoldable mutual
   -- the names of `var` in a statement at any depth, but not in functions inside it (VarDeclaredNames, 13.1.5, 13.2.11)
   pub vars_in : Tree → List Binding
-  vars_in (node k w g s e ps) = own_vars k w ps ++ cond (holds_statements k) (parts_vars ps) []
+  vars_in (node node_kind text flags from to parts) = own_vars node_kind text parts ++ cond (holds_statements node_kind) (parts_vars parts) []
 
   pub parts_vars : Parts → List Binding
   parts_vars none = []
-  parts_vars (part t ps) = vars_in t ++ parts_vars ps
-  parts_vars (gap ps) = parts_vars ps
+  parts_vars (part tree rest) = vars_in tree ++ parts_vars rest
+  parts_vars (gap rest) = parts_vars rest
 
 abbrev pub has_name : List ℕ → List Binding → Bool
-has_name w [] = false
-has_name w (b ∷ bs) = bytes_eq w b.name || has_name w bs
+has_name text [] = false
+has_name text (b ∷ bs) = bytes_eq text b.name || has_name text bs

@@ -6,9 +6,9 @@ use Rattle.tree.specs.declared.kind.Kind.{Kind}
 use Rattle.tree.specs.declared.kind.Kind.TheVariants.{Identifier}
 use Rattle.tree.specs.declared.kind.Flags.{Flags}
 use Rattle.tree.specs.Tree.{Tree, node, Parts, none, part, gap, part_count}
-use Rattle.language.specs.Words.{is}
-use Rattle.scopes.specs.declared.roles.Role.{Role}
-use Rattle.scopes.specs.declared.roles.Role.TheVariants.{Read}
+use Rattle.language.specs.Vocabulary.{is}
+use Rattle.scopes.specs.declared.identifier_use.IdentifierUse.{IdentifierUse}
+use Rattle.scopes.specs.declared.identifier_use.IdentifierUse.TheVariants.{Read}
 use Rattle.scopes.specs.Roles.{part_role, is_reference, does_read, does_write, is_typeof_operand}
 use Rattle.scopes.specs.Bindings.{Binding, has_name}
 use Rattle.scopes.specs.Openings.{scope_round_all, scope_round_others, has_arguments}
@@ -23,12 +23,12 @@ pub record Frame : Type 0 where
 pub record Around : Type 0 where
   pub frames : List Frame
   pub in_function : Bool
-  pub role : Role
+  pub role : IdentifierUse
 
 -- the place of a name among bindings
 abbrev pub index_of : List ℕ → List Binding → Option ℕ
-index_of w [] = None
-index_of w (b ∷ bs) = cond (bytes_eq w b.name) (Some 0) (option_map suc (index_of w bs))
+index_of word [] = None
+index_of word (b ∷ bs) = cond (bytes_eq word b.name) (Some 0) (option_map suc (index_of word bs))
 
 -- the place in this scope, or what the name means further out
 abbrev pub here_or_outer : ℕ → Option ℕ → Option (ℕ × ℕ) → Option (ℕ × ℕ)
@@ -37,8 +37,8 @@ here_or_outer n (Some i) o = Some (n, i)
 
 -- the binding of a name in the nearest scope that declares it: the scope's number, and the place among its bindings
 abbrev pub nearest : List ℕ → List Frame → Option (ℕ × ℕ)
-nearest w [] = None
-nearest w (f ∷ fs) = here_or_outer f.number (index_of w f.bindings) (nearest w fs)
+nearest word [] = None
+nearest word (f ∷ fs) = here_or_outer f.number (index_of word f.bindings) (nearest word fs)
 
 -- one more name is declared: where the name stands already, its first identifier counts
 abbrev pub added : List Frame → List Binding → Binding → List Binding
@@ -82,10 +82,10 @@ scope_of (f ∷ fs) = Some f.number
 
 -- the reference that a node is, if it is one
 abbrev pub own_reference : Around → Tree → List Reference
-own_reference z (node Identifier w g s e ps) =
-    cond (is_reference z.role && not (z.in_function && is w "arguments"))
-    (record { name = w; scope = unwrap_or (scope_of z.frames) 0; reads = does_read z.role; writes = does_write z.role; start = s; stop = e; typeof_operand = is_typeof_operand z.role; meaning = nearest w z.frames } ∷ []) []
-own_reference z (node _ w g s e ps) = []
+own_reference z (node Identifier word node_flags from to parts) =
+    cond (is_reference z.role && not (z.in_function && is word "arguments"))
+    (record { name = word; scope = unwrap_or (scope_of z.frames) 0; reads = does_read z.role; writes = does_write z.role; start = from; stop = to; typeof_operand = is_typeof_operand z.role; meaning = nearest word z.frames } ∷ []) []
+own_reference z (node _ word node_flags from to parts) = []
 
 -- the scope that declares these names
 abbrev pub opened : Around → List Binding → Found
@@ -106,7 +106,7 @@ one_part a n f = joined a (f (n + length a.scopes))
 
 -- what the roles of a node's parts depend on: its own role, kind, text and flags, and the place of its last part
 pub record Inside : Type 0 where
-  pub role : Role
+  pub role : IdentifierUse
   pub kind : Kind
   pub text : List ℕ
   pub flags : Flags
@@ -121,23 +121,23 @@ round_others y z = record z { in_function = z.in_function || has_arguments y.kin
 unfoldable mutual
   -- what is found in a node and below it
   pub found_in : Around → ℕ → Tree → Found
-  found_in z n (node k w g s e ps) =
-      let y : Inside = record { role = z.role; kind = k; text = w; flags = g; last = part_count ps - 1 } in
-      joined (record { scopes = []; references = own_reference z (node k w g s e ps) })
-      (in_scope (scope_round_all z.role k ps) z n (λ x m. all_parts y x m (scope_round_others k ps) ps))
+  found_in z n (node node_kind word node_flags from to parts) =
+      let y : Inside = record { role = z.role; kind = node_kind; text = word; flags = node_flags; last = part_count parts - 1 } in
+      joined (record { scopes = []; references = own_reference z (node node_kind word node_flags from to parts) })
+      (in_scope (scope_round_all z.role node_kind parts) z n (λ x m. all_parts y x m (scope_round_others node_kind parts) parts))
 
   -- in all parts: in the first, and in the others within their scope
   pub all_parts : Inside → Around → ℕ → Option (List Binding) → Parts → Found
   all_parts y z n b none = in_scope b (round_others y z) n (λ x m. nothing)
-  all_parts y z n b (gap ps) = in_scope b (round_others y z) n (λ x m. parts_from y x 1 m ps)
-  all_parts y z n b (part t ps) =
-      one_part (found_in (at_place y z 0) n t) n (λ m. in_scope b (round_others y z) m (λ x o. parts_from y x 1 o ps))
+  all_parts y z n b (gap rest) = in_scope b (round_others y z) n (λ x m. parts_from y x 1 m rest)
+  all_parts y z n b (part tree rest) =
+      one_part (found_in (at_place y z 0) n tree) n (λ m. in_scope b (round_others y z) m (λ x o. parts_from y x 1 o rest))
 
   -- in parts, the first of which stands at this place
   pub parts_from : Inside → Around → ℕ → ℕ → Parts → Found
   parts_from y z i n none = nothing
-  parts_from y z i n (gap ps) = parts_from y z (i + 1) n ps
-  parts_from y z i n (part t ps) = one_part (found_in (at_place y z i) n t) n (λ m. parts_from y z (i + 1) m ps)
+  parts_from y z i n (gap rest) = parts_from y z (i + 1) n rest
+  parts_from y z i n (part tree rest) = one_part (found_in (at_place y z i) n tree) n (λ m. parts_from y z (i + 1) m rest)
 
 -- what stands round the Program
 abbrev pub outside : Around
@@ -145,4 +145,4 @@ outside = record { frames = []; in_function = false; role = Read }
 
 -- all scopes and references of a script, numbered as they are listed: 0 is the script's own scope
 abbrev pub found : Tree → Found
-found t = found_in outside 0 t
+found tree = found_in outside 0 tree

@@ -3,12 +3,12 @@ use Rattle.std.specs.Prelude.{ℕ, Bool, cond, List, Option}
 use Rattle.tree.specs.declared.kind.Kind.{Kind}
 use Rattle.tree.specs.declared.kind.Kind.TheVariants.{VariableDeclaration, FunctionDeclaration, ClassDeclaration}
 use Rattle.tree.specs.Tree.{Tree, parts_of}
-use Rattle.language.specs.Words.{is}
+use Rattle.language.specs.Vocabulary.{is}
 use Rattle.scopes.specs.declared.kind.BindingKind.{BindingKind}
 use Rattle.scopes.specs.declared.kind.BindingKind.TheVariants.{Function, Class}
 use Rattle.scopes.specs.declared.names.DeclaredIn.{DeclaredIn}
-use Rattle.scopes.specs.declared.names.Item.{Item}
-use Rattle.scopes.specs.declared.names.Item.TheVariants as item
+use Rattle.scopes.specs.declared.names.DeclarationKind.{DeclarationKind}
+use Rattle.scopes.specs.declared.names.DeclarationKind.TheVariants as item
 use Rattle.name_tables.specs.PatternParts.{at_part}
 use Rattle.scopes.specs.Bindings.{Binding, names_in, first_names, settles, holds_statements}
 
@@ -18,11 +18,11 @@ names_at k b o = at_part (names_in k b) o
 
 -- the names of a declarator
 abbrev pub declared_by : DeclaredIn → BindingKind → Tree → List Binding
-declared_by h k d = first_names k (settles h (parts_of d)) (parts_of d)
+declared_by h k tree = first_names k (settles h (parts_of tree)) (parts_of tree)
 
 -- what an item declares, by its kind and text
-abbrev pub item_of : Kind → List ℕ → Item
-item_of VariableDeclaration w = cond (is w "var") item.Var item.Lexical
-item_of FunctionDeclaration w = item.First Function
-item_of ClassDeclaration w = item.First Class
-item_of k w = cond (holds_statements k) item.Parts item.Nothing
+abbrev pub item_of : Kind → List ℕ → DeclarationKind
+item_of VariableDeclaration text = cond (is text "var") item.Var item.Lexical
+item_of FunctionDeclaration text = item.First Function
+item_of ClassDeclaration text = item.First Class
+item_of kind text = cond (holds_statements kind) item.Parts item.Nothing

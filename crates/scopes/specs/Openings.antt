@@ -5,71 +5,71 @@ use Rattle.std.specs.Prelude.{Bool, false, true, not, cond, List, [], ◌++◌, 
 use Rattle.tree.specs.declared.kind.Kind.{Kind}
 use Rattle.tree.specs.declared.kind.Kind.TheVariants.{Program, BlockStatement, ForStatement, ForInStatement, ForOfStatement, CatchClause, ArrowFunctionExpression, FunctionExpression, FunctionDeclaration, ClassExpression, ClassDeclaration, SwitchStatement, VariableDeclaration}
 use Rattle.tree.specs.Tree.{Tree, node, Parts, none, part, gap, parts_of, parts_drop}
-use Rattle.language.specs.Words.{is}
+use Rattle.language.specs.Vocabulary.{is}
 use Rattle.scopes.specs.declared.kind.BindingKind.{BindingKind}
-use Rattle.scopes.specs.declared.kind.BindingKind.TheVariants.{Param, Catch, Itself}
-use Rattle.scopes.specs.declared.roles.Role.{Role}
+use Rattle.scopes.specs.declared.kind.BindingKind.TheVariants.{Param, Catch, OwnName}
+use Rattle.scopes.specs.declared.identifier_use.IdentifierUse.{IdentifierUse}
 use Rattle.scopes.specs.declared.names.DeclaredIn.{DeclaredIn}
 use Rattle.scopes.specs.declared.names.DeclaredIn.TheVariants.{Statement, ForHead, ForInOfHead}
-use Rattle.scopes.specs.declared.gather.ScopeKind.{ScopeKind}
-use Rattle.scopes.specs.declared.gather.ScopeKind.TheVariants.{Script, Function, FirstPart, Block, For, Switch, NoScope}
+use Rattle.scopes.specs.declared.scope_names.ScopeKind.{ScopeKind}
+use Rattle.scopes.specs.declared.scope_names.ScopeKind.TheVariants.{Script, Function, FirstPart, Block, For, Switch, NoScope}
 use Rattle.scopes.specs.Roles.{is_body}
 use Rattle.name_tables.specs.BoundNames.{each_part}
 use Rattle.scopes.specs.Bindings.{Binding, names_in, lexical, vars_in}
 
 -- the names of a block or of a case (13.2.5, 13.12)
 abbrev pub block_names : Parts → List Binding
-block_names ps = each_part (lexical Statement) ps
+block_names parts = each_part (lexical Statement) parts
 
 abbrev pub case_names : Tree → List Binding
-case_names c = block_names (parts_drop 1 (parts_of c))
+case_names tree = block_names (parts_drop 1 (parts_of tree))
 
 -- of an item of a Program or of a function's body: `var` at any depth too (14.1, 15.1)
 abbrev pub item_names : Tree → List Binding
-item_names t = lexical Statement t ++ vars_in t
+item_names tree = lexical Statement tree ++ vars_in tree
 
 -- of a function's body; that of an arrow may be an expression, which declares nothing
 abbrev pub body_names : Tree → List Binding
-body_names (node BlockStatement w g s e ps) = each_part item_names ps
-body_names (node _ w g s e ps) = []
+body_names (node BlockStatement text flags from to parts) = each_part item_names parts
+body_names (node _ text flags from to parts) = []
 
 -- of a function: its parts from the first parameter on, the last of which is the body (14.1, 14.2)
 abbrev pub function_names : Parts → List Binding
 function_names none = []
-function_names (gap ps) = function_names ps
-function_names (part t none) = body_names t
-function_names (part t ps) = names_in Param false t ++ function_names ps
+function_names (gap rest) = function_names rest
+function_names (part tree none) = body_names tree
+function_names (part tree rest) = names_in Param false tree ++ function_names rest
 
 abbrev pub is_lexical : Tree → Bool
-is_lexical (node VariableDeclaration w g s e ps) = not (is w "var")
-is_lexical (node _ w g s e ps) = false
+is_lexical (node VariableDeclaration text flags from to parts) = not (is text "var")
+is_lexical (node _ text flags from to parts) = false
 
 -- the first part as a pattern; no scope where it is missing
 abbrev pub first_scope : BindingKind → Parts → Option (List Binding)
-first_scope k (part t ps) = Some (names_in k false t)
+first_scope k (part tree rest) = Some (names_in k false tree)
 first_scope k _ = None
 
 -- the first part as a `let` or `const` declaration; no scope where it is none
 abbrev pub head_scope : DeclaredIn → Parts → Option (List Binding)
-head_scope h (part t ps) = cond (is_lexical t) (Some (lexical h t)) None
+head_scope h (part tree rest) = cond (is_lexical tree) (Some (lexical h tree)) None
 head_scope h _ = None
 
 -- the names of a scope, by its kind; none where there is no scope
 abbrev pub scope_names : ScopeKind → Parts → Option (List Binding)
-scope_names Script ps = Some (each_part item_names ps)
-scope_names (Function from) ps = Some (function_names (parts_drop from ps))
-scope_names (FirstPart k) ps = first_scope k ps
-scope_names Block ps = Some (block_names ps)
-scope_names (For h) ps = head_scope h ps
-scope_names Switch ps = Some (each_part case_names (parts_drop 1 ps))
-scope_names NoScope ps = None
+scope_names Script parts = Some (each_part item_names parts)
+scope_names (Function from) parts = Some (function_names (parts_drop from parts))
+scope_names (FirstPart k) parts = first_scope k parts
+scope_names Block parts = Some (block_names parts)
+scope_names (For h) parts = head_scope h parts
+scope_names Switch parts = Some (each_part case_names (parts_drop 1 parts))
+scope_names NoScope parts = None
 
 -- the scope that a node makes round all its parts: the Program (15.1), an arrow (14.2), a function expression's own name (14.1),
 -- a block (13.2), a catch clause (13.15), a loop with `let` or `const` in its head (13.7.4, 13.7.5)
-abbrev pub opens_all : Role → Kind → ScopeKind
+abbrev pub opens_all : IdentifierUse → Kind → ScopeKind
 opens_all u Program = Script
 opens_all u ArrowFunctionExpression = Function 0
-opens_all u FunctionExpression = FirstPart Itself
+opens_all u FunctionExpression = FirstPart OwnName
 opens_all u BlockStatement = cond (is_body u) NoScope Block
 opens_all u CatchClause = FirstPart Catch
 opens_all u ForStatement = For ForHead
@@ -82,16 +82,16 @@ opens_all u _ = NoScope
 abbrev pub opens_others : Kind → ScopeKind
 opens_others FunctionDeclaration = Function 1
 opens_others FunctionExpression = Function 1
-opens_others ClassDeclaration = FirstPart Itself
-opens_others ClassExpression = FirstPart Itself
+opens_others ClassDeclaration = FirstPart OwnName
+opens_others ClassExpression = FirstPart OwnName
 opens_others SwitchStatement = Switch
 opens_others _ = NoScope
 
-abbrev pub scope_round_all : Role → Kind → Parts → Option (List Binding)
-scope_round_all u k ps = scope_names (opens_all u k) ps
+abbrev pub scope_round_all : IdentifierUse → Kind → Parts → Option (List Binding)
+scope_round_all u kind parts = scope_names (opens_all u kind) parts
 
 abbrev pub scope_round_others : Kind → Parts → Option (List Binding)
-scope_round_others k ps = scope_names (opens_others k) ps
+scope_round_others kind parts = scope_names (opens_others kind) parts
 
 -- a function with an `arguments` of its own, which is no reference in it; arrows have none (9.2.10, 14.2)
 abbrev pub has_arguments : Kind → Bool

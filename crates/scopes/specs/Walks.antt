@@ -4,8 +4,8 @@ use Rattle.tree.specs.declared.kind.Kind.{Kind}
 use Rattle.tree.specs.declared.kind.Kind.TheVariants.{Identifier, Literal, ThisExpression}
 use Rattle.tree.specs.Tree.{Tree, kind_of, text_of, flags_of, parts_of, part_count, start_of, stop_of, parts_drop}
 use Rattle.std.specs.Prelude.{unwrap_or}
-use Rattle.scopes.specs.declared.roles.Role.{Role}
-use Rattle.scopes.specs.declared.walk.Around.{Around as CodeAround}
+use Rattle.scopes.specs.declared.identifier_use.IdentifierUse.{IdentifierUse}
+use Rattle.scopes.specs.declared.walk.Context.{Context as CodeAround}
 use Rattle.scopes.specs.declared.walk.Walk.{Walk}
 use Rattle.scopes.specs.Roles.{does_read, does_write, is_typeof_operand}
 use Rattle.scopes.specs.Found.{Frame, Around, Inside, Found, Reference, nearest, scope_of, all_parts, parts_from}
@@ -18,8 +18,8 @@ seen w = found_of w.scopes.items w.references.items
 abbrev pub round : CodeAround → List Frame → Around
 round a fs = record { frames = fs; in_function = a.in_function; role = a.role }
 
-abbrev pub inside_of : Role → Tree → Inside
-inside_of u t = record { role = u; kind = kind_of t; text = text_of t; flags = flags_of t; last = part_count (parts_of t) - 1 }
+abbrev pub inside_of : IdentifierUse → Tree → Inside
+inside_of u tree = record { role = u; kind = kind_of tree; text = text_of tree; flags = flags_of tree; last = part_count (parts_of tree) - 1 }
 
 -- the kinds of nodes without parts that may be references at most
 abbrev pub is_leaf_kind : Kind → Bool
@@ -30,15 +30,15 @@ is_leaf_kind _ = false
 
 -- the reference that an identifier makes
 abbrev pub reference_at : Around → Tree → Reference
-reference_at z t = record { name = text_of t; scope = unwrap_or (scope_of z.frames) 0; reads = does_read z.role; writes = does_write z.role; start = start_of t; stop = stop_of t; typeof_operand = is_typeof_operand z.role; meaning = nearest (text_of t) z.frames }
+reference_at z tree = record { name = text_of tree; scope = unwrap_or (scope_of z.frames) 0; reads = does_read z.role; writes = does_write z.role; start = start_of tree; stop = stop_of tree; typeof_operand = is_typeof_operand z.role; meaning = nearest (text_of tree) z.frames }
 
 -- ---- what is found in a node's parts: in those behind the first, in all, in either
 
-abbrev pub others_within : Role → Tree → Around → ℕ → Found
-others_within u t z n = parts_from (inside_of u t) z 1 n (parts_drop 1 (parts_of t))
+abbrev pub others_within : IdentifierUse → Tree → Around → ℕ → Found
+others_within u tree z n = parts_from (inside_of u tree) z 1 n (parts_drop 1 (parts_of tree))
 
-abbrev pub all_within : Role → Tree → Around → ℕ → Found
-all_within u t z n = all_parts (inside_of u t) z n (scope_round_others (kind_of t) (parts_of t)) (parts_of t)
+abbrev pub all_within : IdentifierUse → Tree → Around → ℕ → Found
+all_within u tree z n = all_parts (inside_of u tree) z n (scope_round_others (kind_of tree) (parts_of tree)) (parts_of tree)
 
-abbrev pub parts_within : Bool → Role → Tree → Around → ℕ → Found
-parts_within others u t z n = cond others (others_within u t z n) (all_within u t z n)
+abbrev pub parts_within : Bool → IdentifierUse → Tree → Around → ℕ → Found
+parts_within others u tree z n = cond others (others_within u tree z n) (all_within u tree z n)

@@ -112,7 +112,7 @@ fn push_declarator<'t>(
 
 /// What an item declares in the scope that it stands in, or in the function round it.
 #[derive(Clone, Copy)]
-pub(crate) enum Item {
+pub(crate) enum DeclarationKind {
     /// The names of its declarators, by `let` or `const`.
     Lexical,
     /// The same, by `var`.
@@ -145,24 +145,24 @@ fn holds_statements(kind: Kind) -> bool
     }
 }
 
-fn item_of(node: Node) -> Item
+fn item_of(node: Node) -> DeclarationKind
     ensures { result ≡ item_of (kind_of (node_tree node.entry)) (text_of (node_tree node.entry)) }
 {
     match node.kind() {
         Kind::VariableDeclaration => {
             if node.text() == "var" {
-                Item::Var
+                DeclarationKind::Var
             } else {
-                Item::Lexical
+                DeclarationKind::Lexical
             }
         }
-        Kind::FunctionDeclaration => Item::First(BindingKind::Function),
-        Kind::ClassDeclaration => Item::First(BindingKind::Class),
+        Kind::FunctionDeclaration => DeclarationKind::First(BindingKind::Function),
+        Kind::ClassDeclaration => DeclarationKind::First(BindingKind::Class),
         kind => {
             if holds_statements(kind) {
-                Item::Parts
+                DeclarationKind::Parts
             } else {
-                Item::Nothing
+                DeclarationKind::Nothing
             }
         }
     }
@@ -177,8 +177,8 @@ pub(crate) fn push_lexical<'t>(
     ensures { OnOk result (all_declared names.new.items ≡ all_declared names.old.items ++ lexical head (node_tree item.entry)) }
 {
     match item_of(item) {
-        Item::Lexical => push_declared(head, item, names),
-        Item::First(kind) => push_part_names(
+        DeclarationKind::Lexical => push_declared(head, item, names),
+        DeclarationKind::First(kind) => push_part_names(
             item.part(0),
             DeclaredAs {
                 kind,
@@ -200,9 +200,9 @@ pub(crate) fn push_vars<'t>(
     ensures { OnOk result (all_declared names.new.items ≡ all_declared names.old.items ++ vars_in (node_tree item.entry)) }
 {
     match item_of(item) {
-        Item::Var => push_declared(DeclaredIn::Statement, item, names),
-        Item::Parts => push_parts_vars(item, names),
-        Item::Lexical | Item::First(_) | Item::Nothing => Ok(()),
+        DeclarationKind::Var => push_declared(DeclaredIn::Statement, item, names),
+        DeclarationKind::Parts => push_parts_vars(item, names),
+        DeclarationKind::Lexical | DeclarationKind::First(_) | DeclarationKind::Nothing => Ok(()),
     }
 }
 

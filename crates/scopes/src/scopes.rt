@@ -4,8 +4,8 @@ ghost use Rattle.std.specs.Prelude.{◌≡◌, IfOk};
 ghost use Rattle.scopes.specs.Found.{found};
 
 use crate::binding::{Binding, Reference, Scope};
-use crate::roles::Role;
-use crate::walk::{Around, Walk, walk_node};
+use crate::identifier_use::IdentifierUse;
+use crate::walk::{Context, Walk, walk_node};
 use name_tables::{HashKey, NameTable};
 use std::alloc::{AllocError, Global};
 use std::marker::Model;
@@ -40,10 +40,10 @@ pub fn resolve<'t>(alloc: Global, program: &'t Program<'_>) -> Result<Scopes<'t>
         meanings: NameTable::new(alloc, HashKey::drawn_from(program.root())),
         names: Vec::new(alloc),
     };
-    let outside = Around {
+    let outside = Context {
         scope: None,
         in_function: false,
-        role: Role::Read,
+        role: IdentifierUse::Read,
     };
     walk_node(program.root(), outside, &mut walk)?;
     Ok(Scopes {

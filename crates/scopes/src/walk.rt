@@ -8,15 +8,15 @@ ghost use Rattle.scopes.specs.Found.{Frame, all_parts, at_place, collected, ente
 ghost use Rattle.scopes.specs.Openings.{scope_round_all, scope_round_others};
 ghost use Rattle.scopes.specs.Shown.{Knows, all_declared, frame, reference_shown};
 ghost use Rattle.scopes.specs.Walks.{all_within, inside_of, is_leaf_kind, others_within, parts_within, reference_at, round, seen};
-ghost use Rattle.name_tables.specs.Tables.{Agree, look, undone};
+ghost use Rattle.name_tables.specs.Tables.{Agree, value_at, undone};
 
 use crate::binding::{Reference, Scope};
-use crate::gather::{push_round_all, push_round_others};
-use crate::names::Declared;
-use crate::opening::{Before, Meanings, close, declare_all};
-use crate::roles::{
-    Role, does_read, does_write, has_arguments, is_reference, is_typeof_operand, part_role,
+use crate::identifier_use::{
+    IdentifierUse, does_read, does_write, has_arguments, is_reference, is_typeof_operand, part_role,
 };
+use crate::meanings::{Before, Meanings, close_scope, open_scope};
+use crate::names::Declared;
+use crate::scope_names::{push_round_all, push_round_others};
 use std::alloc::{AllocError, Global};
 use tree::{Kind, Node};
 
@@ -35,37 +35,37 @@ pub(crate) struct Walk<'t> {
 /// What stands round a node: the nearest scope; whether the node stands in a function that isn't an arrow, and so has an
 /// `arguments` of its own; what the node is to its parent.
 #[derive(Clone, Copy)]
-pub(crate) struct Around {
+pub(crate) struct Context {
     pub(crate) scope: Option<usize>,
     pub(crate) in_function: bool,
-    pub(crate) role: Role,
+    pub(crate) role: IdentifierUse,
 }
 
 /// Round the part at a place.
-fn at_place(node: Node, around: Around, index: usize) -> Around
+fn at_place(node: Node, around: Context, index: usize) -> Context
     ensures round { (fs : List Frame) → round result fs ≡ at_place (inside_of around.role (node_tree node.entry)) (round around fs) index }
     ensures scope { result.scope ≡ around.scope }
 {
-    Around {
+    Context {
         role: part_role(around.role, node, index),
         ..around
     }
 }
 
 /// Round the parts behind the first.
-fn round_others(node: Node, around: Around) -> Around
+fn round_others(node: Node, around: Context) -> Context
     ensures round { (fs : List Frame) → round result fs ≡ round_others (inside_of around.role (node_tree node.entry)) (round around fs) }
     ensures scope { result.scope ≡ around.scope }
     ensures role { result.role ≡ around.role }
 {
-    Around {
+    Context {
         in_function: around.in_function || has_arguments(node.kind()),
         ..around
     }
 }
 
 /// Whether a node is a reference.
-fn refers(node: Node, around: Around) -> bool
+fn refers(node: Node, around: Context) -> bool
     ensures { (fs : List Frame) → own_reference (round around fs) (node_tree node.entry) ≡ cond result (reference_at (round around fs) (node_tree node.entry) ∷ []) [] }
 {
     match node.kind() {
@@ -79,11 +79,11 @@ fn refers(node: Node, around: Around) -> bool
 /// Pushes the reference that a node is, if it is one.
 fn refer<'t>(
     node: Node<'t, '_>,
-    around: Around,
+    around: Context,
     meanings: &Meanings<'t>,
     references: &mut Vec<Reference<'t>>,
 ) -> Result<(), AllocError>
-    ensures { OnOk result ((n : _) → (fs : List Frame) → Knows (look meanings.now) n around.scope fs → map reference_shown references.new.items ≡ map reference_shown references.old.items ++ own_reference (round around fs) (node_tree node.entry)) }
+    ensures { OnOk result ((n : _) → (fs : List Frame) → Knows (value_at meanings.now) n around.scope fs → map reference_shown references.new.items ≡ map reference_shown references.old.items ++ own_reference (round around fs) (node_tree node.entry)) }
 {
     if !refers(node, around) {
         return Ok(());
@@ -124,20 +124,20 @@ fn is_leaf_kind(kind: Kind) -> bool
 
 /// Opens a scope of the names that were gathered; answers what stands round the nodes in it.
 fn open<'t>(
-    around: Around,
+    around: Context,
     saved: &mut Vec<Before<'t>>,
     walk: &mut Walk<'t>,
-) -> Result<Around, AllocError>
+) -> Result<Context, AllocError>
     requires { saved.now.items ≡ [] }
-    ensures found { OnOk result ((fs : List Frame) → Knows (look walk.old.meanings) (length walk.old.scopes.items) around.scope fs → seen walk.new ≡ joined (seen walk.old) (opened (round around fs) (all_declared walk.old.names.items))) }
-    ensures known { IfOk result (λ inner. (fs : List Frame) → Knows (look walk.old.meanings) (length walk.old.scopes.items) around.scope fs → Knows (look walk.new.meanings) (length walk.new.scopes.items) inner.scope (frame (length walk.old.scopes.items) (collected fs [] (all_declared walk.old.names.items)) ∷ fs)) }
+    ensures found { OnOk result ((fs : List Frame) → Knows (value_at walk.old.meanings) (length walk.old.scopes.items) around.scope fs → seen walk.new ≡ joined (seen walk.old) (opened (round around fs) (all_declared walk.old.names.items))) }
+    ensures known { IfOk result (λ inner. (fs : List Frame) → Knows (value_at walk.old.meanings) (length walk.old.scopes.items) around.scope fs → Knows (value_at walk.new.meanings) (length walk.new.scopes.items) inner.scope (frame (length walk.old.scopes.items) (collected fs [] (all_declared walk.old.names.items)) ∷ fs)) }
     ensures inner { IfOk result (λ inner. (fs : List Frame) → round inner (frame (length walk.old.scopes.items) (collected fs [] (all_declared walk.old.names.items)) ∷ fs) ≡ enter (round around fs) (length walk.old.scopes.items) (all_declared walk.old.names.items)) }
     ensures role { IfOk result (λ inner. inner.role ≡ around.role) }
-    ensures kept { OnOk result (Agree (undone (look walk.new.meanings) saved.new.items) (look walk.old.meanings)) }
+    ensures kept { OnOk result (Agree (undone (value_at walk.new.meanings) saved.new.items) (value_at walk.old.meanings)) }
 {
     let number = walk.scopes.len();
     let mut bindings = Vec::new(walk.alloc);
-    declare_all(
+    open_scope(
         walk.names.as_slice(),
         number,
         &mut walk.meanings,
@@ -148,7 +148,7 @@ fn open<'t>(
         parent: around.scope,
         bindings,
     })?;
-    Ok(Around {
+    Ok(Context {
         scope: Some(number),
         ..around
     })
@@ -159,11 +159,11 @@ fn open<'t>(
 #[tactic(auto, using(tree::proofs::PartWalk::part_steps))]
 pub(crate) fn walk_node<'t>(
     node: Node<'t, '_>,
-    around: Around,
+    around: Context,
     walk: &mut Walk<'t>,
 ) -> Result<(), AllocError>
-    ensures found { OnOk result ((fs : List Frame) → Knows (look walk.old.meanings) (length walk.old.scopes.items) around.scope fs → seen walk.new ≡ joined (seen walk.old) (found_in (round around fs) (length walk.old.scopes.items) (node_tree node.entry))) }
-    ensures meanings { OnOk result (Agree (look walk.new.meanings) (look walk.old.meanings)) }
+    ensures found { OnOk result ((fs : List Frame) → Knows (value_at walk.old.meanings) (length walk.old.scopes.items) around.scope fs → seen walk.new ≡ joined (seen walk.old) (found_in (round around fs) (length walk.old.scopes.items) (node_tree node.entry))) }
+    ensures meanings { OnOk result (Agree (value_at walk.new.meanings) (value_at walk.old.meanings)) }
 {
     refer(node, around, &walk.meanings, &mut walk.references)?;
     if is_leaf(node) {
@@ -180,9 +180,9 @@ pub(crate) fn walk_node<'t>(
 /// Finds what is in a node's parts: in the first, and in the others within their scope.
 #[cycle(walk)]
 #[tactic(auto, using(tree::proofs::PartWalk::part_steps))]
-fn walk_all<'t>(node: Node<'t, '_>, around: Around, walk: &mut Walk<'t>) -> Result<(), AllocError>
-    ensures found { OnOk result ((fs : List Frame) → Knows (look walk.old.meanings) (length walk.old.scopes.items) around.scope fs → seen walk.new ≡ joined (seen walk.old) (all_within around.role (node_tree node.entry) (round around fs) (length walk.old.scopes.items))) }
-    ensures meanings { OnOk result (Agree (look walk.new.meanings) (look walk.old.meanings)) }
+fn walk_all<'t>(node: Node<'t, '_>, around: Context, walk: &mut Walk<'t>) -> Result<(), AllocError>
+    ensures found { OnOk result ((fs : List Frame) → Knows (value_at walk.old.meanings) (length walk.old.scopes.items) around.scope fs → seen walk.new ≡ joined (seen walk.old) (all_within around.role (node_tree node.entry) (round around fs) (length walk.old.scopes.items))) }
+    ensures meanings { OnOk result (Agree (value_at walk.new.meanings) (value_at walk.old.meanings)) }
 {
     if let Some(part) = node.part(0) {
         walk_node(part, at_place(node, around, 0), walk)?;
@@ -201,11 +201,11 @@ fn walk_all<'t>(node: Node<'t, '_>, around: Around, walk: &mut Walk<'t>) -> Resu
 #[tactic(auto, using(tree::proofs::PartWalk::part_steps))]
 fn walk_others<'t>(
     node: Node<'t, '_>,
-    around: Around,
+    around: Context,
     walk: &mut Walk<'t>,
 ) -> Result<(), AllocError>
-    ensures found { OnOk result ((fs : List Frame) → Knows (look walk.old.meanings) (length walk.old.scopes.items) around.scope fs → seen walk.new ≡ joined (seen walk.old) (others_within around.role (node_tree node.entry) (round around fs) (length walk.old.scopes.items))) }
-    ensures meanings { OnOk result (Agree (look walk.new.meanings) (look walk.old.meanings)) }
+    ensures found { OnOk result ((fs : List Frame) → Knows (value_at walk.old.meanings) (length walk.old.scopes.items) around.scope fs → seen walk.new ≡ joined (seen walk.old) (others_within around.role (node_tree node.entry) (round around fs) (length walk.old.scopes.items))) }
+    ensures meanings { OnOk result (Agree (value_at walk.new.meanings) (value_at walk.old.meanings)) }
 {
     for index in 1..node.part_count() {
         if let Some(part) = node.part(index) {
@@ -220,12 +220,12 @@ fn walk_others<'t>(
 #[tactic(auto, using(tree::proofs::PartWalk::part_steps))]
 fn walk_in_scope<'t>(
     node: Node<'t, '_>,
-    around: Around,
+    around: Context,
     others: bool,
     walk: &mut Walk<'t>,
 ) -> Result<(), AllocError>
-    ensures found { OnOk result ((fs : List Frame) → Knows (look walk.old.meanings) (length walk.old.scopes.items) around.scope fs → seen walk.new ≡ joined (seen walk.old) (in_scope (Some (all_declared walk.old.names.items)) (round around fs) (length walk.old.scopes.items) (parts_within others around.role (node_tree node.entry)))) }
-    ensures meanings { OnOk result (Agree (look walk.new.meanings) (look walk.old.meanings)) }
+    ensures found { OnOk result ((fs : List Frame) → Knows (value_at walk.old.meanings) (length walk.old.scopes.items) around.scope fs → seen walk.new ≡ joined (seen walk.old) (in_scope (Some (all_declared walk.old.names.items)) (round around fs) (length walk.old.scopes.items) (parts_within others around.role (node_tree node.entry)))) }
+    ensures meanings { OnOk result (Agree (value_at walk.new.meanings) (value_at walk.old.meanings)) }
 {
     let mut saved = Vec::new(walk.alloc);
     walk_opened(node, around, others, &mut saved, walk)
@@ -236,14 +236,14 @@ fn walk_in_scope<'t>(
 #[tactic(auto, using(tree::proofs::PartWalk::part_steps))]
 fn walk_opened<'t>(
     node: Node<'t, '_>,
-    around: Around,
+    around: Context,
     others: bool,
     saved: &mut Vec<Before<'t>>,
     walk: &mut Walk<'t>,
 ) -> Result<(), AllocError>
     requires { saved.now.items ≡ [] }
-    ensures found { OnOk result ((fs : List Frame) → Knows (look walk.old.meanings) (length walk.old.scopes.items) around.scope fs → seen walk.new ≡ joined (seen walk.old) (in_scope (Some (all_declared walk.old.names.items)) (round around fs) (length walk.old.scopes.items) (parts_within others around.role (node_tree node.entry)))) }
-    ensures meanings { OnOk result (Agree (look walk.new.meanings) (look walk.old.meanings)) }
+    ensures found { OnOk result ((fs : List Frame) → Knows (value_at walk.old.meanings) (length walk.old.scopes.items) around.scope fs → seen walk.new ≡ joined (seen walk.old) (in_scope (Some (all_declared walk.old.names.items)) (round around fs) (length walk.old.scopes.items) (parts_within others around.role (node_tree node.entry)))) }
+    ensures meanings { OnOk result (Agree (value_at walk.new.meanings) (value_at walk.old.meanings)) }
 {
     let inner = open(around, saved, walk)?;
     if others {
@@ -251,5 +251,5 @@ fn walk_opened<'t>(
     } else {
         walk_all(node, inner, walk)?;
     }
-    close(&mut walk.meanings, saved)
+    close_scope(&mut walk.meanings, saved)
 }

@@ -6,14 +6,14 @@ use Rattle.std.proofs.lemmas.Str.{encodes-chars, IsUtf8-take, IsUtf8-drop, chars
 use Rattle.std.proofs.lemmas.List.{take-append-drop}
 use Rattle.std.proofs.lemmas.Bool.{cases_lt}
 use Rattle.std.proofs.lemmas.Bool.Decides.{nat_tests}
-use Rattle.source_text.specs.LineBytes.{continues, ends_line_at, behind_byte, behind_bytes}
-use Rattle.source_text.specs.Lines.{ends_line, behind_character, behind_characters, line_column}
+use Rattle.source_text.specs.LineBytes.{continues, ends_line_at, after_byte, after_bytes}
+use Rattle.source_text.specs.Lines.{ends_line, after_character, after_characters, line_column}
 
 pub behind_one_more : (p : ℕ × ℕ) (i : ℕ) (bs : List ℕ) → i < length bs →
-    behind_bytes p (suc i) bs ≡ behind_byte (behind_bytes p i bs) (get_or bs i 0) (get_or bs (suc i) 0) (get_or bs (suc (suc i)) 0)
+    after_bytes p (suc i) bs ≡ after_byte (after_bytes p i bs) (get_or bs i 0) (get_or bs (suc i) 0) (get_or bs (suc (suc i)) 0)
 behind_one_more p i [] lt = absurd (omega arith)
 behind_one_more p zero (b ∷ bs) lt = refl
-behind_one_more p (suc i) (b ∷ bs) lt = behind_one_more (behind_byte p b (get_or bs 0 0) (get_or bs 1 0)) i bs (omega arith)
+behind_one_more p (suc i) (b ∷ bs) lt = behind_one_more (after_byte p b (get_or bs 0 0) (get_or bs 1 0)) i bs (omega arith)
 
 -- the bytes of a character, by how many they are
 abbrev next : ℕ → ℕ
@@ -100,18 +100,18 @@ ends-3 c following h k =
     ]
 
 -- the steps over the bytes of a character
-over_tail : (p : ℕ × ℕ) (c n : ℕ) (bs : List ℕ) → behind_bytes p (suc n) (next c ∷ bs) ≡ behind_bytes p n bs
-over_tail p c n bs = ap (λ x. behind_bytes (if x then p else (if ends_line_at (next c) (get_or bs 0 0) (get_or bs 1 0) then (p.0 + 1, 1) else (p.0, p.1 + 1))) n bs) (next_continues c)
+over_tail : (p : ℕ × ℕ) (c n : ℕ) (bs : List ℕ) → after_bytes p (suc n) (next c ∷ bs) ≡ after_bytes p n bs
+over_tail p c n bs = ap (λ x. after_bytes (if x then p else (if ends_line_at (next c) (get_or bs 0 0) (get_or bs 1 0) then (p.0 + 1, 1) else (p.0, p.1 + 1))) n bs) (next_continues c)
 
 over_lead : (p : ℕ × ℕ) (b n c : ℕ) (bs following : List ℕ) → continues b ≡ false → ends_line_at b (get_or bs 0 0) (get_or bs 1 0) ≡ ends_line c following →
-    behind_bytes p (suc n) (b ∷ bs) ≡ behind_bytes (behind_character p c following) n bs
+    after_bytes p (suc n) (b ∷ bs) ≡ after_bytes (after_character p c following) n bs
 over_lead p b n c bs following h e =
-    ap (λ x. behind_bytes (if x then p else (if ends_line_at b (get_or bs 0 0) (get_or bs 1 0) then (p.0 + 1, 1) else (p.0, p.1 + 1))) n bs) h
-    ∙ ap (λ x. behind_bytes (if x then (p.0 + 1, 1) else (p.0, p.1 + 1)) n bs) e
+    ap (λ x. after_bytes (if x then p else (if ends_line_at b (get_or bs 0 0) (get_or bs 1 0) then (p.0 + 1, 1) else (p.0, p.1 + 1))) n bs) h
+    ∙ ap (λ x. after_bytes (if x then (p.0 + 1, 1) else (p.0, p.1 + 1)) n bs) e
 
 -- over a character, where the bytes of others follow
 over_character : (p : ℕ × ℕ) (c n : ℕ) (bs following : List ℕ) → (get_or bs 0 0 == 10) ≡ (get_or following 0 0 == 10) →
-    behind_bytes p (length (encode c) + n) (encode c ++ bs) ≡ behind_bytes (behind_character p c following) n bs
+    after_bytes p (length (encode c) + n) (encode c ++ bs) ≡ after_bytes (after_character p c following) n bs
 over_character p c n bs following first =
     elim (cases_lt c 128) [
       | inl a ↦ rw (encode-1 c a) (
@@ -120,15 +120,15 @@ over_character p c n bs following first =
       | inr a ↦ elim (cases_lt c 2048) [
         | inl b ↦ rw (encode-2 c a b) (
             let h = over_lead p (192 + c / 64) (suc n) c (next c ∷ bs) following (lead_continues_not (192 + c / 64) (omega arith)) (ends_not (192 + c / 64) (next c) (get_or bs 0 0) (omega arith) (λ x _ _ _. omega arith) ∙ sym (ends-2 c following a (inl (omega arith)))) in
-            let m : 2 + n ≡ suc (suc n) = omega arith in rw m (h ∙ over_tail (behind_character p c following) c n bs))
+            let m : 2 + n ≡ suc (suc n) = omega arith in rw m (h ∙ over_tail (after_character p c following) c n bs))
         | inr b ↦ elim (cases_lt c 65536) [
           | inl e ↦ rw (encode-3 c b e) (
               let h = over_lead p (224 + c / 4096) (suc (suc n)) c (next (c / 64) ∷ next c ∷ bs) following (lead_continues_not (224 + c / 4096) (omega arith)) (ends-3 c following b e) in
-              let m : 3 + n ≡ suc (suc (suc n)) = omega arith in rw m (h ∙ over_tail (behind_character p c following) (c / 64) (suc n) (next c ∷ bs) ∙ over_tail (behind_character p c following) c n bs))
+              let m : 3 + n ≡ suc (suc (suc n)) = omega arith in rw m (h ∙ over_tail (after_character p c following) (c / 64) (suc n) (next c ∷ bs) ∙ over_tail (after_character p c following) c n bs))
           | inr e ↦ rw (encode-4 c e) (
               let h = over_lead p (240 + c / 262144) (suc (suc (suc n))) c (next (c / 4096) ∷ next (c / 64) ∷ next c ∷ bs) following (lead_continues_not (240 + c / 262144) (omega arith)) (ends_not (240 + c / 262144) (next (c / 4096)) (next (c / 64)) (omega arith) (λ x _ _ _. omega arith) ∙ sym (ends-2 c following a (inr (omega arith)))) in
               let m : 4 + n ≡ suc (suc (suc (suc n))) = omega arith in
-              rw m (h ∙ over_tail (behind_character p c following) (c / 4096) (suc (suc n)) (next (c / 64) ∷ next c ∷ bs) ∙ over_tail (behind_character p c following) (c / 64) (suc n) (next c ∷ bs) ∙ over_tail (behind_character p c following) c n bs))
+              rw m (h ∙ over_tail (after_character p c following) (c / 4096) (suc (suc n)) (next (c / 64) ∷ next c ∷ bs) ∙ over_tail (after_character p c following) (c / 64) (suc n) (next c ∷ bs) ∙ over_tail (after_character p c following) c n bs))
         ]
       ]
     ]
@@ -142,24 +142,24 @@ encodes-append [] ds = refl
 encodes-append (c ∷ cs) ds = ap (λ x. encode c ++ x) (encodes-append cs ds) ∙ sym (append_assoc (encode c) (encodes cs) (encodes ds))
 
 -- over characters
-over_characters : (p : ℕ × ℕ) (cs following : List ℕ) → behind_bytes p (length (encodes cs)) (encodes (cs ++ following)) ≡ behind_characters p cs following
+over_characters : (p : ℕ × ℕ) (cs following : List ℕ) → after_bytes p (length (encodes cs)) (encodes (cs ++ following)) ≡ after_characters p cs following
 over_characters p [] following = refl
 over_characters p (c ∷ cs) following =
-    ap (λ n. behind_bytes p n (encode c ++ encodes (cs ++ following))) (length-append (encode c) (encodes cs))
+    ap (λ n. after_bytes p n (encode c ++ encodes (cs ++ following))) (length-append (encode c) (encodes cs))
     ∙ over_character p c (length (encodes cs)) (encodes (cs ++ following)) (cs ++ following) (first_bytes (cs ++ following))
-    ∙ over_characters (behind_character p c (cs ++ following)) cs following
+    ∙ over_characters (after_character p c (cs ++ following)) cs following
 
 -- the characters before a place and those behind it determine line and column
 pub line_column_by_characters : (text : List ℕ) (offset : ℕ) (before following : List ℕ) → IsUtf8 text → IsCharBoundary text offset →
-    encode_utf8_all before ≡ take offset text → encode_utf8_all following ≡ drop offset text → line_column text offset ≡ behind_characters (1, 1) before following
+    encode_utf8_all before ≡ take offset text → encode_utf8_all following ≡ drop offset text → line_column text offset ≡ after_characters (1, 1) before following
 unfolding line_column
 line_column_by_characters text offset before following u place b f =
     let p = chars_from_encodes before (take offset text) (IsUtf8-take text offset u place) b in
     let q = chars_from_encodes following (drop offset text) (IsUtf8-drop text offset u place) f in
-    ap (λ x. behind_characters (1, 1) x (chars (drop offset text))) (sym p) ∙ ap (λ x. behind_characters (1, 1) before x) (sym q)
+    ap (λ x. after_characters (1, 1) x (chars (drop offset text))) (sym p) ∙ ap (λ x. after_characters (1, 1) before x) (sym q)
 
 -- the walk over the bytes finds line and column
-pub line_column_by_bytes : (text : List ℕ) (offset : ℕ) → IsUtf8 text → IsCharBoundary text offset → behind_bytes (1, 1) offset text ≡ line_column text offset
+pub line_column_by_bytes : (text : List ℕ) (offset : ℕ) → IsUtf8 text → IsCharBoundary text offset → after_bytes (1, 1) offset text ≡ line_column text offset
 unfolding line_column
 line_column_by_bytes text offset u place =
     let before = chars (take offset text) in
@@ -169,36 +169,36 @@ line_column_by_bytes text offset u place =
     let whole : encodes (before ++ following) ≡ text = encodes-append before following ∙ ap (λ x. x ++ encodes following) b ∙ ap (λ x. take offset text ++ x) f ∙ take-append-drop offset text in
     let within = place.0 in
     let n : length (encodes before) ≡ offset = ap length b ∙ simp length-take (omega arith) in
-    ap (λ x. behind_bytes (1, 1) x text) (sym n) ∙ ap (λ x. behind_bytes (1, 1) (length (encodes before)) x) (sym whole) ∙ over_characters (1, 1) before following
+    ap (λ x. after_bytes (1, 1) x text) (sym n) ∙ ap (λ x. after_bytes (1, 1) (length (encodes before)) x) (sym whole) ∙ over_characters (1, 1) before following
 
 -- a turn of the walk at the byte i
 at_next : (i : ℕ) (bs : List ℕ) → i < length bs →
-    behind_bytes (1, 1) (i + 1) bs ≡ behind_byte (behind_bytes (1, 1) i bs) (get_or bs i 0) (get_or bs (i + 1) 0) (get_or bs (i + 2) 0)
+    after_bytes (1, 1) (i + 1) bs ≡ after_byte (after_bytes (1, 1) i bs) (get_or bs i 0) (get_or bs (i + 1) 0) (get_or bs (i + 2) 0)
 at_next i bs lt =
     let one : suc i ≡ i + 1 = omega arith in
     let two : suc (suc i) ≡ i + 2 = omega arith in
-    ap (λ n. behind_bytes (1, 1) n bs) (sym one) ∙ behind_one_more (1, 1) i bs lt
-    ∙ ap (λ n. behind_byte (behind_bytes (1, 1) i bs) (get_or bs i 0) (get_or bs n 0) (get_or bs (suc (suc i)) 0)) one
-    ∙ ap (λ n. behind_byte (behind_bytes (1, 1) i bs) (get_or bs i 0) (get_or bs (i + 1) 0) (get_or bs n 0)) two
+    ap (λ n. after_bytes (1, 1) n bs) (sym one) ∙ behind_one_more (1, 1) i bs lt
+    ∙ ap (λ n. after_byte (after_bytes (1, 1) i bs) (get_or bs i 0) (get_or bs n 0) (get_or bs (suc (suc i)) 0)) one
+    ∙ ap (λ n. after_byte (after_bytes (1, 1) i bs) (get_or bs i 0) (get_or bs (i + 1) 0) (get_or bs n 0)) two
 
 chosen : (q : ℕ × ℕ) (c e u v : Bool) → c ≡ u → e ≡ v →
     (if c then q else (if e then (q.0 + 1, 1) else (q.0, q.1 + 1))) ≡ (if u then q else (if v then (q.0 + 1, 1) else (q.0, q.1 + 1)))
 chosen q c e u v h k = ap (λ x. if x then q else (if e then (q.0 + 1, 1) else (q.0, q.1 + 1))) h ∙ ap (λ x. if u then q else (if x then (q.0 + 1, 1) else (q.0, q.1 + 1))) k
 
 -- inside a character, at one that ends a line, and at another
-pub turn_inside : (q : ℕ × ℕ) (i : ℕ) (bs : List ℕ) → i < length bs → q ≡ behind_bytes (1, 1) i bs → continues (get_or bs i 0) ≡ true → q ≡ behind_bytes (1, 1) (i + 1) bs
+pub turn_inside : (q : ℕ × ℕ) (i : ℕ) (bs : List ℕ) → i < length bs → q ≡ after_bytes (1, 1) i bs → continues (get_or bs i 0) ≡ true → q ≡ after_bytes (1, 1) (i + 1) bs
 turn_inside q i bs lt e h =
     let b = ends_line_at (get_or bs i 0) (get_or bs (i + 1) 0) (get_or bs (i + 2) 0) in
-    sym (at_next i bs lt ∙ ap (λ x. behind_byte x (get_or bs i 0) (get_or bs (i + 1) 0) (get_or bs (i + 2) 0)) (sym e) ∙ chosen q (continues (get_or bs i 0)) b true b h refl)
+    sym (at_next i bs lt ∙ ap (λ x. after_byte x (get_or bs i 0) (get_or bs (i + 1) 0) (get_or bs (i + 2) 0)) (sym e) ∙ chosen q (continues (get_or bs i 0)) b true b h refl)
 
-pub turn_at_end : (q : ℕ × ℕ) (i : ℕ) (bs : List ℕ) → i < length bs → q ≡ behind_bytes (1, 1) i bs → continues (get_or bs i 0) ≡ false →
-    ends_line_at (get_or bs i 0) (get_or bs (i + 1) 0) (get_or bs (i + 2) 0) ≡ true → (q.0 + 1, 1) ≡ behind_bytes (1, 1) (i + 1) bs
+pub turn_at_end : (q : ℕ × ℕ) (i : ℕ) (bs : List ℕ) → i < length bs → q ≡ after_bytes (1, 1) i bs → continues (get_or bs i 0) ≡ false →
+    ends_line_at (get_or bs i 0) (get_or bs (i + 1) 0) (get_or bs (i + 2) 0) ≡ true → (q.0 + 1, 1) ≡ after_bytes (1, 1) (i + 1) bs
 turn_at_end q i bs lt e h k =
-    sym (at_next i bs lt ∙ ap (λ x. behind_byte x (get_or bs i 0) (get_or bs (i + 1) 0) (get_or bs (i + 2) 0)) (sym e)
+    sym (at_next i bs lt ∙ ap (λ x. after_byte x (get_or bs i 0) (get_or bs (i + 1) 0) (get_or bs (i + 2) 0)) (sym e)
     ∙ chosen q (continues (get_or bs i 0)) (ends_line_at (get_or bs i 0) (get_or bs (i + 1) 0) (get_or bs (i + 2) 0)) false true h k)
 
-pub turn_on_line : (q : ℕ × ℕ) (i : ℕ) (bs : List ℕ) → i < length bs → q ≡ behind_bytes (1, 1) i bs → continues (get_or bs i 0) ≡ false →
-    ends_line_at (get_or bs i 0) (get_or bs (i + 1) 0) (get_or bs (i + 2) 0) ≡ false → (q.0, q.1 + 1) ≡ behind_bytes (1, 1) (i + 1) bs
+pub turn_on_line : (q : ℕ × ℕ) (i : ℕ) (bs : List ℕ) → i < length bs → q ≡ after_bytes (1, 1) i bs → continues (get_or bs i 0) ≡ false →
+    ends_line_at (get_or bs i 0) (get_or bs (i + 1) 0) (get_or bs (i + 2) 0) ≡ false → (q.0, q.1 + 1) ≡ after_bytes (1, 1) (i + 1) bs
 turn_on_line q i bs lt e h k =
-    sym (at_next i bs lt ∙ ap (λ x. behind_byte x (get_or bs i 0) (get_or bs (i + 1) 0) (get_or bs (i + 2) 0)) (sym e)
+    sym (at_next i bs lt ∙ ap (λ x. after_byte x (get_or bs i 0) (get_or bs (i + 1) 0) (get_or bs (i + 2) 0)) (sym e)
     ∙ chosen q (continues (get_or bs i 0)) (ends_line_at (get_or bs i 0) (get_or bs (i + 1) 0) (get_or bs (i + 2) 0)) false false h k)

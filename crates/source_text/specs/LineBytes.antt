@@ -9,11 +9,11 @@ continues b = nat_le 128 b && nat_lt b 192
 abbrev pub ends_line_at : ℕ → ℕ → ℕ → Bool
 ends_line_at b b1 b2 = (b == 10) || (b == 13 && not (b1 == 10)) || (b == 226 && b1 == 128 && (b2 == 168 || b2 == 169))
 
-abbrev pub behind_byte : ℕ × ℕ → ℕ → ℕ → ℕ → ℕ × ℕ
-behind_byte p b b1 b2 = if continues b then p else (if ends_line_at b b1 b2 then (p.0 + 1, 1) else (p.0, p.1 + 1))
+abbrev pub after_byte : ℕ × ℕ → ℕ → ℕ → ℕ → ℕ × ℕ
+after_byte p b b1 b2 = if continues b then p else (if ends_line_at b b1 b2 then (p.0 + 1, 1) else (p.0, p.1 + 1))
 
 -- line and column behind the first n bytes
-abbrev pub behind_bytes : ℕ × ℕ → ℕ → List ℕ → ℕ × ℕ
-behind_bytes p zero bs = p
-behind_bytes p (suc n) [] = p
-behind_bytes p (suc n) (b ∷ bs) = behind_bytes (behind_byte p b (slice_index bs 0) (slice_index bs 1)) n bs
+abbrev pub after_bytes : ℕ × ℕ → ℕ → List ℕ → ℕ × ℕ
+after_bytes p zero text = p
+after_bytes p (suc n) [] = p
+after_bytes p (suc n) (b ∷ bs) = after_bytes (after_byte p b (slice_index bs 0) (slice_index bs 1)) n bs

@@ -12,14 +12,14 @@ ends_line c [] = is_line_terminator c
 ends_line c (d ∷ ds) = is_line_terminator c && not (c == 13 && d == 10)
 
 -- line and column behind a character, from those before it, where others follow
-abbrev pub behind_character : ℕ × ℕ → ℕ → List ℕ → ℕ × ℕ
-behind_character before c following = if ends_line c following then (before.0 + 1, 1) else (before.0, before.1 + 1)
+abbrev pub after_character : ℕ × ℕ → ℕ → List ℕ → ℕ × ℕ
+after_character before c following = if ends_line c following then (before.0 + 1, 1) else (before.0, before.1 + 1)
 
 -- the same behind several characters
-abbrev pub behind_characters : ℕ × ℕ → List ℕ → List ℕ → ℕ × ℕ
-behind_characters before [] following = before
-behind_characters before (c ∷ cs) following = behind_characters (behind_character before c (cs ++ following)) cs following
+abbrev pub after_characters : ℕ × ℕ → List ℕ → List ℕ → ℕ × ℕ
+after_characters before [] following = before
+after_characters before (c ∷ cs) following = after_characters (after_character before c (cs ++ following)) cs following
 
 -- line and column of a place of a text
 unfoldable pub line_column : List ℕ → ℕ → ℕ × ℕ
-line_column text offset = behind_characters (1, 1) (chars (take offset text)) (chars (drop offset text))
+line_column text offset = after_characters (1, 1) (chars (take offset text)) (chars (drop offset text))

@@ -1,20 +1,20 @@
 -- Devices in memory, as their clauses see them.
 use Rattle.std.specs.Prelude.{◌≡◌, ◌↔◌, ◌+◌, ◌-◌, ◌^◌, ◌==◌, ◌&&◌, ◌||◌, not, List, ℕ, Bool, false, length, min, max, Option, Some, None, Result, IfOk, IsErr, IsTrue}
-use Rattle.source_text.specs.declared.memory.Plan.{Plan}
+use Rattle.source_text.specs.declared.memory_device.FailurePlan.{FailurePlan}
 use Rattle.source_text.specs.declared.sink.DeviceFault.{DeviceFault}
 
 -- A writer: the bytes that it took, the most that it can take, its plan, the number of calls so far, and whether one has failed.
 pub record Stored : Type 0 where
   pub bytes : List ℕ
   pub room : ℕ
-  pub plan : Plan
+  pub plan : FailurePlan
   pub made : ℕ
   pub failed : Bool
 
 -- A reader: the bytes that it has left, its plan, the number of calls so far, and whether one has failed.
 pub record Unread : Type 0 where
   pub left : List ℕ
-  pub plan : Plan
+  pub plan : FailurePlan
   pub made : ℕ
   pub failed : Bool
 

@@ -8,8 +8,8 @@ use Rattle.std.proofs.lemmas.Bool.{cases_lt, eqb-true}
 use Rattle.std.proofs.lemmas.Bool.Decides.{nat_tests}
 use Rattle.source_text.specs.Source.{IsPlace}
 use Rattle.tokens.specs.Comments.{begins_comment, Separators}
-use Rattle.tokens.specs.declared.token.Class.{Class as LexicalClass}
-use Rattle.tokens.specs.declared.token.Class.TheVariants.{Name, Punctuator, Number, Text, Template, End}
+use Rattle.tokens.specs.declared.token.TokenClass.{TokenClass as LexicalClass}
+use Rattle.tokens.specs.declared.token.TokenClass.TheVariants.{IdentifierName, Punctuator, NumericLiteral, StringLiteral, Template, End}
 use Rattle.tokens.specs.declared.token.Goal.{Goal}
 use Rattle.tokens.specs.declared.token.Goal.TheVariants.{Div}
 use Rattle.tokens.specs.Lexical.{is_of, is_at, none_longer, is_token}
@@ -19,11 +19,11 @@ use Rattle.tokens.specs.Reading.{behind, Reads}
 use Rattle.tokens.proofs.Beginnings.{true_false}
 use Rattle.tokens.proofs.Bounds.{rest_of_word, token_places}
 use Rattle.tokens.proofs.Classes.{token_is}
-use Rattle.tokens.proofs.Determined.{determined}
+use Rattle.tokens.proofs.TokenUniqueness.{determined}
 use Rattle.tokens.proofs.Longest.{none_is_longer}
-use Rattle.tokens.proofs.Passing.{size_one, size_append, pass_ascii}
-use Rattle.tokens.proofs.Wellformed.{word_scalars}
-use Rattle.token_cursor.specs.Point.{depends, IsAhead}
+use Rattle.tokens.proofs.PassedCharacters.{size_one, size_append, pass_ascii}
+use Rattle.tokens.proofs.Utf8Tokens.{word_scalars}
+use Rattle.token_cursor.specs.CursorState.{depends, IsAhead}
 
 -- the first byte of a text is its first character where either is an ASCII one
 low_first : (c : ℕ) (cs : List ℕ) → c < 128 → slice_index_or (encode_utf8_all (c ∷ cs)) 0 0 ≡ c
@@ -150,12 +150,12 @@ pub record DivReads (text : List ℕ) (at : ℕ) (a : LexicalToken) : Type 0 whe
 
 no_end : (class : LexicalClass) (c : ℕ) (cs : List ℕ) → IsTrue (is_of class (c ∷ cs)) → class ≢ End
 no_end End c cs h e = true_false _ h refl
-no_end Name c cs h e = cc
+no_end IdentifierName c cs h e = cc
 no_end Punctuator c cs h e = cc
-no_end Number c cs h e = cc
-no_end Text c cs h e = cc
+no_end NumericLiteral c cs h e = cc
+no_end StringLiteral c cs h e = cc
 no_end Template c cs h e = cc
-no_end LexicalClass.RegExp c cs h e = cc
+no_end LexicalClass.RegularExpressionLiteral c cs h e = cc
 
 brace_text : encode_utf8_all (codes "}") ≡ codes "}"
 brace_text = ap (λ x. x ++ encode_utf8_all []) (encode_ascii 125 (omega arith))

@@ -1,2 +1,2 @@
-pub mod Ends
-pub mod Point
+pub mod StatementEnds
+pub mod CursorState

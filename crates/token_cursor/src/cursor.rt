@@ -4,21 +4,21 @@ ghost use Rattle.std.specs.Prelude.{◌≡◌, ◌≢◌, ◌≤◌, ◌<◌, �
 ghost use Rattle.tokens.specs.Tokens.{LexicalToken};
 ghost use Rattle.tokens.specs.Scanned.{token_of};
 ghost use Rattle.tokens.specs.Reading.{Reads};
-ghost use Rattle.tokens.specs.declared.token.Class.{Class as LexicalClass};
+ghost use Rattle.tokens.specs.declared.token.TokenClass.{TokenClass as LexicalClass};
 ghost use Rattle.tokens.specs.declared.token.Goal.{Goal as LexicalGoal};
 ghost use Rattle.source_text.specs.Source.{IsPlace};
 ghost use Rattle.language.specs.Token.{Token as Read, as_read};
 ghost use Rattle.language.specs.Cursor.{beginning};
 ghost use Rattle.language.specs.Edges.{is_semicolon};
 ghost use Rattle.language.specs.Claims.{max_open};
-ghost use Rattle.token_cursor.specs.Ends.{EndsAt, IsEnd};
-ghost use Rattle.token_cursor.specs.Point.{depends, Ahead, IsAhead, IsAheadBySome, NoneAhead, OnlyEnd, IsPlaceFrom, IsSyntax};
+ghost use Rattle.token_cursor.specs.StatementEnds.{EndsAt, IsEnd};
+ghost use Rattle.token_cursor.specs.CursorState.{depends, Ahead, IsAhead, IsAheadBySome, NoneAhead, OnlyEnd, IsPlaceFrom, IsSyntax};
 
-use crate::semicolon::{Ending, is_mark, may_miss};
+use crate::semicolon::{StatementEnd, is_punctuator, may_omit_semicolon};
 use language::limits::MAX_OPEN;
 use source_text::{Fault, Source};
 use std::marker::Model;
-use tokens::{Class, Goal, ScanFault, Token, scan};
+use tokens::{Goal, ScanFault, Token, TokenClass, scan};
 
 /// A place between two tokens of a text, with the parentheses that are open there and count.
 #[derive(Drop)]
@@ -37,9 +37,9 @@ impl<'t, 's> Model for Cursor<'t, 's> {
     ghost use Rattle.tokens.specs.Scanned.{token_of};
     ghost use Rattle.language.specs.Token.{as_read};
     ghost use Rattle.language.specs.Claims.{max_open};
-    ghost use Rattle.token_cursor.specs.Point.{Point, Ahead};
+    ghost use Rattle.token_cursor.specs.CursorState.{CursorState, Ahead};
 
-    ghost Value = { Point };
+    ghost Value = { CursorState };
 
     ghost view = { λ c. record { text = c.source.now; last = as_read (token_of c.last); opened = c.opened } };
 
@@ -47,7 +47,7 @@ impl<'t, 's> Model for Cursor<'t, 's> {
 }
 
 // What the goal reads behind a place.
-fn look<'s>(source: &Source<'s>, at: usize, goal: Goal) -> Result<Token<'s>, ScanFault>
+fn scan_after<'s>(source: &Source<'s>, at: usize, goal: Goal) -> Result<Token<'s>, ScanFault>
     requires { IsPlace source.now at }
     ensures { Ahead goal source.now at result }
 {
@@ -69,7 +69,7 @@ fn depends_on_goal(token: &Token<'_>) -> bool
 fn is_semicolon(token: &Token<'_>) -> bool
     ensures { result ≡ is_semicolon (as_read (token_of token.now)) }
 {
-    is_mark(token, b';')
+    is_punctuator(token, b';')
 }
 
 impl<'t, 's> Cursor<'t, 's> {
@@ -81,7 +81,7 @@ impl<'t, 's> Cursor<'t, 's> {
     {
         let _text = source.text();
         let last = Token {
-            class: Class::End,
+            class: TokenClass::End,
             text: "",
             start: 0,
             end: 0,
@@ -91,7 +91,7 @@ impl<'t, 's> Cursor<'t, 's> {
             source,
             last,
             opened: 0,
-            ahead: look(source, 0, Goal::Div),
+            ahead: scan_after(source, 0, Goal::Div),
         }
     }
 
@@ -124,13 +124,13 @@ impl<'t, 's> Cursor<'t, 's> {
             Goal::Div => self.ahead,
             Goal::RegExp | Goal::TemplateTail => match self.ahead {
                 Ok(token) if !depends_on_goal(&token) => Ok(token),
-                _ => look(self.source, self.last.end, goal),
+                _ => scan_after(self.source, self.last.end, goal),
             },
         }
     }
 
     /// Where what stands ahead begins, in bytes: the place that a syntax error names.
-    pub fn place(&self) -> usize
+    pub fn next_start(&self) -> usize
         ensures place { IsPlaceFrom self.now.text self.now.last.stop result }
         ensures starts { (t : LexicalToken) → Reads self.now.text LexicalGoal.Div self.now.last.stop t → result ≡ t.start }
     {
@@ -148,7 +148,7 @@ impl<'t, 's> Cursor<'t, 's> {
         ensures same_open { self.new.opened ≡ self.old.opened }
     {
         self.last = token;
-        self.ahead = look(self.source, token.end, Goal::Div);
+        self.ahead = scan_after(self.source, token.end, Goal::Div);
     }
 
     /// Goes past the token that the goal reads ahead, and gives it.
@@ -162,10 +162,10 @@ impl<'t, 's> Cursor<'t, 's> {
         ensures err { IfErr result (λ fault. IsSyntax self.old.text self.old.last.stop fault × OnlyEnd goal self.old.text self.old.last.stop × (self.new.last ≡ self.old.last)) }
     {
         let Some(token) = self.peek(goal) else {
-            return Err(Fault::Syntax(self.place()));
+            return Err(Fault::Syntax(self.next_start()));
         };
         match token.class {
-            Class::End => Err(Fault::Syntax(self.place())),
+            TokenClass::End => Err(Fault::Syntax(self.next_start())),
             _ => {
                 self.advance(token);
                 Ok(token)
@@ -177,7 +177,7 @@ impl<'t, 's> Cursor<'t, 's> {
     ///
     /// # Errors
     /// `Syntax` where there is none and it may not be missing; then the cursor stays as it was.
-    pub fn semicolon(&mut self, ending: Ending) -> Result<(), Fault>
+    pub fn semicolon(&mut self, ending: StatementEnd) -> Result<(), Fault>
         ensures text { self.new.text ≡ self.old.text }
         ensures forward { self.old.last.stop ≤ self.new.last.stop }
         ensures same_open { self.new.opened ≡ self.old.opened }
@@ -186,16 +186,16 @@ impl<'t, 's> Cursor<'t, 's> {
     {
         let _text = self.source.text();
         let Some(token) = self.peek(Goal::Div) else {
-            return Err(Fault::Syntax(self.place()));
+            return Err(Fault::Syntax(self.next_start()));
         };
         if is_semicolon(&token) {
             self.advance(token);
             return Ok(());
         }
-        if may_miss(ending, &self.last, &token) {
+        if may_omit_semicolon(ending, &self.last, &token) {
             return Ok(());
         }
-        Err(Fault::Syntax(self.place()))
+        Err(Fault::Syntax(self.next_start()))
     }
 
     /// Opens a parenthesis that groups or holds an arrow's parameters.

@@ -6,4 +6,4 @@ mod cursor;
 mod semicolon;
 
 pub use cursor::Cursor;
-pub use semicolon::{Ending, goes_on};
+pub use semicolon::{StatementEnd, goes_on};

@@ -4,20 +4,20 @@ ghost use Rattle.std.specs.Prelude.{◌≡◌, ◌<◌, [], ◌∷◌, true, fal
 ghost use Rattle.std.specs.Str.{bytes_eq};
 ghost use Rattle.tokens.specs.Scanned.{token_of};
 ghost use Rattle.language.specs.Token.{as_read, is_mark};
-ghost use Rattle.language.specs.Words.{is};
-ghost use Rattle.language.specs.Edges.{goes_on, standing, may_miss, is_sign, is_end, begins, is_semicolon};
-ghost use Rattle.token_cursor.specs.Ends.{ending_of};
+ghost use Rattle.language.specs.Vocabulary.{is};
+ghost use Rattle.language.specs.Edges.{goes_on, edge_as_written, may_omit_semicolon, is_sign, is_end, begins, is_semicolon};
+ghost use Rattle.token_cursor.specs.StatementEnds.{ending_of};
 
 use language::Edge;
-use tokens::{Class, Token};
+use tokens::{Token, TokenClass};
 
 /// The end of a statement.
 #[derive(Clone, Copy)]
-pub enum Ending {
+pub enum StatementEnd {
     /// That of a `do`.
-    OfDo,
+    DoWhile,
     /// Behind a node with this right edge, parentheses round it aside.
-    Behind(Edge),
+    AfterExpression(Edge),
 }
 
 // Whether the token begins with this byte, which isn't one of a line end.
@@ -32,10 +32,10 @@ fn begins_with(token: &Token<'_>, byte: u8) -> bool
 }
 
 // Whether the token is this punctuator.
-pub(crate) fn is_mark(token: &Token<'_>, mark: u8) -> bool
+pub(crate) fn is_punctuator(token: &Token<'_>, mark: u8) -> bool
     ensures { result ≡ is_mark (mark ∷ []) (as_read (token_of token.now)) }
 {
-    token.class == Class::Punctuator && is_byte(token.text, mark)
+    token.class == TokenClass::Punctuator && is_byte(token.text, mark)
 }
 
 // Whether the text is this byte.
@@ -56,10 +56,12 @@ pub fn goes_on(edge: Edge, token: &Token<'_>) -> bool
 {
     match edge {
         Edge::Arrow | Edge::Closed => false,
-        Edge::Postfix => is_mark(token, b'+') || is_mark(token, b'-') || begins_with(token, b'/'),
+        Edge::Postfix => is_punctuator(token, b'+')
+            || is_punctuator(token, b'-')
+            || begins_with(token, b'/'),
         Edge::Other => {
-            let opens = is_mark(token, b'(') || is_mark(token, b'[');
-            let adds = is_mark(token, b'+') || is_mark(token, b'-');
+            let opens = is_punctuator(token, b'(') || is_punctuator(token, b'[');
+            let adds = is_punctuator(token, b'+') || is_punctuator(token, b'-');
             opens || adds || begins_with(token, b'/') || begins_with(token, b'`')
         }
     }
@@ -73,8 +75,8 @@ fn is_closing(token: &Token<'_>) -> bool
 }
 
 // The right edge as it stands: behind a `)` it is that of a node in parentheses.
-fn standing(edge: Edge, last: &Token<'_>) -> Edge
-    ensures { result ≡ standing edge (as_read (token_of last.now)) }
+fn edge_as_written(edge: Edge, last: &Token<'_>) -> Edge
+    ensures { result ≡ edge_as_written edge (as_read (token_of last.now)) }
 {
     match edge {
         Edge::Arrow | Edge::Postfix if is_closing(last) => Edge::Other,
@@ -83,15 +85,16 @@ fn standing(edge: Edge, last: &Token<'_>) -> Edge
 }
 
 // Whether the `;` may be missing between two tokens, of which the second is no `;`.
-pub(crate) fn may_miss(ending: Ending, last: &Token<'_>, token: &Token<'_>) -> bool
+pub(crate) fn may_omit_semicolon(ending: StatementEnd, last: &Token<'_>, token: &Token<'_>) -> bool
     requires { is_semicolon (as_read (token_of token.now)) ≡ false }
-    ensures { result ≡ may_miss (ending_of ending) (as_read (token_of last.now)) (as_read (token_of token.now)) }
+    ensures { result ≡ may_omit_semicolon (ending_of ending) (as_read (token_of last.now)) (as_read (token_of token.now)) }
 {
-    if token.class == Class::End || is_mark(token, b'}') {
+    if token.class == TokenClass::End || is_punctuator(token, b'}') {
         return true;
     }
     match ending {
-        Ending::OfDo => true,
-        Ending::Behind(edge) => token.after_break && !goes_on(standing(edge, last), token),
+        StatementEnd::DoWhile => true,
+        StatementEnd::AfterExpression(edge) => token.after_break
+            && !goes_on(edge_as_written(edge, last), token),
     }
 }

@@ -1,7 +1,7 @@
 -- What an automaton reads greedily is the only word of its class that can stand there.
 use Rattle.std.proofs.Common.{◌≡◌, ℕ, Bool, List, [], ◌∷◌, ◌++◌, IsTrue, IsFalse, sym, ap, ◌∙◌, subst, append_assoc, append-nil, inl, inr}
 use Rattle.tokens.proofs.Beginnings.{true_false}
-use Rattle.tokens.proofs.Separating.{fronts}
+use Rattle.tokens.proofs.TriviaSteps.{fronts}
 
 -- from a word and the rest behind it the automaton goes no further, where it is alive behind the word
 pub only_greedy : {S : Type 0} (run : S → List ℕ → S) (dead : S → Bool) (P : List ℕ → List ℕ → Type 0) (s : S) →

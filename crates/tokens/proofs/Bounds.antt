@@ -14,8 +14,8 @@ use Rattle.tokens.specs.Goals.{Goal, allows}
 use Rattle.tokens.specs.Tokens.{LexicalToken, size}
 use Rattle.tokens.specs.Reading.{behind, Reads}
 use Rattle.tokens.specs.Scanned.{Passed}
-use Rattle.tokens.proofs.Passing.{size_append, size_one, pass_char, passed_none, passed_on, passed_slice}
-use Rattle.tokens.proofs.Scanning.{word_forward}
+use Rattle.tokens.proofs.PassedCharacters.{size_append, size_one, pass_char, passed_none, passed_on, passed_slice}
+use Rattle.tokens.proofs.ScannedTokens.{word_forward}
 
 -- characters that stand at a place are passed
 pub pass_word : (text : List ℕ) (at : ℕ) (word rest : List ℕ) → IsUtf8 text → IsPlace text at → behind text at ≡ word ++ rest → Passed text at (at + size word) word

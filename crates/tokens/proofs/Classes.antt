@@ -8,15 +8,15 @@ use Rattle.std.proofs.lemmas.Bool.{cases_lt, cases_Bool, eqb-true}
 use Rattle.std.proofs.lemmas.Bool.Decides.{nat_tests}
 use Rattle.unicode_ident.proofs.IdentLemmas.{is_xid_start-ascii}
 use Rattle.tokens.specs.Alphabet.{one_of, is_empty, begins_with, is_identifier_start, is_decimal_digit}
-use Rattle.tokens.specs.Lexical.{LexicalClass, Name, Punctuator, Number, Text, Template, End, is_one_of_words, punctuators, is_of, may_stand, none_longer, ends_well, is_token}
-use Rattle.tokens.specs.Numbers.{nought, integer, leading_point, fraction, no_numeral, numeral_behind, is_complete, is_number}
+use Rattle.tokens.specs.Lexical.{LexicalClass, IdentifierName, Punctuator, NumericLiteral, StringLiteral, Template, End, is_one_of_words, punctuators, is_of, may_stand, none_longer, ends_well, is_token}
+use Rattle.tokens.specs.Numbers.{zero_read, integer, leading_point, fraction, no_numeral, numeral_after, is_complete, is_number}
 use Rattle.tokens.specs.Alphabet.{is_non_zero_digit, is_identifier_part}
 use Rattle.tokens.specs.Strings.{closes_string}
 use Rattle.tokens.specs.Templates.{closes_template}
-use Rattle.tokens.specs.RegularExpressions.{opened, expression_behind, has_flags}
+use Rattle.tokens.specs.RegularExpressions.{opened, expression_after, has_flags}
 use Rattle.tokens.specs.Goals.{Goal, Div, TemplateTail, allows, reads_regexps, reads_template_parts}
 use Rattle.std.proofs.lemmas.Slice.Eq.{bytes_eq-Decides}
-use Rattle.tokens.specs.Fronts.{is_mark, class_of}
+use Rattle.tokens.specs.TokenStarts.{is_mark, class_of}
 use Rattle.tokens.proofs.Beginnings.{true_false}
 
 -- a character of an identifier's start is none with which a token of another class begins
@@ -65,7 +65,7 @@ words_all (w ∷ ws) test text h k =
 -- ---- each class begins as `class_of` says
 
 none_of : (a b d e f g h : Bool) (r t m : LexicalClass) → IsFalse (a || b || d || e || f || g || h) →
-    Name ≡ (if a then Number else if b then Text else if d then Template else if e then t else if f then r else if g then m else if h then Punctuator else Name)
+    IdentifierName ≡ (if a then NumericLiteral else if b then StringLiteral else if d then Template else if e then t else if f then r else if g then m else if h then Punctuator else IdentifierName)
 none_of false false false false false false false r t m k = refl
 none_of false false false false false false true r t m k = absurd (true_false _ refl k)
 none_of false false false false false true h r t m k = absurd (true_false _ refl k)
@@ -76,7 +76,7 @@ none_of false true d e f g h r t m k = absurd (true_false _ refl k)
 none_of true b d e f g h r t m k = absurd (true_false _ refl k)
 
 mark_of : (a b d e f g h : Bool) (r t m z : LexicalClass) → IsFalse (a || b || d || e || f || g) → IsTrue h →
-    Punctuator ≡ (if a then Number else if b then Text else if d then Template else if e then t else if f then r else if g then m else if h then Punctuator else z)
+    Punctuator ≡ (if a then NumericLiteral else if b then StringLiteral else if d then Template else if e then t else if f then r else if g then m else if h then Punctuator else z)
 mark_of false false false false false false true r t m z k l = refl
 mark_of false false false false false false false r t m z k l = absurd (true_false _ l refl)
 mark_of false false false false false true h r t m z k l = absurd (true_false _ refl k)
@@ -86,19 +86,19 @@ mark_of false false true e f g h r t m z k l = absurd (true_false _ refl k)
 mark_of false true d e f g h r t m z k l = absurd (true_false _ refl k)
 mark_of true b d e f g h r t m z k l = absurd (true_false _ refl k)
 
-name_class : (goal : Goal) (c : ℕ) (cs : List ℕ) → IsTrue (is_identifier_start c) → Name ≡ class_of goal (c ∷ cs)
+name_class : (goal : Goal) (c : ℕ) (cs : List ℕ) → IsTrue (is_identifier_start c) → IdentifierName ≡ class_of goal (c ∷ cs)
 name_class goal c cs h =
     none_of (is_decimal_digit c) (one_of "'\"" c) (one_of "`" c) (one_of "}" c) (one_of "/" c) (one_of "." c) (is_mark c)
-    (if reads_regexps goal then LexicalClass.RegExp else Punctuator) (if reads_template_parts goal then Template else Punctuator) (if begins_with is_decimal_digit cs then Number else Punctuator) (start_plain c h)
+    (if reads_regexps goal then LexicalClass.RegularExpressionLiteral else Punctuator) (if reads_template_parts goal then Template else Punctuator) (if begins_with is_decimal_digit cs then NumericLiteral else Punctuator) (start_plain c h)
 
 mark_class : (goal : Goal) (c : ℕ) (cs : List ℕ) → IsTrue (is_mark c) → Punctuator ≡ class_of goal (c ∷ cs)
 mark_class goal c cs h =
     mark_of (is_decimal_digit c) (one_of "'\"" c) (one_of "`" c) (one_of "}" c) (one_of "/" c) (one_of "." c) (is_mark c)
-    (if reads_regexps goal then LexicalClass.RegExp else Punctuator) (if reads_template_parts goal then Template else Punctuator) (if begins_with is_decimal_digit cs then Number else Punctuator) Name (others c h) h where
+    (if reads_regexps goal then LexicalClass.RegularExpressionLiteral else Punctuator) (if reads_template_parts goal then Template else Punctuator) (if begins_with is_decimal_digit cs then NumericLiteral else Punctuator) IdentifierName (others c h) h where
       others : (c : ℕ) → IsTrue (is_mark c) → IsFalse (is_decimal_digit c || one_of "'\"" c || one_of "`" c || one_of "}" c || one_of "/" c || one_of "." c)
       others c h = grind (arith, nat_tests)
 
-pub dead_stays : (cs : List ℕ) → numeral_behind no_numeral cs ≡ no_numeral
+pub dead_stays : (cs : List ℕ) → numeral_after no_numeral cs ≡ no_numeral
 dead_stays [] = refl
 dead_stays (c ∷ cs) = dead_stays cs
 
@@ -114,49 +114,49 @@ number_begins c cs h = by_first (one_of "0" c) (is_non_zero_digit c) (one_of "."
   point : (a b x : Bool) → a ≡ true → IsTrue x → IsTrue (b || (a && x))
   point a b x e h = grind (arith, nat_tests)
 
-  no : (cs : List ℕ) → IsTrue (is_complete (numeral_behind no_numeral cs)) → ⊥
+  no : (cs : List ℕ) → IsTrue (is_complete (numeral_after no_numeral cs)) → ⊥
   no cs h = true_false _ h (ap is_complete (dead_stays cs))
 
-  behind_point : (cs : List ℕ) → IsTrue (is_complete (numeral_behind leading_point cs)) → IsTrue (begins_with is_decimal_digit cs)
+  behind_point : (cs : List ℕ) → IsTrue (is_complete (numeral_after leading_point cs)) → IsTrue (begins_with is_decimal_digit cs)
   behind_point [] h = absurd (true_false _ h refl)
   behind_point (d ∷ ds) h = digit (is_decimal_digit d) h where
-    digit : (a : Bool) → IsTrue (is_complete (numeral_behind (if a then fraction else no_numeral) ds)) → IsTrue a
+    digit : (a : Bool) → IsTrue (is_complete (numeral_after (if a then fraction else no_numeral) ds)) → IsTrue a
     digit true h = refl
     digit false h = absurd (true_false _ h (ap is_complete (dead_stays ds)))
 
   by_first : (a b d : Bool) → one_of "0" c ≡ a → is_non_zero_digit c ≡ b → one_of "." c ≡ d →
-      IsTrue (is_complete (numeral_behind (if a then nought else if b then integer else if d then leading_point else no_numeral) cs)) →
+      IsTrue (is_complete (numeral_after (if a then zero_read else if b then integer else if d then leading_point else no_numeral) cs)) →
       IsTrue (is_decimal_digit c || (one_of "." c && begins_with is_decimal_digit cs))
   by_first true b d e f g h = zero_digit c (one_of "." c && begins_with is_decimal_digit cs) e
   by_first false true d e f g h = other_digit c (one_of "." c && begins_with is_decimal_digit cs) f
   by_first false false true e f g h = point (one_of "." c) (is_decimal_digit c) (begins_with is_decimal_digit cs) g (behind_point cs h)
   by_first false false false e f g h = absurd (no cs h)
 
-number_class : (goal : Goal) (c : ℕ) (cs : List ℕ) → IsTrue (is_decimal_digit c || (one_of "." c && begins_with is_decimal_digit cs)) → Number ≡ class_of goal (c ∷ cs)
+number_class : (goal : Goal) (c : ℕ) (cs : List ℕ) → IsTrue (is_decimal_digit c || (one_of "." c && begins_with is_decimal_digit cs)) → NumericLiteral ≡ class_of goal (c ∷ cs)
 number_class goal c cs h = by_digit (is_decimal_digit c) refl h where
   point : (c : ℕ) (x : Bool) → IsTrue (false || (one_of "." c && x)) → (c ≡ 0x2E) × (x ≡ true)
   point c x h = (grind (arith, nat_tests), grind (arith, nat_tests))
 
-  at_point : (b : Bool) → b ≡ true → Number ≡ (if b then Number else Punctuator)
+  at_point : (b : Bool) → b ≡ true → NumericLiteral ≡ (if b then NumericLiteral else Punctuator)
   at_point true e = refl
   at_point false e = absurd (true_false true refl (sym e))
 
-  by_digit : (a : Bool) → is_decimal_digit c ≡ a → IsTrue (a || (one_of "." c && begins_with is_decimal_digit cs)) → Number ≡ class_of goal (c ∷ cs)
+  by_digit : (a : Bool) → is_decimal_digit c ≡ a → IsTrue (a || (one_of "." c && begins_with is_decimal_digit cs)) → NumericLiteral ≡ class_of goal (c ∷ cs)
   by_digit true e h = digit (is_decimal_digit c) e _ where
-    digit : (b : Bool) → b ≡ true → (x : LexicalClass) → Number ≡ (if b then Number else x)
+    digit : (b : Bool) → b ≡ true → (x : LexicalClass) → NumericLiteral ≡ (if b then NumericLiteral else x)
     digit true e x = refl
     digit false e x = absurd (true_false true refl (sym e))
-  by_digit false e h = let p = point c (begins_with is_decimal_digit cs) h in subst (λ x. Number ≡ class_of goal (x ∷ cs)) (sym p.0) (at_point (begins_with is_decimal_digit cs) p.1)
+  by_digit false e h = let p = point c (begins_with is_decimal_digit cs) h in subst (λ x. NumericLiteral ≡ class_of goal (x ∷ cs)) (sym p.0) (at_point (begins_with is_decimal_digit cs) p.1)
 
 -- where a number begins, by a point and a digit or by a digit
-text_class : (goal : Goal) (c : ℕ) (cs : List ℕ) → IsTrue (one_of "'\"" c) → Text ≡ class_of goal (c ∷ cs)
+text_class : (goal : Goal) (c : ℕ) (cs : List ℕ) → IsTrue (one_of "'\"" c) → StringLiteral ≡ class_of goal (c ∷ cs)
 text_class goal c cs h = by_quote (cases_Bool (c == 39)) where
   other : (c : ℕ) → (c == 39) ≡ false → IsTrue (one_of "'\"" c) → c ≡ 34
   other c e h = grind (arith, nat_tests)
 
-  by_quote : ((c == 39) ≡ true) ⊎ ((c == 39) ≡ false) → Text ≡ class_of goal (c ∷ cs)
-  by_quote (inl e) = subst (λ x. Text ≡ class_of goal (x ∷ cs)) (sym (eqb-true c 39 e)) refl
-  by_quote (inr e) = subst (λ x. Text ≡ class_of goal (x ∷ cs)) (sym (other c e h)) refl
+  by_quote : ((c == 39) ≡ true) ⊎ ((c == 39) ≡ false) → StringLiteral ≡ class_of goal (c ∷ cs)
+  by_quote (inl e) = subst (λ x. StringLiteral ≡ class_of goal (x ∷ cs)) (sym (eqb-true c 39 e)) refl
+  by_quote (inr e) = subst (λ x. StringLiteral ≡ class_of goal (x ∷ cs)) (sym (other c e h)) refl
 
 template_class : (goal : Goal) (c : ℕ) (cs : List ℕ) (word : List ℕ) → IsTrue (one_of "`}" c) → IsTrue (allows goal Template (c ∷ word)) → Template ≡ class_of goal (c ∷ cs)
 template_class goal c cs word h k = by_mark (cases_Bool (c == 96)) where
@@ -173,12 +173,12 @@ template_class goal c cs word h k = by_mark (cases_Bool (c == 96)) where
   by_mark (inr e) =
       subst (λ x. Template ≡ class_of goal (x ∷ cs)) (sym (other c e h)) (by_goal goal (subst (λ x. IsTrue (allows goal Template (x ∷ word))) (other c e h) k))
 
-regexp_class : (goal : Goal) (c : ℕ) (cs : List ℕ) (word : List ℕ) → IsTrue (one_of "/" c) → IsTrue (allows goal LexicalClass.RegExp (c ∷ word)) →
-    LexicalClass.RegExp ≡ class_of goal (c ∷ cs)
+regexp_class : (goal : Goal) (c : ℕ) (cs : List ℕ) (word : List ℕ) → IsTrue (one_of "/" c) → IsTrue (allows goal LexicalClass.RegularExpressionLiteral (c ∷ word)) →
+    LexicalClass.RegularExpressionLiteral ≡ class_of goal (c ∷ cs)
 regexp_class goal c cs word h k =
     let e = eqb-true c 47 h in
-    subst (λ x. LexicalClass.RegExp ≡ class_of goal (x ∷ cs)) (sym e) (by_goal goal (subst (λ x. IsTrue (allows goal LexicalClass.RegExp (x ∷ word))) e k)) where
-      by_goal : (goal : Goal) → IsTrue (allows goal LexicalClass.RegExp (47 ∷ word)) → LexicalClass.RegExp ≡ class_of goal (47 ∷ cs)
+    subst (λ x. LexicalClass.RegularExpressionLiteral ≡ class_of goal (x ∷ cs)) (sym e) (by_goal goal (subst (λ x. IsTrue (allows goal LexicalClass.RegularExpressionLiteral (x ∷ word))) e k)) where
+      by_goal : (goal : Goal) → IsTrue (allows goal LexicalClass.RegularExpressionLiteral (47 ∷ word)) → LexicalClass.RegularExpressionLiteral ≡ class_of goal (47 ∷ cs)
       by_goal Div k = absurd (true_false _ k refl)
       by_goal Goal.RegExp k = refl
       by_goal TemplateTail k = absurd (true_false _ k refl)
@@ -213,7 +213,7 @@ punctuator_class goal word rest h m k =
             subst (λ x. Punctuator ≡ class_of goal (x ∷ cs ++ rest)) (sym (other c q e))
             (by_goal_brace goal (cs ++ rest) cs (subst (λ x. IsTrue (allows goal Punctuator (x ∷ cs))) (other c q e) k))
 
-      point : (x : Bool) → IsTrue (not (true && x)) → Punctuator ≡ (if x then Number else Punctuator)
+      point : (x : Bool) → IsTrue (not (true && x)) → Punctuator ≡ (if x then NumericLiteral else Punctuator)
       point true h = absurd (true_false _ h refl)
       point false h = refl
 
@@ -243,11 +243,11 @@ class_fits goal class word rest h k = by_class class word rest (token_is class w
   ended (c ∷ cs) h = absurd (true_false _ h refl)
 
   by_class : (class : LexicalClass) (word rest : List ℕ) → IsTrue (is_of class word) → IsTrue (may_stand class word rest) → IsTrue (allows goal class word) → class ≡ class_of goal (word ++ rest)
-  by_class Name [] rest h m k = absurd (true_false _ h refl)
-  by_class Name (c ∷ cs) rest h m k = name_class goal c (cs ++ rest) (first_true (is_identifier_start c) (list_all is_identifier_part cs) h)
+  by_class IdentifierName [] rest h m k = absurd (true_false _ h refl)
+  by_class IdentifierName (c ∷ cs) rest h m k = name_class goal c (cs ++ rest) (first_true (is_identifier_start c) (list_all is_identifier_part cs) h)
   by_class Punctuator word rest h m k = punctuator_class goal word rest h m k
-  by_class Number [] rest h m k = absurd (true_false _ h refl)
-  by_class Number (c ∷ cs) rest h m k = number_class goal c (cs ++ rest) (along (is_decimal_digit c) (one_of "." c) (number_begins c cs h) (λ b. begins_append is_decimal_digit cs rest b)) where
+  by_class NumericLiteral [] rest h m k = absurd (true_false _ h refl)
+  by_class NumericLiteral (c ∷ cs) rest h m k = number_class goal c (cs ++ rest) (along (is_decimal_digit c) (one_of "." c) (number_begins c cs h) (λ b. begins_append is_decimal_digit cs rest b)) where
     begins_append : (test : ℕ → Bool) (v w : List ℕ) → IsTrue (begins_with test v) → IsTrue (begins_with test (v ++ w))
     begins_append test [] w h = absurd (true_false _ h refl)
     begins_append test (c ∷ v) w h = h
@@ -257,11 +257,11 @@ class_fits goal class word rest h k = by_class class word rest (token_is class w
     along true b h f = refl
     along false true h f = f h
     along false false h f = h
-  by_class Text [] rest h m k = absurd (true_false _ h refl)
-  by_class Text (c ∷ cs) rest h m k = text_class goal c (cs ++ rest) (first_true (one_of "'\"" c) (closes_string c 0 cs) h)
+  by_class StringLiteral [] rest h m k = absurd (true_false _ h refl)
+  by_class StringLiteral (c ∷ cs) rest h m k = text_class goal c (cs ++ rest) (first_true (one_of "'\"" c) (closes_string c 0 cs) h)
   by_class Template [] rest h m k = absurd (true_false _ h refl)
   by_class Template (c ∷ cs) rest h m k = template_class goal c (cs ++ rest) cs (first_true (one_of "`}" c) (closes_template false cs) h) k
-  by_class LexicalClass.RegExp [] rest h m k = absurd (true_false _ h refl)
-  by_class LexicalClass.RegExp (c ∷ cs) rest h m k = regexp_class goal c (cs ++ rest) cs (first_true (one_of "/" c) (has_flags (expression_behind opened cs)) h) k
+  by_class LexicalClass.RegularExpressionLiteral [] rest h m k = absurd (true_false _ h refl)
+  by_class LexicalClass.RegularExpressionLiteral (c ∷ cs) rest h m k = regexp_class goal c (cs ++ rest) cs (first_true (one_of "/" c) (has_flags (expression_after opened cs)) h) k
   by_class End [] rest h m k = ended rest m
   by_class End (c ∷ cs) rest h m k = absurd (true_false _ h refl)

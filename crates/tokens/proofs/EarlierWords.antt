@@ -7,8 +7,8 @@ use Prim.Native.String.{String}
 use Rattle.std.specs.List.{list_any}
 use Rattle.std.specs.Str.{bytes_eq}
 use Rattle.tokens.specs.Alphabet.{one_of, begins_with, is_identifier_start, is_decimal_digit}
-use Rattle.tokens.specs.Numbers.{Numeral, unread, next_numeral, numeral_behind, is_complete, no_numeral}
-use Rattle.tokens.specs.Lexical.{LexicalClass, Name, Punctuator, Number, Text, Template, RegExp, End, is_one_of_words, is_punctuator, is_of, is_at, may_stand, none_longer, ends_well, is_token}
+use Rattle.tokens.specs.Numbers.{Numeral, unread, next_numeral, numeral_after, is_complete, no_numeral}
+use Rattle.tokens.specs.Lexical.{LexicalClass, IdentifierName, Punctuator, NumericLiteral, StringLiteral, Template, RegularExpressionLiteral, End, is_one_of_words, is_punctuator, is_of, is_at, may_stand, none_longer, ends_well, is_token}
 use Rattle.tokens.specs.States.{is_dead}
 use Rattle.tokens.specs.Earlier.{is_new, new_punctuators, earlier_is_at, earlier_none_longer, earlier_is_token}
 use Rattle.tokens.proofs.Beginnings.{true_false}
@@ -57,11 +57,11 @@ stays class word rest h none =
 -- ---- numbers
 
 -- a separator would follow a number, or stand in an earlier one
-number_stays : (word rest : List ℕ) → IsTrue (earlier_is_token Number word rest) → IsTrue (is_token Number word rest)
-number_stays word rest h = stays Number word rest h goes_on
+number_stays : (word rest : List ℕ) → IsTrue (earlier_is_token NumericLiteral word rest) → IsTrue (is_token NumericLiteral word rest)
+number_stays word rest h = stays NumericLiteral word rest h goes_on
   where
-    p : IsTrue (earlier_is_at Number word rest) × IsTrue (earlier_none_longer Number word rest) × IsTrue (ends_well Number rest)
-    p = parts (earlier_is_at Number word rest) (earlier_none_longer Number word rest) (ends_well Number rest) h
+    p : IsTrue (earlier_is_at NumericLiteral word rest) × IsTrue (earlier_none_longer NumericLiteral word rest) × IsTrue (ends_well NumericLiteral rest)
+    p = parts (earlier_is_at NumericLiteral word rest) (earlier_none_longer NumericLiteral word rest) (ends_well NumericLiteral rest) h
 
     old : (a b : Bool) → IsTrue ((a && true) && not b) → (a ≡ true) × (b ≡ false)
     old a b h = (grind (arith, nat_tests), grind (arith, nat_tests))
@@ -92,20 +92,20 @@ number_stays word rest h = stays Number word rest h goes_on
     not_true true f = absurd (f refl)
     not_true false f = refl
 
-    goes_on : (c : ℕ) (more behind : List ℕ) → rest ≡ c ∷ more ++ behind → IsTrue (is_at Number (word ++ c ∷ more) behind) → IsTrue (is_new Number (word ++ c ∷ more)) → ⊥
+    goes_on : (c : ℕ) (more behind : List ℕ) → rest ≡ c ∷ more ++ behind → IsTrue (is_at NumericLiteral (word ++ c ∷ more) behind) → IsTrue (is_new NumericLiteral (word ++ c ∷ more)) → ⊥
     goes_on c more behind e k l =
-        let o = old (is_complete (numeral_behind unread word)) (list_any (one_of "_") word) p.0 in
-        let ends : IsTrue (ends_well Number (c ∷ more ++ behind)) = subst (λ r. IsTrue (ends_well Number r)) e p.2 in
+        let o = old (is_complete (numeral_after unread word)) (list_any (one_of "_") word) p.0 in
+        let ends : IsTrue (ends_well NumericLiteral (c ∷ more ++ behind)) = subst (λ r. IsTrue (ends_well NumericLiteral r)) e p.2 in
         let sep : one_of "_" c ≡ false = no_separator c (Rattle.unicode_ident.specs.Ident.is_xid_start c) (is_decimal_digit c) ends in
         let start : is_identifier_start c ≡ false = no_start (is_identifier_start c) (is_decimal_digit c) ends in
-        let one : IsFalse (earlier_is_at Number (word ++ c ∷ []) (more ++ behind)) =
-        and_first _ _ (subst (λ r. IsTrue (earlier_none_longer Number word r)) e p.1) in
-        let next : Numeral = next_numeral (numeral_behind unread word) c in
-        let same : numeral_behind unread (word ++ c ∷ []) ≡ next = behind_append unread word (c ∷ []) in
+        let one : IsFalse (earlier_is_at NumericLiteral (word ++ c ∷ []) (more ++ behind)) =
+        and_first _ _ (subst (λ r. IsTrue (earlier_none_longer NumericLiteral word r)) e p.1) in
+        let next : Numeral = next_numeral (numeral_after unread word) c in
+        let same : numeral_after unread (word ++ c ∷ []) ≡ next = behind_append unread word (c ∷ []) in
         let open_ : is_complete next ≡ false = not_true (is_complete next) (λ z.
         true_false _ (at_least _ _ (ap is_complete same ∙ z) (any_append (one_of "_") word c o.1 sep)) one) in
-        let dead : IsTrue (is_dead next) = decide (is_dead next) (is_complete next) (is_identifier_start c) (whole_kind (numeral_behind unread word) c o.0) start open_ in
-        let gone : numeral_behind unread (word ++ c ∷ more) ≡ no_numeral = behind_append unread word (c ∷ more) ∙ ap (λ s. numeral_behind s more) (dead_is next dead) ∙ dead_stays more in
+        let dead : IsTrue (is_dead next) = decide (is_dead next) (is_complete next) (is_identifier_start c) (whole_kind (numeral_after unread word) c o.0) start open_ in
+        let gone : numeral_after unread (word ++ c ∷ more) ≡ no_numeral = behind_append unread word (c ∷ more) ∙ ap (λ s. numeral_after s more) (dead_is next dead) ∙ dead_stays more in
         true_false _ k (ap (λ s. is_complete s && true) gone)
 
 -- ---- punctuators
@@ -168,9 +168,9 @@ nothing_new class word rest h none = stays class word rest h (λ c more behind e
 
 pub earlier_stays : (class : LexicalClass) (word rest : List ℕ) → IsTrue (earlier_is_token class word rest) → meets_equals class word rest ≡ false → IsTrue (is_token class word rest)
 earlier_stays Punctuator word rest h m = punctuator_stays word rest h m
-earlier_stays Number word rest h m = number_stays word rest h
-earlier_stays Name word rest h m = nothing_new Name word rest h (λ v. refl)
-earlier_stays Text word rest h m = nothing_new Text word rest h (λ v. refl)
+earlier_stays NumericLiteral word rest h m = number_stays word rest h
+earlier_stays IdentifierName word rest h m = nothing_new IdentifierName word rest h (λ v. refl)
+earlier_stays StringLiteral word rest h m = nothing_new StringLiteral word rest h (λ v. refl)
 earlier_stays Template word rest h m = nothing_new Template word rest h (λ v. refl)
-earlier_stays RegExp word rest h m = nothing_new RegExp word rest h (λ v. refl)
+earlier_stays RegularExpressionLiteral word rest h m = nothing_new RegularExpressionLiteral word rest h (λ v. refl)
 earlier_stays End word rest h m = nothing_new End word rest h (λ v. refl)

@@ -2,18 +2,18 @@
 use Rattle.std.proofs.Common.{◌≡◌, ℕ, Bool, true, false, not, ◌&&◌, List, [], ◌∷◌, ◌++◌, IsTrue, IsFalse, refl, sym, ap, ◌∙◌, subst, arith, if◌then◌else◌}
 use Rattle.std.proofs.lemmas.Bool.Decides.{nat_tests}
 use Rattle.tokens.specs.Alphabet.{one_of, is_identifier_part}
-use Rattle.tokens.specs.RegularExpressions.{RegularExpression, opened, body, brackets, flags, body_backslash, brackets_backslash, no_expression, next_expression, has_flags, expression_behind}
+use Rattle.tokens.specs.RegularExpressions.{RegularExpression, opened, body, brackets, flags, body_backslash, brackets_backslash, no_expression, next_expression, has_flags, expression_after}
 use Rattle.tokens.specs.Lexical.{LexicalClass, is_at, none_longer, is_token}
 use Rattle.tokens.specs.States.{is_over}
 use Rattle.tokens.specs.Reading.{behind}
 use Rattle.tokens.specs.Scanned.{Passed, IsFlagsAt, NoFlagsAt, IsWordAt, NoWordAt}
 use Rattle.source_text.specs.Source.{IsPlace}
-use Rattle.tokens.proofs.Passing.{passed_none, passed_on}
+use Rattle.tokens.proofs.PassedCharacters.{passed_none, passed_on}
 use Rattle.tokens.proofs.Beginnings.{true_false}
 use Rattle.tokens.proofs.Longest.{none_is_longer}
 use Rattle.tokens.proofs.Automata.{only_greedy}
 
-pub expression_append : (s : RegularExpression) (v w : List ℕ) → expression_behind s (v ++ w) ≡ expression_behind (expression_behind s v) w
+pub expression_append : (s : RegularExpression) (v w : List ℕ) → expression_after s (v ++ w) ≡ expression_after (expression_after s v) w
 expression_append s [] w = refl
 expression_append s (c ∷ v) w = expression_append (next_expression s c) v w
 
@@ -26,12 +26,12 @@ over_is flags h = absurd (true_false _ h refl)
 over_is body_backslash h = absurd (true_false _ h refl)
 over_is brackets_backslash h = absurd (true_false _ h refl)
 
-over_stays : (w : List ℕ) → expression_behind no_expression w ≡ no_expression
+over_stays : (w : List ℕ) → expression_after no_expression w ≡ no_expression
 over_stays [] = refl
 over_stays (c ∷ w) = over_stays w
 
-over_on : (s : RegularExpression) (w : List ℕ) → IsTrue (is_over s) → IsTrue (is_over (expression_behind s w))
-over_on s w h = subst (λ x. IsTrue (is_over (expression_behind x w))) (sym (over_is s h)) (ap is_over (over_stays w))
+over_on : (s : RegularExpression) (w : List ℕ) → IsTrue (is_over s) → IsTrue (is_over (expression_after s w))
+over_on s w h = subst (λ x. IsTrue (is_over (expression_after x w))) (sym (over_is s h)) (ap is_over (over_stays w))
 
 flags_is : (s : RegularExpression) → IsTrue (has_flags s) → s ≡ flags
 flags_is flags h = refl
@@ -44,32 +44,32 @@ flags_is brackets_backslash h = absurd (true_false _ h refl)
 
 -- a regular expression behind its `/`
 abbrev IsRest : List ℕ → List ℕ → Type 0
-IsRest w r = IsTrue (is_token LexicalClass.RegExp (0x2F ∷ w) r)
+IsRest w r = IsTrue (is_token LexicalClass.RegularExpressionLiteral (0x2F ∷ w) r)
 
-rest_flags : (w r : List ℕ) → IsRest w r → IsTrue (has_flags (expression_behind opened w))
-rest_flags w r h = first (has_flags (expression_behind opened w)) (none_longer LexicalClass.RegExp (0x2F ∷ w) r) h where
+rest_flags : (w r : List ℕ) → IsRest w r → IsTrue (has_flags (expression_after opened w))
+rest_flags w r h = first (has_flags (expression_after opened w)) (none_longer LexicalClass.RegularExpressionLiteral (0x2F ∷ w) r) h where
   first : (a n : Bool) → IsTrue (((a && true) && n) && true) → IsTrue a
   first a n h = grind (arith, nat_tests)
 
-rest_alive : (w r : List ℕ) → IsRest w r → IsFalse (is_over (expression_behind opened w))
+rest_alive : (w r : List ℕ) → IsRest w r → IsFalse (is_over (expression_after opened w))
 rest_alive w r h = ap is_over (flags_is _ (rest_flags w r h))
 
-rest_stuck : (w : List ℕ) (x : ℕ) (r : List ℕ) → IsRest w (x ∷ r) → IsTrue (is_over (expression_behind opened (w ++ x ∷ [])))
+rest_stuck : (w : List ℕ) (x : ℕ) (r : List ℕ) → IsRest w (x ∷ r) → IsTrue (is_over (expression_after opened (w ++ x ∷ [])))
 rest_stuck w x r h = by_part (is_identifier_part x) refl (expression_append opened w (x ∷ []) ∙ ap (λ s. next_expression s x) (flags_is _ (rest_flags w (x ∷ r) h))) where
   longer : (a l n : Bool) → IsTrue l → IsTrue (((a && true) && (not (l && true) && n)) && true) → ⊥
   longer a l n e h = grind (arith, nat_tests)
 
-  by_part : (a : Bool) → is_identifier_part x ≡ a → expression_behind opened (w ++ x ∷ []) ≡ (if is_identifier_part x then flags else no_expression) →
-      IsTrue (is_over (expression_behind opened (w ++ x ∷ [])))
+  by_part : (a : Bool) → is_identifier_part x ≡ a → expression_after opened (w ++ x ∷ []) ≡ (if is_identifier_part x then flags else no_expression) →
+      IsTrue (is_over (expression_after opened (w ++ x ∷ [])))
   by_part false e q = ap is_over (q ∙ ap (λ b. if b then flags else no_expression) e)
   by_part true e q =
-      absurd (longer (has_flags (expression_behind opened w)) (has_flags (expression_behind opened (w ++ x ∷ []))) (none_longer LexicalClass.RegExp (0x2F ∷ w ++ x ∷ []) r)
+      absurd (longer (has_flags (expression_after opened w)) (has_flags (expression_after opened (w ++ x ∷ []))) (none_longer LexicalClass.RegularExpressionLiteral (0x2F ∷ w ++ x ∷ []) r)
       (ap has_flags (q ∙ ap (λ b. if b then flags else no_expression) e)) h)
 
 pub record InExpression (text : List ℕ) (at stop : ℕ) (part : RegularExpression) : Type 0 where
   pub word : List ℕ
   pub passed : Passed text at stop word
-  pub read : expression_behind opened word ≡ part
+  pub read : expression_after opened word ≡ part
   pub alive : IsFalse (is_over part)
 
 pub expression_starts : (text : List ℕ) (at : ℕ) → IsPlace text at → InExpression text at at opened
@@ -85,8 +85,8 @@ expression_goes_on text at stop more c part new h p e a =
       alive = a;
     }
 
-whole : (w rest : List ℕ) → IsTrue (has_flags (expression_behind opened w)) → IsTrue (none_longer LexicalClass.RegExp (0x2F ∷ w) rest) → IsRest w rest
-whole w rest a b = all (has_flags (expression_behind opened w)) (none_longer LexicalClass.RegExp (0x2F ∷ w) rest) a b where
+whole : (w rest : List ℕ) → IsTrue (has_flags (expression_after opened w)) → IsTrue (none_longer LexicalClass.RegularExpressionLiteral (0x2F ∷ w) rest) → IsRest w rest
+whole w rest a b = all (has_flags (expression_after opened w)) (none_longer LexicalClass.RegularExpressionLiteral (0x2F ∷ w) rest) a b where
   all : (a n : Bool) → IsTrue a → IsTrue n → IsTrue (((a && true) && n) && true)
   all a n h k = grind (arith, nat_tests)
 
@@ -97,17 +97,17 @@ expression_found text at stop more c part h p d k =
       word = h.word;
       passed = h.passed;
       longest = subst (λ x. IsRest h.word x) (sym p.split)
-          (whole h.word (c ∷ behind text more) (ap has_flags h.read ∙ k) (none_is_longer LexicalClass.RegExp (0x2F ∷ h.word) (c ∷ behind text more) none));
+          (whole h.word (c ∷ behind text more) (ap has_flags h.read ∙ k) (none_is_longer LexicalClass.RegularExpressionLiteral (0x2F ∷ h.word) (c ∷ behind text more) none));
     } where
       no : (a : Bool) → a ≡ false → IsFalse (a && true)
       no a e = grind (arith, nat_tests)
 
-      none : (x : ℕ) (xs r : List ℕ) → c ∷ behind text more ≡ x ∷ xs ++ r → IsFalse (is_at LexicalClass.RegExp (0x2F ∷ h.word ++ x ∷ xs) r)
+      none : (x : ℕ) (xs r : List ℕ) → c ∷ behind text more ≡ x ∷ xs ++ r → IsFalse (is_at LexicalClass.RegularExpressionLiteral (0x2F ∷ h.word ++ x ∷ xs) r)
       none x xs r e =
           let q : c ≡ x = cc in
-          let s : expression_behind opened (h.word ++ x ∷ xs) ≡ expression_behind (next_expression part c) xs =
-          expression_append opened h.word (x ∷ xs) ∙ ap (λ s. expression_behind (next_expression s x) xs) h.read ∙ ap (λ y. expression_behind (next_expression part y) xs) (sym q) in
-          let z : expression_behind (next_expression part c) xs ≡ no_expression = ap (λ s. expression_behind s xs) (over_is _ d) ∙ over_stays xs in
+          let s : expression_after opened (h.word ++ x ∷ xs) ≡ expression_after (next_expression part c) xs =
+          expression_append opened h.word (x ∷ xs) ∙ ap (λ s. expression_after (next_expression s x) xs) h.read ∙ ap (λ y. expression_after (next_expression part y) xs) (sym q) in
+          let z : expression_after (next_expression part c) xs ≡ no_expression = ap (λ s. expression_after s xs) (over_is _ d) ∙ over_stays xs in
           no _ (ap has_flags (s ∙ z))
 
 pub expression_found_end : (text : List ℕ) (at stop : ℕ) (part : RegularExpression) → InExpression text at stop part → behind text stop ≡ [] → has_flags part ≡ true → IsFlagsAt text at stop
@@ -117,7 +117,7 @@ expression_found_end text at stop part h e k =
 only_rest : (text : List ℕ) (at stop : ℕ) (part : RegularExpression) (h : InExpression text at stop part) →
     ((x : ℕ) (r : List ℕ) → behind text stop ≡ x ∷ r → IsTrue (is_over (next_expression part x))) → (w r : List ℕ) → behind text at ≡ w ++ r → IsRest w r → IsRest h.word (behind text stop)
 only_rest text at stop part h stops w r e k =
-    only_greedy expression_behind is_over IsRest opened expression_append over_on rest_alive rest_stuck
+    only_greedy expression_after is_over IsRest opened expression_append over_on rest_alive rest_stuck
     h.word (behind text stop) (subst (λ s. IsFalse (is_over s)) (sym h.read) h.alive)
     (λ x rest q. subst (λ s. IsTrue (is_over s)) (sym (expression_append opened h.word (x ∷ []) ∙ ap (λ s. next_expression s x) h.read)) (stops x rest q)) w r (sym h.passed.split ∙ e) k
 
@@ -134,31 +134,31 @@ no_expression_end text at stop part h q b = λ w r e k.
 
 -- ---- with the `/` before it
 
-pub expression_word : (text : List ℕ) (at start stop : ℕ) → Passed text at start (0x2F ∷ []) → IsFlagsAt text start stop → IsWordAt LexicalClass.RegExp text at stop
+pub expression_word : (text : List ℕ) (at start stop : ℕ) → Passed text at start (0x2F ∷ []) → IsFlagsAt text start stop → IsWordAt LexicalClass.RegularExpressionLiteral text at stop
 expression_word text at start stop p h = record { word = 0x2F ∷ h.word; passed = passed_on text at start stop (0x2F ∷ []) h.word p h.passed; longest = h.longest }
 
-no_empty : (r : List ℕ) → IsTrue (is_token LexicalClass.RegExp [] r) → ⊥
-no_empty r h = nothing (none_longer LexicalClass.RegExp [] r) h where
+no_empty : (r : List ℕ) → IsTrue (is_token LexicalClass.RegularExpressionLiteral [] r) → ⊥
+no_empty r h = nothing (none_longer LexicalClass.RegularExpressionLiteral [] r) h where
   nothing : (n : Bool) → IsTrue ((false && n) && true) → ⊥
   nothing n h = grind (arith, nat_tests)
 
-pub no_expression_word : (text : List ℕ) (at start : ℕ) → Passed text at start (0x2F ∷ []) → NoFlagsAt text start → NoWordAt LexicalClass.RegExp text at
+pub no_expression_word : (text : List ℕ) (at start : ℕ) → Passed text at start (0x2F ∷ []) → NoFlagsAt text start → NoWordAt LexicalClass.RegularExpressionLiteral text at
 no_expression_word text at start p none = λ w r e h. at_slash w r (sym p.split ∙ e) h where
-  at_slash : (w r : List ℕ) → 0x2F ∷ behind text start ≡ w ++ r → IsTrue (is_token LexicalClass.RegExp w r) → ⊥
+  at_slash : (w r : List ℕ) → 0x2F ∷ behind text start ≡ w ++ r → IsTrue (is_token LexicalClass.RegularExpressionLiteral w r) → ⊥
   at_slash [] r e h = no_empty r h
-  at_slash (c ∷ w) r e h = let q : c ≡ 0x2F = cc in let z : behind text start ≡ w ++ r = cc in none w r z (subst (λ x. IsTrue (is_token LexicalClass.RegExp (x ∷ w) r)) q h)
+  at_slash (c ∷ w) r e h = let q : c ≡ 0x2F = cc in let z : behind text start ≡ w ++ r = cc in none w r z (subst (λ x. IsTrue (is_token LexicalClass.RegularExpressionLiteral (x ∷ w) r)) q h)
 
-pub no_expression_other : (text : List ℕ) (at start c : ℕ) → Passed text at start (c ∷ []) → one_of "/" c ≡ false → NoWordAt LexicalClass.RegExp text at
+pub no_expression_other : (text : List ℕ) (at start c : ℕ) → Passed text at start (c ∷ []) → one_of "/" c ≡ false → NoWordAt LexicalClass.RegularExpressionLiteral text at
 no_expression_other text at start c p t = λ w r e h. other w r (sym p.split ∙ e) h where
   refuse : (a b n : Bool) → a ≡ false → IsTrue ((((a && b) && true) && n) && true) → ⊥
   refuse a b n e h = grind (arith, nat_tests)
 
-  other : (w r : List ℕ) → c ∷ behind text start ≡ w ++ r → IsTrue (is_token LexicalClass.RegExp w r) → ⊥
+  other : (w r : List ℕ) → c ∷ behind text start ≡ w ++ r → IsTrue (is_token LexicalClass.RegularExpressionLiteral w r) → ⊥
   other [] r e h = no_empty r h
-  other (d ∷ w) r e h = let q : d ≡ c = cc in refuse (one_of "/" d) (has_flags (expression_behind opened w)) (none_longer LexicalClass.RegExp (d ∷ w) r) (ap (one_of "/") q ∙ t) h
+  other (d ∷ w) r e h = let q : d ≡ c = cc in refuse (one_of "/" d) (has_flags (expression_after opened w)) (none_longer LexicalClass.RegularExpressionLiteral (d ∷ w) r) (ap (one_of "/") q ∙ t) h
 
-pub no_expression_nothing : (text : List ℕ) (at : ℕ) → behind text at ≡ [] → NoWordAt LexicalClass.RegExp text at
+pub no_expression_nothing : (text : List ℕ) (at : ℕ) → behind text at ≡ [] → NoWordAt LexicalClass.RegularExpressionLiteral text at
 no_expression_nothing text at q = λ w r e h. other w r (sym q ∙ e) h where
-  other : (w r : List ℕ) → [] ≡ w ++ r → IsTrue (is_token LexicalClass.RegExp w r) → ⊥
+  other : (w r : List ℕ) → [] ≡ w ++ r → IsTrue (is_token LexicalClass.RegularExpressionLiteral w r) → ⊥
   other [] r e h = no_empty r h
   other (d ∷ w) r e h = cc

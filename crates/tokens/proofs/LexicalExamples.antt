@@ -9,7 +9,7 @@ use Rattle.tokens.specs.Numbers.{is_number}
 use Rattle.tokens.specs.Strings.{is_string, string_units}
 use Rattle.tokens.specs.Templates.{is_template, raw_value, cooked_value}
 use Rattle.tokens.specs.RegularExpressions.{is_regular_expression}
-use Rattle.tokens.specs.Lexical.{Punctuator, Number, is_name, is_punctuator, is_token}
+use Rattle.tokens.specs.Lexical.{Punctuator, NumericLiteral, is_name, is_punctuator, is_token}
 use Rattle.tokens.specs.Earlier.{earlier_is_token}
 
 -- all of the texts pass the test, and none does
@@ -58,13 +58,13 @@ no_punctuators : none_are is_punctuator ("" ∷ ".." ∷ "&&==" ∷ "|||=" ∷ "
 no_punctuators = refl
 
 -- earlier tokens: what follows each is the second text
-earlier_ones : earlier_is_token Punctuator (codes "&&") (codes "=b") && earlier_is_token Punctuator (codes "??") (codes "=") && earlier_is_token Number (codes "10") (codes ";")
+earlier_ones : earlier_is_token Punctuator (codes "&&") (codes "=b") && earlier_is_token Punctuator (codes "??") (codes "=") && earlier_is_token NumericLiteral (codes "10") (codes ";")
     && not (is_token Punctuator (codes "&&") (codes "=b")) && not (is_token Punctuator (codes "??") (codes "=")) ≡ true
 unfolding unicode_ident
 earlier_ones = refl
 
-no_earlier_ones : earlier_is_token Punctuator (codes "&&=") (codes "b") || earlier_is_token Punctuator (codes "&") (codes "&=") || earlier_is_token Number (codes "1_0") (codes ";")
-    || earlier_is_token Number (codes "1") (codes "_0") || earlier_is_token Number (codes "1") (codes ".5_0") || earlier_is_token Number (codes "1.5") (codes "_0") ≡ false
+no_earlier_ones : earlier_is_token Punctuator (codes "&&=") (codes "b") || earlier_is_token Punctuator (codes "&") (codes "&=") || earlier_is_token NumericLiteral (codes "1_0") (codes ";")
+    || earlier_is_token NumericLiteral (codes "1") (codes "_0") || earlier_is_token NumericLiteral (codes "1") (codes ".5_0") || earlier_is_token NumericLiteral (codes "1.5") (codes "_0") ≡ false
 unfolding unicode_ident
 no_earlier_ones = refl
 

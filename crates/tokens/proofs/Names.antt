@@ -7,10 +7,10 @@ use Rattle.unicode_ident.specs.Ident.{is_xid_continue}
 use Rattle.unicode_ident.proofs.IdentLemmas.{is_xid_start-ascii, is_xid_continue-ascii}
 use Rattle.tokens.specs.Alphabet.{one_of, is_among, begins_with, is_identifier_start, is_identifier_part}
 use Rattle.tokens.specs.Sets.{has_bit}
-use Rattle.tokens.specs.Lexical.{Name, none_longer, is_token}
+use Rattle.tokens.specs.Lexical.{IdentifierName, none_longer, is_token}
 use Rattle.tokens.specs.Reading.{behind}
 use Rattle.tokens.specs.Scanned.{Passed, IsRun, IsWordAt, NoWordAt}
-use Rattle.tokens.proofs.Passing.{passed_on}
+use Rattle.tokens.proofs.PassedCharacters.{passed_on}
 use Rattle.tokens.proofs.Beginnings.{true_false}
 use Rattle.tokens.proofs.Sets.{set_is}
 use Rattle.tokens.proofs.Longest.{none_is_longer}
@@ -42,10 +42,10 @@ all_stop test (d ∷ v) more c h = later (test d) (list_all test (v ++ c ∷ mor
   later false b h = refl
 
 name_longest : (c : ℕ) (parts rest : List ℕ) → IsTrue (is_identifier_start c) → IsTrue (list_all is_identifier_part parts) →
-    IsFalse (begins_with is_identifier_part rest) → IsTrue (is_token Name (c ∷ parts) rest)
+    IsFalse (begins_with is_identifier_part rest) → IsTrue (is_token IdentifierName (c ∷ parts) rest)
 name_longest c parts rest s a e =
-    whole (is_identifier_start c) (list_all is_identifier_part parts) (none_longer Name (c ∷ parts) rest) s a
-    (none_is_longer Name (c ∷ parts) rest (λ d more behind q.
+    whole (is_identifier_start c) (list_all is_identifier_part parts) (none_longer IdentifierName (c ∷ parts) rest) s a
+    (none_is_longer IdentifierName (c ∷ parts) rest (λ d more behind q.
     at_more (is_identifier_start c) (list_all is_identifier_part (parts ++ d ∷ more)) (all_stop is_identifier_part parts more d (subst (λ x. IsFalse (begins_with is_identifier_part x)) q e)))) where
       whole : (a b n : Bool) → IsTrue a → IsTrue b → IsTrue n → IsTrue ((((a && b) && true) && n) && true)
       whole a b n h k l = grind (arith, nat_tests)
@@ -54,7 +54,7 @@ name_longest c parts rest s a e =
       at_more a b h = grind (arith, nat_tests)
 
 pub name_word : (text : List ℕ) (at start stop c : ℕ) → Passed text at start (c ∷ []) → is_identifier_start c ≡ true → IsRun is_identifier_part text start stop →
-    IsWordAt Name text at stop
+    IsWordAt IdentifierName text at stop
 name_word text at start stop c p s r =
     record {
       word = c ∷ r.run.word;
@@ -62,7 +62,7 @@ name_word text at start stop c p s r =
       longest = name_longest c r.run.word (behind text stop) (subst IsTrue (sym s) refl) r.run.all r.ends;
     }
 
-pub no_name : (text : List ℕ) (at stop c : ℕ) → Passed text at stop (c ∷ []) → is_identifier_start c ≡ false → NoWordAt Name text at
+pub no_name : (text : List ℕ) (at stop c : ℕ) → Passed text at stop (c ∷ []) → is_identifier_start c ≡ false → NoWordAt IdentifierName text at
 no_name text at stop c p s = λ w rest e h. none w rest (sym p.split ∙ e) h where
   begins : (a b n : Bool) → IsFalse a → IsTrue ((((a && b) && true) && n) && true) → ⊥
   begins a b n h k = grind (arith, nat_tests)
@@ -70,15 +70,15 @@ no_name text at stop c p s = λ w rest e h. none w rest (sym p.split ∙ e) h wh
   nothing : (n : Bool) → IsTrue ((false && n) && true) → ⊥
   nothing n h = grind (arith, nat_tests)
 
-  none : (w rest : List ℕ) → c ∷ behind text stop ≡ w ++ rest → IsTrue (is_token Name w rest) → ⊥
-  none [] rest e h = nothing (none_longer Name [] rest) h
-  none (d ∷ w) rest e h = let q : c ≡ d = cc in begins (is_identifier_start d) (list_all is_identifier_part w) (none_longer Name (d ∷ w) rest) (subst (λ x. IsFalse (is_identifier_start x)) q (subst IsFalse (sym s) refl)) h
+  none : (w rest : List ℕ) → c ∷ behind text stop ≡ w ++ rest → IsTrue (is_token IdentifierName w rest) → ⊥
+  none [] rest e h = nothing (none_longer IdentifierName [] rest) h
+  none (d ∷ w) rest e h = let q : c ≡ d = cc in begins (is_identifier_start d) (list_all is_identifier_part w) (none_longer IdentifierName (d ∷ w) rest) (subst (λ x. IsFalse (is_identifier_start x)) q (subst IsFalse (sym s) refl)) h
 
-pub no_name_end : (text : List ℕ) (at : ℕ) → behind text at ≡ [] → NoWordAt Name text at
+pub no_name_end : (text : List ℕ) (at : ℕ) → behind text at ≡ [] → NoWordAt IdentifierName text at
 no_name_end text at q = λ w rest e h. none w rest (sym q ∙ e) h where
   nothing : (n : Bool) → IsTrue ((false && n) && true) → ⊥
   nothing n h = grind (arith, nat_tests)
 
-  none : (w rest : List ℕ) → [] ≡ w ++ rest → IsTrue (is_token Name w rest) → ⊥
-  none [] rest e h = nothing (none_longer Name [] rest) h
+  none : (w rest : List ℕ) → [] ≡ w ++ rest → IsTrue (is_token IdentifierName w rest) → ⊥
+  none [] rest e h = nothing (none_longer IdentifierName [] rest) h
   none (d ∷ w) rest e h = cc

@@ -5,26 +5,26 @@ use Rattle.std.proofs.lemmas.Bool.Decides.{nat_tests}
 use Rattle.unicode_ident.specs.Ident.{is_xid_start}
 use Rattle.unicode_ident.proofs.IdentLemmas.{is_xid_start-ascii}
 use Rattle.tokens.specs.Alphabet.{one_of, is_identifier_start, is_decimal_digit}
-use Rattle.tokens.specs.Numbers.{binary, octal, hexadecimal, Numeral, unread, nought, integer, leading_point, point, fraction, exponent_mark, exponent_sign, exponent, prefix, digits, integer_separator, fraction_separator, exponent_separator, digits_separator, suffix, no_numeral, is_digit_of, next_numeral, is_complete, numeral_behind}
-use Rattle.tokens.specs.Lexical.{Number, is_at, none_longer, ends_well, is_token}
+use Rattle.tokens.specs.Numbers.{binary, octal, hexadecimal, Numeral, unread, zero_read, integer, leading_point, point, fraction, exponent_mark, exponent_sign, exponent, prefix, digits, integer_separator, fraction_separator, exponent_separator, digits_separator, suffix, no_numeral, is_digit_of, next_numeral, is_complete, numeral_after}
+use Rattle.tokens.specs.Lexical.{NumericLiteral, is_at, none_longer, ends_well, is_token}
 use Rattle.tokens.specs.States.{is_dead}
 use Rattle.tokens.specs.Reading.{behind}
 use Rattle.tokens.specs.Scanned.{Passed, IsWordAt, NoWordAt}
 use Rattle.source_text.specs.Source.{IsPlace}
-use Rattle.tokens.proofs.Passing.{passed_none, passed_on}
+use Rattle.tokens.proofs.PassedCharacters.{passed_none, passed_on}
 use Rattle.tokens.proofs.Beginnings.{true_false}
 use Rattle.tokens.proofs.Longest.{none_is_longer}
 use Rattle.tokens.proofs.Classes.{dead_stays}
 use Rattle.tokens.proofs.Automata.{only_greedy}
 
-pub behind_append : (s : Numeral) (v w : List ℕ) → numeral_behind s (v ++ w) ≡ numeral_behind (numeral_behind s v) w
+pub behind_append : (s : Numeral) (v w : List ℕ) → numeral_after s (v ++ w) ≡ numeral_after (numeral_after s v) w
 behind_append s [] w = refl
 behind_append s (c ∷ v) w = behind_append (next_numeral s c) v w
 
 pub dead_is : (s : Numeral) → IsTrue (is_dead s) → s ≡ no_numeral
 dead_is no_numeral h = refl
 dead_is unread h = absurd (true_false _ h refl)
-dead_is nought h = absurd (true_false _ h refl)
+dead_is zero_read h = absurd (true_false _ h refl)
 dead_is integer h = absurd (true_false _ h refl)
 dead_is leading_point h = absurd (true_false _ h refl)
 dead_is point h = absurd (true_false _ h refl)
@@ -40,13 +40,13 @@ dead_is exponent_separator h = absurd (true_false _ h refl)
 dead_is (digits_separator b) h = absurd (true_false _ h refl)
 dead_is suffix h = absurd (true_false _ h refl)
 
-dead_on : (s : Numeral) (w : List ℕ) → IsTrue (is_dead s) → IsTrue (is_dead (numeral_behind s w))
-dead_on s w h = subst (λ x. IsTrue (is_dead (numeral_behind x w))) (sym (dead_is s h)) (ap is_dead (dead_stays w))
+dead_on : (s : Numeral) (w : List ℕ) → IsTrue (is_dead s) → IsTrue (is_dead (numeral_after s w))
+dead_on s w h = subst (λ x. IsTrue (is_dead (numeral_after x w))) (sym (dead_is s h)) (ap is_dead (dead_stays w))
 
 complete_alive : (s : Numeral) → IsTrue (is_complete s) → IsFalse (is_dead s)
 complete_alive no_numeral h = absurd (true_false _ h refl)
 complete_alive unread h = refl
-complete_alive nought h = refl
+complete_alive zero_read h = refl
 complete_alive integer h = refl
 complete_alive leading_point h = refl
 complete_alive point h = refl
@@ -112,7 +112,7 @@ fraction_kind c false true f = f refl
 fraction_kind c false false f = refl
 
 pub whole_kind : (s : Numeral) (c : ℕ) → IsTrue (is_complete s) → IsTrue (ends_or_goes_on (next_numeral s c) c)
-whole_kind nought c h = nought_kind c (one_of "bB" c) (one_of "oO" c) (one_of "xX" c) (λ e. letter c (prefix_letter_b c e)) (λ e. letter c (prefix_letter_o c e)) (λ e. letter c (prefix_letter_x c e))
+whole_kind zero_read c h = nought_kind c (one_of "bB" c) (one_of "oO" c) (one_of "xX" c) (λ e. letter c (prefix_letter_b c e)) (λ e. letter c (prefix_letter_o c e)) (λ e. letter c (prefix_letter_x c e))
 whole_kind integer c h = at_integer (is_decimal_digit c) (one_of "_" c) (separator c) where
   at_integer : (a u : Bool) → (u ≡ true → IsTrue (is_identifier_start c)) →
       IsTrue (ends_or_goes_on (if a then integer else if u then integer_separator else if one_of "." c then point else if one_of "eE" c then exponent_mark else if one_of "n" c then suffix else no_numeral) c)
@@ -151,17 +151,17 @@ whole_kind no_numeral c h = absurd (true_false _ h refl)
 
 -- ---- a number is complete, and the next character ends it
 
-pub number_complete : (w r : List ℕ) → IsTrue (is_token Number w r) → IsTrue (is_complete (numeral_behind unread w))
-number_complete w r h = first (is_complete (numeral_behind unread w)) (none_longer Number w r) (ends_well Number r) h where
+pub number_complete : (w r : List ℕ) → IsTrue (is_token NumericLiteral w r) → IsTrue (is_complete (numeral_after unread w))
+number_complete w r h = first (is_complete (numeral_after unread w)) (none_longer NumericLiteral w r) (ends_well NumericLiteral r) h where
   first : (a n e : Bool) → IsTrue (((a && true) && n) && e) → IsTrue a
   first a n e h = grind (arith, nat_tests)
 
-number_stuck : (w : List ℕ) (x : ℕ) (r : List ℕ) → IsTrue (is_token Number w (x ∷ r)) → IsTrue (is_dead (numeral_behind unread (w ++ x ∷ [])))
+number_stuck : (w : List ℕ) (x : ℕ) (r : List ℕ) → IsTrue (is_token NumericLiteral w (x ∷ r)) → IsTrue (is_dead (numeral_after unread (w ++ x ∷ [])))
 number_stuck w x r h =
-    decide (is_dead next_state) (is_complete next_state) (is_identifier_start x) (is_decimal_digit x) (is_complete (numeral_behind unread w)) (none_longer Number (w ++ x ∷ []) r)
-    (subst (λ s. IsTrue (ends_or_goes_on s x)) (sym (behind_append unread w (x ∷ []))) (whole_kind (numeral_behind unread w) x (number_complete w (x ∷ r) h))) h where
+    decide (is_dead next_state) (is_complete next_state) (is_identifier_start x) (is_decimal_digit x) (is_complete (numeral_after unread w)) (none_longer NumericLiteral (w ++ x ∷ []) r)
+    (subst (λ s. IsTrue (ends_or_goes_on s x)) (sym (behind_append unread w (x ∷ []))) (whole_kind (numeral_after unread w) x (number_complete w (x ∷ r) h))) h where
       next_state : Numeral
-      next_state = numeral_behind unread (w ++ x ∷ [])
+      next_state = numeral_after unread (w ++ x ∷ [])
 
       decide : (dead complete start digit a n : Bool) → IsTrue (dead || complete || start) → IsTrue (((a && true) && (not (complete && true) && n)) && not (start || digit)) → IsTrue dead
       decide dead complete start digit a n h k = grind (arith, nat_tests)
@@ -171,7 +171,7 @@ number_stuck w x r h =
 pub record InNumber (text : List ℕ) (at stop : ℕ) (state : Numeral) : Type 0 where
   pub word : List ℕ
   pub passed : Passed text at stop word
-  pub read : numeral_behind unread word ≡ state
+  pub read : numeral_after unread word ≡ state
   pub alive : IsFalse (is_dead state)
 
 pub number_starts : (text : List ℕ) (at : ℕ) → IsPlace text at → InNumber text at at unread
@@ -187,59 +187,59 @@ number_goes_on text at stop more c state new h p e a =
       alive = a;
     }
 
-whole_number : (w rest : List ℕ) → IsTrue (is_complete (numeral_behind unread w)) → IsTrue (none_longer Number w rest) → IsTrue (ends_well Number rest) → IsTrue (is_token Number w rest)
-whole_number w rest a b d = all (is_complete (numeral_behind unread w)) (none_longer Number w rest) (ends_well Number rest) a b d where
+whole_number : (w rest : List ℕ) → IsTrue (is_complete (numeral_after unread w)) → IsTrue (none_longer NumericLiteral w rest) → IsTrue (ends_well NumericLiteral rest) → IsTrue (is_token NumericLiteral w rest)
+whole_number w rest a b d = all (is_complete (numeral_after unread w)) (none_longer NumericLiteral w rest) (ends_well NumericLiteral rest) a b d where
   all : (a n e : Bool) → IsTrue a → IsTrue n → IsTrue e → IsTrue (((a && true) && n) && e)
   all a n e h k l = grind (arith, nat_tests)
 
 -- a character ends it
 pub number_found : (text : List ℕ) (at stop more c : ℕ) (state : Numeral) → InNumber text at stop state → Passed text stop more (c ∷ []) → is_dead (next_numeral state c) ≡ true →
-    is_complete state ≡ true → (is_identifier_start c || is_decimal_digit c) ≡ false → IsWordAt Number text at stop
+    is_complete state ≡ true → (is_identifier_start c || is_decimal_digit c) ≡ false → IsWordAt NumericLiteral text at stop
 number_found text at stop more c state h p d k b =
     record {
       word = h.word;
       passed = h.passed;
-      longest = subst (λ x. IsTrue (is_token Number h.word x)) (sym p.split)
-          (whole_number h.word (c ∷ behind text more) (ap is_complete h.read ∙ k) (none_is_longer Number h.word (c ∷ behind text more) none) (ap not b));
+      longest = subst (λ x. IsTrue (is_token NumericLiteral h.word x)) (sym p.split)
+          (whole_number h.word (c ∷ behind text more) (ap is_complete h.read ∙ k) (none_is_longer NumericLiteral h.word (c ∷ behind text more) none) (ap not b));
     } where
       no : (a : Bool) → a ≡ false → IsFalse (a && true)
       no a e = grind (arith, nat_tests)
 
-      none : (x : ℕ) (xs r : List ℕ) → c ∷ behind text more ≡ x ∷ xs ++ r → IsFalse (is_at Number (h.word ++ x ∷ xs) r)
+      none : (x : ℕ) (xs r : List ℕ) → c ∷ behind text more ≡ x ∷ xs ++ r → IsFalse (is_at NumericLiteral (h.word ++ x ∷ xs) r)
       none x xs r e =
           let q : c ≡ x = cc in
-          let s : numeral_behind unread (h.word ++ x ∷ xs) ≡ numeral_behind (next_numeral state c) xs =
-          behind_append unread h.word (x ∷ xs) ∙ ap (λ s. numeral_behind (next_numeral s x) xs) h.read ∙ ap (λ y. numeral_behind (next_numeral state y) xs) (sym q) in
-          let z : numeral_behind (next_numeral state c) xs ≡ no_numeral = ap (λ s. numeral_behind s xs) (dead_is _ d) ∙ dead_stays xs in
+          let s : numeral_after unread (h.word ++ x ∷ xs) ≡ numeral_after (next_numeral state c) xs =
+          behind_append unread h.word (x ∷ xs) ∙ ap (λ s. numeral_after (next_numeral s x) xs) h.read ∙ ap (λ y. numeral_after (next_numeral state y) xs) (sym q) in
+          let z : numeral_after (next_numeral state c) xs ≡ no_numeral = ap (λ s. numeral_after s xs) (dead_is _ d) ∙ dead_stays xs in
           no _ (ap is_complete (s ∙ z))
 
 -- the text ends behind it
-pub number_found_end : (text : List ℕ) (at stop : ℕ) (state : Numeral) → InNumber text at stop state → behind text stop ≡ [] → is_complete state ≡ true → IsWordAt Number text at stop
+pub number_found_end : (text : List ℕ) (at stop : ℕ) (state : Numeral) → InNumber text at stop state → behind text stop ≡ [] → is_complete state ≡ true → IsWordAt NumericLiteral text at stop
 number_found_end text at stop state h e k =
     record {
       word = h.word;
       passed = h.passed;
-      longest = subst (λ x. IsTrue (is_token Number h.word x)) (sym e) (whole_number h.word [] (ap is_complete h.read ∙ k) refl refl);
+      longest = subst (λ x. IsTrue (is_token NumericLiteral h.word x)) (sym e) (whole_number h.word [] (ap is_complete h.read ∙ k) refl refl);
     }
 
 only_word : (text : List ℕ) (at stop : ℕ) (state : Numeral) (h : InNumber text at stop state) → ((x : ℕ) (r : List ℕ) → behind text stop ≡ x ∷ r → IsTrue (is_dead (next_numeral state x))) →
-    (w r : List ℕ) → behind text at ≡ w ++ r → IsTrue (is_token Number w r) → IsTrue (is_token Number h.word (behind text stop))
+    (w r : List ℕ) → behind text at ≡ w ++ r → IsTrue (is_token NumericLiteral w r) → IsTrue (is_token NumericLiteral h.word (behind text stop))
 only_word text at stop state h stops w r e k =
-    only_greedy numeral_behind is_dead (λ x y. IsTrue (is_token Number x y)) unread behind_append dead_on (λ x y t. complete_alive _ (number_complete x y t)) number_stuck
+    only_greedy numeral_after is_dead (λ x y. IsTrue (is_token NumericLiteral x y)) unread behind_append dead_on (λ x y t. complete_alive _ (number_complete x y t)) number_stuck
     h.word (behind text stop) (subst (λ s. IsFalse (is_dead s)) (sym h.read) h.alive)
     (λ x rest q. subst (λ s. IsTrue (is_dead s)) (sym (behind_append unread h.word (x ∷ []) ∙ ap (λ s. next_numeral s x) h.read)) (stops x rest q)) w r (sym h.passed.split ∙ e) k
 
 -- none where a character ends what is no whole number, or one that may not follow
 pub no_number : (text : List ℕ) (at stop more c : ℕ) (state : Numeral) → InNumber text at stop state → Passed text stop more (c ∷ []) → is_dead (next_numeral state c) ≡ true →
-    (is_complete state && not (is_identifier_start c || is_decimal_digit c)) ≡ false → NoWordAt Number text at
+    (is_complete state && not (is_identifier_start c || is_decimal_digit c)) ≡ false → NoWordAt NumericLiteral text at
 no_number text at stop more c state h p d b = λ w r e k.
     let t = only_word text at stop state h (λ x rest q. let z : x ≡ c = (let u = sym q ∙ p.split in cc) in subst (λ y. IsTrue (is_dead (next_numeral state y))) (sym z) d) w r e k in
-    refuse (is_complete (numeral_behind unread h.word)) (is_complete state) (is_identifier_start c) (is_decimal_digit c) (none_longer Number h.word (c ∷ behind text more)) (ap is_complete h.read) b
-    (subst (λ x. IsTrue (is_token Number h.word x)) p.split t) where
+    refuse (is_complete (numeral_after unread h.word)) (is_complete state) (is_identifier_start c) (is_decimal_digit c) (none_longer NumericLiteral h.word (c ∷ behind text more)) (ap is_complete h.read) b
+    (subst (λ x. IsTrue (is_token NumericLiteral h.word x)) p.split t) where
       refuse : (a a' s g n : Bool) → a ≡ a' → (a' && not (s || g)) ≡ false → IsTrue (((a && true) && n) && not (s || g)) → ⊥
       refuse a a' s g n e f h = grind (arith, nat_tests)
 
-pub no_number_end : (text : List ℕ) (at stop : ℕ) (state : Numeral) → InNumber text at stop state → behind text stop ≡ [] → is_complete state ≡ false → NoWordAt Number text at
+pub no_number_end : (text : List ℕ) (at stop : ℕ) (state : Numeral) → InNumber text at stop state → behind text stop ≡ [] → is_complete state ≡ false → NoWordAt NumericLiteral text at
 no_number_end text at stop state h q b = λ w r e k.
     let t = only_word text at stop state h (λ x rest z. (let u = sym q ∙ z in cc)) w r e k in
     true_false _ (number_complete h.word (behind text stop) t) (ap is_complete h.read ∙ b)

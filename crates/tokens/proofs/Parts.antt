@@ -2,16 +2,16 @@
 use Rattle.std.proofs.Common.{◌≡◌, ℕ, Bool, true, false, not, ◌&&◌, ◌||◌, List, [], ◌∷◌, ◌++◌, IsTrue, IsFalse, drop, refl, sym, ap, ◌∙◌, append_assoc, arith, if◌then◌else◌}
 use Rattle.std.proofs.lemmas.Bool.Decides.{nat_tests}
 use Rattle.tokens.specs.Alphabet.{one_of, begins_with, is_empty}
-use Rattle.tokens.specs.Closing.{ends_part}
+use Rattle.tokens.specs.Closers.{ends_part}
 use Rattle.tokens.specs.Templates.{closes_template}
 use Rattle.tokens.specs.Lexical.{Template, none_longer, is_token}
 use Rattle.tokens.specs.Reading.{behind}
 use Rattle.tokens.specs.Scanned.{Passed, IsPartRest, NoPartRest, IsWordAt, NoWordAt}
 use Rattle.source_text.specs.Source.{IsPlace}
-use Rattle.tokens.proofs.Passing.{passed_none, passed_on}
+use Rattle.tokens.proofs.PassedCharacters.{passed_none, passed_on}
 use Rattle.tokens.proofs.Beginnings.{true_false}
 use Rattle.tokens.proofs.Longest.{none_is_longer}
-use Rattle.tokens.proofs.Separating.{no_front, nil_only, right_nil}
+use Rattle.tokens.proofs.TriviaSteps.{no_front, nil_only, right_nil}
 
 -- the automaton ends where the definition says, from each of its states
 abbrev after_dollar : List ℕ → Bool

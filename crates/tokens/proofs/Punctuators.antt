@@ -10,7 +10,7 @@ use Rattle.std.proofs.lemmas.Bool.Decides.{nat_tests}
 use Rattle.std.proofs.lemmas.Bool.{cases_lt, eqb-true, leb-true}
 use Rattle.tokens.specs.Alphabet.{one_of, is_among, begins_with, is_decimal_digit}
 use Rattle.tokens.specs.Lexical.{Punctuator, punctuators, is_punctuator, may_stand, is_at, none_longer, is_token}
-use Rattle.tokens.specs.Marks.{alone, front, goes_on, tail, is_single, firsts, is_pair, firsts_of_three, is_triple, is_quadruple}
+use Rattle.tokens.specs.PunctuatorSets.{alone, front, goes_on, tail, is_single, firsts, is_pair, firsts_of_three, is_triple, is_quadruple}
 use Rattle.tokens.specs.Tokens.{size}
 use Rattle.tokens.specs.Reading.{behind}
 use Rattle.tokens.specs.Scanned.{IsWordAt, NoWordAt, Looks, Passed}
@@ -18,8 +18,8 @@ use Rattle.source_text.specs.Source.{IsPlace}
 use Rattle.tokens.proofs.Beginnings.{true_false}
 use Rattle.tokens.proofs.Longest.{none_is_longer}
 use Rattle.tokens.proofs.Classes.{words_all}
-use Rattle.tokens.proofs.Determined.{from_list}
-use Rattle.tokens.proofs.Passing.{size_append, pass_char}
+use Rattle.tokens.proofs.TokenUniqueness.{from_list}
+use Rattle.tokens.proofs.PassedCharacters.{size_append, pass_char}
 
 -- a test and its converse
 same_tests : (a b : Bool) → (IsTrue a → IsTrue b) → (IsTrue b → IsTrue a) → a ≡ b

@@ -4,11 +4,11 @@ use Rattle.std.specs.Bool.{beq}
 use Rattle.std.specs.Char.{is_ascii}
 use Rattle.std.proofs.lemmas.Bool.Decides.{nat_tests}
 use Rattle.tokens.specs.Alphabet.{is_among}
-use Rattle.tokens.specs.Fronts.{is_mark}
-use Rattle.tokens.specs.Marks.{alone}
+use Rattle.tokens.specs.TokenStarts.{is_mark}
+use Rattle.tokens.specs.PunctuatorSets.{alone}
 use Rattle.tokens.specs.Sets.{has_bit}
 use Rattle.tokens.proofs.Beginnings.{true_false}
-use Rattle.tokens.proofs.Determined.{all_from, from_range}
+use Rattle.tokens.proofs.TokenUniqueness.{all_from, from_range}
 
 pub set_is : (set : List ℕ) (test : ℕ → Bool) → IsTrue (all_from (λ x. beq (has_bit set x) (test x)) 0 128) → (c : ℕ) → c < 128 → has_bit set c ≡ test c
 set_is set test h c lt = same (has_bit set c) (test c) (from_range (λ x. beq (has_bit set x) (test x)) 0 128 c h (omega arith) (omega arith)) where

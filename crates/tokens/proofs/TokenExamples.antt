@@ -6,7 +6,7 @@ use Prim.Native.String.{String}
 use Rattle.unicode_ident.proofs.Computing.{unicode_ident}
 use Rattle.source_text.specs.Lines.{is_line_terminator}
 use Rattle.tokens.specs.Comments.{begins_comment, Separators, nothing, blank, comment}
-use Rattle.tokens.specs.Lexical.{LexicalClass, Name, Punctuator, Number, Text, Template, RegExp, End, is_token}
+use Rattle.tokens.specs.Lexical.{LexicalClass, IdentifierName, Punctuator, NumericLiteral, StringLiteral, Template, RegularExpressionLiteral, End, is_token}
 use Rattle.tokens.specs.Goals.{Goal, Div, TemplateTail, allows}
 use Rattle.tokens.proofs.Beginnings.{none_begins, none_fronts, has_separator}
 use Rattle.tokens.specs.Tokens.{LexicalToken, IsTokenAt, IsReading, more, last, size}
@@ -42,9 +42,9 @@ divides : IsTokenAt Div 0 (codes "/=x/") (record { class = Punctuator; text = co
 unfolding encode_utf8
 divides = found Div 0 Punctuator [] (codes "/=") (codes "x/") nothing refl refl refl
 
-matches : IsTokenAt Goal.RegExp 0 (codes "/=x/") (record { class = RegExp; text = codes "/=x/"; start = 0; stop = 4; after_break = false }) []
+matches : IsTokenAt Goal.RegExp 0 (codes "/=x/") (record { class = RegularExpressionLiteral; text = codes "/=x/"; start = 0; stop = 4; after_break = false }) []
 unfolding encode_utf8
-matches = found Goal.RegExp 0 RegExp [] (codes "/=x/") [] nothing refl refl refl
+matches = found Goal.RegExp 0 RegularExpressionLiteral [] (codes "/=x/") [] nothing refl refl refl
 
 -- `}` by goal
 goes_on : IsTokenAt TemplateTail 0 (codes "}x${") (record { class = Template; text = codes "}x${"; start = 0; stop = 4; after_break = false }) []
@@ -56,14 +56,14 @@ unfolding encode_utf8
 closes = found Div 0 Punctuator [] (codes "}") (codes "x${") nothing refl refl refl
 
 -- a line feed inside a comment before x
-broken : IsTokenAt Div 0 (codes "/*\n*/ x") (record { class = Name; text = codes "x"; start = 6; stop = 7; after_break = true }) []
+has_line_break : IsTokenAt Div 0 (codes "/*\n*/ x") (record { class = IdentifierName; text = codes "x"; start = 6; stop = 7; after_break = true }) []
 unfolding encode_utf8 unicode_ident
-broken = found Div 0 Name (codes "/*\n*/ ") (codes "x") [] (comment (codes "/*\n*/") (codes " ") refl refl (blank refl nothing)) refl refl refl
+has_line_break = found Div 0 IdentifierName (codes "/*\n*/ ") (codes "x") [] (comment (codes "/*\n*/") (codes " ") refl refl (blank refl nothing)) refl refl refl
 
 -- the end behind `é // b`, in bytes
-ends : IsTokenAt Div 0 (codes " é// b") (record { class = Name; text = 0xC3 ∷ 0xA9 ∷ []; start = 1; stop = 3; after_break = false }) (codes "// b")
+ends : IsTokenAt Div 0 (codes " é// b") (record { class = IdentifierName; text = 0xC3 ∷ 0xA9 ∷ []; start = 1; stop = 3; after_break = false }) (codes "// b")
 unfolding encode_utf8 unicode_ident
-ends = found Div 0 Name (codes " ") (codes "é") (codes "// b") (blank refl nothing) refl refl refl
+ends = found Div 0 IdentifierName (codes " ") (codes "é") (codes "// b") (blank refl nothing) refl refl refl
 
 at_end : IsTokenAt Div 3 (codes "// b") (record { class = End; text = []; start = 7; stop = 7; after_break = false }) []
 unfolding encode_utf8
@@ -89,14 +89,14 @@ by_goal : none_fronts Goal.RegExp (codes "/[/") && none_fronts Goal.RegExp (code
 unfolding unicode_ident
 by_goal = refl
 
-longest_ones : reads Div Punctuator ">>>=" "a" && reads Div Punctuator "&&=" "=" && reads Div Punctuator "??=" "a" && reads Div Punctuator "||" "|=" && reads Div Number "1_0" ";_" && reads Div Number "1_0." "/2_" && reads Div Punctuator "." "." && reads Div Punctuator "." ".5" && reads Div Punctuator "..." "5" && reads Div Number "1." ".5" && reads Div Number "1." "/2"
-    && reads Div Number "0" "?" && reads Div Name "a" "\\" && reads Div Name "if" "(" && reads Goal.RegExp RegExp "/[\\]/]/" "]/" && reads Goal.RegExp RegExp "/a/g" "-i" && reads Div Text "'a'" "'b'"
+longest_ones : reads Div Punctuator ">>>=" "a" && reads Div Punctuator "&&=" "=" && reads Div Punctuator "??=" "a" && reads Div Punctuator "||" "|=" && reads Div NumericLiteral "1_0" ";_" && reads Div NumericLiteral "1_0." "/2_" && reads Div Punctuator "." "." && reads Div Punctuator "." ".5" && reads Div Punctuator "..." "5" && reads Div NumericLiteral "1." ".5" && reads Div NumericLiteral "1." "/2"
+    && reads Div NumericLiteral "0" "?" && reads Div IdentifierName "a" "\\" && reads Div IdentifierName "if" "(" && reads Goal.RegExp RegularExpressionLiteral "/[\\]/]/" "]/" && reads Goal.RegExp RegularExpressionLiteral "/a/g" "-i" && reads Div StringLiteral "'a'" "'b'"
     && reads Div Template "`a${" "b}`" && reads TemplateTail Template "}`" "`" && reads Div Punctuator "/" "[/" && reads Goal.RegExp Punctuator "}" "`" && reads Goal.RegExp Punctuator "+" "/" && reads TemplateTail Punctuator "/" "a/" ≡ true
 unfolding unicode_ident
 longest_ones = refl
 
-shorter_ones : reads Div Punctuator ">>" ">=" || reads Div Punctuator "&&" "=" || reads Div Punctuator "??" "=a" || reads Div Number "1" "_0" || reads Div Number "1_0" "_" || reads Div Name "a" "b" || reads Div Number "1" "0" || reads Div Number "1" "." || reads Goal.RegExp RegExp "/a/" "g" || reads Div Punctuator "." "5" || reads Div Punctuator "?." "5"
-    || reads Div Punctuator "/" "/a" || reads Div RegExp "/a/" "" || reads Goal.RegExp Punctuator "/" "a/" || reads Goal.RegExp Punctuator "/=" "a/" || reads TemplateTail Punctuator "}" "`" || reads Div Template "}`" "" ≡ false
+shorter_ones : reads Div Punctuator ">>" ">=" || reads Div Punctuator "&&" "=" || reads Div Punctuator "??" "=a" || reads Div NumericLiteral "1" "_0" || reads Div NumericLiteral "1_0" "_" || reads Div IdentifierName "a" "b" || reads Div NumericLiteral "1" "0" || reads Div NumericLiteral "1" "." || reads Goal.RegExp RegularExpressionLiteral "/a/" "g" || reads Div Punctuator "." "5" || reads Div Punctuator "?." "5"
+    || reads Div Punctuator "/" "/a" || reads Div RegularExpressionLiteral "/a/" "" || reads Goal.RegExp Punctuator "/" "a/" || reads Goal.RegExp Punctuator "/=" "a/" || reads TemplateTail Punctuator "}" "`" || reads Div Template "}`" "" ≡ false
 unfolding unicode_ident
 shorter_ones = refl
 
@@ -104,31 +104,31 @@ shorter_ones = refl
 abbrev plain : LexicalClass → String → ℕ → ℕ → LexicalToken
 plain class word start stop = record { class = class; text = codes word; start = start; stop = stop; after_break = false }
 
-chosen : IsReading 0 (codes "a?.5:b") (plain Name "a" 0 1 ∷ plain Punctuator "?" 1 2 ∷ plain Number ".5" 2 4 ∷ plain Punctuator ":" 4 5 ∷ plain Name "b" 5 6 ∷ plain End "" 6 6 ∷ [])
+chosen : IsReading 0 (codes "a?.5:b") (plain IdentifierName "a" 0 1 ∷ plain Punctuator "?" 1 2 ∷ plain NumericLiteral ".5" 2 4 ∷ plain Punctuator ":" 4 5 ∷ plain IdentifierName "b" 5 6 ∷ plain End "" 6 6 ∷ [])
 unfolding encode_utf8 unicode_ident
 chosen =
-    more Div (found Div 0 Name [] (codes "a") (codes "?.5:b") nothing refl refl refl) refl (
+    more Div (found Div 0 IdentifierName [] (codes "a") (codes "?.5:b") nothing refl refl refl) refl (
     more Div (found Div 1 Punctuator [] (codes "?") (codes ".5:b") nothing refl refl refl) refl (
-    more Div (found Div 2 Number [] (codes ".5") (codes ":b") nothing refl refl refl) refl (
+    more Div (found Div 2 NumericLiteral [] (codes ".5") (codes ":b") nothing refl refl refl) refl (
     more Div (found Div 4 Punctuator [] (codes ":") (codes "b") nothing refl refl refl) refl (
-    more Div (found Div 5 Name [] (codes "b") [] nothing refl refl refl) refl (
+    more Div (found Div 5 IdentifierName [] (codes "b") [] nothing refl refl refl) refl (
     last Div (found Div 6 End [] [] [] nothing refl refl refl) refl)))))
 
-template_in_parts : IsReading 0 (codes "`a${b}`") (plain Template "`a${" 0 4 ∷ plain Name "b" 4 5 ∷ plain Template "}`" 5 7 ∷ plain End "" 7 7 ∷ [])
+template_in_parts : IsReading 0 (codes "`a${b}`") (plain Template "`a${" 0 4 ∷ plain IdentifierName "b" 4 5 ∷ plain Template "}`" 5 7 ∷ plain End "" 7 7 ∷ [])
 unfolding encode_utf8 unicode_ident
 template_in_parts =
     more Div (found Div 0 Template [] (codes "`a${") (codes "b}`") nothing refl refl refl) refl (
-    more Div (found Div 4 Name [] (codes "b") (codes "}`") nothing refl refl refl) refl (
+    more Div (found Div 4 IdentifierName [] (codes "b") (codes "}`") nothing refl refl refl) refl (
     more TemplateTail (found TemplateTail 5 Template [] (codes "}`") [] nothing refl refl refl) refl (
     last Div (found Div 7 End [] [] [] nothing refl refl refl) refl)))
 
-either_way : IsReading 0 (codes "/a/") (plain RegExp "/a/" 0 3 ∷ plain End "" 3 3 ∷ [])
-    × IsReading 0 (codes "/a/") (plain Punctuator "/" 0 1 ∷ plain Name "a" 1 2 ∷ plain Punctuator "/" 2 3 ∷ plain End "" 3 3 ∷ [])
+either_way : IsReading 0 (codes "/a/") (plain RegularExpressionLiteral "/a/" 0 3 ∷ plain End "" 3 3 ∷ [])
+    × IsReading 0 (codes "/a/") (plain Punctuator "/" 0 1 ∷ plain IdentifierName "a" 1 2 ∷ plain Punctuator "/" 2 3 ∷ plain End "" 3 3 ∷ [])
 unfolding encode_utf8 unicode_ident
 either_way = (
-  more Goal.RegExp (found Goal.RegExp 0 RegExp [] (codes "/a/") [] nothing refl refl refl) refl (last Div (found Div 3 End [] [] [] nothing refl refl refl) refl),
+  more Goal.RegExp (found Goal.RegExp 0 RegularExpressionLiteral [] (codes "/a/") [] nothing refl refl refl) refl (last Div (found Div 3 End [] [] [] nothing refl refl refl) refl),
   more Div (found Div 0 Punctuator [] (codes "/") (codes "a/") nothing refl refl refl) refl (
-      more Div (found Div 1 Name [] (codes "a") (codes "/") nothing refl refl refl) refl (
+      more Div (found Div 1 IdentifierName [] (codes "a") (codes "/") nothing refl refl refl) refl (
       more Div (found Div 2 Punctuator [] (codes "/") [] nothing refl refl refl) refl (
       last Div (found Div 3 End [] [] [] nothing refl refl refl) refl))),
 )

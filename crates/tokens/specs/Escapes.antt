@@ -18,9 +18,9 @@ hex_value before (c ∷ cs) = hex_value (16 * before + digit_value c) cs
 
 -- so many hexadecimal digits behind `x` or `u` (HexEscapeSequence, Hex4Digits)
 abbrev pub fixed_escape : ℕ → List ℕ → Option Piece
-fixed_escape count cs =
-    if (length (take count cs) == count) && list_all is_hex_digit (take count cs)
-    then Some (record { more = count + 1; units = hex_value 0 (take count cs) ∷ [] })
+fixed_escape count text =
+    if (length (take count text) == count) && list_all is_hex_digit (take count text)
+    then Some (record { more = count + 1; units = hex_value 0 (take count text) ∷ [] })
     else None
 
 -- digits and `}` behind `u{`, which count too; the digits are given beside what follows them (CodePoint)
@@ -58,7 +58,7 @@ escape (c ∷ cs) =
 
 -- a character, with its escape where it is a backslash
 abbrev pub piece : ℕ → List ℕ → Option Piece
-piece c cs = if one_of "\\" c then escape cs else Some (record { more = 0; units = encode_utf16 c })
+piece c text = if one_of "\\" c then escape text else Some (record { more = 0; units = encode_utf16 c })
 
 abbrev pub join_units : Option Piece → Option (List ℕ) → Option (List ℕ)
 join_units (Some p) (Some units) = Some (p.units ++ units)
@@ -76,4 +76,4 @@ units_behind zero (c ∷ cs) = join_units (piece c cs) (units_behind (more_of (p
 units_behind (suc skipped) (c ∷ cs) = units_behind skipped cs
 
 abbrev pub unescaped : List ℕ → Option (List ℕ)
-unescaped cs = units_behind 0 cs
+unescaped text = units_behind 0 text

@@ -20,7 +20,7 @@ reads_template_parts Div = false
 reads_template_parts RegExp = false
 
 abbrev pub is_regexp : LexicalClass → Bool
-is_regexp LexicalClass.RegExp = true
+is_regexp LexicalClass.RegularExpressionLiteral = true
 is_regexp _ = false
 
 abbrev pub is_template_part : LexicalClass → Bool

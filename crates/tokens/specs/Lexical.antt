@@ -3,9 +3,9 @@ use Rattle.std.specs.Prelude.{ℕ, Bool, true, false, not, ◌&&◌, ◌||◌, L
 use Rattle.std.specs.List.{list_all}
 use Rattle.std.specs.Str.{bytes_eq}
 use Prim.Native.String.{String}
--- the classes, as the program has them: `Text` is that of strings; the end of the text is a token too
-pub use Rattle.tokens.specs.declared.token.Class.{Class as LexicalClass}
-pub use Rattle.tokens.specs.declared.token.Class.TheVariants.{Name, Punctuator, Number, Text, Template, RegExp, End}
+-- the classes, as the program has them: `StringLiteral` is that of strings; the end of the text is a token too
+pub use Rattle.tokens.specs.declared.token.TokenClass.{TokenClass as LexicalClass}
+pub use Rattle.tokens.specs.declared.token.TokenClass.TheVariants.{IdentifierName, Punctuator, NumericLiteral, StringLiteral, Template, RegularExpressionLiteral, End}
 use Rattle.tokens.specs.Alphabet.{begins_with, is_empty, is_identifier_start, is_identifier_part, is_decimal_digit}
 use Rattle.tokens.specs.Numbers.{is_number}
 use Rattle.tokens.specs.Strings.{is_string}
@@ -32,12 +32,12 @@ is_punctuator text = is_one_of_words punctuators text
 
 -- a text of the class, whatever stands behind it
 abbrev pub is_of : LexicalClass → List ℕ → Bool
-is_of Name text = is_name text
+is_of IdentifierName text = is_name text
 is_of Punctuator text = is_punctuator text
-is_of Number text = is_number text
-is_of Text text = is_string text
+is_of NumericLiteral text = is_number text
+is_of StringLiteral text = is_string text
 is_of Template text = is_template text
-is_of RegExp text = is_regular_expression text
+is_of RegularExpressionLiteral text = is_regular_expression text
 is_of End text = is_empty text
 
 -- What a class asks of what stands behind, for a text to be of it at its place: `?.` is no punctuator before a digit
@@ -45,11 +45,11 @@ is_of End text = is_empty text
 abbrev pub may_stand : LexicalClass → List ℕ → List ℕ → Bool
 may_stand Punctuator text rest = not (is_one_of_words ("?." ∷ "." ∷ []) text && begins_with is_decimal_digit rest)
 may_stand End text rest = is_empty rest
-may_stand Name text rest = true
-may_stand Number text rest = true
-may_stand Text text rest = true
+may_stand IdentifierName text rest = true
+may_stand NumericLiteral text rest = true
+may_stand StringLiteral text rest = true
 may_stand Template text rest = true
-may_stand RegExp text rest = true
+may_stand RegularExpressionLiteral text rest = true
 
 -- a text of the class at its place
 abbrev pub is_at : LexicalClass → List ℕ → List ℕ → Bool
@@ -62,12 +62,12 @@ none_longer class text (c ∷ rest) = not (is_at class (text ++ c ∷ []) rest) 
 
 -- what may not follow the longest: behind a number no IdentifierStart and no digit (11.8.3)
 abbrev pub ends_well : LexicalClass → List ℕ → Bool
-ends_well Number rest = not (begins_with is_identifier_start rest || begins_with is_decimal_digit rest)
-ends_well Name rest = true
+ends_well NumericLiteral rest = not (begins_with is_identifier_start rest || begins_with is_decimal_digit rest)
+ends_well IdentifierName rest = true
 ends_well Punctuator rest = true
-ends_well Text rest = true
+ends_well StringLiteral rest = true
 ends_well Template rest = true
-ends_well RegExp rest = true
+ends_well RegularExpressionLiteral rest = true
 ends_well End rest = true
 
 -- the longest of its class at its place (11)

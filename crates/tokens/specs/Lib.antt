@@ -9,10 +9,10 @@ pub mod Lexical
 pub mod Goals
 pub mod Tokens
 pub mod Reading
-pub mod Closing
-pub mod Fronts
+pub mod Closers
+pub mod TokenStarts
 pub mod States
-pub mod Marks
+pub mod PunctuatorSets
 pub mod Sets
 pub mod Scanned
 pub mod Escaped

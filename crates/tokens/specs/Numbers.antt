@@ -14,7 +14,7 @@ pub data Numeral : Type 0 where
   -- nothing
   unread : Numeral
   -- DecimalIntegerLiteral: `0`, or a digit that isn't zero and DecimalDigits
-  nought integer : Numeral
+  zero_read integer : Numeral
   -- a `.` that digits must follow, one that digits may follow, and DecimalDigits behind either
   leading_point point fraction : Numeral
   -- ExponentPart: `e` or `E`, its sign, and its DecimalDigits
@@ -29,23 +29,23 @@ pub data Numeral : Type 0 where
   -- no beginning of a literal
   no_numeral : Numeral
 
-abbrev pub behind_integer : ℕ → Numeral
-behind_integer c = if one_of "." c then point else if one_of "eE" c then exponent_mark else if one_of "n" c then suffix else no_numeral
+abbrev pub after_integer : ℕ → Numeral
+after_integer c = if one_of "." c then point else if one_of "eE" c then exponent_mark else if one_of "n" c then suffix else no_numeral
 
-abbrev pub behind_nought : ℕ → Numeral
-behind_nought c = if one_of "bB" c then prefix binary else if one_of "oO" c then prefix octal else if one_of "xX" c then prefix hexadecimal else behind_integer c
+abbrev pub after_zero : ℕ → Numeral
+after_zero c = if one_of "bB" c then prefix binary else if one_of "oO" c then prefix octal else if one_of "xX" c then prefix hexadecimal else after_integer c
 
-abbrev pub behind_fraction : ℕ → Numeral
-behind_fraction c = if is_decimal_digit c then fraction else if one_of "eE" c then exponent_mark else no_numeral
+abbrev pub after_fraction : ℕ → Numeral
+after_fraction c = if is_decimal_digit c then fraction else if one_of "eE" c then exponent_mark else no_numeral
 
 -- how far it has been read behind one more character
 abbrev pub next_numeral : Numeral → ℕ → Numeral
-next_numeral unread c = if one_of "0" c then nought else if is_non_zero_digit c then integer else if one_of "." c then leading_point else no_numeral
-next_numeral nought c = behind_nought c
-next_numeral integer c = if is_decimal_digit c then integer else if one_of "_" c then integer_separator else behind_integer c
+next_numeral unread c = if one_of "0" c then zero_read else if is_non_zero_digit c then integer else if one_of "." c then leading_point else no_numeral
+next_numeral zero_read c = after_zero c
+next_numeral integer c = if is_decimal_digit c then integer else if one_of "_" c then integer_separator else after_integer c
 next_numeral leading_point c = if is_decimal_digit c then fraction else no_numeral
-next_numeral point c = behind_fraction c
-next_numeral fraction c = if one_of "_" c then fraction_separator else behind_fraction c
+next_numeral point c = after_fraction c
+next_numeral fraction c = if one_of "_" c then fraction_separator else after_fraction c
 next_numeral exponent_mark c = if is_decimal_digit c then exponent else if one_of "+-" c then exponent_sign else no_numeral
 next_numeral exponent_sign c = if is_decimal_digit c then exponent else no_numeral
 next_numeral exponent c = if is_decimal_digit c then exponent else if one_of "_" c then exponent_separator else no_numeral
@@ -60,7 +60,7 @@ next_numeral no_numeral c = no_numeral
 
 -- whether a literal may end there
 abbrev pub is_complete : Numeral → Bool
-is_complete nought = true
+is_complete zero_read = true
 is_complete integer = true
 is_complete point = true
 is_complete fraction = true
@@ -78,9 +78,9 @@ is_complete exponent_separator = false
 is_complete (digits_separator base) = false
 is_complete no_numeral = false
 
-abbrev pub numeral_behind : Numeral → List ℕ → Numeral
-numeral_behind read [] = read
-numeral_behind read (c ∷ cs) = numeral_behind (next_numeral read c) cs
+abbrev pub numeral_after : Numeral → List ℕ → Numeral
+numeral_after read [] = read
+numeral_after read (c ∷ cs) = numeral_after (next_numeral read c) cs
 
 abbrev pub is_number : List ℕ → Bool
-is_number text = is_complete (numeral_behind unread text)
+is_number text = is_complete (numeral_after unread text)

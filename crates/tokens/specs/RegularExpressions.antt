@@ -43,10 +43,10 @@ has_flags body_backslash = false
 has_flags brackets_backslash = false
 has_flags no_expression = false
 
-abbrev pub expression_behind : RegularExpression → List ℕ → RegularExpression
-expression_behind read [] = read
-expression_behind read (c ∷ cs) = expression_behind (next_expression read c) cs
+abbrev pub expression_after : RegularExpression → List ℕ → RegularExpression
+expression_after read [] = read
+expression_after read (c ∷ cs) = expression_after (next_expression read c) cs
 
 abbrev pub is_regular_expression : List ℕ → Bool
 is_regular_expression [] = false
-is_regular_expression (c ∷ cs) = one_of "/" c && has_flags (expression_behind opened cs)
+is_regular_expression (c ∷ cs) = one_of "/" c && has_flags (expression_after opened cs)

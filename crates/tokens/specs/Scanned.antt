@@ -6,15 +6,15 @@ use Rattle.source_text.specs.Lines.{is_line_terminator}
 use Rattle.tokens.specs.declared.token.Token.{Token}
 use Rattle.tokens.specs.Alphabet.{begins_with, is_white_space}
 use Rattle.tokens.specs.Comments.{is_comment, Separators}
-use Rattle.tokens.specs.Marks.{front, tail}
-use Rattle.tokens.specs.Closing.{closes_from, ends_part}
+use Rattle.tokens.specs.PunctuatorSets.{front, tail}
+use Rattle.tokens.specs.Closers.{closes_from, ends_part}
 use Rattle.tokens.specs.Lexical.{LexicalClass, is_token}
 use Rattle.tokens.specs.Tokens.{LexicalToken, size}
 use Rattle.tokens.specs.Reading.{behind}
 
 -- the token that a scanned one stands for
 abbrev pub token_of : Token → LexicalToken
-token_of t = record { class = t.class; text = t.text.now; start = t.start; stop = t.end; after_break = t.after_break }
+token_of token = record { class = token.class; text = token.text.now; start = token.start; stop = token.end; after_break = token.after_break }
 
 -- these characters stand from a place to another
 pub record Passed (text : List ℕ) (at stop : ℕ) (word : List ℕ) : Type 0 where
@@ -33,11 +33,11 @@ abbrev pub NoWordAt : LexicalClass → List ℕ → ℕ → Type 0
 NoWordAt class text at = (word rest : List ℕ) → behind text at ≡ word ++ rest → IsTrue (is_token class word rest) → ⊥
 
 -- what stands between two places are separators, with a line terminator or without
-pub record IsGap (text : List ℕ) (at stop : ℕ) (broken : Bool) : Type 0 where
+pub record IsGap (text : List ℕ) (at stop : ℕ) (has_line_break : Bool) : Type 0 where
   pub gap : List ℕ
   pub passed : Passed text at stop gap
   pub separated : Separators gap (behind text stop)
-  pub breaks : broken ≡ list_any is_line_terminator gap
+  pub breaks : has_line_break ≡ list_any is_line_terminator gap
 
 -- characters that all pass a test, from one place to another
 pub record AllPass (test : ℕ → Bool) (text : List ℕ) (at stop : ℕ) : Type 0 where
@@ -51,32 +51,32 @@ pub record IsRun (test : ℕ → Bool) (text : List ℕ) (at stop : ℕ) : Type 
   pub ends : IsFalse (begins_with test (behind text stop))
 
 -- a comment's rest behind its `/*`, with a line terminator or without
-pub record IsBlockRest (text : List ℕ) (at stop : ℕ) (broken : Bool) : Type 0 where
+pub record IsBlockRest (text : List ℕ) (at stop : ℕ) (has_line_break : Bool) : Type 0 where
   pub word : List ℕ
   pub passed : Passed text at stop word
   pub closes : IsTrue (closes_from false word)
-  pub breaks : broken ≡ list_any is_line_terminator word
+  pub breaks : has_line_break ≡ list_any is_line_terminator word
 
 -- no comment's rest stands at a place
 abbrev pub NoBlockRest : List ℕ → ℕ → Type 0
 NoBlockRest text at = (word rest : List ℕ) → behind text at ≡ word ++ rest → IsTrue (closes_from false word) → ⊥
 
 -- a comment behind its `/`
-pub record IsCommentRest (text : List ℕ) (at stop : ℕ) (broken : Bool) : Type 0 where
+pub record IsCommentRest (text : List ℕ) (at stop : ℕ) (has_line_break : Bool) : Type 0 where
   pub word : List ℕ
   pub passed : Passed text at stop word
   pub comment : IsTrue (is_comment (0x2F ∷ word) (behind text stop))
-  pub breaks : broken ≡ list_any is_line_terminator word
+  pub breaks : has_line_break ≡ list_any is_line_terminator word
 
 abbrev pub NoCommentRest : List ℕ → ℕ → Type 0
 NoCommentRest text at = (word rest : List ℕ) → behind text at ≡ word ++ rest → IsTrue (is_comment (0x2F ∷ word) rest) → ⊥
 
 -- one separator: a white space, a line terminator or a comment
-pub record IsSeparator (text : List ℕ) (at stop : ℕ) (broken : Bool) : Type 0 where
+pub record IsSeparator (text : List ℕ) (at stop : ℕ) (has_line_break : Bool) : Type 0 where
   pub word : List ℕ
   pub passed : Passed text at stop word
   pub separated : Separators word (behind text stop)
-  pub breaks : broken ≡ list_any is_line_terminator word
+  pub breaks : has_line_break ≡ list_any is_line_terminator word
 
 -- no separator stands in front of these characters
 pub record IsSolid (cs : List ℕ) : Type 0 where
@@ -87,10 +87,10 @@ pub record IsSolid (cs : List ℕ) : Type 0 where
 pub record IsFlagsAt (text : List ℕ) (at stop : ℕ) : Type 0 where
   pub word : List ℕ
   pub passed : Passed text at stop word
-  pub longest : IsTrue (is_token LexicalClass.RegExp (0x2F ∷ word) (behind text stop))
+  pub longest : IsTrue (is_token LexicalClass.RegularExpressionLiteral (0x2F ∷ word) (behind text stop))
 
 abbrev pub NoFlagsAt : List ℕ → ℕ → Type 0
-NoFlagsAt text at = (word rest : List ℕ) → behind text at ≡ word ++ rest → IsTrue (is_token LexicalClass.RegExp (0x2F ∷ word) rest) → ⊥
+NoFlagsAt text at = (word rest : List ℕ) → behind text at ≡ word ++ rest → IsTrue (is_token LexicalClass.RegularExpressionLiteral (0x2F ∷ word) rest) → ⊥
 
 -- a part of a template behind its first character
 pub record IsPartRest (text : List ℕ) (at stop : ℕ) : Type 0 where

@@ -21,17 +21,17 @@ is_template (c ∷ cs) = one_of "`}" c && closes_template false cs
 abbrev pub line_end_turned : Bool → ℕ → List ℕ
 line_end_turned returned c = if returned && (c == line_feed) then [] else if c == carriage_return then line_feed ∷ [] else c ∷ []
 
-abbrev pub raw_behind : Bool → List ℕ → List ℕ
-raw_behind returned [] = []
-raw_behind returned (c ∷ cs) = line_end_turned returned c ++ raw_behind (c == carriage_return) cs
+abbrev pub raw_after : Bool → List ℕ → List ℕ
+raw_after returned [] = []
+raw_after returned (c ∷ cs) = line_end_turned returned c ++ raw_after (c == carriage_return) cs
 
 -- TRV (11.8.6.1), in characters, of a part without its delimiters
 abbrev pub raw_value : List ℕ → List ℕ
-raw_value cs = raw_behind false cs
+raw_value text = raw_after false text
 
 -- TV (11.8.6.1), in units of UTF-16, of a part without its delimiters: none where an escape is bad
 abbrev pub cooked_value : List ℕ → Option (List ℕ)
-cooked_value cs = unescaped (raw_value cs)
+cooked_value text = unescaped (raw_value text)
 
 -- a text's raw value, handed in again, gives the same two: it is its own raw value, and has the text's cooked value
 abbrev pub IsSettled : List ℕ → List ℕ → Type 0

@@ -9,7 +9,7 @@ ghost use Rattle.tokens.specs.Escaped.{IsPieceAt};
 ghost use Rattle.tokens.specs.Escapes.{escape, escaped_character, fixed_escape, piece, unicode_escape};
 ghost use Rattle.tokens.specs.Reading.{behind};
 
-use crate::step::step_at;
+use crate::char_at::char_at;
 use source_text::is_line_terminator;
 
 /// What an escape stands for, a code point or nothing, and the place behind it.
@@ -43,7 +43,7 @@ fn fixed_digits(text: &str, at: usize, count: u32) -> Option<Escaped>
     let mut end = at;
     let mut value = 0u32;
     for _ in 0..count {
-        let Some(step) = step_at(text, end) else {
+        let Some(step) = char_at(text, end) else {
             return None;
         };
         let Some(digit) = hex_digit(step.c) else {
@@ -66,7 +66,7 @@ fn code_point(text: &str, at: usize) -> Option<Escaped>
 {
     let mut end = at;
     let mut value = 0u32;
-    while let Some(step) = step_at(text, end) {
+    while let Some(step) = char_at(text, end) {
         let Some(digit) = hex_digit(step.c) else {
             break;
         };
@@ -76,7 +76,7 @@ fn code_point(text: &str, at: usize) -> Option<Escaped>
     if end == at || value > 0x10_FFFF {
         return None;
     }
-    let Some(close) = step_at(text, end) else {
+    let Some(close) = char_at(text, end) else {
         return None;
     };
     if close.c != '}' {
@@ -94,7 +94,7 @@ fn unicode_escape(text: &str, at: usize) -> Option<Escaped>
     ensures some { IfSome result (λ e. IsPieceAt (unicode_escape (behind text.now at)) 1 text.now at e) }
     ensures none { IfNone result (unicode_escape (behind text.now at) ≡ None) }
 {
-    if let Some(step) = step_at(text, at) {
+    if let Some(step) = char_at(text, at) {
         if step.c == '{' {
             return code_point(text, step.end);
         }
@@ -108,7 +108,7 @@ fn null_escape(text: &str, at: usize) -> Option<Escaped>
     ensures some { IfSome result (λ e. IsPieceAt (escape (0x30 ∷ behind text.now at)) 1 text.now at e) }
     ensures none { IfNone result (escape (0x30 ∷ behind text.now at) ≡ None) }
 {
-    if let Some(step) = step_at(text, at) {
+    if let Some(step) = char_at(text, at) {
         if step.c.is_ascii_digit() {
             return None;
         }
@@ -127,7 +127,7 @@ fn line_continuation(text: &str, at: usize, first: char) -> Escaped
 {
     let mut end = at;
     if first == '\r' {
-        if let Some(step) = step_at(text, at) {
+        if let Some(step) = char_at(text, at) {
             if step.c == '\n' {
                 end = step.end;
             }
@@ -158,7 +158,7 @@ fn escape(text: &str, at: usize) -> Option<Escaped>
     ensures some { IfSome result (λ e. IsPieceAt (escape (behind text.now at)) 0 text.now at e) }
     ensures none { IfNone result (escape (behind text.now at) ≡ None) }
 {
-    let Some(step) = step_at(text, at) else {
+    let Some(step) = char_at(text, at) else {
         return None;
     };
     match step.c {
@@ -176,7 +176,7 @@ fn escape(text: &str, at: usize) -> Option<Escaped>
 
 // A character in front of a place, with its escape where it is a backslash.
 #[inline]
-pub fn piece(text: &str, c: char, at: usize) -> Option<Escaped>
+pub fn character_value(text: &str, c: char, at: usize) -> Option<Escaped>
     requires { IsPlace text.now at }
     ensures some { IfSome result (λ e. IsPieceAt (piece c (behind text.now at)) 0 text.now at e) }
     ensures none { IfNone result (piece c (behind text.now at) ≡ None) }

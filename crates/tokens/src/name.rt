@@ -6,9 +6,9 @@ ghost use Rattle.source_text.specs.Source.{IsPlace};
 ghost use Rattle.tokens.specs.Alphabet.{is_identifier_start, is_identifier_part, one_of};
 ghost use Rattle.tokens.specs.Scanned.{IsRun, IsWordAt, NoWordAt, Passed};
 
-use crate::Class;
+use crate::TokenClass;
 use crate::ascii::is_in;
-use crate::step::{Step, step_at};
+use crate::char_at::{CharAt, char_at};
 use unicode_ident::{is_xid_continue, is_xid_start};
 
 // The IdentifierPart characters of ASCII: `$`, the digits, the letters and `_`.
@@ -53,10 +53,10 @@ pub fn is_part(c: char) -> bool
 
 // The place behind the name that begins with a step, if there is one.
 #[inline]
-pub fn name_end(text: &str, first: Step) -> Option<usize>
+pub fn name_end(text: &str, first: CharAt) -> Option<usize>
     requires { IsPlace text.now first.end }
-    ensures some { (at : ℕ) → Passed text.now at first.end (first.c ∷ []) → IfSome result (λ e. IsWordAt Class.Name text.now at e) }
-    ensures none { (at : ℕ) → Passed text.now at first.end (first.c ∷ []) → IfNone result (NoWordAt Class.Name text.now at) }
+    ensures some { (at : ℕ) → Passed text.now at first.end (first.c ∷ []) → IfSome result (λ e. IsWordAt TokenClass.IdentifierName text.now at e) }
+    ensures none { (at : ℕ) → Passed text.now at first.end (first.c ∷ []) → IfNone result (NoWordAt TokenClass.IdentifierName text.now at) }
 {
     if is_start(first.c) {
         return Some(parts_end(text, first.end));
@@ -70,7 +70,7 @@ pub fn parts_end(text: &str, at: usize) -> usize
     ensures { IsRun is_identifier_part text.now at result }
 {
     let mut end = at;
-    while let Some(step) = step_at(text, end) {
+    while let Some(step) = char_at(text, end) {
         if !is_part(step.c) {
             return end;
         }

@@ -3,13 +3,13 @@
 ghost use Rattle.std.specs.Prelude.{◌≡◌, ◌||◌, IfSome, IfNone, if◌then◌else◌};
 ghost use Rattle.source_text.specs.Source.{IsPlace};
 ghost use Rattle.tokens.specs.Alphabet.{is_decimal_digit, is_identifier_start};
-ghost use Rattle.tokens.specs.Numbers.{behind_fraction, behind_integer, behind_nought, digits, is_complete, is_digit_of, next_numeral, no_numeral, unread};
+ghost use Rattle.tokens.specs.Numbers.{after_fraction, after_integer, after_zero, digits, is_complete, is_digit_of, next_numeral, no_numeral, unread};
 ghost use Rattle.tokens.specs.States.{base_of, is_dead, numeral_of};
 ghost use Rattle.tokens.specs.Scanned.{IsWordAt, NoWordAt};
 
-use crate::Class;
+use crate::TokenClass;
+use crate::char_at::char_at;
 use crate::name::is_start;
-use crate::step::step_at;
 
 // What a prefix says of the digits.
 #[derive(Clone, Copy)]
@@ -21,9 +21,9 @@ enum Base {
 
 // What has been read of a number.
 #[derive(Clone, Copy)]
-enum State {
+enum NumberState {
     Unread,
-    Nought,
+    Zero,
     Integer,
     LeadingPoint,
     Point,
@@ -52,166 +52,166 @@ fn is_digit_of(base: Base, c: char) -> bool
     }
 }
 
-fn behind_integer(c: char) -> State
-    ensures { numeral_of result ≡ behind_integer c }
+fn after_integer(c: char) -> NumberState
+    ensures { numeral_of result ≡ after_integer c }
 {
     match c {
-        '.' => State::Point,
-        'e' | 'E' => State::ExponentMark,
-        'n' => State::Suffix,
-        _ => State::Dead,
+        '.' => NumberState::Point,
+        'e' | 'E' => NumberState::ExponentMark,
+        'n' => NumberState::Suffix,
+        _ => NumberState::Dead,
     }
 }
 
-fn behind_nought(c: char) -> State
-    ensures { numeral_of result ≡ behind_nought c }
+fn after_zero(c: char) -> NumberState
+    ensures { numeral_of result ≡ after_zero c }
 {
     match c {
-        'b' | 'B' => State::Prefix(Base::Binary),
-        'o' | 'O' => State::Prefix(Base::Octal),
-        'x' | 'X' => State::Prefix(Base::Hexadecimal),
-        _ => behind_integer(c),
+        'b' | 'B' => NumberState::Prefix(Base::Binary),
+        'o' | 'O' => NumberState::Prefix(Base::Octal),
+        'x' | 'X' => NumberState::Prefix(Base::Hexadecimal),
+        _ => after_integer(c),
     }
 }
 
-fn behind_fraction(c: char) -> State
-    ensures { numeral_of result ≡ behind_fraction c }
+fn after_fraction(c: char) -> NumberState
+    ensures { numeral_of result ≡ after_fraction c }
 {
     match c {
-        '0'..='9' => State::Fraction,
-        'e' | 'E' => State::ExponentMark,
-        _ => State::Dead,
+        '0'..='9' => NumberState::Fraction,
+        'e' | 'E' => NumberState::ExponentMark,
+        _ => NumberState::Dead,
     }
 }
 
 // Behind one more character.
-fn next_state(state: State, c: char) -> State
+fn next_number_state(state: NumberState, c: char) -> NumberState
     ensures { numeral_of result ≡ next_numeral (numeral_of state) c }
 {
     match state {
-        State::Unread => first_state(c),
-        State::Nought => behind_nought(c),
-        State::Integer => {
+        NumberState::Unread => first_state(c),
+        NumberState::Zero => after_zero(c),
+        NumberState::Integer => {
             if c.is_ascii_digit() {
-                State::Integer
+                NumberState::Integer
             } else if c == '_' {
-                State::IntegerSeparator
+                NumberState::IntegerSeparator
             } else {
-                behind_integer(c)
+                after_integer(c)
             }
         }
-        State::LeadingPoint => digit_or_dead(c, State::Fraction),
-        State::Point => behind_fraction(c),
-        State::Fraction => {
+        NumberState::LeadingPoint => digit_or_dead(c, NumberState::Fraction),
+        NumberState::Point => after_fraction(c),
+        NumberState::Fraction => {
             if c == '_' {
-                State::FractionSeparator
+                NumberState::FractionSeparator
             } else {
-                behind_fraction(c)
+                after_fraction(c)
             }
         }
-        State::ExponentMark => {
+        NumberState::ExponentMark => {
             if c == '+' || c == '-' {
-                State::ExponentSign
+                NumberState::ExponentSign
             } else {
-                digit_or_dead(c, State::Exponent)
+                digit_or_dead(c, NumberState::Exponent)
             }
         }
-        State::ExponentSign => digit_or_dead(c, State::Exponent),
-        State::Exponent => {
+        NumberState::ExponentSign => digit_or_dead(c, NumberState::Exponent),
+        NumberState::Exponent => {
             if c == '_' {
-                State::ExponentSeparator
+                NumberState::ExponentSeparator
             } else {
-                digit_or_dead(c, State::Exponent)
+                digit_or_dead(c, NumberState::Exponent)
             }
         }
-        State::Prefix(base) => behind_prefix(base, c),
-        State::Digits(base) => {
+        NumberState::Prefix(base) => after_prefix(base, c),
+        NumberState::Digits(base) => {
             if is_digit_of(base, c) {
-                State::Digits(base)
+                NumberState::Digits(base)
             } else if c == 'n' {
-                State::Suffix
+                NumberState::Suffix
             } else if c == '_' {
-                State::DigitsSeparator(base)
+                NumberState::DigitsSeparator(base)
             } else {
-                State::Dead
+                NumberState::Dead
             }
         }
-        State::IntegerSeparator => digit_or_dead(c, State::Integer),
-        State::FractionSeparator => digit_or_dead(c, State::Fraction),
-        State::ExponentSeparator => digit_or_dead(c, State::Exponent),
-        State::DigitsSeparator(base) => behind_prefix(base, c),
-        State::Suffix => State::Dead,
-        State::Dead => State::Dead,
+        NumberState::IntegerSeparator => digit_or_dead(c, NumberState::Integer),
+        NumberState::FractionSeparator => digit_or_dead(c, NumberState::Fraction),
+        NumberState::ExponentSeparator => digit_or_dead(c, NumberState::Exponent),
+        NumberState::DigitsSeparator(base) => after_prefix(base, c),
+        NumberState::Suffix => NumberState::Dead,
+        NumberState::Dead => NumberState::Dead,
     }
 }
 
 // A state behind a digit.
 #[inline]
-fn digit_or_dead(c: char, state: State) -> State
+fn digit_or_dead(c: char, state: NumberState) -> NumberState
     ensures { numeral_of result ≡ (if is_decimal_digit c then numeral_of state else no_numeral) }
 {
     if c.is_ascii_digit() {
         state
     } else {
-        State::Dead
+        NumberState::Dead
     }
 }
 
 // Behind a prefix, or a separator of its digits.
 #[inline]
-fn behind_prefix(base: Base, c: char) -> State
+fn after_prefix(base: Base, c: char) -> NumberState
     ensures { numeral_of result ≡ (if is_digit_of (base_of base) c then digits (base_of base) else no_numeral) }
 {
     if is_digit_of(base, c) {
-        State::Digits(base)
+        NumberState::Digits(base)
     } else {
-        State::Dead
+        NumberState::Dead
     }
 }
 
-fn first_state(c: char) -> State
+fn first_state(c: char) -> NumberState
     ensures { numeral_of result ≡ next_numeral unread c }
 {
     match c {
-        '0' => State::Nought,
-        '1'..='9' => State::Integer,
-        '.' => State::LeadingPoint,
-        _ => State::Dead,
+        '0' => NumberState::Zero,
+        '1'..='9' => NumberState::Integer,
+        '.' => NumberState::LeadingPoint,
+        _ => NumberState::Dead,
     }
 }
 
 // Whether a number may end there.
-fn is_complete(state: State) -> bool
+fn is_complete(state: NumberState) -> bool
     ensures { result ≡ is_complete (numeral_of state) }
 {
     match state {
-        State::Nought
-        | State::Integer
-        | State::Point
-        | State::Fraction
-        | State::Exponent
-        | State::Digits(_)
-        | State::Suffix => true,
-        State::Unread
-        | State::LeadingPoint
-        | State::ExponentMark
-        | State::ExponentSign
-        | State::Prefix(_)
-        | State::IntegerSeparator
-        | State::FractionSeparator
-        | State::ExponentSeparator
-        | State::DigitsSeparator(_)
-        | State::Dead => false,
+        NumberState::Zero
+        | NumberState::Integer
+        | NumberState::Point
+        | NumberState::Fraction
+        | NumberState::Exponent
+        | NumberState::Digits(_)
+        | NumberState::Suffix => true,
+        NumberState::Unread
+        | NumberState::LeadingPoint
+        | NumberState::ExponentMark
+        | NumberState::ExponentSign
+        | NumberState::Prefix(_)
+        | NumberState::IntegerSeparator
+        | NumberState::FractionSeparator
+        | NumberState::ExponentSeparator
+        | NumberState::DigitsSeparator(_)
+        | NumberState::Dead => false,
     }
 }
 
 // Whether none goes on from there.
 #[inline]
-fn is_dead(state: State) -> bool
+fn is_dead(state: NumberState) -> bool
     ensures { result ≡ is_dead (numeral_of state) }
 {
     match state {
-        State::Dead => true,
+        NumberState::Dead => true,
         _ => false,
     }
 }
@@ -227,13 +227,13 @@ fn is_bad_end(c: char) -> bool
 // The place behind the number at a place, if there is one: no IdentifierStart and no digit follows it.
 pub fn number_end(text: &str, at: usize) -> Option<usize>
     requires { IsPlace text.now at }
-    ensures some { IfSome result (λ e. IsWordAt Class.Number text.now at e) }
-    ensures none { IfNone result (NoWordAt Class.Number text.now at) }
+    ensures some { IfSome result (λ e. IsWordAt TokenClass.NumericLiteral text.now at e) }
+    ensures none { IfNone result (NoWordAt TokenClass.NumericLiteral text.now at) }
 {
     let mut end = at;
-    let mut state = State::Unread;
-    while let Some(step) = step_at(text, end) {
-        let next = next_state(state, step.c);
+    let mut state = NumberState::Unread;
+    while let Some(step) = char_at(text, end) {
+        let next = next_number_state(state, step.c);
         if is_dead(next) {
             return if is_complete(state) & !is_bad_end(step.c) {
                 Some(end)

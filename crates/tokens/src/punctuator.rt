@@ -3,22 +3,22 @@
 ghost use Rattle.std.specs.Prelude.{◌≡◌, [], ◌∷◌, ℕ, IfSome, IfNone};
 ghost use Rattle.source_text.specs.Source.{IsPlace};
 ghost use Rattle.tokens.specs.Alphabet.{is_among};
-ghost use Rattle.tokens.specs.Marks.{alone, firsts, goes_on, is_pair, is_quadruple, is_single, is_triple};
+ghost use Rattle.tokens.specs.PunctuatorSets.{alone, firsts, goes_on, is_pair, is_quadruple, is_single, is_triple};
 ghost use Rattle.tokens.specs.Scanned.{IsWordAt, Looks, NoWordAt, Passed};
 
-use crate::Class;
+use crate::TokenClass;
 use crate::ascii::is_in;
-use crate::step::{Step, step_at};
+use crate::char_at::{CharAt, char_at};
 
 // The next character, U+0000 at the end of the text, and the place behind it.
 #[inline]
-fn look(text: &str, at: usize) -> Step
+fn char_or_nul(text: &str, at: usize) -> CharAt
     requires { IsPlace text.now at }
     ensures { Looks text.now at result.c result.end }
 {
-    match step_at(text, at) {
+    match char_at(text, at) {
         Some(step) => step,
-        None => Step { c: '\0', end: at },
+        None => CharAt { c: '\0', end: at },
     }
 }
 
@@ -55,17 +55,17 @@ fn is_single(b: char) -> bool
 }
 
 // `{` `}` `(` `)` `[` `]` `;` `,` `:` `~`
-const ALONE: [u64; 2] = [0x0C00_1300_0000_0000, 0x6800_0000_2800_0000];
+const SINGLE_PUNCTUATORS: [u64; 2] = [0x0C00_1300_0000_0000, 0x6800_0000_2800_0000];
 
 // Whether no longer punctuator begins with the character, and a digit behind it changes nothing.
 #[inline]
-fn is_alone(b: char) -> bool
+fn is_single_punctuator(b: char) -> bool
     ensures { result ≡ is_among b alone }
 {
     if !b.is_ascii() {
         return false;
     }
-    is_in(&ALONE, b)
+    is_in(&SINGLE_PUNCTUATORS, b)
 }
 
 // Whether the character is a digit or the second one of some punctuator.
@@ -138,20 +138,20 @@ fn is_quadruple(b: char, c: char, d: char, e: char) -> bool
 
 // The place behind the punctuator that begins with a step, if there is one; `?.` and `.` are none before a digit.
 #[inline]
-pub fn punctuator_end(text: &str, b: Step) -> Option<usize>
+pub fn punctuator_end(text: &str, b: CharAt) -> Option<usize>
     requires { IsPlace text.now b.end }
-    ensures some { (at : ℕ) → Passed text.now at b.end (b.c ∷ []) → IfSome result (λ e. IsWordAt Class.Punctuator text.now at e) }
-    ensures none { (at : ℕ) → Passed text.now at b.end (b.c ∷ []) → IfNone result (NoWordAt Class.Punctuator text.now at) }
+    ensures some { (at : ℕ) → Passed text.now at b.end (b.c ∷ []) → IfSome result (λ e. IsWordAt TokenClass.Punctuator text.now at e) }
+    ensures none { (at : ℕ) → Passed text.now at b.end (b.c ∷ []) → IfNone result (NoWordAt TokenClass.Punctuator text.now at) }
 {
-    if is_alone(b.c) {
+    if is_single_punctuator(b.c) {
         return Some(b.end);
     }
-    let c = look(text, b.end);
+    let c = char_or_nul(text, b.end);
     if is_single(b.c) & !goes_on(c.c) {
         return Some(b.end);
     }
-    let d = look(text, c.end);
-    let e = look(text, d.end);
+    let d = char_or_nul(text, c.end);
+    let e = char_or_nul(text, d.end);
     if is_quadruple(b.c, c.c, d.c, e.c) {
         return Some(e.end);
     }

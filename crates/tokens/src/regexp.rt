@@ -7,83 +7,83 @@ ghost use Rattle.tokens.specs.RegularExpressions.{has_flags, next_expression, ne
 ghost use Rattle.tokens.specs.States.{expression_of, is_over};
 ghost use Rattle.tokens.specs.Scanned.{IsFlagsAt, NoFlagsAt, IsWordAt, NoWordAt};
 
-use crate::Class;
+use crate::TokenClass;
+use crate::char_at::char_at;
 use crate::name::is_part;
-use crate::step::step_at;
 use source_text::is_line_terminator;
 
 // What has been read of one.
 #[derive(Clone, Copy)]
-enum Part {
+enum RegExpState {
     Opened,
     Body,
     Brackets,
     Flags,
     BodyBackslash,
     BracketsBackslash,
-    NoPart,
+    Failed,
 }
 
-fn next_in_body(c: char) -> Part
+fn next_in_body(c: char) -> RegExpState
     ensures { expression_of result ≡ next_in_body c }
 {
     if is_line_terminator(c) {
-        return Part::NoPart;
+        return RegExpState::Failed;
     }
     match c {
-        '/' => Part::Flags,
-        '\\' => Part::BodyBackslash,
-        '[' => Part::Brackets,
-        _ => Part::Body,
+        '/' => RegExpState::Flags,
+        '\\' => RegExpState::BodyBackslash,
+        '[' => RegExpState::Brackets,
+        _ => RegExpState::Body,
     }
 }
 
-fn next_in_brackets(c: char) -> Part
+fn next_in_brackets(c: char) -> RegExpState
     ensures { expression_of result ≡ next_in_brackets c }
 {
     if is_line_terminator(c) {
-        return Part::NoPart;
+        return RegExpState::Failed;
     }
     match c {
-        '\\' => Part::BracketsBackslash,
-        ']' => Part::Body,
-        _ => Part::Brackets,
+        '\\' => RegExpState::BracketsBackslash,
+        ']' => RegExpState::Body,
+        _ => RegExpState::Brackets,
     }
 }
 
 // Behind one more character.
-fn next_part(part: Part, c: char) -> Part
+fn next_regexp_state(part: RegExpState, c: char) -> RegExpState
     ensures { expression_of result ≡ next_expression (expression_of part) c }
 {
     match part {
-        Part::Opened => {
+        RegExpState::Opened => {
             if c == '*' || c == '/' {
-                Part::NoPart
+                RegExpState::Failed
             } else {
                 next_in_body(c)
             }
         }
-        Part::Body => next_in_body(c),
-        Part::Brackets => next_in_brackets(c),
-        Part::Flags => {
+        RegExpState::Body => next_in_body(c),
+        RegExpState::Brackets => next_in_brackets(c),
+        RegExpState::Flags => {
             if is_part(c) {
-                Part::Flags
+                RegExpState::Flags
             } else {
-                Part::NoPart
+                RegExpState::Failed
             }
         }
-        Part::BodyBackslash => taken(c, Part::Body),
-        Part::BracketsBackslash => taken(c, Part::Brackets),
-        Part::NoPart => Part::NoPart,
+        RegExpState::BodyBackslash => taken(c, RegExpState::Body),
+        RegExpState::BracketsBackslash => taken(c, RegExpState::Brackets),
+        RegExpState::Failed => RegExpState::Failed,
     }
 }
 
 // A state behind a character that a backslash takes.
-fn taken(c: char, part: Part) -> Part
+fn taken(c: char, part: RegExpState) -> RegExpState
     ensures { expression_of result ≡ (if is_line_terminator c then no_expression else expression_of part) }
 {
     if is_line_terminator(c) {
-        Part::NoPart
+        RegExpState::Failed
     } else {
         part
     }
@@ -92,10 +92,10 @@ fn taken(c: char, part: Part) -> Part
 // The place behind the regular expression at a place, if there is one.
 pub fn regexp_end(text: &str, at: usize) -> Option<usize>
     requires { IsPlace text.now at }
-    ensures some { IfSome result (λ e. IsWordAt Class.RegExp text.now at e) }
-    ensures none { IfNone result (NoWordAt Class.RegExp text.now at) }
+    ensures some { IfSome result (λ e. IsWordAt TokenClass.RegularExpressionLiteral text.now at e) }
+    ensures none { IfNone result (NoWordAt TokenClass.RegularExpressionLiteral text.now at) }
 {
-    let Some(first) = step_at(text, at) else {
+    let Some(first) = char_at(text, at) else {
         return None;
     };
     if first.c == '/' {
@@ -111,9 +111,9 @@ fn flags_end(text: &str, at: usize) -> Option<usize>
     ensures none { IfNone result (NoFlagsAt text.now at) }
 {
     let mut end = at;
-    let mut part = Part::Opened;
-    while let Some(step) = step_at(text, end) {
-        let next = next_part(part, step.c);
+    let mut part = RegExpState::Opened;
+    while let Some(step) = char_at(text, end) {
+        let next = next_regexp_state(part, step.c);
         if is_over(next) {
             return if has_flags(part) { Some(end) } else { None };
         }
@@ -125,22 +125,22 @@ fn flags_end(text: &str, at: usize) -> Option<usize>
 
 // Whether none goes on from there.
 #[inline]
-fn is_over(part: Part) -> bool
+fn is_over(part: RegExpState) -> bool
     ensures { result ≡ is_over (expression_of part) }
 {
     match part {
-        Part::NoPart => true,
+        RegExpState::Failed => true,
         _ => false,
     }
 }
 
 // Whether one may end there.
 #[inline]
-fn has_flags(part: Part) -> bool
+fn has_flags(part: RegExpState) -> bool
     ensures { result ≡ has_flags (expression_of part) }
 {
     match part {
-        Part::Flags => true,
+        RegExpState::Flags => true,
         _ => false,
     }
 }

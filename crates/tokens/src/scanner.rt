@@ -6,21 +6,21 @@ ghost use Rattle.source_text.specs.Source.{IsPlace};
 ghost use Rattle.tokens.specs.Tokens.{LexicalToken, IsTokenAt};
 ghost use Rattle.tokens.specs.Reading.{behind, Reads};
 ghost use Rattle.tokens.specs.Alphabet.{begins_with, is_decimal_digit};
-ghost use Rattle.tokens.specs.Fronts.{class_by, class_of, is_mark};
+ghost use Rattle.tokens.specs.TokenStarts.{class_by, class_of, is_mark};
 ghost use Rattle.tokens.specs.Goals.{reads_regexps, reads_template_parts};
 ghost use Rattle.tokens.specs.Scanned.{IsWordAt, NoWordAt, Passed, token_of};
 ghost use Rattle.tokens.specs.Strings.{is_string};
 
 use crate::ascii::is_in;
+use crate::char_at::{CharAt, char_at};
 use crate::name::name_end;
 use crate::number::number_end;
 use crate::punctuator::punctuator_end;
 use crate::regexp::regexp_end;
-use crate::separator::{comment_begins, skip};
-use crate::step::{Step, step_at};
 use crate::string::string_end;
 use crate::template::template_end;
-use crate::{Class, Goal, Token};
+use crate::trivia::{comment_begins, skip_trivia};
+use crate::{Goal, Token, TokenClass};
 use source_text::Source;
 
 /// No token is read at a place; `at` is where it would begin, behind white space and comments, in bytes.
@@ -53,17 +53,17 @@ fn reads_template_parts(goal: Goal) -> bool
 }
 
 // `{` `(` `)` `[` `]` `;` `,` `<` `>` `=` `!` `+` `-` `*` `%` `&` `|` `^` `~` `?` `:`
-const MARKS: [u64; 2] = [0xFC00_3F62_0000_0000, 0x5800_0000_6800_0000];
+const PUNCTUATOR_STARTS: [u64; 2] = [0xFC00_3F62_0000_0000, 0x5800_0000_6800_0000];
 
 // Whether nothing but a punctuator begins with the character.
 #[inline]
-fn is_mark(c: char) -> bool
+fn begins_punctuator(c: char) -> bool
     ensures { result ≡ is_mark c }
 {
     if !c.is_ascii() {
         return false;
     }
-    is_in(&MARKS, c)
+    is_in(&PUNCTUATOR_STARTS, c)
 }
 
 // Whether a digit stands at a place.
@@ -72,7 +72,7 @@ fn digit_follows(text: &str, at: usize) -> bool
     requires { IsPlace text.now at }
     ensures { result ≡ begins_with is_decimal_digit (behind text.now at) }
 {
-    match step_at(text, at) {
+    match char_at(text, at) {
         Some(step) => step.c.is_ascii_digit(),
         None => false,
     }
@@ -80,44 +80,44 @@ fn digit_follows(text: &str, at: usize) -> bool
 
 // The class of the tokens that begin with a character, by the goal and whether a digit follows a point.
 #[inline]
-fn class_by(c: char, goal: Goal, digit: bool) -> Class
+fn class_by(c: char, goal: Goal, digit: bool) -> TokenClass
     ensures { result ≡ class_by goal c digit }
 {
     if c.is_ascii_alphabetic() {
-        return Class::Name;
+        return TokenClass::IdentifierName;
     }
     if c.is_ascii_digit() {
-        return Class::Number;
+        return TokenClass::NumericLiteral;
     }
     match c {
-        '"' | '\'' => Class::Text,
-        '`' => Class::Template,
+        '"' | '\'' => TokenClass::StringLiteral,
+        '`' => TokenClass::Template,
         '}' => {
             if reads_template_parts(goal) {
-                Class::Template
+                TokenClass::Template
             } else {
-                Class::Punctuator
+                TokenClass::Punctuator
             }
         }
         '/' => {
             if reads_regexps(goal) {
-                Class::RegExp
+                TokenClass::RegularExpressionLiteral
             } else {
-                Class::Punctuator
+                TokenClass::Punctuator
             }
         }
         '.' => {
             if digit {
-                Class::Number
+                TokenClass::NumericLiteral
             } else {
-                Class::Punctuator
+                TokenClass::Punctuator
             }
         }
         _ => {
-            if is_mark(c) {
-                Class::Punctuator
+            if begins_punctuator(c) {
+                TokenClass::Punctuator
             } else {
-                Class::Name
+                TokenClass::IdentifierName
             }
         }
     }
@@ -125,7 +125,7 @@ fn class_by(c: char, goal: Goal, digit: bool) -> Class
 
 // Whether the character is a point and a digit stands behind it.
 #[inline]
-fn is_point_before_digit(text: &str, first: Step) -> bool
+fn is_point_before_digit(text: &str, first: CharAt) -> bool
     requires { IsPlace text.now first.end }
     ensures { result ≡ ((first.c == 46) && begins_with is_decimal_digit (behind text.now first.end)) }
 {
@@ -138,41 +138,41 @@ fn is_point_before_digit(text: &str, first: Step) -> bool
 // The place behind the token of a class that begins with a step, if there is one. The class is the one that the goal
 // reads there.
 #[inline]
-fn token_end(text: &str, at: usize, first: Step, class: Class) -> Option<usize>
+fn token_end(text: &str, at: usize, first: CharAt, class: TokenClass) -> Option<usize>
     requires place { IsPlace text.now at }
     requires first { Passed text.now at first.end (first.c ∷ []) }
-    requires class { class ≢ Class.End }
+    requires class { class ≢ TokenClass.End }
     ensures some { IfSome result (λ e. IsWordAt class text.now at e) }
     ensures none { IfNone result (NoWordAt class text.now at) }
 {
     match class {
-        Class::Name => name_end(text, first),
-        Class::Punctuator => punctuator_end(text, first),
-        Class::Number => number_end(text, at),
-        Class::Text => string_end(text, at),
-        Class::Template => template_end(text, at),
-        Class::RegExp => regexp_end(text, at),
-        Class::End => None,
+        TokenClass::IdentifierName => name_end(text, first),
+        TokenClass::Punctuator => punctuator_end(text, first),
+        TokenClass::NumericLiteral => number_end(text, at),
+        TokenClass::StringLiteral => string_end(text, at),
+        TokenClass::Template => template_end(text, at),
+        TokenClass::RegularExpressionLiteral => regexp_end(text, at),
+        TokenClass::End => None,
     }
 }
 
 // A token's class, and the place behind it.
 #[derive(Clone, Copy)]
-struct Word {
-    class: Class,
+struct Lexeme {
+    class: TokenClass,
     end: usize,
 }
 
 // The token that the goal reads at a place where no separator stands, if there is one.
 #[inline]
-fn word_at(text: &str, at: usize, goal: Goal) -> Option<Word>
+fn lexeme_at(text: &str, at: usize, goal: Goal) -> Option<Lexeme>
     requires { IsPlace text.now at }
     ensures some { IfSome result (λ w. (w.class ≡ class_of goal (behind text.now at)) × IsWordAt w.class text.now at w.end) }
     ensures none { IfNone result (NoWordAt (class_of goal (behind text.now at)) text.now at) }
 {
-    let Some(first) = step_at(text, at) else {
-        return Some(Word {
-            class: Class::End,
+    let Some(first) = char_at(text, at) else {
+        return Some(Lexeme {
+            class: TokenClass::End,
             end: at,
         });
     };
@@ -181,7 +181,7 @@ fn word_at(text: &str, at: usize, goal: Goal) -> Option<Word>
     let Some(end) = token_end(text, at, first, class) else {
         return None;
     };
-    Some(Word { class, end })
+    Some(Lexeme { class, end })
 }
 
 /// The token that the goal reads at a place (ECMA-262 clause 11): behind white space, line terminators and comments
@@ -193,19 +193,19 @@ pub fn scan<'s>(source: &Source<'s>, at: usize, goal: Goal) -> Result<Token<'s>,
     requires { IsPlace source.now at }
     ensures ok { IfOk result (λ t. Reads source.now goal at (token_of t)) }
     ensures within { IfOk result (λ t. (at ≤ t.start) × (t.start ≤ t.end) × IsPlace source.now t.start × IsPlace source.now t.end) }
-    ensures goes_on { IfOk result (λ t. t.class ≢ Class.End → t.start < t.end) }
+    ensures goes_on { IfOk result (λ t. t.class ≢ TokenClass.End → t.start < t.end) }
     ensures slice { IfOk result (λ t. t.text.now ≡ slice_range source.now t.start t.end) }
-    ensures string { IfOk result (λ t. t.class ≡ Class.Text → IsTrue (is_string (chars t.text.now))) }
+    ensures string { IfOk result (λ t. t.class ≡ TokenClass.StringLiteral → IsTrue (is_string (chars t.text.now))) }
     ensures err { OnErr result ((t : LexicalToken) (rest : List ℕ) → IsTokenAt goal at (behind source.now at) t rest → ⊥) }
     ensures fault_place { IfErr result (λ f. (at ≤ f.at) × IsPlace source.now f.at) }
 {
     let text = source.text();
-    let gap = skip(text, at);
+    let gap = skip_trivia(text, at);
     let start = gap.end;
     if comment_begins(text, start) {
         return Err(ScanFault { at: start });
     }
-    let Some(word) = word_at(text, start, goal) else {
+    let Some(word) = lexeme_at(text, start, goal) else {
         return Err(ScanFault { at: start });
     };
     Ok(Token {
@@ -213,6 +213,6 @@ pub fn scan<'s>(source: &Source<'s>, at: usize, goal: Goal) -> Result<Token<'s>,
         text: &text[start..word.end],
         start,
         end: word.end,
-        after_break: gap.broken,
+        after_break: gap.has_line_break,
     })
 }

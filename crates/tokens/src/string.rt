@@ -5,17 +5,17 @@ ghost use Rattle.source_text.specs.Source.{IsPlace};
 ghost use Rattle.tokens.specs.Escaped.{IsStringRest, NoStringRest};
 ghost use Rattle.tokens.specs.Scanned.{IsWordAt, NoWordAt};
 
-use crate::Class;
-use crate::escape::piece;
-use crate::step::step_at;
+use crate::TokenClass;
+use crate::char_at::char_at;
+use crate::escape::character_value;
 
 // The place behind the string at a place, if there is one.
 pub fn string_end(text: &str, at: usize) -> Option<usize>
     requires { IsPlace text.now at }
-    ensures some { IfSome result (λ e. IsWordAt Class.Text text.now at e) }
-    ensures none { IfNone result (NoWordAt Class.Text text.now at) }
+    ensures some { IfSome result (λ e. IsWordAt TokenClass.StringLiteral text.now at e) }
+    ensures none { IfNone result (NoWordAt TokenClass.StringLiteral text.now at) }
 {
-    let Some(first) = step_at(text, at) else {
+    let Some(first) = char_at(text, at) else {
         return None;
     };
     if first.c == '"' || first.c == '\'' {
@@ -39,17 +39,17 @@ fn closed_end(text: &str, at: usize, quote: char) -> Option<usize>
     ensures none { IfNone result (NoStringRest quote text.now at) }
 {
     let mut end = at;
-    while let Some(step) = step_at(text, end) {
+    while let Some(step) = char_at(text, end) {
         if step.c == quote {
             return Some(step.end);
         }
         if ends_line(step.c) {
             return None;
         }
-        let Some(piece) = piece(text, step.c, step.end) else {
+        let Some(character_value) = character_value(text, step.c, step.end) else {
             return None;
         };
-        end = piece.end;
+        end = character_value.end;
     }
     None
 }

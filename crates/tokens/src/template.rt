@@ -4,16 +4,16 @@ ghost use Rattle.std.specs.Prelude.{◌≡◌, IfSome, IfNone};
 ghost use Rattle.source_text.specs.Source.{IsPlace};
 ghost use Rattle.tokens.specs.Scanned.{IsPartRest, IsWordAt, NoPartRest, NoWordAt};
 
-use crate::Class;
-use crate::step::step_at;
+use crate::TokenClass;
+use crate::char_at::char_at;
 
 // The place behind the part of a template at a place, if there is one.
 pub fn template_end(text: &str, at: usize) -> Option<usize>
     requires { IsPlace text.now at }
-    ensures some { IfSome result (λ e. IsWordAt Class.Template text.now at e) }
-    ensures none { IfNone result (NoWordAt Class.Template text.now at) }
+    ensures some { IfSome result (λ e. IsWordAt TokenClass.Template text.now at e) }
+    ensures none { IfNone result (NoWordAt TokenClass.Template text.now at) }
 {
-    let Some(first) = step_at(text, at) else {
+    let Some(first) = char_at(text, at) else {
         return None;
     };
     if (first.c == '`') | (first.c == '}') {
@@ -31,7 +31,7 @@ fn part_end(text: &str, at: usize) -> Option<usize>
     let mut end = at;
     let mut taken = false;
     let mut dollar = false;
-    while let Some(step) = step_at(text, end) {
+    while let Some(step) = char_at(text, end) {
         let closes = (step.c == '`') | (dollar & (step.c == '{'));
         if !taken & closes {
             return Some(step.end);

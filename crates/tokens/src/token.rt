@@ -13,18 +13,18 @@ pub enum Goal {
 
 /// What a token is (ECMA-262 clause 11).
 #[derive(Clone, Copy, Debug, PartialEq, Eq)]
-pub enum Class {
+pub enum TokenClass {
     /// An IdentifierName, reserved or not.
-    Name,
+    IdentifierName,
     Punctuator,
     /// A NumericLiteral.
-    Number,
+    NumericLiteral,
     /// A StringLiteral.
-    Text,
+    StringLiteral,
     /// A part of a template, with its delimiters.
     Template,
     /// A RegularExpressionLiteral.
-    RegExp,
+    RegularExpressionLiteral,
     /// The end of the text.
     End,
 }
@@ -32,7 +32,7 @@ pub enum Class {
 /// A token and where it stands: `text` is the slice of the source from `start` to `end`, in bytes.
 #[derive(Clone, Copy)]
 pub struct Token<'s> {
-    pub class: Class,
+    pub class: TokenClass,
     pub text: &'s str,
     pub start: usize,
     pub end: usize,

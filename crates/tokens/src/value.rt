@@ -9,8 +9,8 @@ ghost use Rattle.tokens.specs.Escapes.{unescaped};
 ghost use Rattle.tokens.specs.Strings.{is_string, string_contents, string_units};
 ghost use Rattle.tokens.specs.Templates.{IsSettled, cooked_value, line_end_turned, raw_value};
 
-use crate::escape::piece;
-use crate::step::step_at;
+use crate::char_at::char_at;
+use crate::escape::character_value;
 use std::alloc::{AllocError, Global};
 use std::borrow::CowStr;
 
@@ -61,15 +61,15 @@ fn units_are(text: &str, word: &str) -> bool
 {
     let mut at = 0;
     let mut matched = 0;
-    while let Some(step) = step_at(text, at) {
-        let Some(piece) = piece(text, step.c, step.end) else {
+    while let Some(step) = char_at(text, at) {
+        let Some(character_value) = character_value(text, step.c, step.end) else {
             return false;
         };
-        let Some(more) = matched_by(word, matched, piece.value) else {
+        let Some(more) = matched_by(word, matched, character_value.value) else {
             return false;
         };
         matched = more;
-        at = piece.end;
+        at = character_value.end;
     }
     matched == word.len()
 }
@@ -121,7 +121,7 @@ fn turned(alloc: Global, text: &str) -> Result<String, AllocError>
     let mut out = String::with_capacity(alloc, text.len())?;
     let mut at = 0;
     let mut returned = false;
-    while let Some(step) = step_at(text, at) {
+    while let Some(step) = char_at(text, at) {
         push_turned(&mut out, step.c, returned)?;
         returned = step.c == '\r';
         at = step.end;
@@ -150,12 +150,12 @@ fn units(alloc: Global, text: &str) -> Result<Option<Vec<u16>>, AllocError>
 {
     let mut out = Vec::with_capacity(alloc, text.len())?;
     let mut at = 0;
-    while let Some(step) = step_at(text, at) {
-        let Some(piece) = piece(text, step.c, step.end) else {
+    while let Some(step) = char_at(text, at) {
+        let Some(character_value) = character_value(text, step.c, step.end) else {
             return Ok(None);
         };
-        push_units(&mut out, piece.value)?;
-        at = piece.end;
+        push_units(&mut out, character_value.value)?;
+        at = character_value.end;
     }
     Ok(Some(out))
 }

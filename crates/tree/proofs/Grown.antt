@@ -6,11 +6,11 @@ use Rattle.tree.specs.NodeText.{text_bytes}
 use Rattle.tree.specs.Tree.{Tree, Parts, node, none, part, gap, kind_of, text_of, flags_of, start_of, stop_of, parts_of, parts_with_gaps, part_count, node_total, parts_total}
 use Rattle.tree.specs.declared.flat_node.NodeNumber.{NodeNumber}
 use Rattle.tree.specs.declared.flat_node.FlatNode.{FlatNode}
-use Rattle.tree.specs.declared.growing.Growing.{Growing}
+use Rattle.tree.specs.declared.flat_builder.FlatBuilder.{FlatBuilder}
 use Rattle.tree.specs.Flat.{named, run_of, flat_tree, trees, AreBefore, AreLinked, post_order, parts_post_order, numbers_of, runs_of, parts_runs}
-use Rattle.tree.specs.declared.standing.Standing.{Standing}
-use Rattle.tree.specs.declared.standing.Around.{Around}
-use Rattle.tree.specs.Standings.{has_row, own_rows, rows_in, parts_rows, row_list, parts_row_list, standing_in}
+use Rattle.tree.specs.declared.node_use.NodeUse.{NodeUse}
+use Rattle.tree.specs.declared.node_use.ParentUse.{ParentUse}
+use Rattle.tree.specs.NodeUses.{has_row, own_rows, rows_in, parts_rows, row_list, parts_row_list, use_in}
 use Rattle.tree.specs.Growth.{grown_trees, grown_runs, node_runs, node_rows, IsSound, Pushes, PushesParts}
 use Rattle.tree.specs.Finished.{Finishes, NumbersRow}
 use Rattle.tree.specs.TooLarge.{part_total, parts_part_total}
@@ -64,7 +64,7 @@ trees-append : (pool : Pool) (ts : List Tree) (xs ys : List FlatNode) → trees 
 trees-append pool ts [] ys = refl
 trees-append pool ts (x ∷ xs) ys = trees-append pool (ts ++ flat_tree pool x ts ∷ []) xs ys
 
-length-grown : (g : Growing) → length (grown_trees g) ≡ length g.nodes
+length-grown : (g : FlatBuilder) → length (grown_trees g) ≡ length g.nodes
 length-grown g = omega (arith, length-trees g.parts.items [] g.nodes)
 
 -- Parts, one by one
@@ -98,7 +98,7 @@ parts_part_total-append [] us = omega arith
 parts_part_total-append (None ∷ os) us = parts_part_total-append os us
 parts_part_total-append (Some t ∷ os) us = omega (arith, parts_part_total-append os us)
 
-pub parts_rows-append : (a : Around) (n i : ℕ) (os us : List (Option Tree)) → parts_rows a n i (parts_with_gaps (os ++ us)) ≡ parts_rows a n i (parts_with_gaps os) + parts_rows a n (i + length os) (parts_with_gaps us)
+pub parts_rows-append : (a : ParentUse) (n i : ℕ) (os us : List (Option Tree)) → parts_rows a n i (parts_with_gaps (os ++ us)) ≡ parts_rows a n i (parts_with_gaps os) + parts_rows a n (i + length os) (parts_with_gaps us)
 parts_rows-append a n i [] us = let at : i ≡ i + 0 = omega arith in omega (arith, ap (λ m. parts_rows a n m (parts_with_gaps us)) at)
 parts_rows-append a n i (None ∷ os) us =
     let at : (i + 1) + length os ≡ i + suc (length os) = omega arith in
@@ -107,7 +107,7 @@ parts_rows-append a n i (Some t ∷ os) us =
     let at : (i + 1) + length os ≡ i + suc (length os) = omega arith in
     omega (arith, parts_rows-append a n (i + 1) os us, ap (λ m. parts_rows a n m (parts_with_gaps us)) at)
 
-parts_row_list-append : (a : Around) (n i r : ℕ) (os us : List (Option Tree)) → parts_row_list a n i r (parts_with_gaps (os ++ us))
+parts_row_list-append : (a : ParentUse) (n i r : ℕ) (os us : List (Option Tree)) → parts_row_list a n i r (parts_with_gaps (os ++ us))
     ≡ parts_row_list a n i r (parts_with_gaps os) ++ parts_row_list a n (i + length os) (r + parts_rows a n i (parts_with_gaps os)) (parts_with_gaps us)
 parts_row_list-append a n i r [] us =
     let at : i ≡ i + 0 = omega arith in
@@ -119,9 +119,9 @@ parts_row_list-append a n i r (None ∷ os) us =
     ∙ ap (λ m. parts_row_list a n (i + 1) r (parts_with_gaps os) ++ parts_row_list a n m (r + parts_rows a n (i + 1) (parts_with_gaps os)) (parts_with_gaps us)) at
 parts_row_list-append a n i r (Some t ∷ os) us =
     let at : (i + 1) + length os ≡ i + suc (length os) = omega arith in
-    let more = rows_in (standing_in a n i t) t in
+    let more = rows_in (use_in a n i t) t in
     let from : (r + more) + parts_rows a n (i + 1) (parts_with_gaps os) ≡ r + (more + parts_rows a n (i + 1) (parts_with_gaps os)) = omega arith in
-    let own = row_list (standing_in a n i t) r t in
+    let own = row_list (use_in a n i t) r t in
     let front = parts_row_list a n (i + 1) (r + more) (parts_with_gaps os) in
     ap (λ (rs : List (Option ℕ)). own ++ rs)
     (parts_row_list-append a n (i + 1) (r + more) os us
@@ -130,23 +130,23 @@ parts_row_list-append a n i r (Some t ∷ os) us =
     ∙ sym (append_assoc own front (parts_row_list a n (i + suc (length os)) (r + (more + parts_rows a n (i + 1) (parts_with_gaps os))) (parts_with_gaps us)))
 
 -- how many nodes stand then
-pub length-parts : (a b : Growing) (os : List (Option Tree)) → grown_trees b ≡ grown_trees a ++ parts_post_order (parts_with_gaps os) → length b.nodes ≡ length a.nodes + parts_total (parts_with_gaps os)
+pub length-parts : (a b : FlatBuilder) (os : List (Option Tree)) → grown_trees b ≡ grown_trees a ++ parts_post_order (parts_with_gaps os) → length b.nodes ≡ length a.nodes + parts_total (parts_with_gaps os)
 length-parts a b os h =
     omega (arith, length-grown a, length-grown b, ap length h, length-append (grown_trees a) (parts_post_order (parts_with_gaps os)), length-parts_post_order (parts_with_gaps os))
 
-length-node : (b c : Growing) (t : Tree) → grown_trees c ≡ grown_trees b ++ post_order t → length c.nodes ≡ length b.nodes + node_total t
+length-node : (b c : FlatBuilder) (t : Tree) → grown_trees c ≡ grown_trees b ++ post_order t → length c.nodes ≡ length b.nodes + node_total t
 length-node b c t h = omega (arith, length-grown b, length-grown c, ap length h, length-append (grown_trees b) (post_order t), length-post_order t)
 
-same_trees : (c d : Growing) → d.nodes ≡ c.nodes → d.parts.items ≡ c.parts.items → grown_trees d ≡ grown_trees c
+same_trees : (c d : FlatBuilder) → d.nodes ≡ c.nodes → d.parts.items ≡ c.parts.items → grown_trees d ≡ grown_trees c
 same_trees c d n p = ap (λ (os : Pool). trees os [] d.nodes) p ∙ ap (λ (es : List FlatNode). trees c.parts.items [] es) n
 
-same_runs : (c d : Growing) → d.nodes ≡ c.nodes → d.parts.items ≡ c.parts.items → grown_runs d ≡ grown_runs c
+same_runs : (c d : FlatBuilder) → d.nodes ≡ c.nodes → d.parts.items ≡ c.parts.items → grown_runs d ≡ grown_runs c
 same_runs c d n p = ap (λ (os : Pool). node_runs os d.nodes) p ∙ ap (node_runs c.parts.items) n
 
-pub same_sound : (c d : Growing) → d.nodes ≡ c.nodes → d.parts.items ≡ c.parts.items → IsSound c → IsSound d
+pub same_sound : (c d : FlatBuilder) → d.nodes ≡ c.nodes → d.parts.items ≡ c.parts.items → IsSound c → IsSound d
 same_sound c d n p s = subst (λ (os : Pool). AreLinked os 0 d.nodes) (sym p) (subst (λ (es : List FlatNode). AreLinked c.parts.items 0 es) (sym n) s)
 
-pub no_parts : (g : Growing) (r : Around) (n : ℕ) → IsSound g → PushesParts g g r n []
+pub no_parts : (g : FlatBuilder) (r : ParentUse) (n : ℕ) → IsSound g → PushesParts g g r n []
 no_parts g r n s = record {
   sound = s;
   nodes = sym (append-nil (grown_trees g));
@@ -161,7 +161,7 @@ no_parts g r n s = record {
   numbered = refl;
 }
 
-pub next_gap : (a b d : Growing) (r : Around) (m : ℕ) (os : List (Option Tree)) → PushesParts a b r m os → d.nodes ≡ b.nodes → d.parts.items ≡ b.parts.items
+pub next_gap : (a b d : FlatBuilder) (r : ParentUse) (m : ℕ) (os : List (Option Tree)) → PushesParts a b r m os → d.nodes ≡ b.nodes → d.parts.items ≡ b.parts.items
     → d.pending.items ≡ b.pending.items ++ None ∷ [] → d.next_row ≡ b.next_row → PushesParts a d r m (os ++ None ∷ [])
 next_gap a b d r m os h n p w x =
     let same = same_trees b d n p in
@@ -182,8 +182,8 @@ next_gap a b d r m os h n p w x =
       numbered = ap (λ (ns : Pool). ns ++ None ∷ []) h.numbered ∙ sym (numbers_of-append (length a.nodes) os (None ∷ []));
     }
 
-pub next_part : (a b c d : Growing) (r : Around) (q : ℕ) (os : List (Option Tree)) (k : NodeNumber) (st : Standing) (t : Tree) → PushesParts a b r q os → Pushes b c k.number st t
-    → st ≡ standing_in r q (0 + length os) t → d.nodes ≡ c.nodes
+pub next_part : (a b c d : FlatBuilder) (r : ParentUse) (q : ℕ) (os : List (Option Tree)) (k : NodeNumber) (st : NodeUse) (t : Tree) → PushesParts a b r q os → Pushes b c k.number st t
+    → st ≡ use_in r q (0 + length os) t → d.nodes ≡ c.nodes
     → d.parts.items ≡ c.parts.items → d.pending.items ≡ c.pending.items ++ Some k ∷ [] → d.next_row ≡ c.next_row → PushesParts a d r q (os ++ Some t ∷ [])
 next_part a b c d r q os k st t h m stands n p w x =
     let same = same_trees c d n p in
@@ -215,14 +215,14 @@ next_part a b c d r q os k st t h m stands n p w x =
           ∙ ap (λ (rs : List Pool). grown_runs a ++ rs) (ap (λ n. parts_runs (length a.nodes) (parts_with_gaps os) ++ runs_of n t) at_b
           ∙ ap (λ (rs : List Pool). parts_runs (length a.nodes) (parts_with_gaps os) ++ rs) (sym (append-nil (runs_of (length a.nodes + parts_total (parts_with_gaps os)) t)))
           ∙ sym (parts_runs-append (length a.nodes) os (Some t ∷ [])));
-      next = omega (arith, x, m.next, h.next, parts_rows-append r q 0 os (Some t ∷ []), ap (λ (z : Standing). rows_in z t) stands);
+      next = omega (arith, x, m.next, h.next, parts_rows-append r q 0 os (Some t ∷ []), ap (λ (z : NodeUse). rows_in z t) stands);
       rows = ap node_rows n ∙ m.rows ∙ ap (λ (rs : List (Option ℕ)). rs ++ row_list st b.next_row t) h.rows
           ∙ append_assoc (node_rows a.nodes) (parts_row_list r q 0 a.next_row (parts_with_gaps os)) (row_list st b.next_row t)
           ∙ ap (λ (rs : List (Option ℕ)). node_rows a.nodes ++ rs)
-          (ap (λ (z : Standing). parts_row_list r q 0 a.next_row (parts_with_gaps os) ++ row_list z b.next_row t) stands
-          ∙ ap (λ i. parts_row_list r q 0 a.next_row (parts_with_gaps os) ++ row_list (standing_in r q (0 + length os) t) i t) h.next
+          (ap (λ (z : NodeUse). parts_row_list r q 0 a.next_row (parts_with_gaps os) ++ row_list z b.next_row t) stands
+          ∙ ap (λ i. parts_row_list r q 0 a.next_row (parts_with_gaps os) ++ row_list (use_in r q (0 + length os) t) i t) h.next
           ∙ ap (λ (rs : List (Option ℕ)). parts_row_list r q 0 a.next_row (parts_with_gaps os) ++ rs)
-          (sym (append-nil (row_list (standing_in r q (0 + length os) t) (a.next_row + parts_rows r q 0 (parts_with_gaps os)) t)))
+          (sym (append-nil (row_list (use_in r q (0 + length os) t) (a.next_row + parts_rows r q 0 (parts_with_gaps os)) t)))
           ∙ sym (parts_row_list-append r q 0 a.next_row os (Some t ∷ [])));
       numbered = ap (λ (ns : Pool). ns ++ Some k ∷ []) h.numbered ∙ ap (λ n. numbers_of (length a.nodes) (parts_with_gaps os) ++ Some (record { number = n }) ∷ []) at_k
           ∙ sym (numbers_of-append (length a.nodes) os (Some t ∷ []));
@@ -239,18 +239,18 @@ runs_of-whole i (node k w g s e ps) = refl
 post_order-whole : (t : Tree) → post_order t ≡ parts_post_order (parts_of t) ++ t ∷ []
 post_order-whole (node k w g s e ps) = refl
 
-row_list-whole : (st : Standing) (r : ℕ) (t : Tree) → row_list st r t
-    ≡ parts_row_list (record { standing = st; kind = kind_of t; flags = flags_of t }) (part_count (parts_of t)) 0 (r + own_rows st (kind_of t)) (parts_of t) ++ cond (has_row st (kind_of t)) (Some r) None ∷ []
+row_list-whole : (st : NodeUse) (r : ℕ) (t : Tree) → row_list st r t
+    ≡ parts_row_list (record { node_use = st; kind = kind_of t; flags = flags_of t }) (part_count (parts_of t)) 0 (r + own_rows st (kind_of t)) (parts_of t) ++ cond (has_row st (kind_of t)) (Some r) None ∷ []
 row_list-whole st r (node k w g s e ps) = refl
 
-rows_in-whole : (st : Standing) (t : Tree) → rows_in st t ≡ own_rows st (kind_of t) + parts_rows (record { standing = st; kind = kind_of t; flags = flags_of t }) (part_count (parts_of t)) 0 (parts_of t)
+rows_in-whole : (st : NodeUse) (t : Tree) → rows_in st t ≡ own_rows st (kind_of t) + parts_rows (record { node_use = st; kind = kind_of t; flags = flags_of t }) (part_count (parts_of t)) 0 (parts_of t)
 rows_in-whole st (node k w g s e ps) = refl
 
 pub part_total-whole : (t : Tree) → part_total t ≡ part_count (parts_of t) + parts_part_total (parts_of t)
 part_total-whole (node k w g s e ps) = refl
 
 -- as many parts wait as there are
-pub waiting_parts : (a b : Growing) (r : Around) (n : ℕ) (os : List (Option Tree)) (h : PushesParts a b r n os) → length h.numbers ≡ part_count (parts_with_gaps os)
+pub waiting_parts : (a b : FlatBuilder) (r : ParentUse) (n : ℕ) (os : List (Option Tree)) (h : PushesParts a b r n os) → length h.numbers ≡ part_count (parts_with_gaps os)
 waiting_parts a b r n os h = omega (arith, length-map h.numbers (named (grown_trees b)), ap length h.show, part_count-gaps os)
 
 -- a node without parts
@@ -259,7 +259,7 @@ no_items [] h = refl
 no_items (o ∷ os) h = absurd (cc)
 
 -- only the label of the tree counts
-pub relabelled : (b c : Growing) (waiting : ℕ) (u t : Tree) (own : Option ℕ) (k : ℕ) → kind_of u ≡ kind_of t → text_of u ≡ text_of t → flags_of u ≡ flags_of t → start_of u ≡ start_of t → stop_of u ≡ stop_of t
+pub relabelled : (b c : FlatBuilder) (waiting : ℕ) (u t : Tree) (own : Option ℕ) (k : ℕ) → kind_of u ≡ kind_of t → text_of u ≡ text_of t → flags_of u ≡ flags_of t → start_of u ≡ start_of t → stop_of u ≡ stop_of t
     → Finishes b c waiting u own k → Finishes b c waiting t own k
 relabelled b c waiting u t own k kinds texts flags starts stops f = record {
   added = f.added;
@@ -279,9 +279,9 @@ relabelled b c waiting u t own k kinds texts flags starts stops f = record {
   numbered = f.numbered;
 }
 
-pub finished : (a0 a b c : Growing) (os : List (Option Tree)) (waiting k : ℕ) (st : Standing) (row : Option ℕ) (t : Tree) (r : Around) (n : ℕ)
+pub finished : (a0 a b c : FlatBuilder) (os : List (Option Tree)) (waiting k : ℕ) (st : NodeUse) (row : Option ℕ) (t : Tree) (r : ParentUse) (n : ℕ)
     → NumbersRow a0 a st (kind_of t) row → PushesParts a b r n os → Finishes b c waiting t row k → waiting ≡ length a.pending.items
-    → parts_with_gaps os ≡ parts_of t → r ≡ record { standing = st; kind = kind_of t; flags = flags_of t } → n ≡ part_count (parts_of t) → Pushes a0 c k st t
+    → parts_with_gaps os ≡ parts_of t → r ≡ record { node_use = st; kind = kind_of t; flags = flags_of t } → n ≡ part_count (parts_of t) → Pushes a0 c k st t
 finished a0 a b c os waiting k st row t r n z h f l o ar an =
     let numbers = h.numbers in
     let dropped : drop waiting b.pending.items ≡ numbers = ap (λ n. drop n b.pending.items) l ∙ ap (drop (length a.pending.items)) h.pending ∙ drop-append_seam a.pending.items numbers in
@@ -313,7 +313,7 @@ finished a0 a b c os waiting k st row t r n z h f l o ar an =
     subst (λ (us : Pool). AreBefore (0 + length b.nodes) us) (sym run) (AreBefore-more (length b.nodes) (0 + length b.nodes) numbers (omega arith) h.before) in
     let sound : AreLinked (b.parts.items ++ numbers) 0 (b.nodes ++ f.added ∷ []) =
     AreLinked-append (b.parts.items ++ numbers) 0 b.nodes (f.added ∷ []) (AreLinked-more b.parts.items numbers 0 b.nodes h.sound) (fits, (low, tt)) in
-    let whole_around : Around = record { standing = st; kind = kind_of t; flags = flags_of t } in
+    let whole_around : ParentUse = record { node_use = st; kind = kind_of t; flags = flags_of t } in
     let own : Option ℕ = cond (has_row st (kind_of t)) (Some a0.next_row) None in
     let at : k ≡ length ts = f.number ∙ sym (length-grown b) in
     let counted_row : a.next_row ≡ a0.next_row + own_rows st (kind_of t) = z.next (omega (arith, h.next, f.numbered.1)) in
@@ -348,7 +348,7 @@ finished a0 a b c os waiting k st row t r n z h f l o ar an =
         h.next,
         counted_row,
         rows_in-whole st t,
-        ap (λ (x : Around). parts_rows x n 0 (parts_with_gaps os)) ar,
+        ap (λ (x : ParentUse). parts_rows x n 0 (parts_with_gaps os)) ar,
         ap (λ m. parts_rows whole_around m 0 (parts_with_gaps os)) an,
         ap (λ (qs : Parts). parts_rows whole_around (part_count (parts_of t)) 0 qs) o,
       );
@@ -358,7 +358,7 @@ finished a0 a b c os waiting k st row t r n z h f l o ar an =
           ∙ append_assoc (node_rows a.nodes) (parts_row_list r n 0 a.next_row (parts_with_gaps os)) (own ∷ [])
           ∙ ap (λ (es : List FlatNode). node_rows es ++ (parts_row_list r n 0 a.next_row (parts_with_gaps os) ++ own ∷ [])) z.nodes
           ∙ ap (λ (rs : List (Option ℕ)). node_rows a0.nodes ++ (rs ++ own ∷ []))
-          (ap (λ (x : Around). parts_row_list x n 0 a.next_row (parts_with_gaps os)) ar
+          (ap (λ (x : ParentUse). parts_row_list x n 0 a.next_row (parts_with_gaps os)) ar
           ∙ ap (λ m. parts_row_list whole_around m 0 a.next_row (parts_with_gaps os)) an
           ∙ ap (λ m. parts_row_list whole_around (part_count (parts_of t)) 0 m (parts_with_gaps os)) counted_row
           ∙ ap (λ (qs : Parts). parts_row_list whole_around (part_count (parts_of t)) 0 (a0.next_row + own_rows st (kind_of t)) qs) o)

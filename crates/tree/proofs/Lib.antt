@@ -11,6 +11,6 @@ pub mod Chunks
 pub mod FlatTrees
 pub mod Runs
 pub mod Grown
-pub mod Overflowing
+pub mod TreesTooLarge
 pub mod Wholes
 pub mod Parents

@@ -4,15 +4,15 @@ use Rattle.std.proofs.lemmas.Option.{slice_get-get_or, get_or_from_slice_get}
 use Rattle.tree.specs.Tree.{Tree, node_total, parts_with_gaps}
 use Rattle.tree.specs.declared.flat_node.FlatNode.{FlatNode}
 use Rattle.tree.specs.declared.flat_tree.FlatTree.{FlatTree}
-use Rattle.tree.specs.declared.growing.Growing.{Growing}
+use Rattle.tree.specs.declared.flat_builder.FlatBuilder.{FlatBuilder}
 use Rattle.tree.specs.Flat.{named, run_of, flat_tree, trees, tree_at, no_tree, AreBefore, AreLinked, post_order, runs_of}
-use Rattle.tree.specs.declared.standing.Standing.{Standing}
-use Rattle.tree.specs.declared.standing.Standing.TheVariants.{Plain}
-use Rattle.tree.specs.Standings.{row_list, rows_of}
+use Rattle.tree.specs.declared.node_use.NodeUse.{NodeUse}
+use Rattle.tree.specs.declared.node_use.NodeUse.TheVariants.{NotEvaluated}
+use Rattle.tree.specs.NodeUses.{row_list, rows_of}
 use Rattle.tree.specs.Growth.{grown_trees, node_rows, node_runs, held, row_at, Pushes}
 use Rattle.std.proofs.lemmas.List.{length-map}
 use Rattle.tree.specs.Whole.{whole_tree, IsWhole}
-use Rattle.tree.specs.Alike.{IsAlike, AreAlike}
+use Rattle.tree.specs.AlikeNodes.{IsAlike, AreAlike}
 use Rattle.tree.proofs.FlatTrees.{Pool, length-trees}
 use Rattle.tree.proofs.Grown.{length-post_order}
 
@@ -33,23 +33,23 @@ row_named f i h l =
     ap (λ (rs : List (Option ℕ)). slice_get rs i) (sym h.rows) ∙ there ∙ ap Some (sym (ap held there))
 
 -- what is pushed onto nothing is whole
-pub last_pushed : (old new : Growing) (k : ℕ) (a : Standing) (t : Tree) → Pushes old new k a t → tree_at new.parts.items new.nodes (length new.nodes - 1) ≡ t
+pub last_pushed : (old new : FlatBuilder) (k : ℕ) (a : NodeUse) (t : Tree) → Pushes old new k a t → tree_at new.parts.items new.nodes (length new.nodes - 1) ≡ t
 last_pushed old new k a t h =
     let at : length new.nodes - 1 ≡ k = omega (arith, h.last) in
     ap (tree_at new.parts.items new.nodes) at ∙ get_or_from_slice_get (grown_trees new) k t no_tree h.shows
 
-pub all_shown : (old new : Growing) (k : ℕ) (a : Standing) (t : Tree) (f : FlatTree) → Pushes old new k a t → f.nodes ≡ new.nodes → f.parts.items ≡ new.parts.items → whole_tree f ≡ t
+pub all_shown : (old new : FlatBuilder) (k : ℕ) (a : NodeUse) (t : Tree) (f : FlatTree) → Pushes old new k a t → f.nodes ≡ new.nodes → f.parts.items ≡ new.parts.items → whole_tree f ≡ t
 all_shown old new k a t f h n p =
     ap (λ (os : Pool). tree_at os f.nodes (length f.nodes - 1)) p ∙ ap (λ (es : List FlatNode). tree_at new.parts.items es (length es - 1)) n ∙ last_pushed old new k a t h
 
-pub all_whole : (old new : Growing) (k : ℕ) (t : Tree) (f : FlatTree) → Pushes old new k Plain t → old.nodes ≡ [] → old.next_row ≡ 1 → f.nodes ≡ new.nodes → f.parts.items ≡ new.parts.items → IsWhole f
+pub all_whole : (old new : FlatBuilder) (k : ℕ) (t : Tree) (f : FlatTree) → Pushes old new k NotEvaluated t → old.nodes ≡ [] → old.next_row ≡ 1 → f.nodes ≡ new.nodes → f.parts.items ≡ new.parts.items → IsWhole f
 all_whole old new k t f h o x n p = record {
   filled = omega (arith, ap length n, h.last);
   nodes = ap (λ (os : Pool). trees os [] f.nodes) p ∙ ap (λ (es : List FlatNode). trees new.parts.items [] es) n ∙ h.nodes
-      ∙ ap (λ (es : List FlatNode). trees old.parts.items [] es ++ post_order t) o ∙ ap post_order (sym (all_shown old new k Plain t f h n p));
+      ∙ ap (λ (es : List FlatNode). trees old.parts.items [] es ++ post_order t) o ∙ ap post_order (sym (all_shown old new k NotEvaluated t f h n p));
   runs = ap (λ (os : Pool). node_runs os f.nodes) p ∙ ap (node_runs new.parts.items) n ∙ h.runs
-      ∙ ap (λ (es : List FlatNode). node_runs old.parts.items es ++ runs_of (length es) t) o ∙ ap (runs_of 0) (sym (all_shown old new k Plain t f h n p));
-  rows = ap node_rows n ∙ h.rows ∙ ap (λ (es : List FlatNode). node_rows es ++ row_list Plain old.next_row t) o ∙ ap (λ i. row_list Plain i t) x ∙ ap rows_of (sym (all_shown old new k Plain t f h n p));
+      ∙ ap (λ (es : List FlatNode). node_runs old.parts.items es ++ runs_of (length es) t) o ∙ ap (runs_of 0) (sym (all_shown old new k NotEvaluated t f h n p));
+  rows = ap node_rows n ∙ h.rows ∙ ap (λ (es : List FlatNode). node_rows es ++ row_list NotEvaluated old.next_row t) o ∙ ap (λ i. row_list NotEvaluated i t) x ∙ ap rows_of (sym (all_shown old new k NotEvaluated t f h n p));
 }
 
 -- Nodes that are the same but for who owns their texts show the same trees

@@ -54,28 +54,28 @@ AreLinked pool i (e ∷ es) = (e.first + e.count ≤ length pool) × (AreBefore 
 abbrev mutual
   -- a tree and all below it, parts before their node
   pub post_order : Tree → List Tree
-  post_order (node k w g s e ps) = parts_post_order ps ++ node k w g s e ps ∷ []
+  post_order (node kind text flags from to parts) = parts_post_order parts ++ node kind text flags from to parts ∷ []
 
   pub parts_post_order : Parts → List Tree
   parts_post_order none = []
-  parts_post_order (part t ps) = post_order t ++ parts_post_order ps
-  parts_post_order (gap ps) = parts_post_order ps
+  parts_post_order (part tree rest) = post_order tree ++ parts_post_order rest
+  parts_post_order (gap rest) = parts_post_order rest
 
 -- the numbers of some parts, where the first node of the first has this number
 abbrev pub numbers_of : ℕ → Parts → List (Option NodeNumber)
 numbers_of i none = []
-numbers_of i (part t ps) = Some (record { number = i + node_total t - 1 }) ∷ numbers_of (i + node_total t) ps
-numbers_of i (gap ps) = None ∷ numbers_of i ps
+numbers_of i (part tree rest) = Some (record { number = i + node_total tree - 1 }) ∷ numbers_of (i + node_total tree) rest
+numbers_of i (gap rest) = None ∷ numbers_of i rest
 
 abbrev mutual
   -- the parts of each node of a tree, whose first node has this number
   pub runs_of : ℕ → Tree → List (List (Option NodeNumber))
-  runs_of i (node k w g s e ps) = parts_runs i ps ++ numbers_of i ps ∷ []
+  runs_of i (node kind text flags from to parts) = parts_runs i parts ++ numbers_of i parts ∷ []
 
   pub parts_runs : ℕ → Parts → List (List (Option NodeNumber))
   parts_runs i none = []
-  parts_runs i (part t ps) = runs_of i t ++ parts_runs (i + node_total t) ps
-  parts_runs i (gap ps) = parts_runs i ps
+  parts_runs i (part tree rest) = runs_of i tree ++ parts_runs (i + node_total tree) rest
+  parts_runs i (gap rest) = parts_runs i rest
 
 abbrev pub same_number : ℕ → ℕ → Bool
 same_number zero zero = true

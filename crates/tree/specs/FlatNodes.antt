@@ -2,21 +2,21 @@
 use Rattle.std.specs.Prelude.{ℕ, ◌<◌, ◌≤◌, List, [], ◌∷◌, ◌++◌, length}
 use Rattle.std.specs.Vec.{vec_capacity}
 use Rattle.tree.specs.declared.flat_node.FlatNode.{FlatNode}
-use Rattle.tree.specs.declared.flat_nodes.Chunk.{Chunk}
+use Rattle.tree.specs.declared.flat_nodes.Segment.{Segment}
 
-abbrev pub chunk_size : ℕ
-chunk_size = 256
+abbrev pub segment_length : ℕ
+segment_length = 256
 
 -- the nodes of all chunks
-abbrev pub joined : List Chunk → List FlatNode
+abbrev pub joined : List Segment → List FlatNode
 joined [] = []
 joined (p ∷ ps) = p.nodes.items ++ joined ps
 
-abbrev pub AllButTheLastAreFull : List Chunk → Type 0
+abbrev pub AllButTheLastAreFull : List Segment → Type 0
 AllButTheLastAreFull [] = Unit {0}
-AllButTheLastAreFull (p ∷ ps) = (length p.nodes.items ≤ chunk_size) × ((0 < length ps → chunk_size ≤ length p.nodes.items) × AllButTheLastAreFull ps)
+AllButTheLastAreFull (p ∷ ps) = (length p.nodes.items ≤ segment_length) × ((0 < length ps → segment_length ≤ length p.nodes.items) × AllButTheLastAreFull ps)
 
 -- each has room for as many nodes as a full one
-abbrev pub HaveRoom : List Chunk → Type 0
+abbrev pub HaveRoom : List Segment → Type 0
 HaveRoom [] = Unit {0}
-HaveRoom (p ∷ ps) = (chunk_size ≤ vec_capacity p.nodes) × HaveRoom ps
+HaveRoom (p ∷ ps) = (segment_length ≤ vec_capacity p.nodes) × HaveRoom ps

@@ -15,6 +15,6 @@ pub mod Growth
 pub mod Finished
 pub mod Whole
 pub mod TooLarge
-pub mod Alike
-pub mod Standings
+pub mod AlikeNodes
+pub mod NodeUses
 pub mod Laws

@@ -2,15 +2,15 @@
 use Rattle.std.specs.Prelude.{ℕ, [], map, Option}
 use Rattle.tree.specs.Tree.{Tree, Parts, parts_with_gaps}
 use Rattle.tree.specs.Flat.{flat_tree, trees, named}
-use Rattle.tree.specs.declared.place.Place.{Place}
-use Rattle.tree.specs.declared.run.Run.{Run}
+use Rattle.tree.specs.declared.flat_ref.FlatRef.{FlatRef}
+use Rattle.tree.specs.declared.flat_list.FlatList.{FlatList}
 
-abbrev pub place_tree : Place → Tree
+abbrev pub place_tree : FlatRef → Tree
 place_tree p = flat_tree p.tree.now.parts.items p.node.now (trees p.tree.now.parts.items [] p.tree.now.nodes)
 
 -- the row that it holds
-abbrev pub place_row : Place → Option ℕ
+abbrev pub place_row : FlatRef → Option ℕ
 place_row p = p.node.now.row
 
-abbrev pub run_parts : Run → Parts
+abbrev pub run_parts : FlatList → Parts
 run_parts r = parts_with_gaps (map (named (trees r.tree.now.parts.items [] r.tree.now.nodes)) r.parts.now)

@@ -3,7 +3,7 @@ use Rattle.std.specs.Prelude.{◌≡◌, ◌-◌, ◌<◌, [], length}
 use Rattle.tree.specs.Tree.{Tree}
 use Rattle.tree.specs.Flat.{tree_at, trees, post_order, runs_of}
 use Rattle.tree.specs.Growth.{node_rows, node_runs}
-use Rattle.tree.specs.Standings.{rows_of}
+use Rattle.tree.specs.NodeUses.{rows_of}
 use Rattle.tree.specs.declared.flat_tree.FlatTree.{FlatTree}
 
 -- the tree of the last node

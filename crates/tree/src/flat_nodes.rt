@@ -2,25 +2,25 @@
 
 ghost use Rattle.std.specs.Prelude.{◌≡◌, ◌≤◌, [], IfOk};
 ghost use Rattle.std.specs.Vec.{vec_capacity};
-ghost use Rattle.tree.specs.FlatNodes.{chunk_size};
+ghost use Rattle.tree.specs.FlatNodes.{segment_length};
 
 use crate::flat_node::FlatNode;
 use std::alloc::{AllocError, Global};
 use std::marker::Model;
 
 /// How many nodes a chunk has room for. Boxed nodes are let go while these are made: a chunk fits where some of them were.
-const CHUNK: usize = 256;
+const SEGMENT_LENGTH: usize = 256;
 
 /// Some nodes, one behind the other.
 #[derive(Drop)]
-struct Chunk<'s> {
+struct Segment<'s> {
     nodes: Vec<FlatNode<'s>>,
 }
 
 /// The nodes of the finished tree in their order, kept in chunks of one size, which contracts see as one list.
 #[derive(Drop)]
 pub(crate) struct FlatNodes<'s> {
-    chunks: Vec<Chunk<'s>>,
+    chunks: Vec<Segment<'s>>,
     count: usize,
 }
 
@@ -61,8 +61,8 @@ impl<'s> FlatNodes<'s> {
         requires { number < length self.now }
         ensures { result.now ≡ slice_index_or self.now number result.now }
     {
-        let chunk = &self.chunks[number / CHUNK];
-        &chunk.nodes[number % CHUNK]
+        let chunk = &self.chunks[number / SEGMENT_LENGTH];
+        &chunk.nodes[number % SEGMENT_LENGTH]
     }
 
     /// One more node, behind the others.
@@ -71,9 +71,9 @@ impl<'s> FlatNodes<'s> {
         requires { length self.old < usize.MAX }
         ensures { IfOk result (λ _. self.new ≡ self.old ++ node.entry ∷ []) }
     {
-        let at = self.count / CHUNK;
+        let at = self.count / SEGMENT_LENGTH;
         if self.chunks.len() <= at {
-            self.chunks.push(empty_chunk(alloc)?)?;
+            self.chunks.push(empty_segment(alloc)?)?;
         }
         let chunk = &mut self.chunks[at];
         chunk.nodes.push_reserved(node);
@@ -85,10 +85,10 @@ impl<'s> FlatNodes<'s> {
 /// A chunk with room for all its nodes.
 #[cold]
 #[inline(never)]
-fn empty_chunk<'s>(alloc: Global) -> Result<Chunk<'s>, AllocError>
+fn empty_segment<'s>(alloc: Global) -> Result<Segment<'s>, AllocError>
     ensures empty { IfOk result (λ chunk. chunk.nodes.items ≡ []) }
-    ensures room { IfOk result (λ chunk. chunk_size ≤ vec_capacity chunk.nodes) }
+    ensures room { IfOk result (λ chunk. segment_length ≤ vec_capacity chunk.nodes) }
 {
-    let nodes = Vec::with_capacity(alloc, CHUNK)?;
-    Ok(Chunk { nodes })
+    let nodes = Vec::with_capacity(alloc, SEGMENT_LENGTH)?;
+    Ok(Segment { nodes })
 }

@@ -2,36 +2,36 @@
 
 //! The tree of a script: ESTree nodes.
 
+mod boxed_node;
 mod build;
 mod build_error;
 mod copy;
-mod finish;
+mod finish_node;
+mod flat_builder;
+mod flat_list;
 mod flat_node;
 mod flat_nodes;
+mod flat_ref;
 mod flat_tree;
-mod growing;
 mod kind;
 pub mod laws;
-mod list;
 mod node;
+mod node_list;
 mod node_text;
+mod node_use;
+mod part_access;
 mod part_number;
 mod parts;
-mod parts_at;
-mod place;
 mod program;
-mod run;
-mod standing;
-mod syntax;
 mod walk;
 
+pub use boxed_node::BoxedNode;
 pub use build_error::BuildError;
 pub use copy::try_copy;
 pub use kind::{Flags, Form, Kind, Pair, Span};
-pub use list::NodeList;
 pub use node::Node;
+pub use node_list::NodeList;
 pub use node_text::NodeText;
 pub use parts::Parts;
 pub use program::Program;
-pub use syntax::Syntax;
 pub use walk::{height, same_tree};

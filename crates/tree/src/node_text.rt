@@ -11,8 +11,8 @@ use std::borrow::CowStr;
 /// A slice of the source, as nearly all texts are, or one that was made. It takes less room than a `CowStr`.
 #[derive(Drop)]
 pub enum NodeText<'s> {
-    Slice(&'s str),
-    Made(Box<String>),
+    Borrowed(&'s str),
+    Owned(Box<String>),
 }
 
 impl<'s> NodeText<'s> {
@@ -24,19 +24,19 @@ impl<'s> NodeText<'s> {
         ensures { IfOk result (λ own. text_bytes own ≡ cow_str_bytes text.entry) }
     {
         match text {
-            CowStr::Borrowed(slice) => Ok(NodeText::Slice(slice)),
-            CowStr::Owned(made) => Ok(NodeText::Made(Box::new(alloc, made)?)),
+            CowStr::Borrowed(slice) => Ok(NodeText::Borrowed(slice)),
+            CowStr::Owned(made) => Ok(NodeText::Owned(Box::new(alloc, made)?)),
         }
     }
 
-    pub(crate) fn copied(&self, alloc: Global) -> Result<NodeText<'s>, AllocError>
+    pub(crate) fn try_clone(&self, alloc: Global) -> Result<NodeText<'s>, AllocError>
         ensures { IfOk result (λ copy. text_bytes copy ≡ text_bytes self.now) }
     {
         match self {
-            NodeText::Slice(slice) => Ok(NodeText::Slice(*slice)),
-            NodeText::Made(made) => {
+            NodeText::Borrowed(slice) => Ok(NodeText::Borrowed(*slice)),
+            NodeText::Owned(made) => {
                 let made = String::from_str(alloc, made.as_str())?;
-                Ok(NodeText::Made(Box::new(alloc, made)?))
+                Ok(NodeText::Owned(Box::new(alloc, made)?))
             }
         }
     }
@@ -45,15 +45,15 @@ impl<'s> NodeText<'s> {
         ensures { result.now ≡ text_bytes self.now }
     {
         match self {
-            NodeText::Slice(slice) => slice,
-            NodeText::Made(made) => made_str(made),
+            NodeText::Borrowed(slice) => slice,
+            NodeText::Owned(made) => owned_str(made),
         }
     }
 }
 
 /// Apart, so that looking at a slice stays short.
 #[inline(never)]
-fn made_str(made: &Box<String>) -> &str
+fn owned_str(made: &Box<String>) -> &str
     ensures { result.now ≡ string_bytes made.now.value }
 {
     made.as_str()

@@ -7,7 +7,7 @@ use std::marker::Model;
 #[derive(Clone, Copy)]
 pub(crate) struct PartNumber {
     /// One more than the number, and 0 for a gap.
-    above: u32,
+    number_plus_one: u32,
 }
 
 impl Model for PartNumber {
@@ -20,11 +20,11 @@ impl Model for PartNumber {
 
     ghost coded = { part_code };
 
-    ghost view = { λ p. part_of p.above };
+    ghost view = { λ p. part_of p.number_plus_one };
 
-    ghost inverse = { λ o. record { above = above_of o } };
+    ghost inverse = { λ o. record { number_plus_one = above_of o } };
 
-    ghost inverse_ok = { λ p h. ap (λ n. record { above = n }) (above_of-part_of p.above) };
+    ghost inverse_ok = { λ p h. ap (λ n. record { number_plus_one = n }) (above_of-part_of p.number_plus_one) };
 }
 
 impl PartNumber {
@@ -33,7 +33,7 @@ impl PartNumber {
     pub(crate) fn gap() -> PartNumber
         ensures { result ≡ None }
     {
-        PartNumber { above: 0 }
+        PartNumber { number_plus_one: 0 }
     }
 
     /// The part with this number.
@@ -42,7 +42,7 @@ impl PartNumber {
         ensures { result ≡ Some number }
     {
         PartNumber {
-            above: number.number + 1,
+            number_plus_one: number.number + 1,
         }
     }
 
@@ -50,11 +50,11 @@ impl PartNumber {
     pub(crate) fn number(self) -> Option<NodeNumber>
         ensures { result ≡ self }
     {
-        if self.above == 0 {
+        if self.number_plus_one == 0 {
             return None;
         }
         Some(NodeNumber {
-            number: self.above - 1,
+            number: self.number_plus_one - 1,
         })
     }
 }

@@ -3,15 +3,16 @@
 ghost use Rattle.std.specs.Prelude.{◌≡◌, ◌<◌, length, true, IfSome};
 ghost use Rattle.tree.specs.Node.{node_tree, list_parts};
 ghost use Rattle.tree.specs.Tree.{parts_of};
-ghost use Rattle.language.specs.Expressions.{chained, first_chained};
-ghost use Rattle.positions.specs.Wherever.{spelled_by};
+ghost use Rattle.language.specs.Expressions.{has_optional, first_has_optional};
+ghost use Rattle.spellings.specs.Wherever.{spelled_by};
 ghost use Rattle.unwrapping.specs.Ties.{costs_more};
 
 use crate::changes::{Addition, Changes, Closing};
 use language::{Rank, Start};
 use paren_planner::{CostTable, widest};
-use positions::{
-    Position, Production, SlotCursor, admits, holds_chain, leads_chain, node_production, settled,
+use spellings::{
+    Position, Production, SlotCursor, admits, holds_chain, leads_chain, node_production,
+    resolve_slot,
 };
 use std::alloc::{AllocError, Global};
 use tree::{Kind, Node, Pair, Program};
@@ -96,7 +97,7 @@ fn choose_node(
     basis: Basis<'_>,
     chosen: &mut Chosen,
 ) -> Result<(), AllocError>
-    requires { around.in_chain ≡ true → chained (node_tree node) ≡ true }
+    requires { around.in_chain ≡ true → has_optional (node_tree node) ≡ true }
 {
     if basis.leaves_alone(node, position, chosen.passed) {
         return Ok(());
@@ -139,7 +140,7 @@ fn choose_parts(
     basis: Basis<'_>,
     chosen: &mut Chosen,
 ) -> Result<(), AllocError>
-    requires { (spelled_by node own production).holds_chain ≡ true → first_chained (parts_of (node_tree node)) ≡ true }
+    requires { (spelled_by node own production).holds_chain ≡ true → first_has_optional (parts_of (node_tree node)) ≡ true }
 {
     let is_chain = holds_chain(own, node.kind(), production);
     let parts = node.parts();
@@ -156,7 +157,7 @@ fn choose_parts(
             in_chain,
             is_bare_callee: is_bare,
         };
-        choose_node(part, settled(inside, slot), around, basis, chosen)?;
+        choose_node(part, resolve_slot(inside, slot), around, basis, chosen)?;
     }
     Ok(())
 }
@@ -172,7 +173,7 @@ fn inside(is_grouped: bool, position: Position) -> Position {
 /// Where an expression in a pair stands.
 const WHOLE: Position = Position::Expression {
     rank: Rank::Expression,
-    with_in: true,
+    has_in: true,
     start: Start::Any,
 };
 
@@ -234,7 +235,7 @@ impl Basis<'_> {
     /// alike wherever the node above stands. `passed` pairs stand before it.
     fn leaves_alone(&self, node: Node, position: Position, passed: usize) -> bool {
         match position {
-            Position::Expression { .. } | Position::Spine { .. } | Position::Pattern { .. } =>
+            Position::Expression { .. } | Position::ChainPart { .. } | Position::Pattern { .. } =>
                 false,
             _ => !self.starts_before(node.span().end, passed),
         }
@@ -251,7 +252,7 @@ impl Basis<'_> {
     /// What the node of a row costs at a position.
     fn costs(&self, row: usize, position: Position, production: Production) -> Costs {
         let cells = cells_of(self.table, row);
-        let asks = production.asks();
+        let asks = production.requirements();
         let direct = if admits(position, asks.rank, asks.needs_in, asks.opens) {
             cell_at(cells, position)
         } else {
@@ -343,14 +344,14 @@ fn cells_of(table: &CostTable, row: usize) -> [Option<u32>; 8] {
 fn cell_at(cells: [Option<u32>; 8], position: Position) -> Option<u32> {
     let Position::Expression {
         rank,
-        with_in,
+        has_in,
         start,
     } = position
     else {
         return cells[0];
     };
     let at_member = matches!(rank, Rank::Member | Rank::Primary | Rank::Grouped);
-    match (at_member, with_in, start) {
+    match (at_member, has_in, start) {
         (true, _, Start::Any) => cells[5],
         (true, _, Start::NoBrace) => cells[6],
         (true, _, Start::Statement) => cells[7],

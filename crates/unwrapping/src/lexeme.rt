@@ -2,11 +2,11 @@
 
 ghost use Rattle.std.specs.Prelude.{◌≡◌, ◌≢◌, ◌≤◌, ◌<◌, ◌↔◌, IsTrue};
 ghost use Rattle.source_text.specs.Source.{IsPlace};
-ghost use Rattle.tokens.specs.declared.token.Class.TheVariants.{End};
+ghost use Rattle.tokens.specs.declared.token.TokenClass.TheVariants.{End};
 
 use source_text::Source;
 use std::alloc::{AllocError, Global};
-use tokens::{Class, Goal, Token, scan};
+use tokens::{Goal, Token, TokenClass, scan};
 use tree::{Kind, Node, Program};
 
 /// How the tree reads a token whose characters alone don't tell.
@@ -75,7 +75,7 @@ fn tail_at(bytes: &[u8], at: usize) -> Option<Note> {
 /// A token of a script with the gap before it; the last one is the end of the text.
 #[derive(Clone, Copy)]
 pub(crate) struct Lexeme<'s> {
-    pub class: Class,
+    pub class: TokenClass,
     pub text: &'s [u8],
     pub start: usize,
     pub end: usize,
@@ -92,7 +92,7 @@ impl<'s> Lexeme<'s> {
     {
         let bytes = source.bytes();
         Lexeme {
-            class: Class::End,
+            class: TokenClass::End,
             text: &bytes[bytes.len()..],
             start: bytes.len(),
             end: bytes.len(),
@@ -123,7 +123,7 @@ impl<'s> Lexeme<'s> {
     pub(crate) fn is_end(self) -> bool
         ensures { IsTrue result ↔ (self.entry.class ≡ End) }
     {
-        matches!(self.class, Class::End)
+        matches!(self.class, TokenClass::End)
     }
 }
 

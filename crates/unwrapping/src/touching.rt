@@ -2,7 +2,7 @@
 
 use crate::gap::Part;
 use crate::writer::Last;
-use tokens::Class;
+use tokens::TokenClass;
 
 /// What comes next after a token that is written: the first character, and whether it is that of a word with nothing before it.
 #[derive(Clone, Copy)]
@@ -13,7 +13,12 @@ pub(crate) struct Next {
 
 impl Next {
     /// None where blanks come, or nothing.
-    pub(crate) fn of(gap: &[Part<'_>], is_opened: bool, class: Class, text: &[u8]) -> Option<Next> {
+    pub(crate) fn of(
+        gap: &[Part<'_>],
+        is_opened: bool,
+        class: TokenClass,
+        text: &[u8],
+    ) -> Option<Next> {
         if let Some(part) = gap.first() {
             return Next::of_part(*part);
         }
@@ -25,7 +30,7 @@ impl Next {
         };
         Some(Next {
             first: *first,
-            is_word: matches!(class, Class::Name),
+            is_word: matches!(class, TokenClass::IdentifierName),
         })
     }
 
@@ -46,7 +51,9 @@ impl Next {
 
 /// Whether a blank has to come between the two where a `(` stood.
 pub(crate) fn touch_over_opening(last: Last<'_>, end: u8, next: Next) -> bool {
-    let is_word = matches!(last.class, Class::Name) && !last.is_closed && next.first != b'(';
+    let is_word = matches!(last.class, TokenClass::IdentifierName)
+        && !last.is_closed
+        && next.first != b'(';
     is_word || run_together(last, end, next.first)
 }
 
@@ -61,7 +68,8 @@ fn run_together(last: Last<'_>, end: u8, first: u8) -> bool {
     match (end, first) {
         (b'+', b'+') | (b'-', b'-') | (b'/', b'/') | (b'<', b'!') => true,
         (b'!', b'-') => last.follows_less,
-        (_, b'.') => matches!(last.class, Class::Number) && is_decimal_integer(last.text),
+        (_, b'.') => matches!(last.class, TokenClass::NumericLiteral)
+            && is_decimal_integer(last.text),
         _ => false,
     }
 }

@@ -12,12 +12,12 @@ use crate::moving::{Indent, first_broken, last_broken};
 use crate::touching::{Next, touch_over_closing, touch_over_opening};
 use source_text::Source;
 use std::alloc::{AllocError, Global};
-use tokens::Class;
+use tokens::TokenClass;
 
 /// The token that was written last.
 #[derive(Clone, Copy)]
 pub(crate) struct Last<'s> {
-    pub class: Class,
+    pub class: TokenClass,
     pub text: &'s [u8],
     /// Where it begins in what is written.
     pub start: usize,
@@ -31,7 +31,8 @@ pub(crate) struct Last<'s> {
 impl Last<'_> {
     /// Whether it is a word that no line may end after.
     fn binds_its_line(&self) -> bool {
-        matches!(self.class, Class::Name) && matches!(self.text, b"return" | b"throw")
+        matches!(self.class, TokenClass::IdentifierName)
+            && matches!(self.text, b"return" | b"throw")
     }
 }
 
@@ -61,7 +62,7 @@ impl<'s> Writer<'s> {
         Ok(Writer {
             out: Vec::with_capacity(alloc, capacity)?,
             last: Last {
-                class: Class::End,
+                class: TokenClass::End,
                 text: b"",
                 start: 0,
                 is_postfix: false,

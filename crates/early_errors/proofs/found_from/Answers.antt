@@ -3,7 +3,7 @@ use Rattle.tree.specs.Node.{node_tree}
 use Rattle.early_errors.specs.Early.{errors, least}
 use Rattle.early_errors.specs.Names.{var_names}
 use Rattle.early_errors.specs.Walk.{look, sooner}
-use Rattle.early_errors.proofs.Joining.{hits-none}
+use Rattle.early_errors.proofs.JoinedHits.{hits-none}
 use Rattle.early_errors.proofs.Least.{sooner-none}
 use Rattle.early_errors.proofs.found_from.Goals as goal
 

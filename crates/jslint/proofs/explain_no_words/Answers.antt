@@ -1,5 +1,5 @@
 use Rattle.std.proofs.Common.{◌≡◌, inl, subst}
-use Rattle.streams.specs.Refusal.{WritesLine, refusal_line, status_of}
+use Rattle.commands.specs.Refusal.{WritesLine, refusal_line, status_of}
 use Rattle.jslint.proofs.explain_no_words.Goals as goal
 
 -- memory was refused: the line of the refusal

@@ -1,5 +1,5 @@
 use Rattle.std.proofs.Common.{refl, rules}
-use Rattle.jslint.proofs.Opening.{no_first}
+use Rattle.jslint.proofs.UnopenedFiles.{no_first}
 use Rattle.jslint.proofs.open_and_run.Goals as goal
 
 pub returns-in-Some-clause-answer : goal.returns-in-Some-clause-answer

@@ -1,5 +1,5 @@
 use Rattle.std.proofs.Common.{refl}
-use Rattle.nine_rules.proofs.Ruling.{by_nine, by_vtable}
+use Rattle.nine_rules.proofs.RuleLists.{by_nine, by_vtable}
 use Rattle.nine_rules.proofs.check.Goals as goal
 
 -- the nine boxes find what the nine rules find

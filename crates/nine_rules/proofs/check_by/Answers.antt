@@ -1,6 +1,6 @@
 use Rattle.std.proofs.Common.{subst}
 use Rattle.lint.specs.Run.{Runs}
-use Rattle.streams.specs.declared.command.Command.TheVariants.{Check}
+use Rattle.commands.specs.declared.command.Command.TheVariants.{Check}
 use Rattle.nine_rules.proofs.check_by.Goals as goal
 
 -- the rules find what the nine do

@@ -1,4 +1,4 @@
-use Rattle.nine_rules.proofs.Ruling.{without_rules}
+use Rattle.nine_rules.proofs.RuleLists.{without_rules}
 use Rattle.nine_rules.proofs.run_with_rules.Goals as goal
 
 pub returns-in_default : goal.returns-in_default

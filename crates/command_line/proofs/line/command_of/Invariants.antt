@@ -1,6 +1,6 @@
 use Rattle.std.proofs.Common.{◌≡◌, ℕ, ◌<◌, slice_index_or}
-use Rattle.streams.specs.Commands.{word_of}
-use Rattle.streams.specs.declared.command.Command.{Command}
+use Rattle.commands.specs.Commands.{word_of}
+use Rattle.commands.specs.declared.command.Command.{Command}
 use Rattle.command_line.proofs.line.command_of.Given as goal
 
 -- no command before this one has the word

@@ -1,6 +1,6 @@
 use Rattle.std.proofs.Common.{◌≡◌, refl, Result, Ok, Err, IfOk, IsOkAnd}
 use Rattle.clap.specs.Words.{App, app_of, with_subcommand}
-use Rattle.streams.specs.declared.command.Command.TheVariants.{Check, Tree, Fix, Cost, Verify}
+use Rattle.commands.specs.declared.command.Command.TheVariants.{Check, Tree, Fix, Cost, Verify}
 use Rattle.command_line.specs.CommandLine.{bare_app, command_app}
 use Rattle.command_line.proofs.line.jslint_command.Goals as goal
 

@@ -5,9 +5,9 @@ use Rattle.clap.specs.Words.{Row, Text, rows_of, found_of, first_of, first_value
 use Rattle.clap.specs.declared.parser.matches.ArgMatches.TheViews.{out-ArgMatches}
 use Rattle.clap.specs.declared.parser.matches.Found.{Found}
 use Rattle.clap.proofs.WalkLemmas.{first_value-rows}
-use Rattle.streams.specs.Commands.{word_of}
-use Rattle.streams.specs.declared.command.Command.{Command}
-use Rattle.streams.specs.declared.command.Command.TheVariants.{Check, Tree, Fix, Cost, Verify}
+use Rattle.commands.specs.Commands.{word_of}
+use Rattle.commands.specs.declared.command.Command.{Command}
+use Rattle.commands.specs.declared.command.Command.TheVariants.{Check, Tree, Fix, Cost, Verify}
 use Rattle.command_line.specs.CommandLine.{HasFiles, HasSecond}
 use Rattle.command_line.proofs.line.line_of.Goals as goal
 use Rattle.command_line.proofs.line.line_of.Goals.{in-Check, in-Verify, in-Tree}

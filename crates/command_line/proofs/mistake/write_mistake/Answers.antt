@@ -1,5 +1,5 @@
 use Rattle.std.proofs.Common.{subst}
-use Rattle.streams.specs.Refusal.{WritesLine, refusal_line}
+use Rattle.commands.specs.Refusal.{WritesLine, refusal_line}
 use Rattle.command_line.proofs.Memory.{memory_said}
 use Rattle.command_line.proofs.mistake.write_mistake.Goals as goal
 

@@ -2,7 +2,7 @@ use Rattle.std.proofs.Common.{refl}
 use Rattle.paren_planner.specs.Tables.{table_of}
 use Rattle.cost_certificate.specs.Forms.{table_text}
 use Rattle.cost_certificate.proofs.PlanForms.{plan_formed}
-use Rattle.cost_certificate.proofs.Reading.{read_back}
+use Rattle.cost_certificate.proofs.TableTexts.{read_back}
 use Rattle.cost_certificate.proofs.laws.plan_reads_back.Goals as goal
 
 pub returns : goal.returns

@@ -5,7 +5,7 @@ use Rattle.paren_planner.specs.Rows.{shown}
 use Rattle.paren_planner.specs.Tables.{table_of}
 use Rattle.cost_certificate.specs.Forms.{short, row_line, total_line, lines_text, table_lines, table_text}
 use Rattle.cost_certificate.proofs.CellRows.{any_row}
-use Rattle.cost_certificate.proofs.Lining.{upto, upto_row, upto_total, upto_rest, sent_begun, sent_more, sent_last}
+use Rattle.cost_certificate.proofs.WrittenLines.{upto, upto_row, upto_total, upto_rest, sent_begun, sent_more, sent_last}
 use Rattle.cost_certificate.proofs.write.write_lines.Goals as goal
 
 pub returns-in-Err : goal.returns-in-Err

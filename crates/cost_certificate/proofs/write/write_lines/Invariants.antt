@@ -1,6 +1,6 @@
 use Rattle.std.proofs.Common.{◌≡◌, false}
 use Rattle.cost_certificate.specs.Sent.{Sent}
-use Rattle.cost_certificate.proofs.Lining.{upto}
+use Rattle.cost_certificate.proofs.WrittenLines.{upto}
 use Rattle.cost_certificate.proofs.write.write_lines.Given as goal
 
 abbrev pub invariant-loop-index : goal.invariant-loop-index

@@ -1,9 +1,9 @@
 use Rattle.std.proofs.Common.{◌+◌, ◌<◌, ◌≤◌, subst, sym, ap, ◌∙◌}
 use Rattle.tree.specs.Node.{node_tree}
 use Rattle.tree.specs.Tree.{parts_of}
-use Rattle.early_errors.specs.declared.own.Own.TheVariants.{Constructors}
+use Rattle.early_errors.specs.declared.own.OwnErrors.TheVariants.{Constructors}
 use Rattle.early_errors.specs.Walk.{after}
-use Rattle.early_errors.proofs.Owning.{small_given}
+use Rattle.early_errors.proofs.OwnErrorsByKind.{small_given}
 use Rattle.early_errors.proofs.Constructors.{to_come, one-comes, none-comes, all-came}
 use Rattle.early_errors.proofs.classes.constructor_errors.Goals as goal
 use Rattle.early_errors.proofs.classes.constructor_errors.Goals.{in-Some, in_default}

@@ -1,7 +1,7 @@
 use Rattle.std.proofs.Common.{◌∙◌}
 use Rattle.std.specs.Str.{bytes_eq}
 use Rattle.tree.specs.Node.{node_tree}
-use Rattle.early_errors.proofs.Keyed.{plain_key, quoted_key}
+use Rattle.early_errors.proofs.MemberKeys.{plain_key, quoted_key}
 use Rattle.early_errors.proofs.classes.key_is.Goals as goal
 
 pub returns-then-not-is_quoted : goal.returns-then-not-is_quoted

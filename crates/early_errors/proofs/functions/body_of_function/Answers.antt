@@ -1,7 +1,7 @@
 use Rattle.std.proofs.Common.{◌≤◌, ◌<◌, subst}
 use Rattle.tree.specs.Node.{node_tree}
 use Rattle.tree.specs.Tree.{parts_of}
-use Rattle.early_errors.proofs.Listing.{body-none, body-at}
+use Rattle.early_errors.proofs.FunctionLists.{body-none, body-at}
 use Rattle.early_errors.proofs.functions.body_of_function.Goals as goal
 
 pub returns-then-part_count-from : goal.returns-then-part_count-from

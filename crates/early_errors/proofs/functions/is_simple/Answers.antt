@@ -1,7 +1,7 @@
 use Rattle.std.proofs.Common.{◌<◌, ◌≤◌, ◌-◌, true, false, subst, sym, ◌∙◌, arith}
 use Rattle.tree.specs.Node.{node_tree}
 use Rattle.tree.specs.Tree.{parts_of, part_count}
-use Rattle.early_errors.proofs.Listing.{simple-step, simple-past}
+use Rattle.early_errors.proofs.FunctionLists.{simple-step, simple-past}
 use Rattle.early_errors.proofs.functions.is_simple.Goals as goal
 
 pub returns-then-count-eq0 : goal.returns-then-count-eq0

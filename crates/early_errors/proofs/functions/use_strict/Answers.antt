@@ -3,7 +3,7 @@ use Rattle.tree.specs.Node.{node_tree}
 use Rattle.tree.specs.Tree.{parts_of}
 use Rattle.early_errors.specs.declared.EarlyError.TheVariants.{UseStrictBehindPattern}
 use Rattle.early_errors.specs.Functions.{use_strict}
-use Rattle.early_errors.proofs.Listing.{places-turn, places-end}
+use Rattle.early_errors.proofs.FunctionLists.{places-turn, places-end}
 use Rattle.early_errors.proofs.functions.use_strict.Goals as goal
 
 pub loop-index-preserved : goal.loop-index-preserved

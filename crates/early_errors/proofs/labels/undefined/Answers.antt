@@ -2,7 +2,7 @@ use Rattle.std.proofs.Common.{not, sym, ap, ◌∙◌}
 use Rattle.early_errors.specs.declared.EarlyError.TheVariants.{UndefinedLabel}
 use Rattle.early_errors.specs.Owns.{is_label_for, misses}
 use Rattle.early_errors.specs.Walk.{look}
-use Rattle.early_errors.proofs.Naming.{turn-passes, turn-fails}
+use Rattle.early_errors.proofs.NameLoops.{turn-passes, turn-fails}
 use Rattle.early_errors.proofs.labels.undefined.Goals as goal
 use Rattle.early_errors.proofs.labels.undefined.Goals.{then-not-is_label_for, else-not-is_label_for}
 

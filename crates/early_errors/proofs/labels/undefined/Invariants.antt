@@ -2,7 +2,7 @@ use Rattle.std.proofs.Common.{◌≡◌, take}
 use Rattle.early_errors.specs.declared.EarlyError.TheVariants.{UndefinedLabel}
 use Rattle.early_errors.specs.Owns.{misses}
 use Rattle.early_errors.specs.Walk.{after, all_named, look}
-use Rattle.early_errors.proofs.Naming.{passing}
+use Rattle.early_errors.proofs.NameLoops.{passing}
 use Rattle.early_errors.proofs.labels.undefined.Given as goal
 
 abbrev pub invariant-loop-named : goal.invariant-loop-named

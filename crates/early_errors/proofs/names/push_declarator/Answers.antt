@@ -3,7 +3,7 @@ use Rattle.tree.specs.Node.{node_tree}
 use Rattle.tree.specs.Tree.{parts_of}
 use Rattle.name_tables.specs.PatternParts.{at_part}
 use Rattle.early_errors.specs.Walk.{all_named, declared_by, names_at}
-use Rattle.early_errors.proofs.Dropping.{first_names-at}
+use Rattle.early_errors.proofs.RemainingParts.{first_names-at}
 use Rattle.name_tables.proofs.Results.{on_ok}
 use Rattle.early_errors.proofs.names.push_declarator.Goals as goal
 

@@ -4,7 +4,7 @@ use Rattle.tree.specs.Tree.{parts_of, part_count, parts_drop}
 use Rattle.early_errors.specs.Names.{parameter_names}
 use Rattle.early_errors.specs.Walk.{all_named}
 use Rattle.name_tables.proofs.EachPart.{appended}
-use Rattle.early_errors.proofs.Dropping.{parameters-step, parameters-past}
+use Rattle.early_errors.proofs.RemainingParts.{parameters-step, parameters-past}
 use Rattle.early_errors.proofs.names.push_parameters.Goals as goal
 
 pub returns-then-count-eq0 : goal.returns-then-count-eq0

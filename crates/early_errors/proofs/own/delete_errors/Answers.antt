@@ -1,11 +1,11 @@
 use Rattle.std.proofs.Common.{[], ◌∷◌, sym, ap, ◌∙◌}
 use Rattle.tree.specs.Node.{node_tree}
 use Rattle.early_errors.specs.declared.EarlyError.TheVariants.{DeleteOfIdentifier}
-use Rattle.early_errors.specs.declared.own.Own.TheVariants.{Delete}
+use Rattle.early_errors.specs.declared.own.OwnErrors.TheVariants.{Delete}
 use Rattle.early_errors.specs.Names.{when}
 use Rattle.early_errors.specs.Early.{each}
 use Rattle.early_errors.specs.Walk.{after}
-use Rattle.early_errors.proofs.Owning.{small_given}
+use Rattle.early_errors.proofs.OwnErrorsByKind.{small_given}
 use Rattle.early_errors.proofs.own.delete_errors.Goals as goal
 
 pub returns : goal.returns

@@ -1,13 +1,13 @@
 use Rattle.std.proofs.Common.{filter, sym, ap, ◌∙◌}
 use Rattle.tree.specs.Node.{node_tree}
 use Rattle.early_errors.specs.declared.EarlyError.TheVariants.{EvalOrArguments, DuplicateLabel}
-use Rattle.early_errors.specs.declared.own.Own.TheVariants.{Label}
+use Rattle.early_errors.specs.declared.own.OwnErrors.TheVariants.{Label}
 use Rattle.early_errors.specs.Names.{places}
 use Rattle.early_errors.specs.Strict.{is_restricted}
 use Rattle.early_errors.specs.Early.{each}
 use Rattle.early_errors.specs.Owns.{named_errors, round}
 use Rattle.early_errors.specs.Walk.{after, look}
-use Rattle.early_errors.proofs.Owning.{small_given, restricted_given}
+use Rattle.early_errors.proofs.OwnErrorsByKind.{small_given, restricted_given}
 use Rattle.early_errors.proofs.Jumps.{stands_label}
 use Rattle.early_errors.proofs.own.named_found.Goals as goal
 

@@ -1,9 +1,9 @@
 use Rattle.std.proofs.Common.{sym, ap, ◌∙◌}
 use Rattle.tree.specs.Node.{node_tree}
-use Rattle.early_errors.specs.declared.own.Own.TheVariants as own
+use Rattle.early_errors.specs.declared.own.OwnErrors.TheVariants as own
 use Rattle.early_errors.specs.Owns.{nameless, round}
 use Rattle.early_errors.specs.Walk.{after}
-use Rattle.early_errors.proofs.Owning.{small_given}
+use Rattle.early_errors.proofs.OwnErrorsByKind.{small_given}
 use Rattle.early_errors.proofs.own.nameless_errors.Goals as goal
 
 pub returns-in-SuperProperty : goal.returns-in-SuperProperty

@@ -3,7 +3,7 @@ use Rattle.tree.specs.Node.{node_tree}
 use Rattle.tree.specs.Tree.{parts_of}
 use Rattle.early_errors.specs.declared.EarlyError.TheVariants.{ConstWithoutInitializer}
 use Rattle.early_errors.specs.Scopes.{without_initializer}
-use Rattle.early_errors.proofs.Listing.{places-turn, places-end}
+use Rattle.early_errors.proofs.FunctionLists.{places-turn, places-end}
 use Rattle.early_errors.proofs.scopes.without_initializer.Goals as goal
 
 pub loop-index-preserved : goal.loop-index-preserved

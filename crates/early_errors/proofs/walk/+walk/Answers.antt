@@ -9,7 +9,7 @@ use Rattle.early_errors.specs.Owns.{found_of_scope, inside_of, names_of_scope, r
 use Rattle.early_errors.specs.Walk.{after, all_named, clashing, hits, look, sooner, undone}
 use Rattle.early_errors.specs.Walks.{range_errors, range_vars}
 use Rattle.early_errors.proofs.Insides.{function_facts, method_facts, plain_facts, label_facts, scope_facts, no_own_label, one_label}
-use Rattle.early_errors.proofs.Joining.{from_start, part-turn, part-given, part-missing, first-round, other-round, parts-found, function-found, two-goes, scope-found, none-clash}
+use Rattle.early_errors.proofs.JoinedHits.{from_start, part-turn, part-given, part-missing, first-round, other-round, parts-found, function-found, two-goes, scope-found, none-clash}
 use Rattle.early_errors.proofs.VarFree.{is_free}
 use Rattle.early_errors.proofs.Silent.{quiet_found}
 use Rattle.early_errors.proofs.Ahead.{ahead-part, ahead-gap, ahead-end, open_found, declared_found}
@@ -26,8 +26,8 @@ walk_function-returns-clause-found t c =
     let t = node_tree c.args.node in
     let z = round c.args.around ls in
     let f = function_facts t z ls c.requires.inside in
-    function-found o c.args.walk.now.found (look c.args.walk.now.vars) z (round c.rounds_of.result.first []) (round c.rounds_of.result.others []) t (c.part_count.result - 0)
-    (from_start c.part_count.result ∙ c.part_count.ensures) (ap (round c.rounds_of.result.first) (sym f.0.0) ∙ c.rounds_of.ensures.first ls) (ap (round c.rounds_of.result.others) (sym f.0.1.0) ∙ c.rounds_of.ensures.others ls)
+    function-found o c.args.walk.now.found (look c.args.walk.now.vars) z (round c.contexts_of.result.first []) (round c.contexts_of.result.others []) t (c.part_count.result - 0)
+    (from_start c.part_count.result ∙ c.part_count.ensures) (ap (round c.contexts_of.result.first) (sym f.0.0) ∙ c.contexts_of.ensures.first ls) (ap (round c.contexts_of.result.others) (sym f.0.1.0) ∙ c.contexts_of.ensures.others ls)
     (look c.take-vars.new.self) c.walk_parts-done.new.walk.found f.0.1.1.1 f.0.1.1.0 f.1 c.take-vars.ensures.after e
     (h [] c.take-labels.ensures.after))
     c.walk_parts-done.ensures.found
@@ -40,10 +40,10 @@ walk_label-returns-in_default-clause-found t c =
     let z = round c.args.around ls in
     let f = (label_facts t z ls c.requires.inside).0 in
     let same = no_own_label (parts_of t) ls c.in_default.ensures in
-    let first = c.rounds_of-rounds.result.first in
-    let others = c.rounds_of-rounds.result.others in
+    let first = c.contexts_of-rounds.result.first in
+    let others = c.contexts_of-rounds.result.others in
     parts-found o c.args.walk.now.found (look c.args.walk.now.vars) z (round first ls) (round others ls) t (c.part_count.result - 0)
-    (from_start c.part_count.result ∙ c.part_count.ensures) (ap (round first) (sym (f.0 ∙ same)) ∙ c.rounds_of-rounds.ensures.first ls) (ap (round others) (sym (f.1.0 ∙ same)) ∙ c.rounds_of-rounds.ensures.others ls)
+    (from_start c.part_count.result ∙ c.part_count.ensures) (ap (round first) (sym (f.0 ∙ same)) ∙ c.contexts_of-rounds.ensures.first ls) (ap (round others) (sym (f.1.0 ∙ same)) ∙ c.contexts_of-rounds.ensures.others ls)
     (look c.args.walk.now.vars) c.walk_parts.new.walk.found f.1.1.1 f.1.1.0 (λ w. refl) e (h ls k))
     c.walk_parts.ensures.found
 
@@ -59,10 +59,10 @@ walk_label-returns-clause-found t c =
     let facts = label_facts t z ls c.requires.inside in
     let f = facts.0 in
     let inner = own_label (parts_of t) ls in
-    let first = c.rounds_of-rounds.result.first in
-    let others = c.rounds_of-rounds.result.others in
+    let first = c.contexts_of-rounds.result.first in
+    let others = c.contexts_of-rounds.result.others in
     parts-found o c.args.walk.now.found (look c.args.walk.now.vars) z (round first inner) (round others inner) t (c.part_count-2.result - 0)
-    (from_start c.part_count-2.result ∙ c.part_count-2.ensures) (ap (round first) (sym f.0) ∙ c.rounds_of-rounds.ensures.first ls) (ap (round others) (sym f.1.0) ∙ c.rounds_of-rounds.ensures.others ls)
+    (from_start c.part_count-2.result ∙ c.part_count-2.ensures) (ap (round first) (sym f.0) ∙ c.contexts_of-rounds.ensures.first ls) (ap (round others) (sym f.1.0) ∙ c.contexts_of-rounds.ensures.others ls)
     (look c.args.walk.now.vars) c.walk_parts-done.new.walk.found f.1.1.1 f.1.1.0 (λ w. refl) e
     (h inner
     (one_label (look c.args.walk.now.labels) (look c.replace.new.self) ls (parts_of t) (node_tree c.in-Some.label) c.text-name.result.now c.label_is_loop-is_loop.result c.either-after.result c.value-before.result c.in-Some.ensures c.text-name.ensures
@@ -83,10 +83,10 @@ walk_method-returns-clause-found t c =
     let t = node_tree c.args.node in
     let z = round c.args.around ls in
     let f = method_facts t z ls c.requires.inside in
-    let first = c.rounds_of-rounds.result.first in
-    let others = c.rounds_of-rounds.result.others in
+    let first = c.contexts_of-rounds.result.first in
+    let others = c.contexts_of-rounds.result.others in
     parts-found o c.args.walk.now.found (look c.args.walk.now.vars) z (round first ls) (round others []) t c.part_count.result
-    c.part_count.ensures (ap (round first) (sym f.0) ∙ c.rounds_of-rounds.ensures.first ls) (ap (round others) (sym f.1.0) ∙ c.rounds_of-rounds.ensures.others ls)
+    c.part_count.ensures (ap (round first) (sym f.0) ∙ c.contexts_of-rounds.ensures.first ls) (ap (round others) (sym f.1.0) ∙ c.contexts_of-rounds.ensures.others ls)
     (look c.args.walk.now.vars) c.walk_parts-done.new.walk.found f.1.1.1 f.1.1.0 (λ w. refl) e
     (two-goes (look c.args.walk.now.vars) (look c.args.walk.now.vars) (look c.walk_parts.new.walk.vars) c.args.walk.now.found c.walk_parts.new.walk.found c.walk_parts-done.new.walk.found
     (round others ls) (round first []) (round first ls) (round others []) (parts_of t) c.part_count.result c.part_count.ensures (λ w. refl) c.in_ok-walk_parts.ensures.vars
@@ -116,8 +116,8 @@ walk_special-returns-in-Plain-clause-found t c =
     let z = round c.args.around ls in
     let kind = (λ i. inside_of (sym c.kind.ensures i) (sym c.flags.ensures i).form) ∙ sym c.inside_of.ensures ∙ c.in-Plain.is in
     let f = plain_facts t z ls kind in
-    parts-found c.args.walk.now.found c.in_ok-walk.field-0 (look c.args.walk.now.vars) z (round c.rounds_of.result.first ls) (round c.rounds_of.result.others ls) t (c.part_count.result - 0)
-    (from_start c.part_count.result ∙ c.part_count.ensures) (ap (round c.rounds_of.result.first) (sym f.0) ∙ c.rounds_of.ensures.first ls) (ap (round c.rounds_of.result.others) (sym f.1.0) ∙ c.rounds_of.ensures.others ls)
+    parts-found c.args.walk.now.found c.in_ok-walk.field-0 (look c.args.walk.now.vars) z (round c.contexts_of.result.first ls) (round c.contexts_of.result.others ls) t (c.part_count.result - 0)
+    (from_start c.part_count.result ∙ c.part_count.ensures) (ap (round c.contexts_of.result.first) (sym f.0) ∙ c.contexts_of.ensures.first ls) (ap (round c.contexts_of.result.others) (sym f.1.0) ∙ c.contexts_of.ensures.others ls)
     (look c.args.walk.now.vars) c.walk_parts.new.walk.found f.1.1.1 f.1.1.0 (λ w. refl) (c.in_ok-walk.ensures ls k)
     (h ls k))
     c.walk_parts.ensures.found
@@ -164,7 +164,7 @@ pub walk_node-returns-in-InParts-clause-found : goal.walk_node-returns-in-InPart
 walk_node-returns-in-InParts-clause-found t c =
     on_ok c.walk_passed.result
     (λ h ls k.
-    open_found (look c.args.walk.now.vars) (round c.within-inner.result ls) (round c.args.around ls) (node_tree c.args.node) c.args.walk.now.found c.walk_passed.new.walk.found (subst (λ x. IsWhere x (node_tree c.args.node)) c.in-InParts.is c.where_errors.ensures)
+    open_found (look c.args.walk.now.vars) (round c.within-inner.result ls) (round c.args.around ls) (node_tree c.args.node) c.args.walk.now.found c.walk_passed.new.walk.found (subst (λ x. IsWhere x (node_tree c.args.node)) c.in-InParts.is c.error_places.ensures)
     (c.within-inner.ensures.around ls) (h ls k))
     c.walk_passed.ensures.found
 
@@ -189,20 +189,20 @@ walk_passed-loop-index-preserved t c =
     let W = look c.loop-index.walk.vars in
     let i = c.loop-index.index in
     let q = c.loop-index.walk.found in
-    let r = c.match-where_errors.walk.found in
+    let r = c.match-error_places.walk.found in
     let inv = c.loop-index.invariant in
     let at = parts_drop-some ps i u c.in-Some.ensures in
-    elim c.match-where_errors.branch [
+    elim c.match-error_places.branch [
       | walk_passed-in-Nowhere w ↦ record {
         found = λ ls k.
-            ahead-part V W (round a ls) q r _ _ _ u inv.vars at (quiet_found W (round a ls) u q r (subst (λ x. IsWhere x u) w.in-Nowhere.is c.where_errors.ensures) (ap (λ x. x.found) w.walk-is)) (inv.found ls k);
+            ahead-part V W (round a ls) q r _ _ _ u inv.vars at (quiet_found W (round a ls) u q r (subst (λ x. IsWhere x u) w.in-Nowhere.is c.error_places.ensures) (ap (λ x. x.found) w.walk-is)) (inv.found ls k);
         vars = λ v. ap (λ x. look x.vars v) w.walk-is ∙ inv.vars v;
         labels = λ v. ap (λ x. look x.labels v) w.walk-is ∙ inv.labels v;
       }
       | walk_passed-in-InParts+in_ok-walk_passed-in-InParts w ↦ record {
         found = λ ls k.
             ahead-part V W (round a ls) q r _ _ _ u inv.vars at
-            (open_found W (round a ls) (round a ls) u q r (subst (λ x. IsWhere x u) w.in-InParts.is c.where_errors.ensures) (sym (c.requires.handed_on ls))
+            (open_found W (round a ls) (round a ls) u q r (subst (λ x. IsWhere x u) w.in-InParts.is c.error_places.ensures) (sym (c.requires.handed_on ls))
             (ap (λ x. x.found) w.walk-is ∙ w.in_ok-walk_passed-in-InParts.ensures.found ls (λ v. inv.labels v ∙ k v)))
             (inv.found ls k);
         vars = λ v. ap (λ x. look x.vars v) w.walk-is ∙ w.in_ok-walk_passed-in-InParts.ensures.vars v ∙ inv.vars v;
@@ -229,8 +229,8 @@ walk_in_scope-returns-then-has_no_var-clause-found t c =
     let t = node_tree c.args.node in
     let z = round c.args.around ls in
     let f = scope_facts t z ls c.requires.inside in
-    let first = c.rounds_of-rounds.result.first in
-    let others = c.rounds_of-rounds.result.others in
+    let first = c.contexts_of-rounds.result.first in
+    let others = c.contexts_of-rounds.result.others in
     let kind = c.scope_kind-kind.result in
     let from = c.place_of_scope-from.result in
     let error = scope_error kind in
@@ -240,7 +240,7 @@ walk_in_scope-returns-then-has_no_var-clause-found t c =
     let free : range_vars (parts_of t) from (c.part_count-to.result - from) ≡ [] = ap (λ n. range_vars (parts_of t) from (n - from)) c.part_count-to.ensures ∙ is_free c.has_no_var.result c.if-has_no_var.true c.has_no_var.ensures in
     let found = found_of_scope kind c.args.around.is_body (parts_of t) names in
     scope-found o c.args.walk.now.found (look c.args.walk.now.vars) z (round first ls) (round others ls) t c.part_count-to.result from c.part_count-to.ensures error names found
-    (ap (round first) (sym f.0) ∙ c.rounds_of-rounds.ensures.first ls) (ap (round others) (sym f.1.0) ∙ c.rounds_of-rounds.ensures.others ls)
+    (ap (round first) (sym f.0) ∙ c.contexts_of-rounds.ensures.first ls) (ap (round others) (sym f.1.0) ∙ c.contexts_of-rounds.ensures.others ls)
     (look c.args.walk.now.vars) inner clashes c.in_ok-walk.field-0 c.walk_parts.new.walk.found c.walk_parts-then-has_no_var.new.walk.found
     (split_given z t kind names error from c.part_count-to.result c.requires.inside (c.scope_kind-kind.ensures ∙ ap scope_kind c.kind.ensures) (ap all_named c.as_slice-declared.ensures.value ∙ c.in_ok-push_scope.ensures ∙ ap (λ l. all_named l ++ names_of_scope kind c.args.around.is_body (parts_of t)) c.requires.names)
     refl c.place_of_scope-from.ensures c.part_count-to.ensures)
@@ -254,30 +254,30 @@ walk_in_scope-returns-then-has_no_var-clause-vars t c = on_ok c.walk_parts-then-
 
 pub walk_in_scope-returns-clause-found : goal.walk_in_scope-returns-clause-found
 walk_in_scope-returns-clause-found t c =
-    on_ok c.leave.result
+    on_ok c.close_scope.result
     (λ h o ls k e.
     let t = node_tree c.args.node in
     let z = round c.args.around ls in
     let f = scope_facts t z ls c.requires.inside in
-    let first = c.rounds_of-rounds.result.first in
-    let others = c.rounds_of-rounds.result.others in
+    let first = c.contexts_of-rounds.result.first in
+    let others = c.contexts_of-rounds.result.others in
     let kind = c.scope_kind-kind.result in
     let from = c.place_of_scope-from.result in
     let error = c.scope_error.result in
     let names = all_named c.as_slice-declared.result.now in
     let found = found_of_scope kind c.args.around.is_body (parts_of t) names in
     scope-found o c.args.walk.now.found (look c.args.walk.now.vars) z (round first ls) (round others ls) t c.part_count-to.result from c.part_count-to.ensures error names found
-    (ap (round first) (sym f.0) ∙ c.rounds_of-rounds.ensures.first ls) (ap (round others) (sym f.1.0) ∙ c.rounds_of-rounds.ensures.others ls)
-    (look c.args.walk.now.vars) (look c.walk_parts.new.walk.vars) (look c.enter.new.clashes) c.in_ok-walk.field-0 c.walk_parts.new.walk.found c.walk_parts-2.new.walk.found
+    (ap (round first) (sym f.0) ∙ c.contexts_of-rounds.ensures.first ls) (ap (round others) (sym f.1.0) ∙ c.contexts_of-rounds.ensures.others ls)
+    (look c.args.walk.now.vars) (look c.walk_parts.new.walk.vars) (look c.open_scope.new.clashes) c.in_ok-walk.field-0 c.walk_parts.new.walk.found c.walk_parts-2.new.walk.found
     (split_given z t kind names error from c.part_count-to.result c.requires.inside (c.scope_kind-kind.ensures ∙ ap scope_kind c.kind.ensures) (ap all_named c.as_slice-declared.ensures.value ∙ c.in_ok-push_scope.ensures ∙ ap (λ l. all_named l ++ names_of_scope kind c.args.around.is_body (parts_of t)) c.requires.names)
     c.scope_error.ensures c.place_of_scope-from.ensures c.part_count-to.ensures)
-    f.1.1.0 f.1.1.1 (λ w. refl) c.in_ok-walk_parts.ensures.vars c.in_ok-enter.ensures.entered e c.in_ok-walk.ensures
+    f.1.1.0 f.1.1.1 (λ w. refl) c.in_ok-walk_parts.ensures.vars c.in_ok-open_scope.ensures.entered e c.in_ok-walk.ensures
     (c.in_ok-walk_parts.ensures.found ls k ∙ ap (λ n. sooner (after c.in_ok-walk.field-0 (range_errors (round first ls) (round others ls) (parts_of t) 0 n)) (hits (look c.args.walk.now.vars) (range_vars (parts_of t) 0 n))) (from_start from))
     (c.in_ok-walk_parts-2.ensures.found ls (λ w. c.in_ok-walk_parts.ensures.labels w ∙ k w)))
-    c.leave.ensures
+    c.close_scope.ensures
 
 pub walk_in_scope-returns-clause-vars : goal.walk_in_scope-returns-clause-vars
 walk_in_scope-returns-clause-vars t c =
-    on_ok c.leave.result
-    (λ h w. h w ∙ undone-agrees (look c.walk_parts-2.new.walk.vars) (look c.enter.new.clashes) c.enter.new.saved.items c.in_ok-walk_parts-2.ensures.vars w ∙ c.in_ok-enter.ensures.kept w ∙ ap (λ l. undone (look c.walk_parts.new.walk.vars) l w) c.requires.saved ∙ c.in_ok-walk_parts.ensures.vars w)
-    c.leave.ensures
+    on_ok c.close_scope.result
+    (λ h w. h w ∙ undone-agrees (look c.walk_parts-2.new.walk.vars) (look c.open_scope.new.clashes) c.open_scope.new.saved.items c.in_ok-walk_parts-2.ensures.vars w ∙ c.in_ok-open_scope.ensures.kept w ∙ ap (λ l. undone (look c.walk_parts.new.walk.vars) l w) c.requires.saved ∙ c.in_ok-walk_parts.ensures.vars w)
+    c.close_scope.ensures

@@ -10,17 +10,17 @@ use Rattle.estree_json.proofs.node.+value.Given as goal
 abbrev pub decreases-node_value : goal.decreases-node_value
 decreases-node_value l = 5 * node_total (node_tree l.node) + 4
 
-abbrev pub decreases-put_line : goal.decreases-put_line
-decreases-put_line l = 5 * node_total (node_tree l.node) + 3
+abbrev pub decreases-put_member : goal.decreases-put_member
+decreases-put_member l = 5 * node_total (node_tree l.node) + 3
 
-abbrev pub decreases-line_value : goal.decreases-line_value
-decreases-line_value l = 5 * node_total (node_tree l.node) + 2
+abbrev pub decreases-member_value : goal.decreases-member_value
+decreases-member_value l = 5 * node_total (node_tree l.node) + 2
 
 abbrev pub decreases-list_value : goal.decreases-list_value
 decreases-list_value l = 5 * node_total (node_tree l.node) + 1
 
-abbrev pub decreases-turns_value : goal.decreases-turns_value
-decreases-turns_value l = 5 * node_total (node_tree l.node) + 1
+abbrev pub decreases-every_other_value : goal.decreases-every_other_value
+decreases-every_other_value l = 5 * node_total (node_tree l.node) + 1
 
 abbrev pub decreases-part_value : goal.decreases-part_value
 decreases-part_value l = 5 * node_total (node_tree l.node)
@@ -36,7 +36,7 @@ invariant-list_value-loop-index l =
     let vs = parts_json (parts_of (node_tree l.node)) in
     map view l.items.items ++ between l.index l.to vs ≡ map view l.initial.items.items ++ between l.initial.index l.to vs
 
-abbrev pub invariant-turns_value-loop-index : goal.invariant-turns_value-loop-index
-invariant-turns_value-loop-index l =
+abbrev pub invariant-every_other_value-loop-index : goal.invariant-every_other_value-loop-index
+invariant-every_other_value-loop-index l =
     let vs = parts_json (parts_of (node_tree l.node)) in
     map view l.items.items ++ in_turns l.takes (drop l.index vs) ≡ map view l.initial.items.items ++ in_turns true (drop l.initial.index vs)

@@ -1,5 +1,5 @@
 use Rattle.std.proofs.Common.{◌∙◌, sym, ap}
-use Rattle.estree_json.specs.Texts.{before_slash, behind_slash}
+use Rattle.estree_json.specs.Texts.{before_slash, after_slash}
 use Rattle.estree_json.proofs.Quotes.{no_slash, none_before, none_behind, round_slash, stands_before, stands_behind}
 use Rattle.estree_json.proofs.texts.regex_parts.Goals as goal
 
@@ -11,7 +11,7 @@ returns-in-Some-clause-pattern c =
 pub returns-in-Some-clause-flags : goal.returns-in-Some-clause-flags
 returns-in-Some-clause-flags c =
     let found = round_slash c.args.rest.now c.in-Some.pattern.now c.in-Some.flags.now (rw (c.in-Some.is, c.in-Some.pattern-is, c.in-Some.flags-is) at c.rsplit_once.ensures.cases) in
-    stands_behind c.in-Some.pattern.now c.in-Some.flags.now found.1 ∙ sym (ap behind_slash found.0)
+    stands_behind c.in-Some.pattern.now c.in-Some.flags.now found.1 ∙ sym (ap after_slash found.0)
 
 pub returns-in-None-clause-pattern : goal.returns-in-None-clause-pattern
 returns-in-None-clause-pattern c =

@@ -4,10 +4,10 @@ use Rattle.tree.specs.Node.{node_tree}
 use Rattle.tree.specs.Tree.{text_of, flags_of, parts_of}
 use Rattle.tree.specs.declared.kind.Kind.TheVariants as kind
 use Rattle.language.specs.declared.Rank.TheVariants.{Expression, Assignment, Unary, Update, LeftHandSide, Call, Member, Primary}
-use Rattle.language.specs.Words.{is_reserved, is_prefix, operator_of}
+use Rattle.language.specs.Vocabulary.{is_reserved, is_prefix, operator_of}
 use Rattle.grammar.specs.Ranks.{rank_if, is_spelled_literal, binary_symbol, logical_symbol}
-use Rattle.grammar.proofs.Chained.{chained_first}
-use Rattle.grammar.proofs.Ranked.{stands, has_others, unranked}
+use Rattle.grammar.proofs.ChainParts.{chained_first}
+use Rattle.grammar.proofs.ExpressionRanks.{stands, has_others, unranked}
 use Rattle.grammar.proofs.ranks.rank_of.Goals as goal
 
 pub returns-in-Identifier : goal.returns-in-Identifier
@@ -53,10 +53,10 @@ pub returns-in-ImportExpression : goal.returns-in-ImportExpression
 returns-in-ImportExpression c = stands kind.ImportExpression (node_tree c.args.node) c.in-ImportExpression.ensures
 
 pub returns-in-ChainExpression : goal.returns-in-ChainExpression
-returns-in-ChainExpression c = c.rank_if-in-ChainExpression.ensures ∙ (ap (λ b. rank_if b LeftHandSide) (c.is_chained.ensures ∙ chained_first (parts_of (node_tree c.args.node)) _ c.part.ensures) ∙ stands kind.ChainExpression (node_tree c.args.node) c.in-ChainExpression.ensures)
+returns-in-ChainExpression c = c.rank_if-in-ChainExpression.ensures ∙ (ap (λ b. rank_if b LeftHandSide) (c.has_optional.ensures ∙ chained_first (parts_of (node_tree c.args.node)) _ c.part.ensures) ∙ stands kind.ChainExpression (node_tree c.args.node) c.in-ChainExpression.ensures)
 
 pub returns-in-UpdateExpression : goal.returns-in-UpdateExpression
-returns-in-UpdateExpression c = c.rank_if-in-UpdateExpression.ensures ∙ (ap (λ b. rank_if b Update) c.can_step.ensures ∙ stands kind.UpdateExpression (node_tree c.args.node) c.in-UpdateExpression.ensures)
+returns-in-UpdateExpression c = c.rank_if-in-UpdateExpression.ensures ∙ (ap (λ b. rank_if b Update) c.is_update.ensures ∙ stands kind.UpdateExpression (node_tree c.args.node) c.in-UpdateExpression.ensures)
 
 pub returns-in-UnaryExpression : goal.returns-in-UnaryExpression
 returns-in-UnaryExpression c = c.rank_if-in-UnaryExpression.ensures ∙ (ap (λ b. rank_if b Unary) (c.is_prefix_operator.ensures ∙ ap is_prefix c.text-text.ensures) ∙ stands kind.UnaryExpression (node_tree c.args.node) c.in-UnaryExpression.ensures)

@@ -1,4 +1,4 @@
-use Rattle.language.proofs.OneWay as lemma
+use Rattle.language.proofs.table.OneWay as lemma
 use Rattle.language.proofs.laws.at_most_one_way.Goals as goal
 
 pub returns : goal.returns

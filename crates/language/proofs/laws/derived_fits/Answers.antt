@@ -1,4 +1,4 @@
-use Rattle.language.proofs.Marked.{text_fits}
+use Rattle.language.proofs.layout.WrappedRows.{text_fits}
 use Rattle.language.proofs.laws.derived_fits.Goals as goal
 
 pub returns : goal.returns

@@ -1,4 +1,4 @@
-use Rattle.language.proofs.EarlierScripts.{earlier_scripts_stay}
+use Rattle.language.proofs.texts.EarlierScripts.{earlier_scripts_stay}
 use Rattle.language.proofs.laws.earlier_scripts_stay.Goals as goal
 
 pub returns : goal.returns

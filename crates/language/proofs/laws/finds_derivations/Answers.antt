@@ -1,5 +1,5 @@
-use Rattle.language.proofs.Searched.{spelled_sound}
-use Rattle.language.proofs.Found.{spells_found}
+use Rattle.language.proofs.table.SearchIsSound.{spelled_sound}
+use Rattle.language.proofs.table.SearchIsComplete.{spells_found}
 use Rattle.language.proofs.laws.finds_derivations.Goals as goal
 
 pub returns : goal.returns

@@ -1,5 +1,5 @@
-use Rattle.language.proofs.FixedReads.{fixed_always}
-use Rattle.language.proofs.ReadableScript.{script_readable}
+use Rattle.language.proofs.layout.FixedReads.{fixed_always}
+use Rattle.language.proofs.layout.ReadableScript.{script_readable}
 use Rattle.language.proofs.laws.fixed_text_derives.Goals as goal
 
 pub returns : goal.returns

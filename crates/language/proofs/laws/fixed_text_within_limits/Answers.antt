@@ -1,5 +1,5 @@
-use Rattle.language.proofs.FixedReads.{within_always}
-use Rattle.language.proofs.ReadableScript.{script_readable}
+use Rattle.language.proofs.layout.FixedReads.{within_always}
+use Rattle.language.proofs.layout.ReadableScript.{script_readable}
 use Rattle.language.proofs.laws.fixed_text_within_limits.Goals as goal
 
 pub returns : goal.returns

@@ -1,4 +1,4 @@
-use Rattle.language.proofs.Counted as lemma
+use Rattle.language.proofs.layout.LayoutPairs as lemma
 use Rattle.language.proofs.laws.layout_derives.Goals as goal
 
 pub returns : goal.returns

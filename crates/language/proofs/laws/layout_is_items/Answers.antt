@@ -1,4 +1,4 @@
-use Rattle.language.proofs.LaidItems.{fixed_items}
+use Rattle.language.proofs.layout.LaidItems.{fixed_items}
 use Rattle.language.proofs.laws.layout_is_items.Goals as goal
 
 pub returns : goal.returns

@@ -1,4 +1,4 @@
-use Rattle.language.proofs.Counted.{layout_spelled}
+use Rattle.language.proofs.layout.LayoutPairs.{layout_spelled}
 use Rattle.language.proofs.laws.layout_is_spelled.Goals as goal
 
 pub returns : goal.returns

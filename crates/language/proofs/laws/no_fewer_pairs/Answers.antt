@@ -1,4 +1,4 @@
-use Rattle.language.proofs.Least.{derived_at_least}
+use Rattle.language.proofs.lower_bound.LeastPairs.{derived_at_least}
 use Rattle.language.proofs.laws.no_fewer_pairs.Goals as goal
 
 pub returns : goal.returns

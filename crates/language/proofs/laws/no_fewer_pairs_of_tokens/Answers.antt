@@ -1,4 +1,4 @@
-use Rattle.language.proofs.Least.{spelled_at_least}
+use Rattle.language.proofs.lower_bound.LeastPairs.{spelled_at_least}
 use Rattle.language.proofs.laws.no_fewer_pairs_of_tokens.Goals as goal
 
 pub returns : goal.returns

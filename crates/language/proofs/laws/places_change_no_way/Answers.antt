@@ -1,4 +1,4 @@
-use Rattle.language.proofs.Least.{ways-bare}
+use Rattle.language.proofs.lower_bound.LeastPairs.{ways-bare}
 use Rattle.language.proofs.laws.places_change_no_way.Goals as goal
 
 pub returns : goal.returns

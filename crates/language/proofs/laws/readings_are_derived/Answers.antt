@@ -1,4 +1,4 @@
-use Rattle.language.proofs.Readings.{derived_by_reading}
+use Rattle.language.proofs.texts.Readings.{derived_by_reading}
 use Rattle.language.proofs.laws.readings_are_derived.Goals as goal
 
 pub returns : goal.returns

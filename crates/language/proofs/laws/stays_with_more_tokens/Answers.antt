@@ -1,4 +1,4 @@
-use Rattle.language.proofs.Frame.{Spells-more}
+use Rattle.language.proofs.texts.Frame.{Spells-more}
 use Rattle.language.proofs.laws.stays_with_more_tokens.Goals as goal
 
 pub returns : goal.returns

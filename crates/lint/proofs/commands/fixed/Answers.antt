@@ -1,12 +1,12 @@
 use Rattle.std.proofs.Common.{◌≤◌, sym, subst}
 use Rattle.std.specs.Prelude.{IsSome}
 use Rattle.language.specs.Pieces.{script}
-use Rattle.language.specs.Positions.{rows}
+use Rattle.language.specs.RowPositions.{rows}
 use Rattle.language.specs.Cost.{least}
 use Rattle.paren_planner.specs.Plans.{IsPlan}
 use Rattle.lint.specs.ReadScripts.{IsScript}
-use Rattle.lint.proofs.Fixing.{fixed_answer}
-use Rattle.lint.proofs.Planning.{script_spelled, script_few, reading_script}
+use Rattle.lint.proofs.FixAnswers.{fixed_answer}
+use Rattle.lint.proofs.PlannedScripts.{script_spelled, script_few, reading_script}
 use Rattle.lint.proofs.commands.fixed.Goals as goal
 
 pub plan-requires-clause-spelled : goal.plan-requires-clause-spelled

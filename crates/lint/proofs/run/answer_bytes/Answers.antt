@@ -1,5 +1,5 @@
 use Rattle.lint.specs.ReadScripts.{IsReading}
-use Rattle.lint.proofs.Running.{refused_bytes, refused_text, refused_behind, answers_behind}
+use Rattle.lint.proofs.RunAnswers.{refused_bytes, refused_text, refused_behind, answers_behind}
 use Rattle.lint.proofs.run.answer_bytes.Goals as goal
 
 pub returns-in-Err-clause-answer : goal.returns-in-Err-clause-answer

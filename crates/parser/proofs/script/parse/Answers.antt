@@ -1,10 +1,10 @@
 use Rattle.std.proofs.Common.{◌∙◌, ◌<◌, ap, subst, sym, Err, List, ℕ, length}
 use Rattle.std.proofs.lemmas.Str.{IsCharBoundary-start}
-use Rattle.unambiguous.proofs.OrderedPairs.{pairs_ordered}
-use Rattle.language.proofs.EarlierScripts.{earlier_scripts_stay}
+use Rattle.unambiguity_laws.proofs.OrderedPairs.{pairs_ordered}
+use Rattle.language.proofs.texts.EarlierScripts.{earlier_scripts_stay}
 use Rattle.parser.specs.Scripts.{IsAnswered}
 use Rattle.parser.proofs.ShortTexts.{short_refused}
-use Rattle.parser.proofs.Refused.{refused_alike}
+use Rattle.parser.proofs.Refusals.{refused_alike}
 use Rattle.parser.proofs.script.parse.Goals as goal
 use Rattle.language.specs.Claims.{max_open, short_bytes}
 

@@ -2,7 +2,7 @@ use Rattle.std.proofs.Common.{◌∙◌, sym, ap, arith}
 use Rattle.std.specs.Prelude.{option_map}
 use Rattle.tree.specs.Node.{node_tree}
 use Rattle.tree.specs.Tree.{parts_of}
-use Rattle.language.specs.Words.{is_identifier}
+use Rattle.language.specs.Vocabulary.{is_identifier}
 use Rattle.printer.proofs.Arrows.{same_as_identifier, single_by_kind}
 use Rattle.printer.proofs.definitions.is_single.Goals as goal
 

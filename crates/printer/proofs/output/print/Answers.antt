@@ -6,7 +6,7 @@ use Rattle.printer.specs.Fits.{wrapped_by}
 use Rattle.printer.specs.Texts.{IsWritten}
 use Rattle.printer.specs.Standings.{Puts, of_writer}
 use Rattle.printer.proofs.Standings.{puts_all}
-use Rattle.printer.proofs.Planned.{planned_fits, planned_layout}
+use Rattle.printer.proofs.PlannedLayout.{planned_fits, planned_layout}
 use Rattle.printer.proofs.output.print.Goals as goal
 
 failed_written : (a b : Option (List ℕ)) (was failed : Bool) (t : List ℕ) → was ≡ false → failed ≡ true → Puts (of_writer a was []) (of_writer b failed []) t → IsWritten t (Err WriteFailed) a b failed

@@ -3,35 +3,35 @@ use Rattle.std.specs.Prelude.{option_map, is_none as is_missing}
 use Rattle.tree.specs.Tree.{parts_of, text_of, kind_of, flags_of, part_count}
 use Rattle.tree.specs.Node.{node_tree}
 use Rattle.language.specs.Grammar.{ways}
-use Rattle.positions.specs.Outlines.{role_of, whole_at, parts_behind}
-use Rattle.language.specs.Positions.{first_roles}
+use Rattle.spellings.specs.Outlines.{role_of, whole_at, parts_after}
+use Rattle.language.specs.RowPositions.{first_roles}
 use Rattle.printer.specs.Shapes.{shape_on}
 use Rattle.printer.specs.Sites.{seated_at, is_row, is_word}
 use Rattle.printer.proofs.SiteLemmas.{site_row, at_row, site_shape, site_word, seats}
 use Rattle.printer.specs.Bits.{bits_of, chain_of, fused, before_bits, after_bits}
-use Rattle.printer.proofs.Fusing.{map_length, map_at, written_bits}
+use Rattle.printer.proofs.FusedTokens.{map_length, map_at, written_bits}
 use Rattle.printer.specs.Printed.{marks_in, front_marks, chain_marks, shape_marks, signed_marks}
 use Rattle.printer.proofs.Items.{missing_part, gone_nothing, gone_then, stepped, stepped_chain, fronts_done, chain_done, fronts-next, chain-next, turn, trail, framed, part_turn, part_missing}
 use Rattle.language.specs.Layout.{first_way}
 use Rattle.printer.specs.Sheets.{Writes, seen}
 use Rattle.printer.proofs.Nodes.{NextRow, printed_rowless, printed_row, printed_inside, printed_signed}
 use Rattle.printer.proofs.Standings.{adds_then, adds_from, adds_to}
-use Rattle.printer.proofs.Writing.{writes_adds}
+use Rattle.printer.proofs.WrittenTexts.{writes_adds}
 use Rattle.printer.proofs.Words.{word_direct}
 use Rattle.printer.proofs.Whole.{one_part, marks_framed, marks_signed, direct_by, spelled_parts, sign_text}
 use Rattle.printer.proofs.printer.+print.Goals as goal
 
-pub print_spelled-returns-in-Some-clause-laid : goal.print_spelled-returns-in-Some-clause-laid
-print_spelled-returns-in-Some-clause-laid g t c = λ W r p e z k.
+pub print_parts-returns-in-Some-clause-laid : goal.print_parts-returns-in-Some-clause-laid
+print_parts-returns-in-Some-clause-laid g t c = λ W r p e z k.
     let n = node_tree c.args.node in
     let sign = c.in-Some.sign in
     let q = spelled_parts W (parts_of n) (ways (role_of p) n) r k in
     let m = marks_signed W p n sign c.in-Some.ensures q.0 q.1 in
     direct_by W (signed_marks (text_of n) sign) m refl q.1
-    (c.print_signed.ensures.laid W (first_roles (ways (role_of p) n)) r z q.2 (seats p n c.args.site c.course_of.result e c.course_of.ensures q.0) (sign_text n sign c.in-Some.ensures) (one_part (first_way (ways (role_of p) n)) (parts_of n) (text_of n) sign q.1 m))
+    (c.print_sign_operator.ensures.laid W (first_roles (ways (role_of p) n)) r z q.2 (seats p n c.args.site c.part_sites_of.result e c.part_sites_of.ensures q.0) (sign_text n sign c.in-Some.ensures) (one_part (first_way (ways (role_of p) n)) (parts_of n) (text_of n) sign q.1 m))
 
-pub print_spelled-returns-in-None-clause-laid : goal.print_spelled-returns-in-None-clause-laid
-print_spelled-returns-in-None-clause-laid g t c = λ W r p e z k.
+pub print_parts-returns-in-None-clause-laid : goal.print_parts-returns-in-None-clause-laid
+print_parts-returns-in-None-clause-laid g t c = λ W r p e z k.
     let n = node_tree c.args.node in
     let s = shape_on c.args.site (kind_of n) (text_of n) (flags_of n) (parts_of n) in
     let f = c.frame_of.ensures in
@@ -39,16 +39,16 @@ print_spelled-returns-in-None-clause-laid g t c = λ W r p e z k.
     direct_by W (shape_marks (text_of n) (record { front = s.front; opener = s.opener; chain = chain_of c.frame_of.result.now.series; closer = s.closer }) (parts_of n))
     (marks_framed W p n r c.in-None.ensures q.0 q.1 ∙ ap (λ x. shape_marks (text_of n) x (parts_of n)) (site_shape p (kind_of n) (text_of n) (flags_of n) (parts_of n) ∙ ap (λ x. shape_on x (kind_of n) (text_of n) (flags_of n) (parts_of n)) e)
     ∙ ap (λ x. shape_marks (text_of n) (record { front = s.front; opener = s.opener; chain = x; closer = s.closer }) (parts_of n)) (sym (ap (λ x. x.chain) f))) refl q.1
-    (c.print_framed.ensures.laid W s.front s.opener s.closer (ap (λ x. x.front) f) (ap (λ x. x.opener) f) (ap (λ x. x.closer) f) (first_roles (ways (role_of p) n)) r z q.2 (seats p n c.args.site c.course_of.result e c.course_of.ensures q.0))
+    (c.print_framed.ensures.laid W s.front s.opener s.closer (ap (λ x. x.front) f) (ap (λ x. x.opener) f) (ap (λ x. x.closer) f) (first_roles (ways (role_of p) n)) r z q.2 (seats p n c.args.site c.part_sites_of.result e c.part_sites_of.ensures q.0))
 
 pub print_direct-returns-then-is_word-clause-laid : goal.print_direct-returns-then-is_word-clause-laid
 print_direct-returns-then-is_word-clause-laid g t c = λ W r p e z k.
     let n = node_tree c.args.node in
     word_direct W p n r c.args.depth (site_word p (kind_of n) (parts_of n) ∙ ap (λ s. is_word s (kind_of n) (parts_of n)) e ∙ sym c.is_word.ensures ∙ c.if-is_word.true) z k
-    (subst (λ w. Writes (seen (g.O.Outlet.stands c.args.out.now c.args.sheet.now.room) c.args.sheet.now) (seen (g.O.Outlet.stands c.push.new.out c.push.new.self.room) c.push.new.self) w) c.text.ensures c.push.ensures.written)
+    (subst (λ w. Writes (seen (g.O.TextSink.stands c.args.out.now c.args.sheet.now.room) c.args.sheet.now) (seen (g.O.TextSink.stands c.push.new.out c.push.new.self.room) c.push.new.self) w) c.text.ensures c.push.ensures.written)
 
 pub print_direct-returns-clause-laid : goal.print_direct-returns-clause-laid
-print_direct-returns-clause-laid g t c = λ W r p e z k. c.print_spelled.ensures.laid W r p e z k
+print_direct-returns-clause-laid g t c = λ W r p e z k. c.print_parts.ensures.laid W r p e z k
 
 pub print_direct-returns-then-is_word-clause-adds : goal.print_direct-returns-then-is_word-clause-adds
 print_direct-returns-then-is_word-clause-adds g t c = writes_adds c.push.ensures.written
@@ -93,7 +93,7 @@ print_item-returns-clause-laid g t c = λ W ms xs r h k st.
     let w = text_of (node_tree c.args.node) in
     let s = chain_of c.args.series in
     let i = c.args.index in
-    let rest = chain_marks w s (parts_behind (suc i) P) ++ ms in
+    let rest = chain_marks w s (parts_after (suc i) P) ++ ms in
     let o = option_map node_tree c.part.result in
     let bits = before_bits s (nat_eq ((part_count P - i) - 1) 0) in
     let here_before : bits_of c.before-2.result.now ≡ fused bits = c.before-2.ensures ∙ ap (λ m. fused (before_bits s (nat_eq ((m - i) - 1) 0))) c.part_count.ensures in
@@ -130,8 +130,8 @@ print_part-returns-in_default-clause-laid g t c = λ W ms xs r h k st. part_miss
 pub print_part-returns-clause-laid : goal.print_part-returns-clause-laid
 print_part-returns-clause-laid g t c = λ W ms xs r h k st.
     let P = parts_of (node_tree c.args.node) in
-    part_turn W P c.args.index r (node_tree c.in-Some.part) xs c.args.walk.now.course c.behind-walk.result c.seated-site.result _ c.in-Some.ensures h (ap not (sym c.is_wrapped.ensures)) k st
-    (c.seated-site.ensures ∙ ap₂ (seated_at c.args.walk.now.course.next) c.kind.ensures c.is_last.ensures) c.behind-walk.ensures
+    part_turn W P c.args.index r (node_tree c.in-Some.part) xs c.args.walk.now.course c.after_next-walk.result c.site_at-site.result _ c.in-Some.ensures h (ap not (sym c.is_wrapped.ensures)) k st
+    (c.site_at-site.ensures ∙ ap₂ (seated_at c.args.walk.now.course.next) c.kind.ensures c.is_last.ensures) c.after_next-walk.ensures
     (λ p e f. c.print_node.ensures.laid W r p e h f)
 
 pub print_node-returns-then-is_row-clause-laid : goal.print_node-returns-then-is_row-clause-laid
@@ -143,32 +143,32 @@ print_node-returns-clause-laid g t c = λ W r p e h k.
 
 pub print_row-returns-then-not-next_row-clause-laid : goal.print_row-returns-then-not-next_row-clause-laid
 print_row-returns-then-not-next_row-clause-laid g t c = λ W r p e h k.
-    let x : NextRow (seen (g.O.Outlet.stands c.args.out.now c.args.sheet.now.room) c.args.sheet.now) (seen (g.O.Outlet.stands c.args.out.now c.next_row.new.self.room) c.next_row.new.self) false = record { flag = sym c.if-not-next_row.true ∙ c.next_row.ensures.flag; others = c.next_row.ensures.others; out = ap (λ r. g.O.Outlet.stands c.args.out.now r) c.next_row.ensures.room; apart = c.next_row.ensures.apart } in
+    let x : NextRow (seen (g.O.TextSink.stands c.args.out.now c.args.sheet.now.room) c.args.sheet.now) (seen (g.O.TextSink.stands c.args.out.now c.next_row.new.self.room) c.next_row.new.self) false = record { flag = sym c.if-not-next_row.true ∙ c.next_row.ensures.flag; others = c.next_row.ensures.others; out = ap (λ r. g.O.TextSink.stands c.args.out.now r) c.next_row.ensures.room; apart = c.next_row.ensures.apart } in
     printed_row W p (node_tree c.args.node) r c.args.depth x h (site_row (role_of p) ∙ ap is_row e) k (λ q u v. c.print_direct.ensures.laid W q p e u v)
 
 pub print_row-returns-clause-laid : goal.print_row-returns-clause-laid
 print_row-returns-clause-laid g t c = λ W r p e h k.
-    let x : NextRow (seen (g.O.Outlet.stands c.args.out.now c.args.sheet.now.room) c.args.sheet.now) (seen (g.O.Outlet.stands c.args.out.now c.next_row.new.self.room) c.next_row.new.self) true = record { flag = sym c.if-not-next_row.false ∙ c.next_row.ensures.flag; others = c.next_row.ensures.others; out = ap (λ r. g.O.Outlet.stands c.args.out.now r) c.next_row.ensures.room; apart = c.next_row.ensures.apart } in
+    let x : NextRow (seen (g.O.TextSink.stands c.args.out.now c.args.sheet.now.room) c.args.sheet.now) (seen (g.O.TextSink.stands c.args.out.now c.next_row.new.self.room) c.next_row.new.self) true = record { flag = sym c.if-not-next_row.false ∙ c.next_row.ensures.flag; others = c.next_row.ensures.others; out = ap (λ r. g.O.TextSink.stands c.args.out.now r) c.next_row.ensures.room; apart = c.next_row.ensures.apart } in
     printed_inside W p (node_tree c.args.node) r c.args.depth x h (site_row (role_of p) ∙ ap is_row e) k c.push.ensures.written (λ q u v. c.print_direct-2.ensures.laid W q whole_at refl u v) c.push-2.ensures.written
 
-pub print_signed-returns-clause-laid : goal.print_signed-returns-clause-laid
-print_signed-returns-clause-laid g t c = λ W xs r h k st u v.
+pub print_sign_operator-returns-clause-laid : goal.print_sign_operator-returns-clause-laid
+print_sign_operator-returns-clause-laid g t c = λ W xs r h k st u v.
     let n = node_tree c.args.node in
     printed_signed W (text_of n) c.args.sign (parts_of n) c.print_part.new.walk.course r u v
-    (subst (λ w. Writes (seen (g.O.Outlet.stands c.args.out.now c.args.sheet.now.room) c.args.sheet.now) (seen (g.O.Outlet.stands c.push.new.out c.push.new.self.room) c.push.new.self) w) c.text.ensures c.push.ensures.written)
+    (subst (λ w. Writes (seen (g.O.TextSink.stands c.args.out.now c.args.sheet.now.room) c.args.sheet.now) (seen (g.O.TextSink.stands c.push.new.out c.push.new.self.room) c.push.new.self) w) c.text.ensures c.push.ensures.written)
     (λ z. c.push.ensures.parted (λ y. z (sym c.text.ensures ∙ y)))
-    (ap (λ r. g.O.Outlet.stands c.push.new.out r) c.set_apart.ensures.room) c.set_apart.ensures.apart c.set_apart.ensures.wraps h
+    (ap (λ r. g.O.TextSink.stands c.push.new.out r) c.keep_apart.ensures.room) c.keep_apart.ensures.apart c.keep_apart.ensures.wraps h
     (λ q. c.print_part.ensures.laid W [] xs r q k st)
-    (ap (λ r. g.O.Outlet.stands c.print_part.new.out r) c.join.ensures.room) c.join.ensures.apart c.join.ensures.wraps
+    (ap (λ r. g.O.TextSink.stands c.print_part.new.out r) c.join.ensures.room) c.join.ensures.apart c.join.ensures.wraps
 
 pub print_row-returns-clause-adds : goal.print_row-returns-clause-adds
-print_row-returns-clause-adds g t c = adds_from (ap (λ r. g.O.Outlet.stands c.args.out.now r) c.next_row.ensures.room) (adds_then (writes_adds c.push.ensures.written) (adds_then c.print_direct-2.ensures.adds (writes_adds c.push-2.ensures.written)))
+print_row-returns-clause-adds g t c = adds_from (ap (λ r. g.O.TextSink.stands c.args.out.now r) c.next_row.ensures.room) (adds_then (writes_adds c.push.ensures.written) (adds_then c.print_direct-2.ensures.adds (writes_adds c.push-2.ensures.written)))
 
 pub print_row-returns-then-not-next_row-clause-adds : goal.print_row-returns-then-not-next_row-clause-adds
-print_row-returns-then-not-next_row-clause-adds g t c = adds_from (ap (λ r. g.O.Outlet.stands c.args.out.now r) c.next_row.ensures.room) c.print_direct.ensures.adds
+print_row-returns-then-not-next_row-clause-adds g t c = adds_from (ap (λ r. g.O.TextSink.stands c.args.out.now r) c.next_row.ensures.room) c.print_direct.ensures.adds
 
-pub print_signed-returns-clause-adds : goal.print_signed-returns-clause-adds
-print_signed-returns-clause-adds g t c = adds_then (writes_adds c.push.ensures.written) (adds_from (ap (λ r. g.O.Outlet.stands c.push.new.out r) c.set_apart.ensures.room) (adds_to (ap (λ r. g.O.Outlet.stands c.print_part.new.out r) c.join.ensures.room) c.print_part.ensures.adds))
+pub print_sign_operator-returns-clause-adds : goal.print_sign_operator-returns-clause-adds
+print_sign_operator-returns-clause-adds g t c = adds_then (writes_adds c.push.ensures.written) (adds_from (ap (λ r. g.O.TextSink.stands c.push.new.out r) c.keep_apart.ensures.room) (adds_to (ap (λ r. g.O.TextSink.stands c.print_part.new.out r) c.join.ensures.room) c.print_part.ensures.adds))
 
 pub print_framed-returns-clause-adds : goal.print_framed-returns-clause-adds
 print_framed-returns-clause-adds g t c = adds_then c.print_front.ensures.adds (adds_then (writes_adds c.push_all.ensures) (adds_then c.print_list.ensures.adds (writes_adds c.push_all-2.ensures)))

@@ -1,11 +1,11 @@
 use Rattle.std.proofs.Common.{true, ◌≡◌, ℕ, ◌+◌, ◌*◌, ◌++◌, Bool, List, drop, map}
 use Rattle.tree.specs.Tree.{parts_of, text_of, node_total}
 use Rattle.tree.specs.Node.{node_tree}
-use Rattle.positions.specs.Outlines.{parts_behind}
+use Rattle.spellings.specs.Outlines.{parts_after}
 use Rattle.language.specs.Pieces.{Role}
 use Rattle.printer.specs.Sites.{Stands}
 use Rattle.printer.specs.Bits.{Mark, Bit, bits_of, chain_of, fused}
-use Rattle.language.specs.Fits.{parts_fit}
+use Rattle.language.specs.LayoutFits.{parts_fit}
 use Rattle.printer.specs.Standings.{Adds}
 use Rattle.printer.specs.Sheets.{seen}
 use Rattle.printer.specs.Printed.{Reads, Gone, front_marks, chain_marks}
@@ -15,18 +15,18 @@ use Rattle.printer.proofs.printer.+print.Given as goal
 abbrev pub invariant-print_front-loop-index : goal.invariant-print_front-loop-index
 invariant-print_front-loop-index g l = record {
   laid : (W : ℕ → Bool) → (fs : List (List Bit)) → map (λ p. bits_of p.now) l.fn.front ≡ map fused fs → (ms : List Mark) → (xs : List Role) → (r : ℕ) → Reads W r l.fn.sheet.wraps.now → parts_fit W (parts_of (node_tree l.fn.node)) xs r ≡ true → Stands l.fn.walk.course (parts_of (node_tree l.fn.node)) xs →
-      Gone W (seen (g.O.Outlet.stands l.fn.out l.fn.sheet.room) l.fn.sheet) (seen (g.O.Outlet.stands l.out l.sheet.room) l.sheet) (front_marks (text_of (node_tree l.fn.node)) fs ms) (front_marks (text_of (node_tree l.fn.node)) (drop l.index fs) ms)
-      (parts_of (node_tree l.fn.node)) (parts_behind l.index (parts_of (node_tree l.fn.node))) xs l.walk.course l.fn.walk.alone l.walk.alone l.fn.depth r;
-  adds : Adds (g.O.Outlet.stands l.fn.out l.fn.sheet.room) (g.O.Outlet.stands l.out l.sheet.room);
+      Gone W (seen (g.O.TextSink.stands l.fn.out l.fn.sheet.room) l.fn.sheet) (seen (g.O.TextSink.stands l.out l.sheet.room) l.sheet) (front_marks (text_of (node_tree l.fn.node)) fs ms) (front_marks (text_of (node_tree l.fn.node)) (drop l.index fs) ms)
+      (parts_of (node_tree l.fn.node)) (parts_after l.index (parts_of (node_tree l.fn.node))) xs l.walk.course l.fn.walk.previous_is_bare l.walk.previous_is_bare l.fn.depth r;
+  adds : Adds (g.O.TextSink.stands l.fn.out l.fn.sheet.room) (g.O.TextSink.stands l.out l.sheet.room);
 }
 
 -- the same of the others
 abbrev pub invariant-print_list-loop-index : goal.invariant-print_list-loop-index
 invariant-print_list-loop-index g l = record {
-  laid : (W : ℕ → Bool) → (ms : List Mark) → (xs : List Role) → (r : ℕ) → Reads W r l.fn.sheet.wraps.now → parts_fit W (parts_behind l.fn.from (parts_of (node_tree l.fn.node))) xs r ≡ true → Stands l.fn.walk.course (parts_behind l.fn.from (parts_of (node_tree l.fn.node))) xs →
-      Gone W (seen (g.O.Outlet.stands l.fn.out l.fn.sheet.room) l.fn.sheet) (seen (g.O.Outlet.stands l.out l.sheet.room) l.sheet) (chain_marks (text_of (node_tree l.fn.node)) (chain_of l.fn.series) (parts_behind l.fn.from (parts_of (node_tree l.fn.node))) ++ ms) (chain_marks (text_of (node_tree l.fn.node)) (chain_of l.fn.series) (parts_behind l.index (parts_of (node_tree l.fn.node))) ++ ms)
-      (parts_behind l.fn.from (parts_of (node_tree l.fn.node))) (parts_behind l.index (parts_of (node_tree l.fn.node))) xs l.walk.course l.fn.walk.alone l.walk.alone l.fn.depth r;
-  adds : Adds (g.O.Outlet.stands l.fn.out l.fn.sheet.room) (g.O.Outlet.stands l.out l.sheet.room);
+  laid : (W : ℕ → Bool) → (ms : List Mark) → (xs : List Role) → (r : ℕ) → Reads W r l.fn.sheet.wraps.now → parts_fit W (parts_after l.fn.from (parts_of (node_tree l.fn.node))) xs r ≡ true → Stands l.fn.walk.course (parts_after l.fn.from (parts_of (node_tree l.fn.node))) xs →
+      Gone W (seen (g.O.TextSink.stands l.fn.out l.fn.sheet.room) l.fn.sheet) (seen (g.O.TextSink.stands l.out l.sheet.room) l.sheet) (chain_marks (text_of (node_tree l.fn.node)) (chain_of l.fn.series) (parts_after l.fn.from (parts_of (node_tree l.fn.node))) ++ ms) (chain_marks (text_of (node_tree l.fn.node)) (chain_of l.fn.series) (parts_after l.index (parts_of (node_tree l.fn.node))) ++ ms)
+      (parts_after l.fn.from (parts_of (node_tree l.fn.node))) (parts_after l.index (parts_of (node_tree l.fn.node))) xs l.walk.course l.fn.walk.previous_is_bare l.walk.previous_is_bare l.fn.depth r;
+  adds : Adds (g.O.TextSink.stands l.fn.out l.fn.sheet.room) (g.O.TextSink.stands l.out l.sheet.room);
 }
 
 abbrev pub decreases-print_part : goal.decreases-print_part
@@ -44,14 +44,14 @@ decreases-print_front g l = 8 * node_total (node_tree l.node) + 2
 abbrev pub decreases-print_framed : goal.decreases-print_framed
 decreases-print_framed g l = 8 * node_total (node_tree l.node) + 3
 
-abbrev pub decreases-print_signed : goal.decreases-print_signed
-decreases-print_signed g l = 8 * node_total (node_tree l.node) + 3
+abbrev pub decreases-print_sign_operator : goal.decreases-print_sign_operator
+decreases-print_sign_operator g l = 8 * node_total (node_tree l.node) + 3
 
 abbrev pub decreases-print_direct : goal.decreases-print_direct
 decreases-print_direct g l = 8 * node_total (node_tree l.node) + 5
 
-abbrev pub decreases-print_spelled : goal.decreases-print_spelled
-decreases-print_spelled g l = 8 * node_total (node_tree l.node) + 4
+abbrev pub decreases-print_parts : goal.decreases-print_parts
+decreases-print_parts g l = 8 * node_total (node_tree l.node) + 4
 
 abbrev pub decreases-print_node : goal.decreases-print_node
 decreases-print_node g l = 8 * node_total (node_tree l.node) + 7

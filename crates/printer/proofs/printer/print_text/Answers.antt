@@ -5,7 +5,7 @@ use Rattle.language.specs.Pieces.{script}
 use Rattle.language.specs.Layout.{layout}
 use Rattle.printer.specs.Fits.{wrapped_by}
 use Rattle.printer.specs.Texts.{IsLaid, IsFixed}
-use Rattle.printer.proofs.Planned.{fixed_of_laid}
+use Rattle.printer.proofs.PlannedLayout.{fixed_of_laid}
 use Rattle.printer.proofs.Standings.{text_whole}
 use Rattle.printer.proofs.printer.print_text.Goals as goal
 

@@ -3,9 +3,9 @@ use Rattle.tree.specs.Tree.{height}
 use Rattle.tree.specs.Node.{node_tree}
 use Rattle.language.specs.Pieces.{script}
 use Rattle.language.specs.Layout.{layout}
-use Rattle.language.specs.Fits.{fits}
+use Rattle.language.specs.LayoutFits.{fits}
 use Rattle.printer.specs.Fits.{wrapped_by}
-use Rattle.positions.specs.declared.position.Position.TheVariants.{Script}
+use Rattle.spellings.specs.declared.position.Position.TheVariants.{Script}
 use Rattle.printer.specs.Sheets.{seen}
 use Rattle.printer.specs.Standings.{Puts, Stands, Adds}
 use Rattle.printer.proofs.Heights.{height_within}
@@ -23,16 +23,16 @@ print_node-requires g c =
 pub returns-clause-laid : goal.returns-clause-laid
 returns-clause-laid g c =
     let W = wrapped_by c.args.wraps.now in
-    let a = seen (g.O.Outlet.stands c.args.out.now c.new-sheet.result.room) c.new-sheet.result in
-    let b = seen (g.O.Outlet.stands c.print_node.new.out c.print_node.new.sheet.room) c.print_node.new.sheet in
-    subst (λ n. fits W n script 1 ≡ true → Puts (g.O.Outlet.stands c.args.out.now []) (g.O.Outlet.stands c.finish.new.out []) (layout W n script 1 0)) c.root.ensures
+    let a = seen (g.O.TextSink.stands c.args.out.now c.new-sheet.result.room) c.new-sheet.result in
+    let b = seen (g.O.TextSink.stands c.print_node.new.out c.print_node.new.sheet.room) c.print_node.new.sheet in
+    subst (λ n. fits W n script 1 ≡ true → Puts (g.O.TextSink.stands c.args.out.now []) (g.O.TextSink.stands c.finish.new.out []) (layout W n script 1 0)) c.root.ensures
     (λ k before sofar h.
     let t = layout W (node_tree c.root.result) script 1 0 in
     let p = whole_text {a = a} {b = b} c.args.wraps.now (node_tree c.root.result) c.new-sheet.ensures.apart c.new-sheet.ensures.wraps (λ V r u f. c.print_node.ensures.laid V r Script refl u f) k in
-    subst (Stands before (g.O.Outlet.stands c.finish.new.out [])) (append-nil (sofar ++ t))
-    (c.finish.ensures.done before (sofar ++ t) (p before sofar (subst (λ r. Stands before (g.O.Outlet.stands c.args.out.now r) sofar) (sym c.new-sheet.ensures.room) h))))
+    subst (Stands before (g.O.TextSink.stands c.finish.new.out [])) (append-nil (sofar ++ t))
+    (c.finish.ensures.done before (sofar ++ t) (p before sofar (subst (λ r. Stands before (g.O.TextSink.stands c.args.out.now r) sofar) (sym c.new-sheet.ensures.room) h))))
 
 pub returns-clause-adds : goal.returns-clause-adds
 returns-clause-adds g c =
-    let finished : Adds (g.O.Outlet.stands c.print_node.new.out c.print_node.new.sheet.room) (g.O.Outlet.stands c.finish.new.out []) = record { text = []; puts = c.finish.ensures.done } in
-    adds_from (ap (λ r. g.O.Outlet.stands c.args.out.now r) c.new-sheet.ensures.room) (adds_then c.print_node.ensures.adds finished)
+    let finished : Adds (g.O.TextSink.stands c.print_node.new.out c.print_node.new.sheet.room) (g.O.TextSink.stands c.finish.new.out []) = record { text = []; puts = c.finish.ensures.done } in
+    adds_from (ap (λ r. g.O.TextSink.stands c.args.out.now r) c.new-sheet.ensures.room) (adds_then c.print_node.ensures.adds finished)

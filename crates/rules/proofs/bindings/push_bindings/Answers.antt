@@ -1,7 +1,7 @@
 use Rattle.scopes.specs.Shown.{all_shown}
 use Rattle.rules.specs.Used.{is_marked, of_binding}
 use Rattle.rules.proofs.NodeLemmas.{grows-on}
-use Rattle.rules.proofs.Turning.{scopes-turn}
+use Rattle.rules.proofs.AppendLoops.{scopes-turn}
 use Rattle.rules.proofs.bindings.push_bindings.Goals as goal
 
 pub loop-scope-preserved : goal.loop-scope-preserved

@@ -1,7 +1,7 @@
 use Rattle.std.proofs.Common.{sym}
 use Rattle.rules.specs.Used.{is_marked, of_binding}
 use Rattle.rules.proofs.NodeLemmas.{grows-on}
-use Rattle.rules.proofs.Turning.{bindings-turn}
+use Rattle.rules.proofs.AppendLoops.{bindings-turn}
 use Rattle.rules.proofs.bindings.push_scope.Goals as goal
 
 pub loop-index-preserved : goal.loop-index-preserved

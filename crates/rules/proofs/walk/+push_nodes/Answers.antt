@@ -1,7 +1,7 @@
 use Rattle.std.proofs.Common.{sym, ap, ◌∙◌, ◌++◌, ◌<◌, ◌≤◌, ◌+◌, subst, append_assoc}
 use Rattle.tree.specs.Node.{node_tree}
 use Rattle.tree.specs.Tree.{parts_drop, parts_of}
-use Rattle.rules.specs.Grows.{Grows}
+use Rattle.rules.specs.Appends.{Grows}
 use Rattle.rules.specs.Nodes.{of_node}
 use Rattle.rules.specs.Rules.{is_function, over_parts}
 use Rattle.rules.proofs.NodeLemmas.{grows-on, over_nodes-is, over-given, over-missing, over-end}

@@ -1,7 +1,7 @@
 use Rattle.std.proofs.Common.{◌≡◌, ◌++◌}
 use Rattle.tree.specs.Node.{node_tree}
 use Rattle.tree.specs.Tree.{node_total, parts_of, parts_drop}
-use Rattle.rules.specs.Grows.{Grows}
+use Rattle.rules.specs.Appends.{Grows}
 use Rattle.rules.specs.Nodes.{of_node}
 use Rattle.rules.specs.Rules.{over_nodes, over_parts}
 use Rattle.rules.proofs.walk.+push_nodes.Given as goal

@@ -1,7 +1,7 @@
 use Rattle.std.proofs.Common.{arith, ap, ◌∙◌}
 use Rattle.tree.specs.Node.{node_tree}
 use Rattle.scopes.specs.Walks.{is_leaf_kind}
-use Rattle.scopes.proofs.Joining.{on_leaf}
+use Rattle.scopes.proofs.JoinedFindings.{on_leaf}
 use Rattle.scopes.proofs.walk.is_leaf.Goals as goal
 
 pub returns : goal.returns

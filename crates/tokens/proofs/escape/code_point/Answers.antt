@@ -2,7 +2,7 @@ use Rattle.std.proofs.Common.{[], ◌∷◌, IsFalse, refl, sym, subst, arith}
 use Rattle.std.proofs.lemmas.Bool.{ne_eqb}
 use Rattle.tokens.specs.Alphabet.{one_of, begins_with}
 use Rattle.tokens.specs.Scanned.{Passed}
-use Rattle.tokens.proofs.Escaping.{in_digits_begin, in_digits_go_on, InDigits, AllDigits, digits_stop, digits_end, braced_empty, braced_large, braced_open, braced_closed}
+use Rattle.tokens.proofs.EscapeParts.{in_digits_begin, in_digits_go_on, InDigits, AllDigits, digits_stop, digits_end, braced_empty, braced_large, braced_open, braced_closed}
 use Rattle.tokens.proofs.escape.code_point.Goals as goal
 use Rattle.tokens.proofs.escape.code_point.Goals.{in-Some+in_default-hex_digit, in_default, then-end-at-via-then-end-at, then-end-at-via-else-end-at+then-value-gt1114111}
 
@@ -17,7 +17,7 @@ loop-step-preserved c =
 
 pub returns-then-end-at-clause-none : goal.returns-then-end-at-clause-none
 returns-then-end-at-clause-none c =
-    let h : AllDigits c.args.text.now c.args.at c.loop-step.end c.loop-step.value = elim c.match-step_at.branch [
+    let h : AllDigits c.args.text.now c.args.at c.loop-step.end c.loop-step.value = elim c.match-char_at.branch [
       | in-Some+in_default-hex_digit w ↦ digits_stop c.args.text.now c.args.at c.loop-step.end w.in-Some.step.end w.in-Some.step.c c.loop-step.value c.loop-step.invariant w.in-Some.ensures.some w.in_default-hex_digit.ensures.none
       | in_default w ↦ digits_end c.args.text.now c.args.at c.loop-step.end c.loop-step.value c.loop-step.invariant w.in_default.ensures.none
     ] in
@@ -26,28 +26,28 @@ returns-then-end-at-clause-none c =
       | then-end-at-via-else-end-at+then-value-gt1114111 w ↦ braced_large c.args.text.now c.args.at c.loop-step.end c.loop-step.value h w.if-value-gt1114111.true
     ]
 
-pub returns-in_default-step_at-clause-none : goal.returns-in_default-step_at-clause-none
-returns-in_default-step_at-clause-none c =
-    let h : AllDigits c.args.text.now c.args.at c.loop-step.end c.loop-step.value = elim c.match-step_at.branch [
+pub returns-in_default-char_at-clause-none : goal.returns-in_default-char_at-clause-none
+returns-in_default-char_at-clause-none c =
+    let h : AllDigits c.args.text.now c.args.at c.loop-step.end c.loop-step.value = elim c.match-char_at.branch [
       | in-Some+in_default-hex_digit w ↦ digits_stop c.args.text.now c.args.at c.loop-step.end w.in-Some.step.end w.in-Some.step.c c.loop-step.value c.loop-step.invariant w.in-Some.ensures.some w.in_default-hex_digit.ensures.none
       | in_default w ↦ digits_end c.args.text.now c.args.at c.loop-step.end c.loop-step.value c.loop-step.invariant w.in_default.ensures.none
     ] in
-    braced_open c.args.text.now c.args.at c.loop-step.end c.loop-step.value h (subst (λ x. IsFalse (begins_with (one_of "}") x)) (sym c.in_default-step_at.ensures.none) refl)
+    braced_open c.args.text.now c.args.at c.loop-step.end c.loop-step.value h (subst (λ x. IsFalse (begins_with (one_of "}") x)) (sym c.in_default-char_at.ensures.none) refl)
 
 pub returns-then-close-ne125-clause-none : goal.returns-then-close-ne125-clause-none
 returns-then-close-ne125-clause-none c =
-    let h : AllDigits c.args.text.now c.args.at c.loop-step.end c.loop-step.value = elim c.match-step_at.branch [
+    let h : AllDigits c.args.text.now c.args.at c.loop-step.end c.loop-step.value = elim c.match-char_at.branch [
       | in-Some+in_default-hex_digit w ↦ digits_stop c.args.text.now c.args.at c.loop-step.end w.in-Some.step.end w.in-Some.step.c c.loop-step.value c.loop-step.invariant w.in-Some.ensures.some w.in_default-hex_digit.ensures.none
       | in_default w ↦ digits_end c.args.text.now c.args.at c.loop-step.end c.loop-step.value c.loop-step.invariant w.in_default.ensures.none
     ] in
-    let p = c.in-Some-step_at.ensures.some in
-    braced_open c.args.text.now c.args.at c.loop-step.end c.loop-step.value h (subst (λ x. IsFalse (begins_with (one_of "}") x)) (sym p.split) (ne_eqb c.in-Some-step_at.close.c 0x7D c.if-close-ne125.true))
+    let p = c.in-Some-char_at.ensures.some in
+    braced_open c.args.text.now c.args.at c.loop-step.end c.loop-step.value h (subst (λ x. IsFalse (begins_with (one_of "}") x)) (sym p.split) (ne_eqb c.in-Some-char_at.close.c 0x7D c.if-close-ne125.true))
 
 pub returns-clause-some : goal.returns-clause-some
 returns-clause-some c =
-    let h : AllDigits c.args.text.now c.args.at c.loop-step.end c.loop-step.value = elim c.match-step_at.branch [
+    let h : AllDigits c.args.text.now c.args.at c.loop-step.end c.loop-step.value = elim c.match-char_at.branch [
       | in-Some+in_default-hex_digit w ↦ digits_stop c.args.text.now c.args.at c.loop-step.end w.in-Some.step.end w.in-Some.step.c c.loop-step.value c.loop-step.invariant w.in-Some.ensures.some w.in_default-hex_digit.ensures.none
       | in_default w ↦ digits_end c.args.text.now c.args.at c.loop-step.end c.loop-step.value c.loop-step.invariant w.in_default.ensures.none
     ] in
-    braced_closed c.args.text.now c.args.at c.loop-step.end c.in-Some-step_at.close.end c.loop-step.value h c.if-end-at.false (omega arith)
-    (subst (λ x. Passed c.args.text.now c.loop-step.end c.in-Some-step_at.close.end (x ∷ [])) c.if-close-ne125.false c.in-Some-step_at.ensures.some)
+    braced_closed c.args.text.now c.args.at c.loop-step.end c.in-Some-char_at.close.end c.loop-step.value h c.if-end-at.false (omega arith)
+    (subst (λ x. Passed c.args.text.now c.loop-step.end c.in-Some-char_at.close.end (x ∷ [])) c.if-close-ne125.false c.in-Some-char_at.ensures.some)

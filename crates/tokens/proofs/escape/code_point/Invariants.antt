@@ -1,5 +1,5 @@
 use Rattle.std.proofs.Common.{◌-◌, length}
-use Rattle.tokens.proofs.Escaping.{InDigits}
+use Rattle.tokens.proofs.EscapeParts.{InDigits}
 use Rattle.tokens.proofs.escape.code_point.Given as goal
 
 abbrev pub invariant-loop-step : goal.invariant-loop-step

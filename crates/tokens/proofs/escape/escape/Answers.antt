@@ -2,8 +2,8 @@ use Rattle.std.proofs.Common.{◌∷◌, ap, ◌∙◌}
 use Rattle.tokens.specs.Escapes.{fixed_escape, unicode_escape, escape}
 use Rattle.tokens.specs.Escaped.{IsPieceAt}
 use Rattle.tokens.specs.Reading.{behind}
-use Rattle.tokens.proofs.Passing.{some_gives}
-use Rattle.tokens.proofs.Escaping.{piece_behind}
+use Rattle.tokens.proofs.PassedCharacters.{some_gives}
+use Rattle.tokens.proofs.EscapeParts.{piece_behind}
 use Rattle.tokens.proofs.escape.escape.Goals as goal
 
 pub returns-in-x-clause-some : goal.returns-in-x-clause-some

@@ -2,7 +2,7 @@ use Rattle.std.proofs.Common.{rules, ◌≡◌, Some, subst, arith}
 use Rattle.tokens.specs.Escapes.{fixed_escape}
 use Rattle.tokens.specs.Escaped.{IsPieceAt}
 use Rattle.tokens.specs.Reading.{behind}
-use Rattle.tokens.proofs.Escaping.{digits_begin, digits_go_on, digits_small, fixed_some, fixed_stops}
+use Rattle.tokens.proofs.EscapeParts.{digits_begin, digits_go_on, digits_small, fixed_some, fixed_stops}
 use Rattle.tokens.proofs.escape.fixed_digits.Goals as goal
 
 pub loop-init : goal.loop-init

@@ -1,4 +1,4 @@
-use Rattle.tokens.proofs.Escaping.{HasDigits}
+use Rattle.tokens.proofs.EscapeParts.{HasDigits}
 use Rattle.tokens.proofs.escape.fixed_digits.Given as goal
 
 abbrev pub invariant-loop : goal.invariant-loop

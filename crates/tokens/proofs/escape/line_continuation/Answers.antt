@@ -1,7 +1,7 @@
 use Rattle.std.proofs.Common.{◌==◌, IsFalse, sym, subst}
 use Rattle.std.proofs.lemmas.Bool.{ne_eqb}
 use Rattle.tokens.specs.Alphabet.{begins_with}
-use Rattle.tokens.proofs.Escaping.{line_single}
+use Rattle.tokens.proofs.EscapeParts.{line_single}
 use Rattle.tokens.proofs.escape.line_continuation.Goals as goal
 
 pub returns-else-step-eq10 : goal.returns-else-step-eq10

@@ -2,8 +2,8 @@ use Rattle.std.proofs.Common.{◌∷◌, ap, ◌∙◌}
 use Rattle.tokens.specs.Escapes.{unicode_escape}
 use Rattle.tokens.specs.Escaped.{IsPieceAt}
 use Rattle.tokens.specs.Reading.{behind}
-use Rattle.tokens.proofs.Passing.{some_gives}
-use Rattle.tokens.proofs.Escaping.{piece_behind}
+use Rattle.tokens.proofs.PassedCharacters.{some_gives}
+use Rattle.tokens.proofs.EscapeParts.{piece_behind}
 use Rattle.tokens.proofs.escape.unicode_escape.Goals as goal
 
 pub returns-then-step-eq123-clause-some : goal.returns-then-step-eq123-clause-some

@@ -1,6 +1,6 @@
 use Rattle.std.proofs.Common.{sym, ◌∙◌}
 use Rattle.tokens.specs.Alphabet.{is_identifier_part}
-use Rattle.tokens.proofs.Separating.{all_begins, all_goes_on}
+use Rattle.tokens.proofs.TriviaSteps.{all_begins, all_goes_on}
 use Rattle.tokens.proofs.name.parts_end.Goals as goal
 
 pub loop-step-init : goal.loop-step-init

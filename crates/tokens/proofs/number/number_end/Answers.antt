@@ -17,21 +17,21 @@ second a b h = grind (arith, nat_tests)
 pub returns-then-is_complete-is_bad_end-clause-some : goal.returns-then-is_complete-is_bad_end-clause-some
 returns-then-is_complete-is_bad_end-clause-some c =
     number_found c.args.text.now c.args.at c.loop-step.end c.in-Some.step.end c.in-Some.step.c (numeral_of c.loop-step.state) c.loop-step.invariant c.in-Some.ensures.some
-    (ap is_dead (sym c.next_state-next.ensures) ∙ sym c.is_dead.ensures ∙ c.if-is_dead.true)
+    (ap is_dead (sym c.next_number_state-next.ensures) ∙ sym c.is_dead.ensures ∙ c.if-is_dead.true)
     (sym c.is_complete.ensures ∙ first c.is_complete.result c.is_bad_end.result c.if-is_complete-is_bad_end.true)
     (sym c.is_bad_end.ensures ∙ second c.is_complete.result c.is_bad_end.result c.if-is_complete-is_bad_end.true)
 
 pub returns-else-is_complete-is_bad_end-clause-none : goal.returns-else-is_complete-is_bad_end-clause-none
 returns-else-is_complete-is_bad_end-clause-none c =
     no_number c.args.text.now c.args.at c.loop-step.end c.in-Some.step.end c.in-Some.step.c (numeral_of c.loop-step.state) c.loop-step.invariant c.in-Some.ensures.some
-    (ap is_dead (sym c.next_state-next.ensures) ∙ sym c.is_dead.ensures ∙ c.if-is_dead.true)
+    (ap is_dead (sym c.next_number_state-next.ensures) ∙ sym c.is_dead.ensures ∙ c.if-is_dead.true)
     (ap (λ a. a && not (is_identifier_start c.in-Some.step.c || is_decimal_digit c.in-Some.step.c)) (sym c.is_complete.ensures)
     ∙ ap (λ b. c.is_complete.result && not b) (sym c.is_bad_end.ensures) ∙ c.if-is_complete-is_bad_end.false)
 
 pub loop-step-preserved : goal.loop-step-preserved
 loop-step-preserved c =
-    number_goes_on c.args.text.now c.args.at c.loop-step.end c.in-Some.step.end c.in-Some.step.c (numeral_of c.loop-step.state) (numeral_of c.next_state-next.result)
-    c.loop-step.invariant c.in-Some.ensures.some c.next_state-next.ensures (sym c.is_dead.ensures ∙ c.if-is_dead.false)
+    number_goes_on c.args.text.now c.args.at c.loop-step.end c.in-Some.step.end c.in-Some.step.c (numeral_of c.loop-step.state) (numeral_of c.next_number_state-next.result)
+    c.loop-step.invariant c.in-Some.ensures.some c.next_number_state-next.ensures (sym c.is_dead.ensures ∙ c.if-is_dead.false)
 
 pub returns-then-is_complete-clause-some : goal.returns-then-is_complete-clause-some
 returns-then-is_complete-clause-some c =

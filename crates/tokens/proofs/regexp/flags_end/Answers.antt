@@ -9,17 +9,17 @@ loop-step-init c = expression_starts c.args.text.now c.args.at c.requires
 pub returns-then-has_flags-clause-some : goal.returns-then-has_flags-clause-some
 returns-then-has_flags-clause-some c =
     expression_found c.args.text.now c.args.at c.loop-step.end c.in-Some.step.end c.in-Some.step.c (expression_of c.loop-step.part) c.loop-step.invariant c.in-Some.ensures.some
-    (ap is_over (sym c.next_part-next.ensures) ∙ sym c.is_over.ensures ∙ c.if-is_over.true) (sym c.has_flags.ensures ∙ c.if-has_flags.true)
+    (ap is_over (sym c.next_regexp_state-next.ensures) ∙ sym c.is_over.ensures ∙ c.if-is_over.true) (sym c.has_flags.ensures ∙ c.if-has_flags.true)
 
 pub returns-else-has_flags-clause-none : goal.returns-else-has_flags-clause-none
 returns-else-has_flags-clause-none c =
     no_expression_here c.args.text.now c.args.at c.loop-step.end c.in-Some.step.end c.in-Some.step.c (expression_of c.loop-step.part) c.loop-step.invariant c.in-Some.ensures.some
-    (ap is_over (sym c.next_part-next.ensures) ∙ sym c.is_over.ensures ∙ c.if-is_over.true) (sym c.has_flags.ensures ∙ c.if-has_flags.false)
+    (ap is_over (sym c.next_regexp_state-next.ensures) ∙ sym c.is_over.ensures ∙ c.if-is_over.true) (sym c.has_flags.ensures ∙ c.if-has_flags.false)
 
 pub loop-step-preserved : goal.loop-step-preserved
 loop-step-preserved c =
-    expression_goes_on c.args.text.now c.args.at c.loop-step.end c.in-Some.step.end c.in-Some.step.c (expression_of c.loop-step.part) (expression_of c.next_part-next.result)
-    c.loop-step.invariant c.in-Some.ensures.some c.next_part-next.ensures (sym c.is_over.ensures ∙ c.if-is_over.false)
+    expression_goes_on c.args.text.now c.args.at c.loop-step.end c.in-Some.step.end c.in-Some.step.c (expression_of c.loop-step.part) (expression_of c.next_regexp_state-next.result)
+    c.loop-step.invariant c.in-Some.ensures.some c.next_regexp_state-next.ensures (sym c.is_over.ensures ∙ c.if-is_over.false)
 
 pub returns-then-has_flags-2-clause-some : goal.returns-then-has_flags-2-clause-some
 returns-then-has_flags-2-clause-some c =

@@ -3,13 +3,13 @@ use Rattle.std.specs.Prelude.{IfSome, IfNone}
 use Rattle.tokens.specs.Scanned.{IsWordAt, NoWordAt}
 use Rattle.tokens.proofs.scanner.token_end.Goals as goal
 
-pub returns-in-Name-clause-some : goal.returns-in-Name-clause-some
-returns-in-Name-clause-some c =
-    subst (λ k. IfSome c.name_end.result (λ e. IsWordAt k c.args.text.now c.args.at e)) (sym c.in-Name.is) (c.name_end.ensures.some c.args.at c.requires.first)
+pub returns-in-IdentifierName-clause-some : goal.returns-in-IdentifierName-clause-some
+returns-in-IdentifierName-clause-some c =
+    subst (λ k. IfSome c.name_end.result (λ e. IsWordAt k c.args.text.now c.args.at e)) (sym c.in-IdentifierName.is) (c.name_end.ensures.some c.args.at c.requires.first)
 
-pub returns-in-Name-clause-none : goal.returns-in-Name-clause-none
-returns-in-Name-clause-none c =
-    subst (λ k. IfNone c.name_end.result (NoWordAt k c.args.text.now c.args.at)) (sym c.in-Name.is) (c.name_end.ensures.none c.args.at c.requires.first)
+pub returns-in-IdentifierName-clause-none : goal.returns-in-IdentifierName-clause-none
+returns-in-IdentifierName-clause-none c =
+    subst (λ k. IfNone c.name_end.result (NoWordAt k c.args.text.now c.args.at)) (sym c.in-IdentifierName.is) (c.name_end.ensures.none c.args.at c.requires.first)
 
 pub returns-in-Punctuator-clause-some : goal.returns-in-Punctuator-clause-some
 returns-in-Punctuator-clause-some c =

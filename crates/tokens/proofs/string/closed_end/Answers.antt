@@ -1,5 +1,5 @@
 use Rattle.std.proofs.Common.{◌≡◌, ◌==◌, ◌||◌, true, false, sym, ap, ◌∙◌}
-use Rattle.tokens.proofs.Stringing.{string_begins, string_goes_on, string_closes, string_open, string_broken, string_bad}
+use Rattle.tokens.proofs.StringScans.{string_begins, string_goes_on, string_closes, string_open, string_broken, string_bad}
 use Rattle.tokens.proofs.string.closed_end.Goals as goal
 
 pub loop-step-init : goal.loop-step-init
@@ -14,16 +14,16 @@ returns-then-ends_line-clause-none c =
     string_broken c.args.quote c.args.text.now c.args.at c.loop-step.end c.in-Some.step.end c.in-Some.step.c c.loop-step.invariant c.in-Some.ensures.some c.if-step-quote.false
     (sym c.ends_line.ensures ∙ c.if-ends_line.true)
 
-pub returns-in_default-piece-clause-none : goal.returns-in_default-piece-clause-none
-returns-in_default-piece-clause-none c =
-    string_bad c.args.quote c.args.text.now c.args.at c.loop-step.end c.in-Some.step.end c.in-Some.step.c c.loop-step.invariant c.in-Some.ensures.some c.if-step-quote.false c.in_default-piece.ensures.none
+pub returns-in_default-character_value-clause-none : goal.returns-in_default-character_value-clause-none
+returns-in_default-character_value-clause-none c =
+    string_bad c.args.quote c.args.text.now c.args.at c.loop-step.end c.in-Some.step.end c.in-Some.step.c c.loop-step.invariant c.in-Some.ensures.some c.if-step-quote.false c.in_default-character_value.ensures.none
 
 pub loop-step-preserved : goal.loop-step-preserved
 loop-step-preserved c =
-    string_goes_on c.args.quote c.args.text.now c.args.at c.loop-step.end c.in-Some.step.end c.in-Some.step.c c.in-Some-piece.piece c.loop-step.invariant c.in-Some.ensures.some
+    string_goes_on c.args.quote c.args.text.now c.args.at c.loop-step.end c.in-Some.step.end c.in-Some.step.c c.in-Some-character_value.piece c.loop-step.invariant c.in-Some.ensures.some
     c.if-step-quote.false
     (λ e. (let z : true ≡ false = sym (ap (λ x. (x == 0xA) || (x == 0xD)) e) ∙ sym c.ends_line.ensures ∙ c.if-ends_line.false in cc))
-    (λ e. (let z : true ≡ false = sym (ap (λ x. (x == 0xA) || (x == 0xD)) e) ∙ sym c.ends_line.ensures ∙ c.if-ends_line.false in cc)) c.in-Some-piece.ensures.some
+    (λ e. (let z : true ≡ false = sym (ap (λ x. (x == 0xA) || (x == 0xD)) e) ∙ sym c.ends_line.ensures ∙ c.if-ends_line.false in cc)) c.in-Some-character_value.ensures.some
 
 pub returns-clause-none : goal.returns-clause-none
 returns-clause-none c = string_open c.args.quote c.args.text.now c.args.at c.loop-step.end c.loop-step.invariant c.in_default.ensures.none

@@ -1,5 +1,5 @@
 use Rattle.std.proofs.Common.{◌-◌, length}
-use Rattle.tokens.proofs.Stringing.{InString}
+use Rattle.tokens.proofs.StringScans.{InString}
 use Rattle.tokens.proofs.string.closed_end.Given as goal
 
 abbrev pub invariant-loop-step : goal.invariant-loop-step

@@ -1,7 +1,7 @@
 use Rattle.std.proofs.Common.{ℕ}
-use Rattle.tokens.specs.declared.token.Class.TheVariants.{Template}
+use Rattle.tokens.specs.declared.token.TokenClass.TheVariants.{Template}
 use Rattle.tokens.specs.Scanned.{IsPartRest, NoPartRest, IsWordAt, NoWordAt}
-use Rattle.tokens.proofs.Passing.{some_gives, none_gives}
+use Rattle.tokens.proofs.PassedCharacters.{some_gives, none_gives}
 use Rattle.tokens.proofs.Parts.{part_word, no_part}
 use Rattle.tokens.proofs.template.template_end.Goals as goal
 

@@ -1,6 +1,6 @@
 use Rattle.std.proofs.Common.{◌∙◌, ap, sym, subst, get_or}
 use Rattle.tokens.specs.Escaped.{units_of, IsOther}
-use Rattle.tokens.proofs.Matched.{another}
+use Rattle.tokens.proofs.WordMatches.{another}
 use Rattle.tokens.proofs.value.matched_by.Goals as goal
 
 pub returns-then-from-value-clause-none : goal.returns-then-from-value-clause-none

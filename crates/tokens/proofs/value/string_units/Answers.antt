@@ -1,5 +1,5 @@
 use Rattle.std.proofs.Common.{[], unwrap_or, ap, ◌∙◌, arith}
-use Rattle.tokens.proofs.Valued.{quoted, quoted_length, quoted_start, quoted_stop, quoted_units}
+use Rattle.tokens.proofs.LiteralValues.{quoted, quoted_length, quoted_start, quoted_stop, quoted_units}
 use Rattle.tokens.proofs.value.string_units.Goals as goal
 
 pub overflow_sub-text : goal.overflow_sub-text

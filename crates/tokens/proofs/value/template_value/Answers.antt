@@ -2,7 +2,7 @@ use Rattle.std.proofs.Common.{ap, sym, ◌∙◌, subst}
 use Rattle.std.specs.Str.{chars}
 use Rattle.tokens.specs.Escapes.{unescaped}
 use Rattle.tokens.specs.Templates.{IsSettled}
-use Rattle.tokens.proofs.Valued.{return_found, raw_changes, raw_borrowed, raw_same, raw_units, settled}
+use Rattle.tokens.proofs.LiteralValues.{return_found, raw_changes, raw_borrowed, raw_same, raw_units, settled}
 use Rattle.tokens.proofs.value.template_value.Goals as goal
 
 pub returns-then-contains-clause-borrowed : goal.returns-then-contains-clause-borrowed

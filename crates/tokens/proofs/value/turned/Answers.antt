@@ -1,6 +1,6 @@
 use Rattle.std.proofs.Common.{◌==◌, false, sym, subst}
 use Rattle.std.specs.String.{string_bytes}
-use Rattle.tokens.proofs.Valued.{InTurned, turned_begins, turned_goes_on}
+use Rattle.tokens.proofs.LiteralValues.{InTurned, turned_begins, turned_goes_on}
 use Rattle.tokens.proofs.value.turned.Goals as goal
 
 pub loop-step-init : goal.loop-step-init

@@ -1,6 +1,6 @@
 use Rattle.std.proofs.Common.{◌-◌, length}
 use Rattle.std.specs.String.{string_bytes}
-use Rattle.tokens.proofs.Valued.{InTurned}
+use Rattle.tokens.proofs.LiteralValues.{InTurned}
 use Rattle.tokens.proofs.value.turned.Given as goal
 
 abbrev pub invariant-loop-step : goal.invariant-loop-step

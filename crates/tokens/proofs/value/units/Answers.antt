@@ -1,5 +1,5 @@
 use Rattle.std.proofs.Common.{sym, subst, rules}
-use Rattle.tokens.proofs.Valued.{InUnits, units_begin, units_go_on}
+use Rattle.tokens.proofs.LiteralValues.{InUnits, units_begin, units_go_on}
 use Rattle.tokens.proofs.value.units.Goals as goal
 
 pub loop-step-init : goal.loop-step-init
@@ -7,8 +7,8 @@ loop-step-init c = subst (λ us. InUnits c.args.text.now 0 us) (sym c.in_ok-out.
 
 pub loop-step-preserved : goal.loop-step-preserved
 loop-step-preserved c =
-    subst (λ us. InUnits c.args.text.now c.in-Some-piece.piece.end us) (sym c.in_ok-push_units.ensures)
-    (units_go_on c.args.text.now c.loop-step.at c.in-Some.step.end c.in-Some.step.c c.in-Some-piece.piece c.loop-step.out.items c.loop-step.invariant c.in-Some.ensures.some c.in-Some-piece.ensures.some)
+    subst (λ us. InUnits c.args.text.now c.in-Some-character_value.piece.end us) (sym c.in_ok-push_units.ensures)
+    (units_go_on c.args.text.now c.loop-step.at c.in-Some.step.end c.in-Some.step.c c.in-Some-character_value.piece c.loop-step.out.items c.loop-step.invariant c.in-Some.ensures.some c.in-Some-character_value.ensures.some)
 
-pub returns-in_default-piece : goal.returns-in_default-piece
-returns-in_default-piece c = search rules
+pub returns-in_default-character_value : goal.returns-in_default-character_value
+returns-in_default-character_value c = search rules

@@ -1,5 +1,5 @@
 use Rattle.std.proofs.Common.{◌-◌, length}
-use Rattle.tokens.proofs.Valued.{InUnits}
+use Rattle.tokens.proofs.LiteralValues.{InUnits}
 use Rattle.tokens.proofs.value.units.Given as goal
 
 abbrev pub invariant-loop-step : goal.invariant-loop-step

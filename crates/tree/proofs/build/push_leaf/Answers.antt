@@ -1,10 +1,10 @@
 use Rattle.std.proofs.Common.{sym, ap, refl, ◌∙◌, [], subst}
-use Rattle.tree.specs.declared.standing.Around.{Around}
+use Rattle.tree.specs.declared.node_use.ParentUse.{ParentUse}
 use Rattle.tree.specs.declared.kind.Kind.{Kind}
 use Rattle.tree.specs.Tree.{kind_of, text_of, flags_of, start_of, stop_of, part_count}
 use Rattle.tree.specs.Finished.{NumbersRow}
 use Rattle.tree.proofs.Grown.{no_parts, same_sound, relabelled, finished}
-use Rattle.tree.proofs.Overflowing.{node_overflows, still_refused}
+use Rattle.tree.proofs.TreesTooLarge.{node_overflows, still_refused}
 use Rattle.tree.proofs.build.push_leaf.Goals as goal
 
 pub returns-clause-pushed : goal.returns-clause-pushed
@@ -12,12 +12,12 @@ returns-clause-pushed c =
     let a0 = c.args.growing.now in
     let a = c.own_row-row.new.growing in
     let t = c.args.syntax.now in
-    let around : Around = record { standing = c.args.standing; kind = kind_of t; flags = flags_of t } in
+    let around : ParentUse = record { node_use = c.args.node_use; kind = kind_of t; flags = flags_of t } in
     let same = c.syntax.view_is in
-    let numbered = subst (λ (k : Kind). NumbersRow a0 a c.args.standing k c.own_row-row.result) (ap kind_of same) c.own_row-row.ensures in
-    let label = relabelled a c.finish.new.growing c.len-waiting.result _ t c.own_row-row.result c.in_ok-number.number.number
+    let numbered = subst (λ (k : Kind). NumbersRow a0 a c.args.node_use k c.own_row-row.result) (ap kind_of same) c.own_row-row.ensures in
+    let label = relabelled a c.finish_node.new.growing c.len-waiting.result _ t c.own_row-row.result c.in_ok-number.number.number
     (ap kind_of same) (ap text_of same) (ap flags_of same) (ap start_of same) (ap stop_of same) c.in_ok-number.ensures.added in
-    finished a0 a a c.finish.new.growing [] c.len-waiting.result c.in_ok-number.number.number c.args.standing c.own_row-row.result t around 0 numbered
+    finished a0 a a c.finish_node.new.growing [] c.len-waiting.result c.in_ok-number.number.number c.args.node_use c.own_row-row.result t around 0 numbered
     (no_parts a around 0 (same_sound a0 a numbered.nodes numbered.parts c.requires.sound)) label (c.len-waiting.ensures ∙ a.pending.ok.0)
     (sym c.requires.leaf) refl (sym (ap part_count c.requires.leaf))
 
@@ -26,10 +26,10 @@ returns-in_err-number-clause-refused c =
     let a0 = c.args.growing.now in
     let a = c.own_row-row.new.growing in
     let t = c.args.syntax.now in
-    let around : Around = record { standing = c.args.standing; kind = kind_of t; flags = flags_of t } in
+    let around : ParentUse = record { node_use = c.args.node_use; kind = kind_of t; flags = flags_of t } in
     let same = c.syntax.view_is in
-    let numbered = subst (λ (k : Kind). NumbersRow a0 a c.args.standing k c.own_row-row.result) (ap kind_of same) c.own_row-row.ensures in
+    let numbered = subst (λ (k : Kind). NumbersRow a0 a c.args.node_use k c.own_row-row.result) (ap kind_of same) c.own_row-row.ensures in
     still_refused _ c.from_residual.result c.in_err-number.field-0.0 c.from_residual.ensures.1
-    (λ e. node_overflows a0 a a [] c.len-waiting.result c.args.standing c.own_row-row.result t around 0 c.syntax.inside.span.start c.syntax.inside.span.end numbered
+    (λ e. node_overflows a0 a a [] c.len-waiting.result c.args.node_use c.own_row-row.result t around 0 c.syntax.inside.span.start c.syntax.inside.span.end numbered
     (no_parts a around 0 (same_sound a0 a numbered.nodes numbered.parts c.requires.sound)) (c.len-waiting.ensures ∙ a.pending.ok.0)
     (sym c.requires.leaf) refl (sym (ap part_count c.requires.leaf)) (ap start_of same) (ap stop_of same) (c.in_err-number.ensures.refused e))

@@ -1,7 +1,7 @@
 use Rattle.std.proofs.Common.{subst}
 use Rattle.std.specs.Io.KnownBytes.{Appends}
 use Rattle.source_text.specs.Writing.{AppendsBeginning}
-use Rattle.lint.proofs.Verifying.{table_written, begins}
+use Rattle.lint.proofs.VerifyAnswers.{table_written, begins}
 use Rattle.lint.proofs.answer.Answer.write.Goals as goal
 
 pub returns-in-Ok : goal.returns-in-Ok

@@ -3,7 +3,7 @@ use Rattle.std.specs.Prelude.{map}
 use Rattle.std.proofs.lemmas.List.{length-append}
 use Rattle.paren_planner.specs.Packed.{in_order, unpacked}
 use Rattle.paren_planner.specs.Rows.{row_with}
-use Rattle.paren_planner.proofs.Packing.{on_err, rows_kept, apart_pushed, pushed_order, one_more_packed, all_in_more}
+use Rattle.paren_planner.proofs.PackedRowLists.{on_err, rows_kept, apart_pushed, pushed_order, one_more_packed, all_in_more}
 use Rattle.paren_planner.proofs.packed_rows.PackedRows.push_apart.Goals as goal
 
 pub returns-in_err-push-2-clause-kept : goal.returns-in_err-push-2-clause-kept

@@ -1,5 +1,5 @@
 use Rattle.std.proofs.Common.{length}
-use Rattle.paren_planner.proofs.Packing.{one_more_packed}
+use Rattle.paren_planner.proofs.PackedRowLists.{one_more_packed}
 use Rattle.paren_planner.proofs.packed_rows.PackedRows.push_shaped.Goals as goal
 
 pub invariant_of-self-2 : goal.invariant_of-self-2

@@ -1,5 +1,5 @@
 use Rattle.std.proofs.Common.{◌≡◌, ◌+◌, ◌<◌, ℕ, List, length, sym, ap, ◌∙◌, arith}
-use Rattle.source_text.specs.LineBytes.{behind_bytes}
+use Rattle.source_text.specs.LineBytes.{after_bytes}
 use Rattle.source_text.specs.Source.{IsPlace}
 use Rattle.source_text.proofs.Lines.{turn_inside, turn_at_end, turn_on_line, line_column_by_bytes}
 use Rattle.source_text.proofs.source.Source.line_column.Goals as goal
@@ -36,4 +36,4 @@ loop-i-preserved d =
 pub returns : goal.returns
 returns d =
     let i : d.loop-i.i ≡ d.args.offset = omega arith in
-    d.loop-i.invariant.walked ∙ ap (λ n. behind_bytes (1, 1) n d.bytes-bytes.result.now) i ∙ ap (λ x. behind_bytes (1, 1) d.args.offset x) d.bytes-bytes.ensures.value ∙ line_column_by_bytes d.args.self.now d.args.offset d.bytes-bytes.ensures.utf8 d.requires
+    d.loop-i.invariant.walked ∙ ap (λ n. after_bytes (1, 1) n d.bytes-bytes.result.now) i ∙ ap (λ x. after_bytes (1, 1) d.args.offset x) d.bytes-bytes.ensures.value ∙ line_column_by_bytes d.args.self.now d.args.offset d.bytes-bytes.ensures.utf8 d.requires

@@ -1,0 +1,305 @@
+//! What calls answer for texts that are scripts.
+
+use crate::case::Case;
+use crate::devices::{plan, push_answer};
+use crate::finished::push_nodes;
+use crate::nodes::{push_copy, push_equal_copy};
+use crate::plans::{push_extra, push_extra_pairs, push_gauged_table, push_plan};
+use crate::printing::{is_fixed, push_gauged_layout, push_layout, push_pieces, push_written};
+use crate::refusals::push_refusal;
+use crate::reports::{push_rules, push_scopes};
+use crate::runs::is_written;
+use commands::Command;
+use estree_json::{to_value, tree_text, write_tree};
+use lint::{UnwrappingFault, fix_text, read_script, unwrap_text};
+use parser::{Parsed, parse};
+use serde_json::Value;
+use source_text::{Fault, MemorySink, Source};
+use std::alloc::{AllocError, Global};
+use tree::{Program, same_tree};
+
+/// That the text is accepted.
+pub(crate) fn push_accepted(
+    alloc: Global,
+    source: &Source,
+    out: &mut String,
+) -> Result<(), AllocError> {
+    match read_script(alloc, source) {
+        Ok(_) => out.push_str("accepted"),
+        Err(fault) => push_refusal(source.text(), fault, out),
+    }
+}
+
+/// That a text is fixed.
+pub(crate) fn push_fixes(
+    alloc: Global,
+    source: &Source,
+    out: &mut String,
+) -> Result<(), AllocError> {
+    match fix_text(alloc, source) {
+        Ok(_) => out.push_str("fixed"),
+        Err(fault) => push_refusal(source.text(), fault, out),
+    }
+}
+
+/// What a text is fixed to, which is fixed to itself.
+pub(crate) fn push_fixed(
+    alloc: Global,
+    source: &Source,
+    out: &mut String,
+) -> Result<(), AllocError> {
+    match fix_text(alloc, source) {
+        Ok(text) => {
+            push_again(alloc, &text, out)?;
+            push_unless_written(alloc, source, &text, out)?;
+            push_unless_run(alloc, Command::Fix, source.text(), &text, out)
+        }
+        Err(fault) => push_refusal(source.text(), fault, out),
+    }
+}
+
+/// That a run of a command over devices that pass a byte a call writes another text, if it does.
+fn push_unless_run(
+    alloc: Global,
+    command: Command,
+    source: &str,
+    text: &str,
+    out: &mut String,
+) -> Result<(), AllocError> {
+    match is_written(alloc, command, source, text)? {
+        true => Ok(()),
+        false => out.push_str(" run otherwise"),
+    }
+}
+
+/// That a script's fixed text is written otherwise, if it is.
+fn push_unless_written(
+    alloc: Global,
+    source: &Source,
+    text: &str,
+    out: &mut String,
+) -> Result<(), AllocError> {
+    match is_fixed(alloc, source, text) {
+        Ok(true) => Ok(()),
+        Ok(false) => out.push_str(" written otherwise"),
+        Err(fault) => push_refusal(source.text(), fault, out),
+    }
+}
+
+/// A fixed text, and what it is fixed to, if that is another.
+fn push_again(alloc: Global, text: &str, out: &mut String) -> Result<(), AllocError> {
+    out.push_str(text)?;
+    match fixed(alloc, text) {
+        Ok(again) if again.as_str() == text => Ok(()),
+        Ok(again) => write!(out, " fixed again: {}", again.as_str()),
+        Err(fault) => {
+            out.push_str(" refused: ")?;
+            push_refusal(text, fault, out)
+        }
+    }
+}
+
+/// What a text is fixed to.
+fn fixed(alloc: Global, text: &str) -> Result<String, Fault> {
+    let source = Source::new(text.as_bytes())?;
+    fix_text(alloc, &source)
+}
+
+/// A script without its unnecessary pairs, which is unwrapped to itself.
+pub(crate) fn push_unwrapped(
+    alloc: Global,
+    source: &Source,
+    out: &mut String,
+) -> Result<(), AllocError> {
+    match unwrap_text(alloc, source) {
+        Ok(text) => push_unwrapped_again(alloc, &text, out),
+        Err(fault) => push_unwrapping_fault(source.text(), fault, out),
+    }
+}
+
+/// The text, and what it is unwrapped to if that is another.
+fn push_unwrapped_again(alloc: Global, text: &str, out: &mut String) -> Result<(), AllocError> {
+    out.push_str(text)?;
+    match text_unwrapped(alloc, text) {
+        Ok(again) if again.as_str() == text => Ok(()),
+        Ok(again) => write!(out, " unwrapped again: {}", again.as_str()),
+        Err(fault) => {
+            out.push_str(" refused: ")?;
+            push_unwrapping_fault(text, fault, out)
+        }
+    }
+}
+
+/// What a text is unwrapped to.
+fn text_unwrapped(alloc: Global, text: &str) -> Result<String, UnwrappingFault> {
+    match Source::new(text.as_bytes()) {
+        Ok(source) => unwrap_text(alloc, &source),
+        Err(fault) => Err(UnwrappingFault::Refused(fault)),
+    }
+}
+
+fn push_unwrapping_fault(
+    text: &str,
+    fault: UnwrappingFault,
+    out: &mut String,
+) -> Result<(), AllocError> {
+    match fault {
+        UnwrappingFault::Refused(fault) => push_refusal(text, fault, out),
+        UnwrappingFault::Unfit => out.push_str("can't be unwrapped"),
+    }
+}
+
+/// What is answered of the script that is read.
+pub(crate) fn push_parsed(
+    alloc: Global,
+    row: &Case,
+    source: &Source,
+    out: &mut String,
+) -> Result<(), AllocError> {
+    match parse(alloc, source) {
+        Ok(parsed) => push_shown(alloc, row, &parsed, out),
+        Err(fault) => push_refusal(source.text(), fault, out),
+    }
+}
+
+/// What the row's call shows of a script.
+fn push_shown(
+    alloc: Global,
+    row: &Case,
+    parsed: &Parsed,
+    out: &mut String,
+) -> Result<(), AllocError> {
+    let program = parsed.program();
+    match row.text(0) {
+        "pairs" => push_count(parsed.grouping_pairs().len(), out),
+        "items" => push_count(program.root().part_count(), out),
+        "extra" => push_extra(alloc, program, parsed.grouping_pairs(), out),
+        "rules" | "refused rule" => push_rules(alloc, row, parsed, out),
+        "alike" => push_alike(alloc, program, row.text(2), out),
+        _ => push_printed(alloc, row, parsed, out),
+    }
+}
+
+/// What the row's call prints of a script.
+fn push_printed(
+    alloc: Global,
+    row: &Case,
+    parsed: &Parsed,
+    out: &mut String,
+) -> Result<(), AllocError> {
+    match row.text(0) {
+        "layout" => push_layout(alloc, parsed, row.text(2), out),
+        "written" => push_written(alloc, parsed, row, out),
+        "pieces" => push_pieces(alloc, parsed, row.text(2), out),
+        "gauged layout" => push_gauged_layout(alloc, parsed, row.text(2), out),
+        "gauged table" => push_gauged_table(alloc, parsed.program(), out),
+        _ => push_json_of(alloc, row, parsed.program(), out),
+    }
+}
+
+/// What the row's call makes of a script's JSON.
+fn push_json_of(
+    alloc: Global,
+    row: &Case,
+    program: &Program,
+    out: &mut String,
+) -> Result<(), AllocError> {
+    match row.text(0) {
+        "tree" => push_json(alloc, program, row.text(1), out),
+        "json" => push_json_to(alloc, program, row.text(2), out),
+        "value" => push_values(alloc, program, out),
+        "value text" => push_value_text(alloc, program, out),
+        _ => push_tree(alloc, row, program, out),
+    }
+}
+
+/// What the row's call shows of a script's tree.
+fn push_tree(
+    alloc: Global,
+    row: &Case,
+    program: &Program,
+    out: &mut String,
+) -> Result<(), AllocError> {
+    match row.text(0) {
+        "extra of" => push_extra_pairs(alloc, program, row.text(2), out),
+        "plan" => push_plan(alloc, program, out),
+        "scopes" => push_scopes(alloc, program, out),
+        "copied" => push_copy(alloc, program, out),
+        "equal copy" => push_equal_copy(alloc, program, out),
+        "numbers" => push_nodes(program, out),
+        call => write!(out, "no call {call}"),
+    }
+}
+
+fn push_count(count: usize, out: &mut String) -> Result<(), AllocError> {
+    write!(out, "{count}")
+}
+
+/// Whether a text has this tree too.
+fn is_alike(alloc: Global, program: &Program, text: &str) -> Result<bool, Fault> {
+    let source = Source::new(text.as_bytes())?;
+    let other = parse(alloc, &source)?;
+    Ok(same_tree(program, other.program()))
+}
+
+fn push_alike(
+    alloc: Global,
+    program: &Program,
+    text: &str,
+    out: &mut String,
+) -> Result<(), AllocError> {
+    match is_alike(alloc, program, text) {
+        Ok(true) => out.push_str("same"),
+        Ok(false) => out.push_str("other"),
+        Err(fault) => push_refusal(text, fault, out),
+    }
+}
+
+/// A script's JSON, which a run of `tree` writes too, and a line feed behind it.
+fn push_json(
+    alloc: Global,
+    program: &Program,
+    source: &str,
+    out: &mut String,
+) -> Result<(), AllocError> {
+    let mut text = tree_text(alloc, program)?;
+    out.push_str(&text)?;
+    text.push('\n')?;
+    push_unless_run(alloc, Command::Tree, source, &text, out)
+}
+
+/// What is written of the JSON to a device.
+fn push_json_to(
+    alloc: Global,
+    program: &Program,
+    writes: &str,
+    out: &mut String,
+) -> Result<(), AllocError> {
+    let mut writer = MemorySink::new(alloc, 2_000_000, plan(writes))?;
+    match write_tree(alloc, program, &mut writer) {
+        Err(Fault::OutOfMemory) if writer.bytes().is_empty() => Err(AllocError),
+        written => push_answer(&written, writer.bytes(), out),
+    }
+}
+
+/// The value of a script's first literal, and where the script ends.
+fn values(value: &Value) -> (Option<bool>, Option<u64>) {
+    let literal = value.pointer("/body/0/expression/value");
+    let end = value.pointer("/end");
+    (
+        literal.and_then(|value| value.as_bool()),
+        end.and_then(|value| value.as_u64()),
+    )
+}
+
+fn push_values(alloc: Global, program: &Program, out: &mut String) -> Result<(), AllocError> {
+    let value = to_value(alloc, program)?;
+    write!(out, "{:?}", values(&value))
+}
+
+/// The text of a script's value.
+fn push_value_text(alloc: Global, program: &Program, out: &mut String) -> Result<(), AllocError> {
+    let value = to_value(alloc, program)?;
+    let text = value.to_string(alloc)?;
+    out.push_str(&text)
+}

@@ -1,0 +1,136 @@
+//! The layouts of scripts, as texts and to writers that take little, or fail.
+
+use crate::case::Case;
+use crate::devices::{plan, push_answer};
+use crate::gauge::Gauge;
+use paren_planner::plan_if_any;
+use parser::{Parsed, parse};
+use printer::{print, print_text};
+use source_text::{FailurePlan, Fault, MAX_PIECE, MemorySink, Source};
+use std::alloc::{AllocError, Global};
+
+/// The calls of a writer that fail one after the other, from the first; behind them those near a full piece.
+const FAILURES: usize = 300;
+
+/// A flag for each row of a layout: `(` says that its node is wrapped.
+fn flags(alloc: Global, wrapped: &str) -> Result<Vec<bool>, AllocError> {
+    let mut flags = Vec::new(alloc);
+    for byte in wrapped.bytes() {
+        flags.push(byte == b'(')?;
+    }
+    Ok(flags)
+}
+
+/// The layout of the tree.
+pub(crate) fn push_layout(
+    alloc: Global,
+    parsed: &Parsed,
+    wrapped: &str,
+    out: &mut String,
+) -> Result<(), AllocError> {
+    let flags = flags(alloc, wrapped)?;
+    let text = print_text(alloc, parsed.program(), &flags)?;
+    out.push_str(&text)?;
+    if !is_alike(alloc, parsed, &flags, &text)? {
+        out.push_str(" written otherwise")?;
+    }
+    Ok(())
+}
+
+/// How many bytes the layout has, and whether no piece of it that is written has more than 4,096.
+pub(crate) fn push_gauged_layout(
+    alloc: Global,
+    parsed: &Parsed,
+    wrapped: &str,
+    out: &mut String,
+) -> Result<(), AllocError> {
+    let flags = flags(alloc, wrapped)?;
+    let mut writer = Gauge::new();
+    let written = print(parsed.program(), &flags, &mut writer);
+    write!(
+        out,
+        "{:?}",
+        (written, writer.bytes, writer.most <= MAX_PIECE)
+    )
+}
+
+/// What is written of the layout where there is so much room.
+pub(crate) fn push_written(
+    alloc: Global,
+    parsed: &Parsed,
+    row: &Case,
+    out: &mut String,
+) -> Result<(), AllocError> {
+    let flags = flags(alloc, row.text(2))?;
+    let mut writer = MemorySink::new(alloc, row.number(3), plan(row.text(4)))?;
+    let written = print(parsed.program(), &flags, &mut writer);
+    push_answer(&written, writer.bytes(), out)
+}
+
+/// Whether a writer that takes a byte a call gets the whole text.
+fn is_alike(
+    alloc: Global,
+    parsed: &Parsed,
+    flags: &[bool],
+    text: &str,
+) -> Result<bool, AllocError> {
+    let plan = FailurePlan {
+        per_call: 1,
+        fails_at: None,
+    };
+    let mut writer = MemorySink::new(alloc, text.len(), plan)?;
+    let written = print(parsed.program(), flags, &mut writer);
+    Ok(written.is_ok() && writer.bytes() == text.as_bytes())
+}
+
+/// Whether a writer that takes a byte a call, and fails behind so many, has this beginning of the text.
+fn is_beginning(
+    alloc: Global,
+    parsed: &Parsed,
+    flags: &[bool],
+    text: &str,
+    taken: usize,
+) -> Result<bool, AllocError> {
+    let plan = FailurePlan {
+        per_call: 1,
+        fails_at: Some((taken as u64).saturating_add(1)),
+    };
+    let mut writer = MemorySink::new(alloc, text.len(), plan)?;
+    let written = print(parsed.program(), flags, &mut writer);
+    let beginning = text.as_bytes().get(..taken).unwrap_or(b"");
+    Ok(written.is_err() && writer.bytes() == beginning && beginning.len() == taken)
+}
+
+/// Whether a writer is let fail behind so many bytes: up to 300, and next to each full piece.
+fn is_tried(taken: usize) -> bool {
+    let behind = taken % MAX_PIECE;
+    taken < FAILURES || behind < 3 || behind > MAX_PIECE - 3
+}
+
+/// How many bytes the layout has, and behind how many of them a writer failed that got each its beginning.
+pub(crate) fn push_pieces(
+    alloc: Global,
+    parsed: &Parsed,
+    wrapped: &str,
+    out: &mut String,
+) -> Result<(), AllocError> {
+    let flags = flags(alloc, wrapped)?;
+    let text = print_text(alloc, parsed.program(), &flags)?;
+    let mut beginnings = 0usize;
+    for taken in 0..text.len() {
+        if is_tried(taken) && is_beginning(alloc, parsed, &flags, &text, taken)? {
+            beginnings = beginnings.saturating_add(1);
+        }
+    }
+    let is_alike = is_alike(alloc, parsed, &flags, &text)?;
+    write!(out, "{:?}", (text.len(), beginnings, is_alike))
+}
+
+/// Whether a script's plan has this text printed, to a writer that takes a byte a call.
+pub(crate) fn is_fixed(alloc: Global, source: &Source, text: &str) -> Result<bool, Fault> {
+    let parsed = parse(alloc, source)?;
+    let Some(plan) = plan_if_any(alloc, parsed.program())? else {
+        return Ok(false);
+    };
+    Ok(is_alike(alloc, &parsed, plan.flags(), text)?)
+}

@@ -1,0 +1,296 @@
+//! Runs of the commands: what stands in both files, the exit status, and what is written.
+
+ghost use Rattle.std.specs.Prelude.{◌≡◌, ◌≢◌, IfErr, IfOk, false};
+ghost use Rattle.source_text.specs.declared.fault.Fault.TheVariants.{Usage};
+
+use crate::case::Case;
+use crate::devices::{bytes_of, plan, push_answer, push_bytes};
+use crate::gauge::Gauge;
+use crate::reports::AnyScript;
+use commands::{Command, Refused, write_refusal};
+use lint::run::run;
+use rules::{
+    EqEqEq, NoDebugger, NoEmpty, NoExtraParens, NoShadow, NoUndef, NoUnusedVars, NoVar,
+    PreferConst, Rule,
+};
+use source_text::{FailurePlan, Fault, MAX_PIECE, MemoryFeed, MemorySink, Sink};
+use std::alloc::{AllocError, Global};
+use std::str::from_utf8;
+
+/// The room of a writer.
+const ROOM: usize = 1_000_000;
+
+/// The command of this word.
+pub(crate) fn command(word: &str) -> Command {
+    match word {
+        "check" => Command::Check,
+        "tree" => Command::Tree,
+        "cost" => Command::Cost,
+        "verify" => Command::Verify,
+        _ => Command::Fix,
+    }
+}
+
+/// A run: its command, what stands in both files, the plans of their readers, and whether a rule stands behind the nine.
+#[derive(Clone, Copy)]
+struct Run<'a> {
+    command: Command,
+    file: &'a [u8],
+    second: &'a [u8],
+    reader: FailurePlan,
+    second_reader: FailurePlan,
+    has_tenth: bool,
+}
+
+impl<'a> Run<'a> {
+    /// A run whose readers give so many bytes in a call, all of them where it isn't said.
+    fn new(command: Command, file: &'a [u8], second: &'a [u8], per_call: &str) -> Run<'a> {
+        Run {
+            command,
+            file,
+            second,
+            reader: plan(per_call),
+            second_reader: plan(per_call),
+            has_tenth: false,
+        }
+    }
+}
+
+/// What a run answers by these rules.
+fn answered_by<W: Sink>(
+    alloc: Global,
+    rules: &[Box<dyn Rule>],
+    given: Run,
+    writer: &mut W,
+) -> Result<u8, Refused>
+    requires { W.failed writer.old ≡ false }
+    ensures { IfErr result (λ refused. refused.fault ≢ Usage) }
+{
+    let mut file = MemoryFeed::new(given.file, given.reader);
+    let mut second = MemoryFeed::new(given.second, given.second_reader);
+    run(alloc, given.command, rules, &mut file, &mut second, writer)
+}
+
+/// What a run answers.
+fn answered<W: Sink>(
+    alloc: Global,
+    given: Run,
+    writer: &mut W,
+) -> Result<Result<u8, Refused>, AllocError>
+    requires { W.failed writer.old ≡ false }
+    ensures { IfOk result (λ answered. IfErr answered (λ refused. refused.fault ≢ Usage)) }
+{
+    let mut rules: Vec<Box<dyn Rule>> = Vec::new(alloc);
+    rules.push(Box::new(alloc, EqEqEq::new(alloc))?)?;
+    rules.push(Box::new(alloc, NoDebugger::new(alloc))?)?;
+    rules.push(Box::new(alloc, NoEmpty::new(alloc))?)?;
+    rules.push(Box::new(alloc, NoExtraParens::new(alloc))?)?;
+    rules.push(Box::new(alloc, NoShadow::new(alloc))?)?;
+    rules.push(Box::new(alloc, NoUndef::new(alloc))?)?;
+    rules.push(Box::new(alloc, NoUnusedVars::new(alloc))?)?;
+    rules.push(Box::new(alloc, NoVar::new(alloc))?)?;
+    rules.push(Box::new(alloc, PreferConst::new(alloc))?)?;
+    if given.has_tenth {
+        rules.push(Box::new(alloc, AnyScript::new(alloc))?)?;
+    }
+    Ok(answered_by(alloc, rules.as_slice(), given, writer))
+}
+
+/// A row whose run was refused memory, and wrote nothing, has no answer.
+fn unless_refused(answered: &Result<u8, Refused>, written: usize) -> Result<(), AllocError> {
+    match answered {
+        Err(refused) if refused.fault == Fault::OutOfMemory && written == 0 => Err(AllocError),
+        _ => Ok(()),
+    }
+}
+
+/// What a run over bytes answers, and what it writes: the command, the bytes, the plans of the reader and of the writer, what stands in
+/// the second file, and the plan of its reader.
+pub(crate) fn push_run(
+    alloc: Global,
+    row: &Case,
+    bytes: &[u8],
+    out: &mut String,
+) -> Result<(), AllocError> {
+    let given = Run {
+        command: command(row.text(1)),
+        file: bytes,
+        second: row.text(5).as_bytes(),
+        reader: plan(row.text(3)),
+        second_reader: plan(row.text(6)),
+        has_tenth: false,
+    };
+    let mut writer = MemorySink::new(alloc, ROOM, plan(row.text(4)))?;
+    let answered = answered(alloc, given, &mut writer)?;
+    unless_refused(&answered, writer.bytes().len())?;
+    push_answer(&answered, writer.bytes(), out)
+}
+
+/// The same of bytes that are no text.
+pub(crate) fn push_run_bytes(
+    alloc: Global,
+    row: &Case,
+    out: &mut String,
+) -> Result<(), AllocError> {
+    let bytes = bytes_of(alloc, row.text(2))?;
+    push_run(alloc, row, &bytes, out)
+}
+
+/// The exit status of a refusal, and its line.
+fn push_refused(alloc: Global, refused: &Refused, out: &mut String) -> Result<(), AllocError>
+    requires { refused.now.fault ≢ Usage }
+{
+    let mut writer = MemorySink::new(alloc, 64, plan(""))?;
+    let status = write_refusal(refused, &mut writer);
+    write!(out, "{status} ")?;
+    push_bytes(writer.bytes(), out)
+}
+
+/// The exit status of a command and what it writes to a writer that takes so many bytes a call; a refusal's line behind that.
+fn push_outcome(
+    alloc: Global,
+    given: Run,
+    per_call: &str,
+    out: &mut String,
+) -> Result<(), AllocError> {
+    let mut writer = MemorySink::new(alloc, 65536, plan(per_call))?;
+    let answered = answered(alloc, given, &mut writer)?;
+    unless_refused(&answered, writer.bytes().len())?;
+    match answered {
+        Ok(status) => {
+            write!(out, "{status} ")?;
+            push_bytes(writer.bytes(), out)
+        }
+        Err(refused) => {
+            push_bytes(writer.bytes(), out)?;
+            push_refused(alloc, &refused, out)
+        }
+    }
+}
+
+/// The same where readers and the writer pass a byte a call, if that is another outcome.
+fn push_by_bytes(alloc: Global, run: Run, out: &mut String) -> Result<(), AllocError> {
+    let slow = Run {
+        reader: plan("1"),
+        second_reader: plan("1"),
+        ..run
+    };
+    let mut found = String::new(alloc);
+    push_outcome(alloc, slow, "1", &mut found)?;
+    if found.as_str() == out.as_str() {
+        return Ok(());
+    }
+    write!(out, " by single bytes: {}", found.as_str())
+}
+
+/// The outcome of a run, also by single bytes.
+fn push_both(alloc: Global, run: Run, out: &mut String) -> Result<(), AllocError> {
+    push_outcome(alloc, run, "", out)?;
+    push_by_bytes(alloc, run, out)
+}
+
+/// What a command, by its word, answers for a text and the text of its second file.
+pub(crate) fn push_command(alloc: Global, row: &Case, out: &mut String) -> Result<(), AllocError> {
+    let (file, second) = (row.text(1).as_bytes(), row.text(2).as_bytes());
+    push_both(alloc, Run::new(command(row.text(0)), file, second, ""), out)
+}
+
+/// What `check` answers where a rule of this program's own stands behind the nine.
+pub(crate) fn push_with_tenth(
+    alloc: Global,
+    row: &Case,
+    out: &mut String,
+) -> Result<(), AllocError> {
+    let (file, second) = (row.text(1).as_bytes(), row.text(2).as_bytes());
+    let mut run = Run::new(Command::Check, file, second, "");
+    run.has_tenth = true;
+    push_both(alloc, run, out)
+}
+
+/// What `check` answers for a text and bytes of its second file that are no text.
+pub(crate) fn push_second_bytes(
+    alloc: Global,
+    row: &Case,
+    out: &mut String,
+) -> Result<(), AllocError> {
+    let second = bytes_of(alloc, row.text(2))?;
+    let run = Run::new(Command::Check, row.text(1).as_bytes(), &second, "");
+    push_both(alloc, run, out)
+}
+
+/// Whether a command writes this text, and no more, where the reader and the writer pass a byte a call.
+pub(crate) fn is_written(
+    alloc: Global,
+    command: Command,
+    file: &str,
+    text: &str,
+) -> Result<bool, AllocError> {
+    let given = Run::new(command, file.as_bytes(), b"", "1");
+    let mut writer = MemorySink::new(alloc, text.len(), plan("1"))?;
+    let answered = answered(alloc, given, &mut writer)?;
+    unless_refused(&answered, writer.bytes().len())?;
+    Ok(answered == Ok(0u8) && writer.bytes() == text.as_bytes())
+}
+
+/// How many bytes a command writes for a text and that of its second file, and whether no piece of it has more than 4,096.
+pub(crate) fn push_gauged(alloc: Global, row: &Case, out: &mut String) -> Result<(), AllocError> {
+    let (file, second) = (row.text(2).as_bytes(), row.text(3).as_bytes());
+    let given = Run::new(command(row.text(1)), file, second, "");
+    let mut writer = Gauge::new();
+    let answered = answered(alloc, given, &mut writer)?;
+    unless_refused(&answered, writer.bytes)?;
+    write!(
+        out,
+        "{:?}",
+        (answered, writer.bytes, writer.most <= MAX_PIECE)
+    )
+}
+
+/// What is said of an answer of `fix` and what it wrote: `;` of a text that is fixed, `x` of a syntax error, whose place is one of the text,
+/// or of one that is nested too deep, `e` of an early error, `u` of what isn't UTF-8; `?` of all else.
+fn mark(answered: &Result<u8, Refused>, bytes: &[u8], written: &[u8]) -> char {
+    match answered {
+        Ok(0) => ';',
+        Err(refused) if written.is_empty() => fault_mark(refused.fault, bytes),
+        _ => '?',
+    }
+}
+
+fn fault_mark(fault: Fault, bytes: &[u8]) -> char {
+    let text = from_utf8(bytes).unwrap_or("");
+    match fault {
+        Fault::Syntax(at) if text.is_char_boundary(at) => 'x',
+        Fault::TooDeep => 'x',
+        Fault::Early(_, _) => 'e',
+        Fault::NotUtf8(_) => 'u',
+        _ => '?',
+    }
+}
+
+/// The mark of bytes; `?` where a second run answers or writes something else.
+fn mark_of(alloc: Global, bytes: &[u8]) -> Result<char, AllocError> {
+    let given = Run::new(Command::Fix, bytes, b"", "");
+    let mut writer = MemorySink::new(alloc, ROOM, plan(""))?;
+    let mut second_writer = MemorySink::new(alloc, ROOM, plan(""))?;
+    let first = answered(alloc, given, &mut writer)?;
+    unless_refused(&first, writer.bytes().len())?;
+    let second = answered(alloc, given, &mut second_writer)?;
+    unless_refused(&second, second_writer.bytes().len())?;
+    match first == second && writer.bytes() == second_writer.bytes() {
+        true => Ok(mark(&first, bytes, writer.bytes())),
+        false => Ok('?'),
+    }
+}
+
+/// The mark of each beginning of a text, from the empty one to the whole text, byte by byte.
+pub(crate) fn push_beginnings(
+    alloc: Global,
+    text: &str,
+    out: &mut String,
+) -> Result<(), AllocError> {
+    for end in 0..text.len().saturating_add(1) {
+        let beginning = text.as_bytes().get(..end).unwrap_or(b"");
+        out.push(mark_of(alloc, beginning)?)?;
+    }
+    Ok(())
+}

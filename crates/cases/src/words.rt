@@ -1,0 +1,104 @@
+//! What words and characters are, and the words of the command line.
+
+use crate::case::Case;
+use crate::kinds::kind;
+use crate::ranks::rank;
+use clap::error::ErrorKind;
+use command_line::{command_line, escaped_text};
+use early_errors::{EarlyError, number_of};
+use grammar::{
+    accepts_rank, is_assignment, is_chain_part, is_literal, is_pattern, is_prefix_operator,
+    is_reserved, is_target, is_update_operator, literal_class, precedence_of,
+};
+use source_text::{is_line_terminator, is_space};
+use std::alloc::{AllocError, Global};
+
+/// Whether the character of a number, in sixteens, ends a line, and whether it is white space.
+pub(crate) fn push_character(word: &str, out: &mut String) -> Result<(), AllocError> {
+    let number = u32::from_str_radix(word, 16).unwrap_or(0);
+    let character = char::from_u32(number).unwrap_or('a');
+    write!(
+        out,
+        "{:?}",
+        (is_line_terminator(character), is_space(character))
+    )
+}
+
+/// Whether a text is a prefix operator, a step, an assignment and reserved.
+pub(crate) fn push_word(text: &str, out: &mut String) -> Result<(), AllocError> {
+    let (prefix, step) = (is_prefix_operator(text), is_update_operator(text));
+    let found = (prefix, step, is_assignment(text), is_reserved(text));
+    write!(out, "{found:?}")
+}
+
+/// A literal's class by its text, and whether it is a literal.
+pub(crate) fn push_literal(raw: &str, out: &mut String) -> Result<(), AllocError> {
+    write!(out, "{:?}", (literal_class(raw), is_literal(raw)))
+}
+
+/// Whether a kind is a target, a pattern and a link of a chain.
+pub(crate) fn push_kind(word: &str, out: &mut String) -> Result<(), AllocError> {
+    let kind = kind(word);
+    let found = (is_target(kind), is_pattern(kind), is_chain_part(kind));
+    write!(out, "{found:?}")
+}
+
+/// Whether a position takes a symbol.
+pub(crate) fn push_takes(row: &Case, out: &mut String) -> Result<(), AllocError> {
+    let takes = accepts_rank(rank(row.text(1)), rank(row.text(2)));
+    write!(out, "{takes}")
+}
+
+/// How tight a symbol is.
+pub(crate) fn push_tightness(word: &str, out: &mut String) -> Result<(), AllocError> {
+    write!(out, "{}", precedence_of(rank(word)))
+}
+
+fn early_error(word: &str) -> EarlyError {
+    match word {
+        "EvalOrArguments" => EarlyError::EvalOrArguments,
+        "LexicalNameIsVar" => EarlyError::LexicalNameIsVar,
+        "CatchParameterConflict" => EarlyError::CatchParameterConflict,
+        _ => EarlyError::RegExpFlags,
+    }
+}
+
+/// The number of an early error, of those that rows name.
+pub(crate) fn push_number(word: &str, out: &mut String) -> Result<(), AllocError> {
+    write!(out, "{}", number_of(early_error(word)))
+}
+
+/// The kind of a refusal. A row whose call was refused memory has no answer.
+fn push_mistake(kind: ErrorKind, out: &mut String) -> Result<(), AllocError> {
+    match kind {
+        ErrorKind::OutOfMemory => Err(AllocError),
+        kind => write!(out, "{kind:?}"),
+    }
+}
+
+/// What a command line asks for, or the kind of its refusal.
+fn push_asked(alloc: Global, words: &[&str], out: &mut String) -> Result<(), AllocError> {
+    match command_line(alloc, words) {
+        Ok(line) => write!(out, "{:?}", (line.command, line.file, line.second)),
+        Err(error) => push_mistake(error.kind(), out),
+    }
+}
+
+/// The same of a text's words.
+pub(crate) fn push_command_line(
+    alloc: Global,
+    text: &str,
+    out: &mut String,
+) -> Result<(), AllocError> {
+    let mut words = Vec::new(alloc);
+    for word in text.split(' ') {
+        words.push(word)?;
+    }
+    push_asked(alloc, &words, out)
+}
+
+/// A text as a terminal is shown it.
+pub(crate) fn push_escaped(alloc: Global, text: &str, out: &mut String) -> Result<(), AllocError> {
+    let shown = escaped_text(alloc, text)?;
+    out.push_str(&shown)
+}

@@ -1,6 +1,0 @@
-use Rattle.std.proofs.Common.{arith}
-use Rattle.chunks.proofs.Joining.{most}
-use Rattle.chunks.proofs.chunks.Chunks.len.Goals as goal
-
-pub returns-clause-few : goal.returns-clause-few
-returns-clause-few g c = omega (arith, c.self.invariant.1.1.0, c.self.invariant.1.1.1, most c.self.inside.chunks.items c.self.invariant.0)

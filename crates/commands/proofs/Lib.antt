@@ -1,0 +1,3 @@
+pub mod Decimal
+pub mod ReadTexts
+pub mod JoinedTexts

@@ -1,0 +1,52 @@
+-- The line and the exit status of a refusal.
+use Rattle.std.specs.Prelude.{ℕ, List, [], ◌∷◌, ◌++◌, Bool, true, false, Option, codes}
+use Rattle.std.specs.Fmt.{decimal}
+use Rattle.std.specs.Io.KnownBytes.{Appends}
+use Rattle.source_text.specs.declared.fault.Fault.{Fault}
+use Rattle.source_text.specs.declared.fault.Fault.TheVariants.{NotUtf8, TooLong, Syntax, TooDeep, Early, OutOfMemory, BadSettings, BadTable, WriteFailed, ReadFailed, Usage}
+use Rattle.source_text.specs.declared.fault.Reason.{Reason}
+use Rattle.source_text.specs.declared.fault.Reason.TheVariants as reason
+use Rattle.source_text.specs.Writing.{AppendsBeginning}
+use Rattle.commands.specs.declared.refused.Refused.{Refused}
+
+-- 1 for a bad cost table, else 2
+abbrev pub status_of : Fault → ℕ
+status_of (BadTable row why) = 1
+status_of other = 2
+
+abbrev pub reason_words : Reason → List ℕ
+reason_words reason.Form = codes "Form"
+reason_words reason.Shape = codes "Shape"
+reason_words reason.None = codes "None"
+reason_words reason.High = codes "High"
+reason_words reason.Total = codes "Total"
+
+-- a line and a column, as `3:14`
+abbrev pub place_words : ℕ → ℕ → List ℕ
+place_words line column = decimal line ++ codes ":" ++ decimal column
+
+-- what a fault says, given the words of its place; a usage error has words of its own, by the command line
+abbrev pub fault_words : Fault → List ℕ → List ℕ
+fault_words (NotUtf8 at) place = codes "not UTF-8 at byte " ++ decimal at
+fault_words TooLong place = codes "longer than 16777216 bytes"
+fault_words (Syntax at) place = codes "syntax error at " ++ place
+fault_words TooDeep place = codes "nested too deep"
+fault_words (Early number at) place = codes "early error E" ++ decimal number ++ codes " at " ++ place
+fault_words OutOfMemory place = codes "out of memory"
+fault_words BadSettings place = codes "bad settings"
+fault_words (BadTable row why) place = codes "bad table row " ++ decimal row ++ codes " " ++ reason_words why
+fault_words WriteFailed place = codes "write failed"
+fault_words ReadFailed place = codes "read failed"
+fault_words Usage place = []
+
+abbrev pub refusal_words : Refused → List ℕ
+refusal_words refused = fault_words refused.fault (place_words refused.line refused.column)
+
+-- the line of a refusal, with its line feed
+abbrev pub refusal_line : Refused → List ℕ
+refusal_line refused = codes "jslint: " ++ refusal_words refused ++ 10 ∷ []
+
+-- the line was written, or a beginning of it and the writer has failed
+abbrev pub WritesLine : List ℕ → Option (List ℕ) → Option (List ℕ) → Bool → Type 0
+WritesLine line before after false = Appends before after line
+WritesLine line before after true = AppendsBeginning before after line

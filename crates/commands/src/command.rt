@@ -1,0 +1,43 @@
+//! The commands of the program.
+
+ghost use Rattle.std.specs.Prelude.{◌≡◌};
+ghost use Rattle.commands.specs.Commands.{word_of};
+
+/// What the program is asked to do with a script.
+#[derive(Clone, Copy, Debug, PartialEq, Eq)]
+pub enum Command {
+    /// Write what the rules find in the script.
+    Check,
+    /// Write the tree of the script, as JSON, and a line feed.
+    Tree,
+    /// Write the fixed text of the script.
+    Fix,
+    /// Write the cost table of the script.
+    Cost,
+    /// Check a cost table against the script.
+    Verify,
+}
+
+impl Command {
+    /// Each of them.
+    pub const ALL: [Command; 5] = [
+        Command::Check,
+        Command::Tree,
+        Command::Fix,
+        Command::Cost,
+        Command::Verify,
+    ];
+
+    /// The word for it on the command line.
+    pub fn word(self) -> &'static str
+        ensures { result.now ≡ word_of self }
+    {
+        match self {
+            Command::Check => "check",
+            Command::Tree => "tree",
+            Command::Fix => "fix",
+            Command::Cost => "cost",
+            Command::Verify => "verify",
+        }
+    }
+}

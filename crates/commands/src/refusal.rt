@@ -1,0 +1,105 @@
+//! Refusals in words, as the program writes them.
+
+ghost use Rattle.std.specs.Prelude.{◌≡◌, ◌≢◌, ◌≤◌, ◌+◌, ◌++◌, false, length};
+ghost use Rattle.std.specs.Fmt.{decimal};
+ghost use Rattle.commands.specs.Refusal.{WritesLine, place_words, reason_words, refusal_line, refusal_words, status_of};
+
+use crate::refused::Refused;
+use crate::short_text::ShortText;
+use source_text::{Fault, Reason, Sink, write_text};
+
+/// The exit status of a refusal: 1 for a bad cost table, else 2.
+pub fn status(fault: Fault) -> u8
+    ensures { result ≡ status_of fault }
+{
+    match fault {
+        Fault::BadTable(..) => 1,
+        _ => 2,
+    }
+}
+
+fn reason_name(reason: Reason) -> &'static str
+    ensures { result.now ≡ reason_words reason }
+{
+    match reason {
+        Reason::Form => "Form",
+        Reason::Shape => "Shape",
+        Reason::None => "None",
+        Reason::High => "High",
+        Reason::Total => "Total",
+    }
+}
+
+/// Adds a number, which has at most 20 digits.
+fn push_number(line: &mut ShortText, number: usize)
+    requires { length line.old ≤ 76 }
+    ensures digits { line.new ≡ line.old ++ decimal number }
+    ensures short { length line.new ≤ length line.old + 20 }
+{
+    line.push_number(number);
+}
+
+/// Adds the line and the column.
+fn push_line_column(line: &mut ShortText, refused: &Refused)
+    requires { length line.old ≤ 54 }
+    ensures words { line.new ≡ line.old ++ place_words refused.now.line refused.now.column }
+    ensures short { length line.new ≤ length line.old + 41 }
+{
+    push_number(line, refused.line as usize);
+    line.push_text(":");
+    push_number(line, refused.column as usize);
+}
+
+/// Adds what the refusal says.
+fn push_words(line: &mut ShortText, refused: &Refused)
+    requires start { length line.old ≡ 8 }
+    requires known { refused.now.fault ≢ Fault.Usage }
+    ensures words { line.new ≡ line.old ++ refusal_words refused.now }
+    ensures short { length line.new ≤ 95 }
+{
+    match refused.fault {
+        Fault::NotUtf8(at) => {
+            line.push_text("not UTF-8 at byte ");
+            push_number(line, at);
+        }
+        Fault::TooLong => line.push_text("longer than 16777216 bytes"),
+        Fault::Syntax(_) => {
+            line.push_text("syntax error at ");
+            push_line_column(line, refused);
+        }
+        Fault::TooDeep => line.push_text("nested too deep"),
+        Fault::Early(number, _) => {
+            line.push_text("early error E");
+            push_number(line, usize::from(number));
+            line.push_text(" at ");
+            push_line_column(line, refused);
+        }
+        Fault::OutOfMemory => line.push_text("out of memory"),
+        Fault::BadSettings => line.push_text("bad settings"),
+        Fault::BadTable(row, reason) => {
+            line.push_text("bad table row ");
+            push_number(line, row as usize);
+            line.push_text(" ");
+            line.push_text(reason_name(reason));
+        }
+        Fault::WriteFailed => line.push_text("write failed"),
+        Fault::ReadFailed => line.push_text("read failed"),
+        Fault::Usage => unreachable!(),
+    }
+}
+
+/// Writes the line of a refusal: `jslint: `, what it says, and a line feed. It takes no memory, and stops where the
+/// writer fails. Answers the refusal's exit status in either case.
+pub fn write_refusal<W: Sink>(refused: &Refused, writer: &mut W) -> u8
+    requires ready { W.failed writer.old ≡ false }
+    requires known { refused.now.fault ≢ Fault.Usage }
+    ensures status { result ≡ status_of refused.now.fault }
+    ensures line { WritesLine (refusal_line refused.now) (W.taken writer.old) (W.taken writer.new) (W.failed writer.new) }
+{
+    let mut line = ShortText::new();
+    line.push_text("jslint: ");
+    push_words(&mut line, refused);
+    line.push(b'\n');
+    let _ = write_text(line.as_bytes(), writer);
+    status(refused.fault)
+}

@@ -1,0 +1,49 @@
+//! Refusals of a run, with the line and the column that they speak of.
+
+ghost use Rattle.std.specs.Prelude.{◌≡◌};
+
+use source_text::Fault;
+use std::alloc::{AllocError, AllocFailed};
+
+/// A refusal, and the place that it speaks of: its line and its column from 1, both 0 where there is none.
+#[derive(Clone, Copy, Debug, PartialEq, Eq)]
+pub struct Refused {
+    pub fault: Fault,
+    pub line: u32,
+    pub column: u32,
+}
+
+impl Refused {
+    /// A refusal that speaks of no place.
+    pub fn at_no_place(fault: Fault) -> Refused
+        ensures { result ≡ record { fault = fault; line = 0; column = 0 } }
+    {
+        Refused {
+            fault,
+            line: 0,
+            column: 0,
+        }
+    }
+}
+
+impl From<AllocError> for Refused {
+    ghost use Rattle.std.specs.Prelude.{◌≡◌};
+    ghost use Rattle.commands.specs.Refused.{no_memory};
+
+    ghost from_gives = { λ _ e. e ≡ no_memory };
+
+    fn from(_error: AllocError) -> Refused {
+        Refused::at_no_place(Fault::OutOfMemory)
+    }
+}
+
+impl<T: Drop> From<AllocFailed<T>> for Refused {
+    ghost use Rattle.std.specs.Prelude.{◌≡◌};
+    ghost use Rattle.commands.specs.Refused.{no_memory};
+
+    ghost from_gives = { λ _ e. e ≡ no_memory };
+
+    fn from(_error: AllocFailed<T>) -> Refused {
+        Refused::at_no_place(Fault::OutOfMemory)
+    }
+}

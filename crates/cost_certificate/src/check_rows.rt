@@ -1,0 +1,235 @@
+//! Rows beside their nodes, in one walk from the root: what each may say at most, and what it says.
+
+ghost use Rattle.std.specs.Prelude.{◌≡◌, ◌+◌, ◌≤◌, ◌<◌, suc, true, [], ◌∷◌, ◌++◌, map};
+ghost use Rattle.tree.specs.Node.{node_tree};
+ghost use Rattle.tree.specs.Tree.{parts_of, kind_of};
+ghost use Rattle.language.specs.Expressions.{has_optional, first_has_optional};
+ghost use Rattle.language.specs.RowPositions.{rows, parts_rows, first_roles, widest as widest_role};
+ghost use Rattle.language.specs.Grammar.{ways};
+ghost use Rattle.spellings.specs.Outlines.{role_of};
+ghost use Rattle.spellings.specs.Remaining.{left};
+ghost use Rattle.spellings.specs.Spelled.{settled_roles};
+ghost use Rattle.paren_planner.specs.Rows.{is_expression};
+ghost use Rattle.paren_planner.specs.Tables.{table_of};
+ghost use Rattle.paren_planner.specs.Costs.{eight};
+ghost use Rattle.cost_certificate.specs.Checked.{shown_any};
+ghost use Rattle.cost_certificate.specs.Faults.{row_fault};
+ghost use Rattle.cost_certificate.specs.Walked.{IsPassed, IsBelow, Matched, cells_fault, IsInside, IsBounded, direct_bounds, bounds_over, of_symbol as symbol_alone, wide_nodes, parts_wide_nodes};
+
+use crate::cells::{row_costs, some_is_above, some_lacks};
+use crate::check::BadTable;
+use crate::types::same_type;
+use paren_planner::{CostTable, Costs, NodeCosts, added, fitting, widest};
+use source_text::Reason;
+use spellings::{
+    FirstToken, NodeSpelling, Outline, Position, leads_chain, node_spelling, resolve_slot,
+};
+use tree::Node;
+
+/// What was found of rows, from one on.
+#[derive(Clone, Copy)]
+pub(crate) struct RowCheck {
+    /// The index of the row behind them, counted from 0.
+    pub next: usize,
+    /// The index of the first of them that is missing or of another type.
+    pub misshapen: Option<usize>,
+    /// The first fault of a cell.
+    pub fault: Option<BadTable>,
+}
+
+/// A node with the rows in it.
+#[derive(Clone, Copy)]
+pub(crate) struct CheckedNode {
+    /// What it costs at any position, by the table.
+    pub weighed: NodeCosts,
+    pub passed: RowCheck,
+}
+
+/// The sums over the parts of a node, with the rows in them.
+#[derive(Clone, Copy)]
+struct CheckedParts {
+    sums: Costs,
+    passed: RowCheck,
+}
+
+/// Judges the rows of a node at a position. `in_chain`: the node is known to be part of a chain, with a `?.` in it or below it.
+#[cycle(judging)]
+pub(crate) fn check_node(
+    node: Node,
+    position: Position,
+    in_chain: bool,
+    table: &CostTable,
+    index: usize,
+) -> CheckedNode
+    requires chain { in_chain ≡ true → has_optional (node_tree node) ≡ true }
+    requires few { index + rows (node_tree node) (role_of position) ≤ 16777216 }
+    ensures bounds { IsBounded (table_of table.now.rows.items table.now.total) (role_of position) (node_tree node.entry) (suc index) result.weighed }
+    ensures passed { IsPassed (table_of table.now.rows.items table.now.total) (wide_nodes (node_tree node.entry) (role_of position)) index result.passed }
+{
+    if !has_row(position) {
+        return check_inside(node, position, in_chain, table, index);
+    }
+    let inside = check_inside(node, position, in_chain, table, index + 1);
+    let costs = row_costs(table, index);
+    let own = RowCheck {
+        next: index + 1,
+        misshapen: misshapen(node, table, index),
+        fault: fault(costs, inside.weighed.costs, index),
+    };
+    CheckedNode {
+        weighed: NodeCosts {
+            outline: of_symbol(inside.weighed.outline),
+            costs,
+        },
+        passed: joined(own, inside.passed),
+    }
+}
+
+/// The same without a row of its own.
+#[cycle(judging)]
+fn check_inside(
+    node: Node,
+    position: Position,
+    in_chain: bool,
+    table: &CostTable,
+    index: usize,
+) -> CheckedNode
+    requires chain { in_chain ≡ true → has_optional (node_tree node) ≡ true }
+    requires few { index + parts_rows (parts_of (node_tree node)) (first_roles (ways (widest_role (role_of position)) (node_tree node))) ≤ 16777216 }
+    ensures bounds { IsInside (table_of table.now.rows.items table.now.total) (role_of position) (node_tree node.entry) (suc index) result.weighed }
+    ensures passed { IsPassed (table_of table.now.rows.items table.now.total) (parts_wide_nodes (parts_of (node_tree node.entry)) (first_roles (ways (widest_role (role_of position)) (node_tree node.entry)))) index result.passed }
+{
+    let own = widest(position);
+    let Some(spelled) = node_spelling(node, own, in_chain) else {
+        return CheckedNode {
+            weighed: NodeCosts {
+                outline: None,
+                costs: Costs::same(None),
+            },
+            passed: passed_none(index),
+        };
+    };
+    let summed = check_parts(node, own, spelled, table, index);
+    CheckedNode {
+        weighed: NodeCosts {
+            outline: Some(spelled.outline),
+            costs: fitting(own, spelled.outline, summed.sums),
+        },
+        passed: summed.passed,
+    }
+}
+
+/// Judges the rows in the parts of a node, and adds up what they cost in it.
+#[cycle(judging)]
+#[tactic(auto, using(tree::proofs::PartWalk::part_steps))]
+fn check_parts(
+    node: Node,
+    own: Position,
+    spelled: NodeSpelling,
+    table: &CostTable,
+    index: usize,
+) -> CheckedParts
+    requires chain { spelled.holds_chain ≡ true → first_has_optional (parts_of (node_tree node)) ≡ true }
+    requires few { index + parts_rows (parts_of (node_tree node)) (settled_roles (role_of own) (left spelled.slots)) ≤ 16777216 }
+    ensures sums { result.sums ≡ bounds_over (table_of table.now.rows.items table.now.total) (parts_of (node_tree node.entry)) (role_of own) (left spelled.entry.slots) (suc index) }
+    ensures passed { IsPassed (table_of table.now.rows.items table.now.total) (parts_wide_nodes (parts_of (node_tree node.entry)) (settled_roles (role_of own) (left spelled.entry.slots))) index result.passed }
+{
+    let mut slots = spelled.slots;
+    let mut sums = Costs::same(Some(0u32));
+    let mut passed = passed_none(index);
+    for place in 0..node.part_count() {
+        let Some(part) = node.part(place) else {
+            continue;
+        };
+        let Some((slot, others)) = slots.next_slot() else {
+            return CheckedParts {
+                sums: Costs::same(None),
+                passed,
+            };
+        };
+        slots = others;
+        let in_chain = leads_chain(spelled.holds_chain, place);
+        let judged = check_node(part, resolve_slot(own, slot), in_chain, table, passed.next);
+        sums = added(sums, own, slot, judged.weighed);
+        passed = joined(passed, judged.passed);
+    }
+    CheckedParts { sums, passed }
+}
+
+/// No rows.
+fn passed_none(index: usize) -> RowCheck
+    ensures next { result.next ≡ index }
+    ensures passed { (t : _) → IsPassed t [] index result }
+{
+    RowCheck {
+        next: index,
+        misshapen: None,
+        fault: None,
+    }
+}
+
+/// Of rows and those behind them.
+fn joined(first: RowCheck, second: RowCheck) -> RowCheck
+    ensures next { result.next ≡ second.next }
+    ensures passed { (t xs ys r : _) → IsPassed t xs r first → IsPassed t ys first.next second → IsPassed t (xs ++ ys) r result }
+{
+    RowCheck {
+        next: second.next,
+        misshapen: first.misshapen.or(second.misshapen),
+        fault: first.fault.or(second.fault),
+    }
+}
+
+/// Whether the node has a row at a position.
+fn has_row(position: Position) -> bool
+    ensures { result ≡ is_expression (role_of position) }
+{
+    matches!(position, Position::Expression { .. })
+}
+
+/// The index, where the row is missing or of another type than the node.
+fn misshapen(node: Node, table: &CostTable, index: usize) -> Option<usize>
+    requires { index < 16777216 }
+    ensures matched { Matched (map (λ x. x.0) (table_of table.now.rows.items table.now.total).rows) (kind_of (node_tree node.entry) ∷ []) index result (index + 1) }
+    ensures within { IsBelow result (index + 1) }
+{
+    if index < table.row_count() {
+        let (kind, _) = table.row(index + 1);
+        if same_type(kind, node.kind()) {
+            return None;
+        }
+    }
+    Some(index)
+}
+
+/// What is wrong with a row, by its cells and their bounds.
+fn fault(cells: Costs, bounds: Costs, index: usize) -> Option<BadTable>
+    requires { index < 16777216 }
+    ensures { shown_any result ≡ cells_fault (eight cells) (eight bounds) (suc index) }
+{
+    let reason = if some_lacks(cells, bounds) {
+        Reason::None
+    } else if some_is_above(cells, bounds) {
+        Reason::High
+    } else {
+        return None;
+    };
+    Some(BadTable {
+        row: (index + 1) as u32,
+        reason,
+    })
+}
+
+/// The outline of which the symbol alone counts.
+fn of_symbol(outline: Option<Outline>) -> Option<Outline>
+    ensures { result ≡ symbol_alone outline }
+{
+    match outline {
+        Some(outline) => Some(Outline {
+            needs_in: false,
+            opens: FirstToken::Other,
+            ..outline
+        }),
+        None => None,
+    }
+}

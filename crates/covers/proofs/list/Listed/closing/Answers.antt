@@ -1,5 +1,0 @@
-use Rattle.std.proofs.Common.{rules}
-use Rattle.covers.proofs.list.Listed.closing.Goals as goal
-
-pub returns-in-Properties : goal.returns-in-Properties
-returns-in-Properties c = search rules

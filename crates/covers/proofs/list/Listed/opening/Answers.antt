@@ -1,5 +1,0 @@
-use Rattle.std.proofs.Common.{rules}
-use Rattle.covers.proofs.list.Listed.opening.Goals as goal
-
-pub returns-in-Elements : goal.returns-in-Elements
-returns-in-Elements c = search rules

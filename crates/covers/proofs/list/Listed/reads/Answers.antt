@@ -1,5 +1,0 @@
-use Rattle.std.proofs.Common.{rules}
-use Rattle.covers.proofs.list.Listed.reads.Goals as goal
-
-pub returns-in-Parameters : goal.returns-in-Parameters
-returns-in-Parameters c = search rules

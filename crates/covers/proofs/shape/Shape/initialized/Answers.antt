@@ -1,5 +1,0 @@
-use Rattle.std.proofs.Common.{rules}
-use Rattle.covers.proofs.shape.Shape.initialized.Goals as goal
-
-pub returns : goal.returns
-returns c = search rules

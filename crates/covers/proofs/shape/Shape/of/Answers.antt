@@ -1,5 +1,0 @@
-use Rattle.std.proofs.Common.{rules}
-use Rattle.covers.proofs.shape.Shape.of.Goals as goal
-
-pub returns-in-Identifier : goal.returns-in-Identifier
-returns-in-Identifier c = search rules

@@ -1,6 +1,0 @@
-use Rattle.std.proofs.Common.{refl, sym, ◌∙◌}
-use Rattle.phrases.proofs.Seeing.{mark_missed}
-use Rattle.descent.proofs.position.Parser.accept.Goals as goal
-
-pub returns-then-not-is_mark-clause-missed : goal.returns-then-not-is_mark-clause-missed
-returns-then-not-is_mark-clause-missed c = (mark_missed _ _ _ _ c.in-Some.ensures.some (sym c.is_mark.ensures.is ∙ c.if-not-is_mark.true), refl)

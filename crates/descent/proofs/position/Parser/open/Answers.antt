@@ -1,9 +1,0 @@
-use Rattle.std.proofs.Common.{sym}
-use Rattle.descent.specs.Follows.{NotBegun}
-use Rattle.descent.proofs.Following.{passed_on, not_begun}
-use Rattle.descent.proofs.position.Parser.open.Goals as goal
-
-pub returns-in_err-expect-in-Some-clause-not_begun : goal.returns-in_err-expect-in-Some-clause-not_begun
-returns-in_err-expect-in-Some-clause-not_begun c =
-    passed_on (NotBegun c.args.listed c.args.self.now.cursor c.args.high) _ c.in_err-expect-in-Some.field-0.0 c.from_residual.ensures.1
-    (not_begun c.args.listed c.args.self.now.cursor c.expect.new.self.cursor c.args.high c.in-Some.mark.now c.in_err-expect-in-Some.field-0.0 c.in_err-expect-in-Some.ensures.here (sym c.in-Some.ensures) c.in_err-expect-in-Some.ensures.missed.0)

@@ -1,9 +1,0 @@
-use Rattle.std.proofs.Common.{◌∙◌}
-use Rattle.early_errors.specs.Walk.{look, sooner}
-use Rattle.early_errors.proofs.Naming.{hits_turn}
-use Rattle.early_errors.proofs.clashes.hits.Goals as goal
-
-pub loop-named-preserved : goal.loop-named-preserved
-loop-named-preserved c =
-    c.sooner-found.ensures ∙ (λ i. sooner (c.loop-named.invariant i) (c.value.ensures i))
-    ∙ hits_turn (look c.args.clashes.now) c.args.found c.args.names.now c.loop-named.named-index _ c.loop-named-test.true

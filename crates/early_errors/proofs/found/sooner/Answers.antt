@@ -1,5 +1,0 @@
-use Rattle.std.proofs.Common.{rules}
-use Rattle.early_errors.proofs.found.sooner.Goals as goal
-
-pub returns-then-first_number-second_number : goal.returns-then-first_number-second_number
-returns-then-first_number-second_number c = search rules

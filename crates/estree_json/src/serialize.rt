@@ -1,0 +1,168 @@
+//! What a node sends to a serializer.
+
+ghost use Rattle.std.specs.Prelude.{◌≤◌, ◌-◌, OnOk, take, drop};
+ghost use Rattle.serde_json.specs.Data.{array, member};
+ghost use Rattle.serde_json.specs.View.{items_of};
+ghost use Rattle.tree.specs.Tree.{part_count, parts_of};
+ghost use Rattle.tree.specs.Node.{node_tree};
+ghost use Rattle.estree_json.specs.Json.{first_or_null, odd_ones, node_json, parts_json};
+ghost use Rattle.estree_json.specs.Table.{by_line, subject_of, from as parts_from};
+ghost use Rattle.estree_json.specs.Sent.{Adds, Sends};
+
+use crate::events::{
+    SerializeRefused, begin_array, begin_object, end_array, end_object, serialize_key,
+    serialize_null,
+};
+use crate::fields::{is_set, method_kind, property_kind};
+use crate::member::{
+    boolean_member, directive_member, end_member, literal_member, null_member, regex_member,
+    start_member, template_member, text_member, type_member,
+};
+use crate::table::{Member, member_table};
+use serde::Serializer;
+use std::alloc::Global;
+use tree::Node;
+
+/// The object of a node; `is_last` says whether it is the last part of the node that it is in.
+#[cycle(send)]
+pub fn serialize_node<S: Serializer>(
+    out: &mut S,
+    error: &mut S::Error,
+    alloc: Global,
+    node: Node,
+    is_last: bool,
+) -> Result<(), SerializeRefused>
+    ensures { OnOk result (Sends (node_json is_last (node_tree node.entry)) (S.written out.old) (S.written out.new)) }
+{
+    begin_object(out, error)?;
+    for line in member_table(node.kind()) {
+        serialize_member(out, error, alloc, node, is_last, line)?;
+    }
+    end_object(out, error)
+}
+
+/// One member of a node's object, or none.
+#[cycle(send)]
+fn serialize_member<S: Serializer>(
+    out: &mut S,
+    error: &mut S::Error,
+    alloc: Global,
+    node: Node,
+    is_last: bool,
+    line: &Member,
+) -> Result<(), SerializeRefused>
+    ensures { OnOk result (Adds (by_line (subject_of is_last (node_tree node.entry)) line.now) (S.written out.old) (S.written out.new)) }
+{
+    match line {
+        Member::Type => type_member(out, error, node.kind()),
+        Member::Start => start_member(out, error, node.span().start),
+        Member::End => end_member(out, error, node.span().end),
+        Member::Part(name, index) => part_member(out, error, alloc, node, name, *index),
+        Member::List(name, from, behind) => {
+            let to = node.part_count().saturating_sub(*behind);
+            list_member(out, error, alloc, node, name, *from, to)
+        }
+        Member::PartFromEnd(name, from, behind) => {
+            let index = node.part_count().saturating_sub(*behind);
+            part_member(out, error, alloc, node, name, index.max(*from))
+        }
+        Member::EveryOther(name, from) => every_other_member(out, error, alloc, node, name, *from),
+        Member::Null(name) => null_member(out, error, name),
+        Member::Constant(name, word) => text_member(out, error, name, word),
+        Member::Text(name) => text_member(out, error, name, node.text()),
+        Member::Boolean(name, flag) => boolean_member(out, error, name, is_set(flag, node)),
+        Member::PropertyKind => text_member(out, error, "kind", property_kind(node.flags().form)),
+        Member::MethodKind => text_member(out, error, "kind", method_kind(node.flags().form)),
+        Member::Directive => directive_member(out, error, node),
+        Member::LiteralValue => literal_member(out, error, alloc, node.text()),
+        Member::LiteralRegex => regex_member(out, error, node.text()),
+        Member::TemplateValue => template_member(out, error, alloc, node.text()),
+        Member::Tail => boolean_member(out, error, "tail", is_last),
+    }
+}
+
+/// A member of a part.
+#[cycle(send)]
+fn part_member<S: Serializer>(
+    out: &mut S,
+    error: &mut S::Error,
+    alloc: Global,
+    node: Node,
+    name: &str,
+    index: usize,
+) -> Result<(), SerializeRefused>
+    ensures { OnOk result (Adds (member name.now (first_or_null (parts_from index (parts_json (parts_of (node_tree node.entry)))))) (S.written out.old) (S.written out.new)) }
+{
+    serialize_key(out, error, name)?;
+    serialize_part(out, error, alloc, node, index)
+}
+
+/// A member of the parts from one on, up to another.
+#[cycle(send)]
+fn list_member<S: Serializer>(
+    out: &mut S,
+    error: &mut S::Error,
+    alloc: Global,
+    node: Node,
+    name: &str,
+    from: usize,
+    to: usize,
+) -> Result<(), SerializeRefused>
+    requires { to ≤ part_count (parts_of (node_tree node)) }
+    ensures { OnOk result (Adds (member name.now (array (items_of (take (to - from) (drop from (parts_json (parts_of (node_tree node.entry)))))))) (S.written out.old) (S.written out.new)) }
+{
+    serialize_key(out, error, name)?;
+    begin_array(out, error, to.saturating_sub(from))?;
+    for index in from..to {
+        serialize_part(out, error, alloc, node, index)?;
+    }
+    end_array(out, error)
+}
+
+/// A member of every other part, from one on.
+#[cycle(send)]
+fn every_other_member<S: Serializer>(
+    out: &mut S,
+    error: &mut S::Error,
+    alloc: Global,
+    node: Node,
+    name: &str,
+    from: usize,
+) -> Result<(), SerializeRefused>
+    ensures { OnOk result (Adds (member name.now (array (items_of (odd_ones (drop from (parts_json (parts_of (node_tree node.entry)))))))) (S.written out.old) (S.written out.new)) }
+{
+    serialize_key(out, error, name)?;
+    let count = node.part_count();
+    begin_array(out, error, count.saturating_sub(from).div_ceil(2))?;
+    let mut takes = true;
+    for index in from..count {
+        if takes {
+            serialize_part(out, error, alloc, node, index)?;
+        }
+        takes = !takes;
+    }
+    end_array(out, error)
+}
+
+/// A part, null where it is missing.
+#[cycle(send)]
+fn serialize_part<S: Serializer>(
+    out: &mut S,
+    error: &mut S::Error,
+    alloc: Global,
+    node: Node,
+    index: usize,
+) -> Result<(), SerializeRefused>
+    ensures { OnOk result (Sends (first_or_null (parts_from index (parts_json (parts_of (node_tree node.entry))))) (S.written out.old) (S.written out.new)) }
+{
+    match node.part(index) {
+        Some(part) => serialize_node(
+            out,
+            error,
+            alloc,
+            part,
+            node.part_count().saturating_sub(1) == index,
+        ),
+        None => serialize_null(out, error),
+    }
+}

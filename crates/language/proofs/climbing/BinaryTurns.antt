@@ -1,0 +1,255 @@
+-- A turn of the loop at an operator with a left and a right side: a binary or a logical one, `**`, or an assignment.
+use Rattle.std.proofs.Common.{◌≡◌, ℕ, ◌-◌, Bool, true, false, cond, List, ◌++◌, refl, sym, ap, ◌∙◌, subst, arith}
+use Rattle.std.specs.Prelude.{IsTrue, Some}
+use Rattle.std.proofs.lemmas.Bool.{false≢true}
+use Rattle.tokens.specs.declared.token.TokenClass.TheVariants.{IdentifierName, Punctuator}
+use Rattle.tokens.specs.declared.token.Goal.TheVariants.{Div}
+use Rattle.tree.specs.declared.kind.Kind.{Kind}
+use Rattle.tree.specs.declared.kind.Kind.TheVariants.{BinaryExpression, LogicalExpression, AssignmentExpression}
+use Rattle.language.specs.declared.Rank.{Rank}
+use Rattle.language.specs.declared.Rank.TheVariants.{Assignment, Exponentiation, Update, LeftHandSide, Relational}
+use Rattle.language.specs.declared.Start.{Start}
+use Rattle.language.specs.declared.Start.TheVariants.{Any}
+use Rattle.tree.specs.declared.kind.Flags.{Flags}
+use Rattle.tree.specs.declared.kind.Pair.{Pair}
+use Rattle.tree.specs.Tree.{Tree, node, Parts, none, part, bare, kind_of, plain}
+use Rattle.tree.specs.Uses.{implies, has_text, used_flags}
+use Rattle.tree.proofs.Lean.{lean_flags}
+use Rattle.language.specs.FirstPart.{lead as lead_kind}
+use Rattle.language.specs.Vocabulary.{is, takes, precedence, is_word_operator, is_target, Operator, op_binary, op_power, op_assign, is_assign_op, operator_of, op_optional}
+use Rattle.language.specs.Pieces.{Role, expr, PieceOf}
+use Rattle.language.specs.Token.{Token}
+use Rattle.language.specs.Edges.{edge, edge_as_written}
+use Rattle.language.specs.Continuations.{operation, rank_made_by, stops}
+use Rattle.language.specs.Promises.{IsDetermined, ReadBy, Stops, Found, Absent, AbsentWithin}
+use Rattle.language.specs.Grammar.{ways}
+use Rattle.language.specs.Derivation.{Reads, Spells, Placed, placed}
+use Rattle.language.proofs.climbing.Spine.{Grows}
+use Rattle.language.proofs.table.OperatorFacts.{binding}
+use Rattle.language.proofs.table.OperatorTokens.{op_reads}
+use Rattle.language.proofs.table.Begins.{retell}
+use Rattle.language.proofs.table.LeftRecursiveWays.{Led, led_binary, led_power, led_assign, between}
+use Rattle.language.proofs.climbing.RightOperands.{right_side}
+use Rattle.language.proofs.climbing.OperatorNodes.{kind_bare, Here, Whole, binary_grows, power_grows, assign_grows}
+use Rattle.language.proofs.table.Reaches.{is_loose, loose_of, binds_loose, reaches}
+use Rattle.language.proofs.climbing.NoContinuation.{goes_where_not, led_text}
+use Rattle.language.proofs.table.Tails.{Tails, tails_binary, tails_power, tails_assign}
+use Rattle.language.proofs.climbing.OperatorLoop.{goes_on, grows_height, Leads, Climbing, led_on, stops_inside}
+
+-- The operators with two sides: the node's kind, the symbols of its head, of itself and of its right side, and whether that has the
+-- node's own In.
+pub data TwoSided : Operator → Kind → Rank → Rank → Rank → Bool → Type 0 where
+  two_binds : {l : Bool} {z q : Rank} → TwoSided (op_binary l z q) (cond l LogicalExpression BinaryExpression) z z q true
+  two_powers : TwoSided op_power BinaryExpression Update Exponentiation Exponentiation false
+  two_assigns : TwoSided op_assign AssignmentExpression LeftHandSide Assignment Assignment true
+
+rank_is : {y z : Rank} {i j : Bool} {f g : Start} → expr y i f ≡ expr z j g → y ≡ z
+rank_is e = cc
+
+some_same : {b c : Rank} → Some b ≡ Some c → b ≡ c
+some_same e = cc
+
+two_reads : (t : Token) {x : Operator} {K : Kind} {a z q : Rank} {b : Bool} → TwoSided x K a z q b → operation t ≡ x → (t.class ≡ cond (is_word_operator t.text) IdentifierName Punctuator) × (operator_of t.text ≡ x)
+two_reads t two_binds h = op_reads t h (λ e. cc) (λ e. cc)
+two_reads t two_powers h = op_reads t h (λ e. cc) (λ e. cc)
+two_reads t two_assigns h = op_reads t h (λ e. cc) (λ e. cc)
+
+-- the way with such an operator, at the position `expr y i f`, whose head stands at h
+record TwoLed (y : Rank) (i : Bool) (k : Kind) (w : List ℕ) (ps : Parts) (h : Rank) (rest : List (PieceOf Role)) (x : Operator) (K : Kind) (a z q : Rank) (b : Bool) : Type 0 where
+  kind : k ≡ K
+  head : h ≡ a
+  stands : IsTrue (takes y z)
+  target : is_assign_op x ≡ true → is_target (lead_kind ps) ≡ true
+  rest_is : rest ≡ between w (expr q (cond b i true) Any)
+
+two_led : {y : Rank} {i : Bool} {f : Start} {k : Kind} {w : List ℕ} {g : Flags} {ps : Parts} {h : Rank} {j : Bool} {f' : Start} {rest : List (PieceOf Role)} {x : Operator} {K : Kind} {a z q : Rank} {b : Bool} →
+    TwoSided x K a z q b → Led y i f k w g ps (expr h j f') rest x → TwoLed y i k w ps h rest x K a z q b
+two_led two_binds (led_binary k op tk im b e) = record { kind = k; head = rank_is b; stands = tk; target = λ c. absurd (false≢true c); rest_is = e }
+two_led two_powers (led_power k op tk b e) = record { kind = k; head = rank_is b; stands = tk; target = λ c. absurd (false≢true c); rest_is = e }
+two_led two_assigns (led_assign k op ta tk b e) = record { kind = k; head = rank_is b; stands = tk; target = λ c. ta; rest_is = e }
+
+two_symbol : {x : Operator} {K : Kind} {a z q : Rank} {b : Bool} → (n : Bool) → TwoSided x K a z q b → rank_made_by x n ≡ Some z
+two_symbol n two_binds = refl
+two_symbol n two_powers = refl
+two_symbol n two_assigns = refl
+
+two_tails : {x : Operator} {K : Kind} {a z q : Rank} {b : Bool} → (w : List ℕ) → operator_of w ≡ x → TwoSided x K a z q b → Tails z q
+two_tails w op (two_binds {z = z} {q = q}) = tails_binary z q (binding w op)
+two_tails w op two_powers = tails_power
+two_tails w op two_assigns = tails_assign
+
+two_loose : {x : Operator} {K : Kind} {a z q : Rank} {b : Bool} → (w : List ℕ) → operator_of w ≡ x → TwoSided x K a z q b → is_loose z ≡ true
+two_loose w op two_binds = binds_loose w op
+two_loose w op two_powers = refl
+two_loose w op two_assigns = refl
+
+two_conditional : {x : Operator} {K : Kind} {a z q : Rank} {b : Bool} → (w : List ℕ) → operator_of w ≡ x → TwoSided x K a z q b → precedence z ≡ 2 → ⊥
+two_conditional w op two_binds h = let v = binding w op in let low = v.least in omega arith
+two_conditional w op two_powers h = omega arith
+two_conditional w op two_assigns h = omega arith
+
+two_in : {x : Operator} {K : Kind} {a z q : Rank} {b : Bool} → TwoSided x K a z q b → (i : Bool) → takes q Relational ≡ true → cond b i true ≡ i
+two_in two_binds i h = refl
+two_in two_powers i h = cc
+two_in two_assigns i h = refl
+
+two_text : {x : Operator} {K : Kind} {a z q : Rank} {b : Bool} → TwoSided x K a z q b → has_text K ≡ true
+two_text (two_binds {l = l}) = of l
+  where
+    of : (l : Bool) → has_text (cond l LogicalExpression BinaryExpression) ≡ true
+    of true = refl
+    of false = refl
+two_text two_powers = refl
+two_text two_assigns = refl
+
+two_flags : {x : Operator} {K : Kind} {a z q : Rank} {b : Bool} → TwoSided x K a z q b → (g : Flags) → used_flags K g ≡ plain
+two_flags (two_binds {l = l}) g = of l
+  where
+    of : (l : Bool) → used_flags (cond l LogicalExpression BinaryExpression) g ≡ plain
+    of true = refl
+    of false = refl
+two_flags two_powers g = refl
+two_flags two_assigns g = refl
+
+two_edge : {x : Operator} {K : Kind} {a z q : Rank} {b : Bool} → TwoSided x K a z q b → (w : List ℕ) (g : Flags) (st en : ℕ) (m u : Tree) → edge (node K w g st en (part m (part u none))) ≡ edge u
+two_edge (two_binds {l = l}) w g st en m u = of l
+  where
+    of : (l : Bool) → edge (node (cond l LogicalExpression BinaryExpression) w g st en (part m (part u none))) ≡ edge u
+    of true = refl
+    of false = refl
+two_edge two_powers w g st en m u = refl
+two_edge two_assigns w g st en m u = refl
+
+-- nodes are the same where all that they hold is
+pub same_node : {k k' : Kind} {w w' : List ℕ} {g g' : Flags} {st st' en en' : ℕ} {ps ps' : Parts} → k ≡ k' → w ≡ w' → g ≡ g' → st ≡ st' → en ≡ en' → ps ≡ ps' → node k w g st en ps ≡ node k' w' g' st' en' ps'
+same_node a b c d e f = λ i. node (a i) (b i) (c i) (d i) (e i) (f i)
+
+module _ (S : Type 0) (Next : S → Token → S → Type 0) (behind : S → Token) (det : IsDetermined S Next behind) where
+  -- the places of an expression's node are the same at each position
+  pub replaced : {y y' : Rank} {i i' : Bool} {f f' : Start} {n : Tree} {s e : S} → Placed S Next behind (expr y i f) n s e → Placed S Next behind (expr y' i' f') n s e
+  replaced (placed nx p) = placed nx p
+
+  -- nodes that start and end at the same places have the same span
+  pub same_places : {y y' : Rank} {i i' : Bool} {f f' : Start} {k k' : Kind} {w w' : List ℕ} {g g' : Flags} {st st' en en' : ℕ} {ps ps' : Parts} {s e e' : S} → Placed S Next behind (expr y i f) (node k w g st en ps) s e →
+      Placed S Next behind (expr y' i' f') (node k' w' g' st' en' ps') s e' → e ≡ e' → (st ≡ st') × (en ≡ en')
+  same_places {s = s} (placed {t = t} {m = m} nx p) (placed {t = t'} {m = m'} nx' p') h =
+      (sym (ap (λ (v : ℕ × ℕ). v.0) p) ∙ det.start s t t' m m' nx nx' ∙ ap (λ (v : ℕ × ℕ). v.0) p', sym (ap (λ (v : ℕ × ℕ). v.1) p) ∙ ap (λ v. (behind v).stop) h ∙ ap (λ (v : ℕ × ℕ). v.1) p')
+
+  two_grows : {o : ℕ} {y : Rank} {i : Bool} {f : Start} {st en : ℕ} {m : Tree} {s mid e : S} {P : List Pair} {w : List ℕ} {t : Token} {x : S} {u : Tree} {Q : List Pair} {op : Operator} {K : Kind} {a z q : Rank} {b : Bool} →
+      TwoSided op K a z q b → operator_of w ≡ op → (is_assign_op op ≡ true → is_target (kind_of m) ≡ true) → IsTrue (takes y z) → IsTrue (implies (is w "in") i) →
+      ((j : Bool) → (is_loose a ≡ true → j ≡ i) → Spells ways S Next behind o (expr a j f) m s mid P) → Reads S Next behind (cond (is_word_operator w) IdentifierName Punctuator) w mid t x →
+      Spells ways S Next behind o (expr q (cond b i true) Any) u x e Q → Here S Next behind y i f st en m s e K w plain (part u none) → Whole S Next behind o y i f st en m s e P K w plain (part u none) Q
+  two_grows {i = i} two_binds op ta tk im c r d pl = binary_grows S Next behind op tk im (c i (λ h. refl)) r d pl
+  two_grows two_powers op ta tk im c r d pl = power_grows S Next behind op tk (c true (λ h. cc)) r d pl
+  two_grows two_assigns op ta tk im c r d pl = assign_grows S Next behind op (ta refl) tk (c true (λ h. cc)) r d pl
+
+  -- the node with such an operator on the spine of a whole that can't go on, and its right side, which can't go on either
+  record TwoOn (o : ℕ) (s0 : S) (y : Rank) (i : Bool) (f : Start) (n : Tree) (e : S) (P : List Pair) (m : Tree) (x : S) (Q : List Pair) (op : Operator) (w : List ℕ) (K : Kind) (a z q : Rank) (b : Bool) (c : Rank) : Type 0 where
+    h : Rank
+    g : Start
+    st : ℕ
+    en : ℕ
+    operand : Tree
+    to : S
+    right : List Pair
+    fits : IsTrue (takes a c)
+    target : is_assign_op op ≡ true → is_target (kind_of m) ≡ true
+    stands : IsTrue (takes h z)
+    side : Spells ways S Next behind o (expr q (cond b i true) Any) operand x to right
+    stopped : Stops S Next behind q (cond b i true) operand to
+    places : Placed S Next behind (expr h i g) (node K w plain st en (part m (part operand none))) s0 to
+    spelled : Spells ways S Next behind o (expr h i g) (node K w plain st en (part m (part operand none))) s0 to (Q ++ right)
+    grows : Grows S Next behind o s0 (expr y i f) n e P (expr h i g) (node K w plain st en (part m (part operand none))) to (Q ++ right)
+
+  -- the same derivation, told of what is equal
+  pub retold : {o : ℕ} {a : Role} {n n' : Tree} {s e e' : S} {P P' : List Pair} → n ≡ n' → e ≡ e' → P ≡ P' → Spells ways S Next behind o a n s e P → Spells ways S Next behind o a n' s e' P'
+  retold {o} {a} {n} {n'} {s} {e} {e'} {P} {P'} h k l d = subst (λ v. Spells ways S Next behind o a n' s e' v) l (subst (λ v. Spells ways S Next behind o a n' s v P) k (subst (λ v. Spells ways S Next behind o a v s e P) h d))
+
+  -- the same growth, told of what is equal
+  pub regrown : {o : ℕ} {s0 e : S} {a b : Role} {w m m' : Tree} {mid mid' : S} {P Q Q' : List Pair} → m ≡ m' → mid ≡ mid' → Q ≡ Q' → Grows S Next behind o s0 a w e P b m mid Q → Grows S Next behind o s0 a w e P b m' mid' Q'
+  regrown {o} {s0} {e} {a} {b} {w} {m} {m'} {mid} {mid'} {P} {Q} {Q'} h k l d =
+      subst (λ v. Grows S Next behind o s0 a w e P b m' mid' v) l (subst (λ v. Grows S Next behind o s0 a w e P b m' v Q) k (subst (λ v. Grows S Next behind o s0 a w e P b v mid Q) h d))
+
+  module _ {y : Rank} {i : Bool} {s0 mid x : S} {m : Tree} {t : Token} {op : Operator} {K : Kind} {a z q : Rank} {b : Bool} (two : TwoSided op K a z q b) (r : ReadBy S Next behind Div mid t x) (is_op : operation t ≡ op)
+      (goes : stops y i (edge m) (behind mid) t ≡ false) where
+    two_on : {o : ℕ} {f : Start} {n : Tree} {e : S} {P Q : List Pair} {c : Rank} → Stops S Next behind y i n e → Leads S Next behind det o s0 y i f n e P c m mid Q → TwoOn o s0 y i f n e P m x Q op t.text K a z q b c
+    two_on {o} {f} {n} {e} {P} {Q} {c} st v =
+        let reads = two_reads t two is_op in
+        let on = led_on S Next behind det r is_op (no_chain two) (goes_where_not S Next behind det y i r st goes) v.spelled v.grows in
+        let led = two_led two on.led in
+        let loose = two_loose t.text reads.1 two in
+        let inside : on.i ≡ i = ((reaches S Next behind on.grows).same_in (loose_of on.y z led.stands loose)).1 in
+        let side = right_side S Next behind det on.w (retell S Next behind led.rest_is on.runs) r in
+        let text : t.text ≡ on.w = led_text S Next behind det on.led (ap has_text led.kind ∙ two_text two) on.runs r in
+        let flags : on.g ≡ plain = lean_flags (bare (node on.k on.w on.g on.st on.en (part m on.ps))) on.lean ∙ ap (λ v. used_flags v on.g) led.kind ∙ two_flags two on.g in
+        let same : node on.k on.w on.g on.st on.en (part m on.ps) ≡ node K t.text plain on.st on.en (part m (part side.operand none)) = same_node led.kind (sym text) flags refl refl (ap (part m) side.parts) in
+        let grows' : Grows S Next behind o s0 (expr y i f) n e P (expr on.y on.i on.f) (node K t.text plain on.st on.en (part m (part side.operand none))) on.to (Q ++ on.more) =
+        subst (λ c. Grows S Next behind o s0 (expr y i f) n e P (expr on.y on.i on.f) c on.to (Q ++ on.more)) same on.grows in
+        let grows : Grows S Next behind o s0 (expr y i f) n e P (expr on.y i on.f) (node K t.text plain on.st on.en (part m (part side.operand none))) on.to (Q ++ on.more) =
+        subst (λ j. Grows S Next behind o s0 (expr y i f) n e P (expr on.y j on.f) (node K t.text plain on.st on.en (part m (part side.operand none))) on.to (Q ++ on.more)) inside grows' in
+        record {
+          h = on.y;
+          g = on.f;
+          st = on.st;
+          en = on.en;
+          operand = side.operand;
+          to = on.to;
+          right = on.more;
+          fits = subst (λ k. IsTrue (takes k c)) led.head v.fits;
+          target = λ k. ap is_target (sym (kind_bare m)) ∙ led.target k;
+          stands = led.stands;
+          side = subst (λ j. Spells ways S Next behind o (expr q (cond b j true) Any) side.operand x on.to on.more) inside side.spelled;
+          stopped = stops_inside S Next behind det z q (cond b i true) side.operand (two_tails t.text reads.1 two) (λ k l. two_conditional t.text reads.1 two l) led.stands (two_in two i)
+              (ap (λ c. edge_as_written c (behind on.to)) (two_edge two t.text plain on.st on.en m side.operand)) st grows;
+          places = replaced (subst (λ c. Placed S Next behind (expr on.y on.i on.f) c s0 on.to) same on.placed);
+          spelled = subst (λ j. Spells ways S Next behind o (expr on.y j on.f) (node K t.text plain on.st on.en (part m (part side.operand none))) s0 on.to (Q ++ on.more)) inside
+              (subst (λ c. Spells ways S Next behind o (expr on.y on.i on.f) c s0 on.to (Q ++ on.more)) same on.spelled);
+          grows = grows;
+        }
+      where
+        no_chain : {op : Operator} {K : Kind} {a z q : Rank} {b : Bool} → TwoSided op K a z q b → op ≡ op_optional → ⊥
+        no_chain two_binds e = cc
+        no_chain two_powers e = cc
+        no_chain two_assigns e = cc
+
+    -- the node, where its right side is found
+    pub climb_two : {o : ℕ} {f : Start} {c : Rank} {Q : List Pair} {u : Tree} {to : S} {U : List Pair} {st en : ℕ} → Climbing S Next behind det o y i f c s0 m mid Q → IsTrue (takes a c) → (is_assign_op op ≡ true → is_target (kind_of m) ≡ true) →
+        Found S Next behind o q (cond b i true) Any x to u U → Placed S Next behind (expr y i f) (node K t.text plain st en (part m (part u none))) s0 to → Climbing S Next behind det o y i f z s0 (node K t.text plain st en (part m (part u none))) to (Q ++ U)
+    climb_two {o} {f} {c} {Q} {u} {to} {U} {st} {en} climb fits target found places =
+        let on = goes_on y i (edge m) (behind mid) t goes in
+        let reads = two_reads t two is_op in
+        let same_symbol : on.symbol ≡ z = some_same (sym on.makes ∙ ap (λ v. rank_made_by v t.after_break) is_op ∙ two_symbol t.after_break two) in
+        record {
+          low = subst (λ v. IsTrue (takes y v)) same_symbol on.taken;
+          stands = λ h j tk lo.
+              let same_in : j ≡ i = lo (loose_of h z tk (two_loose t.text reads.1 two)) in
+              subst (λ v. Spells ways S Next behind o (expr h v f) (node K t.text plain st en (part m (part u none))) s0 to (Q ++ U)) (sym same_in)
+              (two_grows two reads.1 target tk on.has_in (λ k l. climb.stands a k fits l) (record { next = r.next; class = reads.0; text = refl }) found.spelled (replaced places));
+          leads = λ o' e' n' P' d stopped.
+              let v = climb.leads o' e' n' P' d stopped in
+              let w = two_on stopped v in
+              let same = found.only o' w.to w.operand w.right w.side w.stopped in
+              let where_is = same_places w.places places same.0 in
+              let tree : node K t.text plain w.st w.en (part m (part w.operand none)) ≡ node K t.text plain st en (part m (part u none)) = same_node refl refl refl where_is.0 where_is.1 (ap (λ k. part m (part k none)) same.1) in
+              record { h = w.h; j = i; g = w.g; fits = w.stands; spelled = retold tree same.0 (ap (λ k. Q ++ k) same.2) w.spelled; grows = regrown tree same.0 (ap (λ k. Q ++ k) same.2) w.grows };
+        }
+
+    -- no right side
+    pub climb_two_absent : {o : ℕ} {f : Start} {c : Rank} {Q : List Pair} → Climbing S Next behind det o y i f c s0 m mid Q → Absent S Next behind q (cond b i true) Any x → Absent S Next behind y i f s0
+    climb_two_absent climb missed = record { nothing = λ o' e' n' P' d stopped. (let w = two_on stopped (climb.leads o' e' n' P' d stopped) in missed.nothing o' w.to w.operand w.right w.side w.stopped) }
+
+    -- none within the limits
+    pub climb_two_deep : {o hi : ℕ} {f : Start} {c : Rank} {Q : List Pair} → Climbing S Next behind det o y i f c s0 m mid Q → AbsentWithin S Next behind o (hi - 1) q (cond b i true) Any x → AbsentWithin S Next behind o hi y i f s0
+    climb_two_deep {o} climb missed = record {
+      nothing = λ e' n' P' d stopped le. let w = two_on stopped (climb.leads o e' n' P' d stopped) in
+          let low = grows_height S Next behind det w.grows in
+          missed.nothing w.to w.operand w.right w.side w.stopped (omega arith);
+    }
+
+    -- what stands so far can't be the left side
+    pub climb_two_unfit : {o : ℕ} {f : Start} {c : Rank} {Q : List Pair} → Climbing S Next behind det o y i f c s0 m mid Q → takes a c ≡ false → Absent S Next behind y i f s0
+    climb_two_unfit climb no_fit = record { nothing = λ o' e' n' P' d stopped. (let w = two_on stopped (climb.leads o' e' n' P' d stopped) in false≢true (sym no_fit ∙ w.fits)) }
+
+    -- nor be assigned to
+    pub climb_no_target : {o : ℕ} {f : Start} {c : Rank} {Q : List Pair} → Climbing S Next behind det o y i f c s0 m mid Q → is_assign_op op ≡ true → is_target (kind_of m) ≡ false → Absent S Next behind y i f s0
+    climb_no_target climb is_assign no_fit = record { nothing = λ o' e' n' P' d stopped. (let w = two_on stopped (climb.leads o' e' n' P' d stopped) in false≢true (sym no_fit ∙ w.target is_assign)) }

@@ -1,0 +1,165 @@
+-- What follows an operator: what a derivation must look like behind the token that was read.
+use Rattle.std.proofs.Common.{◌≡◌, ℕ, Bool, true, false, List, [], ◌∷◌, ◌++◌, refl, sym, ap, subst}
+use Rattle.std.specs.Prelude.{codes}
+use Rattle.std.proofs.lemmas.List.{append-nil}
+use Rattle.tokens.specs.declared.token.TokenClass.TheVariants.{Punctuator}
+use Rattle.tokens.specs.declared.token.Goal.TheVariants.{Div}
+use Rattle.language.specs.declared.Rank.{Rank}
+use Rattle.language.specs.declared.Rank.TheVariants.{Expression, Assignment}
+use Rattle.language.specs.declared.Start.{Start}
+use Rattle.language.specs.declared.Start.TheVariants.{Any}
+use Rattle.tree.specs.declared.kind.Flags.{Flags}
+use Rattle.tree.specs.declared.kind.Pair.{Pair}
+use Rattle.tree.specs.Tree.{Tree, Parts, none, part}
+use Rattle.language.specs.Vocabulary.{is_word_operator}
+use Rattle.language.specs.Pieces.{Role, expr, word, tagged_quasi, tok, lay, sub, unbroken, space}
+use Rattle.language.specs.Token.{Token}
+use Rattle.language.specs.Promises.{IsDetermined, ReadBy}
+use Rattle.language.specs.Grammar.{ways}
+use Rattle.language.specs.Expressions.{arguments, after_number}
+use Rattle.language.specs.Derivation.{Reads, Spells, Runs, done, step, within, token, laid}
+use Rattle.language.proofs.table.Begins.{behind_first, goes_to, number_laid, laid_first, laid_behind, div_allows, taken, retell}
+use Rattle.language.proofs.table.LeftRecursiveWays.{between, bracketed, dotted}
+use Rattle.language.proofs.list_loops.FirstPieces.{run_token}
+
+module _ (S : Type 0) (Next : S → Token → S → Type 0) (behind : S → Token) (det : IsDetermined S Next behind) where
+  -- one part and nothing behind it
+  pub record OnePart (o : ℕ) (a : Role) (ps : Parts) (s e : S) (R : List Pair) : Type 0 where
+    pub operand : Tree
+    pub parts : ps ≡ part operand none
+    pub spelled : Spells ways S Next behind o a operand s e R
+
+  -- where one piece is left, it is the last part
+  pub one_part : {o : ℕ} {a : Role} {ps : Parts} {s e : S} {R : List Pair} → Runs ways S Next behind o (sub a ∷ []) ps s e R → OnePart o a ps s e R
+  one_part {o} {a} {s = s} {e = e} (within {n = n} {P = P} p done) = record { operand = n; parts = refl; spelled = subst (λ z. Spells ways S Next behind o a n s e z) (sym (append-nil P)) p }
+  one_part (step p d) = elim p [ ]
+
+  laid_part : {o : ℕ} {a : Role} {ps : Parts} {s e : S} {R : List Pair} → Runs ways S Next behind o (lay space ∷ sub a ∷ []) ps s e R → OnePart o a ps s e R
+  laid_part (step laid d) = one_part d
+
+  -- an operator with two sides, `**` or an assignment: its right side
+  pub right_side : {o : ℕ} (w : List ℕ) {a : Role} {ps : Parts} {s m e : S} {R : List Pair} {t : Token} → Runs ways S Next behind o (between w a) ps s e R → ReadBy S Next behind Div s t m → OnePart o a ps m e R
+  right_side w {a = a} d r = laid_part (taken S Next behind det Div (between w a) refl (div_allows (is_word_operator w) w) d r).runs
+
+  -- `++` or `--`: nothing
+  pub record Nothing (ps : Parts) (m e : S) (R : List Pair) : Type 0 where
+    pub parts : ps ≡ none
+    pub place : m ≡ e
+    pub pairs : R ≡ []
+
+  -- where no piece is left, there is no part
+  pub no_more_runs : {o : ℕ} {ps : Parts} {s e : S} {R : List Pair} → Runs ways S Next behind o [] ps s e R → Nothing ps s e R
+  no_more_runs done = record { parts = refl; place = refl; pairs = refl }
+
+  -- behind `++` or `--` there is nothing
+  pub nothing_more : {o : ℕ} {w : List ℕ} {ps : Parts} {s m e : S} {R : List Pair} {t : Token} → Runs ways S Next behind o (unbroken ∷ tok Punctuator w ∷ []) ps s e R → ReadBy S Next behind Div s t m → Nothing ps m e R
+  nothing_more {w = w} d r = no_more_runs (taken S Next behind det Div (unbroken ∷ tok Punctuator w ∷ []) refl (div_allows false w) d r).runs
+
+  -- `.`: a name
+  pub selected : {o : ℕ} (y : Rank) (i : Bool) (f : Start) (qs : Parts) (g : Flags) {ps : Parts} {s m e : S} {R : List Pair} {t : Token} →
+      Runs ways S Next behind o (goes_to y i f (after_number qs g) ++ dotted) ps s e R → ReadBy S Next behind Div s t m → OnePart o word ps m e R
+  selected y i f qs g d r = one_part (retell S Next behind (laid_behind y i f dotted (number_laid qs g)) (taken S Next behind det Div (goes_to y i f (after_number qs g) ++ dotted) (laid_first y i f dotted (number_laid qs g)) refl d r).runs)
+
+  -- `[`: an expression, and `]`
+  pub record Bracketed (o : ℕ) (ps : Parts) (m e : S) (R : List Pair) : Type 0 where
+    pub inner : Tree
+    pub place : S
+    pub closing : Token
+    pub pairs : List Pair
+    pub parts : ps ≡ part inner none
+    pub spelled : Spells ways S Next behind o (expr Expression true Any) inner m place pairs
+    pub closes : Reads S Next behind Punctuator (codes "]") place closing e
+    pub pairs_are : R ≡ pairs
+
+  -- what runs behind `[`
+  pub in_bracket : {o : ℕ} {ps : Parts} {s e : S} {R : List Pair} → Runs ways S Next behind o (sub (expr Expression true Any) ∷ tok Punctuator (codes "]") ∷ []) ps s e R → Bracketed o ps s e R
+  in_bracket (within {n = n} {m = m} {P = P} p (step (token {t = t} k) done)) = record { inner = n; place = m; closing = t; pairs = P; parts = refl; spelled = p; closes = k; pairs_are = append-nil P }
+  in_bracket (step p d) = elim p [ ]
+
+  -- so behind the object of a member
+  pub indexed : {o : ℕ} (y : Rank) (i : Bool) (f : Start) (qs : Parts) (g : Flags) {ps : Parts} {s m e : S} {R : List Pair} {t : Token} →
+      Runs ways S Next behind o (goes_to y i f (after_number qs g) ++ bracketed) ps s e R → ReadBy S Next behind Div s t m → Bracketed o ps m e R
+  indexed y i f qs g d r = in_bracket (retell S Next behind (laid_behind y i f bracketed (number_laid qs g)) (taken S Next behind det Div (goes_to y i f (after_number qs g) ++ bracketed) (laid_first y i f bracketed (number_laid qs g)) refl d r).runs)
+
+  -- `?`: what stands before `:` and behind it
+  pub record Branches (o : ℕ) (i : Bool) (ps : Parts) (m e : S) (R : List Pair) : Type 0 where
+    pub consequent : Tree
+    pub alternate : Tree
+    pub place : S
+    pub next_place : S
+    pub colon : Token
+    pub first_pairs : List Pair
+    pub more_pairs : List Pair
+    pub parts : ps ≡ part consequent (part alternate none)
+    pub spelled : Spells ways S Next behind o (expr Assignment true Any) consequent m place first_pairs
+    pub divides : Reads S Next behind Punctuator (codes ":") place colon next_place
+    pub other : Spells ways S Next behind o (expr Assignment i Any) alternate next_place e more_pairs
+    pub pairs_are : R ≡ first_pairs ++ more_pairs
+
+  in_branches : {o : ℕ} {i : Bool} {ps : Parts} {s e : S} {R : List Pair} →
+      Runs ways S Next behind o (lay space ∷ sub (expr Assignment true Any) ∷ lay space ∷ tok Punctuator (codes ":") ∷ lay space ∷ sub (expr Assignment i Any) ∷ []) ps s e R → Branches o i ps s e R
+  in_branches (step laid (within {n = n} {m = m} {P = P} p (step laid (step (token {t = t} {e = u} k) (step laid (within {n = l} {P = Q} q done)))))) = record {
+    consequent = n;
+    alternate = l;
+    place = m;
+    next_place = u;
+    colon = t;
+    first_pairs = P;
+    more_pairs = Q;
+    parts = refl;
+    spelled = p;
+    divides = k;
+    other = q;
+    pairs_are = ap (λ z. P ++ z) (append-nil Q);
+  }
+  in_branches (step laid (step p d)) = elim p [ ]
+  in_branches (step laid (within p (step laid (step k (step laid (step q d)))))) = elim q [ ]
+
+  -- so behind a test
+  pub branches : {o : ℕ} {i : Bool} {ps : Parts} {s m e : S} {R : List Pair} {t : Token} →
+      Runs ways S Next behind o (lay space ∷ tok Punctuator (codes "?") ∷ lay space ∷ sub (expr Assignment true Any) ∷ lay space ∷ tok Punctuator (codes ":") ∷ lay space ∷ sub (expr Assignment i Any) ∷ []) ps s e R →
+      ReadBy S Next behind Div s t m → Branches o i ps m e R
+  branches {i = i} d r = in_branches (taken S Next behind det Div (lay space ∷ tok Punctuator (codes "?") ∷ lay space ∷ sub (expr Assignment true Any) ∷ lay space ∷ tok Punctuator (codes ":") ∷ lay space ∷ sub (expr Assignment i Any) ∷ []) refl refl d r).runs
+
+  -- arguments: what stands behind their `(`
+  pub called : {o : ℕ} (y : Rank) (i : Bool) (f : Start) (qs : Parts) {ps : Parts} {s m e : S} {R : List Pair} {t : Token} → Runs ways S Next behind o (goes_to y i f (arguments qs)) ps s e R → ReadBy S Next behind Div s t m →
+      Runs ways S Next behind o (behind_first (goes_to y i f (arguments qs))) ps m e R
+  called y i f qs d r = (taken S Next behind det Div (goes_to y i f (arguments qs)) refl refl d r).runs
+
+  -- behind a part of a chain, `.`: a name
+  pub link_selected : {o : ℕ} {ps : Parts} {s m e : S} {R : List Pair} {t : Token} → Runs ways S Next behind o dotted ps s e R → ReadBy S Next behind Div s t m → OnePart o word ps m e R
+  link_selected d r = one_part (taken S Next behind det Div dotted refl refl d r).runs
+
+  -- `[`: an expression, and `]`
+  pub link_indexed : {o : ℕ} {ps : Parts} {s m e : S} {R : List Pair} {t : Token} → Runs ways S Next behind o bracketed ps s e R → ReadBy S Next behind Div s t m → Bracketed o ps m e R
+  link_indexed d r = in_bracket (taken S Next behind det Div bracketed refl refl d r).runs
+
+  -- `?.`: a name; or `[`, an expression and `]`; or arguments
+  pub chained_selected : {o : ℕ} {ps : Parts} {s m e : S} {R : List Pair} {t : Token} → Runs ways S Next behind o (tok Punctuator (codes "?.") ∷ sub word ∷ []) ps s e R → ReadBy S Next behind Div s t m → OnePart o word ps m e R
+  chained_selected d r = one_part (taken S Next behind det Div (tok Punctuator (codes "?.") ∷ sub word ∷ []) refl refl d r).runs
+
+  pub record ChainedIndex (o : ℕ) (ps : Parts) (m e : S) (R : List Pair) : Type 0 where
+    pub opening : Token
+    pub within : S
+    pub opens : Reads S Next behind Punctuator (codes "[") m opening within
+    pub inside : Bracketed o ps within e R
+
+  -- what runs behind `?.` where `[` follows
+  pub chained_indexed : {o : ℕ} {ps : Parts} {s m e : S} {R : List Pair} {t : Token} → Runs ways S Next behind o (tok Punctuator (codes "?.") ∷ bracketed) ps s e R → ReadBy S Next behind Div s t m → ChainedIndex o ps m e R
+  chained_indexed d r = let c = run_token S Next behind (taken S Next behind det Div (tok Punctuator (codes "?.") ∷ bracketed) refl refl d r).runs in record { opening = c.sign; within = c.mid; opens = c.reads; inside = in_bracket c.runs }
+
+  pub record ChainedCall (o : ℕ) (f : Start) (qs ps : Parts) (m e : S) (R : List Pair) : Type 0 where
+    pub opening : Token
+    pub within : S
+    pub opens : Reads S Next behind Punctuator (codes "(") m opening within
+    pub inside : Runs ways S Next behind o (behind_first (goes_to Expression true f (arguments qs))) ps within e R
+
+  -- what runs behind `?.` where arguments follow
+  pub chained_called : {o : ℕ} (f : Start) (qs : Parts) {ps : Parts} {s m e : S} {R : List Pair} {t : Token} → Runs ways S Next behind o (tok Punctuator (codes "?.") ∷ goes_to Expression true f (arguments qs)) ps s e R → ReadBy S Next behind Div s t m → ChainedCall o f qs ps m e R
+  chained_called f qs d r =
+      let c = run_token S Next behind (taken S Next behind det Div (tok Punctuator (codes "?.") ∷ goes_to Expression true f (arguments qs)) refl refl d r).runs in
+      record { opening = c.sign; within = c.mid; opens = c.reads; inside = c.runs }
+
+  -- a template behind a tag
+  pub tagged_by : {o : ℕ} {ps : Parts} {s e : S} {R : List Pair} → Runs ways S Next behind o (sub tagged_quasi ∷ []) ps s e R → OnePart o tagged_quasi ps s e R
+  tagged_by d = one_part d

@@ -1,0 +1,20 @@
+-- Examples that compute.
+pub mod ClassExamples
+pub mod CoverExamples
+pub mod ExpressionExamples
+pub mod FitExamples
+pub mod FollowExamples
+pub mod FunctionExamples
+pub mod ItemExamples
+pub mod LayoutExamples
+pub mod NestingExamples
+pub mod PatternExamples
+pub mod SameTrees
+pub mod SoundTables
+pub mod Sources
+pub mod StatementExamples
+pub mod StringExamples
+pub mod TableExamples
+pub mod Tables
+pub mod Trees
+pub mod WordExamples

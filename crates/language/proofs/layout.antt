@@ -1,0 +1,22 @@
+-- The layout: that what is printed is read again as it was.
+pub mod BigIntLiterals
+pub mod DerivedFits
+pub mod FixedReads
+pub mod LaidItems
+pub mod LayoutPairs
+pub mod LiteralsApart
+pub mod NextFresh
+pub mod OpenBound
+pub mod PrintedSpells
+pub mod PunctuatorsApart
+pub mod RawTemplateValues
+pub mod ReadItems
+pub mod ReadableScript
+pub mod SameLayouts
+pub mod TextAfter
+pub mod WalkLead
+pub mod WalkNodes
+pub mod WalkPieces
+pub mod WithinLimits
+pub mod WordsApart
+pub mod WrappedRows

@@ -1,0 +1,329 @@
+-- Blocks, bodies, cases, handlers, spreads, rests, methods, declarators and elements with a default: each position has nodes of one kind.
+use Rattle.std.proofs.Common.{◌≡◌, ℕ, Bool, true, false, cond, List, [], ◌∷◌, ◌++◌, refl}
+use Rattle.std.specs.Prelude.{Option, Some, None, codes, ◌&&◌}
+use Rattle.tree.specs.declared.kind.Kind.{Kind}
+use Rattle.tree.specs.declared.kind.Kind.TheVariants.{SpreadElement, RestElement, FunctionExpression, BlockStatement, ClassBody, CatchClause, SwitchCase, VariableDeclarator, AssignmentPattern, ArrayPattern, ObjectPattern}
+use Rattle.tree.specs.declared.kind.Flags.{Flags}
+use Rattle.tree.specs.declared.kind.Form.{Form}
+use Rattle.tree.specs.declared.kind.Form.TheVariants.{Init, Get, Set, Method, Shorthand, Constructor}
+use Rattle.tree.specs.Tree.{Tree, node, Parts, none, part, gap, kind_of, plain}
+use Rattle.language.specs.declared.Rank.TheVariants.{Assignment, Primary}
+use Rattle.language.specs.declared.Start.TheVariants.{Any}
+use Rattle.language.specs.FirstPart.{lead}
+use Rattle.language.specs.Vocabulary.{is_rest, is_pattern}
+use Rattle.language.specs.Pieces.{Role, expr, spread, rest, method, body, block, declarator, switch_case, handler, class_body, element, item, Piece, many, absent, lay, line, deeper, shallower, Spelling, at, only, only_at, put, put_at, sign, term, sp, nothing, bound, with_default, parameters}
+use Rattle.language.specs.Statements.{lines, prologue, member_lines, whole, declarator_ways}
+use Rattle.language.specs.Expressions.{assignment, methods}
+use Rattle.language.specs.Grammar.{spellings, rests, can_run}
+use Rattle.language.specs.Derivation.{Among, first}
+use Rattle.language.proofs.table.StatementWays.{behind_brace, pieces_of_one}
+use Rattle.language.proofs.table.OneKind.{OneKind}
+
+-- the pieces of each
+abbrev pub block_pieces : Bool → Parts → List Piece
+block_pieces r ps = sign "{" ∷ behind_brace ps (lines (item r) ps)
+
+abbrev pub body_pieces : Parts → List Piece
+body_pieces ps = sign "{" ∷ behind_brace ps (prologue true true (lay line ∷ []) [] ps)
+
+abbrev pub class_body_pieces : Parts → List Piece
+class_body_pieces ps = sign "{" ∷ behind_brace ps (many (codes ";") ∷ member_lines ps)
+
+abbrev pub spread_pieces : Parts → List Piece
+spread_pieces ps = sign "..." ∷ assignment ∷ []
+
+abbrev pub rest_pieces : Bool → Bool → Parts → List Piece
+rest_pieces b o ps = sign "..." ∷ cond (o && is_pattern (lead ps)) nothing (put_at (bound b (lead ps)) ∷ [])
+
+abbrev pub element_pieces : Bool → Parts → List Piece
+element_pieces b ps = put_at (bound b (lead ps)) ∷ sp ∷ sign "=" ∷ sp ∷ assignment ∷ []
+
+abbrev pub method_pieces : Form → Parts → List Piece
+method_pieces Get (gap (part b none)) = absent ∷ sign "(" ∷ sign ")" ∷ sp ∷ put body ∷ []
+method_pieces Get _ = nothing
+method_pieces Set (gap (part n (part b none))) = cond (is_rest (kind_of n)) nothing (absent ∷ sign "(" ∷ put_at (with_default true (kind_of n)) ∷ sign ")" ∷ sp ∷ put body ∷ [])
+method_pieces Set _ = nothing
+method_pieces _ (gap ps) = absent ∷ sign "(" ∷ parameters (sign ")" ∷ sp ∷ put body ∷ []) ps
+method_pieces _ _ = nothing
+
+abbrev pub case_pieces : Bool → Parts → List Piece
+case_pieces r (part t ps) = term "case" ∷ sp ∷ whole ∷ sign ":" ∷ lay deeper ∷ lines (item r) ps ++ lay shallower ∷ []
+case_pieces r (gap ps) = absent ∷ term "default" ∷ sign ":" ∷ lay deeper ∷ lines (item r) ps ++ lay shallower ∷ []
+case_pieces r none = nothing
+
+abbrev pub handler_pieces : Bool → Parts → List Piece
+handler_pieces r (part p ps) = term "catch" ∷ sp ∷ sign "(" ∷ put_at (bound true (kind_of p)) ∷ sign ")" ∷ sp ∷ put (block r) ∷ []
+handler_pieces r (gap ps) = absent ∷ term "catch" ∷ sp ∷ put (block r) ∷ []
+handler_pieces r none = nothing
+
+-- a declarator with its In; the flag says that it may have an initialiser
+abbrev pub declarator_pieces : Bool → Bool → Parts → List Piece
+declarator_pieces i b (part n (part e none)) = cond b (put_at (bound true (kind_of n)) ∷ sp ∷ sign "=" ∷ sp ∷ put (expr Assignment i Any) ∷ []) nothing
+declarator_pieces i b (part n (gap none)) = cond (b && is_pattern (kind_of n)) nothing (put_at (bound true (kind_of n)) ∷ absent ∷ [])
+declarator_pieces i b _ = nothing
+
+-- where a position may be none
+at_pieces : (m : Option Role) (qs : List Piece) {x : Spelling} → Among x (only_at m qs) → x.pieces ≡ put_at m ∷ qs
+at_pieces (Some a) qs h = pieces_of_one h
+at_pieces None qs h = elim h [ ]
+
+at_there : (m : Option Role) (qs : List Piece) → can_run (put_at m ∷ qs) ≡ true → Among (at Primary (put_at m ∷ qs)) (only_at m qs)
+at_there (Some a) qs h = first
+at_there None qs h = cc
+
+method_way : (f : Form) (ps : Parts) {x : Spelling} → Among x (methods f ps) → x.pieces ≡ method_pieces f ps
+method_way Get (gap (part b none)) h = pieces_of_one h
+method_way Get _ h = elim h [ ]
+method_way Set (gap (part n (part b none))) h = of (is_rest (kind_of n)) h
+  where
+    qs : List Piece
+    qs = absent ∷ sign "(" ∷ put_at (with_default true (kind_of n)) ∷ sign ")" ∷ sp ∷ put body ∷ []
+
+    of : {x : Spelling} (c : Bool) → Among x (cond c [] (only qs)) → x.pieces ≡ cond c nothing qs
+    of true h = elim h [ ]
+    of false h = pieces_of_one h
+method_way Set _ h = elim h [ ]
+method_way Init (gap ps) h = pieces_of_one h
+method_way Method (gap ps) h = pieces_of_one h
+method_way Shorthand (gap ps) h = pieces_of_one h
+method_way Constructor (gap ps) h = pieces_of_one h
+method_way Init _ h = elim h [ ]
+method_way Method _ h = elim h [ ]
+method_way Shorthand _ h = elim h [ ]
+method_way Constructor _ h = elim h [ ]
+
+method_there : (f : Form) (ps : Parts) → can_run (method_pieces f ps) ≡ true → Among (at Primary (method_pieces f ps)) (methods f ps)
+method_there Get (gap (part b none)) h = first
+method_there Get _ h = cc
+method_there Set (gap (part n (part b none))) h = of (is_rest (kind_of n)) h
+  where
+    qs : List Piece
+    qs = absent ∷ sign "(" ∷ put_at (with_default true (kind_of n)) ∷ sign ")" ∷ sp ∷ put body ∷ []
+
+    of : (c : Bool) → can_run (cond c nothing qs) ≡ true → Among (at Primary (cond c nothing qs)) (cond c [] (only qs))
+    of true h = cc
+    of false h = first
+method_there Set _ h = cc
+method_there Init (gap ps) h = first
+method_there Method (gap ps) h = first
+method_there Shorthand (gap ps) h = first
+method_there Constructor (gap ps) h = first
+method_there Init _ h = cc
+method_there Method _ h = cc
+method_there Shorthand _ h = cc
+method_there Constructor _ h = cc
+
+rest_kind : (b o : Bool) (k : Kind) (g : Flags) (w : List ℕ) (n : Tree) (ps : Parts) {x : Spelling} → kind_of n ≡ k → Among x (rests b o RestElement (part n ps)) → x.pieces ≡ rest_pieces b o (part n ps)
+rest_kind b false k g w n ps e h = pieces_of_one h
+rest_kind b true k g w (node ArrayPattern v f s t qs) ps e h = elim h [ ]
+rest_kind b true k g w (node ObjectPattern v f s t qs) ps e h = elim h [ ]
+rest_kind b true k g w (node _ v f s t qs) ps e h = pieces_of_one h
+
+rest_way : (b o : Bool) (g : Flags) (w : List ℕ) (ps : Parts) {x : Spelling} → Among x (rests b o RestElement ps) → x.pieces ≡ rest_pieces b o ps
+rest_way b false g w none h = pieces_of_one h
+rest_way b true g w none h = pieces_of_one h
+rest_way b false g w (gap ps) h = pieces_of_one h
+rest_way b true g w (gap ps) h = pieces_of_one h
+rest_way b o g w (part n ps) h = rest_kind b o (kind_of n) g w n ps refl h
+
+rest_there : (b o : Bool) (ps : Parts) → can_run (rest_pieces b o ps) ≡ true → Among (at Primary (rest_pieces b o ps)) (rests b o RestElement ps)
+rest_there b false ps h = first
+rest_there b true none h = first
+rest_there b true (gap ps) h = first
+rest_there b true (part (node ArrayPattern v f s t qs) ps) h = cc
+rest_there b true (part (node ObjectPattern v f s t qs) ps) h = cc
+rest_there b true (part (node _ v f s t qs) ps) h = first
+
+declarator_way : (i b : Bool) (ps : Parts) {x : Spelling} → Among x (declarator_ways i b VariableDeclarator ps) → x.pieces ≡ declarator_pieces i b ps
+declarator_way i true (part n (part e none)) h = at_pieces (bound true (kind_of n)) (sp ∷ sign "=" ∷ sp ∷ put (expr Assignment i Any) ∷ []) h
+declarator_way i false (part n (part e none)) h = elim h [ ]
+declarator_way i b (part n (gap none)) h = of (b && is_pattern (kind_of n)) h
+  where
+    of : {x : Spelling} (c : Bool) → Among x (cond c [] (only_at (bound true (kind_of n)) (absent ∷ []))) → x.pieces ≡ cond c nothing (put_at (bound true (kind_of n)) ∷ absent ∷ [])
+    of true h = elim h [ ]
+    of false h = at_pieces (bound true (kind_of n)) (absent ∷ []) h
+declarator_way i b _ h = elim h [ ]
+
+declarator_there : (i b : Bool) (ps : Parts) → can_run (declarator_pieces i b ps) ≡ true → Among (at Primary (declarator_pieces i b ps)) (declarator_ways i b VariableDeclarator ps)
+declarator_there i true (part n (part e none)) h = at_there (bound true (kind_of n)) (sp ∷ sign "=" ∷ sp ∷ put (expr Assignment i Any) ∷ []) h
+declarator_there i false (part n (part e none)) h = cc
+declarator_there i b (part n (gap none)) h = of (b && is_pattern (kind_of n)) h
+  where
+    of : (c : Bool) → can_run (cond c nothing (put_at (bound true (kind_of n)) ∷ absent ∷ [])) ≡ true → Among (at Primary (cond c nothing (put_at (bound true (kind_of n)) ∷ absent ∷ []))) (cond c [] (only_at (bound true (kind_of n)) (absent ∷ [])))
+    of true h = cc
+    of false h = at_there (bound true (kind_of n)) (absent ∷ []) h
+declarator_there i b _ h = cc
+
+-- a block
+pub one_block : (r : Bool) → OneKind (block r) BlockStatement (block_pieces r)
+unfolding spellings
+one_block r = record {
+  position = record { spans = λ t l. refl; settles = λ x. refl; fitting = λ x. refl; ungrouped = λ y i f e. cc };
+  only = only_one;
+  there = λ ps h. first;
+  textless = refl;
+  flagless = λ g. refl;
+  lean = λ ps. refl;
+}
+  where
+    only_one : (k' : Kind) (w : List ℕ) (g : Flags) (ps : Parts) (x : Spelling) → Among x (spellings (block r) (node k' w g 0 0 ps)) → (k' ≡ BlockStatement) × (x.pieces ≡ block_pieces r ps)
+    only_one BlockStatement w g ps x h = (refl, pieces_of_one h)
+    only_one _ w g ps x h = elim h [ ]
+
+-- the body of a function
+pub one_body : OneKind (body) BlockStatement (body_pieces)
+unfolding spellings
+one_body = record {
+  position = record { spans = λ t l. refl; settles = λ x. refl; fitting = λ x. refl; ungrouped = λ y i f e. cc };
+  only = only_one;
+  there = λ ps h. first;
+  textless = refl;
+  flagless = λ g. refl;
+  lean = λ ps. refl;
+}
+  where
+    only_one : (k' : Kind) (w : List ℕ) (g : Flags) (ps : Parts) (x : Spelling) → Among x (spellings (body) (node k' w g 0 0 ps)) → (k' ≡ BlockStatement) × (x.pieces ≡ body_pieces ps)
+    only_one BlockStatement w g ps x h = (refl, pieces_of_one h)
+    only_one _ w g ps x h = elim h [ ]
+
+-- the body of a class
+pub one_class_body : OneKind (class_body) ClassBody (class_body_pieces)
+unfolding spellings
+one_class_body = record {
+  position = record { spans = λ t l. refl; settles = λ x. refl; fitting = λ x. refl; ungrouped = λ y i f e. cc };
+  only = only_one;
+  there = λ ps h. first;
+  textless = refl;
+  flagless = λ g. refl;
+  lean = λ ps. refl;
+}
+  where
+    only_one : (k' : Kind) (w : List ℕ) (g : Flags) (ps : Parts) (x : Spelling) → Among x (spellings (class_body) (node k' w g 0 0 ps)) → (k' ≡ ClassBody) × (x.pieces ≡ class_body_pieces ps)
+    only_one ClassBody w g ps x h = (refl, pieces_of_one h)
+    only_one _ w g ps x h = elim h [ ]
+
+-- a spread
+pub one_spread : OneKind (spread) SpreadElement (spread_pieces)
+unfolding spellings
+one_spread = record {
+  position = record { spans = λ t l. refl; settles = λ x. refl; fitting = λ x. refl; ungrouped = λ y i f e. cc };
+  only = only_one;
+  there = λ ps h. first;
+  textless = refl;
+  flagless = λ g. refl;
+  lean = λ ps. refl;
+}
+  where
+    only_one : (k' : Kind) (w : List ℕ) (g : Flags) (ps : Parts) (x : Spelling) → Among x (spellings (spread) (node k' w g 0 0 ps)) → (k' ≡ SpreadElement) × (x.pieces ≡ spread_pieces ps)
+    only_one SpreadElement w g ps x h = (refl, pieces_of_one h)
+    only_one _ w g ps x h = elim h [ ]
+
+-- an element with a default
+pub one_element : (b : Bool) → OneKind (element b) AssignmentPattern (element_pieces b)
+unfolding spellings
+one_element b = record {
+  position = record { spans = λ t l. refl; settles = λ x. refl; fitting = λ x. refl; ungrouped = λ y i f e. cc };
+  only = only_one;
+  there = λ ps h. at_there (bound b (lead ps)) (sp ∷ sign "=" ∷ sp ∷ assignment ∷ []) h;
+  textless = refl;
+  flagless = λ g. refl;
+  lean = λ ps. refl;
+}
+  where
+    only_one : (k' : Kind) (w : List ℕ) (g : Flags) (ps : Parts) (x : Spelling) → Among x (spellings (element b) (node k' w g 0 0 ps)) → (k' ≡ AssignmentPattern) × (x.pieces ≡ element_pieces b ps)
+    only_one AssignmentPattern w g ps x h = (refl, at_pieces (bound b (lead ps)) (sp ∷ sign "=" ∷ sp ∷ assignment ∷ []) h)
+    only_one _ w g ps x h = elim h [ ]
+
+-- a case
+pub one_case : (r : Bool) → OneKind (switch_case r) SwitchCase (case_pieces r)
+unfolding spellings
+one_case r = record {
+  position = record { spans = λ t l. refl; settles = λ x. refl; fitting = λ x. refl; ungrouped = λ y i f e. cc };
+  only = only_one;
+  there = there_one;
+  textless = refl;
+  flagless = λ g. refl;
+  lean = λ ps. refl;
+}
+  where
+    only_one : (k' : Kind) (w : List ℕ) (g : Flags) (ps : Parts) (x : Spelling) → Among x (spellings (switch_case r) (node k' w g 0 0 ps)) → (k' ≡ SwitchCase) × (x.pieces ≡ case_pieces r ps)
+    only_one SwitchCase w g (part t ps) x h = (refl, pieces_of_one h)
+    only_one SwitchCase w g (gap ps) x h = (refl, pieces_of_one h)
+    only_one SwitchCase w g none x h = elim h [ ]
+    only_one _ w g ps x h = elim h [ ]
+
+    there_one : (ps : Parts) → can_run (case_pieces r ps) ≡ true → Among (at Primary (case_pieces r ps)) (spellings (switch_case r) (node SwitchCase [] plain 0 0 ps))
+    there_one (part t ps) h = first
+    there_one (gap ps) h = first
+    there_one none h = cc
+
+-- a handler
+pub one_handler : (r : Bool) → OneKind (handler r) CatchClause (handler_pieces r)
+unfolding spellings
+one_handler r = record {
+  position = record { spans = λ t l. refl; settles = λ x. refl; fitting = λ x. refl; ungrouped = λ y i f e. cc };
+  only = only_one;
+  there = there_one;
+  textless = refl;
+  flagless = λ g. refl;
+  lean = λ ps. refl;
+}
+  where
+    only_one : (k' : Kind) (w : List ℕ) (g : Flags) (ps : Parts) (x : Spelling) → Among x (spellings (handler r) (node k' w g 0 0 ps)) → (k' ≡ CatchClause) × (x.pieces ≡ handler_pieces r ps)
+    only_one CatchClause w g (part t ps) x h = (refl, pieces_of_one h)
+    only_one CatchClause w g (gap ps) x h = (refl, pieces_of_one h)
+    only_one CatchClause w g none x h = elim h [ ]
+    only_one _ w g ps x h = elim h [ ]
+
+    there_one : (ps : Parts) → can_run (handler_pieces r ps) ≡ true → Among (at Primary (handler_pieces r ps)) (spellings (handler r) (node CatchClause [] plain 0 0 ps))
+    there_one (part t ps) h = first
+    there_one (gap ps) h = first
+    there_one none h = cc
+
+-- the function of a method, a getter or a setter
+pub one_method : (f : Form) → OneKind (method f) FunctionExpression (method_pieces f)
+unfolding spellings
+one_method f = record {
+  position = record { spans = λ t l. refl; settles = λ x. refl; fitting = λ x. refl; ungrouped = λ y i f e. cc };
+  only = only_one;
+  there = λ ps h. method_there f ps h;
+  textless = refl;
+  flagless = λ g. refl;
+  lean = λ ps. refl;
+}
+  where
+    only_one : (k' : Kind) (w : List ℕ) (g : Flags) (ps : Parts) (x : Spelling) → Among x (spellings (method f) (node k' w g 0 0 ps)) → (k' ≡ FunctionExpression) × (x.pieces ≡ method_pieces f ps)
+    only_one FunctionExpression w g ps x h = (refl, method_way f ps h)
+    only_one _ w g ps x h = elim h [ ]
+
+-- a rest
+pub one_rest : (b o : Bool) → OneKind (rest b o) RestElement (rest_pieces b o)
+unfolding spellings
+one_rest b o = record {
+  position = record { spans = λ t l. refl; settles = λ x. refl; fitting = λ x. refl; ungrouped = λ y i f e. cc };
+  only = only_one;
+  there = λ ps h. rest_there b o ps h;
+  textless = refl;
+  flagless = λ g. refl;
+  lean = λ ps. refl;
+}
+  where
+    only_one : (k' : Kind) (w : List ℕ) (g : Flags) (ps : Parts) (x : Spelling) → Among x (spellings (rest b o) (node k' w g 0 0 ps)) → (k' ≡ RestElement) × (x.pieces ≡ rest_pieces b o ps)
+    only_one RestElement w g ps x h = (refl, rest_way b o g w ps h)
+    only_one _ w g ps x h = elim h [ ]
+
+-- a declarator
+pub one_declarator : (i b : Bool) → OneKind (declarator i b) VariableDeclarator (declarator_pieces i b)
+unfolding spellings
+one_declarator i b = record {
+  position = record { spans = λ t l. refl; settles = λ x. refl; fitting = λ x. refl; ungrouped = λ y i f e. cc };
+  only = only_one;
+  there = λ ps h. declarator_there i b ps h;
+  textless = refl;
+  flagless = λ g. refl;
+  lean = λ ps. refl;
+}
+  where
+    only_one : (k' : Kind) (w : List ℕ) (g : Flags) (ps : Parts) (x : Spelling) → Among x (spellings (declarator i b) (node k' w g 0 0 ps)) → (k' ≡ VariableDeclarator) × (x.pieces ≡ declarator_pieces i b ps)
+    only_one VariableDeclarator w g ps x h = (refl, declarator_way i b ps h)
+    only_one _ w g ps x h = elim h [ ]

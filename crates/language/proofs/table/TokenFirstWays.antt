@@ -1,0 +1,341 @@
+-- The view of the ways that begin with a token: what they are, and what their first token is.
+use Rattle.std.proofs.Common.{◌≡◌, ℕ, Bool, true, false, cond, List, [], ◌∷◌, ◌++◌, refl, sym, ap, ◌∙◌, subst}
+use Rattle.std.specs.Prelude.{IsTrue, codes, ◌&&◌, not}
+use Prim.Native.String.{String}
+use Rattle.std.proofs.lemmas.Bool.{and_parts, false≢true}
+use Rattle.std.proofs.lemmas.Slice.Eq.{bytes_eq-Decides}
+use Rattle.std.specs.Bool.{beq}
+use Rattle.std.specs.Prelude.{if◌then◌else◌}
+use Rattle.tokens.specs.Alphabet.{one_of, begins_with}
+use Rattle.tokens.specs.declared.token.TokenClass.{TokenClass}
+use Rattle.tokens.specs.declared.token.TokenClass.TheVariants.{IdentifierName, Punctuator, NumericLiteral, StringLiteral}
+use Rattle.tokens.specs.declared.token.Goal.{Goal}
+use Rattle.tokens.specs.Goals.{allows}
+use Rattle.tree.specs.declared.kind.Kind.{Kind}
+use Rattle.tree.specs.declared.kind.Kind.TheVariants.{Identifier, Literal, ThisExpression, Super, ArrayExpression, ObjectExpression, FunctionExpression, ArrowFunctionExpression, ClassExpression, TemplateLiteral, TemplateElement, MemberExpression, CallExpression, NewExpression, MetaProperty, ImportExpression, UpdateExpression, UnaryExpression, AssignmentExpression, ArrayPattern, ObjectPattern}
+use Rattle.language.specs.declared.Rank.{Rank}
+use Rattle.language.specs.declared.Rank.TheVariants.{Assignment, Unary, Update, LeftHandSide, New, Call, Member, Primary}
+use Rattle.language.specs.declared.Start.{Start}
+use Rattle.language.specs.declared.Start.TheVariants.{Any, NoBrace, Statement}
+use Rattle.tree.specs.declared.kind.Flags.{Flags}
+use Rattle.tree.specs.declared.kind.Pair.{Pair}
+use Rattle.tree.specs.Tree.{Tree, node, Parts, none, part, gap, kind_of, text_of, bare_parts}
+use Rattle.language.specs.FirstPart.{lead as lead_kind, others}
+use Rattle.language.specs.Vocabulary.{is, among, takes, is_target, is_pattern, is_super, is_identifier, is_name, literal_class, is_reserved, is_prefix, is_word_operator, op_assign, op_update, operator_of}
+use Rattle.language.specs.Pieces.{Role, expr, name, word, base, pattern, template_element, PieceOf, Piece, tok, lay, sub, open_parameters, close_parameters, apart, space, sign, term, Spelling, at, is_none, elements, listed, argument, parameters, put}
+use Rattle.language.specs.Expressions.{arguments, selector, template_elements, object_part, function_pieces, class_pieces, arrow_end, lead_is}
+use Rattle.language.specs.Token.{Token}
+use Rattle.language.specs.ExpressionStart.{ExpressionStart, with_name, with_literal, with_this, with_bracket, with_brace, with_function, with_class, with_template, with_parenthesis, with_super, with_new, with_import, with_step, with_word, with_sign, no_start, start_words, start_among, expression_start_by, expression_start}
+use Rattle.language.specs.Grammar.{spellings, ways, starts}
+use Rattle.language.specs.Derivation.{Spells, direct, Runs, step, opened, within}
+use Rattle.language.specs.NodeForms.{Made, identifier, literal, this, array, object, function, class, template, short_arrow, arrow, tagged, super_member, member, super_call, call, new_with, new_without, new_target, import_call, chain, prefix, postfix, unary_word, unary_sign, power, binary, logical, conditional, assign, assign_pattern, several}
+use Rattle.language.proofs.lower_bound.Domination.{settled, fits}
+use Rattle.language.proofs.table.ViewIsComplete.{way_of, one, unless}
+use Rattle.language.proofs.climbing.Spine.{is_led}
+use Rattle.language.proofs.table.Begins.{by, first_of, goes_to, among_by, Each, retell, begun}
+use Rattle.language.specs.Promises.{is_free, IsDetermined, ReadBy}
+use Rattle.language.proofs.table.LeftRecursiveWays.{between}
+use Rattle.language.proofs.table.OperatorFacts.{step_texts}
+
+-- the space between two signs that would join
+abbrev pub unary_space : List ℕ → List Piece
+unary_space w = cond (is w "+") (lay (apart 43) ∷ []) (cond (is w "-") (lay (apart 45) ∷ []) [])
+
+-- The ways of a node that begin with a token, at the position `expr y i f`; the last index is what the first token is.
+pub data Headed (y : Rank) (i : Bool) (f : Start) (k : Kind) (w : List ℕ) (g : Flags) (ps : Parts) (qs : List (PieceOf Role)) : ExpressionStart → Type 0 where
+  head_identifier : k ≡ Identifier → is_reserved w ≡ false → qs ≡ tok IdentifierName w ∷ [] → Headed y i f k w g ps qs with_name
+  head_literal : k ≡ Literal → (is_name (literal_class w) && not (among w ("true" ∷ "false" ∷ "null" ∷ []))) ≡ false → qs ≡ tok (literal_class w) w ∷ [] → Headed y i f k w g ps qs with_literal
+  head_this : k ≡ ThisExpression → qs ≡ tok IdentifierName (codes "this") ∷ [] → Headed y i f k w g ps qs with_this
+  head_array : k ≡ ArrayExpression → qs ≡ goes_to y i f ((sign "[" ∷ elements argument ps) ++ sign "]" ∷ []) → Headed y i f k w g ps qs with_bracket
+  head_object : k ≡ ObjectExpression → IsTrue (starts f (sign "{" ∷ [])) → qs ≡ goes_to y i f ((sign "{" ∷ listed object_part ps) ++ sign "}" ∷ []) → Headed y i f k w g ps qs with_brace
+  head_function : k ≡ FunctionExpression → IsTrue (starts f (term "function" ∷ [])) → qs ≡ goes_to y i f (function_pieces ps) → Headed y i f k w g ps qs with_function
+  head_class : k ≡ ClassExpression → IsTrue (starts f (term "class" ∷ [])) → qs ≡ goes_to y i f (class_pieces ps) → Headed y i f k w g ps qs with_class
+  head_template : k ≡ TemplateLiteral → qs ≡ goes_to y i f (template_elements true ps) → Headed y i f k w g ps qs with_template
+  head_short_arrow : {n b : Tree} → k ≡ ArrowFunctionExpression → ps ≡ part n (part b none) → is_identifier (kind_of n) ≡ true → IsTrue (takes y Assignment) → qs ≡ sub name ∷ goes_to y i f (arrow_end g) →
+      Headed y i f k w g ps qs with_name
+  head_arrow : k ≡ ArrowFunctionExpression → IsTrue (takes y Assignment) → qs ≡ open_parameters ∷ goes_to y i f (parameters (close_parameters ∷ arrow_end g) ps) → Headed y i f k w g ps qs with_parenthesis
+  head_super_member : k ≡ MemberExpression → g.optional ≡ false → is_super (lead_kind ps) ≡ true → IsTrue (takes y Member) → qs ≡ sub base ∷ goes_to y i f (selector g) → Headed y i f k w g ps qs with_super
+  head_super_call : k ≡ CallExpression → g.optional ≡ false → is_super (lead_kind ps) ≡ true → IsTrue (takes y Call) → qs ≡ sub base ∷ goes_to y i f (arguments (others ps)) → Headed y i f k w g ps qs with_super
+  head_new_with : k ≡ NewExpression → IsTrue (takes y Member) → qs ≡ tok IdentifierName (codes "new") ∷ lay space ∷ sub (expr Member true Any) ∷ goes_to y i f (arguments (others ps)) → Headed y i f k w g ps qs with_new
+  head_new_without : k ≡ NewExpression → is_none (others ps) ≡ true → IsTrue (takes y New) → qs ≡ tok IdentifierName (codes "new") ∷ lay space ∷ sub (expr New true Any) ∷ [] → Headed y i f k w g ps qs with_new
+  head_new_target : k ≡ MetaProperty → (lead_is ps "new" && lead_is (others ps) "target") ≡ true → IsTrue (takes y Member) → qs ≡ sub word ∷ tok Punctuator (codes ".") ∷ sub word ∷ [] → Headed y i f k w g ps qs with_new
+  head_import : k ≡ ImportExpression → IsTrue (takes y Call) →
+      qs ≡ tok IdentifierName (codes "import") ∷ tok Punctuator (codes "(") ∷ sub (expr Assignment true Any) ∷ tok Punctuator (codes ")") ∷ [] → Headed y i f k w g ps qs with_import
+  head_step : k ≡ UpdateExpression → operator_of w ≡ op_update → is_target (lead_kind ps) ≡ true → g.prefix ≡ true → IsTrue (takes y Update) →
+      qs ≡ tok Punctuator w ∷ lay (apart (cond (is w "++") 43 45)) ∷ sub (expr LeftHandSide true Any) ∷ [] → Headed y i f k w g ps qs with_step
+  head_word : k ≡ UnaryExpression → is_prefix w ≡ true → is_word_operator w ≡ true → IsTrue (takes y Unary) → qs ≡ tok IdentifierName w ∷ lay space ∷ sub (expr Unary true Any) ∷ [] → Headed y i f k w g ps qs with_word
+  head_sign : k ≡ UnaryExpression → is_prefix w ≡ true → is_word_operator w ≡ false → IsTrue (takes y Unary) → qs ≡ tok Punctuator w ∷ goes_to y i f (unary_space w ++ put (expr Unary true Any) ∷ []) →
+      Headed y i f k w g ps qs with_sign
+  head_array_pattern : k ≡ AssignmentExpression → operator_of w ≡ op_assign → is w "=" ≡ true → lead_kind ps ≡ ArrayPattern → IsTrue (takes y Assignment) →
+      qs ≡ sub (pattern false f) ∷ between w (expr Assignment i Any) → Headed y i f k w g ps qs with_bracket
+  head_object_pattern : k ≡ AssignmentExpression → operator_of w ≡ op_assign → is w "=" ≡ true → lead_kind ps ≡ ObjectPattern → IsTrue (takes y Assignment) →
+      qs ≡ sub (pattern false f) ∷ between w (expr Assignment i Any) → Headed y i f k w g ps qs with_brace
+
+-- a way that begins with a token, with what that is
+pub record HeadedWay (y : Rank) (i : Bool) (f : Start) (k : Kind) (w : List ℕ) (g : Flags) (ps : Parts) (qs : List (PieceOf Role)) : Type 0 where
+  pub opening : ExpressionStart
+  pub headed : Headed y i f k w g ps qs opening
+
+is_led_so : {A : Type 0} {qs rs : List (PieceOf Role)} → qs ≡ rs → is_led rs ≡ true → is_led qs ≡ false → A
+is_led_so e h k = absurd (false≢true (sym k ∙ ap is_led e ∙ h))
+
+abbrev behind_one : List Piece → List Piece
+behind_one [] = []
+behind_one (q ∷ qs) = qs
+
+-- the first piece alone decides whether a start is met
+starts_sign : (f : Start) (w : List ℕ) (qs : List Piece) → IsTrue (starts f (tok Punctuator w ∷ qs)) → IsTrue (starts f (tok Punctuator w ∷ []))
+starts_sign Any w qs h = h
+starts_sign NoBrace w qs h = h
+starts_sign Statement w qs h = h
+
+starts_term : (f : Start) (w : List ℕ) (qs : List Piece) → IsTrue (starts f (tok IdentifierName w ∷ qs)) → IsTrue (starts f (tok IdentifierName w ∷ []))
+starts_term Any w qs h = h
+starts_term NoBrace w qs h = h
+starts_term Statement w qs h = h
+
+starts_fit : (y : Rank) (i : Bool) (f : Start) (x : Spelling) → IsTrue (fits (expr y i f) x) → IsTrue (starts f x.pieces)
+starts_fit y i f x h = (and_parts _ _ (and_parts _ _ (and_parts _ _ h).0).1).1
+
+module _ (y : Rank) (i : Bool) (f : Start) where
+  of_pattern : {w : List ℕ} {g : Flags} {ps : Parts} {qs : List (PieceOf Role)} (k : Kind) → lead_kind ps ≡ k → is_pattern k ≡ true → operator_of w ≡ op_assign → is w "=" ≡ true → IsTrue (takes y Assignment) →
+      qs ≡ sub (pattern false f) ∷ between w (expr Assignment i Any) → HeadedWay y i f AssignmentExpression w g ps qs
+  of_pattern ArrayPattern l h o e t q = record { opening = _; headed = head_array_pattern refl o e l t q }
+  of_pattern ObjectPattern l h o e t q = record { opening = _; headed = head_object_pattern refl o e l t q }
+  of_pattern _ l h o e t q = absurd (false≢true h)
+
+  -- each way that isn't led is one of these
+  pub headed_of : {k : Kind} {w : List ℕ} {g : Flags} {ps : Parts} {qs : List (PieceOf Role)} {x : Spelling} → Made k w g ps x → IsTrue (fits (expr y i f) x) → qs ≡ settled (expr y i f) x → is_led qs ≡ false → HeadedWay y i f k w g ps qs
+  headed_of (identifier h) fit eq un = record { opening = _; headed = head_identifier refl h eq }
+  headed_of (literal h) fit eq un = record { opening = _; headed = head_literal refl h eq }
+  headed_of this fit eq un = record { opening = _; headed = head_this refl eq }
+  headed_of array fit eq un = record { opening = _; headed = head_array refl eq }
+  headed_of (object {ps = ps}) fit eq un = let x : Spelling = at Primary ((sign "{" ∷ listed object_part ps) ++ sign "}" ∷ []) in
+      record { opening = _; headed = head_object refl (starts_sign f (codes "{") (behind_one x.pieces) (starts_fit y i f x fit)) eq }
+  headed_of (function {ps = ps}) fit eq un = let x : Spelling = at Primary (function_pieces ps) in
+      record { opening = _; headed = head_function refl (starts_term f (codes "function") (behind_one x.pieces) (starts_fit y i f x fit)) eq }
+  headed_of (class {ps = ps}) fit eq un = let x : Spelling = at Primary (class_pieces ps) in
+      record { opening = _; headed = head_class refl (starts_term f (codes "class") (behind_one x.pieces) (starts_fit y i f x fit)) eq }
+  headed_of template fit eq un = record { opening = _; headed = head_template refl eq }
+  headed_of (short_arrow h) fit eq un = record { opening = _; headed = head_short_arrow refl refl h (and_parts _ _ (and_parts _ _ fit).0).0 eq }
+  headed_of arrow fit eq un = record { opening = _; headed = head_arrow refl (and_parts _ _ (and_parts _ _ fit).0).0 eq }
+  headed_of (super_member o s) fit eq un = record { opening = _; headed = head_super_member refl o s (and_parts _ _ (and_parts _ _ fit).0).0 eq }
+  headed_of (super_call o s) fit eq un = record { opening = _; headed = head_super_call refl o s (and_parts _ _ (and_parts _ _ fit).0).0 eq }
+  headed_of new_with fit eq un = record { opening = _; headed = head_new_with refl (and_parts _ _ (and_parts _ _ fit).0).0 eq }
+  headed_of (new_without h) fit eq un = record { opening = _; headed = head_new_without refl h (and_parts _ _ (and_parts _ _ fit).0).0 eq }
+  headed_of (new_target h) fit eq un = record { opening = _; headed = head_new_target refl h (and_parts _ _ (and_parts _ _ fit).0).0 eq }
+  headed_of import_call fit eq un = record { opening = _; headed = head_import refl (and_parts _ _ (and_parts _ _ fit).0).0 eq }
+  headed_of (prefix h t p) fit eq un = record { opening = _; headed = head_step refl h t p (and_parts _ _ (and_parts _ _ fit).0).0 eq }
+  headed_of (unary_word h v) fit eq un = record { opening = _; headed = head_word refl h v (and_parts _ _ (and_parts _ _ fit).0).0 eq }
+  headed_of (unary_sign h v) fit eq un = record { opening = _; headed = head_sign refl h v (and_parts _ _ (and_parts _ _ fit).0).0 eq }
+  headed_of (assign_pattern {ps = ps} h e p) fit eq un = of_pattern (lead_kind ps) refl p h e (and_parts _ _ (and_parts _ _ fit).0).0 eq
+  headed_of tagged fit eq un = is_led_so eq refl un
+  headed_of (member o s) fit eq un = is_led_so eq refl un
+  headed_of (call o s) fit eq un = is_led_so eq refl un
+  headed_of (chain c) fit eq un = is_led_so eq refl un
+  headed_of (postfix h t p) fit eq un = is_led_so eq refl un
+  headed_of (power h) fit eq un = is_led_so eq refl un
+  headed_of (binary h) fit eq un = is_led_so eq refl un
+  headed_of (logical h) fit eq un = is_led_so eq refl un
+  headed_of conditional fit eq un = is_led_so eq refl un
+  headed_of (assign h t) fit eq un = is_led_so eq refl un
+  headed_of (several h) fit eq un = is_led_so eq refl un
+
+-- an opening is that of the token's class and text
+pub opens : (t : Token) {c : TokenClass} {w : List ℕ} {x : ExpressionStart} → t.class ≡ c → t.text ≡ w → expression_start_by c w ≡ x → expression_start t ≡ x
+opens t {c} c' w' e = ap (λ d. expression_start_by d t.text) c' ∙ ap (expression_start_by c) w' ∙ e
+
+-- a text that is in no row
+abbrev pub InNone : List ℕ → List (List String × ExpressionStart) → Type 0
+InNone w [] = Unit {0}
+InNone w (row ∷ rows) = (among w row.0 ≡ false) × InNone w rows
+
+passes : (w : List ℕ) (rows : List (List String × ExpressionStart)) (other : ExpressionStart) → InNone w rows → start_among w rows other ≡ other
+passes w [] other h = refl
+passes w (row ∷ rows) other h = ap (λ b. cond b row.1 (start_among w rows other)) h.0 ∙ passes w rows other h.1
+
+-- no word of the list
+none_among : (w : List ℕ) (ss : List String) → is_reserved w ≡ false → Each (λ v. is_reserved v ≡ true) ss → among w ss ≡ false
+none_among w ss h all = go (among w ss) refl
+  where
+    go : (b : Bool) → among w ss ≡ b → among w ss ≡ false
+    go false e = e
+    go true e = absurd (false≢true (sym h ∙ among_by (λ v. is_reserved v ≡ true) w ss e all))
+
+pub identifier_opens : (w : List ℕ) → is_reserved w ≡ false → expression_start_by IdentifierName w ≡ with_name
+unfolding is_reserved
+identifier_opens w h =
+    passes w start_words (cond (is_reserved w) no_start with_name) (
+      none_among w ("true" ∷ "false" ∷ "null" ∷ []) h (refl, (refl, (refl, tt))),
+      (
+        none_among w ("this" ∷ []) h (refl, tt),
+        (
+          none_among w ("function" ∷ []) h (refl, tt),
+          (
+            none_among w ("class" ∷ []) h (refl, tt),
+            (
+              none_among w ("super" ∷ []) h (refl, tt),
+              (
+                none_among w ("new" ∷ []) h (refl, tt),
+                (
+                  none_among w ("import" ∷ []) h (refl, tt),
+                  (none_among w ("delete" ∷ "void" ∷ "typeof" ∷ []) h (refl, (refl, (refl, tt))), tt),
+                ),
+              ),
+            ),
+          ),
+        ),
+      ),
+    )
+    ∙ ap (λ b. cond b no_start with_name) h
+
+abbrev later_rows : List (List String × ExpressionStart) → List (List String × ExpressionStart)
+later_rows [] = []
+later_rows (row ∷ rows) = rows
+
+not_or : (b : Bool) → not b ≡ false → b ≡ true
+not_or true e = refl
+not_or false e = cc
+
+pub literal_opens : (w : List ℕ) → (is_name (literal_class w) && not (among w ("true" ∷ "false" ∷ "null" ∷ []))) ≡ false → expression_start_by (literal_class w) w ≡ with_literal
+literal_opens w h = go _ _ _ h
+  where
+    go : (a b c : Bool) → (is_name (cond a StringLiteral (cond b TokenClass.RegularExpressionLiteral (cond c NumericLiteral IdentifierName))) && not (among w ("true" ∷ "false" ∷ "null" ∷ []))) ≡ false → expression_start_by (cond a StringLiteral (cond b TokenClass.RegularExpressionLiteral (cond c NumericLiteral IdentifierName))) w ≡ with_literal
+    go true b c h = refl
+    go false true c h = refl
+    go false false true h = refl
+    go false false false h = ap (λ b. cond b with_literal (start_among w (later_rows start_words) (cond (is_reserved w) no_start with_name))) (not_or _ h)
+
+pub prefix_word_opens : (w : List ℕ) → is_prefix w ≡ true → is_word_operator w ≡ true → expression_start_by IdentifierName w ≡ with_word
+prefix_word_opens w h k = among_by (λ v. is_word_operator v ≡ true → expression_start_by IdentifierName v ≡ with_word) w ("delete" ∷ "void" ∷ "typeof" ∷ "+" ∷ "-" ∷ "~" ∷ "!" ∷ []) h
+    ((λ e. refl), ((λ e. refl), ((λ e. refl), ((λ e. cc), ((λ e. cc), ((λ e. cc), ((λ e. cc), tt))))))) k
+
+pub prefix_sign_opens : (w : List ℕ) → is_prefix w ≡ true → is_word_operator w ≡ false → (expression_start_by Punctuator w ≡ with_sign) × IsTrue (allows Goal.RegExp Punctuator w)
+prefix_sign_opens w h k = among_by (λ v. is_word_operator v ≡ false → (expression_start_by Punctuator v ≡ with_sign) × IsTrue (allows Goal.RegExp Punctuator v)) w ("delete" ∷ "void" ∷ "typeof" ∷ "+" ∷ "-" ∷ "~" ∷ "!" ∷ []) h
+    ((λ e. cc), ((λ e. cc), ((λ e. cc), ((λ e. (refl, refl)), ((λ e. (refl, refl)), ((λ e. (refl, refl)), ((λ e. (refl, refl)), tt))))))) k
+
+pub step_opens : (w : List ℕ) → operator_of w ≡ op_update → (expression_start_by Punctuator w ≡ with_step) × IsTrue (allows Goal.RegExp Punctuator w)
+step_opens w h = among_by (λ v. (expression_start_by Punctuator v ≡ with_step) × IsTrue (allows Goal.RegExp Punctuator v)) w ("++" ∷ "--" ∷ []) (step_texts w h) ((refl, refl), ((refl, refl), tt))
+
+pub either_class : (x y : Bool) → IsTrue (if x then beq true true else if y then beq false false else true)
+either_class true y = refl
+either_class false true = refl
+either_class false false = refl
+
+module _ (S : Type 0) (Next : S → Token → S → Type 0) (behind : S → Token) (det : IsDetermined S Next behind) where
+  -- the token with which something begins at a place, by the goal for operands
+  pub record Opens (x : ExpressionStart) (s : S) : Type 0 where
+    pub token : Token
+    pub mid : S
+    pub read : ReadBy S Next behind Goal.RegExp s token mid
+    pub opens : expression_start token ≡ x
+
+  -- the pieces begin with a name, a number or a string; or with a sign
+  by_free : {o : ℕ} {ps : Parts} {s e : S} {P : List Pair} {c : TokenClass} {w : List ℕ} {x : ExpressionStart} (qs : List (PieceOf Role)) → first_of qs ≡ by c w → is_free c ≡ true → expression_start_by c w ≡ x →
+      Runs ways S Next behind o qs ps s e P → Opens x s
+  by_free qs h al e d = let u = begun S Next behind qs h d in
+      record { token = u.token; mid = u.mid; read = record { next = u.next; allowed = det.free Goal.RegExp _ u.token u.mid u.next (ap is_free u.class ∙ al) }; opens = opens u.token u.class u.text e }
+
+  by_sign : {o : ℕ} {ps : Parts} {s e : S} {P : List Pair} {c : TokenClass} {w : List ℕ} {x : ExpressionStart} (qs : List (PieceOf Role)) → first_of qs ≡ by c w → IsTrue (allows Goal.RegExp c w) → expression_start_by c w ≡ x →
+      Runs ways S Next behind o qs ps s e P → Opens x s
+  by_sign {c = c} qs h al e d = let u = begun S Next behind qs h d in
+      let al' : IsTrue (allows Goal.RegExp u.token.class u.token.text) = subst (λ x. IsTrue (allows Goal.RegExp x u.token.text)) (sym u.class) (subst (λ x. IsTrue (allows Goal.RegExp c x)) (sym u.text) al) in
+      record { token = u.token; mid = u.mid; read = record { next = u.next; allowed = al' }; opens = opens u.token u.class u.text e }
+
+  by_literal : {o : ℕ} {ps : Parts} {s e : S} {P : List Pair} (w : List ℕ) → (is_name (literal_class w) && not (among w ("true" ∷ "false" ∷ "null" ∷ []))) ≡ false →
+      Runs ways S Next behind o (tok (literal_class w) w ∷ []) ps s e P → Opens with_literal s
+  by_literal {o} {ps} {s} {e} {P} w h d = go _ _ _ (literal_opens w h) d
+    where
+      go : (a b c : Bool) → expression_start_by (cond a StringLiteral (cond b TokenClass.RegularExpressionLiteral (cond c NumericLiteral IdentifierName))) w ≡ with_literal →
+          Runs ways S Next behind o (tok (cond a StringLiteral (cond b TokenClass.RegularExpressionLiteral (cond c NumericLiteral IdentifierName))) w ∷ []) ps s e P → Opens with_literal s
+      go true b c h d = by_free (tok StringLiteral w ∷ []) refl refl refl d
+      go false true c h d = by_sign (tok TokenClass.RegularExpressionLiteral w ∷ []) refl (either_class (begins_with (one_of "/") w) (begins_with (one_of "}") w)) refl d
+      go false false true h d = by_free (tok NumericLiteral w ∷ []) refl refl refl d
+      go false false false h d = by_free (tok IdentifierName w ∷ []) refl refl h d
+
+  -- a part that stands at a position of one spelling
+  at_first : {A : Type 0} {o : ℕ} {a : Role} {qs : List (PieceOf Role)} {ps : Parts} {s e : S} {P : List Pair} →
+      ((n : Tree) (e' : S) (Q : List Pair) (qs' : Parts) → ps ≡ part n qs' → Spells ways S Next behind o a n s e' Q → A) → Runs ways S Next behind o (sub a ∷ qs) ps s e P → A
+  at_first f (within p d) = f _ _ _ _ refl p
+  at_first f (step p d) = elim p [ ]
+
+  name_opens : {o : ℕ} {n : Tree} {s e : S} {P : List Pair} → Spells ways S Next behind o name n s e P → Opens with_name s
+  unfolding spellings
+  name_opens {n = node Identifier w g a b ps} (direct qs h pl d) = let v = way_of h in
+      unless (is_reserved w) v.listed (λ c k. by_free qs (ap first_of (v.is ∙ ap (settled name) (one k))) refl (identifier_opens w c) d)
+  name_opens {n = node _ w g a b ps} (direct qs h pl d) = elim ((way_of h).listed) [ ]
+
+  base_opens : {o : ℕ} {n : Tree} {s e : S} {P : List Pair} → Spells ways S Next behind o base n s e P → Opens with_super s
+  unfolding spellings
+  base_opens {n = node Super w g a b ps} (direct qs h pl d) = let v = way_of h in by_free qs (ap first_of (v.is ∙ ap (settled base) (one v.listed))) refl refl d
+  base_opens {n = node _ w g a b ps} (direct qs h pl d) = elim ((way_of h).listed) [ ]
+
+  word_opens : {o : ℕ} {n : Tree} {s e : S} {P : List Pair} {x : ExpressionStart} → expression_start_by IdentifierName (text_of n) ≡ x → Spells ways S Next behind o word n s e P → Opens x s
+  unfolding spellings
+  word_opens {n = node Identifier w g a b ps} k (direct qs h pl d) = let v = way_of h in by_free qs (ap first_of (v.is ∙ ap (settled word) (one v.listed))) refl k d
+  word_opens {n = node _ w g a b ps} k (direct qs h pl d) = elim ((way_of h).listed) [ ]
+
+  chunk_opens : {o : ℕ} {y : Bool} {n : Tree} {s e : S} {P : List Pair} → Spells ways S Next behind o (template_element true y) n s e P → Opens with_template s
+  unfolding spellings
+  chunk_opens {y = y} {n = node TemplateElement w g a b ps} (direct qs h pl d) =
+      let v = way_of h in by_sign qs (ap first_of v.is ∙ ap (λ x. first_of (settled (template_element true y) x)) (one v.listed)) refl refl d
+  chunk_opens {n = node _ w g a b ps} (direct qs h pl d) = elim ((way_of h).listed) [ ]
+
+  chunks_open : {o : ℕ} {s e : S} {P : List Pair} (y : Rank) (i : Bool) (f : Start) (ps qs : Parts) → Runs ways S Next behind o (goes_to y i f (template_elements true qs)) ps s e P → Opens with_template s
+  chunks_open y i f ps none (step p d) = elim p [ ]
+  chunks_open y i f ps (gap qs) (step p d) = elim p [ ]
+  chunks_open y i f ps (part q none) (step p d) = elim p [ ]
+  chunks_open y i f ps (part q none) (within p d) = chunk_opens p
+  chunks_open y i f ps (part q (gap qs)) (step p d) = elim p [ ]
+  chunks_open y i f ps (part q (part x qs)) (step p d) = elim p [ ]
+  chunks_open y i f ps (part q (part x qs)) (within p d) = chunk_opens p
+
+  pattern_opens : {o : ℕ} {c : Bool} {f : Start} {n : Tree} {s e : S} {P : List Pair} → Spells ways S Next behind o (pattern c f) n s e P →
+      (kind_of n ≡ ArrayPattern → Opens with_bracket s) × (kind_of n ≡ ObjectPattern → Opens with_brace s)
+  unfolding spellings
+  pattern_opens {c = c} {f = f} {n = node ArrayPattern w g a b ps} (direct qs h pl d) = let v = way_of h in
+      ((λ k. by_sign qs (ap first_of v.is ∙ ap (λ x. first_of (settled (pattern c f) x)) (one v.listed)) refl refl d), (λ k. cc))
+  pattern_opens {c = c} {f = f} {n = node ObjectPattern w g a b ps} (direct qs h pl d) = let v = way_of h in
+      ((λ k. cc), (λ k. by_sign qs (ap first_of v.is ∙ ap (λ x. first_of (settled (pattern c f) x)) (one v.listed)) refl refl d))
+  pattern_opens {n = node _ w g a b ps} (direct qs h pl d) = elim ((way_of h).listed) [ ]
+
+  kind_bare : (n : Tree) (ps : Parts) {k : Kind} → lead_kind (bare_parts (part n ps)) ≡ k → kind_of n ≡ k
+  kind_bare (node k w g s e qs) ps h = h
+
+  text_bare : (n : Tree) (ps : Parts) → lead_is (bare_parts (part n ps)) "new" ≡ true → text_of n ≡ codes "new"
+  text_bare (node k w g s e qs) ps h = (bytes_eq-Decides w (codes "new")).0 h
+
+  opened_opens : {o : ℕ} {qs : List (PieceOf Role)} {ps : Parts} {s e : S} {P : List Pair} → Runs ways S Next behind o (open_parameters ∷ qs) ps s e P → Opens with_parenthesis s
+  opened_opens (opened {t = u} {m = m} k d) =
+      let al : IsTrue (allows Goal.RegExp u.class u.text) = subst (λ c. IsTrue (allows Goal.RegExp c u.text)) (sym k.class) (subst (λ z. IsTrue (allows Goal.RegExp Punctuator z)) (sym k.text) refl) in
+      record { token = u; mid = m; read = record { next = k.next; allowed = al }; opens = opens u k.class k.text refl }
+  opened_opens (step p d) = elim p [ ]
+
+  -- the first token of a way is what the view says
+  pub headed_read : {y : Rank} {i : Bool} {f : Start} {k : Kind} {w : List ℕ} {g : Flags} {ps : Parts} {qs : List (PieceOf Role)} {x : ExpressionStart} {o : ℕ} {s e : S} {P : List Pair} →
+      Headed y i f k w g (bare_parts ps) qs x → Runs ways S Next behind o qs ps s e P → Opens x s
+  headed_read {w = w} {qs = qs} (head_identifier k c q) d = by_free qs (ap first_of q) refl (identifier_opens w c) d
+  headed_read {w = w} (head_literal k c q) d = by_literal w c (retell S Next behind q d)
+  headed_read {qs = qs} (head_this k q) d = by_free qs (ap first_of q) refl refl d
+  headed_read {qs = qs} (head_array k q) d = by_sign qs (ap first_of q) refl refl d
+  headed_read {qs = qs} (head_object k b q) d = by_sign qs (ap first_of q) refl refl d
+  headed_read {qs = qs} (head_function k b q) d = by_free qs (ap first_of q) refl refl d
+  headed_read {qs = qs} (head_class k b q) d = by_free qs (ap first_of q) refl refl d
+  headed_read {y} {i} {f} {ps = ps} (head_template k q) d = chunks_open y i f ps (bare_parts ps) (retell S Next behind q d)
+  headed_read (head_short_arrow k p n tk q) d = at_first (λ n e' Q qs' e u. name_opens u) (retell S Next behind q d)
+  headed_read (head_arrow k tk q) d = opened_opens (retell S Next behind q d)
+  headed_read (head_super_member k o s tk q) d = at_first (λ n e' Q qs' e u. base_opens u) (retell S Next behind q d)
+  headed_read (head_super_call k o s tk q) d = at_first (λ n e' Q qs' e u. base_opens u) (retell S Next behind q d)
+  headed_read {qs = qs} (head_new_with k tk q) d = by_free qs (ap first_of q) refl refl d
+  headed_read {qs = qs} (head_new_without k n tk q) d = by_free qs (ap first_of q) refl refl d
+  headed_read {ps = ps} (head_new_target k c tk q) d = at_first (λ n e' Q qs' e u. word_opens (ap (expression_start_by IdentifierName) (text_bare n qs' (ap (λ z. lead_is (bare_parts z) "new") (sym e) ∙ (and_parts _ _ c).0))) u) (retell S Next behind q d)
+  headed_read {qs = qs} (head_import k tk q) d = by_free qs (ap first_of q) refl refl d
+  headed_read {w = w} {qs = qs} (head_step k o t p tk q) d = let u = step_opens w o in by_sign qs (ap first_of q) u.1 u.0 d
+  headed_read {w = w} {qs = qs} (head_word k h v tk q) d = by_free qs (ap first_of q) refl (prefix_word_opens w h v) d
+  headed_read {w = w} {qs = qs} (head_sign k h v tk q) d = let u = prefix_sign_opens w h v in by_sign qs (ap first_of q) u.1 u.0 d
+  headed_read (head_array_pattern k o e l tk q) d = at_first (λ n e' Q qs' z u. (pattern_opens u).0 (kind_bare n qs' (ap (λ v. lead_kind (bare_parts v)) (sym z) ∙ l))) (retell S Next behind q d)
+  headed_read (head_object_pattern k o e l tk q) d = at_first (λ n e' Q qs' z u. (pattern_opens u).1 (kind_bare n qs' (ap (λ v. lead_kind (bare_parts v)) (sym z) ∙ l))) (retell S Next behind q d)
+
+  -- so the token that the goal for operands reads is that one
+  pub opens_with : {x : ExpressionStart} {s m : S} {t : Token} → Opens x s → ReadBy S Next behind Goal.RegExp s t m → expression_start t ≡ x
+  opens_with {s = s} {m = m} {t = t} u r = ap expression_start (det.same Goal.RegExp s t u.token m u.mid r.next u.read.next r.allowed u.read.allowed).0 ∙ u.opens

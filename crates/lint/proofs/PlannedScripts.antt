@@ -1,0 +1,26 @@
+-- What a script that a text derives gives the planner.
+use Rattle.std.proofs.Common.{◌≤◌, ℕ, List, length, arith}
+use Rattle.std.specs.Prelude.{IsSome}
+use Rattle.tree.specs.declared.kind.Pair.{Pair}
+use Rattle.tree.specs.Tree.{Tree}
+use Rattle.language.specs.Pieces.{script}
+use Rattle.language.specs.RowPositions.{rows}
+use Rattle.language.specs.Cost.{least}
+use Rattle.language.specs.Claims.{max_open}
+use Rattle.paren_planner.proofs.Bytes.{rows_within, derived_least}
+use Rattle.lint.specs.ReadScripts.{IsReading, IsScript}
+
+-- some number of pairs spells it
+pub script_spelled : (n : Tree) (P : List Pair) → IsScript n P → IsSome (least n script)
+script_spelled n P is = derived_least is.text n P is.derived
+
+-- it has no more rows than a text may have bytes
+pub script_few : (n : Tree) (P : List Pair) → IsScript n P → rows n script ≤ 16777216
+script_few n P is =
+    let within : rows n script ≤ length is.text = rows_within is.text n P is.utf8 is.derived in
+    let short = is.short in
+    omega (arith, within, short)
+
+-- what is read of a text is a script
+pub reading_script : (text : List ℕ) (n : Tree) (P : List Pair) → IsReading text n P → length text ≤ 16777216 → IsScript n P
+reading_script text n P reading short = record { text = text; utf8 = reading.accepted.source; short = short; derived = (max_open, reading.accepted.derived.1) }

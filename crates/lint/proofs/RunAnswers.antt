@@ -1,0 +1,156 @@
+-- From what was read to the answer of a run.
+use Rattle.std.proofs.Common.{◌≡◌, ◌≢◌, ◌<◌, ◌≤◌, ◌+◌, ℕ, List, length, arith, refl, ap, sym, subst, ◌∙◌, Bool, false, Some, None, Ok, Err, inr}
+use Rattle.std.proofs.lemmas.List.{length-take, take_all}
+use Rattle.std.specs.declared.option.Option.{Option}
+use Rattle.std.proofs.KnownBytes.{Keeps-refl}
+use Rattle.source_text.specs.Source.{max_bytes, IsRefusal}
+use Rattle.source_text.specs.declared.fault.Fault.{Fault}
+use Rattle.source_text.specs.declared.fault.Fault.TheVariants.{NotUtf8, TooLong, Syntax, TooDeep, Early, OutOfMemory, BadSettings, BadTable, WriteFailed, ReadFailed, Usage}
+use Rattle.commands.specs.declared.command.Command.{Command}
+use Rattle.commands.specs.Refused.{HasPlace, place_of}
+use Rattle.tree.specs.declared.kind.Pair.{Pair}
+use Rattle.tree.specs.Tree.{Tree as SyntaxTree}
+use Rattle.rules.specs.Reports.{Report}
+use Rattle.rules.specs.Rules.{View}
+use Rattle.lint.specs.declared.answer.Answer.{Answer}
+use Rattle.lint.specs.ReadScripts.{IsReading, RefusesReading}
+use Rattle.lint.specs.Run.{IsSource, IsGiven, ReadsScript, ReadsBoth, HasOutput, Seen, Refuses}
+use Rattle.lint.specs.Steps.{IsRead, IsBefore, Answers, output_of, status_of}
+
+-- where the bytes are no more than a text may have, they are all
+pub all_read : (given : Option (List ℕ)) (bytes : List ℕ) → IsRead given bytes → length bytes ≤ max_bytes → IsGiven given bytes
+all_read None bytes read short = tt
+all_read (Some xs) bytes read short =
+    let l = length-take (max_bytes + 1) xs in
+    read ∙ take_all (max_bytes + 1) xs (omega (arith, l, ap length read))
+
+-- where they are more, so is what is given
+pub more_given : (given : Option (List ℕ)) (bytes : List ℕ) → IsRead given bytes → max_bytes < length bytes
+    → (text : List ℕ) × IsGiven given text × (max_bytes < length text)
+more_given None bytes read long = (bytes, tt, long)
+more_given (Some xs) bytes read long =
+    (xs, refl, omega (arith, length-take (max_bytes + 1) xs, ap length read, long))
+
+-- where a refusal speaks of a place, it is one of the text
+pub has_place : (bytes : List ℕ) (fault : Fault) → RefusesReading bytes fault → HasPlace bytes fault
+has_place bytes (Syntax at) refused = refused.0
+has_place bytes (Early number at) refused = refused.0
+has_place bytes _ refused = tt
+
+-- a script that was read of the bytes was read of what is given
+pub script_read : (given : Option (List ℕ)) (bytes : List ℕ) (n : SyntaxTree) (P : List Pair) → IsRead given bytes → IsSource bytes → IsReading bytes n P → ReadsScript given
+script_read given bytes n P read source reading = record {
+  text = bytes;
+  is_given = all_read given bytes read source.1;
+  source = source;
+  tree = n;
+  pairs = P;
+  reading = reading;
+}
+
+module _ (finds : View → List Report) (command : Command) (bytes : List ℕ) (second : Option (List ℕ)) where
+  -- bytes that are no source text are refused
+  pub bytes_refused : (fault : Fault) (seen : Seen) → IsRefusal bytes fault → IsBefore bytes second false seen → Refuses finds command seen fault (0, 0)
+  bytes_refused TooLong seen refused before =
+      let found = more_given seen.given bytes before.read refused in
+      ((before.reader, before.of_failed, before.writer), before.kept, (found.0, found.1, found.2, refl))
+  bytes_refused (NotUtf8 at) seen refused before =
+      ((before.reader, before.of_failed, before.writer), before.kept, (bytes, all_read seen.given bytes before.read refused.0, refused, refl))
+  bytes_refused (Syntax at) seen refused before = absurd refused
+  bytes_refused TooDeep seen refused before = absurd refused
+  bytes_refused (Early number at) seen refused before = absurd refused
+  bytes_refused OutOfMemory seen refused before = absurd refused
+  bytes_refused BadSettings seen refused before = absurd refused
+  bytes_refused (BadTable row why) seen refused before = absurd refused
+  bytes_refused WriteFailed seen refused before = absurd refused
+  bytes_refused ReadFailed seen refused before = absurd refused
+  bytes_refused Usage seen refused before = absurd refused
+
+  -- source text that is no script is refused, at its place
+  pub script_refused : (fault : Fault) (place : ℕ × ℕ) (seen : Seen) → IsSource bytes → RefusesReading bytes fault → place ≡ place_of bytes fault → IsBefore bytes second false seen → Refuses finds command seen fault place
+  script_refused (Syntax at) place seen source refused is before =
+      ((before.reader, before.of_failed, before.writer), before.kept, (bytes, all_read seen.given bytes before.read source.1, (source, refused), is))
+  script_refused TooDeep place seen source refused is before =
+      ((before.reader, before.of_failed, before.writer), before.kept, (bytes, all_read seen.given bytes before.read source.1, (source, refused), is))
+  script_refused (Early number at) place seen source refused is before =
+      ((before.reader, before.of_failed, before.writer), before.kept, (bytes, all_read seen.given bytes before.read source.1, (source, refused), is))
+  script_refused OutOfMemory place seen source refused is before = ((before.reader, before.of_failed, before.writer), before.kept, is)
+  script_refused TooLong place seen source refused is before = absurd refused
+  script_refused (NotUtf8 at) place seen source refused is before = absurd refused
+  script_refused BadSettings place seen source refused is before = absurd refused
+  script_refused (BadTable row why) place seen source refused is before = absurd refused
+  script_refused WriteFailed place seen source refused is before = absurd refused
+  script_refused ReadFailed place seen source refused is before = absurd refused
+  script_refused Usage place seen source refused is before = absurd refused
+
+  -- what a script and its second file were read as
+  both_read : (seen : Seen) (n : SyntaxTree) (P : List Pair) (failed : Bool) (read : List ℕ) → IsSource bytes → IsReading bytes n P → IsBefore bytes second failed seen
+      → Rattle.lint.specs.Outputs.IsSecond command second read → ReadsBoth command seen.given seen.second
+  both_read seen n P failed read source reading before is = record {
+    script = script_read seen.given bytes n P before.read source reading;
+    second = read;
+    is_second = subst (λ o. Rattle.lint.specs.Outputs.IsSecond command o read) (sym before.of_second) is;
+  }
+
+  -- what a command refuses behind a script
+  pub command_refused : (n : SyntaxTree) (P : List Pair) (fault : Fault) (failed : Bool) (seen : Seen) → IsSource bytes → IsReading bytes n P → Answers finds command bytes n P second (Err fault) failed
+      → IsBefore bytes second failed seen → Refuses finds command seen fault (0, 0)
+  unfolding both_read script_read
+  command_refused n P ReadFailed failed seen source reading answers before =
+      (before.writer, before.kept, inr (before.reader, before.of_failed ∙ answers.0, answers.1, script_read seen.given bytes n P before.read source reading), refl)
+  command_refused n P OutOfMemory failed seen source reading answers before = ((before.reader, before.of_failed ∙ answers, before.writer), before.kept, refl)
+  command_refused n P BadSettings failed seen source reading answers before =
+      ((before.reader, before.of_failed ∙ answers.0, before.writer), before.kept, (both_read seen n P failed answers.1.0 source reading before answers.1.1, answers.1.2), refl)
+  command_refused n P (BadTable row why) failed seen source reading answers before =
+      ((before.reader, before.of_failed ∙ answers.0, before.writer), before.kept, (both_read seen n P failed answers.1.0 source reading before answers.1.1, answers.1.2), refl)
+  command_refused n P TooLong failed seen source reading answers before = absurd answers.1.2
+  command_refused n P (NotUtf8 at) failed seen source reading answers before = absurd answers.1.2
+  command_refused n P (Syntax at) failed seen source reading answers before = absurd answers.1.2
+  command_refused n P TooDeep failed seen source reading answers before = absurd answers.1.2
+  command_refused n P (Early number at) failed seen source reading answers before = absurd answers.1.2
+  command_refused n P WriteFailed failed seen source reading answers before = absurd answers.1.2
+  command_refused n P Usage failed seen source reading answers before = absurd answers.1.2
+
+  -- what a command answers behind a script
+  pub command_answers : (n : SyntaxTree) (P : List Pair) (answer : Answer) (failed : Bool) (given : Option (List ℕ)) → IsSource bytes → IsReading bytes n P → Answers finds command bytes n P second (Ok answer) failed
+      → IsRead given bytes → HasOutput finds command given second (output_of answer) (status_of answer)
+  unfolding script_read
+  command_answers n P answer failed given source reading answers read = record {
+    read = record { script = script_read given bytes n P read source reading; second = answers.1.0; is_second = answers.1.1 };
+    is_output = answers.1.2;
+  }
+
+  -- the same of the text that the bytes are
+  pub refused_behind : (n : SyntaxTree) (P : List Pair) (fault : Fault) (failed : Bool) (seen : Seen) (text : List ℕ) → text ≡ bytes → IsSource bytes → IsReading text n P
+      → Answers finds command text n P second (Err fault) failed → IsBefore bytes second failed seen → Refuses finds command seen fault (0, 0)
+  refused_behind n P fault failed seen text same source reading answers before =
+      command_refused n P fault failed seen source (subst (λ t. IsReading t n P) same reading) (subst (λ t. Answers finds command t n P second (Err fault) failed) same answers) before
+
+  pub answers_behind : (n : SyntaxTree) (P : List Pair) (answer : Answer) (failed : Bool) (given : Option (List ℕ)) (text : List ℕ) → text ≡ bytes → IsSource bytes → IsReading text n P
+      → Answers finds command text n P second (Ok answer) failed → IsRead given bytes → HasOutput finds command given second (output_of answer) (status_of answer)
+  answers_behind n P answer failed given text same source reading answers read =
+      command_answers n P answer failed given source (subst (λ t. IsReading t n P) same reading) (subst (λ t. Answers finds command t n P second (Ok answer) failed) same answers) read
+
+  pub refused_text : (fault : Fault) (place : ℕ × ℕ) (failed : Bool) (seen : Seen) (text : List ℕ) → text ≡ bytes → failed ≡ false → IsSource bytes → RefusesReading text fault → place ≡ place_of text fault
+      → IsBefore bytes second failed seen → Refuses finds command seen fault place
+  refused_text fault place failed seen text same none source refused is before =
+      script_refused fault place seen source (subst (λ t. RefusesReading t fault) same refused) (subst (λ t. place ≡ place_of t fault) same is) (subst (λ f. IsBefore bytes second f seen) none before)
+
+  pub refused_bytes : (fault : Fault) (failed : Bool) (seen : Seen) → failed ≡ false → IsRefusal bytes fault → IsBefore bytes second failed seen → Refuses finds command seen fault (0, 0)
+  refused_bytes fault failed seen none refused before = bytes_refused fault seen refused (subst (λ f. IsBefore bytes second f seen) none before)
+
+  -- nothing is given and nothing written
+  bare : Bool → Seen
+  bare failed = record { given = None; second = second; before = None; after = None; reader_failed = false; second_failed = failed; writer_failed = false }
+
+  bare_before : (failed : Bool) → IsBefore bytes second failed (bare failed)
+  unfolding bare
+  bare_before failed = record { read = tt; of_second = refl; of_failed = refl; reader = refl; writer = refl; kept = Keeps-refl None }
+
+  never_usage : (failed : Bool) (place : ℕ × ℕ) → Refuses finds command (bare failed) Usage place → ⊥
+  never_usage failed place refuses = refuses.2.2.1
+
+  -- no run is refused as a command line is
+  pub not_usage : (failed : Bool) (fault : Fault) (place : ℕ × ℕ) → ((seen : Seen) → IsBefore bytes second failed seen → Refuses finds command seen fault place) → fault ≢ Usage
+  not_usage failed fault place refuses is =
+      never_usage failed place (subst (λ f. Refuses finds command (bare failed) f place) is (refuses (bare failed) (bare_before failed)))

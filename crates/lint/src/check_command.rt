@@ -1,0 +1,130 @@
+//! The command `check`: settings, the reports of a script, and their lines.
+
+ghost use Rattle.std.specs.Prelude.{◌≡◌, ◌≤◌, false, length, IfErr, IfOk, Some};
+ghost use Rattle.std.specs.Str.{IsUtf8};
+ghost use Rattle.commands.specs.declared.command.Command.TheVariants.{Check};
+ghost use Rattle.rules.specs.Run.{all_found};
+ghost use Rattle.rules.specs.Toml.{settings_of_text};
+ghost use Rattle.lint.specs.ReadScripts.{IsReading, IsScript};
+ghost use Rattle.lint.specs.Outputs.{IsExtra, Reports};
+ghost use Rattle.lint.specs.Steps.{Answers, ReadsSettings, IsWritable, RefusesSettingsBy, ReportsLines};
+
+use crate::answer::Answer;
+use commands::read_up_to;
+use paren_planner::{extra_pairs, plan};
+use parser::Parsed;
+use reporting::{report_lines, report_status};
+use rules::{Report, Rule, Settings, View, run_rules};
+use scopes::resolve;
+use source_text::{Fault, Feed, MAX_BYTES, Source};
+use spellings::pair_rows;
+use std::alloc::{AllocError, Global};
+use std::str::from_utf8;
+use tree::Span;
+
+/// The settings that a text gives.
+///
+/// # Errors
+///
+/// `BadSettings` where it isn't UTF-8 or is refused, and `OutOfMemory`.
+fn settings_of(alloc: Global, bytes: &[u8]) -> Result<Settings, Fault>
+    ensures utf8 { IfOk result (λ _. IsUtf8 bytes.now) }
+    ensures settings { IfOk result (λ settings. settings_of_text bytes.now ≡ Some settings) }
+    ensures refused { IfErr result (RefusesSettingsBy bytes.now) }
+{
+    match from_utf8(bytes) {
+        Ok(text) => Settings::from_toml(alloc, text),
+        Err(_) => Err(Fault::BadSettings),
+    }
+}
+
+/// The settings of the second file, which is read to its end, or to one byte past the longest text.
+///
+/// # Errors
+///
+/// `BadSettings` where the text is too long, isn't UTF-8 or is refused; `ReadFailed` and `OutOfMemory`.
+fn read_settings<S: Feed>(alloc: Global, second: &mut S) -> Result<Settings, Fault>
+    requires ready { S.failed second.old ≡ false }
+    ensures { ReadsSettings (S.left second.old) result (S.failed second.new) }
+{
+    match read_up_to(alloc, second, MAX_BYTES) {
+        Ok(bytes) => settings_of(alloc, &bytes),
+        Err(fault) => Err(fault),
+    }
+}
+
+/// The spans of a script's extra pairs: all its grouping pairs but the innermost of each node that the fixer wraps.
+fn extra_spans(alloc: Global, parsed: &Parsed<'_>) -> Result<Vec<Span>, AllocError>
+    requires script { IsScript parsed.now.program parsed.now.pairs.items }
+    ensures { IfOk result (λ spans. (text : _) → IsUtf8 text → IsExtra text parsed.now.program parsed.now.pairs.items spans.items) }
+{
+    let program = parsed.program();
+    let plan = plan(alloc, program)?;
+    let pair_rows = pair_rows(alloc, program, parsed.grouping_pairs())?;
+    let spans = extra_pairs(alloc, &pair_rows, &plan)?;
+    Ok(spans)
+}
+
+/// What the rules that are on report of a script, in order.
+fn reports(
+    alloc: Global,
+    rules: &[Box<dyn Rule>],
+    parsed: &Parsed<'_>,
+    settings: &Settings,
+) -> Result<Vec<Report>, AllocError>
+    requires script { IsScript parsed.now.program parsed.now.pairs.items }
+    ensures { IfOk result (λ reports. (text : _) → IsUtf8 text → Reports (all_found (λ b. called b) (λ b. finds b) rules.now) text parsed.now.program parsed.now.pairs.items settings.now reports.items) }
+{
+    let extra = extra_spans(alloc, parsed)?;
+    let scopes = resolve(alloc, parsed.program())?;
+    let view = View::new(parsed.program(), &scopes, &extra, settings);
+    let reports = run_rules(alloc, rules, &view)?;
+    Ok(reports)
+}
+
+/// The lines of a script's reports, and the status: 1 where there is a report, else 0.
+fn report<'s>(
+    alloc: Global,
+    rules: &[Box<dyn Rule>],
+    source: &Source<'_>,
+    parsed: &Parsed<'_>,
+    settings: &Settings,
+) -> Result<Answer<'s>, AllocError>
+    requires script { IsScript parsed.now.program parsed.now.pairs.items }
+    requires utf8 { IsUtf8 source.now }
+    ensures lines { IfOk result (ReportsLines (all_found (λ b. called b) (λ b. finds b) rules.now) source.now parsed.now.program parsed.now.pairs.items settings.now) }
+    ensures writable { IfOk result IsWritable }
+{
+    let reports = reports(alloc, rules, parsed, settings)?;
+    let lines = report_lines(alloc, source, &reports)?;
+    Ok(Answer::Text(lines, report_status(&reports)))
+}
+
+/// What `check` answers: the lines of the reports under the settings of the second file, which is read to its end, or to one byte past
+/// the longest text; status 1 where there is a report.
+///
+/// # Errors
+///
+/// `BadSettings` where the settings are too long, aren't UTF-8 or are refused; `ReadFailed` where the reader fails; `OutOfMemory`.
+pub fn check<'s, S: Feed>(
+    alloc: Global,
+    rules: &[Box<dyn Rule>],
+    source: &Source<'_>,
+    parsed: &Parsed<'_>,
+    second: &mut S,
+) -> Result<Answer<'s>, Fault>
+    requires reading { IsReading source.now parsed.now.program parsed.now.pairs.items }
+    requires small { length source.now ≤ 16777216 }
+    requires ready { S.failed second.old ≡ false }
+    ensures answer { Answers (all_found (λ b. called b) (λ b. finds b) rules.now) Check source.now parsed.now.program parsed.now.pairs.items (S.left second.old) result (S.failed second.new) }
+    ensures writable { IfOk result IsWritable }
+{
+    let settings = match read_settings(alloc, second) {
+        Ok(settings) => settings,
+        Err(fault) => return Err(fault),
+    };
+    match report(alloc, rules, source, parsed, &settings) {
+        Ok(answer) => Ok(answer),
+        Err(AllocError) => Err(Fault::OutOfMemory),
+    }
+}

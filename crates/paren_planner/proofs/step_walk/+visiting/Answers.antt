@@ -1,0 +1,88 @@
+use Rattle.std.proofs.Common.{◌≡◌, ◌∙◌, ◌<◌, true, Some, None, [], ◌∷◌, ◌++◌, sym, ap, subst, refl, arith, rules}
+use Rattle.tree.specs.Node.{node_tree, list_parts}
+use Rattle.tree.specs.Tree.{parts_of, part_at, part_count, node_total}
+use Rattle.tree.proofs.PartWalk.{part_smaller, parts_drop-some, parts_drop-gap, parts_drop-past}
+use Rattle.language.specs.Expressions.{first_has_optional}
+use Rattle.spellings.specs.declared.production.Production.TheVariants as by
+use Rattle.spellings.specs.Outlines.{role_of, slot_of, parts_after}
+use Rattle.spellings.specs.Productions.{outline_of}
+use Rattle.spellings.specs.Remaining.{left}
+use Rattle.spellings.specs.Wherever.{spelled_by, chain_above}
+use Rattle.spellings.specs.Cursors.{left_by}
+use Rattle.paren_planner.specs.Noted.{PartsNoted}
+use Rattle.paren_planner.proofs.NodeRowNumbers.{chained_at}
+use Rattle.paren_planner.proofs.WalkSteps.{Begun, begun_first, begun_skip, begun_stop, begun_finish, begun_next, noted_unspelled, noted_alone, noted_around, noted_word, noted_hidden, noted_through, outline_fixed}
+use Rattle.paren_planner.proofs.step_walk.+visiting.Goals as goal
+
+pub visit_parts-loop-index-init : goal.visit_parts-loop-index-init
+visit_parts-loop-index-init t c =
+    let ps = list_parts c.parts-parts.result in
+    let x = left (spelled_by c.args.node c.args.own.now c.args.production.now).slots in
+    let e : left_by c.new-slots.result ps ≡ x = (λ i. left_by (c.new-slots.ensures i) (c.parts-parts.ensures i)) in
+    subst (λ ss. Begun (role_of c.args.own.now) x ss ps ps c.args.steps.now c.args.steps.now) (sym e) (begun_first (role_of c.args.own.now) x ps c.args.steps.now)
+
+pub visit_parts-loop-index-preserved-in_default : goal.visit_parts-loop-index-preserved-in_default
+visit_parts-loop-index-preserved-in_default t c =
+    let ps = list_parts c.parts-parts.result in
+    let here : c.loop-index.index < part_count ps = omega (arith, c.len-index-end.ensures, c.loop-index-test.true) in
+    begun_skip _ _ _ _ _ _ _ _ c.loop-index.invariant (parts_drop-gap ps c.loop-index.index c.in_default.ensures here)
+
+pub visit_parts-returns-in_default-take : goal.visit_parts-returns-in_default-take
+visit_parts-returns-in_default-take t c =
+    let ps = list_parts c.parts-parts.result in
+    subst (λ qs. PartsNoted (role_of c.args.own.now) (left (spelled_by c.args.node c.args.own.now c.args.production.now).slots) qs c.args.steps.now c.push.new.self) c.parts-parts.ensures
+    (begun_stop _ _ (left_by c.loop-index.slots ps) _ _ _ (node_tree c.in-Some.part) _ _ _ c.loop-index.invariant
+    (parts_drop-some ps c.loop-index.index (node_tree c.in-Some.part) c.in-Some.ensures) c.in_default-take.ensures (c.in_ok-push.ensures.items ∙ ap (λ x. c.loop-index.steps ++ x ∷ []) c.unplaced_step.ensures))
+
+pub visit_parts-returns : goal.visit_parts-returns
+visit_parts-returns t c =
+    let ps = list_parts c.parts-parts.result in
+    subst (λ qs. PartsNoted (role_of c.args.own.now) (left (spelled_by c.args.node c.args.own.now c.args.production.now).slots) qs c.args.steps.now c.loop-index.steps) c.parts-parts.ensures
+    (begun_finish _ _ _ _ _ _ _ c.loop-index.invariant (parts_drop-past ps c.loop-index.index (omega (arith, c.len-index-end.ensures, c.loop-index-test.false))))
+
+pub visit_parts-visit_node-requires : goal.visit_parts-visit_node-requires
+visit_parts-visit_node-requires t c =
+    let n = node_tree c.args.node in
+    let u = node_tree c.in-Some.part in
+    let here : Some u ≡ part_at (parts_of n) c.loop-index.index = c.in-Some.ensures ∙ ap (λ qs. part_at qs c.loop-index.index) c.parts-parts.ensures in
+    let smaller : node_total u < node_total n = part_smaller n u c.loop-index.index here in
+    let above : c.holds_chain-is_chain.result ≡ true → first_has_optional (parts_of n) ≡ true = λ h. c.requires (ap (λ k. chain_above c.args.own.now k (outline_of c.args.production.now).front) (sym c.kind.ensures) ∙ sym c.holds_chain-is_chain.ensures ∙ h) in
+    (search rules, chained_at n u c.loop-index.index c.holds_chain-is_chain.result c.leads_chain-in_chain.result above here c.leads_chain-in_chain.ensures)
+
+pub visit_parts-loop-index-preserved : goal.visit_parts-loop-index-preserved
+visit_parts-loop-index-preserved t c =
+    let ps = list_parts c.parts-parts.result in
+    let u = node_tree c.in-Some.part in
+    begun_next _ _ (left_by c.loop-index.slots ps) (left_by c.take.new.self ps) (slot_of c.in-Some-take.slot) _ _ _ u _ _ _ c.loop-index.invariant (parts_drop-some ps c.loop-index.index u c.in-Some.ensures) c.in-Some-take.ensures c.in_ok-visit_node.ensures
+
+pub visit_atom-returns : goal.visit_atom-returns
+visit_atom-returns t c =
+    noted_word (role_of c.args.above.now) (role_of c.widest_of.result) (slot_of c.args.slot.now) (node_tree c.args.node) (spelled_by c.args.node c.widest_of.result by.Leaf) c.kind.result c.args.steps.now c.push.new.self
+    (c.widest_of.ensures (role_of c.args.above.now)) (c.is_leaf.ensures.spelled c.if-not-is_leaf.false) refl (c.is_leaf.ensures.parts c.if-not-is_leaf.false) (sym c.has_row.ensures ∙ c.if-not-has_row.false) (sym c.takes_atom.ensures ∙ c.if-not-takes_atom.false) c.kind.ensures c.in_ok-push.ensures.items
+
+pub visit_at-returns-in_default : goal.visit_at-returns-in_default
+visit_at-returns-in_default t c =
+    noted_unspelled (role_of c.args.above.now) (role_of c.widest_of-own.result) (slot_of c.args.slot.now) (node_tree c.args.node) (record { kind = c.kind-kind.result; above = c.args.above.now; slot = c.args.slot.now; label = None }) c.args.steps.now c.push.new.self
+    (record { kind = c.kind-kind.ensures; above = refl; slot = refl }) refl (c.widest_of-own.ensures (role_of c.args.above.now)) c.in_default.ensures.ways c.in_ok-push.ensures.items
+
+pub visit_at-returns-then-part_count-eq0 : goal.visit_at-returns-then-part_count-eq0
+visit_at-returns-then-part_count-eq0 t c =
+    noted_alone (role_of c.args.above.now) (role_of c.widest_of-own.result) (slot_of c.args.slot.now) (node_tree c.args.node) (record { kind = c.kind-kind.result; above = c.args.above.now; slot = c.args.slot.now; label = Some c.of.result }) (spelled_by c.args.node c.widest_of-own.result c.in-Some.production) c.args.steps.now c.push-then-part_count-eq0.new.self
+    (record { kind = c.kind-kind.ensures; above = refl; slot = refl }) (ap (λ l. Some l) c.of.ensures) (c.widest_of-own.ensures (role_of c.args.above.now)) c.in-Some.ensures.ways (sym c.part_count.ensures ∙ c.if-part_count-eq0.true) c.in_ok-push-2.ensures.items
+
+pub visit_at-returns : goal.visit_at-returns
+visit_at-returns t c =
+    noted_around (role_of c.args.above.now) (role_of c.widest_of-own.result) (slot_of c.args.slot.now) (node_tree c.args.node) (record { kind = c.kind-kind.result; above = c.args.above.now; slot = c.args.slot.now; label = Some c.of.result }) (spelled_by c.args.node c.widest_of-own.result c.in-Some.production) c.args.steps.now c.push-2.new.self c.visit_parts-2.new.steps c.push-3.new.self
+    (record { kind = c.kind-kind.ensures; above = refl; slot = refl }) (ap (λ l. Some l) c.of.ensures) (c.widest_of-own.ensures (role_of c.args.above.now)) c.in-Some.ensures.ways c.in_ok-push-3.ensures.items c.in_ok-visit_parts.ensures c.in_ok-push-4.ensures.items
+
+pub visit_atom-returns-then-not-has_row : goal.visit_atom-returns-then-not-has_row
+visit_atom-returns-then-not-has_row t c =
+    noted_hidden (role_of c.args.above.now) (role_of c.widest_of.result) (slot_of c.args.slot.now) (node_tree c.args.node) (spelled_by c.args.node c.widest_of.result by.Leaf) c.args.steps.now
+    (c.widest_of.ensures (role_of c.args.above.now)) (c.is_leaf.ensures.spelled c.if-not-is_leaf.false) refl (c.is_leaf.ensures.parts c.if-not-is_leaf.false) (sym c.has_row.ensures ∙ c.if-not-has_row.true)
+
+pub visit_at-returns-then-has_fixed_slots : goal.visit_at-returns-then-has_fixed_slots
+visit_at-returns-then-has_fixed_slots t c =
+    let n = node_tree c.args.node in
+    let x = outline_of c.in-Some.production in
+    noted_through c.visit_parts.result (role_of c.args.above.now) (role_of c.widest_of-own.result) (slot_of c.args.slot.now) n (spelled_by c.args.node c.widest_of-own.result c.in-Some.production) c.args.steps.now c.visit_parts.new.steps
+    (c.widest_of-own.ensures (role_of c.args.above.now)) c.in-Some.ensures.ways (sym c.is_settled.ensures ∙ c.if-is_settled.true) (outline_fixed x (parts_after x.from (parts_of n)) (c.has_fixed_slots.ensures c.if-has_fixed_slots.true)) c.visit_parts.ensures

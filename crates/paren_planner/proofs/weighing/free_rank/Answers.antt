@@ -1,9 +1,0 @@
-use Rattle.std.proofs.Common.{sym, ◌∙◌}
-use Rattle.paren_planner.proofs.Plainly.{free_row, free_used}
-use Rattle.paren_planner.proofs.weighing.free_rank.Goals as goal
-
-pub returns-clause-used : goal.returns-clause-used
-returns-clause-used c = free_used c.args.visit.now c.in-Some.label c.in-Some.is (sym c.is_plain.ensures ∙ c.if-not-is_plain.false) (sym c.stands_freely.ensures ∙ c.if-not-stands_freely.false)
-
-pub returns-clause-row : goal.returns-clause-row
-returns-clause-row c = free_row c.args.visit.now c.in-Some.label c.in-Some.is (sym c.is_plain.ensures ∙ c.if-not-is_plain.false)

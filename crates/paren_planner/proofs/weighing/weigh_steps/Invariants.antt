@@ -1,7 +1,0 @@
-use Rattle.std.proofs.Common.{◌≡◌, drop}
-use Rattle.paren_planner.specs.Pending.{shown_sums}
-use Rattle.paren_planner.specs.Steps.{taken_from, at_the_end}
-use Rattle.paren_planner.proofs.weighing.weigh_steps.Given as goal
-
-abbrev pub invariant-loop-index : goal.invariant-loop-index
-invariant-loop-index l = shown_sums l.pending l.table.rows.items ≡ taken_from (drop l.index l.steps) at_the_end

@@ -1,0 +1,246 @@
+//! The walk over a script that notes its steps: where each node stands, and how it is spelled.
+
+ghost use Rattle.std.specs.Prelude.{◌≡◌, true, OnOk};
+ghost use Rattle.tree.specs.Node.{node_tree};
+ghost use Rattle.tree.specs.Tree.{kind_of, parts_of};
+ghost use Rattle.language.specs.Expressions.{has_optional, first_has_optional};
+ghost use Rattle.language.specs.RowPositions.{widest};
+ghost use Rattle.language.specs.Pieces.{Role};
+ghost use Rattle.spellings.specs.Outlines.{role_of, slot_of};
+ghost use Rattle.spellings.specs.Remaining.{left};
+ghost use Rattle.spellings.specs.Wherever.{spelled_by};
+ghost use Rattle.paren_planner.specs.declared.steps.Step.TheVariants.{Leaf};
+ghost use Rattle.spellings.specs.Productions.{outline_of};
+ghost use Rattle.paren_planner.specs.Noted.{Noted, PartsNoted, is_settled_slot, fixed_outline};
+ghost use Rattle.language.specs.declared.Rank.TheVariants.{Primary};
+ghost use Rattle.paren_planner.specs.Steps.{nowhere, slot_free};
+ghost use Rattle.paren_planner.specs.Weighed.{settled_at};
+
+use crate::node_costs::widest;
+use crate::steps::{NodeStep, SpellingNeeds, Step, has_row};
+use grammar::accepts_rank;
+use language::{Rank, Start};
+use segmented_vec::SegmentedVec;
+use spellings::{
+    Position, Production, Slot, SlotCursor, holds_chain, is_leaf, leads_chain, node_production,
+};
+use std::alloc::AllocError;
+use tree::{Kind, Node};
+
+/// Notes the steps of a node at a slot of the node above. `in_chain`: the node is known to be part of a chain, with a `?.` in it or
+/// below it.
+#[cycle(visiting)]
+#[inline(always)]
+pub(crate) fn visit_node(
+    node: Node,
+    above: &Position,
+    slot: &Slot,
+    in_chain: bool,
+    steps: &mut SegmentedVec<Step>,
+) -> Result<(), AllocError>
+    requires { in_chain ≡ true → has_optional (node_tree node) ≡ true }
+    ensures { OnOk result (Noted (role_of above.now) (slot_of slot.now) (node_tree node.entry) steps.old steps.new) }
+{
+    if may_be_leaf(node.kind()) {
+        return visit_atom(node, above, slot, in_chain, steps);
+    }
+    visit_at(node, above, slot, in_chain, steps)
+}
+
+/// The same of an identifier or a literal.
+#[cycle(visiting)]
+#[inline(always)]
+fn visit_atom(
+    node: Node,
+    above: &Position,
+    slot: &Slot,
+    in_chain: bool,
+    steps: &mut SegmentedVec<Step>,
+) -> Result<(), AllocError>
+    requires { in_chain ≡ true → has_optional (node_tree node) ≡ true }
+    ensures { OnOk result (Noted (role_of above.now) (slot_of slot.now) (node_tree node.entry) steps.old steps.new) }
+{
+    if !is_leaf(node, widest_of(slot)) {
+        return visit_at(node, above, slot, in_chain, steps);
+    }
+    if !has_row(slot) {
+        return Ok(());
+    }
+    if !takes_atom(slot) {
+        return visit_at(node, above, slot, in_chain, steps);
+    }
+    steps.push(Step::Atom(node.kind()))?;
+    Ok(())
+}
+
+/// The same of any node.
+#[cycle(visiting)]
+#[inline(never)]
+fn visit_at(
+    node: Node,
+    above: &Position,
+    slot: &Slot,
+    in_chain: bool,
+    steps: &mut SegmentedVec<Step>,
+) -> Result<(), AllocError>
+    requires { in_chain ≡ true → has_optional (node_tree node) ≡ true }
+    ensures { OnOk result (Noted (role_of above.now) (slot_of slot.now) (node_tree node.entry) steps.old steps.new) }
+{
+    let own = widest_of(slot);
+    let kind = node.kind();
+    let Some(production) = node_production(node, own, in_chain) else {
+        steps.push(Step::Leaf(NodeStep {
+            kind,
+            above: *above,
+            slot: *slot,
+            label: None,
+        }))?;
+        return Ok(());
+    };
+    if is_settled(slot) && has_fixed_slots(&production) {
+        return visit_parts(node, &own, &production, steps);
+    }
+    let visit = NodeStep {
+        kind,
+        above: *above,
+        slot: *slot,
+        label: Some(SpellingNeeds::of(production)),
+    };
+    if node.part_count() == 0 {
+        steps.push(Step::Leaf(visit))?;
+        return Ok(());
+    }
+    steps.push(Step::Enter(visit))?;
+    visit_parts(node, &own, &production, steps)?;
+    steps.push(Step::Leave)?;
+    Ok(())
+}
+
+/// The same of the parts of a node at its widest position, by its production. Behind a part that has no position none is noted.
+#[cycle(visiting)]
+#[tactic(auto, using(tree::proofs::PartWalk::part_steps))]
+fn visit_parts(
+    node: Node,
+    own: &Position,
+    production: &Production,
+    steps: &mut SegmentedVec<Step>,
+) -> Result<(), AllocError>
+    requires { (spelled_by node own.now production.now).holds_chain ≡ true → first_has_optional (parts_of (node_tree node)) ≡ true }
+    ensures { OnOk result (PartsNoted (role_of own.now) (left (spelled_by node.entry own.now production.now).slots) (parts_of (node_tree node.entry)) steps.old steps.new) }
+{
+    let is_chain = holds_chain(*own, node.kind(), *production);
+    let parts = node.parts();
+    let mut slots = SlotCursor::new(*production);
+    for index in 0..parts.len() {
+        let Some(part) = parts.get(index) else {
+            continue;
+        };
+        let Some(slot) = slots.take(parts, part, index) else {
+            steps.push(unplaced_step(part))?;
+            return Ok(());
+        };
+        let in_chain = leads_chain(is_chain, index);
+        visit_node(part, own, &slot, in_chain, steps)?;
+    }
+    Ok(())
+}
+
+/// Whether a name or a literal may stand at a slot, wherever the node above stands.
+fn takes_atom(slot: &Slot) -> bool
+    ensures { result ≡ slot_free (slot_of slot.now) Primary }
+{
+    match slot {
+        Slot::Fixed(Position::Expression { rank, .. })
+        | Slot::Left(rank)
+        | Slot::Lead(rank)
+        | Slot::Tail(rank, _) => accepts_rank(*rank, Rank::Primary),
+        _ => true,
+    }
+}
+
+/// Whether a node of this kind may be seen at once to be a leaf.
+fn may_be_leaf(kind: Kind) -> bool {
+    matches!(kind, Kind::Identifier | Kind::Literal)
+}
+
+/// Whether a slot is a position that hands on no symbol, In and start of its own, and takes whatever is spelled there.
+fn is_settled(slot: &Slot) -> bool
+    ensures { result ≡ is_settled_slot (slot_of slot.now) }
+{
+    match slot {
+        Slot::Fixed(
+            Position::Expression { .. } | Position::ChainPart { .. } | Position::Pattern { .. },
+        ) => false,
+        Slot::Fixed(_) => true,
+        _ => false,
+    }
+}
+
+/// Whether it is seen at once that each slot of a production is a position.
+fn has_fixed_slots(production: &Production) -> bool
+    ensures { result ≡ true → fixed_outline (outline_of production.now) ≡ true }
+{
+    matches!(
+        production,
+        Production::Leaf
+            | Production::Keyed {
+                is_computed: false,
+                ..
+            }
+            | Production::ShorthandProperty(_)
+            | Production::WithDefault(_)
+            | Production::Single(_)
+            | Production::ClassBody
+            | Production::Setter(_)
+            | Production::Items { .. }
+            | Production::Prologue { .. }
+            | Production::Declarators(_)
+            | Production::Initialised { .. }
+            | Production::If {
+                has_else: false,
+                ..
+            }
+            | Production::If { has_else: true, .. }
+            | Production::Labeled { .. }
+            | Production::DoWhile { .. }
+            | Production::While { .. }
+            | Production::Switch { .. }
+            | Production::Catch { .. }
+    )
+}
+
+/// The position of a node at a slot, wherever the node above stands, with all that its spelling may depend on left open.
+fn widest_of(slot: &Slot) -> Position
+    ensures { (a : Role) → role_of result ≡ widest (settled_at a (slot_of slot.now)) }
+{
+    match slot {
+        Slot::Fixed(position) => widest(*position),
+        Slot::LeadSpine => Position::ChainPart { start: Start::Any },
+        Slot::LeadPattern => {
+            Position::Pattern {
+                binds: false,
+                start: Start::Any,
+            }
+        }
+        Slot::Left(_) | Slot::Lead(_) | Slot::Tail(_, _) | Slot::Callee => WHOLE,
+    }
+}
+
+/// The widest position of an expression.
+const WHOLE: Position = Position::Expression {
+    rank: Rank::Expression,
+    has_in: true,
+    start: Start::Any,
+};
+
+/// A part that has no position: a node that can't be spelled where it stands.
+fn unplaced_step(part: Node) -> Step
+    ensures { result ≡ Leaf (nowhere (kind_of (node_tree part.entry))) }
+{
+    Step::Leaf(NodeStep {
+        kind: part.kind(),
+        above: Position::Script,
+        slot: Slot::Fixed(Position::Script),
+        label: None,
+    })
+}

@@ -1,0 +1,8 @@
+pub mod Begun
+pub mod Firsts
+pub mod GroupSizes
+pub mod NoOperators
+pub mod StartsByClass
+pub mod InfixOperators
+pub mod Refusals
+pub mod TokensAhead

@@ -1,0 +1,15 @@
+pub mod StatementStarts
+pub mod Items
+pub mod Methods
+pub mod Moves
+pub mod ExpressionStarts
+pub mod Operators
+pub mod Outcomes
+pub mod Operands
+pub mod StatementSymbols
+pub mod Refusals
+pub mod OperatorRows
+pub mod Seen
+pub mod StatementNodes
+pub mod Tests
+pub mod Tokens

@@ -1,0 +1,60 @@
+-- Tests on the token that stands ahead.
+use Rattle.std.specs.Prelude.{nat_eq, slice_index_or, Bool, true, false, ◌&&◌, ◌||◌, [], ◌∷◌, codes}
+use Rattle.tokens.specs.declared.token.TokenClass.{TokenClass}
+use Rattle.tokens.specs.declared.token.TokenClass.TheVariants.{IdentifierName, NumericLiteral, StringLiteral, Template}
+use Rattle.language.specs.Vocabulary.{Operator, op_dot, op_call, op_index, op_optional, op_template, among}
+use Rattle.language.specs.Token.{Token, same_class, is_mark}
+use Rattle.language.specs.Edges.{is_end}
+use Rattle.language.specs.Continuations.{operation}
+use Rattle.parser_tables.specs.declared.statements.StatementListEnd.{StatementListEnd}
+use Rattle.parser_tables.specs.declared.statements.StatementListEnd.TheVariants as until
+
+-- what goes on with a part of a chain (ECMA-262 12.3.9), or would, if it were no template
+abbrev pub links : Operator → Bool
+links op_dot = true
+links op_call = true
+links op_index = true
+links op_optional = true
+links op_template = true
+links _ = false
+
+abbrev pub is_link : Token → Bool
+is_link t = links (operation t)
+
+abbrev pub is_template : Token → Bool
+is_template t = same_class Template t.class
+
+-- behind a word on the same line no argument begins with the token (13.8 to 13.10)
+abbrev pub ends_word : Token → Bool
+ends_word t = t.after_break || (is_end t || (is_mark (codes ";") t || is_mark (codes "}") t))
+
+-- `in` or `of`
+abbrev pub is_each : Token → Bool
+is_each t = same_class IdentifierName t.class && among t.text ("in" ∷ "of" ∷ [])
+
+-- the classes of keys (12.2.6), and what a key begins with
+abbrev pub is_key_class : TokenClass → Bool
+is_key_class IdentifierName = true
+is_key_class NumericLiteral = true
+is_key_class StringLiteral = true
+is_key_class _ = false
+
+abbrev pub is_key : Token → Bool
+is_key t = is_key_class t.class
+
+abbrev pub begins_key : Token → Bool
+begins_key t = is_key t || is_mark (codes "[") t
+
+-- a list of statements ends before the token
+abbrev pub ends : StatementListEnd → Token → Bool
+ends until.ClosingBrace t = is_mark (codes "}") t
+ends until.NextCase t = is_mark (codes "}") t || (same_class IdentifierName t.class && among t.text ("case" ∷ "default" ∷ []))
+ends until.EndOfText t = is_end t
+
+-- what goes on with `super` (12.3.5): a member, or where it may stand a call
+abbrev pub continues_super : Bool → Token → Bool
+continues_super takes_call t = is_mark (codes ".") t || (is_mark (codes "[") t || (takes_call && is_mark (codes "(") t))
+
+-- a part of a template that isn't the first (11.8.6)
+abbrev pub is_later_part : Token → Bool
+is_later_part t = same_class Template t.class && nat_eq (slice_index_or t.text 0 0) 125

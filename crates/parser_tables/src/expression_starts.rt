@@ -1,0 +1,207 @@
+//! What the first token of an expression begins (ECMA-262 12.2 to 12.5, 14.1, 14.2, 14.6).
+#![tactic(auto, using(crate::proofs::Refusals::refusals))]
+
+ghost use Rattle.std.specs.Prelude.{◌≡◌, ◌≢◌, ◌<◌, ◌+◌, ◌-◌, ◌++◌, IfErr, IfSome, true};
+ghost use Rattle.language.specs.Token.{as_read};
+ghost use Rattle.language.specs.ExpressionStart.{expression_start_by, expression_start};
+ghost use Rattle.parser_tables.specs.ExpressionStarts.{coded_start, stood};
+ghost use Rattle.tokens.specs.Scanned.{token_of};
+ghost use Rattle.tree.specs.Tree.{height};
+ghost use Rattle.parser_tables.specs.Tests.{continues_super};
+ghost use Rattle.parser_tables.specs.Moves.{BeginsList};
+ghost use Rattle.parser_tables.specs.Items.{listed_kind, listed_node, listed_part, is_grouped, group_levels, list_group};
+ghost use Rattle.parser_tables.specs.Outcomes.{MakesAs, YieldsWhere};
+ghost use Rattle.parser_tables.specs.Operands.{group_part};
+ghost use Rattle.parser_tables.specs.Refusals.{IsLimit, IsStop};
+ghost use Rattle.parser_tables.specs.Tokens.{single_text};
+
+use crate::expression_context::ExpressionContext;
+use crate::operand::Operand;
+use crate::token_tests::{is_punctuator, is_template_head};
+use covers::{Cover, CoverShape, ListBuilder, ListKind};
+use grammar::{accepts_rank, is_reserved};
+use language::{Edge, Rank, Start};
+use productions::{MeasuredNode, finish_plain};
+use source_text::Fault;
+use tokens::{Token, TokenClass};
+use tree::{Kind, Pair};
+
+/// What an expression begins with.
+#[derive(Clone, Copy)]
+pub enum ExpressionStart {
+    /// One token: a name, a literal or `this`.
+    OneToken(Kind),
+    /// An array, an object or a template.
+    List(ListKind),
+    Function,
+    Class,
+    Parenthesis,
+    Super,
+    New,
+    Import,
+    /// An operator, by the symbols of its node and of its operand.
+    Prefix(Rank, Rank),
+}
+
+fn start_of_word(word: &str) -> Option<ExpressionStart>
+    ensures list { IfSome result BeginsList }
+    ensures coded { result ≡ coded_start (expression_start_by TokenClass.IdentifierName word.now) }
+{
+    if !is_reserved(word) {
+        return Some(ExpressionStart::OneToken(Kind::Identifier));
+    }
+    Some(match word {
+        "this" => ExpressionStart::OneToken(Kind::ThisExpression),
+        "function" => ExpressionStart::Function,
+        "true" | "false" | "null" => ExpressionStart::OneToken(Kind::Literal),
+        "class" => ExpressionStart::Class,
+        "super" => ExpressionStart::Super,
+        "new" => ExpressionStart::New,
+        "import" => ExpressionStart::Import,
+        "delete" | "void" | "typeof" => ExpressionStart::Prefix(Rank::Unary, Rank::Unary),
+        _ => return None,
+    })
+}
+
+fn start_of_punctuator(mark: &str) -> Option<ExpressionStart>
+    ensures list { IfSome result BeginsList }
+    ensures coded { result ≡ coded_start (expression_start_by TokenClass.Punctuator mark.now) }
+{
+    Some(match mark.as_bytes() {
+        b"[" => ExpressionStart::List(ListKind::Elements),
+        b"{" => ExpressionStart::List(ListKind::Properties),
+        b"(" => ExpressionStart::Parenthesis,
+        b"++" | b"--" => ExpressionStart::Prefix(Rank::Update, Rank::LeftHandSide),
+        b"+" | b"-" | b"~" | b"!" => ExpressionStart::Prefix(Rank::Unary, Rank::Unary),
+        _ => return None,
+    })
+}
+
+/// What an expression begins with, by its first token.
+pub fn expression_start_of(token: &Token<'_>) -> Option<ExpressionStart>
+    ensures list { IfSome result BeginsList }
+    ensures real { IfSome result (λ _. token.now.class ≢ TokenClass.End) }
+    ensures coded { result ≡ coded_start (expression_start (as_read (token_of token.now))) }
+{
+    match token.class {
+        TokenClass::IdentifierName => start_of_word(token.text),
+        TokenClass::Punctuator => start_of_punctuator(token.text),
+        TokenClass::NumericLiteral
+        | TokenClass::StringLiteral
+        | TokenClass::RegularExpressionLiteral => Some(ExpressionStart::OneToken(Kind::Literal)),
+        TokenClass::Template => match is_template_head(token) {
+            true => Some(ExpressionStart::List(ListKind::Template)),
+            false => None,
+        },
+        TokenClass::End => None,
+    }
+}
+
+/// Whether it may stand at the position.
+pub fn may_start(position: ExpressionContext, opening: ExpressionStart) -> bool
+    ensures { result ≡ stood position.rank position.start opening }
+{
+    match opening {
+        ExpressionStart::List(ListKind::Properties) => matches!(position.start, Start::Any),
+        ExpressionStart::Function | ExpressionStart::Class => !matches!(
+            position.start,
+            Start::Statement
+        ),
+        ExpressionStart::Prefix(own, _) => accepts_rank(position.rank, own),
+        ExpressionStart::Import => accepts_rank(position.rank, Rank::Call),
+        _ => true,
+    }
+}
+
+/// Whether the token goes on with `super`, where that may be a call or may not.
+pub fn continues_super(token: &Token<'_>, takes_call: bool) -> bool
+    ensures { result ≡ continues_super takes_call (as_read (token_of token.now)) }
+{
+    is_punctuator(token, ".")
+        || is_punctuator(token, "[")
+        || (takes_call && is_punctuator(token, "("))
+}
+
+// The kind of what is listed.
+fn list_node_kind(finish_list: ListKind) -> Kind
+    ensures { result ≡ listed_kind listed }
+{
+    match finish_list {
+        ListKind::Elements => Kind::ArrayExpression,
+        ListKind::Properties => Kind::ObjectExpression,
+        _ => Kind::TemplateLiteral,
+    }
+}
+
+/// An array, an object or a template (12.2.5, 12.2.6, 12.2.9), or the pattern that it covers; `high` is the greatest height.
+pub fn finish_list<'s>(list: ListBuilder<'s>, high: u32) -> Result<Operand<'s>, Fault>
+    ensures made { MakesAs (listed_part list.entry) (height (listed_node list.entry)) high result }
+    ensures refused { IfErr result IsLimit }
+{
+    let shape = match list.listed {
+        ListKind::Template => CoverShape::VALUE,
+        _ => list.seen.shape,
+    };
+    let node = finish_plain(list_node_kind(list.listed), list.span, list.nodes, high)?;
+    Ok(Operand::primary(node, shape))
+}
+
+/// The text of a node that is one token: `this` and `super` have none.
+pub fn token_node_text(kind: Kind, text: &str) -> &str
+    ensures { result.now ≡ single_text kind text.now }
+{
+    match kind {
+        Kind::ThisExpression | Kind::Super => "",
+        _ => text,
+    }
+}
+
+/// What parentheses group (12.2.10): an expression, or several with commas between them.
+pub fn finish_group<'s>(list: ListBuilder<'s>, at: usize, high: u32) -> Result<Operand<'s>, Fault>
+    ensures made { YieldsWhere (list_group list.entry) (λ place. place ≡ at) (is_grouped list.entry) (group_levels list.entry.nodes) high result }
+    ensures refused { IfErr result (IsStop at) }
+{
+    let start = list.span.start;
+    let seen = list.seen;
+    let count = list.nodes.len();
+    if count == 0 || seen.has_comma || !seen.shape.is_expression {
+        return Err(Fault::Syntax(at));
+    }
+    if count > 1 {
+        let node = finish_plain(Kind::SequenceExpression, list.inside, list.nodes, high)?;
+        return Ok(group_operand(node, CoverShape::VALUE, start));
+    }
+    match list.nodes.into_only() {
+        Some(node) => Ok(group_operand(node, seen.last.grouped(), start)),
+        None => Err(Fault::Syntax(at)),
+    }
+}
+
+// What stands in parentheses that begin at a place.
+fn group_operand<'s>(node: MeasuredNode<'s>, shape: CoverShape, start: usize) -> Operand<'s>
+    ensures { result ≡ group_part node.entry shape start }
+{
+    Operand {
+        cover: Cover { node, shape },
+        start,
+        rank: Rank::Grouped,
+        edge: Edge::Other,
+    }
+}
+
+/// The pair of a parenthesis from this place on, until it is known to group: both its ends are there.
+pub fn unclosed_pair(start: usize) -> Pair
+    ensures { result ≡ record { left = start; right = start } }
+{
+    Pair {
+        left: start,
+        right: start,
+    }
+}
+
+/// The pair of parentheses that group, from one place to the other.
+pub fn grouping_pair(left: usize, right: usize) -> Pair
+    ensures { result ≡ record { left = left; right = right } }
+{
+    Pair { left, right }
+}

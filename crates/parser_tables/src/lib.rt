@@ -1,0 +1,38 @@
+#![tactic(auto)]
+
+//! The phrases of a script (ECMA-262 clauses 12 to 14), as far as single tokens and what was read tell: what a token begins, what it goes on with, the
+//! pieces of each statement, and what becomes of what was read. Nothing here reads on; `descent` does.
+
+mod expression_context;
+mod expression_starts;
+mod functions_and_classes;
+mod operand;
+mod operators;
+mod properties;
+mod statements;
+mod symbol_lists;
+mod token_tests;
+
+pub use expression_context::ExpressionContext;
+pub use expression_starts::{
+    ExpressionStart, continues_super, expression_start_of, finish_group, finish_list,
+    grouping_pair, may_start, token_node_text, unclosed_pair,
+};
+pub use functions_and_classes::FunctionOrClass;
+pub use operand::Operand;
+pub use operators::{BinaryOperator, InfixOperator, cannot_continue, infix_operator_of};
+pub use properties::{
+    begins_key, is_constructor, is_key_class, method_form, property_flags, property_item,
+};
+pub use statements::{
+    StatementContext, StatementKind, StatementListEnd, StatementStart, ends_statements,
+    statement_start_of,
+};
+pub use symbol_lists::{
+    PartialStatement, Symbol, body_symbols, case_symbols, ends_operand, fits_for_head, is_in_or_of,
+    list_node_height, statement_symbols,
+};
+pub use token_tests::{
+    is_declaration_word, is_identifier, is_identifier_name, is_name_token, is_punctuator,
+    is_template_head, span_of,
+};

@@ -1,0 +1,274 @@
+//! Statements, functions, classes and their parts as lists of pieces (ECMA-262 clauses 13 and 14).
+#![tactic(auto, using(crate::proofs::Refusals::refusals))]
+
+ghost use Rattle.std.specs.Prelude.{◌≡◌, true, map};
+ghost use Rattle.tokens.specs.Scanned.{token_of};
+ghost use Rattle.language.specs.Token.{as_read};
+ghost use Rattle.parser_tables.specs.Tests.{ends_word, is_each};
+ghost use Rattle.parser_tables.specs.StatementSymbols.{piece_of, statement_parts, loop_parts, switch_parts, case_parts, class_parts, parameters_and_body, body_parts};
+ghost use Rattle.parser_tables.specs.StatementNodes.{partial_of, listed_depth, fits_head};
+ghost use Rattle.tree.specs.Tree.{none};
+
+use crate::statements::StatementKind;
+use crate::token_tests::is_punctuator;
+use covers::{ListBuilder, ListKind};
+use language::Edge;
+use productions::MeasuredParts;
+use std::alloc::Global;
+use tokens::{Token, TokenClass};
+
+/// What was read of a statement, a case, a handler, a function or a class.
+#[derive(Drop)]
+pub struct PartialStatement<'s> {
+    pub nodes: MeasuredParts<'s>,
+    /// The right edge of the last part.
+    pub edge: Edge,
+    /// The word that declares in the head of a `for`.
+    pub word: Option<Token<'s>>,
+}
+
+impl<'s> PartialStatement<'s> {
+    /// No parts.
+    pub fn new(alloc: Global) -> PartialStatement<'s>
+        ensures { result ≡ partial_of none }
+    {
+        PartialStatement::of(MeasuredParts::new(alloc))
+    }
+
+    /// These parts.
+    pub fn of(nodes: MeasuredParts<'s>) -> PartialStatement<'s>
+        ensures { result ≡ partial_of nodes.entry }
+    {
+        PartialStatement {
+            nodes,
+            edge: Edge::Closed,
+            word: None,
+        }
+    }
+}
+
+/// A piece of a statement, a function or a class.
+#[derive(Clone, Copy, PartialEq, Eq)]
+pub enum Symbol {
+    /// This punctuator.
+    PunctuatorToken(&'static str),
+    /// This name.
+    KeywordToken(&'static str),
+    /// No line break stands here.
+    NoLineTerminator,
+    /// A label on the same line, or nothing.
+    Label,
+    /// The `;` of a `do`, or where it may be missing.
+    DoWhileSemicolon,
+    /// The `;` behind the last part, or where it may be missing.
+    Semicolon,
+    /// An Expression, with In.
+    Expression,
+    /// An AssignmentExpression, with In.
+    Assignment,
+    /// The test of a `for`, or nothing before `;`.
+    Test,
+    /// What a `for` does behind each turn, or nothing before `)`.
+    Update,
+    /// An expression on the same line, or nothing where the statement ends.
+    Argument,
+    /// `extends` and a superclass, or nothing.
+    ClassHeritage,
+    /// A name or pattern that is bound.
+    Binding,
+    Statement,
+    /// `else` and a statement, or nothing.
+    Else,
+    Block,
+    /// `finally` and a block, or nothing.
+    Finally,
+    /// The body of a function.
+    FunctionBody,
+    /// What is done with what was thrown, or nothing.
+    Catch,
+    /// The statements of a block, up to its `}`.
+    StatementList,
+    /// The statements of a case.
+    CaseStatements,
+    List(ListKind),
+    /// What stands first in the parentheses of a `for`.
+    ForHead,
+    /// The parameter of a handler that has none.
+    NoCatchParameter,
+}
+
+/// The pieces of a statement, behind its first token; `returns`: `return` may stand in it.
+pub fn statement_symbols(headed: StatementKind, returns: bool) -> &'static [Symbol]
+    ensures { map piece_of result.now ≡ statement_parts headed returns }
+{
+    match headed {
+        StatementKind::Block => &[Symbol::StatementList, Symbol::PunctuatorToken("}")],
+        StatementKind::Empty => &[],
+        StatementKind::Variable => &[
+            Symbol::List(ListKind::Declarators { has_in: true }),
+            Symbol::Semicolon,
+        ],
+        StatementKind::If => &[
+            Symbol::PunctuatorToken("("),
+            Symbol::Expression,
+            Symbol::PunctuatorToken(")"),
+            Symbol::Statement,
+            Symbol::Else,
+        ],
+        StatementKind::Continue | StatementKind::Break => &[Symbol::Label, Symbol::Semicolon],
+        StatementKind::Return => &[Symbol::Argument, Symbol::Semicolon],
+        StatementKind::Throw => &[
+            Symbol::NoLineTerminator,
+            Symbol::Expression,
+            Symbol::Semicolon,
+        ],
+        StatementKind::Switch => switch_symbols(returns),
+        StatementKind::Try => &[Symbol::Block, Symbol::Catch, Symbol::Finally],
+        StatementKind::Debugger => &[Symbol::Semicolon],
+        StatementKind::Label => &[Symbol::PunctuatorToken(":"), Symbol::Statement],
+        StatementKind::Do | StatementKind::While | StatementKind::For => loop_symbols(headed),
+        StatementKind::ForLoop | StatementKind::ForIn | StatementKind::ForOf => loop_symbols(
+            headed,
+        ),
+    }
+}
+
+// The pieces of a loop (13.7).
+fn loop_symbols(headed: StatementKind) -> &'static [Symbol]
+    ensures { map piece_of result.now ≡ loop_parts headed }
+{
+    match headed {
+        StatementKind::Do => &[
+            Symbol::Statement,
+            Symbol::KeywordToken("while"),
+            Symbol::PunctuatorToken("("),
+            Symbol::Expression,
+            Symbol::PunctuatorToken(")"),
+            Symbol::DoWhileSemicolon,
+        ],
+        StatementKind::For => &[Symbol::PunctuatorToken("("), Symbol::ForHead],
+        StatementKind::ForLoop => &[
+            Symbol::PunctuatorToken(";"),
+            Symbol::Test,
+            Symbol::PunctuatorToken(";"),
+            Symbol::Update,
+            Symbol::PunctuatorToken(")"),
+            Symbol::Statement,
+        ],
+        StatementKind::ForIn => &[
+            Symbol::KeywordToken("in"),
+            Symbol::Expression,
+            Symbol::PunctuatorToken(")"),
+            Symbol::Statement,
+        ],
+        StatementKind::ForOf => &[
+            Symbol::KeywordToken("of"),
+            Symbol::Assignment,
+            Symbol::PunctuatorToken(")"),
+            Symbol::Statement,
+        ],
+        _ => &[
+            Symbol::PunctuatorToken("("),
+            Symbol::Expression,
+            Symbol::PunctuatorToken(")"),
+            Symbol::Statement,
+        ],
+    }
+}
+
+// The pieces of a `switch` (13.12).
+fn switch_symbols(returns: bool) -> &'static [Symbol]
+    ensures { map piece_of result.now ≡ switch_parts returns }
+{
+    match returns {
+        true => &[
+            Symbol::PunctuatorToken("("),
+            Symbol::Expression,
+            Symbol::PunctuatorToken(")"),
+            Symbol::List(ListKind::Cases { returns: true }),
+        ],
+        false => &[
+            Symbol::PunctuatorToken("("),
+            Symbol::Expression,
+            Symbol::PunctuatorToken(")"),
+            Symbol::List(ListKind::Cases { returns: false }),
+        ],
+    }
+}
+
+/// The pieces of a case behind its word (13.12).
+pub fn case_symbols(is_default: bool) -> &'static [Symbol]
+    ensures { map piece_of result.now ≡ case_parts is_default }
+{
+    match is_default {
+        true => &[Symbol::PunctuatorToken(":"), Symbol::CaseStatements],
+        false => &[
+            Symbol::Expression,
+            Symbol::PunctuatorToken(":"),
+            Symbol::CaseStatements,
+        ],
+    }
+}
+
+/// The pieces of a class behind its name (14.6).
+pub fn class_symbols() -> &'static [Symbol]
+    ensures { map piece_of result.now ≡ class_parts }
+{
+    &[Symbol::ClassHeritage, Symbol::List(ListKind::Members)]
+}
+
+/// The pieces of a function from its parameters on (14.1, 14.3).
+pub fn function_symbols(parameters: ListKind) -> &'static [Symbol]
+    ensures { map piece_of result.now ≡ parameters_and_body parameters }
+{
+    match parameters {
+        ListKind::NoParameter => &[Symbol::List(ListKind::NoParameter), Symbol::FunctionBody],
+        ListKind::OneParameter => &[Symbol::List(ListKind::OneParameter), Symbol::FunctionBody],
+        _ => &[Symbol::List(ListKind::Parameters), Symbol::FunctionBody],
+    }
+}
+
+/// The pieces of a body (14.1, 14.2).
+pub fn body_symbols() -> &'static [Symbol]
+    ensures { map piece_of result.now ≡ body_parts }
+{
+    &[Symbol::FunctionBody]
+}
+
+/// Whether behind a word no argument begins with the token.
+pub fn ends_operand(token: &Token<'_>) -> bool
+    ensures { result ≡ ends_word (as_read (token_of token.now)) }
+{
+    token.after_break
+        || token.class == TokenClass::End
+        || is_punctuator(token, ";")
+        || is_punctuator(token, "}")
+}
+
+/// Whether the token is `in` or `of`.
+pub fn is_in_or_of(token: &Token<'_>) -> bool
+    ensures { result ≡ is_each (as_read (token_of token.now)) }
+{
+    token.class == TokenClass::IdentifierName && matches!(token.text, "in" | "of")
+}
+
+/// Whether the declarators may stand in the head of a `for`: before `in` or `of` (`each`) one without a value, before `;` none that is a pattern
+/// without one.
+pub fn fits_for_head(each: bool, list: &ListBuilder<'_>) -> bool
+    ensures { result ≡ fits_head each list.now }
+{
+    match each {
+        true => list.nodes.len() == 1 && matches!(list.seen.edge, Edge::Closed),
+        false => !list.seen.is_flagged,
+    }
+}
+
+/// else 0.
+pub fn list_node_height(listed: ListKind) -> u32
+    ensures { result ≡ listed_depth listed }
+{
+    match listed {
+        ListKind::Members | ListKind::Declarators { has_in: false } => 1,
+        _ => 0,
+    }
+}

@@ -1,6 +1,0 @@
-use Rattle.std.proofs.Common.{sym, ◌∙◌}
-use Rattle.phrases.proofs.Opened.{unreserved}
-use Rattle.phrases.proofs.openings.opening_word.Goals as goal
-
-pub returns-then-not-is_reserved-clause-coded : goal.returns-then-not-is_reserved-clause-coded
-returns-then-not-is_reserved-clause-coded c = unreserved c.args.word.now (sym c.is_reserved.ensures ∙ c.if-not-is_reserved.true)

@@ -1,8 +1,0 @@
-use Rattle.std.proofs.Common.{sym, ◌∙◌}
-use Rattle.tree.proofs.KindsEqual.{kinds_equal}
-use Rattle.phrases.proofs.part.Part.is_bare.Goals as goal
-
-pub returns-then-eq-clause-bare : goal.returns-then-eq-clause-bare
-returns-then-eq-clause-bare c =
-    let e = (kinds_equal c.kind.result c.args.kind).0 (sym c.eq.ensures ∙ c.if-eq.true) in
-    (cc, cc)

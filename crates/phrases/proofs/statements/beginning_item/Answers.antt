@@ -1,6 +1,0 @@
-use Rattle.std.proofs.Common.{◌∙◌, arith}
-use Rattle.phrases.proofs.Begun.{undeclared}
-use Rattle.phrases.proofs.statements.beginning_item.Goals as goal
-
-pub returns-in_default : goal.returns-in_default
-returns-in_default c = c.beginning_word.ensures ∙ undeclared c.args.word.now c.args.returns c.first_byte.result c.first_byte.ensures (λ e. grind arith, (λ e. grind arith, (λ e. grind arith, tt)))

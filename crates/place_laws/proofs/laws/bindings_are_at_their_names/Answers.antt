@@ -1,6 +1,0 @@
-use Rattle.place_laws.proofs.Derived.{AtName, name_wide, derived_ordered}
-use Rattle.place_laws.proofs.Bound.{binding_name}
-use Rattle.place_laws.proofs.laws.bindings_are_at_their_names.Goals as goal
-
-pub returns : goal.returns
-returns c = λ text n P u d s b a e. (binding_name (AtName text) (name_wide text) n (derived_ordered text n P u d) a e).1

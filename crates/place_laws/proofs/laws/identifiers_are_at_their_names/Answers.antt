@@ -1,6 +1,0 @@
-use Rattle.place_laws.proofs.Ordered.{among_ordered}
-use Rattle.place_laws.proofs.Derived.{AtName, derived_ordered}
-use Rattle.place_laws.proofs.laws.identifiers_are_at_their_names.Goals as goal
-
-pub returns : goal.returns
-returns c = λ text n P u d m a k. among_ordered (AtName text) n (derived_ordered text n P u d) a k

@@ -1,6 +1,0 @@
-use Rattle.place_laws.proofs.Derived.{AtName, name_wide, derived_ordered}
-use Rattle.place_laws.proofs.References.{ref_name}
-use Rattle.place_laws.proofs.laws.references_are_at_their_names.Goals as goal
-
-pub returns : goal.returns
-returns c = λ text n P u d r a. (ref_name (AtName text) (name_wide text) n (derived_ordered text n P u d) a).1

@@ -1,8 +1,0 @@
-use Rattle.scopes.specs.Found.{found}
-use Rattle.place_laws.specs.ScopePlaces.{scope_places}
-use Rattle.place_laws.proofs.Derived.{AtName, derived_ordered, derived_program}
-use Rattle.place_laws.proofs.Located.{script_located, ref_in_scope}
-use Rattle.place_laws.proofs.laws.references_are_in_their_scopes.Goals as goal
-
-pub returns : goal.returns
-returns c = λ text n P u d r a. ref_in_scope (scope_places n) (found n).references (script_located (AtName text) n (derived_program text n P d) (derived_ordered text n P u d)).0 a

@@ -1,5 +1,0 @@
-use Rattle.std.proofs.Common.{rules}
-use Rattle.positions.proofs.members.fits_form.Goals as goal
-
-pub returns-in-Method : goal.returns-in-Method
-returns-in-Method c = search rules

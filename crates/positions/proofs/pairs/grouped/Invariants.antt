@@ -1,9 +1,0 @@
-use Rattle.std.proofs.Common.{◌≡◌, map, take}
-use Rattle.positions.specs.Groupings.{grouping, Passed}
-use Rattle.positions.proofs.pairs.grouped.Given as goal
-
-abbrev pub invariant-loop-pair : goal.invariant-loop-pair
-invariant-loop-pair l = record {
-  found : l.groupings.items ≡ map (grouping l.starts) (take l.pair-index l.pairs);
-  passed : Passed l.starts l.reached.index l.reached.place;
-}

@@ -1,8 +1,0 @@
-use Rattle.std.proofs.Common.{take}
-use Rattle.tree.specs.Tree.{text_of}
-use Rattle.tree.specs.Node.{node_tree}
-use Rattle.printer.specs.Sheets.{Writes, seen, pieces_text}
-use Rattle.printer.proofs.sheet.Sheet.push_each.Given as goal
-
-abbrev pub invariant-loop-piece : goal.invariant-loop-piece
-invariant-loop-piece g l = Writes (seen (g.O.Outlet.stands l.fn.out l.fn.self.room) l.fn.self) (seen (g.O.Outlet.stands l.out l.self.room) l.self) (pieces_text (text_of (node_tree l.fn.node)) l.fn.depth l.fn.alone (take l.piece-index l.fn.pieces))

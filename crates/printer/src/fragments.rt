@@ -1,0 +1,128 @@
+//! Pieces of a node's text.
+
+ghost use Rattle.std.specs.Prelude.{◌≡◌, nat_eq};
+ghost use Rattle.printer.specs.Bits.{bits_of, chain_of, before_bits, after_bits, fused};
+
+/// What stands between the parts of a node.
+#[derive(Clone, Copy)]
+pub enum Fragment {
+    /// These characters.
+    Token(&'static str),
+    /// The node's own text.
+    NodeText,
+    /// The node's own text as a part of a template, with what opens and closes it.
+    TemplateElement { is_first: bool, is_last: bool },
+    /// A space.
+    Space,
+    /// A line feed, and two spaces for each level.
+    Line,
+    /// A line feed.
+    LineFeed,
+    /// A space behind a part that isn't wrapped.
+    SpaceAfterNumber,
+}
+
+/// How the parts behind a node's first ones stand.
+#[derive(Clone, Copy)]
+pub enum ListLayout {
+    /// There are none.
+    Nothing,
+    /// With nothing between them.
+    Joined,
+    /// With commas between them; behind a hole stands a comma of its own.
+    Commas,
+    /// Parameters with commas between them; then `)` and the body.
+    Parameters,
+    /// The same of an arrow function, with `=>` before the body.
+    ArrowParameters,
+    /// Each on a line of its own, a level deeper.
+    Lines,
+    /// Each with a line feed behind it.
+    Feeds,
+}
+
+/// What stands round the parts of a node.
+#[derive(Clone, Copy)]
+pub struct Frame {
+    /// What stands before each of the first parts.
+    pub front: &'static [&'static [Fragment]],
+    /// What stands behind them.
+    pub opener: &'static [Fragment],
+    /// How the other parts stand.
+    pub series: ListLayout,
+    /// What stands behind these.
+    pub closer: &'static [Fragment],
+}
+
+/// A prefix that may not touch itself.
+#[derive(Clone, Copy)]
+pub enum SignOperator {
+    Plus,
+    Minus,
+}
+
+const NO_PIECES: &[Fragment] = &[];
+
+const COMMA: &[Fragment] = &[Fragment::Token(",")];
+
+const SEPARATOR: &[Fragment] = &[Fragment::Token(", ")];
+
+const LINE: &[Fragment] = &[Fragment::Line];
+
+const FEED: &[Fragment] = &[Fragment::LineFeed];
+
+const CLOSE_SPACE: &[Fragment] = &[Fragment::Token(") ")];
+
+const CLOSE_ARROW: &[Fragment] = &[Fragment::Token(") => ")];
+
+/// A node with no parts but these.
+macro_rules! front_frame {
+    ($front:expr, $closer:expr) => {
+        $crate::fragments::Frame {
+            front: $front,
+            opener: &[],
+            series: $crate::fragments::ListLayout::Nothing,
+            closer: $closer,
+        }
+    };
+}
+
+/// A node that is a list.
+macro_rules! list_frame {
+    ($opener:expr, $series:ident, $closer:expr) => {
+        $crate::fragments::Frame {
+            front: &[],
+            opener: $opener,
+            series: $crate::fragments::ListLayout::$series,
+            closer: $closer,
+        }
+    };
+}
+
+pub(crate) use front_frame;
+pub(crate) use list_frame;
+
+/// What stands before a part of a list.
+pub fn before(series: ListLayout, is_last: bool) -> &'static [Fragment]
+    ensures { bits_of result.now ≡ fused (before_bits (chain_of series) is_last) }
+{
+    match series {
+        ListLayout::Parameters if is_last => CLOSE_SPACE,
+        ListLayout::ArrowParameters if is_last => CLOSE_ARROW,
+        ListLayout::Lines => LINE,
+        _ => NO_PIECES,
+    }
+}
+
+/// What stands behind a part of a list, or a gap.
+pub fn after(series: ListLayout, is_gap: bool, behind: usize) -> &'static [Fragment]
+    ensures { bits_of result.now ≡ fused (after_bits (chain_of series) is_gap (nat_eq behind 0) (nat_eq behind 1)) }
+{
+    match series {
+        ListLayout::Commas if behind > 0 => SEPARATOR,
+        ListLayout::Commas if is_gap => COMMA,
+        ListLayout::Parameters | ListLayout::ArrowParameters if behind > 1 => SEPARATOR,
+        ListLayout::Feeds => FEED,
+        _ => NO_PIECES,
+    }
+}

@@ -1,0 +1,5 @@
+pub mod TailPieces
+pub mod TailTable
+pub mod Peeks
+pub mod Walk
+pub mod ReadingDerivations

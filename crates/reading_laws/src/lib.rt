@@ -1,0 +1,20 @@
+#![tactic(auto)]
+
+//! A text's own places and readings of it as lists of tokens derive the same: what is proved of the definitions. Each contract is a theorem, and the body does nothing.
+
+ghost use Rattle.reading_laws.specs.Laws.{AcceptsByReadings, DerivationsAreReadings, DerivesByReadings};
+
+/// A derivation at a text's own places is one of a reading of the text: a list of tokens, with the goals of its own choice, spells the same tree, places included, with the same pairs.
+pub fn derivations_are_readings()
+    ensures { DerivationsAreReadings }
+{}
+
+/// What a UTF-8 text derives is just what some reading of it spells.
+pub fn derives_by_readings()
+    ensures { DerivesByReadings }
+{}
+
+/// A UTF-8 text is accepted with a tree and grouping pairs just where some reading of it spells them within the limits, and the tree has no early error.
+pub fn accepted_by_readings()
+    ensures { AcceptsByReadings }
+{}

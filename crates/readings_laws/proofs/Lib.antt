@@ -1,5 +1,0 @@
-pub mod TailPieces
-pub mod TailTable
-pub mod Peeks
-pub mod Walk
-pub mod Listed

@@ -1,0 +1,25 @@
+-- A given derivation of an expression is read.
+pub mod AgreedNodes
+pub mod Agreement
+pub mod ArrowFunctionsGiven
+pub mod BinaryNodesOnSpine
+pub mod FunctionsAndClassesGiven
+pub mod GroupListsGiven
+pub mod GroupsGiven
+pub mod KeywordExpressionsGiven
+pub mod LastStage
+pub mod NoArrowTurns
+pub mod OneTokenGiven
+pub mod OneTokenNodes
+pub mod ParenthesisGiven
+pub mod ParenthesizedGiven
+pub mod PrefixesGiven
+pub mod RightOperandStages
+pub mod RightOperandsGiven
+pub mod SequenceTurns
+pub mod SequencesOnSpine
+pub mod SpineTurns
+pub mod SplitLeftmostParts
+pub mod StageTurns
+pub mod Stages
+pub mod StartsGiven

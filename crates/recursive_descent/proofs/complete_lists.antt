@@ -1,0 +1,24 @@
+-- A given derivation of a list is read.
+pub mod BracketedListsGiven
+pub mod BracketsGiven
+pub mod CaseItems
+pub mod DeclaratorItems
+pub mod ElementAnswers
+pub mod ElementItems
+pub mod ForDeclarationsExpected
+pub mod ItemAnswers
+pub mod ItemFits
+pub mod ListClosers
+pub mod ListKinds
+pub mod ListLoop
+pub mod ListRestsGiven
+pub mod ListSteps
+pub mod ListTails
+pub mod ListTurns
+pub mod ListWhole
+pub mod ListsExpected
+pub mod NextItem
+pub mod ReachedItems
+pub mod RemainingList
+pub mod TemplateItems
+pub mod WholeListAnswers

@@ -1,0 +1,23 @@
+-- A given derivation of statements, functions and classes is read.
+pub mod BlockSymbolsGiven
+pub mod BlocksGiven
+pub mod ConditionStatements
+pub mod DeclaratorsGiven
+pub mod ExpressionLedStatements
+pub mod ExpressionStatementsGiven
+pub mod ForStatements
+pub mod FunctionsAndClassesBodies
+pub mod KeywordStatementsGiven
+pub mod ListStatements
+pub mod ListSymbolsGiven
+pub mod PartSymbolsGiven
+pub mod ScriptGiven
+pub mod StatementAfterRead
+pub mod StatementDone
+pub mod StatementGiven
+pub mod StatementListsGiven
+pub mod SymbolSteps
+pub mod SymbolViews
+pub mod SymbolsLeft
+pub mod TokenSymbolsGiven
+pub mod ValueSymbolsGiven

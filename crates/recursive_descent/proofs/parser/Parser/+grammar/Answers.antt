@@ -1,0 +1,2739 @@
+-- What the functions of the cycle derive.
+use Rattle.recursive_descent.proofs.parser.Parser.+grammar.Goals as goal
+use Rattle.parser_tables.specs.declared.statements.StatementStart.TheVariants as code
+use Rattle.std.proofs.Common.{rules, ◌≡◌, ◌≤◌, true, false, sym, refl, ap, subst, ◌∙◌, arith, ◌+◌, ◌-◌, ◌<◌, length, set, Some, Ok, Err, suc, ◌⊎◌, inl, inr}
+use Rattle.std.specs.Prelude.{◌&&◌, not, [], Some, true, false, codes, IsTrue, IfOk, None, map}
+use Rattle.std.proofs.lemmas.Bool.{false≢true}
+use Rattle.tree.specs.declared.kind.Kind.TheVariants.{ChainExpression, SwitchCase, VariableDeclarator, ArrowFunctionExpression, Identifier, Property, AssignmentExpression, UpdateExpression, SequenceExpression, BlockStatement, CatchClause, CallExpression, ImportExpression, MemberExpression, NewExpression}
+use Rattle.tree.specs.Tree.{node, plain, kind_of, part, gap, none, push, push_gap, height, parts_height, flags_of, join}
+use Rattle.tokens.specs.Scanned.{token_of}
+use Rattle.tokens.specs.declared.token.TokenClass.TheVariants.{IdentifierName, Punctuator}
+use Rattle.covers.specs.Shapes.{initialized, is_target, value}
+use Rattle.language.specs.Token.{same_class, Token, as_read}
+use Rattle.parser_tables.specs.Seen.{is_free_name, ReadsHere, Misses, Sees}
+use Rattle.recursive_descent.specs.SoundnessOfLists.{ValueAt, ItemReads, SeenRight, asks_edge, is_chunked, ClosedBy}
+use Rattle.tree.specs.declared.kind.Form.TheVariants.{Init, Shorthand, Method}
+use Rattle.language.specs.Statements.{is_directive}
+use Rattle.language.specs.declared.Rank.TheVariants.{LeftHandSide, Primary, Call, Expression, Update, Assignment}
+use Rattle.language.specs.declared.Edge.TheVariants.{Other, Closed, Postfix}
+use Rattle.covers.specs.declared.list.ListItem.{ListItem}
+use Rattle.covers.specs.declared.list.ListKind.TheVariants.{Cases, Declarators, Elements, Members, Properties, Sequence}
+use Rattle.covers.specs.Patterns.{pattern_tree, pattern_parts}
+use Rattle.language.specs.Vocabulary.{is_target as is_simple, takes, is_identifier}
+use Rattle.recursive_descent.specs.Soundness.{Adds, ReadAt, WordedAt, ArrowAt, RunsIn, anywhere}
+use Rattle.recursive_descent.specs.Complete.{KeywordExpressionComplete}
+use Rattle.parser_tables.specs.declared.expression_starts.ExpressionStart.TheVariants.{Super, New, Import}
+use Rattle.parser_tables.specs.Moves.{BeginsList}
+use Rattle.recursive_descent.specs.Arms.{is_apart}
+use Rattle.recursive_descent.proofs.reading.RemainingArms.{is_other_list, no_short, not_apart, of_elements, short_opening}
+use Rattle.parser_tables.specs.Outcomes.{BeginsBy, IsPlaceHere}
+use Rattle.parser_tables.specs.Items.{group_levels, is_grouped, list_group, after_item, item_from, with_item, listed_node, listed_part, property_item}
+use Rattle.token_cursor.specs.CursorState.{CursorState}
+use Rattle.parser_tables.specs.declared.operand.Operand.{Operand}
+use Rattle.parser_tables.specs.Methods.{member_flags}
+use Rattle.recursive_descent.specs.Subscripts.{link_kind, link_flags, link_rank}
+use Rattle.recursive_descent.specs.declared.subscripts.Subscript.TheVariants.{Arguments, Index}
+use Rattle.parser_tables.specs.Operands.{plain_part, part_from}
+use Rattle.parser_tables.specs.Tokens.{single_node}
+use Rattle.productions.specs.Made.{Makes}
+use Rattle.recursive_descent.specs.SoundnessOfStatements.{StatementsAt, StatementAt, context_role}
+use Rattle.recursive_descent.specs.Follows.{ChunkAt}
+use Rattle.covers.specs.declared.list.ListBuilder.{ListBuilder}
+use Rattle.recursive_descent.proofs.sound_lists.CaseClauses.{case_nodes, case_taken}
+use Rattle.recursive_descent.proofs.sound_expressions.ArrowFunctions.{concise, arrow_block, arrow_concise}
+use Rattle.recursive_descent.proofs.sound_subscripts.OptionalChains.{chain_first, chain_on, chain_returned, chain_whole}
+use Rattle.recursive_descent.proofs.reading.AddedPairs.{adds_none, arguments_read}
+use Rattle.recursive_descent.proofs.sound_lists.ReadItems.{alone_item, chunk_item, element_low, is_an_element, low_chunk, low_hole, low_item, alone_behind, default_kind, elements_only, lists_elements, never_spreads, not_covers, of_text, simple_part, spread_item, taken_item}
+use Rattle.recursive_descent.proofs.sound_lists.Declarators.{declared_valued, declared_valueless, named_where}
+use Rattle.recursive_descent.proofs.sound_lists.ListSummaries.{right_after, right_items}
+use Rattle.recursive_descent.proofs.sound_expressions.BracketedLists.{makes_ok}
+use Rattle.recursive_descent.proofs.sound_expressions.OneToken.{name_arrow, name_kind, single_read}
+use Rattle.recursive_descent.proofs.sound_expressions.ExpressionStarts.{list_read}
+use Rattle.recursive_descent.proofs.sound_expressions.PrefixOperators.{prefix_low, prefix_read}
+use Rattle.recursive_descent.specs.LeftOperands.{is_prefix_update, takes_operand, prefixed_node, prefixed_part, left_of}
+use Rattle.recursive_descent.proofs.sound_expressions.Parenthesized.{InParens, yields_ok, ok_map, in_parens, pair_place, group_read, group_low, first_low, arrow_read}
+use Rattle.recursive_descent.proofs.sound_properties.PropertyNames.{named_alone, named_plain, named_computed}
+use Rattle.recursive_descent.proofs.sound_subscripts.SubscriptNodes.{is_call}
+use Rattle.recursive_descent.proofs.sound_subscripts.SubscriptReads.{BehindOn, name_read, index_read, arguments_read_behind, template_read, call_is, call_is_not, links_read}
+use Rattle.recursive_descent.proofs.sound_expressions.BinaryNodes.{rank_of, SidedFrom, sided_one, sided_two, sided_whole, right_at}
+use Rattle.recursive_descent.proofs.sound_statements.FunctionsAndClasses.{closed}
+use Rattle.recursive_descent.proofs.sound_expressions.ExpressionParts.{turn_on}
+use Rattle.recursive_descent.proofs.sound_properties.Definitions.{spread_item as rest_item, value_item, map_ok}
+use Rattle.recursive_descent.proofs.sound_properties.PropertyValues.{is_free, pair_value, lone_value, default_value}
+use Rattle.recursive_descent.proofs.reading.PassedTokens.{passes_behind, passes_further}
+use Rattle.parser_tables.specs.Moves.{Passes}
+use Rattle.recursive_descent.proofs.sound_expressions.InfixTurns.{step_reads, sequence_reads, no_tag_there, in_there, sided_on, call_there, chain_there, dot_there, chain_reads, no_chain_there, linked_reads, meant_symbol}
+use Rattle.recursive_descent.proofs.sound_statements.StatementLists.{all_directive, and_true, still, push_low, statements_first, statements_on}
+use Rattle.recursive_descent.proofs.sound_lists.WholeLists.{after_inside, after_nodes, after_start, further_first, further_item, item_places, not_a_sequence, same_right}
+use Rattle.recursive_descent.proofs.sound_statements.BlockSymbols.{block_piece, handler_piece}
+use Rattle.recursive_descent.proofs.sound_statements.OneMoreSymbol.{built_first, piece_on, piece_low}
+use Rattle.recursive_descent.proofs.sound_statements.ListSymbols.{list_piece}
+use Rattle.recursive_descent.proofs.sound_statements.PartSymbols.{expression_piece, binding_piece, statement_piece, items_piece}
+use Rattle.recursive_descent.proofs.sound_statements.TokenSymbols.{passed_piece, nothing_passed, gap_wanted}
+use Rattle.recursive_descent.proofs.sound_statements.ExpressionStatements.{evaluated_stated}
+use Rattle.recursive_descent.proofs.sound_statements.OwnTokenStatements.{closure_stated}
+use Rattle.recursive_descent.proofs.sound_expressions.KeywordExpressions.{function_worded, class_worded, super_worded, target_worded, import_worded, new_worded, worded_here, NewTail, tail_with, tail_alone}
+use Rattle.parser_tables.specs.StatementNodes.{statement_node_kind}
+use Rattle.recursive_descent.proofs.sound_statements.WholeStatements.{FirstAt, OnceAt, own_begun, label_begun, pieces_read, for_read, once_read, whole_as, is_for, no_for, headed_text, no_text, statement_made}
+use Rattle.recursive_descent.proofs.sound_properties.MethodItems.{method_node, method_item}
+use Rattle.covers.specs.Lists.{closing}
+use Rattle.recursive_descent.specs.declared.parser.Parser.{Parser}
+use Rattle.recursive_descent.proofs.sound_lists.ListEnds.{ItemsFrom, closed_list, last_follows, none_follows}
+use Rattle.recursive_descent.proofs.parser.Parser.+grammar.Goals.{declarator-else-has_value+in_ok-push_gap, declarator-else-not-is_name, declarator-then-has_value+in_ok-value+in_ok-into_expression+in_ok-push, declarator-then-not-is_name, property_or_member-else-in_class, property_or_member-else-not-in_class-via-else-not-in_class, property_or_member-else-not-in_class-via-then-not-in_class+else-accept_punctuator, property_or_member-else-not-matches, property_or_member-in-Method, property_or_member-in_default, property_or_member-then-in_class, property_or_member-then-not-matches, special_item-else-is_default, item-in_default-via-in-Elements+else-sees_punctuator, item-in_default-via-in_default, special_item-then-is_default+in_ok-push_gap-in-Cases, other_subscript-in-Arguments+in_ok-arguments-in-Arguments+in_ok-append-in-Arguments, index_member-in-Call, index_member-in_default, other_subscript-in-Call, other_subscript-in-Index+in_ok-expect_punctuator-in-Index+in_ok-index-in-Index+in_ok-into_expression-in-Index+in_ok-push-in-Index+in_ok-expect_punctuator-in-Index-2, other_subscript-in-Name+in_ok-name-in-Name+in_ok-token_node-in-Name+in_ok-push-in-Name, other_subscript-in-Quasi+in_ok-list-in-Quasi+in_ok-list-in-Quasi-2+in_ok-finish_list-in-Quasi+in_ok-push-in-Quasi, other_subscript-in_default, list-else-items-test, list-else-not-matches, list-in-Sequence, list-in-Some+in_ok-expect_punctuator, list-in_default, list-in_default-closer, list-then-items-test+in_ok-item+then-not-is_separated, list-then-not-matches, read_symbols-in-Binding+in_ok-part-in-Binding+in_ok-add_expression-in-Binding, read_symbols-in-Block+in_ok-left-in-Block+in_ok-list-in-Block+in_ok-expect_punctuator-in-Block+in_ok-finish_plain-in-Block+in_ok-push-in-Block, read_symbols-in-Expression+in_ok-part-in-Expression+in_ok-add_expression-in-Expression, read_symbols-in-Gap+in_ok-push_gap-in-Gap, read_symbols-in-Handler+in_ok-read_symbols-in-Handler+in_ok-finish_plain-in-Handler+in_ok-push-in-Handler, read_symbols-in-Items+in_ok-statements-in-Items+in_ok-append-in-Items, read_symbols-in-List+in_ok-list-in-List+in_ok-list-in-List-2+in_ok-add_list-in-List, read_symbols-in-Nothing, read_symbols-in-Statement+in_ok-statement-in-Statement+in_ok-push-in-Statement, binary_rest-in-Question+in_ok-part+in_ok-into_expression+in_ok-push+in_ok-expect_punctuator, binary_rest-in_default, statement-else-eq, statement-in-Expression+in_ok-part-in-Expression+else-not-is_label+in_ok-push-in-Expression, statement-in-OfKind, statement-in-Variable, statement-in_default, statement-then-eq+in_ok-what+in_ok-read_symbols-2, statements-else-context, statements-then-context, property_value-else-accept_punctuator-2, property_value-then-accept_punctuator-2+in_ok-right+in_ok-into_expression+in_ok-nodes-2+in_ok-value-3, new_expression-else-sees_punctuator, new_expression-then-sees_punctuator+in_ok-arguments+in_ok-append, token_or_prefix-else-is_name-via-else-is_name, token_or_prefix-else-is_name-via-then-is_name+else-sees_arrow, token_or_prefix-else-is_name-via-then-is_name+then-sees_arrow+else-accepts_rank, parenthesized-else-sees_arrow-via-else-sees_arrow, parenthesized-else-sees_arrow-via-then-sees_arrow+else-accepts_rank}
+use Rattle.language.specs.Continuations.{operation}
+use Rattle.recursive_descent.proofs.complete_expressions.Stages.{starts}
+use Rattle.recursive_descent.proofs.complete_expressions.LastStage.{concluded, stage_first, stage_next, stage_turned, same_room}
+use Rattle.recursive_descent.proofs.complete_expressions.StageTurns.{turn_sided, turn_linked}
+use Rattle.recursive_descent.proofs.complete_subscripts.ChainsOnSpine.{turn_chain}
+use Rattle.recursive_descent.proofs.complete_expressions.SequenceTurns.{sequence_staged, sequence_refused, commas_refused, sequence_high}
+use Rattle.recursive_descent.proofs.complete_expressions.NoArrowTurns.{no_arrow}
+use Rattle.recursive_descent.proofs.sound_expressions.UpdateTurns.{own_there, stepping, step_staged, step_unfit, step_high, turn_memory}
+use Rattle.recursive_descent.proofs.complete_expressions.Agreement.{agrees_on, agrees_err, refuses_high, refuses_memory, room_part, ends_behind, ends_before}
+use Rattle.recursive_descent.specs.Completeness.{Room, EndsWith, IsRead, IsFirst}
+use Rattle.parser_tables.specs.Operators.{StopsHere}
+use Rattle.recursive_descent.proofs.complete_expressions.StartsGiven.{opens_here, has_height, first_in}
+use Rattle.recursive_descent.proofs.complete_expressions.ParenthesisGiven.{parenthesis_ahead}
+use Rattle.recursive_descent.proofs.complete_expressions.FunctionsAndClassesGiven.{function_given, class_given, import_given}
+use Rattle.recursive_descent.proofs.complete_lists.ListRestsGiven.{list_rest, list_refuses}
+use Rattle.recursive_descent.proofs.complete_subscripts.CalleesGiven.{tail_low, TailRead, tail_with as tail_read_with, tail_alone as tail_read_alone, callee_given, callee_at, with_given, alone_given, seen_at, missed_at, new_first, target_agrees}
+use Rattle.language.specs.Expressions.{arguments}
+use Rattle.recursive_descent.proofs.complete_subscripts.NewGiven.{new_given_so}
+use Rattle.recursive_descent.proofs.complete_subscripts.SuperGiven.{super_given}
+use Rattle.recursive_descent.proofs.complete_expressions.KeywordExpressionsGiven.{is_worded, function_coded, class_coded, super_coded, new_coded, import_coded, word_here, closure_first, misses_not, same_mark, import_first, import_low, by_word, other_word, super_missed, super_low, super_agrees}
+use Rattle.recursive_descent.proofs.complete_expressions.OneTokenGiven.{NoArrow, arrow_behind, arrow_before, single_given}
+use Rattle.recursive_descent.proofs.complete_expressions.OneTokenNodes.{single_read as token_read, arrow_given, arrow_agrees}
+use Rattle.recursive_descent.proofs.complete_expressions.PrefixesGiven.{prefix_given, operand_low, operand_symbols, prefix_made, prefix_text}
+use Rattle.recursive_descent.proofs.complete_expressions.AgreedNodes.{FirstWith, agrees_where, agrees_made_as, agrees_more, expression_given}
+use Rattle.tokens.specs.Reading.{any_goal}
+use Rattle.language.specs.Places.{NextIn}
+use Rattle.language.specs.ExpressionStart.{expression_start}
+use Rattle.parser_tables.specs.ExpressionStarts.{coded_start}
+use Rattle.language.specs.Covers.{as_expression}
+use Rattle.language.specs.declared.Start.TheVariants.{Any}
+use Rattle.language.specs.Claims.{max_open}
+use Rattle.recursive_descent.proofs.complete_expressions.ArrowFunctionsGiven.{arrow_unsigned, arrow_block_refused, arrow_block_high, arrow_block_done, arrow_value_refused, arrow_value_settles, arrow_value_high, arrow_value_done}
+use Rattle.recursive_descent.proofs.complete_expressions.ParenthesizedGiven.{paren_unopened, paren_list_refused, paren_unbound, paren_arrow_done, paren_group_done, opened_here, arrow_missed}
+use Rattle.recursive_descent.proofs.reading.Forward.{place_mark}
+use Rattle.recursive_descent.proofs.complete_subscripts.SubscriptAgreement.{linked_answered, linked_high, link_once, unlinked_refused, word_refused, bracket_refused, index_refused, index_unsettled, unclosed_refused, called_refused, unopened_refused, unlisted_refused, unmade_refused}
+use Rattle.recursive_descent.specs.declared.expressions.LeftOperand.{LeftOperand}
+use Rattle.recursive_descent.proofs.complete_expressions.RightOperandsGiven.{Ready, ready_one, ready_two, first_refused, first_unsettled, colon_refused, right_refused, right_unsettled, sided_high, sided_answered}
+use Rattle.recursive_descent.proofs.complete_subscripts.ChainsGiven.{first_linked, next_linked, first_linked_refused, next_refused, template_refused, chain_unsettled, chain_high, chain_answered}
+use Rattle.recursive_descent.proofs.complete_subscripts.ArgumentsGiven.{arguments_refused, arguments_answered}
+use Rattle.recursive_descent.proofs.complete_lists.CaseItems.{case_unworded, case_refused, case_too_high, case_taken as case_taken_given}
+use Rattle.recursive_descent.proofs.complete_lists.TemplateItems.{chunk_refused, chunk_unsettled, chunk_missing, chunk_taken}
+use Rattle.recursive_descent.proofs.complete_lists.DeclaratorItems.{declarator_refused, declarator_taken, sequence_item_refused, sequence_item_taken}
+use Rattle.recursive_descent.proofs.complete_lists.ElementAnswers.{of_kind, dotted_refused, dotted_taken, alone_refused, alone_taken, hole_taken}
+use Rattle.recursive_descent.proofs.complete_lists.ItemAnswers.{definition_refused, definition_taken}
+use Rattle.recursive_descent.proofs.complete_lists.ListLoop.{reaches_first}
+use Rattle.recursive_descent.proofs.complete_lists.ReachedItems.{reached_more, item_refused as list_item_refused}
+use Rattle.recursive_descent.proofs.complete_lists.WholeListAnswers.{done_before}
+use Rattle.recursive_descent.proofs.complete_lists.ListClosers.{AllDone, close_refused, done_behind, list_answered}
+use Rattle.recursive_descent.proofs.complete_statements.DeclaratorsGiven.{declarator_opening, declarator_bound, declarator_value, declarator_settled, declarator_valued_made, declarator_valued, declarator_lone_made, declarator_lone, unmarked_name}
+use Rattle.recursive_descent.proofs.complete_properties.NamesGiven.{name_made, name_alone, name_no_key, name_plain, name_index, name_settled, name_closed, name_computed}
+use Rattle.recursive_descent.proofs.complete_properties.ValuesGiven.{value_made, value_refused, value_answered, value_no_token, value_no_name, value_single, value_lone, value_default_made, value_right, value_settled, value_default}
+use Rattle.recursive_descent.proofs.complete_properties.DefinitionsComplete.{when_true, when_false, spread_trails, definition_argument, definition_element, definition_spread, definition_name, definition_value, definition_function, definition_made, definition_method}
+use Rattle.parser_tables.specs.StatementSymbols.{piece_of}
+use Rattle.recursive_descent.proofs.complete_statements.SymbolsLeft.{left_first, pieces_on, pieces_err, pieces_ok, pieces_memory}
+use Rattle.recursive_descent.proofs.complete_statements.TokenSymbolsGiven.{nothing_same, gap_missing, wanted_refused}
+use Rattle.recursive_descent.proofs.complete_statements.ValueSymbolsGiven.{value_refused as piece_value_refused, value_unput, value_same}
+use Rattle.recursive_descent.proofs.complete_statements.PartSymbolsGiven.{binding_refused, binding_unput, binding_same, statement_refused, statement_same, items_refused, items_same}
+use Rattle.recursive_descent.proofs.complete_statements.BlockSymbolsGiven.{block_unopened, block_items_refused, block_unclosed, block_high, block_same, handler_refused, handler_high, handler_same}
+use Rattle.recursive_descent.proofs.complete_statements.ListSymbolsGiven.{list_unopened, list_refused, list_unput, list_same}
+use Rattle.recursive_descent.proofs.complete_statements.FunctionsAndClassesBodies.{name_refused, closure_refused, closure_made}
+use Rattle.recursive_descent.proofs.complete_statements.StatementListsGiven.{AllLeft, all_first, all_on, item_refused, items_unheld, all_read}
+use Rattle.recursive_descent.proofs.complete_statements.StatementGiven.{closure_stated_given, statement_unbegun}
+use Rattle.recursive_descent.proofs.complete_statements.StatementDone.{TheStatement, the_same, own_begun_there, label_begun_there, for_unfollowed, for_refused, for_done}
+use Rattle.recursive_descent.proofs.complete_statements.ExpressionLedStatements.{expression_refused, evaluated_given}
+use Rattle.recursive_descent.proofs.complete_statements.StatementAfterRead.{MainThere, main_refused, main_read, for_on, statement_whole}
+
+pub arguments-returns-clause-derived : goal.arguments-returns-clause-derived
+arguments-returns-clause-derived t c = arguments_read c.in_ok-list.list c.in_ok-list-2.field-0 c.open.ensures.text c.open.ensures.same_open c.open.ensures.same_pairs c.in_ok-list.ensures.listed c.in_ok-list.ensures.begun c.in_ok-list-2.ensures.same.0 c.in_ok-list-2.ensures.derived
+
+pub expression-turns-init : goal.expression-turns-init
+expression-turns-init t c =
+    let passed = c.in_ok-part.ensures.passes in
+    record {
+      same = c.leftmost_operand.ensures.text;
+      forward = passed.0;
+      within = passed.1;
+      derived = c.in_ok-part.ensures.derived;
+      low = c.in_ok-part.ensures.low;
+      complete = λ a o n to P g. let u = starts c.args.self.now.cursor.text c.args.position a g in
+          let read = c.in_ok-part.ensures.complete u.reading u.rank o u.tree u.mid u.pairs u.first in
+          stage_first {s = c.args.self.now.cursor} c.in_ok-part.part u read.0 read.1;
+    }
+
+pub arguments-returns-in_err-list-2-clause-complete : goal.arguments-returns-in_err-list-2-clause-complete
+arguments-returns-in_err-list-2-clause-complete t c = arguments_refused c.args.self.now.cursor c.open.new.self.cursor c.list.new.self.cursor c.args.self.now.pairs.items c.open.new.self.pairs.items c.list.new.self.pairs.items c.args.high c.in_ok-list.list c.open.ensures.text c.open.ensures.same_open c.open.ensures.same_pairs c.in_ok-list.ensures.listed c.in_ok-list.ensures.begun
+    c.from_residual-in_err-list-2.result c.in_err-list-2.field-0.0 c.from_residual-in_err-list-2.ensures.1 c.in_err-list-2.ensures.complete
+
+pub arguments-returns-clause-complete : goal.arguments-returns-clause-complete
+arguments-returns-clause-complete t c = arguments_answered c.args.self.now.cursor c.open.new.self.cursor c.list.new.self.cursor c.args.self.now.pairs.items c.open.new.self.pairs.items c.list.new.self.pairs.items c.args.high c.in_ok-list.list c.open.ensures.text c.open.ensures.same_open c.open.ensures.same_pairs c.in_ok-list.ensures.listed c.in_ok-list.ensures.begun
+    c.in_ok-list-2.field-0 c.in_ok-list-2.ensures.complete
+
+pub expression-turns-preserved : goal.expression-turns-preserved
+expression-turns-preserved t c =
+    let v = c.turns.invariant in
+    let on = v.forward in
+    let further = c.infix.ensures.forward in
+    record {
+      same = c.infix.ensures.text ∙ v.same;
+      forward = omega arith;
+      within = v.within;
+      derived = turn_on v.same v.derived c.in_ok-part-2.ensures.derived;
+      low = c.in_ok-part-2.ensures.low;
+      complete = λ a o n to P g. let u = v.complete a o n to P g in stage_next u (stage_turned c.infix.new.self.cursor c.infix.new.self.pairs.items c.args.high (Ok c.in_ok-part-2.part) v.same v.derived u c.in_ok-part-2.ensures.complete);
+    }
+
+pub statements-statements-init : goal.statements-statements-init
+statements-statements-init t c =
+    let flat : parts_height c.new-nodes.result ≡ 0 = ap parts_height c.new-nodes.ensures in
+    record {
+      same = refl;
+      forward = omega arith;
+      derived = statements_first c.args.context c.new-nodes.result c.new-nodes.ensures;
+      items = refl;
+      returns = refl;
+      before = sym (ap (λ ps. c.args.context.is_prologue && all_directive ps) c.new-nodes.ensures ∙ and_true c.args.context.is_prologue);
+      low = omega arith;
+      left = all_first c.args.self.now.cursor c.args.self.now.pairs.items c.args.until c.args.context c.new-nodes.result c.new-nodes.ensures;
+    }
+
+pub statements-statements-preserved : goal.statements-statements-preserved
+statements-statements-preserved t c =
+    let v = c.statements.invariant in
+    let n = c.in_ok-statement.statement in
+    let pushed = c.in_ok-push.ensures.pushed in
+    let on = v.forward in
+    let further = c.statement.ensures.forward in
+    let context : c.if-context.context ≡ (c.statements.context.is_prologue && is_directive n) =
+    elim c.if-context.branch [
+      | statements-then-context w ↦ w.context-is ∙ ap (λ f. f.directive) (w.flags.ensures ∙ ap flags_of w.node.ensures) ∙ sym (ap (λ x. x && is_directive n) w.if-context.true)
+      | statements-else-context w ↦ w.context-is ∙ w.if-context.false ∙ sym (ap (λ x. x && is_directive n) w.if-context.false)
+    ] in
+    record {
+      same = c.statement.ensures.text ∙ v.same;
+      forward = omega arith;
+      derived = subst (λ ps. Adds c.args.self.now.cursor c.statement.new.self.cursor c.args.self.now.pairs.items c.statement.new.self.pairs.items (StatementsAt c.args.self.now.cursor.text c.args.context ps)) (sym pushed)
+          (statements_on c.args.context c.statements.context c.statements.nodes n v.same v.items v.returns v.before v.derived c.in_ok-statement.ensures.derived);
+      items = v.items;
+      returns = v.returns;
+      before = context ∙ still c.statements.context.is_prologue c.args.context.is_prologue c.statements.nodes n v.before ∙ ap (λ ps. c.args.context.is_prologue && all_directive ps) (sym pushed);
+      low = subst (λ ps. parts_height ps ≤ c.args.high) (sym pushed) (push_low c.statements.nodes n c.args.high v.low c.in_ok-statement.ensures.low);
+      left = subst (λ ps. AllLeft c.args.self.now.cursor c.statement.new.self.cursor c.args.self.now.pairs.items c.statement.new.self.pairs.items c.args.until c.args.context (record c.statements.context { is_prologue = c.if-context.context }) ps) (sym pushed)
+          (all_on c.args.self.now.cursor c.statements.self.cursor c.statement.new.self.cursor c.args.self.now.pairs.items c.statements.self.pairs.items c.statement.new.self.pairs.items c.args.high c.args.until c.args.context c.statements.context c.statements.nodes v.same v.items v.returns
+          c.statements-test.ensures.missed v.left (record c.statements.context { is_prologue = c.if-context.context }) n context c.in_ok-statement.ensures.complete);
+    }
+
+pub statements-returns-in_err-statement-clause-complete : goal.statements-returns-in_err-statement-clause-complete
+statements-returns-in_err-statement-clause-complete t c =
+    let v = c.statements.invariant in
+    item_refused c.args.self.now.cursor c.statements.self.cursor c.statement.new.self.cursor c.args.self.now.pairs.items c.statements.self.pairs.items c.statement.new.self.pairs.items c.args.high c.args.until c.args.context c.statements.context c.statements.nodes v.same v.items v.returns
+    c.statements-test.ensures.missed v.left c.statement.new.self.cursor c.statement.new.self.pairs.items c.from_residual.result c.in_err-statement.field-0.0 c.from_residual.ensures.1 v.derived.same_open c.in_err-statement.ensures.complete
+
+pub statements-returns-in_err-push-clause-complete : goal.statements-returns-in_err-push-clause-complete
+statements-returns-in_err-push-clause-complete t c =
+    items_unheld c.args.self.now.cursor c.statement.new.self.cursor c.args.self.now.pairs.items c.statement.new.self.pairs.items c.args.high c.args.until c.args.context c.from_residual-in_err-push.result c.in_err-push.field-0.0 c.from_residual-in_err-push.ensures.1 c.in_err-push.ensures.kept.0
+
+pub statements-returns-clause-complete : goal.statements-returns-clause-complete
+statements-returns-clause-complete t c =
+    all_read c.args.self.now.cursor c.statements.self.cursor c.args.self.now.pairs.items c.statements.self.pairs.items c.args.high c.args.until c.args.context c.statements.context c.statements.nodes c.statements.invariant.same c.statements-test.ensures.seen c.statements.invariant.left
+
+pub optional_chain-links-init : goal.optional_chain-links-init
+optional_chain-links-init t c = record {
+  same = c.subscript.ensures.text;
+  forward = c.in_ok-part.ensures.passes.0;
+  within = c.in_ok-part.ensures.passes.1;
+  derived = chain_first c.requires.chains c.in_ok-part.ensures.derived;
+  agrees = first_linked c.args.self.now.cursor c.subscript.new.self.cursor c.args.self.now.pairs.items c.subscript.new.self.pairs.items c.saturating_sub-inner.result c.args.left c.in_ok-part.part c.in_ok-part.ensures.complete;
+}
+
+pub optional_chain-links-preserved : goal.optional_chain-links-preserved
+optional_chain-links-preserved t c =
+    let on = c.links.invariant.forward in
+    let further = c.subscript-in-links.ensures.forward in
+    record {
+      same = c.subscript-in-links.ensures.text ∙ c.links.invariant.same;
+      forward = omega arith;
+      within = c.links.invariant.within;
+      derived = chain_on c.links.invariant.same c.links.invariant.derived c.if-sees_template.ensures.missed c.in_ok-part-2.ensures.derived;
+      agrees = next_linked c.args.self.now.cursor c.links.self.cursor c.args.self.now.pairs.items c.links.self.pairs.items c.args.left c.links.part c.links.invariant.agrees c.links.invariant.same c.links.invariant.derived.same_open c.links-test.ensures.seen c.subscript-in-links.new.self.cursor c.subscript-in-links.new.self.pairs.items c.saturating_sub-inner.result c.in_ok-part-2.part c.in_ok-part-2.ensures.complete;
+    }
+
+pub optional_chain-returns-clause-derived : goal.optional_chain-returns-clause-derived
+optional_chain-returns-clause-derived t c =
+    let parts = c.in_ok-nodes.ensures.made ∙ ap (λ n. part n none) c.in_ok-into_expression.ensures.settled.0 in
+    let span = c.span_from.ensures in
+    let tree : c.in_ok-node.node ≡ node ChainExpression [] plain c.args.left.start c.links.self.cursor.last.stop (part c.links.part.cover.node none) = c.in_ok-node.ensures.0 ∙ (λ i. node ChainExpression [] plain (span i).start (span i).end (parts i)) in
+    let result : c.plain.result ≡ plain_part (node ChainExpression [] plain c.args.left.start c.links.self.cursor.last.stop (part c.links.part.cover.node none)) LeftHandSide Other = c.plain.ensures ∙ ap (λ n. plain_part n LeftHandSide Other) tree in
+    chain_returned c.links.part result (chain_whole c.links.invariant.derived)
+
+pub optional_chain-returns-in_err-part-clause-complete : goal.optional_chain-returns-in_err-part-clause-complete
+optional_chain-returns-in_err-part-clause-complete t c = first_linked_refused c.args.self.now.cursor c.subscript.new.self.cursor c.args.self.now.pairs.items c.subscript.new.self.pairs.items c.args.high c.saturating_sub-inner.result c.args.left _ c.in_err-part.field-0.0 c.from_residual.ensures.1 c.saturating_sub-inner.ensures c.in_err-part.ensures.complete
+
+pub optional_chain-returns-then-sees_template-clause-complete : goal.optional_chain-returns-then-sees_template-clause-complete
+optional_chain-returns-then-sees_template-clause-complete t c = template_refused c.args.self.now.cursor c.links.self.cursor c.args.self.now.pairs.items c.links.self.pairs.items c.args.left c.links.part c.links.invariant.agrees c.links.invariant.same c.links.invariant.derived.same_open c.links-test.ensures.seen c.links.self.cursor c.links.self.pairs.items c.args.high c.saturating_sub-inner.result (Err c.syntax_error.result) c.syntax_error.result refl c.saturating_sub-inner.ensures c.if-sees_template.ensures.seen
+
+pub optional_chain-returns-in_err-part-2-clause-complete : goal.optional_chain-returns-in_err-part-2-clause-complete
+optional_chain-returns-in_err-part-2-clause-complete t c = next_refused c.args.self.now.cursor c.links.self.cursor c.args.self.now.pairs.items c.links.self.pairs.items c.args.left c.links.part c.links.invariant.agrees c.links.invariant.same c.links.invariant.derived.same_open c.links-test.ensures.seen c.subscript-in-links.new.self.cursor c.subscript-in-links.new.self.pairs.items c.args.high c.saturating_sub-inner.result _ c.in_err-part-2.field-0.0 c.from_residual-in_err-part-2.ensures.1 c.saturating_sub-inner.ensures c.in_err-part-2.ensures.complete
+
+pub optional_chain-returns-in_err-into_expression-clause-complete : goal.optional_chain-returns-in_err-into_expression-clause-complete
+optional_chain-returns-in_err-into_expression-clause-complete t c = chain_unsettled c.args.self.now.cursor c.links.self.cursor c.args.self.now.pairs.items c.links.self.pairs.items c.args.high c.args.left c.links.part c.links.invariant.agrees c.links.invariant.same c.links-test.ensures.missed _ c.in_err-into_expression.ensures.settled.1
+
+pub optional_chain-returns-in_err-node-clause-complete : goal.optional_chain-returns-in_err-node-clause-complete
+optional_chain-returns-in_err-node-clause-complete t c = chain_high c.args.self.now.cursor c.links.self.cursor c.args.self.now.pairs.items c.links.self.pairs.items c.args.high c.args.left c.links.part c.links.invariant.agrees c.links.invariant.same c.links-test.ensures.missed _ c.in_err-node.field-0.0 _ c.from_residual-in_err-node.ensures.1 (c.in_ok-nodes.ensures.made ∙ ap (λ n. part n none) c.in_ok-into_expression.ensures.settled.0) refl c.in_err-node.ensures.0 c.in_err-node.ensures.1
+
+pub optional_chain-returns-clause-complete : goal.optional_chain-returns-clause-complete
+optional_chain-returns-clause-complete t c =
+    let parts = c.in_ok-nodes.ensures.made ∙ ap (λ n. part n none) c.in_ok-into_expression.ensures.settled.0 in
+    let span = c.span_from.ensures in
+    let tree : c.in_ok-node.node ≡ node ChainExpression [] plain c.args.left.start c.links.self.cursor.last.stop (part c.links.part.cover.node none) = c.in_ok-node.ensures.0 ∙ (λ i. node ChainExpression [] plain (span i).start (span i).end (parts i)) in
+    let result : c.plain.result ≡ plain_part (node ChainExpression [] plain c.args.left.start c.links.self.cursor.last.stop (part c.links.part.cover.node none)) LeftHandSide Other = c.plain.ensures ∙ ap (λ n. plain_part n LeftHandSide Other) tree in
+    chain_answered c.args.self.now.cursor c.links.self.cursor c.args.self.now.pairs.items c.links.self.pairs.items c.args.high c.args.left c.links.part c.links.invariant.agrees c.links.invariant.same c.links-test.ensures.missed c.plain.result refl result
+
+pub declarator-returns-clause-derived : goal.declarator-returns-clause-derived
+declarator-returns-clause-derived t c =
+    let starts = c.next_start-start.ensures.starts in
+    let fits = c.in_ok-bound.ensures.bound.1 in
+    let target : c.in_ok-nodes.nodes ≡ part (pattern_tree c.in_ok-part.part.cover.node) none = c.in_ok-nodes.ensures.made ∙ ap (λ n. part n none) c.in_ok-bound.ensures.bound.0 in
+    let tree : c.plain-item.result.node ≡ node VariableDeclarator [] plain c.next_start-start.result c.if-has_value.self.cursor.last.stop c.if-has_value.nodes = ap (λ x. x.node) c.plain-item.ensures ∙ c.in_ok-node.ensures.0 ∙ (λ i. node VariableDeclarator [] plain (c.span_from.ensures i).start (c.span_from.ensures i).end c.if-has_value.nodes) in
+    let it : ListItem = record { node = c.plain-item.result.node; shape = c.plain-item.result.shape; spreads = c.plain-item.result.spreads; is_flagged = c.if-not-is_name.item; edge = c.if-has_value.edge } in
+    let shape = ap (λ x. x.shape) c.plain-item.ensures in
+    let spreads = ap (λ x. x.spreads) c.plain-item.ensures in
+    let here = c.accept_punctuator-has_value.ensures in
+    elim c.if-has_value.branch [
+      | declarator-then-has_value+in_ok-value+in_ok-into_expression+in_ok-push w ↦
+          let e = w.expression.new.self.cursor in
+          let parts : c.if-has_value.nodes ≡ part (pattern_tree c.in_ok-part.part.cover.node) (part w.in_ok-value.value.cover.node none) = w.nodes-is ∙ w.in_ok-push.ensures.pushed ∙ (λ i. push (target i) (w.in_ok-into_expression.ensures.settled.0 i)) in
+          let unmarked : c.if-not-is_name.item ≡ false = elim c.if-not-is_name.branch [
+            | declarator-then-not-is_name u ↦ u.item-is ∙ ap not w.if-has_value.true
+            | declarator-else-not-is_name u ↦ u.item-is ∙ ap not u.if-not-is_name.false
+          ] in
+          let is : it ≡ record { node = node VariableDeclarator [] plain c.next_start-start.result e.last.stop (part (pattern_tree c.in_ok-part.part.cover.node) (part w.in_ok-value.value.cover.node none)); shape = value; spreads = false; is_flagged = false; edge = w.in_ok-value.value.edge } =
+          (λ i. record { node = (tree ∙ (λ j. node VariableDeclarator [] plain c.next_start-start.result (w.self-is j).cursor.last.stop (parts j))) i; shape = shape i; spreads = spreads i; is_flagged = unmarked i; edge = w.edge-is i }) in
+          subst (λ z. Adds c.args.self.now.cursor z.cursor c.args.self.now.pairs.items z.pairs.items (ItemReads c.args.self.now.cursor.text (Declarators c.args.has_in) it)) (sym w.self-is)
+          (declared_valued it starts c.at.ensures w.at-then-has_value.ensures c.in_ok-part.ensures.derived fits c.leftmost_operand.ensures.text (here.text ∙ c.leftmost_operand.ensures.text) here.same_open here.same_pairs w.if-has_value.ensures.accepted w.in_ok-value.ensures.derived w.in_ok-into_expression.ensures.settled.1 is)
+      | declarator-else-has_value+in_ok-push_gap w ↦
+          let e = c.accept_punctuator-has_value.new.self.cursor in
+          let parts : c.if-has_value.nodes ≡ part (pattern_tree c.in_ok-part.part.cover.node) (gap none) = w.nodes-is ∙ w.in_ok-push_gap.ensures.pushed ∙ ap push_gap target in
+          let named = named_where c.if-not-is_name.item c.is_ungrouped-is_name.result (elim c.if-not-is_name.branch [
+            | declarator-then-not-is_name u ↦ u.item-is ∙ ap not w.if-has_value.false ∙ sym (ap not u.if-not-is_name.true)
+            | declarator-else-not-is_name u ↦ u.item-is
+          ]) c.is_ungrouped-is_name.ensures.bare in
+          let is : it ≡ record { node = node VariableDeclarator [] plain c.next_start-start.result e.last.stop (part (pattern_tree c.in_ok-part.part.cover.node) (gap none)); shape = value; spreads = false; is_flagged = c.if-not-is_name.item; edge = Closed } =
+          (λ i. record { node = (tree ∙ (λ j. node VariableDeclarator [] plain c.next_start-start.result (w.self-is j).cursor.last.stop (parts j))) i; shape = shape i; spreads = spreads i; is_flagged = c.if-not-is_name.item; edge = w.edge-is i }) in
+          subst (λ z. Adds c.args.self.now.cursor z.cursor c.args.self.now.pairs.items z.pairs.items (ItemReads c.args.self.now.cursor.text (Declarators c.args.has_in) it)) (sym w.self-is)
+          (declared_valueless it starts c.at.ensures c.in_ok-part.ensures.derived fits here.same_open here.same_pairs w.if-has_value.ensures.missed.1 (λ k. (named k).0) is)
+    ]
+
+pub declarator-returns-in_err-part-clause-complete : goal.declarator-returns-in_err-part-clause-complete
+declarator-returns-in_err-part-clause-complete t c =
+    declarator_opening c.args.self.now.cursor c.leftmost_operand.new.self.cursor c.args.self.now.pairs.items c.leftmost_operand.new.self.pairs.items c.args.high c.args.has_in c.leftmost_operand.new.self.cursor c.leftmost_operand.new.self.pairs.items c.from_residual.result c.in_err-part.field-0.0 c.from_residual.ensures.1 c.at.ensures c.saturating_sub-inner.ensures c.in_err-part.ensures.complete
+
+pub declarator-returns-in_err-bound-clause-complete : goal.declarator-returns-in_err-bound-clause-complete
+declarator-returns-in_err-bound-clause-complete t c =
+    declarator_bound c.args.self.now.cursor c.leftmost_operand.new.self.cursor c.args.self.now.pairs.items c.leftmost_operand.new.self.pairs.items c.args.high c.args.has_in c.leftmost_operand.new.self.cursor c.leftmost_operand.new.self.pairs.items c.saturating_sub-inner.result c.in_ok-part.part c.at.ensures c.in_ok-part.ensures.complete
+    c.leftmost_operand.new.self.cursor c.from_residual-in_err-bound.result c.in_err-bound.field-0.0 c.from_residual-in_err-bound.ensures.1 c.in_err-bound.ensures.bound
+
+pub declarator-returns-in_err-value-clause-complete : goal.declarator-returns-in_err-value-clause-complete
+declarator-returns-in_err-value-clause-complete t c =
+    let here = c.accept_punctuator-has_value.ensures in
+    let equals = subst (λ z. ReadsHere z Punctuator (codes "=") c.leftmost_operand.new.self.cursor.last c.accept_punctuator-has_value.new.self.cursor.last) c.leftmost_operand.ensures.text c.if-has_value.ensures.accepted in
+    declarator_value c.args.self.now.cursor c.expression.new.self.cursor c.args.self.now.pairs.items c.expression.new.self.pairs.items c.args.high c.args.has_in c.leftmost_operand.new.self.cursor c.leftmost_operand.new.self.pairs.items c.saturating_sub-inner.result c.in_ok-part.part c.at.ensures c.in_ok-part.ensures.complete
+    c.accept_punctuator-has_value.new.self.cursor equals c.next_start-start.ensures.starts c.expression.new.self.cursor c.accept_punctuator-has_value.new.self.pairs.items c.expression.new.self.pairs.items c.at-then-has_value.ensures (here.text ∙ c.leftmost_operand.ensures.text) c.from_residual-in_err-value.result c.in_err-value.field-0.0 c.from_residual-in_err-value.ensures.1 c.saturating_sub-inner.ensures
+    (here.same_open ∙ c.in_ok-part.ensures.derived.same_open) c.in_err-value.ensures.complete
+
+pub declarator-returns-in_err-into_expression-clause-complete : goal.declarator-returns-in_err-into_expression-clause-complete
+declarator-returns-in_err-into_expression-clause-complete t c =
+    let here = c.accept_punctuator-has_value.ensures in
+    let equals = subst (λ z. ReadsHere z Punctuator (codes "=") c.leftmost_operand.new.self.cursor.last c.accept_punctuator-has_value.new.self.cursor.last) c.leftmost_operand.ensures.text c.if-has_value.ensures.accepted in
+    declarator_settled c.args.self.now.cursor c.expression.new.self.cursor c.args.self.now.pairs.items c.expression.new.self.pairs.items c.args.high c.args.has_in c.leftmost_operand.new.self.cursor c.leftmost_operand.new.self.pairs.items c.saturating_sub-inner.result c.in_ok-part.part c.at.ensures c.in_ok-part.ensures.complete
+    c.accept_punctuator-has_value.new.self.cursor equals c.next_start-start.ensures.starts c.expression.new.self.cursor c.accept_punctuator-has_value.new.self.pairs.items c.expression.new.self.pairs.items c.at-then-has_value.ensures (here.text ∙ c.leftmost_operand.ensures.text) c.in_ok-value.value c.in_ok-value.ensures.complete c.expression.new.self.cursor c.from_residual-in_err-into_expression.result c.in_err-into_expression.field-0.0 c.from_residual-in_err-into_expression.ensures.1 c.in_err-into_expression.ensures.settled
+
+pub declarator-returns-in_err-node-clause-complete : goal.declarator-returns-in_err-node-clause-complete
+declarator-returns-in_err-node-clause-complete t c =
+    let here = c.accept_punctuator-has_value.ensures in
+    let target : c.in_ok-nodes.nodes ≡ part (pattern_tree c.in_ok-part.part.cover.node) none = c.in_ok-nodes.ensures.made ∙ ap (λ n. part n none) c.in_ok-bound.ensures.bound.0 in
+    let span = c.span_from.ensures in
+    elim c.if-has_value.branch [
+      | declarator-then-has_value+in_ok-value+in_ok-into_expression+in_ok-push w ↦
+          let equals = subst (λ z. ReadsHere z Punctuator (codes "=") c.leftmost_operand.new.self.cursor.last c.accept_punctuator-has_value.new.self.cursor.last) c.leftmost_operand.ensures.text w.if-has_value.ensures.accepted in
+          let parts : c.if-has_value.nodes ≡ part (pattern_tree c.in_ok-part.part.cover.node) (part w.in_ok-value.value.cover.node none) = w.nodes-is ∙ w.in_ok-push.ensures.pushed ∙ (λ i. push (target i) (w.in_ok-into_expression.ensures.settled.0 i)) in
+          declarator_valued_made c.args.self.now.cursor c.if-has_value.self.cursor c.args.self.now.pairs.items c.if-has_value.self.pairs.items c.args.high c.args.has_in c.leftmost_operand.new.self.cursor c.leftmost_operand.new.self.pairs.items c.saturating_sub-inner.result c.in_ok-part.part c.at.ensures c.in_ok-part.ensures.complete
+          c.accept_punctuator-has_value.new.self.cursor equals c.next_start-start.ensures.starts w.expression.new.self.cursor c.accept_punctuator-has_value.new.self.pairs.items w.expression.new.self.pairs.items w.at-then-has_value.ensures (here.text ∙ c.leftmost_operand.ensures.text) w.in_ok-value.value w.in_ok-value.ensures.complete c.from_residual-in_err-node.result c.in_err-node.field-0.0 _ c.from_residual-in_err-node.ensures.1
+          (λ j. node VariableDeclarator [] plain (span j).start (ap (λ (z : Parser). z.cursor.last.stop) w.self-is j) (parts j)) c.in_err-node.ensures
+      | declarator-else-has_value+in_ok-push_gap w ↦
+          let missed = subst (λ z. Misses z Punctuator (codes "=") c.leftmost_operand.new.self.cursor.last) c.leftmost_operand.ensures.text w.if-has_value.ensures.missed.0 in
+          let last = ap (λ (z : Parser). z.cursor.last.stop) w.self-is ∙ ap (λ (z : Token). z.stop) w.if-has_value.ensures.missed.1 in
+          let parts : c.if-has_value.nodes ≡ part (pattern_tree c.in_ok-part.part.cover.node) (gap none) = w.nodes-is ∙ w.in_ok-push_gap.ensures.pushed ∙ ap push_gap target in
+          declarator_lone_made c.args.self.now.cursor c.if-has_value.self.cursor c.args.self.now.pairs.items c.if-has_value.self.pairs.items c.args.high c.args.has_in c.leftmost_operand.new.self.cursor c.leftmost_operand.new.self.pairs.items c.saturating_sub-inner.result c.in_ok-part.part c.at.ensures c.in_ok-part.ensures.complete
+          missed c.next_start-start.ensures.starts c.from_residual-in_err-node.result c.in_err-node.field-0.0 _ c.from_residual-in_err-node.ensures.1
+          (λ j. node VariableDeclarator [] plain (span j).start ((ap (λ x. x.end) span ∙ last) j) (parts j)) c.in_err-node.ensures
+    ]
+
+pub declarator-returns-clause-complete : goal.declarator-returns-clause-complete
+declarator-returns-clause-complete t c =
+    let here = c.accept_punctuator-has_value.ensures in
+    let target : c.in_ok-nodes.nodes ≡ part (pattern_tree c.in_ok-part.part.cover.node) none = c.in_ok-nodes.ensures.made ∙ ap (λ n. part n none) c.in_ok-bound.ensures.bound.0 in
+    let tree : c.plain-item.result.node ≡ node VariableDeclarator [] plain c.next_start-start.result c.if-has_value.self.cursor.last.stop c.if-has_value.nodes = ap (λ x. x.node) c.plain-item.ensures ∙ c.in_ok-node.ensures.0 ∙ (λ i. node VariableDeclarator [] plain (c.span_from.ensures i).start (c.span_from.ensures i).end c.if-has_value.nodes) in
+    let it : ListItem = record { node = c.plain-item.result.node; shape = c.plain-item.result.shape; spreads = c.plain-item.result.spreads; is_flagged = c.if-not-is_name.item; edge = c.if-has_value.edge } in
+    elim c.if-has_value.branch [
+      | declarator-then-has_value+in_ok-value+in_ok-into_expression+in_ok-push w ↦
+          let e = w.expression.new.self in
+          let equals = subst (λ z. ReadsHere z Punctuator (codes "=") c.leftmost_operand.new.self.cursor.last c.accept_punctuator-has_value.new.self.cursor.last) c.leftmost_operand.ensures.text w.if-has_value.ensures.accepted in
+          let parts : c.if-has_value.nodes ≡ part (pattern_tree c.in_ok-part.part.cover.node) (part w.in_ok-value.value.cover.node none) = w.nodes-is ∙ w.in_ok-push.ensures.pushed ∙ (λ i. push (target i) (w.in_ok-into_expression.ensures.settled.0 i)) in
+          let unmarked : c.if-not-is_name.item ≡ false = elim c.if-not-is_name.branch [
+            | declarator-then-not-is_name u ↦ u.item-is ∙ ap not w.if-has_value.true
+            | declarator-else-not-is_name u ↦ u.item-is ∙ ap not u.if-not-is_name.false
+          ] in
+          declarator_valued c.args.self.now.cursor c.if-has_value.self.cursor c.args.self.now.pairs.items c.if-has_value.self.pairs.items c.args.high c.args.has_in c.leftmost_operand.new.self.cursor c.leftmost_operand.new.self.pairs.items c.saturating_sub-inner.result c.in_ok-part.part c.at.ensures c.in_ok-part.ensures.complete
+          c.accept_punctuator-has_value.new.self.cursor equals c.next_start-start.ensures.starts w.expression.new.self.cursor c.accept_punctuator-has_value.new.self.pairs.items w.expression.new.self.pairs.items w.at-then-has_value.ensures (here.text ∙ c.leftmost_operand.ensures.text) w.in_ok-value.value w.in_ok-value.ensures.complete it unmarked (ap (λ x. x.shape.is_expression) c.plain-item.ensures)
+          (tree ∙ (λ j. node VariableDeclarator [] plain c.next_start-start.result (w.self-is j).cursor.last.stop (parts j))) here.same_pairs (ap (λ z. z.cursor.last) w.self-is) (ap (λ z. z.pairs.items) w.self-is)
+      | declarator-else-has_value+in_ok-push_gap w ↦
+          let missed = subst (λ z. Misses z Punctuator (codes "=") c.leftmost_operand.new.self.cursor.last) c.leftmost_operand.ensures.text w.if-has_value.ensures.missed.0 in
+          let last = ap (λ z. z.cursor.last) w.self-is ∙ w.if-has_value.ensures.missed.1 in
+          let parts : c.if-has_value.nodes ≡ part (pattern_tree c.in_ok-part.part.cover.node) (gap none) = w.nodes-is ∙ w.in_ok-push_gap.ensures.pushed ∙ ap push_gap target in
+          let marked : c.if-not-is_name.item ≡ not c.is_ungrouped-is_name.result = elim c.if-not-is_name.branch [
+            | declarator-then-not-is_name u ↦ u.item-is ∙ ap not w.if-has_value.false ∙ sym (ap not u.if-not-is_name.true)
+            | declarator-else-not-is_name u ↦ u.item-is
+          ] in
+          declarator_lone c.args.self.now.cursor c.if-has_value.self.cursor c.args.self.now.pairs.items c.if-has_value.self.pairs.items c.args.high c.args.has_in c.leftmost_operand.new.self.cursor c.leftmost_operand.new.self.pairs.items c.saturating_sub-inner.result c.in_ok-part.part c.at.ensures c.in_ok-part.ensures.complete
+          missed c.next_start-start.ensures.starts it (λ k g. unmarked_name c.if-not-is_name.item c.is_ungrouped-is_name.result _ marked c.is_ungrouped-is_name.ensures.other k g) w.edge-is (ap (λ x. x.shape.is_expression) c.plain-item.ensures)
+          (tree ∙ (λ j. node VariableDeclarator [] plain c.next_start-start.result ((ap (λ (x : Token). x.stop) last) j) (parts j))) last (ap (λ z. z.pairs.items) w.self-is ∙ here.same_pairs)
+    ]
+
+pub item-returns-in-Elements-clause-low : goal.item-returns-in-Elements-clause-low
+item-returns-in-Elements-clause-low t c = low_hole c.args.list.now _ c.args.high c.push_hole.result c.push_hole.ensures.pushed
+
+pub special_item-returns-in_ok-item-in-Properties-clause-low : goal.special_item-returns-in_ok-item-in-Properties-clause-low
+special_item-returns-in_ok-item-in-Properties-clause-low t c = low_item c.args.list.now _ c.in_ok-item-in-Properties.item c.args.high c.push.result c.push.ensures.pushed c.in_ok-item-in-Properties.ensures.low
+
+pub special_item-returns-in_ok-item-in-Properties-clause-derived : goal.special_item-returns-in_ok-item-in-Properties-clause-derived
+special_item-returns-in_ok-item-in-Properties-clause-derived t c = taken_item c.args.list.now _ c.in_ok-item-in-Properties.item _ c.push.result (ap is_chunked c.in-Properties.is) c.push.ensures.pushed c.push.ensures.taken (not_covers c.args.list.now.listed Properties c.in-Properties.is refl) (of_text c.in_ok-item-in-Properties.item c.in-Properties.is c.in_ok-item-in-Properties.ensures.derived)
+
+pub special_item-returns-in_ok-item-in-Members-clause-low : goal.special_item-returns-in_ok-item-in-Members-clause-low
+special_item-returns-in_ok-item-in-Members-clause-low t c = low_item c.args.list.now _ c.in_ok-item-in-Members.item c.args.high c.push-in-Members.result c.push-in-Members.ensures.pushed c.in_ok-item-in-Members.ensures.low
+
+pub special_item-returns-in_ok-item-in-Members-clause-derived : goal.special_item-returns-in_ok-item-in-Members-clause-derived
+special_item-returns-in_ok-item-in-Members-clause-derived t c = taken_item c.args.list.now _ c.in_ok-item-in-Members.item _ c.push-in-Members.result (ap is_chunked c.in-Members.is) c.push-in-Members.ensures.pushed c.push-in-Members.ensures.taken (not_covers c.args.list.now.listed Members c.in-Members.is refl) (of_text c.in_ok-item-in-Members.item c.in-Members.is c.in_ok-item-in-Members.ensures.derived)
+
+pub special_item-returns-in_ok-item-in-Declarators-clause-low : goal.special_item-returns-in_ok-item-in-Declarators-clause-low
+special_item-returns-in_ok-item-in-Declarators-clause-low t c = low_item c.args.list.now _ c.in_ok-item-in-Declarators.item c.args.high c.push-in-Declarators.result c.push-in-Declarators.ensures.pushed c.in_ok-item-in-Declarators.ensures.low
+
+pub special_item-returns-in_ok-item-in-Declarators-clause-derived : goal.special_item-returns-in_ok-item-in-Declarators-clause-derived
+special_item-returns-in_ok-item-in-Declarators-clause-derived t c = taken_item c.args.list.now _ c.in_ok-item-in-Declarators.item _ c.push-in-Declarators.result (ap is_chunked c.in-Declarators.is) c.push-in-Declarators.ensures.pushed c.push-in-Declarators.ensures.taken
+    (not_covers c.args.list.now.listed (Declarators c.in-Declarators.has_in) c.in-Declarators.is refl) (of_text c.in_ok-item-in-Declarators.item c.in-Declarators.is c.in_ok-item-in-Declarators.ensures.derived)
+
+pub special_item-returns-in_ok-next_template_element-in-Template-clause-low : goal.special_item-returns-in_ok-next_template_element-in-Template-clause-low
+special_item-returns-in_ok-next_template_element-in-Template-clause-low t c =
+    let settled = c.in_ok-into_expression-in-Template.ensures.settled in
+    let first = c.in_ok-push-in-Template.ensures.pushed ∙ ap (with_item c.args.list.now) (c.plain.ensures ∙ ap (λ n. item_from n value false Closed) settled.0) in
+    low_chunk c.next_template_element.new.self.cursor.text _ c.next_template_element.new.self.cursor.last c.args.list.now c.push-in-Template.new.self _ c.in_ok-part-in-Template.part c.in_ok-next_template_element-in-Template.field-0 c.args.high c.push-in-Template-2.result first c.push-in-Template-2.ensures.pushed c.in_ok-part-in-Template.ensures.low
+    (subst (λ t. ChunkAt t c.expression.new.self.cursor.last c.next_template_element.new.self.cursor.last c.in_ok-next_template_element-in-Template.field-0.node c.in_ok-next_template_element-in-Template.field-0.is_flagged) (sym c.next_template_element.ensures.text) c.in_ok-next_template_element-in-Template.ensures.read)
+
+pub special_item-returns-in_ok-next_template_element-in-Template-clause-derived : goal.special_item-returns-in_ok-next_template_element-in-Template-clause-derived
+special_item-returns-in_ok-next_template_element-in-Template-clause-derived t c =
+    let settled = c.in_ok-into_expression-in-Template.ensures.settled in
+    let first = c.in_ok-push-in-Template.ensures.pushed ∙ ap (with_item c.args.list.now) (c.plain.ensures ∙ ap (λ n. item_from n value false Closed) settled.0) in
+    chunk_item _ c.args.list.now c.push-in-Template.new.self _ c.in_ok-part-in-Template.part c.in_ok-next_template_element-in-Template.field-0 c.push-in-Template-2.result refl c.in-Template.is first c.push-in-Template-2.ensures.pushed c.expression.ensures.text c.in_ok-part-in-Template.ensures.derived settled.1 c.next_template_element.ensures.same_open c.next_template_element.ensures.same_pairs c.in_ok-next_template_element-in-Template.ensures.read
+
+pub special_item-returns-in_ok-item-in-Sequence-clause-low : goal.special_item-returns-in_ok-item-in-Sequence-clause-low
+special_item-returns-in_ok-item-in-Sequence-clause-low t c =
+    low_item c.args.list.now _ c.in_ok-item-in-Sequence.item c.args.high c.push-in-Sequence.result c.push-in-Sequence.ensures.pushed
+    (element_low false c.next_start-start.result c.expression-in-Sequence.new.self.cursor.last.stop c.in_ok-part-in-Sequence.part c.in_ok-item-in-Sequence.item c.args.high c.in_ok-item-in-Sequence.ensures.made.0 c.in_ok-item-in-Sequence.ensures.made.1 (λ h. c.in_ok-part-in-Sequence.ensures.low))
+
+pub special_item-returns-in_ok-item-in-Sequence-clause-derived : goal.special_item-returns-in_ok-item-in-Sequence-clause-derived
+special_item-returns-in_ok-item-in-Sequence-clause-derived t c =
+    taken_item c.args.list.now _ c.in_ok-item-in-Sequence.item _ c.push-in-Sequence.result (ap is_chunked c.in-Sequence.is) c.push-in-Sequence.ensures.pushed c.push-in-Sequence.ensures.taken
+    (not_covers c.args.list.now.listed (Sequence c.in-Sequence.has_in) c.in-Sequence.is refl)
+    (of_text c.in_ok-item-in-Sequence.item c.in-Sequence.is (alone_item (Sequence c.in-Sequence.has_in) c.next_start-start.result c.in_ok-part-in-Sequence.part c.in_ok-item-in-Sequence.item c.at.ensures refl c.in_ok-item-in-Sequence.ensures.made.0 c.in_ok-part-in-Sequence.ensures.derived))
+
+pub spread_item-returns-clause-derived : goal.spread_item-returns-clause-derived
+spread_item-returns-clause-derived t c =
+    let kind = of_elements c.args.list.now.listed c.requires.element in
+    let part = c.in_ok-part.part in
+    let item = c.in_ok-item.item in
+    let made = c.in_ok-item.ensures.made.0 in
+    let is = elements_only c.args.list.now.listed kind in
+    taken_item c.args.list.now _ item _ c.push.result is.2 c.push.ensures.pushed c.push.ensures.taken
+    (λ covers alone. never_spreads _ _ part item made alone)
+    (spread_item c.args.list.now.listed c.next_start-start.result part item refl is.0 is.1 made c.next_start-start.ensures.starts c.in_ok-expect_punctuator.ensures.accepted.0 c.expect_punctuator.ensures.text c.expect_punctuator.ensures.same_open c.expect_punctuator.ensures.same_pairs c.in_ok-part.ensures.derived)
+
+pub spread_item-returns-clause-low : goal.spread_item-returns-clause-low
+spread_item-returns-clause-low t c =
+    low_item c.args.list.now _ c.in_ok-item.item c.args.high c.push.result c.push.ensures.pushed
+    (element_low true c.next_start-start.result c.expression.new.self.cursor.last.stop c.in_ok-part.part c.in_ok-item.item c.args.high c.in_ok-item.ensures.made.0 c.in_ok-item.ensures.made.1 (λ h. cc))
+
+pub item-returns-in_ok-item-in_default-clause-low : goal.item-returns-in_ok-item-in_default-clause-low
+item-returns-in_ok-item-in_default-clause-low t c =
+    low_item c.args.list.now _ c.in_ok-item-in_default.item c.args.high c.push.result c.push.ensures.pushed
+    (element_low false c.next_start-start.result c.expression.new.self.cursor.last.stop c.in_ok-part-in_default.part c.in_ok-item-in_default.item c.args.high c.in_ok-item-in_default.ensures.made.0 c.in_ok-item-in_default.ensures.made.1 (λ h. c.in_ok-part-in_default.ensures.low))
+
+pub item-returns-in_ok-item-in_default-clause-derived : goal.item-returns-in_ok-item-in_default-clause-derived
+item-returns-in_ok-item-in_default-clause-derived t c =
+    let kind : (lists_elements c.args.list.now.listed && not (asks_edge c.args.list.now.listed)) ≡ true = elim c.in_default.branch [
+      | item-in_default-via-in-Elements+else-sees_punctuator w ↦ is_an_element c.args.list.now.listed Elements w.in-Elements.is refl
+      | item-in_default-via-in_default w ↦ default_kind c.args.list.now.listed w.in_default.not-Properties w.in_default.not-Members w.in_default.not-Template w.in_default.not-Sequence w.in_default.not-Declarators w.in_default.not-Cases
+    ] in
+    let is = elements_only c.args.list.now.listed kind in
+    let part = c.in_ok-part-in_default.part in
+    let item = c.in_ok-item-in_default.item in
+    let made = c.in_ok-item-in_default.ensures.made.0 in
+    taken_item c.args.list.now _ item _ c.push.result is.2 c.push.ensures.pushed c.push.ensures.taken
+    (λ covers alone target. subst (λ x. is_simple (kind_of x) ≡ true) (sym (ap (λ (x : ListItem). x.node) made)) (simple_part part refl c.in_ok-part-in_default.ensures.derived (sym (ap (λ (x : ListItem). is_target x.shape.assigned) made) ∙ target)))
+    (alone_behind c.args.list.now.listed c.next_start-start.result part item refl is.0 is.1 made refl refl refl refl c.in_ok-part-in_default.ensures.derived)
+
+pub special_item-returns-in_ok-finish_plain-in-Cases-clause-low : goal.special_item-returns-in_ok-finish_plain-in-Cases-clause-low
+special_item-returns-in_ok-finish_plain-in-Cases-clause-low t c =
+    let d = c.in_ok-is_default-in-Cases.is_default in
+    let it : ListItem = record { node = c.plain-item.result.node; shape = c.plain-item.result.shape; spreads = c.plain-item.result.spreads; is_flagged = d; edge = c.plain-item.result.edge } in
+    let tree : c.plain-item.result.node ≡ c.in_ok-finish_plain-in-Cases.field-0 = ap (λ (x : ListItem). x.node) c.plain-item.ensures in
+    low_item c.args.list.now _ it c.args.high c.push-in-Cases.result c.push-in-Cases.ensures.pushed (subst (λ x. height x ≤ c.args.high) (sym (tree ∙ c.in_ok-finish_plain-in-Cases.ensures.0)) c.in_ok-finish_plain-in-Cases.ensures.1)
+
+pub special_item-returns-in_ok-finish_plain-in-Cases-clause-derived : goal.special_item-returns-in_ok-finish_plain-in-Cases-clause-derived
+special_item-returns-in_ok-finish_plain-in-Cases-clause-derived t c =
+    let d = c.in_ok-is_default-in-Cases.is_default in
+    let it : ListItem = record { node = c.plain-item.result.node; shape = c.plain-item.result.shape; spreads = c.plain-item.result.spreads; is_flagged = d; edge = c.plain-item.result.edge } in
+    let tree : c.plain-item.result.node ≡ node SwitchCase [] plain c.next_start-start.result c.read_symbols.new.self.cursor.last.stop c.read_symbols.new.built.nodes = ap (λ (x : ListItem). x.node) c.plain-item.ensures ∙ c.in_ok-finish_plain-in-Cases.ensures.0 ∙ (λ i. node SwitchCase [] plain (c.span_from-span.ensures i).start (c.span_from-span.ensures i).end c.read_symbols.new.built.nodes) in
+    let item : it ≡ record { node = node SwitchCase [] plain c.next_start-start.result c.read_symbols.new.self.cursor.last.stop c.read_symbols.new.built.nodes; shape = value; spreads = false; is_flagged = d; edge = Closed } =
+    (λ i. record { node = tree i; shape = (c.plain-item.ensures i).shape; spreads = (c.plain-item.ensures i).spreads; is_flagged = d; edge = (c.plain-item.ensures i).edge }) in
+    let empty : c.if-is_default.built.nodes ≡ case_nodes d none = elim c.if-is_default.branch [
+      | special_item-then-is_default+in_ok-push_gap-in-Cases w ↦ ap (λ x. x.nodes) w.built-is ∙ w.in_ok-push_gap-in-Cases.ensures.pushed ∙ ap push_gap (ap (λ x. x.nodes) c.new-built.ensures) ∙ ap (λ b. case_nodes b none) (sym w.if-is_default.true)
+      | special_item-else-is_default w ↦ ap (λ x. x.nodes) w.built-is ∙ ap (λ x. x.nodes) c.new-built.ensures ∙ ap (λ b. case_nodes b none) (sym w.if-is_default.false)
+    ] in
+    taken_item c.args.list.now _ it _ c.push-in-Cases.result (ap is_chunked c.in-Cases.is) c.push-in-Cases.ensures.pushed c.push-in-Cases.ensures.taken (not_covers c.args.list.now.listed (Cases c.in-Cases.returns) c.in-Cases.is refl)
+    (of_text it c.in-Cases.is (case_taken c.in-Cases.returns d c.next_start-start.result c.if-is_default.built c.read_symbols.new.built c.item-context.result _ it c.item-context.ensures c.case_symbols.ensures c.next_start-start.ensures.starts c.in_ok-is_default-in-Cases.ensures.accepted c.is_default.ensures.text c.is_default.ensures.same_open c.is_default.ensures.same_pairs empty c.in_ok-read_symbols-in-Cases.ensures.derived item))
+
+pub list-items-init : goal.list-items-init
+list-items-init t c =
+    let listed : c.if-not-matches.list.listed ≡ c.args.list.listed = elim c.if-not-matches.branch [
+      | list-then-not-matches w ↦ ap (λ x. x.listed) w.list-is
+      | list-else-not-matches w ↦ ap (λ x. x.listed) w.list-is
+    ] in
+    let nodes : c.if-not-matches.list.nodes ≡ c.args.list.nodes = elim c.if-not-matches.branch [
+      | list-then-not-matches w ↦ ap (λ x. x.nodes) w.list-is
+      | list-else-not-matches w ↦ ap (λ x. x.nodes) w.list-is
+    ] in
+    let seen : c.if-not-matches.list.seen ≡ c.args.list.seen = elim c.if-not-matches.branch [
+      | list-then-not-matches w ↦ ap (λ x. x.seen) w.list-is
+      | list-else-not-matches w ↦ ap (λ x. x.seen) w.list-is
+    ] in
+    let span : c.if-not-matches.list.span ≡ c.args.list.span = elim c.if-not-matches.branch [
+      | list-then-not-matches w ↦ ap (λ x. x.span) w.list-is
+      | list-else-not-matches w ↦ ap (λ x. x.span) w.list-is
+    ] in
+    record {
+      same = refl;
+      forward = omega arith;
+      derived = adds_none refl refl (λ o. further_first c.args.self.now.cursor.text c.args.list c.if-not-matches.list o c.args.self.now.cursor.last listed nodes seen);
+      listed = listed;
+      start = ap (λ x. x.start) span;
+      low = λ h. subst (λ x. parts_height x ≤ c.args.high) (sym nodes) h;
+      seen = same_right c.args.list c.if-not-matches.list listed nodes seen;
+      complete = reaches_first c.args.self.now.cursor.text c.args.list c.if-not-matches.list c.args.self.now.cursor c.args.self.now.pairs.items listed nodes seen;
+      begins = λ covers. elim c.if-not-matches.branch [
+        | list-then-not-matches w ↦ subst (BeginsBy c.args.self.now.cursor) (sym (ap (λ x. x.inside.start) w.list-is ∙ ap (λ x. x.start) w.span_from-list.ensures)) w.operand_start.ensures
+        | list-else-not-matches w ↦ elim c.match-matches.branch [
+          | list-in-Sequence u ↦ not_a_sequence c.args.list.listed u.in-Sequence.has_in u.in-Sequence.is covers
+          | list-in_default u ↦ absurd (false≢true (sym u.matches-is ∙ w.if-not-matches.false))
+        ]
+      ];
+    }
+
+pub list-items-preserved : goal.list-items-preserved
+list-items-preserved t c =
+    let v = c.items.invariant in
+    let on = v.forward in
+    let passed = c.has_item.ensures.forward in
+    let further = c.item.ensures.forward in
+    let after = c.is_separated.ensures.forward in
+    let separated = c.is_separated.ensures.separated in
+    let places = item_places c.in_ok-item.ensures.derived in
+    let k2 : ListBuilder = record c.item.new.list { inside = c.span_from-list-in-items.result } in
+    record {
+      same = c.is_separated.ensures.text ∙ c.item.ensures.text ∙ c.has_item.ensures.text ∙ v.same;
+      forward = omega arith;
+      derived = further_item c.args.list c.items.list c.item.new.list k2 c.is_separated.new.list v.derived v.same c.items-test.ensures.passed c.has_item.ensures.text c.has_item.ensures.same_open c.has_item.ensures.same_pairs c.items-test.ensures.item.0 c.in_ok-item.ensures.derived c.item.ensures.text refl refl refl c.is_separated.ensures.same_open c.is_separated.ensures.same_pairs c.if-not-is_separated.ensures.comma (separated ∙ ap (after_item k2) c.if-not-is_separated.false);
+      listed = c.is_separated.ensures.listed ∙ c.item.ensures.listed ∙ v.listed;
+      start = ap (λ x. x.span.start) separated ∙ after_start k2 c.is_separated.result ∙ places.0 ∙ v.start;
+      low = λ h. subst (λ x. parts_height x ≤ c.args.high) (sym (ap (λ x. x.nodes) separated ∙ after_nodes k2 c.is_separated.result)) (c.in_ok-item.ensures.low (v.low h));
+      seen = λ h. subst SeenRight (sym separated) (right_after k2 c.is_separated.result (same_right c.item.new.list k2 refl refl refl (right_items c.items.list c.item.new.list c.in_ok-item.ensures.derived (v.seen h))));
+      complete = reached_more {s = c.args.self.now.cursor} {m = c.items.self.cursor} {t = c.has_item.new.self.cursor} {e = c.item.new.self.cursor} {x = c.is_separated.new.self.cursor} {old = c.args.self.now.pairs.items} {mid = c.items.self.pairs.items} {tmid = c.has_item.new.self.pairs.items} {emid = c.item.new.self.pairs.items} {new = c.is_separated.new.self.pairs.items} c.args.high c.args.list c.items.list c.item.new.list k2 c.is_separated.new.list tt v.complete v.listed v.same c.items-test.ensures.passed c.items-test.ensures.first c.has_item.ensures.text c.has_item.ensures.same_pairs c.items-test.ensures.item.0 c.items-test.ensures.item.1 c.in_ok-item.ensures.complete c.item.ensures.text c.item.ensures.listed refl refl refl c.if-not-is_separated.ensures.comma (separated ∙ ap (after_item k2) c.if-not-is_separated.false) c.is_separated.ensures.same_pairs;
+      begins = λ covers. subst (BeginsBy c.args.self.now.cursor) (sym (ap (λ x. x.inside.start) separated ∙ after_inside k2 c.is_separated.result ∙ ap (λ x. x.start) c.span_from-list-in-items.ensures ∙ places.1)) (v.begins covers);
+    }
+
+pub list-returns-clause-seen : goal.list-returns-clause-seen
+list-returns-clause-seen t c = λ h. same_right c.items-test.list _ refl refl refl (elim c.items-test.branch [
+  | list-else-items-test w ↦ subst SeenRight (sym w.list-is) (c.items.invariant.seen h)
+  | list-then-items-test+in_ok-item+then-not-is_separated w ↦
+      let k2 : ListBuilder = record w.item.new.list { inside = w.span_from-list-in-items.result } in
+      subst SeenRight (sym (w.list-is ∙ w.is_separated.ensures.separated)) (right_after k2 w.is_separated.result (same_right w.item.new.list k2 refl refl refl (right_items c.items.list w.item.new.list w.in_ok-item.ensures.derived (c.items.invariant.seen h))))
+])
+
+pub arrow_function-returns-then-sees_punctuator-clause-derived : goal.arrow_function-returns-then-sees_punctuator-clause-derived
+arrow_function-returns-then-sees_punctuator-clause-derived t c =
+    let span = c.span_from-span.ensures in
+    let tree : c.in_ok-node.node ≡ node ArrowFunctionExpression [] plain c.args.start c.read_symbols.new.self.cursor.last.stop c.read_symbols.new.built.nodes = c.in_ok-node.ensures.0 ∙ (λ i. node ArrowFunctionExpression [] plain (span i).start (span i).end c.read_symbols.new.built.nodes) in
+    arrow_block c.of-built.result c.read_symbols.new.built c.in_ok-node.node c.plain.result c.expect_punctuator.ensures.text c.expect_punctuator.ensures.same_open c.expect_punctuator.ensures.same_pairs c.in_ok-expect_punctuator.ensures.accepted.0 c.of-built.ensures c.body_symbols.ensures c.in_ok-read_symbols.ensures.derived tree c.plain.ensures
+
+pub arrow_function-returns-clause-derived : goal.arrow_function-returns-clause-derived
+arrow_function-returns-clause-derived t c =
+    let span = c.span_from-span-2.ensures in
+    let parts : c.push.new.self ≡ push c.args.parameters c.in_ok-into_expression.field-0 = c.in_ok-push.ensures.pushed ∙ ap (λ b. push b.nodes c.in_ok-into_expression.field-0) c.of-built.ensures in
+    let tree : c.in_ok-node-2.node ≡ node ArrowFunctionExpression [] concise c.args.start c.expression.new.self.cursor.last.stop c.push.new.self = c.in_ok-node-2.ensures.0 ∙ (λ i. node ArrowFunctionExpression [] concise (span i).start (span i).end c.push.new.self) in
+    arrow_concise c.in_ok-body.body c.in_ok-node-2.node c.in_ok-into_expression.field-0 c.plain-2.result c.expect_punctuator.ensures.text c.expect_punctuator.ensures.same_open c.expect_punctuator.ensures.same_pairs c.in_ok-expect_punctuator.ensures.accepted.0 c.concise_body.ensures c.in_ok-body.ensures.derived c.in_ok-into_expression.ensures.settled.0 c.in_ok-into_expression.ensures.settled.1 parts tree c.plain-2.ensures
+
+pub arrow_function-returns-in_err-expect_punctuator-clause-complete : goal.arrow_function-returns-in_err-expect_punctuator-clause-complete
+arrow_function-returns-in_err-expect_punctuator-clause-complete t c =
+    arrow_unsigned c.args.self.now.cursor c.args.self.now.cursor c.args.self.now.pairs.items c.args.self.now.pairs.items c.args.high c.args.high c.args.parameters c.args.start c.args.has_in c.expect_punctuator.new.self.cursor c.expect_punctuator.new.self.pairs.items c.from_residual.result c.in_err-expect_punctuator.field-0.0
+    c.from_residual.ensures.1 c.in_err-expect_punctuator.ensures.missed.0
+
+pub arrow_function-returns-in_err-read_symbols-clause-complete : goal.arrow_function-returns-in_err-read_symbols-clause-complete
+arrow_function-returns-in_err-read_symbols-clause-complete t c =
+    arrow_block_refused c.args.self.now.cursor c.expect_punctuator.new.self.cursor c.args.self.now.pairs.items c.expect_punctuator.new.self.pairs.items c.args.high c.saturating_sub-inner.result c.args.parameters c.args.start c.args.has_in c.expect_punctuator.ensures.text c.expect_punctuator.ensures.same_open c.expect_punctuator.ensures.same_pairs c.in_ok-expect_punctuator.ensures.accepted.0 c.saturating_sub-inner.ensures
+    c.read_symbols.new.self.cursor c.read_symbols.new.self.pairs.items c.from_residual-in_err-read_symbols.result c.in_err-read_symbols.field-0.0 true _ c.of-built.result c.read_symbols.new.built c.from_residual-in_err-read_symbols.ensures.1 c.if-sees_punctuator.ensures.seen c.body_symbols.ensures c.in_err-read_symbols.ensures.complete
+
+pub arrow_function-returns-in_err-node-clause-complete : goal.arrow_function-returns-in_err-node-clause-complete
+arrow_function-returns-in_err-node-clause-complete t c =
+    arrow_block_high c.args.self.now.cursor c.expect_punctuator.new.self.cursor c.args.self.now.pairs.items c.expect_punctuator.new.self.pairs.items c.args.high c.saturating_sub-inner.result c.args.parameters c.args.start c.args.has_in c.expect_punctuator.ensures.text c.expect_punctuator.ensures.same_open c.expect_punctuator.ensures.same_pairs c.in_ok-expect_punctuator.ensures.accepted.0 c.saturating_sub-inner.ensures
+    c.read_symbols.new.self.cursor c.read_symbols.new.self.pairs.items c.from_residual-in_err-node.result c.in_err-node.field-0.0 true _ c.of-built.result c.read_symbols.new.built plain c.span_from-span.result.start c.span_from-span.result.end c.from_residual-in_err-node.ensures.1 c.if-sees_punctuator.ensures.seen c.body_symbols.ensures c.of-built.ensures
+    c.in_ok-read_symbols.ensures.complete c.in_err-node.ensures
+
+pub arrow_function-returns-then-sees_punctuator-clause-complete : goal.arrow_function-returns-then-sees_punctuator-clause-complete
+arrow_function-returns-then-sees_punctuator-clause-complete t c =
+    let span = c.span_from-span.ensures in
+    let tree : c.in_ok-node.node ≡ node ArrowFunctionExpression [] plain c.args.start c.read_symbols.new.self.cursor.last.stop c.read_symbols.new.built.nodes = c.in_ok-node.ensures.0 ∙ (λ i. node ArrowFunctionExpression [] plain (span i).start (span i).end c.read_symbols.new.built.nodes) in
+    arrow_block_done c.args.self.now.cursor c.expect_punctuator.new.self.cursor c.args.self.now.pairs.items c.expect_punctuator.new.self.pairs.items c.args.high c.saturating_sub-inner.result c.args.parameters c.args.start c.args.has_in c.expect_punctuator.ensures.text c.expect_punctuator.ensures.same_open c.expect_punctuator.ensures.same_pairs c.in_ok-expect_punctuator.ensures.accepted.0 c.saturating_sub-inner.ensures
+    c.read_symbols.new.self.cursor c.read_symbols.new.self.pairs.items true _ c.of-built.result c.read_symbols.new.built c.in_ok-node.node c.plain.result c.if-sees_punctuator.ensures.seen c.body_symbols.ensures c.of-built.ensures c.in_ok-read_symbols.ensures.complete tree c.plain.ensures
+
+pub arrow_function-returns-in_err-body-clause-complete : goal.arrow_function-returns-in_err-body-clause-complete
+arrow_function-returns-in_err-body-clause-complete t c =
+    arrow_value_refused c.args.self.now.cursor c.expect_punctuator.new.self.cursor c.args.self.now.pairs.items c.expect_punctuator.new.self.pairs.items c.args.high c.saturating_sub-inner.result c.args.parameters c.args.start c.args.has_in c.expect_punctuator.ensures.text c.expect_punctuator.ensures.same_open c.expect_punctuator.ensures.same_pairs c.in_ok-expect_punctuator.ensures.accepted.0 c.saturating_sub-inner.ensures
+    c.expression.new.self.cursor c.expression.new.self.pairs.items c.from_residual-in_err-body.result c.in_err-body.field-0.0 c.concise_body.result c.from_residual-in_err-body.ensures.1 c.if-sees_punctuator.ensures.missed c.concise_body.ensures c.in_err-body.ensures.complete
+
+pub arrow_function-returns-in_err-into_expression-clause-complete : goal.arrow_function-returns-in_err-into_expression-clause-complete
+arrow_function-returns-in_err-into_expression-clause-complete t c =
+    arrow_value_settles c.args.self.now.cursor c.expect_punctuator.new.self.cursor c.args.self.now.pairs.items c.expect_punctuator.new.self.pairs.items c.args.high c.saturating_sub-inner.result c.args.parameters c.args.start c.args.has_in c.expect_punctuator.ensures.text c.expect_punctuator.ensures.same_open c.expect_punctuator.ensures.same_pairs c.in_ok-expect_punctuator.ensures.accepted.0 c.saturating_sub-inner.ensures
+    c.expression.new.self.cursor c.expression.new.self.pairs.items c.from_residual-in_err-into_expression.result c.in_err-into_expression.field-0.0 c.concise_body.result c.in_ok-body.body c.expression.new.self.cursor c.if-sees_punctuator.ensures.missed c.concise_body.ensures c.in_ok-body.ensures.complete c.in_err-into_expression.ensures.settled
+
+pub arrow_function-returns-in_err-node-2-clause-complete : goal.arrow_function-returns-in_err-node-2-clause-complete
+arrow_function-returns-in_err-node-2-clause-complete t c =
+    arrow_value_high c.args.self.now.cursor c.expect_punctuator.new.self.cursor c.args.self.now.pairs.items c.expect_punctuator.new.self.pairs.items c.args.high c.saturating_sub-inner.result c.args.parameters c.args.start c.args.has_in c.expect_punctuator.ensures.text c.expect_punctuator.ensures.same_open c.expect_punctuator.ensures.same_pairs c.in_ok-expect_punctuator.ensures.accepted.0 c.saturating_sub-inner.ensures
+    c.expression.new.self.cursor c.expression.new.self.pairs.items c.from_residual-in_err-node-2.result c.in_err-node-2.field-0.0 c.concise_body.result c.in_ok-body.body c.in_ok-into_expression.field-0 c.push.new.self concise c.span_from-span-2.result.start c.span_from-span-2.result.end c.from_residual-in_err-node-2.ensures.1 c.if-sees_punctuator.ensures.missed
+    c.concise_body.ensures c.in_ok-body.ensures.complete c.in_ok-into_expression.ensures.settled.0 (c.in_ok-push.ensures.pushed ∙ ap (λ b. push b.nodes c.in_ok-into_expression.field-0) c.of-built.ensures) c.in_err-node-2.ensures
+
+pub arrow_function-returns-clause-complete : goal.arrow_function-returns-clause-complete
+arrow_function-returns-clause-complete t c =
+    let span = c.span_from-span-2.ensures in
+    let parts : c.push.new.self ≡ push c.args.parameters c.in_ok-into_expression.field-0 = c.in_ok-push.ensures.pushed ∙ ap (λ b. push b.nodes c.in_ok-into_expression.field-0) c.of-built.ensures in
+    let tree : c.in_ok-node-2.node ≡ node ArrowFunctionExpression [] concise c.args.start c.expression.new.self.cursor.last.stop c.push.new.self = c.in_ok-node-2.ensures.0 ∙ (λ i. node ArrowFunctionExpression [] concise (span i).start (span i).end c.push.new.self) in
+    arrow_value_done c.args.self.now.cursor c.expect_punctuator.new.self.cursor c.args.self.now.pairs.items c.expect_punctuator.new.self.pairs.items c.args.high c.saturating_sub-inner.result c.args.parameters c.args.start c.args.has_in c.expect_punctuator.ensures.text c.expect_punctuator.ensures.same_open c.expect_punctuator.ensures.same_pairs c.in_ok-expect_punctuator.ensures.accepted.0 c.saturating_sub-inner.ensures
+    c.expression.new.self.cursor c.expression.new.self.pairs.items c.concise_body.result c.in_ok-body.body c.in_ok-into_expression.field-0 c.in_ok-node-2.node c.push.new.self c.plain-2.result c.if-sees_punctuator.ensures.missed c.concise_body.ensures c.in_ok-body.ensures.complete c.in_ok-into_expression.ensures.settled.0 parts tree c.plain-2.ensures
+
+pub parenthesized-returns-clause-derived : goal.parenthesized-returns-clause-derived
+parenthesized-returns-clause-derived t c =
+    let w = in_parens c.args.self.now.cursor c.enter.new.self.cursor c.open.new.self.cursor c.list.new.self.cursor c.in_ok-list.list c.in_ok-list-2.list c.enter.ensures.text c.enter.ensures.last c.open.ensures.text c.open.ensures.same_open c.open.ensures.same_pairs c.in_ok-list.ensures.listed c.in_ok-list.ensures.begun c.in_ok-list-2.ensures.derived c.in_ok-list-2.ensures.same c.in_ok-list-2.ensures.seen c.in_ok-list-2.ensures.inside in
+    let l = c.in_ok-list-2.list in
+    let s = c.args.self.now.cursor in
+    let room : s.opened < max_open = c.in_ok-place.ensures.opened.0 in
+    let more_open : c.enter.new.self.cursor.opened ≡ s.opened + 1 = c.in_ok-place.ensures.opened.1 in
+    let less_open = ap (λ (p : CursorState). p.opened) c.close_pair.ensures.cursor ∙ c.leave-at.ensures.closed in
+    let inner_open : c.list.new.self.cursor.opened ≡ c.enter.new.self.cursor.opened = w.1 in
+    let same_open : c.close_pair.new.self.cursor.opened ≡ s.opened = omega arith in
+    let last : c.close_pair.new.self.cursor.last ≡ c.list.new.self.cursor.last = ap (λ (p : CursorState). p.last) c.close_pair.ensures.cursor ∙ c.leave-at.ensures.last in
+    let end : c.saturating_sub-end.result ≡ c.list.new.self.cursor.last.stop - 1 = c.saturating_sub-end.ensures ∙ ap (λ x. x - 1) (c.last_end.ensures ∙ ap (λ (t : Token). t.stop) c.leave-at.ensures.last) in
+    let long : length c.args.self.now.pairs.items ≡ c.in_ok-place.place = sym (c.in_ok-place.ensures.place.0 ∙ c.args.self.now.pairs.ok.0) in
+    let kept : c.leave-at.new.self.pairs.items ≡ c.list.new.self.pairs.items = c.leave-at.ensures.same_pairs in
+    let inside = pair_place c.args.self.now.pairs.items w.0.more c.enter.new.self.pairs.items c.list.new.self.pairs.items (record { left = c.in_ok-place.start; right = c.in_ok-place.start }) c.in_ok-place.place w.0.pairs c.in_ok-place.ensures.pairs (sym long) in
+    let within = subst (λ x. c.in_ok-place.place < x) (sym (c.leave-at.new.self.pairs.ok.0 ∙ ap length kept)) inside in
+    let closed = c.close_pair.ensures.pairs within ∙ ap (λ x. set x c.in_ok-place.place (record { left = c.in_ok-place.start; right = c.saturating_sub-end.result })) kept in
+    yields_ok (list_group l) (λ place. place ≡ c.leave-at.result) (is_grouped l) (group_levels l.nodes) c.args.high (λ part. Adds s c.close_pair.new.self.cursor c.args.self.now.pairs.items c.close_pair.new.self.pairs.items (ReadAt s.text c.args.position part)) c.finish_group.result c.finish_group.ensures.made (λ fits low.
+    group_read s c.enter.new.self.cursor c.close_pair.new.self.cursor l c.args.position c.in_ok-place.place c.in_ok-place.start c.saturating_sub-end.result room more_open c.in_ok-place.ensures.place.1 c.in_ok-place.ensures.pairs w.0 last same_open end long closed fits)
+
+pub parenthesized-returns-clause-low : goal.parenthesized-returns-clause-low
+parenthesized-returns-clause-low t c =
+    let l = c.in_ok-list-2.list in
+    yields_ok (list_group l) (λ place. place ≡ c.leave-at.result) (is_grouped l) (group_levels l.nodes) c.args.high (λ part. height part.cover.node ≤ c.args.high) c.finish_group.result c.finish_group.ensures.made (λ fits low.
+    group_low l.nodes l.inside.start l.inside.end c.args.high (c.in_ok-list-2.ensures.low (first_low c.enter.new.self.cursor c.open.new.self.cursor c.in_ok-list.list c.args.high c.in_ok-list.ensures.listed c.in_ok-list.ensures.begun)) low)
+
+pub parenthesized-returns-then-accepts_rank-clause-derived : goal.parenthesized-returns-then-accepts_rank-clause-derived
+parenthesized-returns-then-accepts_rank-clause-derived t c =
+    let w = in_parens c.args.self.now.cursor c.enter.new.self.cursor c.open.new.self.cursor c.list.new.self.cursor c.in_ok-list.list c.in_ok-list-2.list c.enter.ensures.text c.enter.ensures.last c.open.ensures.text c.open.ensures.same_open c.open.ensures.same_pairs c.in_ok-list.ensures.listed c.in_ok-list.ensures.begun c.in_ok-list-2.ensures.derived c.in_ok-list-2.ensures.same c.in_ok-list-2.ensures.seen c.in_ok-list-2.ensures.inside in
+    let l = c.in_ok-list-2.list in
+    let s = c.args.self.now.cursor in
+    let k = c.leave-at.new.self.cursor in
+    let room : s.opened < max_open = c.in_ok-place.ensures.opened.0 in
+    let more_open : c.enter.new.self.cursor.opened ≡ s.opened + 1 = c.in_ok-place.ensures.opened.1 in
+    let less_open = c.leave-at.ensures.closed in
+    let inner_open : c.list.new.self.cursor.opened ≡ c.enter.new.self.cursor.opened = w.1 in
+    let same_open : k.opened ≡ s.opened = omega arith in
+    let texts : k.text ≡ s.text = c.leave-at.ensures.text ∙ c.list.ensures.text ∙ c.open.ensures.text ∙ c.enter.ensures.text in
+    let whole = subst (λ x. InParens s.text s.last c.open.new.self.cursor.last x (max_open - c.enter.new.self.cursor.opened) l c.enter.new.self.pairs.items c.list.new.self.pairs.items) (sym c.leave-at.ensures.last) w.0 in
+    let sign = c.if-sees_arrow.ensures.seen in
+    ok_map (λ part. Adds k c.arrow_function.new.self.cursor c.leave-at.new.self.pairs.items c.arrow_function.new.self.pairs.items (ArrowAt k.text c.args.position.has_in c.in_ok-parameters.parameters c.in_ok-place.start part)) (λ part. Adds s c.arrow_function.new.self.cursor c.args.self.now.pairs.items c.arrow_function.new.self.pairs.items (ReadAt s.text c.args.position part)) c.arrow_function.result c.arrow_function.ensures.derived (λ part a.
+    arrow_read s c.enter.new.self.cursor k c.arrow_function.new.self.cursor l c.args.position c.in_ok-parameters.parameters c.in_ok-place.start part sign.0 room more_open c.in_ok-place.ensures.place.1 c.in_ok-place.ensures.pairs whole texts same_open c.leave-at.ensures.same_pairs c.in_ok-parameters.ensures.made.0 c.in_ok-parameters.ensures.made.1 sign.1 sign.2 (sym c.accepts_rank.ensures ∙ c.if-accepts_rank.true) a)
+
+pub parenthesized-returns-in_err-place-clause-complete : goal.parenthesized-returns-in_err-place-clause-complete
+parenthesized-returns-in_err-place-clause-complete t c =
+    paren_unopened c.args.self.now.cursor c.enter.new.self.cursor c.args.self.now.pairs.items c.enter.new.self.pairs.items c.args.high c.args.position c.from_residual.result c.in_err-place.field-0.0 c.from_residual.ensures.1 c.in_err-place.ensures.too_deep
+
+pub parenthesized-returns-in_err-list-2-clause-complete : goal.parenthesized-returns-in_err-list-2-clause-complete
+parenthesized-returns-in_err-list-2-clause-complete t c =
+    let s = c.args.self.now.cursor in
+    let here = opened_here s c.enter.new.self.cursor c.open.new.self.cursor c.in_ok-list.list c.enter.ensures.text c.enter.ensures.last c.in_ok-list.ensures.listed c.in_ok-list.ensures.begun in
+    paren_list_refused s c.open.new.self.cursor c.args.self.now.pairs.items c.open.new.self.pairs.items c.args.high c.args.position c.in_ok-list.list (c.open.ensures.text ∙ c.enter.ensures.text) (c.open.ensures.same_open ∙ c.in_ok-place.ensures.opened.1) here.0 here.1
+    c.list.new.self.cursor c.list.new.self.cursor c.list.new.self.pairs.items c.list.new.self.pairs.items c.from_residual-in_err-list-2.result c.in_err-list-2.field-0.0 c.from_residual-in_err-list-2.ensures.1 c.in_err-list-2.ensures.complete
+
+pub parenthesized-returns-in_err-parameters-clause-complete : goal.parenthesized-returns-in_err-parameters-clause-complete
+parenthesized-returns-in_err-parameters-clause-complete t c =
+    let s = c.args.self.now.cursor in
+    let here = opened_here s c.enter.new.self.cursor c.open.new.self.cursor c.in_ok-list.list c.enter.ensures.text c.enter.ensures.last c.in_ok-list.ensures.listed c.in_ok-list.ensures.begun in
+    paren_unbound s c.open.new.self.cursor c.args.self.now.pairs.items c.open.new.self.pairs.items c.args.high c.args.position c.in_ok-list.list (c.open.ensures.text ∙ c.enter.ensures.text) (c.open.ensures.same_open ∙ c.in_ok-place.ensures.opened.1) here.0 here.1
+    c.list.new.self.cursor c.list.new.self.pairs.items c.in_ok-list-2.list (c.in_ok-list-2.ensures.same.0 ∙ c.in_ok-list.ensures.listed) c.in_ok-list-2.ensures.complete c.leave-at.new.self.cursor c.leave-at.ensures.last (c.leave-at.ensures.text ∙ c.list.ensures.text ∙ c.open.ensures.text ∙ c.enter.ensures.text) c.if-sees_arrow.ensures.seen.0 c.if-sees_arrow.ensures.seen.1 c.if-sees_arrow.ensures.seen.2 (sym c.accepts_rank.ensures ∙ c.if-accepts_rank.true)
+    c.leave-at.new.self.cursor c.leave-at.new.self.pairs.items c.from_residual-in_err-parameters.result c.in_err-parameters.field-0.0 (pattern_parts 0 c.in_ok-list-2.list.nodes) c.leave-at.result c.from_residual-in_err-parameters.ensures.1 c.in_err-parameters.ensures.made
+
+pub parenthesized-returns-then-accepts_rank-clause-complete : goal.parenthesized-returns-then-accepts_rank-clause-complete
+parenthesized-returns-then-accepts_rank-clause-complete t c =
+    let s = c.args.self.now.cursor in
+    let here = opened_here s c.enter.new.self.cursor c.open.new.self.cursor c.in_ok-list.list c.enter.ensures.text c.enter.ensures.last c.in_ok-list.ensures.listed c.in_ok-list.ensures.begun in
+    let room : s.opened < max_open = c.in_ok-place.ensures.opened.0 in
+    let more_open : c.enter.new.self.cursor.opened ≡ s.opened + 1 = c.in_ok-place.ensures.opened.1 in
+    let open_same : c.open.new.self.cursor.opened ≡ c.enter.new.self.cursor.opened = c.open.ensures.same_open in
+    let list_same : c.list.new.self.cursor.opened ≡ c.open.new.self.cursor.opened = c.in_ok-list-2.ensures.derived.same_open in
+    let less_open = c.leave-at.ensures.closed in
+    paren_arrow_done s c.open.new.self.cursor c.args.self.now.pairs.items c.open.new.self.pairs.items c.args.high c.args.position c.in_ok-list.list (c.open.ensures.text ∙ c.enter.ensures.text) (c.open.ensures.same_open ∙ c.in_ok-place.ensures.opened.1) here.0 here.1
+    c.list.new.self.cursor c.list.new.self.pairs.items c.in_ok-list-2.list (c.in_ok-list-2.ensures.same.0 ∙ c.in_ok-list.ensures.listed) c.in_ok-list-2.ensures.complete c.leave-at.new.self.cursor c.leave-at.ensures.last (c.leave-at.ensures.text ∙ c.list.ensures.text ∙ c.open.ensures.text ∙ c.enter.ensures.text) c.if-sees_arrow.ensures.seen.0 c.if-sees_arrow.ensures.seen.1 c.if-sees_arrow.ensures.seen.2 (sym c.accepts_rank.ensures ∙ c.if-accepts_rank.true)
+    c.arrow_function.new.self.cursor c.leave-at.new.self.pairs.items c.arrow_function.new.self.pairs.items c.in_ok-parameters.parameters c.in_ok-place.start c.arrow_function.result (c.open.ensures.same_pairs ∙ c.in_ok-place.ensures.pairs) c.leave-at.ensures.same_pairs (omega arith) (place_mark s c.in_ok-place.ensures.place.1 here.0) c.in_ok-parameters.ensures.made.0
+    c.arrow_function.ensures.derived c.arrow_function.ensures.complete
+
+pub parenthesized-returns-clause-complete : goal.parenthesized-returns-clause-complete
+parenthesized-returns-clause-complete t c =
+    let s = c.args.self.now.cursor in
+    let here = opened_here s c.enter.new.self.cursor c.open.new.self.cursor c.in_ok-list.list c.enter.ensures.text c.enter.ensures.last c.in_ok-list.ensures.listed c.in_ok-list.ensures.begun in
+    let w = in_parens c.args.self.now.cursor c.enter.new.self.cursor c.open.new.self.cursor c.list.new.self.cursor c.in_ok-list.list c.in_ok-list-2.list c.enter.ensures.text c.enter.ensures.last c.open.ensures.text c.open.ensures.same_open c.open.ensures.same_pairs c.in_ok-list.ensures.listed c.in_ok-list.ensures.begun c.in_ok-list-2.ensures.derived c.in_ok-list-2.ensures.same c.in_ok-list-2.ensures.seen c.in_ok-list-2.ensures.inside in
+    let l = c.in_ok-list-2.list in
+    let room : s.opened < max_open = c.in_ok-place.ensures.opened.0 in
+    let more_open : c.enter.new.self.cursor.opened ≡ s.opened + 1 = c.in_ok-place.ensures.opened.1 in
+    let less_open = ap (λ (p : CursorState). p.opened) c.close_pair.ensures.cursor ∙ c.leave-at.ensures.closed in
+    let inner_open : c.list.new.self.cursor.opened ≡ c.enter.new.self.cursor.opened = w.1 in
+    let same_open : c.close_pair.new.self.cursor.opened ≡ s.opened = omega arith in
+    let last : c.close_pair.new.self.cursor.last ≡ c.list.new.self.cursor.last = ap (λ (p : CursorState). p.last) c.close_pair.ensures.cursor ∙ c.leave-at.ensures.last in
+    let end : c.saturating_sub-end.result ≡ c.list.new.self.cursor.last.stop - 1 = c.saturating_sub-end.ensures ∙ ap (λ x. x - 1) (c.last_end.ensures ∙ ap (λ (t : Token). t.stop) c.leave-at.ensures.last) in
+    let long : length c.args.self.now.pairs.items ≡ c.in_ok-place.place = sym (c.in_ok-place.ensures.place.0 ∙ c.args.self.now.pairs.ok.0) in
+    let kept : c.leave-at.new.self.pairs.items ≡ c.list.new.self.pairs.items = c.leave-at.ensures.same_pairs in
+    let inside = pair_place c.args.self.now.pairs.items w.0.more c.enter.new.self.pairs.items c.list.new.self.pairs.items (record { left = c.in_ok-place.start; right = c.in_ok-place.start }) c.in_ok-place.place w.0.pairs c.in_ok-place.ensures.pairs (sym long) in
+    let within = subst (λ x. c.in_ok-place.place < x) (sym (c.leave-at.new.self.pairs.ok.0 ∙ ap length kept)) inside in
+    let closed = c.close_pair.ensures.pairs within ∙ ap (λ x. set x c.in_ok-place.place (record { left = c.in_ok-place.start; right = c.saturating_sub-end.result })) kept in
+    let derived : IfOk c.finish_group.result (λ part. Adds s c.close_pair.new.self.cursor c.args.self.now.pairs.items c.close_pair.new.self.pairs.items (ReadAt s.text c.args.position part)) = yields_ok (list_group l) (λ place. place ≡ c.leave-at.result) (is_grouped l) (group_levels l.nodes) c.args.high (λ part. Adds s c.close_pair.new.self.cursor c.args.self.now.pairs.items c.close_pair.new.self.pairs.items (ReadAt s.text c.args.position part)) c.finish_group.result c.finish_group.ensures.made (λ fits low. group_read s c.enter.new.self.cursor c.close_pair.new.self.cursor l c.args.position c.in_ok-place.place c.in_ok-place.start c.saturating_sub-end.result room more_open c.in_ok-place.ensures.place.1 c.in_ok-place.ensures.pairs w.0 last same_open end long closed fits) in
+    let quiet : (v : Token) → ReadsHere s.text Punctuator (codes "=>") c.list.new.self.cursor.last v → v.after_break ≡ false → IsTrue (takes c.args.position.rank Assignment) → ⊥ =
+    elim c.else-sees_arrow.branch [
+      | parenthesized-else-sees_arrow-via-then-sees_arrow+else-accepts_rank w ↦ λ v eq line tk. false≢true (sym w.if-accepts_rank.false ∙ w.accepts_rank.ensures ∙ tk)
+      | parenthesized-else-sees_arrow-via-else-sees_arrow w ↦ λ v eq line tk. arrow_missed s c.list.new.self.cursor c.leave-at.new.self.cursor c.leave-at.ensures.last (c.leave-at.ensures.text ∙ c.list.ensures.text ∙ c.open.ensures.text ∙ c.enter.ensures.text) w.if-sees_arrow.ensures.missed v eq line
+    ] in
+    paren_group_done s c.open.new.self.cursor c.args.self.now.pairs.items c.open.new.self.pairs.items c.args.high c.args.position c.in_ok-list.list (c.open.ensures.text ∙ c.enter.ensures.text) (c.open.ensures.same_open ∙ c.in_ok-place.ensures.opened.1) here.0 here.1
+    c.list.new.self.cursor c.list.new.self.pairs.items c.in_ok-list-2.list (c.in_ok-list-2.ensures.same.0 ∙ c.in_ok-list.ensures.listed) c.in_ok-list-2.ensures.complete quiet
+    c.close_pair.new.self.cursor c.close_pair.new.self.pairs.items (λ place. place ≡ c.leave-at.result) c.finish_group.result c.finish_group.ensures.made derived
+
+pub bracketed_list-returns-clause-derived : goal.bracketed_list-returns-clause-derived
+bracketed_list-returns-clause-derived t c =
+    let s = c.args.self.now.cursor in
+    let l0 = c.in_ok-list.list in
+    let l = c.in_ok-list-2.list in
+    let coded = c.requires.coded in
+    makes_ok (listed_part l) (height (listed_node l)) c.args.high (λ part. Adds s c.list.new.self.cursor c.args.self.now.pairs.items c.list.new.self.pairs.items (ReadAt s.text c.args.position part)) c.finish_list.result c.finish_list.ensures.made (λ low.
+    list_read s c.open.new.self.cursor c.list.new.self.cursor l0 l c.args.position (token_of c.args.token) c.args.what c.open.ensures.text c.open.ensures.same_open c.open.ensures.same_pairs c.requires.ahead coded c.requires.stands c.in_ok-list.ensures.listed c.in_ok-list.ensures.begun c.in_ok-list.ensures.template
+    c.in_ok-list-2.ensures.derived c.in_ok-list-2.ensures.same c.in_ok-list-2.ensures.seen)
+
+pub prefix_expression-returns-clause-derived : goal.prefix_expression-returns-clause-derived
+prefix_expression-returns-clause-derived t c =
+    let s = c.args.self.now.cursor in
+    let e = c.expression.new.self.cursor in
+    let t = token_of c.args.token in
+    let r = c.in_ok-operand.operand in
+    let coded = c.requires.coded in
+    yields_ok (prefixed_part (is_prefix_update t.text) t.text t.start e.last.stop r) (IsPlaceHere e) (takes_operand (is_prefix_update t.text) r.cover.shape) (height (prefixed_node (is_prefix_update t.text) t.text t.start e.last.stop r.cover.node)) c.args.high (λ part. Adds s e c.args.self.now.pairs.items c.expression.new.self.pairs.items (ReadAt s.text c.args.position part)) c.prefix_operand.result c.prefix_operand.ensures.made (λ fits low.
+    prefix_read s c.advance.new.self.cursor e c.args.position c.at-place.result r t c.args.own c.args.side c.advance.ensures.text c.advance.ensures.same_open c.advance.ensures.same_pairs c.advance.ensures.reads c.advance.ensures.last coded c.requires.stands c.at-place.ensures c.in_ok-operand.ensures.derived fits)
+
+pub prefix_expression-returns-clause-low : goal.prefix_expression-returns-clause-low
+prefix_expression-returns-clause-low t c =
+    let e = c.expression.new.self.cursor in
+    let t = token_of c.args.token in
+    let r = c.in_ok-operand.operand in
+    yields_ok (prefixed_part (is_prefix_update t.text) t.text t.start e.last.stop r) (IsPlaceHere e) (takes_operand (is_prefix_update t.text) r.cover.shape) (height (prefixed_node (is_prefix_update t.text) t.text t.start e.last.stop r.cover.node)) c.args.high (λ part. height part.cover.node ≤ c.args.high) c.prefix_operand.result c.prefix_operand.ensures.made (λ fits low.
+    prefix_low (is_prefix_update t.text) t.text t.start e.last.stop r c.args.high low)
+
+pub token_or_prefix-returns-else-is_name-clause-derived : goal.token_or_prefix-returns-else-is_name-clause-derived
+token_or_prefix-returns-else-is_name-clause-derived t c =
+    let s = c.args.self.now.cursor in
+    let m = c.advance.new.self.cursor in
+    let coded = c.requires.coded ∙ ap Some c.in-OneToken.is in
+    let result = c.plain.ensures ∙ ap (λ n. plain_part n Primary Other) c.in_ok-node-in-OneToken.ensures.made.0 in
+    subst (λ part. Adds s m c.args.self.now.pairs.items c.advance.new.self.pairs.items (ReadAt s.text c.args.position part)) (sym result)
+    (single_read s m c.args.position (token_of c.args.token) c.in-OneToken.kind c.advance.ensures.same_open c.advance.ensures.same_pairs c.advance.ensures.reads c.advance.ensures.last coded)
+
+pub token_or_prefix-returns-then-accepts_rank-clause-derived : goal.token_or_prefix-returns-then-accepts_rank-clause-derived
+token_or_prefix-returns-then-accepts_rank-clause-derived t c =
+    let s = c.args.self.now.cursor in
+    let m = c.advance.new.self.cursor in
+    let coded = c.requires.coded ∙ ap Some c.in-OneToken.is in
+    let kind = name_kind c.in-OneToken.kind (sym c.is_name.ensures ∙ c.if-is_name.true) in
+    let parameter = c.in_ok-parameter-in-OneToken.ensures.made ∙ ap (λ n. part n none) c.in_ok-node-in-OneToken.ensures.made.0 in
+    let sign = c.if-sees_arrow.ensures.seen in
+    ok_map (λ r. Adds m c.arrow_function.new.self.cursor c.advance.new.self.pairs.items c.arrow_function.new.self.pairs.items (ArrowAt m.text c.args.position.has_in c.in_ok-parameter-in-OneToken.parameter c.args.token.start r)) (λ r. Adds s c.arrow_function.new.self.cursor c.args.self.now.pairs.items c.arrow_function.new.self.pairs.items (ReadAt s.text c.args.position r)) c.arrow_function.result c.arrow_function.ensures.derived (λ r a.
+    name_arrow s m c.arrow_function.new.self.cursor c.args.position (token_of c.args.token) c.in-OneToken.kind c.in_ok-parameter-in-OneToken.parameter c.args.token.start r sign.0 c.advance.ensures.text c.advance.ensures.same_open c.advance.ensures.same_pairs c.advance.ensures.reads c.advance.ensures.last coded kind parameter refl sign.1 sign.2 (sym c.accepts_rank.ensures ∙ c.if-accepts_rank.true) a)
+
+pub leftmost_operand-returns-in_default-clause-complete : goal.leftmost_operand-returns-in_default-clause-complete
+leftmost_operand-returns-in_default-clause-complete t c = λ a h o n to P g. let u = opens_here c.args.self.now.cursor.text g in absurd (false≢true (sym (c.in_default.ensures.none u.token u.mid u.read) ∙ u.stands))
+
+pub leftmost_operand-returns-then-high-eq0-clause-complete : goal.leftmost_operand-returns-then-high-eq0-clause-complete
+leftmost_operand-returns-then-high-eq0-clause-complete t c = λ a h o n to P g room. let up = has_height n in let low = room.1 in let none_left = c.if-high-eq0.true in omega arith
+
+pub leftmost_operand-returns-in-Parenthesis-clause-complete : goal.leftmost_operand-returns-in-Parenthesis-clause-complete
+leftmost_operand-returns-in-Parenthesis-clause-complete t c = λ a h o n to P g. c.parenthesized.ensures.complete (parenthesis_ahead c.args.self.now.cursor.text c.args.self.now.cursor.last (token_of c.in-Some.token) c.in-Some.ensures.ahead (c.in-Some.ensures.coded ∙ ap Some c.in-Parenthesis.is)) a h o n to P g
+
+pub bracketed_list-returns-in_err-list-clause-complete : goal.bracketed_list-returns-in_err-list-clause-complete
+bracketed_list-returns-in_err-list-clause-complete t c = λ a h o n to P g.
+    let s = c.args.self.now.cursor in
+    let u = token_of c.args.token in
+    let coded = c.requires.coded in
+    let less = c.saturating_sub.ensures in
+    agrees_err (Room s o (height n) c.args.high) (FirstWith s c.open.new.self.cursor c.args.self.now.pairs.items c.open.new.self.pairs.items a h n to P) c.from_residual.result c.in_err-list.field-0.0 c.from_residual.ensures.1
+    (list_refuses s u c.args.what c.saturating_sub.result c.args.high c.in_err-list.field-0.0 c.requires.ahead coded c.in_err-list.ensures.not_begun c.in_err-list.ensures.untemplated less g)
+
+pub bracketed_list-returns-in_err-list-2-clause-complete : goal.bracketed_list-returns-in_err-list-2-clause-complete
+bracketed_list-returns-in_err-list-2-clause-complete t c = λ a h o n to P g.
+    let s = c.args.self.now.cursor in
+    let m = c.open.new.self.cursor in
+    let u = token_of c.args.token in
+    let coded = c.requires.coded in
+    let l0 = c.in_ok-list.list in
+    let v = list_rest s m l0 u c.args.what c.open.ensures.text c.requires.ahead coded c.in_ok-list.ensures.listed c.in_ok-list.ensures.begun c.in_ok-list.ensures.template g in
+    let low = v.low in
+    let less = c.saturating_sub-2.ensures in
+    agrees_on (Room m o (parts_height v.ps) c.saturating_sub-2.result) (Room s o (height n) c.args.high) (FirstWith s c.list.new.self.cursor c.args.self.now.pairs.items c.list.new.self.pairs.items a h n to P) c.from_residual-in_err-list-2.result c.in_err-list-2.field-0.0
+    c.from_residual-in_err-list-2.ensures.1 (c.in_err-list-2.ensures.complete a o v.ps to P v.given) (room_part s m c.open.ensures.same_open (λ l. omega arith))
+
+pub prefix_expression-returns-in_err-operand-clause-complete : goal.prefix_expression-returns-in_err-operand-clause-complete
+prefix_expression-returns-in_err-operand-clause-complete t c = λ a h o n to P g.
+    let s = c.args.self.now.cursor in
+    let m = c.advance.new.self.cursor in
+    let v = prefix_given s.text (token_of c.args.token) c.args.own c.args.side c.requires.ahead c.requires.coded g in
+    let symbols = operand_symbols (is_prefix_update (token_of c.args.token).text) in
+    let given = expression_given c.advance.ensures.text c.advance.ensures.last (c.at-place.ensures ∙ ap (λ y. record { rank = y; has_in = true; start = Any }) v.1) symbols.0 symbols.1 v.2.spelled v.2.stopped in
+    let low = operand_low v.2 in
+    agrees_on (Room m o (height v.2.operand) c.saturating_sub.result) (Room s o (height n) c.args.high) (λ r. IsFirst a h r n × EndsWith s c.expression.new.self.cursor c.args.self.now.pairs.items c.expression.new.self.pairs.items to P) c.from_residual.result c.in_err-operand.field-0.0
+    c.from_residual.ensures.1 (c.in_err-operand.ensures.complete as_expression o v.2.operand to P given) (room_part s m c.advance.ensures.same_open (λ l. let less = c.saturating_sub.ensures in omega arith))
+
+pub token_or_prefix-returns-then-accepts_rank-clause-complete : goal.token_or_prefix-returns-then-accepts_rank-clause-complete
+token_or_prefix-returns-then-accepts_rank-clause-complete t c = λ a h o n to P g.
+    let s = c.args.self.now.cursor in
+    let m = c.advance.new.self.cursor in
+    let u = token_of c.args.token in
+    let k = c.in-OneToken.kind in
+    let kind = name_kind k (sym c.is_name.ensures ∙ c.if-is_name.true) in
+    let parameter = c.in_ok-parameter-in-OneToken.ensures.made ∙ ap (λ n. part n none) (c.in_ok-node-in-OneToken.ensures.made.0 ∙ ap (λ k. single_node k u) kind) in
+    let sign = c.if-sees_arrow.ensures.seen in
+    let v = single_given s.text u k c.requires.ahead (c.requires.coded ∙ ap Some c.in-OneToken.is) g in
+    let w = arrow_given u k v kind (sym c.accepts_rank.ensures ∙ c.if-accepts_rank.true) (arrow_before s m c.advance.ensures.text c.advance.ensures.last sign.1) sign.2 in
+    arrow_agrees s m c.arrow_function.new.self.cursor c.args.self.now.pairs.items c.advance.new.self.pairs.items c.arrow_function.new.self.pairs.items c.args.position u c.in_ok-parameter-in-OneToken.parameter c.args.high c.arrow_function.result w c.advance.ensures.text c.advance.ensures.last c.advance.ensures.same_open c.advance.ensures.same_pairs parameter c.arrow_function.ensures.complete c.arrow_function.ensures.derived
+
+pub bracketed_list-returns-clause-complete : goal.bracketed_list-returns-clause-complete
+bracketed_list-returns-clause-complete t c = λ a h o n to P g.
+    let s = c.args.self.now.cursor in
+    let m = c.open.new.self.cursor in
+    let u = token_of c.args.token in
+    let coded = c.requires.coded in
+    let l0 = c.in_ok-list.list in
+    let v = list_rest s m l0 u c.args.what c.open.ensures.text c.requires.ahead coded c.in_ok-list.ensures.listed c.in_ok-list.ensures.begun c.in_ok-list.ensures.template g in
+    let low = v.low in
+    let l = c.in_ok-list-2.list in
+    let here = c.in_ok-list-2.ensures in
+    let answer = here.complete a o v.ps to P v.given in
+    let first = v.first c.list.new.self.cursor c.open.new.self.pairs.items c.list.new.self.pairs.items l here.derived here.seen here.same answer.0 answer.1 answer.2.place in
+    let less = c.saturating_sub-2.ensures in
+    let inner = here.low in
+    agrees_made_as (Room s o (height n) c.args.high) (FirstWith s c.list.new.self.cursor c.args.self.now.pairs.items c.list.new.self.pairs.items a h n to P) (listed_part l) (height (listed_node l)) c.args.high c.finish_list.result c.finish_list.ensures.made (λ room. let fits = room.1 in let starts = v.start_low in let whole = inner (omega arith) in omega arith) (first, ends_behind c.open.ensures.same_pairs answer.2)
+
+pub prefix_expression-returns-clause-complete : goal.prefix_expression-returns-clause-complete
+prefix_expression-returns-clause-complete t c = λ a h o n to P g.
+    let s = c.args.self.now.cursor in
+    let m = c.advance.new.self.cursor in
+    let e = c.expression.new.self.cursor in
+    let u = token_of c.args.token in
+    let q = c.in_ok-operand.operand in
+    let v = prefix_given s.text u c.args.own c.args.side c.requires.ahead c.requires.coded g in
+    let symbols = operand_symbols (is_prefix_update u.text) in
+    let given = expression_given c.advance.ensures.text c.advance.ensures.last (c.at-place.ensures ∙ ap (λ y. record { rank = y; has_in = true; start = Any }) v.1) symbols.0 symbols.1 v.2.spelled v.2.stopped in
+    let answer = c.in_ok-operand.ensures.complete as_expression o v.2.operand to P given in
+    let first = prefix_made u e.last.stop q (prefix_text u c.args.own c.args.side c.requires.coded) (ap (λ (x : Token). x.stop) answer.1.place) v.2 answer.0 in
+    let levels = first.1 in
+    agrees_where (Room s o (height n) c.args.high) (λ r. IsFirst a h r n × EndsWith s e c.args.self.now.pairs.items c.expression.new.self.pairs.items to P) (prefixed_part (is_prefix_update u.text) u.text u.start e.last.stop q) (IsPlaceHere e) (takes_operand (is_prefix_update u.text) q.cover.shape) (height (prefixed_node (is_prefix_update u.text) u.text u.start e.last.stop q.cover.node)) c.args.high
+    c.prefix_operand.result c.prefix_operand.ensures.made first.0 (λ room. let low = room.1 in omega arith) (subst (λ x. IsFirst x h (prefixed_part (is_prefix_update u.text) u.text u.start e.last.stop q) n) (sym v.0) first.2, ends_behind c.advance.ensures.same_pairs answer.1)
+
+pub token_or_prefix-returns-else-is_name-clause-complete : goal.token_or_prefix-returns-else-is_name-clause-complete
+token_or_prefix-returns-else-is_name-clause-complete t c = λ a h o n to P g.
+    let s = c.args.self.now.cursor in
+    let m = c.advance.new.self.cursor in
+    let u = token_of c.args.token in
+    let k = c.in-OneToken.kind in
+    let v = single_given s.text u k c.requires.ahead (c.requires.coded ∙ ap Some c.in-OneToken.is) g in
+    let without : k ≡ Identifier → IsTrue (takes c.args.position.rank Assignment) → NoArrow s.text (as_read u) =
+    elim c.else-is_name.branch [
+      | token_or_prefix-else-is_name-via-then-is_name+then-sees_arrow+else-accepts_rank w ↦ λ e tk x y sign line. absurd (false≢true (sym (sym w.accepts_rank.ensures ∙ w.if-accepts_rank.false) ∙ tk))
+      | token_or_prefix-else-is_name-via-then-is_name+else-sees_arrow w ↦ λ e tk x y sign line. absurd (false≢true (sym line ∙ w.if-sees_arrow.ensures.missed x y (arrow_behind s m c.advance.ensures.text c.advance.ensures.last sign)))
+      | token_or_prefix-else-is_name-via-else-is_name w ↦ λ e tk x y sign line. absurd (false≢true (sym (sym c.is_name.ensures ∙ w.if-is_name.false) ∙ ap is_identifier e))
+    ] in
+    token_read u k v without c.advance.ensures.last c.advance.ensures.same_pairs c.plain.result (c.plain.ensures ∙ ap (λ n. plain_part n Primary Other) c.in_ok-node-in-OneToken.ensures.made.0)
+
+pub leftmost_operand-returns-in_default-opening : goal.leftmost_operand-returns-in_default-opening
+leftmost_operand-returns-in_default-opening t c = record {
+  text = search rules;
+  forward = search rules;
+  passes = search rules;
+  derived = search rules;
+  low = search rules;
+  complete = λ a h o n to P g.
+      let s = c.args.self.now.cursor in
+      let m = c.advance.new.self.cursor in
+      let behind = c.advance.ensures in
+      let answer = c.keyword_expression.ensures.complete a h o n s.last to P (subst (λ x. NextIn x any_goal s.last m.last m.last) (sym behind.text) behind.reads) behind.last (ap (λ x. coded_start (expression_start x)) behind.last ∙ c.in-Some.ensures.coded) (by_word c.in-Some.opening c.in_default-opening.not-OneToken c.in_default-opening.not-List c.in_default-opening.not-Parenthesis c.in_default-opening.not-Prefix) (first_in (sym behind.text) g) in
+      agrees_more (Room m o (height n) c.args.high) (Room s o (height n) c.args.high) (λ r. IsFirst a h r n × EndsWith m c.keyword_expression.new.self.cursor c.advance.new.self.pairs.items c.keyword_expression.new.self.pairs.items to P) (λ r. IsFirst a h r n × EndsWith s c.keyword_expression.new.self.cursor c.args.self.now.pairs.items c.keyword_expression.new.self.pairs.items to P) c.keyword_expression.result answer
+      (room_part s m behind.same_open (λ low. low)) (λ r is_ok found. (found.0, ends_behind behind.same_pairs found.1));
+  refused = search rules;
+}
+
+pub other_subscript-returns-clause-derived : goal.other_subscript-returns-clause-derived
+other_subscript-returns-clause-derived t c =
+    let text = c.subscript_start.ensures.text in
+    let opened = c.subscript_start.ensures.same_open in
+    let same = c.subscript_start.ensures.same_pairs in
+    let found = c.in_ok-found.found in
+    let optional = c.in_ok-found.optional in
+    let passed = c.in_ok-found.ensures.linked in
+    let value = c.in_ok-into_expression.ensures.settled.1 in
+    let object : takes Call c.args.left.rank ≡ true = sym c.accepts_rank.ensures ∙ c.if-not-accepts_rank.false in
+    let called : c.match-matches.matches ≡ is_call c.args.left.rank = elim c.match-matches.branch [ other_subscript-in-Call w ↦ w.matches-is ∙ call_is c.args.left.rank w.in-Call.is | other_subscript-in_default w ↦ w.matches-is ∙ call_is_not c.args.left.rank w.in_default.not-Call ] in
+    let one : c.in_ok-nodes.nodes ≡ part c.args.left.cover.node none = c.in_ok-nodes.ensures.made ∙ ap (λ n. part n none) c.in_ok-into_expression.ensures.settled.0 in
+    let span = c.span_from-span.ensures in
+    let tree : c.in_ok-node.node ≡ node (link_kind found) [] (link_flags found optional) c.args.left.start c.match-found.self.cursor.last.stop c.match-found.nodes = c.in_ok-node.ensures.0 ∙ (λ i. node (c.kind.ensures i) [] (c.flags.ensures i) (span i).start (span i).end c.match-found.nodes) in
+    let made : c.plain.result ≡ plain_part (node (link_kind found) [] (link_flags found optional) c.args.left.start c.match-found.self.cursor.last.stop c.match-found.nodes) (link_rank found c.match-matches.matches) Other = c.plain.ensures ∙ (λ i. plain_part (tree i) (c.rank.ensures i) Other) in
+    elim c.match-found.branch [
+      | other_subscript-in-Name+in_ok-name-in-Name+in_ok-token_node-in-Name+in_ok-push-in-Name w ↦
+          let name = w.in_ok-name-in-Name.ensures.accepted in
+          let nodes : c.match-found.nodes ≡ part c.args.left.cover.node (part (single_node Identifier (token_of w.in_ok-name-in-Name.name)) none) = w.nodes-is ∙ w.in_ok-push-in-Name.ensures.pushed ∙ (λ i. push (one i) (w.in_ok-token_node-in-Name.ensures.made.0 i)) in
+          links_read found optional c.match-matches.matches value object called nodes made
+          (subst (λ v. Adds c.args.self.now.cursor v.cursor c.args.self.now.pairs.items v.pairs.items (BehindOn c.args.self.now.cursor.text found optional (part (single_node Identifier (token_of w.in_ok-name-in-Name.name)) none))) (sym w.self-is)
+          (name_read found optional (token_of w.in_ok-name-in-Name.name) text opened same w.in-Name.is passed w.identifier_name.ensures.same_open w.identifier_name.ensures.same_pairs name.0.0 name.1))
+      | other_subscript-in-Index+in_ok-expect_punctuator-in-Index+in_ok-index-in-Index+in_ok-into_expression-in-Index+in_ok-push-in-Index+in_ok-expect_punctuator-in-Index-2 w ↦
+          let index = w.in_ok-index-in-Index.index in
+          let nodes : c.match-found.nodes ≡ part c.args.left.cover.node (part index.cover.node none) = w.nodes-is ∙ w.in_ok-push-in-Index.ensures.pushed ∙ (λ i. push (one i) (w.in_ok-into_expression-in-Index.ensures.settled.0 i)) in
+          links_read found optional c.match-matches.matches value object called nodes made
+          (subst (λ v. Adds c.args.self.now.cursor v.cursor c.args.self.now.pairs.items v.pairs.items (BehindOn c.args.self.now.cursor.text found optional (part index.cover.node none))) (sym w.self-is)
+          (index_read found optional text opened same w.in-Index.is passed w.expect_punctuator.ensures.text w.expect_punctuator.ensures.same_open w.expect_punctuator.ensures.same_pairs w.in_ok-expect_punctuator-in-Index.ensures.accepted.0 refl refl refl w.expression.ensures.text w.in_ok-index-in-Index.ensures.derived w.in_ok-into_expression-in-Index.ensures.settled.1
+          w.expect_punctuator-in-Index.ensures.same_open w.expect_punctuator-in-Index.ensures.same_pairs w.in_ok-expect_punctuator-in-Index-2.ensures.accepted.0))
+      | other_subscript-in-Arguments+in_ok-arguments-in-Arguments+in_ok-append-in-Arguments w ↦
+          let nodes : c.match-found.nodes ≡ part c.args.left.cover.node w.in_ok-arguments-in-Arguments.field-0 = w.nodes-is ∙ w.in_ok-append-in-Arguments.ensures.joined ∙ (λ i. join (one i) w.in_ok-arguments-in-Arguments.field-0) in
+          links_read found optional c.match-matches.matches value object called nodes made
+          (subst (λ v. Adds c.args.self.now.cursor v.cursor c.args.self.now.pairs.items v.pairs.items (BehindOn c.args.self.now.cursor.text found optional w.in_ok-arguments-in-Arguments.field-0)) (sym w.self-is)
+          (arguments_read_behind found optional text opened same w.in-Arguments.is passed w.in_ok-arguments-in-Arguments.ensures.derived))
+      | other_subscript-in-Quasi+in_ok-list-in-Quasi+in_ok-list-in-Quasi-2+in_ok-finish_list-in-Quasi+in_ok-push-in-Quasi w ↦
+          let template = w.in_ok-finish_list-in-Quasi.field-0.cover.node in
+          let nodes : c.match-found.nodes ≡ part c.args.left.cover.node (part template none) = w.nodes-is ∙ w.in_ok-push-in-Quasi.ensures.pushed ∙ (λ i. push (one i) template) in
+          let list = w.in_ok-list-in-Quasi-2.ensures in
+          links_read found optional c.match-matches.matches value object called nodes made
+          (subst (λ v. Adds c.args.self.now.cursor v.cursor c.args.self.now.pairs.items v.pairs.items (BehindOn c.args.self.now.cursor.text found optional (part template none))) (sym w.self-is)
+          (template_read found optional w.in_ok-list-in-Quasi.list w.in_ok-list-in-Quasi-2.list template text opened same w.in-Quasi.is passed w.open.ensures.text w.open.ensures.same_open w.open.ensures.same_pairs w.in_ok-list-in-Quasi.ensures.listed w.in_ok-list-in-Quasi.ensures.begun w.in_ok-list-in-Quasi.ensures.template
+          list.same.0 list.same.1 (ap (λ (p : Operand). p.cover.node) w.in_ok-finish_list-in-Quasi.ensures.made.0) list.derived))
+    ]
+
+pub other_subscript-returns-clause-passes : goal.other_subscript-returns-clause-passes
+other_subscript-returns-clause-passes t c =
+    let start = c.args.self.now.cursor in
+    let middle = c.subscript_start.new.self.cursor in
+    let forward = c.subscript_start.ensures.forward in
+    let text = c.subscript_start.ensures.text in
+    elim c.match-found.branch [
+      | other_subscript-in-Name+in_ok-name-in-Name+in_ok-token_node-in-Name+in_ok-push-in-Name w ↦
+          subst (λ v. Passes start v.cursor) (sym w.self-is) (passes_behind start middle w.identifier_name.new.self.cursor forward text w.in_ok-name-in-Name.ensures.passes)
+      | other_subscript-in-Index+in_ok-expect_punctuator-in-Index+in_ok-index-in-Index+in_ok-into_expression-in-Index+in_ok-push-in-Index+in_ok-expect_punctuator-in-Index-2 w ↦
+          let first = passes_behind start middle w.expect_punctuator.new.self.cursor forward text w.in_ok-expect_punctuator-in-Index.ensures.passes in
+          let second = passes_further start w.expect_punctuator.new.self.cursor w.expression.new.self.cursor first w.expression.ensures.forward in
+          subst (λ v. Passes start v.cursor) (sym w.self-is) (passes_further start w.expression.new.self.cursor w.expect_punctuator-in-Index.new.self.cursor second w.expect_punctuator-in-Index.ensures.forward)
+      | other_subscript-in-Arguments+in_ok-arguments-in-Arguments+in_ok-append-in-Arguments w ↦
+          subst (λ v. Passes start v.cursor) (sym w.self-is) (passes_behind start middle w.arguments.new.self.cursor forward text w.in_ok-arguments-in-Arguments.ensures.passes)
+      | other_subscript-in-Quasi+in_ok-list-in-Quasi+in_ok-list-in-Quasi-2+in_ok-finish_list-in-Quasi+in_ok-push-in-Quasi w ↦
+          let first = passes_behind start middle w.open.new.self.cursor forward text (w.in_ok-list-in-Quasi.ensures.passes tt) in
+          subst (λ v. Passes start v.cursor) (sym w.self-is) (passes_further start w.open.new.self.cursor w.list.new.self.cursor first w.list.ensures.forward)
+    ]
+
+pub other_subscript-returns-in_err-found-clause-complete : goal.other_subscript-returns-in_err-found-clause-complete
+other_subscript-returns-in_err-found-clause-complete t c = unlinked_refused c.args.self.now.cursor c.subscript_start.new.self.cursor c.subscript_start.new.self.cursor c.args.self.now.pairs.items c.subscript_start.new.self.pairs.items c.args.high c.args.left _ c.in_err-found.field-0.0 c.from_residual-in_err-found.ensures.1 c.subscript_start.ensures.text c.in_err-found.ensures.failed
+
+pub other_subscript-returns-in_err-name-in-Name-clause-complete : goal.other_subscript-returns-in_err-name-in-Name-clause-complete
+other_subscript-returns-in_err-name-in-Name-clause-complete t c = word_refused c.args.self.now.cursor c.subscript_start.new.self.cursor c.identifier_name.new.self.cursor c.args.self.now.pairs.items c.identifier_name.new.self.pairs.items c.args.high c.args.left c.in_ok-found.found c.in_ok-found.optional _ c.in_err-name-in-Name.field-0.0 c.from_residual-in_err-name-in-Name.ensures.1 c.subscript_start.ensures.text c.subscript_start.ensures.same_open c.in_ok-found.ensures.linked c.in-Name.is c.in_err-name-in-Name.ensures.missed.0
+
+pub other_subscript-returns-in_err-expect_punctuator-in-Index-clause-complete : goal.other_subscript-returns-in_err-expect_punctuator-in-Index-clause-complete
+other_subscript-returns-in_err-expect_punctuator-in-Index-clause-complete t c = bracket_refused c.args.self.now.cursor c.subscript_start.new.self.cursor c.expect_punctuator.new.self.cursor c.args.self.now.pairs.items c.expect_punctuator.new.self.pairs.items c.args.high c.args.left c.in_ok-found.found c.in_ok-found.optional _ c.in_err-expect_punctuator-in-Index.field-0.0 c.from_residual-in_err-expect_punctuator-in-Index.ensures.1 c.subscript_start.ensures.text c.subscript_start.ensures.same_open c.in_ok-found.ensures.linked c.in-Index.is c.in_err-expect_punctuator-in-Index.ensures.missed.0
+
+pub other_subscript-returns-in_err-index-in-Index-clause-complete : goal.other_subscript-returns-in_err-index-in-Index-clause-complete
+other_subscript-returns-in_err-index-in-Index-clause-complete t c = index_refused c.args.self.now.cursor c.subscript_start.new.self.cursor c.expression.new.self.cursor c.args.self.now.pairs.items c.expression.new.self.pairs.items c.args.high c.args.left c.in_ok-found.found c.in_ok-found.optional _ c.in_err-index-in-Index.field-0.0 c.from_residual-in_err-index-in-Index.ensures.1 c.subscript_start.ensures.text c.subscript_start.ensures.same_open c.in_ok-found.ensures.linked c.expect_punctuator.new.self.cursor c.expression.new.self.cursor c.expect_punctuator.new.self.pairs.items c.expression.new.self.pairs.items c.saturating_sub-inner.result c.in-Index.is c.expect_punctuator.ensures.text c.expect_punctuator.ensures.same_open c.in_ok-expect_punctuator-in-Index.ensures.accepted.0 c.saturating_sub-inner.ensures c.in_err-index-in-Index.ensures.complete
+
+pub other_subscript-returns-in_err-into_expression-in-Index-clause-complete : goal.other_subscript-returns-in_err-into_expression-in-Index-clause-complete
+other_subscript-returns-in_err-into_expression-in-Index-clause-complete t c = index_unsettled c.args.self.now.cursor c.subscript_start.new.self.cursor c.expression.new.self.cursor c.args.self.now.pairs.items c.expression.new.self.pairs.items c.args.high c.args.left c.in_ok-found.found c.in_ok-found.optional _ c.in_err-into_expression-in-Index.field-0.0 c.from_residual-in_err-into_expression-in-Index.ensures.1 c.subscript_start.ensures.text c.subscript_start.ensures.same_open c.in_ok-found.ensures.linked c.expect_punctuator.new.self.cursor c.expression.new.self.cursor c.expect_punctuator.new.self.pairs.items c.expression.new.self.pairs.items c.saturating_sub-inner.result c.in-Index.is c.expect_punctuator.ensures.text c.expect_punctuator.ensures.same_open c.in_ok-expect_punctuator-in-Index.ensures.accepted.0 c.saturating_sub-inner.ensures c.in_ok-index-in-Index.index c.in_ok-index-in-Index.ensures.complete c.in_err-into_expression-in-Index.ensures.settled.1
+
+pub other_subscript-returns-in_err-expect_punctuator-in-Index-2-clause-complete : goal.other_subscript-returns-in_err-expect_punctuator-in-Index-2-clause-complete
+other_subscript-returns-in_err-expect_punctuator-in-Index-2-clause-complete t c = unclosed_refused c.args.self.now.cursor c.subscript_start.new.self.cursor c.expect_punctuator-in-Index.new.self.cursor c.args.self.now.pairs.items c.expect_punctuator-in-Index.new.self.pairs.items c.args.high c.args.left c.in_ok-found.found c.in_ok-found.optional _ c.in_err-expect_punctuator-in-Index-2.field-0.0 c.from_residual-in_err-expect_punctuator-in-Index-2.ensures.1 c.subscript_start.ensures.text c.subscript_start.ensures.same_open c.in_ok-found.ensures.linked c.expect_punctuator.new.self.cursor c.expression.new.self.cursor c.expect_punctuator.new.self.pairs.items c.expression.new.self.pairs.items c.saturating_sub-inner.result c.in-Index.is c.expect_punctuator.ensures.text c.expect_punctuator.ensures.same_open c.in_ok-expect_punctuator-in-Index.ensures.accepted.0 c.saturating_sub-inner.ensures c.in_ok-index-in-Index.index c.in_ok-index-in-Index.ensures.complete c.expression.ensures.text c.in_err-expect_punctuator-in-Index-2.ensures.missed.0
+
+pub other_subscript-returns-in_err-arguments-in-Arguments-clause-complete : goal.other_subscript-returns-in_err-arguments-in-Arguments-clause-complete
+other_subscript-returns-in_err-arguments-in-Arguments-clause-complete t c = called_refused c.args.self.now.cursor c.subscript_start.new.self.cursor c.arguments.new.self.cursor c.args.self.now.pairs.items c.arguments.new.self.pairs.items c.args.high c.args.left c.in_ok-found.found c.in_ok-found.optional _ c.in_err-arguments-in-Arguments.field-0.0 c.from_residual-in_err-arguments-in-Arguments.ensures.1 c.subscript_start.ensures.text c.subscript_start.ensures.same_open c.in_ok-found.ensures.linked c.arguments.new.self.cursor c.subscript_start.new.self.pairs.items c.arguments.new.self.pairs.items c.saturating_sub-inner.result c.in-Arguments.is c.saturating_sub-inner.ensures c.in_err-arguments-in-Arguments.ensures.complete
+
+pub other_subscript-returns-in_err-list-in-Quasi-clause-complete : goal.other_subscript-returns-in_err-list-in-Quasi-clause-complete
+other_subscript-returns-in_err-list-in-Quasi-clause-complete t c = unopened_refused c.args.self.now.cursor c.subscript_start.new.self.cursor c.open.new.self.cursor c.args.self.now.pairs.items c.open.new.self.pairs.items c.args.high c.args.left c.in_ok-found.found c.in_ok-found.optional _ c.in_err-list-in-Quasi.field-0.0 c.from_residual-in_err-list-in-Quasi.ensures.1 c.subscript_start.ensures.text c.subscript_start.ensures.same_open c.in_ok-found.ensures.linked _ _ c.in-Quasi.is refl c.in_err-list-in-Quasi.ensures.not_begun c.in_err-list-in-Quasi.ensures.untemplated (omega arith)
+
+pub other_subscript-returns-in_err-list-in-Quasi-2-clause-complete : goal.other_subscript-returns-in_err-list-in-Quasi-2-clause-complete
+other_subscript-returns-in_err-list-in-Quasi-2-clause-complete t c = unlisted_refused c.args.self.now.cursor c.subscript_start.new.self.cursor c.list.new.self.cursor c.args.self.now.pairs.items c.list.new.self.pairs.items c.args.high c.args.left c.in_ok-found.found c.in_ok-found.optional _ c.in_err-list-in-Quasi-2.field-0.0 c.from_residual-in_err-list-in-Quasi-2.ensures.1 c.subscript_start.ensures.text c.subscript_start.ensures.same_open c.in_ok-found.ensures.linked c.open.new.self.cursor c.list.new.self.cursor c.open.new.self.pairs.items c.list.new.self.pairs.items c.saturating_sub-inner.result _ c.in_ok-list-in-Quasi.list c.in-Quasi.is c.open.ensures.text c.open.ensures.same_open c.in_ok-list-in-Quasi.ensures.listed c.in_ok-list-in-Quasi.ensures.template c.saturating_sub-inner.ensures c.in_err-list-in-Quasi-2.ensures.complete (omega arith)
+
+pub other_subscript-returns-in_err-finish_list-in-Quasi-clause-complete : goal.other_subscript-returns-in_err-finish_list-in-Quasi-clause-complete
+other_subscript-returns-in_err-finish_list-in-Quasi-clause-complete t c = unmade_refused c.args.self.now.cursor c.subscript_start.new.self.cursor c.list.new.self.cursor c.args.self.now.pairs.items c.list.new.self.pairs.items c.args.high c.args.left c.in_ok-found.found c.in_ok-found.optional _ c.in_err-finish_list-in-Quasi.field-0.0 c.from_residual-in_err-finish_list-in-Quasi.ensures.1 c.subscript_start.ensures.text c.subscript_start.ensures.same_open c.in_ok-found.ensures.linked c.open.new.self.cursor c.list.new.self.cursor c.open.new.self.pairs.items c.list.new.self.pairs.items c.saturating_sub-inner.result c.saturating_sub-inner.result c.in_ok-list-in-Quasi.list c.in-Quasi.is c.open.ensures.text c.open.ensures.same_open c.in_ok-list-in-Quasi.ensures.listed c.in_ok-list-in-Quasi.ensures.template c.saturating_sub-inner.ensures c.in_ok-list-in-Quasi-2.list c.in_ok-list-in-Quasi-2.ensures.complete c.in_err-finish_list-in-Quasi.ensures.made
+
+pub other_subscript-returns-in_err-node-clause-complete : goal.other_subscript-returns-in_err-node-clause-complete
+other_subscript-returns-in_err-node-clause-complete t c =
+    let text = c.subscript_start.ensures.text in
+    let opened = c.subscript_start.ensures.same_open in
+    let same = c.subscript_start.ensures.same_pairs in
+    let found = c.in_ok-found.found in
+    let optional = c.in_ok-found.optional in
+    let passed = c.in_ok-found.ensures.linked in
+    let one : c.in_ok-nodes.nodes ≡ part c.args.left.cover.node none = c.in_ok-nodes.ensures.made ∙ ap (λ n. part n none) c.in_ok-into_expression.ensures.settled.0 in
+    elim c.match-found.branch [
+      | other_subscript-in-Name+in_ok-name-in-Name+in_ok-token_node-in-Name+in_ok-push-in-Name w ↦
+          let name = w.in_ok-name-in-Name.ensures.accepted in
+          let nodes : c.match-found.nodes ≡ part c.args.left.cover.node (part (single_node Identifier (token_of w.in_ok-name-in-Name.name)) none) = w.nodes-is ∙ w.in_ok-push-in-Name.ensures.pushed ∙ (λ i. push (one i) (w.in_ok-token_node-in-Name.ensures.made.0 i)) in
+          linked_high c.args.high _ c.args.left _ c.in_err-node.field-0.0 c.from_residual-in_err-node.ensures.1 (link_once c.args.self.now.cursor c.subscript_start.new.self.cursor text passed
+          (subst (λ v. Adds c.args.self.now.cursor v.cursor c.args.self.now.pairs.items v.pairs.items (BehindOn c.args.self.now.cursor.text found optional (part (single_node Identifier (token_of w.in_ok-name-in-Name.name)) none))) (sym w.self-is)
+          (name_read found optional (token_of w.in_ok-name-in-Name.name) text opened same w.in-Name.is passed w.identifier_name.ensures.same_open w.identifier_name.ensures.same_pairs name.0.0 name.1))) c.in_err-node.ensures.0 c.in_err-node.ensures.1 (ap (λ ps. suc (parts_height ps)) nodes)
+      | other_subscript-in-Index+in_ok-expect_punctuator-in-Index+in_ok-index-in-Index+in_ok-into_expression-in-Index+in_ok-push-in-Index+in_ok-expect_punctuator-in-Index-2 w ↦
+          let index = w.in_ok-index-in-Index.index in
+          let nodes : c.match-found.nodes ≡ part c.args.left.cover.node (part index.cover.node none) = w.nodes-is ∙ w.in_ok-push-in-Index.ensures.pushed ∙ (λ i. push (one i) (w.in_ok-into_expression-in-Index.ensures.settled.0 i)) in
+          linked_high c.args.high _ c.args.left _ c.in_err-node.field-0.0 c.from_residual-in_err-node.ensures.1 (link_once c.args.self.now.cursor c.subscript_start.new.self.cursor text passed
+          (subst (λ v. Adds c.args.self.now.cursor v.cursor c.args.self.now.pairs.items v.pairs.items (BehindOn c.args.self.now.cursor.text found optional (part index.cover.node none))) (sym w.self-is)
+          (index_read found optional text opened same w.in-Index.is passed w.expect_punctuator.ensures.text w.expect_punctuator.ensures.same_open w.expect_punctuator.ensures.same_pairs w.in_ok-expect_punctuator-in-Index.ensures.accepted.0 refl refl refl w.expression.ensures.text w.in_ok-index-in-Index.ensures.derived w.in_ok-into_expression-in-Index.ensures.settled.1
+          w.expect_punctuator-in-Index.ensures.same_open w.expect_punctuator-in-Index.ensures.same_pairs w.in_ok-expect_punctuator-in-Index-2.ensures.accepted.0))) c.in_err-node.ensures.0 c.in_err-node.ensures.1 (ap (λ ps. suc (parts_height ps)) nodes)
+      | other_subscript-in-Arguments+in_ok-arguments-in-Arguments+in_ok-append-in-Arguments w ↦
+          let nodes : c.match-found.nodes ≡ part c.args.left.cover.node w.in_ok-arguments-in-Arguments.field-0 = w.nodes-is ∙ w.in_ok-append-in-Arguments.ensures.joined ∙ (λ i. join (one i) w.in_ok-arguments-in-Arguments.field-0) in
+          linked_high c.args.high _ c.args.left _ c.in_err-node.field-0.0 c.from_residual-in_err-node.ensures.1 (link_once c.args.self.now.cursor c.subscript_start.new.self.cursor text passed
+          (subst (λ v. Adds c.args.self.now.cursor v.cursor c.args.self.now.pairs.items v.pairs.items (BehindOn c.args.self.now.cursor.text found optional w.in_ok-arguments-in-Arguments.field-0)) (sym w.self-is)
+          (arguments_read_behind found optional text opened same w.in-Arguments.is passed w.in_ok-arguments-in-Arguments.ensures.derived))) c.in_err-node.ensures.0 c.in_err-node.ensures.1 (ap (λ ps. suc (parts_height ps)) nodes)
+      | other_subscript-in-Quasi+in_ok-list-in-Quasi+in_ok-list-in-Quasi-2+in_ok-finish_list-in-Quasi+in_ok-push-in-Quasi w ↦
+          let template = w.in_ok-finish_list-in-Quasi.field-0.cover.node in
+          let nodes : c.match-found.nodes ≡ part c.args.left.cover.node (part template none) = w.nodes-is ∙ w.in_ok-push-in-Quasi.ensures.pushed ∙ (λ i. push (one i) template) in
+          let list = w.in_ok-list-in-Quasi-2.ensures in
+          linked_high c.args.high _ c.args.left _ c.in_err-node.field-0.0 c.from_residual-in_err-node.ensures.1 (link_once c.args.self.now.cursor c.subscript_start.new.self.cursor text passed
+          (subst (λ v. Adds c.args.self.now.cursor v.cursor c.args.self.now.pairs.items v.pairs.items (BehindOn c.args.self.now.cursor.text found optional (part template none))) (sym w.self-is)
+          (template_read found optional w.in_ok-list-in-Quasi.list w.in_ok-list-in-Quasi-2.list template text opened same w.in-Quasi.is passed w.open.ensures.text w.open.ensures.same_open w.open.ensures.same_pairs w.in_ok-list-in-Quasi.ensures.listed w.in_ok-list-in-Quasi.ensures.begun w.in_ok-list-in-Quasi.ensures.template
+          list.same.0 list.same.1 (ap (λ (p : Operand). p.cover.node) w.in_ok-finish_list-in-Quasi.ensures.made.0) list.derived))) c.in_err-node.ensures.0 c.in_err-node.ensures.1 (ap (λ ps. suc (parts_height ps)) nodes)
+    ]
+
+pub other_subscript-returns-clause-complete : goal.other_subscript-returns-clause-complete
+other_subscript-returns-clause-complete t c =
+    let text = c.subscript_start.ensures.text in
+    let opened = c.subscript_start.ensures.same_open in
+    let same = c.subscript_start.ensures.same_pairs in
+    let found = c.in_ok-found.found in
+    let optional = c.in_ok-found.optional in
+    let passed = c.in_ok-found.ensures.linked in
+    let value = c.in_ok-into_expression.ensures.settled.1 in
+    let object : takes Call c.args.left.rank ≡ true = sym c.accepts_rank.ensures ∙ c.if-not-accepts_rank.false in
+    let called : c.match-matches.matches ≡ is_call c.args.left.rank = elim c.match-matches.branch [ other_subscript-in-Call w ↦ w.matches-is ∙ call_is c.args.left.rank w.in-Call.is | other_subscript-in_default w ↦ w.matches-is ∙ call_is_not c.args.left.rank w.in_default.not-Call ] in
+    let one : c.in_ok-nodes.nodes ≡ part c.args.left.cover.node none = c.in_ok-nodes.ensures.made ∙ ap (λ n. part n none) c.in_ok-into_expression.ensures.settled.0 in
+    let span = c.span_from-span.ensures in
+    let tree : c.in_ok-node.node ≡ node (link_kind found) [] (link_flags found optional) c.args.left.start c.match-found.self.cursor.last.stop c.match-found.nodes = c.in_ok-node.ensures.0 ∙ (λ i. node (c.kind.ensures i) [] (c.flags.ensures i) (span i).start (span i).end c.match-found.nodes) in
+    let made : c.plain.result ≡ plain_part (node (link_kind found) [] (link_flags found optional) c.args.left.start c.match-found.self.cursor.last.stop c.match-found.nodes) (link_rank found c.match-matches.matches) Other = c.plain.ensures ∙ (λ i. plain_part (tree i) (c.rank.ensures i) Other) in
+    elim c.match-found.branch [
+      | other_subscript-in-Name+in_ok-name-in-Name+in_ok-token_node-in-Name+in_ok-push-in-Name w ↦
+          let name = w.in_ok-name-in-Name.ensures.accepted in
+          let nodes : c.match-found.nodes ≡ part c.args.left.cover.node (part (single_node Identifier (token_of w.in_ok-name-in-Name.name)) none) = w.nodes-is ∙ w.in_ok-push-in-Name.ensures.pushed ∙ (λ i. push (one i) (w.in_ok-token_node-in-Name.ensures.made.0 i)) in
+          linked_answered c.args.high c.args.left c.plain.result (link_once c.args.self.now.cursor c.subscript_start.new.self.cursor text passed
+          (subst (λ v. Adds c.args.self.now.cursor v.cursor c.args.self.now.pairs.items v.pairs.items (BehindOn c.args.self.now.cursor.text found optional (part (single_node Identifier (token_of w.in_ok-name-in-Name.name)) none))) (sym w.self-is)
+          (name_read found optional (token_of w.in_ok-name-in-Name.name) text opened same w.in-Name.is passed w.identifier_name.ensures.same_open w.identifier_name.ensures.same_pairs name.0.0 name.1))) called nodes made
+      | other_subscript-in-Index+in_ok-expect_punctuator-in-Index+in_ok-index-in-Index+in_ok-into_expression-in-Index+in_ok-push-in-Index+in_ok-expect_punctuator-in-Index-2 w ↦
+          let index = w.in_ok-index-in-Index.index in
+          let nodes : c.match-found.nodes ≡ part c.args.left.cover.node (part index.cover.node none) = w.nodes-is ∙ w.in_ok-push-in-Index.ensures.pushed ∙ (λ i. push (one i) (w.in_ok-into_expression-in-Index.ensures.settled.0 i)) in
+          linked_answered c.args.high c.args.left c.plain.result (link_once c.args.self.now.cursor c.subscript_start.new.self.cursor text passed
+          (subst (λ v. Adds c.args.self.now.cursor v.cursor c.args.self.now.pairs.items v.pairs.items (BehindOn c.args.self.now.cursor.text found optional (part index.cover.node none))) (sym w.self-is)
+          (index_read found optional text opened same w.in-Index.is passed w.expect_punctuator.ensures.text w.expect_punctuator.ensures.same_open w.expect_punctuator.ensures.same_pairs w.in_ok-expect_punctuator-in-Index.ensures.accepted.0 refl refl refl w.expression.ensures.text w.in_ok-index-in-Index.ensures.derived w.in_ok-into_expression-in-Index.ensures.settled.1
+          w.expect_punctuator-in-Index.ensures.same_open w.expect_punctuator-in-Index.ensures.same_pairs w.in_ok-expect_punctuator-in-Index-2.ensures.accepted.0))) called nodes made
+      | other_subscript-in-Arguments+in_ok-arguments-in-Arguments+in_ok-append-in-Arguments w ↦
+          let nodes : c.match-found.nodes ≡ part c.args.left.cover.node w.in_ok-arguments-in-Arguments.field-0 = w.nodes-is ∙ w.in_ok-append-in-Arguments.ensures.joined ∙ (λ i. join (one i) w.in_ok-arguments-in-Arguments.field-0) in
+          linked_answered c.args.high c.args.left c.plain.result (link_once c.args.self.now.cursor c.subscript_start.new.self.cursor text passed
+          (subst (λ v. Adds c.args.self.now.cursor v.cursor c.args.self.now.pairs.items v.pairs.items (BehindOn c.args.self.now.cursor.text found optional w.in_ok-arguments-in-Arguments.field-0)) (sym w.self-is)
+          (arguments_read_behind found optional text opened same w.in-Arguments.is passed w.in_ok-arguments-in-Arguments.ensures.derived))) called nodes made
+      | other_subscript-in-Quasi+in_ok-list-in-Quasi+in_ok-list-in-Quasi-2+in_ok-finish_list-in-Quasi+in_ok-push-in-Quasi w ↦
+          let template = w.in_ok-finish_list-in-Quasi.field-0.cover.node in
+          let nodes : c.match-found.nodes ≡ part c.args.left.cover.node (part template none) = w.nodes-is ∙ w.in_ok-push-in-Quasi.ensures.pushed ∙ (λ i. push (one i) template) in
+          let list = w.in_ok-list-in-Quasi-2.ensures in
+          linked_answered c.args.high c.args.left c.plain.result (link_once c.args.self.now.cursor c.subscript_start.new.self.cursor text passed
+          (subst (λ v. Adds c.args.self.now.cursor v.cursor c.args.self.now.pairs.items v.pairs.items (BehindOn c.args.self.now.cursor.text found optional (part template none))) (sym w.self-is)
+          (template_read found optional w.in_ok-list-in-Quasi.list w.in_ok-list-in-Quasi-2.list template text opened same w.in-Quasi.is passed w.open.ensures.text w.open.ensures.same_open w.open.ensures.same_pairs w.in_ok-list-in-Quasi.ensures.listed w.in_ok-list-in-Quasi.ensures.begun w.in_ok-list-in-Quasi.ensures.template
+          list.same.0 list.same.1 (ap (λ (p : Operand). p.cover.node) w.in_ok-finish_list-in-Quasi.ensures.made.0) list.derived))) called nodes made
+    ]
+
+pub property_name-returns-in-Some-clause-derived : goal.property_name-returns-in-Some-clause-derived
+property_name-returns-in-Some-clause-derived t c =
+    let m = c.modifiers-modifiers.ensures in
+    named_alone c.args.in_class c.modifiers-modifiers.result m.same_open m.same_pairs m.modified c.in_ok-key.key c.in-Some.token c.in-Some.is c.in_ok-key.ensures.made.0
+
+pub property_name-returns-then-not-accept_punctuator-clause-derived : goal.property_name-returns-then-not-accept_punctuator-clause-derived
+property_name-returns-then-not-accept_punctuator-clause-derived t c =
+    let m = c.modifiers-modifiers.ensures in
+    named_plain c.args.in_class c.modifiers-modifiers.result m.same_open m.same_pairs m.modified m.text c.in_default.is c.in_ok-key-2.key c.accept_punctuator.ensures.text c.accept_punctuator.ensures.same_open c.accept_punctuator.ensures.same_pairs c.if-not-accept_punctuator.ensures.missed.1 c.plain_property_name.ensures.same_open c.plain_property_name.ensures.same_pairs c.in_ok-key-2.ensures.read.0 c.in_ok-key-2.ensures.read.1
+
+pub property_name-returns-clause-derived : goal.property_name-returns-clause-derived
+property_name-returns-clause-derived t c =
+    let m = c.modifiers-modifiers.ensures in
+    named_computed c.args.in_class c.modifiers-modifiers.result m.same_open m.same_pairs m.modified m.text c.in_default.is c.in_ok-node.node c.accept_punctuator.ensures.text c.accept_punctuator.ensures.same_open c.accept_punctuator.ensures.same_pairs c.if-not-accept_punctuator.ensures.accepted refl refl refl c.expression.ensures.text c.in_ok-part.ensures.derived c.in_ok-node.ensures.settled.0
+    c.in_ok-node.ensures.settled.1 c.expect_punctuator.ensures.same_open c.expect_punctuator.ensures.same_pairs c.in_ok-expect_punctuator.ensures.accepted.0
+
+pub property_name-returns-in_err-key-clause-complete : goal.property_name-returns-in_err-key-clause-complete
+property_name-returns-in_err-key-clause-complete t c =
+    name_made c.args.self.now.cursor c.modifiers-modifiers.new.self.cursor c.args.self.now.pairs.items c.modifiers-modifiers.new.self.pairs.items c.args.high c.args.in_class c.from_residual.result c.in_err-key.field-0.0 c.from_residual.ensures.1 c.in_err-key.ensures.made.0 c.in_err-key.ensures.made.1
+
+pub property_name-returns-in-Some-clause-complete : goal.property_name-returns-in-Some-clause-complete
+property_name-returns-in-Some-clause-complete t c =
+    let m = c.modifiers-modifiers.ensures in
+    let made = c.in_ok-key.ensures.made.0 in
+    name_alone c.args.self.now.cursor c.modifiers-modifiers.new.self.cursor c.args.self.now.pairs.items c.modifiers-modifiers.new.self.pairs.items c.args.high c.args.in_class c.modifiers-modifiers.new.self.cursor c.modifiers-modifiers.result m.modified c.in_ok-key.key c.in-Some.token c.in-Some.is (ap (λ k. k.computed) made) (ap (λ k. k.token) made) refl
+
+pub property_name-returns-in_err-key-2-clause-complete : goal.property_name-returns-in_err-key-2-clause-complete
+property_name-returns-in_err-key-2-clause-complete t c =
+    let m = c.modifiers-modifiers.ensures in
+    let missed = subst (λ z. Misses z Punctuator (codes "[") c.modifiers-modifiers.new.self.cursor.last) m.text c.if-not-accept_punctuator.ensures.missed.0 in
+    name_no_key c.args.self.now.cursor c.plain_property_name.new.self.cursor c.args.self.now.pairs.items c.plain_property_name.new.self.pairs.items c.args.high c.args.in_class c.modifiers-modifiers.new.self.cursor c.modifiers-modifiers.result m.modified c.in_default.is missed c.accept_punctuator.new.self.cursor c.from_residual-in_err-key-2.result c.in_err-key-2.field-0.0 c.from_residual-in_err-key-2.ensures.1 (c.accept_punctuator.ensures.text ∙ m.text) c.if-not-accept_punctuator.ensures.missed.1 c.in_err-key-2.ensures.no_key
+
+pub property_name-returns-then-not-accept_punctuator-clause-complete : goal.property_name-returns-then-not-accept_punctuator-clause-complete
+property_name-returns-then-not-accept_punctuator-clause-complete t c =
+    let m = c.modifiers-modifiers.ensures in
+    let missed = subst (λ z. Misses z Punctuator (codes "[") c.modifiers-modifiers.new.self.cursor.last) m.text c.if-not-accept_punctuator.ensures.missed.0 in
+    name_plain c.args.self.now.cursor c.plain_property_name.new.self.cursor c.args.self.now.pairs.items c.plain_property_name.new.self.pairs.items c.args.high c.args.in_class c.modifiers-modifiers.new.self.cursor c.modifiers-modifiers.result m.modified c.in_default.is missed c.accept_punctuator.new.self.cursor c.in_ok-key-2.key (c.accept_punctuator.ensures.text ∙ m.text) c.if-not-accept_punctuator.ensures.missed.1 c.in_ok-key-2.ensures.read.0 c.in_ok-key-2.ensures.read.1
+
+pub property_name-returns-in_err-part-clause-complete : goal.property_name-returns-in_err-part-clause-complete
+property_name-returns-in_err-part-clause-complete t c =
+    let m = c.modifiers-modifiers.ensures in
+    let opens = subst (λ z. ReadsHere z Punctuator (codes "[") c.modifiers-modifiers.new.self.cursor.last c.accept_punctuator.new.self.cursor.last) m.text c.if-not-accept_punctuator.ensures.accepted in
+    name_index c.args.self.now.cursor c.expression.new.self.cursor c.args.self.now.pairs.items c.expression.new.self.pairs.items c.args.high c.args.in_class c.modifiers-modifiers.new.self.cursor c.modifiers-modifiers.result m.modified c.in_default.is c.accept_punctuator.new.self.cursor opens c.expression.new.self.cursor c.accept_punctuator.new.self.pairs.items c.expression.new.self.pairs.items refl (c.accept_punctuator.ensures.text ∙ m.text) c.from_residual-in_err-part.result c.in_err-part.field-0.0 c.from_residual-in_err-part.ensures.1 (c.accept_punctuator.ensures.same_open ∙ m.same_open) c.in_err-part.ensures.complete
+
+pub property_name-returns-in_err-node-clause-complete : goal.property_name-returns-in_err-node-clause-complete
+property_name-returns-in_err-node-clause-complete t c =
+    let m = c.modifiers-modifiers.ensures in
+    let opens = subst (λ z. ReadsHere z Punctuator (codes "[") c.modifiers-modifiers.new.self.cursor.last c.accept_punctuator.new.self.cursor.last) m.text c.if-not-accept_punctuator.ensures.accepted in
+    name_settled c.args.self.now.cursor c.expression.new.self.cursor c.args.self.now.pairs.items c.expression.new.self.pairs.items c.args.high c.args.in_class c.modifiers-modifiers.new.self.cursor c.modifiers-modifiers.result m.modified c.in_default.is c.accept_punctuator.new.self.cursor opens c.expression.new.self.cursor c.accept_punctuator.new.self.pairs.items c.expression.new.self.pairs.items refl (c.accept_punctuator.ensures.text ∙ m.text) c.in_ok-part.part c.in_ok-part.ensures.complete c.expression.new.self.cursor c.from_residual-in_err-node.result c.in_err-node.field-0.0 c.from_residual-in_err-node.ensures.1 c.in_err-node.ensures.settled
+
+pub property_name-returns-in_err-expect_punctuator-clause-complete : goal.property_name-returns-in_err-expect_punctuator-clause-complete
+property_name-returns-in_err-expect_punctuator-clause-complete t c =
+    let m = c.modifiers-modifiers.ensures in
+    let opens = subst (λ z. ReadsHere z Punctuator (codes "[") c.modifiers-modifiers.new.self.cursor.last c.accept_punctuator.new.self.cursor.last) m.text c.if-not-accept_punctuator.ensures.accepted in
+    name_closed c.args.self.now.cursor c.expect_punctuator.new.self.cursor c.args.self.now.pairs.items c.expect_punctuator.new.self.pairs.items c.args.high c.args.in_class c.modifiers-modifiers.new.self.cursor c.modifiers-modifiers.result m.modified c.in_default.is c.accept_punctuator.new.self.cursor opens c.expression.new.self.cursor c.accept_punctuator.new.self.pairs.items c.expression.new.self.pairs.items refl (c.accept_punctuator.ensures.text ∙ m.text) c.in_ok-part.part c.in_ok-part.ensures.complete c.expect_punctuator.new.self.cursor c.from_residual-in_err-expect_punctuator.result c.in_err-expect_punctuator.field-0.0 c.from_residual-in_err-expect_punctuator.ensures.1
+    (c.expression.ensures.text ∙ c.accept_punctuator.ensures.text ∙ m.text) c.in_err-expect_punctuator.ensures.here c.in_err-expect_punctuator.ensures.missed.0
+
+pub property_name-returns-clause-complete : goal.property_name-returns-clause-complete
+property_name-returns-clause-complete t c =
+    let m = c.modifiers-modifiers.ensures in
+    let opens = subst (λ z. ReadsHere z Punctuator (codes "[") c.modifiers-modifiers.new.self.cursor.last c.accept_punctuator.new.self.cursor.last) m.text c.if-not-accept_punctuator.ensures.accepted in
+    name_computed c.args.self.now.cursor c.expect_punctuator.new.self.cursor c.args.self.now.pairs.items c.expect_punctuator.new.self.pairs.items c.args.high c.args.in_class c.modifiers-modifiers.new.self.cursor c.modifiers-modifiers.result m.modified c.in_default.is c.accept_punctuator.new.self.cursor opens c.expression.new.self.cursor c.accept_punctuator.new.self.pairs.items c.expression.new.self.pairs.items refl (c.accept_punctuator.ensures.text ∙ m.text) c.in_ok-part.part c.in_ok-part.ensures.complete (record { node = c.in_ok-node.node; computed = true; token = None; is_constructor = false })
+    (c.expression.ensures.text ∙ c.accept_punctuator.ensures.text ∙ m.text) refl c.in_ok-expect_punctuator.ensures.accepted.0
+
+pub property_value-returns-in_err-value-clause-complete : goal.property_value-returns-in_err-value-clause-complete
+property_value-returns-in_err-value-clause-complete t c =
+    value_refused c.args.self.now.cursor c.expression.new.self.cursor c.args.self.now.pairs.items c.expression.new.self.pairs.items c.args.high c.args.key c.accept_punctuator.new.self.cursor c.if-accept_punctuator.ensures.accepted c.expression.new.self.cursor c.accept_punctuator.new.self.pairs.items c.expression.new.self.pairs.items refl c.accept_punctuator.ensures.text c.from_residual.result c.in_err-value.field-0.0 c.from_residual.ensures.1 c.saturating_sub-inner.ensures c.accept_punctuator.ensures.same_open c.in_err-value.ensures.complete
+
+pub property_value-returns-in_err-node-clause-complete : goal.property_value-returns-in_err-node-clause-complete
+property_value-returns-in_err-node-clause-complete t c =
+    value_made c.args.self.now.cursor c.expression.new.self.cursor c.args.self.now.pairs.items c.expression.new.self.pairs.items c.args.high c.args.key c.in_ok-value.value.cover.node _ c.from_residual-in_err-node.result c.in_err-node.field-0.0 c.from_residual-in_err-node.ensures.1 c.saturating_sub-inner.ensures
+    (λ i. node Property [] c.property_flags-flags.result c.span_from.result.start c.span_from.result.end (c.in_ok-nodes.ensures.made i)) c.in_ok-value.ensures.low c.in_err-node.ensures
+
+pub property_value-returns-then-accept_punctuator-clause-complete : goal.property_value-returns-then-accept_punctuator-clause-complete
+property_value-returns-then-accept_punctuator-clause-complete t c =
+    value_answered c.args.self.now.cursor c.expression.new.self.cursor c.args.self.now.pairs.items c.expression.new.self.pairs.items c.args.high c.args.key c.accept_punctuator.new.self.cursor c.if-accept_punctuator.ensures.accepted c.expression.new.self.cursor c.accept_punctuator.new.self.pairs.items c.expression.new.self.pairs.items refl c.accept_punctuator.ensures.text c.saturating_sub-inner.result c.in_ok-value.value c.property_item.result c.in_ok-value.ensures.complete refl (ap (λ x. x.shape) c.property_item.ensures) (ap (λ x. x.spreads) c.property_item.ensures)
+
+pub property_value-returns-in_default-clause-complete : goal.property_value-returns-in_default-clause-complete
+property_value-returns-in_default-clause-complete t c = value_no_token c.args.self.now.cursor c.accept_punctuator.new.self.cursor c.args.self.now.pairs.items c.accept_punctuator.new.self.pairs.items c.args.high c.args.key c.if-accept_punctuator.ensures.missed.0 (Err c.syntax_error.result) c.in_default.is
+
+pub property_value-returns-then-not-is_identifier-clause-complete : goal.property_value-returns-then-not-is_identifier-clause-complete
+property_value-returns-then-not-is_identifier-clause-complete t c = value_no_name c.args.self.now.cursor c.accept_punctuator.new.self.cursor c.args.self.now.pairs.items c.accept_punctuator.new.self.pairs.items c.args.high c.args.key c.if-accept_punctuator.ensures.missed.0 (Err c.syntax_error-then-not-is_identifier.result) c.in-Some.token c.is_identifier.result c.in-Some.is c.is_identifier.ensures.is c.if-not-is_identifier.true
+
+pub property_value-returns-in_err-value-2-clause-complete : goal.property_value-returns-in_err-value-2-clause-complete
+property_value-returns-in_err-value-2-clause-complete t c =
+    value_single c.args.self.now.cursor c.accept_punctuator.new.self.cursor c.args.self.now.pairs.items c.accept_punctuator.new.self.pairs.items c.args.high c.args.key c.if-accept_punctuator.ensures.missed.0 c.from_residual-in_err-value-2.result c.in_err-value-2.field-0.0 c.from_residual-in_err-value-2.ensures.1 c.saturating_sub-inner.ensures c.in_err-value-2.ensures.made.0 c.in_err-value-2.ensures.made.1
+
+pub property_value-returns-in_err-right-clause-complete : goal.property_value-returns-in_err-right-clause-complete
+property_value-returns-in_err-right-clause-complete t c =
+    let equals = subst (λ z. ReadsHere c.args.self.now.cursor.text Punctuator (codes "=") z c.accept_punctuator-2.new.self.cursor.last) c.if-accept_punctuator.ensures.missed.1 (subst (λ z. ReadsHere z Punctuator (codes "=") c.accept_punctuator.new.self.cursor.last c.accept_punctuator-2.new.self.cursor.last) c.accept_punctuator.ensures.text c.if-accept_punctuator-2.ensures.accepted) in
+    value_right c.args.self.now.cursor c.expression-then-accept_punctuator-2.new.self.cursor c.args.self.now.pairs.items c.expression-then-accept_punctuator-2.new.self.pairs.items c.args.high c.args.key c.if-accept_punctuator.ensures.missed.0 c.accept_punctuator-2.new.self.cursor equals c.expression-then-accept_punctuator-2.new.self.cursor c.accept_punctuator-2.new.self.pairs.items c.expression-then-accept_punctuator-2.new.self.pairs.items refl (c.accept_punctuator-2.ensures.text ∙ c.accept_punctuator.ensures.text) c.from_residual-in_err-right.result c.in_err-right.field-0.0 c.from_residual-in_err-right.ensures.1 c.saturating_sub-inner.ensures
+    c.saturating_sub.ensures (c.accept_punctuator-2.ensures.same_open ∙ c.accept_punctuator.ensures.same_open) c.in_err-right.ensures.complete
+
+pub property_value-returns-in_err-into_expression-clause-complete : goal.property_value-returns-in_err-into_expression-clause-complete
+property_value-returns-in_err-into_expression-clause-complete t c =
+    let equals = subst (λ z. ReadsHere c.args.self.now.cursor.text Punctuator (codes "=") z c.accept_punctuator-2.new.self.cursor.last) c.if-accept_punctuator.ensures.missed.1 (subst (λ z. ReadsHere z Punctuator (codes "=") c.accept_punctuator.new.self.cursor.last c.accept_punctuator-2.new.self.cursor.last) c.accept_punctuator.ensures.text c.if-accept_punctuator-2.ensures.accepted) in
+    value_settled c.args.self.now.cursor c.expression-then-accept_punctuator-2.new.self.cursor c.args.self.now.pairs.items c.expression-then-accept_punctuator-2.new.self.pairs.items c.args.high c.args.key c.if-accept_punctuator.ensures.missed.0 c.accept_punctuator-2.new.self.cursor equals c.expression-then-accept_punctuator-2.new.self.cursor c.accept_punctuator-2.new.self.pairs.items c.expression-then-accept_punctuator-2.new.self.pairs.items refl (c.accept_punctuator-2.ensures.text ∙ c.accept_punctuator.ensures.text) c.saturating_sub.result c.in_ok-right.right c.in_ok-right.ensures.complete c.expression-then-accept_punctuator-2.new.self.cursor
+    c.from_residual-in_err-into_expression.result c.in_err-into_expression.field-0.0 c.from_residual-in_err-into_expression.ensures.1 c.in_err-into_expression.ensures.settled
+
+pub property_value-returns-in_err-value-3-clause-complete : goal.property_value-returns-in_err-value-3-clause-complete
+property_value-returns-in_err-value-3-clause-complete t c =
+    let equals = subst (λ z. ReadsHere c.args.self.now.cursor.text Punctuator (codes "=") z c.accept_punctuator-2.new.self.cursor.last) c.if-accept_punctuator.ensures.missed.1 (subst (λ z. ReadsHere z Punctuator (codes "=") c.accept_punctuator.new.self.cursor.last c.accept_punctuator-2.new.self.cursor.last) c.accept_punctuator.ensures.text c.if-accept_punctuator-2.ensures.accepted) in
+    let left = c.value.view_is ∙ c.in_ok-value-2.ensures.made.0 in
+    let settled = c.in_ok-into_expression.ensures.settled.0 in
+    value_default_made c.args.self.now.cursor c.expression-then-accept_punctuator-2.new.self.cursor c.args.self.now.pairs.items c.expression-then-accept_punctuator-2.new.self.pairs.items c.args.high c.args.key c.if-accept_punctuator.ensures.missed.0 c.accept_punctuator-2.new.self.cursor equals (single_node Identifier (token_of c.in-Some.token)) c.in_ok-right.right.cover.node _ c.from_residual-in_err-value-3.result c.in_err-value-3.field-0.0 c.from_residual-in_err-value-3.ensures.1
+    c.saturating_sub-inner.ensures (λ i. node AssignmentExpression (codes "=") plain c.span_from-span.result.start c.span_from-span.result.end ((c.in_ok-nodes-2.ensures.made ∙ (λ j. part (left j) (part (settled j) none))) i)) refl
+    (subst (λ x. height c.in_ok-right.right.cover.node ≤ x) c.saturating_sub.ensures c.in_ok-right.ensures.low) c.in_err-value-3.ensures
+
+pub property_value-returns-in_err-node-2-clause-complete : goal.property_value-returns-in_err-node-2-clause-complete
+property_value-returns-in_err-node-2-clause-complete t c =
+    let low : height c.if-accept_punctuator-2.value ≤ c.saturating_sub-inner.result = elim c.if-accept_punctuator-2.branch [
+      | property_value-then-accept_punctuator-2+in_ok-right+in_ok-into_expression+in_ok-nodes-2+in_ok-value-3 w ↦ subst (λ x. height x ≤ c.saturating_sub-inner.result) (sym (w.value-is ∙ w.in_ok-value-3.ensures.0)) w.in_ok-value-3.ensures.1
+      | property_value-else-accept_punctuator-2 w ↦ subst (λ x. height x ≤ c.saturating_sub-inner.result) (sym (w.value-is ∙ c.in_ok-value-2.ensures.made.0)) c.in_ok-value-2.ensures.made.1
+    ] in
+    value_made c.args.self.now.cursor c.if-accept_punctuator-2.self.cursor c.args.self.now.pairs.items c.if-accept_punctuator-2.self.pairs.items c.args.high c.args.key c.if-accept_punctuator-2.value _ c.from_residual-in_err-node-2.result c.in_err-node-2.field-0.0 c.from_residual-in_err-node-2.ensures.1 c.saturating_sub-inner.ensures
+    (λ i. node Property [] c.property_flags-flags-2.result c.span_from-2.result.start c.span_from-2.result.end (c.in_ok-nodes-3.ensures.made i)) low c.in_err-node-2.ensures
+
+pub property_value-returns-clause-complete : goal.property_value-returns-clause-complete
+property_value-returns-clause-complete t c =
+    let made = c.property_item-2.ensures in
+    elim c.if-accept_punctuator-2.branch [
+      | property_value-then-accept_punctuator-2+in_ok-right+in_ok-into_expression+in_ok-nodes-2+in_ok-value-3 w ↦
+          let equals = subst (λ z. ReadsHere c.args.self.now.cursor.text Punctuator (codes "=") z c.accept_punctuator-2.new.self.cursor.last) c.if-accept_punctuator.ensures.missed.1 (subst (λ z. ReadsHere z Punctuator (codes "=") c.accept_punctuator.new.self.cursor.last c.accept_punctuator-2.new.self.cursor.last) c.accept_punctuator.ensures.text w.if-accept_punctuator-2.ensures.accepted) in
+          let shape = w.shape-is ∙ w.initialized-shape.ensures ∙ ap initialized w.defaulted.ensures in
+          value_default c.args.self.now.cursor c.if-accept_punctuator-2.self.cursor c.args.self.now.pairs.items c.if-accept_punctuator-2.self.pairs.items c.args.high c.args.key c.if-accept_punctuator.ensures.missed.0 c.accept_punctuator-2.new.self.cursor equals w.expression-then-accept_punctuator-2.new.self.cursor c.accept_punctuator-2.new.self.pairs.items w.expression-then-accept_punctuator-2.new.self.pairs.items refl (c.accept_punctuator-2.ensures.text ∙ c.accept_punctuator.ensures.text) w.saturating_sub.result w.in_ok-right.right w.in_ok-right.ensures.complete c.property_item-2.result (ap (λ x. x.cursor.last) w.self-is) (ap (λ x. x.shape) made ∙ shape) (ap (λ x. x.spreads) made)
+      | property_value-else-accept_punctuator-2 w ↦
+          let missed = subst (λ z. Misses c.args.self.now.cursor.text Punctuator (codes "=") z) c.if-accept_punctuator.ensures.missed.1 (subst (λ z. Misses z Punctuator (codes "=") c.accept_punctuator.new.self.cursor.last) c.accept_punctuator.ensures.text w.if-accept_punctuator-2.ensures.missed.0) in
+          value_lone c.args.self.now.cursor c.if-accept_punctuator-2.self.cursor c.args.self.now.pairs.items c.if-accept_punctuator-2.self.pairs.items c.args.high c.args.key c.if-accept_punctuator.ensures.missed.0 c.property_item-2.result missed (ap (λ x. x.cursor.last) w.self-is ∙ w.if-accept_punctuator-2.ensures.missed.1 ∙ c.if-accept_punctuator.ensures.missed.1) (ap (λ x. x.shape) made ∙ w.shape-is) (ap (λ x. x.spreads) made)
+    ]
+
+pub property_value-returns-then-accept_punctuator-clause-derived : goal.property_value-returns-then-accept_punctuator-clause-derived
+property_value-returns-then-accept_punctuator-clause-derived t c =
+    let span = c.span_from.ensures in
+    let value = c.in_ok-value.value in
+    let tree : c.in_ok-node.node ≡ node Property [] (member_flags c.args.key.computed false Init) c.args.start c.expression.new.self.cursor.last.stop (part c.args.key.node (part value.cover.node none)) = c.in_ok-node.ensures.0 ∙ (λ i. node Property [] (c.property_flags-flags.ensures i) (span i).start (span i).end (c.in_ok-nodes.ensures.made i)) in
+    pair_value c.args.key c.args.start value c.property_item.result c.accept_punctuator.ensures.text c.accept_punctuator.ensures.same_open c.accept_punctuator.ensures.same_pairs c.if-accept_punctuator.ensures.accepted c.in_ok-value.ensures.derived (c.property_item.ensures ∙ ap (λ n. property_item n value.cover.shape) tree)
+
+pub property_value-returns-clause-derived : goal.property_value-returns-clause-derived
+property_value-returns-clause-derived t c =
+    let key = c.args.key in
+    let t = c.in-Some.token in
+    let span = c.span_from-2.ensures in
+    let class : t.class ≡ IdentifierName = c.if-not-is_identifier.ensures.class in
+    let free : is_free_name t.text.now ≡ true = is_free (same_class IdentifierName t.class) (is_free_name t.text.now) c.if-not-is_identifier.false c.is_identifier.ensures.is in
+    let stays = c.if-accept_punctuator.ensures.missed.1 in
+    let tree : c.in_ok-node-2.node ≡ node Property [] (member_flags false false Shorthand) c.args.start c.if-accept_punctuator-2.self.cursor.last.stop (part key.node (part c.if-accept_punctuator-2.value none)) = c.in_ok-node-2.ensures.0 ∙ (λ i. node Property [] (c.property_flags-flags-2.ensures i) (span i).start (span i).end (c.in_ok-nodes-3.ensures.made i)) in
+    let it : c.property_item-2.result ≡ property_item (node Property [] (member_flags false false Shorthand) c.args.start c.if-accept_punctuator-2.self.cursor.last.stop (part key.node (part c.if-accept_punctuator-2.value none))) c.if-accept_punctuator-2.shape = c.property_item-2.ensures ∙ ap (λ n. property_item n c.if-accept_punctuator-2.shape) tree in
+    elim c.if-accept_punctuator-2.branch [
+      | property_value-then-accept_punctuator-2+in_ok-right+in_ok-into_expression+in_ok-nodes-2+in_ok-value-3 w ↦
+          let own = w.span_from-span.ensures in
+          let one = c.in_ok-value-2.ensures.made.0 in
+          let value : c.if-accept_punctuator-2.value ≡ node AssignmentExpression (codes "=") plain t.start w.expression-then-accept_punctuator-2.new.self.cursor.last.stop (part (single_node Identifier (token_of t)) (part w.in_ok-into_expression.field-0 none)) = w.value-is ∙ w.in_ok-value-3.ensures.0 ∙ (λ i. node AssignmentExpression (codes "=") plain (own i).start (own i).end ((w.in_ok-nodes-2.ensures.made ∙ ap (λ n. part n (part w.in_ok-into_expression.field-0 none)) (w.value.view_is ∙ one)) i)) in
+          let shape = w.shape-is ∙ w.initialized-shape.ensures ∙ ap initialized w.defaulted.ensures in
+          let last : c.if-accept_punctuator-2.self.cursor.last.stop ≡ w.expression-then-accept_punctuator-2.new.self.cursor.last.stop = ap (λ s. s.cursor.last.stop) w.self-is in
+          subst (λ v. Adds c.args.self.now.cursor v.cursor c.args.self.now.pairs.items v.pairs.items (ValueAt c.args.self.now.cursor.text key c.args.start c.property_item-2.result)) (sym w.self-is)
+          (default_value key c.args.start t w.in_ok-right.right w.in_ok-into_expression.field-0 c.if-accept_punctuator-2.value c.if-accept_punctuator-2.shape c.property_item-2.result c.accept_punctuator.ensures.text c.accept_punctuator.ensures.same_open c.accept_punctuator.ensures.same_pairs stays c.accept_punctuator-2.ensures.text c.accept_punctuator-2.ensures.same_open c.accept_punctuator-2.ensures.same_pairs w.if-accept_punctuator-2.ensures.accepted
+          w.in_ok-right.ensures.derived w.in_ok-into_expression.ensures.settled.0 w.in_ok-into_expression.ensures.settled.1 c.in-Some.is class free value shape (it ∙ ap (λ x. property_item (node Property [] (member_flags false false Shorthand) c.args.start x (part key.node (part c.if-accept_punctuator-2.value none))) c.if-accept_punctuator-2.shape) last))
+      | property_value-else-accept_punctuator-2 w ↦
+          let last : c.if-accept_punctuator-2.self.cursor.last.stop ≡ c.accept_punctuator-2.new.self.cursor.last.stop = ap (λ s. s.cursor.last.stop) w.self-is in
+          subst (λ v. Adds c.args.self.now.cursor v.cursor c.args.self.now.pairs.items v.pairs.items (ValueAt c.args.self.now.cursor.text key c.args.start c.property_item-2.result)) (sym w.self-is)
+          (lone_value key c.args.start t c.if-accept_punctuator-2.value c.if-accept_punctuator-2.shape c.property_item-2.result (c.accept_punctuator-2.ensures.same_open ∙ c.accept_punctuator.ensures.same_open) (c.accept_punctuator-2.ensures.same_pairs ∙ c.accept_punctuator.ensures.same_pairs) (w.if-accept_punctuator-2.ensures.missed.1 ∙ stays) c.in-Some.is class free
+          (w.value-is ∙ c.in_ok-value-2.ensures.made.0) w.shape-is (it ∙ ap (λ x. property_item (node Property [] (member_flags false false Shorthand) c.args.start x (part key.node (part c.if-accept_punctuator-2.value none))) c.if-accept_punctuator-2.shape) last))
+    ]
+
+pub binary_rest-returns-clause-rank : goal.binary_rest-returns-clause-rank
+binary_rest-returns-clause-rank t c = rank_of c.args.next.operator c.args.left c.args.next.token.after_break c.in_ok-left.ensures.taken.1 ∙ ap (λ x. Some x.own) (sym c.in_ok-left.ensures.taken.0)
+
+pub binary_rest-returns-clause-derived : goal.binary_rest-returns-clause-derived
+binary_rest-returns-clause-derived t c =
+    let left = c.in_ok-left.ensures.taken in
+    let one = c.in_ok-nodes.ensures.made in
+    let op = c.args.next.operator in
+    let t = token_of c.args.next.token in
+    let before : SidedFrom c.args.self.now.cursor c.match-next.self.cursor c.args.self.now.pairs.items c.match-next.self.pairs.items c.args.has_in c.args.left c.in_ok-left.left c.args.next.token.text.now c.match-next.nodes =
+    elim c.match-next.branch [
+      | binary_rest-in-Question+in_ok-part+in_ok-into_expression+in_ok-push+in_ok-expect_punctuator w ↦
+          let part = w.in_ok-part.part in
+          let parts = w.nodes-is ∙ w.in_ok-push.ensures.pushed ∙ (λ k. push (one k) (w.in_ok-into_expression.ensures.settled.0 k)) in
+          subst (λ k. SidedFrom c.args.self.now.cursor k.cursor c.args.self.now.pairs.items k.pairs.items c.args.has_in c.args.left c.in_ok-left.left c.args.next.token.text.now c.match-next.nodes) (sym w.self-is)
+          (sided_two c.args.has_in c.args.left op t part c.advance.ensures.text c.advance.ensures.same_open c.advance.ensures.same_pairs c.advance.ensures.reads c.advance.ensures.last c.requires.coded left.1 left.0 parts w.in-Question.is
+          w.expression.ensures.text w.in_ok-part.ensures.derived w.in_ok-into_expression.ensures.settled.1 w.expect_punctuator.ensures.text w.expect_punctuator.ensures.same_open w.expect_punctuator.ensures.same_pairs w.in_ok-expect_punctuator.ensures.accepted.0)
+      | binary_rest-in_default w ↦
+          subst (λ k. SidedFrom c.args.self.now.cursor k.cursor c.args.self.now.pairs.items k.pairs.items c.args.has_in c.args.left c.in_ok-left.left c.args.next.token.text.now c.match-next.nodes) (sym w.self-is)
+          (sided_one c.args.has_in c.args.left op t c.advance.ensures.text c.advance.ensures.same_open c.advance.ensures.same_pairs c.advance.ensures.reads c.advance.ensures.last c.requires.coded c.requires.has_in left.1 left.0 (w.nodes-is ∙ one) w.in_default.not-Question)
+    ] in
+    let span = c.span_from-span.ensures in
+    let sign = c.operator_text.ensures in
+    let parts = c.in_ok-push-2.ensures.pushed ∙ ap (λ n. push c.match-next.nodes n) c.in_ok-into_expression-2.ensures.settled.0 in
+    let tree = c.in_ok-node.ensures.0 ∙ (λ k. node c.in_ok-left.left.kind (sign k) plain (span k).start (span k).end (parts k)) in
+    let right = c.in_ok-right.right in
+    sided_whole right _ before c.at.ensures c.in_ok-right.ensures.derived c.in_ok-into_expression-2.ensures.settled.1 (ap (λ n. part_from n c.in_ok-left.left.shape c.args.left.start c.in_ok-left.left.own right.edge) tree)
+
+pub binary_rest-returns-in_err-part-clause-complete : goal.binary_rest-returns-in_err-part-clause-complete
+binary_rest-returns-in_err-part-clause-complete t c = first_refused c.args.self.now.cursor c.expression.new.self.cursor c.args.self.now.pairs.items c.expression.new.self.pairs.items c.args.high c.args.left c.args.next.token c.args.next.operator c.args.has_in _ c.in_err-part.field-0.0 c.from_residual-in_err-part.ensures.1 c.advance.new.self.cursor c.expression.new.self.cursor c.advance.new.self.pairs.items c.expression.new.self.pairs.items c.saturating_sub-inner.result c.in-Question.is c.advance.ensures.text c.advance.ensures.same_open c.advance.ensures.same_pairs c.advance.ensures.last c.saturating_sub-inner.ensures c.in_err-part.ensures.complete
+
+pub binary_rest-returns-in_err-into_expression-clause-complete : goal.binary_rest-returns-in_err-into_expression-clause-complete
+binary_rest-returns-in_err-into_expression-clause-complete t c = first_unsettled c.args.self.now.cursor c.expression.new.self.cursor c.args.self.now.pairs.items c.expression.new.self.pairs.items c.args.high c.args.left c.args.next.token c.args.next.operator c.args.has_in _ c.in_err-into_expression.field-0.0 c.from_residual-in_err-into_expression.ensures.1 c.advance.new.self.cursor c.expression.new.self.cursor c.advance.new.self.pairs.items c.expression.new.self.pairs.items c.saturating_sub-inner.result c.in-Question.is c.advance.ensures.text c.advance.ensures.same_open c.advance.ensures.same_pairs c.advance.ensures.last c.saturating_sub-inner.ensures c.in_ok-part.part c.in_ok-part.ensures.complete c.in_err-into_expression.ensures.settled.1
+
+pub binary_rest-returns-in_err-expect_punctuator-clause-complete : goal.binary_rest-returns-in_err-expect_punctuator-clause-complete
+binary_rest-returns-in_err-expect_punctuator-clause-complete t c = colon_refused c.args.self.now.cursor c.expect_punctuator.new.self.cursor c.args.self.now.pairs.items c.expect_punctuator.new.self.pairs.items c.args.high c.args.left c.args.next.token c.args.next.operator c.args.has_in _ c.in_err-expect_punctuator.field-0.0 c.from_residual-in_err-expect_punctuator.ensures.1 c.advance.new.self.cursor c.expression.new.self.cursor c.advance.new.self.pairs.items c.expression.new.self.pairs.items c.saturating_sub-inner.result c.in-Question.is c.advance.ensures.text c.advance.ensures.same_open c.advance.ensures.same_pairs c.advance.ensures.last c.saturating_sub-inner.ensures c.in_ok-part.part c.in_ok-part.ensures.complete c.expression.ensures.text c.in_err-expect_punctuator.ensures.missed.0
+
+pub binary_rest-returns-in_err-right-clause-complete : goal.binary_rest-returns-in_err-right-clause-complete
+binary_rest-returns-in_err-right-clause-complete t c =
+    let left = c.in_ok-left.ensures.taken in
+    let one = c.in_ok-nodes.ensures.made in
+    let rank_is = ap (λ (l : LeftOperand). l.right) left.0 in
+    let ready : Ready c.args.self.now.cursor c.match-next.self.cursor c.args.self.now.pairs.items c.match-next.self.pairs.items c.args.next.token c.args.next.operator c.args.has_in (left_of c.args.next.operator c.args.left).right (left_of c.args.next.operator c.args.left).node c.match-next.nodes =
+    elim c.match-next.branch [
+      | binary_rest-in-Question+in_ok-part+in_ok-into_expression+in_ok-push+in_ok-expect_punctuator w ↦
+          subst (λ k. Ready c.args.self.now.cursor k.cursor c.args.self.now.pairs.items k.pairs.items c.args.next.token c.args.next.operator c.args.has_in (left_of c.args.next.operator c.args.left).right (left_of c.args.next.operator c.args.left).node c.match-next.nodes) (sym w.self-is)
+          (ready_two c.args.self.now.cursor c.advance.new.self.cursor w.expression.new.self.cursor c.args.self.now.pairs.items c.advance.new.self.pairs.items w.expression.new.self.pairs.items c.args.next.token c.args.next.operator c.args.has_in c.saturating_sub-inner.result w.in-Question.is c.advance.ensures.text c.advance.ensures.same_open c.advance.ensures.same_pairs c.advance.ensures.last
+          w.in_ok-part.part w.in_ok-part.ensures.complete w.in_ok-into_expression.ensures.settled.0 (ap (λ o. (left_of o c.args.left).right) w.in-Question.is) w.expression.ensures.text w.in_ok-part.ensures.derived.same_open w.expect_punctuator.ensures.text w.expect_punctuator.ensures.same_open w.expect_punctuator.ensures.same_pairs w.in_ok-expect_punctuator.ensures.accepted.0
+          (w.nodes-is ∙ w.in_ok-push.ensures.pushed ∙ (λ k. push ((one ∙ ap (λ (l : LeftOperand). part l.node none) left.0) k) w.in_ok-into_expression.field-0)))
+      | binary_rest-in_default w ↦
+          subst (λ k. Ready c.args.self.now.cursor k.cursor c.args.self.now.pairs.items k.pairs.items c.args.next.token c.args.next.operator c.args.has_in (left_of c.args.next.operator c.args.left).right (left_of c.args.next.operator c.args.left).node c.match-next.nodes) (sym w.self-is)
+          (ready_one c.advance.ensures.text c.advance.ensures.same_open c.advance.ensures.same_pairs c.advance.ensures.last w.in_default.not-Question (w.nodes-is ∙ one ∙ ap (λ (l : LeftOperand). part l.node none) left.0))
+    ] in
+    right_refused c.args.self.now.cursor c.match-next.self.cursor c.expression-2.new.self.cursor c.args.self.now.pairs.items c.match-next.self.pairs.items c.expression-2.new.self.pairs.items c.args.high c.args.left c.args.next.token c.args.next.operator c.args.has_in ready c.at.result c.saturating_sub-inner.result c.requires.coded (c.at.ensures ∙ ap (λ q. right_at q c.args.has_in) rank_is) c.saturating_sub-inner.ensures c.expression-2.new.self.cursor c.expression-2.new.self.pairs.items _ c.in_err-right.field-0.0 c.from_residual-in_err-right.ensures.1 c.in_err-right.ensures.complete
+
+pub binary_rest-returns-in_err-into_expression-2-clause-complete : goal.binary_rest-returns-in_err-into_expression-2-clause-complete
+binary_rest-returns-in_err-into_expression-2-clause-complete t c =
+    let left = c.in_ok-left.ensures.taken in
+    let one = c.in_ok-nodes.ensures.made in
+    let rank_is = ap (λ (l : LeftOperand). l.right) left.0 in
+    let ready : Ready c.args.self.now.cursor c.match-next.self.cursor c.args.self.now.pairs.items c.match-next.self.pairs.items c.args.next.token c.args.next.operator c.args.has_in (left_of c.args.next.operator c.args.left).right (left_of c.args.next.operator c.args.left).node c.match-next.nodes =
+    elim c.match-next.branch [
+      | binary_rest-in-Question+in_ok-part+in_ok-into_expression+in_ok-push+in_ok-expect_punctuator w ↦
+          subst (λ k. Ready c.args.self.now.cursor k.cursor c.args.self.now.pairs.items k.pairs.items c.args.next.token c.args.next.operator c.args.has_in (left_of c.args.next.operator c.args.left).right (left_of c.args.next.operator c.args.left).node c.match-next.nodes) (sym w.self-is)
+          (ready_two c.args.self.now.cursor c.advance.new.self.cursor w.expression.new.self.cursor c.args.self.now.pairs.items c.advance.new.self.pairs.items w.expression.new.self.pairs.items c.args.next.token c.args.next.operator c.args.has_in c.saturating_sub-inner.result w.in-Question.is c.advance.ensures.text c.advance.ensures.same_open c.advance.ensures.same_pairs c.advance.ensures.last
+          w.in_ok-part.part w.in_ok-part.ensures.complete w.in_ok-into_expression.ensures.settled.0 (ap (λ o. (left_of o c.args.left).right) w.in-Question.is) w.expression.ensures.text w.in_ok-part.ensures.derived.same_open w.expect_punctuator.ensures.text w.expect_punctuator.ensures.same_open w.expect_punctuator.ensures.same_pairs w.in_ok-expect_punctuator.ensures.accepted.0
+          (w.nodes-is ∙ w.in_ok-push.ensures.pushed ∙ (λ k. push ((one ∙ ap (λ (l : LeftOperand). part l.node none) left.0) k) w.in_ok-into_expression.field-0)))
+      | binary_rest-in_default w ↦
+          subst (λ k. Ready c.args.self.now.cursor k.cursor c.args.self.now.pairs.items k.pairs.items c.args.next.token c.args.next.operator c.args.has_in (left_of c.args.next.operator c.args.left).right (left_of c.args.next.operator c.args.left).node c.match-next.nodes) (sym w.self-is)
+          (ready_one c.advance.ensures.text c.advance.ensures.same_open c.advance.ensures.same_pairs c.advance.ensures.last w.in_default.not-Question (w.nodes-is ∙ one ∙ ap (λ (l : LeftOperand). part l.node none) left.0))
+    ] in
+    right_unsettled c.args.self.now.cursor c.match-next.self.cursor c.expression-2.new.self.cursor c.args.self.now.pairs.items c.match-next.self.pairs.items c.expression-2.new.self.pairs.items c.args.high c.args.left c.args.next.token c.args.next.operator c.args.has_in ready c.at.result c.saturating_sub-inner.result c.requires.coded (c.at.ensures ∙ ap (λ q. right_at q c.args.has_in) rank_is) c.saturating_sub-inner.ensures c.expression-2.new.self.cursor c.expression-2.new.self.pairs.items _ c.in_err-into_expression-2.field-0.0 c.from_residual-in_err-into_expression-2.ensures.1 c.in_ok-right.right c.in_ok-right.ensures.complete c.in_err-into_expression-2.ensures.settled.1
+
+pub binary_rest-returns-in_err-node-clause-complete : goal.binary_rest-returns-in_err-node-clause-complete
+binary_rest-returns-in_err-node-clause-complete t c =
+    let left = c.in_ok-left.ensures.taken in
+    let one = c.in_ok-nodes.ensures.made in
+    let rank_is = ap (λ (l : LeftOperand). l.right) left.0 in
+    let ready : Ready c.args.self.now.cursor c.match-next.self.cursor c.args.self.now.pairs.items c.match-next.self.pairs.items c.args.next.token c.args.next.operator c.args.has_in (left_of c.args.next.operator c.args.left).right (left_of c.args.next.operator c.args.left).node c.match-next.nodes =
+    elim c.match-next.branch [
+      | binary_rest-in-Question+in_ok-part+in_ok-into_expression+in_ok-push+in_ok-expect_punctuator w ↦
+          subst (λ k. Ready c.args.self.now.cursor k.cursor c.args.self.now.pairs.items k.pairs.items c.args.next.token c.args.next.operator c.args.has_in (left_of c.args.next.operator c.args.left).right (left_of c.args.next.operator c.args.left).node c.match-next.nodes) (sym w.self-is)
+          (ready_two c.args.self.now.cursor c.advance.new.self.cursor w.expression.new.self.cursor c.args.self.now.pairs.items c.advance.new.self.pairs.items w.expression.new.self.pairs.items c.args.next.token c.args.next.operator c.args.has_in c.saturating_sub-inner.result w.in-Question.is c.advance.ensures.text c.advance.ensures.same_open c.advance.ensures.same_pairs c.advance.ensures.last
+          w.in_ok-part.part w.in_ok-part.ensures.complete w.in_ok-into_expression.ensures.settled.0 (ap (λ o. (left_of o c.args.left).right) w.in-Question.is) w.expression.ensures.text w.in_ok-part.ensures.derived.same_open w.expect_punctuator.ensures.text w.expect_punctuator.ensures.same_open w.expect_punctuator.ensures.same_pairs w.in_ok-expect_punctuator.ensures.accepted.0
+          (w.nodes-is ∙ w.in_ok-push.ensures.pushed ∙ (λ k. push ((one ∙ ap (λ (l : LeftOperand). part l.node none) left.0) k) w.in_ok-into_expression.field-0)))
+      | binary_rest-in_default w ↦
+          subst (λ k. Ready c.args.self.now.cursor k.cursor c.args.self.now.pairs.items k.pairs.items c.args.next.token c.args.next.operator c.args.has_in (left_of c.args.next.operator c.args.left).right (left_of c.args.next.operator c.args.left).node c.match-next.nodes) (sym w.self-is)
+          (ready_one c.advance.ensures.text c.advance.ensures.same_open c.advance.ensures.same_pairs c.advance.ensures.last w.in_default.not-Question (w.nodes-is ∙ one ∙ ap (λ (l : LeftOperand). part l.node none) left.0))
+    ] in
+    sided_high c.args.self.now.cursor c.match-next.self.cursor c.expression-2.new.self.cursor c.args.self.now.pairs.items c.match-next.self.pairs.items c.expression-2.new.self.pairs.items c.args.high c.args.left c.args.next.token c.args.next.operator c.args.has_in ready c.at.result c.saturating_sub-inner.result c.requires.coded (c.at.ensures ∙ ap (λ q. right_at q c.args.has_in) rank_is) c.saturating_sub-inner.ensures c.expression-2.new.self.cursor c.expression-2.new.self.pairs.items _ c.in_err-node.field-0.0 c.from_residual-in_err-node.ensures.1 c.in_ok-right.right _ c.in_ok-right.ensures.complete c.in_ok-into_expression-2.ensures.settled.0 c.in_ok-push-2.ensures.pushed c.in_err-node.ensures.0 c.in_err-node.ensures.1 refl
+
+pub binary_rest-returns-clause-complete : goal.binary_rest-returns-clause-complete
+binary_rest-returns-clause-complete t c =
+    let left = c.in_ok-left.ensures.taken in
+    let one = c.in_ok-nodes.ensures.made in
+    let rank_is = ap (λ (l : LeftOperand). l.right) left.0 in
+    let ready : Ready c.args.self.now.cursor c.match-next.self.cursor c.args.self.now.pairs.items c.match-next.self.pairs.items c.args.next.token c.args.next.operator c.args.has_in (left_of c.args.next.operator c.args.left).right (left_of c.args.next.operator c.args.left).node c.match-next.nodes =
+    elim c.match-next.branch [
+      | binary_rest-in-Question+in_ok-part+in_ok-into_expression+in_ok-push+in_ok-expect_punctuator w ↦
+          subst (λ k. Ready c.args.self.now.cursor k.cursor c.args.self.now.pairs.items k.pairs.items c.args.next.token c.args.next.operator c.args.has_in (left_of c.args.next.operator c.args.left).right (left_of c.args.next.operator c.args.left).node c.match-next.nodes) (sym w.self-is)
+          (ready_two c.args.self.now.cursor c.advance.new.self.cursor w.expression.new.self.cursor c.args.self.now.pairs.items c.advance.new.self.pairs.items w.expression.new.self.pairs.items c.args.next.token c.args.next.operator c.args.has_in c.saturating_sub-inner.result w.in-Question.is c.advance.ensures.text c.advance.ensures.same_open c.advance.ensures.same_pairs c.advance.ensures.last
+          w.in_ok-part.part w.in_ok-part.ensures.complete w.in_ok-into_expression.ensures.settled.0 (ap (λ o. (left_of o c.args.left).right) w.in-Question.is) w.expression.ensures.text w.in_ok-part.ensures.derived.same_open w.expect_punctuator.ensures.text w.expect_punctuator.ensures.same_open w.expect_punctuator.ensures.same_pairs w.in_ok-expect_punctuator.ensures.accepted.0
+          (w.nodes-is ∙ w.in_ok-push.ensures.pushed ∙ (λ k. push ((one ∙ ap (λ (l : LeftOperand). part l.node none) left.0) k) w.in_ok-into_expression.field-0)))
+      | binary_rest-in_default w ↦
+          subst (λ k. Ready c.args.self.now.cursor k.cursor c.args.self.now.pairs.items k.pairs.items c.args.next.token c.args.next.operator c.args.has_in (left_of c.args.next.operator c.args.left).right (left_of c.args.next.operator c.args.left).node c.match-next.nodes) (sym w.self-is)
+          (ready_one c.advance.ensures.text c.advance.ensures.same_open c.advance.ensures.same_pairs c.advance.ensures.last w.in_default.not-Question (w.nodes-is ∙ one ∙ ap (λ (l : LeftOperand). part l.node none) left.0))
+    ] in
+    let span = c.span_from-span.ensures in
+    let sign = c.operator_text.ensures in
+    let tree = c.in_ok-node.ensures.0 ∙ (λ k. node c.in_ok-left.left.kind (sign k) plain (span k).start (span k).end c.push-2.new.self) in
+    sided_answered c.args.self.now.cursor c.match-next.self.cursor c.expression-2.new.self.cursor c.args.self.now.pairs.items c.match-next.self.pairs.items c.expression-2.new.self.pairs.items c.args.high c.args.left c.args.next.token c.args.next.operator c.args.has_in ready c.at.result c.saturating_sub-inner.result c.requires.coded (c.at.ensures ∙ ap (λ q. right_at q c.args.has_in) rank_is) c.saturating_sub-inner.ensures c.in_ok-right.right (part_from c.in_ok-node.node c.in_ok-left.left.shape c.args.left.start c.in_ok-left.left.own c.in_ok-right.right.edge) c.in_ok-right.ensures.complete c.in_ok-into_expression-2.ensures.settled.0 c.in_ok-push-2.ensures.pushed left.0 tree refl refl
+
+pub infix-binary_rest-requires : goal.infix-binary_rest-requires
+infix-binary_rest-requires t c = (search rules, (c.requires.ahead, (c.requires.real, (c.requires.coded, in_there c.args.position c.args.left.edge (token_of c.args.next.token) c.requires.coded (no_tag_there c.in-Binary.is) c.requires.goes))))
+
+pub infix-returns-in-Binary-clause-derived : goal.infix-returns-in-Binary-clause-derived
+infix-returns-in-Binary-clause-derived t c = sided_on c.args.self.now.cursor c.binary_rest.new.self.cursor c.args.self.now.pairs.items c.binary_rest.new.self.pairs.items c.args.position c.args.left (token_of c.args.next.token) c.binary_rest.result c.requires.coded c.requires.goes c.binary_rest.ensures.derived c.binary_rest.ensures.rank
+
+pub infix-optional_chain-requires : goal.infix-optional_chain-requires
+infix-optional_chain-requires t c = (search rules, chain_there c.args.self.now.cursor (token_of c.args.next.token) c.requires.ahead c.requires.coded c.in-QuestionDot.is)
+
+pub infix-returns-in-QuestionDot-clause-derived : goal.infix-returns-in-QuestionDot-clause-derived
+infix-returns-in-QuestionDot-clause-derived t c = chain_reads c.args.self.now.cursor c.optional_chain.new.self.cursor c.args.self.now.pairs.items c.optional_chain.new.self.pairs.items c.args.position c.args.left (token_of c.args.next.token) c.optional_chain.result c.requires.coded c.in-QuestionDot.is c.requires.goes c.optional_chain.ensures.derived c.optional_chain.ensures.rank
+
+pub infix-dot_member-requires : goal.infix-dot_member-requires
+infix-dot_member-requires t c = record { dot = dot_there c.args.self.now.cursor (token_of c.args.next.token) c.requires.ahead c.requires.coded c.in-Dot.is }
+
+pub infix-returns-in-Dot-clause-derived : goal.infix-returns-in-Dot-clause-derived
+infix-returns-in-Dot-clause-derived t c = linked_reads c.args.self.now.cursor c.dot_member.new.self.cursor c.args.self.now.pairs.items c.dot_member.new.self.pairs.items c.args.position c.args.left (token_of c.args.next.token) c.dot_member.result c.requires.ahead c.requires.coded (no_chain_there (inl c.in-Dot.is)) c.requires.goes c.dot_member.ensures.derived
+
+pub infix-call_expression-requires : goal.infix-call_expression-requires
+infix-call_expression-requires t c = (search rules, call_there c.args.self.now.cursor (token_of c.args.next.token) c.requires.ahead c.requires.coded c.in-OpenParen.is)
+
+pub infix-returns-in-OpenParen-clause-derived : goal.infix-returns-in-OpenParen-clause-derived
+infix-returns-in-OpenParen-clause-derived t c = linked_reads c.args.self.now.cursor c.call_expression.new.self.cursor c.args.self.now.pairs.items c.call_expression.new.self.pairs.items c.args.position c.args.left (token_of c.args.next.token) c.call_expression.result c.requires.ahead c.requires.coded (no_chain_there (inr (inl c.in-OpenParen.is))) c.requires.goes c.call_expression.ensures.derived
+
+pub infix-returns-in-OpenBracket-clause-derived : goal.infix-returns-in-OpenBracket-clause-derived
+infix-returns-in-OpenBracket-clause-derived t c = linked_reads c.args.self.now.cursor c.subscript.new.self.cursor c.args.self.now.pairs.items c.subscript.new.self.pairs.items c.args.position c.args.left (token_of c.args.next.token) c.subscript.result c.requires.ahead c.requires.coded (no_chain_there (inr (inr c.in-OpenBracket.is))) c.requires.goes c.subscript.ensures.derived
+
+pub update_or_comma-returns-in-PostUpdate-clause-derived : goal.update_or_comma-returns-in-PostUpdate-clause-derived
+update_or_comma-returns-in-PostUpdate-clause-derived t c =
+    let parts = c.in_ok-nodes-in-PostUpdate.ensures.made ∙ ap (λ n. part n none) c.in_ok-operand-in-PostUpdate.ensures.target.0 in
+    let span = c.span_from-span.ensures in
+    let tree = c.in_ok-node-in-PostUpdate.ensures.0 ∙ (λ k. node UpdateExpression c.args.next.token.text.now plain (span k).start (span k).end (parts k)) in
+    step_reads c.args.self.now.cursor c.advance.new.self.cursor c.args.self.now.pairs.items c.advance.new.self.pairs.items c.args.position c.args.left (token_of c.args.next.token) c.plain.result c.requires.coded c.in-PostUpdate.is c.requires.goes c.in_ok-operand-in-PostUpdate.ensures.target.1
+    c.advance.ensures.reads c.advance.ensures.last c.advance.ensures.same_open c.advance.ensures.same_pairs (c.plain.ensures ∙ ap (λ n. plain_part n Update Postfix) tree)
+
+pub update_or_comma-returns-in-Comma-clause-derived : goal.update_or_comma-returns-in-Comma-clause-derived
+update_or_comma-returns-in-Comma-clause-derived t c =
+    let begun = c.in_ok-list-in-Comma.ensures.begun in
+    let list = c.in_ok-list-in-Comma-2.list in
+    let pass = c.advance-in-Comma in
+    let span = c.span_from-span-in-Comma.ensures in
+    let tree = c.in_ok-node-in-Comma.ensures.0 ∙ (λ k. node SequenceExpression [] plain (span k).start (span k).end list.nodes) in
+    sequence_reads c.args.self.now.cursor pass.new.self.cursor c.list.new.self.cursor c.args.self.now.pairs.items pass.new.self.pairs.items c.list.new.self.pairs.items c.args.position c.args.left (token_of c.args.next.token) c.plain-in-Comma.result c.in_ok-list-in-Comma.list list
+    c.requires.coded c.in-Comma.is c.requires.goes begun.0 begun.1 c.in_ok-list-in-Comma.ensures.listed c.in_ok-list-in-Comma-2.ensures.same.0 pass.ensures.text pass.ensures.same_open pass.ensures.same_pairs pass.ensures.reads pass.ensures.last
+    c.in_ok-list-in-Comma-2.ensures.derived (c.plain-in-Comma.ensures ∙ ap (λ n. plain_part n Expression list.seen.edge) tree)
+
+pub read_symbols-each-init : goal.read_symbols-each-init
+read_symbols-each-init t c = record { same = refl; forward = omega arith; derived = built_first; low = λ h. h; complete = left_first (map piece_of c.args.pieces.now) }
+
+pub read_symbols-each-preserved : goal.read_symbols-each-preserved
+read_symbols-each-preserved t c =
+    let v = c.each.invariant in
+    let on = v.forward in
+    let read = c.in_ok-expected.ensures.read in
+    elim c.match-branch-2.branch [
+      | read_symbols-in-Nothing w ↦ rw (w.self-is, w.built-is) (
+          let p = passed_piece c.expected.ensures.same_open c.expected.ensures.same_pairs (nothing_passed _ (rw w.in-Nothing.is at read)) in
+          let further = c.expected.ensures.forward in
+          record { same = c.expected.ensures.text ∙ v.same; forward = omega arith; derived = piece_on c.args.pieces.now _ c.each.piece-index v.same c.each-test.true v.derived p; low = λ h. piece_low p (v.low h); complete = pieces_on c.args.pieces.now _ c.each.piece-index v.same c.each-test.true v.complete (nothing_same _ c.args.context.returns c.args.high c.expected.ensures.same_pairs (rw w.in-Nothing.is at read)) })
+      | read_symbols-in-Gap+in_ok-push_gap-in-Gap w ↦ rw (w.self-is, w.built-is) (
+          let p = passed_piece c.expected.ensures.same_open c.expected.ensures.same_pairs (gap_wanted _ c.expected.new.built (rw w.in-Gap.is at read) (ap (λ ps. record c.expected.new.built { nodes = ps }) w.in_ok-push_gap-in-Gap.ensures.pushed)) in
+          let further = c.expected.ensures.forward in
+          record { same = c.expected.ensures.text ∙ v.same; forward = omega arith; derived = piece_on c.args.pieces.now _ c.each.piece-index v.same c.each-test.true v.derived p; low = λ h. piece_low p (v.low h); complete = pieces_on c.args.pieces.now _ c.each.piece-index v.same c.each-test.true v.complete (gap_missing _ c.args.context.returns c.args.high c.expected.new.built c.expected.ensures.same_pairs (rw w.in-Gap.is at read) (ap (λ ps. record c.expected.new.built { nodes = ps }) w.in_ok-push_gap-in-Gap.ensures.pushed)) })
+      | read_symbols-in-Expression+in_ok-part-in-Expression+in_ok-add_expression-in-Expression w ↦ rw (w.self-is, w.built-is) (
+          let q = c.expected.ensures in
+          let p = expression_piece _ c.expected.new.built w.sees_in_or_of-each.result q.text w.expression.ensures.text q.same_open q.same_pairs (rw w.in-Expression.is at read) w.in_ok-part-in-Expression.ensures.derived w.sees_in_or_of-each.ensures.seen w.sees_in_or_of-each.ensures.missed w.in_ok-add_expression-in-Expression.ensures.fits w.in_ok-add_expression-in-Expression.ensures.put w.in_ok-part-in-Expression.ensures.low in
+          let further = c.expected.ensures.forward in
+          let behind = w.expression.ensures.forward in
+          record { same = w.expression.ensures.text ∙ q.text ∙ v.same; forward = omega arith; derived = piece_on c.args.pieces.now _ c.each.piece-index v.same c.each-test.true v.derived p; low = λ h. piece_low p (v.low h); complete = pieces_on c.args.pieces.now _ c.each.piece-index v.same c.each-test.true v.complete (value_same c.args.context.returns c.each.self.cursor c.expected.new.self.cursor w.expression.new.self.cursor c.expected.new.self.pairs.items w.expression.new.self.pairs.items c.each.built c.expected.new.built c.args.high w.in-Expression.position _ _ w.sees_in_or_of-each.result q.text w.expression.ensures.text (rw w.in-Expression.is at read) w.in_ok-part-in-Expression.ensures.complete w.sees_in_or_of-each.ensures.seen w.sees_in_or_of-each.ensures.missed q.same_pairs w.in_ok-part-in-Expression.ensures.derived w.in_ok-add_expression-in-Expression.ensures.put) })
+      | read_symbols-in-Binding+in_ok-part-in-Binding+in_ok-add_expression-in-Binding w ↦ rw (w.self-is, w.built-is) (
+          let q = c.expected.ensures in
+          let p = binding_piece _ c.expected.new.built q.text q.same_open q.same_pairs (rw w.in-Binding.is at read) w.at.ensures w.in_ok-part-in-Binding.ensures.derived w.in_ok-add_expression-in-Binding.ensures.fits w.in_ok-add_expression-in-Binding.ensures.put w.in_ok-part-in-Binding.ensures.low in
+          let further = c.expected.ensures.forward in
+          let behind = w.leftmost_operand.ensures.forward in
+          record { same = w.leftmost_operand.ensures.text ∙ q.text ∙ v.same; forward = omega arith; derived = piece_on c.args.pieces.now _ c.each.piece-index v.same c.each-test.true v.derived p; low = λ h. piece_low p (v.low h); complete = pieces_on c.args.pieces.now _ c.each.piece-index v.same c.each-test.true v.complete (binding_same c.args.context.returns c.each.self.cursor c.expected.new.self.cursor c.each.built c.expected.new.built c.args.high w.at.result _ q.text (rw w.in-Binding.is at read) w.at.ensures w.leftmost_operand.new.self.cursor c.expected.new.self.pairs.items w.leftmost_operand.new.self.pairs.items _ w.in_ok-part-in-Binding.ensures.complete q.same_pairs w.in_ok-add_expression-in-Binding.ensures.put) })
+      | read_symbols-in-Statement+in_ok-statement-in-Statement+in_ok-push-in-Statement w ↦ rw (w.self-is, w.built-is) (
+          let q = c.expected.ensures in
+          let p = statement_piece _ c.expected.new.built q.text q.same_open q.same_pairs (rw w.in-Statement.is at read) w.inside.ensures w.in_ok-statement-in-Statement.ensures.derived (ap (λ ps. record c.expected.new.built { nodes = ps }) w.in_ok-push-in-Statement.ensures.pushed) w.in_ok-statement-in-Statement.ensures.low in
+          let further = c.expected.ensures.forward in
+          let behind = w.statement.ensures.forward in
+          record { same = w.statement.ensures.text ∙ q.text ∙ v.same; forward = omega arith; derived = piece_on c.args.pieces.now _ c.each.piece-index v.same c.each-test.true v.derived p; low = λ h. piece_low p (v.low h); complete = pieces_on c.args.pieces.now _ c.each.piece-index v.same c.each-test.true v.complete (statement_same c.args.context.returns c.each.self.cursor c.expected.new.self.cursor c.each.built c.expected.new.built c.args.high w.inside.result _ q.text (rw w.in-Statement.is at read) w.inside.ensures w.statement.new.self.cursor c.expected.new.self.pairs.items w.statement.new.self.pairs.items _ w.in_ok-statement-in-Statement.ensures.complete q.same_pairs (ap (λ ps. record c.expected.new.built { nodes = ps }) w.in_ok-push-in-Statement.ensures.pushed)) })
+      | read_symbols-in-Block+in_ok-left-in-Block+in_ok-list-in-Block+in_ok-expect_punctuator-in-Block+in_ok-finish_plain-in-Block+in_ok-push-in-Block w ↦ rw (w.self-is, w.built-is) (
+          let q = c.expected.ensures in
+          let further = c.expected.ensures.forward in
+          let behind = w.expect_punctuator.ensures.forward in
+          let later = w.statements.ensures.forward in
+          let last = w.expect_punctuator-in-Block.ensures.forward in
+          let ahead : c.args.self.now.cursor.last.stop ≤ w.expect_punctuator-in-Block.new.self.cursor.last.stop = omega arith in
+          let span = w.span_from-span.ensures in
+          let made = w.in_ok-finish_plain-in-Block.ensures.0 ∙ (λ i. node BlockStatement [] plain (span i).start (span i).end w.in_ok-list-in-Block.list) in
+          let low : height w.in_ok-finish_plain-in-Block.field-0 ≤ c.args.high = subst (λ n. height n ≤ c.args.high) (sym w.in_ok-finish_plain-in-Block.ensures.0) w.in_ok-finish_plain-in-Block.ensures.1 in
+          let p = block_piece _ c.expected.new.built w.in-Block.context q.text w.expect_punctuator.ensures.text w.statements.ensures.text q.same_open q.same_pairs w.expect_punctuator.ensures.same_open w.expect_punctuator.ensures.same_pairs w.expect_punctuator-in-Block.ensures.same_open w.expect_punctuator-in-Block.ensures.same_pairs (rw w.in-Block.is at read)
+          w.in_ok-left-in-Block.ensures.accepted.0 (ap (λ (x : Token). x.start) w.in_ok-left-in-Block.ensures.accepted.1) w.in_ok-list-in-Block.ensures.derived w.in_ok-expect_punctuator-in-Block.ensures.accepted.0 made (ap (λ ps. record c.expected.new.built { nodes = ps }) w.in_ok-push-in-Block.ensures.pushed) low in
+          record { same = w.expect_punctuator-in-Block.ensures.text ∙ w.statements.ensures.text ∙ w.expect_punctuator.ensures.text ∙ q.text ∙ v.same; forward = ahead; derived = piece_on c.args.pieces.now _ c.each.piece-index v.same c.each-test.true v.derived p; low = λ h. piece_low p (v.low h); complete = pieces_on c.args.pieces.now _ c.each.piece-index v.same c.each-test.true v.complete (block_same c.args.context.returns c.each.self.cursor c.expected.new.self.cursor c.each.built c.expected.new.built c.args.high w.in-Block.context _ q.text q.same_open (rw w.in-Block.is at read) w.expect_punctuator.new.self.cursor c.saturating_sub-inner.result w.expect_punctuator.ensures.text w.expect_punctuator.ensures.same_open w.in_ok-left-in-Block.ensures.accepted.0 c.saturating_sub-inner.ensures w.statements.new.self.cursor w.expect_punctuator.new.self.pairs.items w.statements.new.self.pairs.items _ w.in_ok-list-in-Block.ensures.complete q.same_pairs w.expect_punctuator.ensures.same_pairs w.expect_punctuator-in-Block.ensures.same_pairs w.statements.ensures.text (ap (λ (x : Token). x.start) w.in_ok-left-in-Block.ensures.accepted.1) w.in_ok-expect_punctuator-in-Block.ensures.accepted.0 made (ap (λ ps. record c.expected.new.built { nodes = ps }) w.in_ok-push-in-Block.ensures.pushed)) })
+      | read_symbols-in-Handler+in_ok-read_symbols-in-Handler+in_ok-finish_plain-in-Handler+in_ok-push-in-Handler w ↦ rw (w.self-is, w.built-is) (
+          let q = c.expected.ensures in
+          let span = w.span_from-span-in-Handler.ensures in
+          let made = w.in_ok-finish_plain-in-Handler.ensures.0 ∙ (λ i. node CatchClause [] plain (span i).start (span i).end w.read_symbols.new.built.nodes) in
+          let low : height w.in_ok-finish_plain-in-Handler.field-0 ≤ c.args.high = subst (λ n. height n ≤ c.args.high) (sym w.in_ok-finish_plain-in-Handler.ensures.0) w.in_ok-finish_plain-in-Handler.ensures.1 in
+          let p = handler_piece _ c.expected.new.built w.in-Handler.start w.new-caught.result w.read_symbols.new.built q.text q.same_open q.same_pairs (rw w.in-Handler.is at read) w.catch_symbols.ensures w.new-caught.ensures w.in_ok-read_symbols-in-Handler.ensures.derived made (ap (λ ps. record c.expected.new.built { nodes = ps }) w.in_ok-push-in-Handler.ensures.pushed) low in
+          let further = c.expected.ensures.forward in
+          let behind = w.read_symbols.ensures.forward in
+          record { same = w.read_symbols.ensures.text ∙ q.text ∙ v.same; forward = omega arith; derived = piece_on c.args.pieces.now _ c.each.piece-index v.same c.each-test.true v.derived p; low = λ h. piece_low p (v.low h); complete = pieces_on c.args.pieces.now _ c.each.piece-index v.same c.each-test.true v.complete (handler_same c.args.context.returns c.each.self.cursor c.expected.new.self.cursor c.each.built c.expected.new.built c.args.high w.in-Handler.start c.saturating_sub-inner.result w.new-caught.result _ _ q.text q.same_open (rw w.in-Handler.is at read) w.new-caught.ensures w.catch_symbols.ensures c.saturating_sub-inner.ensures w.read_symbols.new.self.cursor c.expected.new.self.pairs.items w.read_symbols.new.self.pairs.items w.read_symbols.new.built _ w.in_ok-read_symbols-in-Handler.ensures.complete q.same_pairs made (ap (λ ps. record c.expected.new.built { nodes = ps }) w.in_ok-push-in-Handler.ensures.pushed)) })
+      | read_symbols-in-Items+in_ok-statements-in-Items+in_ok-append-in-Items w ↦ rw (w.self-is, w.built-is) (
+          let q = c.expected.ensures in
+          let further = c.expected.ensures.forward in
+          let behind = w.statements-in-Items.ensures.forward in
+          let ahead : c.args.self.now.cursor.last.stop ≤ w.statements-in-Items.new.self.cursor.last.stop = omega arith in
+          let p = items_piece _ c.expected.new.built {d = record c.expected.new.built { nodes = w.append.new.self }} w.in-Items.until q.text q.same_open q.same_pairs (rw w.in-Items.is at read) w.item-context.ensures w.in_ok-statements-in-Items.ensures.derived w.in_ok-append-in-Items.ensures.joined refl w.in_ok-statements-in-Items.ensures.low in
+          record { same = w.statements-in-Items.ensures.text ∙ q.text ∙ v.same; forward = ahead; derived = piece_on c.args.pieces.now _ c.each.piece-index v.same c.each-test.true v.derived p; low = λ h. piece_low p (v.low h); complete = pieces_on c.args.pieces.now _ c.each.piece-index v.same c.each-test.true v.complete (items_same c.args.context.returns c.each.self.cursor c.expected.new.self.cursor c.each.built c.expected.new.built c.args.high w.in-Items.until w.item-context.result _ q.text (rw w.in-Items.is at read) w.item-context.ensures w.statements-in-Items.new.self.cursor c.expected.new.self.pairs.items w.statements-in-Items.new.self.pairs.items _ w.in_ok-statements-in-Items.ensures.complete q.same_pairs w.in_ok-append-in-Items.ensures.joined) })
+      | read_symbols-in-List+in_ok-list-in-List+in_ok-list-in-List-2+in_ok-add_list-in-List w ↦ rw (w.self-is, w.built-is) (
+          let q = c.expected.ensures in
+          let whole = w.in_ok-list-in-List-2.ensures in
+          let p = list_piece _ c.expected.new.built w.in_ok-list-in-List.list w.in_ok-list-in-List-2.list w.in-List.listed w.sees_in_or_of-each-in-List.result w.saturating_sub-limit.result q.text w.open.ensures.text w.list-in-List.ensures.text q.same_open q.same_pairs w.open.ensures.same_open w.open.ensures.same_pairs (rw w.in-List.is at read)
+          w.in_ok-list-in-List.ensures.listed w.in_ok-list-in-List.ensures.begun whole.same whole.seen whole.derived w.sees_in_or_of-each-in-List.ensures.seen w.sees_in_or_of-each-in-List.ensures.missed w.in_ok-add_list-in-List.ensures.put w.in_ok-add_list-in-List.ensures.fits whole.low (w.saturating_sub-limit.ensures ∙ ap (λ n. c.args.high - n) w.list_node_height.ensures) in
+          let further = c.expected.ensures.forward in
+          let behind = w.open.ensures.forward in
+          let later = w.list-in-List.ensures.forward in
+          record { same = w.list-in-List.ensures.text ∙ w.open.ensures.text ∙ q.text ∙ v.same; forward = omega arith; derived = piece_on c.args.pieces.now _ c.each.piece-index v.same c.each-test.true v.derived p; low = λ h. piece_low p (v.low h); complete = pieces_on c.args.pieces.now _ c.each.piece-index v.same c.each-test.true v.complete (list_same c.args.context.returns c.each.self.cursor c.expected.new.self.cursor c.each.built c.expected.new.built c.args.high w.in-List.listed _ q.text (rw w.in-List.is at read) w.open.new.self.cursor w.saturating_sub-limit.result w.in_ok-list-in-List.list q.same_open w.open.ensures.text w.open.ensures.same_open w.in_ok-list-in-List.ensures.listed w.in_ok-list-in-List.ensures.begun (w.saturating_sub-limit.ensures ∙ ap (λ n. c.args.high - n) w.list_node_height.ensures) w.list-in-List.new.self.cursor w.open.new.self.pairs.items w.list-in-List.new.self.pairs.items w.in_ok-list-in-List-2.list w.sees_in_or_of-each-in-List.result w.list-in-List.ensures.text w.in_ok-list-in-List-2.ensures.complete w.in_ok-list-in-List-2.ensures.same w.in_ok-list-in-List-2.ensures.derived w.sees_in_or_of-each-in-List.ensures.seen w.sees_in_or_of-each-in-List.ensures.missed q.same_pairs w.open.ensures.same_pairs w.in_ok-add_list-in-List.ensures.put) })
+    ]
+
+pub read_symbols-returns-in_err-expected-clause-complete : goal.read_symbols-returns-in_err-expected-clause-complete
+read_symbols-returns-in_err-expected-clause-complete t c =
+    let v = c.each.invariant in
+    pieces_err c.expected.new.self.cursor c.expected.new.self.pairs.items c.args.high _ c.from_residual.result c.args.pieces.now _ c.each.piece-index c.in_err-expected.field-0.0 v.same c.each-test.true v.derived.same_open v.complete c.from_residual.ensures.1
+    (wanted_refused _ c.args.context.returns c.each.self.cursor c.each.built c.args.high c.in_err-expected.field-0.0 c.in_err-expected.ensures.failed)
+
+pub read_symbols-returns-in_err-push_gap-in-Gap-clause-complete : goal.read_symbols-returns-in_err-push_gap-in-Gap-clause-complete
+read_symbols-returns-in_err-push_gap-in-Gap-clause-complete t c =
+    let v = c.each.invariant in
+    pieces_memory c.expected.new.self.cursor c.expected.new.self.pairs.items c.args.high _ c.from_residual-in_err-push_gap-in-Gap.result c.args.pieces.now c.each.piece-index c.in_err-push_gap-in-Gap.field-0.0 v.same c.each-test.true v.derived.same_open v.complete c.from_residual-in_err-push_gap-in-Gap.ensures.1 c.in_err-push_gap-in-Gap.ensures.kept.0
+
+pub read_symbols-returns-in_err-part-in-Expression-clause-complete : goal.read_symbols-returns-in_err-part-in-Expression-clause-complete
+read_symbols-returns-in_err-part-in-Expression-clause-complete t c =
+    let v = c.each.invariant in
+    pieces_err c.expression.new.self.cursor c.expression.new.self.pairs.items c.args.high _ c.from_residual-in_err-part-in-Expression.result c.args.pieces.now _ c.each.piece-index c.in_err-part-in-Expression.field-0.0 v.same c.each-test.true v.derived.same_open v.complete c.from_residual-in_err-part-in-Expression.ensures.1
+    (piece_value_refused c.args.context.returns c.each.self.cursor c.expected.new.self.cursor c.expression.new.self.cursor c.expected.new.self.pairs.items c.expression.new.self.pairs.items c.each.built c.expected.new.built c.args.high c.in-Expression.position _ c.in_err-part-in-Expression.field-0.0 c.expected.ensures.text c.expected.ensures.same_open (rw c.in-Expression.is at c.in_ok-expected.ensures.read) c.in_err-part-in-Expression.ensures.complete)
+
+pub read_symbols-returns-in_err-add_expression-in-Expression-clause-complete : goal.read_symbols-returns-in_err-add_expression-in-Expression-clause-complete
+read_symbols-returns-in_err-add_expression-in-Expression-clause-complete t c =
+    let v = c.each.invariant in
+    pieces_err c.expression.new.self.cursor c.expression.new.self.pairs.items c.args.high _ c.from_residual-in_err-add_expression-in-Expression.result c.args.pieces.now _ c.each.piece-index c.in_err-add_expression-in-Expression.field-0.0 v.same c.each-test.true v.derived.same_open v.complete c.from_residual-in_err-add_expression-in-Expression.ensures.1
+    (value_unput c.args.context.returns c.each.self.cursor c.expected.new.self.cursor c.expression.new.self.cursor c.expected.new.self.pairs.items c.expression.new.self.pairs.items c.each.built c.expected.new.built c.args.high c.in-Expression.position _ _ c.sees_in_or_of-each.result c.expected.ensures.text c.expression.ensures.text (rw c.in-Expression.is at c.in_ok-expected.ensures.read) c.in_ok-part-in-Expression.ensures.complete c.sees_in_or_of-each.ensures.seen c.sees_in_or_of-each.ensures.missed (IsPlaceHere c.expression.new.self.cursor) c.in_err-add_expression-in-Expression.field-0.0 c.in_err-add_expression-in-Expression.ensures.failed)
+
+pub read_symbols-returns-in_err-part-in-Binding-clause-complete : goal.read_symbols-returns-in_err-part-in-Binding-clause-complete
+read_symbols-returns-in_err-part-in-Binding-clause-complete t c =
+    let v = c.each.invariant in
+    pieces_err c.leftmost_operand.new.self.cursor c.leftmost_operand.new.self.pairs.items c.args.high _ c.from_residual-in_err-part-in-Binding.result c.args.pieces.now _ c.each.piece-index c.in_err-part-in-Binding.field-0.0 v.same c.each-test.true v.derived.same_open v.complete c.from_residual-in_err-part-in-Binding.ensures.1
+    (binding_refused c.args.context.returns c.each.self.cursor c.expected.new.self.cursor c.each.built c.expected.new.built c.args.high c.at.result _ c.expected.ensures.text (rw c.in-Binding.is at c.in_ok-expected.ensures.read) c.at.ensures c.leftmost_operand.new.self.cursor c.expected.new.self.pairs.items c.leftmost_operand.new.self.pairs.items c.in_err-part-in-Binding.field-0.0 c.expected.ensures.same_open c.in_err-part-in-Binding.ensures.complete)
+
+pub read_symbols-returns-in_err-add_expression-in-Binding-clause-complete : goal.read_symbols-returns-in_err-add_expression-in-Binding-clause-complete
+read_symbols-returns-in_err-add_expression-in-Binding-clause-complete t c =
+    let v = c.each.invariant in
+    pieces_err c.leftmost_operand.new.self.cursor c.leftmost_operand.new.self.pairs.items c.args.high _ c.from_residual-in_err-add_expression-in-Binding.result c.args.pieces.now _ c.each.piece-index c.in_err-add_expression-in-Binding.field-0.0 v.same c.each-test.true v.derived.same_open v.complete c.from_residual-in_err-add_expression-in-Binding.ensures.1
+    (binding_unput c.args.context.returns c.each.self.cursor c.expected.new.self.cursor c.each.built c.expected.new.built c.args.high c.at.result _ c.expected.ensures.text (rw c.in-Binding.is at c.in_ok-expected.ensures.read) c.at.ensures c.leftmost_operand.new.self.cursor c.expected.new.self.pairs.items c.leftmost_operand.new.self.pairs.items _ c.in_ok-part-in-Binding.ensures.complete (IsPlaceHere c.leftmost_operand.new.self.cursor) c.in_err-add_expression-in-Binding.field-0.0 c.in_err-add_expression-in-Binding.ensures.failed)
+
+pub read_symbols-returns-in_err-statement-in-Statement-clause-complete : goal.read_symbols-returns-in_err-statement-in-Statement-clause-complete
+read_symbols-returns-in_err-statement-in-Statement-clause-complete t c =
+    let v = c.each.invariant in
+    pieces_err c.statement.new.self.cursor c.statement.new.self.pairs.items c.args.high _ c.from_residual-in_err-statement-in-Statement.result c.args.pieces.now _ c.each.piece-index c.in_err-statement-in-Statement.field-0.0 v.same c.each-test.true v.derived.same_open v.complete c.from_residual-in_err-statement-in-Statement.ensures.1
+    (statement_refused c.args.context.returns c.each.self.cursor c.expected.new.self.cursor c.each.built c.expected.new.built c.args.high c.inside.result _ c.expected.ensures.text (rw c.in-Statement.is at c.in_ok-expected.ensures.read) c.inside.ensures c.statement.new.self.cursor c.expected.new.self.pairs.items c.statement.new.self.pairs.items c.in_err-statement-in-Statement.field-0.0 c.expected.ensures.same_open c.in_err-statement-in-Statement.ensures.complete)
+
+pub read_symbols-returns-in_err-push-in-Statement-clause-complete : goal.read_symbols-returns-in_err-push-in-Statement-clause-complete
+read_symbols-returns-in_err-push-in-Statement-clause-complete t c =
+    let v = c.each.invariant in
+    pieces_memory c.statement.new.self.cursor c.statement.new.self.pairs.items c.args.high _ c.from_residual-in_err-push-in-Statement.result c.args.pieces.now c.each.piece-index c.in_err-push-in-Statement.field-0.0 v.same c.each-test.true v.derived.same_open v.complete c.from_residual-in_err-push-in-Statement.ensures.1 c.in_err-push-in-Statement.ensures.kept.0
+
+pub read_symbols-returns-in_err-left-in-Block-clause-complete : goal.read_symbols-returns-in_err-left-in-Block-clause-complete
+read_symbols-returns-in_err-left-in-Block-clause-complete t c =
+    let v = c.each.invariant in
+    pieces_err c.expect_punctuator.new.self.cursor c.expect_punctuator.new.self.pairs.items c.args.high _ c.from_residual-in_err-left-in-Block.result c.args.pieces.now _ c.each.piece-index c.in_err-left-in-Block.field-0.0 v.same c.each-test.true v.derived.same_open v.complete c.from_residual-in_err-left-in-Block.ensures.1
+    (block_unopened c.args.context.returns c.each.self.cursor c.expected.new.self.cursor c.each.built c.expected.new.built c.args.high c.in-Block.context _ c.expected.ensures.text c.expected.ensures.same_open (rw c.in-Block.is at c.in_ok-expected.ensures.read) c.in_err-left-in-Block.field-0.0 c.in_err-left-in-Block.ensures.missed.0)
+
+pub read_symbols-returns-in_err-list-in-Block-clause-complete : goal.read_symbols-returns-in_err-list-in-Block-clause-complete
+read_symbols-returns-in_err-list-in-Block-clause-complete t c =
+    let v = c.each.invariant in
+    pieces_err c.statements.new.self.cursor c.statements.new.self.pairs.items c.args.high _ c.from_residual-in_err-list-in-Block.result c.args.pieces.now _ c.each.piece-index c.in_err-list-in-Block.field-0.0 v.same c.each-test.true v.derived.same_open v.complete c.from_residual-in_err-list-in-Block.ensures.1
+    (block_items_refused c.args.context.returns c.each.self.cursor c.expected.new.self.cursor c.each.built c.expected.new.built c.args.high c.in-Block.context _ c.expected.ensures.text c.expected.ensures.same_open (rw c.in-Block.is at c.in_ok-expected.ensures.read) c.expect_punctuator.new.self.cursor c.saturating_sub-inner.result c.expect_punctuator.ensures.text c.expect_punctuator.ensures.same_open c.in_ok-left-in-Block.ensures.accepted.0 c.saturating_sub-inner.ensures c.statements.new.self.cursor c.expect_punctuator.new.self.pairs.items c.statements.new.self.pairs.items c.in_err-list-in-Block.field-0.0 c.in_err-list-in-Block.ensures.complete)
+
+pub read_symbols-returns-in_err-expect_punctuator-in-Block-clause-complete : goal.read_symbols-returns-in_err-expect_punctuator-in-Block-clause-complete
+read_symbols-returns-in_err-expect_punctuator-in-Block-clause-complete t c =
+    let v = c.each.invariant in
+    pieces_err c.expect_punctuator-in-Block.new.self.cursor c.expect_punctuator-in-Block.new.self.pairs.items c.args.high _ c.from_residual-in_err-expect_punctuator-in-Block.result c.args.pieces.now _ c.each.piece-index c.in_err-expect_punctuator-in-Block.field-0.0 v.same c.each-test.true v.derived.same_open v.complete c.from_residual-in_err-expect_punctuator-in-Block.ensures.1
+    (block_unclosed c.args.context.returns c.each.self.cursor c.expected.new.self.cursor c.each.built c.expected.new.built c.args.high c.in-Block.context _ c.expected.ensures.text c.expected.ensures.same_open (rw c.in-Block.is at c.in_ok-expected.ensures.read) c.expect_punctuator.new.self.cursor c.saturating_sub-inner.result c.expect_punctuator.ensures.text c.expect_punctuator.ensures.same_open c.in_ok-left-in-Block.ensures.accepted.0 c.saturating_sub-inner.ensures c.statements.new.self.cursor c.expect_punctuator.new.self.pairs.items c.statements.new.self.pairs.items _ c.in_ok-list-in-Block.ensures.complete c.in_err-expect_punctuator-in-Block.field-0.0 c.statements.ensures.text c.in_err-expect_punctuator-in-Block.ensures.missed.0)
+
+pub read_symbols-returns-in_err-finish_plain-in-Block-clause-complete : goal.read_symbols-returns-in_err-finish_plain-in-Block-clause-complete
+read_symbols-returns-in_err-finish_plain-in-Block-clause-complete t c =
+    let v = c.each.invariant in
+    pieces_err c.expect_punctuator-in-Block.new.self.cursor c.expect_punctuator-in-Block.new.self.pairs.items c.args.high _ c.from_residual-in_err-finish_plain-in-Block.result c.args.pieces.now _ c.each.piece-index c.in_err-finish_plain-in-Block.field-0.0 v.same c.each-test.true v.derived.same_open v.complete c.from_residual-in_err-finish_plain-in-Block.ensures.1
+    (block_high c.args.context.returns c.each.self.cursor c.expected.new.self.cursor c.each.built c.expected.new.built c.args.high c.in-Block.context _ c.expected.ensures.text c.expected.ensures.same_open (rw c.in-Block.is at c.in_ok-expected.ensures.read) c.expect_punctuator.new.self.cursor c.saturating_sub-inner.result c.expect_punctuator.ensures.text c.expect_punctuator.ensures.same_open c.in_ok-left-in-Block.ensures.accepted.0 c.saturating_sub-inner.ensures c.statements.new.self.cursor c.expect_punctuator.new.self.pairs.items c.statements.new.self.pairs.items _ c.in_ok-list-in-Block.ensures.complete c.in_err-finish_plain-in-Block.field-0.0 c.in_err-finish_plain-in-Block.ensures.0 c.in_err-finish_plain-in-Block.ensures.1)
+
+pub read_symbols-returns-in_err-push-in-Block-clause-complete : goal.read_symbols-returns-in_err-push-in-Block-clause-complete
+read_symbols-returns-in_err-push-in-Block-clause-complete t c =
+    let v = c.each.invariant in
+    pieces_memory c.expect_punctuator-in-Block.new.self.cursor c.expect_punctuator-in-Block.new.self.pairs.items c.args.high _ c.from_residual-in_err-push-in-Block.result c.args.pieces.now c.each.piece-index c.in_err-push-in-Block.field-0.0 v.same c.each-test.true v.derived.same_open v.complete c.from_residual-in_err-push-in-Block.ensures.1 c.in_err-push-in-Block.ensures.kept.0
+
+pub read_symbols-returns-in_err-read_symbols-in-Handler-clause-complete : goal.read_symbols-returns-in_err-read_symbols-in-Handler-clause-complete
+read_symbols-returns-in_err-read_symbols-in-Handler-clause-complete t c =
+    let v = c.each.invariant in
+    pieces_err c.read_symbols.new.self.cursor c.read_symbols.new.self.pairs.items c.args.high _ c.from_residual-in_err-read_symbols-in-Handler.result c.args.pieces.now _ c.each.piece-index c.in_err-read_symbols-in-Handler.field-0.0 v.same c.each-test.true v.derived.same_open v.complete c.from_residual-in_err-read_symbols-in-Handler.ensures.1
+    (handler_refused c.args.context.returns c.each.self.cursor c.expected.new.self.cursor c.each.built c.expected.new.built c.args.high c.in-Handler.start c.saturating_sub-inner.result c.new-caught.result _ _ c.expected.ensures.text c.expected.ensures.same_open (rw c.in-Handler.is at c.in_ok-expected.ensures.read) c.new-caught.ensures c.catch_symbols.ensures c.saturating_sub-inner.ensures c.read_symbols.new.self.cursor c.expected.new.self.pairs.items c.read_symbols.new.self.pairs.items c.read_symbols.new.built c.in_err-read_symbols-in-Handler.field-0.0 c.in_err-read_symbols-in-Handler.ensures.complete)
+
+pub read_symbols-returns-in_err-finish_plain-in-Handler-clause-complete : goal.read_symbols-returns-in_err-finish_plain-in-Handler-clause-complete
+read_symbols-returns-in_err-finish_plain-in-Handler-clause-complete t c =
+    let v = c.each.invariant in
+    pieces_err c.read_symbols.new.self.cursor c.read_symbols.new.self.pairs.items c.args.high _ c.from_residual-in_err-finish_plain-in-Handler.result c.args.pieces.now _ c.each.piece-index c.in_err-finish_plain-in-Handler.field-0.0 v.same c.each-test.true v.derived.same_open v.complete c.from_residual-in_err-finish_plain-in-Handler.ensures.1
+    (handler_high c.args.context.returns c.each.self.cursor c.expected.new.self.cursor c.each.built c.expected.new.built c.args.high c.in-Handler.start c.saturating_sub-inner.result c.new-caught.result _ _ c.expected.ensures.text c.expected.ensures.same_open (rw c.in-Handler.is at c.in_ok-expected.ensures.read) c.new-caught.ensures c.catch_symbols.ensures c.saturating_sub-inner.ensures c.read_symbols.new.self.cursor c.expected.new.self.pairs.items c.read_symbols.new.self.pairs.items c.read_symbols.new.built c.in_err-finish_plain-in-Handler.field-0.0 c.in_ok-read_symbols-in-Handler.ensures.complete c.in_err-finish_plain-in-Handler.ensures.0 c.in_err-finish_plain-in-Handler.ensures.1)
+
+pub read_symbols-returns-in_err-push-in-Handler-clause-complete : goal.read_symbols-returns-in_err-push-in-Handler-clause-complete
+read_symbols-returns-in_err-push-in-Handler-clause-complete t c =
+    let v = c.each.invariant in
+    pieces_memory c.read_symbols.new.self.cursor c.read_symbols.new.self.pairs.items c.args.high _ c.from_residual-in_err-push-in-Handler.result c.args.pieces.now c.each.piece-index c.in_err-push-in-Handler.field-0.0 v.same c.each-test.true v.derived.same_open v.complete c.from_residual-in_err-push-in-Handler.ensures.1 c.in_err-push-in-Handler.ensures.kept.0
+
+pub read_symbols-returns-in_err-statements-in-Items-clause-complete : goal.read_symbols-returns-in_err-statements-in-Items-clause-complete
+read_symbols-returns-in_err-statements-in-Items-clause-complete t c =
+    let v = c.each.invariant in
+    pieces_err c.statements-in-Items.new.self.cursor c.statements-in-Items.new.self.pairs.items c.args.high _ c.from_residual-in_err-statements-in-Items.result c.args.pieces.now _ c.each.piece-index c.in_err-statements-in-Items.field-0.0 v.same c.each-test.true v.derived.same_open v.complete c.from_residual-in_err-statements-in-Items.ensures.1
+    (items_refused c.args.context.returns c.each.self.cursor c.expected.new.self.cursor c.each.built c.expected.new.built c.args.high c.in-Items.until c.item-context.result _ c.expected.ensures.text (rw c.in-Items.is at c.in_ok-expected.ensures.read) c.item-context.ensures c.statements-in-Items.new.self.cursor c.expected.new.self.pairs.items c.statements-in-Items.new.self.pairs.items c.in_err-statements-in-Items.field-0.0 c.expected.ensures.same_open c.in_err-statements-in-Items.ensures.complete)
+
+pub read_symbols-returns-in_err-append-in-Items-clause-complete : goal.read_symbols-returns-in_err-append-in-Items-clause-complete
+read_symbols-returns-in_err-append-in-Items-clause-complete t c =
+    let v = c.each.invariant in
+    pieces_memory c.statements-in-Items.new.self.cursor c.statements-in-Items.new.self.pairs.items c.args.high _ c.from_residual-in_err-append-in-Items.result c.args.pieces.now c.each.piece-index c.in_err-append-in-Items.field-0.0 v.same c.each-test.true v.derived.same_open v.complete c.from_residual-in_err-append-in-Items.ensures.1 c.in_err-append-in-Items.ensures.kept.0
+
+pub read_symbols-returns-in_err-list-in-List-clause-complete : goal.read_symbols-returns-in_err-list-in-List-clause-complete
+read_symbols-returns-in_err-list-in-List-clause-complete t c =
+    let v = c.each.invariant in
+    pieces_err c.open.new.self.cursor c.open.new.self.pairs.items c.args.high _ c.from_residual-in_err-list-in-List.result c.args.pieces.now _ c.each.piece-index c.in_err-list-in-List.field-0.0 v.same c.each-test.true v.derived.same_open v.complete c.from_residual-in_err-list-in-List.ensures.1
+    (list_unopened c.args.context.returns c.each.self.cursor c.expected.new.self.cursor c.each.built c.expected.new.built c.args.high c.in-List.listed _ c.expected.ensures.text (rw c.in-List.is at c.in_ok-expected.ensures.read) c.saturating_sub-limit.result c.in_err-list-in-List.field-0.0 c.in_err-list-in-List.ensures.not_begun c.in_err-list-in-List.ensures.unopened)
+
+pub read_symbols-returns-in_err-list-in-List-2-clause-complete : goal.read_symbols-returns-in_err-list-in-List-2-clause-complete
+read_symbols-returns-in_err-list-in-List-2-clause-complete t c =
+    let v = c.each.invariant in
+    pieces_err c.list-in-List.new.self.cursor c.list-in-List.new.self.pairs.items c.args.high _ c.from_residual-in_err-list-in-List-2.result c.args.pieces.now _ c.each.piece-index c.in_err-list-in-List-2.field-0.0 v.same c.each-test.true v.derived.same_open v.complete c.from_residual-in_err-list-in-List-2.ensures.1
+    (list_refused c.args.context.returns c.each.self.cursor c.expected.new.self.cursor c.each.built c.expected.new.built c.args.high c.in-List.listed _ c.expected.ensures.text (rw c.in-List.is at c.in_ok-expected.ensures.read) c.open.new.self.cursor c.saturating_sub-limit.result c.in_ok-list-in-List.list c.expected.ensures.same_open c.open.ensures.text c.open.ensures.same_open c.in_ok-list-in-List.ensures.listed c.in_ok-list-in-List.ensures.begun (c.saturating_sub-limit.ensures ∙ ap (λ n. c.args.high - n) c.list_node_height.ensures) c.list-in-List.new.self.cursor c.open.new.self.pairs.items c.list-in-List.new.self.pairs.items c.in_err-list-in-List-2.field-0.0 c.in_err-list-in-List-2.ensures.complete)
+
+pub read_symbols-returns-in_err-add_list-in-List-clause-complete : goal.read_symbols-returns-in_err-add_list-in-List-clause-complete
+read_symbols-returns-in_err-add_list-in-List-clause-complete t c =
+    let v = c.each.invariant in
+    pieces_err c.list-in-List.new.self.cursor c.list-in-List.new.self.pairs.items c.args.high _ c.from_residual-in_err-add_list-in-List.result c.args.pieces.now _ c.each.piece-index c.in_err-add_list-in-List.field-0.0 v.same c.each-test.true v.derived.same_open v.complete c.from_residual-in_err-add_list-in-List.ensures.1
+    (list_unput c.args.context.returns c.each.self.cursor c.expected.new.self.cursor c.each.built c.expected.new.built c.args.high c.in-List.listed _ c.expected.ensures.text (rw c.in-List.is at c.in_ok-expected.ensures.read) c.open.new.self.cursor c.saturating_sub-limit.result c.in_ok-list-in-List.list c.expected.ensures.same_open c.open.ensures.text c.open.ensures.same_open c.in_ok-list-in-List.ensures.listed c.in_ok-list-in-List.ensures.begun (c.saturating_sub-limit.ensures ∙ ap (λ n. c.args.high - n) c.list_node_height.ensures) c.list-in-List.new.self.cursor c.open.new.self.pairs.items c.list-in-List.new.self.pairs.items c.in_ok-list-in-List-2.list c.sees_in_or_of-each-in-List.result c.list-in-List.ensures.text c.in_ok-list-in-List-2.ensures.complete c.in_ok-list-in-List-2.ensures.same c.in_ok-list-in-List-2.ensures.derived c.sees_in_or_of-each-in-List.ensures.seen c.sees_in_or_of-each-in-List.ensures.missed (IsPlaceHere c.list-in-List.new.self.cursor) c.in_err-add_list-in-List.field-0.0 c.in_err-add_list-in-List.ensures.failed)
+
+pub read_symbols-returns-clause-complete : goal.read_symbols-returns-clause-complete
+read_symbols-returns-clause-complete t c = let over = c.each-test.false in let end = c.each.auto.piece-index-end in pieces_ok c.args.high c.args.pieces.now c.each.piece-index (omega arith) c.each.invariant.complete
+
+pub function_or_class-returns-in_err-function_or_class_name-clause-complete : goal.function_or_class-returns-in_err-function_or_class_name-clause-complete
+function_or_class-returns-in_err-function_or_class_name-clause-complete t c =
+    name_refused c.args.self.now.cursor c.function_or_class_name.new.self.cursor c.args.self.now.pairs.items c.function_or_class_name.new.self.pairs.items c.args.high c.saturating_sub-inner.result c.args.closure c.args.start c.from_residual.result c.in_err-function_or_class_name.field-0.0 c.from_residual.ensures.1 c.saturating_sub-inner.ensures c.in_err-function_or_class_name.ensures.unnamed
+
+pub function_or_class-returns-in_err-read_symbols-clause-complete : goal.function_or_class-returns-in_err-read_symbols-clause-complete
+function_or_class-returns-in_err-read_symbols-clause-complete t c =
+    closure_refused c.args.self.now.cursor c.function_or_class_name.new.self.cursor c.args.self.now.pairs.items c.function_or_class_name.new.self.pairs.items c.args.high c.saturating_sub-inner.result c.args.closure c.args.start _ _ c.of-built.result c.function_or_class_name.ensures.text c.function_or_class_name.ensures.same_open c.function_or_class_name.ensures.same_pairs c.saturating_sub-inner.ensures
+    c.in_ok-function_or_class_name.ensures.named (ap (λ b. b.nodes) c.of-built.ensures) c.symbols.ensures c.read_symbols.new.self.cursor c.read_symbols.new.self.pairs.items true c.read_symbols.new.built c.from_residual-in_err-read_symbols.result c.in_err-read_symbols.field-0.0 c.from_residual-in_err-read_symbols.ensures.1 c.in_err-read_symbols.ensures.complete
+
+pub function_or_class-returns-clause-complete : goal.function_or_class-returns-clause-complete
+function_or_class-returns-clause-complete t c =
+    let made = subst (λ n. Makes n c.args.high c.finish_plain.result) (λ i. node (c.kind.ensures i) [] plain (c.span_from.ensures i).start (c.span_from.ensures i).end c.read_symbols.new.built.nodes) c.finish_plain.ensures in
+    closure_made c.args.self.now.cursor c.function_or_class_name.new.self.cursor c.args.self.now.pairs.items c.function_or_class_name.new.self.pairs.items c.args.high c.saturating_sub-inner.result c.args.closure c.args.start _ _ c.of-built.result c.function_or_class_name.ensures.text c.function_or_class_name.ensures.same_open c.function_or_class_name.ensures.same_pairs c.saturating_sub-inner.ensures
+    c.in_ok-function_or_class_name.ensures.named (ap (λ b. b.nodes) c.of-built.ensures) c.symbols.ensures c.read_symbols.new.self.cursor c.read_symbols.new.self.pairs.items true c.read_symbols.new.built c.finish_plain.result c.in_ok-read_symbols.ensures.complete made
+
+pub function_or_class-returns-clause-derived : goal.function_or_class-returns-clause-derived
+function_or_class-returns-clause-derived t c =
+    let made = subst (λ n. Makes n c.args.high c.finish_plain.result) (λ i. node (c.kind.ensures i) [] plain (c.span_from.ensures i).start (c.span_from.ensures i).end c.read_symbols.new.built.nodes) c.finish_plain.ensures in
+    closed c.args.closure true c.args.start c.args.high c.saturating_sub-inner.result c.in_ok-function_or_class_name.field-0 c.of-built.result c.read_symbols.new.built c.finish_plain.result c.function_or_class_name.ensures.text c.function_or_class_name.ensures.same_open c.function_or_class_name.ensures.same_pairs
+    c.in_ok-function_or_class_name.ensures.named (ap (λ b. b.nodes) c.of-built.ensures) c.symbols.ensures c.in_ok-read_symbols.ensures.derived made
+
+pub keyword_expression-returns-in_ok-node-in-Function-clause-derived : goal.keyword_expression-returns-in_ok-node-in-Function-clause-derived
+keyword_expression-returns-in_ok-node-in-Function-clause-derived t c = function_worded c.args.token c.args.position c.args.opening c.in-Function.is c.plain.ensures c.in_ok-node-in-Function.ensures.derived
+
+pub keyword_expression-returns-in_ok-node-in-Class-clause-derived : goal.keyword_expression-returns-in_ok-node-in-Class-clause-derived
+keyword_expression-returns-in_ok-node-in-Class-clause-derived t c = class_worded c.args.token c.args.position c.args.opening c.in-Class.is c.plain-in-Class.ensures c.in_ok-node-in-Class.ensures.derived
+
+pub super_expression-returns-clause-derived : goal.super_expression-returns-clause-derived
+super_expression-returns-clause-derived t c =
+    super_worded c.args.self.now.cursor c.subscript.new.self.cursor c.args.self.now.pairs.items c.subscript.new.self.pairs.items c.args.token c.args.position Super c.accepts_rank.result c.subscript.result refl c.accepts_rank.ensures
+    (c.plain.ensures ∙ ap (λ n. plain_part n Primary Other) c.in_ok-node.ensures.made.0) c.if-not-sees_super_continuation.ensures.seen c.subscript.ensures.derived
+
+pub new_expression-returns-then-accept_punctuator-clause-derived : goal.new_expression-returns-then-accept_punctuator-clause-derived
+new_expression-returns-then-accept_punctuator-clause-derived t c =
+    target_worded c.args.self.now.cursor c.accept_punctuator.new.self.cursor c.new_target.new.self.cursor c.args.token c.args.position New c.args.high c.new_target.result refl c.accept_punctuator.ensures.text (c.new_target.ensures.same_open ∙ c.accept_punctuator.ensures.same_open)
+    (c.new_target.ensures.same_pairs ∙ c.accept_punctuator.ensures.same_pairs) c.if-accept_punctuator.ensures.accepted c.new_target.ensures.target
+
+pub new_expression-returns-clause-derived : goal.new_expression-returns-clause-derived
+new_expression-returns-clause-derived t c =
+    let callee = c.in_ok-callee.callee in
+    let first = c.in_ok-nodes.ensures.made ∙ ap (λ n. part n none) c.in_ok-into_expression.ensures.settled.0 in
+    let tail : Adds c.expression.new.self.cursor c.if-sees_punctuator.self.cursor c.expression.new.self.pairs.items c.if-sees_punctuator.self.pairs.items (NewTail c.accept_punctuator.new.self.cursor.text callee.cover.node c.if-sees_punctuator.nodes c.if-sees_punctuator.rank) =
+    elim c.if-sees_punctuator.branch [
+      | new_expression-then-sees_punctuator+in_ok-arguments+in_ok-append w ↦
+          subst (λ v. Adds c.expression.new.self.cursor v.cursor c.expression.new.self.pairs.items v.pairs.items (NewTail c.accept_punctuator.new.self.cursor.text callee.cover.node c.if-sees_punctuator.nodes c.if-sees_punctuator.rank)) (sym w.self-is)
+          (tail_with callee.cover.node w.in_ok-arguments.field-0 c.if-sees_punctuator.nodes c.if-sees_punctuator.rank c.expression.ensures.text (w.nodes-is ∙ w.in_ok-append.ensures.joined ∙ ap (λ ps. join ps w.in_ok-arguments.field-0) first) w.rank-is w.if-sees_punctuator.ensures.seen w.in_ok-arguments.ensures.derived)
+      | new_expression-else-sees_punctuator w ↦
+          subst (λ v. Adds c.expression.new.self.cursor v.cursor c.expression.new.self.pairs.items v.pairs.items (NewTail c.accept_punctuator.new.self.cursor.text callee.cover.node c.if-sees_punctuator.nodes c.if-sees_punctuator.rank)) (sym w.self-is)
+          (tail_alone callee.cover.node c.if-sees_punctuator.nodes c.if-sees_punctuator.rank c.expression.ensures.text (w.nodes-is ∙ first) w.rank-is w.if-sees_punctuator.ensures.missed)
+    ] in
+    let span = c.span_from.ensures in
+    let tree = c.in_ok-node.ensures.0 ∙ (λ i. node NewExpression [] plain (span i).start (span i).end c.if-sees_punctuator.nodes) in
+    worded_here c.args.token c.accept_punctuator.ensures.text c.if-accept_punctuator.ensures.missed.1 c.accept_punctuator.ensures.same_open c.accept_punctuator.ensures.same_pairs
+    (new_worded c.args.token c.at.result c.args.position New c.if-sees_punctuator.rank c.if-sees_punctuator.nodes refl c.at.ensures c.in_ok-callee.ensures.derived c.in_ok-into_expression.ensures.settled.1 tail (c.plain.ensures ∙ ap (λ n. plain_part n c.if-sees_punctuator.rank Other) tree))
+
+pub import_call-returns-clause-derived : goal.import_call-returns-clause-derived
+import_call-returns-clause-derived t c =
+    let parts = c.in_ok-nodes.ensures.made ∙ ap (λ n. part n none) c.in_ok-into_expression.ensures.settled.0 in
+    let span = c.span_from.ensures in
+    let tree = c.in_ok-node.ensures.0 ∙ (λ i. node ImportExpression [] plain (span i).start (span i).end (parts i)) in
+    import_worded c.args.token c.args.position Import refl c.expect_punctuator.ensures.text (c.expression.ensures.text ∙ c.expect_punctuator.ensures.text) c.expect_punctuator.ensures.same_open c.expect_punctuator.ensures.same_pairs c.expect_punctuator-2.ensures.same_open c.expect_punctuator-2.ensures.same_pairs
+    c.in_ok-expect_punctuator.ensures.accepted.0 c.in_ok-source.ensures.derived c.in_ok-into_expression.ensures.settled.1 c.in_ok-expect_punctuator-2.ensures.accepted.0 (c.plain.ensures ∙ ap (λ n. plain_part n Call Other) tree)
+
+pub keyword_expression-returns-in_err-node-in-Function-clause-complete : goal.keyword_expression-returns-in_err-node-in-Function-clause-complete
+keyword_expression-returns-in_err-node-in-Function-clause-complete t c = λ a h o n from to P next same coded word g.
+    let s = c.args.self.now.cursor in
+    let u = token_of c.args.token in
+    let opens = function_coded (expression_start s.last) (coded ∙ ap Some c.in-Function.is) in
+    let w = word_here s.text u next same (ap is_worded opens) in
+    let v = function_given s.text w.read opens g in
+    let tall = ap height v.tree in
+    agrees_on (Room s o (suc (parts_height v.parts)) c.args.high) (Room s o (height n) c.args.high) (FirstWith s c.function_or_class.new.self.cursor c.args.self.now.pairs.items c.function_or_class.new.self.pairs.items a h n to P) c.from_residual.result c.in_err-node-in-Function.field-0.0 c.from_residual.ensures.1
+    (c.in_err-node-in-Function.ensures.complete v.parts o to P v.runs (λ e. cc)) (λ room. (room.0, subst (λ k. k ≤ c.args.high) tall room.1))
+
+pub keyword_expression-returns-in_ok-node-in-Function-clause-complete : goal.keyword_expression-returns-in_ok-node-in-Function-clause-complete
+keyword_expression-returns-in_ok-node-in-Function-clause-complete t c = λ a h o n from to P next same coded word g.
+    let s = c.args.self.now.cursor in
+    let u = token_of c.args.token in
+    let opens = function_coded (expression_start s.last) (coded ∙ ap Some c.in-Function.is) in
+    let w = word_here s.text u next same (ap is_worded opens) in
+    let v = function_given s.text w.read opens g in
+    let answer = c.in_ok-node-in-Function.ensures.complete v.parts o to P v.runs (λ e. cc) in
+    (closure_first v u.start c.in_ok-node-in-Function.node c.plain.result (sym (ap (λ (x : Token). x.start) same)) answer.0 c.plain.ensures refl, answer.1)
+
+pub keyword_expression-returns-in_err-node-in-Class-clause-complete : goal.keyword_expression-returns-in_err-node-in-Class-clause-complete
+keyword_expression-returns-in_err-node-in-Class-clause-complete t c = λ a h o n from to P next same coded word g.
+    let s = c.args.self.now.cursor in
+    let u = token_of c.args.token in
+    let opens = class_coded (expression_start s.last) (coded ∙ ap Some c.in-Class.is) in
+    let w = word_here s.text u next same (ap is_worded opens) in
+    let v = class_given s.text w.read opens g in
+    let tall = ap height v.tree in
+    agrees_on (Room s o (suc (parts_height v.parts)) c.args.high) (Room s o (height n) c.args.high) (FirstWith s c.function_or_class-in-Class.new.self.cursor c.args.self.now.pairs.items c.function_or_class-in-Class.new.self.pairs.items a h n to P) c.from_residual-in_err-node-in-Class.result c.in_err-node-in-Class.field-0.0 c.from_residual-in_err-node-in-Class.ensures.1
+    (c.in_err-node-in-Class.ensures.complete v.parts o to P v.runs (λ e. cc)) (λ room. (room.0, subst (λ k. k ≤ c.args.high) tall room.1))
+
+pub keyword_expression-returns-in_ok-node-in-Class-clause-complete : goal.keyword_expression-returns-in_ok-node-in-Class-clause-complete
+keyword_expression-returns-in_ok-node-in-Class-clause-complete t c = λ a h o n from to P next same coded word g.
+    let s = c.args.self.now.cursor in
+    let u = token_of c.args.token in
+    let opens = class_coded (expression_start s.last) (coded ∙ ap Some c.in-Class.is) in
+    let w = word_here s.text u next same (ap is_worded opens) in
+    let v = class_given s.text w.read opens g in
+    let answer = c.in_ok-node-in-Class.ensures.complete v.parts o to P v.runs (λ e. cc) in
+    (closure_first v u.start c.in_ok-node-in-Class.node c.plain-in-Class.result (sym (ap (λ (x : Token). x.start) same)) answer.0 c.plain-in-Class.ensures refl, answer.1)
+
+pub super_expression-returns-in_err-node-clause-complete : goal.super_expression-returns-in_err-node-clause-complete
+super_expression-returns-in_err-node-clause-complete t c = λ a h o n from to P next same coded word g.
+    let s = c.args.self.now.cursor in
+    let u = token_of c.args.token in
+    let opens = super_coded (expression_start s.last) (coded ∙ ap Some refl) in
+    let w = word_here s.text u next same (ap is_worded opens) in
+    let v = super_given s.text w.read opens g in
+    let tall = super_low v.1 in
+    let less = c.saturating_sub.ensures in
+    let above = c.in_err-node.ensures.made in
+    agrees_err (Room s o (height n) c.args.high) (FirstWith s s c.args.self.now.pairs.items c.args.self.now.pairs.items a h n to P) c.from_residual.result c.in_err-node.field-0.0 c.from_residual.ensures.1
+    (refuses_high (Room s o (height n) c.args.high) 1 c.saturating_sub.result c.in_err-node.field-0.0 above.0 above.1 (λ room. let l = room.1 in omega arith))
+
+pub super_expression-returns-clause-complete : goal.super_expression-returns-clause-complete
+super_expression-returns-clause-complete t c = λ a h o n from to P next same coded word g.
+    let s = c.args.self.now.cursor in
+    let u = token_of c.args.token in
+    let opens = super_coded (expression_start s.last) (coded ∙ ap Some refl) in
+    let w = word_here s.text u next same (ap is_worded opens) in
+    let v = super_given s.text w.read opens g in
+    super_agrees s c.subscript.new.self.cursor c.args.self.now.pairs.items c.subscript.new.self.pairs.items c.args.high u c.plain.result c.subscript.result (c.plain.ensures ∙ ap (λ n. plain_part n Primary Other) c.in_ok-node.ensures.made.0) w.same c.subscript.ensures.complete v.0 v.1
+
+pub new_expression-returns-then-accept_punctuator-clause-complete : goal.new_expression-returns-then-accept_punctuator-clause-complete
+new_expression-returns-then-accept_punctuator-clause-complete t c = λ a h o n from to P next same coded word g.
+    let s = c.args.self.now.cursor in
+    let u = token_of c.args.token in
+    let opens = new_coded (expression_start s.last) (coded ∙ ap Some refl) in
+    let w = word_here s.text u next same (ap is_worded opens) in
+    let v = new_given_so s.text w.read opens g in
+    target_agrees s c.accept_punctuator.new.self.cursor c.new_target.new.self.cursor c.args.self.now.pairs.items c.new_target.new.self.pairs.items c.args.high u c.new_target.result v.0 v.1 w.same c.accept_punctuator.ensures.text c.if-accept_punctuator.ensures.accepted (c.new_target.ensures.same_pairs ∙ c.accept_punctuator.ensures.same_pairs) c.new_target.ensures.target c.new_target.ensures.no_target
+
+pub new_expression-returns-in_err-callee-clause-complete : goal.new_expression-returns-in_err-callee-clause-complete
+new_expression-returns-in_err-callee-clause-complete t c = λ a h o n from to P next same coded word g.
+    let s = c.args.self.now.cursor in
+    let u = token_of c.args.token in
+    let opens = new_coded (expression_start s.last) (coded ∙ ap Some refl) in
+    let w = word_here s.text u next same (ap is_worded opens) in
+    let v = new_given_so s.text w.read opens g in
+    let m = c.accept_punctuator.new.self.cursor in
+    let k = callee_given v.1 c.if-accept_punctuator.ensures.missed.0 in
+    let given = callee_at c.accept_punctuator.ensures.text c.if-accept_punctuator.ensures.missed.1 c.at.ensures k.is k.stopped in
+    let low = k.low in
+    let less = c.saturating_sub-inner.ensures in
+    agrees_on (Room m o (height k.callee) c.saturating_sub-inner.result) (Room s o (height n) c.args.high) (FirstWith s c.expression.new.self.cursor c.args.self.now.pairs.items c.expression.new.self.pairs.items a h n to P) c.from_residual.result c.in_err-callee.field-0.0
+    c.from_residual.ensures.1 (c.in_err-callee.ensures.complete as_expression o k.callee k.mid k.A given) (room_part s m c.accept_punctuator.ensures.same_open (λ l. omega arith))
+
+pub new_expression-returns-in_err-into_expression-clause-complete : goal.new_expression-returns-in_err-into_expression-clause-complete
+new_expression-returns-in_err-into_expression-clause-complete t c = λ a h o n from to P next same coded word g.
+    let s = c.args.self.now.cursor in
+    let u = token_of c.args.token in
+    let opens = new_coded (expression_start s.last) (coded ∙ ap Some refl) in
+    let w = word_here s.text u next same (ap is_worded opens) in
+    let v = new_given_so s.text w.read opens g in
+    let m = c.accept_punctuator.new.self.cursor in
+    let k = callee_given v.1 c.if-accept_punctuator.ensures.missed.0 in
+    let given = callee_at c.accept_punctuator.ensures.text c.if-accept_punctuator.ensures.missed.1 c.at.ensures k.is k.stopped in
+    let low = k.low in
+    let less = c.saturating_sub-inner.ensures in
+    let answer = c.in_ok-callee.ensures.complete as_expression o k.callee k.mid k.A given in
+    absurd (false≢true (sym c.in_err-into_expression.ensures.settled.1 ∙ answer.0.fits))
+
+pub new_expression-returns-in_err-arguments-clause-complete : goal.new_expression-returns-in_err-arguments-clause-complete
+new_expression-returns-in_err-arguments-clause-complete t c = λ a h o n from to P next same coded word g.
+    let s = c.args.self.now.cursor in
+    let u = token_of c.args.token in
+    let opens = new_coded (expression_start s.last) (coded ∙ ap Some refl) in
+    let w = word_here s.text u next same (ap is_worded opens) in
+    let v = new_given_so s.text w.read opens g in
+    let m = c.accept_punctuator.new.self.cursor in
+    let k = callee_given v.1 c.if-accept_punctuator.ensures.missed.0 in
+    let given = callee_at c.accept_punctuator.ensures.text c.if-accept_punctuator.ensures.missed.1 c.at.ensures k.is k.stopped in
+    let low = k.low in
+    let less = c.saturating_sub-inner.ensures in
+    let answer = c.in_ok-callee.ensures.complete as_expression o k.callee k.mid k.A given in
+    let e = c.expression.new.self.cursor in
+    let text_same : e.text ≡ s.text = c.expression.ensures.text ∙ c.accept_punctuator.ensures.text in
+    let x = seen_at e text_same answer.1.place c.if-sees_punctuator.ensures.seen in
+    let z = with_given k.tail x.1 in
+    let lower = z.low in
+    agrees_on (Room e o (parts_height z.ps) c.saturating_sub-inner.result) (Room s o (height n) c.args.high) (FirstWith s c.arguments.new.self.cursor c.args.self.now.pairs.items c.arguments.new.self.pairs.items a h n to P) c.from_residual-in_err-arguments.result c.in_err-arguments.field-0.0
+    c.from_residual-in_err-arguments.ensures.1 (c.in_err-arguments.ensures.complete z.ps o to z.B (subst (λ i. RunsIn i o (anywhere (arguments z.ps)) z.ps e.last to z.B) (sym text_same) (subst (λ i. RunsIn s.text o (anywhere (arguments z.ps)) z.ps i to z.B) (sym answer.1.place) z.runs))) (room_part s e (c.in_ok-callee.ensures.derived.same_open ∙ c.accept_punctuator.ensures.same_open) (λ l. omega arith))
+
+pub new_expression-returns-in_err-append-clause-complete : goal.new_expression-returns-in_err-append-clause-complete
+new_expression-returns-in_err-append-clause-complete t c = λ a h o n from to P next same coded word g.
+    let s = c.args.self.now.cursor in
+    let u = token_of c.args.token in
+    let opens = new_coded (expression_start s.last) (coded ∙ ap Some refl) in
+    let w = word_here s.text u next same (ap is_worded opens) in
+    let v = new_given_so s.text w.read opens g in
+    agrees_err (Room s o (height n) c.args.high) (FirstWith s c.arguments.new.self.cursor c.args.self.now.pairs.items c.arguments.new.self.pairs.items a h n to P) c.from_residual-in_err-append.result c.in_err-append.field-0.0 c.from_residual-in_err-append.ensures.1
+    (refuses_memory (Room s o (height n) c.args.high) c.in_err-append.field-0.0 c.in_err-append.ensures.kept.0)
+
+pub new_expression-returns-in_err-node-clause-complete : goal.new_expression-returns-in_err-node-clause-complete
+new_expression-returns-in_err-node-clause-complete t c = λ a h o n from to P next same coded word g.
+    let s = c.args.self.now.cursor in
+    let u = token_of c.args.token in
+    let opens = new_coded (expression_start s.last) (coded ∙ ap Some refl) in
+    let w0 = word_here s.text u next same (ap is_worded opens) in
+    let v = new_given_so s.text w0.read opens g in
+    let m = c.accept_punctuator.new.self.cursor in
+    let k = callee_given v.1 c.if-accept_punctuator.ensures.missed.0 in
+    let given = callee_at c.accept_punctuator.ensures.text c.if-accept_punctuator.ensures.missed.1 c.at.ensures k.is k.stopped in
+    let answer = c.in_ok-callee.ensures.complete as_expression o k.callee k.mid k.A given in
+    let e = c.expression.new.self.cursor in
+    let text_same : e.text ≡ s.text = c.expression.ensures.text ∙ c.accept_punctuator.ensures.text in
+    let callee = c.in_ok-callee.callee in
+    let first = c.in_ok-nodes.ensures.made ∙ ap (λ n. part n none) c.in_ok-into_expression.ensures.settled.0 in
+    let ends : EndsWith s e c.args.self.now.pairs.items c.expression.new.self.pairs.items k.mid k.A = ends_behind c.accept_punctuator.ensures.same_pairs answer.1 in
+    let tail : TailRead h s.last n to s c.if-sees_punctuator.self.cursor c.args.self.now.pairs.items c.if-sees_punctuator.self.pairs.items P c.if-sees_punctuator.nodes c.if-sees_punctuator.rank =
+    elim c.if-sees_punctuator.branch [
+      | new_expression-then-sees_punctuator+in_ok-arguments+in_ok-append w ↦
+          let x = seen_at e text_same answer.1.place w.if-sees_punctuator.ensures.seen in
+          let z = with_given k.tail x.1 in
+          let args = w.in_ok-arguments.ensures.complete z.ps o to z.B (subst (λ i. RunsIn i o (anywhere (arguments z.ps)) z.ps e.last to z.B) (sym text_same) (subst (λ i. RunsIn s.text o (anywhere (arguments z.ps)) z.ps i to z.B) (sym answer.1.place) z.runs)) in
+          subst (λ v. TailRead h s.last n to s v.cursor c.args.self.now.pairs.items v.pairs.items P c.if-sees_punctuator.nodes c.if-sees_punctuator.rank) (sym w.self-is)
+          (tail_read_with z (w.nodes-is ∙ w.in_ok-append.ensures.joined ∙ ap (λ ps. join ps w.in_ok-arguments.field-0) first) answer.0.tree args.0 w.rank-is ends args.1)
+      | new_expression-else-sees_punctuator w ↦
+          let z = alone_given k.tail (missed_at e text_same answer.1.place w.if-sees_punctuator.ensures.missed) in
+          subst (λ v. TailRead h s.last n to s v.cursor c.args.self.now.pairs.items v.pairs.items P c.if-sees_punctuator.nodes c.if-sees_punctuator.rank) (sym w.self-is) (tail_read_alone z (w.nodes-is ∙ first) answer.0.tree w.rank-is ends)
+    ] in
+    let above = c.in_err-node.ensures in
+    agrees_err (Room s o (height n) c.args.high) (FirstWith s c.if-sees_punctuator.self.cursor c.args.self.now.pairs.items c.if-sees_punctuator.self.pairs.items a h n to P) c.from_residual-in_err-node.result c.in_err-node.field-0.0 c.from_residual-in_err-node.ensures.1
+    (refuses_high (Room s o (height n) c.args.high) (suc (parts_height c.if-sees_punctuator.nodes)) c.args.high c.in_err-node.field-0.0 above.0 above.1 (λ room. tail_low tail room.1))
+
+pub new_expression-returns-clause-complete : goal.new_expression-returns-clause-complete
+new_expression-returns-clause-complete t c = λ a h o n from to P next same coded word g.
+    let s = c.args.self.now.cursor in
+    let u = token_of c.args.token in
+    let opens = new_coded (expression_start s.last) (coded ∙ ap Some refl) in
+    let w0 = word_here s.text u next same (ap is_worded opens) in
+    let v = new_given_so s.text w0.read opens g in
+    let m = c.accept_punctuator.new.self.cursor in
+    let k = callee_given v.1 c.if-accept_punctuator.ensures.missed.0 in
+    let given = callee_at c.accept_punctuator.ensures.text c.if-accept_punctuator.ensures.missed.1 c.at.ensures k.is k.stopped in
+    let answer = c.in_ok-callee.ensures.complete as_expression o k.callee k.mid k.A given in
+    let e = c.expression.new.self.cursor in
+    let text_same : e.text ≡ s.text = c.expression.ensures.text ∙ c.accept_punctuator.ensures.text in
+    let callee = c.in_ok-callee.callee in
+    let first = c.in_ok-nodes.ensures.made ∙ ap (λ n. part n none) c.in_ok-into_expression.ensures.settled.0 in
+    let ends : EndsWith s e c.args.self.now.pairs.items c.expression.new.self.pairs.items k.mid k.A = ends_behind c.accept_punctuator.ensures.same_pairs answer.1 in
+    let tail : TailRead h s.last n to s c.if-sees_punctuator.self.cursor c.args.self.now.pairs.items c.if-sees_punctuator.self.pairs.items P c.if-sees_punctuator.nodes c.if-sees_punctuator.rank =
+    elim c.if-sees_punctuator.branch [
+      | new_expression-then-sees_punctuator+in_ok-arguments+in_ok-append w ↦
+          let x = seen_at e text_same answer.1.place w.if-sees_punctuator.ensures.seen in
+          let z = with_given k.tail x.1 in
+          let args = w.in_ok-arguments.ensures.complete z.ps o to z.B (subst (λ i. RunsIn i o (anywhere (arguments z.ps)) z.ps e.last to z.B) (sym text_same) (subst (λ i. RunsIn s.text o (anywhere (arguments z.ps)) z.ps i to z.B) (sym answer.1.place) z.runs)) in
+          subst (λ v. TailRead h s.last n to s v.cursor c.args.self.now.pairs.items v.pairs.items P c.if-sees_punctuator.nodes c.if-sees_punctuator.rank) (sym w.self-is)
+          (tail_read_with z (w.nodes-is ∙ w.in_ok-append.ensures.joined ∙ ap (λ ps. join ps w.in_ok-arguments.field-0) first) answer.0.tree args.0 w.rank-is ends args.1)
+      | new_expression-else-sees_punctuator w ↦
+          let z = alone_given k.tail (missed_at e text_same answer.1.place w.if-sees_punctuator.ensures.missed) in
+          subst (λ v. TailRead h s.last n to s v.cursor c.args.self.now.pairs.items v.pairs.items P c.if-sees_punctuator.nodes c.if-sees_punctuator.rank) (sym w.self-is) (tail_read_alone z (w.nodes-is ∙ first) answer.0.tree w.rank-is ends)
+    ] in
+    let span = c.span_from.ensures in
+    let tree = c.in_ok-node.ensures.0 ∙ (λ i. node NewExpression [] plain (span i).start (span i).end c.if-sees_punctuator.nodes) in
+    (new_first c.in_ok-node.node c.plain.result u.start c.if-sees_punctuator.self.cursor.last.stop c.if-sees_punctuator.nodes tail.ps v.0 tail.tree tail.taken tree (sym (ap (λ (x : Token). x.start) same)) (ap (λ (x : Token). x.stop) tail.ends.place) tail.same c.plain.ensures, tail.ends)
+
+pub import_call-returns-in_err-expect_punctuator-clause-complete : goal.import_call-returns-in_err-expect_punctuator-clause-complete
+import_call-returns-in_err-expect_punctuator-clause-complete t c = λ a h o n from to P next same coded word g.
+    let s = c.args.self.now.cursor in
+    let u = token_of c.args.token in
+    let opens = import_coded (expression_start s.last) (coded ∙ ap Some refl) in
+    let w = word_here s.text u next same (ap is_worded opens) in
+    let v = import_given s.text w.read opens g in
+    absurd (c.in_err-expect_punctuator.ensures.missed.0 v.first v.first v.left)
+
+pub import_call-returns-in_err-source-clause-complete : goal.import_call-returns-in_err-source-clause-complete
+import_call-returns-in_err-source-clause-complete t c = λ a h o n from to P next same coded word g.
+    let s = c.args.self.now.cursor in
+    let u = token_of c.args.token in
+    let opens = import_coded (expression_start s.last) (coded ∙ ap Some refl) in
+    let w = word_here s.text u next same (ap is_worded opens) in
+    let v = import_given s.text w.read opens g in
+    let m = c.expect_punctuator.new.self.cursor in
+    let less = c.saturating_sub-inner.ensures in
+    let low = import_low v in
+    let at : m.last ≡ v.first = same_mark s refl refl c.in_ok-expect_punctuator.ensures.accepted.0 v.left in
+    let given = expression_given c.expect_punctuator.ensures.text at refl (λ e. cc) (λ e. cc) v.spelled v.stopped in
+    agrees_on (Room m o (height v.source) c.saturating_sub-inner.result) (Room s o (height n) c.args.high) (FirstWith s c.expression.new.self.cursor c.args.self.now.pairs.items c.expression.new.self.pairs.items a h n to P) c.from_residual-in_err-source.result c.in_err-source.field-0.0 c.from_residual-in_err-source.ensures.1
+    (c.in_err-source.ensures.complete as_expression o v.source v.mid P given) (room_part s m c.expect_punctuator.ensures.same_open (λ l. omega arith))
+
+pub import_call-returns-in_err-into_expression-clause-complete : goal.import_call-returns-in_err-into_expression-clause-complete
+import_call-returns-in_err-into_expression-clause-complete t c = λ a h o n from to P next same coded word g.
+    let s = c.args.self.now.cursor in
+    let u = token_of c.args.token in
+    let opens = import_coded (expression_start s.last) (coded ∙ ap Some refl) in
+    let w = word_here s.text u next same (ap is_worded opens) in
+    let v = import_given s.text w.read opens g in
+    let m = c.expect_punctuator.new.self.cursor in
+    let less = c.saturating_sub-inner.ensures in
+    let low = import_low v in
+    let at : m.last ≡ v.first = same_mark s refl refl c.in_ok-expect_punctuator.ensures.accepted.0 v.left in
+    let given = expression_given c.expect_punctuator.ensures.text at refl (λ e. cc) (λ e. cc) v.spelled v.stopped in
+    let answer = c.in_ok-source.ensures.complete as_expression o v.source v.mid P given in
+    let e = c.expression.new.self.cursor in
+    let text_same : e.text ≡ s.text = c.expression.ensures.text ∙ c.expect_punctuator.ensures.text in
+    absurd (false≢true (sym c.in_err-into_expression.ensures.settled.1 ∙ answer.0.fits))
+
+pub import_call-returns-in_err-expect_punctuator-2-clause-complete : goal.import_call-returns-in_err-expect_punctuator-2-clause-complete
+import_call-returns-in_err-expect_punctuator-2-clause-complete t c = λ a h o n from to P next same coded word g.
+    let s = c.args.self.now.cursor in
+    let u = token_of c.args.token in
+    let opens = import_coded (expression_start s.last) (coded ∙ ap Some refl) in
+    let w = word_here s.text u next same (ap is_worded opens) in
+    let v = import_given s.text w.read opens g in
+    let m = c.expect_punctuator.new.self.cursor in
+    let less = c.saturating_sub-inner.ensures in
+    let low = import_low v in
+    let at : m.last ≡ v.first = same_mark s refl refl c.in_ok-expect_punctuator.ensures.accepted.0 v.left in
+    let given = expression_given c.expect_punctuator.ensures.text at refl (λ e. cc) (λ e. cc) v.spelled v.stopped in
+    let answer = c.in_ok-source.ensures.complete as_expression o v.source v.mid P given in
+    let e = c.expression.new.self.cursor in
+    let text_same : e.text ≡ s.text = c.expression.ensures.text ∙ c.expect_punctuator.ensures.text in
+    absurd (misses_not e text_same answer.1.place c.in_err-expect_punctuator-2.ensures.missed.0 v.right)
+
+pub import_call-returns-in_err-node-clause-complete : goal.import_call-returns-in_err-node-clause-complete
+import_call-returns-in_err-node-clause-complete t c = λ a h o n from to P next same coded word g.
+    let s = c.args.self.now.cursor in
+    let u = token_of c.args.token in
+    let opens = import_coded (expression_start s.last) (coded ∙ ap Some refl) in
+    let w = word_here s.text u next same (ap is_worded opens) in
+    let v = import_given s.text w.read opens g in
+    let m = c.expect_punctuator.new.self.cursor in
+    let less = c.saturating_sub-inner.ensures in
+    let low = import_low v in
+    let at : m.last ≡ v.first = same_mark s refl refl c.in_ok-expect_punctuator.ensures.accepted.0 v.left in
+    let given = expression_given c.expect_punctuator.ensures.text at refl (λ e. cc) (λ e. cc) v.spelled v.stopped in
+    let answer = c.in_ok-source.ensures.complete as_expression o v.source v.mid P given in
+    let e = c.expression.new.self.cursor in
+    let text_same : e.text ≡ s.text = c.expression.ensures.text ∙ c.expect_punctuator.ensures.text in
+    let source : c.in_ok-into_expression.field-0 ≡ v.source = c.in_ok-into_expression.ensures.settled.0 ∙ answer.0.tree in
+    let parts = c.in_ok-nodes.ensures.made ∙ ap (λ n. part n none) source in
+    let above = c.in_err-node.ensures in
+    let tall = ap parts_height parts in
+    agrees_err (Room s o (height n) c.args.high) (FirstWith s c.expect_punctuator-2.new.self.cursor c.args.self.now.pairs.items c.expect_punctuator-2.new.self.pairs.items a h n to P) c.from_residual-in_err-node.result c.in_err-node.field-0.0 c.from_residual-in_err-node.ensures.1
+    (refuses_high (Room s o (height n) c.args.high) (suc (parts_height c.in_ok-nodes.nodes)) c.args.high c.in_err-node.field-0.0 above.0 above.1 (λ room. let l = room.1 in omega arith))
+
+pub import_call-returns-clause-complete : goal.import_call-returns-clause-complete
+import_call-returns-clause-complete t c = λ a h o n from to P next same coded word g.
+    let s = c.args.self.now.cursor in
+    let u = token_of c.args.token in
+    let opens = import_coded (expression_start s.last) (coded ∙ ap Some refl) in
+    let w = word_here s.text u next same (ap is_worded opens) in
+    let v = import_given s.text w.read opens g in
+    let m = c.expect_punctuator.new.self.cursor in
+    let less = c.saturating_sub-inner.ensures in
+    let low = import_low v in
+    let at : m.last ≡ v.first = same_mark s refl refl c.in_ok-expect_punctuator.ensures.accepted.0 v.left in
+    let given = expression_given c.expect_punctuator.ensures.text at refl (λ e. cc) (λ e. cc) v.spelled v.stopped in
+    let answer = c.in_ok-source.ensures.complete as_expression o v.source v.mid P given in
+    let e = c.expression.new.self.cursor in
+    let text_same : e.text ≡ s.text = c.expression.ensures.text ∙ c.expect_punctuator.ensures.text in
+    let source : c.in_ok-into_expression.field-0 ≡ v.source = c.in_ok-into_expression.ensures.settled.0 ∙ answer.0.tree in
+    let parts = c.in_ok-nodes.ensures.made ∙ ap (λ n. part n none) source in
+    let last : c.expect_punctuator-2.new.self.cursor.last ≡ to = same_mark e text_same answer.1.place c.in_ok-expect_punctuator-2.ensures.accepted.0 v.right in
+    let span = c.span_from.ensures in
+    let tree = c.in_ok-node.ensures.0 ∙ (λ i. node ImportExpression [] plain (span i).start (span i).end (parts i)) in (
+      import_first v u.start c.expect_punctuator-2.new.self.cursor.last.stop c.in_ok-node.node c.plain.result v.source (sym (ap (λ (x : Token). x.start) same)) (ap (λ (x : Token). x.stop) last) refl tree c.plain.ensures,
+      ends_before (ends_behind c.expect_punctuator.ensures.same_pairs answer.1) last c.expect_punctuator-2.ensures.same_pairs,
+    )
+
+pub keyword_expression-returns-in_default-clause-complete : goal.keyword_expression-returns-in_default-clause-complete
+keyword_expression-returns-in_default-clause-complete t c = λ a h o n from to P next same coded word g. other_word c.args.opening word c.in_default.not-Function c.in_default.not-Class c.in_default.not-Super c.in_default.not-New c.in_default.not-Import
+
+pub statement-returns-in_err-token-clause-complete : goal.statement-returns-in_err-token-clause-complete
+statement-returns-in_err-token-clause-complete t c =
+    statement_unbegun c.args.self.now.cursor c.args.self.now.cursor c.args.self.now.pairs.items c.args.self.now.pairs.items c.args.high c.args.context c.from_residual.result c.in_err-token.field-0.0 c.from_residual.ensures.1 c.in_err-token.ensures.failed
+
+pub statement-returns-in_err-part-in-Expression-clause-complete : goal.statement-returns-in_err-part-in-Expression-clause-complete
+statement-returns-in_err-part-in-Expression-clause-complete t c =
+    expression_refused c.args.self.now.cursor c.expression.new.self.cursor c.args.self.now.pairs.items c.expression.new.self.pairs.items c.saturating_sub-inner.result c.args.high c.args.context c.in_ok-token.token c.in_ok-token.ensures.ahead (sym c.in-Expression.is ∙ c.in_ok-token.ensures.coded) c.saturating_sub-inner.ensures
+    c.expression.new.self.cursor c.expression.new.self.pairs.items c.from_residual-in_err-part-in-Expression.result c.in_err-part-in-Expression.field-0.0 c.from_residual-in_err-part-in-Expression.ensures.1 c.in_err-part-in-Expression.ensures.complete
+
+pub statement-returns-then-not-is_label-clause-complete : goal.statement-returns-then-not-is_label-clause-complete
+statement-returns-then-not-is_label-clause-complete t c =
+    evaluated_given c.args.self.now.cursor c.expression.new.self.cursor c.args.self.now.pairs.items c.expression.new.self.pairs.items c.saturating_sub-inner.result c.args.high c.args.context c.in_ok-token.token c.in_ok-token.ensures.ahead (sym c.in-Expression.is ∙ c.in_ok-token.ensures.coded) c.saturating_sub-inner.ensures
+    c.in_ok-part-in-Expression.part c.expression.ensures.text c.in_ok-part-in-Expression.ensures.complete c.in_ok-part-in-Expression.ensures.derived c.expression_statement.new.self.cursor c.expression_statement.new.self.pairs.items c.expression_statement.result c.if-not-is_label.ensures.no_label c.expression_statement.ensures.same_pairs c.expression_statement.ensures.made
+    c.expression_statement.ensures.ends c.expression_statement.ensures.failed
+
+pub statement-returns-in_err-read_symbols-clause-complete : goal.statement-returns-in_err-read_symbols-clause-complete
+statement-returns-in_err-read_symbols-clause-complete t c =
+    let s = c.args.self.now in
+    let t = c.in_ok-token.token in
+    let b = c.match-beginning.built in
+    let m = c.match-beginning.self in
+    let there : MainThere s.cursor m.cursor s.pairs.items m.pairs.items c.args.context t c.match-beginning.what b = elim c.match-beginning.branch [
+      | statement-in-OfKind w ↦
+          own_begun_there s.cursor w.advance.new.self.cursor m.cursor s.pairs.items w.advance.new.self.pairs.items m.pairs.items c.args.context t c.match-beginning.what b (ap (λ v. v.cursor) w.self-is) (ap (λ v. v.pairs.items) w.self-is) c.in_ok-token.ensures.ahead (ap code.OfKind w.what-is ∙ sym w.in-OfKind.is ∙ c.in_ok-token.ensures.coded)
+          w.advance.ensures.text w.advance.ensures.last w.advance.ensures.same_open w.advance.ensures.same_pairs (ap (λ d. d.nodes) (w.built-is ∙ c.new-built.ensures)) (ap (λ d. d.edge) (w.built-is ∙ c.new-built.ensures))
+      | statement-in-Expression+in_ok-part-in-Expression+else-not-is_label+in_ok-push-in-Expression w ↦
+          label_begun_there s.cursor w.expression.new.self.cursor m.cursor s.pairs.items w.expression.new.self.pairs.items m.pairs.items c.saturating_sub-inner.result c.args.high c.args.context t c.match-beginning.what b w.in_ok-part-in-Expression.part (ap (λ v. v.cursor) w.self-is) (ap (λ v. v.pairs.items) w.self-is)
+          c.in_ok-token.ensures.ahead (sym w.in-Expression.is ∙ c.in_ok-token.ensures.coded) c.saturating_sub-inner.ensures w.expression.ensures.text w.in_ok-part-in-Expression.ensures.complete w.in_ok-part-in-Expression.ensures.derived w.what-is w.if-not-is_label.ensures.label
+          (ap (λ d. d.nodes) w.built-is ∙ w.in_ok-push-in-Expression.ensures.pushed ∙ ap (λ ps. push ps w.in_ok-part-in-Expression.part.cover.node) (ap (λ d. d.nodes) c.new-built.ensures)) (ap (λ d. d.edge) w.built-is ∙ ap (λ d. d.edge) c.new-built.ensures)
+    ] in
+    main_refused s.cursor m.cursor s.pairs.items m.pairs.items c.args.context t c.match-beginning.what b there c.args.high c.saturating_sub-inner.result _ c.saturating_sub-inner.ensures c.statement_symbols.ensures c.read_symbols.new.self.cursor _ c.read_symbols.new.self.pairs.items _ c.read_symbols.new.built _ c.in_err-read_symbols.field-0.0
+    c.from_residual-in_err-read_symbols.ensures.1 c.in_err-read_symbols.ensures.complete
+
+pub statement-returns-in_err-what-clause-complete : goal.statement-returns-in_err-what-clause-complete
+statement-returns-in_err-what-clause-complete t c =
+    let s = c.args.self.now in
+    let t = c.in_ok-token.token in
+    let b = c.match-beginning.built in
+    let m = c.match-beginning.self in
+    let there : MainThere s.cursor m.cursor s.pairs.items m.pairs.items c.args.context t c.match-beginning.what b = elim c.match-beginning.branch [
+      | statement-in-OfKind w ↦
+          own_begun_there s.cursor w.advance.new.self.cursor m.cursor s.pairs.items w.advance.new.self.pairs.items m.pairs.items c.args.context t c.match-beginning.what b (ap (λ v. v.cursor) w.self-is) (ap (λ v. v.pairs.items) w.self-is) c.in_ok-token.ensures.ahead (ap code.OfKind w.what-is ∙ sym w.in-OfKind.is ∙ c.in_ok-token.ensures.coded)
+          w.advance.ensures.text w.advance.ensures.last w.advance.ensures.same_open w.advance.ensures.same_pairs (ap (λ d. d.nodes) (w.built-is ∙ c.new-built.ensures)) (ap (λ d. d.edge) (w.built-is ∙ c.new-built.ensures))
+      | statement-in-Expression+in_ok-part-in-Expression+else-not-is_label+in_ok-push-in-Expression w ↦
+          label_begun_there s.cursor w.expression.new.self.cursor m.cursor s.pairs.items w.expression.new.self.pairs.items m.pairs.items c.saturating_sub-inner.result c.args.high c.args.context t c.match-beginning.what b w.in_ok-part-in-Expression.part (ap (λ v. v.cursor) w.self-is) (ap (λ v. v.pairs.items) w.self-is)
+          c.in_ok-token.ensures.ahead (sym w.in-Expression.is ∙ c.in_ok-token.ensures.coded) c.saturating_sub-inner.ensures w.expression.ensures.text w.in_ok-part-in-Expression.ensures.complete w.in_ok-part-in-Expression.ensures.derived w.what-is w.if-not-is_label.ensures.label
+          (ap (λ d. d.nodes) w.built-is ∙ w.in_ok-push-in-Expression.ensures.pushed ∙ ap (λ ps. push ps w.in_ok-part-in-Expression.part.cover.node) (ap (λ d. d.nodes) c.new-built.ensures)) (ap (λ d. d.edge) w.built-is ∙ ap (λ d. d.edge) c.new-built.ensures)
+    ] in
+    for_unfollowed {e = c.read_symbols.new.self.cursor} {d = c.read_symbols.new.built} _ _ c.args.high _
+    (for_on s.cursor m.cursor s.pairs.items m.pairs.items c.args.context t c.match-beginning.what b there c.args.high c.saturating_sub-inner.result _ c.saturating_sub-inner.ensures c.statement_symbols.ensures c.read_symbols.new.self.cursor c.read_symbols.new.self.pairs.items c.read_symbols.new.built
+    (is_for c.match-beginning.what (sym c.eq.ensures ∙ c.if-eq.true)) c.in_ok-read_symbols.ensures.complete) (c.read_symbols.ensures.text ∙ there.same) c.in_err-what.ensures.unfollowed
+
+pub statement-returns-in_err-read_symbols-2-clause-complete : goal.statement-returns-in_err-read_symbols-2-clause-complete
+statement-returns-in_err-read_symbols-2-clause-complete t c =
+    let s = c.args.self.now in
+    let t = c.in_ok-token.token in
+    let b = c.match-beginning.built in
+    let m = c.match-beginning.self in
+    let there : MainThere s.cursor m.cursor s.pairs.items m.pairs.items c.args.context t c.match-beginning.what b = elim c.match-beginning.branch [
+      | statement-in-OfKind w ↦
+          own_begun_there s.cursor w.advance.new.self.cursor m.cursor s.pairs.items w.advance.new.self.pairs.items m.pairs.items c.args.context t c.match-beginning.what b (ap (λ v. v.cursor) w.self-is) (ap (λ v. v.pairs.items) w.self-is) c.in_ok-token.ensures.ahead (ap code.OfKind w.what-is ∙ sym w.in-OfKind.is ∙ c.in_ok-token.ensures.coded)
+          w.advance.ensures.text w.advance.ensures.last w.advance.ensures.same_open w.advance.ensures.same_pairs (ap (λ d. d.nodes) (w.built-is ∙ c.new-built.ensures)) (ap (λ d. d.edge) (w.built-is ∙ c.new-built.ensures))
+      | statement-in-Expression+in_ok-part-in-Expression+else-not-is_label+in_ok-push-in-Expression w ↦
+          label_begun_there s.cursor w.expression.new.self.cursor m.cursor s.pairs.items w.expression.new.self.pairs.items m.pairs.items c.saturating_sub-inner.result c.args.high c.args.context t c.match-beginning.what b w.in_ok-part-in-Expression.part (ap (λ v. v.cursor) w.self-is) (ap (λ v. v.pairs.items) w.self-is)
+          c.in_ok-token.ensures.ahead (sym w.in-Expression.is ∙ c.in_ok-token.ensures.coded) c.saturating_sub-inner.ensures w.expression.ensures.text w.in_ok-part-in-Expression.ensures.complete w.in_ok-part-in-Expression.ensures.derived w.what-is w.if-not-is_label.ensures.label
+          (ap (λ d. d.nodes) w.built-is ∙ w.in_ok-push-in-Expression.ensures.pushed ∙ ap (λ ps. push ps w.in_ok-part-in-Expression.part.cover.node) (ap (λ d. d.nodes) c.new-built.ensures)) (ap (λ d. d.edge) w.built-is ∙ ap (λ d. d.edge) c.new-built.ensures)
+    ] in
+    for_refused s.cursor c.read_symbols.new.self.cursor s.pairs.items c.read_symbols.new.self.pairs.items c.args.context t c.read_symbols.new.built c.args.high c.saturating_sub-inner.result c.in_ok-what.what _
+    (for_on s.cursor m.cursor s.pairs.items m.pairs.items c.args.context t c.match-beginning.what b there c.args.high c.saturating_sub-inner.result _ c.saturating_sub-inner.ensures c.statement_symbols.ensures c.read_symbols.new.self.cursor c.read_symbols.new.self.pairs.items c.read_symbols.new.built
+    (is_for c.match-beginning.what (sym c.eq.ensures ∙ c.if-eq.true)) c.in_ok-read_symbols.ensures.complete) (c.read_symbols.ensures.text ∙ there.same) (c.in_ok-read_symbols.ensures.derived.same_open ∙ there.same_open) c.saturating_sub-inner.ensures c.statement_symbols-then-eq.ensures c.in_ok-what.ensures.followed c.read_symbols-then-eq.new.self.cursor _ c.read_symbols-then-eq.new.self.pairs.items _ c.read_symbols-then-eq.new.built _
+    c.in_err-read_symbols-2.field-0.0 c.from_residual-in_err-read_symbols-2.ensures.1 c.in_err-read_symbols-2.ensures.complete
+
+pub statement-returns-clause-complete : goal.statement-returns-clause-complete
+statement-returns-clause-complete t c =
+    let s = c.args.self.now in
+    let t = c.in_ok-token.token in
+    let b = c.match-beginning.built in
+    let m = c.match-beginning.self in
+    let there : MainThere s.cursor m.cursor s.pairs.items m.pairs.items c.args.context t c.match-beginning.what b = elim c.match-beginning.branch [
+      | statement-in-OfKind w ↦
+          own_begun_there s.cursor w.advance.new.self.cursor m.cursor s.pairs.items w.advance.new.self.pairs.items m.pairs.items c.args.context t c.match-beginning.what b (ap (λ v. v.cursor) w.self-is) (ap (λ v. v.pairs.items) w.self-is) c.in_ok-token.ensures.ahead (ap code.OfKind w.what-is ∙ sym w.in-OfKind.is ∙ c.in_ok-token.ensures.coded)
+          w.advance.ensures.text w.advance.ensures.last w.advance.ensures.same_open w.advance.ensures.same_pairs (ap (λ d. d.nodes) (w.built-is ∙ c.new-built.ensures)) (ap (λ d. d.edge) (w.built-is ∙ c.new-built.ensures))
+      | statement-in-Expression+in_ok-part-in-Expression+else-not-is_label+in_ok-push-in-Expression w ↦
+          label_begun_there s.cursor w.expression.new.self.cursor m.cursor s.pairs.items w.expression.new.self.pairs.items m.pairs.items c.saturating_sub-inner.result c.args.high c.args.context t c.match-beginning.what b w.in_ok-part-in-Expression.part (ap (λ v. v.cursor) w.self-is) (ap (λ v. v.pairs.items) w.self-is)
+          c.in_ok-token.ensures.ahead (sym w.in-Expression.is ∙ c.in_ok-token.ensures.coded) c.saturating_sub-inner.ensures w.expression.ensures.text w.in_ok-part-in-Expression.ensures.complete w.in_ok-part-in-Expression.ensures.derived w.what-is w.if-not-is_label.ensures.label
+          (ap (λ d. d.nodes) w.built-is ∙ w.in_ok-push-in-Expression.ensures.pushed ∙ ap (λ ps. push ps w.in_ok-part-in-Expression.part.cover.node) (ap (λ d. d.nodes) c.new-built.ensures)) (ap (λ d. d.edge) w.built-is ∙ ap (λ d. d.edge) c.new-built.ensures)
+    ] in
+    let d = c.read_symbols.new.built in
+    let word : c.match-what.text.now ≡ headed_text c.if-eq.what t.text.now = elim c.match-what.branch [
+      | statement-in-Variable w ↦ ap (λ x. x.now) w.text-is ∙ ap (λ h. headed_text h t.text.now) (sym w.in-Variable.is)
+      | statement-in_default w ↦ ap (λ x. x.now) w.text-is ∙ no_text c.if-eq.what t.text.now w.in_default.not-Variable
+    ] in
+    let told : TheStatement s.cursor c.if-eq.self.cursor s.pairs.items c.if-eq.self.pairs.items c.args.context t c.if-eq.what c.if-eq.built.nodes = elim c.if-eq.branch [
+      | statement-then-eq+in_ok-what+in_ok-read_symbols-2 w ↦
+          the_same c.args.context t w.in_ok-what.what c.if-eq.what w.read_symbols-then-eq.new.built.nodes c.if-eq.built.nodes (ap (λ v. v.cursor) w.self-is) (ap (λ v. v.pairs.items) w.self-is) w.what-is (ap (λ k. k.nodes) w.built-is)
+          (for_done s.cursor c.read_symbols.new.self.cursor s.pairs.items c.read_symbols.new.self.pairs.items c.args.context t d c.args.high c.saturating_sub-inner.result w.in_ok-what.what _
+          (for_on s.cursor m.cursor s.pairs.items m.pairs.items c.args.context t c.match-beginning.what b there c.args.high c.saturating_sub-inner.result _ c.saturating_sub-inner.ensures c.statement_symbols.ensures c.read_symbols.new.self.cursor c.read_symbols.new.self.pairs.items d (is_for c.match-beginning.what (sym c.eq.ensures ∙ w.if-eq.true)) c.in_ok-read_symbols.ensures.complete)
+          (c.read_symbols.ensures.text ∙ there.same) (c.in_ok-read_symbols.ensures.derived.same_open ∙ there.same_open) c.saturating_sub-inner.ensures w.statement_symbols-then-eq.ensures w.in_ok-what.ensures.followed w.read_symbols-then-eq.new.self.cursor w.read_symbols-then-eq.new.self.pairs.items w.read_symbols-then-eq.new.built w.in_ok-read_symbols-2.ensures.complete)
+      | statement-else-eq w ↦
+          the_same c.args.context t c.match-beginning.what c.if-eq.what d.nodes c.if-eq.built.nodes (ap (λ v. v.cursor) w.self-is) (ap (λ v. v.pairs.items) w.self-is) w.what-is (ap (λ k. k.nodes) w.built-is)
+          (main_read s.cursor m.cursor s.pairs.items m.pairs.items c.args.context t c.match-beginning.what b there c.args.high c.saturating_sub-inner.result _ c.saturating_sub-inner.ensures c.statement_symbols.ensures c.read_symbols.new.self.cursor c.read_symbols.new.self.pairs.items d (no_for c.match-beginning.what (sym c.eq.ensures ∙ w.if-eq.false)) c.in_ok-read_symbols.ensures.complete)
+    ] in
+    statement_whole s.cursor c.if-eq.self.cursor s.pairs.items c.if-eq.self.pairs.items c.args.high c.args.context (statement_node_kind c.if-eq.what) (headed_text c.if-eq.what t.text.now) t.start c.if-eq.built.nodes c.finish_node.result
+    (subst (λ n. Makes n c.args.high c.finish_node.result) (λ i. node (c.kind.ensures i) (word i) plain (c.span_from-span.ensures i).start (c.span_from-span.ensures i).end c.if-eq.built.nodes) c.finish_node.ensures) told
+
+pub statement-returns-in-FunctionOrClass-clause-complete : goal.statement-returns-in-FunctionOrClass-clause-complete
+statement-returns-in-FunctionOrClass-clause-complete t c =
+    closure_stated_given c.args.self.now.cursor c.advance-in-FunctionOrClass.new.self.cursor c.function_or_class.new.self.cursor c.args.self.now.pairs.items c.advance-in-FunctionOrClass.new.self.pairs.items c.function_or_class.new.self.pairs.items c.args.high c.args.context c.in_ok-token.token c.in-FunctionOrClass.closure c.function_or_class.result
+    c.in_ok-token.ensures.ahead (sym c.in-FunctionOrClass.is ∙ c.in_ok-token.ensures.coded) c.advance-in-FunctionOrClass.ensures.text c.advance-in-FunctionOrClass.ensures.last c.advance-in-FunctionOrClass.ensures.same_open c.advance-in-FunctionOrClass.ensures.same_pairs c.function_or_class.ensures.complete
+
+pub statement-returns-in-FunctionOrClass-clause-derived : goal.statement-returns-in-FunctionOrClass-clause-derived
+statement-returns-in-FunctionOrClass-clause-derived t c =
+    closure_stated c.args.self.now.cursor c.advance-in-FunctionOrClass.new.self.cursor c.function_or_class.new.self.cursor c.args.self.now.pairs.items c.advance-in-FunctionOrClass.new.self.pairs.items c.function_or_class.new.self.pairs.items c.args.context c.in_ok-token.token c.in-FunctionOrClass.closure c.function_or_class.result
+    c.in_ok-token.ensures.ahead (sym c.in-FunctionOrClass.is ∙ c.in_ok-token.ensures.coded) c.advance-in-FunctionOrClass.ensures.text c.advance-in-FunctionOrClass.ensures.last c.advance-in-FunctionOrClass.ensures.same_open c.advance-in-FunctionOrClass.ensures.same_pairs c.function_or_class.ensures.derived
+
+pub statement-returns-then-not-is_label-clause-derived : goal.statement-returns-then-not-is_label-clause-derived
+statement-returns-then-not-is_label-clause-derived t c =
+    evaluated_stated c.args.self.now.cursor c.expression.new.self.cursor c.expression_statement.new.self.cursor c.args.self.now.pairs.items c.expression.new.self.pairs.items c.expression_statement.new.self.pairs.items c.args.context c.in_ok-part-in-Expression.part c.args.high c.expression_statement.result
+    c.in_ok-part-in-Expression.ensures.derived c.expression.ensures.text c.expression_statement.ensures.same_open c.expression_statement.ensures.same_pairs c.expression_statement.ensures.made c.expression_statement.ensures.fits c.expression_statement.ensures.ends
+
+pub statement-returns-clause-derived : goal.statement-returns-clause-derived
+statement-returns-clause-derived t c =
+    let s = c.args.self.now in
+    let t = c.in_ok-token.token in
+    let d = c.read_symbols.new.built in
+    let empty : c.new-built.result.nodes ≡ none = ap (λ b. b.nodes) c.new-built.ensures in
+    let closed_edge : c.new-built.result.edge ≡ Closed = ap (λ b. b.edge) c.new-built.ensures in
+    let first : Adds s.cursor c.match-beginning.self.cursor s.pairs.items c.match-beginning.self.pairs.items (FirstAt s.cursor.text c.args.context (as_read (token_of t)) c.match-beginning.what c.match-beginning.built.nodes) =
+    elim c.match-beginning.branch [
+      | statement-in-OfKind w ↦
+          subst (λ v. Adds s.cursor v.cursor s.pairs.items v.pairs.items (FirstAt s.cursor.text c.args.context (as_read (token_of t)) c.match-beginning.what c.match-beginning.built.nodes)) (sym w.self-is)
+          (own_begun c.args.context t c.match-beginning.what c.match-beginning.built.nodes (ap code.OfKind w.what-is ∙ sym w.in-OfKind.is ∙ c.in_ok-token.ensures.coded) w.advance.ensures.last w.advance.ensures.same_open w.advance.ensures.same_pairs (ap (λ b. b.nodes) w.built-is ∙ empty))
+      | statement-in-Expression+in_ok-part-in-Expression+else-not-is_label+in_ok-push-in-Expression w ↦
+          subst (λ v. Adds s.cursor v.cursor s.pairs.items v.pairs.items (FirstAt s.cursor.text c.args.context (as_read (token_of t)) c.match-beginning.what c.match-beginning.built.nodes)) (sym w.self-is)
+          (label_begun c.args.context (as_read (token_of t)) c.match-beginning.what w.in_ok-part-in-Expression.part c.match-beginning.built.nodes w.in_ok-part-in-Expression.ensures.derived w.if-not-is_label.ensures.label.0 w.if-not-is_label.ensures.label.1 w.what-is
+          (ap (λ b. b.nodes) w.built-is ∙ w.in_ok-push-in-Expression.ensures.pushed ∙ ap (λ ps. push ps w.in_ok-part-in-Expression.part.cover.node) empty))
+    ] in
+    let edge : c.match-beginning.built.edge ≡ Closed = elim c.match-beginning.branch [
+      | statement-in-OfKind w ↦ ap (λ b. b.edge) w.built-is ∙ closed_edge
+      | statement-in-Expression+in_ok-part-in-Expression+else-not-is_label+in_ok-push-in-Expression w ↦ ap (λ b. b.edge) w.built-is ∙ closed_edge
+    ] in
+    let same : c.match-beginning.self.cursor.text ≡ s.cursor.text = elim c.match-beginning.branch [
+      | statement-in-OfKind w ↦ ap (λ v. v.cursor.text) w.self-is ∙ w.advance.ensures.text
+      | statement-in-Expression+in_ok-part-in-Expression+else-not-is_label+in_ok-push-in-Expression w ↦ ap (λ v. v.cursor.text) w.self-is ∙ w.expression.ensures.text
+    ] in
+    let once : Adds s.cursor c.read_symbols.new.self.cursor s.pairs.items c.read_symbols.new.self.pairs.items (OnceAt s.cursor.text c.args.context (as_read (token_of t)) c.match-beginning.what d.nodes d.edge) =
+    pieces_read c.args.context (as_read (token_of t)) c.match-beginning.what c.match-beginning.built.nodes c.match-beginning.built d first refl edge same c.statement_symbols.ensures c.in_ok-read_symbols.ensures.derived in
+    let whole : Adds s.cursor c.if-eq.self.cursor s.pairs.items c.if-eq.self.pairs.items (λ o x y P. StatementAt s.cursor.text (context_role c.args.context) (node (statement_node_kind c.if-eq.what) (headed_text c.if-eq.what t.text.now) plain t.start y.stop c.if-eq.built.nodes) o x y P) =
+    elim c.if-eq.branch [
+      | statement-then-eq+in_ok-what+in_ok-read_symbols-2 w ↦
+          subst (λ v. Adds s.cursor v.cursor s.pairs.items v.pairs.items (λ o x y P. StatementAt s.cursor.text (context_role c.args.context) (node (statement_node_kind c.if-eq.what) (headed_text c.if-eq.what t.text.now) plain t.start y.stop c.if-eq.built.nodes) o x y P)) (sym w.self-is)
+          (whole_as c.args.context t w.in_ok-what.what c.if-eq.what w.read_symbols-then-eq.new.built.nodes c.if-eq.built.nodes w.what-is (ap (λ b. b.nodes) w.built-is)
+          (for_read c.args.context t w.in_ok-what.what d w.read_symbols-then-eq.new.built c.in_ok-token.ensures.ahead
+          (subst (λ h. Adds s.cursor c.read_symbols.new.self.cursor s.pairs.items c.read_symbols.new.self.pairs.items (OnceAt s.cursor.text c.args.context (as_read (token_of t)) h d.nodes d.edge)) (is_for c.match-beginning.what (sym c.eq.ensures ∙ w.if-eq.true)) once) w.in_ok-what.ensures.followed
+          (c.read_symbols.ensures.text ∙ same) w.statement_symbols-then-eq.ensures w.in_ok-read_symbols-2.ensures.derived))
+      | statement-else-eq w ↦
+          subst (λ v. Adds s.cursor v.cursor s.pairs.items v.pairs.items (λ o x y P. StatementAt s.cursor.text (context_role c.args.context) (node (statement_node_kind c.if-eq.what) (headed_text c.if-eq.what t.text.now) plain t.start y.stop c.if-eq.built.nodes) o x y P)) (sym w.self-is)
+          (whole_as c.args.context t c.match-beginning.what c.if-eq.what d.nodes c.if-eq.built.nodes w.what-is (ap (λ b. b.nodes) w.built-is) (once_read c.args.context t c.match-beginning.what d.nodes d.edge c.in_ok-token.ensures.ahead (no_for c.match-beginning.what (sym c.eq.ensures ∙ w.if-eq.false)) once))
+    ] in
+    let word : c.match-what.text.now ≡ headed_text c.if-eq.what t.text.now = elim c.match-what.branch [
+      | statement-in-Variable w ↦ ap (λ x. x.now) w.text-is ∙ ap (λ h. headed_text h t.text.now) (sym w.in-Variable.is)
+      | statement-in_default w ↦ ap (λ x. x.now) w.text-is ∙ no_text c.if-eq.what t.text.now w.in_default.not-Variable
+    ] in
+    statement_made c.args.context (statement_node_kind c.if-eq.what) (headed_text c.if-eq.what t.text.now) t.start c.args.high c.if-eq.built.nodes c.finish_node.result
+    (subst (λ n. Makes n c.args.high c.finish_node.result) (λ i. node (c.kind.ensures i) (word i) plain (c.span_from-span.ensures i).start (c.span_from-span.ensures i).end c.if-eq.built.nodes) c.finish_node.ensures) whole
+
+pub property_or_member-returns-then-accept_punctuator-clause-derived : goal.property_or_member-returns-then-accept_punctuator-clause-derived
+property_or_member-returns-then-accept_punctuator-clause-derived t c =
+    let r = c.in_ok-argument.argument in
+    let made = c.in_ok-item.ensures.made.0 in
+    let shape = c.simple-shape.ensures in
+    rest_item c.args.in_class r c.next_start-start.result _ c.if-not-in_class.true c.next_start-start.ensures.starts c.accept_punctuator.ensures.text c.accept_punctuator.ensures.same_open c.accept_punctuator.ensures.same_pairs c.if-accept_punctuator.ensures.accepted c.in_ok-argument.ensures.derived (λ i. record { node = (made i).node; shape = shape i; spreads = (made i).spreads; is_flagged = (made i).is_flagged; edge = (made i).edge })
+
+pub property_or_member-returns-then-not-is_method-clause-derived : goal.property_or_member-returns-then-not-is_method-clause-derived
+property_or_member-returns-then-not-is_method-clause-derived t c =
+    let form = c.in_ok-modifiers.modifiers.form in
+    let start = c.args.self.now.cursor in
+    let here = c.else-not-in_class.self.cursor in
+    let plain : (c.args.in_class ≡ false) × (form ≡ Method) = elim c.if-not-matches.branch [
+      | property_or_member-then-not-matches w ↦ let e : false ≡ true = cc (c.if-not-is_method.true, w.is_method-is) in absurd (false≢true e)
+      | property_or_member-else-not-matches w ↦ elim c.if-in_class.branch [
+        | property_or_member-then-in_class v ↦ let e : false ≡ true = cc (w.if-not-matches.false, v.value-is, v.if-in_class.true) in absurd (false≢true e)
+        | property_or_member-else-in_class v ↦ elim v.match-matches.branch [
+          | property_or_member-in-Method u ↦ (v.if-in_class.false, u.in-Method.is)
+          | property_or_member-in_default u ↦ let e : false ≡ true = cc (w.if-not-matches.false, v.value-is, ap not u.matches-is) in absurd (false≢true e)
+        ]
+      ]
+    ] in
+    let text : here.text ≡ start.text = elim c.else-not-in_class.branch [ property_or_member-else-not-in_class-via-then-not-in_class+else-accept_punctuator w ↦ ap (λ v. v.cursor.text) w.self-is ∙ w.accept_punctuator.ensures.text | property_or_member-else-not-in_class-via-else-not-in_class w ↦ ap (λ v. v.cursor.text) w.self-is ] in
+    let opened : here.opened ≡ start.opened = elim c.else-not-in_class.branch [ property_or_member-else-not-in_class-via-then-not-in_class+else-accept_punctuator w ↦ ap (λ v. v.cursor.opened) w.self-is ∙ w.accept_punctuator.ensures.same_open | property_or_member-else-not-in_class-via-else-not-in_class w ↦ ap (λ v. v.cursor.opened) w.self-is ] in
+    let same : c.else-not-in_class.self.pairs.items ≡ c.args.self.now.pairs.items = elim c.else-not-in_class.branch [ property_or_member-else-not-in_class-via-then-not-in_class+else-accept_punctuator w ↦ ap (λ v. v.pairs.items) w.self-is ∙ w.accept_punctuator.ensures.same_pairs | property_or_member-else-not-in_class-via-else-not-in_class w ↦ ap (λ v. v.pairs.items) w.self-is ] in
+    let stays : here.last ≡ start.last = elim c.else-not-in_class.branch [ property_or_member-else-not-in_class-via-then-not-in_class+else-accept_punctuator w ↦ ap (λ v. v.cursor.last) w.self-is ∙ w.if-accept_punctuator.ensures.missed.1 | property_or_member-else-not-in_class-via-else-not-in_class w ↦ ap (λ v. v.cursor.last) w.self-is ] in
+    map_ok c.property_value.result (λ item d. value_item c.args.in_class c.in_ok-modifiers.modifiers c.in_ok-modifiers.key c.next_start-start.result item plain.0 plain.1 c.next_start-start.ensures.starts text opened same stays c.property_name.ensures.text c.in_ok-modifiers.ensures.derived d) c.property_value.ensures.derived
+
+pub property_or_member-returns-clause-derived : goal.property_or_member-returns-clause-derived
+property_or_member-returns-clause-derived t c =
+    let start = c.args.self.now.cursor in
+    let here = c.else-not-in_class.self.cursor in
+    let key = c.in_ok-modifiers.key in
+    let words = c.in_ok-modifiers.modifiers in
+    let function = c.in_ok-function.function in
+    let span = c.span_from.ensures in
+    let text : here.text ≡ start.text = elim c.else-not-in_class.branch [ property_or_member-else-not-in_class-via-then-not-in_class+else-accept_punctuator w ↦ ap (λ v. v.cursor.text) w.self-is ∙ w.accept_punctuator.ensures.text | property_or_member-else-not-in_class-via-else-not-in_class w ↦ ap (λ v. v.cursor.text) w.self-is ] in
+    let opened : here.opened ≡ start.opened = elim c.else-not-in_class.branch [ property_or_member-else-not-in_class-via-then-not-in_class+else-accept_punctuator w ↦ ap (λ v. v.cursor.opened) w.self-is ∙ w.accept_punctuator.ensures.same_open | property_or_member-else-not-in_class-via-else-not-in_class w ↦ ap (λ v. v.cursor.opened) w.self-is ] in
+    let same : c.else-not-in_class.self.pairs.items ≡ c.args.self.now.pairs.items = elim c.else-not-in_class.branch [ property_or_member-else-not-in_class-via-then-not-in_class+else-accept_punctuator w ↦ ap (λ v. v.pairs.items) w.self-is ∙ w.accept_punctuator.ensures.same_pairs | property_or_member-else-not-in_class-via-else-not-in_class w ↦ ap (λ v. v.pairs.items) w.self-is ] in
+    let stays : here.last ≡ start.last = elim c.else-not-in_class.branch [ property_or_member-else-not-in_class-via-then-not-in_class+else-accept_punctuator w ↦ ap (λ v. v.cursor.last) w.self-is ∙ w.if-accept_punctuator.ensures.missed.1 | property_or_member-else-not-in_class-via-else-not-in_class w ↦ ap (λ v. v.cursor.last) w.self-is ] in
+    let tree : c.in_ok-node.node ≡ method_node c.args.in_class words key function c.next_start-start.result c.function_or_class.new.self.cursor.last.stop = c.in_ok-node.ensures.0 ∙ (λ i. node (c.method_kind-kind.ensures.kind i) [] (c.method_kind-kind.ensures.flags i) (span i).start (span i).end (c.in_ok-nodes.ensures.made i)) in
+    method_item c.args.in_class words key function c.next_start-start.result c.next_start-from.result c.plain.result c.next_start-start.ensures.starts text opened same stays c.property_name.ensures.text c.in_ok-modifiers.ensures.derived c.next_start-from.ensures.starts c.in_ok-function.ensures.derived (c.plain.ensures ∙ ap (λ n. property_item n value) tree)
+
+pub property_or_member-returns-in_err-argument-clause-complete : goal.property_or_member-returns-in_err-argument-clause-complete
+property_or_member-returns-in_err-argument-clause-complete t c =
+    definition_argument c.args.self.now.cursor c.expression.new.self.cursor c.args.self.now.pairs.items c.expression.new.self.pairs.items c.args.high c.args.in_class c.accept_punctuator.new.self.cursor c.if-not-in_class.true c.if-accept_punctuator.ensures.accepted c.expression.new.self.cursor c.accept_punctuator.new.self.pairs.items c.expression.new.self.pairs.items refl c.accept_punctuator.ensures.text c.from_residual.result c.in_err-argument.field-0.0 c.from_residual.ensures.1 c.saturating_sub-inner.ensures c.accept_punctuator.ensures.same_open c.in_err-argument.ensures.complete
+
+pub property_or_member-returns-in_err-item-clause-complete : goal.property_or_member-returns-in_err-item-clause-complete
+property_or_member-returns-in_err-item-clause-complete t c =
+    definition_element c.args.self.now.cursor c.expression.new.self.cursor c.args.self.now.pairs.items c.expression.new.self.pairs.items c.args.high c.args.in_class c.accept_punctuator.new.self.cursor c.if-not-in_class.true c.if-accept_punctuator.ensures.accepted c.expression.new.self.cursor c.accept_punctuator.new.self.pairs.items c.expression.new.self.pairs.items refl c.accept_punctuator.ensures.text c.saturating_sub-inner.result c.in_ok-argument.argument c.in_ok-argument.ensures.complete c.from_residual-in_err-item.result c.in_err-item.field-0.0 c.from_residual-in_err-item.ensures.1 c.in_err-item.ensures.made
+
+pub property_or_member-returns-then-accept_punctuator-clause-complete : goal.property_or_member-returns-then-accept_punctuator-clause-complete
+property_or_member-returns-then-accept_punctuator-clause-complete t c =
+    let made = c.in_ok-item.ensures.made.0 in
+    let item : ListItem = record { node = c.in_ok-item.item.node; shape = c.simple-shape.result; spreads = c.in_ok-item.item.spreads; is_flagged = c.in_ok-item.item.is_flagged; edge = c.in_ok-item.item.edge } in
+    definition_spread c.args.self.now.cursor c.expression.new.self.cursor c.args.self.now.pairs.items c.expression.new.self.pairs.items c.args.high c.args.in_class c.accept_punctuator.new.self.cursor c.if-not-in_class.true c.if-accept_punctuator.ensures.accepted c.expression.new.self.cursor c.accept_punctuator.new.self.pairs.items c.expression.new.self.pairs.items refl c.accept_punctuator.ensures.text c.saturating_sub-inner.result c.in_ok-argument.argument c.in_ok-argument.ensures.complete item (property_or_member-returns-then-accept_punctuator-clause-derived t c) c.simple-shape.ensures (ap (λ x. x.spreads) made) refl (spread_trails item (ap (λ x. x.node) made))
+
+pub property_or_member-returns-in_err-modifiers-clause-complete : goal.property_or_member-returns-in_err-modifiers-clause-complete
+property_or_member-returns-in_err-modifiers-clause-complete t c =
+    let start = c.args.self.now.cursor in
+    let here = c.else-not-in_class.self.cursor in
+    let text : here.text ≡ start.text = elim c.else-not-in_class.branch [ property_or_member-else-not-in_class-via-then-not-in_class+else-accept_punctuator w ↦ ap (λ v. v.cursor.text) w.self-is ∙ w.accept_punctuator.ensures.text | property_or_member-else-not-in_class-via-else-not-in_class w ↦ ap (λ v. v.cursor.text) w.self-is ] in
+    let opened : here.opened ≡ start.opened = elim c.else-not-in_class.branch [ property_or_member-else-not-in_class-via-then-not-in_class+else-accept_punctuator w ↦ ap (λ v. v.cursor.opened) w.self-is ∙ w.accept_punctuator.ensures.same_open | property_or_member-else-not-in_class-via-else-not-in_class w ↦ ap (λ v. v.cursor.opened) w.self-is ] in
+    let stays : here.last ≡ start.last = elim c.else-not-in_class.branch [ property_or_member-else-not-in_class-via-then-not-in_class+else-accept_punctuator w ↦ ap (λ v. v.cursor.last) w.self-is ∙ w.if-accept_punctuator.ensures.missed.1 | property_or_member-else-not-in_class-via-else-not-in_class w ↦ ap (λ v. v.cursor.last) w.self-is ] in
+    let no_dots : (c.args.in_class ≡ true) ⊎ Misses start.text Punctuator (codes "...") start.last = elim c.else-not-in_class.branch [ property_or_member-else-not-in_class-via-then-not-in_class+else-accept_punctuator w ↦ inr w.if-accept_punctuator.ensures.missed.0 | property_or_member-else-not-in_class-via-else-not-in_class w ↦ inl w.if-not-in_class.false ] in
+    definition_name c.args.self.now.cursor c.property_name.new.self.cursor c.args.self.now.pairs.items c.property_name.new.self.pairs.items c.args.high c.args.in_class here text opened stays no_dots c.property_name.new.self.cursor c.else-not-in_class.self.pairs.items c.property_name.new.self.pairs.items c.saturating_sub-inner.ensures c.from_residual-in_err-modifiers.result c.in_err-modifiers.field-0.0 c.from_residual-in_err-modifiers.ensures.1 c.in_err-modifiers.ensures.complete
+
+pub property_or_member-returns-then-not-is_method-clause-complete : goal.property_or_member-returns-then-not-is_method-clause-complete
+property_or_member-returns-then-not-is_method-clause-complete t c =
+    let start = c.args.self.now.cursor in
+    let here = c.else-not-in_class.self.cursor in
+    let text : here.text ≡ start.text = elim c.else-not-in_class.branch [ property_or_member-else-not-in_class-via-then-not-in_class+else-accept_punctuator w ↦ ap (λ v. v.cursor.text) w.self-is ∙ w.accept_punctuator.ensures.text | property_or_member-else-not-in_class-via-else-not-in_class w ↦ ap (λ v. v.cursor.text) w.self-is ] in
+    let opened : here.opened ≡ start.opened = elim c.else-not-in_class.branch [ property_or_member-else-not-in_class-via-then-not-in_class+else-accept_punctuator w ↦ ap (λ v. v.cursor.opened) w.self-is ∙ w.accept_punctuator.ensures.same_open | property_or_member-else-not-in_class-via-else-not-in_class w ↦ ap (λ v. v.cursor.opened) w.self-is ] in
+    let stays : here.last ≡ start.last = elim c.else-not-in_class.branch [ property_or_member-else-not-in_class-via-then-not-in_class+else-accept_punctuator w ↦ ap (λ v. v.cursor.last) w.self-is ∙ w.if-accept_punctuator.ensures.missed.1 | property_or_member-else-not-in_class-via-else-not-in_class w ↦ ap (λ v. v.cursor.last) w.self-is ] in
+    let no_dots : (c.args.in_class ≡ true) ⊎ Misses start.text Punctuator (codes "...") start.last = elim c.else-not-in_class.branch [ property_or_member-else-not-in_class-via-then-not-in_class+else-accept_punctuator w ↦ inr w.if-accept_punctuator.ensures.missed.0 | property_or_member-else-not-in_class-via-else-not-in_class w ↦ inl w.if-not-in_class.false ] in
+    let plain : (c.args.in_class ≡ false) × (c.in_ok-modifiers.modifiers.form ≡ Method) × Misses c.property_name.new.self.cursor.text Punctuator (codes "(") c.property_name.new.self.cursor.last = elim c.if-not-matches.branch [
+      | property_or_member-then-not-matches w ↦ let e : false ≡ true = cc (c.if-not-is_method.true, w.is_method-is) in absurd (false≢true e)
+      | property_or_member-else-not-matches w ↦ elim c.if-in_class.branch [
+        | property_or_member-then-in_class v ↦ let e : false ≡ true = cc (w.if-not-matches.false, v.value-is, v.if-in_class.true) in absurd (false≢true e)
+        | property_or_member-else-in_class v ↦ elim v.match-matches.branch [
+          | property_or_member-in-Method u ↦ (v.if-in_class.false, u.in-Method.is, when_false w.sees_punctuator-is_method.result (sym w.is_method-is ∙ c.if-not-is_method.true) w.sees_punctuator-is_method.ensures.missed)
+          | property_or_member-in_default u ↦ let e : false ≡ true = cc (w.if-not-matches.false, v.value-is, ap not u.matches-is) in absurd (false≢true e)
+        ]
+      ]
+    ] in
+    definition_value c.args.self.now.cursor c.property_value.new.self.cursor c.args.self.now.pairs.items c.property_value.new.self.pairs.items c.args.high c.args.in_class here text opened stays no_dots c.property_name.new.self.cursor c.else-not-in_class.self.pairs.items c.property_name.new.self.pairs.items c.saturating_sub-inner.ensures c.in_ok-modifiers.modifiers c.in_ok-modifiers.key c.in_ok-modifiers.ensures.complete (c.property_name.ensures.text ∙ text) (c.in_ok-modifiers.ensures.derived.same_open ∙ opened) c.property_value.result (property_or_member-returns-then-not-is_method-clause-derived t c) plain.0 plain.1 plain.2 c.in_ok-modifiers.ensures.low c.property_value.ensures.complete
+
+pub property_or_member-returns-in_err-function-clause-complete : goal.property_or_member-returns-in_err-function-clause-complete
+property_or_member-returns-in_err-function-clause-complete t c =
+    let start = c.args.self.now.cursor in
+    let here = c.else-not-in_class.self.cursor in
+    let text : here.text ≡ start.text = elim c.else-not-in_class.branch [ property_or_member-else-not-in_class-via-then-not-in_class+else-accept_punctuator w ↦ ap (λ v. v.cursor.text) w.self-is ∙ w.accept_punctuator.ensures.text | property_or_member-else-not-in_class-via-else-not-in_class w ↦ ap (λ v. v.cursor.text) w.self-is ] in
+    let opened : here.opened ≡ start.opened = elim c.else-not-in_class.branch [ property_or_member-else-not-in_class-via-then-not-in_class+else-accept_punctuator w ↦ ap (λ v. v.cursor.opened) w.self-is ∙ w.accept_punctuator.ensures.same_open | property_or_member-else-not-in_class-via-else-not-in_class w ↦ ap (λ v. v.cursor.opened) w.self-is ] in
+    let stays : here.last ≡ start.last = elim c.else-not-in_class.branch [ property_or_member-else-not-in_class-via-then-not-in_class+else-accept_punctuator w ↦ ap (λ v. v.cursor.last) w.self-is ∙ w.if-accept_punctuator.ensures.missed.1 | property_or_member-else-not-in_class-via-else-not-in_class w ↦ ap (λ v. v.cursor.last) w.self-is ] in
+    let no_dots : (c.args.in_class ≡ true) ⊎ Misses start.text Punctuator (codes "...") start.last = elim c.else-not-in_class.branch [ property_or_member-else-not-in_class-via-then-not-in_class+else-accept_punctuator w ↦ inr w.if-accept_punctuator.ensures.missed.0 | property_or_member-else-not-in_class-via-else-not-in_class w ↦ inl w.if-not-in_class.false ] in
+    let called : (c.args.in_class ≡ true) ⊎ ((c.in_ok-modifiers.modifiers.form ≡ Method → ⊥) ⊎ Sees c.property_name.new.self.cursor.text Punctuator (codes "(") c.property_name.new.self.cursor.last) = elim c.if-not-matches.branch [
+      | property_or_member-then-not-matches w ↦ elim c.if-in_class.branch [
+        | property_or_member-then-in_class v ↦ inl v.if-in_class.true
+        | property_or_member-else-in_class v ↦ elim v.match-matches.branch [
+          | property_or_member-in-Method u ↦ let e : false ≡ true = cc (w.if-not-matches.true, v.value-is, ap not u.matches-is) in absurd (false≢true e)
+          | property_or_member-in_default u ↦ inr (inl u.in_default.not-Method)
+        ]
+      ]
+      | property_or_member-else-not-matches w ↦ inr (inr (when_true w.sees_punctuator-is_method.result (sym w.is_method-is ∙ c.if-not-is_method.false) w.sees_punctuator-is_method.ensures.seen))
+    ] in
+    definition_function c.args.self.now.cursor c.function_or_class.new.self.cursor c.args.self.now.pairs.items c.function_or_class.new.self.pairs.items c.args.high c.args.in_class here text opened stays no_dots c.property_name.new.self.cursor c.else-not-in_class.self.pairs.items c.property_name.new.self.pairs.items c.saturating_sub-inner.ensures c.in_ok-modifiers.modifiers c.in_ok-modifiers.key c.in_ok-modifiers.ensures.complete (c.property_name.ensures.text ∙ text) (c.in_ok-modifiers.ensures.derived.same_open ∙ opened) called c.function_or_class.new.self.cursor c.function_or_class.new.self.pairs.items c.next_start-from.result c.from_residual-in_err-function.result c.in_err-function.field-0.0 c.from_residual-in_err-function.ensures.1 c.in_err-function.ensures.complete
+
+pub property_or_member-returns-in_err-node-clause-complete : goal.property_or_member-returns-in_err-node-clause-complete
+property_or_member-returns-in_err-node-clause-complete t c =
+    let start = c.args.self.now.cursor in
+    let here = c.else-not-in_class.self.cursor in
+    let text : here.text ≡ start.text = elim c.else-not-in_class.branch [ property_or_member-else-not-in_class-via-then-not-in_class+else-accept_punctuator w ↦ ap (λ v. v.cursor.text) w.self-is ∙ w.accept_punctuator.ensures.text | property_or_member-else-not-in_class-via-else-not-in_class w ↦ ap (λ v. v.cursor.text) w.self-is ] in
+    let opened : here.opened ≡ start.opened = elim c.else-not-in_class.branch [ property_or_member-else-not-in_class-via-then-not-in_class+else-accept_punctuator w ↦ ap (λ v. v.cursor.opened) w.self-is ∙ w.accept_punctuator.ensures.same_open | property_or_member-else-not-in_class-via-else-not-in_class w ↦ ap (λ v. v.cursor.opened) w.self-is ] in
+    let stays : here.last ≡ start.last = elim c.else-not-in_class.branch [ property_or_member-else-not-in_class-via-then-not-in_class+else-accept_punctuator w ↦ ap (λ v. v.cursor.last) w.self-is ∙ w.if-accept_punctuator.ensures.missed.1 | property_or_member-else-not-in_class-via-else-not-in_class w ↦ ap (λ v. v.cursor.last) w.self-is ] in
+    let no_dots : (c.args.in_class ≡ true) ⊎ Misses start.text Punctuator (codes "...") start.last = elim c.else-not-in_class.branch [ property_or_member-else-not-in_class-via-then-not-in_class+else-accept_punctuator w ↦ inr w.if-accept_punctuator.ensures.missed.0 | property_or_member-else-not-in_class-via-else-not-in_class w ↦ inl w.if-not-in_class.false ] in
+    let called : (c.args.in_class ≡ true) ⊎ ((c.in_ok-modifiers.modifiers.form ≡ Method → ⊥) ⊎ Sees c.property_name.new.self.cursor.text Punctuator (codes "(") c.property_name.new.self.cursor.last) = elim c.if-not-matches.branch [
+      | property_or_member-then-not-matches w ↦ elim c.if-in_class.branch [
+        | property_or_member-then-in_class v ↦ inl v.if-in_class.true
+        | property_or_member-else-in_class v ↦ elim v.match-matches.branch [
+          | property_or_member-in-Method u ↦ let e : false ≡ true = cc (w.if-not-matches.true, v.value-is, ap not u.matches-is) in absurd (false≢true e)
+          | property_or_member-in_default u ↦ inr (inl u.in_default.not-Method)
+        ]
+      ]
+      | property_or_member-else-not-matches w ↦ inr (inr (when_true w.sees_punctuator-is_method.result (sym w.is_method-is ∙ c.if-not-is_method.false) w.sees_punctuator-is_method.ensures.seen))
+    ] in
+    definition_made c.args.self.now.cursor c.function_or_class.new.self.cursor c.args.self.now.pairs.items c.function_or_class.new.self.pairs.items c.args.high c.args.in_class here text opened stays no_dots c.property_name.new.self.cursor c.else-not-in_class.self.pairs.items c.property_name.new.self.pairs.items c.saturating_sub-inner.ensures c.in_ok-modifiers.modifiers c.in_ok-modifiers.key c.in_ok-modifiers.ensures.complete (c.property_name.ensures.text ∙ text) (c.in_ok-modifiers.ensures.derived.same_open ∙ opened) called c.function_or_class.new.self.cursor c.function_or_class.new.self.pairs.items c.next_start-from.result c.in_ok-function.function _ c.from_residual-in_err-node.result c.in_err-node.field-0.0 c.from_residual-in_err-node.ensures.1
+    (λ i. node c.method_kind-kind.result.0 [] c.method_kind-kind.result.1 c.span_from.result.start c.span_from.result.end (c.in_ok-nodes.ensures.made i)) c.in_ok-modifiers.ensures.low c.in_ok-function.ensures.low c.in_err-node.ensures
+
+pub property_or_member-returns-clause-complete : goal.property_or_member-returns-clause-complete
+property_or_member-returns-clause-complete t c =
+    let start = c.args.self.now.cursor in
+    let here = c.else-not-in_class.self.cursor in
+    let text : here.text ≡ start.text = elim c.else-not-in_class.branch [ property_or_member-else-not-in_class-via-then-not-in_class+else-accept_punctuator w ↦ ap (λ v. v.cursor.text) w.self-is ∙ w.accept_punctuator.ensures.text | property_or_member-else-not-in_class-via-else-not-in_class w ↦ ap (λ v. v.cursor.text) w.self-is ] in
+    let opened : here.opened ≡ start.opened = elim c.else-not-in_class.branch [ property_or_member-else-not-in_class-via-then-not-in_class+else-accept_punctuator w ↦ ap (λ v. v.cursor.opened) w.self-is ∙ w.accept_punctuator.ensures.same_open | property_or_member-else-not-in_class-via-else-not-in_class w ↦ ap (λ v. v.cursor.opened) w.self-is ] in
+    let stays : here.last ≡ start.last = elim c.else-not-in_class.branch [ property_or_member-else-not-in_class-via-then-not-in_class+else-accept_punctuator w ↦ ap (λ v. v.cursor.last) w.self-is ∙ w.if-accept_punctuator.ensures.missed.1 | property_or_member-else-not-in_class-via-else-not-in_class w ↦ ap (λ v. v.cursor.last) w.self-is ] in
+    let no_dots : (c.args.in_class ≡ true) ⊎ Misses start.text Punctuator (codes "...") start.last = elim c.else-not-in_class.branch [ property_or_member-else-not-in_class-via-then-not-in_class+else-accept_punctuator w ↦ inr w.if-accept_punctuator.ensures.missed.0 | property_or_member-else-not-in_class-via-else-not-in_class w ↦ inl w.if-not-in_class.false ] in
+    let called : (c.args.in_class ≡ true) ⊎ ((c.in_ok-modifiers.modifiers.form ≡ Method → ⊥) ⊎ Sees c.property_name.new.self.cursor.text Punctuator (codes "(") c.property_name.new.self.cursor.last) = elim c.if-not-matches.branch [
+      | property_or_member-then-not-matches w ↦ elim c.if-in_class.branch [
+        | property_or_member-then-in_class v ↦ inl v.if-in_class.true
+        | property_or_member-else-in_class v ↦ elim v.match-matches.branch [
+          | property_or_member-in-Method u ↦ let e : false ≡ true = cc (w.if-not-matches.true, v.value-is, ap not u.matches-is) in absurd (false≢true e)
+          | property_or_member-in_default u ↦ inr (inl u.in_default.not-Method)
+        ]
+      ]
+      | property_or_member-else-not-matches w ↦ inr (inr (when_true w.sees_punctuator-is_method.result (sym w.is_method-is ∙ c.if-not-is_method.false) w.sees_punctuator-is_method.ensures.seen))
+    ] in
+    definition_method c.args.self.now.cursor c.function_or_class.new.self.cursor c.args.self.now.pairs.items c.function_or_class.new.self.pairs.items c.args.high c.args.in_class here text opened stays no_dots c.property_name.new.self.cursor c.else-not-in_class.self.pairs.items c.property_name.new.self.pairs.items c.saturating_sub-inner.ensures c.in_ok-modifiers.modifiers c.in_ok-modifiers.key c.in_ok-modifiers.ensures.complete (c.property_name.ensures.text ∙ text) (c.in_ok-modifiers.ensures.derived.same_open ∙ opened) called c.function_or_class.new.self.cursor c.function_or_class.new.self.pairs.items c.next_start-from.result c.in_ok-function.function c.plain.result (property_or_member-returns-clause-derived t c) c.in_ok-function.ensures.complete (ap (λ x. x.shape) c.plain.ensures) (ap (λ x. x.spreads) c.plain.ensures) refl
+
+pub list-returns-clause-derived : goal.list-returns-clause-derived
+list-returns-clause-derived t c =
+    let items : Ends c.items-test.self c.items-test.list =
+    elim c.items-test.branch [
+      | list-else-items-test w ↦ subst (Ends c.items-test.self) (sym w.list-is) (subst (λ x. Ends x c.items.list) (sym w.self-is) (none_follows c.args.list c.items.list c.items.invariant.derived c.items.invariant.same c.has_item.ensures.passed c.has_item.ensures.same_open c.has_item.ensures.same_pairs (w.items-test.ensures.no_item)))
+      | list-then-items-test+in_ok-item+then-not-is_separated w ↦
+          let k2 : ListBuilder = record w.item.new.list { inside = w.span_from-list-in-items.result } in
+          subst (Ends c.items-test.self) (sym w.list-is) (subst (λ x. Ends x w.is_separated.new.list) (sym w.self-is)
+          (last_follows c.args.list c.items.list w.item.new.list k2 w.is_separated.new.list c.items.invariant.derived c.items.invariant.same w.items-test.ensures.passed c.has_item.ensures.text c.has_item.ensures.same_open c.has_item.ensures.same_pairs w.items-test.ensures.item.0 w.in_ok-item.ensures.derived w.item.ensures.text refl refl refl (ap (λ x. x.end) w.span_from-list-in-items.ensures) w.is_separated.ensures.same_open w.is_separated.ensures.same_pairs w.if-not-is_separated.ensures.comma (w.is_separated.ensures.separated ∙ ap (after_item k2) w.if-not-is_separated.true)))
+    ] in
+    let same : c.items-test.self.cursor.text ≡ c.args.self.now.cursor.text = elim c.items-test.branch [
+      | list-else-items-test w ↦ ap (λ x. x.cursor.text) w.self-is ∙ c.has_item.ensures.text ∙ c.items.invariant.same
+      | list-then-items-test+in_ok-item+then-not-is_separated w ↦ ap (λ x. x.cursor.text) w.self-is ∙ w.is_separated.ensures.text ∙ w.item.ensures.text ∙ c.has_item.ensures.text ∙ c.items.invariant.same
+    ] in
+    let closes : Closes c.match-closer.self = elim c.match-closer.branch [
+      | list-in-Some+in_ok-expect_punctuator w ↦ subst Closes (sym w.self-is) (subst (λ y. ClosedBy c.args.self.now.cursor.text y c.items-test.self.cursor.last w.expect_punctuator.new.self.cursor.last) w.in-Some.ensures (subst (λ y. ReadsHere y Punctuator w.in-Some.mark.now c.items-test.self.cursor.last w.expect_punctuator.new.self.cursor.last) same w.in_ok-expect_punctuator.ensures.accepted.0), w.expect_punctuator.ensures.same_open, w.expect_punctuator.ensures.same_pairs)
+      | list-in_default-closer w ↦ subst Closes (sym w.self-is) (subst (λ y. ClosedBy c.args.self.now.cursor.text y c.items-test.self.cursor.last c.items-test.self.cursor.last) w.in_default-closer.ensures refl, refl, refl)
+    ] in
+    closed_list c.args.list c.items-test.list c.span_from-list-2.result items closes (ap (λ x. x.end) c.span_from-list-2.ensures)
+  where
+    Ends : Parser → ListBuilder → Type 0
+    Ends x l = Adds c.args.self.now.cursor x.cursor c.args.self.now.pairs.items x.pairs.items (ItemsFrom c.args.self.now.cursor.text c.args.list l)
+
+    Closes : Parser → Type 0
+    Closes x = ClosedBy c.args.self.now.cursor.text (closing c.items-test.list.listed) c.items-test.self.cursor.last x.cursor.last × (x.cursor.opened ≡ c.items-test.self.cursor.opened) × (x.pairs.items ≡ c.items-test.self.pairs.items)
+
+pub expression-returns-in_err-part-clause-complete : goal.expression-returns-in_err-part-clause-complete
+expression-returns-in_err-part-clause-complete t c = λ a o n to P g.
+    let u = starts c.args.self.now.cursor.text c.args.position a g in
+    let low = u.low in
+    agrees_on (Room c.args.self.now.cursor o (height u.tree) c.args.high) (Room c.args.self.now.cursor o (height n) c.args.high)
+    (λ r. IsRead a r n × EndsWith c.args.self.now.cursor c.leftmost_operand.new.self.cursor c.args.self.now.pairs.items c.leftmost_operand.new.self.pairs.items to P) c.from_residual.result c.in_err-part.field-0.0 c.from_residual.ensures.1
+    (c.in_err-part.ensures.complete u.reading u.rank o u.tree u.mid u.pairs u.first) (λ room. (room.0, let high = room.1 in omega arith))
+
+pub expression-returns-in_err-part-2-clause-complete : goal.expression-returns-in_err-part-2-clause-complete
+expression-returns-in_err-part-2-clause-complete t c = λ a o n to P g.
+    let v = c.turns.invariant in
+    agrees_on (Room c.turns.self.cursor o (height n) c.args.high) (Room c.args.self.now.cursor o (height n) c.args.high)
+    (λ r. IsRead a r n × EndsWith c.args.self.now.cursor c.infix.new.self.cursor c.args.self.now.pairs.items c.infix.new.self.pairs.items to P) c.from_residual-in_err-part-2.result c.in_err-part-2.field-0.0 c.from_residual-in_err-part-2.ensures.1
+    (stage_turned c.infix.new.self.cursor c.infix.new.self.pairs.items c.args.high (Err c.in_err-part-2.field-0.0) v.same v.derived (v.complete a o n to P g) c.in_err-part-2.ensures.complete) (λ room. same_room c.args.self.now.cursor c.turns.self.cursor v.derived.same_open room)
+
+pub expression-returns-clause-complete : goal.expression-returns-clause-complete
+expression-returns-clause-complete t c = λ a o n to P g.
+    let v = c.turns.invariant in
+    let u = v.complete a o n to P g in
+    let stops = subst (λ x. StopsHere x c.args.position c.turns.part.edge c.turns.self.cursor.last) v.same c.in_default.ensures.none in
+    let done = concluded c.args.self.now.cursor.text u.stage v.derived.is.part.edge stops in
+    (done.0, record { place = done.1; more = u.more; added = u.added; pairs = done.2 })
+
+pub infix-returns-in-Binary-clause-complete : goal.infix-returns-in-Binary-clause-complete
+infix-returns-in-Binary-clause-complete t c =
+    turn_sided c.args.self.now.cursor c.binary_rest.new.self.cursor c.args.self.now.pairs.items c.binary_rest.new.self.pairs.items c.args.high c.args.position c.args.left c.args.next.token c.args.next.operator c.binary_rest.result c.requires.ahead
+    (own_there (token_of c.args.next.token) c.requires.coded (no_tag_there c.in-Binary.is)) c.requires.coded c.in-Binary.is c.requires.goes c.binary_rest.ensures.complete c.binary_rest.ensures.rank (meant_symbol (operation (as_read (token_of c.args.next.token))) c.args.next.token.text.now c.args.next.token.after_break c.requires.coded)
+
+pub update_or_comma-returns-in-PostUpdate-clause-complete : goal.update_or_comma-returns-in-PostUpdate-clause-complete
+update_or_comma-returns-in-PostUpdate-clause-complete t c = λ a o n from to P Q R read stage.
+    let u = stepping c.args.self.now.cursor c.args.position c.args.left (token_of c.args.next.token) c.requires.ahead c.requires.coded c.in-PostUpdate.is c.requires.goes a o n from to P Q R read stage in
+    let parts = c.in_ok-nodes-in-PostUpdate.ensures.made ∙ ap (λ n. part n none) c.in_ok-operand-in-PostUpdate.ensures.target.0 in
+    let span = c.span_from-span.ensures in
+    let tree = c.in_ok-node-in-PostUpdate.ensures.0 ∙ (λ k. node UpdateExpression c.args.next.token.text.now plain (span k).start (span k).end (parts k)) in
+    step_staged c.args.self.now.cursor c.args.position c.args.left (token_of c.args.next.token) c.requires.ahead c.requires.coded c.in-PostUpdate.is c.requires.goes u c.plain.result c.advance.new.self.cursor c.args.self.now.pairs.items c.advance.new.self.pairs.items
+    c.advance.ensures.last c.advance.ensures.same_pairs (c.plain.ensures ∙ ap (λ n. plain_part n Update Postfix) tree)
+
+pub update_or_comma-returns-in-Comma-clause-complete : goal.update_or_comma-returns-in-Comma-clause-complete
+update_or_comma-returns-in-Comma-clause-complete t c =
+    let list = c.in_ok-list-in-Comma-2.list in
+    let pass = c.advance-in-Comma in
+    let span = c.span_from-span-in-Comma.ensures in
+    let tree = c.in_ok-node-in-Comma.ensures.0 ∙ (λ k. node SequenceExpression [] plain (span k).start (span k).end list.nodes) in
+    sequence_staged c.args.self.now.cursor c.args.high c.args.position c.args.left (token_of c.args.next.token) c.requires.ahead c.requires.coded c.in-Comma.is c.requires.goes pass.new.self.cursor c.in_ok-list-in-Comma.list c.in_ok-list-in-Comma.ensures.begun.0 pass.ensures.text pass.ensures.last pass.ensures.same_open c.list.new.self.cursor c.args.self.now.pairs.items pass.new.self.pairs.items c.list.new.self.pairs.items
+    c.saturating_sub.result list pass.ensures.same_pairs c.in_ok-list-in-Comma-2.ensures.complete c.plain-in-Comma.result list.seen.edge (c.plain-in-Comma.ensures ∙ ap (λ n. plain_part n Expression list.seen.edge) tree)
+
+pub infix-returns-in-QuestionDot-clause-complete : goal.infix-returns-in-QuestionDot-clause-complete
+infix-returns-in-QuestionDot-clause-complete t c =
+    turn_chain c.args.self.now.cursor c.optional_chain.new.self.cursor c.args.self.now.pairs.items c.optional_chain.new.self.pairs.items c.args.high c.args.position c.args.left (token_of c.args.next.token) c.optional_chain.result c.requires.ahead c.requires.coded c.in-QuestionDot.is c.requires.goes c.optional_chain.ensures.complete
+
+pub infix-returns-in-Dot-clause-complete : goal.infix-returns-in-Dot-clause-complete
+infix-returns-in-Dot-clause-complete t c =
+    turn_linked c.args.self.now.cursor c.dot_member.new.self.cursor c.args.self.now.pairs.items c.dot_member.new.self.pairs.items c.args.high c.args.position c.args.left (token_of c.args.next.token) c.args.next.operator c.dot_member.result c.requires.ahead c.requires.coded (inl c.in-Dot.is) c.requires.goes c.dot_member.ensures.complete
+
+pub infix-returns-in-OpenParen-clause-complete : goal.infix-returns-in-OpenParen-clause-complete
+infix-returns-in-OpenParen-clause-complete t c =
+    turn_linked c.args.self.now.cursor c.call_expression.new.self.cursor c.args.self.now.pairs.items c.call_expression.new.self.pairs.items c.args.high c.args.position c.args.left (token_of c.args.next.token) c.args.next.operator c.call_expression.result c.requires.ahead c.requires.coded (inr (inl c.in-OpenParen.is)) c.requires.goes c.call_expression.ensures.complete
+
+pub infix-returns-in-OpenBracket-clause-complete : goal.infix-returns-in-OpenBracket-clause-complete
+infix-returns-in-OpenBracket-clause-complete t c =
+    turn_linked c.args.self.now.cursor c.subscript.new.self.cursor c.args.self.now.pairs.items c.subscript.new.self.pairs.items c.args.high c.args.position c.args.left (token_of c.args.next.token) c.args.next.operator c.subscript.result c.requires.ahead c.requires.coded (inr (inr c.in-OpenBracket.is)) c.requires.goes c.subscript.ensures.complete
+
+pub infix-returns-clause-complete : goal.infix-returns-clause-complete
+infix-returns-clause-complete t c = λ a o n from to P Q R read stage. absurd (no_arrow c.args.self.now.cursor c.args.position c.args.left (token_of c.args.next.token) c.requires.ahead c.requires.coded c.in-FatArrow.is c.requires.goes a o n from to P Q R read stage)
+
+pub update_or_comma-returns-in_err-operand-in-PostUpdate-clause-complete : goal.update_or_comma-returns-in_err-operand-in-PostUpdate-clause-complete
+update_or_comma-returns-in_err-operand-in-PostUpdate-clause-complete t c =
+    step_unfit c.args.self.now.cursor c.args.position c.args.left (token_of c.args.next.token) c.requires.ahead c.requires.coded c.in-PostUpdate.is c.requires.goes c.args.high c.args.self.now.cursor c.args.self.now.pairs.items c.args.self.now.pairs.items c.from_residual.result c.in_err-operand-in-PostUpdate.field-0.0 c.from_residual.ensures.1 (pattern_tree c.args.left.cover.node) c.in_err-operand-in-PostUpdate.ensures.target
+
+pub update_or_comma-returns-in_err-nodes-in-PostUpdate-clause-complete : goal.update_or_comma-returns-in_err-nodes-in-PostUpdate-clause-complete
+update_or_comma-returns-in_err-nodes-in-PostUpdate-clause-complete t c =
+    turn_memory c.args.self.now.cursor c.advance.new.self.cursor c.args.self.now.pairs.items c.advance.new.self.pairs.items c.args.high c.args.position c.args.left c.from_residual-in_err-nodes-in-PostUpdate.result c.in_err-nodes-in-PostUpdate.field-0.0 c.from_residual-in_err-nodes-in-PostUpdate.ensures.1 c.in_err-nodes-in-PostUpdate.ensures.refused
+
+pub update_or_comma-returns-in_err-node-in-PostUpdate-clause-complete : goal.update_or_comma-returns-in_err-node-in-PostUpdate-clause-complete
+update_or_comma-returns-in_err-node-in-PostUpdate-clause-complete t c =
+    step_high c.args.self.now.cursor c.args.position c.args.left (token_of c.args.next.token) c.requires.ahead c.requires.coded c.in-PostUpdate.is c.requires.goes c.args.high c.advance.new.self.cursor c.args.self.now.pairs.items c.advance.new.self.pairs.items c.from_residual-in_err-node-in-PostUpdate.result c.in_err-node-in-PostUpdate.field-0.0 c.from_residual-in_err-node-in-PostUpdate.ensures.1 _
+    (c.in_ok-nodes-in-PostUpdate.ensures.made ∙ ap (λ n. part n none) c.in_ok-operand-in-PostUpdate.ensures.target.0) refl c.in_err-node-in-PostUpdate.ensures.0 c.in_err-node-in-PostUpdate.ensures.1
+
+pub update_or_comma-returns-in_err-list-in-Comma-clause-complete : goal.update_or_comma-returns-in_err-list-in-Comma-clause-complete
+update_or_comma-returns-in_err-list-in-Comma-clause-complete t c =
+    sequence_refused c.args.self.now.cursor c.args.high c.args.position c.args.left (token_of c.args.next.token) c.requires.ahead c.requires.coded c.in-Comma.is c.requires.goes c.args.self.now.cursor c.args.self.now.pairs.items c.args.self.now.pairs.items c.from_residual-in_err-list-in-Comma.result c.in_err-list-in-Comma.field-0.0 (IsPlaceHere c.args.self.now.cursor) c.from_residual-in_err-list-in-Comma.ensures.1 c.in_err-list-in-Comma.ensures.failed
+
+pub update_or_comma-returns-in_err-list-in-Comma-2-clause-complete : goal.update_or_comma-returns-in_err-list-in-Comma-2-clause-complete
+update_or_comma-returns-in_err-list-in-Comma-2-clause-complete t c =
+    let pass = c.advance-in-Comma in
+    commas_refused c.args.self.now.cursor c.args.high c.args.position c.args.left (token_of c.args.next.token) c.requires.ahead c.requires.coded c.in-Comma.is c.requires.goes pass.new.self.cursor c.in_ok-list-in-Comma.list c.in_ok-list-in-Comma.ensures.begun.0 pass.ensures.text pass.ensures.last pass.ensures.same_open c.list.new.self.cursor c.list.new.self.cursor c.args.self.now.pairs.items c.list.new.self.pairs.items pass.new.self.pairs.items c.list.new.self.pairs.items c.saturating_sub.result
+    c.from_residual-in_err-list-in-Comma-2.result c.in_err-list-in-Comma-2.field-0.0 c.saturating_sub.ensures c.from_residual-in_err-list-in-Comma-2.ensures.1 c.in_err-list-in-Comma-2.ensures.complete
+
+pub update_or_comma-returns-in_err-node-in-Comma-clause-complete : goal.update_or_comma-returns-in_err-node-in-Comma-clause-complete
+update_or_comma-returns-in_err-node-in-Comma-clause-complete t c =
+    let list = c.in_ok-list-in-Comma-2.list in
+    let pass = c.advance-in-Comma in
+    sequence_high c.args.self.now.cursor c.args.high c.args.position c.args.left (token_of c.args.next.token) c.requires.ahead c.requires.coded c.in-Comma.is c.requires.goes pass.new.self.cursor c.in_ok-list-in-Comma.list c.in_ok-list-in-Comma.ensures.begun.0 pass.ensures.text pass.ensures.last pass.ensures.same_open c.list.new.self.cursor c.args.self.now.pairs.items pass.new.self.pairs.items c.list.new.self.pairs.items
+    c.saturating_sub.result list pass.ensures.same_pairs c.in_ok-list-in-Comma-2.ensures.complete c.list.new.self.cursor c.list.new.self.pairs.items c.from_residual-in_err-node-in-Comma.result c.in_err-node-in-Comma.field-0.0 _ refl
+    c.from_residual-in_err-node-in-Comma.ensures.1 c.in_err-node-in-Comma.ensures.0 c.in_err-node-in-Comma.ensures.1
+
+pub list-returns-in_err-item-clause-complete : goal.list-returns-in_err-item-clause-complete
+list-returns-in_err-item-clause-complete t c =
+    list_item_refused c.args.self.now.cursor c.items.self.cursor c.has_item.new.self.cursor c.item.new.self.cursor c.item.new.self.cursor c.args.self.now.pairs.items c.items.self.pairs.items c.has_item.new.self.pairs.items c.item.new.self.pairs.items c.item.new.self.pairs.items c.args.high c.args.list c.items.list c.item.new.list c.from_residual.result c.in_err-item.field-0.0
+    c.items.invariant.complete c.items.invariant.same c.items-test.ensures.passed c.items-test.ensures.first c.has_item.ensures.text (c.has_item.ensures.same_open ∙ c.items.invariant.derived.same_open) c.items-test.ensures.item.0 c.items-test.ensures.item.1 c.in_err-item.ensures.complete c.from_residual.ensures.1
+
+pub list-returns-in_err-expect_punctuator-clause-complete : goal.list-returns-in_err-expect_punctuator-clause-complete
+list-returns-in_err-expect_punctuator-clause-complete t c =
+    let done : Dones c.items-test.self c.items-test.list = elim c.items-test.branch [
+      | list-else-items-test w ↦ subst (Dones c.items-test.self) (sym w.list-is) (subst (λ x. Dones x c.items.list) (sym w.self-is)
+          (done_before {s = c.args.self.now.cursor} {m = c.items.self.cursor} {t = c.has_item.new.self.cursor} {old = c.args.self.now.pairs.items} {mid = c.items.self.pairs.items} {new = c.has_item.new.self.pairs.items} c.args.list c.items.list c.items.invariant.complete c.items.invariant.same c.has_item.ensures.passed c.has_item.ensures.first c.has_item.ensures.text c.has_item.ensures.same_pairs w.items-test.ensures.no_item))
+      | list-then-items-test+in_ok-item+then-not-is_separated w ↦
+          let k2 : ListBuilder = record w.item.new.list { inside = w.span_from-list-in-items.result } in
+          subst (Dones c.items-test.self) (sym w.list-is) (subst (λ x. Dones x w.is_separated.new.list) (sym w.self-is)
+          (done_behind {s = c.args.self.now.cursor} {m = c.items.self.cursor} {t = c.has_item.new.self.cursor} {e = w.item.new.self.cursor} {x = w.is_separated.new.self.cursor} {old = c.args.self.now.pairs.items} {mid = c.items.self.pairs.items} {tmid = c.has_item.new.self.pairs.items} {emid = w.item.new.self.pairs.items} {new = w.is_separated.new.self.pairs.items} c.args.high c.args.list c.items.list w.item.new.list k2 w.is_separated.new.list tt c.items.invariant.complete c.items.invariant.listed c.items.invariant.same w.items-test.ensures.passed w.items-test.ensures.first c.has_item.ensures.text c.has_item.ensures.same_pairs w.items-test.ensures.item.0 w.items-test.ensures.item.1 w.in_ok-item.ensures.complete w.item.ensures.text w.item.ensures.listed refl refl refl w.if-not-is_separated.ensures.comma (w.is_separated.ensures.separated ∙ ap (after_item k2) w.if-not-is_separated.true) w.is_separated.ensures.same_pairs))
+    ] in
+    let same : c.items-test.self.cursor.text ≡ c.args.self.now.cursor.text = elim c.items-test.branch [
+      | list-else-items-test w ↦ ap (λ x. x.cursor.text) w.self-is ∙ c.has_item.ensures.text ∙ c.items.invariant.same
+      | list-then-items-test+in_ok-item+then-not-is_separated w ↦ ap (λ x. x.cursor.text) w.self-is ∙ w.is_separated.ensures.text ∙ w.item.ensures.text ∙ c.has_item.ensures.text ∙ c.items.invariant.same
+    ] in
+    close_refused c.args.self.now.cursor c.items-test.self.cursor c.expect_punctuator.new.self.cursor c.args.self.now.pairs.items c.items-test.self.pairs.items c.expect_punctuator.new.self.pairs.items c.args.high c.args.list c.items-test.list c.from_residual-in_err-expect_punctuator.result c.in_err-expect_punctuator.field-0.0
+    done same (sym c.in-Some.ensures) c.from_residual-in_err-expect_punctuator.ensures.1 c.in_err-expect_punctuator.ensures.missed.0
+  where
+    Dones : Parser → ListBuilder → Type 0
+    Dones x l = AllDone c.args.self.now.cursor.text c.args.list l c.args.self.now.cursor x.cursor c.args.self.now.pairs.items x.pairs.items
+
+pub list-returns-clause-complete : goal.list-returns-clause-complete
+list-returns-clause-complete t c =
+    let done : Dones c.items-test.self c.items-test.list = elim c.items-test.branch [
+      | list-else-items-test w ↦ subst (Dones c.items-test.self) (sym w.list-is) (subst (λ x. Dones x c.items.list) (sym w.self-is)
+          (done_before {s = c.args.self.now.cursor} {m = c.items.self.cursor} {t = c.has_item.new.self.cursor} {old = c.args.self.now.pairs.items} {mid = c.items.self.pairs.items} {new = c.has_item.new.self.pairs.items} c.args.list c.items.list c.items.invariant.complete c.items.invariant.same c.has_item.ensures.passed c.has_item.ensures.first c.has_item.ensures.text c.has_item.ensures.same_pairs w.items-test.ensures.no_item))
+      | list-then-items-test+in_ok-item+then-not-is_separated w ↦
+          let k2 : ListBuilder = record w.item.new.list { inside = w.span_from-list-in-items.result } in
+          subst (Dones c.items-test.self) (sym w.list-is) (subst (λ x. Dones x w.is_separated.new.list) (sym w.self-is)
+          (done_behind {s = c.args.self.now.cursor} {m = c.items.self.cursor} {t = c.has_item.new.self.cursor} {e = w.item.new.self.cursor} {x = w.is_separated.new.self.cursor} {old = c.args.self.now.pairs.items} {mid = c.items.self.pairs.items} {tmid = c.has_item.new.self.pairs.items} {emid = w.item.new.self.pairs.items} {new = w.is_separated.new.self.pairs.items} c.args.high c.args.list c.items.list w.item.new.list k2 w.is_separated.new.list tt c.items.invariant.complete c.items.invariant.listed c.items.invariant.same w.items-test.ensures.passed w.items-test.ensures.first c.has_item.ensures.text c.has_item.ensures.same_pairs w.items-test.ensures.item.0 w.items-test.ensures.item.1 w.in_ok-item.ensures.complete w.item.ensures.text w.item.ensures.listed refl refl refl w.if-not-is_separated.ensures.comma (w.is_separated.ensures.separated ∙ ap (after_item k2) w.if-not-is_separated.true) w.is_separated.ensures.same_pairs))
+    ] in
+    let same : c.items-test.self.cursor.text ≡ c.args.self.now.cursor.text = elim c.items-test.branch [
+      | list-else-items-test w ↦ ap (λ x. x.cursor.text) w.self-is ∙ c.has_item.ensures.text ∙ c.items.invariant.same
+      | list-then-items-test+in_ok-item+then-not-is_separated w ↦ ap (λ x. x.cursor.text) w.self-is ∙ w.is_separated.ensures.text ∙ w.item.ensures.text ∙ c.has_item.ensures.text ∙ c.items.invariant.same
+    ] in
+    let closes : Closes c.match-closer.self = elim c.match-closer.branch [
+      | list-in-Some+in_ok-expect_punctuator w ↦ subst Closes (sym w.self-is) (subst (λ y. ClosedBy c.args.self.now.cursor.text y c.items-test.self.cursor.last w.expect_punctuator.new.self.cursor.last) w.in-Some.ensures (subst (λ y. ReadsHere y Punctuator w.in-Some.mark.now c.items-test.self.cursor.last w.expect_punctuator.new.self.cursor.last) same w.in_ok-expect_punctuator.ensures.accepted.0), w.expect_punctuator.ensures.same_pairs)
+      | list-in_default-closer w ↦ subst Closes (sym w.self-is) (subst (λ y. ClosedBy c.args.self.now.cursor.text y c.items-test.self.cursor.last c.items-test.self.cursor.last) w.in_default-closer.ensures refl, refl)
+    ] in
+    list_answered c.args.self.now.cursor c.items-test.self.cursor c.match-closer.self.cursor c.args.self.now.pairs.items c.items-test.self.pairs.items c.match-closer.self.pairs.items c.args.high c.args.list c.items-test.list (record c.items-test.list { span = c.span_from-list-2.result }) done closes.0 closes.1 refl refl refl
+  where
+    Dones : Parser → ListBuilder → Type 0
+    Dones x l = AllDone c.args.self.now.cursor.text c.args.list l c.args.self.now.cursor x.cursor c.args.self.now.pairs.items x.pairs.items
+
+    Closes : Parser → Type 0
+    Closes x = ClosedBy c.args.self.now.cursor.text (closing c.items-test.list.listed) c.items-test.self.cursor.last x.cursor.last × (x.pairs.items ≡ c.items-test.self.pairs.items)
+
+pub special_item-returns-in_err-item-in-Properties-clause-complete : goal.special_item-returns-in_err-item-in-Properties-clause-complete
+special_item-returns-in_err-item-in-Properties-clause-complete t c =
+    definition_refused c.args.self.now.cursor c.property_or_member.new.self.cursor c.args.self.now.pairs.items c.property_or_member.new.self.pairs.items c.args.list.now c.args.list.now c.args.high false c.from_residual.result c.in_err-item-in-Properties.field-0.0 c.in-Properties.is c.from_residual.ensures.1 c.in_err-item-in-Properties.ensures.complete
+
+pub special_item-returns-in_err-item-in-Members-clause-complete : goal.special_item-returns-in_err-item-in-Members-clause-complete
+special_item-returns-in_err-item-in-Members-clause-complete t c =
+    definition_refused c.args.self.now.cursor c.property_or_member-in-Members.new.self.cursor c.args.self.now.pairs.items c.property_or_member-in-Members.new.self.pairs.items c.args.list.now c.args.list.now c.args.high true c.from_residual-in_err-item-in-Members.result c.in_err-item-in-Members.field-0.0 c.in-Members.is c.from_residual-in_err-item-in-Members.ensures.1 c.in_err-item-in-Members.ensures.complete
+
+pub special_item-returns-in_ok-item-in-Properties-clause-complete : goal.special_item-returns-in_ok-item-in-Properties-clause-complete
+special_item-returns-in_ok-item-in-Properties-clause-complete t c =
+    definition_taken c.args.self.now.cursor c.property_or_member.new.self.cursor c.args.self.now.pairs.items c.property_or_member.new.self.pairs.items c.args.list.now c.push.new.self c.args.high false c.in_ok-item-in-Properties.item _ c.push.result c.in-Properties.is c.push.ensures.pushed c.push.ensures.taken c.in_ok-item-in-Properties.ensures.complete
+
+pub special_item-returns-in_ok-item-in-Members-clause-complete : goal.special_item-returns-in_ok-item-in-Members-clause-complete
+special_item-returns-in_ok-item-in-Members-clause-complete t c =
+    definition_taken c.args.self.now.cursor c.property_or_member-in-Members.new.self.cursor c.args.self.now.pairs.items c.property_or_member-in-Members.new.self.pairs.items c.args.list.now c.push-in-Members.new.self c.args.high true c.in_ok-item-in-Members.item _ c.push-in-Members.result c.in-Members.is c.push-in-Members.ensures.pushed c.push-in-Members.ensures.taken c.in_ok-item-in-Members.ensures.complete
+
+pub special_item-returns-in_err-part-in-Template-clause-complete : goal.special_item-returns-in_err-part-in-Template-clause-complete
+special_item-returns-in_err-part-in-Template-clause-complete t c =
+    chunk_refused c.args.self.now.cursor c.args.self.now.pairs.items c.args.list.now c.args.list.now c.args.high c.in-Template.is _ refl c.expression.new.self.cursor c.expression.new.self.pairs.items c.from_residual-in_err-part-in-Template.result c.in_err-part-in-Template.field-0.0 c.from_residual-in_err-part-in-Template.ensures.1 c.in_err-part-in-Template.ensures.complete
+
+pub special_item-returns-in_err-into_expression-in-Template-clause-complete : goal.special_item-returns-in_err-into_expression-in-Template-clause-complete
+special_item-returns-in_err-into_expression-in-Template-clause-complete t c =
+    chunk_unsettled c.args.self.now.cursor c.args.self.now.pairs.items c.args.list.now c.args.list.now c.args.high c.in-Template.is _ refl c.expression.new.self.cursor c.expression.new.self.pairs.items c.in_ok-part-in-Template.part c.in_ok-part-in-Template.ensures.complete c.expression.new.self.cursor c.expression.new.self.cursor c.expression.new.self.pairs.items c.from_residual-in_err-into_expression-in-Template.result c.in_err-into_expression-in-Template.field-0.0 c.from_residual-in_err-into_expression-in-Template.ensures.1 c.in_err-into_expression-in-Template.ensures.settled
+
+pub special_item-returns-in_err-next_template_element-in-Template-clause-complete : goal.special_item-returns-in_err-next_template_element-in-Template-clause-complete
+special_item-returns-in_err-next_template_element-in-Template-clause-complete t c =
+    chunk_missing c.args.self.now.cursor c.args.self.now.pairs.items c.args.list.now c.push-in-Template.new.self c.args.high c.in-Template.is _ refl c.expression.new.self.cursor c.expression.new.self.pairs.items c.in_ok-part-in-Template.part c.in_ok-part-in-Template.ensures.complete c.next_template_element.new.self.cursor c.next_template_element.new.self.pairs.items c.from_residual-in_err-next_template_element-in-Template.result c.in_err-next_template_element-in-Template.field-0.0 c.expression.ensures.text c.from_residual-in_err-next_template_element-in-Template.ensures.1 c.in_err-next_template_element-in-Template.ensures.no_chunk
+
+pub special_item-returns-in_err-item-in-Declarators-clause-complete : goal.special_item-returns-in_err-item-in-Declarators-clause-complete
+special_item-returns-in_err-item-in-Declarators-clause-complete t c =
+    declarator_refused c.args.self.now.cursor c.declarator.new.self.cursor c.args.self.now.pairs.items c.declarator.new.self.pairs.items c.args.list.now c.args.list.now c.args.high c.in-Declarators.has_in c.from_residual-in_err-item-in-Declarators.result c.in_err-item-in-Declarators.field-0.0 c.in-Declarators.is c.from_residual-in_err-item-in-Declarators.ensures.1 c.in_err-item-in-Declarators.ensures.complete
+
+pub special_item-returns-in_err-is_default-in-Cases-clause-complete : goal.special_item-returns-in_err-is_default-in-Cases-clause-complete
+special_item-returns-in_err-is_default-in-Cases-clause-complete t c =
+    case_unworded c.args.self.now.cursor c.is_default.new.self.cursor c.args.self.now.pairs.items c.is_default.new.self.pairs.items c.args.list.now c.args.list.now c.args.high c.in-Cases.returns c.in-Cases.is c.from_residual-in_err-is_default-in-Cases.result c.in_err-is_default-in-Cases.ensures.missed.0 c.in_err-is_default-in-Cases.ensures.missed.1
+
+pub special_item-returns-in_err-read_symbols-in-Cases-clause-complete : goal.special_item-returns-in_err-read_symbols-in-Cases-clause-complete
+special_item-returns-in_err-read_symbols-in-Cases-clause-complete t c =
+    case_refused c.args.self.now.cursor c.read_symbols.new.self.cursor c.args.self.now.pairs.items c.read_symbols.new.self.pairs.items c.args.list.now c.args.list.now c.args.high c.in-Cases.returns c.in-Cases.is c.is_default.new.self.cursor c.is_default.new.self.pairs.items c.in_ok-is_default-in-Cases.is_default c.if-is_default.built c.item-context.result c.saturating_sub-inner.result _ c.in_ok-is_default-in-Cases.ensures.accepted c.is_default.ensures.text c.item-context.ensures c.case_symbols.ensures c.saturating_sub-inner.ensures c.read_symbols.new.built c.from_residual-in_err-read_symbols-in-Cases.result c.in_err-read_symbols-in-Cases.field-0.0 c.is_default.ensures.same_open c.from_residual-in_err-read_symbols-in-Cases.ensures.1 c.in_err-read_symbols-in-Cases.ensures.complete
+
+pub special_item-returns-in_err-finish_plain-in-Cases-clause-complete : goal.special_item-returns-in_err-finish_plain-in-Cases-clause-complete
+special_item-returns-in_err-finish_plain-in-Cases-clause-complete t c =
+    let d = c.in_ok-is_default-in-Cases.is_default in
+    let empty : c.if-is_default.built.nodes ≡ case_nodes d none = elim c.if-is_default.branch [
+      | special_item-then-is_default+in_ok-push_gap-in-Cases w ↦ ap (λ x. x.nodes) w.built-is ∙ w.in_ok-push_gap-in-Cases.ensures.pushed ∙ ap push_gap (ap (λ x. x.nodes) c.new-built.ensures) ∙ ap (λ b. case_nodes b none) (sym w.if-is_default.true)
+      | special_item-else-is_default w ↦ ap (λ x. x.nodes) w.built-is ∙ ap (λ x. x.nodes) c.new-built.ensures ∙ ap (λ b. case_nodes b none) (sym w.if-is_default.false)
+    ] in
+    case_too_high c.args.self.now.cursor c.read_symbols.new.self.cursor c.args.self.now.pairs.items c.read_symbols.new.self.pairs.items c.args.list.now c.args.list.now c.args.high c.in-Cases.returns c.in-Cases.is c.is_default.new.self.cursor c.is_default.new.self.pairs.items c.in_ok-is_default-in-Cases.is_default c.if-is_default.built c.item-context.result c.saturating_sub-inner.result _ c.in_ok-is_default-in-Cases.ensures.accepted c.is_default.ensures.text c.item-context.ensures c.case_symbols.ensures c.saturating_sub-inner.ensures c.read_symbols.new.built _ empty c.in_ok-read_symbols-in-Cases.ensures.complete c.next_start-start.result _ c.from_residual-in_err-finish_plain-in-Cases.result c.in_err-finish_plain-in-Cases.field-0.0 c.next_start-start.ensures.starts (λ i. node SwitchCase [] plain (c.span_from-span.ensures i).start (c.span_from-span.ensures i).end c.read_symbols.new.built.nodes) c.from_residual-in_err-finish_plain-in-Cases.ensures.1 c.in_err-finish_plain-in-Cases.ensures
+
+pub special_item-returns-in_err-part-in-Sequence-clause-complete : goal.special_item-returns-in_err-part-in-Sequence-clause-complete
+special_item-returns-in_err-part-in-Sequence-clause-complete t c =
+    sequence_item_refused c.args.self.now.cursor c.expression-in-Sequence.new.self.cursor c.args.self.now.pairs.items c.expression-in-Sequence.new.self.pairs.items c.args.list.now c.args.list.now c.args.high c.in-Sequence.has_in c.at.result c.from_residual-in_err-part-in-Sequence.result c.in_err-part-in-Sequence.field-0.0 c.at.ensures c.in-Sequence.is c.from_residual-in_err-part-in-Sequence.ensures.1 c.in_err-part-in-Sequence.ensures.complete
+
+pub spread_item-returns-in_err-part-clause-complete : goal.spread_item-returns-in_err-part-clause-complete
+spread_item-returns-in_err-part-clause-complete t c =
+    let kind = of_elements c.args.list.now.listed c.requires.element in
+    of_kind c.args.self.now.cursor c.expression.new.self.cursor c.args.self.now.pairs.items c.expression.new.self.pairs.items c.args.list.now c.args.list.now c.args.high c.from_residual-in_err-part.result kind (λ is. dotted_refused c.args.self.now.cursor c.expression.new.self.cursor c.args.self.now.pairs.items c.expression.new.self.pairs.items c.args.list.now c.args.list.now c.args.high is c.expect_punctuator.new.self.cursor c.expect_punctuator.new.self.pairs.items c.saturating_sub.result _ c.in_ok-expect_punctuator.ensures.accepted.0 c.expect_punctuator.ensures.text c.expect_punctuator.ensures.same_open c.saturating_sub.ensures refl c.from_residual-in_err-part.result c.in_err-part.field-0.0 c.from_residual-in_err-part.ensures.1 c.in_err-part.ensures.complete)
+
+pub spread_item-returns-clause-complete : goal.spread_item-returns-clause-complete
+spread_item-returns-clause-complete t c =
+    let kind = of_elements c.args.list.now.listed c.requires.element in
+    of_kind c.args.self.now.cursor c.expression.new.self.cursor c.args.self.now.pairs.items c.expression.new.self.pairs.items c.args.list.now c.push.new.self c.args.high c.push.result kind (λ is. dotted_taken c.args.self.now.cursor c.expression.new.self.cursor c.args.self.now.pairs.items c.expression.new.self.pairs.items c.args.list.now c.push.new.self c.args.high is c.expect_punctuator.new.self.cursor c.expect_punctuator.new.self.pairs.items c.saturating_sub.result _ c.in_ok-expect_punctuator.ensures.accepted.0 c.expect_punctuator.ensures.text c.expect_punctuator.ensures.same_open c.saturating_sub.ensures refl c.in_ok-part.part c.in_ok-item.item c.next_start-start.result _ c.push.result c.next_start-start.ensures.starts c.in_ok-item.ensures.made.0 c.expect_punctuator.ensures.same_pairs c.push.ensures.pushed c.push.ensures.taken c.in_ok-part.ensures.complete)
+
+pub item-returns-in_err-part-in_default-clause-complete : goal.item-returns-in_err-part-in_default-clause-complete
+item-returns-in_err-part-in_default-clause-complete t c =
+    let kind : (lists_elements c.args.list.now.listed && not (asks_edge c.args.list.now.listed)) ≡ true = elim c.in_default.branch [
+      | item-in_default-via-in-Elements+else-sees_punctuator w ↦ is_an_element c.args.list.now.listed Elements w.in-Elements.is refl
+      | item-in_default-via-in_default w ↦ default_kind c.args.list.now.listed w.in_default.not-Properties w.in_default.not-Members w.in_default.not-Template w.in_default.not-Sequence w.in_default.not-Declarators w.in_default.not-Cases
+    ] in
+    let no_comma : c.args.list.now.listed ≡ Elements → Misses c.args.self.now.cursor.text Punctuator (codes ",") c.args.self.now.cursor.last = elim c.in_default.branch [
+      | item-in_default-via-in-Elements+else-sees_punctuator w ↦ λ h. w.if-sees_punctuator.ensures.missed
+      | item-in_default-via-in_default w ↦ λ h. absurd (w.in_default.not-Elements h)
+    ] in
+    of_kind c.args.self.now.cursor c.expression.new.self.cursor c.args.self.now.pairs.items c.expression.new.self.pairs.items c.args.list.now c.args.list.now c.args.high c.from_residual.result kind (λ is. alone_refused c.args.self.now.cursor c.expression.new.self.cursor c.args.self.now.pairs.items c.expression.new.self.pairs.items c.args.list.now c.args.list.now c.args.high is c.args.self.now.cursor c.args.self.now.pairs.items _ c.if-sees_punctuator-2.ensures.missed refl no_comma refl refl c.from_residual.result c.in_err-part-in_default.field-0.0 refl c.from_residual.ensures.1 c.in_err-part-in_default.ensures.complete)
+
+pub item-returns-in-Elements-clause-complete : goal.item-returns-in-Elements-clause-complete
+item-returns-in-Elements-clause-complete t c =
+    hole_taken c.args.self.now.cursor c.args.self.now.cursor c.args.self.now.pairs.items c.args.self.now.pairs.items c.args.list.now c.push_hole.new.self c.args.high c.push_hole.result c.in-Elements.is c.if-sees_punctuator.ensures.seen refl refl c.push_hole.ensures.pushed c.push_hole.ensures.refused
+
+pub special_item-returns-in_ok-next_template_element-in-Template-clause-complete : goal.special_item-returns-in_ok-next_template_element-in-Template-clause-complete
+special_item-returns-in_ok-next_template_element-in-Template-clause-complete t c =
+    let settled = c.in_ok-into_expression-in-Template.ensures.settled in
+    let first = c.in_ok-push-in-Template.ensures.pushed ∙ ap (with_item c.args.list.now) (c.plain.ensures ∙ ap (λ n. item_from n value false Closed) settled.0) in
+    chunk_taken c.args.self.now.cursor c.args.self.now.pairs.items c.args.list.now c.push-in-Template-2.new.self c.args.high c.in-Template.is _ refl c.expression.new.self.cursor c.expression.new.self.pairs.items c.in_ok-part-in-Template.part c.in_ok-part-in-Template.ensures.complete c.next_template_element.new.self.cursor c.next_template_element.new.self.pairs.items c.push-in-Template.new.self c.in_ok-next_template_element-in-Template.field-0 _ c.push-in-Template-2.result c.expression.ensures.text first c.in_ok-next_template_element-in-Template.ensures.read c.in_ok-next_template_element-in-Template.ensures.plain.0 c.in_ok-next_template_element-in-Template.ensures.plain.1
+    c.next_template_element.ensures.same_pairs c.push-in-Template-2.ensures.pushed c.push-in-Template-2.ensures.taken
+
+pub special_item-returns-in_ok-item-in-Declarators-clause-complete : goal.special_item-returns-in_ok-item-in-Declarators-clause-complete
+special_item-returns-in_ok-item-in-Declarators-clause-complete t c =
+    declarator_taken c.args.self.now.cursor c.declarator.new.self.cursor c.args.self.now.pairs.items c.declarator.new.self.pairs.items c.args.list.now c.push-in-Declarators.new.self c.args.high c.in-Declarators.has_in c.in_ok-item-in-Declarators.item _ c.push-in-Declarators.result c.in-Declarators.is c.push-in-Declarators.ensures.pushed c.push-in-Declarators.ensures.taken c.in_ok-item-in-Declarators.ensures.complete
+
+pub special_item-returns-in_ok-finish_plain-in-Cases-clause-complete : goal.special_item-returns-in_ok-finish_plain-in-Cases-clause-complete
+special_item-returns-in_ok-finish_plain-in-Cases-clause-complete t c =
+    let d = c.in_ok-is_default-in-Cases.is_default in
+    let empty : c.if-is_default.built.nodes ≡ case_nodes d none = elim c.if-is_default.branch [
+      | special_item-then-is_default+in_ok-push_gap-in-Cases w ↦ ap (λ x. x.nodes) w.built-is ∙ w.in_ok-push_gap-in-Cases.ensures.pushed ∙ ap push_gap (ap (λ x. x.nodes) c.new-built.ensures) ∙ ap (λ b. case_nodes b none) (sym w.if-is_default.true)
+      | special_item-else-is_default w ↦ ap (λ x. x.nodes) w.built-is ∙ ap (λ x. x.nodes) c.new-built.ensures ∙ ap (λ b. case_nodes b none) (sym w.if-is_default.false)
+    ] in
+    let it : ListItem = record { node = c.plain-item.result.node; shape = c.plain-item.result.shape; spreads = c.plain-item.result.spreads; is_flagged = d; edge = c.plain-item.result.edge } in
+    let tree : c.plain-item.result.node ≡ node SwitchCase [] plain c.next_start-start.result c.read_symbols.new.self.cursor.last.stop c.read_symbols.new.built.nodes = ap (λ (x : ListItem). x.node) c.plain-item.ensures ∙ c.in_ok-finish_plain-in-Cases.ensures.0 ∙ (λ i. node SwitchCase [] plain (c.span_from-span.ensures i).start (c.span_from-span.ensures i).end c.read_symbols.new.built.nodes) in
+    let item : it ≡ record { node = node SwitchCase [] plain c.next_start-start.result c.read_symbols.new.self.cursor.last.stop c.read_symbols.new.built.nodes; shape = value; spreads = false; is_flagged = d; edge = Closed } =
+    (λ i. record { node = tree i; shape = (c.plain-item.ensures i).shape; spreads = (c.plain-item.ensures i).spreads; is_flagged = d; edge = (c.plain-item.ensures i).edge }) in
+    case_taken_given c.args.self.now.cursor c.read_symbols.new.self.cursor c.args.self.now.pairs.items c.read_symbols.new.self.pairs.items c.args.list.now c.push-in-Cases.new.self c.args.high c.in-Cases.returns c.in-Cases.is c.is_default.new.self.cursor c.is_default.new.self.pairs.items c.in_ok-is_default-in-Cases.is_default c.if-is_default.built c.item-context.result c.saturating_sub-inner.result _ c.in_ok-is_default-in-Cases.ensures.accepted c.is_default.ensures.text c.item-context.ensures c.case_symbols.ensures c.saturating_sub-inner.ensures c.read_symbols.new.built _ empty c.in_ok-read_symbols-in-Cases.ensures.complete c.next_start-start.result _ it c.push-in-Cases.result c.next_start-start.ensures.starts item c.is_default.ensures.same_pairs c.push-in-Cases.ensures.pushed c.push-in-Cases.ensures.taken
+
+pub special_item-returns-in_ok-item-in-Sequence-clause-complete : goal.special_item-returns-in_ok-item-in-Sequence-clause-complete
+special_item-returns-in_ok-item-in-Sequence-clause-complete t c =
+    sequence_item_taken c.args.self.now.cursor c.expression-in-Sequence.new.self.cursor c.args.self.now.pairs.items c.expression-in-Sequence.new.self.pairs.items c.args.list.now c.push-in-Sequence.new.self c.args.high c.in-Sequence.has_in c.at.result c.in_ok-part-in-Sequence.part c.in_ok-item-in-Sequence.item c.next_start-start.result c.expression-in-Sequence.new.self.cursor.last.stop _ c.push-in-Sequence.result c.at.ensures c.in-Sequence.is c.in_ok-item-in-Sequence.ensures.made.0 c.push-in-Sequence.ensures.pushed c.push-in-Sequence.ensures.taken c.in_ok-part-in-Sequence.ensures.complete
+
+pub item-returns-in_ok-item-in_default-clause-complete : goal.item-returns-in_ok-item-in_default-clause-complete
+item-returns-in_ok-item-in_default-clause-complete t c =
+    let kind : (lists_elements c.args.list.now.listed && not (asks_edge c.args.list.now.listed)) ≡ true = elim c.in_default.branch [
+      | item-in_default-via-in-Elements+else-sees_punctuator w ↦ is_an_element c.args.list.now.listed Elements w.in-Elements.is refl
+      | item-in_default-via-in_default w ↦ default_kind c.args.list.now.listed w.in_default.not-Properties w.in_default.not-Members w.in_default.not-Template w.in_default.not-Sequence w.in_default.not-Declarators w.in_default.not-Cases
+    ] in
+    let no_comma : c.args.list.now.listed ≡ Elements → Misses c.args.self.now.cursor.text Punctuator (codes ",") c.args.self.now.cursor.last = elim c.in_default.branch [
+      | item-in_default-via-in-Elements+else-sees_punctuator w ↦ λ h. w.if-sees_punctuator.ensures.missed
+      | item-in_default-via-in_default w ↦ λ h. absurd (w.in_default.not-Elements h)
+    ] in
+    of_kind c.args.self.now.cursor c.expression.new.self.cursor c.args.self.now.pairs.items c.expression.new.self.pairs.items c.args.list.now c.push.new.self c.args.high c.push.result kind (λ is. alone_taken c.args.self.now.cursor c.expression.new.self.cursor c.args.self.now.pairs.items c.expression.new.self.pairs.items c.args.list.now c.push.new.self c.args.high is c.args.self.now.cursor c.args.self.now.pairs.items _ c.if-sees_punctuator-2.ensures.missed refl no_comma refl refl c.in_ok-part-in_default.part c.in_ok-item-in_default.item c.next_start-start.result c.expression.new.self.cursor.last.stop _ c.push.result c.in_ok-item-in_default.ensures.made.0 refl c.push.ensures.pushed c.push.ensures.taken c.in_ok-part-in_default.ensures.complete)
+
+pub infix-update_or_comma-requires : goal.infix-update_or_comma-requires
+infix-update_or_comma-requires t c = (search rules, (c.in-PostUpdate.is, (c.requires.ahead, (c.requires.real, (c.requires.coded, c.requires.goes)))))
+
+pub special_item-returns-in_default-clause-complete : goal.special_item-returns-in_default-clause-complete
+special_item-returns-in_default-clause-complete t c = absurd (false≢true (sym (not_apart c.args.list.now.listed c.in_default.not-Properties c.in_default.not-Members c.in_default.not-Template c.in_default.not-Sequence c.in_default.not-Declarators c.in_default.not-Cases) ∙ c.requires.apart))
+
+pub item-special_item-requires : goal.item-special_item-requires
+item-special_item-requires t c = (search rules, is_other_list c.in-Properties.is)
+
+pub item-spread_item-requires : goal.item-spread_item-requires
+item-spread_item-requires t c =
+    let kind : is_apart c.args.list.now.listed ≡ false = elim c.in_default.branch [
+      | item-in_default-via-in-Elements+else-sees_punctuator w ↦ ap is_apart w.in-Elements.is
+      | item-in_default-via-in_default w ↦ not_apart c.args.list.now.listed w.in_default.not-Properties w.in_default.not-Members w.in_default.not-Template w.in_default.not-Sequence w.in_default.not-Declarators w.in_default.not-Cases
+    ] in
+    (search rules, (kind, c.if-sees_punctuator-2.ensures.seen))
+
+pub spread_item-returns-in_err-expect_punctuator-clause-complete : goal.spread_item-returns-in_err-expect_punctuator-clause-complete
+spread_item-returns-in_err-expect_punctuator-clause-complete t c = absurd (c.in_err-expect_punctuator.ensures.missed.0 c.requires.spreads.0 c.requires.spreads.0 c.requires.spreads.1)
+
+pub leftmost_operand-bracketed_list-requires : goal.leftmost_operand-bracketed_list-requires
+leftmost_operand-bracketed_list-requires t c = (search rules, (c.in-Some.ensures.ahead, (subst BeginsList c.in-List.is c.in-Some.ensures.list, (c.in-Some.ensures.coded ∙ ap Some c.in-List.is, c.in-Some.ensures.stands))))
+
+pub leftmost_operand-token_or_prefix-requires : goal.leftmost_operand-token_or_prefix-requires
+leftmost_operand-token_or_prefix-requires t c = (search rules, (c.in-Some.ensures.ahead, (c.in-Some.ensures.real, (c.in-Some.ensures.coded, (c.in-Some.ensures.stands, short_opening c.in-Prefix.is)))))
+
+pub token_or_prefix-returns-in_default-clause-complete : goal.token_or_prefix-returns-in_default-clause-complete
+token_or_prefix-returns-in_default-clause-complete t c = no_short c.args.opening c.requires.short c.in_default.not-Prefix c.in_default.not-OneToken
+
+pub token_or_prefix-prefix_expression-requires : goal.token_or_prefix-prefix_expression-requires
+token_or_prefix-prefix_expression-requires t c = (search rules, (c.requires.ahead, (c.requires.real, (c.requires.coded ∙ ap Some c.in-Prefix.is, c.requires.stands))))
+
+pub super_expression-returns-then-not-sees_super_continuation-clause-complete : goal.super_expression-returns-then-not-sees_super_continuation-clause-complete
+super_expression-returns-then-not-sees_super_continuation-clause-complete t c = λ a h o n from to P next same coded word g.
+    let s = c.args.self.now.cursor in
+    let u = token_of c.args.token in
+    let opens = super_coded (expression_start s.last) coded in
+    let here = word_here s.text u next same (ap is_worded opens) in
+    super_missed c.accepts_rank.result (takes c.args.position.rank Call) c.accepts_rank.ensures c.if-not-sees_super_continuation.ensures.missed (super_given s.text here.read opens g).1.sees
+
+pub keyword_expression-returns-in-Super-clause-derived : goal.keyword_expression-returns-in-Super-clause-derived
+keyword_expression-returns-in-Super-clause-derived t c = subst (λ x. IfOk c.super_expression.result (λ part. Adds c.args.self.now.cursor c.super_expression.new.self.cursor c.args.self.now.pairs.items c.super_expression.new.self.pairs.items (WordedAt c.args.self.now.cursor.text c.args.position c.args.token x part))) (sym c.in-Super.is) c.super_expression.ensures.derived
+
+pub keyword_expression-returns-in-Super-clause-complete : goal.keyword_expression-returns-in-Super-clause-complete
+keyword_expression-returns-in-Super-clause-complete t c = subst (λ x. KeywordExpressionComplete c.args.self.now.cursor c.super_expression.new.self.cursor c.args.self.now.pairs.items c.super_expression.new.self.pairs.items c.args.high c.args.token x c.args.position c.super_expression.result) (sym c.in-Super.is) c.super_expression.ensures.complete
+
+pub keyword_expression-returns-in-New-clause-derived : goal.keyword_expression-returns-in-New-clause-derived
+keyword_expression-returns-in-New-clause-derived t c = subst (λ x. IfOk c.new_expression.result (λ part. Adds c.args.self.now.cursor c.new_expression.new.self.cursor c.args.self.now.pairs.items c.new_expression.new.self.pairs.items (WordedAt c.args.self.now.cursor.text c.args.position c.args.token x part))) (sym c.in-New.is) c.new_expression.ensures.derived
+
+pub keyword_expression-returns-in-New-clause-complete : goal.keyword_expression-returns-in-New-clause-complete
+keyword_expression-returns-in-New-clause-complete t c = subst (λ x. KeywordExpressionComplete c.args.self.now.cursor c.new_expression.new.self.cursor c.args.self.now.pairs.items c.new_expression.new.self.pairs.items c.args.high c.args.token x c.args.position c.new_expression.result) (sym c.in-New.is) c.new_expression.ensures.complete
+
+pub keyword_expression-returns-in-Import-clause-derived : goal.keyword_expression-returns-in-Import-clause-derived
+keyword_expression-returns-in-Import-clause-derived t c = subst (λ x. IfOk c.import_call.result (λ part. Adds c.args.self.now.cursor c.import_call.new.self.cursor c.args.self.now.pairs.items c.import_call.new.self.pairs.items (WordedAt c.args.self.now.cursor.text c.args.position c.args.token x part))) (sym c.in-Import.is) c.import_call.ensures.derived
+
+pub keyword_expression-returns-in-Import-clause-complete : goal.keyword_expression-returns-in-Import-clause-complete
+keyword_expression-returns-in-Import-clause-complete t c = subst (λ x. KeywordExpressionComplete c.args.self.now.cursor c.import_call.new.self.cursor c.args.self.now.pairs.items c.import_call.new.self.pairs.items c.args.high c.args.token x c.args.position c.import_call.result) (sym c.in-Import.is) c.import_call.ensures.complete
+
+pub call_expression-returns-in_err-arguments-clause-complete : goal.call_expression-returns-in_err-arguments-clause-complete
+call_expression-returns-in_err-arguments-clause-complete t c = called_refused c.args.self.now.cursor c.args.self.now.cursor c.arguments.new.self.cursor c.args.self.now.pairs.items c.arguments.new.self.pairs.items c.args.high c.args.left Arguments false _ c.in_err-arguments.field-0.0 c.from_residual-in_err-arguments.ensures.1 refl refl c.requires.calls c.arguments.new.self.cursor c.args.self.now.pairs.items c.arguments.new.self.pairs.items c.saturating_sub.result refl c.saturating_sub.ensures c.in_err-arguments.ensures.complete
+
+pub call_expression-returns-in_err-node-clause-complete : goal.call_expression-returns-in_err-node-clause-complete
+call_expression-returns-in_err-node-clause-complete t c =
+    let s = c.args.self.now.cursor in
+    let passed = c.requires.calls in
+    let one : c.in_ok-nodes.nodes ≡ part c.args.left.cover.node none = c.in_ok-nodes.ensures.made ∙ ap (λ n. part n none) c.in_ok-callee.ensures.settled.0 in
+    let nodes : c.append.new.self ≡ part c.args.left.cover.node c.in_ok-arguments.arguments = c.in_ok-append.ensures.joined ∙ (λ i. join (one i) c.in_ok-arguments.arguments) in
+    let read = arguments_read_behind Arguments false refl refl refl refl passed c.in_ok-arguments.ensures.derived in
+    linked_high c.args.high _ c.args.left _ c.in_err-node.field-0.0 c.from_residual-in_err-node.ensures.1 (link_once s s refl passed read) c.in_err-node.ensures.0 c.in_err-node.ensures.1 (ap (λ ps. suc (parts_height ps)) nodes)
+
+pub call_expression-returns-clause-complete : goal.call_expression-returns-clause-complete
+call_expression-returns-clause-complete t c =
+    let s = c.args.self.now.cursor in
+    let passed = c.requires.calls in
+    let one : c.in_ok-nodes.nodes ≡ part c.args.left.cover.node none = c.in_ok-nodes.ensures.made ∙ ap (λ n. part n none) c.in_ok-callee.ensures.settled.0 in
+    let nodes : c.append.new.self ≡ part c.args.left.cover.node c.in_ok-arguments.arguments = c.in_ok-append.ensures.joined ∙ (λ i. join (one i) c.in_ok-arguments.arguments) in
+    let read = arguments_read_behind Arguments false refl refl refl refl passed c.in_ok-arguments.ensures.derived in
+    let object : takes Call c.args.left.rank ≡ true = sym c.accepts_rank.ensures ∙ c.if-not-accepts_rank.false in
+    let span = c.span_from.ensures in
+    let tree : c.in_ok-node.node ≡ node CallExpression [] plain c.args.left.start c.arguments.new.self.cursor.last.stop c.append.new.self = c.in_ok-node.ensures.0 ∙ (λ i. node CallExpression [] plain (span i).start (span i).end c.append.new.self) in
+    let made : c.plain.result ≡ plain_part (node (link_kind Arguments) [] (link_flags Arguments false) c.args.left.start c.arguments.new.self.cursor.last.stop c.append.new.self) (link_rank Arguments (is_call c.args.left.rank)) Other = c.plain.ensures ∙ ap (λ n. plain_part n Call Other) tree in
+    linked_answered c.args.high c.args.left c.plain.result (link_once s s refl passed read) refl nodes made
+
+pub call_expression-returns-clause-derived : goal.call_expression-returns-clause-derived
+call_expression-returns-clause-derived t c =
+    let s = c.args.self.now.cursor in
+    let passed = c.requires.calls in
+    let one : c.in_ok-nodes.nodes ≡ part c.args.left.cover.node none = c.in_ok-nodes.ensures.made ∙ ap (λ n. part n none) c.in_ok-callee.ensures.settled.0 in
+    let nodes : c.append.new.self ≡ part c.args.left.cover.node c.in_ok-arguments.arguments = c.in_ok-append.ensures.joined ∙ (λ i. join (one i) c.in_ok-arguments.arguments) in
+    let read = arguments_read_behind Arguments false refl refl refl refl passed c.in_ok-arguments.ensures.derived in
+    let object : takes Call c.args.left.rank ≡ true = sym c.accepts_rank.ensures ∙ c.if-not-accepts_rank.false in
+    let span = c.span_from.ensures in
+    let tree : c.in_ok-node.node ≡ node CallExpression [] plain c.args.left.start c.arguments.new.self.cursor.last.stop c.append.new.self = c.in_ok-node.ensures.0 ∙ (λ i. node CallExpression [] plain (span i).start (span i).end c.append.new.self) in
+    let made : c.plain.result ≡ plain_part (node (link_kind Arguments) [] (link_flags Arguments false) c.args.left.start c.arguments.new.self.cursor.last.stop c.append.new.self) (link_rank Arguments (is_call c.args.left.rank)) Other = c.plain.ensures ∙ ap (λ n. plain_part n Call Other) tree in
+    links_read Arguments false (is_call c.args.left.rank) c.in_ok-callee.ensures.settled.1 object refl nodes made read
+
+pub index_member-returns-in_err-expect_punctuator-clause-complete : goal.index_member-returns-in_err-expect_punctuator-clause-complete
+index_member-returns-in_err-expect_punctuator-clause-complete t c = bracket_refused c.args.self.now.cursor c.args.self.now.cursor c.expect_punctuator.new.self.cursor c.args.self.now.pairs.items c.expect_punctuator.new.self.pairs.items c.args.high c.args.left Index false _ c.in_err-expect_punctuator.field-0.0 c.from_residual-in_err-expect_punctuator.ensures.1 refl refl c.requires.indexes refl c.in_err-expect_punctuator.ensures.missed.0
+
+pub index_member-returns-in_err-index-clause-complete : goal.index_member-returns-in_err-index-clause-complete
+index_member-returns-in_err-index-clause-complete t c = index_refused c.args.self.now.cursor c.args.self.now.cursor c.expression.new.self.cursor c.args.self.now.pairs.items c.expression.new.self.pairs.items c.args.high c.args.left Index false _ c.in_err-index.field-0.0 c.from_residual-in_err-index.ensures.1 refl refl c.requires.indexes c.expect_punctuator.new.self.cursor c.expression.new.self.cursor c.expect_punctuator.new.self.pairs.items c.expression.new.self.pairs.items c.saturating_sub-inner.result refl c.expect_punctuator.ensures.text c.expect_punctuator.ensures.same_open c.in_ok-expect_punctuator.ensures.accepted.0 c.saturating_sub-inner.ensures c.in_err-index.ensures.complete
+
+pub index_member-returns-in_err-into_expression-2-clause-complete : goal.index_member-returns-in_err-into_expression-2-clause-complete
+index_member-returns-in_err-into_expression-2-clause-complete t c = index_unsettled c.args.self.now.cursor c.args.self.now.cursor c.expression.new.self.cursor c.args.self.now.pairs.items c.expression.new.self.pairs.items c.args.high c.args.left Index false _ c.in_err-into_expression-2.field-0.0 c.from_residual-in_err-into_expression-2.ensures.1 refl refl c.requires.indexes c.expect_punctuator.new.self.cursor c.expression.new.self.cursor c.expect_punctuator.new.self.pairs.items c.expression.new.self.pairs.items c.saturating_sub-inner.result refl c.expect_punctuator.ensures.text c.expect_punctuator.ensures.same_open c.in_ok-expect_punctuator.ensures.accepted.0 c.saturating_sub-inner.ensures c.in_ok-index.index c.in_ok-index.ensures.complete c.in_err-into_expression-2.ensures.settled.1
+
+pub index_member-returns-in_err-expect_punctuator-2-clause-complete : goal.index_member-returns-in_err-expect_punctuator-2-clause-complete
+index_member-returns-in_err-expect_punctuator-2-clause-complete t c = unclosed_refused c.args.self.now.cursor c.args.self.now.cursor c.expect_punctuator-2.new.self.cursor c.args.self.now.pairs.items c.expect_punctuator-2.new.self.pairs.items c.args.high c.args.left Index false _ c.in_err-expect_punctuator-2.field-0.0 c.from_residual-in_err-expect_punctuator-2.ensures.1 refl refl c.requires.indexes c.expect_punctuator.new.self.cursor c.expression.new.self.cursor c.expect_punctuator.new.self.pairs.items c.expression.new.self.pairs.items c.saturating_sub-inner.result refl c.expect_punctuator.ensures.text c.expect_punctuator.ensures.same_open c.in_ok-expect_punctuator.ensures.accepted.0 c.saturating_sub-inner.ensures c.in_ok-index.index c.in_ok-index.ensures.complete c.expression.ensures.text c.in_err-expect_punctuator-2.ensures.missed.0
+
+pub index_member-returns-in_err-node-clause-complete : goal.index_member-returns-in_err-node-clause-complete
+index_member-returns-in_err-node-clause-complete t c =
+    let s = c.args.self.now.cursor in
+    let passed = c.requires.indexes in
+    let index = c.in_ok-index.index in
+    let one : c.in_ok-nodes.nodes ≡ part c.args.left.cover.node none = c.in_ok-nodes.ensures.made ∙ ap (λ n. part n none) c.in_ok-into_expression.ensures.settled.0 in
+    let nodes : c.push.new.self ≡ part c.args.left.cover.node (part index.cover.node none) = c.in_ok-push.ensures.pushed ∙ (λ i. push (one i) (c.in_ok-into_expression-2.ensures.settled.0 i)) in
+    let read = index_read Index false refl refl refl refl passed c.expect_punctuator.ensures.text c.expect_punctuator.ensures.same_open c.expect_punctuator.ensures.same_pairs c.in_ok-expect_punctuator.ensures.accepted.0 refl refl refl c.expression.ensures.text c.in_ok-index.ensures.derived c.in_ok-into_expression-2.ensures.settled.1
+    c.expect_punctuator-2.ensures.same_open c.expect_punctuator-2.ensures.same_pairs c.in_ok-expect_punctuator-2.ensures.accepted.0 in
+    linked_high c.args.high _ c.args.left _ c.in_err-node.field-0.0 c.from_residual-in_err-node.ensures.1 (link_once s s refl passed read) c.in_err-node.ensures.0 c.in_err-node.ensures.1 (ap (λ ps. suc (parts_height ps)) nodes)
+
+pub index_member-returns-clause-complete : goal.index_member-returns-clause-complete
+index_member-returns-clause-complete t c =
+    let s = c.args.self.now.cursor in
+    let passed = c.requires.indexes in
+    let index = c.in_ok-index.index in
+    let one : c.in_ok-nodes.nodes ≡ part c.args.left.cover.node none = c.in_ok-nodes.ensures.made ∙ ap (λ n. part n none) c.in_ok-into_expression.ensures.settled.0 in
+    let nodes : c.push.new.self ≡ part c.args.left.cover.node (part index.cover.node none) = c.in_ok-push.ensures.pushed ∙ (λ i. push (one i) (c.in_ok-into_expression-2.ensures.settled.0 i)) in
+    let read = index_read Index false refl refl refl refl passed c.expect_punctuator.ensures.text c.expect_punctuator.ensures.same_open c.expect_punctuator.ensures.same_pairs c.in_ok-expect_punctuator.ensures.accepted.0 refl refl refl c.expression.ensures.text c.in_ok-index.ensures.derived c.in_ok-into_expression-2.ensures.settled.1
+    c.expect_punctuator-2.ensures.same_open c.expect_punctuator-2.ensures.same_pairs c.in_ok-expect_punctuator-2.ensures.accepted.0 in
+    let object : takes Call c.args.left.rank ≡ true = sym c.accepts_rank.ensures ∙ c.if-not-accepts_rank.false in
+    let called : c.match-matches.matches ≡ is_call c.args.left.rank = elim c.match-matches.branch [ index_member-in-Call w ↦ w.matches-is ∙ call_is c.args.left.rank w.in-Call.is | index_member-in_default w ↦ w.matches-is ∙ call_is_not c.args.left.rank w.in_default.not-Call ] in
+    let span = c.span_from-span.ensures in
+    let tree : c.in_ok-node.node ≡ node (link_kind Index) [] (link_flags Index false) c.args.left.start c.expect_punctuator-2.new.self.cursor.last.stop c.push.new.self = c.in_ok-node.ensures.0 ∙ (λ i. node MemberExpression [] (c.flags-flags.ensures i) (span i).start (span i).end c.push.new.self) in
+    let made : c.plain.result ≡ plain_part (node (link_kind Index) [] (link_flags Index false) c.args.left.start c.expect_punctuator-2.new.self.cursor.last.stop c.push.new.self) (link_rank Index c.match-matches.matches) Other = c.plain.ensures ∙ (λ i. plain_part (tree i) (c.rank.ensures i) Other) in
+    linked_answered c.args.high c.args.left c.plain.result (link_once s s refl passed read) called nodes made
+
+pub index_member-returns-clause-derived : goal.index_member-returns-clause-derived
+index_member-returns-clause-derived t c =
+    let s = c.args.self.now.cursor in
+    let passed = c.requires.indexes in
+    let index = c.in_ok-index.index in
+    let one : c.in_ok-nodes.nodes ≡ part c.args.left.cover.node none = c.in_ok-nodes.ensures.made ∙ ap (λ n. part n none) c.in_ok-into_expression.ensures.settled.0 in
+    let nodes : c.push.new.self ≡ part c.args.left.cover.node (part index.cover.node none) = c.in_ok-push.ensures.pushed ∙ (λ i. push (one i) (c.in_ok-into_expression-2.ensures.settled.0 i)) in
+    let read = index_read Index false refl refl refl refl passed c.expect_punctuator.ensures.text c.expect_punctuator.ensures.same_open c.expect_punctuator.ensures.same_pairs c.in_ok-expect_punctuator.ensures.accepted.0 refl refl refl c.expression.ensures.text c.in_ok-index.ensures.derived c.in_ok-into_expression-2.ensures.settled.1
+    c.expect_punctuator-2.ensures.same_open c.expect_punctuator-2.ensures.same_pairs c.in_ok-expect_punctuator-2.ensures.accepted.0 in
+    let object : takes Call c.args.left.rank ≡ true = sym c.accepts_rank.ensures ∙ c.if-not-accepts_rank.false in
+    let called : c.match-matches.matches ≡ is_call c.args.left.rank = elim c.match-matches.branch [ index_member-in-Call w ↦ w.matches-is ∙ call_is c.args.left.rank w.in-Call.is | index_member-in_default w ↦ w.matches-is ∙ call_is_not c.args.left.rank w.in_default.not-Call ] in
+    let span = c.span_from-span.ensures in
+    let tree : c.in_ok-node.node ≡ node (link_kind Index) [] (link_flags Index false) c.args.left.start c.expect_punctuator-2.new.self.cursor.last.stop c.push.new.self = c.in_ok-node.ensures.0 ∙ (λ i. node MemberExpression [] (c.flags-flags.ensures i) (span i).start (span i).end c.push.new.self) in
+    let made : c.plain.result ≡ plain_part (node (link_kind Index) [] (link_flags Index false) c.args.left.start c.expect_punctuator-2.new.self.cursor.last.stop c.push.new.self) (link_rank Index c.match-matches.matches) Other = c.plain.ensures ∙ (λ i. plain_part (tree i) (c.rank.ensures i) Other) in
+    links_read Index false c.match-matches.matches c.in_ok-into_expression.ensures.settled.1 object called nodes made read
+
+pub index_member-returns-clause-passes : goal.index_member-returns-clause-passes
+index_member-returns-clause-passes t c =
+    let start = c.args.self.now.cursor in
+    let second = passes_further start c.expect_punctuator.new.self.cursor c.expression.new.self.cursor c.in_ok-expect_punctuator.ensures.passes c.expression.ensures.forward in
+    passes_further start c.expression.new.self.cursor c.expect_punctuator-2.new.self.cursor second c.expect_punctuator-2.ensures.forward
+
+pub token_or_prefix-returns-in_err-node-in-OneToken-clause-complete : goal.token_or_prefix-returns-in_err-node-in-OneToken-clause-complete
+token_or_prefix-returns-in_err-node-in-OneToken-clause-complete t c = λ a h o n to P g.
+    let s = c.args.self.now.cursor in
+    let up = has_height n in
+    let above = c.in_err-node-in-OneToken.ensures.made in
+    agrees_err (Room s o (height n) c.args.high) (FirstWith s c.advance.new.self.cursor c.args.self.now.pairs.items c.advance.new.self.pairs.items a h n to P) c.from_residual.result c.in_err-node-in-OneToken.field-0.0 c.from_residual.ensures.1
+    (refuses_high (Room s o (height n) c.args.high) 1 c.args.high c.in_err-node-in-OneToken.field-0.0 above.0 above.1 (λ room. let l = room.1 in omega arith))

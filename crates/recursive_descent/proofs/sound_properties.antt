@@ -1,0 +1,9 @@
+-- What is read of properties and members of classes is derived.
+pub mod ClassMembers
+pub mod Definitions
+pub mod MethodItems
+pub mod Methods
+pub mod Modifiers
+pub mod PropertyNames
+pub mod PropertyValues
+pub mod WholeMethods

@@ -1,0 +1,149 @@
+-- What a function makes of a derivation that is given of what stands ahead (ECMA-262 clauses 12 to 15): it answers what the derivation has, or is refused
+-- for a reason. A syntax error is none, and too deep is only what isn't within the limits.
+use Rattle.std.specs.Prelude.{◌≡◌, ℕ, ◌≤◌, ◌-◌, Bool, true, false, List, [], ◌∷◌, ◌++◌, Option, Some, None, IsTrue, Result, Ok, Err, codes, ◌⊎◌}
+use Rattle.source_text.specs.declared.fault.Fault.{Fault}
+use Rattle.source_text.specs.declared.fault.Fault.TheVariants.{TooDeep, OutOfMemory}
+use Rattle.tokens.specs.declared.token.TokenClass.TheVariants.{Punctuator}
+use Rattle.tokens.specs.declared.token.Goal.TheVariants.{Div}
+use Rattle.tokens.specs.Reading.{any_goal}
+use Rattle.token_cursor.specs.CursorState.{CursorState}
+use Rattle.tree.specs.declared.kind.Kind.TheVariants.{AssignmentExpression}
+use Rattle.tree.specs.declared.kind.Pair.{Pair}
+use Rattle.tree.specs.Tree.{Tree, Parts, part, none, kind_of, node}
+use Rattle.language.specs.declared.Rank.{Rank}
+use Rattle.language.specs.declared.Rank.TheVariants.{Expression, Assignment, Conditional, New, Primary, Member}
+use Rattle.language.specs.declared.Start.TheVariants.{Any}
+use Rattle.language.specs.Vocabulary.{takes, is_target as is_simple, op_arrow, is_pattern}
+use Rattle.language.specs.Token.{Token}
+use Rattle.language.specs.Pieces.{Role, expr, name, pattern, with_default, bound, Piece, sign, put, word, tagged_quasi, nothing}
+use Rattle.language.specs.Expressions.{arguments, in_brackets}
+use Rattle.language.specs.Continuations.{operation, rank_made_by}
+use Rattle.language.specs.Promises.{ReadBy, Stops, Callee}
+use Rattle.language.specs.Following.{Finished, Declared}
+use Rattle.language.specs.Covers.{Reading, as_expression, as_pattern}
+use Rattle.language.specs.Places.{NextIn, itself, SpellsIn}
+use Rattle.language.specs.Claims.{max_open}
+use Rattle.language.proofs.texts.TextOffsets.{text_determined}
+use Rattle.language.proofs.climbing.FirstTurn.{Begun}
+use Rattle.language.proofs.climbing.Callees.{Uncalled}
+use Rattle.covers.specs.Shapes.{is_target, is_pattern as is_listed}
+use Rattle.recursive_descent.specs.declared.subscripts.Subscript.{Subscript}
+use Rattle.recursive_descent.specs.declared.subscripts.Subscript.TheVariants as link
+use Rattle.parser_tables.specs.declared.operators.InfixOperator.{InfixOperator}
+use Rattle.parser_tables.specs.declared.operators.InfixOperator.TheVariants as code
+use Rattle.parser_tables.specs.declared.operand.Operand.{Operand}
+use Rattle.parser_tables.specs.declared.expression_context.ExpressionContext.{ExpressionContext}
+use Rattle.recursive_descent.specs.Soundness.{grouping, fits_as, read_as, RunsIn, anywhere}
+use Rattle.parser_tables.specs.Seen.{ReadsHere, SeesBy, Sees, MissesBy}
+use Rattle.parser_tables.specs.Tests.{is_each, is_link}
+use Rattle.recursive_descent.specs.Subscripts.{link_kind, link_flags}
+use Rattle.parser_tables.specs.Operands.{is_group}
+
+-- the answer is this; a refusal is no syntax error, and it is too deep only where it isn't within the limits
+abbrev pub Agrees : {X : Type 0} → Type 0 → (X → Type 0) → Result X Fault → Type 0
+Agrees W Same (Ok x) = Same x
+Agrees W Same (Err TooDeep) = W → ⊥
+Agrees W Same (Err OutOfMemory) = Unit {0}
+Agrees W Same (Err _) = ⊥
+
+-- as many parentheses are left as are open at one point, and the tree is no higher than allowed
+abbrev pub Room : CursorState → ℕ → ℕ → ℕ → Type 0
+Room s o levels high = (o ≤ max_open - s.opened) × (levels ≤ high)
+
+-- what was read ends there, and these pairs group in it
+pub record EndsWith (s e : CursorState) (old new : List Pair) (to : Token) (P : List Pair) : Type 0 where
+  pub place : e.last ≡ to
+  pub more : List Pair
+  pub added : new ≡ old ++ more
+  pub pairs : grouping more ≡ P
+
+-- an expression that ends here can't go on; a statement is followed by what may follow it; a declarator can't go on
+abbrev pub StopsIn : List ℕ → Rank → Bool → Tree → Token → Type 0
+StopsIn text = Stops Token (NextIn text any_goal) itself
+
+abbrev pub FinishedIn : List ℕ → Tree → Token → Type 0
+FinishedIn text = Finished Token (NextIn text any_goal) itself
+
+abbrev pub DeclaredIn : List ℕ → Bool → Tree → Token → Type 0
+DeclaredIn text = Declared Token (NextIn text any_goal) itself
+
+-- nothing goes on there but a comma
+abbrev pub is_over : Option Rank → Bool
+is_over None = true
+is_over (Some Expression) = true
+is_over _ = false
+
+abbrev pub Over : List ℕ → Token → Type 0
+Over text e = (t m : Token) → ReadBy Token (NextIn text any_goal) itself Div e t m → is_over (rank_made_by (operation t) t.after_break) ≡ true
+
+-- What is given where an expression may stand, in one of its readings, and can't go on: an expression at the position; what stands behind `new`; an element of
+-- a pattern where an AssignmentExpression may stand; what is assigned to before `in` or `of` in the head of a `for`.
+pub data GivenAs (text : List ℕ) (p : ExpressionContext) (o : ℕ) (n : Tree) (s e : Token) (P : List Pair) : Reading → Type 0 where
+  an_expression : (p.rank ≡ Conditional → ⊥) → (p.rank ≡ New → ⊥) → SpellsIn text o (expr p.rank p.has_in p.start) n s e P → StopsIn text p.rank p.has_in n e → GivenAs text p o n s e P as_expression
+  a_callee : p ≡ record { rank = New; has_in = true; start = Any } → Callee Token (NextIn text any_goal) itself o n s e P → StopsIn text New true n e → GivenAs text p o n s e P as_expression
+  an_element : {b : Bool} {a : Role} → p ≡ record { rank = Assignment; has_in = true; start = Any } → with_default b (kind_of n) ≡ Some a → SpellsIn text o a n s e P → Over text e → GivenAs text p o n s e P (as_pattern b)
+  a_target : {a : Role} → p ≡ record { rank = Expression; has_in = false; start = Any } → bound false (kind_of n) ≡ Some a → SpellsIn text o a n s e P → SeesBy text Div is_each e → GivenAs text p o n s e P (as_pattern false)
+
+-- the part is this tree in this reading; a name or a member is a target, an array or an object of a pattern has no default
+pub record IsRead (a : Reading) (r : Operand) (n : Tree) : Type 0 where
+  pub fits : fits_as r.cover.shape a ≡ true
+  pub tree : read_as a r.cover.node ≡ n
+  pub target : is_simple (kind_of n) ≡ true → is_target r.cover.shape.assigned ≡ true
+  pub pattern : (b : Bool) → a ≡ as_pattern b → is_pattern (kind_of n) ≡ true → is_listed r.cover.shape.assigned ≡ true
+
+-- no `=>` goes on there
+abbrev pub Unarrowed : List ℕ → Token → Type 0
+Unarrowed text e = (t m : Token) → ReadBy Token (NextIn text any_goal) itself Div e t m → operation t ≡ op_arrow → t.after_break ≡ true
+
+-- the symbol of the position, or of what stands behind `new` with arguments
+abbrev pub Wholly : Rank → Rank → Type 0
+Wholly y r = (y ≡ r) ⊎ ((y ≡ Member) × (r ≡ New))
+
+-- What stands first in what is given, at a symbol: the leftmost part of an expression that can't go on, but for a pattern that is assigned to, which is read
+-- first; such a pattern, or one that is an element or is bound; a name that is bound.
+pub data FirstAs (text : List ℕ) (p : ExpressionContext) (o : ℕ) (t : Tree) (s m : Token) (Q : List Pair) : Reading → Rank → Type 0 where
+  a_core : {y : Rank} {n : Tree} {e : Token} {P : List Pair} {h : Rank} {j : Bool} → (p.rank ≡ Conditional → ⊥) → Wholly y p.rank → Begun Token (NextIn text any_goal) itself (text_determined text) o s y p.has_in p.start n e P h j t m Q →
+      Uncalled Token (NextIn text any_goal) itself (text_determined text) h t m → (kind_of t ≡ AssignmentExpression → Sees text Punctuator (codes "(") s) → FirstAs text p o t s m Q as_expression h
+  a_pattern : {b : Bool} → SpellsIn text o (pattern b p.start) t s m Q → FirstAs text p o t s m Q (as_pattern b) Primary
+  a_name : SpellsIn text o name t s m Q → (IsTrue (takes p.rank Assignment) → Unarrowed text m) → FirstAs text p o t s m Q (as_pattern true) Primary
+
+-- it is read so, at a symbol that its position takes
+pub record IsFirst (a : Reading) (h : Rank) (r : Operand) (t : Tree) : Type 0 where
+  pub read : IsRead a r t
+  pub taken : IsTrue (takes h r.rank)
+  pub alone : (b : Bool) → a ≡ as_pattern b → is_group r.rank ≡ false
+
+-- the right sides of an operator that was passed: of a conditional two, with a `:` between them, else one, at its symbol
+pub data SidesGiven (text : List ℕ) (i : Bool) (o : ℕ) (s e : Token) : InfixOperator → Rank → Parts → List Pair → Type 0 where
+  one_side : {x : InfixOperator} {q : Rank} {u : Tree} {P : List Pair} → (x ≡ code.Question → ⊥) → SpellsIn text o (expr q i Any) u s e P → StopsIn text q i u e → SidesGiven text i o s e x q (part u none) P
+  two_sides : {t u : Tree} {k x : Token} {P Q : List Pair} → SpellsIn text o (expr Assignment true Any) t s k P → ReadsHere text Punctuator (codes ":") k x → SpellsIn text o (expr Assignment i Any) u x e Q → StopsIn text Assignment i u e →
+      SidesGiven text i o s e code.Question Assignment (part t (part u none)) (P ++ Q)
+
+-- a member, arguments or a template, with a `?.` before it or without
+abbrev pub subscript_after : Subscript → Bool → Parts → List Piece
+subscript_after link.Name true ps = sign "?." ∷ put word ∷ []
+subscript_after link.Name false ps = sign "." ∷ put word ∷ []
+subscript_after link.Index true ps = sign "?." ∷ in_brackets
+subscript_after link.Index false ps = in_brackets
+subscript_after link.Arguments true ps = sign "?." ∷ arguments ps
+subscript_after link.Arguments false ps = arguments ps
+subscript_after link.Quasi true ps = nothing
+subscript_after link.Quasi false ps = put tagged_quasi ∷ []
+
+-- The links of a chain from a part of it on: each makes the next part, and behind the last nothing goes on, a template neither.
+pub data LinksGiven (text : List ℕ) (o start : ℕ) (n : Tree) (e : Token) : Tree → Token → List Pair → Type 0 where
+  no_link : MissesBy text Div is_link e → LinksGiven text o start n e n e []
+  one_link : {m : Tree} {ps : Parts} {s k : Token} {P Q : List Pair} → (l : Subscript) → (optional : Bool) → (l ≡ link.Quasi → ⊥) → RunsIn text o (anywhere (subscript_after l optional ps)) ps s k P →
+      LinksGiven text o start n e (node (link_kind l) [] (link_flags l optional) start k.stop (part m ps)) k Q → LinksGiven text o start n e m s (P ++ Q)
+
+-- a chain from its base on: its first link has `?.`
+pub record ChainGiven (text : List ℕ) (o start : ℕ) (base n : Tree) (s e : Token) (P : List Pair) : Type 0 where
+  pub first : Subscript
+  pub parts : Parts
+  pub mid : Token
+  pub one : List Pair
+  pub more : List Pair
+  pub named : first ≡ link.Quasi → ⊥
+  pub runs : RunsIn text o (anywhere (subscript_after first true parts)) parts s mid one
+  pub rest : LinksGiven text o start n e (node (link_kind first) [] (link_flags first true) start mid.stop (part base parts)) mid more
+  pub pairs : P ≡ one ++ more

@@ -1,0 +1,356 @@
+//! Expressions (ECMA-262 12.3 to 12.16): what the first token begins, then turn by turn what goes on with it.
+#![tactic(auto, using(parser_tables::proofs::Refusals::refusals, crate::proofs::reading::AdvancedTokens::moves))]
+
+ghost use Rattle.recursive_descent.specs.Complete.{ExpressionComplete, BinaryRestComplete};
+ghost use Rattle.recursive_descent.specs.Stages.{InfixComplete};
+ghost use Rattle.std.specs.Prelude.{◌≡◌, ◌≢◌, ◌≤◌, true, false, IfOk, IfErr, ◌&&◌, ◌⊎◌, not};
+ghost use Rattle.tree.specs.Tree.{height};
+ghost use Rattle.covers.specs.Patterns.{pattern_tree};
+ghost use Rattle.covers.specs.Shapes.{is_target};
+ghost use Rattle.token_cursor.specs.CursorState.{IsAhead};
+ghost use Rattle.tokens.specs.Scanned.{token_of};
+ghost use Rattle.parser_tables.specs.Moves.{Passes};
+ghost use Rattle.parser_tables.specs.Items.{item_from, list_from, with_item};
+ghost use Rattle.parser_tables.specs.Outcomes.{BecomesHere, IsPlaceHere, RefusedUnless, YieldsWhere};
+ghost use Rattle.recursive_descent.specs.Soundness.{Adds, ReadAt, ReadsOn, GoesOn};
+ghost use Rattle.language.specs.Continuations.{operation, rank_made_by};
+ghost use Rattle.language.specs.Token.{as_read};
+ghost use Rattle.language.specs.Vocabulary.{is, takes};
+ghost use Rattle.parser_tables.specs.Operators.{coded_operator, meant, stops_by};
+ghost use Rattle.parser_tables.specs.Refusals.{IsRefusal};
+ghost use Rattle.recursive_descent.specs.LeftOperands.{left_of, left_rank, takes_left, operator_text_of, is_prefix_update, takes_operand, prefixed_node, prefixed_part};
+
+use crate::next_operator::NextOperator;
+use crate::parser::Parser;
+use covers::{Cover, CoverShape, ListBuilder, ListItem, ListKind};
+use grammar::accepts_rank;
+use language::{Edge, Rank};
+use parser_tables::{ExpressionContext, InfixOperator, Operand};
+use productions::{MeasuredNode, MeasuredParts, finish_node, finish_plain};
+use source_text::Fault;
+use tokens::{Goal, TokenClass};
+use tree::{Flags, Kind};
+
+// `++` and `--` before an operand.
+const PREFIX: Flags = Flags {
+    prefix: true,
+    ..Flags::PLAIN
+};
+
+// The left side of an operator, with the kind and the symbol of the node, the symbol of its right side, and what it may be.
+#[derive(Drop)]
+struct LeftOperand<'s> {
+    node: MeasuredNode<'s>,
+    kind: Kind,
+    own: Rank,
+    right: Rank,
+    shape: CoverShape,
+}
+
+impl<'t, 's> Parser<'t, 's> {
+    /// What was read, as an expression.
+    pub(crate) fn into_expression(&self, part: Operand<'s>) -> Result<MeasuredNode<'s>, Fault>
+        ensures settled { BecomesHere part.entry.cover.node part.entry.cover.shape.is_expression self.now.cursor result }
+        ensures refused { IfErr result (IsRefusal self.now.cursor.text) }
+    {
+        part.into_expression(self.cursor.next_start())
+    }
+
+    /// An expression at a position, up to where nothing goes on with it.
+    #[cycle(grammar)]
+    #[inline(never)]
+    pub(crate) fn expression(
+        &mut self,
+        position: ExpressionContext,
+        high: u32,
+    ) -> Result<Operand<'s>, Fault>
+        ensures text { self.new.cursor.text ≡ self.old.cursor.text }
+        ensures forward { self.old.cursor.last.stop ≤ self.new.cursor.last.stop }
+        ensures passes { IfOk result (λ _. Passes self.old.cursor self.new.cursor) }
+        ensures derived { IfOk result (λ part. Adds self.old.cursor self.new.cursor self.old.pairs.items self.new.pairs.items (ReadAt self.old.cursor.text position part)) }
+        ensures low { IfOk result (λ part. height part.cover.node ≤ high) }
+        ensures complete { ExpressionComplete self.old.cursor self.new.cursor self.old.pairs.items self.new.pairs.items high position result }
+        ensures refused { IfErr result (IsRefusal self.new.cursor.text) }
+    {
+        let mut part = self.leftmost_operand(position, high)?;
+        'turns: while let Some(next) = self.peek_infix(position, part.edge) {
+            part = self.infix(part, next, position, high)?;
+        }
+        Ok(part)
+    }
+
+    // What an operator that stands ahead makes of the expression before it.
+    #[cycle(grammar)]
+    #[inline(never)]
+    fn infix(
+        &mut self,
+        left: Operand<'s>,
+        next: NextOperator<'s>,
+        position: ExpressionContext,
+        high: u32,
+    ) -> Result<Operand<'s>, Fault>
+        requires ahead { IsAhead Goal.Div self.old.cursor.text self.old.cursor.last.stop (token_of next.token) }
+        requires real { next.token.class ≢ TokenClass.End }
+        requires coded { coded_operator (operation (as_read (token_of next.token))) next.token.text.now ≡ Some next.operator }
+        requires goes { stops_by position left.edge (as_read (token_of next.token)) ≡ false }
+        ensures text { self.new.cursor.text ≡ self.old.cursor.text }
+        ensures forward { self.old.cursor.last.stop ≤ self.new.cursor.last.stop }
+        ensures passes { IfOk result (λ _. Passes self.old.cursor self.new.cursor) }
+        ensures derived { IfOk result (λ part. Adds self.old.cursor self.new.cursor self.old.pairs.items self.new.pairs.items (ReadsOn self.old.cursor.text position left.entry part)) }
+        ensures low { IfOk result (λ part. height part.cover.node ≤ high) }
+        ensures complete { InfixComplete self.old.cursor self.new.cursor self.old.pairs.items self.new.pairs.items high position left.entry result }
+        ensures refused { IfErr result (IsRefusal self.new.cursor.text) }
+    {
+        match next.operator {
+            InfixOperator::Binary(_) | InfixOperator::Assign { .. } | InfixOperator::Question => {
+                self.binary_rest(left, next, position.has_in, high)
+            }
+            InfixOperator::PostUpdate | InfixOperator::Comma => self.update_or_comma(
+                left, next, position, high,
+            ),
+            InfixOperator::Dot => self.dot_member(left, high),
+            InfixOperator::OpenParen => self.call_expression(left, high),
+            InfixOperator::OpenBracket | InfixOperator::TemplateHead => self.subscript(left, high),
+            InfixOperator::QuestionDot => self.optional_chain(left, high),
+            InfixOperator::FatArrow => Err(self.syntax_error()),
+        }
+    }
+
+    // What `++` or `--` behind an expression makes of it, or a comma.
+    #[cycle(grammar)]
+    #[inline(never)]
+    fn update_or_comma(
+        &mut self,
+        left: Operand<'s>,
+        next: NextOperator<'s>,
+        position: ExpressionContext,
+        high: u32,
+    ) -> Result<Operand<'s>, Fault>
+        requires other { (next.operator ≡ InfixOperator.PostUpdate) ⊎ (next.operator ≡ InfixOperator.Comma) }
+        requires ahead { IsAhead Goal.Div self.old.cursor.text self.old.cursor.last.stop (token_of next.token) }
+        requires real { next.token.class ≢ TokenClass.End }
+        requires coded { coded_operator (operation (as_read (token_of next.token))) next.token.text.now ≡ Some next.operator }
+        requires goes { stops_by position left.edge (as_read (token_of next.token)) ≡ false }
+        ensures text { self.new.cursor.text ≡ self.old.cursor.text }
+        ensures forward { self.old.cursor.last.stop ≤ self.new.cursor.last.stop }
+        ensures passes { IfOk result (λ _. Passes self.old.cursor self.new.cursor) }
+        ensures derived { IfOk result (λ part. Adds self.old.cursor self.new.cursor self.old.pairs.items self.new.pairs.items (ReadsOn self.old.cursor.text position left.entry part)) }
+        ensures low { IfOk result (λ part. height part.cover.node ≤ high) }
+        ensures complete { InfixComplete self.old.cursor self.new.cursor self.old.pairs.items self.new.pairs.items high position left.entry result }
+        ensures refused { IfErr result (IsRefusal self.new.cursor.text) }
+    {
+        let start = left.start;
+        match next.operator {
+            InfixOperator::PostUpdate => {
+                let operand = self.update_target(left)?;
+                self.advance(next.token);
+                let nodes = MeasuredParts::only(self.alloc, operand)?;
+                let span = self.span_from(start);
+                let text = next.token.text;
+                let node = finish_node(
+                    Kind::UpdateExpression,
+                    text,
+                    Flags::PLAIN,
+                    span,
+                    nodes,
+                    high,
+                )?;
+                Ok(Operand::plain(node, Rank::Update, Edge::Postfix))
+            }
+            InfixOperator::Comma => {
+                let list = self.sequence(left, position.has_in)?;
+                self.advance(next.token);
+                let list = self.list(list, high.saturating_sub(1))?;
+                let edge = list.seen.edge;
+                let span = self.span_from(start);
+                let node = finish_plain(Kind::SequenceExpression, span, list.nodes, high)?;
+                Ok(Operand::plain(node, Rank::Expression, edge))
+            }
+            _ => Err(self.syntax_error()),
+        }
+    }
+
+    // What an operator with a right side makes: a binary or logical one, an assignment, a conditional.
+    #[cycle(grammar)]
+    #[inline(never)]
+    fn binary_rest(
+        &mut self,
+        left: Operand<'s>,
+        next: NextOperator<'s>,
+        has_in: bool,
+        high: u32,
+    ) -> Result<Operand<'s>, Fault>
+        requires ahead { IsAhead Goal.Div self.old.cursor.text self.old.cursor.last.stop (token_of next.token) }
+        requires real { next.token.class ≢ TokenClass.End }
+        requires coded { coded_operator (operation (as_read (token_of next.token))) next.token.text.now ≡ Some next.operator }
+        requires has_in { (is next.token.text.now "in" && not has_in) ≡ false }
+        ensures text { self.new.cursor.text ≡ self.old.cursor.text }
+        ensures forward { self.old.cursor.last.stop ≤ self.new.cursor.last.stop }
+        ensures passes { IfOk result (λ _. Passes self.old.cursor self.new.cursor) }
+        ensures derived { IfOk result (λ part. Adds self.old.cursor self.new.cursor self.old.pairs.items self.new.pairs.items (GoesOn self.old.cursor.text has_in left.entry part)) }
+        ensures rank { IfOk result (λ part. rank_made_by (meant next.entry.operator) next.entry.token.after_break ≡ Some part.rank) }
+        ensures low { IfOk result (λ part. height part.cover.node ≤ high) }
+        ensures complete { BinaryRestComplete self.old.cursor self.new.cursor self.old.pairs.items self.new.pairs.items high left.entry next.entry.token next.entry.operator has_in result }
+        ensures refused { IfErr result (IsRefusal self.new.cursor.text) }
+    {
+        let start = left.start;
+        let inner = high.saturating_sub(1);
+        let left = self.left_operand(left, next.operator)?;
+        self.advance(next.token);
+        let mut nodes = MeasuredParts::one(self.alloc, left.node)?;
+        if let InfixOperator::Question = next.operator {
+            let part = self.expression(ExpressionContext::ASSIGNMENT, inner)?;
+            nodes.push(self.into_expression(part)?)?;
+            self.expect_punctuator(":")?;
+        }
+        let right = self.expression(ExpressionContext::at(left.right, has_in), inner)?;
+        let edge = right.edge;
+        nodes.push(self.into_expression(right)?)?;
+        let span = self.span_from(start);
+        let node = finish_node(
+            left.kind,
+            operator_text(left.kind, next.token.text),
+            Flags::PLAIN,
+            span,
+            nodes,
+            high,
+        )?;
+        let cover = Cover {
+            node,
+            shape: left.shape,
+        };
+        Ok(Operand {
+            cover,
+            start,
+            rank: left.own,
+            edge,
+        })
+    }
+
+    // What stands left of an operator, and what the operator makes of it.
+    fn left_operand(
+        &self,
+        left: Operand<'s>,
+        operator: InfixOperator,
+    ) -> Result<LeftOperand<'s>, Fault>
+        ensures taken { BecomesHere (left_of operator left.entry) (takes_left operator left.entry) self.now.cursor result }
+        ensures refused { IfErr result (IsRefusal self.now.cursor.text) }
+    {
+        let at = self.cursor.next_start();
+        if !accepts_rank(left_rank(operator), left.rank) {
+            return Err(self.syntax_error());
+        }
+        let shape = left.cover.shape;
+        match operator {
+            InfixOperator::Binary(sign) => Ok(LeftOperand {
+                node: left.into_expression(at)?,
+                kind: sign.kind,
+                own: sign.own,
+                right: sign.right,
+                shape: CoverShape::VALUE,
+            }),
+            InfixOperator::Question => Ok(LeftOperand {
+                node: left.into_expression(at)?,
+                kind: Kind::ConditionalExpression,
+                own: Rank::Conditional,
+                right: Rank::Assignment,
+                shape: CoverShape::VALUE,
+            }),
+            InfixOperator::Assign { is_plain: true } => Ok(LeftOperand {
+                node: left.cover.to_pattern(at)?,
+                kind: Kind::AssignmentExpression,
+                own: Rank::Assignment,
+                right: Rank::Assignment,
+                shape: shape.defaulted(),
+            }),
+            InfixOperator::Assign { is_plain: false } => Ok(LeftOperand {
+                node: left.cover.to_target(at)?,
+                kind: Kind::AssignmentExpression,
+                own: Rank::Assignment,
+                right: Rank::Assignment,
+                shape: CoverShape::VALUE,
+            }),
+            _ => Err(self.syntax_error()),
+        }
+    }
+
+    // The operand of `++` or `--` behind it.
+    fn update_target(&self, operand: Operand<'s>) -> Result<MeasuredNode<'s>, Fault>
+        ensures target { BecomesHere (pattern_tree operand.entry.cover.node) (is_target operand.entry.cover.shape.assigned) self.now.cursor result }
+        ensures refused { IfErr result (IsRefusal self.now.cursor.text) }
+    {
+        operand.target(self.cursor.next_start())
+    }
+
+    /// What stands behind a prefix operator that was passed, with it (12.4, 12.5).
+    pub(crate) fn prefix_operand(
+        &self,
+        operand: Operand<'s>,
+        text: &'s str,
+        start: usize,
+        high: u32,
+    ) -> Result<Operand<'s>, Fault>
+        ensures made { let steps = is_prefix_update text.now in
+            let end = self.now.cursor.last.stop in
+            YieldsWhere (prefixed_part steps text.now start end operand.entry) (IsPlaceHere self.now.cursor) (takes_operand steps operand.entry.cover.shape) (height (prefixed_node steps text.now start end operand.entry.cover.node)) high result }
+        ensures refused { IfErr result (IsRefusal self.now.cursor.text) }
+    {
+        let at = self.cursor.next_start();
+        let span = self.span_from(start);
+        let edge = operand.edge;
+        if matches!(text, "++" | "--") {
+            let nodes = MeasuredParts::only(self.alloc, operand.target(at)?)?;
+            let node = finish_node(Kind::UpdateExpression, text, PREFIX, span, nodes, high)?;
+            return Ok(Operand::plain(node, Rank::Update, Edge::Other));
+        }
+        let nodes = MeasuredParts::only(self.alloc, operand.into_expression(at)?)?;
+        let node = finish_node(Kind::UnaryExpression, text, Flags::PLAIN, span, nodes, high)?;
+        Ok(Operand::plain(node, Rank::Unary, edge))
+    }
+
+    // A sequence of what was read, before its first comma (12.16).
+    #[tactic(auto, using(parser_tables::proofs::Refusals::refusals, crate::proofs::reading::AdvancedTokens::moves, crate::proofs::sound_lists::ListRefusals::unless_taken))]
+    fn sequence(&self, first: Operand<'s>, has_in: bool) -> Result<ListBuilder<'s>, Fault>
+        ensures listed { IfOk result (λ list. list.listed ≡ ListKind.Sequence has_in) }
+        ensures begun { IfOk result (λ list. (list ≡ with_item (list_from (ListKind.Sequence has_in) first.entry.start) (item_from first.entry.cover.node first.entry.cover.shape false first.entry.edge)) × ((takes Rank.Assignment first.entry.rank && first.entry.cover.shape.is_expression) ≡ true)) }
+        ensures failed { IfErr result (RefusedUnless (IsPlaceHere self.now.cursor) (takes Rank.Assignment first.entry.rank && first.entry.cover.shape.is_expression)) }
+        ensures refused { IfErr result (IsRefusal self.now.cursor.text) }
+    {
+        let at = self.cursor.next_start();
+        if !accepts_rank(Rank::Assignment, first.rank) {
+            return Err(self.syntax_error());
+        }
+        let start = first.start;
+        let mut list = ListBuilder::new(self.alloc, ListKind::Sequence { has_in }, start);
+        let item = ListItem {
+            node: first.cover.node,
+            shape: first.cover.shape,
+            spreads: false,
+            is_flagged: false,
+            edge: first.edge,
+        };
+        list.push(item, at)?;
+        Ok(list)
+    }
+}
+
+// The symbol of its left side.
+fn left_rank(operator: InfixOperator) -> Rank
+    ensures { result ≡ left_rank operator }
+{
+    match operator {
+        InfixOperator::Binary(sign) => sign.left,
+        InfixOperator::Question => Rank::ShortCircuit,
+        _ => Rank::LeftHandSide,
+    }
+}
+
+// The text of a node of an operator: a conditional has none.
+fn operator_text(kind: Kind, text: &str) -> &str
+    ensures { result.now ≡ operator_text_of kind text.now }
+{
+    match kind {
+        Kind::ConditionalExpression => "",
+        _ => text,
+    }
+}

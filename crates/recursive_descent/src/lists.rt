@@ -1,0 +1,423 @@
+//! Lists (ECMA-262 12.2 to 12.16, 13.3, 13.12, 14.1, 14.6): one loop for all of them, and what each of them lists.
+#![tactic(auto, using(parser_tables::proofs::Refusals::refusals, crate::proofs::reading::AdvancedTokens::moves))]
+
+ghost use Rattle.recursive_descent.specs.Complete.{ListComplete, DeclaratorComplete, ItemComplete};
+ghost use Rattle.std.specs.Prelude.{◌⊎◌, codes, ◌≡◌, ◌≤◌, ◌&&◌, IfOk, IfErr, true, false, ◌++◌, List as ListOf};
+ghost use Rattle.std.specs.Bool.{OnTrue, OnFalse};
+ghost use Rattle.token_cursor.specs.CursorState.{IsAhead};
+ghost use Rattle.parser_tables.specs.Moves.{Passes, IsOpened, IsUnseparated};
+ghost use Rattle.parser_tables.specs.Items.{after_item, element_item, element_levels};
+ghost use Rattle.parser_tables.specs.Outcomes.{BecomesHere, BeginsBy, IsSyntaxHere, Yields};
+ghost use Rattle.tokens.specs.declared.token.Goal.TheVariants.{Div, TemplateTail};
+ghost use Rattle.tokens.specs.Scanned.{token_of};
+ghost use Rattle.language.specs.Token.{as_read, Token as Read};
+ghost use Rattle.tree.specs.Tree.{part_count, height, parts_height};
+ghost use Rattle.covers.specs.Lists.{is_ended};
+ghost use Rattle.parser_tables.specs.Tests.{is_later_part, is_template};
+ghost use Rattle.parser_tables.specs.Seen.{ReadsHere, Sees, Misses, MissesBy, SeesBy, TokenHere};
+ghost use Rattle.parser_tables.specs.StatementStarts.{case_word};
+ghost use Rattle.recursive_descent.specs.Follows.{Semicolons, PassedBefore, MissesEnd, SeesEnd, end_before, NoChunk, ChunkAt, FirstChunkAt, TemplateAt, BegunAt, NotBegun, CommaAt, NoTemplate, FirstMisses, Unopened};
+ghost use Rattle.recursive_descent.specs.Arms.{is_apart};
+ghost use Rattle.recursive_descent.specs.Soundness.{Adds};
+ghost use Rattle.recursive_descent.specs.SoundnessOfLists.{SoFarAt, ListAt, ItemAt, ItemReads, SeenRight};
+ghost use Rattle.language.specs.declared.Start.{Start};
+ghost use Rattle.tree.specs.declared.kind.Pair.{Pair};
+ghost use Rattle.parser_tables.specs.Refusals.{IsLimit, IsRefusal};
+ghost use Rattle.covers.specs.Patterns.{pattern_tree};
+ghost use Rattle.covers.specs.Shapes.{is_pattern};
+
+use crate::parser::Parser;
+use crate::template_elements::{is_later_part, template_element};
+use covers::{ListBuilder, ListItem, ListKind};
+use language::{Edge, Rank};
+use parser_tables::{ExpressionContext, Operand, PartialStatement, StatementContext, case_symbols};
+use productions::{MeasuredNode, MeasuredParts, finish_plain};
+use source_text::Fault;
+use tokens::{Goal, Token, TokenClass};
+use tree::Kind;
+
+impl<'t, 's> Parser<'t, 's> {
+    /// Goes past what stands before the first item, which is no higher than `high`.
+    pub(crate) fn open(&mut self, listed: ListKind, high: u32) -> Result<ListBuilder<'s>, Fault>
+        ensures text { self.new.cursor.text ≡ self.old.cursor.text }
+        ensures forward { self.old.cursor.last.stop ≤ self.new.cursor.last.stop }
+        ensures passes { IfOk result (λ _. IsOpened listed → Passes self.old.cursor self.new.cursor) }
+        ensures same_open { self.new.cursor.opened ≡ self.old.cursor.opened }
+        ensures same_pairs { self.new.pairs.items ≡ self.old.pairs.items }
+        ensures listed { IfOk result (λ list. list.listed ≡ listed) }
+        ensures begun { IfOk result (BegunAt self.old.cursor self.new.cursor) }
+        ensures template { IfOk result (TemplateAt self.old.cursor self.new.cursor) }
+        ensures not_begun { IfErr result (NotBegun listed self.old.cursor high) }
+        ensures untemplated { IfErr result (NoTemplate listed self.old.cursor) }
+        ensures unopened { IfErr result (Unopened listed) }
+        ensures refused { IfErr result (IsRefusal self.new.cursor.text) }
+    {
+        let start = self.cursor.next_start();
+        let mut list = ListBuilder::new(self.alloc, listed, start);
+        match listed.opener() {
+            Some(mark) => {
+                self.expect_punctuator(mark)?;
+            }
+            None if matches!(listed, ListKind::Template) => {
+                list.push(self.first_template_element(high)?, start)?;
+            }
+            None => {}
+        }
+        Ok(list)
+    }
+
+    // Goes past any number of `;`.
+    fn pass_semicolons(&mut self)
+        ensures text { self.new.cursor.text ≡ self.old.cursor.text }
+        ensures forward { self.old.cursor.last.stop ≤ self.new.cursor.last.stop }
+        ensures same_open { self.new.cursor.opened ≡ self.old.cursor.opened }
+        ensures same_pairs { self.new.pairs.items ≡ self.old.pairs.items }
+        ensures passed { Semicolons self.old.cursor.text self.old.cursor.last self.new.cursor.last }
+        ensures missed { Misses self.new.cursor.text TokenClass.Punctuator (codes ";") self.new.cursor.last }
+    {
+        'empty: while self.accept_punctuator(";") {}
+    }
+
+    // Whether an item follows; in a class each `;` before it is passed.
+    fn has_item(&mut self, list: &ListBuilder<'s>) -> bool
+        ensures text { self.new.cursor.text ≡ self.old.cursor.text }
+        ensures forward { self.old.cursor.last.stop ≤ self.new.cursor.last.stop }
+        ensures same_open { self.new.cursor.opened ≡ self.old.cursor.opened }
+        ensures same_pairs { self.new.pairs.items ≡ self.old.pairs.items }
+        ensures passed { PassedBefore list.now.listed self.old.cursor self.new.cursor }
+        ensures item { OnTrue result ((is_ended list.now.listed list.now.seen (part_count list.now.nodes) ≡ false) × MissesEnd (end_before list.now.listed) self.new.cursor) }
+        ensures first { FirstMisses self.new.cursor.text list.now.listed self.new.cursor.last }
+        ensures no_item { OnFalse result ((is_ended list.now.listed list.now.seen (part_count list.now.nodes) ≡ true) ⊎ SeesEnd (end_before list.now.listed) self.new.cursor) }
+    {
+        if list.is_ended() {
+            return false;
+        }
+        match list.listed {
+            ListKind::Members => {
+                self.pass_semicolons();
+                !self.sees_punctuator("}")
+            }
+            ListKind::OneParameter => true,
+            listed => match listed.closer() {
+                Some(mark) => !self.sees_punctuator(mark),
+                None => true,
+            },
+        }
+    }
+
+    // Whether another item may follow the last; a comma is passed.
+    fn is_separated(&mut self, list: &mut ListBuilder<'s>) -> bool
+        ensures text { self.new.cursor.text ≡ self.old.cursor.text }
+        ensures forward { self.old.cursor.last.stop ≤ self.new.cursor.last.stop }
+        ensures passes { OnTrue result ((IsUnseparated list.old.listed → ⊥) → Passes self.old.cursor self.new.cursor) }
+        ensures listed { list.new.listed ≡ list.old.listed }
+        ensures separated { list.new ≡ after_item list.old result }
+        ensures same_open { self.new.cursor.opened ≡ self.old.cursor.opened }
+        ensures same_pairs { self.new.pairs.items ≡ self.old.pairs.items }
+        ensures comma { CommaAt self.old.cursor self.new.cursor list.old result }
+    {
+        if list.is_ended() {
+            return false;
+        }
+        match list.listed {
+            ListKind::Members | ListKind::Cases { .. } | ListKind::Template => true,
+            _ => {
+                let has_comma = self.accept_punctuator(",");
+                list.separate(has_comma);
+                has_comma
+            }
+        }
+    }
+
+    /// The items of a list, the first of which stands ahead, and what stands behind the last.
+    #[cycle(grammar)]
+    #[inline(never)]
+    pub(crate) fn list(
+        &mut self,
+        list: ListBuilder<'s>,
+        high: u32,
+    ) -> Result<ListBuilder<'s>, Fault>
+        ensures text { self.new.cursor.text ≡ self.old.cursor.text }
+        ensures forward { self.old.cursor.last.stop ≤ self.new.cursor.last.stop }
+        ensures derived { IfOk result (λ whole. Adds self.old.cursor self.new.cursor self.old.pairs.items self.new.pairs.items (λ o m e Q. (f : Start) (s : Read) (P : ListOf Pair) → SoFarAt self.old.cursor.text f list.entry o s m P → ListAt self.old.cursor.text f whole o s e (P ++ Q))) }
+        ensures seen { IfOk result (λ whole. SeenRight list.entry → SeenRight whole) }
+        ensures inside { IfOk result (λ whole. list.entry.listed ≡ ListKind.ParenthesizedItems → BeginsBy self.old.cursor whole.inside.start) }
+        ensures same { IfOk result (λ whole. (whole.listed ≡ list.entry.listed) × (whole.span.start ≡ list.entry.span.start)) }
+        ensures low { IfOk result (λ whole. parts_height list.entry.nodes ≤ high → parts_height whole.nodes ≤ high) }
+        ensures complete { ListComplete self.old.cursor self.new.cursor self.old.pairs.items self.new.pairs.items high list.entry result }
+        ensures refused { IfErr result (IsRefusal self.new.cursor.text) }
+    {
+        let mut list = list;
+        if !matches!(list.listed, ListKind::Sequence { .. }) {
+            list.inside = self.span_from(self.operand_start());
+        }
+        'items: while self.has_item(&list) {
+            self.item(&mut list, high)?;
+            list.inside = self.span_from(list.inside.start);
+            if !self.is_separated(&mut list) {
+                break;
+            }
+        }
+        if let Some(mark) = list.listed.closer() {
+            self.expect_punctuator(mark)?;
+        }
+        list.span = self.span_from(list.span.start);
+        Ok(list)
+    }
+
+    // One item of a list; what is no expression has functions of its own, so that this one, of each level, takes little of the stack.
+    #[cycle(grammar)]
+    #[inline(never)]
+    fn item(&mut self, list: &mut ListBuilder<'s>, high: u32) -> Result<(), Fault>
+        ensures text { self.new.cursor.text ≡ self.old.cursor.text }
+        ensures forward { self.old.cursor.last.stop ≤ self.new.cursor.last.stop }
+        ensures passes { IfOk result (λ _. IsUnseparated list.old.listed → Passes self.old.cursor self.new.cursor) }
+        ensures listed { list.new.listed ≡ list.old.listed }
+        ensures derived { IfOk result (λ _. Adds self.old.cursor self.new.cursor self.old.pairs.items self.new.pairs.items (ItemAt self.old.cursor.text list.old list.new)) }
+        ensures low { IfOk result (λ _. parts_height list.old.nodes ≤ high → parts_height list.new.nodes ≤ high) }
+        ensures complete { ItemComplete self.old.cursor self.new.cursor self.old.pairs.items self.new.pairs.items high list.old list.new result }
+        ensures refused { IfErr result (IsRefusal self.new.cursor.text) }
+    {
+        let start = self.cursor.next_start();
+        match list.listed {
+            ListKind::Elements if self.sees_punctuator(",") => list.push_hole(),
+            ListKind::Properties
+            | ListKind::Members
+            | ListKind::Template
+            | ListKind::Declarators { .. }
+            | ListKind::Cases { .. }
+            | ListKind::Sequence { .. } => self.special_item(list, high),
+            _ => {
+                if self.sees_punctuator("...") {
+                    return self.spread_item(list, high);
+                }
+                let part = self.expression(ExpressionContext::ASSIGNMENT, high)?;
+                let item = self.element(part, false, start, high)?;
+                list.push(item, self.cursor.next_start())
+            }
+        }
+    }
+
+    // An item of a list that isn't of elements alone.
+    #[cycle(grammar)]
+    #[inline(never)]
+    fn special_item(&mut self, list: &mut ListBuilder<'s>, high: u32) -> Result<(), Fault>
+        requires apart { is_apart list.old.listed ≡ true }
+        ensures text { self.new.cursor.text ≡ self.old.cursor.text }
+        ensures forward { self.old.cursor.last.stop ≤ self.new.cursor.last.stop }
+        ensures passes { IfOk result (λ _. IsUnseparated list.old.listed → Passes self.old.cursor self.new.cursor) }
+        ensures listed { list.new.listed ≡ list.old.listed }
+        ensures derived { IfOk result (λ _. Adds self.old.cursor self.new.cursor self.old.pairs.items self.new.pairs.items (ItemAt self.old.cursor.text list.old list.new)) }
+        ensures low { IfOk result (λ _. parts_height list.old.nodes ≤ high → parts_height list.new.nodes ≤ high) }
+        ensures complete { ItemComplete self.old.cursor self.new.cursor self.old.pairs.items self.new.pairs.items high list.old list.new result }
+        ensures refused { IfErr result (IsRefusal self.new.cursor.text) }
+    {
+        let start = self.cursor.next_start();
+        let inner = high.saturating_sub(1);
+        match list.listed {
+            ListKind::Properties => {
+                let item = self.property_or_member(false, high)?;
+                list.push(item, self.cursor.next_start())
+            }
+            ListKind::Members => {
+                let item = self.property_or_member(true, high)?;
+                list.push(item, self.cursor.next_start())
+            }
+            ListKind::Template => {
+                let part = self.expression(ExpressionContext::EXPRESSION, high)?;
+                list.push(ListItem::plain(self.into_expression(part)?), start)?;
+                list.push(self.next_template_element(high)?, start)
+            }
+            ListKind::Declarators { has_in } => {
+                let item = self.declarator(has_in, high)?;
+                list.push(item, self.cursor.next_start())
+            }
+            ListKind::Cases { returns } => {
+                let is_default = self.is_default()?;
+                let mut built = PartialStatement::new(self.alloc);
+                if is_default {
+                    built.nodes.push_gap()?;
+                }
+                let context = StatementContext::item(returns);
+                self.read_symbols(case_symbols(is_default), &mut built, context, inner)?;
+                let span = self.span_from(start);
+                let mut item = ListItem::plain(finish_plain(
+                    Kind::SwitchCase,
+                    span,
+                    built.nodes,
+                    high,
+                )?);
+                item.is_flagged = is_default;
+                list.push(item, start)
+            }
+            ListKind::Sequence { has_in } => {
+                let part = self.expression(ExpressionContext::at(Rank::Assignment, has_in), high)?;
+                let item = self.element(part, false, start, high)?;
+                list.push(item, self.cursor.next_start())
+            }
+            _ => Err(self.syntax_error()),
+        }
+    }
+
+    // An item behind `...`, which stands ahead.
+    #[cycle(grammar)]
+    #[inline(never)]
+    fn spread_item(&mut self, list: &mut ListBuilder<'s>, high: u32) -> Result<(), Fault>
+        requires element { is_apart list.old.listed ≡ false }
+        requires spreads { Sees self.old.cursor.text TokenClass.Punctuator (codes "...") self.old.cursor.last }
+        ensures text { self.new.cursor.text ≡ self.old.cursor.text }
+        ensures forward { self.old.cursor.last.stop ≤ self.new.cursor.last.stop }
+        ensures passes { IfOk result (λ _. IsUnseparated list.old.listed → Passes self.old.cursor self.new.cursor) }
+        ensures listed { list.new.listed ≡ list.old.listed }
+        ensures derived { IfOk result (λ _. Adds self.old.cursor self.new.cursor self.old.pairs.items self.new.pairs.items (ItemAt self.old.cursor.text list.old list.new)) }
+        ensures low { IfOk result (λ _. parts_height list.old.nodes ≤ high → parts_height list.new.nodes ≤ high) }
+        ensures complete { ItemComplete self.old.cursor self.new.cursor self.old.pairs.items self.new.pairs.items high list.old list.new result }
+        ensures refused { IfErr result (IsRefusal self.new.cursor.text) }
+    {
+        let start = self.cursor.next_start();
+        self.expect_punctuator("...")?;
+        let part = self.expression(ExpressionContext::ASSIGNMENT, high.saturating_sub(1))?;
+        let item = self.element(part, true, start, high)?;
+        list.push(item, self.cursor.next_start())
+    }
+
+    // What stands between commas; `...` stands before it where it spreads.
+    pub(crate) fn element(
+        &self,
+        part: Operand<'s>,
+        spreads: bool,
+        start: usize,
+        high: u32,
+    ) -> Result<ListItem<'s>, Fault>
+        ensures made { Yields (element_item spreads start self.now.cursor.last.stop part.entry) (element_levels spreads part.entry.cover.node) high result }
+        ensures refused { IfErr result IsLimit }
+    {
+        let shape = part.cover.shape;
+        let edge = part.edge;
+        let mut node = part.cover.node;
+        if spreads {
+            let nodes = MeasuredParts::only(self.alloc, node)?;
+            node = finish_plain(Kind::SpreadElement, self.span_from(start), nodes, high)?;
+        }
+        Ok(ListItem {
+            node,
+            shape,
+            spreads,
+            is_flagged: false,
+            edge,
+        })
+    }
+
+    // A declarator: what is bound, and its value where it has one (13.3).
+    #[cycle(grammar)]
+    #[inline(never)]
+    fn declarator(&mut self, has_in: bool, high: u32) -> Result<ListItem<'s>, Fault>
+        ensures text { self.new.cursor.text ≡ self.old.cursor.text }
+        ensures forward { self.old.cursor.last.stop ≤ self.new.cursor.last.stop }
+        ensures passes { IfOk result (λ _. Passes self.old.cursor self.new.cursor) }
+        ensures derived { IfOk result (λ item. Adds self.old.cursor self.new.cursor self.old.pairs.items self.new.pairs.items (ItemReads self.old.cursor.text (ListKind.Declarators has_in) item)) }
+        ensures low { IfOk result (λ item. height item.node ≤ high) }
+        ensures complete { DeclaratorComplete self.old.cursor self.new.cursor self.old.pairs.items self.new.pairs.items high has_in result }
+        ensures refused { IfErr result (IsRefusal self.new.cursor.text) }
+    {
+        let start = self.cursor.next_start();
+        let inner = high.saturating_sub(1);
+        let part = self.leftmost_operand(ExpressionContext::at(Rank::Primary, true), inner)?;
+        let is_name = part.is_ungrouped(Kind::Identifier);
+        let mut nodes = MeasuredParts::one(self.alloc, self.bound(part)?)?;
+        let has_value = self.accept_punctuator("=");
+        let mut edge = Edge::Closed;
+        if has_value {
+            let value = self.expression(ExpressionContext::at(Rank::Assignment, has_in), inner)?;
+            edge = value.edge;
+            nodes.push(self.into_expression(value)?)?;
+        } else {
+            nodes.push_gap()?;
+        }
+        let node = finish_plain(Kind::VariableDeclarator, self.span_from(start), nodes, high)?;
+        let mut item = ListItem::plain(node);
+        item.is_flagged = !is_name && !has_value;
+        item.edge = edge;
+        Ok(item)
+    }
+
+    /// What was read, as what is bound.
+    pub(crate) fn bound(&self, part: Operand<'s>) -> Result<MeasuredNode<'s>, Fault>
+        ensures bound { BecomesHere (pattern_tree part.entry.cover.node) (part.entry.cover.shape.binds && is_pattern part.entry.cover.shape.assigned) self.now.cursor result }
+        ensures refused { IfErr result (IsRefusal self.now.cursor.text) }
+    {
+        part.cover.to_binding(self.cursor.next_start())
+    }
+
+    // Goes past `default`, or past `case`.
+    fn is_default(&mut self) -> Result<bool, Fault>
+        ensures text { self.new.cursor.text ≡ self.old.cursor.text }
+        ensures forward { self.old.cursor.last.stop ≤ self.new.cursor.last.stop }
+        ensures passes { IfOk result (λ _. Passes self.old.cursor self.new.cursor) }
+        ensures refused { IfErr result (IsRefusal self.new.cursor.text) }
+        ensures same_open { self.new.cursor.opened ≡ self.old.cursor.opened }
+        ensures same_pairs { self.new.pairs.items ≡ self.old.pairs.items }
+        ensures accepted { IfOk result (λ default. ReadsHere self.old.cursor.text TokenClass.IdentifierName (case_word default) self.old.cursor.last self.new.cursor.last) }
+        ensures missed { IfErr result (λ _. Misses self.old.cursor.text TokenClass.IdentifierName (case_word true) self.old.cursor.last × Misses self.old.cursor.text TokenClass.IdentifierName (case_word false) self.old.cursor.last × (self.new.cursor.last ≡ self.old.cursor.last)) }
+    {
+        if self.accept_word("default") {
+            return Ok(true);
+        }
+        self.expect_word("case")?;
+        Ok(false)
+    }
+
+    // The first part of a template.
+    fn first_template_element(&mut self, high: u32) -> Result<ListItem<'s>, Fault>
+        ensures text { self.new.cursor.text ≡ self.old.cursor.text }
+        ensures forward { self.old.cursor.last.stop ≤ self.new.cursor.last.stop }
+        ensures passes { IfOk result (λ _. Passes self.old.cursor self.new.cursor) }
+        ensures same_open { self.new.cursor.opened ≡ self.old.cursor.opened }
+        ensures same_pairs { self.new.pairs.items ≡ self.old.pairs.items }
+        ensures plain { IfOk result (λ item. (item.shape.is_expression ≡ true) × (item.spreads ≡ false)) }
+        ensures read { IfOk result (λ item. SeesBy self.old.cursor.text Div is_template self.old.cursor.last → FirstChunkAt self.old.cursor.text self.old.cursor.last self.new.cursor.last item.node item.is_flagged) }
+        ensures not_begun { IfErr result (NotBegun ListKind.Template self.old.cursor high) }
+        ensures untemplated { IfErr result (NoTemplate ListKind.Template self.old.cursor) }
+        ensures refused { IfErr result (IsRefusal self.new.cursor.text) }
+    {
+        let token = self.cursor.take(Goal::Div)?;
+        template_element(self.alloc, token, high)
+    }
+
+    // The token of the next part of a template.
+    fn template_element_token(&mut self) -> Result<Token<'s>, Fault>
+        ensures text { self.new.cursor.text ≡ self.old.cursor.text }
+        ensures forward { self.old.cursor.last.stop ≤ self.new.cursor.last.stop }
+        ensures same_open { self.new.cursor.opened ≡ self.old.cursor.opened }
+        ensures same_pairs { self.new.pairs.items ≡ self.old.pairs.items }
+        ensures ahead { IfOk result (λ token. IsAhead Goal.TemplateTail self.old.cursor.text self.old.cursor.last.stop (token_of token)) }
+        ensures accepted { IfOk result (λ token. TokenHere self.old.cursor.text TemplateTail is_later_part self.old.cursor.last self.new.cursor.last × (self.new.cursor.last ≡ as_read (token_of token))) }
+        ensures missed { IfErr result (λ _. MissesBy self.old.cursor.text TemplateTail is_later_part self.old.cursor.last × (self.new.cursor.last ≡ self.old.cursor.last)) }
+        ensures here { IfErr result (IsSyntaxHere self.new.cursor) }
+        ensures refused { IfErr result (IsRefusal self.new.cursor.text) }
+    {
+        let Some(token) = self.cursor.peek(Goal::TemplateTail) else {
+            return Err(self.syntax_error());
+        };
+        if !is_later_part(&token) {
+            return Err(self.syntax_error());
+        }
+        self.advance(token);
+        Ok(token)
+    }
+
+    // The next part of a template.
+    fn next_template_element(&mut self, high: u32) -> Result<ListItem<'s>, Fault>
+        ensures text { self.new.cursor.text ≡ self.old.cursor.text }
+        ensures forward { self.old.cursor.last.stop ≤ self.new.cursor.last.stop }
+        ensures same_open { self.new.cursor.opened ≡ self.old.cursor.opened }
+        ensures same_pairs { self.new.pairs.items ≡ self.old.pairs.items }
+        ensures plain { IfOk result (λ item. (item.shape.is_expression ≡ true) × (item.spreads ≡ false)) }
+        ensures read { IfOk result (λ item. ChunkAt self.old.cursor.text self.old.cursor.last self.new.cursor.last item.node item.is_flagged) }
+        ensures no_chunk { IfErr result (NoChunk self.old.cursor high) }
+        ensures refused { IfErr result (IsRefusal self.new.cursor.text) }
+    {
+        let token = self.template_element_token()?;
+        template_element(self.alloc, token, high)
+    }
+}

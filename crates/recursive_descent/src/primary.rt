@@ -1,0 +1,457 @@
+//! What the first token of an expression begins (ECMA-262 12.2 to 12.5, 14.1, 14.2, 14.6).
+#![tactic(auto, using(parser_tables::proofs::Refusals::refusals, crate::proofs::reading::AdvancedTokens::moves))]
+
+ghost use Rattle.recursive_descent.specs.Complete.{OperandComplete, KeywordExpressionComplete, ParenthesizedComplete};
+ghost use Rattle.std.specs.Prelude.{◌≡◌, ◌≢◌, ◌≤◌, ◌<◌, ◌+◌, ◌-◌, [], ◌∷◌, ◌++◌, vec_len, set, IfOk, IfErr, IfSome, IfNone, true, codes};
+ghost use Rattle.token_cursor.specs.CursorState.{IsAhead};
+ghost use Rattle.source_text.specs.Source.{IsPlace};
+ghost use Rattle.language.specs.Token.{as_read};
+ghost use Rattle.language.specs.Vocabulary.{is_identifier};
+ghost use Rattle.language.specs.ExpressionStart.{expression_start};
+ghost use Rattle.language.specs.Claims.{max_open};
+ghost use Rattle.parser_tables.specs.ExpressionStarts.{coded_start, opens_at, OpensNothing};
+ghost use Rattle.std.specs.Bool.{OnTrue, OnFalse};
+ghost use Rattle.tokens.specs.Scanned.{token_of};
+ghost use Rattle.tokens.specs.declared.token.Goal.TheVariants.{Div};
+ghost use Rattle.tree.specs.Tree.{height};
+ghost use Rattle.productions.specs.Made.{Makes};
+ghost use Rattle.parser_tables.specs.Seen.{SeesBy, MissesBy};
+ghost use Rattle.parser_tables.specs.Tests.{continues_super};
+ghost use Rattle.parser_tables.specs.Moves.{Passes, BeginsList};
+ghost use Rattle.recursive_descent.specs.Follows.{target_node, NotTarget};
+ghost use Rattle.recursive_descent.specs.Arms.{is_short};
+ghost use Rattle.parser_tables.specs.Seen.{ReadsHere};
+ghost use Rattle.parser_tables.specs.Outcomes.{BeginsBy, IsPlaceHere, RefusedUnder};
+ghost use Rattle.parser_tables.specs.Operands.{plain_part};
+ghost use Rattle.recursive_descent.specs.Soundness.{Adds, ReadAt, WordedAt};
+ghost use Rattle.parser_tables.specs.Refusals.{IsLimit, IsRefusal};
+ghost use Rattle.parser_tables.specs.Tokens.{single_node, single_text};
+
+use crate::parser::Parser;
+use covers::{ListBuilder, ListKind};
+use grammar::accepts_rank;
+use language::{Edge, Rank};
+use parser_tables::{
+    ExpressionContext, ExpressionStart, FunctionOrClass, Operand, continues_super,
+    expression_start_of, finish_group, finish_list, grouping_pair, may_start, span_of,
+    token_node_text, unclosed_pair,
+};
+use productions::{MeasuredNode, MeasuredParts, finish_plain};
+use source_text::Fault;
+use tokens::{Goal, Token, TokenClass};
+use tree::{Kind, NodeText};
+
+impl<'t, 's> Parser<'t, 's> {
+    // The token with which an expression begins at the position, and what it begins.
+    fn peek_start(&self, position: ExpressionContext) -> Option<(Token<'s>, ExpressionStart)>
+        ensures ahead { IfSome result (λ found. IsAhead Goal.RegExp self.now.cursor.text self.now.cursor.last.stop (token_of found.0)) }
+        ensures real { IfSome result (λ found. found.0.class ≢ TokenClass.End) }
+        ensures list { IfSome result (λ found. BeginsList found.1) }
+        ensures coded { IfSome result (λ found. coded_start (expression_start (as_read (token_of found.0))) ≡ Some found.1) }
+        ensures stands { IfSome result (λ found. opens_at position (as_read (token_of found.0)) ≡ true) }
+        ensures none { IfNone result (OpensNothing self.now.cursor.text position self.now.cursor.last) }
+    {
+        let Some(token) = self.cursor.peek(Goal::RegExp) else {
+            return None;
+        };
+        let Some(opening) = expression_start_of(&token) else {
+            return None;
+        };
+        match may_start(position, opening) {
+            true => Some((token, opening)),
+            false => None,
+        }
+    }
+
+    /// What the first token begins at a position, up to where something may go on with it.
+    #[cycle(grammar)]
+    #[inline(never)]
+    pub(crate) fn leftmost_operand(
+        &mut self,
+        position: ExpressionContext,
+        high: u32,
+    ) -> Result<Operand<'s>, Fault>
+        ensures text { self.new.cursor.text ≡ self.old.cursor.text }
+        ensures forward { self.old.cursor.last.stop ≤ self.new.cursor.last.stop }
+        ensures passes { IfOk result (λ _. Passes self.old.cursor self.new.cursor) }
+        ensures derived { IfOk result (λ part. Adds self.old.cursor self.new.cursor self.old.pairs.items self.new.pairs.items (ReadAt self.old.cursor.text position part)) }
+        ensures low { IfOk result (λ part. height part.cover.node ≤ high) }
+        ensures complete { OperandComplete self.old.cursor self.new.cursor self.old.pairs.items self.new.pairs.items high position result }
+        ensures refused { IfErr result (IsRefusal self.new.cursor.text) }
+    {
+        let Some((token, opening)) = self.peek_start(position) else {
+            return Err(self.syntax_error());
+        };
+        if high == 0 {
+            return Err(Fault::TooDeep);
+        }
+        match opening {
+            ExpressionStart::List(what) => self.bracketed_list(token, what, position, high),
+            ExpressionStart::Parenthesis => self.parenthesized(position, high),
+            ExpressionStart::Prefix(_, _) | ExpressionStart::OneToken(_) => {
+                self.token_or_prefix(token, opening, position, high)
+            }
+            _ => {
+                self.advance(token);
+                self.keyword_expression(token, opening, position, high)
+            }
+        }
+    }
+
+    // An array, an object or a template, which stands ahead (12.2.5, 12.2.6, 12.2.9).
+    #[cycle(grammar)]
+    #[inline(never)]
+    fn bracketed_list(
+        &mut self,
+        token: Token<'s>,
+        what: ListKind,
+        position: ExpressionContext,
+        high: u32,
+    ) -> Result<Operand<'s>, Fault>
+        requires ahead { IsAhead Goal.RegExp self.old.cursor.text self.old.cursor.last.stop (token_of token) }
+        requires list { BeginsList (ExpressionStart.List what) }
+        requires coded { coded_start (expression_start (as_read (token_of token))) ≡ Some (ExpressionStart.List what) }
+        requires stands { opens_at position (as_read (token_of token)) ≡ true }
+        ensures text { self.new.cursor.text ≡ self.old.cursor.text }
+        ensures forward { self.old.cursor.last.stop ≤ self.new.cursor.last.stop }
+        ensures passes { IfOk result (λ _. Passes self.old.cursor self.new.cursor) }
+        ensures derived { IfOk result (λ part. Adds self.old.cursor self.new.cursor self.old.pairs.items self.new.pairs.items (ReadAt self.old.cursor.text position part)) }
+        ensures low { IfOk result (λ part. height part.cover.node ≤ high) }
+        ensures complete { OperandComplete self.old.cursor self.new.cursor self.old.pairs.items self.new.pairs.items high position result }
+        ensures refused { IfErr result (IsRefusal self.new.cursor.text) }
+    {
+        let list = self.open(what, high.saturating_sub(1))?;
+        let list = self.list(list, high.saturating_sub(1))?;
+        finish_list(list, high)
+    }
+
+    // A prefix with its operand, or a node that is one token, where it is no parameter of an arrow function.
+    #[cycle(grammar)]
+    #[inline(never)]
+    fn token_or_prefix(
+        &mut self,
+        token: Token<'s>,
+        opening: ExpressionStart,
+        position: ExpressionContext,
+        high: u32,
+    ) -> Result<Operand<'s>, Fault>
+        requires ahead { IsAhead Goal.RegExp self.old.cursor.text self.old.cursor.last.stop (token_of token) }
+        requires real { token.class ≢ TokenClass.End }
+        requires coded { coded_start (expression_start (as_read (token_of token))) ≡ Some opening }
+        requires stands { opens_at position (as_read (token_of token)) ≡ true }
+        requires short { is_short opening ≡ true }
+        ensures text { self.new.cursor.text ≡ self.old.cursor.text }
+        ensures forward { self.old.cursor.last.stop ≤ self.new.cursor.last.stop }
+        ensures passes { IfOk result (λ _. Passes self.old.cursor self.new.cursor) }
+        ensures derived { IfOk result (λ part. Adds self.old.cursor self.new.cursor self.old.pairs.items self.new.pairs.items (ReadAt self.old.cursor.text position part)) }
+        ensures low { IfOk result (λ part. height part.cover.node ≤ high) }
+        ensures complete { OperandComplete self.old.cursor self.new.cursor self.old.pairs.items self.new.pairs.items high position result }
+        ensures refused { IfErr result (IsRefusal self.new.cursor.text) }
+    {
+        match opening {
+            ExpressionStart::Prefix(own, side) => self.prefix_expression(
+                token, own, side, position, high,
+            ),
+            ExpressionStart::OneToken(kind) => {
+                self.advance(token);
+                let node = self.token_node(kind, token, high)?;
+                if is_name(kind)
+                    && self.sees_arrow()
+                    && accepts_rank(position.rank, Rank::Assignment)
+                {
+                    let parameter = MeasuredParts::one(self.alloc, node)?;
+                    return self.arrow_function(parameter, token.start, position.has_in, high);
+                }
+                Ok(Operand::plain(node, Rank::Primary, Edge::Other))
+            }
+            _ => Err(self.syntax_error()),
+        }
+    }
+
+    // A prefix, which stands ahead, with its operand (12.4, 12.5).
+    #[cycle(grammar)]
+    #[inline(never)]
+    fn prefix_expression(
+        &mut self,
+        token: Token<'s>,
+        own: Rank,
+        side: Rank,
+        position: ExpressionContext,
+        high: u32,
+    ) -> Result<Operand<'s>, Fault>
+        requires ahead { IsAhead Goal.RegExp self.old.cursor.text self.old.cursor.last.stop (token_of token) }
+        requires real { token.class ≢ TokenClass.End }
+        requires coded { coded_start (expression_start (as_read (token_of token))) ≡ Some (ExpressionStart.Prefix own side) }
+        requires stands { opens_at position (as_read (token_of token)) ≡ true }
+        ensures text { self.new.cursor.text ≡ self.old.cursor.text }
+        ensures forward { self.old.cursor.last.stop ≤ self.new.cursor.last.stop }
+        ensures passes { IfOk result (λ _. Passes self.old.cursor self.new.cursor) }
+        ensures derived { IfOk result (λ part. Adds self.old.cursor self.new.cursor self.old.pairs.items self.new.pairs.items (ReadAt self.old.cursor.text position part)) }
+        ensures low { IfOk result (λ part. height part.cover.node ≤ high) }
+        ensures complete { OperandComplete self.old.cursor self.new.cursor self.old.pairs.items self.new.pairs.items high position result }
+        ensures refused { IfErr result (IsRefusal self.new.cursor.text) }
+    {
+        self.advance(token);
+        let place = ExpressionContext::at(side, true);
+        let operand = self.expression(place, high.saturating_sub(1))?;
+        self.prefix_operand(operand, token.text, token.start, high)
+    }
+
+    /// A node that is one token; `this` has no text.
+    pub(crate) fn token_node(
+        &self,
+        kind: Kind,
+        token: Token<'s>,
+        high: u32,
+    ) -> Result<MeasuredNode<'s>, Fault>
+        ensures made { Makes (single_node kind (token_of token.entry)) high result }
+        ensures refused { IfErr result IsLimit }
+    {
+        MeasuredNode::leaf(
+            self.alloc,
+            kind,
+            NodeText::Borrowed(token_node_text(kind, token.text)),
+            span_of(&token),
+            high,
+        )
+    }
+
+    // Whether a member of `super` stands ahead, or where it may stand a call (12.3.5).
+    fn sees_super_continuation(&self, takes_call: bool) -> bool
+        ensures seen { OnTrue result (SeesBy self.now.cursor.text Div (continues_super takes_call) self.now.cursor.last) }
+        ensures missed { OnFalse result (MissesBy self.now.cursor.text Div (continues_super takes_call) self.now.cursor.last) }
+    {
+        match self.cursor.peek(Goal::Div) {
+            Some(token) => continues_super(&token, takes_call),
+            None => false,
+        }
+    }
+
+    // What follows `function`, `class`, `super`, `new` or `import` (12.3, 14.1, 14.6).
+    #[cycle(grammar)]
+    #[inline(never)]
+    fn keyword_expression(
+        &mut self,
+        token: Token<'s>,
+        opening: ExpressionStart,
+        position: ExpressionContext,
+        high: u32,
+    ) -> Result<Operand<'s>, Fault>
+        ensures text { self.new.cursor.text ≡ self.old.cursor.text }
+        ensures forward { self.old.cursor.last.stop ≤ self.new.cursor.last.stop }
+        ensures derived { IfOk result (λ part. Adds self.old.cursor self.new.cursor self.old.pairs.items self.new.pairs.items (WordedAt self.old.cursor.text position token.entry opening part)) }
+        ensures low { IfOk result (λ part. height part.cover.node ≤ high) }
+        ensures complete { KeywordExpressionComplete self.old.cursor self.new.cursor self.old.pairs.items self.new.pairs.items high token.entry opening position result }
+        ensures refused { IfErr result (IsRefusal self.new.cursor.text) }
+    {
+        let start = token.start;
+        match opening {
+            ExpressionStart::Function => {
+                let node = self.function_or_class(FunctionOrClass::Function, start, high)?;
+                Ok(Operand::plain(node, Rank::Primary, Edge::Other))
+            }
+            ExpressionStart::Class => {
+                let node = self.function_or_class(FunctionOrClass::Class, start, high)?;
+                Ok(Operand::plain(node, Rank::Primary, Edge::Other))
+            }
+            ExpressionStart::Super => self.super_expression(token, position, high),
+            ExpressionStart::New => self.new_expression(token, position, high),
+            ExpressionStart::Import => self.import_call(token, position, high),
+            _ => Err(self.syntax_error()),
+        }
+    }
+
+    // A member of `super`, or its call (12.3.5).
+    #[cycle(grammar)]
+    #[inline(never)]
+    fn super_expression(
+        &mut self,
+        token: Token<'s>,
+        position: ExpressionContext,
+        high: u32,
+    ) -> Result<Operand<'s>, Fault>
+        ensures text { self.new.cursor.text ≡ self.old.cursor.text }
+        ensures forward { self.old.cursor.last.stop ≤ self.new.cursor.last.stop }
+        ensures derived { IfOk result (λ part. Adds self.old.cursor self.new.cursor self.old.pairs.items self.new.pairs.items (WordedAt self.old.cursor.text position token.entry ExpressionStart.Super part)) }
+        ensures low { IfOk result (λ part. height part.cover.node ≤ high) }
+        ensures complete { KeywordExpressionComplete self.old.cursor self.new.cursor self.old.pairs.items self.new.pairs.items high token.entry ExpressionStart.Super position result }
+        ensures refused { IfErr result (IsRefusal self.new.cursor.text) }
+    {
+        if !self.sees_super_continuation(accepts_rank(position.rank, Rank::Call)) {
+            return Err(self.syntax_error());
+        }
+        let node = self.token_node(Kind::Super, token, high.saturating_sub(1))?;
+        self.subscript(Operand::plain(node, Rank::Primary, Edge::Other), high)
+    }
+
+    // What `new` makes, or `new.target` (12.3.3, 12.3.8).
+    #[cycle(grammar)]
+    #[inline(never)]
+    fn new_expression(
+        &mut self,
+        token: Token<'s>,
+        position: ExpressionContext,
+        high: u32,
+    ) -> Result<Operand<'s>, Fault>
+        ensures text { self.new.cursor.text ≡ self.old.cursor.text }
+        ensures forward { self.old.cursor.last.stop ≤ self.new.cursor.last.stop }
+        ensures derived { IfOk result (λ part. Adds self.old.cursor self.new.cursor self.old.pairs.items self.new.pairs.items (WordedAt self.old.cursor.text position token.entry ExpressionStart.New part)) }
+        ensures low { IfOk result (λ part. height part.cover.node ≤ high) }
+        ensures complete { KeywordExpressionComplete self.old.cursor self.new.cursor self.old.pairs.items self.new.pairs.items high token.entry ExpressionStart.New position result }
+        ensures refused { IfErr result (IsRefusal self.new.cursor.text) }
+    {
+        if self.accept_punctuator(".") {
+            return self.new_target(token, high);
+        }
+        let inner = high.saturating_sub(1);
+        let callee = self.expression(ExpressionContext::at(Rank::New, true), inner)?;
+        let mut nodes = MeasuredParts::one(self.alloc, self.into_expression(callee)?)?;
+        let mut rank = Rank::New;
+        if self.sees_punctuator("(") {
+            nodes.append(self.arguments(inner)?)?;
+            rank = Rank::Member;
+        }
+        let node = finish_plain(
+            Kind::NewExpression,
+            self.span_from(token.start),
+            nodes,
+            high,
+        )?;
+        Ok(Operand::plain(node, rank, Edge::Other))
+    }
+
+    // ImportCall (12.3.10).
+    #[cycle(grammar)]
+    #[inline(never)]
+    fn import_call(
+        &mut self,
+        token: Token<'s>,
+        position: ExpressionContext,
+        high: u32,
+    ) -> Result<Operand<'s>, Fault>
+        ensures text { self.new.cursor.text ≡ self.old.cursor.text }
+        ensures forward { self.old.cursor.last.stop ≤ self.new.cursor.last.stop }
+        ensures derived { IfOk result (λ part. Adds self.old.cursor self.new.cursor self.old.pairs.items self.new.pairs.items (WordedAt self.old.cursor.text position token.entry ExpressionStart.Import part)) }
+        ensures low { IfOk result (λ part. height part.cover.node ≤ high) }
+        ensures complete { KeywordExpressionComplete self.old.cursor self.new.cursor self.old.pairs.items self.new.pairs.items high token.entry ExpressionStart.Import position result }
+        ensures refused { IfErr result (IsRefusal self.new.cursor.text) }
+    {
+        let inner = high.saturating_sub(1);
+        self.expect_punctuator("(")?;
+        let source = self.expression(ExpressionContext::ASSIGNMENT, inner)?;
+        let nodes = MeasuredParts::only(self.alloc, self.into_expression(source)?)?;
+        self.expect_punctuator(")")?;
+        let node = finish_plain(
+            Kind::ImportExpression,
+            self.span_from(token.start),
+            nodes,
+            high,
+        )?;
+        Ok(Operand::plain(node, Rank::Call, Edge::Other))
+    }
+
+    // `new.target`, behind its `.` (12.3.8).
+    fn new_target(&mut self, new: Token<'s>, high: u32) -> Result<Operand<'s>, Fault>
+        ensures text { self.new.cursor.text ≡ self.old.cursor.text }
+        ensures forward { self.old.cursor.last.stop ≤ self.new.cursor.last.stop }
+        ensures same_open { self.new.cursor.opened ≡ self.old.cursor.opened }
+        ensures same_pairs { self.new.pairs.items ≡ self.old.pairs.items }
+        ensures target { IfOk result (λ part. ReadsHere self.old.cursor.text TokenClass.IdentifierName (codes "target") self.old.cursor.last self.new.cursor.last × (part ≡ plain_part (target_node (token_of new.entry) self.new.cursor.last) Rank.Member Edge.Other) × (2 ≤ high)) }
+        ensures no_target { IfErr result (NotTarget self.old.cursor high) }
+        ensures refused { IfErr result (IsRefusal self.new.cursor.text) }
+    {
+        let target = self.expect_word("target")?;
+        let inner = high.saturating_sub(1);
+        let meta = self.token_node(Kind::Identifier, new, inner)?;
+        let property = self.token_node(Kind::Identifier, target, inner)?;
+        let nodes = MeasuredParts::two(self.alloc, meta, property)?;
+        let node = finish_plain(Kind::MetaProperty, self.span_from(new.start), nodes, high)?;
+        Ok(Operand::plain(node, Rank::Member, Edge::Other))
+    }
+
+    /// Where what stands ahead begins, where an operand may: by its goal.
+    pub(crate) fn operand_start(&self) -> usize
+        ensures { BeginsBy self.now.cursor result }
+    {
+        match self.cursor.peek(Goal::RegExp) {
+            Some(token) => token.start,
+            None => self.cursor.next_start(),
+        }
+    }
+
+    // What parentheses group, or an arrow function with its parameters in them (12.2.10, 14.2).
+    #[cycle(grammar)]
+    #[inline(never)]
+    fn parenthesized(
+        &mut self,
+        position: ExpressionContext,
+        high: u32,
+    ) -> Result<Operand<'s>, Fault>
+        ensures text { self.new.cursor.text ≡ self.old.cursor.text }
+        ensures forward { self.old.cursor.last.stop ≤ self.new.cursor.last.stop }
+        ensures passes { IfOk result (λ _. Passes self.old.cursor self.new.cursor) }
+        ensures derived { IfOk result (λ part. Adds self.old.cursor self.new.cursor self.old.pairs.items self.new.pairs.items (ReadAt self.old.cursor.text position part)) }
+        ensures low { IfOk result (λ part. height part.cover.node ≤ high) }
+        ensures complete { ParenthesizedComplete self.old.cursor self.new.cursor self.old.pairs.items self.new.pairs.items high position result }
+        ensures refused { IfErr result (IsRefusal self.new.cursor.text) }
+    {
+        let (place, start) = self.enter()?;
+        let list = self.open(ListKind::ParenthesizedItems, high)?;
+        let list = self.list(list, high)?;
+        let at = self.leave();
+        let end = self.cursor.last_end().saturating_sub(1);
+        if self.sees_arrow() && accepts_rank(position.rank, Rank::Assignment) {
+            let parameters = list.into_parameters(at)?;
+            return self.arrow_function(parameters, start, position.has_in, high);
+        }
+        self.close_pair(place, start, end);
+        finish_group(list, at, high)
+    }
+
+    // Opens a parenthesis that stands ahead, with a pair that doesn't group yet: gives its place among the pairs, and in the text.
+    fn enter(&mut self) -> Result<(usize, usize), Fault>
+        ensures text { self.new.cursor.text ≡ self.old.cursor.text }
+        ensures last { self.new.cursor.last ≡ self.old.cursor.last }
+        ensures opened { IfOk result (λ _. (self.old.cursor.opened < max_open) × (self.new.cursor.opened ≡ self.old.cursor.opened + 1)) }
+        ensures place { IfOk result (λ places. (places.0 ≡ vec_len self.old.pairs) × IsPlaceHere self.old.cursor places.1) }
+        ensures pairs { IfOk result (λ places. self.new.pairs.items ≡ self.old.pairs.items ++ (record { left = places.1; right = places.1 }) ∷ []) }
+        ensures too_deep { IfErr result (RefusedUnder self.old.cursor.opened) }
+        ensures refused { IfErr result (IsRefusal self.new.cursor.text) }
+    {
+        self.cursor.enter()?;
+        let place = self.pairs.len();
+        let start = self.cursor.next_start();
+        self.pairs.push(unclosed_pair(start))?;
+        Ok((place, start))
+    }
+
+    // Closes the last parenthesis that counts: gives the place of what stands ahead.
+    fn leave(&mut self) -> usize
+        ensures text { self.new.cursor.text ≡ self.old.cursor.text }
+        ensures last { self.new.cursor.last ≡ self.old.cursor.last }
+        ensures place { IsPlace self.new.cursor.text result }
+        ensures here { IsPlaceHere self.new.cursor result }
+        ensures closed { self.new.cursor.opened ≡ self.old.cursor.opened - 1 }
+        ensures same_pairs { self.new.pairs.items ≡ self.old.pairs.items }
+    {
+        self.cursor.leave();
+        self.cursor.next_start()
+    }
+
+    // The pair at this place among them groups.
+    fn close_pair(&mut self, place: usize, left: usize, right: usize)
+        ensures cursor { self.new.cursor ≡ self.old.cursor }
+        ensures pairs { place < vec_len self.old.pairs → self.new.pairs.items ≡ set self.old.pairs.items place (record { left = left; right = right }) }
+    {
+        if place < self.pairs.len() {
+            self.pairs[place] = grouping_pair(left, right);
+        }
+    }
+}
+
+// Whether it is the kind of a name.
+fn is_name(kind: Kind) -> bool
+    ensures { result ≡ is_identifier kind }
+{
+    matches!(kind, Kind::Identifier)
+}

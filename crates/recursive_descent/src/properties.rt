@@ -1,0 +1,366 @@
+//! Properties of objects and members of classes (ECMA-262 12.2.6, 14.3, 14.6).
+#![tactic(auto, using(parser_tables::proofs::Refusals::refusals, crate::proofs::reading::AdvancedTokens::moves))]
+
+ghost use Rattle.recursive_descent.specs.Complete.{PropertyOrMemberComplete, NameComplete, ValueComplete};
+ghost use Rattle.std.specs.Prelude.{◌≡◌, ◌≤◌, false, is_some, Some, IfOk, IfErr, IfSome};
+ghost use Rattle.parser_tables.specs.Moves.{Passes};
+ghost use Rattle.recursive_descent.specs.Members.{KeyRead, NoKey};
+ghost use Rattle.parser_tables.specs.Methods.{member_flags, method_form, member_kind, is_constructor};
+ghost use Rattle.parser_tables.specs.Outcomes.{IsSyntaxHere, MakesAs};
+ghost use Rattle.std.specs.Bool.{OnTrue, OnFalse};
+ghost use Rattle.tokens.specs.Scanned.{token_of};
+ghost use Rattle.tokens.specs.declared.token.Goal.TheVariants.{Div};
+ghost use Rattle.language.specs.Token.{as_read};
+ghost use Rattle.parser_tables.specs.Seen.{SeesBy, MissesBy, TokenHere};
+ghost use Rattle.parser_tables.specs.Tests.{is_key_class, is_key, begins_key};
+ghost use Rattle.recursive_descent.specs.Modifiers.{Modified, Accessed, Modifying, form_with};
+ghost use Rattle.recursive_descent.specs.Soundness.{Adds};
+ghost use Rattle.recursive_descent.specs.SoundnessOfLists.{NamedSo, defined, ItemReads, ValueAt};
+ghost use Rattle.parser_tables.specs.Refusals.{IsLimit, IsRefusal};
+ghost use Rattle.parser_tables.specs.Tokens.{single_node, key_kind};
+ghost use Rattle.tree.specs.Tree.{height};
+
+use crate::parser::Parser;
+use covers::{CoverShape, ListItem};
+use parser_tables::{
+    ExpressionContext, FunctionOrClass, begins_key, is_constructor, is_identifier, is_key_class,
+    is_name_token, method_form, property_flags, property_item,
+};
+use productions::{MeasuredNode, MeasuredParts, finish_node, finish_plain};
+use source_text::Fault;
+use tokens::{Goal, Token, TokenClass};
+use tree::{Flags, Form, Kind};
+
+// PropertyName (12.2.6).
+#[derive(Drop)]
+struct PropertyName<'s> {
+    node: MeasuredNode<'s>,
+    // It stands in brackets.
+    computed: bool,
+    // The token that it is, if it is one.
+    token: Option<Token<'s>>,
+    // It isn't computed, and its value is `constructor`; looked for in a class alone.
+    is_constructor: bool,
+}
+
+// What stands before the name of a property; the name itself where it is `get`, `set` or `static`.
+#[derive(Clone, Copy)]
+struct Modifiers<'s> {
+    is_static: bool,
+    form: Form,
+    name: Option<Token<'s>>,
+}
+
+// The modifiers with `get` or `set`, unless that is the name itself.
+fn unless_name(is_static: bool, form: Form, name: Option<Token<'_>>) -> Modifiers<'_>
+    ensures handed { result.is_static ≡ is_static }
+    ensures form { result.form ≡ form_with name.entry form }
+    ensures name { result.name ≡ name.entry }
+{
+    let form = match name.is_some() {
+        true => Form::Method,
+        false => form,
+    };
+    Modifiers {
+        is_static,
+        form,
+        name,
+    }
+}
+
+impl<'t, 's> Parser<'t, 's> {
+    // Whether a key of a property begins ahead (12.2.6).
+    fn sees_key(&self) -> bool
+        ensures seen { OnTrue result (SeesBy self.now.cursor.text Div begins_key self.now.cursor.last) }
+        ensures missed { OnFalse result (MissesBy self.now.cursor.text Div begins_key self.now.cursor.last) }
+    {
+        match self.cursor.peek(Goal::Div) {
+            Some(token) => begins_key(&token),
+            None => false,
+        }
+    }
+
+    // Goes past a word before a property's name: gives it where it is the name itself.
+    fn modifier(&mut self, word: &str) -> Option<Option<Token<'s>>>
+        ensures text { self.new.cursor.text ≡ self.old.cursor.text }
+        ensures forward { self.old.cursor.last.stop ≤ self.new.cursor.last.stop }
+        ensures same_open { self.new.cursor.opened ≡ self.old.cursor.opened }
+        ensures same_pairs { self.new.pairs.items ≡ self.old.pairs.items }
+        ensures modified { Modified self.old.cursor.text word.now self.old.cursor.last self.new.cursor.last result }
+        ensures passes { IfSome result (λ _. Passes self.old.cursor self.new.cursor) }
+    {
+        let Some(token) = self.cursor.peek(Goal::Div) else {
+            return None;
+        };
+        if !is_name_token(&token, word) {
+            return None;
+        }
+        self.advance(token);
+        match self.sees_key() {
+            true => Some(None),
+            false => Some(Some(token)),
+        }
+    }
+
+    // `get` and `set` before a name (14.3), with `static` before them or without.
+    fn accessor(&mut self, is_static: bool) -> Modifiers<'s>
+        ensures text { self.new.cursor.text ≡ self.old.cursor.text }
+        ensures forward { self.old.cursor.last.stop ≤ self.new.cursor.last.stop }
+        ensures same_open { self.new.cursor.opened ≡ self.old.cursor.opened }
+        ensures same_pairs { self.new.pairs.items ≡ self.old.pairs.items }
+        ensures handed { result.is_static ≡ is_static }
+        ensures accessed { Accessed self.old.cursor.text self.old.cursor.last self.new.cursor.last result.form result.name }
+        ensures passes { IfSome result.name (λ _. Passes self.old.cursor self.new.cursor) }
+    {
+        if let Some(name) = self.modifier("get") {
+            return unless_name(is_static, Form::Get, name);
+        }
+        if let Some(name) = self.modifier("set") {
+            return unless_name(is_static, Form::Set, name);
+        }
+        unless_name(is_static, Form::Method, None)
+    }
+
+    // `static`, `get` and `set` before a name (14.3, 14.6).
+    fn modifiers(&mut self, in_class: bool) -> Modifiers<'s>
+        ensures text { self.new.cursor.text ≡ self.old.cursor.text }
+        ensures forward { self.old.cursor.last.stop ≤ self.new.cursor.last.stop }
+        ensures same_open { self.new.cursor.opened ≡ self.old.cursor.opened }
+        ensures same_pairs { self.new.pairs.items ≡ self.old.pairs.items }
+        ensures modified { Modifying self.old.cursor.text self.old.cursor.last self.new.cursor.last in_class result.is_static result.form result.name }
+        ensures passes { IfSome result.name (λ _. Passes self.old.cursor self.new.cursor) }
+    {
+        if !in_class {
+            return self.accessor(false);
+        }
+        match self.modifier("static") {
+            None => self.accessor(false),
+            Some(None) => self.accessor(true),
+            Some(Some(name)) => unless_name(false, Form::Method, Some(name)),
+        }
+    }
+
+    // The one token of a PropertyName (12.2.6) that stands ahead.
+    fn key_token(&mut self) -> Result<Token<'s>, Fault>
+        ensures text { self.new.cursor.text ≡ self.old.cursor.text }
+        ensures forward { self.old.cursor.last.stop ≤ self.new.cursor.last.stop }
+        ensures passes { IfOk result (λ _. Passes self.old.cursor self.new.cursor) }
+        ensures refused { IfErr result (IsRefusal self.new.cursor.text) }
+        ensures same_open { self.new.cursor.opened ≡ self.old.cursor.opened }
+        ensures same_pairs { self.new.pairs.items ≡ self.old.pairs.items }
+        ensures accepted { IfOk result (λ token. TokenHere self.old.cursor.text Div is_key self.old.cursor.last self.new.cursor.last × (self.new.cursor.last ≡ as_read (token_of token))) }
+        ensures missed { IfErr result (λ _. MissesBy self.old.cursor.text Div is_key self.old.cursor.last × (self.new.cursor.last ≡ self.old.cursor.last)) }
+        ensures here { IfErr result (IsSyntaxHere self.new.cursor) }
+    {
+        let Some(token) = self.cursor.peek(Goal::Div) else {
+            return Err(self.syntax_error());
+        };
+        if !is_key_class(token.class) {
+            return Err(self.syntax_error());
+        }
+        self.advance(token);
+        Ok(token)
+    }
+
+    // PropertyName (12.2.6) that is no expression in brackets.
+    fn plain_property_name(&mut self, in_class: bool, high: u32) -> Result<PropertyName<'s>, Fault>
+        ensures text { self.new.cursor.text ≡ self.old.cursor.text }
+        ensures forward { self.old.cursor.last.stop ≤ self.new.cursor.last.stop }
+        ensures passes { IfOk result (λ _. Passes self.old.cursor self.new.cursor) }
+        ensures refused { IfErr result (IsRefusal self.new.cursor.text) }
+        ensures same_open { self.new.cursor.opened ≡ self.old.cursor.opened }
+        ensures same_pairs { self.new.pairs.items ≡ self.old.pairs.items }
+        ensures read { IfOk result (λ key. TokenHere self.old.cursor.text Div is_key self.old.cursor.last self.new.cursor.last × KeyRead in_class self.new.cursor.last key key.token) }
+        ensures low { IfOk result (λ key. height key.node ≤ high) }
+        ensures no_key { IfErr result (NoKey self.old.cursor high) }
+    {
+        let token = self.key_token()?;
+        let is_constructor = in_class && is_constructor(&token);
+        self.property_name_of(token, is_constructor, high)
+    }
+
+    // The key that a name, a string or a number is.
+    fn property_name_of(
+        &self,
+        token: Token<'s>,
+        is_constructor: bool,
+        high: u32,
+    ) -> Result<PropertyName<'s>, Fault>
+        ensures made { let node = single_node (key_kind token.entry.class) (token_of token.entry) in
+            MakesAs (record { node = node; computed = false; token = Some token.entry; is_constructor = is_constructor }) (height node) high result }
+        ensures refused { IfErr result IsLimit }
+    {
+        let kind = match token.class {
+            TokenClass::IdentifierName => Kind::Identifier,
+            _ => Kind::Literal,
+        };
+        Ok(PropertyName {
+            node: self.token_node(kind, token, high)?,
+            computed: false,
+            token: Some(token),
+            is_constructor,
+        })
+    }
+
+    // What stands before the name of a property or a member, and the name (12.2.6, 14.3, 14.6).
+    #[cycle(grammar)]
+    #[inline(never)]
+    fn property_name(
+        &mut self,
+        in_class: bool,
+        high: u32,
+    ) -> Result<(Modifiers<'s>, PropertyName<'s>), Fault>
+        ensures text { self.new.cursor.text ≡ self.old.cursor.text }
+        ensures forward { self.old.cursor.last.stop ≤ self.new.cursor.last.stop }
+        ensures passes { IfOk result (λ _. Passes self.old.cursor self.new.cursor) }
+        ensures derived { IfOk result (λ named. Adds self.old.cursor self.new.cursor self.old.pairs.items self.new.pairs.items (NamedSo self.old.cursor.text in_class named.0 named.1)) }
+        ensures low { IfOk result (λ named. height named.1.node ≤ high) }
+        ensures complete { NameComplete self.old.cursor self.new.cursor self.old.pairs.items self.new.pairs.items high in_class result }
+        ensures refused { IfErr result (IsRefusal self.new.cursor.text) }
+    {
+        let modifiers = self.modifiers(in_class);
+        if let Some(token) = modifiers.name {
+            let key = self.property_name_of(token, false, high)?;
+            return Ok((modifiers, key));
+        }
+        if !self.accept_punctuator("[") {
+            let key = self.plain_property_name(in_class, high)?;
+            return Ok((modifiers, key));
+        }
+        let part = self.expression(ExpressionContext::ASSIGNMENT, high)?;
+        let node = self.into_expression(part)?;
+        self.expect_punctuator("]")?;
+        let key = PropertyName {
+            node,
+            computed: true,
+            token: None,
+            is_constructor: false,
+        };
+        Ok((modifiers, key))
+    }
+
+    /// A property of an object or its pattern, or a member of a class (12.2.6, 14.3, 14.6).
+    #[cycle(grammar)]
+    #[inline(never)]
+    pub(crate) fn property_or_member(
+        &mut self,
+        in_class: bool,
+        high: u32,
+    ) -> Result<ListItem<'s>, Fault>
+        ensures text { self.new.cursor.text ≡ self.old.cursor.text }
+        ensures forward { self.old.cursor.last.stop ≤ self.new.cursor.last.stop }
+        ensures passes { IfOk result (λ _. Passes self.old.cursor self.new.cursor) }
+        ensures derived { IfOk result (λ item. Adds self.old.cursor self.new.cursor self.old.pairs.items self.new.pairs.items (ItemReads self.old.cursor.text (defined in_class) item)) }
+        ensures low { IfOk result (λ item. height item.node ≤ high) }
+        ensures complete { PropertyOrMemberComplete self.old.cursor self.new.cursor self.old.pairs.items self.new.pairs.items high in_class result }
+        ensures refused { IfErr result (IsRefusal self.new.cursor.text) }
+    {
+        let start = self.cursor.next_start();
+        let inner = high.saturating_sub(1);
+        if !in_class && self.accept_punctuator("...") {
+            let argument = self.expression(ExpressionContext::ASSIGNMENT, inner)?;
+            let shape = argument.cover.shape.simple();
+            let mut item = self.element(argument, true, start, high)?;
+            item.shape = shape;
+            return Ok(item);
+        }
+        let (modifiers, key) = self.property_name(in_class, inner)?;
+        let is_method = in_class
+            || !matches!(modifiers.form, Form::Method)
+            || self.sees_punctuator("(");
+        if !is_method {
+            return self.property_value(key, start, high);
+        }
+        let from = self.cursor.next_start();
+        let function = self.function_or_class(
+            FunctionOrClass::Method(modifiers.form),
+            from,
+            inner,
+        )?;
+        let (kind, flags) = method_kind(in_class, &key, modifiers);
+        let nodes = MeasuredParts::two(self.alloc, key.node, function)?;
+        let node = finish_node(kind, "", flags, self.span_from(start), nodes, high)?;
+        Ok(ListItem::plain(node))
+    }
+
+    // What follows the key of a property of an object that is no method.
+    #[cycle(grammar)]
+    #[inline(never)]
+    fn property_value(
+        &mut self,
+        key: PropertyName<'s>,
+        start: usize,
+        high: u32,
+    ) -> Result<ListItem<'s>, Fault>
+        ensures text { self.new.cursor.text ≡ self.old.cursor.text }
+        ensures forward { self.old.cursor.last.stop ≤ self.new.cursor.last.stop }
+        ensures derived { IfOk result (λ item. Adds self.old.cursor self.new.cursor self.old.pairs.items self.new.pairs.items (ValueAt self.old.cursor.text key.entry start item)) }
+        ensures low { IfOk result (λ item. height item.node ≤ high) }
+        ensures complete { ValueComplete self.old.cursor self.new.cursor self.old.pairs.items self.new.pairs.items high key.entry result }
+        ensures refused { IfErr result (IsRefusal self.new.cursor.text) }
+    {
+        let inner = high.saturating_sub(1);
+        if self.accept_punctuator(":") {
+            let value = self.expression(ExpressionContext::ASSIGNMENT, inner)?;
+            let shape = value.cover.shape;
+            let flags = property_flags(key.computed, false, Form::Init);
+            let nodes = MeasuredParts::two(self.alloc, key.node, value.cover.node)?;
+            let node = finish_node(
+                Kind::Property,
+                "",
+                flags,
+                self.span_from(start),
+                nodes,
+                high,
+            )?;
+            return Ok(property_item(node, shape));
+        }
+        let Some(token) = key.token else {
+            return Err(self.syntax_error());
+        };
+        if !is_identifier(&token) {
+            return Err(self.syntax_error());
+        }
+        let mut shape = CoverShape::NAME;
+        let mut value = self.token_node(Kind::Identifier, token, inner)?;
+        if self.accept_punctuator("=") {
+            let right = self.expression(ExpressionContext::ASSIGNMENT, inner.saturating_sub(1))?;
+            let nodes = MeasuredParts::two(self.alloc, value, self.into_expression(right)?)?;
+            let span = self.span_from(token.start);
+            value = finish_node(
+                Kind::AssignmentExpression,
+                "=",
+                Flags::PLAIN,
+                span,
+                nodes,
+                inner,
+            )?;
+            shape = CoverShape::NAME.defaulted().initialized();
+        }
+        let flags = property_flags(false, false, Form::Shorthand);
+        let nodes = MeasuredParts::two(self.alloc, key.node, value)?;
+        let node = finish_node(
+            Kind::Property,
+            "",
+            flags,
+            self.span_from(start),
+            nodes,
+            high,
+        )?;
+        Ok(property_item(node, shape))
+    }
+}
+
+// The kind and the flags of a method, getter or setter; a method of a class whose name is `constructor` is the constructor (14.6).
+fn method_kind(in_class: bool, key: &PropertyName<'_>, modifiers: Modifiers<'_>) -> (Kind, Flags)
+    ensures kind { result.0 ≡ member_kind in_class }
+    ensures flags { result.1 ≡ member_flags key.now.computed modifiers.entry.is_static (method_form modifiers.entry.is_static modifiers.entry.form key.now.is_constructor) }
+{
+    let is_static = modifiers.is_static;
+    let form = method_form(is_static, modifiers.form, key.is_constructor);
+    let kind = match in_class {
+        true => Kind::MethodDefinition,
+        false => Kind::Property,
+    };
+    (kind, property_flags(key.computed, is_static, form))
+}

@@ -1,0 +1,498 @@
+//! Statements, functions, classes and their parts as lists of pieces (ECMA-262 clauses 13 and 14).
+#![tactic(auto, using(parser_tables::proofs::Refusals::refusals, crate::proofs::reading::AdvancedTokens::moves))]
+
+ghost use Rattle.recursive_descent.specs.Complete.{SymbolsComplete};
+ghost use Rattle.std.specs.Prelude.{◌≡◌, ◌≤◌, true, IfOk, IfErr, IfSome, map};
+ghost use Rattle.std.specs.Bool.{OnTrue, OnFalse};
+ghost use Rattle.tokens.specs.declared.token.Goal.TheVariants.{Div, RegExp};
+ghost use Rattle.parser_tables.specs.Moves.{Passes};
+ghost use Rattle.recursive_descent.specs.Handlers.{IfHandler};
+ghost use Rattle.parser_tables.specs.Seen.{SeesBy, MissesBy};
+ghost use Rattle.parser_tables.specs.Tests.{ends_word, is_each};
+ghost use Rattle.parser_tables.specs.StatementSymbols.{piece_of, CatchParts};
+ghost use Rattle.recursive_descent.specs.Soundness.{Adds};
+ghost use Rattle.recursive_descent.specs.SoundnessOfStatements.{BuiltAt};
+ghost use Rattle.parser_tables.specs.Refusals.{IsRefusal};
+ghost use Rattle.parser_tables.specs.Outcomes.{BecomesHere, IsPlaceHere, RefusedUnless, RefusedWhere};
+ghost use Rattle.parser_tables.specs.StatementNodes.{fits_head, head_levels, head_node, list_levels, put_node, takes_head, takes_list, takes_put, with_list, with_part};
+ghost use Rattle.recursive_descent.specs.Expectations.{expected_if, expected_always, ExpectedAt, NotExpected, LabelAt, NotLabel, TokensAt, NotTokens, WordedAt, NotWorded, ElseAt, FinallyAt, CatchAt, NoCatch, HeritageAt, HeadAt};
+ghost use Rattle.tree.specs.Tree.{parts_height};
+
+use crate::parser::Parser;
+use covers::{ListBuilder, ListKind};
+use language::Rank;
+use parser_tables::{
+    ExpressionContext, Operand, PartialStatement, StatementContext, StatementListEnd, Symbol,
+    ends_operand, fits_for_head, is_in_or_of, list_node_height,
+};
+use productions::{MeasuredNode, finish_node, finish_plain};
+use source_text::Fault;
+use token_cursor::StatementEnd;
+use tokens::Goal;
+use tree::{Flags, Kind};
+
+// What stands ahead where a piece does, once its own tokens were passed.
+#[derive(Clone, Copy)]
+enum Expected {
+    Nothing,
+    // A part that is missing.
+    Gap,
+    Expression(ExpressionContext),
+    Statement,
+    Block(StatementContext),
+    Binding,
+    // What is done with what was thrown, from this place on.
+    Handler(usize),
+    Items(StatementListEnd),
+    List(ListKind),
+}
+
+// What an expression that may be missing is.
+fn expected_where(is_there: bool, position: ExpressionContext) -> Expected
+    ensures handler { IfHandler result ⊥ }
+    ensures is { result ≡ expected_if is_there position }
+{
+    match is_there {
+        true => Expected::Expression(position),
+        false => Expected::Gap,
+    }
+}
+
+// What a piece wants whatever stands ahead.
+fn expected_always(piece: Symbol, context: StatementContext) -> Option<Expected>
+    ensures handler { IfSome result (λ want. IfHandler want ⊥) }
+    ensures is { result ≡ expected_always piece context.returns }
+{
+    match piece {
+        Symbol::Expression => Some(Expected::Expression(ExpressionContext::EXPRESSION)),
+        Symbol::Assignment => Some(Expected::Expression(ExpressionContext::ASSIGNMENT)),
+        Symbol::Binding => Some(Expected::Binding),
+        Symbol::Statement => Some(Expected::Statement),
+        Symbol::Block => Some(Expected::Block(StatementContext::item(context.returns))),
+        Symbol::FunctionBody => Some(Expected::Block(StatementContext::BODY)),
+        Symbol::StatementList => Some(Expected::Items(StatementListEnd::ClosingBrace)),
+        Symbol::CaseStatements => Some(Expected::Items(StatementListEnd::NextCase)),
+        Symbol::List(listed) => Some(Expected::List(listed)),
+        _ => None,
+    }
+}
+
+impl<'t, 's> Parser<'t, 's> {
+    // Whether an argument follows the word of a statement, if anything does.
+    fn sees_argument(&self) -> bool
+        ensures given { OnTrue result (MissesBy self.now.cursor.text RegExp ends_word self.now.cursor.last) }
+        ensures missing { OnFalse result (SeesBy self.now.cursor.text RegExp ends_word self.now.cursor.last) }
+    {
+        match self.cursor.peek(Goal::RegExp) {
+            Some(token) => !ends_operand(&token),
+            None => true,
+        }
+    }
+
+    // Whether `in` or `of` stands ahead.
+    fn sees_in_or_of(&self) -> bool
+        ensures seen { OnTrue result (SeesBy self.now.cursor.text Div is_each self.now.cursor.last) }
+        ensures missed { OnFalse result (MissesBy self.now.cursor.text Div is_each self.now.cursor.last) }
+    {
+        match self.cursor.peek(Goal::Div) {
+            Some(token) => is_in_or_of(&token),
+            None => false,
+        }
+    }
+
+    // A label on the same line, or nothing.
+    fn label_symbol(&mut self, built: &mut PartialStatement<'s>, high: u32) -> Result<(), Fault>
+        ensures text { self.new.cursor.text ≡ self.old.cursor.text }
+        ensures forward { self.old.cursor.last.stop ≤ self.new.cursor.last.stop }
+        ensures same_open { self.new.cursor.opened ≡ self.old.cursor.opened }
+        ensures same_pairs { self.new.pairs.items ≡ self.old.pairs.items }
+        ensures read { IfOk result (λ _. LabelAt self.old.cursor self.new.cursor built.old built.new high) }
+        ensures failed { IfErr result (NotLabel self.old.cursor high) }
+        ensures refused { IfErr result (IsRefusal self.new.cursor.text) }
+    {
+        if !self.sees_identifier() || self.sees_line_break() {
+            return built.nodes.push_gap();
+        }
+        let label = self.identifier()?;
+        built
+            .nodes
+            .push(self.token_node(Kind::Identifier, label, high)?)
+    }
+
+    // A piece that is tokens alone.
+    fn token_symbol(
+        &mut self,
+        piece: Symbol,
+        built: &mut PartialStatement<'s>,
+        high: u32,
+    ) -> Result<(), Fault>
+        ensures text { self.new.cursor.text ≡ self.old.cursor.text }
+        ensures forward { self.old.cursor.last.stop ≤ self.new.cursor.last.stop }
+        ensures same_open { self.new.cursor.opened ≡ self.old.cursor.opened }
+        ensures same_pairs { self.new.pairs.items ≡ self.old.pairs.items }
+        ensures read { IfOk result (λ _. TokensAt piece self.old.cursor self.new.cursor built.old built.new high) }
+        ensures failed { IfErr result (NotTokens piece self.old.cursor built.old.edge high) }
+        ensures refused { IfErr result (IsRefusal self.new.cursor.text) }
+    {
+        match piece {
+            Symbol::PunctuatorToken(mark) => {
+                self.expect_punctuator(mark)?;
+                Ok(())
+            }
+            Symbol::KeywordToken(word) => {
+                self.expect_word(word)?;
+                Ok(())
+            }
+            Symbol::DoWhileSemicolon => self.cursor.semicolon(StatementEnd::DoWhile),
+            Symbol::Semicolon => self
+                .cursor
+                .semicolon(StatementEnd::AfterExpression(built.edge)),
+            Symbol::Label => self.label_symbol(built, high),
+            Symbol::NoLineTerminator => match self.sees_line_break() {
+                true => Err(self.syntax_error()),
+                false => Ok(()),
+            },
+            _ => Ok(()),
+        }
+    }
+
+    // `else` and a statement, or nothing.
+    fn else_symbol(&mut self) -> Expected
+        ensures text { self.new.cursor.text ≡ self.old.cursor.text }
+        ensures forward { self.old.cursor.last.stop ≤ self.new.cursor.last.stop }
+        ensures same_open { self.new.cursor.opened ≡ self.old.cursor.opened }
+        ensures same_pairs { self.new.pairs.items ≡ self.old.pairs.items }
+        ensures handler { IfHandler result ⊥ }
+        ensures read { ElseAt self.old.cursor self.new.cursor result }
+    {
+        match self.accept_word("else") {
+            true => Expected::Statement,
+            false => Expected::Gap,
+        }
+    }
+
+    // `finally` and a block, or nothing.
+    fn finally_symbol(&mut self, context: StatementContext) -> Expected
+        ensures text { self.new.cursor.text ≡ self.old.cursor.text }
+        ensures forward { self.old.cursor.last.stop ≤ self.new.cursor.last.stop }
+        ensures same_open { self.new.cursor.opened ≡ self.old.cursor.opened }
+        ensures same_pairs { self.new.pairs.items ≡ self.old.pairs.items }
+        ensures handler { IfHandler result ⊥ }
+        ensures read { FinallyAt context.returns self.old.cursor self.new.cursor result }
+    {
+        match self.accept_word("finally") {
+            true => Expected::Block(StatementContext::item(context.returns)),
+            false => Expected::Gap,
+        }
+    }
+
+    // `catch` and a handler, or nothing before `finally`.
+    fn catch_symbol(&mut self) -> Result<Expected, Fault>
+        ensures text { self.new.cursor.text ≡ self.old.cursor.text }
+        ensures forward { self.old.cursor.last.stop ≤ self.new.cursor.last.stop }
+        ensures same_open { self.new.cursor.opened ≡ self.old.cursor.opened }
+        ensures same_pairs { self.new.pairs.items ≡ self.old.pairs.items }
+        ensures handler { IfOk result (λ want. IfHandler want (Passes self.old.cursor self.new.cursor)) }
+        ensures read { IfOk result (CatchAt self.old.cursor self.new.cursor) }
+        ensures missed { IfErr result (NoCatch self.old.cursor) }
+        ensures refused { IfErr result (IsRefusal self.new.cursor.text) }
+    {
+        let start = self.cursor.next_start();
+        if self.accept_word("catch") {
+            return Ok(Expected::Handler(start));
+        }
+        match self.sees_word("finally") {
+            true => Ok(Expected::Gap),
+            false => Err(self.syntax_error()),
+        }
+    }
+
+    // `extends` and a superclass, or nothing.
+    fn heritage_symbol(&mut self) -> Expected
+        ensures text { self.new.cursor.text ≡ self.old.cursor.text }
+        ensures forward { self.old.cursor.last.stop ≤ self.new.cursor.last.stop }
+        ensures same_open { self.new.cursor.opened ≡ self.old.cursor.opened }
+        ensures same_pairs { self.new.pairs.items ≡ self.old.pairs.items }
+        ensures handler { IfHandler result ⊥ }
+        ensures read { HeritageAt self.old.cursor self.new.cursor result }
+    {
+        match self.accept_word("extends") {
+            true => Expected::Expression(ExpressionContext::at(Rank::LeftHandSide, true)),
+            false => Expected::Gap,
+        }
+    }
+
+    // What a piece with one of these words before it wants.
+    fn keyword_symbol(
+        &mut self,
+        piece: Symbol,
+        context: StatementContext,
+    ) -> Result<Expected, Fault>
+        ensures text { self.new.cursor.text ≡ self.old.cursor.text }
+        ensures forward { self.old.cursor.last.stop ≤ self.new.cursor.last.stop }
+        ensures handler { IfOk result (λ want. IfHandler want (Passes self.old.cursor self.new.cursor)) }
+        ensures same_open { self.new.cursor.opened ≡ self.old.cursor.opened }
+        ensures same_pairs { self.new.pairs.items ≡ self.old.pairs.items }
+        ensures read { IfOk result (WordedAt piece context.returns self.old.cursor self.new.cursor) }
+        ensures missed { IfErr result (NotWorded piece self.old.cursor) }
+        ensures refused { IfErr result (IsRefusal self.new.cursor.text) }
+    {
+        match piece {
+            Symbol::Else => Ok(self.else_symbol()),
+            Symbol::Finally => Ok(self.finally_symbol(context)),
+            Symbol::Catch => self.catch_symbol(),
+            Symbol::ClassHeritage => Ok(self.heritage_symbol()),
+            _ => Ok(Expected::Gap),
+        }
+    }
+
+    // What stands first in the parentheses of a `for`.
+    fn for_head_symbol(&mut self, built: &mut PartialStatement<'s>) -> Expected
+        ensures text { self.new.cursor.text ≡ self.old.cursor.text }
+        ensures forward { self.old.cursor.last.stop ≤ self.new.cursor.last.stop }
+        ensures handler { IfHandler result ⊥ }
+        ensures same_open { self.new.cursor.opened ≡ self.old.cursor.opened }
+        ensures same_pairs { self.new.pairs.items ≡ self.old.pairs.items }
+        ensures read { HeadAt self.old.cursor self.new.cursor result built.new.word }
+        ensures built { built.new ≡ record built.old { word = built.new.word } }
+    {
+        if self.sees_punctuator(";") {
+            return Expected::Gap;
+        }
+        built.word = self.declaration_word();
+        match built.word.is_some() {
+            true => Expected::List(ListKind::Declarators { has_in: false }),
+            false => Expected::Expression(ExpressionContext::at(Rank::Expression, false)),
+        }
+    }
+
+    // What a piece wants behind its own tokens, which are passed.
+    fn expected(
+        &mut self,
+        piece: Symbol,
+        built: &mut PartialStatement<'s>,
+        context: StatementContext,
+        high: u32,
+    ) -> Result<Expected, Fault>
+        ensures text { self.new.cursor.text ≡ self.old.cursor.text }
+        ensures forward { self.old.cursor.last.stop ≤ self.new.cursor.last.stop }
+        ensures same_open { self.new.cursor.opened ≡ self.old.cursor.opened }
+        ensures same_pairs { self.new.pairs.items ≡ self.old.pairs.items }
+        ensures handler { IfOk result (λ want. IfHandler want (Passes self.old.cursor self.new.cursor)) }
+        ensures read { IfOk result (ExpectedAt piece context.returns self.old.cursor self.new.cursor built.old built.new high) }
+        ensures failed { IfErr result (NotExpected piece self.old.cursor built.old.edge high) }
+        ensures refused { IfErr result (IsRefusal self.new.cursor.text) }
+    {
+        if let Some(want) = expected_always(piece, context) {
+            return Ok(want);
+        }
+        match piece {
+            Symbol::Test => Ok(expected_where(
+                !self.sees_punctuator(";"),
+                ExpressionContext::EXPRESSION,
+            )),
+            Symbol::Update => Ok(expected_where(
+                !self.sees_punctuator(")"),
+                ExpressionContext::EXPRESSION,
+            )),
+            Symbol::Argument => Ok(expected_where(
+                self.sees_argument(),
+                ExpressionContext::EXPRESSION,
+            )),
+            Symbol::ForHead => Ok(self.for_head_symbol(built)),
+            Symbol::PunctuatorToken(_)
+            | Symbol::KeywordToken(_)
+            | Symbol::NoLineTerminator
+            | Symbol::Label => {
+                self.token_symbol(piece, built, high)?;
+                Ok(Expected::Nothing)
+            }
+            Symbol::Semicolon | Symbol::DoWhileSemicolon => {
+                self.token_symbol(piece, built, high)?;
+                Ok(Expected::Nothing)
+            }
+            _ => self.keyword_symbol(piece, context),
+        }
+    }
+
+    // What a piece makes of the expression that it wanted; `each`: `in` or `of` stands ahead.
+    fn symbol_node(
+        &self,
+        piece: Symbol,
+        each: bool,
+        part: Operand<'s>,
+    ) -> Result<MeasuredNode<'s>, Fault>
+        ensures made { BecomesHere (put_node piece each part.entry.cover.node) (takes_put piece each part.entry.cover.shape) self.now.cursor result }
+        ensures refused { IfErr result (IsRefusal self.now.cursor.text) }
+    {
+        match piece {
+            Symbol::ForHead if each => part.cover.to_pattern(self.cursor.next_start()),
+            Symbol::Binding => self.bound(part),
+            _ => self.into_expression(part),
+        }
+    }
+
+    // Adds an expression that a piece wanted.
+    fn add_expression(
+        &self,
+        built: &mut PartialStatement<'s>,
+        piece: Symbol,
+        each: bool,
+        part: Operand<'s>,
+    ) -> Result<(), Fault>
+        ensures put { IfOk result (λ _. built.new ≡ with_part built.old (put_node piece each part.entry.cover.node) part.entry.edge) }
+        ensures fits { IfOk result (λ _. takes_put piece each part.entry.cover.shape ≡ true) }
+        ensures failed { IfErr result (RefusedUnless (IsPlaceHere self.now.cursor) (takes_put piece each part.entry.cover.shape)) }
+        ensures refused { IfErr result (IsRefusal self.now.cursor.text) }
+    {
+        built.edge = part.edge;
+        let node = self.symbol_node(piece, each, part)?;
+        built.nodes.push(node)
+    }
+
+    // Adds a list that a piece wanted; `high` is the greatest height of a part.
+    fn add_list(
+        &self,
+        built: &mut PartialStatement<'s>,
+        list: ListBuilder<'s>,
+        each: bool,
+        high: u32,
+    ) -> Result<(), Fault>
+        ensures put { IfOk result (λ _. built.new ≡ with_list built.old list.entry self.now.cursor.last.stop) }
+        ensures fits { IfOk result (λ _. (takes_list built.old.word each list.entry ≡ true) × (list_levels list.entry ≤ high)) }
+        ensures failed { IfErr result (RefusedWhere (IsPlaceHere self.now.cursor) (takes_list built.old.word each list.entry) (list_levels list.entry) high) }
+        ensures refused { IfErr result (IsRefusal self.now.cursor.text) }
+    {
+        built.edge = list.seen.edge;
+        let at = self.cursor.next_start();
+        match list.listed {
+            ListKind::Declarators { has_in: true } if list.seen.is_flagged => Err(
+                self.syntax_error(),
+            ),
+            ListKind::Declarators { has_in: false } => self.add_for_declaration(
+                built, list, each, high,
+            ),
+            ListKind::Parameters | ListKind::NoParameter | ListKind::OneParameter => {
+                built.nodes.append(list.into_parameters(at)?)
+            }
+            ListKind::Members => {
+                let body = finish_plain(Kind::ClassBody, list.span, list.nodes, high)?;
+                built.nodes.push(body)
+            }
+            ListKind::Declarators { .. } | ListKind::Cases { .. } => built.nodes.append(list.nodes),
+            _ => Err(self.syntax_error()),
+        }
+    }
+
+    // Adds the head of a `for` that is a declaration (13.7.4, 13.7.5).
+    fn add_for_declaration(
+        &self,
+        built: &mut PartialStatement<'s>,
+        list: ListBuilder<'s>,
+        each: bool,
+        high: u32,
+    ) -> Result<(), Fault>
+        ensures put { IfOk result (λ _. built.new ≡ with_part built.old (head_node built.old.word self.now.cursor.last.stop list.entry.nodes) built.old.edge) }
+        ensures fits { IfOk result (λ _. (takes_head built.old.word each list.entry ≡ true) × (head_levels list.entry.nodes ≤ high)) }
+        ensures failed { IfErr result (RefusedWhere (IsPlaceHere self.now.cursor) (takes_head built.old.word each list.entry) (head_levels list.entry.nodes) high) }
+        ensures refused { IfErr result (IsRefusal self.now.cursor.text) }
+    {
+        let Some(word) = built.word else {
+            return Err(self.syntax_error());
+        };
+        if !fits_for_head(each, &list) {
+            return Err(self.syntax_error());
+        }
+        let span = self.span_from(word.start);
+        let kind = Kind::VariableDeclaration;
+        let node = finish_node(kind, word.text, Flags::PLAIN, span, list.nodes, high)?;
+        built.nodes.push(node)
+    }
+
+    // The pieces of a handler behind `catch`.
+    fn catch_symbols(&self) -> &'static [Symbol]
+        ensures { CatchParts self.now.cursor.text self.now.cursor.last (map piece_of result.now) }
+    {
+        match self.sees_punctuator("(") {
+            true => &[
+                Symbol::PunctuatorToken("("),
+                Symbol::Binding,
+                Symbol::PunctuatorToken(")"),
+                Symbol::Block,
+            ],
+            false => &[Symbol::NoCatchParameter, Symbol::Block],
+        }
+    }
+
+    /// Pieces, one behind the other; `high` is the greatest height of a part.
+    #[cycle(grammar)]
+    #[inline(never)]
+    pub(crate) fn read_symbols(
+        &mut self,
+        pieces: &[Symbol],
+        built: &mut PartialStatement<'s>,
+        context: StatementContext,
+        high: u32,
+    ) -> Result<(), Fault>
+        ensures text { self.new.cursor.text ≡ self.old.cursor.text }
+        ensures forward { self.old.cursor.last.stop ≤ self.new.cursor.last.stop }
+        ensures derived { IfOk result (λ _. Adds self.old.cursor self.new.cursor self.old.pairs.items self.new.pairs.items (BuiltAt self.old.cursor.text context.returns (map piece_of pieces.now) built.old built.new)) }
+        ensures low { IfOk result (λ _. parts_height built.old.nodes ≤ high → parts_height built.new.nodes ≤ high) }
+        ensures complete { SymbolsComplete self.old.cursor self.new.cursor self.old.pairs.items self.new.pairs.items high (map piece_of pieces.now) context.returns built.old built.new result }
+        ensures refused { IfErr result (IsRefusal self.new.cursor.text) }
+    {
+        let inner = high.saturating_sub(1);
+        'each: for piece in pieces {
+            match self.expected(*piece, built, context, high)? {
+                Expected::Nothing => {}
+                Expected::Gap => built.nodes.push_gap()?,
+                Expected::Expression(position) => {
+                    let part = self.expression(position, high)?;
+                    let each = self.sees_in_or_of();
+                    self.add_expression(built, *piece, each, part)?;
+                }
+                Expected::Binding => {
+                    let part = self.leftmost_operand(
+                        ExpressionContext::at(Rank::Primary, true),
+                        high,
+                    )?;
+                    self.add_expression(built, *piece, false, part)?;
+                }
+                Expected::Statement => {
+                    built.nodes.push(self.statement(context.inside(), high)?)?;
+                }
+                Expected::Block(context) => {
+                    let left = self.expect_punctuator("{")?;
+                    let list = self.statements(StatementListEnd::ClosingBrace, context, inner)?;
+                    self.expect_punctuator("}")?;
+                    let span = self.span_from(left.start);
+                    built
+                        .nodes
+                        .push(finish_plain(Kind::BlockStatement, span, list, high)?)?;
+                }
+                Expected::Handler(start) => {
+                    let mut caught = PartialStatement::new(self.alloc);
+                    self.read_symbols(self.catch_symbols(), &mut caught, context, inner)?;
+                    let span = self.span_from(start);
+                    built
+                        .nodes
+                        .push(finish_plain(Kind::CatchClause, span, caught.nodes, high)?)?;
+                }
+                Expected::Items(until) => {
+                    let context = StatementContext::item(context.returns);
+                    built.nodes.append(self.statements(until, context, high)?)?;
+                }
+                Expected::List(listed) => {
+                    let limit = high.saturating_sub(list_node_height(listed));
+                    let list = self.open(listed, limit)?;
+                    let list = self.list(list, limit)?;
+                    let each = self.sees_in_or_of();
+                    self.add_list(built, list, each, high)?;
+                }
+            }
+        }
+        Ok(())
+    }
+}
+
+// 1 where a node of its own holds the items, in what holds the list: the body of a class, a declaration in the head of a `for`;

@@ -1,0 +1,212 @@
+//! Statements and declarations (ECMA-262 clause 13, 14.1, 14.6), by the first token.
+#![tactic(auto, using(parser_tables::proofs::Refusals::refusals, crate::proofs::reading::AdvancedTokens::moves))]
+
+ghost use Rattle.recursive_descent.specs.Complete.{StatementsComplete, StatementComplete};
+ghost use Rattle.std.specs.Prelude.{◌≡◌, ◌≢◌, ◌≤◌, ◌&&◌, true, IfOk, IfErr, ◌<◌, ◌⊎◌, false, codes};
+ghost use Rattle.std.specs.Bool.{OnTrue, OnFalse};
+ghost use Rattle.token_cursor.specs.CursorState.{IsAhead};
+ghost use Rattle.tokens.specs.declared.token.Goal.TheVariants.{Div};
+ghost use Rattle.language.specs.Token.{as_read};
+ghost use Rattle.language.specs.StatementStart.{statement_start};
+ghost use Rattle.parser_tables.specs.Seen.{Sees, Misses, SeesBy, MissesBy};
+ghost use Rattle.parser_tables.specs.Tests.{ends};
+ghost use Rattle.parser_tables.specs.StatementStarts.{coded_statement_start, NothingBegins, NotBegun, KindFollowed, KindUnfollowed};
+ghost use Rattle.tokens.specs.Scanned.{token_of};
+ghost use Rattle.parser_tables.specs.Moves.{Passes, IfKind};
+ghost use Rattle.recursive_descent.specs.Soundness.{Adds};
+ghost use Rattle.recursive_descent.specs.SoundnessOfStatements.{StatementsAt, StatementAt, context_role};
+ghost use Rattle.parser_tables.specs.Refusals.{IsRefusal};
+ghost use Rattle.parser_tables.specs.Operands.{is_group, is_lone_string};
+ghost use Rattle.parser_tables.specs.StatementNodes.{expression_statement_node, expression_statement_height, NoExpressionStatement};
+ghost use Rattle.token_cursor.specs.StatementEnds.{IsEnd};
+ghost use Rattle.tree.specs.Tree.{kind_of, height, parts_height};
+
+use crate::parser::Parser;
+use parser_tables::{
+    ExpressionContext, FunctionOrClass, Operand, PartialStatement, StatementContext, StatementKind,
+    StatementListEnd, StatementStart, ends_statements, statement_start_of, statement_symbols,
+};
+use productions::{MeasuredNode, MeasuredParts, finish_node};
+use source_text::Fault;
+use token_cursor::StatementEnd;
+use tokens::{Goal, Token, TokenClass};
+use tree::{Flags, Kind};
+
+impl<'t, 's> Parser<'t, 's> {
+    // Whether a list of statements ends here.
+    fn sees_end(&self, until: StatementListEnd) -> bool
+        ensures seen { OnTrue result (SeesBy self.now.cursor.text Div (ends until) self.now.cursor.last) }
+        ensures missed { OnFalse result (MissesBy self.now.cursor.text Div (ends until) self.now.cursor.last) }
+    {
+        match self.cursor.peek(Goal::Div) {
+            Some(token) => ends_statements(until, &token),
+            None => false,
+        }
+    }
+
+    /// StatementList (13.2), up to where it ends, with its directives (14.1.1).
+    #[cycle(grammar)]
+    #[inline(never)]
+    pub(crate) fn statements(
+        &mut self,
+        until: StatementListEnd,
+        context: StatementContext,
+        high: u32,
+    ) -> Result<MeasuredParts<'s>, Fault>
+        ensures text { self.new.cursor.text ≡ self.old.cursor.text }
+        ensures forward { self.old.cursor.last.stop ≤ self.new.cursor.last.stop }
+        ensures derived { IfOk result (λ nodes. Adds self.old.cursor self.new.cursor self.old.pairs.items self.new.pairs.items (StatementsAt self.old.cursor.text context nodes)) }
+        ensures ended { IfOk result (λ _. SeesBy self.new.cursor.text Div (ends until) self.new.cursor.last) }
+        ensures low { IfOk result (λ nodes. parts_height nodes ≤ high) }
+        ensures complete { StatementsComplete self.old.cursor self.new.cursor self.old.pairs.items self.new.pairs.items high until context result }
+        ensures refused { IfErr result (IsRefusal self.new.cursor.text) }
+    {
+        let mut context = context;
+        let mut nodes = MeasuredParts::new(self.alloc);
+        'statements: while !self.sees_end(until) {
+            let statement = self.statement(context, high)?;
+            context.is_prologue = context.is_prologue && statement.node().flags().directive;
+            nodes.push(statement)?;
+        }
+        Ok(nodes)
+    }
+
+    /// Statement or StatementListItem (13).
+    #[cycle(grammar)]
+    #[inline(never)]
+    pub(crate) fn statement(
+        &mut self,
+        context: StatementContext,
+        high: u32,
+    ) -> Result<MeasuredNode<'s>, Fault>
+        ensures text { self.new.cursor.text ≡ self.old.cursor.text }
+        ensures forward { self.old.cursor.last.stop ≤ self.new.cursor.last.stop }
+        ensures passes { IfOk result (λ _. Passes self.old.cursor self.new.cursor) }
+        ensures derived { IfOk result (λ n. Adds self.old.cursor self.new.cursor self.old.pairs.items self.new.pairs.items (StatementAt self.old.cursor.text (context_role context) n)) }
+        ensures low { IfOk result (λ n. height n ≤ high) }
+        ensures complete { StatementComplete self.old.cursor self.new.cursor self.old.pairs.items self.new.pairs.items high context result }
+        ensures refused { IfErr result (IsRefusal self.new.cursor.text) }
+    {
+        let (token, beginning) = self.peek_statement_start(context, high)?;
+        let inner = high.saturating_sub(1);
+        let mut built = PartialStatement::new(self.alloc);
+        let mut what = match beginning {
+            StatementStart::OfKind(what) => {
+                self.advance(token);
+                what
+            }
+            StatementStart::FunctionOrClass(closure) => {
+                self.advance(token);
+                return self.function_or_class(closure, token.start, high);
+            }
+            StatementStart::Expression => {
+                let part = self.expression(ExpressionContext::STATEMENT, inner)?;
+                if !self.is_label(&part) {
+                    return self.expression_statement(part, context, high);
+                }
+                built.nodes.push(part.cover.node)?;
+                StatementKind::Label
+            }
+        };
+        self.read_symbols(
+            statement_symbols(what, context.returns),
+            &mut built,
+            context,
+            inner,
+        )?;
+        if what == StatementKind::For {
+            what = self.for_kind()?;
+            self.read_symbols(
+                statement_symbols(what, context.returns),
+                &mut built,
+                context,
+                inner,
+            )?;
+        }
+        let text = match what {
+            StatementKind::Variable => token.text,
+            _ => "",
+        };
+        let span = self.span_from(token.start);
+        finish_node(what.kind(), text, Flags::PLAIN, span, built.nodes, high)
+    }
+
+    // The first token of a statement, and what it begins; a statement has at least this height.
+    fn peek_statement_start(
+        &self,
+        context: StatementContext,
+        high: u32,
+    ) -> Result<(Token<'s>, StatementStart), Fault>
+        ensures ahead { IfOk result (λ found. IsAhead Goal.RegExp self.now.cursor.text self.now.cursor.last.stop (token_of found.0)) }
+        ensures real { IfOk result (λ found. IfKind found.1 (found.0.class ≢ TokenClass.End)) }
+        ensures coded { IfOk result (λ found. found.1 ≡ coded_statement_start (statement_start context.is_item context.returns (as_read (token_of found.0)))) }
+        ensures room { IfOk result (λ _. 0 < high) }
+        ensures none { IfErr result (λ _. (high ≡ 0) ⊎ NothingBegins self.now.cursor.text self.now.cursor.last) }
+        ensures failed { IfErr result (NotBegun self.now.cursor high) }
+        ensures refused { IfErr result (IsRefusal self.now.cursor.text) }
+    {
+        let Some(token) = self.cursor.peek(Goal::RegExp) else {
+            return Err(self.syntax_error());
+        };
+        if high == 0 {
+            return Err(Fault::TooDeep);
+        }
+        Ok((token, statement_start_of(&token, context)))
+    }
+
+    // Whether what was read is a label: a name alone with a `:` behind it (13.13).
+    fn is_label(&self, part: &Operand<'s>) -> bool
+        ensures label { OnTrue result ((kind_of part.now.cover.node ≡ Kind.Identifier) × (is_group part.now.rank ≡ false) × Sees self.now.cursor.text TokenClass.Punctuator (codes ":") self.now.cursor.last) }
+        ensures no_label { OnFalse result (kind_of part.now.cover.node ≡ Kind.Identifier → is_group part.now.rank ≡ false → Misses self.now.cursor.text TokenClass.Punctuator (codes ":") self.now.cursor.last) }
+    {
+        if !part.is_ungrouped(Kind::Identifier) {
+            return false;
+        }
+        self.sees_punctuator(":")
+    }
+
+    // ExpressionStatement (13.5), a directive where it may be one (14.1.1), behind its expression.
+    fn expression_statement(
+        &mut self,
+        part: Operand<'s>,
+        context: StatementContext,
+        high: u32,
+    ) -> Result<MeasuredNode<'s>, Fault>
+        ensures text { self.new.cursor.text ≡ self.old.cursor.text }
+        ensures forward { self.old.cursor.last.stop ≤ self.new.cursor.last.stop }
+        ensures same_open { self.new.cursor.opened ≡ self.old.cursor.opened }
+        ensures same_pairs { self.new.pairs.items ≡ self.old.pairs.items }
+        ensures made { IfOk result (λ n. n ≡ expression_statement_node (context.is_item && (context.is_prologue && is_lone_string part.entry)) part.entry.start self.new.cursor.last.stop part.entry.cover.node) }
+        ensures fits { IfOk result (λ n. (part.entry.cover.shape.is_expression ≡ true) × (expression_statement_height part.entry ≤ high)) }
+        ensures ends { IfOk result (λ _. IsEnd self.old.cursor.text (StatementEnd.AfterExpression part.entry.edge) self.old.cursor.last self.new.cursor.last) }
+        ensures failed { IfErr result (NoExpressionStatement self.old.cursor part.entry high) }
+        ensures refused { IfErr result (IsRefusal self.new.cursor.text) }
+    {
+        let start = part.start;
+        let edge = part.edge;
+        let mut flags = Flags::PLAIN;
+        flags.directive = context.is_item && context.is_prologue && part.is_lone_string();
+        let nodes = MeasuredParts::only(self.alloc, self.into_expression(part)?)?;
+        self.cursor.semicolon(StatementEnd::AfterExpression(edge))?;
+        let span = self.span_from(start);
+        finish_node(Kind::ExpressionStatement, "", flags, span, nodes, high)
+    }
+
+    // What a `for` is, by what follows what stands first in its parentheses (13.7).
+    fn for_kind(&self) -> Result<StatementKind, Fault>
+        ensures followed { IfOk result (KindFollowed self.now.cursor.text self.now.cursor.last) }
+        ensures unfollowed { IfErr result (λ _. KindUnfollowed self.now.cursor.text self.now.cursor.last) }
+        ensures refused { IfErr result (IsRefusal self.now.cursor.text) }
+    {
+        if self.sees_punctuator(";") {
+            return Ok(StatementKind::ForLoop);
+        }
+        if self.sees_word("in") {
+            return Ok(StatementKind::ForIn);
+        }
+        if self.sees_word("of") {
+            return Ok(StatementKind::ForOf);
+        }
+        Err(self.syntax_error())
+    }
+}

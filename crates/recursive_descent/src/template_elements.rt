@@ -1,0 +1,134 @@
+//! The characters of templates (ECMA-262 clause 12.2.9).
+
+ghost use Rattle.std.specs.Prelude.{nat_eq, slice_index_or, ◌≡◌, ℕ, ◌+◌, ◌<◌, ◌≤◌, Bool, List, [], ◌∷◌, ◌++◌, length, IfOk, IfErr, true, false};
+ghost use Rattle.tokens.specs.Templates.{raw_value};
+ghost use Rattle.tokens.specs.Scanned.{token_of};
+ghost use Rattle.language.specs.Token.{as_read};
+ghost use Rattle.parser_tables.specs.Tests.{is_later_part};
+ghost use Rattle.tree.specs.NodeText.{text_bytes};
+ghost use Rattle.recursive_descent.specs.TemplateElements.{front, back, Holds, part_node};
+ghost use Rattle.parser_tables.specs.Refusals.{IsLimit};
+
+use covers::ListItem;
+use productions::MeasuredNode;
+use source_text::Fault;
+use std::alloc::Global;
+use tokens::{Token, TokenClass, template_value};
+use tree::{Kind, NodeText, Span};
+
+// Whether the token begins with a brace that closes.
+fn is_after_brace(token: &Token<'_>) -> bool
+    ensures { result ≡ nat_eq (slice_index_or (as_read (token_of token.now)).text 0 0) 125 }
+{
+    match token.text.as_bytes().first() {
+        Some(first) => *first == b'}',
+        None => false,
+    }
+}
+
+/// Whether it is a part of a template that isn't the first.
+pub(crate) fn is_later_part(token: &Token<'_>) -> bool
+    ensures { result ≡ is_later_part (as_read (token_of token.now)) }
+{
+    token.class == TokenClass::Template && is_after_brace(token)
+}
+
+// What stands behind an ASCII character.
+fn after_delimiter(text: &str, first: char) -> &str
+    requires { first < 128 }
+    ensures { (rest : List ℕ) → text.now ≡ first ∷ rest → result.now ≡ rest }
+{
+    match text.strip_prefix(first) {
+        Some(rest) => rest,
+        None => text,
+    }
+}
+
+// What stands before an ASCII character.
+fn before_delimiter(text: &str, last: char) -> &str
+    requires { last < 128 }
+    ensures { (word : List ℕ) → text.now ≡ word ++ last ∷ [] → result.now ≡ word }
+{
+    match text.strip_suffix(last) {
+        Some(word) => word,
+        None => text,
+    }
+}
+
+// What stands behind the first delimiter.
+fn after_front(text: &str) -> &str
+    ensures { (first : Bool) (rest : List ℕ) → text.now ≡ front first ++ rest → result.now ≡ rest }
+{
+    match text.strip_prefix('`') {
+        Some(rest) => rest,
+        None => after_delimiter(text, '}'),
+    }
+}
+
+// What stands before the last delimiter, and whether that is the last of the template.
+fn before_back(text: &str) -> (&str, bool)
+    ensures { (last : Bool) (word : List ℕ) → text.now ≡ word ++ back last → (result.0.now ≡ word) × (result.1 ≡ last) }
+{
+    match text.strip_suffix('`') {
+        Some(word) => (word, true),
+        None => (before_delimiter(before_delimiter(text, '{'), '$'), false),
+    }
+}
+
+// The characters of a part of a template between its delimiters, and whether it is the last.
+fn without_delimiters(text: &str) -> (&str, bool)
+    ensures { (first last : Bool) (word : List ℕ) → Holds text.now first last word → (result.0.now ≡ word) × (result.1 ≡ last) }
+{
+    before_back(after_front(text))
+}
+
+// The place of what stands behind the first delimiter of the token, which is one byte.
+fn span_inside(token: &Token<'_>, text: &str) -> Span
+    ensures { token.now.start + 1 + length text.now ≤ token.now.end → result ≡ record { start = token.now.start + 1; end = token.now.start + 1 + length text.now } }
+{
+    let start = token.start.saturating_add(1);
+    Span {
+        start,
+        end: start.saturating_add(text.len()).min(token.end),
+    }
+}
+
+// The raw value of the characters (11.8.6.1), which is mostly the characters themselves.
+fn raw_of<'s>(alloc: Global, text: &'s str) -> Result<NodeText<'s>, Fault>
+    ensures raw { IfOk result (λ raw. text_bytes raw ≡ raw_value text.now) }
+    ensures refused { IfErr result (λ fault. fault ≡ Fault.OutOfMemory) }
+{
+    if !text.contains('\r') {
+        return Ok(NodeText::Borrowed(text));
+    }
+    let (raw, _cooked) = template_value(alloc, text)?;
+    Ok(NodeText::of(alloc, raw)?)
+}
+
+/// The node of a part of a template, marked where it is the last.
+///
+/// # Errors
+/// `TooDeep` where `high` is 0, `OutOfMemory`.
+pub(crate) fn template_element<'s>(
+    alloc: Global,
+    token: Token<'s>,
+    high: u32,
+) -> Result<ListItem<'s>, Fault>
+    ensures made { IfOk result (λ item. (first last : Bool) (word : List ℕ) → Holds token.entry.text.now first last word → token.entry.end ≡ token.entry.start + length token.entry.text.now → (item.node ≡ part_node token.entry.start word) × (item.is_flagged ≡ last)) }
+    ensures plain { IfOk result (λ item. (item.shape.is_expression ≡ true) × (item.spreads ≡ false)) }
+    ensures deep { IfErr result (λ fault. fault ≡ Fault.TooDeep → high ≡ 0) }
+    ensures refused { IfErr result IsLimit }
+{
+    let (text, is_tail) = without_delimiters(token.text);
+    let span = span_inside(&token, text);
+    let raw = raw_of(alloc, text)?;
+    let mut item = ListItem::plain(MeasuredNode::leaf(
+        alloc,
+        Kind::TemplateElement,
+        raw,
+        span,
+        high,
+    )?);
+    item.is_flagged = is_tail;
+    Ok(item)
+}

@@ -1,0 +1,261 @@
+//! Single tokens.
+#![tactic(auto, using(parser_tables::proofs::Refusals::refusals, crate::proofs::reading::AdvancedTokens::moves))]
+
+ghost use Rattle.std.specs.Prelude.{◌≡◌, ◌≢◌, ◌≤◌, ◌&&◌, not, true, false, codes, IfOk, IfErr, IfSome, IfNone};
+ghost use Rattle.std.specs.Bool.{OnTrue, OnFalse};
+ghost use Rattle.tokens.specs.Scanned.{token_of};
+ghost use Rattle.tokens.specs.Reading.{any_goal};
+ghost use Rattle.tokens.specs.declared.token.Goal.TheVariants.{RegExp};
+ghost use Rattle.language.specs.Token.{Token as Read, as_read, is_mark};
+ghost use Rattle.language.specs.Places.{NextIn, itself};
+ghost use Rattle.language.specs.Derivation.{Reads};
+ghost use Rattle.language.specs.Promises.{ReadBy};
+ghost use Rattle.token_cursor.specs.CursorState.{IsAheadBySome};
+ghost use Rattle.parser_tables.specs.Moves.{Passes};
+ghost use Rattle.parser_tables.specs.Outcomes.{IsSyntaxHere};
+ghost use Rattle.parser_tables.specs.Refusals.{IsRefusal};
+ghost use Rattle.parser_tables.specs.Seen.{ReadsHere, Sees, Misses, NameHere, NoName, is_any, is_free_name, declares};
+
+use crate::parser::Parser;
+use parser_tables::{
+    is_declaration_word, is_identifier, is_identifier_name, is_name_token, is_punctuator,
+};
+use source_text::Fault;
+use tokens::{Goal, Token, TokenClass};
+use tree::Span;
+
+impl<'t, 's> Parser<'t, 's> {
+    /// The refusal at what stands ahead.
+    pub(crate) fn syntax_error(&self) -> Fault
+        ensures refused { IsRefusal self.now.cursor.text result }
+        ensures here { IsSyntaxHere self.now.cursor result }
+    {
+        Fault::Syntax(self.cursor.next_start())
+    }
+
+    /// Goes past a token that stands ahead and isn't the end.
+    pub(crate) fn advance(&mut self, token: Token<'s>)
+        requires ahead { IsAheadBySome self.old.cursor.text self.old.cursor.last.stop (token_of token) }
+        requires real { token.class ≢ TokenClass.End }
+        ensures text { self.new.cursor.text ≡ self.old.cursor.text }
+        ensures last { self.new.cursor.last ≡ as_read (token_of token.entry) }
+        ensures same_open { self.new.cursor.opened ≡ self.old.cursor.opened }
+        ensures same_pairs { self.new.pairs.items ≡ self.old.pairs.items }
+        ensures reads { NextIn self.old.cursor.text any_goal self.old.cursor.last self.new.cursor.last self.new.cursor.last }
+        ensures passes { Passes self.old.cursor self.new.cursor }
+    {
+        self.cursor.advance(token);
+    }
+
+    /// Whether this punctuator stands ahead; not to be asked for a `/`.
+    pub(crate) fn sees_punctuator(&self, mark: &str) -> bool
+        ensures seen { OnTrue result (Sees self.now.cursor.text TokenClass.Punctuator mark.now self.now.cursor.last) }
+        ensures missed { OnFalse result (Misses self.now.cursor.text TokenClass.Punctuator mark.now self.now.cursor.last) }
+    {
+        match self.cursor.peek(Goal::Div) {
+            Some(token) => is_punctuator(&token, mark),
+            None => false,
+        }
+    }
+
+    /// Whether this name stands ahead.
+    pub(crate) fn sees_word(&self, word: &str) -> bool
+        ensures seen { OnTrue result (Sees self.now.cursor.text TokenClass.IdentifierName word.now self.now.cursor.last) }
+        ensures missed { OnFalse result (Misses self.now.cursor.text TokenClass.IdentifierName word.now self.now.cursor.last) }
+    {
+        match self.cursor.peek(Goal::Div) {
+            Some(token) => is_name_token(&token, word),
+            None => false,
+        }
+    }
+
+    /// Whether an Identifier stands ahead.
+    pub(crate) fn sees_identifier(&self) -> bool
+        ensures seen { OnTrue result ((t : Read) × NameHere self.now.cursor.text is_free_name self.now.cursor.last t) }
+        ensures missed { OnFalse result (NoName self.now.cursor.text is_free_name self.now.cursor.last) }
+    {
+        match self.cursor.peek(Goal::Div) {
+            Some(token) => is_identifier(&token),
+            None => false,
+        }
+    }
+
+    /// Whether `=>` stands ahead on the same line (14.2).
+    pub(crate) fn sees_arrow(&self) -> bool
+        ensures seen { OnTrue result ((t : Read) × (ReadsHere self.now.cursor.text TokenClass.Punctuator (codes "=>") self.now.cursor.last t) × (t.after_break ≡ false)) }
+        ensures missed { OnFalse result ((t e : Read) → Reads Read (NextIn self.now.cursor.text any_goal) itself TokenClass.Punctuator (codes "=>") self.now.cursor.last t e → t.after_break ≡ true) }
+    {
+        match self.cursor.peek(Goal::Div) {
+            Some(token) => is_punctuator(&token, "=>") && !token.after_break,
+            None => false,
+        }
+    }
+
+    /// Whether a line break stands before what is ahead.
+    pub(crate) fn sees_line_break(&self) -> bool
+        ensures seen { OnTrue result ((t e : Read) → NextIn self.now.cursor.text any_goal self.now.cursor.last t e → t.after_break ≡ true) }
+        ensures missed { OnFalse result ((t e : Read) → ReadBy Read (NextIn self.now.cursor.text any_goal) itself RegExp self.now.cursor.last t e → t.after_break ≡ false) }
+    {
+        match self.cursor.peek(Goal::RegExp) {
+            Some(token) => token.after_break,
+            None => false,
+        }
+    }
+
+    /// Goes past this punctuator where it stands ahead.
+    pub(crate) fn accept_punctuator(&mut self, mark: &str) -> bool
+        ensures text { self.new.cursor.text ≡ self.old.cursor.text }
+        ensures forward { self.old.cursor.last.stop ≤ self.new.cursor.last.stop }
+        ensures passes { OnTrue result (Passes self.old.cursor self.new.cursor) }
+        ensures same_open { self.new.cursor.opened ≡ self.old.cursor.opened }
+        ensures same_pairs { self.new.pairs.items ≡ self.old.pairs.items }
+        ensures accepted { OnTrue result (ReadsHere self.old.cursor.text TokenClass.Punctuator mark.now self.old.cursor.last self.new.cursor.last) }
+        ensures missed { OnFalse result (Misses self.old.cursor.text TokenClass.Punctuator mark.now self.old.cursor.last × (self.new.cursor.last ≡ self.old.cursor.last)) }
+    {
+        let Some(token) = self.cursor.peek(Goal::Div) else {
+            return false;
+        };
+        if !is_punctuator(&token, mark) {
+            return false;
+        }
+        self.advance(token);
+        true
+    }
+
+    /// Goes past this name where it stands ahead.
+    pub(crate) fn accept_word(&mut self, word: &str) -> bool
+        ensures text { self.new.cursor.text ≡ self.old.cursor.text }
+        ensures forward { self.old.cursor.last.stop ≤ self.new.cursor.last.stop }
+        ensures passes { OnTrue result (Passes self.old.cursor self.new.cursor) }
+        ensures same_open { self.new.cursor.opened ≡ self.old.cursor.opened }
+        ensures same_pairs { self.new.pairs.items ≡ self.old.pairs.items }
+        ensures accepted { OnTrue result (ReadsHere self.old.cursor.text TokenClass.IdentifierName word.now self.old.cursor.last self.new.cursor.last) }
+        ensures missed { OnFalse result (Misses self.old.cursor.text TokenClass.IdentifierName word.now self.old.cursor.last × (self.new.cursor.last ≡ self.old.cursor.last)) }
+    {
+        let Some(token) = self.cursor.peek(Goal::Div) else {
+            return false;
+        };
+        if !is_name_token(&token, word) {
+            return false;
+        }
+        self.advance(token);
+        true
+    }
+
+    /// Goes past this punctuator.
+    pub(crate) fn expect_punctuator(&mut self, mark: &str) -> Result<Token<'s>, Fault>
+        ensures text { self.new.cursor.text ≡ self.old.cursor.text }
+        ensures forward { self.old.cursor.last.stop ≤ self.new.cursor.last.stop }
+        ensures passes { IfOk result (λ _. Passes self.old.cursor self.new.cursor) }
+        ensures refused { IfErr result (IsRefusal self.new.cursor.text) }
+        ensures same_open { self.new.cursor.opened ≡ self.old.cursor.opened }
+        ensures same_pairs { self.new.pairs.items ≡ self.old.pairs.items }
+        ensures accepted { IfOk result (λ token. ReadsHere self.old.cursor.text TokenClass.Punctuator mark.now self.old.cursor.last self.new.cursor.last × (self.new.cursor.last ≡ as_read (token_of token))) }
+        ensures missed { IfErr result (λ _. Misses self.old.cursor.text TokenClass.Punctuator mark.now self.old.cursor.last × (self.new.cursor.last ≡ self.old.cursor.last)) }
+        ensures here { IfErr result (IsSyntaxHere self.new.cursor) }
+    {
+        let Some(token) = self.cursor.peek(Goal::Div) else {
+            return Err(self.syntax_error());
+        };
+        if !is_punctuator(&token, mark) {
+            return Err(self.syntax_error());
+        }
+        self.advance(token);
+        Ok(token)
+    }
+
+    /// Goes past this name.
+    pub(crate) fn expect_word(&mut self, word: &str) -> Result<Token<'s>, Fault>
+        ensures text { self.new.cursor.text ≡ self.old.cursor.text }
+        ensures forward { self.old.cursor.last.stop ≤ self.new.cursor.last.stop }
+        ensures passes { IfOk result (λ _. Passes self.old.cursor self.new.cursor) }
+        ensures refused { IfErr result (IsRefusal self.new.cursor.text) }
+        ensures same_open { self.new.cursor.opened ≡ self.old.cursor.opened }
+        ensures same_pairs { self.new.pairs.items ≡ self.old.pairs.items }
+        ensures accepted { IfOk result (λ token. ReadsHere self.old.cursor.text TokenClass.IdentifierName word.now self.old.cursor.last self.new.cursor.last × (self.new.cursor.last ≡ as_read (token_of token))) }
+        ensures missed { IfErr result (λ _. Misses self.old.cursor.text TokenClass.IdentifierName word.now self.old.cursor.last × (self.new.cursor.last ≡ self.old.cursor.last)) }
+        ensures here { IfErr result (IsSyntaxHere self.new.cursor) }
+    {
+        let Some(token) = self.cursor.peek(Goal::Div) else {
+            return Err(self.syntax_error());
+        };
+        if !is_name_token(&token, word) {
+            return Err(self.syntax_error());
+        }
+        self.advance(token);
+        Ok(token)
+    }
+
+    /// An IdentifierName (11.6).
+    pub(crate) fn identifier_name(&mut self) -> Result<Token<'s>, Fault>
+        ensures text { self.new.cursor.text ≡ self.old.cursor.text }
+        ensures forward { self.old.cursor.last.stop ≤ self.new.cursor.last.stop }
+        ensures passes { IfOk result (λ _. Passes self.old.cursor self.new.cursor) }
+        ensures refused { IfErr result (IsRefusal self.new.cursor.text) }
+        ensures same_open { self.new.cursor.opened ≡ self.old.cursor.opened }
+        ensures same_pairs { self.new.pairs.items ≡ self.old.pairs.items }
+        ensures accepted { IfOk result (λ token. NameHere self.old.cursor.text is_any self.old.cursor.last self.new.cursor.last × (self.new.cursor.last ≡ as_read (token_of token))) }
+        ensures missed { IfErr result (λ _. NoName self.old.cursor.text is_any self.old.cursor.last × (self.new.cursor.last ≡ self.old.cursor.last)) }
+        ensures here { IfErr result (IsSyntaxHere self.new.cursor) }
+    {
+        let Some(token) = self.cursor.peek(Goal::Div) else {
+            return Err(self.syntax_error());
+        };
+        if !is_identifier_name(&token) {
+            return Err(self.syntax_error());
+        }
+        self.advance(token);
+        Ok(token)
+    }
+
+    /// An Identifier (12.1).
+    pub(crate) fn identifier(&mut self) -> Result<Token<'s>, Fault>
+        ensures text { self.new.cursor.text ≡ self.old.cursor.text }
+        ensures forward { self.old.cursor.last.stop ≤ self.new.cursor.last.stop }
+        ensures passes { IfOk result (λ _. Passes self.old.cursor self.new.cursor) }
+        ensures refused { IfErr result (IsRefusal self.new.cursor.text) }
+        ensures same_open { self.new.cursor.opened ≡ self.old.cursor.opened }
+        ensures same_pairs { self.new.pairs.items ≡ self.old.pairs.items }
+        ensures accepted { IfOk result (λ token. NameHere self.old.cursor.text is_free_name self.old.cursor.last self.new.cursor.last × (self.new.cursor.last ≡ as_read (token_of token))) }
+        ensures missed { IfErr result (λ _. NoName self.old.cursor.text is_free_name self.old.cursor.last × (self.new.cursor.last ≡ self.old.cursor.last)) }
+        ensures here { IfErr result (IsSyntaxHere self.new.cursor) }
+    {
+        let Some(token) = self.cursor.peek(Goal::Div) else {
+            return Err(self.syntax_error());
+        };
+        if !is_identifier(&token) {
+            return Err(self.syntax_error());
+        }
+        self.advance(token);
+        Ok(token)
+    }
+
+    /// `var`, `let` or `const`, where it stands ahead.
+    pub(crate) fn declaration_word(&mut self) -> Option<Token<'s>>
+        ensures text { self.new.cursor.text ≡ self.old.cursor.text }
+        ensures forward { self.old.cursor.last.stop ≤ self.new.cursor.last.stop }
+        ensures same_open { self.new.cursor.opened ≡ self.old.cursor.opened }
+        ensures same_pairs { self.new.pairs.items ≡ self.old.pairs.items }
+        ensures accepted { IfSome result (λ token. NameHere self.old.cursor.text declares self.old.cursor.last self.new.cursor.last × (self.new.cursor.last ≡ as_read (token_of token))) }
+        ensures missed { IfNone result (NoName self.old.cursor.text declares self.old.cursor.last × (self.new.cursor.last ≡ self.old.cursor.last)) }
+    {
+        let Some(token) = self.cursor.peek(Goal::Div) else {
+            return None;
+        };
+        if !is_declaration_word(&token) {
+            return None;
+        }
+        self.advance(token);
+        Some(token)
+    }
+
+    /// From a place to the end of the last token.
+    pub(crate) fn span_from(&self, start: usize) -> Span
+        ensures { result ≡ record { start = start; end = self.now.cursor.last.stop } }
+    {
+        Span {
+            start,
+            end: self.cursor.last_end(),
+        }
+    }
+}

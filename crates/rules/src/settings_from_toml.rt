@@ -1,0 +1,186 @@
+//! Settings read from a TOML text.
+
+ghost use Rattle.std.specs.Prelude.{◌≡◌, Some, None, Err, codes, map, option_map, string_bytes, IfOk, IfErr};
+ghost use Rattle.toml.specs.Data.{get_member};
+ghost use Rattle.toml.specs.Errors.{IsMemory};
+ghost use Rattle.toml.specs.View.{array_view, items_view, table_view, view};
+ghost use Rattle.rules.specs.Toml.{flag_of, globals_of, off_among, off_of, off_of_members, on_of, set_of, settings_of};
+ghost use Rattle.rules.specs.Refusals.{IsRefusal};
+
+use crate::known_keys::{knows_keys, knows_rules};
+use crate::settings::Settings;
+use source_text::{Fault, MAX_BYTES};
+use std::alloc::Global;
+use std::collections::BTreeSet;
+use toml::value::Array;
+use toml::{Table, Value};
+
+fn refusal(error: &toml::de::Error) -> Fault
+    ensures bad { result ≡ Fault.BadSettings → ¬ IsMemory error.now }
+    ensures only { IsRefusal result }
+{
+    if error.is_memory() {
+        Fault::OutOfMemory
+    } else {
+        Fault::BadSettings
+    }
+}
+
+/// What stands at a key.
+fn look<'t>(table: &'t Table, key: &str) -> Option<&'t Value>
+    ensures { option_map (λ v. view v.now) result ≡ get_member key.now (table_view table.now) }
+{
+    table.get(key)
+}
+
+fn flag(table: &Table, key: &str) -> Option<bool>
+    ensures { result ≡ flag_of (get_member key.now (table_view table.now)) }
+{
+    match look(table, key) {
+        None => Some(false),
+        Some(value) => value.as_bool(),
+    }
+}
+
+/// The strings of an array, as a set.
+fn set(alloc: Global, values: &[Value]) -> Result<BTreeSet<String>, Fault>
+    ensures ok { IfOk result (λ s. set_of (items_view values.now) ≡ Some (map string_bytes s.keys)) }
+    ensures bad { result ≡ Err Fault.BadSettings → set_of (items_view values.now) ≡ None }
+    ensures only { IfErr result IsRefusal }
+{
+    let mut set = BTreeSet::new(alloc);
+    for value in values {
+        let Some(text) = value.as_str() else {
+            return Err(Fault::BadSettings);
+        };
+        let string = String::from_str(alloc, text)?;
+        set.insert(string)?;
+    }
+    Ok(set)
+}
+
+fn globals(alloc: Global, table: &Table) -> Result<BTreeSet<String>, Fault>
+    ensures ok { IfOk result (λ s. globals_of (get_member (codes "globals") (table_view table.now)) ≡ Some (map string_bytes s.keys)) }
+    ensures bad { result ≡ Err Fault.BadSettings → globals_of (get_member (codes "globals") (table_view table.now)) ≡ None }
+    ensures only { IfErr result IsRefusal }
+{
+    match look(table, "globals") {
+        None => Ok(BTreeSet::new(alloc)),
+        Some(value) => match value.as_array() {
+            Some(array) => set(alloc, array.as_slice()),
+            None => Err(Fault::BadSettings),
+        },
+    }
+}
+
+/// Whether a rule is on, where that is true, false or left out.
+fn rule_on(table: &Table, name: &str) -> Option<bool>
+    ensures { result ≡ on_of (get_member name.now (table_view table.now)) }
+{
+    match look(table, name) {
+        None => Some(true),
+        Some(value) => value.as_bool(),
+    }
+}
+
+/// Those of these rules that are off.
+fn off_among(alloc: Global, names: &[&str], table: &Table) -> Result<Vec<String>, Fault>
+    ensures ok { IfOk result (λ v. off_among (map (λ n. n.now) names.now) (table_view table.now) ≡ Some (map string_bytes v.items)) }
+    ensures bad { result ≡ Err Fault.BadSettings → off_among (map (λ n. n.now) names.now) (table_view table.now) ≡ None }
+    ensures only { IfErr result IsRefusal }
+{
+    let mut off = Vec::new(alloc);
+    for name in names {
+        let Some(is_on) = rule_on(table, *name) else {
+            return Err(Fault::BadSettings);
+        };
+        if !is_on {
+            let string = String::from_str(alloc, *name)?;
+            off.push(string)?;
+        }
+    }
+    Ok(off)
+}
+
+fn off(alloc: Global, table: &Table) -> Result<Vec<String>, Fault>
+    ensures ok { IfOk result (λ v. off_of (get_member (codes "rules") (table_view table.now)) ≡ Some (map string_bytes v.items)) }
+    ensures bad { result ≡ Err Fault.BadSettings → off_of (get_member (codes "rules") (table_view table.now)) ≡ None }
+    ensures only { IfErr result IsRefusal }
+{
+    match look(table, "rules") {
+        None => Ok(Vec::new(alloc)),
+        Some(value) => match value.as_table() {
+            Some(rules) => off_of_table(alloc, rules),
+            None => Err(Fault::BadSettings),
+        },
+    }
+}
+
+const RULE_NAMES: [&str; 9] = [
+    "eqeqeq",
+    "no-debugger",
+    "no-empty",
+    "no-extra-parens",
+    "no-shadow",
+    "no-undef",
+    "no-unused-vars",
+    "no-var",
+    "prefer-const",
+];
+
+fn off_of_table(alloc: Global, table: &Table) -> Result<Vec<String>, Fault>
+    ensures ok { IfOk result (λ v. off_of_members (table_view table.now) ≡ Some (map string_bytes v.items)) }
+    ensures bad { result ≡ Err Fault.BadSettings → off_of_members (table_view table.now) ≡ None }
+    ensures only { IfErr result IsRefusal }
+{
+    if !knows_rules(table) {
+        return Err(Fault::BadSettings);
+    }
+    off_among(alloc, RULE_NAMES.as_slice(), table)
+}
+
+fn settings_of(alloc: Global, table: &Table) -> Result<Settings, Fault>
+    ensures ok { IfOk result (λ s. settings_of (table_view table.now) ≡ Some s) }
+    ensures bad { result ≡ Err Fault.BadSettings → settings_of (table_view table.now) ≡ None }
+    ensures only { IfErr result IsRefusal }
+{
+    if !knows_keys(table) {
+        return Err(Fault::BadSettings);
+    }
+    let off = off(alloc, table)?;
+    let globals = globals(alloc, table)?;
+    let Some(allow_null) = flag(table, "allow-null") else {
+        return Err(Fault::BadSettings);
+    };
+    let Some(ignore_underscore) = flag(table, "ignore-underscore") else {
+        return Err(Fault::BadSettings);
+    };
+    Ok(Settings::new(off, globals, allow_null, ignore_underscore))
+}
+
+impl Settings {
+    ghost use Rattle.std.specs.Prelude.{◌≡◌, Some, IfErr, IfOk};
+    ghost use Rattle.rules.specs.Toml.{settings_of_text};
+    ghost use Rattle.rules.specs.Refusals.{RefusesToml};
+
+    /// The settings of a TOML text: `rules`, a table of names of the nine rules, each true or false; `globals`, an array of
+    /// strings; `allow-null` and `ignore-underscore`, each true or false; each key at most once, and left out as in
+    /// `default_settings`.
+    ///
+    /// # Errors
+    ///
+    /// `BadSettings` where the text has more than 16,777,216 bytes, which is seen before it is read, isn't TOML, or has
+    /// another key, another rule or a value of another kind, and nowhere else; `OutOfMemory`. No other fault.
+    pub fn from_toml(alloc: Global, text: &str) -> Result<Settings, Fault>
+        ensures ok { IfOk result (λ s. settings_of_text text.now ≡ Some s) }
+        ensures refused { IfErr result (RefusesToml text.now) }
+    {
+        if text.len() > MAX_BYTES {
+            return Err(Fault::BadSettings);
+        }
+        match toml::table_from_str(alloc, text) {
+            Ok(table) => settings_of(alloc, &table),
+            Err(error) => Err(refusal(&error)),
+        }
+    }
+}

@@ -1,0 +1,122 @@
+//! A list in chunks.
+
+ghost use Rattle.std.specs.Prelude.{◌≡◌, ◌<◌, ◌≤◌, OnOk, OnErr};
+ghost use Rattle.segmented_vec.specs.SegmentedVec.{HasBegun, segment_length, most_items, most_in_all};
+
+use std::alloc::{AllocError, Global};
+use std::marker::Model;
+
+/// How many items a chunk has room for. A chunk is small: it fits where other memory was let go.
+const SEGMENT_LENGTH: usize = 1024;
+
+/// How many items there may be for one more chunk to be begun: with it there is room for no more than a `Vec` may hold.
+const MAX_LENGTH: usize = 9_223_372_036_854_774_783;
+
+/// Some items, one behind the other.
+#[derive(Drop)]
+struct Segment<T> {
+    items: Vec<T>,
+}
+
+/// A list that is kept in chunks of one size, which contracts see as one list. It grows without moving what it holds.
+#[derive(Drop)]
+pub struct SegmentedVec<T> {
+    chunks: Vec<Segment<T>>,
+    count: usize,
+    alloc: Global,
+}
+
+impl<T> Model for SegmentedVec<T> {
+    ghost use Rattle.std.specs.Prelude.{◌≡◌, ◌*◌, ◌≤◌, List, length};
+    ghost use Rattle.segmented_vec.specs.SegmentedVec.{joined, segment_length, AllButTheLastAreFull, HaveRoom, most_in_all};
+
+    ghost Value = { List T };
+
+    ghost view = { λ ns. joined ns.chunks.items };
+
+    ghost invariant = { λ ns. AllButTheLastAreFull ns.chunks.items × (HaveRoom ns.chunks.items × ((ns.count ≡ length (joined ns.chunks.items)) × (length ns.chunks.items * segment_length ≤ most_in_all))) };
+}
+
+impl<T: Drop> SegmentedVec<T> {
+    ghost use Rattle.std.specs.Prelude.{◌≡◌, ◌<◌, ◌∷◌, ◌++◌, [], length, slice_index_or, OnOk, OnErr};
+
+    /// No items; no memory.
+    pub fn new(alloc: Global) -> SegmentedVec<T>
+        ensures { result ≡ [] }
+    {
+        SegmentedVec {
+            chunks: Vec::new(alloc),
+            count: 0,
+            alloc,
+        }
+    }
+
+    /// How many items it has.
+    #[inline(always)]
+    pub fn len(&self) -> usize
+        ensures value { result ≡ length self.now }
+        ensures few { result ≤ most_in_all }
+    {
+        self.count
+    }
+
+    /// The item with an index, counted from 0.
+    #[inline(always)]
+    pub fn at(&self, index: usize) -> &T
+        requires { index < length self.now }
+        ensures { result.now ≡ slice_index_or self.now index result.now }
+    {
+        let chunk = &self.chunks[index / SEGMENT_LENGTH];
+        &chunk.items[index % SEGMENT_LENGTH]
+    }
+
+    /// One more item behind the others; as it was where memory is refused.
+    ///
+    /// # Errors
+    ///
+    /// `AllocError` where memory is refused. Where there would be more items than a `Vec` may hold, room for all of them is asked for, as a `Vec`
+    /// of them would do.
+    #[inline(always)]
+    pub fn push(&mut self, item: T) -> Result<(), AllocError>
+        ensures items { OnOk result (self.new ≡ self.old ++ item ∷ []) }
+        ensures kept { OnErr result (self.new ≡ self.old) }
+    {
+        let place = self.count / SEGMENT_LENGTH;
+        if self.chunks.len() <= place {
+            push_segment(&mut self.chunks, self.count, self.alloc)?;
+        }
+        let chunk = &mut self.chunks[place];
+        chunk.items.push_reserved(item);
+        self.count += 1;
+        Ok(())
+    }
+}
+
+/// How many items the chunk behind `count` others is to have room for: as many as any chunk. Where all items would be more than a `Vec` may hold,
+/// as many as all: a `Vec` refuses that room, as it would refuse one more item if it held them.
+fn room_after(count: usize) -> usize
+    ensures chunk { segment_length ≤ result }
+    ensures few { result < 9223372036854775808 → count ≤ most_items }
+{
+    if count > MAX_LENGTH {
+        return count.saturating_add(SEGMENT_LENGTH);
+    }
+    SEGMENT_LENGTH
+}
+
+/// An empty chunk behind the others, with room for all its items. `count`: how many items there are.
+#[cold]
+#[inline(never)]
+fn push_segment<T: Drop>(
+    chunks: &mut Vec<Segment<T>>,
+    count: usize,
+    alloc: Global,
+) -> Result<(), AllocError>
+    ensures begun { OnOk result (HasBegun chunks.old.items chunks.new.items) }
+    ensures few { OnOk result (count ≤ most_items) }
+    ensures kept { OnErr result (chunks.new.items ≡ chunks.old.items) }
+{
+    let items = Vec::with_capacity(alloc, room_after(count))?;
+    chunks.push(Segment { items })?;
+    Ok(())
+}

@@ -1,5 +1,0 @@
-use Rattle.std.proofs.Common.{rules}
-use Rattle.source_text.proofs.memory.MemorySink.bytes.Goals as goal
-
-pub returns : goal.returns
-returns c = search rules

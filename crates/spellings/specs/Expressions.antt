@@ -1,0 +1,181 @@
+-- The outlines of expressions, of a node's kind, text and flags, of what stands at each place among its parts, of the parts' texts,
+-- and whether its first part is part of a chain with a `?.` in it.
+use Rattle.std.specs.Prelude.{ℕ, Bool, true, false, not, cond, ◌&&◌, List, [], ◌∷◌, Option, Some, None}
+use Rattle.language.specs.declared.Rank.{Rank}
+use Rattle.language.specs.declared.Rank.TheVariants.{Expression, Assignment, Conditional, ShortCircuit, Exponentiation, Unary, Update, LeftHandSide, Call, Member, Primary}
+use Rattle.language.specs.declared.Start.TheVariants.{Any, NoBrace}
+use Rattle.tree.specs.declared.kind.Kind.{Kind}
+use Rattle.tree.specs.declared.kind.Kind.TheVariants as kind
+use Rattle.tree.specs.declared.kind.Flags.{Flags}
+use Rattle.language.specs.Vocabulary.{is, among, is_assignment, is_update_operator, is_prefix, is_reserved, literal_class, is_name, is_target, is_pattern, is_super}
+use Rattle.spellings.specs.declared.position.PartAt.{PartAt}
+use Rattle.spellings.specs.declared.position.PartAt.TheVariants.{Past, Gap, Part}
+use Rattle.spellings.specs.declared.position.Position.TheVariants as at
+use Rattle.spellings.specs.declared.position.Slot.{Slot}
+use Rattle.spellings.specs.declared.position.Slot.TheVariants.{Fixed, Left, Lead, Callee, LeadSpine, LeadPattern}
+use Rattle.spellings.specs.declared.position.Slot.TheVariants as slot
+use Rattle.spellings.specs.declared.outline.FirstToken.TheVariants.{Brace, FunctionOrClass}
+use Rattle.spellings.specs.declared.outline.FixedSlots.{FixedSlots}
+use Rattle.spellings.specs.declared.outline.FixedSlots.TheVariants.{Zero, One, Two, Three}
+use Rattle.spellings.specs.declared.outline.ListSlots.{ListSlots}
+use Rattle.spellings.specs.declared.outline.ListSlots.TheVariants as tail
+use Rattle.spellings.specs.declared.outline.Outline.{Outline}
+use Rattle.grammar.specs.declared.operators.Operation.{Operation}
+use Rattle.grammar.specs.declared.operators.Operation.TheVariants.{Binds, Powers}
+use Rattle.grammar.specs.Operations.{operation_at}
+use Rattle.spellings.specs.Outlines.{assignment_at, whole_at, leaf, fronted, lined}
+
+-- what stands where among the parts; the texts of the first two; whether the first is part of a chain with a `?.`; whether the
+-- second ends in an `if` without `else`; whether behind the first more than one is a case without test
+pub record Around : Type 0 where
+  pub first : PartAt
+  pub second : PartAt
+  pub third : PartAt
+  pub fourth : PartAt
+  pub first_text : List ℕ
+  pub second_text : List ℕ
+  pub chained : Bool
+  pub dangling : Bool
+  pub defaults_twice : Bool
+
+-- the kind that stands there, that of the Program where none does
+abbrev pub kind_at : PartAt → Kind
+kind_at Past = kind.Program
+kind_at Gap = kind.Program
+kind_at (Part k) = k
+
+abbrev pub is_past : PartAt → Bool
+is_past Past = true
+is_past _ = false
+
+abbrev pub opens_with_word : Outline → Outline
+opens_with_word x = record x { opens = FunctionOrClass }
+
+abbrev pub opens_with_brace : Outline → Outline
+opens_with_brace x = record x { opens = Brace }
+
+abbrev pub identifier_outline : List ℕ → Option Outline
+identifier_outline w = cond (is_reserved w) None (Some (leaf Primary))
+
+abbrev pub literal_outline : List ℕ → Option Outline
+literal_outline w = cond (is_name (literal_class w) && not (among w ("true" ∷ "false" ∷ "null" ∷ []))) None (Some (leaf Primary))
+
+abbrev pub function_outline : PartAt → Option Outline
+function_outline Past = None
+function_outline Gap = Some (opens_with_word (lined Primary Zero (tail.Parameters (Fixed at.Body)) 1))
+function_outline (Part k) = Some (opens_with_word (lined Primary (One (Fixed at.Name)) (tail.Parameters (Fixed at.Body)) 1))
+
+abbrev pub heritage_at : Slot
+heritage_at = Fixed (at.Expression LeftHandSide true Any)
+
+abbrev pub class_front : PartAt → PartAt → Option FixedSlots
+class_front Past b = None
+class_front Gap Past = None
+class_front Gap Gap = Some (One (Fixed at.ClassBody))
+class_front Gap (Part k) = Some (Two heritage_at (Fixed at.ClassBody))
+class_front (Part j) Past = None
+class_front (Part j) Gap = Some (Two (Fixed at.Name) (Fixed at.ClassBody))
+class_front (Part j) (Part k) = Some (Three (Fixed at.Name) heritage_at (Fixed at.ClassBody))
+
+abbrev pub class_of_front : Option FixedSlots → Option Outline
+class_of_front None = None
+class_of_front (Some f) = Some (opens_with_word (fronted Primary f))
+
+abbrev pub class_outline : PartAt → PartAt → Option Outline
+class_outline a b = class_of_front (class_front a b)
+
+abbrev pub arrow_outline : Flags → Outline
+arrow_outline g = lined Assignment Zero (tail.Parameters (cond g.expression (slot.Tail Assignment NoBrace) (Fixed at.Body))) 0
+
+abbrev pub list_outline : ListSlots → Outline
+list_outline t = lined Primary Zero t 0
+
+abbrev pub new_outline : Outline
+new_outline = lined Member (One (Fixed (at.Expression Member true Any))) (tail.Arguments false) 1
+
+abbrev pub meta_outline : List ℕ → List ℕ → Option Outline
+meta_outline v w = cond (is v "new" && is w "target") (Some (fronted Member (Two (Fixed at.IdentifierName) (Fixed at.IdentifierName)))) None
+
+abbrev pub chain_outline : Bool → Option Outline
+chain_outline b = cond b (Some (fronted LeftHandSide (One LeadSpine))) None
+
+abbrev pub conditional_outline : Outline
+conditional_outline = fronted Conditional (Three (Left ShortCircuit) (Fixed assignment_at) (slot.Tail Assignment Any))
+
+abbrev pub sequence_outline : PartAt → Option Outline
+sequence_outline e = cond (is_past e) None (Some (lined Expression (One (Left Assignment)) (tail.Each (slot.Tail Assignment Any)) 1))
+
+abbrev pub power_outline : Outline
+power_outline = fronted Exponentiation (Two (Lead Update) (Fixed (at.Expression Exponentiation true Any)))
+
+abbrev pub selected : Flags → Slot
+selected g = Fixed (cond g.computed whole_at at.IdentifierName)
+
+abbrev pub member_outline : Flags → Kind → Option Outline
+member_outline g k = cond g.optional None (Some (fronted Member (Two (cond (is_super k) (Fixed at.Super) Callee) (selected g))))
+
+abbrev pub call_outline : Flags → Kind → Option Outline
+call_outline g k = cond g.optional None (Some (lined Call (One (cond (is_super k) (Fixed at.Super) (Lead Call))) (tail.Arguments false) 1))
+
+abbrev pub update_outline : List ℕ → Flags → Kind → Option Outline
+update_outline w g k = cond (is_update_operator w && is_target k) (Some (fronted Update (One (cond g.prefix (Fixed (at.Expression LeftHandSide true Any)) (Lead LeftHandSide))))) None
+
+abbrev pub unary_outline : List ℕ → Option Outline
+unary_outline w = cond (is_prefix w) (Some (fronted Unary (One (Fixed (at.Expression Unary true Any))))) None
+
+abbrev pub joined_outline : List ℕ → Rank → Rank → Outline
+joined_outline w z q = record (fronted z (Two (Left z) (slot.Tail q Any))) { needs_in = is w "in" }
+
+abbrev pub binary_outline : List ℕ → Operation → Option Outline
+binary_outline w (Binds false z q) = Some (joined_outline w z q)
+binary_outline w Powers = Some power_outline
+binary_outline w _ = None
+
+abbrev pub logical_outline : List ℕ → Operation → Option Outline
+logical_outline w (Binds true z q) = Some (joined_outline w z q)
+logical_outline w _ = None
+
+abbrev pub assigned : Slot → Option Outline
+assigned x = Some (fronted Assignment (Two x (slot.Tail Assignment Any)))
+
+abbrev pub assignment_outline : List ℕ → Kind → Option Outline
+assignment_outline w k = cond (is_assignment w) (cond (is_target k) (assigned (Lead LeftHandSide)) (cond (is w "=" && is_pattern k) (assigned LeadPattern) None)) None
+
+-- operations
+abbrev pub operation_outline : Kind → List ℕ → Flags → Around → Option Outline
+operation_outline kind.UpdateExpression w g a = update_outline w g (kind_at a.first)
+operation_outline kind.UnaryExpression w g a = unary_outline w
+operation_outline kind.BinaryExpression w g a = binary_outline w (operation_at w)
+operation_outline kind.LogicalExpression w g a = logical_outline w (operation_at w)
+operation_outline kind.ConditionalExpression w g a = Some conditional_outline
+operation_outline kind.AssignmentExpression w g a = assignment_outline w (kind_at a.first)
+operation_outline kind.SequenceExpression w g a = sequence_outline a.second
+operation_outline _ w g a = None
+
+-- what stands at a symbol from LeftHandSide to Member
+abbrev pub reference_outline : Kind → List ℕ → Flags → Around → Option Outline
+reference_outline kind.TaggedTemplateExpression w g a = Some (fronted Member (Two Callee (Fixed at.TaggedQuasi)))
+reference_outline kind.MemberExpression w g a = member_outline g (kind_at a.first)
+reference_outline kind.CallExpression w g a = call_outline g (kind_at a.first)
+reference_outline kind.NewExpression w g a = Some new_outline
+reference_outline kind.MetaProperty w g a = meta_outline a.first_text a.second_text
+reference_outline kind.ImportExpression w g a = Some (fronted Call (One (Fixed assignment_at)))
+reference_outline kind.ChainExpression w g a = chain_outline a.chained
+reference_outline k w g a = operation_outline k w g a
+
+-- functions and classes
+abbrev pub definition_outline : Kind → List ℕ → Flags → Around → Option Outline
+definition_outline kind.FunctionExpression w g a = function_outline a.first
+definition_outline kind.ClassExpression w g a = class_outline a.first a.second
+definition_outline kind.ArrowFunctionExpression w g a = Some (arrow_outline g)
+definition_outline k w g a = reference_outline k w g a
+
+-- the others at Primary
+abbrev pub expression_outline : Kind → List ℕ → Flags → Around → Option Outline
+expression_outline kind.Identifier w g a = identifier_outline w
+expression_outline kind.Literal w g a = literal_outline w
+expression_outline kind.ThisExpression w g a = Some (leaf Primary)
+expression_outline kind.ArrayExpression w g a = Some (list_outline (tail.Arguments true))
+expression_outline kind.ObjectExpression w g a = Some (opens_with_brace (list_outline tail.ObjectParts))
+expression_outline kind.TemplateLiteral w g a = Some (list_outline (tail.Chunks true))
+expression_outline k w g a = definition_outline k w g a

@@ -1,0 +1,273 @@
+//! The outlines of expressions (ECMA-262 12.1 to 12.16).
+
+ghost use Rattle.std.specs.Prelude.{◌≡◌, option_map};
+ghost use Rattle.tree.specs.Node.{node_tree};
+ghost use Rattle.tree.specs.Tree.{kind_of, text_of, flags_of, parts_of};
+ghost use Rattle.grammar.specs.Operations.{operation_at};
+ghost use Rattle.spellings.specs.Entries.{around};
+ghost use Rattle.spellings.specs.Expressions.{expression_outline as outline_of_expression, definition_outline as outline_of_definition, reference_outline as outline_of_reference, operation_outline as outline_of_operation, identifier_outline as outline_of_identifier, literal_outline as outline_of_literal, function_outline as outline_of_function, class_outline as outline_of_class, member_outline as outline_of_member, call_outline as outline_of_call, update_outline as outline_of_update, unary_outline as outline_of_unary, binary_outline as outline_of_binary, logical_outline as outline_of_logical, assignment_outline as outline_of_assignment, kind_at as kind_of_entry, meta_outline as outline_of_meta, chain_outline as outline_of_chain, sequence_outline as outline_of_sequence, joined_outline as outline_joined, arrow_outline as outline_of_arrow};
+ghost use Rattle.spellings.specs.Productions.{outline_of};
+
+use crate::leaves::is_super;
+use crate::outline::Outline;
+use crate::position::{PartAt, part_at, part_text};
+use crate::production::{Production, outlined};
+use grammar::{
+    Operation, has_optional, is_assignment, is_literal, is_pattern, is_prefix_operator,
+    is_reserved, is_target, is_update_operator, operation_of,
+};
+use language::Rank;
+use tree::{Flags, Kind, Node};
+
+/// The outline of an expression; none where the table has no way to spell it.
+pub(crate) fn expression_outline(node: Node) -> Option<Outline>
+    ensures { result ≡ outline_of_expression (kind_of (node_tree node.entry)) (text_of (node_tree node.entry)) (flags_of (node_tree node.entry)) (around (parts_of (node_tree node.entry))) }
+{
+    outlined(expression_production(node))
+}
+
+/// The production of an expression; none where the table has no way to spell it.
+pub(crate) fn expression_production(node: Node) -> Option<Production>
+    ensures { option_map outline_of result ≡ outline_of_expression (kind_of (node_tree node.entry)) (text_of (node_tree node.entry)) (flags_of (node_tree node.entry)) (around (parts_of (node_tree node.entry))) }
+{
+    match node.kind() {
+        Kind::Identifier => identifier_production(node.text()),
+        Kind::Literal => literal_production(node.text()),
+        Kind::ThisExpression => Some(Production::Leaf),
+        Kind::ArrayExpression => Some(Production::Array),
+        Kind::ObjectExpression => Some(Production::Object),
+        Kind::TemplateLiteral => Some(Production::Template),
+        _ => definition_production(node),
+    }
+}
+
+/// Functions and classes.
+fn definition_production(node: Node) -> Option<Production>
+    ensures { option_map outline_of result ≡ outline_of_definition (kind_of (node_tree node.entry)) (text_of (node_tree node.entry)) (flags_of (node_tree node.entry)) (around (parts_of (node_tree node.entry))) }
+{
+    match node.kind() {
+        Kind::FunctionExpression => function_production(part_at(node, 0)),
+        Kind::ClassExpression => class_production(part_at(node, 0), part_at(node, 1)),
+        Kind::ArrowFunctionExpression => Some(arrow_production(node.flags())),
+        _ => reference_production(node),
+    }
+}
+
+fn identifier_production(name: &str) -> Option<Production>
+    ensures { option_map outline_of result ≡ outline_of_identifier name.now }
+{
+    if is_reserved(name) {
+        return None;
+    }
+    Some(Production::Leaf)
+}
+
+fn literal_production(raw: &str) -> Option<Production>
+    ensures { option_map outline_of result ≡ outline_of_literal raw.now }
+{
+    if is_literal(raw) {
+        return Some(Production::Leaf);
+    }
+    None
+}
+
+/// A function, by what stands at its name's place.
+pub(crate) fn function_production(name: PartAt) -> Option<Production>
+    ensures { option_map outline_of result ≡ outline_of_function name }
+{
+    match name {
+        PartAt::Past => None,
+        PartAt::Gap => Some(Production::Function { is_named: false }),
+        PartAt::Part(_) => Some(Production::Function { is_named: true }),
+    }
+}
+
+/// A class, by what stands at the places of its name and of what it extends.
+pub(crate) fn class_production(name: PartAt, heritage: PartAt) -> Option<Production>
+    ensures { option_map outline_of result ≡ outline_of_class name heritage }
+{
+    let (is_named, extends) = match (name, heritage) {
+        (PartAt::Past, _) | (_, PartAt::Past) => return None,
+        (PartAt::Gap, PartAt::Gap) => (false, false),
+        (PartAt::Gap, PartAt::Part(_)) => (false, true),
+        (PartAt::Part(_), PartAt::Gap) => (true, false),
+        (PartAt::Part(_), PartAt::Part(_)) => (true, true),
+    };
+    Some(Production::Class { is_named, extends })
+}
+
+fn arrow_production(flags: Flags) -> Production
+    ensures { outline_of result ≡ outline_of_arrow flags }
+{
+    Production::Arrow {
+        is_expression: flags.expression,
+    }
+}
+
+/// What stands at a symbol from LeftHandSide to Member.
+#[tactic(auto, using(grammar::proofs::ChainParts::chained_first))]
+fn reference_production(node: Node) -> Option<Production>
+    ensures { option_map outline_of result ≡ outline_of_reference (kind_of (node_tree node.entry)) (text_of (node_tree node.entry)) (flags_of (node_tree node.entry)) (around (parts_of (node_tree node.entry))) }
+{
+    match node.kind() {
+        Kind::TaggedTemplateExpression => Some(Production::Tagged),
+        Kind::MemberExpression => member_production(node.flags(), kind_at(part_at(node, 0))),
+        Kind::CallExpression => call_production(node.flags(), kind_at(part_at(node, 0))),
+        Kind::NewExpression => Some(Production::New),
+        Kind::MetaProperty => meta_production(part_text(node, 0), part_text(node, 1)),
+        Kind::ImportExpression => Some(Production::Import),
+        Kind::ChainExpression => chain_production(has_optional(node.part(0))),
+        _ => operation_production(node),
+    }
+}
+
+/// The kind that stands there, that of the Program where none does.
+pub(crate) fn kind_at(entry: PartAt) -> Kind
+    ensures { result ≡ kind_of_entry entry }
+{
+    match entry {
+        PartAt::Part(kind) => kind,
+        PartAt::Past | PartAt::Gap => Kind::Program,
+    }
+}
+
+fn member_production(flags: Flags, object: Kind) -> Option<Production>
+    ensures { option_map outline_of result ≡ outline_of_member flags object }
+{
+    if flags.optional {
+        return None;
+    }
+    Some(Production::Member {
+        of_super: is_super(object),
+        is_computed: flags.computed,
+    })
+}
+
+fn call_production(flags: Flags, callee: Kind) -> Option<Production>
+    ensures { option_map outline_of result ≡ outline_of_call flags callee }
+{
+    if flags.optional {
+        return None;
+    }
+    Some(Production::Call {
+        of_super: is_super(callee),
+    })
+}
+
+fn meta_production(meta: &str, property: &str) -> Option<Production>
+    ensures { option_map outline_of result ≡ outline_of_meta meta.now property.now }
+{
+    if meta == "new" && property == "target" {
+        return Some(Production::Meta);
+    }
+    None
+}
+
+fn chain_production(chained: bool) -> Option<Production>
+    ensures { option_map outline_of result ≡ outline_of_chain chained }
+{
+    if chained {
+        return Some(Production::Chain);
+    }
+    None
+}
+
+/// Operations.
+fn operation_production(node: Node) -> Option<Production>
+    ensures { option_map outline_of result ≡ outline_of_operation (kind_of (node_tree node.entry)) (text_of (node_tree node.entry)) (flags_of (node_tree node.entry)) (around (parts_of (node_tree node.entry))) }
+{
+    let text = node.text();
+    match node.kind() {
+        Kind::UpdateExpression => update_production(text, node.flags(), kind_at(part_at(node, 0))),
+        Kind::UnaryExpression => unary_production(text),
+        Kind::BinaryExpression => binary_production(text),
+        Kind::LogicalExpression => logical_production(text),
+        Kind::ConditionalExpression => Some(Production::Conditional),
+        Kind::AssignmentExpression => assignment_production(text, kind_at(part_at(node, 0))),
+        Kind::SequenceExpression => sequence_production(part_at(node, 1)),
+        _ => None,
+    }
+}
+
+fn update_production(operator: &str, flags: Flags, operand: Kind) -> Option<Production>
+    ensures { option_map outline_of result ≡ outline_of_update operator.now flags operand }
+{
+    if !is_update_operator(operator) || !is_target(operand) {
+        return None;
+    }
+    Some(Production::Update {
+        is_prefix: flags.prefix,
+    })
+}
+
+fn unary_production(operator: &str) -> Option<Production>
+    ensures { option_map outline_of result ≡ outline_of_unary operator.now }
+{
+    if !is_prefix_operator(operator) {
+        return None;
+    }
+    Some(Production::Unary)
+}
+
+/// Two operands that an operator binds.
+fn infix_production(operator: &str, own: Rank, right: Rank) -> Production
+    ensures { outline_of result ≡ outline_joined operator.now own right }
+{
+    Production::Infix {
+        own,
+        right,
+        needs_in: operator == "in",
+    }
+}
+
+fn binary_production(operator: &str) -> Option<Production>
+    ensures { option_map outline_of result ≡ outline_of_binary operator.now (operation_at operator.now) }
+{
+    match operation_of(operator) {
+        Operation::Binds {
+            is_logical: false,
+            own,
+            right,
+        } => Some(infix_production(operator, own, right)),
+        Operation::Powers => Some(Production::Exponentiation),
+        _ => None,
+    }
+}
+
+fn logical_production(operator: &str) -> Option<Production>
+    ensures { option_map outline_of result ≡ outline_of_logical operator.now (operation_at operator.now) }
+{
+    match operation_of(operator) {
+        Operation::Binds {
+            is_logical: true,
+            own,
+            right,
+        } => Some(infix_production(operator, own, right)),
+        _ => None,
+    }
+}
+
+fn assignment_production(operator: &str, left: Kind) -> Option<Production>
+    ensures { option_map outline_of result ≡ outline_of_assignment operator.now left }
+{
+    if !is_assignment(operator) {
+        return None;
+    }
+    if is_target(left) {
+        return Some(Production::Assignment { to_pattern: false });
+    }
+    if operator == "=" && is_pattern(left) {
+        return Some(Production::Assignment { to_pattern: true });
+    }
+    None
+}
+
+/// A sequence, by what stands at the place of its second part.
+fn sequence_production(second: PartAt) -> Option<Production>
+    ensures { option_map outline_of result ≡ outline_of_sequence second }
+{
+    match second {
+        PartAt::Past => None,
+        PartAt::Gap | PartAt::Part(_) => Some(Production::Sequence),
+    }
+}

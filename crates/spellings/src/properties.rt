@@ -1,0 +1,171 @@
+//! The outlines of properties, patterns and what stands in them (ECMA-262 12.2.6, 12.15.5, 13.3.3).
+
+ghost use Rattle.std.specs.Prelude.{◌≡◌, option_map};
+ghost use Rattle.spellings.specs.Others.{spread_outline as outline_of_spread, keyed_outline as outline_keyed, echo_outline as outline_of_echo, form_outline as outline_of_form, property_outline as outline_of_property, keyed_at as outline_keyed_at, shorthand_outline as outline_of_shorthand, pattern_form_outline as outline_of_pattern_form, pattern_property_outline as outline_of_pattern_property, pattern_outline as outline_of_pattern, defaulted as outline_defaulted, element_outline as outline_of_element, one_at as outline_one_at, rest_outline as outline_of_rest};
+ghost use Rattle.spellings.specs.Productions.{outline_of};
+
+use crate::list_slots::{bound, with_default};
+use crate::position::{ASSIGNMENT, Position};
+use crate::production::Production;
+use grammar::is_pattern;
+use tree::{Flags, Form, Kind};
+
+pub(crate) fn spread_production(kind: Kind) -> Option<Production>
+    ensures { option_map outline_of result ≡ outline_of_spread kind }
+{
+    match kind {
+        Kind::SpreadElement => Some(Production::Single(ASSIGNMENT)),
+        _ => None,
+    }
+}
+
+/// A key, and what stands behind it at a position.
+pub(crate) fn keyed_production(computed: bool, value: Position) -> Option<Production>
+    ensures { option_map outline_of result ≡ outline_keyed computed value }
+{
+    Some(Production::Keyed {
+        is_computed: computed,
+        value,
+    })
+}
+
+/// A shorthand key, and its value at a position.
+fn shorthand_key_production(computed: bool, value: Position) -> Option<Production>
+    ensures { option_map outline_of result ≡ outline_of_echo computed value }
+{
+    if computed {
+        return None;
+    }
+    Some(Production::ShorthandProperty(value))
+}
+
+/// A property of an object.
+pub(crate) fn property_production(kind: Kind, flags: Flags) -> Option<Production>
+    ensures { option_map outline_of result ≡ outline_of_property kind flags }
+{
+    match kind {
+        Kind::Property => form_production(flags.computed, flags.form),
+        _ => None,
+    }
+}
+
+fn form_production(computed: bool, form: Form) -> Option<Production>
+    ensures { option_map outline_of result ≡ outline_of_form computed form }
+{
+    match form {
+        Form::Init => keyed_production(computed, ASSIGNMENT),
+        Form::Get | Form::Set | Form::Method => keyed_production(computed, Position::Method(form)),
+        Form::Shorthand => shorthand_key_production(computed, Position::Name),
+        Form::Constructor => None,
+    }
+}
+
+/// A property of an object pattern, by the kind of its value.
+pub(crate) fn pattern_property_production(
+    binds: bool,
+    kind: Kind,
+    flags: Flags,
+    value: Kind,
+) -> Option<Production>
+    ensures { option_map outline_of result ≡ outline_of_pattern_property binds kind flags value }
+{
+    match kind {
+        Kind::Property => pattern_form_production(binds, flags.computed, flags.form, value),
+        _ => None,
+    }
+}
+
+fn pattern_form_production(
+    binds: bool,
+    computed: bool,
+    form: Form,
+    value: Kind,
+) -> Option<Production>
+    ensures { option_map outline_of result ≡ outline_of_pattern_form binds computed form value }
+{
+    match form {
+        Form::Init => keyed_at(computed, with_default(binds, value)),
+        Form::Shorthand => shorthand_production(computed, value),
+        _ => None,
+    }
+}
+
+fn keyed_at(computed: bool, value: Option<Position>) -> Option<Production>
+    ensures { option_map outline_of result ≡ outline_keyed_at computed value }
+{
+    match value {
+        Some(value) => keyed_production(computed, value),
+        None => None,
+    }
+}
+
+fn shorthand_production(computed: bool, value: Kind) -> Option<Production>
+    ensures { option_map outline_of result ≡ outline_of_shorthand computed value }
+{
+    match value {
+        Kind::Identifier => shorthand_key_production(computed, Position::Name),
+        Kind::AssignmentPattern => shorthand_key_production(
+            computed,
+            Position::Element { binds: true },
+        ),
+        _ => None,
+    }
+}
+
+pub(crate) fn pattern_production(binds: bool, kind: Kind) -> Option<Production>
+    ensures { option_map outline_of result ≡ outline_of_pattern binds kind }
+{
+    match kind {
+        Kind::ArrayPattern => Some(Production::ArrayPattern { binds }),
+        Kind::ObjectPattern => Some(Production::ObjectPattern { binds }),
+        _ => None,
+    }
+}
+
+/// What has a default, by the kind of what is bound or assigned.
+pub(crate) fn element_production(binds: bool, kind: Kind, target: Kind) -> Option<Production>
+    ensures { option_map outline_of result ≡ outline_of_element binds kind target }
+{
+    match kind {
+        Kind::AssignmentPattern => defaulted(bound(binds, target)),
+        _ => None,
+    }
+}
+
+fn defaulted(target: Option<Position>) -> Option<Production>
+    ensures { option_map outline_of result ≡ outline_defaulted target }
+{
+    match target {
+        Some(target) => Some(Production::WithDefault(target)),
+        None => None,
+    }
+}
+
+/// A rest, by the kind of what is bound or assigned; that of an object is no pattern.
+pub(crate) fn rest_production(
+    binds: bool,
+    of_object: bool,
+    kind: Kind,
+    target: Kind,
+) -> Option<Production>
+    ensures { option_map outline_of result ≡ outline_of_rest binds of_object kind target }
+{
+    match kind {
+        Kind::RestElement => {
+            if of_object && is_pattern(target) {
+                return None;
+            }
+            one_at(bound(binds, target))
+        }
+        _ => None,
+    }
+}
+
+fn one_at(position: Option<Position>) -> Option<Production>
+    ensures { option_map outline_of result ≡ outline_one_at position }
+{
+    match position {
+        Some(position) => Some(Production::Single(position)),
+        None => None,
+    }
+}

@@ -1,5 +1,0 @@
-use Rattle.std.proofs.Common.{rules}
-use Rattle.streams.proofs.refusal.status.Goals as goal
-
-pub returns-in-BadTable : goal.returns-in-BadTable
-returns-in-BadTable c = search rules

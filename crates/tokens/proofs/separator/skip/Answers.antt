@@ -1,5 +1,0 @@
-use Rattle.tokens.proofs.Separating.{gap_begins}
-use Rattle.tokens.proofs.separator.skip.Goals as goal
-
-pub returns-then-is_solid-clause-gap : goal.returns-then-is_solid-clause-gap
-returns-then-is_solid-clause-gap c = gap_begins c.args.text.now c.args.at c.requires

@@ -1,0 +1,22 @@
+-- The class of the tokens that a goal reads in front of a text, by the first character, and the second behind a point.
+use Rattle.std.specs.Prelude.{ℕ, Bool, List, [], ◌∷◌, if◌then◌else◌}
+use Rattle.tokens.specs.Alphabet.{one_of, begins_with, is_decimal_digit}
+use Rattle.tokens.specs.Lexical.{LexicalClass, IdentifierName, Punctuator, NumericLiteral, StringLiteral, Template, End}
+use Rattle.tokens.specs.Goals.{Goal, reads_regexps, reads_template_parts}
+
+-- a character with which nothing but a punctuator begins
+abbrev pub is_mark : ℕ → Bool
+is_mark c = one_of "{()[];,<>=!+-*%&|^~?:" c
+
+-- the class by the first character, where a flag says whether a digit stands behind a point
+abbrev pub class_by : Goal → ℕ → Bool → LexicalClass
+class_by goal c digit =
+    if is_decimal_digit c then NumericLiteral else if one_of "'\"" c then StringLiteral else if one_of "`" c then Template
+    else if one_of "}" c then (if reads_template_parts goal then Template else Punctuator)
+    else if one_of "/" c then (if reads_regexps goal then LexicalClass.RegularExpressionLiteral else Punctuator)
+    else if one_of "." c then (if digit then NumericLiteral else Punctuator)
+    else if is_mark c then Punctuator else IdentifierName
+
+abbrev pub class_of : Goal → List ℕ → LexicalClass
+class_of goal [] = End
+class_of goal (c ∷ cs) = class_by goal c (begins_with is_decimal_digit cs)

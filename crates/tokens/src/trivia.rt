@@ -1,0 +1,262 @@
+//! White space, line terminators and comments (ECMA-262 11.2 to 11.4).
+
+ghost use Rattle.std.specs.Prelude.{◌≡◌, ◌<◌, ◌||◌, not, IfSome, IfNone, IsTrue};
+ghost use Rattle.source_text.specs.Lines.{is_line_terminator};
+ghost use Rattle.source_text.specs.Source.{IsPlace};
+ghost use Rattle.source_text.specs.Spaces.{is_white_space};
+ghost use Rattle.tokens.specs.Alphabet.{one_of};
+ghost use Rattle.tokens.specs.Closers.{is_plain};
+ghost use Rattle.tokens.specs.Comments.{begins_comment};
+ghost use Rattle.tokens.specs.Reading.{behind};
+ghost use Rattle.tokens.specs.Scanned.{AllPass, IsBlockRest, IsCommentRest, IsGap, IsRun, IsSeparator, IsSolid, NoBlockRest, NoCommentRest};
+
+use crate::char_at::{ascii_char_at, char_at};
+use source_text::{is_line_terminator, is_space};
+
+/// The place behind separators, and whether a line terminator is among them.
+#[derive(Clone, Copy)]
+pub struct Trivia {
+    pub end: usize,
+    pub has_line_break: bool,
+}
+
+// The place behind the line terminators, the white space and the comments at a place; often the place itself.
+#[inline]
+pub fn skip_trivia(text: &str, at: usize) -> Trivia
+    requires { IsPlace text.now at }
+    ensures gap { IsGap text.now at result.end result.has_line_break }
+    ensures solid { IsSolid (behind text.now result.end) }
+{
+    if is_solid(text, at) {
+        return Trivia {
+            end: at,
+            has_line_break: false,
+        };
+    }
+    skip_all_trivia(text, at)
+}
+
+// The same, whatever stands there.
+fn skip_all_trivia(text: &str, at: usize) -> Trivia
+    requires { IsPlace text.now at }
+    ensures gap { IsGap text.now at result.end result.has_line_break }
+    ensures solid { IsSolid (behind text.now result.end) }
+{
+    let mut gap = blanks(text, at);
+    while let Some(next) = separator(text, gap.end) {
+        let more = blanks(text, next.end);
+        gap = Trivia {
+            end: more.end,
+            has_line_break: gap.has_line_break | next.has_line_break | more.has_line_break,
+        };
+    }
+    gap
+}
+
+// The place behind the line terminators and the white space of ASCII at a place.
+#[inline]
+fn blanks(text: &str, at: usize) -> Trivia
+    requires { IsPlace text.now at }
+    ensures { IsGap text.now at result.end result.has_line_break }
+{
+    let mut gap = Trivia {
+        end: at,
+        has_line_break: false,
+    };
+    while let Some(step) = ascii_char_at(text, gap.end) {
+        if !is_ascii_blank(step.c) {
+            return gap;
+        }
+        gap = Trivia {
+            end: step.end,
+            has_line_break: gap.has_line_break | is_line_terminator(step.c),
+        };
+    }
+    gap
+}
+
+// Whether a character of ASCII separates tokens by itself.
+#[inline]
+fn is_ascii_blank(c: char) -> bool
+    requires { c < 128 }
+    ensures { result ≡ (is_white_space c || is_line_terminator c) }
+{
+    matches!(c, ' ' | '\t'..='\r')
+}
+
+// Whether a character of ASCII stands at a place with which no separator begins.
+#[inline]
+fn is_solid(text: &str, at: usize) -> bool
+    requires { IsPlace text.now at }
+    ensures { IsTrue result → IsSolid (behind text.now at) }
+{
+    match ascii_char_at(text, at) {
+        Some(step) => separates_none(step.c),
+        None => false,
+    }
+}
+
+// Whether no separator begins with a character of ASCII.
+#[inline]
+fn separates_none(c: char) -> bool
+    requires { c < 128 }
+    ensures { result ≡ not (one_of "/" c || is_white_space c || is_line_terminator c) }
+{
+    !matches!(c, '/' | ' ' | '\t'..='\r')
+}
+
+// A white space, a line terminator or a comment.
+#[inline]
+fn separator(text: &str, at: usize) -> Option<Trivia>
+    requires { IsPlace text.now at }
+    ensures some { IfSome result (λ g. IsSeparator text.now at g.end g.has_line_break) }
+    ensures forward { IfSome result (λ g. at < g.end) }
+    ensures none { IfNone result (IsSolid (behind text.now at)) }
+{
+    if is_solid(text, at) {
+        return None;
+    }
+    any_separator(text, at)
+}
+
+// The same, whatever stands there.
+fn any_separator(text: &str, at: usize) -> Option<Trivia>
+    requires { IsPlace text.now at }
+    ensures some { IfSome result (λ g. IsSeparator text.now at g.end g.has_line_break) }
+    ensures forward { IfSome result (λ g. at < g.end) }
+    ensures none { IfNone result (IsSolid (behind text.now at)) }
+{
+    let Some(step) = char_at(text, at) else {
+        return None;
+    };
+    if step.c == '/' {
+        return comment(text, step.end);
+    }
+    let has_line_break = is_line_terminator(step.c);
+    if has_line_break | is_space(step.c) {
+        return Some(Trivia {
+            end: step.end,
+            has_line_break,
+        });
+    }
+    None
+}
+
+// A comment whose `/` stands before a place.
+fn comment(text: &str, at: usize) -> Option<Trivia>
+    requires { IsPlace text.now at }
+    ensures some { IfSome result (λ g. IsCommentRest text.now at g.end g.has_line_break) }
+    ensures none { IfNone result (NoCommentRest text.now at) }
+{
+    let Some(step) = char_at(text, at) else {
+        return None;
+    };
+    match step.c {
+        '/' => Some(Trivia {
+            end: line_end(text, step.end),
+            has_line_break: false,
+        }),
+        '*' => block_rest(text, step.end),
+        _ => None,
+    }
+}
+
+// The place of the first line terminator from a place on, or the end of the text.
+fn line_end(text: &str, at: usize) -> usize
+    requires { IsPlace text.now at }
+    ensures { IsRun (λ c. not (is_line_terminator c)) text.now at result }
+{
+    let mut end = at;
+    while let Some(step) = char_at(text, end) {
+        if is_line_terminator(step.c) {
+            return end;
+        }
+        end = plain_end(text, step.end);
+    }
+    end
+}
+
+// The place behind the characters at a place that neither end a line nor begin the end of a comment, up to the first
+// that isn't of ASCII at most.
+#[inline]
+fn plain_end(text: &str, at: usize) -> usize
+    requires { IsPlace text.now at }
+    ensures { AllPass is_plain text.now at result }
+{
+    let mut end = at;
+    while let Some(step) = ascii_char_at(text, end) {
+        if !is_ascii_plain(step.c) {
+            return end;
+        }
+        end = step.end;
+    }
+    end
+}
+
+// The same, but behind a `*` the place itself.
+#[inline]
+fn plain_unless(text: &str, at: usize, starred: bool) -> usize
+    requires { IsPlace text.now at }
+    ensures plain { AllPass is_plain text.now at result }
+    ensures stays { IsTrue starred → result ≡ at }
+{
+    if starred {
+        return at;
+    }
+    plain_end(text, at)
+}
+
+// Whether a character of ASCII is one of them.
+#[inline]
+fn is_ascii_plain(c: char) -> bool
+    requires { c < 128 }
+    ensures { result ≡ is_plain c }
+{
+    !matches!(c, '\n' | '\r' | '*')
+}
+
+// What is left of a comment behind its `/*`, with the first `*/`.
+fn block_rest(text: &str, at: usize) -> Option<Trivia>
+    requires { IsPlace text.now at }
+    ensures some { IfSome result (λ g. IsBlockRest text.now at g.end g.has_line_break) }
+    ensures none { IfNone result (NoBlockRest text.now at) }
+{
+    let mut gap = Trivia {
+        end: at,
+        has_line_break: false,
+    };
+    let mut starred = false;
+    while let Some(step) = char_at(text, gap.end) {
+        let has_line_break = gap.has_line_break | is_line_terminator(step.c);
+        if starred & (step.c == '/') {
+            return Some(Trivia {
+                end: step.end,
+                has_line_break,
+            });
+        }
+        starred = step.c == '*';
+        gap = Trivia {
+            end: plain_unless(text, step.end, starred),
+            has_line_break,
+        };
+    }
+    None
+}
+
+// Whether a comment can begin at a place, whether it ends or not.
+#[inline]
+pub fn comment_begins(text: &str, at: usize) -> bool
+    requires { IsPlace text.now at }
+    ensures { result ≡ begins_comment (behind text.now at) }
+{
+    let Some(first) = char_at(text, at) else {
+        return false;
+    };
+    if first.c != '/' {
+        return false;
+    }
+    let Some(second) = char_at(text, first.end) else {
+        return false;
+    };
+    second.c == '/' || second.c == '*'
+}

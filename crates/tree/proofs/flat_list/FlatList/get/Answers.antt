@@ -1,0 +1,35 @@
+use Rattle.std.proofs.Common.{◌≡◌, ◌∙◌, ◌<◌, ◌≤◌, ap, sym, [], length, rules, get_or, Some}
+use Rattle.tree.specs.Tree.{Tree}
+use Rattle.tree.specs.Flat.{trees}
+use Rattle.tree.proofs.Runs.{part_named, part_low, gap_named, past_named}
+use Rattle.tree.proofs.flat_list.FlatList.get.Goals as goal
+
+pub returns-in-None : goal.returns-in-None
+returns-in-None c =
+    let os = c.args.self.parts.now in
+    let past : length os ≤ c.args.index = search rules in
+    sym (past_named (trees c.args.self.tree.now.parts.items [] c.args.self.tree.now.nodes) os c.args.index past)
+
+pub new-requires : goal.new-requires
+new-requires c =
+    let os = c.args.self.parts.now in
+    let x = c.in-Some.part.now in
+    let here : c.args.index < length os = search rules in
+    let read : x ≡ get_or os c.args.index x = search rules in
+    part_low (length c.args.self.tree.now.nodes) os c.args.index x c.in-Some-number.part c.args.self.before here read (sym c.number.ensures ∙ c.in-Some-number.is)
+
+pub returns-in-Some-number : goal.returns-in-Some-number
+returns-in-Some-number c =
+    let os = c.args.self.parts.now in
+    let x = c.in-Some.part.now in
+    let here : c.args.index < length os = search rules in
+    let read : x ≡ get_or os c.args.index x = search rules in
+    ap (λ (t : Tree). Some t) c.new.ensures.tree ∙ sym (part_named c.args.self.tree.now.parts.items c.args.self.tree.now.nodes os c.args.index x c.in-Some-number.part c.args.self.before here read (sym c.number.ensures ∙ c.in-Some-number.is))
+
+pub returns-in-None-number : goal.returns-in-None-number
+returns-in-None-number c =
+    let os = c.args.self.parts.now in
+    let x = c.in-Some.part.now in
+    let here : c.args.index < length os = search rules in
+    let read : x ≡ get_or os c.args.index x = search rules in
+    sym (gap_named (trees c.args.self.tree.now.parts.items [] c.args.self.tree.now.nodes) os c.args.index x here read (sym c.number.ensures ∙ c.in-None-number.is))

@@ -1,0 +1,83 @@
+//! A run of parts in the finished tree, by reference.
+
+ghost use Rattle.std.specs.Prelude.{◌≡◌, ◌+◌, ◌≤◌, length, take, drop};
+ghost use Rattle.tree.specs.Flat.{AreBefore};
+ghost use Rattle.tree.specs.Linked.{AreBefore-prop};
+
+use crate::flat_ref::FlatRef;
+use crate::flat_tree::FlatTree;
+use crate::part_number::PartNumber;
+
+/// Parts of a node of the finished tree that stand one behind the other, by reference.
+#[derive(Clone, Copy)]
+pub(crate) struct FlatList<'t, 's> {
+    tree: &'t FlatTree<'s>,
+    parts: &'t [PartNumber],
+    ghost before: { AreBefore (length tree.now.nodes) parts.now } by { AreBefore-prop (length tree.now.nodes) parts.now },
+}
+
+impl<'t, 's> FlatList<'t, 's> {
+    ghost use Rattle.std.specs.Prelude.{◌≡◌, [], length, option_map, map};
+    ghost use Rattle.tree.specs.Tree.{part_count, part_at, parts_drop, parts_take, parts_with_gaps};
+    ghost use Rattle.tree.specs.Flat.{AreBefore, trees, named};
+    ghost use Rattle.tree.specs.Places.{place_tree, run_parts};
+
+    pub(crate) fn new(tree: &'t FlatTree<'s>, parts: &'t [PartNumber]) -> FlatList<'t, 's>
+        requires { AreBefore (length tree.now.nodes) parts.now }
+        ensures { run_parts result ≡ parts_with_gaps (map (named (trees tree.now.parts.items [] tree.now.nodes)) parts.now) }
+    {
+        FlatList { tree, parts }
+    }
+
+    pub(crate) fn len(self) -> usize
+        ensures { result ≡ part_count (run_parts self.entry) }
+    {
+        self.parts.len()
+    }
+
+    /// The part at a place; none for a gap and past the end.
+    pub(crate) fn get(self, index: usize) -> Option<FlatRef<'t, 's>>
+        ensures { option_map place_tree result ≡ part_at (run_parts self.entry) index }
+    {
+        match self.parts.get(index) {
+            Some(part) => {
+                match part.number() {
+                    Some(part) => Some(FlatRef::new(self.tree, part.number as usize)),
+                    None => None,
+                }
+            }
+            None => None,
+        }
+    }
+
+    /// Those from a place on; none where there are no more.
+    pub(crate) fn skip(self, count: usize) -> FlatList<'t, 's>
+        ensures { run_parts result ≡ parts_drop count (run_parts self.entry) }
+    {
+        let parts = self.parts;
+        if count < parts.len() {
+            return FlatList::new(self.tree, &parts[count..]);
+        }
+        FlatList::new(self.tree, &parts[parts.len()..])
+    }
+
+    /// The first of them, so many; all where there are no more.
+    pub(crate) fn take(self, count: usize) -> FlatList<'t, 's>
+        ensures { run_parts result ≡ parts_take count (run_parts self.entry) }
+    {
+        let parts = self.parts;
+        if count < parts.len() {
+            return FlatList::new(self.tree, &parts[..count]);
+        }
+        self
+    }
+}
+
+/// So many items from a place on.
+pub(crate) fn section(parts: &[PartNumber], first: usize, count: usize) -> &[PartNumber]
+    requires { first + count ≤ length parts.now }
+    ensures { result.now ≡ take count (drop first parts.now) }
+{
+    let rest = &parts[first..];
+    &rest[..count]
+}

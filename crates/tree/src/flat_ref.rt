@@ -1,0 +1,87 @@
+//! A node of the finished tree, by reference.
+
+ghost use Rattle.std.specs.Prelude.{◌≡◌, ◌<◌, length, slice_index_or};
+ghost use Rattle.tree.specs.Flat.{IsLinked};
+ghost use Rattle.tree.specs.Linked.{IsLinked-prop};
+
+use crate::flat_list::{FlatList, section};
+use crate::flat_node::FlatNode;
+use crate::flat_tree::FlatTree;
+use crate::kind::{Flags, Kind, Span};
+
+/// A node of the finished tree, by reference, beside the tree that its parts are in.
+#[derive(Clone, Copy)]
+pub(crate) struct FlatRef<'t, 's> {
+    tree: &'t FlatTree<'s>,
+    node: &'t FlatNode<'s>,
+    ghost linked: { IsLinked tree.now.parts.items (length tree.now.nodes) node.now } by { IsLinked-prop tree.now.parts.items (length tree.now.nodes) node.now },
+}
+
+impl<'t, 's> FlatRef<'t, 's> {
+    ghost use Rattle.std.specs.Prelude.{◌≡◌, ◌<◌, length};
+    ghost use Rattle.tree.specs.Tree.{kind_of, text_of, flags_of, start_of, stop_of, parts_of};
+    ghost use Rattle.tree.specs.Flat.{tree_at};
+    ghost use Rattle.tree.specs.Growth.{row_at};
+    ghost use Rattle.tree.specs.Places.{place_tree, place_row, run_parts};
+
+    /// The node with a number.
+    pub(crate) fn new(tree: &'t FlatTree<'s>, number: usize) -> FlatRef<'t, 's>
+        requires { number < length tree.now.nodes }
+        ensures tree { place_tree result ≡ tree_at tree.now.parts.items tree.now.nodes number }
+        ensures row { place_row result ≡ row_at tree.now.nodes number }
+    {
+        let node = tree.nodes.at(number);
+        FlatRef { tree, node }
+    }
+
+    pub(crate) fn kind(self) -> Kind
+        ensures { result ≡ kind_of (place_tree self.entry) }
+    {
+        let node = self.node;
+        node.kind
+    }
+
+    pub(crate) fn text(self) -> &'t str
+        ensures { result.now ≡ text_of (place_tree self.entry) }
+    {
+        let node = self.node;
+        node.text.as_str()
+    }
+
+    pub(crate) fn flags(self) -> Flags
+        ensures { result ≡ flags_of (place_tree self.entry) }
+    {
+        let node = self.node;
+        node.flags
+    }
+
+    pub(crate) fn span(self) -> Span
+        ensures starts { result.start ≡ start_of (place_tree self.entry) }
+        ensures ends { result.end ≡ stop_of (place_tree self.entry) }
+    {
+        let node = self.node;
+        Span {
+            start: node.start as usize,
+            end: node.end as usize,
+        }
+    }
+
+    /// Its row, if it has one.
+    pub(crate) fn row(self) -> Option<u32>
+        ensures { result ≡ place_row self.entry }
+    {
+        let node = self.node;
+        node.row
+    }
+
+    /// All its parts.
+    pub(crate) fn parts(self) -> FlatList<'t, 's>
+        ensures { run_parts result ≡ parts_of (place_tree self.entry) }
+    {
+        let tree = self.tree;
+        let node = self.node;
+        let first = node.first as usize;
+        let count = node.count as usize;
+        FlatList::new(tree, section(&tree.parts, first, count))
+    }
+}

@@ -1,0 +1,279 @@
+//! Where nodes stand, as far as it says which of them have rows.
+
+ghost use Rattle.std.specs.Prelude.{◌≡◌, ◌<◌};
+ghost use Rattle.tree.specs.NodeUses.{has_row as has_row_at, is_expression as is_expression_kind, is_target as is_target_kind, is_pattern as is_pattern_kind, part_use as part_standing_at, property_use as keyed_at, value_use as value_at, member_use as selected_at, callee_use as linked_at, first_else as head_at, child_place as inner_at, looks as looks_at, contains_optional as chains_tree, is_chain_element as is_link_kind};
+
+use crate::boxed_node::BoxedNode;
+use crate::kind::{Flags, Form, Kind};
+
+/// Where a node stands, as far as it says which nodes have rows.
+#[derive(Clone, Copy, Debug, PartialEq, Eq)]
+pub enum NodeUse {
+    /// An expression is evaluated here.
+    Evaluated,
+    /// A part of a chain above its base.
+    ChainPart,
+    /// A target or a pattern is assigned to here.
+    Assigned,
+    /// A name or a pattern binds here.
+    Bound,
+    /// Nothing here has a row.
+    NotEvaluated,
+}
+
+/// A node round a part.
+#[derive(Clone, Copy)]
+pub struct ParentUse {
+    pub node_use: NodeUse,
+    pub kind: Kind,
+    pub flags: Flags,
+}
+
+/// A part of a node: its place, whether it is the last, its kind, and whether it begins with a part of a chain behind `?.`.
+#[derive(Clone, Copy)]
+pub struct ChildPlace {
+    pub index: usize,
+    pub is_last: bool,
+    pub kind: Kind,
+    pub is_chained: bool,
+}
+
+/// Whether a node of this kind has a row where it stands.
+pub(crate) fn has_row(node_use: NodeUse, kind: Kind) -> bool
+    ensures { result ≡ has_row_at node_use kind }
+{
+    match node_use {
+        NodeUse::Evaluated => is_expression(kind),
+        NodeUse::Assigned => is_target(kind),
+        NodeUse::ChainPart | NodeUse::Bound | NodeUse::NotEvaluated => false,
+    }
+}
+
+/// A part of a node, at its place among so many. Below which `?.` stand is looked at where a chain may end alone, so each part of a
+/// chain is passed once.
+pub(crate) fn child_place(
+    around: ParentUse,
+    count: usize,
+    index: usize,
+    part: &BoxedNode,
+) -> ChildPlace
+    requires { index < count }
+    ensures { result ≡ inner_at around count index part.now }
+{
+    ChildPlace {
+        index,
+        is_last: index + 1 == count,
+        kind: part.kind,
+        is_chained: looks_below(around, index) && contains_optional(part),
+    }
+}
+
+/// Whether a chain goes on or ends at what is below.
+fn looks_below(around: ParentUse, index: usize) -> bool
+    ensures { result ≡ looks_at around index }
+{
+    let flags = around.flags;
+    match around.node_use {
+        NodeUse::ChainPart => flags.optional && index == 0,
+        _ => false,
+    }
+}
+
+/// Whether a `?.` stands in a member or a call, or in what it is of.
+fn contains_optional(syntax: &BoxedNode) -> bool
+    ensures { result ≡ chains_tree syntax.now }
+{
+    if !is_chain_element(syntax.kind) {
+        return false;
+    }
+    if syntax.flags.optional {
+        return true;
+    }
+    match syntax.parts.first() {
+        Some(Some(part)) => contains_optional(part),
+        _ => false,
+    }
+}
+
+fn is_chain_element(kind: Kind) -> bool
+    ensures { result ≡ is_link_kind kind }
+{
+    matches!(kind, Kind::MemberExpression | Kind::CallExpression)
+}
+
+/// Where a part of a node stands.
+pub(crate) fn part_use(around: ParentUse, part: ChildPlace) -> NodeUse
+    ensures { result ≡ part_standing_at around part }
+{
+    let ParentUse {
+        node_use,
+        kind,
+        flags,
+    } = around;
+    match kind {
+        Kind::Property | Kind::MethodDefinition => property_use(node_use, flags, part.index),
+        Kind::MemberExpression => member_use(around, part),
+        Kind::CallExpression => callee_use(around, part),
+        Kind::ChainExpression => NodeUse::ChainPart,
+        Kind::TaggedTemplateExpression => first_else(
+            part.index,
+            NodeUse::Evaluated,
+            NodeUse::NotEvaluated,
+        ),
+        Kind::MetaProperty
+        | Kind::LabeledStatement
+        | Kind::BreakStatement
+        | Kind::ContinueStatement => NodeUse::NotEvaluated,
+        Kind::FunctionExpression | Kind::FunctionDeclaration => {
+            if part.is_last {
+                return NodeUse::NotEvaluated;
+            }
+            first_else(part.index, NodeUse::NotEvaluated, NodeUse::Bound)
+        }
+        Kind::ArrowFunctionExpression => {
+            if !part.is_last {
+                return NodeUse::Bound;
+            }
+            if flags.expression {
+                return NodeUse::Evaluated;
+            }
+            NodeUse::NotEvaluated
+        }
+        Kind::ClassExpression | Kind::ClassDeclaration => {
+            if part.index == 1 {
+                return NodeUse::Evaluated;
+            }
+            NodeUse::NotEvaluated
+        }
+        Kind::CatchClause => first_else(part.index, NodeUse::Bound, NodeUse::NotEvaluated),
+        Kind::VariableDeclarator => first_else(part.index, NodeUse::Bound, NodeUse::Evaluated),
+        Kind::ExpressionStatement => {
+            if flags.directive {
+                return NodeUse::NotEvaluated;
+            }
+            NodeUse::Evaluated
+        }
+        Kind::ArrayPattern | Kind::ObjectPattern | Kind::RestElement => node_use,
+        Kind::AssignmentPattern => first_else(part.index, node_use, NodeUse::Evaluated),
+        Kind::AssignmentExpression | Kind::ForInStatement | Kind::ForOfStatement => {
+            if is_pattern(part.kind) {
+                return first_else(part.index, NodeUse::Assigned, NodeUse::Evaluated);
+            }
+            NodeUse::Evaluated
+        }
+        _ => NodeUse::Evaluated,
+    }
+}
+
+/// One standing for the first part, one for the others.
+fn first_else(index: usize, first: NodeUse, others: NodeUse) -> NodeUse
+    ensures { result ≡ head_at index first others }
+{
+    if index == 0 {
+        return first;
+    }
+    others
+}
+
+/// The key and the value of a property or a method.
+fn property_use(node_use: NodeUse, flags: Flags, index: usize) -> NodeUse
+    ensures { result ≡ keyed_at node_use flags index }
+{
+    if index != 0 {
+        return value_use(node_use, flags.form);
+    }
+    if flags.computed {
+        return NodeUse::Evaluated;
+    }
+    NodeUse::NotEvaluated
+}
+
+fn value_use(node_use: NodeUse, form: Form) -> NodeUse
+    ensures { result ≡ value_at node_use form }
+{
+    match form {
+        Form::Init => {
+            match node_use {
+                NodeUse::Assigned => NodeUse::Assigned,
+                NodeUse::Bound => NodeUse::Bound,
+                NodeUse::NotEvaluated => NodeUse::NotEvaluated,
+                NodeUse::Evaluated | NodeUse::ChainPart => NodeUse::Evaluated,
+            }
+        }
+        _ => NodeUse::NotEvaluated,
+    }
+}
+
+/// The object and the property of a member.
+fn member_use(around: ParentUse, part: ChildPlace) -> NodeUse
+    ensures { result ≡ selected_at around part }
+{
+    if part.index == 0 {
+        return callee_use(around, part);
+    }
+    let flags = around.flags;
+    if flags.computed {
+        return NodeUse::Evaluated;
+    }
+    NodeUse::NotEvaluated
+}
+
+/// What a member or a call is of: a further part of the chain, or its base.
+fn callee_use(around: ParentUse, part: ChildPlace) -> NodeUse
+    ensures { result ≡ linked_at around part }
+{
+    let flags = around.flags;
+    match around.node_use {
+        NodeUse::ChainPart => {
+            if part.index == 0 && (!flags.optional || part.is_chained) {
+                return NodeUse::ChainPart;
+            }
+            NodeUse::Evaluated
+        }
+        _ => NodeUse::Evaluated,
+    }
+}
+
+fn is_pattern(kind: Kind) -> bool
+    ensures { result ≡ is_pattern_kind kind }
+{
+    matches!(kind, Kind::ArrayPattern | Kind::ObjectPattern)
+}
+
+fn is_target(kind: Kind) -> bool
+    ensures { result ≡ is_target_kind kind }
+{
+    matches!(kind, Kind::Identifier | Kind::MemberExpression)
+}
+
+/// Whether a kind of node is an expression.
+fn is_expression(kind: Kind) -> bool
+    ensures { result ≡ is_expression_kind kind }
+{
+    matches!(
+        kind,
+        Kind::Identifier
+            | Kind::Literal
+            | Kind::ThisExpression
+            | Kind::ArrayExpression
+            | Kind::ObjectExpression
+            | Kind::FunctionExpression
+            | Kind::ArrowFunctionExpression
+            | Kind::ClassExpression
+            | Kind::TemplateLiteral
+            | Kind::TaggedTemplateExpression
+            | Kind::MemberExpression
+            | Kind::CallExpression
+            | Kind::NewExpression
+            | Kind::MetaProperty
+            | Kind::ImportExpression
+            | Kind::ChainExpression
+            | Kind::UpdateExpression
+            | Kind::UnaryExpression
+            | Kind::BinaryExpression
+            | Kind::LogicalExpression
+            | Kind::ConditionalExpression
+            | Kind::AssignmentExpression
+            | Kind::SequenceExpression
+    )
+}

@@ -1,0 +1,90 @@
+//! How many parts a node of each kind has.
+
+ghost use Rattle.std.specs.Prelude.{◌≡◌};
+ghost use Rattle.tree.specs.Node.{node_tree};
+ghost use Rattle.typed_nodes.specs.Arity.{has_arity, has_pair, has_length, is_whole};
+
+use tree::{Kind, Node};
+
+/// Whether a node has as many parts as its kind has, gaps included.
+pub(crate) fn is_whole(node: Node) -> bool
+    ensures { result ≡ is_whole (node_tree node.entry) }
+{
+    has_arity(node.kind(), node.part_count())
+}
+
+fn has_arity(kind: Kind, count: usize) -> bool
+    ensures { result ≡ has_arity kind count }
+{
+    match kind {
+        Kind::Identifier
+        | Kind::Literal
+        | Kind::ThisExpression
+        | Kind::Super
+        | Kind::TemplateElement
+        | Kind::EmptyStatement
+        | Kind::DebuggerStatement => count == 0,
+        Kind::SpreadElement
+        | Kind::ImportExpression
+        | Kind::ChainExpression
+        | Kind::UpdateExpression
+        | Kind::UnaryExpression
+        | Kind::RestElement
+        | Kind::ExpressionStatement
+        | Kind::ReturnStatement
+        | Kind::ThrowStatement
+        | Kind::BreakStatement
+        | Kind::ContinueStatement => count == 1,
+        _ => has_pair(kind, count),
+    }
+}
+
+/// The same of a kind that isn't in the table above.
+fn has_pair(kind: Kind, count: usize) -> bool
+    ensures { result ≡ has_pair kind count }
+{
+    match kind {
+        Kind::Property
+        | Kind::MethodDefinition
+        | Kind::TaggedTemplateExpression
+        | Kind::MemberExpression
+        | Kind::MetaProperty
+        | Kind::BinaryExpression
+        | Kind::LogicalExpression
+        | Kind::AssignmentExpression
+        | Kind::AssignmentPattern
+        | Kind::LabeledStatement
+        | Kind::CatchClause
+        | Kind::WhileStatement
+        | Kind::DoWhileStatement
+        | Kind::VariableDeclarator => count == 2,
+        Kind::ClassExpression
+        | Kind::ConditionalExpression
+        | Kind::IfStatement
+        | Kind::TryStatement
+        | Kind::ForInStatement
+        | Kind::ForOfStatement
+        | Kind::ClassDeclaration => count == 3,
+        Kind::ForStatement => count == 4,
+        _ => has_length(kind, count),
+    }
+}
+
+/// The same of a kind with a list among its parts.
+fn has_length(kind: Kind, count: usize) -> bool
+    ensures { result ≡ has_length kind count }
+{
+    match kind {
+        Kind::ArrowFunctionExpression
+        | Kind::CallExpression
+        | Kind::NewExpression
+        | Kind::SwitchStatement
+        | Kind::SwitchCase
+        | Kind::VariableDeclaration => count >= 1,
+        Kind::FunctionExpression | Kind::FunctionDeclaration | Kind::SequenceExpression => {
+            count >= 2
+        }
+        Kind::TemplateLiteral => count % 2 == 1,
+        _ => true,
+    }
+}

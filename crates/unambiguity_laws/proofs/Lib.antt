@@ -1,0 +1,9 @@
+pub mod OrderedPairs
+pub mod Steps
+pub mod TiedSteps
+pub mod Unique
+pub mod cores
+pub mod heights
+pub mod list_items
+pub mod statements
+pub mod turns

@@ -1,0 +1,11 @@
+-- The leftmost part of an expression is the only one.
+pub mod ArrowBodies
+pub mod BracketCores
+pub mod BracketForms
+pub mod CoreNodes
+pub mod NameCores
+pub mod NewCores
+pub mod ParenthesisCores
+pub mod PrefixCores
+pub mod SuperCores
+pub mod WordCores

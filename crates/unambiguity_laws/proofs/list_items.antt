@@ -1,0 +1,22 @@
+-- Lists and their items are the only ones at their place.
+pub mod BracketEnds
+pub mod ClassMembers
+pub mod Crossings
+pub mod DeclarationLists
+pub mod ElementEnds
+pub mod ElementLists
+pub mod ElementSteps
+pub mod Elements
+pub mod GroupEnds
+pub mod GroupLists
+pub mod LinesOnce
+pub mod ListEnds
+pub mod ObjectLists
+pub mod PatternLists
+pub mod PieceRuns
+pub mod Properties
+pub mod PropertyForms
+pub mod PropertySteps
+pub mod StatementLists
+pub mod TemplateElements
+pub mod UniqueRuns

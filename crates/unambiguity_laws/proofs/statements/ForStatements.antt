@@ -1,0 +1,171 @@
+-- A `for`, of each kind, is the only one at its place.
+use Rattle.std.proofs.Common.{◌≡◌, ℕ, suc, ◌≤◌, Bool, true, List, [], ◌++◌, refl, sym, ap, ◌∙◌, subst, arith}
+use Rattle.std.specs.Prelude.{IsTrue, codes}
+use Rattle.tokens.specs.declared.token.TokenClass.TheVariants.{IdentifierName, Punctuator}
+use Rattle.tokens.specs.declared.token.Goal.{Goal}
+use Rattle.tokens.specs.Goals.{allows}
+use Rattle.tree.specs.declared.kind.Kind.{Kind}
+use Rattle.tree.specs.declared.kind.Kind.TheVariants.{ForStatement, ForInStatement, ForOfStatement}
+use Rattle.tree.specs.declared.kind.Pair.{Pair}
+use Rattle.tree.specs.Tree.{Tree, node, Parts, none, part, height, parts_height, bare_parts, plain}
+use Rattle.language.specs.declared.Rank.{Rank}
+use Rattle.language.specs.declared.Rank.TheVariants.{Expression, Assignment, Conditional, New}
+use Rattle.language.specs.declared.Start.TheVariants.{Any}
+use Rattle.language.specs.StatementStart.{a_for}
+use Rattle.language.specs.Edges.{last_ends_in_if}
+use Rattle.language.specs.Pieces.{expr, statement, put}
+use Rattle.language.specs.Token.{Token}
+use Rattle.language.specs.Promises.{IsDetermined, Stops}
+use Rattle.language.specs.Following.{IsAlike, Followed, Finished, FoundPartsWhere, AbsentPartsWhere}
+use Rattle.language.specs.Grammar.{ways}
+use Rattle.language.specs.Derivation.{Reads, Spells, Runs, Placed}
+use Rattle.language.proofs.table.Begins.{goes_to}
+use Rattle.language.proofs.list_loops.FirstPieces.{run_token, run_laid}
+use Rattle.language.proofs.climbing.Conditionals.{same_sign}
+use Rattle.language.proofs.table.TokenFirstWays.{opens}
+use Rattle.language.proofs.climbing.Supers.{none_begins}
+use Rattle.language.proofs.statements.StatementFollow.{idle_stops}
+use Rattle.language.proofs.table.Beginnings.{own_way}
+use Rattle.language.proofs.table.OwnTokenWays.{for_sole}
+use Rattle.language.proofs.table.SoleWays.{sole_found}
+use Rattle.language.proofs.table.StatementWays.{as_statement, begins_as, behind_own}
+use Rattle.language.proofs.table.LoopKinds.{LoopKind, a_loop, a_loop_in, a_loop_of, loop_kind}
+use Rattle.language.proofs.statements.ForHeads.{left_pieces, initial_pieces, Worded, Parted}
+use Rattle.unambiguity_laws.proofs.Unique.{Unique, StatementStep}
+use Rattle.unambiguity_laws.proofs.statements.StatementFacts.{found_as}
+use Rattle.unambiguity_laws.proofs.statements.Tries.{two_words}
+use Rattle.unambiguity_laws.proofs.statements.ForDeclarations.{HeadEnds, at_in, at_of, at_semicolon}
+use Rattle.unambiguity_laws.proofs.statements.ForFirstParts.{of_first, head_part_begins, parts_end, first_unique, left_unique}
+use Rattle.unambiguity_laws.proofs.statements.ForParts.{HeadToken, token_ends, tokens_same, LoopHead, headed, unheaded, LeftLoop, left_loop, First, a_first, no_first, Test, a_test, no_test, first_high, test_high, loop_ends, TestLoop, test_loop, LoopBegins, loop_begins}
+
+module _ (S : Type 0) (Next : S → Token → S → Type 0) (behind : S → Token) (det : IsDetermined S Next behind) where
+  -- where a test ends
+  data TestEnds (k : S) : Type 0 where
+    by_semicolon : {t : Token} {m : S} → Reads S Next behind Punctuator (codes ";") k t m → TestEnds k
+    by_parenthesis : {t : Token} {m : S} → Reads S Next behind Punctuator (codes ")") k t m → TestEnds k
+
+  test_stops : (n : Tree) {k : S} → TestEnds k → Stops S Next behind Expression true n k
+  test_stops n (by_semicolon r) = idle_stops S Next behind det Expression true n refl (λ x b. refl) r
+  test_stops n (by_parenthesis r) = idle_stops S Next behind det Expression true n refl (λ x b. refl) r
+
+  no_test_begins : {o : ℕ} {n : Tree} {s e : S} {P : List Pair} → Spells ways S Next behind o (expr Expression true Any) n s e P → TestEnds s → ⊥
+  no_test_begins d (by_semicolon {t = t} r) =
+      let al : IsTrue (allows Goal.RegExp t.class t.text) = subst (λ c. IsTrue (allows Goal.RegExp c t.text)) (sym r.class) (subst (λ z. IsTrue (allows Goal.RegExp Punctuator z)) (sym r.text) refl) in
+      none_begins S Next behind det (record { next = r.next; allowed = al }) (opens t r.class r.text refl) d
+  no_test_begins d (by_parenthesis {t = t} r) =
+      let al : IsTrue (allows Goal.RegExp t.class t.text) = subst (λ c. IsTrue (allows Goal.RegExp c t.text)) (sym r.class) (subst (λ z. IsTrue (allows Goal.RegExp Punctuator z)) (sym r.text) refl) in
+      none_begins S Next behind det (record { next = r.next; allowed = al }) (opens t r.class r.text refl) d
+
+module _ (S : Type 0) (Next : S → Token → S → Type 0) (behind : S → Token) (det : IsDetermined S Next behind) (alike : IsAlike S Next behind) {h : ℕ} (u : Unique S Next behind det h) where
+  test_unique : {o o' : ℕ} {s k k' : S} {f f' : Parts → Parts} {A A' : List Pair} → parts_height (f none) ≤ h → Test S Next behind det o s f k A → TestEnds S Next behind det k → Test S Next behind det o' s f' k' A' → TestEnds S Next behind det k' → (k' ≡ k) × (f' ≡ f) × (A' ≡ A)
+  test_unique {o' = o'} {k' = k'} {A' = A'} low (a_test {n} d) ends (a_test {n = n'} d') ends' =
+      let same = (u.expressions.found (omega arith) (λ z. cc) (λ z. cc) d (test_stops S Next behind det n ends)).only o' k' n' A' d' (test_stops S Next behind det n' ends') in
+      (same.0, (λ j ps. part (same.1 j) ps), same.2)
+  test_unique low no_test ends no_test ends' = (refl, refl, refl)
+  test_unique low (a_test d) ends no_test ends' = absurd (no_test_begins S Next behind det d ends')
+  test_unique low no_test ends (a_test d) ends' = absurd (no_test_begins S Next behind det d ends)
+
+  initial_unique : {o o' : ℕ} {s k k' : S} {f f' : Parts → Parts} {A A' : List Pair} → parts_height (f none) ≤ h → First S Next behind det o s f k A → Parted S Next behind det k → First S Next behind det o' s f' k' A' → Parted S Next behind det k' → (k' ≡ k) × (f' ≡ f) × (A' ≡ A)
+  initial_unique low (a_first d) ends (a_first d') ends' = let same = first_unique S Next behind det alike u (omega arith) d (at_semicolon ends) d' (at_semicolon ends') in (same.0, (λ j ps. part (same.1 j) ps), same.2)
+  initial_unique low no_first ends no_first ends' = (refl, refl, refl)
+  initial_unique low (a_first d) ends no_first ends' = absurd (head_part_begins S Next behind det (of_first S Next behind det d) ends'.reads)
+  initial_unique low no_first ends (a_first d) ends' = absurd (head_part_begins S Next behind det (of_first S Next behind det d) ends.reads)
+
+  -- the kind of a loop is told by its head
+  kinds_same : {c c' : Kind} {hi o o' : ℕ} {s : S} → LoopHead S Next behind det c h o s → LoopHead S Next behind det c' hi o' s → c' ≡ c
+  kinds_same {c' = c'} (headed low d t) (headed low' d' t') =
+      let same = parts_end S Next behind det alike u low d (token_ends S Next behind det t) d' (token_ends S Next behind det t') in
+      tokens_same S Next behind det t (subst (λ k. HeadToken S Next behind det k c') same t')
+  kinds_same (headed low d t) (unheaded is' p) = absurd (head_part_begins S Next behind det d p.reads)
+  kinds_same (unheaded is' p) (headed low d t) = absurd (head_part_begins S Next behind det d p.reads)
+  kinds_same (unheaded is p) (unheaded is' p') = is' ∙ sym is
+
+  -- behind the `(`, by the kind
+  left_parts : {w : List ℕ} {y : Rank} {r : Bool} {o o' : ℕ} {ps ps' : Parts} {s e e' : S} {P P' : List Pair} → (y ≡ Conditional → ⊥) → (y ≡ New → ⊥) → ((k : S) → Worded S Next behind det w k → HeadEnds S Next behind det k) → parts_height ps ≤ h →
+      LeftLoop S Next behind det w y r o ps s e P → Followed S Next behind (last_ends_in_if ps) e → LeftLoop S Next behind det w y r o' ps' s e' P' → Followed S Next behind (last_ends_in_if ps') e' → (e' ≡ e) × (ps' ≡ ps) × (P' ≡ P)
+  left_parts {w} {y} {r} {o} {o'} {ps} {ps'} {s} {e} {e'} not_conditional not_new ends low a fine b fine' =
+      let high : parts_height ps ≡ parts_height (part a.left (part a.right (part a.body none))) = ap parts_height a.parts in
+      let i1 = left_unique S Next behind det alike u (omega arith) a.stands (ends a.k (record { sign = a.t; mid = a.m; reads = a.word })) b.stands (ends b.k (record { sign = b.t; mid = b.m; reads = b.word })) in
+      let i2 = (two_words S Next behind det (subst (λ v. Reads S Next behind IdentifierName w v b.t b.m) i1.0 b.word) a.word).1 in
+      let found = u.expressions.found (omega arith) not_conditional not_new a.spelled (idle_stops S Next behind det y true a.right refl (λ x b. refl) a.closes) in
+      let i3 = found.only o' b.k1 b.right b.two (subst (λ v. Spells ways S Next behind o' (expr y true Any) b.right v b.k1 b.two) i2 b.spelled) (idle_stops S Next behind det y true b.right refl (λ x b. refl) b.closes) in
+      let i4 = (same_sign S Next behind det (subst (λ v. Reads S Next behind Punctuator (codes ")") v b.t1 b.m1) i3.0 b.closes) a.closes refl).1 in
+      let body = u.statement as_statement (omega arith) a.last (subst (λ v. Followed S Next behind (last_ends_in_if v) e) a.parts fine) in
+      let i5 = body.only o' e' b.body b.three (subst (λ v. Spells ways S Next behind o' (statement r) b.body v e' b.three) i4 b.last) (subst (λ v. Followed S Next behind (last_ends_in_if v) e') b.parts fine') in
+      (i5.0, b.parts ∙ (λ j. part (i1.1 j) (part (i3.1 j) (part (i5.1 j) none))) ∙ sym a.parts, b.pairs ∙ (λ j. i1.2 j ++ (i3.2 j ++ i5.2 j)) ∙ sym a.pairs)
+
+  test_parts : {r : Bool} {o o' : ℕ} {ps ps' : Parts} {s e e' : S} {P P' : List Pair} → parts_height ps ≤ h → TestLoop S Next behind det r o ps s e P → Followed S Next behind (last_ends_in_if ps) e → TestLoop S Next behind det r o' ps' s e' P' → Followed S Next behind (last_ends_in_if ps') e' → (e' ≡ e) × (ps' ≡ ps) × (P' ≡ P)
+  test_parts {r} {o} {o'} {ps} {ps'} {s} {e} {e'} low a fine b fine' =
+      let high : parts_height ps ≡ parts_height (a.f (a.f1 (a.f2 (part a.body none)))) = ap parts_height a.parts in
+      let l0 = first_high S Next behind det a.initial (a.f1 (a.f2 (part a.body none))) in
+      let l1 = test_high S Next behind det a.test (a.f2 (part a.body none)) in
+      let l2 = test_high S Next behind det a.update (part a.body none) in
+      let i0 = initial_unique (omega arith) a.initial (record { sign = a.t; mid = a.m; reads = a.parted }) b.initial (record { sign = b.t; mid = b.m; reads = b.parted }) in
+      let j0 = (same_sign S Next behind det (subst (λ v. Reads S Next behind Punctuator (codes ";") v b.t b.m) i0.0 b.parted) a.parted refl).1 in
+      let i1 = test_unique (omega arith) a.test (by_semicolon a.parted_again) (subst (λ v. Test S Next behind det o' v b.f1 b.k1 b.two) j0 b.test) (by_semicolon b.parted_again) in
+      let j1 = (same_sign S Next behind det (subst (λ v. Reads S Next behind Punctuator (codes ";") v b.t1 b.m1) i1.0 b.parted_again) a.parted_again refl).1 in
+      let i2 = test_unique (omega arith) a.update (by_parenthesis a.closes) (subst (λ v. Test S Next behind det o' v b.f2 b.k2 b.three) j1 b.update) (by_parenthesis b.closes) in
+      let j2 = (same_sign S Next behind det (subst (λ v. Reads S Next behind Punctuator (codes ")") v b.t2 b.m2) i2.0 b.closes) a.closes refl).1 in
+      let fine_a = subst (λ v. Followed S Next behind v e) (ap last_ends_in_if a.parts ∙ loop_ends S Next behind det a.body a.initial a.test a.update) fine in
+      let fine_b = subst (λ v. Followed S Next behind v e') (ap last_ends_in_if b.parts ∙ loop_ends S Next behind det b.body b.initial b.test b.update) fine' in
+      let i3 = (u.statement as_statement (omega arith) a.last fine_a).only o' e' b.body b.four (subst (λ v. Spells ways S Next behind o' (statement r) b.body v e' b.four) j2 b.last) fine_b in
+      (i3.0, b.parts ∙ (λ j. i0.1 j (i1.1 j (i2.1 j (part (i3.1 j) none)))) ∙ sym a.parts, b.pairs ∙ (λ j. i0.2 j ++ (i1.2 j ++ (i2.2 j ++ i3.2 j))) ∙ sym a.pairs)
+
+  -- behind the word
+  found_by : (r : Bool) {c : Kind} {o : ℕ} {ps : Parts} {m e : S} {P : List Pair} → LoopKind c → parts_height ps ≤ h → Runs ways S Next behind o (goes_to Expression true Any (behind_own r c (bare_parts ps))) ps m e P → Finished S Next behind (node c [] plain 0 0 ps) e →
+      FoundPartsWhere S Next behind (λ ps e. Finished S Next behind (node c [] plain 0 0 ps) e) o (λ ps. goes_to Expression true Any (behind_own r c (bare_parts ps))) m e ps P
+  found_by r {o} {ps} {m} {e} {P} a_loop low d fine = record { runs = d; only = λ o' e' ps' P' d' fine'. of ps' d' fine' }
+    where
+      of : {o' : ℕ} {e' : S} (ps' : Parts) {P' : List Pair} → Runs ways S Next behind o' (goes_to Expression true Any (behind_own r ForStatement (bare_parts ps'))) ps' m e' P' → Finished S Next behind (node ForStatement [] plain 0 0 ps') e' → (e' ≡ e) × (ps' ≡ ps) × (P' ≡ P)
+      of {o'} {e'} ps' {P'} d' fine' =
+          let a = run_token S Next behind (run_laid S Next behind d) in
+          let b = run_token S Next behind (run_laid S Next behind d') in
+          let same = (same_sign S Next behind det b.reads a.reads refl).1 in
+          test_parts low (test_loop S Next behind det {r = r} ps a.runs) fine (test_loop S Next behind det {r = r} ps' (subst (λ v. Runs ways S Next behind o' (initial_pieces r ps') ps' v e' P') same b.runs)) fine'
+  found_by r {o} {ps} {m} {e} {P} a_loop_in low d fine = record { runs = d; only = λ o' e' ps' P' d' fine'. of ps' d' fine' }
+    where
+      of : {o' : ℕ} {e' : S} (ps' : Parts) {P' : List Pair} → Runs ways S Next behind o' (goes_to Expression true Any (behind_own r ForInStatement (bare_parts ps'))) ps' m e' P' → Finished S Next behind (node ForInStatement [] plain 0 0 ps') e' → (e' ≡ e) × (ps' ≡ ps) × (P' ≡ P)
+      of {o'} {e'} ps' {P'} d' fine' =
+          let a = run_token S Next behind (run_laid S Next behind d) in
+          let b = run_token S Next behind (run_laid S Next behind d') in
+          let same = (same_sign S Next behind det b.reads a.reads refl).1 in
+          left_parts (λ z. cc) (λ z. cc) (λ k w. at_in w) low (left_loop S Next behind det {w = codes "in"} {y = Expression} {r = r} ps a.runs) fine
+          (left_loop S Next behind det {w = codes "in"} {y = Expression} {r = r} ps' (subst (λ v. Runs ways S Next behind o' (left_pieces r (codes "in") (put (expr Expression true Any)) ps') ps' v e' P') same b.runs)) fine'
+  found_by r {o} {ps} {m} {e} {P} a_loop_of low d fine = record { runs = d; only = λ o' e' ps' P' d' fine'. of ps' d' fine' }
+    where
+      of : {o' : ℕ} {e' : S} (ps' : Parts) {P' : List Pair} → Runs ways S Next behind o' (goes_to Expression true Any (behind_own r ForOfStatement (bare_parts ps'))) ps' m e' P' → Finished S Next behind (node ForOfStatement [] plain 0 0 ps') e' → (e' ≡ e) × (ps' ≡ ps) × (P' ≡ P)
+      of {o'} {e'} ps' {P'} d' fine' =
+          let a = run_token S Next behind (run_laid S Next behind d) in
+          let b = run_token S Next behind (run_laid S Next behind d') in
+          let same = (same_sign S Next behind det b.reads a.reads refl).1 in
+          left_parts (λ z. cc) (λ z. cc) (λ k w. at_of w) low (left_loop S Next behind det {w = codes "of"} {y = Assignment} {r = r} ps a.runs) fine
+          (left_loop S Next behind det {w = codes "of"} {y = Assignment} {r = r} ps' (subst (λ v. Runs ways S Next behind o' (left_pieces r (codes "of") (put (expr Assignment true Any)) ps') ps' v e' P') same b.runs)) fine'
+
+  loop_found : (r : Bool) (c : Kind) {o : ℕ} {ps : Parts} {m e : S} {P : List Pair} → begins_as c ≡ a_for → parts_height ps ≤ h → Runs ways S Next behind o (goes_to Expression true Any (behind_own r c (bare_parts ps))) ps m e P → Finished S Next behind (node c [] plain 0 0 ps) e →
+      FoundPartsWhere S Next behind (λ ps e. Finished S Next behind (node c [] plain 0 0 ps) e) o (λ ps. goes_to Expression true Any (behind_own r c (bare_parts ps))) m e ps P
+  loop_found r c loop low d fine = found_by r (loop_kind c loop) low d fine
+
+  -- a `for`
+  pub for_statement : StatementStep S Next behind det h a_for
+  for_statement = record {
+    gives = λ {a} {p} {d} {r} {o} {n} {s} {m} {e} {P} {t} stands low sp fine read begun.
+        let w = own_way S Next behind det stands read begun refl sp in
+        let high : height n ≡ suc (parts_height w.parts) = ap height w.tree in
+        let head = loop_begins S Next behind det r w.kind w.begins w.runs in
+        let sole = for_sole S Next behind det {Fine = Finished S Next behind} stands read w.kind begun w.begins (λ c loop other. others r w.kind (omega arith) head c loop other) (λ c st en ps e f. f) in
+        found_as S Next behind det (sole_found S Next behind det sole {FineParts = λ ps e. Finished S Next behind (node w.kind [] plain 0 0 ps) e} (λ st en ps e f. f)
+        (loop_found r w.kind w.begins (omega arith) w.runs (subst (λ v. Finished S Next behind v e) w.tree fine)) (subst (λ v. Placed S Next behind a v s e) w.tree w.placed)) sp fine;
+  }
+    where
+      higher : {c : Kind} {hi o : ℕ} {k : S} → hi ≤ h → LoopHead S Next behind det c hi o k → LoopHead S Next behind det c h o k
+      higher low (headed l d t) = headed (omega arith) d t
+      higher low (unheaded is p) = unheaded is p
+
+      others : (r : Bool) (k : Kind) {hi o : ℕ} {m : S} → hi ≤ h → LoopBegins S Next behind det k hi o m → (c : Kind) → begins_as c ≡ a_for → (c ≡ k → ⊥) →
+          AbsentPartsWhere S Next behind (λ ps e. Finished S Next behind (node c [] plain 0 0 ps) e) (λ ps. goes_to Expression true Any (behind_own r c (bare_parts ps))) m
+      others r k {hi} {o} low a c loop other = record {
+        nothing = λ o' e' ps' P' d fine.
+            let b = loop_begins S Next behind det r c {ps = ps'} loop d in
+            let same = (same_sign S Next behind det b.reads a.reads refl).1 in
+            other (kinds_same (higher low a.begins) (subst (λ v. LoopHead S Next behind det c (parts_height ps') o' v) same b.begins));
+      }

@@ -1,6 +1,0 @@
-use Rattle.language.proofs.EarlierScripts.{earlier_scripts_stay}
-use Rattle.unambiguous.proofs.Steps.{one_script}
-use Rattle.unambiguous.proofs.earlier_script_is_the_one.Goals as goal
-
-pub returns : goal.returns
-returns c = λ o text n m P Q u before now. one_script text n m P Q (o, earlier_scripts_stay o text n P u before) now

@@ -1,5 +1,0 @@
-use Rattle.std.proofs.Common.{rules}
-use Rattle.views.proofs.arity.has_pair.Goals as goal
-
-pub returns-in-ForStatement : goal.returns-in-ForStatement
-returns-in-ForStatement c = search rules

@@ -1,5 +1,0 @@
-use Rattle.std.proofs.Common.{rules}
-use Rattle.views.proofs.expression.Expression.of.Goals as goal
-
-pub returns-then-is_whole : goal.returns-then-is_whole
-returns-then-is_whole c = search rules
