@@ -3,7 +3,7 @@ use Rattle.std.specs.Prelude.{ℕ, List, [], ◌∷◌, ◌++◌, Bool, true, fa
 use Rattle.std.specs.Fmt.{decimal}
 use Rattle.std.specs.Io.KnownBytes.{Appends}
 use Rattle.source_text.specs.declared.fault.Fault.{Fault}
-use Rattle.source_text.specs.declared.fault.Fault.TheVariants.{NotUtf8, TooLong, Syntax, TooDeep, Early, OutOfMemory, BadSettings, BadTable, WriteFailed, ReadFailed, Usage}
+use Rattle.source_text.specs.declared.fault.Fault.TheVariants.{NotUtf8, TooLong, Syntax, TooDeep, Early, OutOfMemory, BadSettings, BadTable, WriteFailed, ReadFailed, UnwrapFailed, Usage}
 use Rattle.source_text.specs.declared.fault.Reason.{Reason}
 use Rattle.source_text.specs.declared.fault.Reason.TheVariants as reason
 use Rattle.source_text.specs.Writing.{AppendsBeginning}
@@ -37,6 +37,7 @@ fault_words BadSettings place = codes "bad settings"
 fault_words (BadTable row why) place = codes "bad table row " ++ decimal row ++ codes " " ++ reason_words why
 fault_words WriteFailed place = codes "write failed"
 fault_words ReadFailed place = codes "read failed"
+fault_words UnwrapFailed place = codes "can't be unwrapped"
 fault_words Usage place = []
 
 abbrev pub refusal_words : Refused → List ℕ

@@ -12,6 +12,8 @@ pub enum Command {
     Tree,
     /// Write the fixed text of the script.
     Fix,
+    /// Write the script as it is, without its unnecessary parentheses.
+    Unwrap,
     /// Write the cost table of the script.
     Cost,
     /// Check a cost table against the script.
@@ -20,10 +22,11 @@ pub enum Command {
 
 impl Command {
     /// Each of them.
-    pub const ALL: [Command; 5] = [
+    pub const ALL: [Command; 6] = [
         Command::Check,
         Command::Tree,
         Command::Fix,
+        Command::Unwrap,
         Command::Cost,
         Command::Verify,
     ];
@@ -36,6 +39,7 @@ impl Command {
             Command::Check => "check",
             Command::Tree => "tree",
             Command::Fix => "fix",
+            Command::Unwrap => "unwrap",
             Command::Cost => "cost",
             Command::Verify => "verify",
         }

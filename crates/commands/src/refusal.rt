@@ -84,6 +84,7 @@ fn push_words(line: &mut ShortText, refused: &Refused)
         }
         Fault::WriteFailed => line.push_text("write failed"),
         Fault::ReadFailed => line.push_text("read failed"),
+        Fault::UnwrapFailed => line.push_text("can't be unwrapped"),
         Fault::Usage => unreachable!(),
     }
 }

@@ -40,6 +40,9 @@ pub enum Fault {
     WriteFailed,
     #[error("read failed")]
     ReadFailed,
+    /// What was made of a script in unwrapping it isn't the same script with the fewest pairs. No such script is known.
+    #[error("can't be unwrapped")]
+    UnwrapFailed,
     #[error("usage")]
     Usage,
 }
