@@ -53,7 +53,7 @@ fixed_front (front.Two a b) = is_fixed (slot_of a) && is_fixed (slot_of b)
 fixed_front (front.Three a b c) = is_fixed (slot_of a) && (is_fixed (slot_of b) && is_fixed (slot_of c))
 fixed_front (front.Four a b c d) = is_fixed (slot_of a) && (is_fixed (slot_of b) && (is_fixed (slot_of c) && is_fixed (slot_of d)))
 
-abbrev pub fixed_tail : tails.Tail → Bool
+abbrev pub fixed_tail : tails.ListSlots → Bool
 fixed_tail tail.Nothing = true
 fixed_tail (tail.Each a) = is_fixed (slot_of a)
 fixed_tail (tail.Some a) = is_fixed (slot_of a)

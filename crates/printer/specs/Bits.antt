@@ -60,7 +60,7 @@ pub data Chain : Type 0 where
   nothing joined commas lines feeds : Chain
   parameters : List Bit → Chain
 
-abbrev pub chain_of : serieses.Series → Chain
+abbrev pub chain_of : serieses.ListLayout → Chain
 chain_of series.Nothing = nothing
 chain_of series.Joined = joined
 chain_of series.Commas = commas

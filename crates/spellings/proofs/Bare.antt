@@ -107,7 +107,7 @@ around-bare ps = λ i. record {
   fourth = entry-bare ps 3 i;
   first_text = text-bare ps 0 i;
   second_text = text-bare ps 1 i;
-  has_optional = first_chained-bare ps i;
+  chained = first_chained-bare ps i;
   dangling = dangles-bare ps 1 i;
   defaults_twice = twice-bare ps i;
 }

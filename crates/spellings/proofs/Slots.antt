@@ -106,13 +106,13 @@ abbrev good_some_front : Option FixedSlots → Bool
 good_some_front None = true
 good_some_front (Some f) = good_front f
 
-abbrev good_tail : tails.Tail → Bool
+abbrev good_tail : tails.ListSlots → Bool
 good_tail (tail_of.Each x) = good_at x
 good_tail (tail_of.Some x) = good_at x
 good_tail (tail_of.Parameters x) = good_at x
 good_tail _ = true
 
-abbrev good_step : Option (slots.Slot × tails.Tail) → Bool
+abbrev good_step : Option (slots.Slot × tails.ListSlots) → Bool
 good_step None = true
 good_step (Some x) = good_at x.0 && good_tail x.1
 
@@ -160,7 +160,7 @@ pattern_part_good b kind.RestElement = refl
 pattern_part_good b kind.Property = refl
 pattern_part_good b _ = refl
 
-listed_good : (o : Option Position) (k : Kind) (last : Bool) (t : tails.Tail) → good_role o ≡ true → good_tail t ≡ true → good_step (listed_at o k last t) ≡ true
+listed_good : (o : Option Position) (k : Kind) (last : Bool) (t : tails.ListSlots) → good_role o ≡ true → good_tail t ≡ true → good_step (listed_at o k last t) ≡ true
 listed_good None k last t h e = refl
 listed_good (Some a) k last t h e = of (last || not (is_rest k))
   where
@@ -168,7 +168,7 @@ listed_good (Some a) k last t h e = of (last || not (is_rest k))
     of true = and_from _ _ h e
     of false = refl
 
-step_good : (t : tails.Tail) (k : Kind) (d last before_last : Bool) → good_tail t ≡ true → good_step (tail_at t k d last before_last) ≡ true
+step_good : (t : tails.ListSlots) (k : Kind) (d last before_last : Bool) → good_tail t ≡ true → good_step (tail_at t k d last before_last) ≡ true
 step_good tail_of.Nothing k d l b h = refl
 step_good (tail_of.Each x) k d l b h = and_from _ _ h h
 step_good (tail_of.Some x) k d l b h = and_from _ _ h h
@@ -191,7 +191,7 @@ before_good : (s : Slot) (o : Option (List Slot)) → good s ≡ true → given_
 before_good s None h e = refl
 before_good s (Some xs) h e = and_from _ _ h e
 
-going_good : (f : tails.Tail → Option (List Slot)) (o : Option (slots.Slot × tails.Tail)) → good_step o ≡ true → ((t : tails.Tail) → good_tail t ≡ true → given_good (f t) ≡ true) → given_good (going f o) ≡ true
+going_good : (f : tails.ListSlots → Option (List Slot)) (o : Option (slots.Slot × tails.ListSlots)) → good_step o ≡ true → ((t : tails.ListSlots) → good_tail t ≡ true → given_good (f t) ≡ true) → given_good (going f o) ≡ true
 going_good f None h e = refl
 going_good f (Some x) h e = let p = and_parts _ _ h in before_good (slot_of x.0) (f x.1) p.0 (e x.1 p.1)
 
@@ -203,7 +203,7 @@ if_good : (u : Bool) (o : Option (List Slot)) → given_good o ≡ true → give
 if_good true o h = h
 if_good false o h = refl
 
-tail_good : (t : tails.Tail) (ps : Parts) → good_tail t ≡ true → given_good (tail_slots t ps) ≡ true
+tail_good : (t : tails.ListSlots) (ps : Parts) → good_tail t ≡ true → given_good (tail_slots t ps) ≡ true
 tail_good t none h = if_good (may_end t) (Some []) refl
 tail_good t (gap ps) h = or_none (is_over t) _ (if_good (skips_gap t) (tail_slots t ps) (tail_good t ps h))
 tail_good t (part n ps) h = or_none (is_over t) _ (going_good (λ u. tail_slots u ps) (part_of_tail t n ps) (step_good t (kind_of n) (flags_of n).directive (Rattle.language.specs.Pieces.is_none ps) (is_before_last ps) h) (λ u e. tail_good u ps e))

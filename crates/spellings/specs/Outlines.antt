@@ -96,21 +96,21 @@ pattern_part_at b kind.Property = Some (at.PatternProperty b)
 pattern_part_at b _ = None
 
 -- a part of a list at this position, which goes on so; behind a rest nothing stands
-abbrev pub listed_at : Option Position → Kind → Bool → tails.Tail → Option (Slot × tails.Tail)
+abbrev pub listed_at : Option Position → Kind → Bool → tails.ListSlots → Option (Slot × tails.ListSlots)
 listed_at None k last t = None
 listed_at (Some a) k last t = cond (last || not (is_rest k)) (Some (Fixed a, t)) None
 
 -- a part of a template, whether it is the last; a substitution
-abbrev pub chunk_at : tails.Tail → Bool → Slot × tails.Tail
+abbrev pub chunk_at : tails.ListSlots → Bool → Slot × tails.ListSlots
 chunk_at (tail.Chunks b) last = (Fixed (at.TemplateElement b last), cond last tail.Nothing tail.Substitution)
 chunk_at _ last = (Fixed whole_at, tail.Chunks false)
 
 -- an item, whether all before it are directives, and it too
-abbrev pub item_at : Bool → Bool → Bool → Slot × tails.Tail
+abbrev pub item_at : Bool → Bool → Bool → Slot × tails.ListSlots
 item_at r b d = (Fixed (cond b (at.PrologueItem r) (at.StatementListItem r)), tail.Prologue r (b && d))
 
 -- the next part of a tail, of this kind and whether it is a directive, with so many parts behind it: whether none and whether one
-abbrev pub tail_at : tails.Tail → Kind → Bool → Bool → Bool → Option (Slot × tails.Tail)
+abbrev pub tail_at : tails.ListSlots → Kind → Bool → Bool → Bool → Option (Slot × tails.ListSlots)
 tail_at tail.Nothing k d last before_last = None
 tail_at (tail.Each x) k d last before_last = Some (x, tail.Each x)
 tail_at (tail.Some x) k d last before_last = Some (x, tail.Each x)
@@ -124,14 +124,14 @@ tail_at tail.Substitution k d last before_last = Some (chunk_at tail.Substitutio
 tail_at (tail.Prologue r b) k d last before_last = Some (item_at r b d)
 
 -- a gap may be next
-abbrev pub skips_gap : tails.Tail → Bool
+abbrev pub skips_gap : tails.ListSlots → Bool
 skips_gap tail.Nothing = true
 skips_gap (tail.Arguments h) = h
 skips_gap (tail.PatternElements b) = true
 skips_gap _ = false
 
 -- the parts may end here
-abbrev pub may_end : tails.Tail → Bool
+abbrev pub may_end : tails.ListSlots → Bool
 may_end (tail.Some x) = false
 may_end (tail.Parameters x) = false
 may_end (tail.Chunks b) = false
@@ -141,33 +141,33 @@ may_end _ = true
 abbrev pub is_before_last : Parts → Bool
 is_before_last ps = not (piece.is_none ps) && piece.is_none (others ps)
 
-abbrev pub is_over : tails.Tail → Bool
+abbrev pub is_over : tails.ListSlots → Bool
 is_over tail.Nothing = true
 is_over _ = false
 
 -- each part is taken, whatever it is
-abbrev pub takes_all : tails.Tail → Bool
+abbrev pub takes_all : tails.ListSlots → Bool
 takes_all (tail.Each x) = true
 takes_all (tail.Prologue r b) = true
 takes_all _ = false
 
-abbrev pub is_arguments : tails.Tail → Bool
+abbrev pub is_arguments : tails.ListSlots → Bool
 is_arguments (tail.Arguments h) = true
 is_arguments _ = false
 
-abbrev pub part_of_tail : tails.Tail → Tree → Parts → Option (Slot × tails.Tail)
+abbrev pub part_of_tail : tails.ListSlots → Tree → Parts → Option (Slot × tails.ListSlots)
 part_of_tail t n ps = tail_at t (kind_of n) (flags_of n).directive (piece.is_none ps) (is_before_last ps)
 
 abbrev pub before : piece.Slot → Option (List piece.Slot) → Option (List piece.Slot)
 before x None = None
 before x (Some xs) = Some (x ∷ xs)
 
-abbrev pub going : (tails.Tail → Option (List piece.Slot)) → Option (Slot × tails.Tail) → Option (List piece.Slot)
+abbrev pub going : (tails.ListSlots → Option (List piece.Slot)) → Option (Slot × tails.ListSlots) → Option (List piece.Slot)
 going f None = None
 going f (Some x) = before (slot_of x.0) (f x.1)
 
 -- the positions of a tail over these parts: none where it doesn't go over them
-abbrev pub tail_slots : tails.Tail → Parts → Option (List piece.Slot)
+abbrev pub tail_slots : tails.ListSlots → Parts → Option (List piece.Slot)
 tail_slots t none = cond (may_end t) (Some []) None
 tail_slots t (gap ps) = cond (is_over t) (Some []) (cond (skips_gap t) (tail_slots t ps) None)
 tail_slots t (part n ps) = cond (is_over t) (Some []) (going (λ u. tail_slots u ps) (part_of_tail t n ps))
@@ -196,7 +196,7 @@ opens_at start.Statement Brace = false
 opens_at start.Statement FunctionOrClass = false
 opens_at _ o = true
 
-abbrev pub lined : Rank → FixedSlots → tails.Tail → ℕ → Outline
+abbrev pub lined : Rank → FixedSlots → tails.ListSlots → ℕ → Outline
 lined z f t n = record { rank = z; needs_in = false; opens = Other; front = f; tail = t; from = n }
 
 abbrev pub fronted : Rank → FixedSlots → Outline

@@ -587,7 +587,7 @@ fn with_arguments(rank: Rank, callee: Slot) -> Outline
 
 /// The object of a member.
 pub(crate) fn object_of(of_super: bool) -> Slot
-    ensures { result ≡ cond of_super (Fixed TheVariants.Base) Callee }
+    ensures { result ≡ cond of_super (Fixed TheVariants.Super) Callee }
 {
     if of_super {
         return Slot::Fixed(Position::Super);
@@ -597,7 +597,7 @@ pub(crate) fn object_of(of_super: bool) -> Slot
 
 /// What is called.
 pub(crate) fn callee(of_super: bool) -> Slot
-    ensures { result ≡ cond of_super (Fixed TheVariants.Base) (Lead Call) }
+    ensures { result ≡ cond of_super (Fixed TheVariants.Super) (Lead Call) }
 {
     if of_super {
         return Slot::Fixed(Position::Super);
