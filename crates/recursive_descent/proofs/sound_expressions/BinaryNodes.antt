@@ -163,10 +163,10 @@ bound_at _ b k p h = absurd (false≢true p)
 
 -- with a default
 abbrev pub with_default : CoverShape → CoverShape
-with_default s = record { is_expression = true; assigned = assigned.Defaulted; op_binary = s.binds }
+with_default s = record { is_expression = true; assigned = assigned.Defaulted; binds = s.binds }
 
 defaulted_is : (s : CoverShape) → shapes.is_pattern s.assigned ≡ true → defaulted s ≡ with_default s
-defaulted_is s h = ap (λ v. let r : CoverShape = record { is_expression = true; assigned = if v then assigned.Defaulted else assigned.Nothing; op_binary = s.binds } in r) h
+defaulted_is s h = ap (λ v. let r : CoverShape = record { is_expression = true; assigned = if v then assigned.Defaulted else assigned.Nothing; binds = s.binds } in r) h
 
 no_target : (f : Start) (a : TargetForm) (k : Kind) {r : Role} → shapes.is_target a ≡ true → assigned_at a f false k ≡ Some r → is_pattern k ≡ true → ⊥
 no_target f assigned.Target k t h p = false≢true (sym (target_no_pattern k (chosen h).0) ∙ p)
