@@ -382,7 +382,7 @@ word_unwrapped n (expr y i f) x h k o t e few =
     let l : Option SpellingNeeds = Some (label_of x.outline) in
     let b : Role = expr Expression true Any in
     let plain : is_plain_outline x.outline ≡ true = ap is_plain_outline o in
-    let takes_it : Rattle.language.specs.Words.takes y x.outline.rank ≡ true = ap (λ u. Rattle.language.specs.Words.takes y u.rank) o ∙ t in
+    let takes_it : Rattle.language.specs.Vocabulary.takes y x.outline.rank ≡ true = ap (λ u. Rattle.language.specs.Vocabulary.takes y u.rank) o ∙ t in
     let costs : (row_of n).costs ≡ fitting b x.outline no_pairs =
     row_cells n ∙ sym (weighed_some b n x k no_pairs (fitting b x.outline no_pairs) (sym (sums-end b (left x.slots)) ∙ ap (λ ps. sums_over ps b (left x.slots)) (sym e)) refl).costs in
     let fit : fits_label (expr y i f) l ≡ true = plain_fits (outline_of (label_of x.outline)) plain (expr y i f) takes_it in

@@ -76,7 +76,7 @@ module _ (text : List ℕ) (u : IsUtf8 text) where
   own_or_below (node k w g s e ps) y i f zero m G h own below = own (cc)
   own_or_below (node k w g s e ps) y i f (suc q) m G h own below = below q h
 
-  other_below : (n : Tree) (b : Role) (k : ℕ) (m : Tree) → is_wide b ≡ true → Rattle.language.specs.Positions.has_row b ≡ 0 → slice_get (row_nodes n b) k ≡ Some m →
+  other_below : (n : Tree) (b : Role) (k : ℕ) (m : Tree) → is_wide b ≡ true → Rattle.language.specs.RowPositions.has_row b ≡ 0 → slice_get (row_nodes n b) k ≡ Some m →
       slice_get (parts_row_nodes (parts_of n) (first_roles (ways (widest b) n))) k ≡ Some m
   unfolding row_nodes
   other_below n (expr y i f) k m v z h = absurd (cc)

@@ -18,7 +18,7 @@ abbrev pub loose_from : Bool → List ℕ → List ℕ
 loose_from b rest = cond b (32 ∷ rest) rest
 
 module _ (W : ℕ → Bool) where
-  token : (c : Rattle.tokens.specs.declared.token.Class.Class) (w : List ℕ) (qs : List (PieceOf Role)) (ps : Parts) (r d : ℕ) (b : Bool) → parts_layout W ps (tok c w ∷ qs) r d b ≡ w ++ parts_layout W ps qs r d b
+  token : (c : Rattle.tokens.specs.declared.token.TokenClass.TokenClass) (w : List ℕ) (qs : List (PieceOf Role)) (ps : Parts) (r d : ℕ) (b : Bool) → parts_layout W ps (tok c w ∷ qs) r d b ≡ w ++ parts_layout W ps qs r d b
   unfolding layout parts_layout
   token c w qs none r d b = refl
   token c w qs (gap ps) r d b = refl

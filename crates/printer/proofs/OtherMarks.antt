@@ -127,7 +127,7 @@ module _ (w : List ℕ) where
 
   -- a word and what may stand behind it
   word_ways : (k : Kind) (s : Prim.Native.String.String) (g : Flags) (ps : Parts) (p : Piece) (e : piece.Ending) → Standing p → ((qs : Parts) → expression_shape k w g qs ≡ Rattle.printer.specs.Shapes.word_shape s (Rattle.printer.specs.Shapes.has_part qs 0)) →
-      Shaped ps (Of k g ps) (only ((term s ∷ Rattle.language.specs.Statements.behind_word ps p) ++ ending e ∷ []))
+      Shaped ps (Of k g ps) (only ((term s ∷ Rattle.language.specs.Statements.after_word ps p) ++ ending e ∷ []))
   word_ways k s g none p e x h = one (λ r c. absurd (false≢true r))
   word_ways k s g (gap ps) p e x h = one (λ r c. fixed_shape w (Rattle.printer.specs.Shapes.word_shape s false) (gap ps) (term s ∷ absent ∷ ending e ∷ []) refl refl refl c ∙ ap (λ v. shape_marks w v (gap ps)) (sym (h (gap ps))))
   word_ways k s g (part n ps) (sub q) e stands h = one (λ r c. fixed_shape w (Rattle.printer.specs.Shapes.word_shape s true) (part n ps) (term s ∷ sp ∷ unbroken ∷ sub q ∷ ending e ∷ []) refl refl refl c ∙ ap (λ v. shape_marks w v (part n ps)) (sym (h (part n ps))))

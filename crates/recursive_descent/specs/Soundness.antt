@@ -146,7 +146,7 @@ GoesOn text i l r o m e Q = (f : Start) (s : Token) (P : List Pair) → PartAt t
 -- a part of a chain above its base (12.3.9); `super` before its member or its arguments (12.3.5)
 pub record LinkAt (text : List ℕ) (f : Start) (p : Operand) (o : ℕ) (s e : Token) (P : List Pair) : Type 0 where
   pub begins : Begins text p.start s
-  pub has_optional : has_optional p.cover.node ≡ true
+  pub chained : has_optional p.cover.node ≡ true
   pub spelled : SpellsIn text o (chain_part f) p.cover.node s e P
 
 pub record SuperAt (text : List ℕ) (p : Operand) (o : ℕ) (s e : Token) (P : List Pair) : Type 0 where

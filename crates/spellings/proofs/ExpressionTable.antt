@@ -170,7 +170,7 @@ module _ (ps : Parts) where
   join : (w : List ℕ) (z q : Rank) → Outlined ps (joined w z q ∷ []) (Some (joined_outline w z q))
   join w z q = one_way (record { rank = refl; needs_in = refl; opens = free; names = ap (λ x. before (left z) (before (tail q Any) x)) (sym (nothing_slots ps)) })
     where
-      free : (f : Start) → starts f (sub (left z) ∷ infix_pieces w ++ sub (tail q Any) ∷ []) ≡ opens_at f Rattle.spellings.specs.declared.outline.Opens.TheVariants.Otherwise
+      free : (f : Start) → starts f (sub (left z) ∷ infix_pieces w ++ sub (tail q Any) ∷ []) ≡ opens_at f Rattle.spellings.specs.declared.outline.FirstToken.TheVariants.Other
       free Any = refl
       free NoBrace = refl
       free Statement = refl
@@ -221,17 +221,17 @@ module _ (ps : Parts) where
 
 -- functions and classes
 
-function_opens : (f : Start) (qs : List Piece) → starts f (term "function" ∷ qs) ≡ opens_at f Rattle.spellings.specs.declared.outline.Opens.TheVariants.WithWord
+function_opens : (f : Start) (qs : List Piece) → starts f (term "function" ∷ qs) ≡ opens_at f Rattle.spellings.specs.declared.outline.FirstToken.TheVariants.FunctionOrClass
 function_opens Any qs = refl
 function_opens NoBrace qs = refl
 function_opens Statement qs = refl
 
-class_opens : (f : Start) (qs : List Piece) → starts f (term "class" ∷ qs) ≡ opens_at f Rattle.spellings.specs.declared.outline.Opens.TheVariants.WithWord
+class_opens : (f : Start) (qs : List Piece) → starts f (term "class" ∷ qs) ≡ opens_at f Rattle.spellings.specs.declared.outline.FirstToken.TheVariants.FunctionOrClass
 class_opens Any qs = refl
 class_opens NoBrace qs = refl
 class_opens Statement qs = refl
 
-pub brace_opens : (f : Start) (qs : List Piece) → starts f (sign "{" ∷ qs) ≡ opens_at f Rattle.spellings.specs.declared.outline.Opens.TheVariants.WithBrace
+pub brace_opens : (f : Start) (qs : List Piece) → starts f (sign "{" ∷ qs) ≡ opens_at f Rattle.spellings.specs.declared.outline.FirstToken.TheVariants.Brace
 brace_opens Any qs = refl
 brace_opens NoBrace qs = refl
 brace_opens Statement qs = refl
@@ -265,7 +265,7 @@ with_parameters : (g : Flags) (ps : Parts) → Outlined ps (at Assignment (open_
 with_parameters g ps = lists Assignment Zero (tails.Parameters (cond g.expression (own.Tail Assignment NoBrace) (own.Fixed position.Body))) 0 _
     (parameters-named (cond g.expression (own.Tail Assignment NoBrace) (own.Fixed position.Body)) (close_parameters ∷ arrow_end g) (arrow_named g) ps) (λ f. open_starts f _)
 
-free_opens : (f : Start) → true ≡ opens_at f Rattle.spellings.specs.declared.outline.Opens.TheVariants.Otherwise
+free_opens : (f : Start) → true ≡ opens_at f Rattle.spellings.specs.declared.outline.FirstToken.TheVariants.Other
 free_opens Any = refl
 free_opens NoBrace = refl
 free_opens Statement = refl

@@ -38,7 +38,7 @@ pub data Placed (ps : Parts) : List Spelling → Option Outline → Type 0 where
   placed : {s : Spelling} {x : Outline} → named s.pieces ≡ outline_slots x ps → Placed ps (s ∷ []) (Some x)
 
 module _ {ps : Parts} where
-  pub places : (f : Rattle.spellings.specs.declared.outline.Front.Front) (qs : List Piece) → named qs ≡ front_before f (Some []) → Placed ps (only qs) (Some (fronted Primary f))
+  pub places : (f : Rattle.spellings.specs.declared.outline.FixedSlots.FixedSlots) (qs : List Piece) → named qs ≡ front_before f (Some []) → Placed ps (only qs) (Some (fronted Primary f))
   places f qs e = placed (e ∙ sym (ap (front_before f) (nothing_slots ps)))
 
   leaf_of : (b : Bool) (qs : List Piece) → named qs ≡ Some [] → Placed ps (cond b (only qs) []) (leaf_if b)

@@ -62,7 +62,7 @@ module _ {ps : Parts} where
   pub lists : (z : Rank) (f : FixedSlots) (t : ListSlots) (n : ℕ) (qs : List Piece) → named qs ≡ front_before f (tail_slots t (parts_after n ps)) → ((g : Start) → starts g qs ≡ true) → Outlined ps (at z qs ∷ []) (Some (lined z f t n))
   lists z f t n qs e h = one_way (record { rank = refl; needs_in = refl; opens = λ g. h g ∙ free g; names = e })
     where
-      free : (g : Start) → true ≡ opens_at g Rattle.spellings.specs.declared.outline.Opens.TheVariants.Otherwise
+      free : (g : Start) → true ≡ opens_at g Rattle.spellings.specs.declared.outline.FirstToken.TheVariants.Other
       free Any = refl
       free NoBrace = refl
       free Statement = refl

@@ -74,7 +74,7 @@ module _ (S : Type 0) (Next : S → Token → S → Type 0) (behind : S → Toke
   stops_before {w} {s} {e} {t} {x} y i n h al op none_made u m r =
       let same = read_there h al r in
       let op' : operation u ≡ x = ap operation same.0 ∙ makes t h.class h.text op in
-      subst (λ v. stops_at y i (Rattle.language.specs.Edges.standing (edge n) (behind s)) u (rank_made_by v u.after_break) ≡ true) (sym op') (none_made (Rattle.language.specs.Edges.standing (edge n) (behind s)) u)
+      subst (λ v. stops_at y i (Rattle.language.specs.Edges.edge_as_written (edge n) (behind s)) u (rank_made_by v u.after_break) ≡ true) (sym op') (none_made (Rattle.language.specs.Edges.edge_as_written (edge n) (behind s)) u)
 
   -- the conditional on the spine of a whole that can't go on, with what stands behind `?` and behind `:`
   pub record AskOn (o : ℕ) (s0 : S) (y : Rank) (i : Bool) (f : Start) (n : Tree) (e : S) (P : List Pair) (m : Tree) (x : S) (Q : List Pair) (c : Rank) : Type 0 where

@@ -247,11 +247,11 @@ module _ (S : Type 0) (Next : S → Token → S → Type 0) (behind : S → Toke
           Spells ways S Next behind o (property_role a) (node Property [] (flags_as false Shorthand) st en (part (node Identifier w plain t.start t.stop none) (part (node Identifier w plain t.start (behind k).stop none) none))) s k []
       unfolding spellings
       short_spells as_expression {o} {st} {en} pl =
-          let y : Spelling = at Primary (put Rattle.language.specs.Pieces.echo ∷ put name ∷ []) in
+          let y : Spelling = at Primary (put Rattle.language.specs.Pieces.shorthand_key ∷ put name ∷ []) in
           direct (settled property y) (way_from property (node Property [] (flags_as false Shorthand) st en (part (node Identifier w plain t.start t.stop none) (part (node Identifier w plain t.start (behind k).stop none) none))) y refl first refl) pl
           (within (echo_spells S Next behind det word) (last_runs S Next behind (name_found S Next behind det {o = o} word free).spelled))
       short_spells (as_pattern b) {o} {st} {en} pl =
-          let y : Spelling = at Primary (put Rattle.language.specs.Pieces.echo ∷ put name ∷ []) in
+          let y : Spelling = at Primary (put Rattle.language.specs.Pieces.shorthand_key ∷ put name ∷ []) in
           direct (settled (pattern_property b) y) (way_from (pattern_property b) (node Property [] (flags_as false Shorthand) st en (part (node Identifier w plain t.start t.stop none) (part (node Identifier w plain t.start (behind k).stop none) none))) y refl first refl) pl
           (within (echo_spells S Next behind det word) (last_runs S Next behind (name_found S Next behind det {o = o} word free).spelled))
 
@@ -370,7 +370,7 @@ module _ (S : Type 0) (Next : S → Token → S → Type 0) (behind : S → Toke
         initialized_found b {o} {u} {e} {V} {st} {en} {st1} {en1} value places inside = record {
           role = pattern_property b;
           it_is = refl;
-          spelled = let y : Spelling = at Primary (put Rattle.language.specs.Pieces.echo ∷ put (element true) ∷ []) in
+          spelled = let y : Spelling = at Primary (put Rattle.language.specs.Pieces.shorthand_key ∷ put (element true) ∷ []) in
               direct (settled (pattern_property b) y) (way_from (pattern_property b) (node Property [] (flags_as false Shorthand) st en (part (node Identifier w plain t.start t.stop none) (part (node AssignmentPattern [] plain st1 en1 (part (node Identifier w plain t.start (behind k).stop none) (part u none))) none))) y refl first refl) places
               (within (echo_spells S Next behind det word) (last_runs S Next behind (default_spells S Next behind det true refl (name_found S Next behind det {o = o} word free).spelled equals (subst (λ c. Spells ways S Next behind o c u x e V) (sym (some_same value.it_is)) value.spelled) inside)));
           only = λ o' r e' n' P' h d ends.

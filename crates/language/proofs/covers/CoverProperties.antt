@@ -108,7 +108,7 @@ module _ (S : Type 0) (Next : S → Token → S → Type 0) (behind : S → Toke
       of Get (gap (gap ps')) l = elim l [ ]
       of Get (gap (part b (part c ps'))) l = elim l [ ]
       of Get (gap (part b (gap ps'))) l = elim l [ ]
-      of Set (gap (part n (part b none))) l = unless (Rattle.language.specs.Words.is_rest (kind_of n)) l (λ k i. method_way (method f) i run)
+      of Set (gap (part n (part b none))) l = unless (Rattle.language.specs.Vocabulary.is_rest (kind_of n)) l (λ k i. method_way (method f) i run)
       of Set none l = elim l [ ]
       of Set (part n ps') l = elim l [ ]
       of Set (gap none) l = elim l [ ]

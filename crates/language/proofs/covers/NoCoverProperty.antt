@@ -27,7 +27,7 @@ use Rattle.language.proofs.covers.CoverProperties.{flags_as, accessor_word, KeyA
 use Rattle.language.proofs.covers.CoverKeys.{KeyFound, name_key, key_or_sign, echo_form}
 use Rattle.language.proofs.covers.CoverObjects.{Mark, form_as, short_ends, default_ends}
 
-name_class : {c : Rattle.tokens.specs.declared.token.Class.Class} → c ≡ IdentifierName → is_key_class c ≡ true
+name_class : {c : Rattle.tokens.specs.declared.token.TokenClass.TokenClass} → c ≡ IdentifierName → is_key_class c ≡ true
 name_class e = ap is_key_class e
 
 module _ (S : Type 0) (Next : S → Token → S → Type 0) (behind : S → Token) (det : IsDetermined S Next behind) where

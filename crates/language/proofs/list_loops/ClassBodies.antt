@@ -36,7 +36,7 @@ plain_members zs (gap ps) = never ∷ []
 apart : {v w : List ℕ} (s : List ℕ → Bool) → s v ≡ true → s w ≡ false → v ≡ w → ⊥
 apart s h k e = false≢true (sym k ∙ ap s (sym e) ∙ h)
 
-no_name : {c : Rattle.tokens.specs.declared.token.Class.Class} → c ≡ Punctuator → c ≡ IdentifierName → ⊥
+no_name : {c : Rattle.tokens.specs.declared.token.TokenClass.TokenClass} → c ≡ Punctuator → c ≡ IdentifierName → ⊥
 no_name {c} p q = clash (sym p ∙ q)
   where
     clash : Punctuator ≡ IdentifierName → ⊥

@@ -138,7 +138,7 @@ brace_class Punctuator w h al = of (is_word_operator w)
     of false = brace_operator w h
 brace_class Template w h al = of (begins_with (one_of "/") w) (begins_with (one_of "}") w) refl h al
   where
-    of : (x y : Bool) → begins_with (one_of "/") w ≡ x → y ≡ true → IsTrue (if x then beq false false else if y then beq true false else true) → cond (nat_eq (slice_index_or w 0 0) 96) Rattle.language.specs.Words.tags op_none ≡ op_none
+    of : (x y : Bool) → begins_with (one_of "/") w ≡ x → y ≡ true → IsTrue (if x then beq false false else if y then beq true false else true) → cond (nat_eq (slice_index_or w 0 0) 96) Rattle.language.specs.Vocabulary.op_template op_none ≡ op_none
     of true y k e al = absurd (slash_or_brace w k h)
     of false true k e al = cc
     of false false k e al = cc

@@ -100,7 +100,7 @@ words_alike a c (lay x ∷ qs) h = words_alike a c qs h
 
 -- pieces that name the same parts, at positions of one sort; the tokens of either are words where those of the other are
 pub record NamesAlike (b : Bool) (qs rs : List (PieceOf Role)) : Type 0 where
-  pub roles : AllLike b (Rattle.language.specs.Positions.roles qs) (Rattle.language.specs.Positions.roles rs)
+  pub roles : AllLike b (Rattle.language.specs.RowPositions.roles qs) (Rattle.language.specs.RowPositions.roles rs)
   pub lines : (ps : Parts) → lines_up qs ps ≡ lines_up rs ps
   pub words : PieceWords qs → PieceWords rs
   pub words_back : PieceWords rs → PieceWords qs

@@ -216,7 +216,7 @@ shut_logical w (op_binary true z q) h = slack_one (not_true (nat_le 18 (preceden
 shut_logical w (op_binary false z q) h = no_shuts
 shut_logical w _ h = no_shuts
 
-shut_arrows : (g : Flags) (ps : Parts) → Shuts true (Rattle.language.specs.Expressions.arrows g ps)
+shut_arrows : (g : Flags) (ps : Parts) → Shuts true (Rattle.language.specs.Expressions.op_arrow g ps)
 shut_arrows g none = slack_one refl
 shut_arrows g (gap ps) = slack_one refl
 shut_arrows g (part n none) = slack_one refl

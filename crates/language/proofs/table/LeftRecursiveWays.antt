@@ -123,7 +123,7 @@ pub data Linked (f : Start) (k : Kind) (g : Flags) (ps : Parts) (b : Role) (rest
 
 pub record LinkedWay (f : Start) (k : Kind) (g : Flags) (ps : Parts) (b : Role) (rest : List (PieceOf Role)) : Type 0 where
   pub operator : Operator
-  pub chain_element : Linked f k g ps b rest operator
+  pub linked : Linked f k g ps b rest operator
 
 module _ (f : Start) where
   -- what stands below a part of a chain
@@ -132,15 +132,15 @@ module _ (f : Start) where
 
   member_linked : {g : Flags} {ps : Parts} {b : Role} {rest : List (PieceOf Role)} (o c : Bool) → g.optional ≡ o → g.computed ≡ c → Below f o ps b →
       rest ≡ goes_to Expression true f (cond o (sign "?." ∷ cond c in_brackets (put word ∷ [])) (cond c in_brackets (sign "." ∷ put word ∷ []))) → LinkedWay f MemberExpression g ps b rest
-  member_linked true true o c h e = record { operator = op_optional; chain_element = link_chained_index refl o c h e }
-  member_linked true false o c h e = record { operator = op_optional; chain_element = link_chained_name refl o c h e }
-  member_linked false true o c (on_part t h) e = record { operator = op_index; chain_element = link_index refl o c t h e }
-  member_linked false false o c (on_part t h) e = record { operator = op_dot; chain_element = link_dot refl o c t h e }
+  member_linked true true o c h e = record { operator = op_optional; linked = link_chained_index refl o c h e }
+  member_linked true false o c h e = record { operator = op_optional; linked = link_chained_name refl o c h e }
+  member_linked false true o c (on_part t h) e = record { operator = op_index; linked = link_index refl o c t h e }
+  member_linked false false o c (on_part t h) e = record { operator = op_dot; linked = link_dot refl o c t h e }
   member_linked false c o d (on_base t u h) e = cc
 
   call_linked : {g : Flags} {ps : Parts} {b : Role} {rest : List (PieceOf Role)} (o : Bool) → g.optional ≡ o → Below f o ps b → rest ≡ goes_to Expression true f (cond o (sign "?." ∷ []) [] ++ arguments (others ps)) → LinkedWay f CallExpression g ps b rest
-  call_linked true o h e = record { operator = op_optional; chain_element = link_chained_call refl o h e }
-  call_linked false o (on_part t h) e = record { operator = op_call; chain_element = link_call refl o t h e }
+  call_linked true o h e = record { operator = op_optional; linked = link_chained_call refl o h e }
+  call_linked false o (on_part t h) e = record { operator = op_call; linked = link_call refl o t h e }
   call_linked false o (on_base t u h) e = cc
 
   -- each way of a part of a chain that is led is one of these

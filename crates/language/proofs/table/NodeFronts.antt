@@ -202,7 +202,7 @@ module _ (W : ℕ → Bool) where
   closer_of tagged_quasi n r d ys f h = quasi_front n r d ys f
   closer_of (method m) n r d ys f h = method_front m n r d ys f
   closer_of (template_element b l) n r d ys f h = chunk_front W b l n r d ys f
-  closer_of (expr y i z) n r d ys f h = absurd (no_closer (Rattle.std.specs.Prelude.nat_le 18 (Rattle.language.specs.Words.tightness y)) h)
+  closer_of (expr y i z) n r d ys f h = absurd (no_closer (Rattle.std.specs.Prelude.nat_le 18 (Rattle.language.specs.Vocabulary.precedence y)) h)
     where
       no_closer : (t : Bool) → closer_sort (cond t a_tight an_operand) ≡ true → ⊥
       no_closer true h = false≢true h
@@ -213,7 +213,7 @@ module _ (W : ℕ → Bool) where
   undotted_of name n r d ys f w h = name_front W n r d ys f w
   undotted_of word n r d ys f w h = word_front W n r d ys f w
   undotted_of base n r d ys f w h = base_front W n r d ys f w
-  undotted_of (expr y i z) n r d ys f w h = absurd (no_name (Rattle.std.specs.Prelude.nat_le 18 (Rattle.language.specs.Words.tightness y)) h)
+  undotted_of (expr y i z) n r d ys f w h = absurd (no_name (Rattle.std.specs.Prelude.nat_le 18 (Rattle.language.specs.Vocabulary.precedence y)) h)
     where
       no_name : (t : Bool) → name_sort (cond t a_tight an_operand) ≡ true → ⊥
       no_name true h = false≢true h

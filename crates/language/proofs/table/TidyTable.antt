@@ -115,7 +115,7 @@ arrow-alike g b a c = record { roles = next_like same_like (ends g.expression); 
     lines (gap ps) = refl
     lines (part n ps) = lines_alike a c (arrow_end g) ps
 
-pub Tidy-arrow : (g : Flags) (ps : Parts) → Tidy (two_ways_at ArrowFunctionExpression ps) (Rattle.language.specs.Expressions.arrows g ps)
+pub Tidy-arrow : (g : Flags) (ps : Parts) → Tidy (two_ways_at ArrowFunctionExpression ps) (Rattle.language.specs.Expressions.op_arrow g ps)
 Tidy-arrow g none = one_way (λ e. omega arith)
 Tidy-arrow g (gap ps) = one_way (λ e. omega arith)
 Tidy-arrow g (part n none) = one_way (λ e. omega arith)

@@ -94,7 +94,7 @@ cases_more true first f g = f refl first
 cases_more true (later h) f g = g h
 cases_more false h f g = g h
 
-arrow_made : {w : List ℕ} {g : Flags} (ps : Parts) {x : Spelling} → Among x (Rattle.language.specs.Expressions.arrows g ps) → Made ArrowFunctionExpression w g ps x
+arrow_made : {w : List ℕ} {g : Flags} (ps : Parts) {x : Spelling} → Among x (Rattle.language.specs.Expressions.op_arrow g ps) → Made ArrowFunctionExpression w g ps x
 arrow_made none h = as_made arrow h
 arrow_made (gap ps) h = as_made arrow h
 arrow_made (part n none) h = as_made arrow h

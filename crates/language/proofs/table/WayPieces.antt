@@ -96,7 +96,7 @@ first_is_neat a n p s = go (is_lean (bare n)) refl s
 -- Pieces from the next part on
 
 pub record TailOf (a : Role) (qs rs : List Piece) : Type 0 where
-  pub roles : Rattle.language.specs.Positions.roles (standing_at a qs) ≡ Rattle.language.specs.Positions.roles (standing_at a rs)
+  pub roles : Rattle.language.specs.RowPositions.roles (standing_at a qs) ≡ Rattle.language.specs.RowPositions.roles (standing_at a rs)
   pub behind : after_part (standing_at a qs) ≡ after_part (standing_at a rs)
   pub lines : (ps : Parts) → lines_up (standing_at a qs) ps ≡ lines_up (standing_at a rs) ps
 

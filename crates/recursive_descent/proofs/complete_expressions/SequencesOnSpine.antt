@@ -152,5 +152,5 @@ module _ (text : List ℕ) where
                 next = λ q tree rank value. on_further text {r = q} serves high u
                     (subst (λ c. Leads Token (NextIn text any_goal) itself (text_determined text) o s p.rank p.has_in p.start k e P c q.cover.node to (Q ++ R)) (sym rank)
                     (subst (λ c. Leads Token (NextIn text any_goal) itself (text_determined text) o s p.rank p.has_in p.start k e P Expression c to (Q ++ R)) (sym tree) leads)) value
-                    (λ h. absurd (false≢true (ap (λ c. Rattle.language.specs.Words.is_target (kind_of c)) (sym tree) ∙ h))) (λ h c. let clash : SequenceExpression ≡ AssignmentExpression = sym (ap kind_of tree) ∙ h in cc);
+                    (λ h. absurd (false≢true (ap (λ c. Rattle.language.specs.Vocabulary.is_target (kind_of c)) (sym tree) ∙ h))) (λ h c. let clash : SequenceExpression ≡ AssignmentExpression = sym (ap kind_of tree) ∙ h in cc);
               }

@@ -71,13 +71,13 @@ last_edge false s = refl
 -- what fits a list before fits it behind its last item
 last_fits : (x : ListKind) (k k' : ListOf) (a : Reading) (c : Bool) → k'.nodes ≡ k.nodes → k'.seen ≡ behind_last c k.seen → seen_fits x k' a ≡ seen_fits x k a
 last_fits (listed.Declarators i) k k' as_expression c b d = ap (λ (y : ListSummary). not y.is_flagged) d ∙ ap not (last_marked c k.seen)
-last_fits (listed.Declarators i) k k' (as_pattern z) c b d = λ j. nat_le (part_count (b j)) 1 && Rattle.parser_tables.specs.Stated.is_closed ((ap (λ (y : ListSummary). y.edge) d ∙ last_edge c k.seen) j)
+last_fits (listed.Declarators i) k k' (as_pattern z) c b d = λ j. nat_le (part_count (b j)) 1 && Rattle.parser_tables.specs.StatementNodes.is_closed ((ap (λ (y : ListSummary). y.edge) d ∙ last_edge c k.seen) j)
 last_fits listed.Arguments k k' a c b d = refl
 last_fits listed.Template k k' a c b d = refl
 last_fits (listed.Sequence i) k k' a c b d = refl
 last_fits (listed.Cases r) k k' a c b d = refl
 last_fits listed.Members k k' a c b d = refl
-last_fits _ k k' a c b d = ap (λ y. Rattle.recursive_descent.specs.Derived.fits_as y a) (ap (λ (y : ListSummary). y.shape) d ∙ last_shape c k.seen)
+last_fits _ k k' a c b d = ap (λ y. Rattle.recursive_descent.specs.Soundness.fits_as y a) (ap (λ (y : ListSummary). y.shape) d ∙ last_shape c k.seen)
 
 last_left : (k k' : ListOf) (a : Reading) (c : Bool) → k'.listed ≡ k.listed → k'.nodes ≡ k.nodes → k'.seen ≡ behind_last c k.seen → is_left k' a ≡ is_left k a
 last_left k k' a c l b d =

@@ -54,7 +54,7 @@ only_places l k a b c = λ i. record { listed = a i; nodes = b i; seen = c i; in
 
 fits_places : (x : ListKind) (l k : ListOf) (a : Reading) → k.nodes ≡ l.nodes → k.seen ≡ l.seen → seen_fits x k a ≡ seen_fits x l a
 fits_places (listed.Declarators i) l k as_expression b c = ap (λ (y : ListSummary). not y.is_flagged) c
-fits_places (listed.Declarators i) l k (as_pattern z) b c = λ j. nat_le (part_count (b j)) 1 && Rattle.parser_tables.specs.Stated.is_closed (c j).edge
+fits_places (listed.Declarators i) l k (as_pattern z) b c = λ j. nat_le (part_count (b j)) 1 && Rattle.parser_tables.specs.StatementNodes.is_closed (c j).edge
 fits_places listed.Arguments l k a b c = refl
 fits_places listed.Template l k a b c = refl
 fits_places (listed.Sequence i) l k a b c = refl

@@ -73,5 +73,5 @@ module _ (text : List ℕ) where
   none_behind _ a k count reads plain marked (inl over) (next u r) = cc
 
 -- what is read of a list with its last item is all of it
-pub whole_left : (x : ListKind) (l : ListOf) (a : Reading) → ((has_reading x a && seen_fits x l a) && Rattle.covers.specs.Lists.reads x l.seen.shape) ≡ true → cond (asks_some x a) (are_some l.nodes && not l.seen.has_comma) true ≡ true → Rattle.recursive_descent.specs.DerivedLists.whole_of x l a ≡ true
+pub whole_left : (x : ListKind) (l : ListOf) (a : Reading) → ((has_reading x a && seen_fits x l a) && Rattle.covers.specs.Lists.reads x l.seen.shape) ≡ true → cond (asks_some x a) (are_some l.nodes && not l.seen.has_comma) true ≡ true → Rattle.recursive_descent.specs.SoundnessOfLists.whole_of x l a ≡ true
 whole_left x l a h k = let u = and_parts (has_reading x a && seen_fits x l a) _ h in ap (λ b. b && cond (asks_some x a) (are_some l.nodes && not l.seen.has_comma) true) u.0 ∙ k

@@ -157,7 +157,7 @@ module _ (text : List ℕ) where
   comma_ends (inr r) = sign_ends refl r.1
 
   no_dots_key : {c : Bool} {o : ℕ} {k : Tree} {s e : Token} {P : List Pair} → Key_ o k s e P c → Misses text Punctuator (codes "...") s
-  no_dots_key d t e r = key_at_sign Token (NextIn text any_goal) itself (text_determined text) refl refl (λ h. false≢true (sym (ap (λ w. Rattle.language.specs.Words.is w "...") h))) d r
+  no_dots_key d t e r = key_at_sign Token (NextIn text any_goal) itself (text_determined text) refl refl (λ h. false≢true (sym (ap (λ w. Rattle.language.specs.Vocabulary.is w "...") h))) d r
 
   no_dots_word : {w : List ℕ} {s t e : Token} → Reads Token (NextIn text any_goal) itself IdentifierName w s t e → Misses text Punctuator (codes "...") s
   no_dots_word r u k d = name_or_sign Token (NextIn text any_goal) itself (text_determined text) refl r d
@@ -166,8 +166,8 @@ module _ (text : List ℕ) where
   other_sign x h k r u m q = false≢true (sym k ∙ ap x (sym q.text ∙ ap (λ (z : Token). z.text) (Rattle.recursive_descent.proofs.complete_expressions.Agreement.marks_same text q r).0 ∙ r.text) ∙ h)
 
   comma_calls : {s : Token} → CommaOr text (codes "}") s → Misses text Punctuator (codes "(") s
-  comma_calls (inl r) = other_sign (λ w. Rattle.language.specs.Words.is w ",") refl refl r.1
-  comma_calls (inr r) = other_sign (λ w. Rattle.language.specs.Words.is w "}") refl refl r.1
+  comma_calls (inl r) = other_sign (λ w. Rattle.language.specs.Vocabulary.is w ",") refl refl r.1
+  comma_calls (inr r) = other_sign (λ w. Rattle.language.specs.Vocabulary.is w "}") refl refl r.1
 
   no_words : {in_class : Bool} {s : Token} → WordsGiven text in_class s s false Method
   no_words = not_static (neither refl)
@@ -184,7 +184,7 @@ module _ (text : List ℕ) where
     of_value v it =
         let tall : height n ≡ height (node Property [] (flags_as v.computed Init) v.st v.en (part v.name (part v.value none))) = ap height v.tree in
         keyed (no_dots_key v.key) (omega arith) (record { mid = s; words = no_words; key = v.key; last = sign_ends refl v.reads })
-        (no_method refl (other_sign (λ w. Rattle.language.specs.Words.is w ":") refl refl v.reads) (a_value (read_here text v.reads) (omega arith) it v.spelled ends))
+        (no_method refl (other_sign (λ w. Rattle.language.specs.Vocabulary.is w ":") refl refl v.reads) (a_value (read_here text v.reads) (omega arith) it v.spelled ends))
 
     of_name : Short Token (NextIn text any_goal) itself (text_determined text) name o n s e P → DefinitionGiven false a o (height n) s e
     of_name v =
@@ -217,7 +217,7 @@ module _ (text : List ℕ) where
             let key_there : Key_ o z.left s z.mid z.one false = plain_key (name_key Token (NextIn text any_goal) itself (text_determined text) p) in
             let t = name_token p in
             keyed (no_dots_key key_there) (omega arith) (record { mid = s; words = no_words; key = key_there; last = sign_ends refl z.reads })
-            (no_method refl (other_sign (λ w. Rattle.language.specs.Words.is w "=") refl refl z.reads) (a_default reading refl t.0 t.1 (omega arith) (read_here text z.reads) (omega arith) z.value ends))
+            (no_method refl (other_sign (λ w. Rattle.language.specs.Vocabulary.is w "=") refl refl z.reads) (a_default reading refl t.0 t.1 (omega arith) (read_here text z.reads) (omega arith) z.value ends))
 
   of_called : {in_class b : Bool} {a : Reading} {o levels : ℕ} {k u : Tree} {c : Bool} {f : Form} {s z m x e t : Token} {A B : List Pair} → a ≡ as_expression → is_called f ≡ true → WordsGiven text in_class s z b f → Misses text Punctuator (codes "...") s → Key_ o k z m A c → Sign (codes "(") m t x → SpellsIn text o (method f) u m e B →
       suc (height k) ≤ levels → suc (height u) ≤ levels → DefinitionGiven in_class a o levels s e

@@ -46,7 +46,7 @@ record BlockWanted (text : List ℕ) (p : Coded) (context : StatementContext) (o
   items : context.is_item ≡ true
   edge : knows_edge (piece_of p) ≡ false
 
-plain_block : {text : List ℕ} (p : Coded) (r : Bool) {context : StatementContext} {o : ℕ} {m e : Token} {put : Parts} {P : List Pair} → knows_edge (piece_of p) ≡ false → context ≡ item_context r → Rattle.recursive_descent.specs.DerivedPieces.PutAt text o (Rattle.language.specs.Pieces.block r) m e put P → BlockWanted text p context o m e put P
+plain_block : {text : List ℕ} (p : Coded) (r : Bool) {context : StatementContext} {o : ℕ} {m e : Token} {put : Parts} {P : List Pair} → knows_edge (piece_of p) ≡ false → context ≡ item_context r → Rattle.recursive_descent.specs.SoundnessOfStatements.PutAt text o (Rattle.language.specs.Pieces.block r) m e put P → BlockWanted text p context o m e put P
 plain_block {text} p r {o = o} {m} {e} {put} {P} edge is g = subst (λ z. BlockWanted text p z o m e put P) (sym is) (record { tree = g.put; parts = g.parts; braced = block_given text r g.spelled; items = refl; edge = edge })
 
 block_wanted : (r : Bool) (s m : CursorState) (b c : PartialStatement) (high : ℕ) (context : StatementContext) (p : Coded) → ExpectedAt p r s m b c high (wanted.Block context) → (o : ℕ) (to : Token) (x y : Edge) (put : Parts) (P : List Pair) → PieceGiven s.text r o (piece_of p) s.last to x y put P → BlockWanted s.text p context o m.last to put P
@@ -68,11 +68,11 @@ module _ (r : Bool) (s m : CursorState) (b c : PartialStatement) (high : ℕ) (c
       absurd (misses v.braced.left v.braced.left (subst (λ z. ReadsHere z Punctuator (codes "{") m.last v.braced.left) (sym same) v.braced.opens))
 
   module _ (x : CursorState) (inner : ℕ) (text : x.text ≡ m.text) (opened : x.opened ≡ m.opened) (left : ReadsHere m.text Punctuator (codes "{") m.last x.last) (lower : inner ≡ high - 1) where
-    inside : {o : ℕ} {to : Token} {put : Parts} {P : List Pair} (v : BlockWanted s.text p context o m.last to put P) → Rattle.recursive_descent.specs.Derived.RunsIn x.text o (Rattle.recursive_descent.specs.Derived.anywhere (prologue context.returns context.is_prologue [] [] v.braced.parts)) v.braced.parts x.last v.braced.mid P
+    inside : {o : ℕ} {to : Token} {put : Parts} {P : List Pair} (v : BlockWanted s.text p context o m.last to put P) → Rattle.recursive_descent.specs.Soundness.RunsIn x.text o (Rattle.recursive_descent.specs.Soundness.anywhere (prologue context.returns context.is_prologue [] [] v.braced.parts)) v.braced.parts x.last v.braced.mid P
     inside {o} {to} {put} {P} v =
         let at = (marks_same s.text v.braced.opens (subst (λ z. ReadsHere z Punctuator (codes "{") m.last x.last) same left)).1 in
-        let qs = Rattle.recursive_descent.specs.Derived.anywhere (prologue context.returns context.is_prologue [] [] v.braced.parts) in
-        subst (λ z. Rattle.recursive_descent.specs.Derived.RunsIn z o qs v.braced.parts x.last v.braced.mid P) (sym (text ∙ same)) (subst (λ z. Rattle.recursive_descent.specs.Derived.RunsIn s.text o qs v.braced.parts z v.braced.mid P) at v.braced.runs)
+        let qs = Rattle.recursive_descent.specs.Soundness.anywhere (prologue context.returns context.is_prologue [] [] v.braced.parts) in
+        subst (λ z. Rattle.recursive_descent.specs.Soundness.RunsIn z o qs v.braced.parts x.last v.braced.mid P) (sym (text ∙ same)) (subst (λ z. Rattle.recursive_descent.specs.Soundness.RunsIn s.text o qs v.braced.parts z v.braced.mid P) at v.braced.runs)
 
     ended : {o : ℕ} {to : Token} {put : Parts} {P : List Pair} (v : BlockWanted s.text p context o m.last to put P) → SeesBy x.text Div (ends until.ClosingBrace) v.braced.mid
     ended v = subst (λ z. SeesBy z Div (ends until.ClosingBrace) v.braced.mid) (sym (text ∙ same)) (sees_brace s.text v.braced.closes)
@@ -131,18 +131,18 @@ handler_wanted r s m b c high at p h o to x y put P g = of (wants_handler p r s 
   where
     of : {p : Coded} → HandlerPiece p → ExpectedAt p r s m b c high (wanted.Handler at) → PieceGiven s.text r o (piece_of p) s.last to x y put P → HandlerWanted s.text p r o s.last m.last to put P × (m.last.start ≡ at)
     of handler_of_catch h (inl g) = (let v = handler_given s.text r g.spelled in record { tree = g.put; parts = g.parts; handler = v; at = (words_same s.text v.reads h.0.0).1; edge = refl }, sym (place_name s h.0.1 h.0.0))
-    of handler_of_catch h (inr g) = absurd (false≢true (ap (λ w. Rattle.language.specs.Words.is w "catch") (sym g.1.1.text ∙ ap (λ (z : Token). z.text) (words_same s.text g.1.1 h.0.0).0 ∙ h.0.0.text)))
+    of handler_of_catch h (inr g) = absurd (false≢true (ap (λ w. Rattle.language.specs.Vocabulary.is w "catch") (sym g.1.1.text ∙ ap (λ (z : Token). z.text) (words_same s.text g.1.1 h.0.0).0 ∙ h.0.0.text)))
 
 module _ (r : Bool) (s m : CursorState) (b c : PartialStatement) (high at inner : ℕ) (first : PartialStatement) (pieces : List Piece) (p : Coded) (same : m.text ≡ s.text) (open_same : m.opened ≡ s.opened) (h : ExpectedAt p r s m b c high (wanted.Handler at)) (is_first : first ≡ partial_of none) (caught : CatchParts m.text m.last pieces) (lower : inner ≡ high - 1) where
   record HandlerAgrees (e : CursorState) (mid new : List Pair) (d : PartialStatement) (result : Result (Unit {0}) Fault) (o : ℕ) (to : Token) (put : Parts) (P : List Pair) : Type 0 where
     wanted_there : HandlerWanted s.text p r o s.last m.last to put P
-    agrees : Rattle.recursive_descent.specs.Given.Agrees (Room m o (parts_height wanted_there.handler.parts) inner) (λ u. (d.nodes ≡ join first.nodes wanted_there.handler.parts) × EndsWith m e mid new to P) result
+    agrees : Rattle.recursive_descent.specs.Completeness.Agrees (Room m o (parts_height wanted_there.handler.parts) inner) (λ u. (d.nodes ≡ join first.nodes wanted_there.handler.parts) × EndsWith m e mid new to P) result
 
   handler_agrees : (e : CursorState) (mid new : List Pair) (d : PartialStatement) (result : Result (Unit {0}) Fault) → SymbolsComplete m e mid new inner pieces r first d result → (o : ℕ) (to : Token) (x y : Edge) (put : Parts) (P : List Pair) → PieceGiven s.text r o (piece_of p) s.last to x y put P → HandlerAgrees e mid new d result o to put P
   handler_agrees e mid new d result complete o to x y put P g =
       let v = (handler_wanted r s m b c high at p h o to x y put P g).0 in
       let q = caught_pieces s.text first.edge (subst (λ z. CatchParts z m.last pieces) same caught) (subst (λ z. Rattle.recursive_descent.proofs.complete_statements.BlocksGiven.CaughtGiven s.text o r z to v.handler.parts P) v.at v.handler.caught) in
-      record { wanted_there = v; agrees = complete o first.edge v.handler.parts to P q.0 (subst (λ z. Rattle.recursive_descent.specs.GivenPieces.PiecesGiven z r o pieces m.last to first.edge first.edge v.handler.parts P) (sym same) q.1) }
+      record { wanted_there = v; agrees = complete o first.edge v.handler.parts to P q.0 (subst (λ z. Rattle.recursive_descent.specs.CompletenessOfStatements.PiecesGiven z r o pieces m.last to first.edge first.edge v.handler.parts P) (sym same) q.1) }
 
   low_handler : {o : ℕ} {to : Token} {put : Parts} {P : List Pair} (v : HandlerWanted s.text p r o s.last m.last to put P) → parts_height put ≤ high → suc (parts_height v.handler.parts) ≤ high
   low_handler {put = put} v low =

@@ -93,8 +93,8 @@ target_listed : (x : TargetForm) → is_target x ≡ true → is_pattern x ≡ t
 target_listed assigned.Target h = refl
 target_listed _ h = absurd (false≢true h)
 
-name_simple : (k : Kind) → k ≡ Identifier → Rattle.language.specs.Words.is_target k ≡ true
-name_simple k e = ap Rattle.language.specs.Words.is_target e
+name_simple : (k : Kind) → k ≡ Identifier → Rattle.language.specs.Vocabulary.is_target k ≡ true
+name_simple k e = ap Rattle.language.specs.Vocabulary.is_target e
 
 both : (a b : Bool) → a ≡ true → b ≡ true → (a && b) ≡ true
 both true true h k = refl
@@ -292,7 +292,7 @@ module _ (s e : CursorState) (old new : List Pair) (high : ℕ) (i : Bool) where
           fits : (a : Reading) {n : Tree} → (valued_as a && is_pattern_kind (kind_of n)) ≡ false → (kind_of n ≡ Identifier) ⊎ (is_pattern_kind (kind_of n) ≡ true) → IsFirst (as_pattern true) Primary part1 n → item_fits (listed.Declarators i) it a ≡ true
           fits as_expression h (inl k) first = ap not (named (name_kind part1.cover.node (ap kind_of first.read.tree ∙ k)) (first.alone true refl))
           fits as_expression h (inr k) first = absurd (false≢true (sym h ∙ k))
-          fits (as_pattern b) h k first = ap Rattle.parser_tables.specs.Stated.is_closed edge_is
+          fits (as_pattern b) h k first = ap Rattle.parser_tables.specs.StatementNodes.is_closed edge_is
 
 -- a name that stands in no parentheses isn't marked
 pub unmarked_name : (marked named : Bool) (group : Bool) {X : Type 0} → marked ≡ not named → OnFalse named (X → group ≡ true) → X → group ≡ false → marked ≡ false

@@ -93,7 +93,7 @@ module _ (text : List ℕ) (r : Bool) {o : ℕ} where
   module _ {m e : Token} {P : List Pair} where
     -- before `in` or `of`
     left_given : (what : StatementKind) (w : List ℕ) (q : Parsed.Piece) (y : Rank) (x : Edge) (ps : Parts) {s : Token} → statement_parts what r ≡ Parsed.word w ∷ q ∷ Parsed.sign ")" ∷ Parsed.statement ∷ [] → among w ("in" ∷ "of" ∷ []) ≡ true → ((k : Token) → Sees text IdentifierName w k → KindFollowed text k what) →
-        ((n : Tree) (a b t k : Token) (A : List Pair) (z : Edge) → SpellsIn text o (expr y true Any) n a b A → Reads Token (NextIn text any_goal) itself Punctuator (codes ")") b t k → Rattle.recursive_descent.specs.GivenPieces.PieceGiven text r o q a b z (edge_as_written (edge n) b) (part n none) A) →
+        ((n : Tree) (a b t k : Token) (A : List Pair) (z : Edge) → SpellsIn text o (expr y true Any) n a b A → Reads Token (NextIn text any_goal) itself Punctuator (codes ")") b t k → Rattle.recursive_descent.specs.CompletenessOfStatements.PieceGiven text r o q a b z (edge_as_written (edge n) b) (part n none) A) →
         ReadsHere text Punctuator (codes "(") m s → FollowedBy text (last_ends_in_if ps) e → RunsIn text o (left_pieces r w (put (expr y true Any)) ps) ps s e P → ForGiven text r o what x ps m e P
     left_given what w q y x none is each follows asked left fine d = absurd (run_never Token (NextIn text any_goal) itself d)
     left_given what w q y x (gap ps) is each follows asked left fine d = absurd (run_never Token (NextIn text any_goal) itself d)

@@ -201,7 +201,7 @@ module _ (text : List ℕ) (o : ℕ) where
   closure_form (closure.Method form.Get) r x _ d = absurd (run_never Token (NextIn text any_goal) itself d)
   closure_form (closure.Method form.Set) r x (gap (part n (part b none))) {s} {e} {P} d = of (is_rest (kind_of n)) d
     where
-      of : (k : Bool) → RunsIn text o (anywhere (Rattle.recursive_descent.specs.DerivedPieces.pieces_of (cond k [] (only (absent ∷ sign "(" ∷ put_at (with_default true (kind_of n)) ∷ sign ")" ∷ sp ∷ put body ∷ []))))) (gap (part n (part b none))) s e P →
+      of : (k : Bool) → RunsIn text o (anywhere (Rattle.recursive_descent.specs.SoundnessOfStatements.pieces_of (cond k [] (only (absent ∷ sign "(" ∷ put_at (with_default true (kind_of n)) ∷ sign ")" ∷ sp ∷ put body ∷ []))))) (gap (part n (part b none))) s e P →
           ClosureForm (closure.Method form.Set) r x s e (gap (part n (part b none))) P
       of true g = absurd (run_never Token (NextIn text any_goal) itself g)
       of false g = nameless x (λ h. cc) (setter_given r x g)
@@ -224,7 +224,7 @@ node_high : (n : Tree) → 1 ≤ height n
 node_high (node k w g s e ps) = let tall : height (node k w g s e ps) ≡ suc (parts_height ps) = refl in omega arith
 
 -- a function has a body, and a class too
-last_high : (text : List ℕ) (r : Bool) (o : ℕ) (f q : Coded.Piece) (s e : Token) (x z : Edge) (ps : Parts) (P : List Pair) → ((s m : Token) (y k : Edge) (put : Parts) (Q : List Pair) → Rattle.recursive_descent.specs.GivenPieces.PieceGiven text r o q s m y k put Q → 1 ≤ parts_height put) →
+last_high : (text : List ℕ) (r : Bool) (o : ℕ) (f q : Coded.Piece) (s e : Token) (x z : Edge) (ps : Parts) (P : List Pair) → ((s m : Token) (y k : Edge) (put : Parts) (Q : List Pair) → Rattle.recursive_descent.specs.CompletenessOfStatements.PieceGiven text r o q s m y k put Q → 1 ≤ parts_height put) →
     PiecesGiven text r o (f ∷ q ∷ []) s e x z ps P → 1 ≤ parts_height ps
 last_high text r o f q s e x z ps P high g =
     let last = high g.mid g.others.mid g.right g.others.right g.others.put g.others.put_pairs g.others.first in
@@ -232,10 +232,10 @@ last_high text r o f q s e x z ps P high g =
     let two = ap parts_height g.others.parts ∙ parts_height-join g.others.put g.others.rest in
     omega arith
 
-body_high : (text : List ℕ) (r : Bool) (o : ℕ) (s m : Token) (y k : Edge) (put : Parts) (Q : List Pair) → Rattle.recursive_descent.specs.GivenPieces.PieceGiven text r o Coded.body s m y k put Q → 1 ≤ parts_height put
+body_high : (text : List ℕ) (r : Bool) (o : ℕ) (s m : Token) (y k : Edge) (put : Parts) (Q : List Pair) → Rattle.recursive_descent.specs.CompletenessOfStatements.PieceGiven text r o Coded.body s m y k put Q → 1 ≤ parts_height put
 body_high text r o s m y k put Q g = let one = node_high g.put in let whole : parts_height put ≡ parts_height (part g.put none) = ap parts_height g.parts in omega arith
 
-members_high : (text : List ℕ) (r : Bool) (o : ℕ) (s m : Token) (y k : Edge) (put : Parts) (Q : List Pair) → Rattle.recursive_descent.specs.GivenPieces.PieceGiven text r o (Coded.list coded.Members) s m y k put Q → 1 ≤ parts_height put
+members_high : (text : List ℕ) (r : Bool) (o : ℕ) (s m : Token) (y k : Edge) (put : Parts) (Q : List Pair) → Rattle.recursive_descent.specs.CompletenessOfStatements.PieceGiven text r o (Coded.list coded.Members) s m y k put Q → 1 ≤ parts_height put
 members_high text r o s m y k put Q g = let one = node_high g.put in let whole : parts_height put ≡ parts_height (part g.put none) = ap parts_height g.parts in omega arith
 
 closure_high : (text : List ℕ) (r : Bool) (o : ℕ) (s e : Token) (x z : Edge) (ps : Parts) (P : List Pair) (c : FunctionOrClass) → PiecesGiven text r o (function_or_class_parts c) s e x z ps P → 1 ≤ parts_height ps

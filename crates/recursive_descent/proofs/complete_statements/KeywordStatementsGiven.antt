@@ -75,7 +75,7 @@ module _ (text : List ℕ) where
   goes_behind : {o : ℕ} {n : Tree} {s e u k : Token} {P : List Pair} → SpellsIn text o (expr Expression true Any) n s e P → NextIn text any_goal s u k → u.after_break ≡ false → MissesBy text goal.RegExp ends_word s
   goes_behind {s = s} {u = u} {k} spelled nx line t m read = of (ends_word t) refl
     where
-      no_sign : (w : List ℕ) → expression_start_by Punctuator w ≡ Rattle.language.specs.Opening.no_opening → is_mark w t ≡ true → ⊥
+      no_sign : (w : List ℕ) → expression_start_by Punctuator w ≡ Rattle.language.specs.ExpressionStart.no_start → is_mark w t ≡ true → ⊥
       no_sign w shut h = let v = marked {w = w} t h in none_begins Token (NextIn text any_goal) itself (text_determined text) read (opens t v.0 v.1 shut) spelled
 
       of : (b : Bool) → ends_word t ≡ b → b ≡ false

@@ -88,15 +88,15 @@ module _ (r : Bool) (s m : CursorState) (b c : PartialStatement) (high : ℕ) (p
         record {
           nodes = ap (λ (z : PartialStatement). z.nodes) is ∙ (λ i. push (wanted_nodes p r s m b c high wanted.Binding (something wanted.Binding refl) h i) (v.0 i)) ∙ push-join b.nodes w.0.put ∙ ap (join b.nodes) (sym w.0.parts);
           ends = ends_behind {m = m} pairs (record { place = v.2.place; more = v.2.more; added = v.2.added; pairs = v.2.pairs });
-          edge = λ known. (let no : Rattle.recursive_descent.specs.GivenPieces.knows_edge (piece_of code.Binding) ≡ true = ap (λ z. Rattle.recursive_descent.specs.GivenPieces.knows_edge (piece_of z)) (sym w.1) ∙ known in cc);
+          edge = λ known. (let no : Rattle.recursive_descent.specs.CompletenessOfStatements.knows_edge (piece_of code.Binding) ≡ true = ap (λ z. Rattle.recursive_descent.specs.CompletenessOfStatements.knows_edge (piece_of z)) (sym w.1) ∙ known in cc);
         }
 
 -- a statement
 statement_given : (r : Bool) (s m : CursorState) (b c : PartialStatement) (high : ℕ) (p : Coded) → ExpectedAt p r s m b c high wanted.Statement → (o : ℕ) (to : Token) (x y : Edge) (put : Parts) (P : List Pair) → PieceGiven s.text r o (piece_of p) s.last to x y put P →
-    StatementGiven s.text r o m.last to put P × (Rattle.recursive_descent.specs.GivenPieces.knows_edge (piece_of p) ≡ false)
+    StatementGiven s.text r o m.last to put P × (Rattle.recursive_descent.specs.CompletenessOfStatements.knows_edge (piece_of p) ≡ false)
 statement_given r s m b c high p h o to x y put P g = of (wants_statement p r s m b c high h) h g
   where
-    of : {p : Coded} → StatementPiece p → ExpectedAt p r s m b c high wanted.Statement → PieceGiven s.text r o (piece_of p) s.last to x y put P → StatementGiven s.text r o m.last to put P × (Rattle.recursive_descent.specs.GivenPieces.knows_edge (piece_of p) ≡ false)
+    of : {p : Coded} → StatementPiece p → ExpectedAt p r s m b c high wanted.Statement → PieceGiven s.text r o (piece_of p) s.last to x y put P → StatementGiven s.text r o m.last to put P × (Rattle.recursive_descent.specs.CompletenessOfStatements.knows_edge (piece_of p) ≡ false)
     of statement_of_statement h g = (subst (λ z. StatementGiven s.text r o z to put P) (sym h.1.0) g, refl)
     of statement_of_else h (inl g) = (subst (λ z. StatementGiven s.text r o z to put P) (words_same s.text g.1 h.0).1 g.2, refl)
     of statement_of_else h (inr g) = absurd (g.1 m.last m.last h.0)
@@ -127,10 +127,10 @@ until_of : {a c : StatementListEnd} → Some (wanted.Items a) ≡ Some (wanted.I
 until_of k = cc
 
 items_given : (r : Bool) (s m : CursorState) (b c : PartialStatement) (high : ℕ) (u : StatementListEnd) (p : Coded) → ExpectedAt p r s m b c high (wanted.Items u) → (o : ℕ) (to : Token) (x y : Edge) (put : Parts) (P : List Pair) → PieceGiven s.text r o (piece_of p) s.last to x y put P →
-    ItemsGiven s.text u r false o put m.last to P × (Rattle.recursive_descent.specs.GivenPieces.knows_edge (piece_of p) ≡ false)
+    ItemsGiven s.text u r false o put m.last to P × (Rattle.recursive_descent.specs.CompletenessOfStatements.knows_edge (piece_of p) ≡ false)
 items_given r s m b c high u p h o to x y put P g = of (wants_items p r s m b c high u h) h g
   where
-    of : {p : Coded} → ItemsPiece p → ExpectedAt p r s m b c high (wanted.Items u) → PieceGiven s.text r o (piece_of p) s.last to x y put P → ItemsGiven s.text u r false o put m.last to P × (Rattle.recursive_descent.specs.GivenPieces.knows_edge (piece_of p) ≡ false)
+    of : {p : Coded} → ItemsPiece p → ExpectedAt p r s m b c high (wanted.Items u) → PieceGiven s.text r o (piece_of p) s.last to x y put P → ItemsGiven s.text u r false o put m.last to P × (Rattle.recursive_descent.specs.CompletenessOfStatements.knows_edge (piece_of p) ≡ false)
     of items_of_items h g = (subst (λ z. ItemsGiven s.text z r false o put m.last to P) (until_of h.0) (subst (λ z. ItemsGiven s.text until.ClosingBrace r false o put z to P) (sym h.1.0) g), refl)
     of items_of_consequent h g = (subst (λ z. ItemsGiven s.text z r false o put m.last to P) (until_of h.0) (subst (λ z. ItemsGiven s.text until.NextCase r false o put z to P) (sym h.1.0) g), refl)
 

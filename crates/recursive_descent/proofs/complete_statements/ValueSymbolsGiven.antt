@@ -100,7 +100,7 @@ module _ (text : List ℕ) where
       let u = r.0 in
       let same = ((text_determined text).same Div e t u t u each.1.0.next r.1.next each.1.0.allowed (mark_by text r.1).allowed).0 in
       let class : t.class ≡ Punctuator = ap (λ (z : Token). z.class) same ∙ r.1.class in
-      false≢true (ap (λ c. same_class IdentifierName c && Rattle.language.specs.Words.among t.text ("in" ∷ "of" ∷ [])) (sym class) ∙ each.1.1)
+      false≢true (ap (λ c. same_class IdentifierName c && Rattle.language.specs.Vocabulary.among t.text ("in" ∷ "of" ∷ [])) (sym class) ∙ each.1.1)
 
   -- as an expression
   plain_given : {o : ℕ} {y : Rank} {i : Bool} {m e : Token} {x : Edge} {put : Parts} {P : List Pair} {pos : ExpressionContext} (p : Coded) → pos ≡ record { rank = y; has_in = i; start = Any } → (y ≡ Conditional → ⊥) → (y ≡ New → ⊥) → ((each : Bool) (n : Tree) → EachAt text each e → put_node p each n ≡ n) →

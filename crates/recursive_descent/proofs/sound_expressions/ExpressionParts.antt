@@ -44,7 +44,7 @@ use Rattle.token_cursor.specs.CursorState.{CursorState}
 use Rattle.recursive_descent.proofs.reading.AddedPairs.{adds_both}
 
 -- a turn behind what was read
-pub turn_on : {s m e : CursorState} {old mid new : List Pair} {text : List ℕ} {p : Rattle.parser_tables.specs.declared.position.Position.Position} {l r : Operand} → text ≡ s.text → Adds s m old mid (ReadAt s.text p l) → Adds m e mid new (ReadsOn text p l r) → Adds s e old new (ReadAt s.text p r)
+pub turn_on : {s m e : CursorState} {old mid new : List Pair} {text : List ℕ} {p : Rattle.parser_tables.specs.declared.expression_context.ExpressionContext.ExpressionContext} {l r : Operand} → text ≡ s.text → Adds s m old mid (ReadAt s.text p l) → Adds m e mid new (ReadsOn text p l r) → Adds s e old new (ReadAt s.text p r)
 turn_on {s} {m} {e} {p = p} {l = l} {r = r} same a b = adds_both a b (λ o P Q u v. subst (λ x. ReadsOn x p l r o m.last e.last Q) same v s.last P u)
 
 some_none : {A X : Type 0} {x : X} → Some x ≡ None → A
@@ -121,7 +121,7 @@ module _ (text : List ℕ) where
         newly = new;
       })
     where
-      as_target : (b : Bool) → fits_as target (as_pattern b) ≡ true → (target.assigned ≡ Rattle.covers.specs.declared.shape.Assigned.TheVariants.Defaulted → (f ≡ Any) × (i ≡ true)) → SpelledAs (assigned_at target.assigned f b) text o (pattern_tree (node MemberExpression [] g at e.stop ps)) s e P
+      as_target : (b : Bool) → fits_as target (as_pattern b) ≡ true → (target.assigned ≡ Rattle.covers.specs.declared.shape.TargetForm.TheVariants.Defaulted → (f ≡ Any) × (i ≡ true)) → SpelledAs (assigned_at target.assigned f b) text o (pattern_tree (node MemberExpression [] g at e.stop ps)) s e P
       as_target true h d = absurd (false≢true h)
       as_target false h d = record { role = expr LeftHandSide true f; it_is = refl; spelled = st LeftHandSide true tk }
 

@@ -125,7 +125,7 @@ both_fit false b d h = absurd (true≢false h)
 goes_by : (p : ExpressionContext) (x : Edge) (t : Token) → stops_by p x t ≡ false → GoesBy p x t
 goes_by p x t h = go (rank_made_by (operation t) t.after_break) refl h
   where
-    go : (z : Option Rank) → rank_made_by (operation t) t.after_break ≡ z → Rattle.language.specs.Follow.stops_at p.rank p.has_in x t z ≡ false → GoesBy p x t
+    go : (z : Option Rank) → rank_made_by (operation t) t.after_break ≡ z → Rattle.language.specs.Continuations.stops_at p.rank p.has_in x t z ≡ false → GoesBy p x t
     go None e k = absurd (true≢false k)
     go (Some z) e k = let u = both_fit (takes p.rank z) (is t.text "in" && not p.has_in) (holds x z) k in record { symbol = z; makes_it = e; taken = u.0; has_in = u.1 }
 

@@ -136,10 +136,10 @@ member_number : (y : ℕ) → IsTrue (takes_number y 19) → IsTrue (takes_numbe
 member_number y h = grind (arith, nat_tests)
 
 primary_taken : (y : Rank) → takes_new y ≡ true → IsTrue (takes y Primary)
-primary_taken y h = primary_number (Rattle.language.specs.Words.tightness y) h
+primary_taken y h = primary_number (Rattle.language.specs.Vocabulary.precedence y) h
 
 member_taken : (y : Rank) → takes_new y ≡ true → IsTrue (takes y Member)
-member_taken y h = member_number (Rattle.language.specs.Words.tightness y) h
+member_taken y h = member_number (Rattle.language.specs.Vocabulary.precedence y) h
 
 -- where a function and a class may begin
 function_starts : (f : Start) → takes_function_or_class f ≡ true → IsTrue (starts f (term "function" ∷ []))
@@ -337,15 +337,15 @@ module _ (text : List ℕ) {p : ExpressionContext} {t : Scanned} {o : ℕ} {s m 
 
 -- where the opening may stand
 function_stands : (x : ExpressionStart) → coded_start x ≡ Some code.Function → (f : Start) (r : Rank) → stands_at r f x ≡ true → takes_function_or_class f ≡ true
-function_stands Rattle.language.specs.Opening.with_function h f r k = k
+function_stands Rattle.language.specs.ExpressionStart.with_function h f r k = k
 function_stands _ h f r k = cc
 
 class_stands : (x : ExpressionStart) → coded_start x ≡ Some code.Class → (f : Start) (r : Rank) → stands_at r f x ≡ true → takes_function_or_class f ≡ true
-class_stands Rattle.language.specs.Opening.with_class h f r k = k
+class_stands Rattle.language.specs.ExpressionStart.with_class h f r k = k
 class_stands _ h f r k = cc
 
 import_stands : (x : ExpressionStart) → coded_start x ≡ Some code.Import → (f : Start) (r : Rank) → stands_at r f x ≡ true → IsTrue (takes r Call)
-import_stands Rattle.language.specs.Opening.with_import h f r k = k
+import_stands Rattle.language.specs.ExpressionStart.with_import h f r k = k
 import_stands _ h f r k = cc
 
 -- what the word of the opening began

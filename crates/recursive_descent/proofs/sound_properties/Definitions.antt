@@ -83,9 +83,9 @@ both true b h k = k
 both false b h k = cc
 
 target_shape : (s : CoverShape) (b : Bool) (it : ListItem) → it.shape ≡ shapes.simple s → it.spreads ≡ true → item_fits listed.Properties it (as_pattern b) ≡ true → TargetShape s b
-target_shape s b it shape spreads fits = of b (sym (λ i. cond (spreads i) (Rattle.recursive_descent.specs.DerivedLists.fits_rest listed.Properties (shape i) (as_pattern b)) (fits_as (shape i) (as_pattern b))) ∙ fits)
+target_shape s b it shape spreads fits = of b (sym (λ i. cond (spreads i) (Rattle.recursive_descent.specs.SoundnessOfLists.fits_rest listed.Properties (shape i) (as_pattern b)) (fits_as (shape i) (as_pattern b))) ∙ fits)
   where
-    of : (b : Bool) → Rattle.recursive_descent.specs.DerivedLists.fits_rest listed.Properties (shapes.simple s) (as_pattern b) ≡ true → TargetShape s b
+    of : (b : Bool) → Rattle.recursive_descent.specs.SoundnessOfLists.fits_rest listed.Properties (shapes.simple s) (as_pattern b) ≡ true → TargetShape s b
     of false h = let t = simple_target s.assigned h in record { is = t; fits = ap shapes.is_element t }
     of true h = let t = simple_target s.assigned (and_right s.binds _ h) in record { is = t; fits = both s.binds (shapes.is_element s.assigned) (and_left s.binds _ h) (ap shapes.is_element t) }
 
@@ -142,7 +142,7 @@ module _ (text : List ℕ) where
     is_default = refl;
   })
     where
-      no_rest : (a : Reading) → Rattle.recursive_descent.specs.DerivedLists.may_trail (spread_of r st e.stop) a ≡ true → Rattle.language.specs.Words.is_rest (kind_of (read_as a (node SpreadElement [] plain st e.stop (part r.cover.node none)))) ≡ false
+      no_rest : (a : Reading) → Rattle.recursive_descent.specs.SoundnessOfLists.may_trail (spread_of r st e.stop) a ≡ true → Rattle.language.specs.Vocabulary.is_rest (kind_of (read_as a (node SpreadElement [] plain st e.stop (part r.cover.node none)))) ≡ false
       no_rest as_expression h = refl
       no_rest (as_pattern b) h = absurd (false≢true h)
 

@@ -103,7 +103,7 @@ place_mark p {at = at} here r = of r.next r.class here.1
     of (next_in {t = u} g any x) class here = here u (by_goal goal.Div x (subst (λ c. IsTrue (allows goal.Div c x.word)) (sym class) (div_allows false x.word)))
 
 -- a handler
-handler_put : (text : List ℕ) (r : Bool) (s m : CursorState) (b c : PartialStatement) (high at : ℕ) (ps : Parts) (o : ℕ) (e : Token) (P : List Pair) (z y : Edge) {pieces : List Piece} (p : Coded) → text ≡ s.text → ExpectedAt p r s m b c high (wanted.Handler at) → CatchParts text m.last pieces → Rattle.recursive_descent.specs.DerivedPieces.PiecesAt text r o pieces m.last e Rattle.language.specs.declared.Edge.TheVariants.Closed z ps P →
+handler_put : (text : List ℕ) (r : Bool) (s m : CursorState) (b c : PartialStatement) (high at : ℕ) (ps : Parts) (o : ℕ) (e : Token) (P : List Pair) (z y : Edge) {pieces : List Piece} (p : Coded) → text ≡ s.text → ExpectedAt p r s m b c high (wanted.Handler at) → CatchParts text m.last pieces → Rattle.recursive_descent.specs.SoundnessOfStatements.PiecesAt text r o pieces m.last e Rattle.language.specs.declared.Edge.TheVariants.Closed z ps P →
     PieceAt text r o (piece_of p) s.last e b.edge y (part (node CatchClause [] plain at e.stop ps) none) P
 handler_put text r s m b c high at ps o e P z y p same h parts d = of (wants_handler p r s m b c high at h) h
   where

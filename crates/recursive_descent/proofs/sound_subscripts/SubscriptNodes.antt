@@ -300,17 +300,17 @@ module _ (text : List ℕ) where
     begins_chain : {e : Token} {w : Subscript} {b : Bool} {ps : Parts} {Q : List Pair} → Behind text o m e w b ps Q → b ≡ true → LinkAt text f (plain_part (link_node w b l e ps) (rank_behind w l.rank) Other) o s e (P ++ Q)
     begins_chain (optional_name r n) mark = record {
       begins = left.begins;
-      has_optional = refl;
+      chained = refl;
       spelled = base_grows Token (NextIn text any_goal) itself (no_part Token (NextIn text any_goal) itself called) refl refl called (step (token r) (name_runs n)) (placed_link left.begins);
     }
     begins_chain (optional_index q r d k) mark = record {
       begins = left.begins;
-      has_optional = refl;
+      chained = refl;
       spelled = base_grows Token (NextIn text any_goal) itself (no_part Token (NextIn text any_goal) itself called) refl refl called (step (token q) (brackets_run r d k)) (placed_link left.begins);
     }
     begins_chain (optional_arguments q d) mark = record {
       begins = left.begins;
-      has_optional = refl;
+      chained = refl;
       spelled = base_call_grows Token (NextIn text any_goal) itself (no_part Token (NextIn text any_goal) itself called) refl refl called (step (token q) (arguments_run Expression true f d)) (placed_link left.begins);
     }
     begins_chain (a_name r n) mark = absurd (false≢true mark)
@@ -324,13 +324,13 @@ module _ (text : List ℕ) where
 
     -- a further part of a chain
     goes_further : {e : Token} {w : Subscript} {b : Bool} {ps : Parts} {Q : List Pair} → MissesBy text Div is_template m → Behind text o m e w b ps Q → LinkAt text f (plain_part (link_node w b l e ps) (rank_behind w l.rank) Other) o s e (P ++ Q)
-    goes_further untagged (a_name r n) = record { begins = links.begins; has_optional = links.chained; spelled = link_grows Token (NextIn text any_goal) itself below refl links.spelled (step (token r) (name_runs n)) (placed_link links.begins) }
-    goes_further untagged (optional_name r n) = record { begins = links.begins; has_optional = refl; spelled = link_grows Token (NextIn text any_goal) itself below refl links.spelled (step (token r) (name_runs n)) (placed_link links.begins) }
-    goes_further untagged (an_index r d k) = record { begins = links.begins; has_optional = links.chained; spelled = link_grows Token (NextIn text any_goal) itself below refl links.spelled (brackets_run r d k) (placed_link links.begins) }
-    goes_further untagged (optional_index q r d k) = record { begins = links.begins; has_optional = refl; spelled = link_grows Token (NextIn text any_goal) itself below refl links.spelled (step (token q) (brackets_run r d k)) (placed_link links.begins) }
-    goes_further untagged (some_arguments r d) = record { begins = links.begins; has_optional = links.chained; spelled = link_call_grows Token (NextIn text any_goal) itself below refl links.spelled (arguments_run Expression true f d) (placed_link links.begins) }
+    goes_further untagged (a_name r n) = record { begins = links.begins; chained = links.chained; spelled = link_grows Token (NextIn text any_goal) itself below refl links.spelled (step (token r) (name_runs n)) (placed_link links.begins) }
+    goes_further untagged (optional_name r n) = record { begins = links.begins; chained = refl; spelled = link_grows Token (NextIn text any_goal) itself below refl links.spelled (step (token r) (name_runs n)) (placed_link links.begins) }
+    goes_further untagged (an_index r d k) = record { begins = links.begins; chained = links.chained; spelled = link_grows Token (NextIn text any_goal) itself below refl links.spelled (brackets_run r d k) (placed_link links.begins) }
+    goes_further untagged (optional_index q r d k) = record { begins = links.begins; chained = refl; spelled = link_grows Token (NextIn text any_goal) itself below refl links.spelled (step (token q) (brackets_run r d k)) (placed_link links.begins) }
+    goes_further untagged (some_arguments r d) = record { begins = links.begins; chained = links.chained; spelled = link_call_grows Token (NextIn text any_goal) itself below refl links.spelled (arguments_run Expression true f d) (placed_link links.begins) }
     goes_further untagged (optional_arguments q d) =
-        record { begins = links.begins; has_optional = refl; spelled = link_call_grows Token (NextIn text any_goal) itself below refl links.spelled (step (token q) (arguments_run Expression true f d)) (placed_link links.begins) }
+        record { begins = links.begins; chained = refl; spelled = link_call_grows Token (NextIn text any_goal) itself below refl links.spelled (step (token q) (arguments_run Expression true f d)) (placed_link links.begins) }
     goes_further untagged (a_template r c d) = template_seen r c untagged
 
   module _ {l : Operand} {o : ℕ} {s m : Token} {P : List Pair} (object_is : SuperAt text l o s m P) (object : IsTrue (takes Call l.rank)) where

@@ -179,7 +179,7 @@ module _ (S : Type 0) (Next : S → Token → S → Type 0) (behind : S → Toke
             makes = ap (λ v. rank_made_by v t.after_break) op ∙ symbol_makes t.after_break is;
             taken = symbol_taken y is low;
             has_in = symbol_no_in t i is op;
-            held = ap (λ v. Rattle.language.specs.Follow.holds v c) other;
+            held = ap (λ v. Rattle.language.specs.Continuations.holds v c) other;
           })
       of (by_led {y = y3} {i = i3} {f = f3} {k = k} {w = w} {g = fl} {ps = ps} {rest = rest} led some op' lean d pl grown gs') =
           no_head is (subst (λ v. Led y3 i3 f3 k w fl (bare_parts (part (node ChainExpression [] plain st en (part m none)) ps)) (expr y2 i2 f2) rest v) (sym op' ∙ op) led) tk

@@ -190,7 +190,7 @@ check_parts-loop-place-preserved t c =
     let b = c.loop-place.invariant.passed in
     record {
       added = bounds_turn T _ _ _ _ _ u a x (left c.loop-place.slots) (left c.in-Some-next_slot.others) w c.loop-place.passed.next c.joined-passed.result.next c.loop-place.invariant.added p e q c.added-sums.ensures next;
-      whole = Rattle.paren_planner.proofs.FilledStarts.whole_turn _ _ _ c.added-sums.ensures;
+      whole = Rattle.paren_planner.proofs.NodeRowNumbers.whole_turn _ _ _ c.added-sums.ensures;
       few = omega (arith, few, counts, next);
       passed = record {
         nodes = b.nodes ++ wide_nodes u (settled_at a x);

@@ -7,4 +7,4 @@ pub returns-in-Some : goal.returns-in-Some
 returns-in-Some c = before_accent _ _ (strip_suffix_char 96 c.args.text.now (Some c.in-Some.word) c.in-Some.ensures.cases (omega arith))
 
 pub returns-in-None : goal.returns-in-None
-returns-in-None c = before_dollar _ _ _ (strip_suffix_char 96 c.args.text.now None c.in-None.ensures.cases (omega arith)) c.before_delimiter-in-None.ensures c.before_delimiter-in-None-2.ensures
+returns-in-None c = before_dollar _ _ _ (strip_suffix_char 96 c.args.text.now None c.in-None.ensures.cases (omega arith)) c.before_delimiter.ensures c.before_delimiter-in-None.ensures

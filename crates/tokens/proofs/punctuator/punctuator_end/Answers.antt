@@ -25,25 +25,25 @@ returns-then-is_single-goes_on-clause-some c = λ at p.
 
 pub returns-then-is_quadruple-clause-some : goal.returns-then-is_quadruple-clause-some
 returns-then-is_quadruple-clause-some c = λ at p.
-    found_four _ _ _ _ _ _ _ _ _ _ (seen (goal.at.returns-then-is_quadruple-clause-some c).After-look-e at p) (sym c.is_quadruple.ensures ∙ c.if-is_quadruple.true)
+    found_four _ _ _ _ _ _ _ _ _ _ (seen (goal.at.returns-then-is_quadruple-clause-some c).After-char_or_nul-e at p) (sym c.is_quadruple.ensures ∙ c.if-is_quadruple.true)
 
 pub returns-then-is_triple-clause-some : goal.returns-then-is_triple-clause-some
 returns-then-is_triple-clause-some c = λ at p.
-    found_three _ _ _ _ _ _ _ _ _ _ (seen (goal.at.returns-then-is_triple-clause-some c).After-look-e at p) (sym c.is_quadruple.ensures ∙ c.if-is_quadruple.false) (sym c.is_triple.ensures ∙ c.if-is_triple.true)
+    found_three _ _ _ _ _ _ _ _ _ _ (seen (goal.at.returns-then-is_triple-clause-some c).After-char_or_nul-e at p) (sym c.is_quadruple.ensures ∙ c.if-is_quadruple.false) (sym c.is_triple.ensures ∙ c.if-is_triple.true)
 
 pub returns-then-is_pair-chains-clause-some : goal.returns-then-is_pair-chains-clause-some
 returns-then-is_pair-chains-clause-some c = λ at p.
-    found_two _ _ _ _ _ _ _ _ _ _ (seen (goal.at.returns-then-is_pair-chains-clause-some c).After-look-e at p) (sym c.is_quadruple.ensures ∙ c.if-is_quadruple.false) (sym c.is_triple.ensures ∙ c.if-is_triple.false)
+    found_two _ _ _ _ _ _ _ _ _ _ (seen (goal.at.returns-then-is_pair-chains-clause-some c).After-char_or_nul-e at p) (sym c.is_quadruple.ensures ∙ c.if-is_quadruple.false) (sym c.is_triple.ensures ∙ c.if-is_triple.false)
     (sym (same_pair _ _ ((c.args.b.c == 63) && (c.char_or_nul-c.result.c == 46)) _ _ c.is_pair.ensures (c.is_ascii_digit.ensures.value ∙ digit_is c.char_or_nul-d.result.c)) ∙ c.if-is_pair-chains.true)
 
 pub returns-then-is_single-b-clause-some : goal.returns-then-is_single-b-clause-some
 returns-then-is_single-b-clause-some c = λ at p.
-    found_one _ _ _ _ _ _ _ _ _ _ (seen (goal.at.returns-then-is_single-b-clause-some c).After-look-e at p) (sym c.is_quadruple.ensures ∙ c.if-is_quadruple.false) (sym c.is_triple.ensures ∙ c.if-is_triple.false)
+    found_one _ _ _ _ _ _ _ _ _ _ (seen (goal.at.returns-then-is_single-b-clause-some c).After-char_or_nul-e at p) (sym c.is_quadruple.ensures ∙ c.if-is_quadruple.false) (sym c.is_triple.ensures ∙ c.if-is_triple.false)
     (sym (same_pair _ _ ((c.args.b.c == 63) && (c.char_or_nul-c.result.c == 46)) _ _ c.is_pair.ensures (c.is_ascii_digit.ensures.value ∙ digit_is c.char_or_nul-d.result.c)) ∙ c.if-is_pair-chains.false)
     (sym (same_pair _ _ (c.args.b.c == 46) _ _ c.is_single-2.ensures (c.is_ascii_digit-2.ensures.value ∙ digit_is c.char_or_nul-c.result.c)) ∙ c.if-is_single-b.true)
 
 pub returns-clause-none : goal.returns-clause-none
 returns-clause-none c = λ at p.
-    found_none _ _ _ _ _ _ _ _ _ _ (seen (goal.at.returns-clause-none c).After-look-e at p) (sym c.is_quadruple.ensures ∙ c.if-is_quadruple.false) (sym c.is_triple.ensures ∙ c.if-is_triple.false)
+    found_none _ _ _ _ _ _ _ _ _ _ (seen (goal.at.returns-clause-none c).After-char_or_nul-e at p) (sym c.is_quadruple.ensures ∙ c.if-is_quadruple.false) (sym c.is_triple.ensures ∙ c.if-is_triple.false)
     (sym (same_pair _ _ ((c.args.b.c == 63) && (c.char_or_nul-c.result.c == 46)) _ _ c.is_pair.ensures (c.is_ascii_digit.ensures.value ∙ digit_is c.char_or_nul-d.result.c)) ∙ c.if-is_pair-chains.false)
     (sym (same_pair _ _ (c.args.b.c == 46) _ _ c.is_single-2.ensures (c.is_ascii_digit-2.ensures.value ∙ digit_is c.char_or_nul-c.result.c)) ∙ c.if-is_single-b.false)

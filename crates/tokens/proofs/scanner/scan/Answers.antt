@@ -24,19 +24,19 @@ place c = let g = gap c in let p = g.passed in p.place
 
 pub returns-then-comment_begins-clause-err : goal.returns-then-comment_begins-clause-err
 returns-then-comment_begins-clause-err d =
-    let c = (goal.at.returns-then-comment_begins-clause-err d).After-skip-gap in
+    let c = (goal.at.returns-then-comment_begins-clause-err d).After-skip_trivia-gap in
     none_in_comment c.args.source.now c.args.goal c.args.at c.skip_trivia-gap.result.end c.skip_trivia-gap.result.has_line_break (gap c) (solid c)
     (along c (λ x. begins_comment (behind x c.skip_trivia-gap.result.end) ≡ true) (sym d.comment_begins.ensures ∙ d.if-comment_begins.true))
 
 pub returns-in_default-clause-err : goal.returns-in_default-clause-err
 returns-in_default-clause-err d =
-    let c = (goal.at.returns-in_default-clause-err d).After-skip-gap in
+    let c = (goal.at.returns-in_default-clause-err d).After-skip_trivia-gap in
     none_of_class c.args.source.now c.args.goal c.args.at c.skip_trivia-gap.result.end c.skip_trivia-gap.result.has_line_break (class_of c.args.goal (behind c.args.source.now c.skip_trivia-gap.result.end)) (gap c) (solid c) refl
     (along c (λ x. NoWordAt (class_of c.args.goal (behind x c.skip_trivia-gap.result.end)) x c.skip_trivia-gap.result.end) d.in_default.ensures.none)
 
 pub returns-clause-ok : goal.returns-clause-ok
 returns-clause-ok d =
-    let c = (goal.at.returns-clause-ok d).After-skip-gap in
+    let c = (goal.at.returns-clause-ok d).After-skip_trivia-gap in
     let word = d.in-Some.word in
     token_reads c.args.source.now c.args.goal c.args.at c.skip_trivia-gap.result.end word.end c.skip_trivia-gap.result.has_line_break word.class d.range.result.now c.text-text.ensures.utf8 (place c) (gap c)
     (along c (λ x. begins_comment (behind x c.skip_trivia-gap.result.end) ≡ false) (sym d.comment_begins.ensures ∙ d.if-comment_begins.false))

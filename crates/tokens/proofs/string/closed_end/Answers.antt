@@ -20,7 +20,7 @@ returns-in_default-character_value-clause-none c =
 
 pub loop-step-preserved : goal.loop-step-preserved
 loop-step-preserved c =
-    string_goes_on c.args.quote c.args.text.now c.args.at c.loop-step.end c.in-Some.step.end c.in-Some.step.c c.in-Some-character_value.piece c.loop-step.invariant c.in-Some.ensures.some
+    string_goes_on c.args.quote c.args.text.now c.args.at c.loop-step.end c.in-Some.step.end c.in-Some.step.c c.in-Some-character_value.character_value c.loop-step.invariant c.in-Some.ensures.some
     c.if-step-quote.false
     (λ e. (let z : true ≡ false = sym (ap (λ x. (x == 0xA) || (x == 0xD)) e) ∙ sym c.ends_line.ensures ∙ c.if-ends_line.false in cc))
     (λ e. (let z : true ≡ false = sym (ap (λ x. (x == 0xA) || (x == 0xD)) e) ∙ sym c.ends_line.ensures ∙ c.if-ends_line.false in cc)) c.in-Some-character_value.ensures.some
