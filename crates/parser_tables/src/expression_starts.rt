@@ -122,11 +122,11 @@ pub fn continues_super(token: &Token<'_>, takes_call: bool) -> bool
         || (takes_call && is_punctuator(token, "("))
 }
 
-// The kind of what is listed.
-fn list_node_kind(finish_list: ListKind) -> Kind
-    ensures { result ≡ listed_kind listed }
+/// The kind of what is listed.
+fn list_node_kind(list: ListKind) -> Kind
+    ensures { result ≡ listed_kind list }
 {
-    match finish_list {
+    match list {
         ListKind::Elements => Kind::ArrayExpression,
         ListKind::Properties => Kind::ObjectExpression,
         _ => Kind::TemplateLiteral,
