@@ -195,7 +195,7 @@ def redirections(room):
     room.put('a.js', '(a) + b;\n')
     room.put('table', 'jslint-cost 2\n1 BinaryExpression 0 0 0 0 0 - - -\n2 Identifier\n3 Identifier\ntotal 0\n')
     lost, unread = (2, '', 'jslint: write failed\n'), (2, '', 'jslint: read failed\n')
-    for words in ('check a.js', 'fix a.js', 'tree a.js', 'cost a.js', 'verify a.js table', '--help', '--version'):
+    for words in ('check a.js', 'fix a.js', 'unwrap a.js', 'tree a.js', 'cost a.js', 'verify a.js table', '--help', '--version'):
         same(room.sh(f'jslint {words} >/dev/full'), lost, words)
         same(room.sh(f'jslint {words} >&-'), lost, words)
         same(room.sh(f'jslint {words} >/dev/full 2>&-'), (2, '', ''), words)
@@ -230,6 +230,58 @@ def statuses(room):
     same(call('--jobs', '8', *many), alone)
     same([it.split(':')[0] for it in alone[1].splitlines()], [it for it in many for _ in range(3 if int(it[:3]) % 2 else 1)])
     is_well(call('--help')[1].startswith('usage: jslint-files'))
+
+
+def rewritten(room):
+    """`fix` and `unwrap` of several files. Keeps the mode; follows a link; leaves what is refused, and what doesn't differ; nothing stays beside it."""
+    text, fixed, unwrapped = 'let x = (1) // kept\r\n\n', 'let x = 1;\n', 'let x = 1 // kept\r\n\n'
+    refused = 'bad.js:2:1: syntax error\nnone.js:1:1: read failed\n.:1:1: not {}: no regular file\n'
+    for command, wanted in [('fix', fixed), ('unwrap', unwrapped)]:
+        good = [f'{command}/{it}' for it in ('a.js', 'deep/-h.js', 'deep/two words.js')]
+        for name in good:
+            room.put(name, text, 0o754)
+        room.put('bad.js', REFUSED)
+        room.put('good.js', wanted)
+        os.symlink('a.js', room.path(f'{command}/link'))
+        call, names = lambda *words: room.run(['jslint-files', command, *words]), room.names(command)
+        known = os.stat(room.path('good.js')).st_ino
+        status, out, err = call('--diff', *good, 'good.js', 'bad.js', 'none.js', '.')
+        same((status, err, room.text(good[0])), (2, refused.format('compared'), text))
+        same(call('--diff', *good), (1, out, ''))
+        same(room.run(['patch', '-p0', '--binary', '-s', '--dry-run'], given=out.encode()) if shutil.which('patch') else (0, '', ''), (0, '', ''))
+        same(call('--write', 'good.js', 'bad.js', 'none.js', '.', f'{command}/link', *good[1:]), (2, '', refused.format('rewritten')))
+        for name in good:
+            same((room.text(name), stat.S_IMODE(os.stat(room.path(name)).st_mode)), (wanted, 0o754), name)
+        same((room.text('bad.js'), room.names(command), os.path.islink(room.path(f'{command}/link'))), (REFUSED, names, True))
+        same((os.stat(room.path('good.js')).st_ino, call('--diff', 'good.js', *good), call('--write', *good)), (known, (0, '', ''), (0, '', '')))
+    for words in [('fix', 'a.js'), ('unwrap', '--write', '--diff', 'a.js'), ('unwrap', '--write', '--format', 'json', 'a.js'), ('--write', 'a.js'), ('check', '--diff', 'a.js')]:
+        status, out, err = room.run(['jslint-files', *words])
+        is_well(status == 2 and not out and err.startswith('jslint-files: ') and err.count('\n') == 1, f'{words} {status} {out} {err}')
+
+
+def rewritten_odd(room):
+    """A name that isn't UTF-8, a script from standard input, a file that may not be written, and an interruption."""
+    with open(room.path(b'not\xffutf8.js'), 'wb') as file:
+        file.write(WRONG.encode())
+    same(room.run(['jslint-files', 'fix', '--write', '--files-from', '-'], given=b'not\xffutf8.js\0'), (0, '', ''))
+    with open(room.path(b'not\xffutf8.js'), 'rb') as file:
+        same(file.read(), b'let x = 1;\n')
+    same(room.run(['jslint-files', '/dev/stdin'], given=WRONG.encode())[1].count('\n'), 3)
+    same(room.run(['jslint-files', 'fix', '--write', '/dev/stdin'], given=WRONG.encode()), (2, '', '/dev/stdin:1:1: not rewritten: no regular file\n'))
+    room.put('a.js', WRONG)
+    same(room.sh('jslint-files fix --diff /dev/stdin <a.js')[1].splitlines()[-1], '+let x = 1;')
+    room.put('a.js', WRONG, 0o444)
+    if os.geteuid():
+        same(room.run(['jslint-files', 'fix', '--write', 'a.js']), (2, '', 'a.js:1:1: not rewritten: Permission denied\n'))
+        same(room.text('a.js'), WRONG)
+    room.put('slow', '#!/bin/sh\necho begun >>begun\nsleep 1\necho done\n', 0o755)
+    for it in range(9):
+        room.put(f'{it}.js', WRONG)
+    names = room.names()
+    text = 'jslint-files fix --write --jobs 2 [0-9].js & until [ -s begun ]; do sleep 0.05; done; kill $!; wait $!'
+    same(room.sh(text, JSLINT=room.folder + '/slow'), (143, '', ''))
+    done = [it for it in range(9) if room.text(f'{it}.js') != WRONG]
+    is_well(len(done) <= 2 and room.names() == sorted([*names, 'begun']), f'{done} {room.names()}')
 
 
 def forged_names(room):
@@ -371,12 +423,16 @@ def pages(room):
         compopt() {{ :; }}
         COMP_WORDS=(jslint ver) COMP_CWORD=1; _jslint; echo "${{COMPREPLY[*]}}"
         COMP_WORDS=(jslint check --s) COMP_CWORD=2; _jslint; echo "${{COMPREPLY[*]}}"
-        COMP_WORDS=(jslint-files --format g) COMP_CWORD=2; _jslint_files; echo "${{COMPREPLY[*]}}"'''
+        COMP_WORDS=(jslint unw) COMP_CWORD=1; _jslint; echo "${{COMPREPLY[*]}}"
+        COMP_WORDS=(jslint-files --format g) COMP_CWORD=2; _jslint_files; echo "${{COMPREPLY[*]}}"
+        COMP_WORDS=(jslint-files unw) COMP_CWORD=1; _jslint_files; echo "${{COMPREPLY[*]}}"
+        COMP_WORDS=(jslint-files unwrap --) COMP_CWORD=2; _jslint_files; echo "${{COMPREPLY[*]}}"'''
     if shutil.which('bash'):
-        same(room.run(['bash', '-c', completed])[1:], ('verify\n--settings\ngithub\n', ''))
+        wanted = 'verify\n--settings\nunwrap\ngithub\nunwrap\n--write --diff --jobs --files-from --help --\n'
+        same(room.run(['bash', '-c', completed])[1:], (wanted, ''))
 
 
 TESTS = [
-    examples, readme_examples, settings_example, standard_input, in_place, with_cr, folder, many_files, redirections, statuses, forged_names,
-    shown_progress, git_hook, make, github, editors, pages,
+    examples, readme_examples, settings_example, standard_input, in_place, with_cr, folder, many_files, redirections, statuses, rewritten, rewritten_odd,
+    forged_names, shown_progress, git_hook, make, github, editors, pages,
 ]

@@ -14,7 +14,7 @@ use Rattle.clap.specs.declared.error.kind.ErrorKind.{ErrorKind}
 use Rattle.clap.specs.declared.error.kind.ErrorKind.TheVariants.{DisplayHelp, InvalidSubcommand}
 use Rattle.commands.specs.Commands.{word_of}
 use Rattle.commands.specs.declared.command.Command.{Command}
-use Rattle.commands.specs.declared.command.Command.TheVariants.{Check, Tree, Fix, Cost, Verify}
+use Rattle.commands.specs.declared.command.Command.TheVariants.{Check, Tree, Fix, Unwrap, Cost, Verify}
 use Rattle.command_line.specs.CommandLine.{HasFiles, MeetsCommand, command_app, jslint_app}
 use Rattle.command_line.proofs.GivenValues.{is_unflagged, value_of_given}
 
@@ -238,6 +238,7 @@ all_serve =
     let check : one_file Check = λ words. value_of_wanted file (leaf Check) words refl refl refl in
     let tree : one_file Tree = λ words. value_of_wanted file (leaf Tree) words refl refl refl in
     let fix : one_file Fix = λ words. value_of_wanted file (leaf Fix) words refl refl refl in
+    let unwrap : one_file Unwrap = λ words. value_of_wanted file (leaf Unwrap) words refl refl refl in
     let cost : one_file Cost = λ words. value_of_wanted file (leaf Cost) words refl refl refl in
     let verify : one_file Verify = λ words. value_of_wanted file (leaf Verify) words refl refl refl in
     let table = λ (words : List Text) (e : leaf_fault (leaf Verify) words ≡ []). value_of_wanted (codes "table") (leaf Verify) words refl refl refl e in (
@@ -247,8 +248,11 @@ all_serve =
         (
           serves Fix (leaf Fix) refl fix,
           (
-            serves Cost (leaf Cost) refl cost,
-            (serves Verify (leaf Verify) refl (λ words e. (verify words e, table words e)), (serves_help (built_leaf help_shape) refl refl, tt)),
+            serves Unwrap (leaf Unwrap) refl unwrap,
+            (
+              serves Cost (leaf Cost) refl cost,
+              (serves Verify (leaf Verify) refl (λ words e. (verify words e, table words e)), (serves_help (built_leaf help_shape) refl refl, tt)),
+            ),
           ),
         ),
       ),

@@ -6,7 +6,7 @@ use Rattle.clap.specs.declared.error.kind.ErrorKind.{ErrorKind}
 use Rattle.clap.specs.declared.error.kind.ErrorKind.TheVariants.{DisplayHelp, DisplayVersion}
 use Rattle.commands.specs.Commands.{word_of}
 use Rattle.commands.specs.declared.command.Command.{Command}
-use Rattle.commands.specs.declared.command.Command.TheVariants.{Check, Tree, Fix, Cost, Verify}
+use Rattle.commands.specs.declared.command.Command.TheVariants.{Check, Tree, Fix, Unwrap, Cost, Verify}
 use Rattle.command_line.specs.declared.line.Line.{Line}
 
 -- an argument that must stand there, by its id: FILE and TABLE
@@ -36,7 +36,7 @@ bare_app = on_top (λ s. record s { has_version = true; subcommand_required = tr
 
 -- with its commands
 abbrev pub jslint_app : App
-jslint_app = with_command (with_command (with_command (with_command (with_command bare_app Check) Tree) Fix) Cost) Verify
+jslint_app = with_command (with_command (with_command (with_command (with_command (with_command bare_app Check) Tree) Fix) Unwrap) Cost) Verify
 
 -- the second file of a command by what its words matched: `check` has one where settings are named, `verify` always, no other has one
 abbrev pub HasSecond : Command → List Row → Option Text → Type 0

@@ -4,18 +4,19 @@
 pub const VERSION: &str = "1.0.0 (proved with rattle-kit-13)";
 
 pub const ABOUT: &str =
-    "A linter for ECMAScript scripts in strict code, with proofs of what its answers mean";
+    "A linter for strict ECMAScript scripts, with proofs of what its answers mean";
 
 pub const CHECK: &str = "Report what the rules find, a line each: LINE:COLUMN RULE TEXT";
 
 pub const TREE: &str = "Write the tree of the script as JSON, in the form of ESTree";
 
-pub const FIX: &str = "Write the script in one layout, with as few parentheses as its tree needs";
+pub const FIX: &str = "Write the script in one layout, with the fewest parentheses for its tree";
 
-pub const COST: &str = "Write the cost table: how many parentheses each part of the script needs";
+pub const UNWRAP: &str = "Write the script as it stands, but without its unnecessary parentheses";
 
-pub const VERIFY: &str =
-    "Check a cost table: how many pairs the script has, how many it needs at least";
+pub const COST: &str = "Write the cost table: how many parentheses each part needs";
+
+pub const VERIFY: &str = "Check a cost table: how many pairs the script has, and needs at least";
 
 pub const FILE: &str = "The script";
 
@@ -30,6 +31,7 @@ Examples:
   jslint check app.js --settings jslint.toml
   jslint tree app.js
   jslint fix app.js > fixed.js
+  jslint unwrap app.js > clean.js
   jslint cost app.js > app.cost
   jslint verify app.js app.cost
   jslint check -- -h.js

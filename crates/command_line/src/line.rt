@@ -100,6 +100,7 @@ pub(crate) fn jslint_command<'a>(alloc: Global) -> Result<clap::Command<'a>, All
     let jslint = with_command(bare_command(alloc), check_command(alloc))?;
     let jslint = with_command(jslint, file_command(alloc, "tree", help::TREE))?;
     let jslint = with_command(jslint, file_command(alloc, "fix", help::FIX))?;
+    let jslint = with_command(jslint, file_command(alloc, "unwrap", help::UNWRAP))?;
     let jslint = with_command(jslint, file_command(alloc, "cost", help::COST))?;
     with_command(jslint, verify_command(alloc))
 }
@@ -127,7 +128,7 @@ fn line_of<'a>(matches: &ArgMatches<'a>) -> Line<'a>
     let second = match command {
         Command::Check => met.get_str("settings"),
         Command::Verify => met.get_str("table"),
-        Command::Tree | Command::Fix | Command::Cost => None,
+        Command::Tree | Command::Fix | Command::Unwrap | Command::Cost => None,
     };
     Line {
         command,

@@ -4,11 +4,11 @@ use Rattle.std.proofs.lemmas.List.{get_or_default}
 use Rattle.std.proofs.lemmas.Slice.Eq.{bytes_eq-Decides}
 use Rattle.commands.specs.Commands.{word_of}
 use Rattle.commands.specs.declared.command.Command.{Command}
-use Rattle.commands.specs.declared.command.Command.TheVariants.{Check, Tree, Fix, Cost, Verify}
+use Rattle.commands.specs.declared.command.Command.TheVariants.{Check, Tree, Fix, Unwrap, Cost, Verify}
 use Rattle.command_line.proofs.line.command_of.Goals as goal
 
 abbrev commands : List Command
-commands = Check ∷ Tree ∷ Fix ∷ Cost ∷ Verify ∷ []
+commands = Check ∷ Tree ∷ Fix ∷ Unwrap ∷ Cost ∷ Verify ∷ []
 
 -- the word that was said is not this command's, nor those of the commands before it
 one_more : (word said : List ℕ) (i : ℕ) (e : Command) → i < length commands → said ≡ word_of (slice_index_or commands i e) → bytes_eq said word ≡ false
@@ -31,16 +31,20 @@ returns c = λ command. ((λ some. absurd (true≢false (sym (ap is_some some)))
     none Check = c.loop-command.invariant 0 Check (omega (arith, c.loop-command-test.false))
     none Tree = c.loop-command.invariant 1 Check (omega (arith, c.loop-command-test.false))
     none Fix = c.loop-command.invariant 2 Check (omega (arith, c.loop-command-test.false))
-    none Cost = c.loop-command.invariant 3 Check (omega (arith, c.loop-command-test.false))
-    none Verify = c.loop-command.invariant 4 Check (omega (arith, c.loop-command-test.false))
+    none Unwrap = c.loop-command.invariant 3 Check (omega (arith, c.loop-command-test.false))
+    none Cost = c.loop-command.invariant 4 Check (omega (arith, c.loop-command-test.false))
+    none Verify = c.loop-command.invariant 5 Check (omega (arith, c.loop-command-test.false))
 
 abbrev named : List ℕ → Command
-named word = cond (bytes_eq word (word_of Check)) Check (cond (bytes_eq word (word_of Tree)) Tree (cond (bytes_eq word (word_of Fix)) Fix (cond (bytes_eq word (word_of Cost)) Cost Verify)))
+named word =
+    cond (bytes_eq word (word_of Check)) Check (cond (bytes_eq word (word_of Tree)) Tree (cond (bytes_eq word (word_of Fix)) Fix
+    (cond (bytes_eq word (word_of Unwrap)) Unwrap (cond (bytes_eq word (word_of Cost)) Cost Verify))))
 
 named_by_word : (command : Command) → named (word_of command) ≡ command
 named_by_word Check = refl
 named_by_word Tree = refl
 named_by_word Fix = refl
+named_by_word Unwrap = refl
 named_by_word Cost = refl
 named_by_word Verify = refl
 

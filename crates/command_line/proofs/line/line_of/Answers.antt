@@ -7,7 +7,7 @@ use Rattle.clap.specs.declared.parser.matches.Found.{Found}
 use Rattle.clap.proofs.WalkLemmas.{first_value-rows}
 use Rattle.commands.specs.Commands.{word_of}
 use Rattle.commands.specs.declared.command.Command.{Command}
-use Rattle.commands.specs.declared.command.Command.TheVariants.{Check, Tree, Fix, Cost, Verify}
+use Rattle.commands.specs.declared.command.Command.TheVariants.{Check, Tree, Fix, Unwrap, Cost, Verify}
 use Rattle.command_line.specs.CommandLine.{HasFiles, HasSecond}
 use Rattle.command_line.proofs.line.line_of.Goals as goal
 use Rattle.command_line.proofs.line.line_of.Goals.{in-Check, in-Verify, in-Tree}
@@ -37,6 +37,7 @@ has_file : (command : Command) (rows : List Row) → HasFiles command rows → i
 has_file Check rows h = h
 has_file Tree rows h = h
 has_file Fix rows h = h
+has_file Unwrap rows h = h
 has_file Cost rows h = h
 has_file Verify rows h = h.0
 
@@ -57,10 +58,11 @@ table command rows second given e d h files =
     let both = rw e at files in
     rw (e, d) (h, ap is_some h ∙ both.1)
 
-no_second : (command : Command) (rows : List Row) (second : Option (Bor Text)) → (command ≡ Tree) ⊎ ((command ≡ Fix) ⊎ (command ≡ Cost)) → second ≡ None → HasSecond command rows (text_of second)
+no_second : (command : Command) (rows : List Row) (second : Option (Bor Text)) → (command ≡ Tree) ⊎ ((command ≡ Fix) ⊎ ((command ≡ Unwrap) ⊎ (command ≡ Cost))) → second ≡ None → HasSecond command rows (text_of second)
 no_second command rows second (inl e) d = rw (e, d) refl
 no_second command rows second (inr (inl e)) d = rw (e, d) refl
-no_second command rows second (inr (inr e)) d = rw (e, d) refl
+no_second command rows second (inr (inr (inl e))) d = rw (e, d) refl
+no_second command rows second (inr (inr (inr e))) d = rw (e, d) refl
 
 pub unwrap-file-requires : goal.unwrap-file-requires
 unwrap-file-requires c =
