@@ -21,7 +21,7 @@ const { unwrap } = require('../reference/unwrap.js');
 const { check } = require('./check.js');
 const { strewn } = require('./strew.js');
 const CRATES = ['source_text', 'lint'];
-const ROWS = path.join(__dirname, '..', '..', 'crates', 'rows', 'data', 'unwrap');
+const ROWS = path.join(__dirname, '..', '..', 'crates', 'cases', 'data', 'unwrap');
 
 const isWhole = (text) => text.isWellFormed() && !text.includes('\0');
 

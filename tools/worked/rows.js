@@ -187,7 +187,7 @@ function resolvedText({ scopes, references }) {
 }
 
 function resolved() {
-  const file = path.join(__dirname, '..', '..', 'crates', 'rows', 'data', 'scopes');
+  const file = path.join(__dirname, '..', '..', 'crates', 'cases', 'data', 'scopes');
   const others = fs.readFileSync(file, 'utf8').split('\n').filter((it) => it.startsWith('check\t')).map((it) => meant(it.split('\t')[1]));
   const texts = [...new Set([...ACCEPTED, ...others])].filter((it) => isShort(it));
   return [
