@@ -153,7 +153,6 @@ function workedOf(text) {
   return [
     row('fix', text, fixedText(script)),
     row('unwrap', text, answer('unwrap', text)[0]),
-    `run\tunwrap\t${written(text)}\t1\t1\t\t\tOk(0) ${written(shown(answer('unwrap', text)[0]))}`,
     `run\ttree\t${written(text)}\t1\t1\t\t\tOk(0) ${written(shown(json))}`,
     ...(fromToml(Buffer.from(secondOf('check', text))) === null ? [] : [outcome('check')]),
     outcome('cost'),
@@ -162,9 +161,9 @@ function workedOf(text) {
 }
 
 const worked = () => [
-  '# Each worked script with what the commands answer: `fix` and `unwrap`, `unwrap` and `tree` by single bytes; the exit status of `check`, `cost` and',
-  '# `verify`, which takes the table that `cost` wrote, and what they write. Then the text of the JSON value of each, and that the copy of a script is',
-  '# equal to it. Made by tools/worked/rows.js.',
+  '# Each worked script with what the commands answer: `fix` and `unwrap`, and `tree` by single bytes; the exit status of `check`, `cost` and `verify`,',
+  '# which takes the table that `cost` wrote, and what they write. Then the text of the JSON value of each, and that the copy of a script is equal to it.',
+  '# Made by tools/worked/rows.js.',
   ...ACCEPTED.flatMap(workedOf),
   ...ACCEPTED.map((it) => [it, treeJson(parse(it, LIMITS).tree)]).filter(([, json]) => isShort(json)).map(([it, json]) => row('value text', it, json)),
   ...EXPRESSIONS.filter((it) => parseOnly(it, LIMITS).ok).map((it) => `equal copy\t${written(it)}\t(true, true)true`),
