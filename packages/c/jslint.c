@@ -1,7 +1,7 @@
 /* An example: the commands of the program by the library, with the program's words, answers and statuses.
 
        cc -o jslint jslint.c libjslint.a
-       ./jslint fix|tree|cost|check FILE
+       ./jslint fix|unwrap|tree|cost|check FILE
        ./jslint check --settings SETTINGS FILE
        ./jslint verify FILE TABLE */
 #include "jslint.h"
@@ -85,11 +85,14 @@ static int run(uint32_t command, const char *name, const char *second_name) {
     return status;
 }
 
-/* The number of a command's name, or 5. */
+/* How many commands there are. */
+enum { COMMANDS = JSLINT_UNWRAP + 1 };
+
+/* The number of a command's name, or COMMANDS. */
 static uint32_t command_of(const char *name) {
-    static const char *const names[] = {"check", "tree", "fix", "cost", "verify"};
+    static const char *const names[COMMANDS] = {"check", "tree", "fix", "cost", "verify", "unwrap"};
     uint32_t command = 0;
-    while (command < 5 && strcmp(name, names[command])) {
+    while (command < COMMANDS && strcmp(name, names[command])) {
         command++;
     }
     return command;
@@ -97,8 +100,8 @@ static uint32_t command_of(const char *name) {
 
 int main(int count, char **words) {
     const char *names[2] = {NULL, NULL}, *settings = NULL;
-    uint32_t command = count > 1 ? command_of(words[1]) : 5;
-    int files = 0, is_well = command < 5;
+    uint32_t command = count > 1 ? command_of(words[1]) : COMMANDS;
+    int files = 0, is_well = command < COMMANDS;
     for (int at = 2; at < count && is_well; at++) {
         if (!strcmp(words[at], "--settings") && command == JSLINT_CHECK && at + 1 < count) {
             settings = words[++at];
@@ -108,7 +111,7 @@ int main(int count, char **words) {
         }
     }
     if (!is_well || files != (command == JSLINT_VERIFY ? 2 : 1)) {
-        return refuse("usage: jslint check [--settings SETTINGS] FILE, jslint fix|tree|cost FILE, or jslint verify FILE TABLE");
+        return refuse("usage: jslint check [--settings SETTINGS] FILE, jslint fix|unwrap|tree|cost FILE, or jslint verify FILE TABLE");
     }
     return run(command, names[0], command == JSLINT_CHECK ? settings : names[1]);
 }

@@ -1,4 +1,4 @@
-/* jslint for C: the five commands over bytes in memory. docs/EMBEDDING.md says what is proved of them. */
+/* jslint for C: the six commands over bytes in memory. docs/EMBEDDING.md says what is proved of them. */
 #ifndef JSLINT_H
 #define JSLINT_H
 #include <stddef.h>
@@ -7,7 +7,7 @@
 extern "C" {
 #endif
 
-enum jslint_command { JSLINT_CHECK, JSLINT_TREE, JSLINT_FIX, JSLINT_COST, JSLINT_VERIFY };
+enum jslint_command { JSLINT_CHECK, JSLINT_TREE, JSLINT_FIX, JSLINT_COST, JSLINT_VERIFY, JSLINT_UNWRAP };
 
 struct jslint_outcome {
     size_t length;       /* how many bytes the answer has; where there is less room, its beginning stands there */

@@ -2,6 +2,7 @@
 
     import jslint
     jslint.fix('((a))')                                     'a;\\n'
+    jslint.unwrap('x = (a); // c')                          'x = a; // c'
     jslint.check('debugger;')                               [Report(line=1, column=1, rule='no-debugger', message='debugger statement')]
     jslint.tree('a')['body'][0]['type']                     'ExpressionStatement'
     jslint.verify('(({})).a', jslint.cost('(({})).a'))      (2, 1): the text has two pairs, and each text with its tree has one at least
@@ -14,7 +15,7 @@ import json
 import os
 import re
 
-COMMANDS = {'check': 0, 'tree': 1, 'fix': 2, 'cost': 3, 'verify': 4}
+COMMANDS = {'check': 0, 'tree': 1, 'fix': 2, 'cost': 3, 'verify': 4, 'unwrap': 5}
 Report = collections.namedtuple('Report', 'line column rule message')
 Answer = collections.namedtuple('Answer', 'bytes status is_refusal')
 
@@ -58,6 +59,11 @@ def _output(command, text, second=''):
 def fix(text):
     """The script in one layout, with the fewest parentheses that its tree allows."""
     return _output('fix', text)
+
+
+def unwrap(text):
+    """The script as it stands, comments kept, without its unnecessary parentheses."""
+    return _output('unwrap', text)
 
 
 def check(text, settings=''):

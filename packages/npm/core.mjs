@@ -3,9 +3,9 @@
 // Nothing here is proved. What it has to keep: the four stretches of memory that a call is handed lie apart, are as long as it says, and stay
 // until the call is back; an instance in which a call did not come back is not called again.
 
-const COMMANDS = { check: 0, tree: 1, fix: 2, cost: 3, verify: 4 };
+const COMMANDS = { check: 0, tree: 1, fix: 2, cost: 3, verify: 4, unwrap: 5 };
 // Bytes of room for each byte of text at the first try. Where the answer is longer, the command runs again with all the room that it takes.
-const ROOM = { check: 2, tree: 48, fix: 3, cost: 24, verify: 0 };
+const ROOM = { check: 2, tree: 48, fix: 3, cost: 24, verify: 0, unwrap: 1 };
 const LEAST_ROOM = 16384;
 // Of an outcome: its length in 8 bytes, its status and whether it is a refusal in 4 each.
 const OUTCOME = 16;
@@ -22,6 +22,7 @@ const REFUSALS = [
   [/^longer than (\d+) bytes$/, 'long', ['most']],
   [/^bad settings$/, 'settings', []],
   [/^bad table row (\d+) (\w+)$/, 'table', ['row', 'reason']],
+  [/^can't be unwrapped$/, 'unwrap', []],
   [/^out of memory$/, 'memory', []],
   [/^out of stack$/, 'stack', []],
 ];
@@ -199,6 +200,7 @@ export function commandsOf(module, runDeeper = () => null) {
     run,
     check: (text, { settings = '' } = {}) => reportsOf(output('check', text, bytesOf(settings)), stringOf(text)),
     fix: (text) => output('fix', text),
+    unwrap: (text) => output('unwrap', text),
     treeText: (text) => output('tree', text),
     tree(text, { places = 'indices' } = {}) {
       const program = JSON.parse(output('tree', text)), string = stringOf(text);

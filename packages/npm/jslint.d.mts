@@ -1,6 +1,6 @@
 /** A script or a second text: a string, or its UTF-8. */
 export type Text = string | Uint8Array;
-export type Command = 'check' | 'tree' | 'fix' | 'cost' | 'verify';
+export type Command = 'check' | 'tree' | 'fix' | 'cost' | 'verify' | 'unwrap';
 
 /** What a rule finds at a place. Lines and columns count from 1, columns in characters; `index` is the place in the string. */
 export interface Report {
@@ -11,7 +11,7 @@ export interface Report {
   index: number;
 }
 
-export type Code = 'syntax' | 'early' | 'deep' | 'utf8' | 'long' | 'settings' | 'table' | 'memory' | 'stack';
+export type Code = 'syntax' | 'early' | 'deep' | 'utf8' | 'long' | 'settings' | 'table' | 'unwrap' | 'memory' | 'stack';
 
 /** A text that was refused, in the program's words; `memory` and `stack` are the engine's limits. */
 export class Refused extends Error {
@@ -41,6 +41,8 @@ export interface Node {
 export function check(text: Text, options?: { settings?: Text }): Report[];
 /** The script in one layout, with the fewest parentheses that its tree allows. */
 export function fix(text: Text): string;
+/** The script as it stands, comments kept, without its unnecessary parentheses. */
+export function unwrap(text: Text): string;
 /** The tree. Places are indices into the string, as other parsers give them, or bytes. */
 export function tree(text: Text, options?: { places?: 'indices' | 'bytes' }): Node;
 /** The tree as the program writes it: one line of JSON, places in bytes. */

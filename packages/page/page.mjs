@@ -82,6 +82,7 @@ function costs(jslint, text) {
 const SHOWN = {
   'tab-check': reports,
   'tab-fix': (jslint, text) => [element('pre', {}, jslint.fix(text))],
+  'tab-unwrap': (jslint, text) => [element('pre', {}, jslint.unwrap(text))],
   'tab-tree': (jslint, text) => [branch(jslint.tree(text), null)],
   'tab-cost': costs,
 };

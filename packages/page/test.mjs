@@ -104,6 +104,7 @@ async function answers(browser) {
   expect('the page is ready', await browser.evaluate('document.documentElement.dataset.ready'), 'yes');
   expect('reports', await click(browser, 'check'), /1:5 prefer-const 'x' is never reassigned[^]*\^[^]*1:9 no-extra-parens unnecessary parentheses/);
   expect('the fixed text', await click(browser, 'fix'), /for \(y = \(a in b && c in d\);;\) ;[^]*\(a\?\.b\)\.c;/);
+  expect('the unwrapped text', await click(browser, 'unwrap'), /^let x = 1; x;[^]*for \(y = \(a in b && c in d\);;\); \/\/ two pairs\n\(a\?\.b\)\.c; "use strict"; 1 \.toString\(\);/);
   expect('the tree', await click(browser, 'tree'), /Program 0\.\.\d+[^]*body: \[/);
   expect('the cost table', await click(browser, 'cost'), /The script has \d+ grouping pairs\. No text with its tree has fewer than \d+[^]*MemberExpression/);
   await click(browser, 'check');
@@ -133,6 +134,8 @@ async function keys(browser) {
   await browser.evaluate("document.getElementById('tab-check').focus()");
   await browser.press('ArrowRight');
   expect('the next tab', await browser.evaluate(`[${FOCUSED}, ${SHOWN}]`), ['tab-fix', 'debugger;\n']);
+  await browser.press('ArrowRight');
+  expect('the one after that', await browser.evaluate(`[${FOCUSED}, ${SHOWN}]`), ['tab-unwrap', 'debugger']);
   await browser.press('End');
   expect('the last tab', await browser.evaluate(FOCUSED), 'tab-cost');
   await browser.press('ArrowRight');
@@ -145,7 +148,7 @@ async function keys(browser) {
   expect('from there to its place in the script', await browser.evaluate(`[${FOCUSED}, document.getElementById('script').selectionStart]`), ['script', 0]);
   const { nodes } = await browser.send('Accessibility.getFullAXTree');
   const told = nodes.filter((it) => !it.ignored).map((it) => `${it.role?.value} ${it.name?.value ?? ''}`.trim());
-  const wanted = ['textbox Script', 'textbox Settings of the rules (TOML)', 'tablist Commands', 'tab Reports', 'tab Fixed', 'tab Tree', 'tab Cost table', 'tabpanel Reports', 'button go to line 1, column 1'];
+  const wanted = ['textbox Script', 'textbox Settings of the rules (TOML)', 'tablist Commands', 'tab Reports', 'tab Fixed', 'tab Unwrapped', 'tab Tree', 'tab Cost table', 'tabpanel Reports', 'button go to line 1, column 1'];
   for (const it of wanted) expect(`a screen reader is told of ${it}`, told.includes(it), true);
   expect('and of what goes on', told.some((it) => it.startsWith('status')), true);
 }

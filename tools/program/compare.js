@@ -1,12 +1,14 @@
 'use strict';
-// Holds the built program against the plain model over generated texts: what `tree`, `fix`, `cost`, `check` and `verify` (of `cost`'s table)
-// write, their status and their refusals, but for the place of a syntax error; and that fixing the fixed text gives it again.
+// Holds the built program against the plain model over generated texts: what `tree`, `fix`, `unwrap`, `cost`, `check` and `verify` (of `cost`'s
+// table) write, their status and their refusals, but for the place of a syntax error; and that `fix` and `unwrap` give again what they wrote.
+// ../unwrap/check.js judges what `unwrap` writes.
 //
-//   node compare.js [--n COUNT] [--seed S] [--show K] [--height H --open M]
+//   node compare.js [--n COUNT] [--seed S] [--show K] [--height H --open M] [--unwrap]
 //
 // COUNT texts of each of five kinds: sentences, mutated programs and random tokens; constructs in each other; scripts dense in names, functions
-// and classes. To half of them what the 12th edition adds is added, where they have room. JSLINT names the program (default: the
-// one that ./jslint runs), --height and --open its limits. Exit status 1 where anything disagrees.
+// and classes. To half of them what the 12th edition adds is added, where they have room. With --unwrap only what `unwrap` answers, for the texts
+// of ../unwrap/compare.js: scripts, each as it is and three times with pairs, blanks, line ends and comments strewn in. JSLINT names the program
+// (default: the one that ./jslint runs), --height and --open its limits. Exit status 1 where anything disagrees.
 
 const fs = require('node:fs');
 const os = require('node:os');
@@ -17,8 +19,12 @@ const { makeScript } = require('../early/compare.js');
 const { makeTexts, nested } = require('../parser/compare.js');
 const { runInBigStack } = require('../reference/bigstack.js');
 const { randomSource } = require('../reference/random.js');
-const { modelOf } = require('../scripts/compare.js');
-const COMMANDS = ['tree', 'fix', 'cost', 'check', 'verify'];
+const { judgement, modelOf } = require('../scripts/compare.js');
+const strewn = require('../unwrap/compare.js');
+const isUnwrapAlone = process.argv.includes('--unwrap');
+const COMMANDS = isUnwrapAlone ? ['unwrap'] : ['tree', 'fix', 'unwrap', 'cost', 'check', 'verify'];
+// These give again what they wrote.
+const REWRITE = COMMANDS.filter((it) => /^(fix|unwrap)$/.test(it));
 
 function someTexts(count, seed) {
   const source = randomSource(seed);
@@ -30,10 +36,10 @@ function someTexts(count, seed) {
 const plain = (said) => said.replace(/syntax error at .*/, 'syntax error');
 
 // Which the model answers: of each text what each command does.
-function modelAnswers(texts, limits) {
-  return texts.map((text) => COMMANDS.map((command) => {
-    const { status, out, err } = modelOf(command, Buffer.from(text), limits);
-    return `${status} ${plain(err)}${out}`;
+function modelAnswers(texts, limits, commands) {
+  return texts.map((text) => commands.map((command) => {
+    const answer = modelOf(command, Buffer.from(text), limits);
+    return `${answer.status} ${plain(answer.err)}${answer.out}${judgement(command, Buffer.from(text), answer, limits)}`;
   }));
 }
 
@@ -42,24 +48,29 @@ function jslint(...words) {
   return { text: `${done.status} ${plain(done.stderr)}${done.stdout}`, out: done.stdout };
 }
 
-// The same of the program, and whether the fixed text is fixed to itself.
+// The same of the program, and the commands that don't give again what they wrote.
 function answers(text, folder) {
-  const [file, table, fixed] = ['a.js', 'table', 'fixed.js'].map((it) => path.join(folder, it));
+  const [file, table, written] = ['a.js', 'table', 'written.js'].map((it) => path.join(folder, it));
   fs.writeFileSync(file, text);
   const found = COMMANDS.map((command) => {
     const done = jslint(command, file, ...(command === 'verify' ? [table] : []));
     if (command === 'cost') fs.writeFileSync(table, done.out);
-    if (command === 'fix') fs.writeFileSync(fixed, done.out);
     return done;
   });
-  const again = found[1].text.startsWith('0 ') ? jslint('fix', fixed).out : found[1].out;
-  return { texts: found.map((it) => it.text), isStable: again === found[1].out };
+  const unstable = REWRITE.filter((command) => {
+    const done = found[COMMANDS.indexOf(command)];
+    if (!done.text.startsWith('0 ')) return false;
+    fs.writeFileSync(written, done.out);
+    return jslint(command, written).out !== done.out;
+  });
+  return { texts: found.map((it) => it.text), unstable };
 }
 
 function main() {
-  const texts = someTexts(Number(option('n', 1000)), Number(option('seed', 1)));
+  const [count, seed] = [Number(option('n', 1000)), Number(option('seed', 1))];
+  const texts = (isUnwrapAlone ? strewn.someTexts : someTexts)(count, seed);
   const limits = { maxHeight: Number(option('height', 600)), maxParens: Number(option('open', 1200)) };
-  const model = runInBigStack(__filename, 'modelAnswers', [texts, limits]);
+  const model = runInBigStack(__filename, 'modelAnswers', [texts, limits, COMMANDS]);
   const folder = fs.mkdtempSync(path.join(os.tmpdir(), 'program-'));
   let accepted = 0, differ = 0;
   const tell = (text, command, wanted, given) => {
@@ -67,10 +78,10 @@ function main() {
     if (differ <= Number(option('show', 20))) console.log(`${command} ${JSON.stringify(text)}\n  model:   ${wanted}\n  program: ${given}`);
   };
   texts.forEach((text, i) => {
-    const { texts: found, isStable } = answers(text, folder);
-    if (found[1].startsWith('0 ')) accepted += 1;
+    const { texts: found, unstable } = answers(text, folder);
+    if (found[COMMANDS.indexOf('unwrap')].startsWith('0 ')) accepted += 1;
     COMMANDS.forEach((command, k) => found[k] === model[i][k] || tell(text, command, model[i][k], found[k]));
-    if (!isStable) tell(text, 'fix', 'its fixed text again', 'another text');
+    for (const command of unstable) tell(text, command, 'what it wrote, again', 'another text');
   });
   console.log(`${texts.length} texts, ${accepted} accepted, ${differ} disagreements`);
   return differ === 0 ? 0 : 1;

@@ -3,10 +3,11 @@
 //
 //   node compare.js [all|COMMAND,..] [FILE..]
 //
-// The commands are check, tree, fix, cost and verify. Without files: every .js file of the packages named below, as far as they are
-// installed; what the model refuses must be refused with the same line. Of `fix` also: fixing the fixed text gives it again. `verify` is
-// given the table that `cost` writes, and its two numbers are the pairs of the script and those of its fixed text. JSLINT names another
-// program than the one that ./jslint runs. Exit status 1 where anything disagrees.
+// The commands are check, tree, fix, unwrap, cost and verify. Without files: every .js file of the packages named below, as far as they are
+// installed; what the model refuses must be refused with the same line. Of `fix` and `unwrap` also: the same command on what it wrote gives that
+// again. What `unwrap` writes is also judged by ../unwrap/check.js: the same tree, the fewest pairs, each token and each comment in its place.
+// `verify` is given the table that `cost` writes, and its two numbers are the pairs of the script and those of its fixed text. JSLINT names
+// another program than the one that ./jslint runs. Exit status 1 where anything disagrees.
 
 const crypto = require('node:crypto');
 const fs = require('node:fs');
@@ -20,7 +21,9 @@ const { extraPairs, plan, writeTable } = require('../reference/plan.js');
 const { layout } = require('../reference/print.js');
 const { defaultSettings, runRules } = require('../reference/rules.js');
 const { resolve } = require('../reference/scopes.js');
+const { unwrap, unwrapped } = require('../reference/unwrap.js');
 const { runInBigStack } = require('../reference/bigstack.js');
+const { check: judged } = require('../unwrap/check.js');
 const PACKAGES = ['libjs-jquery', 'libjs-d3', 'libjs-three', 'node-react-dom', 'node-react', 'node-acorn', 'libjs-underscore', 'libjs-highlight.js'];
 
 const plans = new WeakMap();
@@ -38,6 +41,7 @@ const ANSWERS = {
   },
   tree: (tree) => [treeJson(tree) + '\n', 0],
   fix: (tree) => [layout(tree, planOf(tree).wrapped), 0],
+  unwrap: (tree, pairs, bytes) => [unwrapped({ tree, pairs, text: bytes.toString() }, planOf(tree)), 0],
   cost: (tree) => [writeTable(planOf(tree)), 0],
   verify: (tree, pairs) => [`pairs ${pairs.length} least ${planOf(tree).total}\n`, 0],
 };
@@ -114,9 +118,18 @@ function modelsOf(commands, bytes, limits) {
 const sum = (text) => crypto.createHash('sha256').update(text).digest('hex');
 const short = ({ status, out, err }) => `${status} ${out.length} ${sum(out)} ${err}`;
 
-// Which the model answers: of each file what each command does, in short.
+// What the judge says of an answer of `unwrap`, where it isn't content.
+function judgement(command, bytes, { status, out }, limits) {
+  const fault = command === 'unwrap' && status === 0 ? judged(bytes, out, unwrap, limits) : null;
+  return fault === null ? '' : ` judged: ${fault}`;
+}
+
+// Which the model answers: of each file what each command does, in short. The program has to answer the same, so what is judged is its answer too.
 function models(commands, list) {
-  return list.map((file) => modelsOf(commands, fs.readFileSync(file), LIMITS).map(short));
+  return list.map((file) => {
+    const bytes = fs.readFileSync(file);
+    return modelsOf(commands, bytes, LIMITS).map((it, i) => short(it) + judgement(commands[i], bytes, it, LIMITS));
+  });
 }
 
 function jslint(...words) {
@@ -133,11 +146,11 @@ function answer(command, file, folder) {
   return jslint('verify', file, table);
 }
 
-// Whether the fixed text is fixed to itself.
-function isStable(fixed, folder) {
-  const file = path.join(folder, 'fixed.js');
-  fs.writeFileSync(file, fixed);
-  return jslint('fix', file).out === fixed;
+// Whether a command that wrote this text writes it again when it is given it.
+function isStable(command, text, folder) {
+  const file = path.join(folder, 'again.js');
+  fs.writeFileSync(file, text);
+  return jslint(command, file).out === text;
 }
 
 // What is seen of one command over all files.
@@ -151,9 +164,9 @@ class Seen {
       console.log(`${this.command} ${file}: ${short(ours).trim()} | ${wanted.trim()}`);
     } else if (ours.status === 2) {
       this.refused += 1;
-    } else if (this.command === 'fix' && !isStable(ours.out, folder)) {
+    } else if (/^(fix|unwrap)$/.test(this.command) && !isStable(this.command, ours.out, folder)) {
       this.apart += 1;
-      console.log(`${this.command} ${file}: fixed again it is another text`);
+      console.log(`${this.command} ${file}: once more it is another text`);
     } else {
       this.written += 1;
       this.size += ours.out.length;
@@ -166,7 +179,7 @@ class Seen {
 function main() {
   const word = process.argv[2] ?? 'all';
   const commands = word === 'all' ? Object.keys(ANSWERS) : word.split(',');
-  if (!commands.every((it) => it in ANSWERS)) throw new Error('check, tree, fix, cost or verify?');
+  if (!commands.every((it) => it in ANSWERS)) throw new Error('check, tree, fix, unwrap, cost or verify?');
   const folder = fs.mkdtempSync(path.join(os.tmpdir(), 'scripts-'));
   const every = files(), seen = commands.map((it) => new Seen(it));
   for (let i = 0; i < every.length; i += 20) {
@@ -180,5 +193,5 @@ function main() {
   return every.length > 0 && seen.every((it) => it.apart === 0) ? 0 : 1;
 }
 
-module.exports = { files, lineColumn, linesColumns, modelOf, models, words };
+module.exports = { files, judgement, lineColumn, linesColumns, modelOf, models, words };
 if (require.main === module) process.exitCode = main();

@@ -74,13 +74,15 @@ static long refuse_each(uint32_t command, const char *text, const char *second) 
 }
 
 int main(void) {
-    static const char *const texts[] = {"", "let x = (1); x; { let x = 2; x = 3; }", "for (x = (a in b) && (c in d);;); (({})).a", "a b", "let a; let a;",
-                                        "class A extends B { m(x = `${[...y]}`) { return super.m({ x, ...z }) ** 2 } } new (f())(), a?.[b]"};
+    enum { COMMANDS = JSLINT_UNWRAP + 1, TEXTS = 7 };
+    static const char *const texts[TEXTS] = {"", "let x = (1); x; { let x = 2; x = 3; }", "for (x = (a in b) && (c in d);;); (({})).a", "a b", "let a; let a;",
+                                             "class A extends B { m(x = `${[...y]}`) { return super.m({ x, ...z }) ** 2 } } new (f())(), a?.[b]",
+                                             "x = ( // c\n  (a) /* d */ + (b)); let q = (new (f().g))(1), h = (i)++ + (j)"};
     static const char *const seconds[] = {"globals = [\"a\"]\n[rules]\nno-var = false\n", "jslint-cost 2\n1 Identifier\ntotal 0\n"};
     long calls = 0;
-    for (int at = 0; at < 2 * 2 * 5 * 6; at++) {
+    for (int at = 0; at < 2 * 2 * COMMANDS * TEXTS; at++) {
         is_for_good = at & 1;
-        long made = refuse_each(at / 4 % 5, texts[at / 20], seconds[at / 2 & 1]);
+        long made = refuse_each(at / 4 % COMMANDS, texts[at / (4 * COMMANDS)], seconds[at / 2 & 1]);
         if (made < 0) {
             return 1;
         }

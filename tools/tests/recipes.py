@@ -199,10 +199,11 @@ def redirections(room):
         same(room.sh(f'jslint {words} >/dev/full'), lost, words)
         same(room.sh(f'jslint {words} >&-'), lost, words)
         same(room.sh(f'jslint {words} >/dev/full 2>&-'), (2, '', ''), words)
-    for words in ('fix /dev/stdin <&-', 'fix .', 'fix none.js', 'check --settings . a.js', 'check --settings none a.js', 'verify a.js .', 'verify a.js none'):
+    for words in ('fix /dev/stdin <&-', 'fix .', 'fix none.js', 'unwrap .', 'unwrap none.js', 'check --settings . a.js', 'check --settings none a.js', 'verify a.js .', 'verify a.js none'):
         same(room.sh(f'jslint {words}'), unread, words)
-    for words in ('(printf "(a"; sleep 0.2; printf ") + b;") | jslint fix /dev/stdin', 'jslint fix /dev/stdin <a.js', 'cat a.js | jslint fix /dev/stdin | cat', 'jslint fix a.js </dev/null'):
+    for words in ('(printf "(a"; sleep 0.2; printf ") + b;") | jslint fix /dev/stdin', 'jslint fix /dev/stdin <a.js', 'cat a.js | jslint fix /dev/stdin | cat', 'jslint fix a.js </dev/null', 'cat a.js | jslint unwrap /dev/stdin'):
         same(room.sh(words), (0, 'a + b;\n', ''), words)
+    same(room.sh('printf "(a) // b" | jslint unwrap /dev/stdin | cat'), (0, 'a // b', ''))
     same(room.sh('jslint verify a.js /dev/stdin <table'), (0, 'pairs 1 least 0\n', ''))
 
 

@@ -1,7 +1,10 @@
 """The rows of crates/cases/data that the command line can say: what a command answers for their texts, beside what they want.
 
-Some calls of `rows` are less than a command: `pairs`, `items`, `alike`, `extra`, `plan` and `tree` ask the parser alone. Where a command
+Some calls of `cases` are less than a command: `pairs`, `items`, `alike`, `extra`, `plan` and `tree` ask the parser alone. Where a command
 finds an early error in such a row's text, it holds so much that the text is a script, as the row has it.
+
+What `fix` refuses `unwrap` refuses too, with the same line; and where `fix` answers, the unwrapped text is unwrapped to itself and fixed to the
+text to which the script itself is. Each row that asks `fix` is held to that as well.
 """
 import functools
 import json
@@ -122,7 +125,7 @@ def is_refusal(want):
 
 
 def written(text):
-    """Bytes as `rows` prints them: of many how many, and the last 49."""
+    """Bytes as `cases` prints them: of many how many, and the last 49."""
     data = text.encode()
     if len(data) < 1000:
         return text
@@ -146,17 +149,42 @@ def parsed(text, want, name, shown):
     return hold(answer.status == 0 and found == want, found, answer)
 
 
+def is_output(answer, out):
+    """Whether a command wrote this text, and was content."""
+    return (answer.status, answer.out, answer.err) == (0, out, '')
+
+
+def unwrapped(text, fixed):
+    """What `unwrap` answers for a script, by what `fix` does: the same refusal, or a text that is unwrapped to itself and has that fixed text."""
+    answer = command('unwrap', text)
+    if fixed.status:
+        return hold((answer.status, answer.out, answer.err) == (fixed.status, '', fixed.err), 'unwrap', answer)
+    again, other = (command(it, answer.out.encode()) for it in ('unwrap', 'fix'))
+    is_well = is_output(answer, answer.out) and is_output(again, answer.out) and is_output(other, fixed.out)
+    return hold(is_well, 'unwrap, then unwrap and fix again', answer, again, other)
+
+
 def fix(texts, want):
-    answer = command('fix', texts[0].encode())
+    text = texts[0].encode()
+    answer = command('fix', text)
     if is_refusal(want):
-        return hold(is_refused(texts[0], want, answer), answer)
+        return hold(is_refused(texts[0], want, answer), answer) or unwrapped(text, answer)
     again = command('fix', answer.out.encode())
-    return hold((answer.status, answer.out, answer.err) == (0, want, '') and (again.status, again.out) == (0, want), answer, again)
+    return hold(is_output(answer, want) and is_output(again, want), answer, again) or unwrapped(text, answer)
 
 
 def fixes(texts, want):
     answer = command('fix', texts[0].encode())
-    return hold(answer.status == 0 and not answer.err if want == 'fixed' else is_refused(texts[0], want, answer), answer)
+    is_well = answer.status == 0 and not answer.err if want == 'fixed' else is_refused(texts[0], want, answer)
+    return hold(is_well, answer) or unwrapped(texts[0].encode(), answer)
+
+
+def unwrap(texts, want):
+    answer = command('unwrap', texts[0].encode())
+    if is_refusal(want):
+        return hold(is_refused(texts[0], want, answer), answer)
+    again = command('unwrap', answer.out.encode())
+    return hold(is_output(answer, want) and is_output(again, want), answer, again) or unwrapped(texts[0].encode(), command('fix', texts[0].encode()))
 
 
 def tree(texts, want):
@@ -175,15 +203,19 @@ def pairs_of(text, table):
 
 
 def pairs(texts, want):
-    return parsed(texts[0], want, 'cost', lambda it: pairs_of(texts[0], it.out))
+    wrong = parsed(texts[0], want, 'cost', lambda it: pairs_of(texts[0], it.out))
+    if wrong or not is_refusal(want):
+        return wrong
+    answer = command('unwrap', texts[0].encode())
+    return hold(is_refused(texts[0], want, answer), answer)
 
 
 def items(texts, want):
     return parsed(texts[0], want, 'tree', lambda it: str(len(json.loads(it.out)['body'])))
 
 
-# For each file what `fix` says of it on standard error, and a line with the status, and whether anything was written.
-EACH = 'for each; do "$0" fix -- "$each" 2>&1 >written; ended=$?; [ ! -s written ] || ended=${ended}w; echo " $ended"; done'
+# For each file what `fix` says of it on standard error, and a line with the status, and whether anything was written; then the same of `unwrap`.
+EACH = 'for it in fix unwrap; do for each; do "$0" $it -- "$each" 2>&1 >written; ended=$?; [ ! -s written ] || ended=${ended}w; echo " $ended"; done; done'
 MARKS = [('jslint: syntax error at ', 'x'), ('jslint: early error E', 'e'), ('jslint: nested too deep', 'x'), ('jslint: not UTF-8 at byte ', 'u')]
 
 
@@ -196,9 +228,9 @@ def mark(said, ended):
 def begins_alone(texts, want):
     """Each beginning of a text, one call after the other."""
     text = texts[0].encode()
-    answers = [command('fix', text[:it]) for it in range(len(text) + 1)]
+    answers = [command(name, text[:it]) for name in ('fix', 'unwrap') for it in range(len(text) + 1)]
     found = ''.join(mark(it.err, f'{it.status}{"w" if it.out else ""}') for it in answers)
-    return hold(found == want, found)
+    return hold(found == 2 * want, found)
 
 
 def begins(texts, want):
@@ -208,7 +240,7 @@ def begins(texts, want):
     names = [file_of(f'beginning{it}', text[:it]) for it in range(len(text) + 1)]
     ran = subprocess.run(['sh', '-c', EACH, PROGRAM, *names], cwd=ROOM.name, stdin=subprocess.DEVNULL, stdout=subprocess.PIPE, check=True)
     found = ''.join(mark(*it) for it in re.findall(r'((?:jslint: .*\n)*) (.*)\n', ran.stdout.decode(errors='replace')))
-    return hold(found == want, found)
+    return hold(found == 2 * want, found)
 
 
 def unplaced(value):
@@ -247,7 +279,7 @@ def plan(texts, want):
 
 
 def outcome(answer):
-    """What a command answers as `rows` prints it: the status, and what is written, a refusal's line too."""
+    """What a command answers as `cases` prints it: the status, and what is written, a refusal's line too."""
     return f'{answer.status} {written(answer.out) if answer.refusal is None else answer.err}'
 
 
@@ -270,12 +302,12 @@ def embedded(texts, want):
 
 
 def source(texts, want):
-    answer = command('fix', bytes.fromhex(texts[0]))
+    data = bytes.fromhex(texts[0])
+    answer = command('fix', data)
     fault = {'NotUtf8': 'not UTF-8 at byte ', 'TooLong': 'longer than 16777216 bytes'}
     match = re.fullmatch(r'Some\((\w+)(?:\((\d+)\))?\)', want)
-    if not match:
-        return hold(want == 'None' and (answer.refusal is None or not answer.refusal.startswith(tuple(fault.values()))), answer)
-    return hold(answer.refusal == fault[match[1]] + (match[2] or ''), answer)
+    is_well = answer.refusal == fault[match[1]] + (match[2] or '') if match else want == 'None' and not (answer.refusal or '').startswith(tuple(fault.values()))
+    return hold(is_well, answer) or unwrapped(data, answer)
 
 
 def line_of(want):
@@ -344,7 +376,7 @@ def json_row(texts, want):
 
 
 # What the commands answer for `((a));`, with settings that turn its reports off, and with its table.
-ASKED = {'check': (0, ''), 'fix': (0, 'a;\n'), 'cost': (0, 'jslint-cost 2\n1 Identifier\ntotal 0\n'), 'verify': (0, 'pairs 2 least 0\n'), 'tree': (0, None)}
+ASKED = {'check': (0, ''), 'fix': (0, 'a;\n'), 'unwrap': (0, 'a;'), 'cost': (0, 'jslint-cost 2\n1 Identifier\ntotal 0\n'), 'verify': (0, 'pairs 2 least 0\n'), 'tree': (0, None)}
 SECONDS = {'check': b'[rules]\nno-undef = false\nno-extra-parens = false\n', 'verify': ASKED['cost'][1].encode()}
 
 
@@ -374,7 +406,7 @@ def command_line(texts, want):
 
 # By the row's call; in this order, so that the longest come first.
 CALLS = {
-    'begins': begins, 'run': run, 'run bytes': run_bytes, 'fixes': fixes, 'fix': fix, 'pairs': pairs, 'items': items, 'tree': tree, 'alike': alike,
+    'begins': begins, 'run': run, 'run bytes': run_bytes, 'fixes': fixes, 'fix': fix, 'unwrap': unwrap, 'pairs': pairs, 'items': items, 'tree': tree, 'alike': alike,
     'early': early, 'extra': extra, 'plan': plan, 'check': ordered('check'), 'cost': ordered('cost'), 'verify': ordered('verify'),
     'check bytes': check_bytes, 'embedded': embedded, 'source': source, 'json': json_row, 'command line': command_line,
 }

@@ -21,7 +21,7 @@ const { unwrap } = require('../reference/unwrap.js');
 const { check } = require('./check.js');
 const { strewn } = require('./strew.js');
 const CRATES = ['source_text', 'lint'];
-const ROWS = path.join(__dirname, '..', '..', 'crates', 'rows', 'data', 'unwrap');
+const ROWS = path.join(__dirname, '..', '..', 'crates', 'cases', 'data', 'unwrap');
 
 const isWhole = (text) => text.isWellFormed() && !text.includes('\0');
 
@@ -38,10 +38,15 @@ function someTexts(count, seed) {
   return texts;
 }
 
+const REFUSAL = /^(syntax|E\d+ \d+|nested too deep)$/;
+const meant = (text) => text
+  .replace(/⟦([^⟦⟧×]*)×(\d+)⟧/g, (_, piece, count) => piece.repeat(Number(count)))
+  .replace(/[\u2400-\u241f]/g, (c) => String.fromCharCode(c.charCodeAt(0) - 0x2400));
+
 // The worked texts, with their answers.
 function workedRows() {
   const lines = fs.readFileSync(ROWS, 'utf8').split('\n').filter((line) => line !== '' && !line.startsWith('#'));
-  return lines.map((line) => line.split('\t').slice(1).map((it) => it.replace(/[\u2400-\u241f]/g, (c) => String.fromCharCode(c.charCodeAt(0) - 0x2400))));
+  return lines.map((line) => line.split('\t').slice(1).map(meant)).map(([text, want]) => [text, REFUSAL.test(want) ? 'refused' : want]);
 }
 
 // The model's answer of each text, and what is wrong with it if anything is.

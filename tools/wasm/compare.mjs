@@ -47,7 +47,7 @@ function compare(room, command, file, text, second) {
 function compareAll(room, file) {
   const text = readFileSync(file);
   counts.scripts++;
-  for (const command of ['check', 'tree', 'fix']) compare(room, command, file, text);
+  for (const command of ['check', 'tree', 'fix', 'unwrap']) compare(room, command, file, text);
   compare(room, 'check', file, text, SETTINGS);
   const table = compare(room, 'cost', file, text);
   if (table.isRefusal) return;

@@ -55,7 +55,7 @@ const [acorn, escodegen] = ['acorn', 'escodegen'].map(installed);
 for (const file of positionals) {
   const text = readFileSync(file), string = text.toString();
   console.log(`${basename(file)}, ${text.length} bytes`);
-  for (const command of ['fix', 'check', 'tree', 'cost']) {
+  for (const command of ['fix', 'unwrap', 'check', 'tree', 'cost']) {
     const [least, first] = timed(() => run(command, text));
     console.log(`  ${command}: module ${least.toFixed(1)} (the first time ${first.toFixed(1)}), program ${ofProgram(command, file).toFixed(0)}`);
   }

@@ -13,6 +13,7 @@ const { extraPairs, plan, writeTable } = require('../reference/plan.js');
 const { layout } = require('../reference/print.js');
 const { fromToml, runRules } = require('../reference/rules.js');
 const { resolve } = require('../reference/scopes.js');
+const { unwrapped } = require('../reference/unwrap.js');
 const { linesColumns } = require('../scripts/compare.js');
 
 // A text as it stands in a row, and the text that a row means.
@@ -36,6 +37,7 @@ const fixedText = ({ tree }) => layout(tree, plan(tree).wrapped);
 // What a command writes of a script, with the text of its second file, and the status.
 const ANSWERS = {
   fix: (script) => [fixedText(script), 0],
+  unwrap: (script) => [unwrapped(script, plan(script.tree)), 0],
   tree: ({ tree }) => [treeJson(tree) + '\n', 0],
   cost: ({ tree }) => [writeTable(plan(tree)), 0],
   verify: ({ tree, pairs }) => [`pairs ${pairs.length} least ${plan(tree).total}\n`, 0],
@@ -103,6 +105,7 @@ function flat() {
 // Runs whose devices are let fail at each call: the command, the text and its second file.
 const RUNS = [
   ['fix', 'for (x = (a in b) && (c in d);;);', ''],
+  ['unwrap', 'x = ( // c\n a) + (b)', ''],
   ['tree', 'a;', ''],
   ['check', 'var a = b == 1;', SECOND.get('var a = b == 1;')],
   ['cost', 'a + (b);', ''],
@@ -149,6 +152,7 @@ function workedOf(text) {
   const [json] = of('tree');
   return [
     row('fix', text, fixedText(script)),
+    row('unwrap', text, answer('unwrap', text)[0]),
     `run\ttree\t${written(text)}\t1\t1\t\t\tOk(0) ${written(shown(json))}`,
     ...(fromToml(Buffer.from(secondOf('check', text))) === null ? [] : [outcome('check')]),
     outcome('cost'),
@@ -157,9 +161,9 @@ function workedOf(text) {
 }
 
 const worked = () => [
-  '# Each worked script with what the commands answer: `fix`, and `tree` by single bytes; the exit status of `check`, `cost` and `verify`, which takes',
-  '# the table that `cost` wrote, and what they write. Then the text of the JSON value of each, and that the copy of a script is equal to it. Made by',
-  '# tools/worked/rows.js.',
+  '# Each worked script with what the commands answer: `fix` and `unwrap`, and `tree` by single bytes; the exit status of `check`, `cost` and `verify`,',
+  '# which takes the table that `cost` wrote, and what they write. Then the text of the JSON value of each, and that the copy of a script is equal to it.',
+  '# Made by tools/worked/rows.js.',
   ...ACCEPTED.flatMap(workedOf),
   ...ACCEPTED.map((it) => [it, treeJson(parse(it, LIMITS).tree)]).filter(([, json]) => isShort(json)).map(([it, json]) => row('value text', it, json)),
   ...EXPRESSIONS.filter((it) => parseOnly(it, LIMITS).ok).map((it) => `equal copy\t${written(it)}\t(true, true)true`),
@@ -187,7 +191,7 @@ function resolvedText({ scopes, references }) {
 }
 
 function resolved() {
-  const file = path.join(__dirname, '..', '..', 'crates', 'rows', 'data', 'scopes');
+  const file = path.join(__dirname, '..', '..', 'crates', 'cases', 'data', 'scopes');
   const others = fs.readFileSync(file, 'utf8').split('\n').filter((it) => it.startsWith('check\t')).map((it) => meant(it.split('\t')[1]));
   const texts = [...new Set([...ACCEPTED, ...others])].filter((it) => isShort(it));
   return [
@@ -260,7 +264,7 @@ function gaugedRows(given) {
     return `${given}\t(Ok(${status}), ${Buffer.byteLength(out)}, true)`;
   };
   const { tree } = parse(text, LIMITS);
-  const rows = ['fix', 'tree', 'check', 'cost'].map((it) => `gauged run\t${it}\t${size(it)}`);
+  const rows = ['fix', 'unwrap', 'tree', 'check', 'cost'].map((it) => `gauged run\t${it}\t${size(it)}`);
   return [...rows, `gauged layout\t${given}\t(Ok(()), ${Buffer.byteLength(layout(tree, new Set()))}, true)`, `gauged table\t${given}\t(Ok(()), ${Buffer.byteLength(answer('cost', text)[0])}, true)`];
 }
 

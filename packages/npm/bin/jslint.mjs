@@ -4,7 +4,7 @@ import { readFileSync, writeSync } from 'node:fs';
 import { run } from '../jslint.mjs';
 
 const USAGE = `usage: jslint-with-proofs check [--settings SETTINGS] FILE
-       jslint-with-proofs fix|tree|cost FILE
+       jslint-with-proofs fix|unwrap|tree|cost FILE
        jslint-with-proofs verify FILE TABLE
 `;
 
@@ -24,7 +24,7 @@ function lineOf(words) {
   const [command, ...rest] = words, at = rest.indexOf('--settings');
   const settings = command === 'check' && at >= 0 ? rest.splice(at, 2)[1] : undefined;
   const files = rest.filter((it) => it !== '--');
-  const isWell = ['check', 'fix', 'tree', 'cost', 'verify'].includes(command) && files.length === (command === 'verify' ? 2 : 1);
+  const isWell = ['check', 'fix', 'unwrap', 'tree', 'cost', 'verify'].includes(command) && files.length === (command === 'verify' ? 2 : 1);
   return isWell && (at < 0 || settings !== undefined) ? { command, names: [files[0], files[1] ?? settings] } : null;
 }
 

@@ -27,9 +27,12 @@ function withFiles(files, call) {
 
 test('the commands have the words, answers and statuses of the program', () => {
   assert.deepEqual(ran('jslint', ['fix', '/dev/stdin'], '((a))'), [0, 'a;\n', '']);
+  assert.deepEqual(ran('jslint', ['unwrap', '/dev/stdin'], 'x = ((a)); // c\n'), [0, 'x = a; // c\n', '']);
   assert.deepEqual(ran('jslint', ['check', '/dev/stdin'], 'debugger;'), [1, '1:1 no-debugger debugger statement\n', '']);
   assert.deepEqual(ran('jslint', ['fix', 'no such file']), [2, '', 'jslint: read failed\n']);
   assert.deepEqual(ran('jslint', ['fix', '/dev/stdin'], 'a b'), [2, '', 'jslint: syntax error at 1:3\n']);
+  assert.deepEqual(ran('jslint', ['unwrap', '/dev/stdin'], 'a b'), [2, '', 'jslint: syntax error at 1:3\n']);
+  assert.equal(ran('jslint', ['unwrap', '/dev/stdin', '/dev/null'], 'a')[0], 2);
   assert.equal(ran('jslint', [])[0], 2);
   assert.equal(ran('jslint', ['--help'])[0], 0);
 });

@@ -3,7 +3,7 @@ import assert from 'node:assert/strict';
 import { readFileSync } from 'node:fs';
 import { test } from 'node:test';
 import { Worker } from 'node:worker_threads';
-import { Refused, check, cost, fix, indexOf, run, tree, treeText, verify } from '../jslint.mjs';
+import { Refused, check, cost, fix, indexOf, run, tree, treeText, unwrap, verify } from '../jslint.mjs';
 
 /** The refusal of a call. */
 function refusal(call) {
@@ -55,6 +55,15 @@ test('fix', () => {
   assert.equal(fix(''), '');
 });
 
+test('unwrap', () => {
+  assert.equal(unwrap('for (x = (a in b) && (c in d);;); // two pairs'), 'for (x = (a in b && c in d);;); // two pairs');
+  assert.equal(unwrap('x = ( // c\r\n  (a) /* d */ + (b));\r\n'), 'x = // c\r\n  a /* d */ + b;\r\n');
+  assert.equal(unwrap(new TextEncoder().encode('((é))')), 'é');
+  assert.equal(unwrap('\ufeff(a)'), '\ufeffa');
+  for (const text of ['', 'a', ' f ( a , b ) // as it is\n', '({}).a', '(a?.b).c', 'é + (b, c); // d\n'.repeat(5000)]) assert.equal(unwrap(text), text);
+  assert.equal(unwrap('(a)++/b; (new f).x; // c\n'.repeat(5000)), 'a++/b; new f().x; // c\n'.repeat(5000));
+});
+
 test('cost and verify', () => {
   const table = 'jslint-cost 2\n1 MemberExpression 0 1 1 0 1 0 1 1\n2 ObjectExpression 0 - - 0 - 0 - -\ntotal 1\n';
   assert.equal(cost('({}).a;'), table);
@@ -65,7 +74,9 @@ test('cost and verify', () => {
 
 test('refusals have codes, and places where they speak of one', () => {
   assert.deepEqual(told(refusal(() => fix('é; b c')), 'code', 'line', 'column', 'status', 'command'), ['syntax', 1, 6, 2, 'fix']);
+  assert.deepEqual(told(refusal(() => unwrap('é; b c')), 'code', 'line', 'column', 'status', 'command'), ['syntax', 1, 6, 2, 'unwrap']);
   assert.deepEqual(told(refusal(() => tree('let a; let a;')), 'code', 'number', 'line', 'column'), ['early', 3, 1, 12]);
+  assert.deepEqual(told(refusal(() => unwrap('let a; (let_); let a;')), 'code', 'number', 'line', 'column'), ['early', 3, 1, 20]);
   assert.deepEqual(told(refusal(() => fix(Uint8Array.of(0x61, 0xff))), 'code', 'byte'), ['utf8', 1]);
   assert.equal(refusal(() => check('a', { settings: 'x' })).code, 'settings');
   assert.equal(refusal(() => fix(`${'('.repeat(1201)}a${')'.repeat(1201)}`)).code, 'deep');
@@ -75,6 +86,7 @@ test('refusals have codes, and places where they speak of one', () => {
 test('what is no text is a type error', () => {
   assert.throws(() => fix('\ud800'), TypeError);
   assert.throws(() => fix(1), TypeError);
+  assert.throws(() => unwrap('(\ud800)'), TypeError);
   assert.throws(() => run('unknown', new Uint8Array(0)), TypeError);
 });
 
@@ -92,6 +104,8 @@ test('2,000 calls in one instance', () => {
 test('scripts at the limits of nesting', () => {
   const pairs = `${'('.repeat(1200)}a${')'.repeat(1200)}`, arrays = `${'['.repeat(595)}${']'.repeat(595)}`;
   assert.equal(fix(pairs), 'a;\n');
+  assert.equal(unwrap(pairs), 'a');
+  assert.equal(unwrap(arrays), arrays);
   assert.equal(JSON.stringify(tree(arrays)).match(/ArrayExpression/g).length, 595);
   assert.deepEqual(verify(pairs, cost(pairs)), { pairs: 1200, least: 0 });
   assert.equal(fix('a'), 'a;\n');
