@@ -11,7 +11,7 @@ use crate::reports::{push_rules, push_scopes};
 use crate::runs::is_written;
 use commands::Command;
 use estree_json::{to_value, tree_text, write_tree};
-use lint::{UnwrappingFault, fix_text, read_script, unwrap_text};
+use lint::{fix_text, read_script, unwrap_text};
 use parser::{Parsed, parse};
 use serde_json::Value;
 use source_text::{Fault, MemorySink, Source};
@@ -105,15 +105,18 @@ fn fixed(alloc: Global, text: &str) -> Result<String, Fault> {
     fix_text(alloc, &source)
 }
 
-/// A script without its unnecessary pairs, which is unwrapped to itself.
+/// A script without its unnecessary pairs, which is unwrapped to itself, and which a run of `unwrap` writes too.
 pub(crate) fn push_unwrapped(
     alloc: Global,
     source: &Source,
     out: &mut String,
 ) -> Result<(), AllocError> {
     match unwrap_text(alloc, source) {
-        Ok(text) => push_unwrapped_again(alloc, &text, out),
-        Err(fault) => push_unwrapping_fault(source.text(), fault, out),
+        Ok(text) => {
+            push_unwrapped_again(alloc, &text, out)?;
+            push_unless_run(alloc, Command::Unwrap, source.text(), &text, out)
+        }
+        Err(fault) => push_refusal(source.text(), fault, out),
     }
 }
 
@@ -125,28 +128,15 @@ fn push_unwrapped_again(alloc: Global, text: &str, out: &mut String) -> Result<(
         Ok(again) => write!(out, " unwrapped again: {}", again.as_str()),
         Err(fault) => {
             out.push_str(" refused: ")?;
-            push_unwrapping_fault(text, fault, out)
+            push_refusal(text, fault, out)
         }
     }
 }
 
 /// What a text is unwrapped to.
-fn text_unwrapped(alloc: Global, text: &str) -> Result<String, UnwrappingFault> {
-    match Source::new(text.as_bytes()) {
-        Ok(source) => unwrap_text(alloc, &source),
-        Err(fault) => Err(UnwrappingFault::Refused(fault)),
-    }
-}
-
-fn push_unwrapping_fault(
-    text: &str,
-    fault: UnwrappingFault,
-    out: &mut String,
-) -> Result<(), AllocError> {
-    match fault {
-        UnwrappingFault::Refused(fault) => push_refusal(text, fault, out),
-        UnwrappingFault::Unfit => out.push_str("can't be unwrapped"),
-    }
+fn text_unwrapped(alloc: Global, text: &str) -> Result<String, Fault> {
+    let source = Source::new(text.as_bytes())?;
+    unwrap_text(alloc, &source)
 }
 
 /// What is answered of the script that is read.

@@ -56,6 +56,7 @@ fn plain_fault(name: &str) -> Fault {
         "BadSettings" => Fault::BadSettings,
         "WriteFailed" => Fault::WriteFailed,
         "ReadFailed" => Fault::ReadFailed,
+        "UnwrapFailed" => Fault::UnwrapFailed,
         _ => Fault::Usage,
     }
 }

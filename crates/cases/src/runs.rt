@@ -25,6 +25,7 @@ pub(crate) fn command(word: &str) -> Command {
     match word {
         "check" => Command::Check,
         "tree" => Command::Tree,
+        "unwrap" => Command::Unwrap,
         "cost" => Command::Cost,
         "verify" => Command::Verify,
         _ => Command::Fix,

@@ -22,7 +22,7 @@ pub struct Outcome {
     pub is_refusal: u32,
 }
 
-/// The command of a number: 0 `check`, 1 `tree`, 2 `fix`, 3 `cost`, 4 `verify`.
+/// The command of a number: 0 `check`, 1 `tree`, 2 `fix`, 3 `cost`, 4 `verify`, 5 `unwrap`.
 fn command_of(number: u32) -> Option<Command>
     ensures { Names number result }
 {
@@ -32,6 +32,7 @@ fn command_of(number: u32) -> Option<Command>
         2 => Some(Command::Fix),
         3 => Some(Command::Cost),
         4 => Some(Command::Verify),
+        5 => Some(Command::Unwrap),
         _ => None,
     }
 }

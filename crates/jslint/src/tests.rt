@@ -24,6 +24,8 @@ fn files_that_cannot_be_read(rt: HostRuntime) -> Result<(), Fail> {
         (Command::Fix, "no such folder/a.js", None),
         (Command::Fix, ".", None),
         (Command::Fix, "", None),
+        (Command::Unwrap, "no such file", None),
+        (Command::Unwrap, ".", None),
         (Command::Check, "/dev/null", Some("no such file")),
         (Command::Verify, "/dev/null", Some("no such file")),
         (Command::Verify, "no such file", Some("/dev/null")),

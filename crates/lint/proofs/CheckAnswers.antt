@@ -10,7 +10,7 @@ use Rattle.paren_planner.specs.Plans.{IsPlan}
 use Rattle.paren_planner.specs.Extra.{extra_spans}
 use Rattle.paren_planner.proofs.PairRows.{extra_pairs_are_extra}
 use Rattle.source_text.specs.declared.fault.Fault.{Fault}
-use Rattle.source_text.specs.declared.fault.Fault.TheVariants.{NotUtf8, TooLong, Syntax, TooDeep, Early, OutOfMemory, BadSettings, BadTable, WriteFailed, ReadFailed, Usage}
+use Rattle.source_text.specs.declared.fault.Fault.TheVariants.{NotUtf8, TooLong, Syntax, TooDeep, Early, OutOfMemory, BadSettings, BadTable, WriteFailed, ReadFailed, UnwrapFailed, Usage}
 use Rattle.commands.specs.declared.command.Command.TheVariants.{Check}
 use Rattle.scopes.specs.Found.{Found, found}
 use Rattle.rules.specs.Reports.{Report}
@@ -74,6 +74,7 @@ settings_refused finds text n P given TooDeep failed read = absurd read
 settings_refused finds text n P given (Early number at) failed read = absurd read
 settings_refused finds text n P given (BadTable row why) failed read = absurd read
 settings_refused finds text n P given WriteFailed failed read = absurd read
+settings_refused finds text n P given UnwrapFailed failed read = absurd read
 settings_refused finds text n P given Usage failed read = absurd read
 
 -- how the reading of settings is refused
@@ -88,6 +89,7 @@ toml_refused bytes text (Early number at) same refused = absurd refused
 toml_refused bytes text (BadTable row why) same refused = absurd refused
 toml_refused bytes text WriteFailed same refused = absurd refused
 toml_refused bytes text ReadFailed same refused = absurd refused
+toml_refused bytes text UnwrapFailed same refused = absurd refused
 toml_refused bytes text Usage same refused = absurd refused
 
 pub settings_alike : {X : Type 0} (read : Result X Fault) (bytes text : List ℕ) → text ≡ bytes → IfErr read (RefusesToml text) → IfErr read (RefusesSettingsBy bytes)
@@ -109,4 +111,5 @@ none_read given bytes (Early number at) read refused = absurd refused
 none_read given bytes (BadTable row why) read refused = absurd refused
 none_read given bytes WriteFailed read refused = absurd refused
 none_read given bytes ReadFailed read refused = absurd refused
+none_read given bytes UnwrapFailed read refused = absurd refused
 none_read given bytes Usage read refused = absurd refused

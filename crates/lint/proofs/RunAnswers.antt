@@ -1,11 +1,11 @@
 -- From what was read to the answer of a run.
-use Rattle.std.proofs.Common.{◌≡◌, ◌≢◌, ◌<◌, ◌≤◌, ◌+◌, ℕ, List, length, arith, refl, ap, sym, subst, ◌∙◌, Bool, false, Some, None, Ok, Err, inr}
+use Rattle.std.proofs.Common.{◌≡◌, ◌≢◌, ◌<◌, ◌≤◌, ◌+◌, ℕ, List, length, arith, refl, ap, sym, subst, ◌∙◌, Bool, false, Some, None, Ok, Err, inl, inr}
 use Rattle.std.proofs.lemmas.List.{length-take, take_all}
 use Rattle.std.specs.declared.option.Option.{Option}
 use Rattle.std.proofs.KnownBytes.{Keeps-refl}
 use Rattle.source_text.specs.Source.{max_bytes, IsRefusal}
 use Rattle.source_text.specs.declared.fault.Fault.{Fault}
-use Rattle.source_text.specs.declared.fault.Fault.TheVariants.{NotUtf8, TooLong, Syntax, TooDeep, Early, OutOfMemory, BadSettings, BadTable, WriteFailed, ReadFailed, Usage}
+use Rattle.source_text.specs.declared.fault.Fault.TheVariants.{NotUtf8, TooLong, Syntax, TooDeep, Early, OutOfMemory, BadSettings, BadTable, WriteFailed, ReadFailed, UnwrapFailed, Usage}
 use Rattle.commands.specs.declared.command.Command.{Command}
 use Rattle.commands.specs.Refused.{HasPlace, place_of}
 use Rattle.tree.specs.declared.kind.Pair.{Pair}
@@ -53,7 +53,7 @@ module _ (finds : View → List Report) (command : Command) (bytes : List ℕ) (
   pub bytes_refused : (fault : Fault) (seen : Seen) → IsRefusal bytes fault → IsBefore bytes second false seen → Refuses finds command seen fault (0, 0)
   bytes_refused TooLong seen refused before =
       let found = more_given seen.given bytes before.read refused in
-      ((before.reader, before.of_failed, before.writer), before.kept, (found.0, found.1, found.2, refl))
+      ((before.reader, before.of_failed, before.writer), before.kept, inl (found.0, found.1, found.2, refl))
   bytes_refused (NotUtf8 at) seen refused before =
       ((before.reader, before.of_failed, before.writer), before.kept, (bytes, all_read seen.given bytes before.read refused.0, refused, refl))
   bytes_refused (Syntax at) seen refused before = absurd refused
@@ -64,6 +64,7 @@ module _ (finds : View → List Report) (command : Command) (bytes : List ℕ) (
   bytes_refused (BadTable row why) seen refused before = absurd refused
   bytes_refused WriteFailed seen refused before = absurd refused
   bytes_refused ReadFailed seen refused before = absurd refused
+  bytes_refused UnwrapFailed seen refused before = absurd refused
   bytes_refused Usage seen refused before = absurd refused
 
   -- source text that is no script is refused, at its place
@@ -81,6 +82,7 @@ module _ (finds : View → List Report) (command : Command) (bytes : List ℕ) (
   script_refused (BadTable row why) place seen source refused is before = absurd refused
   script_refused WriteFailed place seen source refused is before = absurd refused
   script_refused ReadFailed place seen source refused is before = absurd refused
+  script_refused UnwrapFailed place seen source refused is before = absurd refused
   script_refused Usage place seen source refused is before = absurd refused
 
   -- what a script and its second file were read as
@@ -103,7 +105,14 @@ module _ (finds : View → List Report) (command : Command) (bytes : List ℕ) (
       ((before.reader, before.of_failed ∙ answers.0, before.writer), before.kept, (both_read seen n P failed answers.1.0 source reading before answers.1.1, answers.1.2), refl)
   command_refused n P (BadTable row why) failed seen source reading answers before =
       ((before.reader, before.of_failed ∙ answers.0, before.writer), before.kept, (both_read seen n P failed answers.1.0 source reading before answers.1.1, answers.1.2), refl)
-  command_refused n P TooLong failed seen source reading answers before = absurd answers.1.2
+  command_refused n P UnwrapFailed failed seen source reading answers before =
+      ((before.reader, before.of_failed ∙ answers.0, before.writer), before.kept, (both_read seen n P failed answers.1.0 source reading before answers.1.1, answers.1.2), refl)
+  command_refused n P TooLong failed seen source reading answers before =
+      (
+        (before.reader, before.of_failed ∙ answers.0, before.writer),
+        before.kept,
+        inr ((both_read seen n P failed answers.1.0 source reading before answers.1.1, answers.1.2), refl),
+      )
   command_refused n P (NotUtf8 at) failed seen source reading answers before = absurd answers.1.2
   command_refused n P (Syntax at) failed seen source reading answers before = absurd answers.1.2
   command_refused n P TooDeep failed seen source reading answers before = absurd answers.1.2

@@ -2,7 +2,7 @@
 use Rattle.std.proofs.Common.{◌≡◌, ◌≤◌, ◌&&◌, nat_le, nat_eq, ap, ℕ, List, [], ◌∷◌, length, Bool, true, false, refl, sym, subst, ◌∙◌, Option, Some, None, Result, Ok, Err, inl, inr}
 use Rattle.std.proofs.lemmas.Bool.{and_parts, and_from}
 use Rattle.source_text.specs.declared.fault.Fault.{Fault}
-use Rattle.source_text.specs.declared.fault.Fault.TheVariants.{NotUtf8, TooLong, Syntax, TooDeep, Early, OutOfMemory, BadSettings, BadTable, WriteFailed, ReadFailed, Usage}
+use Rattle.source_text.specs.declared.fault.Fault.TheVariants.{NotUtf8, TooLong, Syntax, TooDeep, Early, OutOfMemory, BadSettings, BadTable, WriteFailed, ReadFailed, UnwrapFailed, Usage}
 use Rattle.source_text.specs.declared.fault.Reason.{Reason}
 use Rattle.source_text.specs.declared.fault.Reason.TheVariants as reason
 use Rattle.commands.specs.declared.command.Command.TheVariants.{Cost, Verify}
@@ -80,7 +80,9 @@ from_other WriteFailed (is_table f t) other is = is
 from_other WriteFailed (bad_line r) other is = is
 from_other ReadFailed (is_table f t) other is = is
 from_other ReadFailed (bad_line r) other is = is
+from_other UnwrapFailed (is_table f t) other is = is
 from_other Usage (is_table f t) other is = is
+from_other UnwrapFailed (bad_line r) other is = is
 from_other Usage (bad_line r) other is = is
 from_other OutOfMemory x other is = other
 from_other (BadTable row why) x other is = other
@@ -97,6 +99,7 @@ table_refused given second (Early number at) read is = absurd (from_other (Early
 table_refused given second BadSettings read is = absurd (from_other BadSettings (read_text second) tt is)
 table_refused given second WriteFailed read is = absurd (from_other WriteFailed (read_text second) tt is)
 table_refused given second ReadFailed read is = absurd (from_other ReadFailed (read_text second) tt is)
+table_refused given second UnwrapFailed read is = absurd (from_other UnwrapFailed (read_text second) tt is)
 table_refused given second Usage read is = absurd (from_other Usage (read_text second) tt is)
 
 -- what is answered of a text that was read
@@ -154,6 +157,7 @@ no_table finds text n P given TooDeep failed read = absurd read
 no_table finds text n P given (Early number at) failed read = absurd read
 no_table finds text n P given BadSettings failed read = absurd read
 no_table finds text n P given WriteFailed failed read = absurd read
+no_table finds text n P given UnwrapFailed failed read = absurd read
 no_table finds text n P given Usage failed read = absurd read
 
 -- where the table is sound
@@ -209,4 +213,5 @@ begins text OutOfMemory before after failed is = absurd is
 begins text BadSettings before after failed is = absurd is
 begins text (BadTable row why) before after failed is = absurd is
 begins text ReadFailed before after failed is = absurd is
+begins text UnwrapFailed before after failed is = absurd is
 begins text Usage before after failed is = absurd is

@@ -1,15 +1,15 @@
--- What each command writes of a script, its exit status, and what is refused of its second file.
+-- What each command writes of a script, its exit status, and how it refuses one.
 use Rattle.std.specs.Prelude.{◌≡◌, ◌≤◌, ◌+◌, ℕ, Bool, List, [], ◌∷◌, ◌++◌, length, take, codes, Option, Some, None, IfSome, ◌⊎◌}
 use Rattle.std.specs.Fmt.{decimal}
 use Rattle.std.specs.Str.{IsUtf8}
 use Rattle.std.specs.List.Sorted.{IsPermutation, IsSorted}
 use Rattle.source_text.specs.Source.{max_bytes}
 use Rattle.source_text.specs.declared.fault.Fault.{Fault}
-use Rattle.source_text.specs.declared.fault.Fault.TheVariants.{BadSettings, BadTable}
+use Rattle.source_text.specs.declared.fault.Fault.TheVariants.{TooLong, BadSettings, BadTable, UnwrapFailed}
 use Rattle.source_text.specs.declared.fault.Reason.{Reason}
 use Rattle.source_text.specs.declared.fault.Reason.TheVariants as reason
 use Rattle.commands.specs.declared.command.Command.{Command}
-use Rattle.commands.specs.declared.command.Command.TheVariants.{Check, Tree, Fix, Cost, Verify}
+use Rattle.commands.specs.declared.command.Command.TheVariants.{Check, Tree, Fix, Unwrap, Cost, Verify}
 use Rattle.tree.specs.declared.kind.Pair.{Pair}
 use Rattle.tree.specs.declared.kind.Span.{Span}
 use Rattle.tree.specs.Tree.{Tree as SyntaxTree, SameTree}
@@ -36,6 +36,7 @@ use Rattle.reporting.specs.Lines.{report_lines, report_status}
 use Rattle.cost_certificate.specs.Forms.{IsTable, IsBadLine, short, table_text}
 use Rattle.cost_certificate.specs.Faults.{first_fault}
 use Rattle.lint.specs.Fixes.{Fixes}
+use Rattle.lint.specs.Unwraps.{Unwraps, IsUnwrapped}
 
 -- ---- check
 
@@ -125,11 +126,14 @@ abbrev pub IsOutput : (View → List Report) → Command → List ℕ → Syntax
 IsOutput finds Check text n P second output status = Checks finds text n P second output status
 IsOutput finds Tree text n P second output status = (output ≡ tree_line n) × (status ≡ 0)
 IsOutput finds Fix text n P second output status = Fixes text output × (status ≡ 0)
+IsOutput finds Unwrap text n P second output status = Unwraps text output × IsUnwrapped output × (status ≡ 0)
 IsOutput finds Cost text n P second output status = Costs n output × (status ≡ 0)
 IsOutput finds Verify text n P second output status = Verifies n P second output × (status ≡ 0)
 
--- how a command refuses its second file
-abbrev pub RefusesSecond : Command → SyntaxTree → List ℕ → Fault → Type 0
-RefusesSecond command n second BadSettings = (command ≡ Check) × RefusesSettings second
-RefusesSecond command n second (BadTable row why) = (command ≡ Verify) × RefusesTable n second row why
-RefusesSecond command n second fault = ⊥
+-- how a command refuses a script that was read: its second file, or since the unwrapped text has no room or doesn't compare
+abbrev pub CommandRefuses : Command → SyntaxTree → List ℕ → Fault → Type 0
+CommandRefuses command n second BadSettings = (command ≡ Check) × RefusesSettings second
+CommandRefuses command n second (BadTable row why) = (command ≡ Verify) × RefusesTable n second row why
+CommandRefuses command n second TooLong = command ≡ Unwrap
+CommandRefuses command n second UnwrapFailed = command ≡ Unwrap
+CommandRefuses command n second fault = ⊥

@@ -5,7 +5,7 @@ use Rattle.std.specs.Io.KnownBytes.{Appends, Keeps}
 use Rattle.source_text.specs.Source.{IsRefusal, max_bytes}
 use Rattle.source_text.specs.Writing.{AppendsBeginning}
 use Rattle.source_text.specs.declared.fault.Fault.{Fault}
-use Rattle.source_text.specs.declared.fault.Fault.TheVariants.{NotUtf8, TooLong, OutOfMemory, ReadFailed, WriteFailed, BadSettings, BadTable}
+use Rattle.source_text.specs.declared.fault.Fault.TheVariants.{NotUtf8, TooLong, OutOfMemory, ReadFailed, WriteFailed, BadSettings, BadTable, UnwrapFailed}
 use Rattle.commands.specs.declared.command.Command.{Command}
 use Rattle.commands.specs.declared.refused.Refused.{Refused}
 use Rattle.commands.specs.Refused.{place_of}
@@ -14,7 +14,7 @@ use Rattle.tree.specs.declared.kind.Pair.{Pair}
 use Rattle.rules.specs.Reports.{Report}
 use Rattle.rules.specs.Rules.{View}
 use Rattle.lint.specs.ReadScripts.{IsReading, RefusesReading}
-use Rattle.lint.specs.Outputs.{second_limit, IsSecond, IsOutput, RefusesSecond}
+use Rattle.lint.specs.Outputs.{second_limit, IsSecond, IsOutput, CommandRefuses}
 
 -- the bytes are source text: UTF-8, and not too long
 abbrev pub IsSource : List ℕ → Type 0
@@ -87,9 +87,9 @@ FailsToRead command seen =
     ((seen.reader_failed ≡ true) × (seen.second_failed ≡ false))
     ⊎ ((seen.reader_failed ≡ false) × (seen.second_failed ≡ true) × IsSome (second_limit command) × ReadsScript seen.given)
 
--- the second file is refused, behind a script
+-- a script that was read is refused by its command, for its second file or for what it would write
 abbrev pub RefusesAfter : Command → Seen → Fault → Type 0
-RefusesAfter command seen fault = (read : ReadsBoth command seen.given seen.second) × RefusesSecond command read.script.tree read.second fault
+RefusesAfter command seen fault = (read : ReadsBoth command seen.given seen.second) × CommandRefuses command read.script.tree read.second fault
 
 -- the text of the first file is refused, at this place
 abbrev pub RefusesFirst : Seen → Fault → ℕ × ℕ → Type 0
@@ -103,6 +103,8 @@ Refuses finds command seen WriteFailed place =
 Refuses finds command seen OutOfMemory place = NoneFailed seen × NothingWritten seen × (place ≡ (0, 0))
 Refuses finds command seen BadSettings place = NoneFailed seen × NothingWritten seen × RefusesAfter command seen BadSettings × (place ≡ (0, 0))
 Refuses finds command seen (BadTable row why) place = NoneFailed seen × NothingWritten seen × RefusesAfter command seen (BadTable row why) × (place ≡ (0, 0))
+Refuses finds command seen UnwrapFailed place = NoneFailed seen × NothingWritten seen × RefusesAfter command seen UnwrapFailed × (place ≡ (0, 0))
+Refuses finds command seen TooLong place = NoneFailed seen × NothingWritten seen × (RefusesFirst seen TooLong place ⊎ (RefusesAfter command seen TooLong × (place ≡ (0, 0))))
 Refuses finds command seen fault place = NoneFailed seen × NothingWritten seen × RefusesFirst seen fault place
 
 -- a run: the whole output and its status, or a refusal

@@ -23,7 +23,7 @@ use Rattle.cost_certificate.specs.Forms.{short, table_text, IsTable, IsBadLine}
 use Rattle.lint.specs.declared.answer.Answer.{Answer}
 use Rattle.lint.specs.declared.answer.Answer.TheVariants.{Text, Fixed, Table}
 use Rattle.lint.specs.ReadScripts.{IsScript}
-use Rattle.lint.specs.Outputs.{second_limit, IsSecond, IsOutput, RefusesSecond, RefusesSettings, Reports}
+use Rattle.lint.specs.Outputs.{second_limit, IsSecond, IsOutput, CommandRefuses, RefusesSettings, Reports}
 use Rattle.lint.specs.Run.{Seen, NothingWritten, HasOutput, Refuses}
 
 -- what an answer writes, and its status
@@ -78,7 +78,7 @@ Answers finds command text n P given (Ok answer) failed =
     (failed ≡ false) × ((second : List ℕ) × IsSecond command given second × IsOutput finds command text n P second (output_of answer) (status_of answer))
 Answers finds command text n P given (Err ReadFailed) failed = (failed ≡ true) × IsSome (second_limit command)
 Answers finds command text n P given (Err OutOfMemory) failed = failed ≡ false
-Answers finds command text n P given (Err fault) failed = (failed ≡ false) × ((second : List ℕ) × IsSecond command given second × RefusesSecond command n second fault)
+Answers finds command text n P given (Err fault) failed = (failed ≡ false) × ((second : List ℕ) × IsSecond command given second × CommandRefuses command n second fault)
 
 -- the same of a command that reads no second file
 abbrev pub AnswersAlone : Command → List ℕ → SyntaxTree → List Pair → Result Answer Fault → Type 0

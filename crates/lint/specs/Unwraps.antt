@@ -2,13 +2,11 @@
 use Rattle.std.specs.Prelude.{◌≡◌, ℕ, List, length}
 use Rattle.std.specs.Str.{IsUtf8}
 use Rattle.source_text.specs.declared.fault.Fault.{Fault}
-use Rattle.source_text.specs.declared.fault.Fault.TheVariants.{TooLong, OutOfMemory}
+use Rattle.source_text.specs.declared.fault.Fault.TheVariants.{TooLong, OutOfMemory, UnwrapFailed}
 use Rattle.tree.specs.Tree.{Tree, SameTree}
 use Rattle.tree.specs.declared.kind.Pair.{Pair}
 use Rattle.language.specs.Claims.{WithinLimits, Fewest}
 use Rattle.early_errors.specs.Accepted.{Accepted}
-use Rattle.lint.specs.declared.unwrapping_fault.UnwrappingFault.{UnwrappingFault}
-use Rattle.lint.specs.declared.unwrapping_fault.UnwrappingFault.TheVariants.{Refused, Unfit}
 use Rattle.lint.specs.ReadScripts.{IsOnly, RefusesReading}
 
 -- The text is accepted with a tree, and derives no other. So is the unwrapped text, with the same tree, places aside; no text that derives
@@ -50,13 +48,13 @@ HasNoRoom OutOfMemory = Unit {0}
 HasNoRoom _ = ⊥
 
 -- there is no room for the unwrapped text, or it doesn't compare
-abbrev pub IsUnfit : UnwrappingFault → Type 0
-IsUnfit (Refused fault) = HasNoRoom fault
-IsUnfit Unfit = Unit {0}
+abbrev pub IsUnfit : Fault → Type 0
+IsUnfit UnwrapFailed = Unit {0}
+IsUnfit fault = HasNoRoom fault
 
 -- A text that is refused is no script, as when it is read. A script is refused where memory is refused, where the unwrapped text is too
 -- long, or where what was made of it isn't the same script with the fewest pairs: that this never happens is tested, not proved.
-abbrev pub RefusesUnwrapping : List ℕ → UnwrappingFault → Type 0
-RefusesUnwrapping text (Refused TooLong) = IsAccepted text
-RefusesUnwrapping text (Refused fault) = RefusesReading text fault
-RefusesUnwrapping text Unfit = IsAccepted text
+abbrev pub RefusesUnwrapping : List ℕ → Fault → Type 0
+RefusesUnwrapping text TooLong = IsAccepted text
+RefusesUnwrapping text UnwrapFailed = IsAccepted text
+RefusesUnwrapping text fault = RefusesReading text fault

@@ -1,7 +1,7 @@
 //! What each command answers of a script.
 
 ghost use Rattle.std.specs.Prelude.{◌≡◌, ◌≤◌, false, length, IfOk, None, string_bytes};
-ghost use Rattle.commands.specs.declared.command.Command.TheVariants.{Fix, Tree};
+ghost use Rattle.commands.specs.declared.command.Command.TheVariants.{Fix, Tree, Unwrap};
 ghost use Rattle.rules.specs.Run.{all_found};
 ghost use Rattle.lint.specs.ReadScripts.{IsReading};
 ghost use Rattle.lint.specs.Outputs.{second_limit, tree_line as tree_line_of};
@@ -10,6 +10,7 @@ ghost use Rattle.lint.specs.Steps.{Answers, AnswersAlone, IsWritable};
 use crate::answer::Answer;
 use crate::check_command::check;
 use crate::cost_commands::{cost, verify};
+use crate::unwrap::unwrap_script;
 use commands::Command;
 use estree_json::tree_text;
 use paren_planner::plan;
@@ -51,11 +52,33 @@ fn fixed<'s>(alloc: Global, source: &Source<'_>, parsed: Parsed<'s>) -> Result<A
     }
 }
 
+/// What `unwrap` answers: the text as it stands, without its unnecessary pairs.
+///
+/// # Errors
+///
+/// `OutOfMemory`, `TooLong` and `UnwrapFailed`, as `unwrap_text`.
+fn unwrapped<'s>(
+    alloc: Global,
+    source: &Source<'_>,
+    parsed: &Parsed<'_>,
+) -> Result<Answer<'s>, Fault>
+    requires reading { IsReading source.now parsed.now.program parsed.now.pairs.items }
+    requires small { length source.now ≤ 16777216 }
+    ensures answer { AnswersAlone Unwrap source.now parsed.now.program parsed.now.pairs.items result }
+    ensures writable { IfOk result IsWritable }
+{
+    match unwrap_script(alloc, source, parsed) {
+        Ok(text) => Ok(Answer::Text(text, 0)),
+        Err(fault) => Err(fault),
+    }
+}
+
 /// What a command answers of the script that a text is. The second file is read by `check` and by `verify` alone.
 ///
 /// # Errors
 ///
-/// `BadSettings` and `BadTable` where the second file is refused; `ReadFailed` where its reader fails; `OutOfMemory`.
+/// `BadSettings` and `BadTable` where the second file is refused; `ReadFailed` where its reader fails; `TooLong` and `UnwrapFailed` of
+/// `unwrap`, as `unwrap_text`; `OutOfMemory`.
 pub fn answer<'s, S: Feed>(
     alloc: Global,
     command: Command,
@@ -75,6 +98,7 @@ pub fn answer<'s, S: Feed>(
         Command::Check => check(alloc, rules, source, &parsed, second),
         Command::Tree => tree(alloc, &parsed),
         Command::Fix => fixed(alloc, source, parsed),
+        Command::Unwrap => unwrapped(alloc, source, &parsed),
         Command::Cost => cost(alloc, parsed),
         Command::Verify => verify(alloc, &parsed, second),
     }

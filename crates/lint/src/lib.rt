@@ -10,9 +10,7 @@ mod fix_command;
 pub mod run;
 mod script_reader;
 mod unwrap;
-mod unwrapping_fault;
 
 pub use fix_command::{fix, fix_text};
 pub use script_reader::read_script;
 pub use unwrap::unwrap_text;
-pub use unwrapping_fault::UnwrappingFault;

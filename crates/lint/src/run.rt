@@ -71,7 +71,9 @@ fn answer_bytes<'s, S: Feed>(
 ///
 /// `ReadFailed` and `WriteFailed` where a device fails; `TooLong` and `NotUtf8` where the first file holds no source text; `Syntax` and
 /// `Early`, with line and column, and `TooDeep` where it is no script; `BadSettings` and `BadTable` where the second file is refused;
-/// `OutOfMemory`. The first of these is answered. Nothing is written but where the writer fails: then a beginning of the output.
+/// `TooLong` also where the text that `unwrap` would write is longer than a source text may be, and `UnwrapFailed` where it isn't the same
+/// script with the fewest pairs, of which none is known; `OutOfMemory`. The first of these is answered. Nothing is written but where the
+/// writer fails: then a beginning of the output.
 pub fn run<R: Feed, S: Feed, W: Sink>(
     alloc: Global,
     command: Command,

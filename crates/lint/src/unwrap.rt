@@ -6,7 +6,6 @@ ghost use Rattle.lint.specs.ReadScripts.{IsReading};
 ghost use Rattle.lint.specs.Unwraps.{Unwraps, IsUnwrapped, HasNoRoom, IsUnfit, RefusesUnwrapping, SpellsWith};
 
 use crate::script_reader::read_script;
-use crate::unwrapping_fault::UnwrappingFault;
 use paren_planner::{Plan, plan};
 use parser::{Parsed, parse};
 use source_text::{Fault, Source};
@@ -55,24 +54,24 @@ fn rewritten(
 ///
 /// # Errors
 ///
-/// `Unfit` where they aren't; `TooLong` and `OutOfMemory`.
+/// `UnwrapFailed` where they aren't; `TooLong` and `OutOfMemory`.
 fn validated(
     alloc: Global,
     bytes: Vec<u8>,
     program: &Program<'_>,
     count: usize,
-) -> Result<String, UnwrappingFault>
+) -> Result<String, Fault>
     ensures spells { IfOk result (λ text. SpellsWith (string_bytes text) program.now count) }
     ensures refused { IfErr result IsUnfit }
 {
     match spells(alloc, &bytes, program, count) {
         Ok(true) => {}
-        Ok(false) => return Err(UnwrappingFault::Unfit),
-        Err(fault) => return Err(UnwrappingFault::Refused(fault)),
+        Ok(false) => return Err(Fault::UnwrapFailed),
+        Err(fault) => return Err(fault),
     }
     match String::from_utf8(bytes) {
         Ok(text) => Ok(text),
-        Err(_) => Err(UnwrappingFault::Unfit),
+        Err(_) => Err(Fault::UnwrapFailed),
     }
 }
 
@@ -82,7 +81,7 @@ fn unwrap_planned(
     source: &Source<'_>,
     parsed: &Parsed<'_>,
     plan: &Plan,
-) -> Result<String, UnwrappingFault>
+) -> Result<String, Fault>
     requires reading { IsReading source.now parsed.now.program parsed.now.pairs.items }
     requires plan { IsPlan parsed.now.program plan.now }
     ensures unwrapped { IfOk result (λ text. Unwraps source.now (string_bytes text)) }
@@ -92,12 +91,12 @@ fn unwrap_planned(
     if parsed.grouping_pairs().len() == count {
         return match String::from_str(alloc, source.text()) {
             Ok(text) => Ok(text),
-            Err(AllocError) => Err(UnwrappingFault::Refused(Fault::OutOfMemory)),
+            Err(AllocError) => Err(Fault::OutOfMemory),
         };
     }
     match rewritten(alloc, source, parsed, plan) {
         Ok(bytes) => validated(alloc, bytes, parsed.program(), count),
-        Err(AllocError) => Err(UnwrappingFault::Refused(Fault::OutOfMemory)),
+        Err(AllocError) => Err(Fault::OutOfMemory),
     }
 }
 
@@ -105,12 +104,12 @@ fn unwrap_planned(
 ///
 /// # Errors
 ///
-/// `OutOfMemory`, `TooLong` and `Unfit`, as `unwrap_text`.
+/// `OutOfMemory`, `TooLong` and `UnwrapFailed`, as `unwrap_text`.
 pub(crate) fn unwrap_script(
     alloc: Global,
     source: &Source<'_>,
     parsed: &Parsed<'_>,
-) -> Result<String, UnwrappingFault>
+) -> Result<String, Fault>
     requires reading { IsReading source.now parsed.now.program parsed.now.pairs.items }
     requires small { length source.now ≤ 16777216 }
     ensures unwrapped { IfOk result (λ text. Unwraps source.now (string_bytes text)) }
@@ -118,7 +117,7 @@ pub(crate) fn unwrap_script(
 {
     match plan(alloc, parsed.program()) {
         Ok(plan) => unwrap_planned(alloc, source, parsed, &plan),
-        Err(AllocError) => Err(UnwrappingFault::Refused(Fault::OutOfMemory)),
+        Err(AllocError) => Err(Fault::OutOfMemory),
     }
 }
 
@@ -129,14 +128,14 @@ pub(crate) fn unwrap_script(
 /// # Errors
 ///
 /// What `read_script` answers of a text that is no script; `OutOfMemory`; `TooLong` where the unwrapped text is longer than a source text
-/// may be; and `Unfit` where it doesn't compare: no such text is known.
-pub fn unwrap_text(alloc: Global, source: &Source<'_>) -> Result<String, UnwrappingFault>
+/// may be; and `UnwrapFailed` where it doesn't compare: no such text is known.
+pub fn unwrap_text(alloc: Global, source: &Source<'_>) -> Result<String, Fault>
     ensures unwrapped { IfOk result (λ text. Unwraps source.now (string_bytes text)) }
     ensures stable { IfOk result (λ text. IsUnwrapped (string_bytes text)) }
     ensures refused { IfErr result (RefusesUnwrapping source.now) }
 {
     match read_script(alloc, source) {
         Ok(parsed) => unwrap_script(alloc, source, &parsed),
-        Err(refusal) => Err(UnwrappingFault::Refused(refusal)),
+        Err(refusal) => Err(refusal),
     }
 }

@@ -8,7 +8,7 @@ use Rattle.rules.specs.Rules.{View, eqeqeq, no_debugger, no_empty, no_extra_pare
 use Rattle.rules.specs.Run.{all_found, found_by}
 use Rattle.rules.specs.Settings.{is_on}
 use Rattle.commands.specs.declared.command.Command.{Command}
-use Rattle.commands.specs.declared.command.Command.TheVariants.{Check, Tree, Fix, Cost, Verify}
+use Rattle.commands.specs.declared.command.Command.TheVariants.{Check, Tree, Fix, Unwrap, Cost, Verify}
 use Rattle.commands.specs.declared.refused.Refused.{Refused}
 use Rattle.nine_rules.specs.NineRules.{FindAs, NamedRule, RunsByRules, rules_of}
 
@@ -18,6 +18,7 @@ no_rules : (command : Command) → command ≢ Check → rules_of command ≡ []
 no_rules Check h = absurd (h refl)
 no_rules Tree h = refl
 no_rules Fix h = refl
+no_rules Unwrap h = refl
 no_rules Cost h = refl
 no_rules Verify h = refl
 
