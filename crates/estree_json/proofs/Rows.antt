@@ -1,4 +1,4 @@
--- Whole scripts as JSON: the types of nodes that no row of crates/rows/data/trees has, and what isn't so.
+-- Whole scripts as JSON: the types of nodes that no row of crates/cases/data/trees has, and what isn't so.
 use Rattle.std.specs.Prelude.{◌≡◌, ℕ, ◌+◌, true, false, [], ◌∷◌, length, bytes_eq, codes}
 use Rattle.std.proofs.Common.{refl}
 use Rattle.std.specs.Fmt.{digits}

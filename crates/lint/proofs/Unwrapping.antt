@@ -1,9 +1,8 @@
 -- From a text that is read again and compared to what unwrapping promises.
-use Rattle.std.proofs.Common.{◌≡◌, ℕ, List, [], refl, sym, ap, subst, ◌∙◌, ◌≤◌, length, arith, Result, Ok, Err, string_bytes}
+use Rattle.std.proofs.Common.{◌≡◌, ℕ, List, refl, sym, ap, subst, ◌∙◌, ◌≤◌, length, arith, Result, Ok, Err, string_bytes}
 use Rattle.std.specs.Result.{IfOk}
 use Rattle.std.specs.Prelude.{String}
 use Rattle.source_text.specs.declared.fault.Fault.{Fault}
-use Rattle.source_text.specs.declared.fault.Fault.TheVariants.{TooLong, OutOfMemory, UnwrapFailed}
 use Rattle.tree.specs.Tree.{Tree, SameTree, bare}
 use Rattle.tree.specs.declared.kind.Pair.{Pair}
 use Rattle.early_errors.specs.Accepted.{Accepted}
@@ -11,11 +10,8 @@ use Rattle.early_errors.proofs.Placeless.{none_either}
 use Rattle.language.specs.Claims.{Derives, Fewest, max_open}
 use Rattle.paren_planner.specs.declared.wrap_plan.Plan.{Plan}
 use Rattle.paren_planner.specs.Plans.{IsPlan}
-use Rattle.commands.specs.declared.command.Command.TheVariants.{Unwrap}
-use Rattle.lint.specs.ReadScripts.{IsOnly, IsReading, RefusesReading}
-use Rattle.lint.specs.Unwraps.{Unwraps, IsUnwrapped, HasNoRoom, IsUnfit, RefusesUnwrapping, SpellsWith}
-use Rattle.lint.specs.declared.answer.Answer.{Answer}
-use Rattle.lint.specs.Steps.{AnswersAlone, output_of, status_of}
+use Rattle.lint.specs.ReadScripts.{IsOnly}
+use Rattle.lint.specs.Unwraps.{Unwraps, IsUnwrapped, SpellsWith}
 use Rattle.lint.proofs.FixAnswers.{fewest}
 use Rattle.lint.proofs.OneScript.{only_script}
 
@@ -82,37 +78,3 @@ unwraps_each text n P p is only plan more (Err fault) m count program total spel
 pub unwrapped_each : {A : Type 0} (text : List ℕ) (answer : Result (String A) Fault) → IfOk answer (λ t. Unwraps text (string_bytes t)) → IfOk answer (λ t. IsUnwrapped (string_bytes t))
 unwrapped_each text (Ok t) unwraps = is_unwrapped text (string_bytes t) unwraps
 unwrapped_each text (Err fault) unwraps = tt
-
--- ---- refusals
-
--- where there is no room, there is none for the unwrapped text
-pub no_room : (fault : Fault) → HasNoRoom fault → IsUnfit fault
-no_room TooLong room = tt
-no_room OutOfMemory room = tt
-no_room other room = absurd room
-
--- what is no script when it is read isn't unwrapped either
-pub unread : (text : List ℕ) (fault : Fault) → RefusesReading text fault → RefusesUnwrapping text fault
-unread text TooLong refused = absurd refused
-unread text UnwrapFailed refused = absurd refused
-unread text other refused = refused
-
--- a script whose unwrapped text doesn't fit is one
-pub unfit : (text : List ℕ) (n : Tree) (P : List Pair) (fault : Fault) → Accepted text n P → IsUnfit fault → RefusesUnwrapping text fault
-unfit text n P TooLong is refused = (n, P, is)
-unfit text n P UnwrapFailed is refused = (n, P, is)
-unfit text n P OutOfMemory is refused = tt
-unfit text n P other is refused = absurd refused
-
--- ---- the command
-
--- what `unwrap` answers
-pub unwrap_answer : (text : List ℕ) (n : Tree) (P : List Pair) (answer : Answer) → Unwraps text (output_of answer) → status_of answer ≡ 0 → AnswersAlone Unwrap text n P (Ok answer)
-unwrap_answer text n P answer unwraps status = λ finds given. (refl, ([], refl, (unwraps, is_unwrapped text (output_of answer) unwraps, status)))
-
--- what it refuses
-pub unwrap_refused : (text : List ℕ) (n : Tree) (P : List Pair) (fault : Fault) → IsUnfit fault → AnswersAlone Unwrap text n P (Err fault)
-unwrap_refused text n P TooLong refused = λ finds given. (refl, ([], refl, refl))
-unwrap_refused text n P UnwrapFailed refused = λ finds given. (refl, ([], refl, refl))
-unwrap_refused text n P OutOfMemory refused = λ finds given. refl
-unwrap_refused text n P other refused = absurd refused
