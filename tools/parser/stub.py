@@ -4,15 +4,15 @@ its contract is taken as it stands. A check of it takes 10 to 60 seconds, where 
     stub.py CRATE COPY [FUNCTION]
 
 CRATE is crates/recursive_descent, COPY the same folder of a copy of the repository (with the other crates' out/). Its answers and invariants are
-taken from proofs/position/Parser/+grammar of CRATE, by their names; with no FUNCTION all of the cycle refuse, for a check of another
-function. In COPY: rt check --only position::Parser::FUNCTION --allow-holes
+taken from proofs/parser/Parser/+grammar of CRATE, by their names; with no FUNCTION all of the cycle refuse, for a check of another
+function. In COPY: rt check --only parser::Parser::FUNCTION --allow-holes
 """
 import re,glob,sys,shutil,os
 src,base=(it.rstrip('/')+'/' for it in sys.argv[1:3])
 keep=set(sys.argv[3:])
 for d in ('specs','proofs'):
     shutil.rmtree(base+d,ignore_errors=True); shutil.copytree(src+d,base+d)
-G=base+'proofs/position/Parser/+grammar/'
+G=base+'proofs/parser/Parser/+grammar/'
 def split(path):
     # header and entries by 'pub NAME : goal...' or 'abbrev pub NAME'
     if not os.path.exists(path): return '',[]
@@ -32,7 +32,7 @@ def needed(text):
         return 'use '+m.group(1)+'.{'+', '.join(names)+'}' if names else None
     return '\n'.join(y for y in map(line,text.split('\n')) if y is not None)
 for k in keep:
-    own=k=='pieces'
+    own=k=='read_symbols'
     for f in ('Answers','Invariants'):
         h,es=split(G+f+'.antt')
         mine=[]
@@ -49,7 +49,7 @@ for k in keep:
                     e=re.sub(r'(returns-[\w+-]*) t c\)',r'\1 c)',e)
                 mine.append(e)
         if any('pub ' in e for e in mine):
-            d=base+'proofs/position/Parser/'+('+'+k if own else k); os.makedirs(d,exist_ok=True)
+            d=base+'proofs/parser/Parser/'+('+'+k if own else k); os.makedirs(d,exist_ok=True)
             def used(x):
                 if 'Goals.{' not in x: return x
                 names=[n for n in x[x.index('{')+1:x.rindex('}')].split(', ') if any(re.search(r'(?<![-\w+.])'+re.escape(n)+r'(?![-\w+])',e) for e in mine)]
@@ -73,7 +73,7 @@ for f in glob.glob(src+'src/*.rt'):
         head=s[i+len('#[cycle(grammar)]'):m.start()]
         fn=re.search(r'fn (\w+)',head).group(1)
         body=s[m.start():e+len('\n'+ind+'}\n')]
-        if fn=='pieces' and fn in keep: out+='#[cycle(pieces)]'+head+body
+        if fn=='read_symbols' and fn in keep: out+='#[cycle(read_symbols)]'+head+body
         elif fn in keep: out+=head.replace('#[inline(never)]','').lstrip()+body
         else: out+=head.replace('#[inline(never)]','').lstrip()+'\n'+ind+'{\n'+ind+'    Err(Fault::OutOfMemory)\n'+ind+'}\n'
         pos=e+len('\n'+ind+'}\n')
