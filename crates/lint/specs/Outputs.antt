@@ -130,7 +130,7 @@ IsOutput finds Unwrap text n P second output status = Unwraps text output × IsU
 IsOutput finds Cost text n P second output status = Costs n output × (status ≡ 0)
 IsOutput finds Verify text n P second output status = Verifies n P second output × (status ≡ 0)
 
--- how a command refuses a script that was read: its second file, or since the unwrapped text has no room or doesn't compare
+-- why a command refuses a script that was read: its second file is refused, or the unwrapped text has no room or doesn't compare
 abbrev pub CommandRefuses : Command → SyntaxTree → List ℕ → Fault → Type 0
 CommandRefuses command n second BadSettings = (command ≡ Check) × RefusesSettings second
 CommandRefuses command n second (BadTable row why) = (command ≡ Verify) × RefusesTable n second row why
