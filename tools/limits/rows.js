@@ -7,6 +7,7 @@
 const { HOLDERS } = require('../parser/compare.js');
 const { runInBigStack } = require('../reference/bigstack.js');
 const { LIMITS, parse, parseOnly } = require('../reference/parse.js');
+const { unwrap } = require('../reference/unwrap.js');
 
 // What holds an expression as an expression, or a statement as a statement: its text, with `@` for what it holds. The links are those
 // that the parser's comparison has no holder of.
@@ -66,6 +67,12 @@ function row(text) {
   return `pairs\t${text}\t${result.ok ? result.pairs.length : 'nested too deep'}`;
 }
 
+// The row of a text and what it is unwrapped to, where that is this.
+function unwrapped(text, want) {
+  const found = unwrap(meant(text), LIMITS);
+  return found.ok && found.text === meant(want) ? [`unwrap\t${text}\t${want}`] : [];
+}
+
 // The row of a text that is beyond a limit.
 function refused(text) {
   const line = row(text);
@@ -82,7 +89,7 @@ function isInside(holder) {
 function limitRows(holder, inner) {
   const make = (count) => script(holder, count, inner, inner);
   const count = most(make);
-  return [row(make(count)), refused(make(count + 1))];
+  return [row(make(count)), refused(make(count + 1)), ...unwrapped(make(count), make(count))];
 }
 
 // A holder of expressions, in pairs: up to the greatest height, filled by `!`, and with the most open parentheses; then one level more
@@ -97,7 +104,8 @@ function mixedRows(given) {
   while (sizes(text(0, pairs + 1))[1] <= LIMITS.maxParens) pairs += 1;
   let levels = LIMITS.maxHeight - high;
   while (sizes(text(levels + 1, pairs))[0] <= LIMITS.maxHeight) levels += 1;
-  return [row(text(levels, pairs)), refused(text(levels + 1, pairs)), refused(text(levels, pairs + 1))];
+  const rows = [row(text(levels, pairs)), refused(text(levels + 1, pairs)), refused(text(levels, pairs + 1))];
+  return [...rows, ...unwrapped(text(levels, pairs), text(levels, 0))];
 }
 
 // Two holders in turn, in a pair each.
@@ -105,13 +113,14 @@ const both = (one, other) => `(${one.replace('@', `(${other})`)})`;
 
 const FILES = {
   limits: () => [
-    '# Each construct in itself, up to the greatest height, and once more. Made by tools/limits/rows.js.',
+    '# Each construct in itself, up to the greatest height, and once more; and that it is unwrapped to itself, where it is. Made by',
+    '# tools/limits/rows.js.',
     ...AS_EXPRESSIONS.flatMap((it) => limitRows(it, 'a')),
     ...AS_STATEMENTS.flatMap((it) => limitRows(it, ';')),
   ],
   mixes: () => [
     '# Each construct, and two in turn, up to the greatest height and with the most open parentheses; then with one level or one',
-    '# parenthesis more. Made by tools/limits/rows.js.',
+    '# parenthesis more; and what it is unwrapped to, where no other pair goes. Made by tools/limits/rows.js.',
     ...MIXED.flatMap((it) => mixedRows(it)),
     ...MIXED.flatMap((it, i) => mixedRows(both(it, MIXED[(i + 31) % MIXED.length]))),
   ],
