@@ -107,12 +107,11 @@ module _ (finds : View → List Report) (command : Command) (bytes : List ℕ) (
       ((before.reader, before.of_failed ∙ answers.0, before.writer), before.kept, (both_read seen n P failed answers.1.0 source reading before answers.1.1, answers.1.2), refl)
   command_refused n P UnwrapFailed failed seen source reading answers before =
       ((before.reader, before.of_failed ∙ answers.0, before.writer), before.kept, (both_read seen n P failed answers.1.0 source reading before answers.1.1, answers.1.2), refl)
-  command_refused n P TooLong failed seen source reading answers before =
-      (
-        (before.reader, before.of_failed ∙ answers.0, before.writer),
-        before.kept,
-        inr ((both_read seen n P failed answers.1.0 source reading before answers.1.1, answers.1.2), refl),
-      )
+  command_refused n P TooLong failed seen source reading answers before = (
+    (before.reader, before.of_failed ∙ answers.0, before.writer),
+    before.kept,
+    inr ((both_read seen n P failed answers.1.0 source reading before answers.1.1, answers.1.2), refl),
+  )
   command_refused n P (NotUtf8 at) failed seen source reading answers before = absurd answers.1.2
   command_refused n P (Syntax at) failed seen source reading answers before = absurd answers.1.2
   command_refused n P TooDeep failed seen source reading answers before = absurd answers.1.2
