@@ -163,9 +163,9 @@ abbrev pub invariant-read_symbols-each : goal.invariant-read_symbols-each
 invariant-read_symbols-each l = record {
   same : l.self.cursor.text ≡ l.fn.self.cursor.text;
   forward : l.fn.self.cursor.last.stop ≤ l.self.cursor.last.stop;
-  derived : Adds l.fn.self.cursor l.self.cursor l.fn.self.pairs.items l.self.pairs.items (BuiltAt l.fn.self.cursor.text l.fn.context.returns (map piece_of (take l.piece-index l.read_symbols)) l.fn.built l.built);
+  derived : Adds l.fn.self.cursor l.self.cursor l.fn.self.pairs.items l.self.pairs.items (BuiltAt l.fn.self.cursor.text l.fn.context.returns (map piece_of (take l.piece-index l.pieces)) l.fn.built l.built);
   low : parts_height l.fn.built.nodes ≤ l.fn.high → parts_height l.built.nodes ≤ l.fn.high;
-  complete : LeftOf l.fn.context.returns (map piece_of l.read_symbols) (map piece_of (drop l.piece-index l.read_symbols)) l.fn.self.cursor l.self.cursor l.fn.self.pairs.items l.self.pairs.items l.fn.built l.built;
+  complete : LeftOf l.fn.context.returns (map piece_of l.pieces) (map piece_of (drop l.piece-index l.pieces)) l.fn.self.cursor l.self.cursor l.fn.self.pairs.items l.self.pairs.items l.fn.built l.built;
 }
 
 abbrev pub invariant-statements-statements : goal.invariant-statements-statements

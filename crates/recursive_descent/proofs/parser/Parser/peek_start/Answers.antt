@@ -13,8 +13,8 @@ returns-in_default-expression_start_of-clause-none c = nothing_ahead _ c.args.po
 pub returns-in-true-clause-coded : goal.returns-in-true-clause-coded
 returns-in-true-clause-coded c = sym c.in-Some-expression_start_of.ensures.coded
 
-pub returns-in-true-clause-may_start : goal.returns-in-true-clause-may_start
-returns-in-true-clause-may_start c = stands_same c.args.position (as_read (token_of c.in-Some.token)) _ _ (sym c.in-Some-expression_start_of.ensures.coded) (sym c.may_start.ensures ∙ c.in-true.is)
+pub returns-in-true-clause-stands : goal.returns-in-true-clause-stands
+returns-in-true-clause-stands c = stands_same c.args.position (as_read (token_of c.in-Some.token)) _ _ (sym c.in-Some-expression_start_of.ensures.coded) (sym c.may_start.ensures ∙ c.in-true.is)
 
 pub returns-in-false-clause-none : goal.returns-in-false-clause-none
 returns-in-false-clause-none c = nothing_ahead _ c.args.position _ _ c.in-Some.ensures.some (stands_same c.args.position (as_read (token_of c.in-Some.token)) _ _ (sym c.in-Some-expression_start_of.ensures.coded) (sym c.may_start.ensures ∙ c.in-false.is))
