@@ -9,7 +9,7 @@ use Rattle.commands.specs.declared.command.Command.TheVariants.{Cost, Verify}
 use Rattle.tree.specs.declared.kind.Kind.{Kind}
 use Rattle.tree.specs.declared.kind.Pair.{Pair}
 use Rattle.tree.specs.Tree.{Tree, SameTree}
-use Rattle.language.specs.Claims.{Table, Derives, max_open}
+use Rattle.language.specs.Claims.{Table, Derives}
 use Rattle.paren_planner.specs.declared.table.CostTable.{CostTable}
 use Rattle.paren_planner.specs.Tables.{table_of}
 use Rattle.cost_certificate.specs.declared.check.BadTable.{BadTable as Bad}

@@ -1,7 +1,7 @@
 use Rattle.std.proofs.Common.{◌≡◌, ◌∙◌, ◌≤◌, sym, ap, subst, Bool, List, length, arith, string_bytes}
 use Rattle.std.proofs.lemmas.Str.{IsUtf8-string_bytes}
 use Rattle.std.specs.Prelude.{IsSome}
-use Rattle.language.specs.Claims.{Derives, max_open}
+use Rattle.language.specs.Claims.{Derives}
 use Rattle.language.specs.Layout.{fixed_text}
 use Rattle.language.specs.Pieces.{script}
 use Rattle.language.specs.RowPositions.{rows}
