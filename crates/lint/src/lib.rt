@@ -4,7 +4,7 @@
 
 mod answer;
 mod check_command;
-mod commands;
+mod command_answers;
 mod cost_commands;
 mod fix_command;
 pub mod run;

@@ -8,7 +8,7 @@ ghost use Rattle.lint.specs.Run.{Runs};
 ghost use Rattle.lint.specs.Steps.{AnswersBytes, IsWritable};
 
 use crate::answer::Answer;
-use crate::commands::answer;
+use crate::command_answers::answer;
 use crate::script_reader::read_script;
 use commands::{Command, Refused, read_up_to};
 use rules::Rule;

@@ -7,7 +7,7 @@ use Rattle.paren_planner.specs.Plans.{IsPlan}
 use Rattle.lint.specs.ReadScripts.{IsScript}
 use Rattle.lint.proofs.FixAnswers.{fixed_answer}
 use Rattle.lint.proofs.PlannedScripts.{script_spelled, script_few, reading_script}
-use Rattle.lint.proofs.commands.fixed.Goals as goal
+use Rattle.lint.proofs.command_answers.fixed.Goals as goal
 
 pub plan-requires-clause-spelled : goal.plan-requires-clause-spelled
 plan-requires-clause-spelled c =

@@ -1,6 +1,6 @@
 use Rattle.std.proofs.Common.{[], refl, string_bytes}
 use Rattle.lint.proofs.Unwrapping.{is_unwrapped}
-use Rattle.lint.proofs.commands.unwrapped.Goals as goal
+use Rattle.lint.proofs.command_answers.unwrapped.Goals as goal
 
 pub returns-in-Ok-clause-answer : goal.returns-in-Ok-clause-answer
 returns-in-Ok-clause-answer c =
