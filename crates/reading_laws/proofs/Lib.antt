@@ -3,3 +3,4 @@ pub mod TailTable
 pub mod Peeks
 pub mod Walk
 pub mod ReadingDerivations
+pub mod TreeReadings

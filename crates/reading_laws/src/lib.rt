@@ -2,7 +2,7 @@
 
 //! A text's own places and readings of it as lists of tokens derive the same: what is proved of the definitions. Each contract is a theorem, and the body does nothing.
 
-ghost use Rattle.reading_laws.specs.Laws.{AcceptsByReadings, DerivationsAreReadings, DerivesByReadings};
+ghost use Rattle.reading_laws.specs.Laws.{AcceptsByReadings, AtMostOneTreeReading, DerivationsAreReadings, DerivesByReadings};
 
 /// A derivation at a text's own places is one of a reading of the text: a list of tokens, with the goals of its own choice, spells the same tree, places included, with the same pairs.
 pub fn derivations_are_readings()
@@ -17,4 +17,9 @@ pub fn derives_by_readings()
 /// A UTF-8 text is accepted with a tree and grouping pairs just where some reading of it spells them within the limits, and the tree has no early error.
 pub fn accepted_by_readings()
     ensures { AcceptsByReadings }
+{}
+
+/// A text has at most one reading by the goals of a tree.
+pub fn at_most_one_tree_reading()
+    ensures { AtMostOneTreeReading }
 {}
