@@ -4,3 +4,8 @@ pub mod Peeks
 pub mod Walk
 pub mod ReadingDerivations
 pub mod TreeReadings
+pub mod DivPieces
+pub mod DivTable
+pub mod OneTokenWays
+pub mod TokensOfNodes
+pub mod TreeGoals

@@ -2,7 +2,7 @@
 
 //! A text's own places and readings of it as lists of tokens derive the same: what is proved of the definitions. Each contract is a theorem, and the body does nothing.
 
-ghost use Rattle.reading_laws.specs.Laws.{AcceptsByReadings, AtMostOneTreeReading, DerivationsAreReadings, DerivesByReadings};
+ghost use Rattle.reading_laws.specs.Laws.{AcceptsByReadings, AtMostOneTreeReading, DerivationsAreReadings, DerivesByReadings, ReadingsOfOneTreeAreEqual, SpelledReadingsAreTreeReadings};
 
 /// A derivation at a text's own places is one of a reading of the text: a list of tokens, with the goals of its own choice, spells the same tree, places included, with the same pairs.
 pub fn derivations_are_readings()
@@ -22,4 +22,14 @@ pub fn accepted_by_readings()
 /// A text has at most one reading by the goals of a tree.
 pub fn at_most_one_tree_reading()
     ensures { AtMostOneTreeReading }
+{}
+
+/// A reading that spells a tree is the reading by the goals of that tree.
+pub fn spelled_readings_are_tree_readings()
+    ensures { SpelledReadingsAreTreeReadings }
+{}
+
+/// So any two readings of a text that spell the same tree are the same list of tokens.
+pub fn readings_of_one_tree_are_equal()
+    ensures { ReadingsOfOneTreeAreEqual }
 {}
