@@ -80,13 +80,13 @@ div_arrows g (part n (part m none)) = of (is_identifier (kind_of n))
     of true = a_spelling (div_arrow_end g) (one_spelling (div_arrow g (part n (part m none))))
     of false = one_spelling (div_arrow g (part n (part m none)))
 
--- a node that may be spelled by a token that Div doesn't read
-abbrev pub is_mark_kind : Kind → Bool
-is_mark_kind kind.Literal = true
-is_mark_kind kind.TemplateElement = true
-is_mark_kind _ = false
+-- a node of this kind may be spelled by a token that Div doesn't read
+abbrev pub may_need_goal : Kind → Bool
+may_need_goal kind.Literal = true
+may_need_goal kind.TemplateElement = true
+may_need_goal _ = false
 
-div_expressions : (k : Kind) (w : List ℕ) (g : Flags) (ps : Parts) → is_mark_kind k ≡ false → EachDiv (expressions k w g ps)
+div_expressions : (k : Kind) (w : List ℕ) (g : Flags) (ps : Parts) → may_need_goal k ≡ false → EachDiv (expressions k w g ps)
 unfolding expressions
 div_expressions kind.Identifier w g ps h = by_unless (is_reserved w) (one_spelling refl)
 div_expressions kind.Literal w g ps h = absurd (true≢false h)
@@ -230,7 +230,7 @@ div_methods form.Set _ = no_spelling
 div_methods _ (gap ps) = one_spelling (div_parameters (sign ")" ∷ sp ∷ put body ∷ []) ps refl)
 div_methods _ _ = no_spelling
 
-table_div : (a : Role) (n : Tree) → is_mark_kind (kind_of n) ≡ false → EachDiv (spellings a n)
+table_div : (a : Role) (n : Tree) → may_need_goal (kind_of n) ≡ false → EachDiv (spellings a n)
 unfolding spellings
 table_div (expr y i f) (node k w g s e ps) h = div_expressions k w g ps h
 table_div (chain_part f) (node k w g s e ps) h = div_spines k g ps
@@ -295,7 +295,7 @@ bare_kind : (n : Tree) → kind_of (bare n) ≡ kind_of n
 bare_kind (node k w g s e ps) = refl
 
 -- so the pieces of each way pass, unless the node is a Literal or a TemplateElement
-pub way_div : (a : Role) (n : Tree) {qs : List (PieceOf Role)} → is_mark_kind (kind_of n) ≡ false → Among qs (ways a n) → are_div qs ≡ true
+pub way_div : (a : Role) (n : Tree) {qs : List (PieceOf Role)} → may_need_goal (kind_of n) ≡ false → Among qs (ways a n) → are_div qs ≡ true
 way_div a n s h =
     let v = way_of h in
-    ap are_div v.is ∙ div_settled (own_rank a) (own_in a) (own_start a) v.spelling.pieces ∙ among_each (spellings a (bare n)) (table_div a (bare n) (ap is_mark_kind (bare_kind n) ∙ s)) v.listed
+    ap are_div v.is ∙ div_settled (own_rank a) (own_in a) (own_start a) v.spelling.pieces ∙ among_each (spellings a (bare n)) (table_div a (bare n) (ap may_need_goal (bare_kind n) ∙ s)) v.listed

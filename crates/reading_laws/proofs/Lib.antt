@@ -9,3 +9,4 @@ pub mod DivTable
 pub mod OneTokenWays
 pub mod TokensOfNodes
 pub mod TreeGoals
+mod TreeGoalExamples

@@ -20,12 +20,12 @@ use Rattle.language.specs.Cursor as Cursor
 use Rattle.language.specs.Derivation.{Among, Reads, Spells, direct, grouped, Runs, done, step, opened, closed, within, missing, Step, token, with_mark, without_mark, one_more, no_more, seen, same_line, explicit, implicit, laid, Placed, placed}
 use Rattle.language.proofs.table.Begins.{retell}
 use Rattle.reading_laws.proofs.DivPieces.{is_div_class, is_div_piece, are_div}
-use Rattle.reading_laws.proofs.DivTable.{is_mark_kind, way_div}
+use Rattle.reading_laws.proofs.DivTable.{may_need_goal, way_div}
 use Rattle.reading_laws.proofs.OneTokenWays.{OneToken, literal_way, element_way}
 
 -- the two tests say the same of a token and of the node that it spells, and nothing passes them but what spells such a node, and such nodes
 pub record Agrees (of_node : Tree → Bool) (of_token : Token → Bool) : Type 0 where
-  pub other : (n : Tree) → is_mark_kind (kind_of n) ≡ false → of_node n ≡ false
+  pub other : (n : Tree) → may_need_goal (kind_of n) ≡ false → of_node n ≡ false
   pub div : (t : Token) → is_div_class t.class ≡ true → of_token t ≡ false
   pub literal : (w : List ℕ) (g : Flags) (s e : ℕ) (ps : Parts) (t : Token) → t.class ≡ literal_class w → t.start ≡ s → of_token t ≡ of_node (node Literal w g s e ps)
   pub element : (w : List ℕ) (g : Flags) (s e : ℕ) (ps : Parts) (t : Token) → t.class ≡ Template → t.start + 1 ≡ s → of_token t ≡ of_node (node TemplateElement w g s e ps)

@@ -24,11 +24,12 @@ use Rattle.tree.specs.Flat.{post_order}
 use Rattle.language.specs.Vocabulary.{literal_class}
 use Rattle.language.specs.Token.{Token, as_read}
 use Rattle.reading_laws.specs.TreeReadings.{is_regexp_at, is_element_after, tree_goal, IsTreeReading, last, more}
-use Rattle.reading_laws.specs.Laws.{SpelledReadingsAreTreeReadings, ReadingsOfOneTreeAreEqual}
+use Rattle.reading_laws.specs.Laws.{SpelledReadingsAreTreeReadings, ReadingsOfOneTreeAreEqual, DerivedTextsHaveOneTreeReading}
 use Rattle.reading_laws.proofs.DivPieces.{is_div_class}
-use Rattle.reading_laws.proofs.DivTable.{is_mark_kind}
+use Rattle.reading_laws.proofs.DivTable.{may_need_goal}
 use Rattle.reading_laws.proofs.TokensOfNodes.{Agrees, spelled}
 use Rattle.reading_laws.proofs.TreeReadings.{one_tree_reading}
+use Rattle.reading_laws.proofs.ReadingDerivations.{derivations_listed}
 
 -- a token of such a class begins at the place
 abbrev begins_at : (TokenClass → Bool) → ℕ → Token → Bool
@@ -80,7 +81,7 @@ regexps_agree at = record {
   element = λ w g s e ps t k b. none_there at is_regexp t (ap is_regexp k);
 }
   where
-    other : (n : Tree) → is_mark_kind (kind_of n) ≡ false → is_regexp_at at n ≡ false
+    other : (n : Tree) → may_need_goal (kind_of n) ≡ false → is_regexp_at at n ≡ false
     other (node Literal w g s e ps) h = absurd (true≢false h)
     other (node _ w g s e ps) h = refl
 
@@ -101,7 +102,7 @@ elements_agree at = record {
   element = λ w g s e ps t k b. ap (λ z. (at == t.start) && is_template_part z) k ∙ same (at == t.start) ∙ one_later at t.start ∙ ap (λ z. suc at == z) b;
 }
   where
-    other : (n : Tree) → is_mark_kind (kind_of n) ≡ false → is_element_after at n ≡ false
+    other : (n : Tree) → may_need_goal (kind_of n) ≡ false → is_element_after at n ≡ false
     other (node TemplateElement w g s e ps) h = absurd (true≢false h)
     other (node _ w g s e ps) h = refl
 
@@ -208,3 +209,9 @@ spelled_by_tree o text n P tokens final r d = by_tree n (map as_read tokens) (re
 pub readings_of_one_tree : ReadingsOfOneTreeAreEqual
 readings_of_one_tree o p text n P Q a b =
     one_tree_reading n 0 (chars text) a.tokens b.tokens (spelled_by_tree o text n P a.tokens a.final a.reading a.spelled) (spelled_by_tree p text n Q b.tokens b.final b.reading b.spelled)
+
+pub one_tree_reading_of_derived : DerivedTextsHaveOneTreeReading
+one_tree_reading_of_derived o text n P d =
+    let r = derivations_listed o text n P d in
+    let by_tree = spelled_by_tree o text n P r.tokens r.final r.reading r.spelled in
+    record { spelled = r; by_tree = by_tree; only = λ tokens t. one_tree_reading n 0 (chars text) tokens r.tokens t by_tree }

@@ -1,8 +1,8 @@
 #![tactic(auto)]
 
-//! A text's own places and readings of it as lists of tokens derive the same: what is proved of the definitions. Each contract is a theorem, and the body does nothing.
+//! A text's own places and readings of it as lists of tokens derive the same, and the tree tells which reading it is: what is proved of the definitions. Each contract is a theorem, and the body does nothing.
 
-ghost use Rattle.reading_laws.specs.Laws.{AcceptsByReadings, AtMostOneTreeReading, DerivationsAreReadings, DerivesByReadings, ReadingsOfOneTreeAreEqual, SpelledReadingsAreTreeReadings};
+ghost use Rattle.reading_laws.specs.Laws.{AcceptsByReadings, AtMostOneTreeReading, DerivationsAreReadings, DerivedTextsHaveOneTreeReading, DerivesByReadings, ReadingsOfOneTreeAreEqual, SpelledReadingsAreTreeReadings};
 
 /// A derivation at a text's own places is one of a reading of the text: a list of tokens, with the goals of its own choice, spells the same tree, places included, with the same pairs.
 pub fn derivations_are_readings()
@@ -29,7 +29,12 @@ pub fn spelled_readings_are_tree_readings()
     ensures { SpelledReadingsAreTreeReadings }
 {}
 
-/// So any two readings of a text that spell the same tree are the same list of tokens.
+/// So two readings of a text that spell the same tree are the same list of tokens.
 pub fn readings_of_one_tree_are_equal()
     ensures { ReadingsOfOneTreeAreEqual }
+{}
+
+/// A text that derives a tree has one reading by the goals of that tree, and that one spells it.
+pub fn derived_texts_have_one_tree_reading()
+    ensures { DerivedTextsHaveOneTreeReading }
 {}
