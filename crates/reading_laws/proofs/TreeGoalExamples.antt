@@ -4,10 +4,10 @@ use Rattle.std.proofs.Common.{ap}
 use Rattle.std.specs.Char.{encode_utf8}
 use Rattle.std.specs.List.{list_any}
 use Rattle.std.proofs.lemmas.Bool.{true≢false}
-use Rattle.unicode_ident.proofs.Computing.{unicode_ident}
+use Prim.Native.String.{String}
 use Rattle.source_text.specs.Lines.{is_line_terminator}
 use Rattle.tokens.specs.declared.token.TokenClass.{TokenClass}
-use Rattle.tokens.specs.declared.token.TokenClass.TheVariants.{IdentifierName, Punctuator, Template, RegularExpressionLiteral, End}
+use Rattle.tokens.specs.declared.token.TokenClass.TheVariants.{Punctuator, StringLiteral, Template, RegularExpressionLiteral, End}
 use Rattle.tokens.specs.declared.token.Goal.{Goal}
 use Rattle.tokens.specs.declared.token.Goal.TheVariants.{Div, RegExp, TemplateTail}
 use Rattle.tokens.specs.Comments.{begins_comment, Separators, nothing, blank}
@@ -68,60 +68,62 @@ found : (goal : Goal) (at : ℕ) (class : TokenClass) (gap word rest : List ℕ)
 found goal at class gap word rest separated no_comment longest allowed =
     record { gap = gap; word = word; split = refl; separated = separated; no_comment = no_comment; longest = longest; allowed = allowed; text = refl; start = refl; stop = refl; after_break = refl }
 
-abbrev token : TokenClass → List ℕ → ℕ → ℕ → LexicalToken
-token class text start stop = record { class = class; text = text; start = start; stop = stop; after_break = false }
+abbrev token : TokenClass → String → ℕ → ℕ → LexicalToken
+token class text start stop = record { class = class; text = codes text; start = start; stop = stop; after_break = false }
 
--- `a/b/g`: two divisions, and what another tree, which the text doesn't derive, reads there
-abbrev division_tree : Tree
-division_tree = program 5 (one (st 0 5 (t BinaryExpression "/" 0 5 (two (t BinaryExpression "/" 0 3 (two (id "a" 0) (id "b" 2))) (id "g" 4)))))
+-- ` '' /''`: a division
+read_as_division : IsTreeReading (program 7 (one (st 1 7 (t BinaryExpression "/" 1 7 (two (lit "''" 1) (lit "''" 5)))))) 0 (codes " '' /''") (token StringLiteral "''" 1 3 ∷ token Punctuator "/" 4 5 ∷ token StringLiteral "''" 5 7 ∷ token End "" 7 7 ∷ [])
+unfolding encode_utf8
+read_as_division =
+    more (found Div 0 StringLiteral (codes " ") (codes "''") (codes " /''") (blank refl nothing) refl refl refl) refl
+    (more (found Div 3 Punctuator (codes " ") (codes "/") (codes "''") (blank refl nothing) refl refl refl) refl
+    (more (found Div 5 StringLiteral [] (codes "''") [] nothing refl refl refl) refl
+    (last (found Div 7 End [] [] [] nothing refl refl refl) refl)))
 
+-- "`${''/''}`": a division, then the end of the template
+read_as_template : IsTreeReading (program 10 (one (st 0 10 (n TemplateLiteral 0 10 (three (t TemplateElement "" 1 1 none) (t BinaryExpression "/" 3 8 (two (lit "''" 3) (lit "''" 6))) (t TemplateElement "" 9 9 none)))))) 0 (codes "`${''/''}`")
+    (token Template "`${" 0 3 ∷ token StringLiteral "''" 3 5 ∷ token Punctuator "/" 5 6 ∷ token StringLiteral "''" 6 8 ∷ token Template "}`" 8 10 ∷ token End "" 10 10 ∷ [])
+unfolding encode_utf8
+read_as_template =
+    more (found TemplateTail 0 Template [] (codes "`${") (codes "''/''}`") nothing refl refl refl) refl
+    (more (found Div 3 StringLiteral [] (codes "''") (codes "/''}`") nothing refl refl refl) refl
+    (more (found Div 5 Punctuator [] (codes "/") (codes "''}`") nothing refl refl refl) refl
+    (more (found Div 6 StringLiteral [] (codes "''") (codes "}`") nothing refl refl refl) refl
+    (more (found TemplateTail 8 Template [] (codes "}`") [] nothing refl refl refl) refl
+    (last (found Div 10 End [] [] [] nothing refl refl refl) refl)))))
+
+-- `/''/`: a regular expression, and what a tree with a string there, which the text doesn't derive, reads
 abbrev expression_tree : Tree
-expression_tree = program 5 (two (st 0 1 (id "a" 0)) (st 1 5 (lit "/b/g" 1)))
+expression_tree = program 4 (one (st 0 4 (lit "/''/" 0)))
 
-abbrev division_tokens : List LexicalToken
-division_tokens = token IdentifierName (codes "a") 0 1 ∷ token Punctuator (codes "/") 1 2 ∷ token IdentifierName (codes "b") 2 3 ∷ token Punctuator (codes "/") 3 4 ∷ token IdentifierName (codes "g") 4 5 ∷ token End [] 5 5 ∷ []
+abbrev string_tree : Tree
+string_tree = program 4 (one (st 1 3 (lit "''" 1)))
 
 abbrev expression_tokens : List LexicalToken
-expression_tokens = token IdentifierName (codes "a") 0 1 ∷ token RegularExpressionLiteral (codes "/b/g") 1 5 ∷ token End [] 5 5 ∷ []
+expression_tokens = token RegularExpressionLiteral "/''/" 0 4 ∷ token End "" 4 4 ∷ []
 
-read_as_division : IsTreeReading division_tree 0 (codes "a/b/g") division_tokens
-unfolding encode_utf8 unicode_ident
-read_as_division =
-    more (found Div 0 IdentifierName [] (codes "a") (codes "/b/g") nothing refl refl refl) refl
-    (more (found Div 1 Punctuator [] (codes "/") (codes "b/g") nothing refl refl refl) refl
-    (more (found Div 2 IdentifierName [] (codes "b") (codes "/g") nothing refl refl refl) refl
-    (more (found Div 3 Punctuator [] (codes "/") (codes "g") nothing refl refl refl) refl
-    (more (found Div 4 IdentifierName [] (codes "g") [] nothing refl refl refl) refl
-    (last (found Div 5 End [] [] [] nothing refl refl refl) refl)))))
+abbrev string_tokens : List LexicalToken
+string_tokens = token Punctuator "/" 0 1 ∷ token StringLiteral "''" 1 3 ∷ token Punctuator "/" 3 4 ∷ token End "" 4 4 ∷ []
 
-read_as_expression : IsTreeReading expression_tree 0 (codes "a/b/g") expression_tokens
-unfolding encode_utf8 unicode_ident
-read_as_expression =
-    more (found Div 0 IdentifierName [] (codes "a") (codes "/b/g") nothing refl refl refl) refl
-    (more (found RegExp 1 RegularExpressionLiteral [] (codes "/b/g") [] nothing refl refl refl) refl
-    (last (found Div 5 End [] [] [] nothing refl refl refl) refl))
+read_as_expression : IsTreeReading expression_tree 0 (codes "/''/") expression_tokens
+unfolding encode_utf8
+read_as_expression = more (found RegExp 0 RegularExpressionLiteral [] (codes "/''/") [] nothing refl refl refl) refl (last (found Div 4 End [] [] [] nothing refl refl refl) refl)
+
+read_as_string : IsTreeReading string_tree 0 (codes "/''/") string_tokens
+unfolding encode_utf8
+read_as_string =
+    more (found Div 0 Punctuator [] (codes "/") (codes "''/") nothing refl refl refl) refl
+    (more (found Div 1 StringLiteral [] (codes "''") (codes "/") nothing refl refl refl) refl
+    (more (found Div 3 Punctuator [] (codes "/") [] nothing refl refl refl) refl
+    (last (found Div 4 End [] [] [] nothing refl refl refl) refl)))
 
 -- neither tree reads what the other does
-abbrev second_is_regexp : List LexicalToken → Bool
-second_is_regexp (t ∷ u ∷ ts) = is_regexp u.class
-second_is_regexp _ = false
+abbrev first_is_regexp : List LexicalToken → Bool
+first_is_regexp [] = false
+first_is_regexp (t ∷ ts) = is_regexp t.class
 
-no_other_division : IsTreeReading division_tree 0 (codes "a/b/g") expression_tokens → ⊥
-no_other_division r = true≢false (ap second_is_regexp (one_tree_reading division_tree 0 (codes "a/b/g") expression_tokens division_tokens r read_as_division))
+no_expression : IsTreeReading string_tree 0 (codes "/''/") expression_tokens → ⊥
+no_expression r = true≢false (ap first_is_regexp (one_tree_reading string_tree 0 (codes "/''/") expression_tokens string_tokens r read_as_string))
 
-no_other_expression : IsTreeReading expression_tree 0 (codes "a/b/g") division_tokens → ⊥
-no_other_expression r = true≢false (ap second_is_regexp (one_tree_reading expression_tree 0 (codes "a/b/g") expression_tokens division_tokens read_as_expression r))
-
--- "`${a /b}`": the `}` of a template behind a division
-abbrev template_tokens : List LexicalToken
-template_tokens = token Template (codes "`${") 0 3 ∷ token IdentifierName (codes "a") 3 4 ∷ token Punctuator (codes "/") 5 6 ∷ token IdentifierName (codes "b") 6 7 ∷ token Template (codes "}`") 7 9 ∷ token End [] 9 9 ∷ []
-
-read_as_template : IsTreeReading (program 9 (one (st 0 9 (n TemplateLiteral 0 9 (three (t TemplateElement "" 1 1 none) (t BinaryExpression "/" 3 7 (two (id "a" 3) (id "b" 6))) (t TemplateElement "" 8 8 none)))))) 0 (codes "`${a /b}`") template_tokens
-unfolding encode_utf8 unicode_ident
-read_as_template =
-    more (found TemplateTail 0 Template [] (codes "`${") (codes "a /b}`") nothing refl refl refl) refl
-    (more (found Div 3 IdentifierName [] (codes "a") (codes " /b}`") nothing refl refl refl) refl
-    (more (found Div 4 Punctuator (codes " ") (codes "/") (codes "b}`") (blank refl nothing) refl refl refl) refl
-    (more (found Div 6 IdentifierName [] (codes "b") (codes "}`") nothing refl refl refl) refl
-    (more (found TemplateTail 7 Template [] (codes "}`") [] nothing refl refl refl) refl
-    (last (found Div 9 End [] [] [] nothing refl refl refl) refl)))))
+no_string : IsTreeReading expression_tree 0 (codes "/''/") string_tokens → ⊥
+no_string r = true≢false (ap first_is_regexp (one_tree_reading expression_tree 0 (codes "/''/") expression_tokens string_tokens read_as_expression r))
