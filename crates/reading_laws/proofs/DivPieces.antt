@@ -58,7 +58,7 @@ pub div_cond : (c : Bool) (xs ys : List Piece) → are_div xs ≡ true → are_d
 div_cond true xs ys h k = h
 div_cond false xs ys h k = k
 
--- a part, wherever it stands, and the pieces behind it
+-- a part, wherever it stands, and the pieces after it
 pub div_put_at : (x : Option Role) (qs : List Piece) → are_div qs ≡ true → are_div (put_at x ∷ qs) ≡ true
 div_put_at (Some a) qs h = h
 div_put_at None qs h = h

@@ -1,4 +1,4 @@
--- The ways of the table to spell a node: those of a Literal and of a TemplateElement are one token, and no other has a token that Div doesn't read.
+-- Of the ways of the table, only those to spell a Literal or a TemplateElement have a token that Div doesn't read.
 use Rattle.std.proofs.Common.{◌≡◌, ℕ, Bool, true, false, cond, not, ◌&&◌, ◌||◌, List, [], ◌∷◌, ◌++◌, refl, ap, ◌∙◌}
 use Rattle.std.specs.Prelude.{Option, Some, None, nat_le}
 use Rattle.std.proofs.lemmas.Bool.{true≢false}

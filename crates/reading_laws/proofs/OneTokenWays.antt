@@ -1,4 +1,4 @@
--- A Literal and a TemplateElement are spelled by one token, whose place is the node's own, or one before it.
+-- A Literal and a TemplateElement are spelled by one token, which begins where the node does, or one place before it.
 use Rattle.std.proofs.Common.{◌≡◌, ℕ, ◌+◌, cond, List, [], ◌∷◌, ◌++◌, refl, ap, ◌∙◌}
 use Rattle.std.specs.Prelude.{codes, map}
 use Rattle.tokens.specs.declared.token.TokenClass.{TokenClass}

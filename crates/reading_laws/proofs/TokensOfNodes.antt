@@ -1,5 +1,5 @@
--- The tokens that spell a tree, against its nodes: a test of tokens and one of nodes that say the same of a token and of the node that it spells
--- say the same of all of them.
+-- A test of tokens and a test of nodes that say the same of a token and of the node that it spells: then they say the same of all tokens that spell
+-- a tree and of all its nodes.
 use Rattle.std.proofs.Common.{◌≡◌, ℕ, ◌+◌, Bool, true, false, ◌||◌, List, [], ◌∷◌, ◌++◌, drop, refl, sym, ap, ◌∙◌}
 use Rattle.std.specs.List.{list_any}
 use Rattle.std.proofs.Math.Bool.{or_assoc, or-false}
@@ -23,7 +23,8 @@ use Rattle.reading_laws.proofs.DivPieces.{is_div_class, is_div_piece, are_div}
 use Rattle.reading_laws.proofs.DivTable.{may_need_goal, way_div}
 use Rattle.reading_laws.proofs.OneTokenWays.{OneToken, literal_way, element_way}
 
--- the two tests say the same of a token and of the node that it spells, and nothing passes them but what spells such a node, and such nodes
+-- The two tests say the same of a token and of the Literal or the TemplateElement that it spells. No node of another kind passes, and no token of
+-- another class.
 pub record Agrees (of_node : Tree → Bool) (of_token : Token → Bool) : Type 0 where
   pub other : (n : Tree) → may_need_goal (kind_of n) ≡ false → of_node n ≡ false
   pub div : (t : Token) → is_div_class t.class ≡ true → of_token t ≡ false
@@ -34,7 +35,7 @@ module _ (of_node : Tree → Bool) (of_token : Token → Bool) (agrees : Agrees 
   abbrev Tokens : Type 0
   Tokens = List Token
 
-  -- a token behind a place passes
+  -- a token after a place passes
   abbrev pub ahead_of : Tokens → Bool
   ahead_of s = list_any of_token (drop 1 s)
 
@@ -63,7 +64,7 @@ module _ (of_node : Tree → Bool) (of_token : Token → Bool) (agrees : Agrees 
   next_same : {s m e : Tokens} {t u : Token} → Cursor.Next s t m → Cursor.Next s u e → t ≡ u
   next_same Cursor.next Cursor.next = refl
 
-  -- the first token, where there is just one
+  -- the token of pieces that are one token, of a node without parts
   record Sole (c : TokenClass) (ps : Parts) (s e : Tokens) : Type 0 where
     token : Token
     next : Cursor.Next s token e
@@ -83,7 +84,7 @@ module _ (of_node : Tree → Bool) (of_token : Token → Bool) (agrees : Agrees 
       let u = sole (retell Tokens Cursor.Next Cursor.behind z.is d) in
       taken u.next ∙ ap (λ b. b || ahead_of e) (agree u.token u.class (sole_start z p u.next) ∙ sym (or-false (of_node n)) ∙ ap (λ ns. list_any of_node (ns ++ n ∷ [])) (sym u.leaf))
 
-  -- a node that none of its own tokens tells of
+  -- a node of another kind, of which its parts say all
   by_parts : (s e : Tokens) (n : Tree) (ns : List Tree) → of_node n ≡ false → Same s e ns → Same s e (ns ++ n ∷ [])
   by_parts s e n ns h k = k ∙ ap (λ z. z || ahead_of e) (sym (list_any-append of_node ns (n ∷ []) ∙ ap (λ z. list_any of_node ns || (z || false)) h ∙ or-false (list_any of_node ns)))
 
