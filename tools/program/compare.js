@@ -87,5 +87,5 @@ function main() {
   return differ === 0 ? 0 : 1;
 }
 
-module.exports = { modelAnswers };
+module.exports = { modelAnswers, someTexts };
 if (require.main === module) process.exitCode = main();

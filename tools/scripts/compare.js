@@ -5,7 +5,8 @@
 //
 // The commands are check, tree, fix, unwrap, cost and verify. Without files: every .js file of the packages named below, as far as they are
 // installed; what the model refuses must be refused with the same line. Of `fix` and `unwrap` also: the same command on what it wrote gives that
-// again. What `unwrap` writes is also judged by ../unwrap/check.js: the same tree, the fewest pairs, each token and each comment in its place.
+// again. What `unwrap` writes is also judged by ../unwrap/check.js: the same tree, the fewest pairs, each token and each comment in its place, and a
+// script for V8 where the text was one; how many pairs went and how many lines differ is printed.
 // `verify` is given the table that `cost` writes, and its two numbers are the pairs of the script and those of its fixed text. JSLINT names
 // another program than the one that ./jslint runs. Exit status 1 where anything disagrees.
 
@@ -48,7 +49,11 @@ const ANSWERS = {
 
 // The files of the command line, from this word on, or those of the packages.
 function files(from = 3) {
-  if (process.argv.length > from) return process.argv.slice(from);
+  return process.argv.length > from ? process.argv.slice(from) : packaged();
+}
+
+// The scripts of the packages.
+function packaged() {
   const found = new Set();
   for (const name of PACKAGES) {
     const listed = spawnSync('dpkg', ['-L', name], { encoding: 'utf8' });
@@ -148,9 +153,14 @@ function answer(command, file, folder) {
 
 // Whether a command that wrote this text writes it again when it is given it.
 function isStable(command, text, folder) {
-  const file = path.join(folder, 'again.js');
+  return jslint(command, written(text, folder)).out === text;
+}
+
+// A file with this text.
+function written(text, folder) {
+  const file = path.join(folder, 'written.js');
   fs.writeFileSync(file, text);
-  return jslint(command, file).out === text;
+  return file;
 }
 
 // What is seen of one command over all files.
@@ -170,10 +180,45 @@ class Seen {
     } else {
       this.written += 1;
       this.size += ours.out.length;
+      this.note(file, ours.out, folder);
     }
   }
 
+  note() {}
+
   tell() { console.log(`${this.command}: ${this.written} answers alike (${this.size} characters), ${this.refused} texts refused alike, ${this.apart} disagreements`); }
+}
+
+// Of `unwrap` also how many scripts became others, the pairs before and after, as `verify` counts them, and the lines that differ, as `diff` does.
+class SeenUnwrap extends Seen {
+  constructor() {
+    super('unwrap');
+    Object.assign(this, { changed: 0, before: 0, after: 0, lines: 0, linesChanged: 0 });
+  }
+
+  note(file, text, folder) {
+    const after = written(text, folder);
+    const [lines, others] = [fs.readFileSync(file, 'utf8').split('\n').length - 1, linesOtherwise(file, after)];
+    this.changed += others > 0;
+    this.before += pairsOf(file, folder);
+    this.after += pairsOf(after, folder);
+    this.lines += lines;
+    this.linesChanged += others;
+  }
+
+  tell() {
+    super.tell();
+    console.log(`  ${this.changed} of them became others: ${this.before} pairs before, ${this.after} after; ${this.linesChanged} of ${this.lines} lines differ`);
+  }
+}
+
+// The pairs of an accepted script.
+const pairsOf = (file, folder) => Number(/^pairs (\d+) least \d+\n$/.exec(answer('verify', file, folder).out)[1]);
+
+// How many lines of a file another one has otherwise.
+function linesOtherwise(file, other) {
+  const { stdout } = spawnSync('diff', ['-a', '--', file, other], { encoding: 'utf8', maxBuffer: 1 << 30 });
+  return stdout.split('\n').filter((it) => it.startsWith('<')).length;
 }
 
 function main() {
@@ -181,7 +226,7 @@ function main() {
   const commands = word === 'all' ? Object.keys(ANSWERS) : word.split(',');
   if (!commands.every((it) => it in ANSWERS)) throw new Error('check, tree, fix, unwrap, cost or verify?');
   const folder = fs.mkdtempSync(path.join(os.tmpdir(), 'scripts-'));
-  const every = files(), seen = commands.map((it) => new Seen(it));
+  const every = files(), seen = commands.map((it) => (it === 'unwrap' ? new SeenUnwrap() : new Seen(it)));
   for (let i = 0; i < every.length; i += 20) {
     const list = every.slice(i, i + 20);
     const wanted = runInBigStack(__filename, 'models', [commands, list]);
@@ -193,5 +238,5 @@ function main() {
   return every.length > 0 && seen.every((it) => it.apart === 0) ? 0 : 1;
 }
 
-module.exports = { files, judgement, lineColumn, linesColumns, modelOf, models, words };
+module.exports = { files, judgement, lineColumn, linesColumns, modelOf, models, packaged, words };
 if (require.main === module) process.exitCode = main();

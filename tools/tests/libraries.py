@@ -65,11 +65,12 @@ def tool(*names):
     return found
 
 
-def node():
+def node(least=18):
+    """The path of Node, of this version or a later one."""
     found = tool('node')
     version = subprocess.run([found, '--version'], stdout=subprocess.PIPE, text=True).stdout
-    if int(re.match(r'v(\d+)', version)[1]) < 18:
-        raise Skipped(f'node is {version.strip()}, and the package needs 18')
+    if int(re.match(r'v(\d+)', version)[1]) < least:
+        raise Skipped(f'node is {version.strip()}, and this needs {least}')
     return found
 
 

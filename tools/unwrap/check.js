@@ -1,6 +1,6 @@
 #!/usr/bin/env node
 'use strict';
-// Checks one answer of `unwrap` against the text it was made from, by the reference parser alone:
+// Checks one answer of `unwrap` against the text it was made from, by the reference parser and by V8:
 //
 //   check(before, after, unwrap) -> null, or what is wrong
 //
@@ -10,7 +10,11 @@
 // 4 unwrapped again it is the same text          7 where the text had just so many, it is the same text
 //                                                8 gaps without a pair at them are the same, bytes and all
 //                                                9 no browser sees an HTML-like comment that wasn't there
+//                                               10 V8 takes it, strict and not, where it took the text
+//
+// Texts with `for (async of` are left out of 10: they are scripts of the 11th edition, and none of the 12th, which V8 reads.
 
+const vm = require('node:vm');
 const { parse } = require('../reference/parse.js');
 const { plan } = require('../reference/plan.js');
 const { canon } = require('../reference/canon.js');
@@ -98,6 +102,23 @@ function misplaced(source, from, to) {
   return null;
 }
 
+// Whether V8 takes a text, as a script that begins with this.
+function isTaken(text, prefix) {
+  try {
+    return new vm.Script(prefix + text) !== null;
+  } catch {
+    return false;
+  }
+}
+
+const hasAsyncOf = (tokens) => tokens.some((_, i) => ['for', '(', 'async', 'of'].every((word, k) => tokens[i + k]?.text === word));
+
+// Of each text to be checked, and of its answer: null, or how V8 took the one and not the other.
+function refusedByV8(source, written, tokens) {
+  const prefix = ['', "'use strict';"].find((it) => isTaken(source.text, it) && !isTaken(written.text, it));
+  return prefix === undefined || hasAsyncOf(tokens) ? null : `10 V8 takes it no more${prefix && ', as strict code'}`;
+}
+
 function check(before, after, unwrap, options = FINAL) {
   const source = parse(before, options);
   if (!source.ok) return 'the source is refused';
@@ -115,7 +136,7 @@ function check(before, after, unwrap, options = FINAL) {
   const fault = compare(s.list, w.list);
   if (fault !== null) return fault;
   if (htmlLike(written) > htmlLike(source)) return '9 an HTML-like comment';
-  return null;
+  return refusedByV8(source, written, w.list);
 }
 
 module.exports = { check };

@@ -25,17 +25,17 @@ const ROWS = path.join(__dirname, '..', '..', 'crates', 'cases', 'data', 'unwrap
 
 const isWhole = (text) => text.isWellFormed() && !text.includes('\0');
 
-// Texts that the model accepts, and each of them strewn.
-function someTexts(count, seed) {
-  const source = randomSource(seed);
+// Scripts that the model accepts.
+function scripts(source, count, seed) {
   const made = [];
   for (let k = 0; k < count; k++) made.push(nested(source), makeScript(source));
-  const texts = [];
-  for (const text of [...makeTexts(count, seed), ...withAdditions(source, made)]) {
-    if (!isWhole(text) || !parse(text).ok) continue;
-    texts.push(text, ...[1, 2, 3].map(() => strewn(source, text)).filter((it) => isWhole(it) && parse(it).ok));
-  }
-  return texts;
+  return [...makeTexts(count, seed), ...withAdditions(source, made)].filter((it) => isWhole(it) && parse(it).ok);
+}
+
+// Each of them, and three times with pairs, blanks, line ends and comments strewn in.
+function someTexts(count, seed) {
+  const source = randomSource(seed);
+  return scripts(source, count, seed).flatMap((text) => [text, ...[1, 2, 3].map(() => strewn(source, text)).filter((it) => isWhole(it) && parse(it).ok)]);
 }
 
 const REFUSAL = /^(syntax|E\d+ \d+|nested too deep)$/;
@@ -81,5 +81,5 @@ function main() {
   if (counts.differ > 0 || answers.length < texts.length) process.exitCode = 1;
 }
 
-module.exports = { modelAnswers, someTexts };
+module.exports = { isWhole, modelAnswers, scripts, someTexts };
 if (require.main === module) main();

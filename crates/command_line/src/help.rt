@@ -1,7 +1,7 @@
 //! What help and the version say.
 
 /// The version, and the toolchain that proves it (`rt version`).
-pub const VERSION: &str = "1.1.0 (proved with rattle-kit-13)";
+pub const VERSION: &str = "1.1.1 (proved with rattle-kit-13)";
 
 pub const ABOUT: &str =
     "A linter for strict ECMAScript scripts, with proofs of what its answers mean";
@@ -10,9 +10,16 @@ pub const CHECK: &str = "Report what the rules find, a line each: LINE:COLUMN RU
 
 pub const TREE: &str = "Write the tree of the script as JSON, in the form of ESTree";
 
-pub const FIX: &str = "Write the script in one layout, with the fewest parentheses for its tree";
+pub const FIX: &str = "Write the script in one layout: the fewest parentheses, no comments";
+
+/// What stands below the help of `fix`.
+pub const FIX_NOTE: &str = "Comments are dropped. `jslint unwrap FILE` keeps them.";
 
 pub const UNWRAP: &str = "Write the script as it stands, but without its unnecessary parentheses";
+
+/// What stands below the help of `unwrap`.
+pub const UNWRAP_NOTE: &str =
+    "Comments stay, and so do blanks and lines where no parenthesis goes.";
 
 pub const COST: &str = "Write the cost table: how many parentheses each part needs";
 
@@ -36,7 +43,9 @@ Examples:
   jslint verify app.js app.cost
   jslint check -- -h.js
 
-A name that may begin with `-` stands behind `--`, or it is read as an option:
+`fix` drops comments, `unwrap` keeps them.
+
+A name that may begin with `-` goes after `--`, or it is read as an option:
 `jslint check -- FILE`, `jslint check --settings=FILE -- FILE`.
 
 Limits: 16,777,216 bytes of a script in UTF-8, and of settings; a tree of height

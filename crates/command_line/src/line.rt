@@ -39,6 +39,22 @@ fn file_command<'a>(
     clap::Command::new(alloc, word).about(about).arg(file)
 }
 
+/// A command by its word, with its FILE, and a note below its help.
+fn noted_command<'a>(
+    alloc: Global,
+    word: &'a str,
+    about: &'a str,
+    note: &'a str,
+) -> Result<clap::Command<'a>, AllocError>
+    ensures shape { IfOk result (λ c. app_of c ≡ file_app word.now) }
+    ensures local { IfOk result (λ c. (out-Command c).has_globals ≡ false) }
+{
+    match file_command(alloc, word, about) {
+        Ok(command) => Ok(command.after_help(note)),
+        Err(error) => Err(error),
+    }
+}
+
 /// `check`, with its settings.
 fn check_command<'a>(alloc: Global) -> Result<clap::Command<'a>, AllocError>
     ensures shape { IfOk result (λ c. app_of c ≡ command_app Check) }
@@ -99,8 +115,14 @@ pub(crate) fn jslint_command<'a>(alloc: Global) -> Result<clap::Command<'a>, All
 {
     let jslint = with_command(bare_command(alloc), check_command(alloc))?;
     let jslint = with_command(jslint, file_command(alloc, "tree", help::TREE))?;
-    let jslint = with_command(jslint, file_command(alloc, "fix", help::FIX))?;
-    let jslint = with_command(jslint, file_command(alloc, "unwrap", help::UNWRAP))?;
+    let jslint = with_command(
+        jslint,
+        noted_command(alloc, "fix", help::FIX, help::FIX_NOTE),
+    )?;
+    let jslint = with_command(
+        jslint,
+        noted_command(alloc, "unwrap", help::UNWRAP, help::UNWRAP_NOTE),
+    )?;
     let jslint = with_command(jslint, file_command(alloc, "cost", help::COST))?;
     with_command(jslint, verify_command(alloc))
 }

@@ -12,6 +12,7 @@ use Rattle.paren_planner.specs.declared.wrap_plan.Plan.{Plan}
 use Rattle.paren_planner.specs.Plans.{IsPlan}
 use Rattle.lint.specs.ReadScripts.{IsOnly}
 use Rattle.lint.specs.Unwraps.{Unwraps, IsUnwrapped, SpellsWith}
+use Rattle.unwrapping.proofs.KeptSteps.{keeps_itself}
 use Rattle.lint.proofs.FixAnswers.{fewest}
 use Rattle.lint.proofs.OneScript.{only_script}
 
@@ -36,11 +37,12 @@ unwraps_itself text n P p is only plan count = record {
   accepted_again = is;
   only_again = only;
   fewest = are_fewest n n p text P plan refl (max_open, is.derived.1) count;
+  kept = keeps_itself text n;
   untouched = λ _. refl;
 }
 
 -- a text with more is unwrapped to one that spells its tree with the fewest
-pub unwraps_to : (text out : List ℕ) (n : Tree) (P : List Pair) (p : Plan) → Accepted text n P → IsOnly text n P → IsPlan n p → (length P ≡ p.table.total → ⊥) → SpellsWith out n p.table.total → Unwraps text out
+pub unwraps_to : (text out : List ℕ) (n : Tree) (P : List Pair) (p : Plan) → Accepted text n P → IsOnly text n P → IsPlan n p → (length P ≡ p.table.total → ⊥) → SpellsWith text out n p.table.total → Unwraps text out
 unwraps_to text out n P p is only plan more spells = record {
   tree = n;
   pairs = P;
@@ -52,6 +54,7 @@ unwraps_to text out n P p is only plan more spells = record {
   accepted_again = record { source = spells.source; derived = spells.derived; lawful = none_either n spells.again (sym spells.same) is.lawful };
   only_again = only_script out spells.again spells.pairs spells.derived;
   fewest = are_fewest n spells.again p out spells.pairs plan spells.same (max_open, spells.derived.1) spells.counted;
+  kept = spells.kept;
   untouched = λ same. absurd (more (same ∙ spells.counted));
 }
 
@@ -67,12 +70,9 @@ is_unwrapped text out u again v =
 
 -- what is answered of a text with more pairs than the fewest, where it spells the tree with the fewest
 pub unwraps_each : {A : Type 0} (text : List ℕ) (n : Tree) (P : List Pair) (p : Plan) → Accepted text n P → IsOnly text n P → IsPlan n p → (length P ≡ p.table.total → ⊥)
-    → (answer : Result (String A) Fault) (m : Tree) (count : ℕ) → m ≡ n → count ≡ p.table.total
-    → IfOk answer (λ t. SpellsWith (string_bytes t) m count) → IfOk answer (λ t. Unwraps text (string_bytes t))
-unwraps_each text n P p is only plan more (Ok t) m count program total spells =
-    let by_count : SpellsWith (string_bytes t) m p.table.total = subst (SpellsWith (string_bytes t) m) total spells in
-    unwraps_to text (string_bytes t) n P p is only plan more (subst (λ k. SpellsWith (string_bytes t) k p.table.total) program by_count)
-unwraps_each text n P p is only plan more (Err fault) m count program total spells = tt
+    → (answer : Result (String A) Fault) → IfOk answer (λ t. SpellsWith text (string_bytes t) n p.table.total) → IfOk answer (λ t. Unwraps text (string_bytes t))
+unwraps_each text n P p is only plan more (Ok t) spells = unwraps_to text (string_bytes t) n P p is only plan more spells
+unwraps_each text n P p is only plan more (Err fault) spells = tt
 
 -- each unwrapped text is unwrapped to itself
 pub unwrapped_each : {A : Type 0} (text : List ℕ) (answer : Result (String A) Fault) → IfOk answer (λ t. Unwraps text (string_bytes t)) → IfOk answer (λ t. IsUnwrapped (string_bytes t))

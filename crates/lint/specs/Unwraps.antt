@@ -7,10 +7,12 @@ use Rattle.tree.specs.Tree.{Tree, SameTree}
 use Rattle.tree.specs.declared.kind.Pair.{Pair}
 use Rattle.language.specs.Claims.{WithinLimits, Fewest}
 use Rattle.early_errors.specs.Accepted.{Accepted}
+use Rattle.unwrapping.specs.Keeps.{Keeps}
 use Rattle.lint.specs.ReadScripts.{IsOnly, RefusesReading}
 
 -- The text is accepted with a tree, and derives no other. So is the unwrapped text, with the same tree, places aside; no text that derives
--- that tree has fewer grouping pairs. Where the text has no more, the unwrapped text is the text itself.
+-- that tree has fewer grouping pairs. It keeps the comments and the tokens of the text, but for parentheses. Where the text has no more
+-- pairs, the unwrapped text is the text itself.
 pub record Unwraps (text unwrapped : List ℕ) : Type 0 where
   pub tree : Tree
   pub pairs : List Pair
@@ -22,18 +24,20 @@ pub record Unwraps (text unwrapped : List ℕ) : Type 0 where
   pub accepted_again : Accepted unwrapped again pairs_again
   pub only_again : IsOnly unwrapped again pairs_again
   pub fewest : Fewest tree (length pairs_again)
+  pub kept : Keeps text tree unwrapped again
   pub untouched : length pairs ≡ length pairs_again → unwrapped ≡ text
 
 -- unwrapping the unwrapped text gives it again
 abbrev pub IsUnwrapped : List ℕ → Type 0
 IsUnwrapped unwrapped = (again : List ℕ) → Unwraps unwrapped again → again ≡ unwrapped
 
--- a text within the limits has the same tree, places aside, and so many grouping pairs
-pub record SpellsWith (text : List ℕ) (n : Tree) (count : ℕ) : Type 0 where
+-- an unwrapped text within the limits has the tree of a text, places aside, so many grouping pairs, and keeps the text's tokens and comments
+pub record SpellsWith (text unwrapped : List ℕ) (n : Tree) (count : ℕ) : Type 0 where
   pub again : Tree
   pub pairs : List Pair
-  pub source : IsUtf8 text
-  pub derived : WithinLimits text again pairs
+  pub source : IsUtf8 unwrapped
+  pub derived : WithinLimits unwrapped again pairs
+  pub kept : Keeps text n unwrapped again
   pub same : SameTree again n
   pub counted : length pairs ≡ count
 

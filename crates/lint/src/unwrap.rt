@@ -1,7 +1,8 @@
-//! Unwrapping a script: its text without its unnecessary pairs, comments kept.
+//! Unwrapping a script: its text without its unnecessary pairs, tokens and comments kept.
 
 ghost use Rattle.std.specs.Prelude.{IfErr, IfOk, ◌≡◌, ◌≤◌, true, length, string_bytes};
 ghost use Rattle.paren_planner.specs.Plans.{IsPlan};
+ghost use Rattle.unwrapping.specs.Readings.{IsRead};
 ghost use Rattle.lint.specs.ReadScripts.{IsReading};
 ghost use Rattle.lint.specs.Unwraps.{Unwraps, IsUnwrapped, HasNoRoom, IsUnfit, RefusesUnwrapping, SpellsWith};
 
@@ -11,15 +12,26 @@ use parser::{Parsed, parse};
 use source_text::{Fault, Source};
 use std::alloc::{AllocError, Global};
 use tree::{Program, same_tree};
-use unwrapping::unwrapped;
+use unwrapping::{TreeReading, keeps, tree_reading, unwrapped};
 
-/// Whether bytes are a script within the limits with the same tree and so many pairs.
+/// What a script's unwrapped text is compared with.
+#[derive(Clone, Copy)]
+struct Original<'o, 's> {
+    source: &'o Source<'s>,
+    reading: &'o TreeReading,
+    program: &'o Program<'s>,
+    /// The fewest pairs.
+    count: usize,
+}
+
+/// Whether bytes are a script within the limits with the same tree and so many pairs, which keeps the tokens and the comments.
 ///
 /// # Errors
 ///
 /// `TooLong` and `OutOfMemory`.
-fn spells(alloc: Global, bytes: &[u8], program: &Program<'_>, count: usize) -> Result<bool, Fault>
-    ensures spells { IfOk result (λ spells. spells ≡ true → SpellsWith bytes.now program.now count) }
+fn spells(alloc: Global, bytes: &[u8], original: Original<'_, '_>) -> Result<bool, Fault>
+    requires { IsRead original.source.now original.program.now original.reading.now }
+    ensures spells { IfOk result (λ spells. spells ≡ true → SpellsWith original.entry.source.now bytes.now original.entry.program.now original.entry.count) }
     ensures room { IfErr result HasNoRoom }
 {
     let source = match Source::new(bytes) {
@@ -32,7 +44,21 @@ fn spells(alloc: Global, bytes: &[u8], program: &Program<'_>, count: usize) -> R
         Err(Fault::OutOfMemory) => return Err(Fault::OutOfMemory),
         Err(_) => return Ok(false),
     };
-    Ok(again.grouping_pairs().len() == count && same_tree(again.program(), program))
+    if again.grouping_pairs().len() != original.count
+        || !same_tree(again.program(), original.program)
+    {
+        return Ok(false);
+    }
+    match keeps(
+        alloc,
+        original.source,
+        original.reading,
+        &source,
+        again.program(),
+    ) {
+        Ok(keeps) => Ok(keeps),
+        Err(AllocError) => Err(Fault::OutOfMemory),
+    }
 }
 
 /// What is made of a script whose pairs are more than the fewest, as bytes: no more is known of them.
@@ -43,28 +69,33 @@ fn spells(alloc: Global, bytes: &[u8], program: &Program<'_>, count: usize) -> R
 fn rewritten(
     alloc: Global,
     source: &Source<'_>,
+    reading: &TreeReading,
     parsed: &Parsed<'_>,
     plan: &Plan,
 ) -> Result<Vec<u8>, AllocError> {
     let pairs = parsed.grouping_pairs();
-    unwrapped(alloc, source, parsed.program(), pairs, plan.table())
+    unwrapped(
+        alloc,
+        source,
+        reading,
+        parsed.program(),
+        pairs,
+        plan.table(),
+    )
 }
 
-/// The text that bytes are, if they are a script within the limits with the same tree and so many pairs.
+/// The text that bytes are, if they are a script within the limits with the same tree and so many pairs, which keeps the tokens and the
+/// comments.
 ///
 /// # Errors
 ///
 /// `UnwrapFailed` where they aren't; `TooLong` and `OutOfMemory`.
-fn validated(
-    alloc: Global,
-    bytes: Vec<u8>,
-    program: &Program<'_>,
-    count: usize,
-) -> Result<String, Fault>
-    ensures spells { IfOk result (λ text. SpellsWith (string_bytes text) program.now count) }
+fn validated(alloc: Global, bytes: Vec<u8>, original: Original<'_, '_>) -> Result<String, Fault>
+    requires { IsRead original.source.now original.program.now original.reading.now }
+    ensures spells { IfOk result (λ text. SpellsWith original.entry.source.now (string_bytes text) original.entry.program.now original.entry.count) }
     ensures refused { IfErr result IsUnfit }
 {
-    match spells(alloc, &bytes, program, count) {
+    match spells(alloc, &bytes, original) {
         Ok(true) => {}
         Ok(false) => return Err(Fault::UnwrapFailed),
         Err(fault) => return Err(fault),
@@ -72,6 +103,33 @@ fn validated(
     match String::from_utf8(bytes) {
         Ok(text) => Ok(text),
         Err(_) => Err(Fault::UnwrapFailed),
+    }
+}
+
+/// The text of a script whose pairs are more than the fewest, made anew and compared.
+fn unwrap_more(
+    alloc: Global,
+    source: &Source<'_>,
+    parsed: &Parsed<'_>,
+    plan: &Plan,
+) -> Result<String, Fault>
+    ensures spells { IfOk result (λ text. SpellsWith source.now (string_bytes text) parsed.now.program plan.now.table.total) }
+    ensures refused { IfErr result IsUnfit }
+{
+    let reading = match tree_reading(alloc, source, parsed.program()) {
+        Ok(Some(reading)) => reading,
+        Ok(None) => return Err(Fault::UnwrapFailed),
+        Err(AllocError) => return Err(Fault::OutOfMemory),
+    };
+    let original = Original {
+        source,
+        reading: &reading,
+        program: parsed.program(),
+        count: plan.total() as usize,
+    };
+    match rewritten(alloc, source, &reading, parsed, plan) {
+        Ok(bytes) => validated(alloc, bytes, original),
+        Err(AllocError) => Err(Fault::OutOfMemory),
     }
 }
 
@@ -87,17 +145,13 @@ fn unwrap_planned(
     ensures unwrapped { IfOk result (λ text. Unwraps source.now (string_bytes text)) }
     ensures refused { IfErr result IsUnfit }
 {
-    let count = plan.total() as usize;
-    if parsed.grouping_pairs().len() == count {
+    if parsed.grouping_pairs().len() == plan.total() as usize {
         return match String::from_str(alloc, source.text()) {
             Ok(text) => Ok(text),
             Err(AllocError) => Err(Fault::OutOfMemory),
         };
     }
-    match rewritten(alloc, source, parsed, plan) {
-        Ok(bytes) => validated(alloc, bytes, parsed.program(), count),
-        Err(AllocError) => Err(Fault::OutOfMemory),
-    }
+    unwrap_more(alloc, source, parsed, plan)
 }
 
 /// The text of a script as it stands, without its unnecessary pairs; comments stay.
@@ -122,8 +176,8 @@ pub(crate) fn unwrap_script(
 }
 
 /// The text of a script as it stands, without its unnecessary pairs; comments stay. What is made of the text is read again before it is
-/// answered, and compared: it has the same tree, and as few pairs as any text with that tree. A text that has no more is answered as
-/// it is.
+/// answered, and compared: it has the same tree, and as few pairs as any text with that tree, and each comment and each token
+/// that is no parenthesis, in order. A text that has no more pairs is answered as it is.
 ///
 /// # Errors
 ///

@@ -1,1 +1,3 @@
 pub mod Ties
+pub mod Keeps
+pub mod Readings

@@ -1,44 +1,24 @@
-//! What is ahead of the tokens: notes and changes, each in order.
+//! The changes that are ahead of the tokens, each kind in order.
 
 ghost use Rattle.std.specs.Prelude.{◌≡◌, ◌<◌, length, true, IfSome};
 
 use crate::changes::{Changes, Closing};
-use crate::lexeme::Note;
 use tree::Pair;
 
-/// How far notes and changes were passed.
+/// How far changes were passed.
 #[derive(Drop)]
 pub(crate) struct Cursor<'c> {
-    notes: &'c [Note],
     removed: &'c [Pair],
     opened: &'c [usize],
     closed: &'c [Closing],
 }
 
 impl<'c> Cursor<'c> {
-    pub(crate) fn new(notes: &'c [Note], changes: &'c Changes) -> Cursor<'c> {
+    pub(crate) fn new(changes: &'c Changes) -> Cursor<'c> {
         Cursor {
-            notes,
             removed: changes.removed.as_slice(),
             opened: changes.opened.as_slice(),
             closed: changes.closed.as_slice(),
-        }
-    }
-
-    /// The next note.
-    pub(crate) fn note(&self) -> Option<Note> {
-        match self.notes.first() {
-            Some(note) => Some(*note),
-            None => None,
-        }
-    }
-
-    /// Goes past the next note where its token is passed, up to a place.
-    pub(crate) fn pass_note(&mut self, end: usize) {
-        let notes = self.notes;
-        match notes.first() {
-            Some(note) if note.at < end => self.notes = &notes[1..],
-            _ => {}
         }
     }
 

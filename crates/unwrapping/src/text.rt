@@ -1,7 +1,7 @@
 //! A script's text without its unnecessary pairs.
 
 use crate::choice::changes_of;
-use crate::lexeme::notes;
+use crate::reading::TreeReading;
 use crate::writer::rewritten;
 use paren_planner::CostTable;
 use source_text::Source;
@@ -9,8 +9,8 @@ use std::alloc::{AllocError, Global};
 use tree::{Pair, Program};
 
 /// The text of a script as it is, with pairs just round the nodes that want them: each where the text has it, if that costs no more.
-/// Comments stay, and so do blanks and lines where no parenthesis goes. `pairs` are the grouping pairs of the text, in order of their
-/// `(`, and `table` is the cost table of the script's plan.
+/// Comments stay, and so do blanks and lines where no parenthesis goes. `reading` is what was read of the text, `pairs` are its grouping
+/// pairs, in order of their `(`, and `table` is the cost table of the script's plan.
 ///
 /// # Errors
 ///
@@ -18,11 +18,11 @@ use tree::{Pair, Program};
 pub fn unwrapped(
     alloc: Global,
     source: &Source<'_>,
+    reading: &TreeReading,
     program: &Program<'_>,
     pairs: &[Pair],
     table: &CostTable,
 ) -> Result<Vec<u8>, AllocError> {
     let changes = changes_of(alloc, program, pairs, table)?;
-    let notes = notes(alloc, source, program)?;
-    rewritten(alloc, source, &notes, &changes)
+    rewritten(alloc, source, reading, &changes)
 }

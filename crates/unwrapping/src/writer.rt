@@ -6,9 +6,10 @@ use crate::changes::{Addition, Changes};
 use crate::cursor::Cursor;
 use crate::gap::{Part, is_all_blank};
 use crate::joint::{ends_in_line_comment, join_over_closing, join_over_opening, last_part};
-use crate::lexeme::{Lexeme, Note, lexeme_at};
+use crate::lexeme::Lexeme;
 use crate::lines::has_line_end;
 use crate::moving::{Indent, first_broken, last_broken};
+use crate::reading::TreeReading;
 use crate::touching::{Next, touch_over_closing, touch_over_opening};
 use source_text::Source;
 use std::alloc::{AllocError, Global};
@@ -77,7 +78,6 @@ impl<'s> Writer<'s> {
 
     /// Takes the next token: it is written, unless it is a parenthesis that goes.
     fn take(&mut self, lexeme: Lexeme<'s>, cursor: &mut Cursor<'_>) -> Result<(), AllocError> {
-        cursor.pass_note(lexeme.end);
         match lexeme.text {
             b"(" => {
                 if let Some(pair) = cursor.take_removed(lexeme.start) {
@@ -328,19 +328,17 @@ fn is_less_and_not(last: &[u8], token: &[u8]) -> bool {
 pub fn rewritten(
     alloc: Global,
     source: &Source<'_>,
-    notes: &[Note],
+    reading: &TreeReading,
     changes: &Changes,
 ) -> Result<Vec<u8>, AllocError> {
-    let text = source.text();
-    let mut writer = Writer::new(alloc, text.len())?;
-    let mut cursor = Cursor::new(notes, changes);
+    let bytes = source.bytes();
+    let mut writer = Writer::new(alloc, bytes.len())?;
+    let mut cursor = Cursor::new(changes);
     let mut at = 0;
-    loop {
-        let lexeme = lexeme_at(source, at, cursor.note());
+    for row in &reading.tokens {
+        let lexeme = Lexeme::of(bytes, at, *row);
         writer.take(lexeme, &mut cursor)?;
-        if lexeme.is_end() {
-            return Ok(writer.out);
-        }
         at = lexeme.end;
     }
+    Ok(writer.out)
 }

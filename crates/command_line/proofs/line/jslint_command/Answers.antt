@@ -21,7 +21,7 @@ pub returns : goal.returns
 returns c =
     let one = one_more app_of c.check_command.result (command_app Check) bare_app _ _ c.bare_command.ensures c.check_command.ensures.shape c.in_ok-jslint.ensures in
     let two = one_more app_of c.file_command.result (command_app Tree) _ _ _ one c.file_command.ensures.shape c.in_ok-jslint-2.ensures in
-    let three = one_more app_of c.file_command-2.result (command_app Fix) _ _ _ two c.file_command-2.ensures.shape c.in_ok-jslint-3.ensures in
-    let four = one_more app_of c.file_command-3.result (command_app Unwrap) _ _ _ three c.file_command-3.ensures.shape c.in_ok-jslint-4.ensures in
-    let five = one_more app_of c.file_command-4.result (command_app Cost) _ _ _ four c.file_command-4.ensures.shape c.in_ok-jslint-5.ensures in
+    let three = one_more app_of c.noted_command.result (command_app Fix) _ _ _ two c.noted_command.ensures.shape c.in_ok-jslint-3.ensures in
+    let four = one_more app_of c.noted_command-2.result (command_app Unwrap) _ _ _ three c.noted_command-2.ensures.shape c.in_ok-jslint-4.ensures in
+    let five = one_more app_of c.file_command-2.result (command_app Cost) _ _ _ four c.file_command-2.ensures.shape c.in_ok-jslint-5.ensures in
     record { shape = last app_of app_of c.verify_command.result c.with_command-6.result (command_app Verify) _ _ five c.verify_command.ensures.shape c.with_command-6.ensures }

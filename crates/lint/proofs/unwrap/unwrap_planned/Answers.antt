@@ -10,16 +10,15 @@ returns-in-Ok-clause-unwrapped c =
     let n = c.args.parsed.now.program in
     let P = c.args.parsed.now.pairs.items in
     let same : length P ≡ length c.grouping_pairs.result.now = ap (λ (ps : List Pair). length ps) (sym c.grouping_pairs.ensures) in
-    let count : length P ≡ c.args.plan.now.table.total = same ∙ c.if-grouping_pairs-count.true ∙ c.total-count.ensures in
+    let count : length P ≡ c.args.plan.now.table.total = same ∙ c.if-grouping_pairs-total.true ∙ c.total.ensures in
     let copied : string_bytes c.in-Ok.text ≡ text = c.in-Ok.ensures.ok ∙ c.text.ensures.value in
     subst (Unwraps text) (sym copied) (unwraps_itself text n P c.args.plan.now c.requires.reading.accepted c.requires.reading.only c.requires.plan count)
 
-pub returns-in-Ok-rewritten-clause-unwrapped : goal.returns-in-Ok-rewritten-clause-unwrapped
-returns-in-Ok-rewritten-clause-unwrapped c =
+pub returns-clause-unwrapped : goal.returns-clause-unwrapped
+returns-clause-unwrapped c =
     let text = c.args.source.now in
     let n = c.args.parsed.now.program in
     let P = c.args.parsed.now.pairs.items in
     let same : length c.grouping_pairs.result.now ≡ length P = ap (λ (ps : List Pair). length ps) c.grouping_pairs.ensures in
     unwraps_each text n P c.args.plan.now c.requires.reading.accepted c.requires.reading.only c.requires.plan
-    (λ count. c.if-grouping_pairs-count.false (same ∙ count ∙ sym c.total-count.ensures))
-    c.validated.result c.program.result.now c.total-count.result c.program.ensures c.total-count.ensures c.validated.ensures.spells
+    (λ count. c.if-grouping_pairs-total.false (same ∙ count ∙ sym c.total.ensures)) c.unwrap_more.result c.unwrap_more.ensures.spells

@@ -1,0 +1,30 @@
+-- The first of a slice, and the others.
+use Rattle.std.proofs.Common.{◌≡◌, ◌-◌, ◌==◌, ◌≤◌, true, List, [], ◌∷◌, length, take, drop, refl, sym, ap, ◌∙◌, arith, Some, None}
+use Rattle.std.specs.Prelude.{Option}
+use Rattle.std.specs.List.{slice_get}
+use Rattle.std.proofs.lemmas.Bool.{eqb-true}
+use Rattle.std.proofs.lemmas.List.{take_all}
+
+module _ {X : Type 0} where
+  no_some : (x : X) → Some x ≡ None → ⊥
+  no_some x e = cc
+
+  pub first_some : (xs : List X) (x : X) → Some x ≡ slice_get xs 0 → xs ≡ x ∷ take (length xs - 1) (drop 1 xs)
+  first_some [] x e = absurd (no_some x e)
+  first_some (y ∷ ys) x e =
+      let same : y ≡ x = cc in
+      let l : length ys ≤ length (y ∷ ys) - 1 = omega arith in
+      let others : take (length (y ∷ ys) - 1) ys ≡ ys = take_all (length (y ∷ ys) - 1) ys l in
+      let back = sym others in
+      (λ i. same i ∷ back i)
+
+  pub first_of : (xs : List X) (x : X) (ys : List X) → xs ≡ x ∷ ys → xs ≡ x ∷ take (length xs - 1) (drop 1 xs)
+  first_of xs x ys e = first_some xs x (sym (ap (λ (l : List X). slice_get l 0) e))
+
+  pub first_none : (xs : List X) → None ≡ slice_get xs 0 → xs ≡ []
+  first_none [] e = refl
+  first_none (y ∷ ys) e = absurd (no_some y (sym e))
+
+  pub is_none : (xs : List X) → (length xs == 0) ≡ true → xs ≡ []
+  is_none [] e = refl
+  is_none (y ∷ ys) e = let z : length (y ∷ ys) ≡ 0 = eqb-true (length (y ∷ ys)) 0 e in absurd (omega arith)
