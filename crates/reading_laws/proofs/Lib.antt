@@ -3,3 +3,10 @@ pub mod TailTable
 pub mod Peeks
 pub mod Walk
 pub mod ReadingDerivations
+pub mod TreeReadings
+pub mod DivPieces
+pub mod DivTable
+pub mod OneTokenWays
+pub mod TokensOfNodes
+pub mod TreeGoals
+mod TreeGoalExamples
