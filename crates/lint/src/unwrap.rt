@@ -106,7 +106,53 @@ fn validated(alloc: Global, bytes: Vec<u8>, original: Original<'_, '_>) -> Resul
     }
 }
 
+/// What is read of a script's text by its tree.
+///
+/// # Errors
+///
+/// `OutOfMemory`, and `UnwrapFailed` where the tree's places aren't in order.
+fn read_by_tree(
+    alloc: Global,
+    source: &Source<'_>,
+    program: &Program<'_>,
+) -> Result<TreeReading, Fault>
+    ensures read { IfOk result (IsRead source.now program.now) }
+    ensures refused { IfErr result IsUnfit }
+{
+    match tree_reading(alloc, source, program) {
+        Ok(Some(reading)) => Ok(reading),
+        Ok(None) => Err(Fault::UnwrapFailed),
+        Err(AllocError) => Err(Fault::OutOfMemory),
+    }
+}
+
 /// The text of a script whose pairs are more than the fewest, made anew and compared.
+fn unwrap_read(
+    alloc: Global,
+    source: &Source<'_>,
+    reading: &TreeReading,
+    parsed: &Parsed<'_>,
+    plan: &Plan,
+) -> Result<String, Fault>
+    requires { IsRead source.now parsed.now.program reading.now }
+    ensures spells { IfOk result (λ text. SpellsWith source.now (string_bytes text) parsed.now.program plan.now.table.total) }
+    ensures refused { IfErr result IsUnfit }
+{
+    let program = parsed.program();
+    let count = plan.total() as usize;
+    let original = Original {
+        source,
+        reading,
+        program,
+        count,
+    };
+    match rewritten(alloc, source, reading, parsed, plan) {
+        Ok(bytes) => validated(alloc, bytes, original),
+        Err(AllocError) => Err(Fault::OutOfMemory),
+    }
+}
+
+/// The same, with what is read of the text first.
 fn unwrap_more(
     alloc: Global,
     source: &Source<'_>,
@@ -116,20 +162,9 @@ fn unwrap_more(
     ensures spells { IfOk result (λ text. SpellsWith source.now (string_bytes text) parsed.now.program plan.now.table.total) }
     ensures refused { IfErr result IsUnfit }
 {
-    let reading = match tree_reading(alloc, source, parsed.program()) {
-        Ok(Some(reading)) => reading,
-        Ok(None) => return Err(Fault::UnwrapFailed),
-        Err(AllocError) => return Err(Fault::OutOfMemory),
-    };
-    let original = Original {
-        source,
-        reading: &reading,
-        program: parsed.program(),
-        count: plan.total() as usize,
-    };
-    match rewritten(alloc, source, &reading, parsed, plan) {
-        Ok(bytes) => validated(alloc, bytes, original),
-        Err(AllocError) => Err(Fault::OutOfMemory),
+    match read_by_tree(alloc, source, parsed.program()) {
+        Ok(reading) => unwrap_read(alloc, source, &reading, parsed, plan),
+        Err(fault) => Err(fault),
     }
 }
 
