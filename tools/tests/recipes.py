@@ -16,6 +16,8 @@ with open(f'{TOP}/docs/USAGE.md', encoding='utf-8') as page:
 WRONG = 'let x = (1);\n'
 RIGHT = '"use strict";\n'
 REFUSED = 'a +\n;\n'
+# A script with what only `fix` changes, and what `unwrap` makes of it.
+KEPT, UNWRAPPED = '// kept\nlet x = (1) /* too */\n', '// kept\nlet x = 1 /* too */\n'
 FOUND = ["1:5 no-unused-vars 'x' is never read", "1:5 prefer-const 'x' is never reassigned", '1:9 no-extra-parens unnecessary parentheses']
 # Where `make install` put the program.
 BIN = None
@@ -188,6 +190,9 @@ def many_files(room):
     same([it['filePath'] for it in found], ['c.js', 'src/a.js', 'src/deep/b.js'])
     same(found[0]['messages'][2], {'ruleId': 'no-extra-parens', 'severity': 2, 'message': 'unnecessary parentheses', 'line': 1, 'column': 9})
     same(err, '')
+    room.put('src/deep/b.js', KEPT)
+    same(room.sh(block('Many files', 'sh', 1)), (0, '', ''))
+    same([room.text(it) for it in ('src/a.js', 'src/deep/b.js', 'c.js')], ['let x = 1;\n', UNWRAPPED, WRONG])
 
 
 def redirections(room):
@@ -347,6 +352,23 @@ def git_hook(room):
     room.git('commit', '-q', '-m', 'gone')
 
 
+def git_rewritten(room):
+    """The scripts that are staged lose their pairs, below the folder where the command runs, and no others."""
+    text = block('A git hook', 'sh', 1)
+    room.git('init', '-q')
+    for name in ('known.js', 'gone.js', 'src/a.js', 'src/two words.js', '-h.js'):
+        room.put(name, KEPT)
+    room.git('add', 'known.js', 'gone.js')
+    room.git('commit', '-q', '-m', 'known')
+    room.git('rm', '-q', '--cached', 'gone.js')
+    room.git('add', '--', 'src', '-h.js')
+    same(room.run(['sh', '-c', text], at='src'), (0, '', ''))
+    same([room.text(it) for it in ('src/a.js', 'src/two words.js', '-h.js')], [UNWRAPPED, UNWRAPPED, KEPT])
+    room.put('src/a.js', REFUSED)
+    same(room.sh(text), (2, '', 'src/a.js:2:1: syntax error\n'))
+    same([room.text(it) for it in ('-h.js', 'src/a.js', 'known.js', 'gone.js')], [UNWRAPPED, REFUSED, KEPT, KEPT])
+
+
 def make(room):
     room.put('Makefile', block('make', 'make'))
     room.put('src/a.js', RIGHT)
@@ -384,6 +406,31 @@ def vim_patterns(text):
     return [re.sub('%[flcm]', lambda it: groups[it[0]], it) for it in line.split(',')]
 
 
+def task_of(number, name):
+    """The words of a task of VS Code for a file, and the task."""
+    task = json.loads(block('VS Code', 'json'))['tasks'][number]
+    return [task['command'], *(it.replace('${relativeFile}', name) for it in task['args'])], task
+
+
+def editors_rewrite(room):
+    """What Vim, Emacs and VS Code call to rewrite a file; Vim itself, where it is here, which reads the file again."""
+    name = 'src/two words.js'
+    room.put(name, KEPT)
+    same(room.run(task_of(1, name)[0]), (0, '', ''))
+    same(room.text(name), UNWRAPPED)
+    room.put('a.js', KEPT)
+    same(room.sh(re.search('`M-! (.*?) RET`', PAGE)[1]), (0, '', ''))
+    same(room.text('a.js'), UNWRAPPED)
+    if not shutil.which('vim'):
+        return
+    room.put('unwrap.vim', block('Vim', 'vim', 2))
+    for text, wanted, said in [(KEPT, UNWRAPPED, ''), (REFUSED, REFUSED, f'{name}:2:1: syntax error')]:
+        room.put(name, text)
+        words = ['source unwrap.vim', f'edit {name}'.replace(' w', r'\ w'), 'Unwrap', 'write! read', 'call writefile([g:said], "said")', 'quitall!']
+        room.run(['vim', '-Nnes', '-u', 'NONE', '-i', 'NONE', *(it for word in words for it in ('-c', word))])
+        same([room.text(name), room.text('read'), room.text('said').strip('\0\n')], [wanted, wanted, said])
+
+
 def editors(room):
     """The patterns of Vim, Emacs and VS Code on what is printed."""
     room.put('src/a.js', WRONG)
@@ -399,8 +446,7 @@ def editors(room):
     same([re.fullmatch(vim_patterns(many)[0], it).group('f', 'l', 'c') for it in lines], [('src/a.js', '1', '5')] * 2 + [('src/a.js', '1', '9'), ('bad.js', '2', '1')])
     # (`gnu` in compilation-error-regexp-alist-alist)
     same([re.match(r'([^ \n:][^\n:]*):(\d+):(\d+): ', it).groups() for it in lines], [('src/a.js', '1', '5')] * 2 + [('src/a.js', '1', '9'), ('bad.js', '2', '1')])
-    task = json.loads(block('VS Code', 'json'))['tasks'][0]
-    words = [task['command'], *(it.replace('${relativeFile}', 'src/a.js') for it in task['args'])]
+    words, task = task_of(0, 'src/a.js')
     pattern = task['problemMatcher']['pattern']
     found = [re.fullmatch(pattern['regexp'], it) for it in room.run(words)[1].splitlines()]
     same([tuple(it[pattern[key]] for key in ('file', 'line', 'column', 'message')) for it in found][2], ('src/a.js', '1', '9', FOUND[2].split(' ', 1)[1]))
@@ -435,5 +481,5 @@ def pages(room):
 
 TESTS = [
     examples, readme_examples, settings_example, standard_input, in_place, with_cr, folder, many_files, redirections, statuses, rewritten, rewritten_odd,
-    forged_names, shown_progress, git_hook, make, github, editors, pages,
+    forged_names, shown_progress, git_hook, git_rewritten, make, github, editors, editors_rewrite, pages,
 ]

@@ -32,13 +32,18 @@ function shuffle(source, list) {
 }
 
 // So many strewn texts that have pairs.
-function strewnTexts(count, seed) {
-  const source = randomSource(seed), found = [];
-  for (let round = seed; found.length < count; round++) {
-    const texts = shuffle(source, scripts(source, ROUND, round)).map((it) => strewn(source, it));
-    found.push(...texts.filter((it) => isWhole(it) && pairsOf(it) > 0));
+function* strewnTexts(count, seed) {
+  const source = randomSource(seed);
+  let left = count;
+  for (let round = seed; ; round++) {
+    for (const text of shuffle(source, scripts(source, ROUND, round))) {
+      const it = strewn(source, text);
+      if (!isWhole(it) || pairsOf(it) === 0) continue;
+      yield it;
+      left -= 1;
+      if (left === 0) return;
+    }
   }
-  return found.slice(0, count);
 }
 
 // Unwraps a text by the program.
