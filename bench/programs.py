@@ -102,15 +102,15 @@ def peak(words):
         return int(said.read())
 
 
-def timed(words, cpus, runs):
+def timed(words, cpus, runs, well=(0,)):
     """The processor and the wall milliseconds of some runs on these processors; none where it refuses."""
     found = []
     for _ in range(runs):
         start = time.perf_counter()
         child = subprocess.Popen(words, stdout=subprocess.DEVNULL, stderr=subprocess.DEVNULL, preexec_fn=lambda: os.sched_setaffinity(0, cpus))
         _, status, usage = os.wait4(child.pid, 0)
-        child.returncode = status
-        if status:
+        child.returncode = os.waitstatus_to_exitcode(status)
+        if child.returncode not in well:
             return None
         found.append(((usage.ru_utime + usage.ru_stime) * 1e3, (time.perf_counter() - start) * 1e3))
     return [*zip(*found)]
