@@ -290,6 +290,29 @@ def rewritten_odd(room):
     is_well(len(done) <= 2 and room.names() == sorted([*names, 'begun']), f'{done} {room.names()}')
 
 
+def gone(room):
+    """Files that disappear before they are read, before they are replaced, or with their folder: each has its line, and all others are done."""
+    names = ['a.js', 'b.js', 'below/c.js', 'd.js']
+
+    def call(takes, *words):
+        room.put('takes', f'#!/bin/sh\n{takes}\n', 0o755)
+        for name in names:
+            room.put(name, WRONG)
+        status, out, err = room.run(['jslint-files', *words, '--jobs', '1', *names], JSLINT=room.folder + '/takes')
+        same(status, 2, err)
+        return out, err
+
+    before, after = 'rm -rf b.js below; exec jslint "$@"', 'jslint "$@"; ended=$?; rm -rf a.js b.js below; exit $ended'
+    lost, unread = ': not rewritten: No such file or directory\n', 'b.js:1:1: read failed\n'
+    same([it.split(': ')[0] for it in call(before)[0].splitlines()], ['a.js:1:5', 'a.js:1:5', 'a.js:1:9', 'b.js:1:1', 'below/c.js:1:1', 'd.js:1:5', 'd.js:1:5', 'd.js:1:9'])
+    same([(it['filePath'], it['fatalErrorCount'], it['errorCount']) for it in json.loads(call(before, '--format', 'json')[0])],
+         [('a.js', 0, 3), ('b.js', 1, 1), ('below/c.js', 1, 1), ('d.js', 0, 3)])
+    same(call(before, 'fix', '--write'), ('', f'{unread}below/c.js:1:1{lost}'))
+    same((room.text('a.js'), room.text('d.js'), room.names()), ('let x = 1;\n', 'let x = 1;\n', ['a.js', 'd.js', 'takes']))
+    same(call(after, 'unwrap', '--write'), ('', f'a.js:1:1{lost}{unread}below/c.js:1:1{lost}'))
+    same((room.text('d.js'), room.names()), ('let x = 1;\n', ['d.js', 'takes']))
+
+
 def forged_names(room):
     """No name breaks its line, turns its order, or begins what GitHub's runner would obey."""
     names = ['a\n::error file=x.js::forged.js', '::error file=x.js::forged.js', ' ::error::y.js', 'b\r##[error]z.js', 'e\x1b[31m.js', 'u\u202e.js', 'p%,:.js', b'not\xffutf8.js']
@@ -481,5 +504,5 @@ def pages(room):
 
 TESTS = [
     examples, readme_examples, settings_example, standard_input, in_place, with_cr, folder, many_files, redirections, statuses, rewritten, rewritten_odd,
-    forged_names, shown_progress, git_hook, git_rewritten, make, github, editors, editors_rewrite, pages,
+    gone, forged_names, shown_progress, git_hook, git_rewritten, make, github, editors, editors_rewrite, pages,
 ]
