@@ -29,7 +29,8 @@ WRONG = {
 def judged(room, program, count):
     """The status of the judge, and what it prints."""
     words = [node(20), f'{TOP}/tools/unwrap/judge.js', '--n', str(count), '--show', str(count)]
-    ran = subprocess.run(words, env={**os.environ, 'JSLINT': program, 'TMPDIR': room.folder}, stdout=subprocess.PIPE, stderr=subprocess.PIPE, text=True)
+    env = {**os.environ, 'JSLINT': program, 'TMPDIR': room.folder}
+    ran = subprocess.run(words, cwd=room.folder, env=env, stdout=subprocess.PIPE, stderr=subprocess.PIPE, text=True)
     is_well(not ran.stderr, ran.stderr[-2000:])
     return ran.returncode, ran.stdout
 
