@@ -1,8 +1,11 @@
 """Wrong bodies that the prover must refuse, beside those few of the gate: `CRATE/NAME.edit` is one, in the form of `crates/CRATE/must-fail/NAME.edit`.
 
-    run.py [--built] [CRATE | CRATE/NAME.edit ..]
+    run.py [--built] [--anew] [CRATE | CRATE/NAME.edit ..]
 
 Tries those that are named, or all, and says of each why it was refused. The exit status is 0 where each is.
+
+With `--built`, an edit that an earlier run on this machine saw refused isn't tried again, where nothing that its try read has changed: the edit, the
+crate, the libraries below it as they were built, the kit, and this file. `rt ci` keeps what it passed in the same folder. `--anew` tries all.
 
 `rt must-fail` makes a check of each. Here wrong bodies of different functions share one. A function is proved by its own body and the
 contracts of what it calls, never their bodies, so no wrong body can break or mend the proof of another, and the prover says of each function by itself
@@ -16,6 +19,7 @@ A crate is proved beside its wrong bodies, so it takes what its check takes; kep
 import collections
 import concurrent.futures
 import glob
+import hashlib
 import importlib.machinery
 import importlib.util
 import os
@@ -30,8 +34,8 @@ ONE_JOB = ['--jobs', '1']
 # What a try of one edit comes to where the prover refuses it: a word, and in older kits whether it does.
 REFUSED = ('refused', 'limit', True)
 
-# What a proof file says where the edit took a name away: that says little of the contract.
-MISSING = re.compile(r'has no field|is not in scope|has no `|was not admitted')
+# What a proof file says where the edit took a name away: that says little of the contract. (A long record's fields stand on the lines after it.)
+MISSING = re.compile(r'has no field|is not in scope|has no `|was not admitted|: record `')
 ERROR = re.compile(r'^(?:\./)?proofs/(\S+)/[^/\s]+\.antt:\d+:\d+: error: (?:`([^`]*)`: )?(.*)', re.M)
 NOTE = re.compile(r'^note: (?:\./)?(src/\S+):(\d+):\d+: (.*)', re.M)
 FUNCTION = re.compile(r'^( *)(?:#\[(?:(?!\]\n).|\n(?!\n))*\]\n\1)*(?:pub(?:\([^)]*\))? )?(?:const )?fn (\w+)', re.M)
@@ -204,42 +208,81 @@ def tried_together(crate, group, names, kept):
     return *of_edits, names or found
 
 
-def tried(crate, words, kept):
+def tried(crate, words, kept, earlier):
     """Of each edit of the crate its name, whether it was refused, and why."""
-    left, waits, names = [it for it in edits_of(crate, words) if it.function], {}, []
-    alone = [it for it in edits_of(crate, words) if not it.function]
+    edits = edits_of(crate, words)
+    known = {it.name: why for it in edits for why in [earlier.why(it)] if why is not None}
+    for name, why in known.items():
+        yield name, True, f'(by an earlier run) {why}'
+    left, waits, names = [it for it in edits if it.function and it.name not in known], {}, []
+    alone = [it for it in edits if not it.function and it.name not in known]
     while left:
         group = group_of(left, waits)
         why, waits, names = tried_together(crate, group, names, kept)
         for edit in group:
             if edit.function in why:
+                earlier.keep(edit.file, why[edit.function])
                 yield edit.name, True, why[edit.function]
         done = [it for it in group if it.function in why]
         alone += [] if done else group
         left = [it for it in left if it not in (done or group)]
     for edit in alone:
         came_to, said = RT.must_fail(crate, edit.file, ONE_JOB, kept)
-        yield edit.name, came_to in REFUSED and 'only because a proof file' not in said, said.partition(': ')[2]
+        well, why = came_to in REFUSED and 'only because a proof file' not in said, said.partition(': ')[2]
+        if well:
+            earlier.keep(edit.file, why)
+        yield edit.name, well, why
 
 
-def tried_crate(crate, words, is_built):
-    """Tries the crate's edits, over a copy of what its check kept, if it may be taken, and prints each. How many are refused, and a line for each that isn't."""
+class Earlier:
+    """What runs on this machine saw refused of a crate's edits, each under a sum of all that its try read."""
+
+    def __init__(self, kept, crate):
+        self.kept, self.crate, self.used = kept, crate, 0
+        with open(os.path.abspath(__file__), 'rb') as file:
+            runner = hashlib.sha256(file.read()).hexdigest()
+        self.sum = repr((runner, kept.key(crate))) if kept else None
+
+    def why(self, edit):
+        """Why an earlier run saw the edit refused, if one did."""
+        found = self.kept and self.kept.tried(self.kept.of_edit(edit.file, self.sum))
+        self.used += bool(found)
+        return found[1] if found else None
+
+    def keep(self, file, why):
+        """Keeps why an edit was refused, unless a file of the crate or of one below it was touched since the run began."""
+        if self.kept and all(self.kept.is_untouched(it) for it in [self.crate, *self.crate.below()]):
+            self.kept.keep_tried(self.kept.of_edit(file, self.sum), RT.REFUSED, why)
+
+
+def earlier_of(crates, is_anew):
+    """What earlier runs kept, by crates whose libraries are those that stand built."""
+    kept = RT.Kept(crates, is_anew)
+    for crate in crates:
+        kept.is_built(crate)
+    return kept
+
+
+def tried_crate(crate, words, is_built, kept_by_runs):
+    """Tries the crate's edits, over a copy of what its check kept, if it may be taken, and prints each. How many are refused, how many of these by earlier runs,
+    and a line for each that isn't."""
+    earlier = Earlier(kept_by_runs, crate)
     with tempfile.TemporaryDirectory(prefix='jslint-edits-') as room:
         kept = f'{room}/kept'
         if os.path.isdir(f'{crate.folder}/out/incremental') and not is_built:
             shutil.copytree(f'{crate.folder}/out/incremental', kept)
         refused, not_refused = 0, []
-        for name, well, why in tried(crate, words, kept):
+        for name, well, why in tried(crate, words, kept, earlier):
             line = f'{crate.name}/{name}: {"refused" if well else "NOT REFUSED"}: {why[:160]}'
             print(line, flush=True)
             refused += well
             not_refused += [] if well else [line]
-    return refused, not_refused
+    return refused, earlier.used, not_refused
 
 
 def main(words):
-    is_built = '--built' in words
-    words = [it for it in words if it != '--built']
+    is_built, is_anew = '--built' in words, '--anew' in words
+    words = [it for it in words if it not in ('--built', '--anew')]
     names = {it.partition('/')[0] for it in words} or {it for it in os.listdir(HERE) if os.path.isdir(f'{HERE}/{it}')}
     RT.rtlib.guarded()
     crates = [it for it in RT.rtlib.crates_below(ROOT) if it.name in names]
@@ -248,12 +291,15 @@ def main(words):
     for crate in crates if not is_built else []:
         if any(it.build_rlib(ONE_JOB, anew=False) for it in crate.below()):
             sys.exit(f'{crate.name}: a library below it is not proved')
+    kept = earlier_of(RT.rtlib.crates_below(ROOT), is_anew) if is_built else None
     crates.sort(key=lambda it: -it.count(b'\n'))
     with concurrent.futures.ThreadPoolExecutor(int(os.environ.get('RT_JOBS') or RT.processors())) as pool:
-        found = list(pool.map(lambda it: tried_crate(it, words, is_built), crates))
-    not_refused = [line for _, lines in found for line in lines]
+        found = list(pool.map(lambda it: tried_crate(it, words, is_built, kept), crates))
+    not_refused = [line for *_, lines in found for line in lines]
+    used = sum(it for _, it, _ in found)
     # (once more at the end, where a log that was cut short still has them)
-    print(*not_refused, f'{sum(refused for refused, _ in found)} refused, {len(not_refused)} not', sep='\n')
+    print(*not_refused, *[f'{used} were refused by earlier runs of the same files on this machine'] * bool(used), sep='\n')
+    print(f'{sum(it for it, *_ in found)} refused, {len(not_refused)} not')
     return 1 if not_refused else 0
 
 
