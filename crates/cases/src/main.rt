@@ -18,6 +18,7 @@ mod embedded;
 mod finished;
 mod gauge;
 mod heights;
+mod kept;
 mod kinds;
 mod lexemes;
 mod nodes;

@@ -3,6 +3,7 @@
 use crate::case::Case;
 use crate::devices::{plan, push_answer};
 use crate::finished::push_nodes;
+use crate::kept::{push_kept, push_reading};
 use crate::nodes::{push_copy, push_equal_copy};
 use crate::plans::{push_extra, push_extra_pairs, push_gauged_table, push_plan};
 use crate::printing::{is_fixed, push_gauged_layout, push_layout, push_pieces, push_written};
@@ -166,6 +167,8 @@ fn push_shown(
         "extra" => push_extra(alloc, program, parsed.grouping_pairs(), out),
         "rules" | "refused rule" => push_rules(alloc, row, parsed, out),
         "alike" => push_alike(alloc, program, row.text(2), out),
+        "kept" => push_kept(alloc, program, row.text(1), row.text(2), out),
+        "reading" => push_reading(alloc, program, row.text(1), out),
         _ => push_printed(alloc, row, parsed, out),
     }
 }

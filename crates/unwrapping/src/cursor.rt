@@ -22,6 +22,23 @@ impl<'c> Cursor<'c> {
         }
     }
 
+    /// The first place at or after which something changes; after all texts where nothing does.
+    pub(crate) fn next_place(&self) -> usize {
+        let removed = match self.removed.first() {
+            Some(pair) => pair.left,
+            None => usize::MAX,
+        };
+        let opened = match self.opened.first() {
+            Some(start) => *start,
+            None => usize::MAX,
+        };
+        let closed = match self.closed.first() {
+            Some(closing) => closing.at,
+            None => usize::MAX,
+        };
+        removed.min(opened).min(closed)
+    }
+
     /// The next pair that goes, if its `(` stands at a place.
     pub(crate) fn take_removed(&mut self, at: usize) -> Option<Pair> {
         let removed = self.removed;

@@ -14,6 +14,13 @@ pub(crate) struct Lexeme<'s> {
     pub is_postfix: bool,
 }
 
+impl TokenRow {
+    /// The characters of the token; none where the row is of another text.
+    pub(crate) fn text(self, bytes: &[u8]) -> &[u8] {
+        bytes_between(bytes, self.span.start as usize, self.span.end as usize)
+    }
+}
+
 impl<'s> Lexeme<'s> {
     /// The token of a row, with the gap from a place on.
     pub(crate) fn of(bytes: &'s [u8], at: usize, row: TokenRow) -> Lexeme<'s> {
@@ -21,7 +28,7 @@ impl<'s> Lexeme<'s> {
         let end = row.span.end as usize;
         Lexeme {
             class: row.class,
-            text: bytes_between(bytes, start, end),
+            text: row.text(bytes),
             start,
             end,
             gap: bytes_between(bytes, at, start),
@@ -31,7 +38,7 @@ impl<'s> Lexeme<'s> {
 }
 
 /// The bytes between two places; none where the second comes before the first or after the end.
-fn bytes_between(bytes: &[u8], start: usize, end: usize) -> &[u8] {
+pub(crate) fn bytes_between(bytes: &[u8], start: usize, end: usize) -> &[u8] {
     if start <= end && end <= bytes.len() {
         return &bytes[start..end];
     }

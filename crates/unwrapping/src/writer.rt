@@ -6,10 +6,10 @@ use crate::changes::{Addition, Changes};
 use crate::cursor::Cursor;
 use crate::gap::{Part, is_all_blank};
 use crate::joint::{ends_in_line_comment, join_over_closing, join_over_opening, last_part};
-use crate::lexeme::Lexeme;
+use crate::lexeme::{Lexeme, bytes_between};
 use crate::lines::has_line_end;
 use crate::moving::{Indent, first_broken, last_broken};
-use crate::reading::TreeReading;
+use crate::reading::{TokenRow, TreeReading};
 use crate::touching::{Next, touch_over_closing, touch_over_opening};
 use source_text::Source;
 use std::alloc::{AllocError, Global};
@@ -29,7 +29,25 @@ pub(crate) struct Last<'s> {
     pub follows_less: bool,
 }
 
-impl Last<'_> {
+impl<'s> Last<'s> {
+    /// The token of a row that was copied after the rows before it, up to a place in what is written.
+    fn copied(bytes: &'s [u8], before: &[TokenRow], row: TokenRow, end: usize) -> Last<'s> {
+        let text = row.text(bytes);
+        let follows_less = match before.last() {
+            Some(less) => less.span.end == row.span.start
+                && is_less_and_not(less.text(bytes), text),
+            None => false,
+        };
+        Last {
+            class: row.class,
+            text,
+            start: end.saturating_sub(text.len()),
+            is_postfix: row.is_postfix,
+            is_closed: false,
+            follows_less,
+        }
+    }
+
     /// Whether it is a word that no line may end after.
     fn binds_its_line(&self) -> bool {
         matches!(self.class, TokenClass::IdentifierName)
@@ -50,6 +68,8 @@ enum Went {
 #[derive(Drop)]
 struct Writer<'s> {
     out: Vec<u8>,
+    /// Up to where the text was passed, in bytes.
+    passed: usize,
     last: Last<'s>,
     /// The parts of the gap, up to the last parenthesis that went.
     parts: Vec<Part<'s>>,
@@ -62,6 +82,7 @@ impl<'s> Writer<'s> {
     fn new(alloc: Global, capacity: usize) -> Result<Writer<'s>, AllocError> {
         Ok(Writer {
             out: Vec::with_capacity(alloc, capacity)?,
+            passed: 0,
             last: Last {
                 class: TokenClass::End,
                 text: b"",
@@ -74,6 +95,34 @@ impl<'s> Writer<'s> {
             went: Went::Nothing,
             open: Vec::new(alloc),
         })
+    }
+
+    /// The place before which tokens are copied as they stand, with what stands before them.
+    fn next_place(&self, cursor: &Cursor<'_>) -> usize {
+        if !matches!(self.went, Went::Nothing) || !self.parts.is_empty() {
+            return 0;
+        }
+        let place = cursor.next_place();
+        match self.open.last() {
+            Some(right) => place.min(*right),
+            None => place,
+        }
+    }
+
+    /// Copies the tokens of rows, as far as the text wasn't passed, with what stands before them.
+    fn copy(&mut self, bytes: &'s [u8], rows: &[TokenRow]) -> Result<(), AllocError> {
+        let Some((row, before)) = rows.split_last() else {
+            return Ok(());
+        };
+        let end = row.span.end as usize;
+        if end <= self.passed {
+            return Ok(());
+        }
+        self.out
+            .extend_from_slice(bytes_between(bytes, self.passed, end))?;
+        self.passed = end;
+        self.last = Last::copied(bytes, before, *row, self.out.len());
+        Ok(())
     }
 
     /// Takes the next token: it is written, unless it is a parenthesis that goes.
@@ -332,13 +381,21 @@ pub fn rewritten(
     changes: &Changes,
 ) -> Result<Vec<u8>, AllocError> {
     let bytes = source.bytes();
+    let rows = reading.tokens.as_slice();
     let mut writer = Writer::new(alloc, bytes.len())?;
     let mut cursor = Cursor::new(changes);
-    let mut at = 0;
-    for row in &reading.tokens {
-        let lexeme = Lexeme::of(bytes, at, *row);
+    let mut place = writer.next_place(&cursor);
+    for index in 0..rows.len() {
+        let row = rows[index];
+        if (row.span.start as usize) < place {
+            continue;
+        }
+        writer.copy(bytes, &rows[..index])?;
+        let lexeme = Lexeme::of(bytes, writer.passed, row);
         writer.take(lexeme, &mut cursor)?;
-        at = lexeme.end;
+        writer.passed = lexeme.end;
+        place = writer.next_place(&cursor);
     }
+    writer.copy(bytes, rows)?;
     Ok(writer.out)
 }
