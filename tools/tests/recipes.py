@@ -131,9 +131,9 @@ def standard_input(room):
     same(room.sh(block('Standard input', 'sh')), (1, ''.join(f'{it}\n' for it in FOUND), ''))
 
 
-def in_place(room, number=0):
+def in_place(room):
     """Fixes; keeps the mode; follows a link; leaves what is refused; nothing stays beside it."""
-    text = block('In place', 'sh', number)
+    text = block('In place', 'sh')
     room.put('a.js', WRONG, 0o754)
     room.put('bad.js', REFUSED)
     room.put('-h.js', WRONG)
@@ -153,10 +153,9 @@ def in_place(room, number=0):
 
 
 def with_cr(room):
-    in_place(room, 1)
     room.put('cr.js', 'let a = `x\r\ny\r\r\nz`,\r\n b = "p\\\r\nq";\r\n')
     tree = room.run(['jslint', 'tree', '--', 'cr.js'], status=0)[1]
-    room.sh(block('In place', 'sh', 1).replace('fix_in_place a.js', 'fix_in_place cr.js'), status=0)
+    room.sh(block('In place', 'sh').replace('fix_in_place a.js', 'fix_in_place cr.js'), status=0)
     found = room.text('cr.js')
     is_well(re.fullmatch(r'(?:[^\n]*\r\n)+', found), repr(found))
     values = [re.findall(r'"cooked":"[^"]*"|"value":"[^"]*"', it) for it in (tree, room.run(['jslint', 'tree', '--', 'cr.js'], status=0)[1])]
