@@ -7,6 +7,7 @@ pub mod BuiltIn
 pub mod Rules
 pub mod Appends
 pub mod Nodes
+pub mod NodeRules
 pub mod Used
 pub mod RuleViews
 pub mod Run

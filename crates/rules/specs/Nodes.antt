@@ -3,8 +3,8 @@ use Rattle.std.specs.Prelude.{Bool, false, ◌||◌, List, Option, Some, None}
 use Rattle.tree.specs.declared.kind.Kind.TheVariants.{BinaryExpression}
 use Rattle.tree.specs.Tree.{Tree, node}
 use Rattle.language.specs.Vocabulary.{is}
-use Rattle.rules.specs.declared.walk.NodeRule.{NodeRule}
-use Rattle.rules.specs.declared.walk.NodeRule.TheVariants.{Equality, Debugger, Empty, Var}
+use Rattle.rules.specs.declared.node_rule.NodeRule.{NodeRule}
+use Rattle.rules.specs.declared.node_rule.NodeRule.TheVariants.{Equality, Debugger, Empty, Var}
 use Rattle.scopes.specs.Found.{Reference}
 use Rattle.rules.specs.Reports.{Report}
 use Rattle.rules.specs.Rules.{is_null, of_debugger, of_empty, of_equality, of_var, quoted, report}

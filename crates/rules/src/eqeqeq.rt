@@ -8,10 +8,11 @@ ghost use Rattle.rules.specs.Nodes.{is_equality, null_at};
 ghost use Rattle.rules.specs.Rules.{has_null, of_equality};
 
 use crate::new_report::push_report;
+use crate::node_rule::NodeRule;
 use crate::report::Report;
 use crate::rule::Rule;
 use crate::view::View;
-use crate::walk::{NodeRule, push_nodes};
+use crate::walk::push_found;
 use std::alloc::{AllocError, Global};
 use tree::{Kind, Node};
 
@@ -48,14 +49,17 @@ impl Rule for EqEqEq {
     }
 
     fn check(&self, view: &View, out: &mut Vec<Report>) -> Result<(), AllocError> {
-        push_nodes(
+        push_found(
             NodeRule::Equality,
             self.alloc,
             view.settings.allows_null(),
-            view.program.root(),
-            false,
+            view.program,
             out,
         )
+    }
+
+    fn on_nodes(&self) -> Option<NodeRule> {
+        Some(NodeRule::Equality)
     }
 }
 

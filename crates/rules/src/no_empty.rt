@@ -6,10 +6,11 @@ ghost use Rattle.rules.specs.Appends.{Grows};
 ghost use Rattle.rules.specs.Rules.{of_empty};
 
 use crate::new_report::push_fixed_report;
+use crate::node_rule::NodeRule;
 use crate::report::Report;
 use crate::rule::Rule;
 use crate::view::View;
-use crate::walk::{NodeRule, push_nodes};
+use crate::walk::push_found;
 use std::alloc::{AllocError, Global};
 use tree::{Kind, Node};
 
@@ -46,14 +47,11 @@ impl Rule for NoEmpty {
     }
 
     fn check(&self, view: &View, out: &mut Vec<Report>) -> Result<(), AllocError> {
-        push_nodes(
-            NodeRule::Empty,
-            self.alloc,
-            false,
-            view.program.root(),
-            false,
-            out,
-        )
+        push_found(NodeRule::Empty, self.alloc, false, view.program, out)
+    }
+
+    fn on_nodes(&self) -> Option<NodeRule> {
+        Some(NodeRule::Empty)
     }
 }
 

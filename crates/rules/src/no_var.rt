@@ -6,10 +6,11 @@ ghost use Rattle.rules.specs.Appends.{Grows};
 ghost use Rattle.rules.specs.Rules.{of_var};
 
 use crate::new_report::push_fixed_report;
+use crate::node_rule::NodeRule;
 use crate::report::Report;
 use crate::rule::Rule;
 use crate::view::View;
-use crate::walk::{NodeRule, push_nodes};
+use crate::walk::push_found;
 use std::alloc::{AllocError, Global};
 use tree::{Kind, Node};
 
@@ -44,14 +45,11 @@ impl Rule for NoVar {
     }
 
     fn check(&self, view: &View, out: &mut Vec<Report>) -> Result<(), AllocError> {
-        push_nodes(
-            NodeRule::Var,
-            self.alloc,
-            false,
-            view.program.root(),
-            false,
-            out,
-        )
+        push_found(NodeRule::Var, self.alloc, false, view.program, out)
+    }
+
+    fn on_nodes(&self) -> Option<NodeRule> {
+        Some(NodeRule::Var)
     }
 }
 

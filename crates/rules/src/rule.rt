@@ -1,5 +1,6 @@
 //! A rule.
 
+use crate::node_rule::NodeRule;
 use crate::report::Report;
 use crate::view::View;
 use std::alloc::AllocError;
@@ -7,7 +8,8 @@ use std::alloc::AllocError;
 /// A rule, which finds reports in a view. The two ghost members say what a rule means: its name, and what it finds; who
 /// writes a rule states them, and proves that the two calls answer just that.
 pub trait Rule: Drop {
-    ghost use Rattle.std.specs.Prelude.{◌≡◌, ◌++◌, List, ℕ, OnOk};
+    ghost use Rattle.std.specs.Prelude.{◌≡◌, ◌++◌, List, ℕ, IfSome, OnOk};
+    ghost use Rattle.rules.specs.NodeRules.{IsOnNodes};
     ghost use Rattle.rules.specs.Reports.{Report};
     ghost use Rattle.rules.specs.Rules.{View};
     ghost use Rattle.rules.specs.RuleViews.{seen};
@@ -31,4 +33,12 @@ pub trait Rule: Drop {
     fn check(&self, view: &View, out: &mut Vec<Report>) -> Result<(), AllocError>
         ensures found { OnOk result (out.new.items ≡ out.old.items ++ finds self.now (seen view.now)) }
         ensures kept { (more : List Report) × (out.new.items ≡ out.old.items ++ more) };
+
+    /// Which rule on nodes finds the same, if one does: `run_rules` runs such rules in one walk over the tree. A rule that
+    /// doesn't say so is run by its own `check`.
+    fn on_nodes(&self) -> Option<NodeRule>
+        ensures { IfSome result (λ rule. IsOnNodes rule (finds self.now)) }
+    {
+        None
+    }
 }

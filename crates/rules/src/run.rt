@@ -1,24 +1,76 @@
 //! Running rules.
 
-ghost use Rattle.std.specs.Prelude.{◌≡◌, ◌++◌, IfOk, OnOk};
+ghost use Rattle.std.specs.Prelude.{◌≡◌, ◌++◌, IfOk, IfSome, OnOk, false, true};
 ghost use Rattle.std.specs.List.Sorted.{IsPermutation, IsSorted};
+ghost use Rattle.rules.specs.NodeRules.{IsOnNodes, found_on_nodes, has};
 ghost use Rattle.rules.specs.Order.{report_cmp};
 ghost use Rattle.rules.specs.Run.{all_found, found_by};
 ghost use Rattle.rules.specs.RuleViews.{seen};
+ghost use Rattle.rules.specs.Settings.{is_on};
 
+use crate::node_rule::{NodeRule, NodeRules};
 use crate::report::Report;
 use crate::rule::Rule;
 use crate::view::View;
+use crate::walk::push_all_found;
 use std::alloc::{AllocError, Global};
 
 /// Appends what a rule finds, if it is on.
-fn run_rule(rule: &Box<dyn Rule>, view: &View, out: &mut Vec<Report>) -> Result<(), AllocError>
+fn run_alone(rule: &Box<dyn Rule>, view: &View, out: &mut Vec<Report>) -> Result<(), AllocError>
     ensures { OnOk result (out.new.items ≡ out.old.items ++ found_by (λ b. called b) (λ b. finds b) rule.now (seen view.now)) }
 {
     if view.settings.is_on(rule.name()) {
         rule.check(view, out)?;
     }
     Ok(())
+}
+
+/// Which rule on nodes finds the same as a rule that is on, unless it is among these.
+fn joining(rule: &Box<dyn Rule>, view: &View, together: NodeRules) -> Option<NodeRule>
+    ensures on { IfSome result (λ joining. is_on (called rule.now) view.now.settings.now ≡ true) }
+    ensures finds { IfSome result (λ joining. IsOnNodes joining (finds rule.now)) }
+    ensures joins { IfSome result (λ joining. has together joining ≡ false) }
+{
+    let Some(joining) = rule.on_nodes() else {
+        return None;
+    };
+    if !view.settings.is_on(rule.name()) {
+        return None;
+    }
+    if together.contains(joining) {
+        return None;
+    }
+    Some(joining)
+}
+
+/// Appends what a rule finds, if it is on. A rule on nodes joins those that run in one walk, unless it is among them.
+fn run_rule(
+    rule: &Box<dyn Rule>,
+    view: &View,
+    together: &mut NodeRules,
+    out: &mut Vec<Report>,
+) -> Result<(), AllocError>
+    ensures { OnOk result (IsPermutation ((out.old.items ++ found_on_nodes together.old (seen view.now)) ++ found_by (λ b. called b) (λ b. finds b) rule.now (seen view.now)) (out.new.items ++ found_on_nodes together.new (seen view.now))) }
+{
+    if let Some(joining) = joining(rule, view, *together) {
+        *together = together.with(joining);
+        return Ok(());
+    }
+    run_alone(rule, view, out)
+}
+
+/// What the rules that are on find, in no order.
+fn gather(alloc: Global, rules: &[Box<dyn Rule>], view: &View) -> Result<Vec<Report>, AllocError>
+    ensures { IfOk result (λ v. IsPermutation (all_found (λ b. called b) (λ b. finds b) rules.now (seen view.now)) v.items) }
+{
+    let mut found = Vec::new(alloc);
+    let mut together = NodeRules::none();
+    for rule in rules {
+        run_rule(rule, view, &mut together, &mut found)?;
+    }
+    let allow_null = view.settings.allows_null();
+    push_all_found(together, alloc, allow_null, view.program, &mut found)?;
+    Ok(found)
 }
 
 /// All reports of the rules that are on, sorted by start, rule name, end and text. A rule of another name than the nine is
@@ -35,10 +87,7 @@ pub fn run_rules(
     ensures found { IfOk result (λ v. IsPermutation (all_found (λ b. called b) (λ b. finds b) rules.now (seen view.now)) v.items) }
     ensures sorted { IfOk result (λ v. IsSorted report_cmp v.items) }
 {
-    let mut found = Vec::new(alloc);
-    for rule in rules {
-        run_rule(rule, view, &mut found)?;
-    }
+    let mut found = gather(alloc, rules, view)?;
     found.sort_by(|a, b| a.compare(b))?;
     Ok(found)
 }

@@ -1,8 +1,9 @@
 //! The rules that look at single nodes: one walk over the tree, in the order of the source.
 
-ghost use Rattle.std.specs.Prelude.{◌≡◌, ◌++◌, OnOk};
+ghost use Rattle.std.specs.Prelude.{◌≡◌, ◌++◌, false, OnOk};
 ghost use Rattle.tree.specs.Node.{node_tree};
 ghost use Rattle.rules.specs.Appends.{Grows};
+ghost use Rattle.rules.specs.NodeRules.{of_rules};
 ghost use Rattle.rules.specs.Nodes.{of_node};
 ghost use Rattle.rules.specs.Rules.{is_function, over_nodes};
 
@@ -10,18 +11,10 @@ use crate::eqeqeq::push_equality;
 use crate::no_debugger::push_debugger;
 use crate::no_empty::push_empty;
 use crate::no_var::push_var;
+use crate::node_rule::{NodeRule, NodeRules};
 use crate::report::Report;
 use std::alloc::{AllocError, Global};
-use tree::{Kind, Node};
-
-/// A rule that looks at single nodes.
-#[derive(Clone, Copy)]
-pub(crate) enum NodeRule {
-    Equality,
-    Debugger,
-    Empty,
-    Var,
-}
+use tree::{Kind, Node, Program};
 
 fn is_function(kind: Kind) -> bool
     ensures { result ≡ is_function kind }
@@ -33,29 +26,80 @@ fn is_function(kind: Kind) -> bool
     }
 }
 
-/// Appends what a rule reports of a node and of all nodes below it. `of_function`: the node is a part of a function.
-#[tactic(auto, using(tree::proofs::PartWalk::part_steps))]
-pub(crate) fn push_nodes(
+/// Appends what one rule reports of all nodes of a script.
+pub(crate) fn push_found(
     rule: NodeRule,
+    alloc: Global,
+    allow_null: bool,
+    program: &Program,
+    out: &mut Vec<Report>,
+) -> Result<(), AllocError>
+    ensures found { OnOk result (out.new.items ≡ out.old.items ++ over_nodes (of_node rule allow_null) false program.now) }
+    ensures kept { Grows out.old.items out.new.items }
+{
+    let rules = NodeRules::none().with(rule);
+    push_all_found(rules, alloc, allow_null, program, out)
+}
+
+/// Appends what rules report of all nodes of a script.
+pub(crate) fn push_all_found(
+    rules: NodeRules,
+    alloc: Global,
+    allow_null: bool,
+    program: &Program,
+    out: &mut Vec<Report>,
+) -> Result<(), AllocError>
+    ensures found { OnOk result (out.new.items ≡ out.old.items ++ over_nodes (of_rules rules allow_null) false program.now) }
+    ensures kept { Grows out.old.items out.new.items }
+{
+    push_nodes(rules, alloc, allow_null, program.root(), false, out)
+}
+
+/// Appends what rules report of a node and of all nodes below it. `of_function`: the node is a part of a function.
+#[tactic(auto, using(tree::proofs::PartWalk::part_steps))]
+fn push_nodes(
+    rules: NodeRules,
     alloc: Global,
     allow_null: bool,
     node: Node,
     of_function: bool,
     out: &mut Vec<Report>,
 ) -> Result<(), AllocError>
-    ensures found { OnOk result (out.new.items ≡ out.old.items ++ over_nodes (of_node rule allow_null) of_function (node_tree node.entry)) }
+    ensures found { OnOk result (out.new.items ≡ out.old.items ++ over_nodes (of_rules rules allow_null) of_function (node_tree node.entry)) }
     ensures kept { Grows out.old.items out.new.items }
 {
-    push_node(rule, alloc, allow_null, node, of_function, out)?;
+    push_selected(rules, alloc, allow_null, node, of_function, out)?;
     let inner = is_function(node.kind());
     for index in 0..node.part_count() {
         if let Some(part) = node.part(index) {
-            push_nodes(rule, alloc, allow_null, part, inner, out)?;
+            push_nodes(rules, alloc, allow_null, part, inner, out)?;
         }
     }
     Ok(())
 }
 
+/// Appends what these rules report of a node.
+fn push_selected(
+    rules: NodeRules,
+    alloc: Global,
+    allow_null: bool,
+    node: Node,
+    of_function: bool,
+    out: &mut Vec<Report>,
+) -> Result<(), AllocError>
+    ensures found { OnOk result (out.new.items ≡ out.old.items ++ of_rules rules allow_null of_function (node_tree node.entry)) }
+    ensures kept { Grows out.old.items out.new.items }
+{
+    let Some(rule) = NodeRule::looking_at(node.kind()) else {
+        return Ok(());
+    };
+    if !rules.contains(rule) {
+        return Ok(());
+    }
+    push_node(rule, alloc, allow_null, node, of_function, out)
+}
+
+/// Appends what a rule reports of a node.
 fn push_node(
     rule: NodeRule,
     alloc: Global,

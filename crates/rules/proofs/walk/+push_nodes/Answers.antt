@@ -2,7 +2,7 @@ use Rattle.std.proofs.Common.{sym, ap, ◌∙◌, ◌++◌, ◌<◌, ◌≤◌, 
 use Rattle.tree.specs.Node.{node_tree}
 use Rattle.tree.specs.Tree.{parts_drop, parts_of}
 use Rattle.rules.specs.Appends.{Grows}
-use Rattle.rules.specs.Nodes.{of_node}
+use Rattle.rules.specs.NodeRules.{of_rules}
 use Rattle.rules.specs.Rules.{is_function, over_parts}
 use Rattle.rules.proofs.NodeLemmas.{grows-on, over_nodes-is, over-given, over-missing, over-end}
 use Rattle.rules.proofs.walk.+push_nodes.Goals as goal
@@ -10,18 +10,18 @@ use Rattle.rules.proofs.walk.+push_nodes.Goals.{in-Some+in_ok-push_nodes, in_def
 
 pub loop-index-init : goal.loop-index-init
 loop-index-init t c =
-    let f = of_node c.args.rule c.args.allow_null in
+    let f = of_rules c.args.rules c.args.allow_null in
     let t = node_tree c.args.node in
     record {
-      found = ap (λ a. a ++ over_parts f c.is_function-inner.result (parts_of t)) c.in_ok-push_node.ensures.found ∙ append_assoc c.args.out.now.items (f c.args.of_function t) _
+      found = ap (λ a. a ++ over_parts f c.is_function-inner.result (parts_of t)) c.in_ok-push_selected.ensures.found ∙ append_assoc c.args.out.now.items (f c.args.of_function t) _
           ∙ ap (λ b. c.args.out.now.items ++ (f c.args.of_function t ++ over_parts f b (parts_of t))) (c.is_function-inner.ensures ∙ ap is_function c.kind.ensures)
           ∙ ap (λ l. c.args.out.now.items ++ l) (sym (over_nodes-is f c.args.of_function t));
-      kept = c.in_ok-push_node.ensures.kept;
+      kept = c.in_ok-push_selected.ensures.kept;
     }
 
 pub loop-index-preserved : goal.loop-index-preserved
 loop-index-preserved t c =
-    let f = of_node c.args.rule c.args.allow_null in
+    let f = of_rules c.args.rules c.args.allow_null in
     let ps = parts_of (node_tree c.args.node) in
     let b = c.is_function-inner.result in
     let l = subst (λ n. c.loop-index.index < n) c.part_count-index-end.ensures c.loop-index-test.true in
@@ -38,4 +38,4 @@ loop-index-preserved t c =
 
 pub returns-clause-found : goal.returns-clause-found
 returns-clause-found t c =
-    over-end (of_node c.args.rule c.args.allow_null) c.is_function-inner.result (parts_of (node_tree c.args.node)) c.loop-index.index c.loop-index.out.items _ (subst (λ n. n ≤ c.loop-index.index) c.part_count-index-end.ensures c.loop-index-test.false) c.loop-index.invariant.found
+    over-end (of_rules c.args.rules c.args.allow_null) c.is_function-inner.result (parts_of (node_tree c.args.node)) c.loop-index.index c.loop-index.out.items _ (subst (λ n. n ≤ c.loop-index.index) c.part_count-index-end.ensures c.loop-index-test.false) c.loop-index.invariant.found

@@ -2,7 +2,7 @@ use Rattle.std.proofs.Common.{◌≡◌, ◌++◌}
 use Rattle.tree.specs.Node.{node_tree}
 use Rattle.tree.specs.Tree.{node_total, parts_of, parts_drop}
 use Rattle.rules.specs.Appends.{Grows}
-use Rattle.rules.specs.Nodes.{of_node}
+use Rattle.rules.specs.NodeRules.{of_rules}
 use Rattle.rules.specs.Rules.{over_nodes, over_parts}
 use Rattle.rules.proofs.walk.+push_nodes.Given as goal
 
@@ -11,6 +11,6 @@ decreases-push_nodes l = node_total (node_tree l.node)
 
 abbrev pub invariant-loop-index : goal.invariant-loop-index
 invariant-loop-index l = record {
-  found : l.out.items ++ over_parts (of_node l.rule l.allow_null) l.inner (parts_drop l.index (parts_of (node_tree l.node))) ≡ l.fn.out.items ++ over_nodes (of_node l.rule l.allow_null) l.of_function (node_tree l.node);
+  found : l.out.items ++ over_parts (of_rules l.rules l.allow_null) l.inner (parts_drop l.index (parts_of (node_tree l.node))) ≡ l.fn.out.items ++ over_nodes (of_rules l.rules l.allow_null) l.of_function (node_tree l.node);
   kept : Grows l.fn.out.items l.out.items;
 }

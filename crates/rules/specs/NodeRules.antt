@@ -1,0 +1,55 @@
+-- Rules on nodes that run in one walk.
+use Rattle.std.specs.Prelude.{◌≡◌, Bool, true, false, cond, List, [], Option, Some, None}
+use Rattle.tree.specs.declared.kind.Kind.{Kind}
+use Rattle.tree.specs.declared.kind.Kind.TheVariants.{BinaryExpression, BlockStatement, DebuggerStatement, SwitchStatement, VariableDeclaration}
+use Rattle.tree.specs.Tree.{Tree, kind_of}
+use Rattle.rules.specs.declared.node_rule.NodeRule.{NodeRule}
+use Rattle.rules.specs.declared.node_rule.NodeRule.TheVariants.{Equality, Debugger, Empty, Var}
+use Rattle.rules.specs.declared.node_rule.NodeRules.{NodeRules}
+use Rattle.rules.specs.Nodes.{of_node}
+use Rattle.rules.specs.Reports.{Report}
+use Rattle.rules.specs.Rules.{View, over_nodes}
+
+-- the rule that looks at nodes of a kind
+abbrev pub looking_at : Kind → Option NodeRule
+looking_at BinaryExpression = Some Equality
+looking_at DebuggerStatement = Some Debugger
+looking_at BlockStatement = Some Empty
+looking_at SwitchStatement = Some Empty
+looking_at VariableDeclaration = Some Var
+looking_at _ = None
+
+abbrev pub no_rules : NodeRules
+no_rules = record { equality = false; debugger = false; empty = false; var = false }
+
+abbrev pub has : NodeRules → NodeRule → Bool
+has rules Equality = rules.equality
+has rules Debugger = rules.debugger
+has rules Empty = rules.empty
+has rules Var = rules.var
+
+abbrev pub with_rule : NodeRules → NodeRule → NodeRules
+with_rule rules Equality = record rules { equality = true }
+with_rule rules Debugger = record rules { debugger = true }
+with_rule rules Empty = record rules { empty = true }
+with_rule rules Var = record rules { var = true }
+
+-- what the rule that looks at a node reports of it, if it is among these
+abbrev pub of_looking : NodeRules → Bool → Bool → Tree → Option NodeRule → List Report
+of_looking rules null b tree None = []
+of_looking rules null b tree (Some rule) = cond (has rules rule) (of_node rule null b tree) []
+
+abbrev pub of_rules : NodeRules → Bool → Bool → Tree → List Report
+of_rules rules null b tree = of_looking rules null b tree (looking_at (kind_of tree))
+
+-- what they find in a script
+abbrev pub found_on_nodes : NodeRules → View → List Report
+found_on_nodes rules v = over_nodes (of_rules rules v.settings.allow_null) false v.tree
+
+-- what one of them finds
+abbrev pub found_alone : NodeRule → View → List Report
+found_alone rule v = over_nodes (of_node rule v.settings.allow_null) false v.tree
+
+-- a rule finds what a rule on nodes finds
+abbrev pub IsOnNodes : NodeRule → (View → List Report) → Type 0
+IsOnNodes rule finds = (v : View) → finds v ≡ found_alone rule v
