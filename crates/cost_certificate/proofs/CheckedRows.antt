@@ -7,8 +7,8 @@ use Rattle.source_text.specs.declared.fault.Reason.TheVariants as reason
 use Rattle.tree.specs.declared.kind.Kind.{Kind}
 use Rattle.tree.specs.Tree.{Tree, kind_of}
 use Rattle.language.specs.Claims.{Table}
-use Rattle.paren_planner.specs.declared.table.Row.{Row}
-use Rattle.paren_planner.specs.Rows.{shown as shown_row}
+use Rattle.cost_table.specs.declared.table.Row.{Row}
+use Rattle.cost_table.specs.Rows.{shown as shown_row}
 use Rattle.cost_certificate.specs.declared.check.BadTable.{BadTable}
 use Rattle.cost_certificate.specs.declared.check_rows.RowCheck.{RowCheck}
 use Rattle.cost_certificate.specs.Types.{same_type}

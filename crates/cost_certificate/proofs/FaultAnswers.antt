@@ -12,10 +12,10 @@ use Rattle.language.specs.Grammar.{ways}
 use Rattle.language.specs.RowPositions.{first_roles, widest}
 use Rattle.language.specs.Claims.{Table, Sound, row_nodes, parts_row_nodes, bound_at, total_bound}
 use Rattle.spellings.proofs.Slots.{is_wide, all_pass, parts_wide}
-use Rattle.paren_planner.specs.Costs.{capped}
-use Rattle.paren_planner.specs.declared.table.Row.{Row}
-use Rattle.paren_planner.specs.Tables.{table_of}
-use Rattle.paren_planner.proofs.CellRows.{wide_itself, wide_start}
+use Rattle.cost_table.specs.Costs.{capped}
+use Rattle.cost_table.specs.declared.table.Row.{Row}
+use Rattle.cost_table.specs.Tables.{table_of}
+use Rattle.cost_table.proofs.RowNodes.{wide_itself, wide_start}
 use Rattle.cost_certificate.specs.declared.check.BadTable.{BadTable}
 use Rattle.cost_certificate.specs.declared.check_rows.RowCheck.{RowCheck}
 use Rattle.cost_certificate.specs.Checked.{shown, shown_any, Answers, PassesIfSound}

@@ -2,8 +2,6 @@ mod FormExamples
 mod FaultExamples
 pub mod KindNames
 pub mod SoundBound
-pub mod PlanTables
-pub mod PlanForms
 pub mod Faultless
 pub mod CheckedRows
 pub mod CellRows

@@ -27,9 +27,8 @@ use Rattle.language.proofs.layout.WrappedRows.{rows_like}
 use Rattle.language.proofs.lower_bound.LeastPairs.{ways-bare}
 use Rattle.language.proofs.layout.SameLayouts.{rows-bare}
 use Rattle.spellings.proofs.Slots.{is_wide, all_pass, parts_wide}
-use Rattle.paren_planner.proofs.CellRows.{wide_itself, wide_start}
-use Rattle.paren_planner.proofs.CellBounds.{nodes-length}
-use Rattle.paren_planner.proofs.Tighter.{parts_alike, dominated_at}
+use Rattle.cost_table.proofs.RowNodes.{wide_itself, wide_start, nodes-length}
+use Rattle.cost_table.proofs.Tighter.{parts_alike, dominated_at}
 
 -- of a row each cell is no greater than its bound
 abbrev pub RowBelow : Table → Tree → ℕ → Type 0

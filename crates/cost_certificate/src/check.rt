@@ -5,13 +5,13 @@ ghost use Rattle.tree.specs.Tree.{SameTree};
 ghost use Rattle.language.specs.Claims.{Derives};
 ghost use Rattle.language.specs.Pieces.{script};
 ghost use Rattle.language.specs.RowPositions.{rows};
-ghost use Rattle.paren_planner.specs.Tables.{table_of};
+ghost use Rattle.cost_table.specs.Tables.{table_of};
 ghost use Rattle.cost_certificate.specs.Checked.{Answers, PassesIfSound};
 ghost use Rattle.cost_certificate.specs.Faults.{first_fault};
 
 use crate::cells::is_above;
 use crate::check_rows::check_node;
-use paren_planner::{CostTable, least};
+use cost_table::{CostTable, least};
 use source_text::Reason;
 use spellings::Position;
 use tree::Program;

@@ -9,9 +9,9 @@ ghost use Rattle.language.specs.Grammar.{ways};
 ghost use Rattle.spellings.specs.Outlines.{role_of};
 ghost use Rattle.spellings.specs.Remaining.{left};
 ghost use Rattle.spellings.specs.Spelled.{settled_roles};
-ghost use Rattle.paren_planner.specs.Rows.{is_expression};
-ghost use Rattle.paren_planner.specs.Tables.{table_of};
-ghost use Rattle.paren_planner.specs.Costs.{eight};
+ghost use Rattle.cost_table.specs.Rows.{is_expression};
+ghost use Rattle.cost_table.specs.Tables.{table_of};
+ghost use Rattle.cost_table.specs.Costs.{eight};
 ghost use Rattle.cost_certificate.specs.Checked.{shown_any};
 ghost use Rattle.cost_certificate.specs.Faults.{row_fault};
 ghost use Rattle.cost_certificate.specs.Walked.{IsPassed, IsBelow, Matched, cells_fault, IsInside, IsBounded, direct_bounds, bounds_over, of_symbol as symbol_alone, wide_nodes, parts_wide_nodes};
@@ -19,7 +19,7 @@ ghost use Rattle.cost_certificate.specs.Walked.{IsPassed, IsBelow, Matched, cell
 use crate::cells::{row_costs, some_is_above, some_lacks};
 use crate::check::BadTable;
 use crate::types::same_type;
-use paren_planner::{CostTable, Costs, NodeCosts, added, fitting, widest};
+use cost_table::{CostTable, Costs, NodeCosts, added, fitting, widest};
 use source_text::Reason;
 use spellings::{
     FirstToken, NodeSpelling, Outline, Position, leads_chain, node_spelling, resolve_slot,

@@ -1,15 +1,10 @@
 //! What is proved of the definitions: each contract is a theorem, and the body does nothing.
 
-ghost use Rattle.cost_certificate.specs.Laws.{FaultlessIsSound, PlanIsShort, PlanIsSound, PlanPasses, PlanReadsBack, ReadsTables, RefusesFirstLine, SoundIsLowerBound};
+ghost use Rattle.cost_certificate.specs.Laws.{FaultlessIsSound, ReadsTables, RefusesFirstLine, SoundIsLowerBound};
 
 /// The total of a sound table, whoever made it, is no greater than the number of pairs of any derivation of any text with the same tree.
 pub fn sound_is_lower_bound()
     ensures { SoundIsLowerBound }
-{}
-
-/// The table of a plan is sound.
-pub fn plan_is_sound()
-    ensures { PlanIsSound }
 {}
 
 /// A table, whose rows have types, has no fault exactly where it is sound.
@@ -25,19 +20,4 @@ pub fn reads_tables()
 /// A text that is read as no table is refused at the first line with which it departs from all tables.
 pub fn refuses_first_line()
     ensures { RefusesFirstLine }
-{}
-
-/// The table of a plan has no fault, so it passes.
-pub fn plan_passes()
-    ensures { PlanPasses }
-{}
-
-/// The table of a plan has no more rows than its script.
-pub fn plan_is_short()
-    ensures { PlanIsShort }
-{}
-
-/// The table of a plan, for a script that some text derives, is read back from its text, in either format.
-pub fn plan_reads_back()
-    ensures { PlanReadsBack }
 {}

@@ -12,7 +12,7 @@ use crate::table_words::{
     Format, cell, is_word, kind_named, line_length, next_word, number, split_line, split_word,
 };
 use crate::types::all_zero;
-use paren_planner::CostTable;
+use cost_table::CostTable;
 use source_text::{Fault, Reason};
 use std::alloc::Global;
 use tree::Kind;

@@ -3,15 +3,15 @@
 ghost use Rattle.std.specs.Prelude.{◌≡◌, ◌+◌, ◌<◌, ◌≤◌, ◌++◌, [], ◌∷◌, false, length, slice_index_or, cond, OnOk};
 ghost use Rattle.std.specs.Fmt.{decimal};
 ghost use Rattle.source_text.specs.Writing.{WritesText};
-ghost use Rattle.paren_planner.specs.Rows.{shown as shown_row};
-ghost use Rattle.paren_planner.specs.Tables.{table_of};
+ghost use Rattle.cost_table.specs.Rows.{shown as shown_row};
+ghost use Rattle.cost_table.specs.Tables.{table_of};
 ghost use Rattle.cost_certificate.specs.Forms.{short, all_zero as is_all_zero, cell_text, cells_text, row_line, total_line, table_text};
 ghost use Rattle.cost_certificate.specs.Listed.{listed};
 ghost use Rattle.cost_certificate.specs.Sent.{MakesRoom, WritesOrFails};
 
 use crate::line_buffer::{CAPACITY, LineBuffer};
 use crate::types::{all_zero, type_name};
-use paren_planner::CostTable;
+use cost_table::CostTable;
 use source_text::{DeviceFault, Fault, Sink, write_text};
 use tree::Program;
 

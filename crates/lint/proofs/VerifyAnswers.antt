@@ -10,8 +10,8 @@ use Rattle.tree.specs.declared.kind.Kind.{Kind}
 use Rattle.tree.specs.declared.kind.Pair.{Pair}
 use Rattle.tree.specs.Tree.{Tree, SameTree}
 use Rattle.language.specs.Claims.{Table, Derives}
-use Rattle.paren_planner.specs.declared.table.CostTable.{CostTable}
-use Rattle.paren_planner.specs.Tables.{table_of}
+use Rattle.cost_table.specs.declared.table.CostTable.{CostTable}
+use Rattle.cost_table.specs.Tables.{table_of}
 use Rattle.cost_certificate.specs.declared.check.BadTable.{BadTable as Bad}
 use Rattle.cost_certificate.specs.Types.{has_type, all_typed}
 use Rattle.cost_certificate.specs.Forms.{ReadTable, is_table, bad_line, read_text, IsTable, is_row, all_rows, all_small, limit, IsBadLine, short, table_text}
@@ -25,7 +25,7 @@ use Rattle.cost_certificate.specs.Sent.{WritesOrFails}
 use Rattle.source_text.specs.Writing.{AppendsBeginning}
 use Rattle.parser.specs.declared.script.Parsed.{Parsed}
 use Rattle.paren_planner.specs.declared.wrap_plan.Plan.{Plan}
-use Rattle.paren_planner.specs.declared.table.Row.{Row}
+use Rattle.cost_table.specs.declared.table.Row.{Row}
 use Rattle.paren_planner.specs.Plans.{IsPlan}
 use Rattle.rules.specs.Reports.{Report}
 use Rattle.rules.specs.Rules.{View}

@@ -23,7 +23,7 @@ use Rattle.language.specs.Layout.{has_number, wrapped_rows}
 use Rattle.language.specs.Claims.{Table, Derives, Sound}
 use Rattle.language.specs.ExactCells.{Exact}
 use Rattle.estree_json.specs.Json.{json_text}
-use Rattle.paren_planner.specs.Tables.{MeetsBounds}
+use Rattle.cost_table.specs.Tables.{MeetsBounds}
 use Rattle.paren_planner.specs.Wrapped.{is_flagged}
 use Rattle.paren_planner.specs.PairNodes.{pair_rows, spans_but_needed}
 use Rattle.scopes.specs.Found.{found}

@@ -17,8 +17,8 @@ use Rattle.rules.specs.Toml.{settings_of_text}
 use Rattle.reporting.specs.Lines.{report_lines, report_status}
 use Rattle.language.specs.Layout.{fixed_text}
 use Rattle.paren_planner.specs.Plans.{IsPlan}
-use Rattle.paren_planner.specs.Tables.{table_of}
-use Rattle.paren_planner.specs.declared.table.CostTable.{CostTable}
+use Rattle.cost_table.specs.Tables.{table_of}
+use Rattle.cost_table.specs.declared.table.CostTable.{CostTable}
 use Rattle.cost_certificate.specs.Forms.{short, table_text, IsTable, IsBadLine}
 use Rattle.lint.specs.declared.answer.Answer.{Answer}
 use Rattle.lint.specs.declared.answer.Answer.TheVariants.{Text, Fixed, Table}

@@ -9,7 +9,8 @@ ghost use Rattle.lint.specs.Steps.{Answers, AnswersAlone, IsWritable, ReadsTable
 use crate::answer::Answer;
 use commands::read_up_to;
 use cost_certificate::{BadTable, check_table, read_table};
-use paren_planner::{CostTable, plan};
+use cost_table::CostTable;
+use paren_planner::plan;
 use parser::Parsed;
 use source_text::{Fault, Feed};
 use std::alloc::{AllocError, Global};

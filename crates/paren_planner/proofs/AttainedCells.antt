@@ -43,7 +43,7 @@ use Rattle.language.proofs.table.NodeFronts.{node_fronts}
 use Rattle.spellings.proofs.Slots.{parts_plain}
 use Rattle.paren_planner.proofs.Totals.{parts_count}
 use Rattle.language.specs.ExactCells.{inner_wrapped, laid_directly, laid_tokens, laid_text, closing, SpelledAsLaid, SpelledInText, IsLeast}
-use Rattle.paren_planner.proofs.Tighter.{dominated_at}
+use Rattle.cost_table.proofs.Tighter.{dominated_at}
 use Rattle.paren_planner.proofs.Somewhere.{Somewhere}
 use Rattle.paren_planner.proofs.LaidTokens.{closing_items, in_front}
 

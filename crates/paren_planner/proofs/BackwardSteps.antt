@@ -4,19 +4,19 @@ use Rattle.std.specs.Prelude.{Result, OnOk, MatchOption, option_to_list, All}
 use Rattle.std.proofs.lemmas.List.Elements.{All-nil, All-cons, All-head, All-tail}
 use Rattle.spellings.specs.Outlines.{role_of, slot_of}
 use Rattle.tree.specs.declared.kind.Kind.{Kind}
-use Rattle.paren_planner.specs.declared.costs.Costs as own
+use Rattle.cost_table.specs.declared.costs.Costs as own
 use Rattle.paren_planner.specs.declared.open_sums.OpenSums.{OpenSums}
-use Rattle.paren_planner.specs.declared.table.Row.{Row}
-use Rattle.paren_planner.specs.declared.node_costs.NodeCosts.{NodeCosts}
+use Rattle.cost_table.specs.declared.table.Row.{Row}
+use Rattle.cost_table.specs.declared.node_costs.NodeCosts.{NodeCosts}
 use Rattle.paren_planner.specs.declared.steps.NodeStep.{NodeStep}
 use Rattle.paren_planner.specs.declared.steps.Step.{Step}
 use Rattle.paren_planner.specs.declared.steps.Step.TheVariants.{Atom, Leaf, Enter, Leave}
-use Rattle.paren_planner.specs.Costs.{sums}
+use Rattle.cost_table.specs.Costs.{sums, no_pairs, IsHeld}
 use Rattle.paren_planner.specs.Pending.{here_of, outer_of, shown_sums, AreHeld}
-use Rattle.paren_planner.specs.Rows.{row_with}
-use Rattle.paren_planner.specs.Weighed.{uses}
-use Rattle.paren_planner.specs.Steps.{word_row, no_pairs, IsHeld, weighed_of, used, row_of_visit, has_row_at, Sums, joined, taken, taken_from, at_the_end, innermost, others}
-use Rattle.paren_planner.proofs.Sums.{zero-zero, sums-zero}
+use Rattle.cost_table.specs.Rows.{row_with}
+use Rattle.cost_table.specs.Weighed.{uses}
+use Rattle.paren_planner.specs.Steps.{word_row, weighed_of, used, row_of_visit, has_row_at, Sums, joined, taken, taken_from, at_the_end, innermost, others}
+use Rattle.cost_table.proofs.Sums.{zero-zero, sums-zero}
 use Rattle.paren_planner.proofs.Stacks.{row_pushed}
 
 pub none_popped : {X : Type 0} (xs ys : List X) (r : Option X) (n : ℕ) (P : Type 0) (Q : X → Type 0) → xs ≡ ys ++ option_to_list r → ys ≡ take (n - 1) xs → MatchOption r ((n ≡ 0) × P) Q → r ≡ None → xs ≡ []

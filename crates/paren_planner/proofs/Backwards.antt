@@ -15,21 +15,23 @@ use Rattle.spellings.specs.declared.spelled_node.NodeSpelling.{NodeSpelling}
 use Rattle.spellings.specs.Spelled.{fits_outline, settled_roles}
 use Rattle.spellings.specs.Remaining.{left}
 use Rattle.spellings.specs.Wherever.{with_own, IsSpelledWherever}
-use Rattle.paren_planner.specs.declared.costs.Costs as own
-use Rattle.paren_planner.specs.declared.node_costs.NodeCosts.{NodeCosts}
-use Rattle.paren_planner.specs.declared.table.Row.{Row}
+use Rattle.cost_table.specs.declared.costs.Costs as own
+use Rattle.cost_table.specs.declared.node_costs.NodeCosts.{NodeCosts}
+use Rattle.cost_table.specs.declared.table.Row.{Row}
 use Rattle.paren_planner.specs.declared.steps.NodeStep.{NodeStep}
 use Rattle.paren_planner.specs.declared.steps.Step.{Step}
 use Rattle.paren_planner.specs.declared.steps.Step.TheVariants.{Leaf, Enter, Leave}
-use Rattle.paren_planner.specs.Costs.{capped, capped_sum, each, cost_at, sums, same_everywhere, cells_at}
-use Rattle.paren_planner.specs.Weighed.{settled_at, uses, fitting, sums_over, IsWeighed}
-use Rattle.paren_planner.specs.Rows.{row_with, row_of, own_row, table_rows, parts_table}
-use Rattle.paren_planner.specs.Steps.{word_row, label_of, outline_of, has_row_at, slot_free, is_plain_outline, no_pairs, IsHeld, weighed_as, weighed_of, row_of_visit, Sums, joined, taken, taken_from, at_the_end}
+use Rattle.cost_table.specs.Costs.{capped, capped_sum, each, cost_at, sums, same_everywhere, cells_at, no_pairs, IsHeld}
+use Rattle.cost_table.specs.Weighed.{settled_at, uses, fitting, sums_over, IsWeighed, slot_free, is_plain_outline}
+use Rattle.cost_table.specs.Rows.{row_with, row_of, own_row, table_rows, parts_table}
+use Rattle.spellings.specs.Cursors.{asks_of}
+use Rattle.paren_planner.specs.Steps.{word_row, outline_of, has_row_at, weighed_as, weighed_of, row_of_visit, Sums, joined, taken, taken_from, at_the_end}
 use Rattle.paren_planner.specs.Noted.{IsVisit, Steps, unspelled, alone, around, word, hidden, through, is_settled, is_settled_slot, PartsSteps, over, skipped, unplaced, next}
-use Rattle.paren_planner.proofs.Plainly.{plain_uses, free_row_at}
-use Rattle.paren_planner.proofs.Sums.{sums-assoc, sums-zero, zero-zero, zero-sums}
-use Rattle.paren_planner.proofs.Known.{least_known}
-use Rattle.paren_planner.proofs.NodeRowNumbers.{sums-part, sums-gap, sums-end, sums-stop, table-part, table-gap, table-end, table-stop, table-empty, weighed_some, weighed_none, roles_some, roles_none}
+use Rattle.cost_table.proofs.Plainly.{plain_uses}
+use Rattle.paren_planner.proofs.FreeRows.{free_row_at}
+use Rattle.cost_table.proofs.Sums.{sums-assoc, sums-zero, zero-zero, zero-sums}
+use Rattle.cost_table.proofs.Known.{least_known}
+use Rattle.cost_table.proofs.NodeRowNumbers.{sums-part, sums-gap, sums-end, sums-stop, table-part, table-gap, table-end, table-stop, table-empty, weighed_some, weighed_none, roles_some, roles_none}
 
 -- Sums in the other order
 
@@ -45,15 +47,15 @@ sums-either c d = λ j. each (λ y i f. capped-either (cost_at c y i f) (cost_at
 
 -- What an outline asks is what its label does
 
-pub fits_outlined : (a : Role) (x : Outline) → fits_outline a (outline_of (label_of x)) ≡ fits_outline a x
+pub fits_outlined : (a : Role) (x : Outline) → fits_outline a (outline_of (asks_of x)) ≡ fits_outline a x
 fits_outlined (expr y i f) x = refl
 fits_outlined (pattern b f) x = refl
 fits_outlined _ x = refl
 
-fitting_outlined : (a : Role) (x : Outline) (c : own.Costs) → fitting a (outline_of (label_of x)) c ≡ fitting a x c
+fitting_outlined : (a : Role) (x : Outline) (c : own.Costs) → fitting a (outline_of (asks_of x)) c ≡ fitting a x c
 fitting_outlined a x c = λ j. each (λ y i f. cond (fits_outlined (with_own y i f a) x j) (cost_at c y i f) None)
 
-weighed_outlined : (a : Role) (n : Tree) (x : Outline) (c : own.Costs) → IsWeighed a n (record { outline = Some x; costs = c }) → IsWeighed a n (record { outline = Some (outline_of (label_of x)); costs = c })
+weighed_outlined : (a : Role) (n : Tree) (x : Outline) (c : own.Costs) → IsWeighed a n (record { outline = Some x; costs = c }) → IsWeighed a n (record { outline = Some (outline_of (asks_of x)); costs = c })
 weighed_outlined a n x c h = record {
   fits = λ y i f. h.fits y i f ∙ sym (fits_outlined (with_own y i f a) x);
   costs = h.costs;
@@ -103,11 +105,11 @@ joined_node a s n v c w t i e h =
     ap (λ u. u ++ (below n (settled_at a s) ++ t.rows)) (visit_row a s n v c w i e h) ∙ sym (append_assoc (own_row (settled_at a s) (row_of n)) (below n (settled_at a s)) t.rows) ∙ ap (λ u. u ++ t.rows) (rows_of_node n (settled_at a s)) in
     λ j. record { here = sums t.here (uses (i.above j) (i.slot j) (e j)); outer = t.outer; rows = r j }
 
-labelled : (a : Role) (s : Slot) (n : Tree) (v : NodeStep) (x : Outline) (c : own.Costs) → IsVisit a s n v → v.label ≡ Some (label_of x) →
-    weighed_of v c ≡ record { outline = Some (outline_of (label_of x)); costs = fitting (widest (settled_at a s)) x c }
+labelled : (a : Role) (s : Slot) (n : Tree) (v : NodeStep) (x : Outline) (c : own.Costs) → IsVisit a s n v → v.label ≡ Some (asks_of x) →
+    weighed_of v c ≡ record { outline = Some (outline_of (asks_of x)); costs = fitting (widest (settled_at a s)) x c }
 labelled a s n v x c i l =
     (λ j. weighed_as (widest (settled_at (i.above j) (i.slot j))) (l j) c)
-    ∙ ap (λ d. record { outline = Some (outline_of (label_of x)); costs = d }) (fitting_outlined (widest (settled_at a s)) x c)
+    ∙ ap (λ d. record { outline = Some (outline_of (asks_of x)); costs = d }) (fitting_outlined (widest (settled_at a s)) x c)
 
 unlabelled : (a : Role) (s : Slot) (n : Tree) (v : NodeStep) (c : own.Costs) → IsVisit a s n v → v.label ≡ None → weighed_of v c ≡ record { outline = None; costs = same_everywhere None }
 unlabelled a s n v c i l = λ j. weighed_as (widest (settled_at (i.above j) (i.slot j))) (l j) c
@@ -116,13 +118,13 @@ nothing_below : (n : Tree) (p : Role) → (parts_of n ≡ none) → below n p �
 nothing_below n p h = ap (λ ps. parts_table ps (first_roles (ways (widest p) n))) h ∙ table-end (first_roles (ways (widest p) n))
 
 -- of what is spelled, with the sums over its parts
-spelled_node : (a : Role) (s : Slot) (n : Tree) (v : NodeStep) (x : NodeSpelling) (c : own.Costs) (t : Sums) → IsVisit a s n v → v.label ≡ Some (label_of x.outline) → IsSpelledWherever (widest (settled_at a s)) n (Some x) →
+spelled_node : (a : Role) (s : Slot) (n : Tree) (v : NodeStep) (x : NodeSpelling) (c : own.Costs) (t : Sums) → IsVisit a s n v → v.label ≡ Some (asks_of x.outline) → IsSpelledWherever (widest (settled_at a s)) n (Some x) →
     c ≡ sums_over (parts_of n) (widest (settled_at a s)) (left x.slots) → (u : Sums) → u ≡ joined v c (record { here = t.here; outer = t.outer; rows = below n (settled_at a s) ++ t.rows }) → Joined a s n t u
 spelled_node a s n v x c t i l k e u h =
     let d : own.Costs = fitting (widest (settled_at a s)) x.outline c in
-    let w : IsWeighed (settled_at a s) n (record { outline = Some (outline_of (label_of x.outline)); costs = d }) =
+    let w : IsWeighed (settled_at a s) n (record { outline = Some (outline_of (asks_of x.outline)); costs = d }) =
     weighed_outlined (settled_at a s) n x.outline d (weighed_some (settled_at a s) n x k c d e refl) in
-    record { weighed = record { outline = Some (outline_of (label_of x.outline)); costs = d }; known = w; is = h ∙ joined_node a s n v c _ t i (labelled a s n v x.outline c i l) w }
+    record { weighed = record { outline = Some (outline_of (asks_of x.outline)); costs = d }; known = w; is = h ∙ joined_node a s n v c _ t i (labelled a s n v x.outline c i l) w }
 
 taken_append : (xs ys : List Step) (t : Sums) → taken_from (xs ++ ys) t ≡ taken_from xs (taken_from ys t)
 unfolding taken_from
@@ -181,13 +183,13 @@ settled_uses ps a lead_pattern x ss h = absurd (false≢true h)
 
 -- without parts, and with the numbers that its spelling leaves of none
 record Bare (a : Role) (s : Slot) (n : Tree) (x : Outline) : Type 0 where
-  known : IsWeighed (settled_at a s) n (record { outline = Some (outline_of (label_of x)); costs = fitting (widest (settled_at a s)) x no_pairs })
-  uses : (is_plain_outline x ≡ true) → (slot_free s x.rank ≡ true) → uses a s (record { outline = Some (outline_of (label_of x)); costs = fitting (widest (settled_at a s)) x no_pairs }) ≡ no_pairs
+  known : IsWeighed (settled_at a s) n (record { outline = Some (outline_of (asks_of x)); costs = fitting (widest (settled_at a s)) x no_pairs })
+  uses : (is_plain_outline x ≡ true) → (slot_free s x.rank ≡ true) → uses a s (record { outline = Some (outline_of (asks_of x)); costs = fitting (widest (settled_at a s)) x no_pairs }) ≡ no_pairs
 
 bare : (a : Role) (s : Slot) (n : Tree) (x : NodeSpelling) → IsSpelledWherever (widest (settled_at a s)) n (Some x) → parts_of n ≡ none → Bare a s n x.outline
 bare a s n x k e =
     let b : Role = widest (settled_at a s) in
-    let o : Outline = outline_of (label_of x.outline) in
+    let o : Outline = outline_of (asks_of x.outline) in
     let d : own.Costs = fitting b x.outline no_pairs in
     record {
       known = weighed_outlined (settled_at a s) n x.outline d (weighed_some (settled_at a s) n x k no_pairs d (sym (sums-end b (left x.slots)) ∙ ap (λ ps. sums_over ps b (left x.slots)) (sym e)) refl);
@@ -203,13 +205,13 @@ word_node a s n x t k o e r f h =
     let nothing = y.uses p (ap (λ u. slot_free s u.rank) o ∙ f) in
     let rows : word_row (kind_of n) ∷ [] ≡ table_rows n (settled_at a s) =
     ap (λ u. cond u (word_row (kind_of n) ∷ []) []) (sym r)
-    ∙ ap (λ u. cond (has_row_at s) (row_with (kind_of n) (Rattle.paren_planner.specs.Packed.shaped (Rattle.paren_planner.specs.Packed.free_shape u.rank) 0) ∷ []) []) (sym o)
+    ∙ ap (λ u. cond (has_row_at s) (row_with (kind_of n) (Rattle.cost_table.specs.Packed.shaped (Rattle.cost_table.specs.Packed.free_shape u.rank) 0) ∷ []) []) (sym o)
     ∙ sym (free_row_at s a (kind_of n) x.outline p)
     ∙ own_row_at s a (row_with (kind_of n) (fitting b x.outline no_pairs)) ∙ own_row_of (settled_at a s) n _ y.known
     ∙ sym (append-nil _) ∙ ap (λ u. own_row (settled_at a s) (row_of n) ++ u) (sym (nothing_below n (settled_at a s) e))
     ∙ rows_of_node n (settled_at a s) in
     record {
-      weighed = record { outline = Some (outline_of (label_of x.outline)); costs = fitting b x.outline no_pairs };
+      weighed = record { outline = Some (outline_of (asks_of x.outline)); costs = fitting b x.outline no_pairs };
       known = y.known;
       is = λ j. record { here = (sym h ∙ ap (sums t.here) (sym nothing)) j; outer = t.outer; rows = rows j ++ t.rows };
     }
@@ -224,7 +226,7 @@ hidden_node a s n x t k p e r h =
     ∙ ap (λ u. u ++ below n (settled_at a s)) (ap (λ u. cond u (row_of n ∷ []) []) (sym r) ∙ own_row_at s a (row_of n))
     ∙ rows_of_node n (settled_at a s) in
     record {
-      weighed = record { outline = Some (outline_of (label_of x.outline)); costs = fitting b x.outline no_pairs };
+      weighed = record { outline = Some (outline_of (asks_of x.outline)); costs = fitting b x.outline no_pairs };
       known = y.known;
       is = λ j. record { here = (sym h ∙ ap (sums t.here) (sym nothing)) j; outer = t.outer; rows = rows j ++ t.rows };
     }

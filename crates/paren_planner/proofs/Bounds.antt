@@ -11,7 +11,7 @@ use Rattle.language.specs.Grammar.{ways}
 use Rattle.language.specs.RowPositions.{first_roles, widest, rows, parts_rows}
 use Rattle.language.specs.Layout.{some_way}
 use Rattle.language.specs.Cost.{add_cost, lesser, if_any, least, parts_least, cell, cell_position}
-use Rattle.paren_planner.specs.Costs.{capped, capped_sum}
+use Rattle.cost_table.specs.Costs.{capped, capped_sum}
 use Rattle.paren_planner.proofs.WrappedRows.{rows_at, rows-empty, no_roles}
 
 pub data Below : Option ℕ → ℕ → Type 0 where

@@ -28,7 +28,7 @@ use Rattle.language.proofs.lower_bound.Domination.{settled, fits, ways_of, Tidy,
 use Rattle.language.proofs.table.TidyTable.{tidy_table}
 use Rattle.language.proofs.lower_bound.LowerBound.{Step-roles, at_least}
 use Rattle.spellings.specs.Spelled.{settled_roles}
-use Rattle.paren_planner.proofs.Known.{takes_all}
+use Rattle.cost_table.proofs.Known.{takes_all}
 use Rattle.paren_planner.proofs.WrappedRows.{parts-rows}
 use Rattle.paren_planner.proofs.Heavy.{own_tokens, is_end, piece_tokens, tokens, way_tokens}
 

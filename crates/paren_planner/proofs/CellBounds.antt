@@ -1,9 +1,8 @@
 -- In a plan's table each cell equals its bound, and so does the total.
-use Rattle.std.proofs.Common.{◌≡◌, ℕ, zero, suc, ◌+◌, ◌≤◌, Bool, true, false, cond, nat_le, List, [], ◌∷◌, ◌++◌, length, drop, Option, Some, None, refl, sym, ap, ap₂, ◌∙◌, subst, append-nil, arith}
+use Rattle.std.proofs.Common.{◌≡◌, ℕ, zero, suc, ◌+◌, ◌≤◌, Bool, true, false, cond, nat_le, List, [], ◌∷◌, ◌++◌, drop, Option, Some, None, refl, sym, ap, ap₂, ◌∙◌, subst, append-nil, arith}
 use Rattle.std.specs.Prelude.{◌&&◌, ◌||◌, map, slice_get}
 use Rattle.std.proofs.lemmas.Bool.{and_parts, and_from, false≢true}
 use Rattle.std.proofs.lemmas.Bool.Decides.{nat_tests}
-use Rattle.std.proofs.lemmas.List.{length-append}
 use Rattle.tree.specs.Tree.{Tree, node, Parts, none, part, gap, kind_of, parts_of}
 use Rattle.tree.specs.Uses.{implies}
 use Rattle.language.specs.declared.Rank.{Rank}
@@ -12,7 +11,7 @@ use Rattle.language.specs.declared.Start.{Start}
 use Rattle.language.specs.declared.Start.TheVariants.{Any, NoBrace, Statement}
 use Rattle.language.specs.Vocabulary.{precedence, takes}
 use Rattle.language.specs.Pieces.{Role, expr, script, PieceOf, Slot}
-use Rattle.language.specs.Grammar.{ways, own_start}
+use Rattle.language.specs.Grammar.{ways}
 use Rattle.language.specs.RowPositions.{first_roles, widest, rows, parts_rows}
 use Rattle.language.specs.Layout.{some_way}
 use Rattle.language.specs.Cost.{add_cost, lesser, if_any, least, parts_least, cell, cell_position}
@@ -22,16 +21,17 @@ use Rattle.spellings.specs.Outlines.{opens_at}
 use Rattle.spellings.specs.Spelled.{fits_outline, settled_roles, Verdict}
 use Rattle.spellings.proofs.Wherever.{found_roles, AnySpelling, any_spelling}
 use Rattle.spellings.proofs.Slots.{is_plain, is_lawful, is_wide, all_pass, parts_plain, parts_lawful, parts_wide}
-use Rattle.paren_planner.specs.declared.table.Row.{Row}
-use Rattle.paren_planner.specs.Rows.{row_of, shown, celled, table_rows, parts_table}
-use Rattle.paren_planner.specs.Tables.{table_of, MeetsBounds}
+use Rattle.cost_table.specs.declared.table.Row.{Row}
+use Rattle.cost_table.specs.Rows.{row_of, shown, celled, table_rows, parts_table}
+use Rattle.cost_table.specs.Tables.{table_of, MeetsBounds}
 use Rattle.paren_planner.specs.Wrapped.{HasRows}
-use Rattle.paren_planner.proofs.Known.{implies_true, takes_all, takes_tight, least_expr}
-use Rattle.paren_planner.proofs.NodeRowNumbers.{way_when}
+use Rattle.cost_table.proofs.Known.{implies_true, takes_all, takes_tight, least_expr}
+use Rattle.cost_table.proofs.NodeRowNumbers.{way_when}
 use Rattle.paren_planner.proofs.WrappedRows.{table_at, rows_at}
 use Rattle.paren_planner.proofs.Turns.{front_rows, rows_behind, table-length}
 use Rattle.paren_planner.proofs.Bounds.{rows_inner}
-use Rattle.paren_planner.proofs.CellRows.{row_shown, script_shown, wide_itself, wide_start}
+use Rattle.paren_planner.proofs.CellRows.{row_shown, script_shown}
+use Rattle.cost_table.proofs.RowNodes.{wide_itself, wide_start, split_at, nodes-length}
 use Rattle.paren_planner.proofs.Totals.{cell_known}
 
 -- The direct cost at a position, by the symbol alone and by all
@@ -193,33 +193,6 @@ first_is T k n m y i f h l e =
 
 behind_first : (T : List Row) (k : ℕ) (x : Row) (xs : List Row) → HasRows T k (x ∷ xs) → HasRows T (suc k) xs
 behind_first T k x xs h = rows_behind T k (suc k) (x ∷ []) xs (let e : suc k ≡ k + 1 = omega arith in e) h
-
--- an element of two lists is one of the first or of the second
-pub split_at : (xs ys : List Tree) (r : ℕ) (m : Tree) (G : Type 0) → slice_get (xs ++ ys) r ≡ Some m → (slice_get xs r ≡ Some m → G) → ((q : ℕ) → length xs + q ≡ r → slice_get ys q ≡ Some m → G) → G
-split_at [] ys r m G h f g = g r (let e : 0 + r ≡ r = omega arith in e) h
-split_at (x ∷ xs) ys zero m G h f g = f h
-split_at (x ∷ xs) ys (suc r) m G h f g = split_at xs ys r m G h f (λ q e i. g q (let z : suc (length xs) + q ≡ suc r = omega (arith, e) in z) i)
-
-mutual
-  unfolding row_nodes rows parts_rows table_rows
-
-  pub nodes-length : (n : Tree) (a : Role) → is_wide a ≡ true → length (row_nodes n a) ≡ rows n a
-  nodes-length (node j w g s e ps) (expr y i f) h =
-      let u : length (parts_row_nodes ps (first_roles (ways (expr Expression true Any) (node j w g s e ps)))) ≡ parts_rows ps (first_roles (ways (expr Expression true Any) (node j w g s e ps))) =
-      parts-nodes-length ps (first_roles (ways (expr Expression true Any) (node j w g s e ps))) (parts_wide (expr Expression true Any) (node j w g s e ps) refl) in
-      omega (arith, u)
-  nodes-length (node j w g s e ps) a h =
-      let u : length (parts_row_nodes ps (first_roles (ways a (node j w g s e ps)))) ≡ parts_rows ps (first_roles (ways a (node j w g s e ps))) =
-      parts-nodes-length ps (first_roles (ways a (node j w g s e ps))) (parts_wide a (node j w g s e ps) (ap own_start (sym (wide_itself a h refl)) ∙ wide_start a)) in
-      let v : parts_rows ps (first_roles (ways a (node j w g s e ps))) ≡ parts_rows ps (first_roles (ways (widest a) (node j w g s e ps))) = ap (λ b. parts_rows ps (first_roles (ways b (node j w g s e ps)))) (sym (wide_itself a h refl)) in
-      omega (arith, u, v)
-
-  parts-nodes-length : (ps : Parts) (xs : List Role) → all_pass is_wide xs ≡ true → length (parts_row_nodes ps xs) ≡ parts_rows ps xs
-  parts-nodes-length none xs h = refl
-  parts-nodes-length (gap ps) xs h = parts-nodes-length ps xs h
-  parts-nodes-length (part n ps) [] h = refl
-  parts-nodes-length (part n ps) (a ∷ xs) h =
-      length-append (row_nodes n a) (parts_row_nodes ps xs) ∙ ap₂ (λ u v. u + v) (nodes-length n a (and_parts _ _ h).0) (parts-nodes-length ps xs (and_parts _ _ h).1)
 
 mutual
   unfolding row_nodes rows parts_rows table_rows parts_table

@@ -1,20 +1,20 @@
 -- The rows of a table are those of the definition: of each node its kind and its cells.
-use Rattle.std.proofs.Common.{◌≡◌, ◌≤◌, Bool, true, false, List, [], ◌∷◌, ◌++◌, refl, sym, ap, ap₂, ◌∙◌, subst, arith}
+use Rattle.std.proofs.Common.{◌≡◌, ◌≤◌, true, false, List, [], ◌∷◌, ◌++◌, refl, sym, ap, ap₂, ◌∙◌, subst, arith}
 use Rattle.std.specs.Prelude.{map}
 use Rattle.std.proofs.lemmas.Bool.{and_parts}
 use Rattle.std.proofs.lemmas.List.{map-append}
 use Rattle.tree.specs.Tree.{Tree, node, Parts, none, part, gap, kind_of, parts_of}
 use Rattle.language.specs.declared.Rank.TheVariants.{Expression, Member}
-use Rattle.language.specs.declared.Start.{Start}
 use Rattle.language.specs.declared.Start.TheVariants.{Any, NoBrace, Statement}
-use Rattle.language.specs.Pieces.{Role, expr, script, chain_part, pattern}
-use Rattle.language.specs.Grammar.{ways, own_start}
-use Rattle.language.specs.RowPositions.{first_roles, widest, has_row, rows, parts_rows}
+use Rattle.language.specs.Pieces.{Role, expr, script}
+use Rattle.language.specs.Grammar.{ways}
+use Rattle.language.specs.RowPositions.{first_roles, widest, rows, parts_rows}
 use Rattle.language.specs.Cost.{cell, cells}
 use Rattle.language.specs.Claims.{row_nodes, parts_row_nodes}
 use Rattle.spellings.proofs.Slots.{is_wide, all_pass, parts_wide}
-use Rattle.paren_planner.specs.Costs.{capped, cells_at}
-use Rattle.paren_planner.specs.Rows.{row_of, shown, celled, table_rows, parts_table}
+use Rattle.cost_table.specs.Costs.{capped, cells_at}
+use Rattle.cost_table.specs.Rows.{row_of, shown, celled, table_rows, parts_table}
+use Rattle.cost_table.proofs.RowNodes.{wide_itself, wide_start}
 use Rattle.paren_planner.proofs.Bounds.{below_more, cell_below, capped_below}
 
 -- below the limit each cell is held as it is
@@ -30,29 +30,7 @@ row_shown n l = λ j. (
       held n (expr Member true Any) refl l j ∷ held n (expr Member true NoBrace) refl l j ∷ held n (expr Member true Statement) refl l j ∷ [],
 )
 
-any_spine : (f : Start) → is_wide (chain_part f) ≡ true → chain_part Any ≡ chain_part f
-any_spine Any h = refl
-any_spine NoBrace h = absurd (cc)
-any_spine Statement h = absurd (cc)
-
-any_pattern : (b : Bool) (f : Start) → is_wide (pattern b f) ≡ true → pattern b Any ≡ pattern b f
-any_pattern b Any h = refl
-any_pattern b NoBrace h = absurd (cc)
-any_pattern b Statement h = absurd (cc)
-
-pub wide_itself : (a : Role) → is_wide a ≡ true → has_row a ≡ 0 → widest a ≡ a
-wide_itself (expr y i f) h e = absurd (cc)
-wide_itself (chain_part f) h e = any_spine f h
-wide_itself (pattern b f) h e = any_pattern b f h
-wide_itself _ h e = refl
-
-pub wide_start : (a : Role) → own_start (widest a) ≡ Any
-wide_start (expr y i f) = refl
-wide_start (chain_part f) = refl
-wide_start (pattern b f) = refl
-wide_start _ = refl
-
-row_first : (n : Tree) (ps : Parts) (X : List Rattle.paren_planner.specs.declared.table.Row.Row) (Y : List Tree) → shown (row_of n) ≡ celled n → map shown X ≡ map celled Y → map shown (row_of n ∷ X) ≡ map celled (n ∷ Y)
+row_first : (n : Tree) (ps : Parts) (X : List Rattle.cost_table.specs.declared.table.Row.Row) (Y : List Tree) → shown (row_of n) ≡ celled n → map shown X ≡ map celled Y → map shown (row_of n ∷ X) ≡ map celled (n ∷ Y)
 row_first n ps X Y h e = λ j. h j ∷ e j
 
 mutual

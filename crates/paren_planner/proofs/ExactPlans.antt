@@ -13,9 +13,9 @@ use Rattle.language.specs.Claims.{Derives, Fewest, row_nodes, contexts, table_ce
 use Rattle.language.proofs.lower_bound.LeastPairs.{derived_at_least}
 use Rattle.language.proofs.layout.FixedReads.{fixed_always}
 use Rattle.language.proofs.layout.ReadableScript.{script_readable}
-use Rattle.paren_planner.specs.declared.table.Row.{Row}
-use Rattle.paren_planner.specs.Rows.{celled, shown, cell_rows}
-use Rattle.paren_planner.specs.Tables.{table_of}
+use Rattle.cost_table.specs.declared.table.Row.{Row}
+use Rattle.cost_table.specs.Rows.{celled, shown, cell_rows}
+use Rattle.cost_table.specs.Tables.{table_of}
 use Rattle.language.specs.ExactCells.{IsLeast, Exact}
 use Rattle.paren_planner.proofs.Somewhere.{row_somewhere}
 use Rattle.paren_planner.proofs.AttainedCells.{least_cell}

@@ -6,7 +6,7 @@ use Rattle.spellings.specs.Outlines.{role_of, slot_of}
 use Rattle.paren_planner.specs.declared.steps.NodeStep.{NodeStep}
 use Rattle.paren_planner.specs.declared.steps.Step.{Step}
 use Rattle.paren_planner.specs.declared.steps.Step.TheVariants.{Atom, Leaf, Enter, Leave}
-use Rattle.paren_planner.specs.declared.table.Row.{Row}
+use Rattle.cost_table.specs.declared.table.Row.{Row}
 use Rattle.paren_planner.specs.declared.wrap_pass.WrapContext.{WrapContext}
 use Rattle.paren_planner.specs.Steps.{has_row_at, stands_at}
 use Rattle.paren_planner.specs.Marked.{Round, round, Marks, marked, marked_through, shown_marks, flag_of, round_of, flag_at, round_at, plain_round}

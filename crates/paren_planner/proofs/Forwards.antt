@@ -22,26 +22,27 @@ use Rattle.spellings.specs.Remaining.{left}
 use Rattle.spellings.specs.Wherever.{with_own, IsSpelledWherever, spelled_roles}
 use Rattle.spellings.proofs.SlotSteps.{spelled_here}
 use Rattle.spellings.proofs.Slots.{is_plain, all_pass, parts_plain}
-use Rattle.paren_planner.specs.declared.costs.Costs.{Costs}
-use Rattle.paren_planner.specs.declared.table.Row.{Row}
-use Rattle.paren_planner.specs.declared.steps.SpellingNeeds.{SpellingNeeds}
+use Rattle.cost_table.specs.declared.costs.Costs.{Costs}
+use Rattle.cost_table.specs.declared.table.Row.{Row}
+use Rattle.spellings.specs.declared.requirements.Requirements.{Requirements}
 use Rattle.paren_planner.specs.declared.steps.NodeStep.{NodeStep}
 use Rattle.paren_planner.specs.declared.steps.Step.{Step}
 use Rattle.paren_planner.specs.declared.steps.Step.TheVariants.{Leaf, Enter, Leave}
-use Rattle.paren_planner.specs.Costs.{capped, cells_at}
-use Rattle.paren_planner.specs.Weighed.{settled_at, cost_of, fitting, sums_over, fits_spelled}
-use Rattle.paren_planner.specs.Rows.{row_of, is_expression, table_rows, parts_table}
+use Rattle.cost_table.specs.Costs.{capped, cells_at, no_pairs, is_free}
+use Rattle.cost_table.specs.Weighed.{settled_at, cost_of, fitting, sums_over, fits_spelled, slot_free, role_free, is_plain_outline}
+use Rattle.cost_table.specs.Rows.{row_of, is_expression, table_rows, parts_table}
 use Rattle.paren_planner.specs.Wrapped.{unwrapped, flags, parts_flags, inner_flags, HasRows}
-use Rattle.paren_planner.specs.Steps.{label_of, outline_of, stands_at, has_row_at, slot_free, role_free, no_pairs, is_plain_outline}
+use Rattle.spellings.specs.Cursors.{asks_of}
+use Rattle.paren_planner.specs.Steps.{outline_of, stands_at, has_row_at}
 use Rattle.paren_planner.specs.Noted.{IsVisit, Steps, unspelled, alone, around, word, hidden, through, is_settled_slot, is_fixed, are_fixed, PartsSteps, over, skipped, unplaced, next}
-use Rattle.paren_planner.specs.Marked.{Round, Marks, fits_label, wants, is_free, around_parts, flag_at, round_at, plain_round, flag_of, round_of, marked, marked_through, at_the_start}
-use Rattle.paren_planner.proofs.Known.{own_widest, counted}
-use Rattle.paren_planner.proofs.NodeRowNumbers.{roles_some, weighed_some, sums-end}
+use Rattle.paren_planner.specs.Marked.{Round, Marks, fits_label, wants, around_parts, flag_at, round_at, plain_round, flag_of, round_of, marked, marked_through, at_the_start}
+use Rattle.cost_table.proofs.Known.{own_widest, counted}
+use Rattle.cost_table.proofs.NodeRowNumbers.{roles_some, weighed_some, sums-end}
 use Rattle.paren_planner.proofs.WrappedRows.{parts-rows, parts-flags-length, parts-numbers, no_number, rows-empty, no_roles}
 use Rattle.paren_planner.proofs.Turns.{front_rows, table_turn, inner_some, inner_none, plain_flags, wanted, table_below, rows_below, own_standing, own_few, own_result, plain_standing, plain_few, spelled_inside, all_rows}
 use Rattle.paren_planner.proofs.Totals.{parts_count, cell_roles}
 use Rattle.paren_planner.proofs.Backwards.{fits_outlined, settled_rowless}
-use Rattle.paren_planner.proofs.Plainly.{plain_fits, cost_free, settled_free}
+use Rattle.cost_table.proofs.Plainly.{plain_fits, cost_free, settled_free}
 
 -- The steps
 
@@ -248,18 +249,18 @@ unfolding row_of
 row_cells n = refl
 
 -- the label says what is known of the spelling
-abbrev Says : Option SpellingNeeds → Option NodeSpelling → Type 0
+abbrev Says : Option Requirements → Option NodeSpelling → Type 0
 Says l r = (q : Role) → fits_label q l ≡ fits_spelled q r
 
-says_none : (l : Option SpellingNeeds) → l ≡ None → Says l None
+says_none : (l : Option Requirements) → l ≡ None → Says l None
 says_none l e q = ap (fits_label q) e
 
-says_some : (l : Option SpellingNeeds) (x : NodeSpelling) → l ≡ Some (label_of x.outline) → Says l (Some x)
+says_some : (l : Option Requirements) (x : NodeSpelling) → l ≡ Some (asks_of x.outline) → Says l (Some x)
 says_some l x e q = ap (fits_label q) e ∙ fits_outlined q x.outline
 
-wants_is : (n : Tree) (p : Role) (l : Option SpellingNeeds) (r : Option NodeSpelling) → is_expression p ≡ true → IsSpelledWherever p n r → Says l r → rows n p ≤ 16777216 → wants p l (row_of n).costs ≡ wants_pair n p
+wants_is : (n : Tree) (p : Role) (l : Option Requirements) (r : Option NodeSpelling) → is_expression p ≡ true → IsSpelledWherever p n r → Says l r → rows n p ≤ 16777216 → wants p l (row_of n).costs ≡ wants_pair n p
 wants_is n p l r h k q few =
-    ap (λ b. Rattle.language.specs.Layout.exceeds (cond b (cost_of (row_of n).costs p) None) (Rattle.paren_planner.specs.Costs.capped_sum (Some 1) (row_of n).costs.has_in.any)) (q p)
+    ap (λ b. Rattle.language.specs.Layout.exceeds (cond b (cost_of (row_of n).costs p) None) (Rattle.cost_table.specs.Costs.capped_sum (Some 1) (row_of n).costs.has_in.any)) (q p)
     ∙ wanted n p r (row_of n).costs h k few (row_cells n)
 
 abbrev living : Role → Round
@@ -379,17 +380,17 @@ never_exceeds (Some m) = grind (arith, nat_tests)
 
 word_unwrapped : (n : Tree) (p : Role) (x : NodeSpelling) → is_expression p ≡ true → IsSpelledWherever p n (Some x) → x.outline ≡ leaf Primary → role_free p Primary ≡ true → parts_of n ≡ none → rows n p ≤ 16777216 → wants_pair n p ≡ false
 word_unwrapped n (expr y i f) x h k o t e few =
-    let l : Option SpellingNeeds = Some (label_of x.outline) in
+    let l : Option Requirements = Some (asks_of x.outline) in
     let b : Role = expr Expression true Any in
     let plain : is_plain_outline x.outline ≡ true = ap is_plain_outline o in
     let takes_it : Rattle.language.specs.Vocabulary.takes y x.outline.rank ≡ true = ap (λ u. Rattle.language.specs.Vocabulary.takes y u.rank) o ∙ t in
     let costs : (row_of n).costs ≡ fitting b x.outline no_pairs =
     row_cells n ∙ sym (weighed_some b n x k no_pairs (fitting b x.outline no_pairs) (sym (sums-end b (left x.slots)) ∙ ap (λ ps. sums_over ps b (left x.slots)) (sym e)) refl).costs in
-    let fit : fits_label (expr y i f) l ≡ true = plain_fits (outline_of (label_of x.outline)) plain (expr y i f) takes_it in
+    let fit : fits_label (expr y i f) l ≡ true = plain_fits (outline_of (asks_of x.outline)) plain (expr y i f) takes_it in
     let cost : cost_of (row_of n).costs (expr y i f) ≡ Some 0 = ap (λ c. cost_of c (expr y i f)) costs ∙ cost_free x.outline plain b y i f takes_it in
     sym (wants_is n (expr y i f) l (Some x) refl k (says_some l x refl) few)
-    ∙ (λ j. Rattle.language.specs.Layout.exceeds (cond (fit j) (cost j) None) (Rattle.paren_planner.specs.Costs.capped_sum (Some 1) (row_of n).costs.has_in.any))
-    ∙ never_exceeds (Rattle.paren_planner.specs.Costs.capped_sum (Some 1) (row_of n).costs.has_in.any)
+    ∙ (λ j. Rattle.language.specs.Layout.exceeds (cond (fit j) (cost j) None) (Rattle.cost_table.specs.Costs.capped_sum (Some 1) (row_of n).costs.has_in.any))
+    ∙ never_exceeds (Rattle.cost_table.specs.Costs.capped_sum (Some 1) (row_of n).costs.has_in.any)
 word_unwrapped n _ x h k o t e few = absurd (false≢true h)
 
 word_flags : (o : Role) (s : Slot) (n : Tree) (x : NodeSpelling) → IsSpelledWherever (settled_at o s) n (Some x) → x.outline ≡ leaf Primary → parts_of n ≡ none → has_row_at s ≡ true → slot_free s Primary ≡ true → rows n (settled_at o s) ≤ 16777216 → false ∷ [] ≡ flags n (settled_at o s)

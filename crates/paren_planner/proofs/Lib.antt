@@ -1,14 +1,9 @@
 pub mod Results
 pub mod WalkSteps
-pub mod PackedRowLists
 pub mod Stacks
 pub mod BackwardSteps
 pub mod ForwardSteps
-pub mod Sums
-pub mod Known
-pub mod Free
-pub mod Plainly
-pub mod NodeRowNumbers
+pub mod FreeRows
 pub mod WrappedRows
 pub mod Bounds
 pub mod Turns
@@ -22,7 +17,6 @@ pub mod Bytes
 pub mod Plans
 mod ExtraExamples
 pub mod PairRows
-pub mod Tighter
 pub mod Somewhere
 pub mod LaidTokens
 pub mod AttainedCells

@@ -32,12 +32,11 @@ use Rattle.language.proofs.lower_bound.LowerBound.{Step-roles}
 use Rattle.language.proofs.texts.TextOffsets.{text_determined}
 use Rattle.spellings.specs.Groupings.{grouping, row_starts, row_after}
 use Rattle.spellings.proofs.Slots.{is_wide, all_pass, parts_wide}
-use Rattle.paren_planner.proofs.Known.{takes_all}
-use Rattle.paren_planner.proofs.CellRows.{wide_itself, wide_start}
+use Rattle.cost_table.proofs.Known.{takes_all}
+use Rattle.cost_table.proofs.RowNodes.{wide_itself, wide_start, nodes-length}
 use Rattle.paren_planner.specs.PairNodes.{pair_nodes, run_pair_nodes, node_of_row, PairsHaveTheirRows, is_direct, pair_rows, run_pair_rows, spans_but_needed, ExtraPairsAreExtra}
 use Rattle.paren_planner.specs.Extra.{extra_spans, span_of, is_innermost}
 use Rattle.paren_planner.specs.Wrapped.{is_flagged}
-use Rattle.paren_planner.proofs.CellBounds.{nodes-length}
 use Rattle.paren_planner.proofs.Bytes.{way-rows, node-rows}
 
 -- The rows of a node don't depend on the way in which it is spelled.

@@ -7,9 +7,9 @@ use Rattle.language.specs.Cost.{least}
 use Rattle.language.specs.Layout.{has_number, wrapped_rows}
 use Rattle.language.specs.RowPositions.{rows}
 use Rattle.paren_planner.specs.declared.wrap_plan.Plan.{Plan}
-use Rattle.paren_planner.specs.declared.table.Row.{Row}
-use Rattle.paren_planner.specs.Costs.{capped}
-use Rattle.paren_planner.specs.Rows.{table_rows, shown}
+use Rattle.cost_table.specs.declared.table.Row.{Row}
+use Rattle.cost_table.specs.Costs.{capped}
+use Rattle.cost_table.specs.Rows.{table_rows, shown}
 use Rattle.paren_planner.specs.Wrapped.{is_flagged}
 use Rattle.paren_planner.specs.Plans.{HasPlan, IsPlan}
 use Rattle.paren_planner.proofs.Bounds.{below_more, least_below, capped_below}

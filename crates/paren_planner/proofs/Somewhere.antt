@@ -24,9 +24,8 @@ use Rattle.language.proofs.table.Alike.{Like, same, at_expressions, AllLike, nex
 use Rattle.language.proofs.table.TokenWords.{read_place}
 use Rattle.language.proofs.texts.DerivedWords.{spells_place}
 use Rattle.spellings.proofs.Slots.{is_wide, all_pass, parts_wide}
-use Rattle.paren_planner.proofs.CellRows.{wide_itself, wide_start}
-use Rattle.paren_planner.proofs.CellBounds.{split_at}
-use Rattle.paren_planner.proofs.Tighter.{parts_alike}
+use Rattle.cost_table.proofs.RowNodes.{wide_itself, wide_start, split_at}
+use Rattle.cost_table.proofs.Tighter.{parts_alike}
 
 -- directly, at an expression's position
 pub record Somewhere (text : List ℕ) (n : Tree) : Type 0 where

@@ -2,7 +2,7 @@
 use Rattle.std.proofs.Common.{◌≡◌, Bool, true, false, cond, List, [], ◌∷◌, ◌++◌, reverse, Option, Some, None, refl, sym, ap, ◌∙◌, append-nil}
 use Rattle.std.specs.Prelude.{option_to_list, unwrap_or, map}
 use Rattle.std.proofs.lemmas.List.{reverse-append, map-append}
-use Rattle.paren_planner.specs.declared.table.Row.{Row}
+use Rattle.cost_table.specs.declared.table.Row.{Row}
 use Rattle.paren_planner.specs.declared.wrap_pass.WrapContext.{WrapContext}
 use Rattle.paren_planner.specs.Steps.{others}
 use Rattle.paren_planner.specs.Marked.{round, innermost_round}

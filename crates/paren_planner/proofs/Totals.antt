@@ -18,7 +18,7 @@ use Rattle.language.specs.Cost.{add_cost, lesser, if_any, least, parts_least, ce
 use Rattle.spellings.specs.declared.outline.Outline.{Outline}
 use Rattle.spellings.specs.Spelled.{fits_outline, settled_roles, Verdict}
 use Rattle.spellings.proofs.Wherever.{found_roles, AnySpelling, any_spelling}
-use Rattle.paren_planner.proofs.Known.{fits_cell}
+use Rattle.cost_table.proofs.Known.{fits_cell}
 use Rattle.spellings.proofs.Slots.{is_plain, all_pass, parts_plain}
 
 -- The cell that counts at a position

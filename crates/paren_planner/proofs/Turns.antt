@@ -15,14 +15,14 @@ use Rattle.spellings.specs.Spelled.{fits_outline, settled_roles, Verdict}
 use Rattle.spellings.specs.Remaining.{left}
 use Rattle.spellings.specs.Wherever.{spelled_roles, IsSpelledWherever}
 use Rattle.spellings.proofs.SlotSteps.{spelled_here}
-use Rattle.paren_planner.specs.declared.costs.Costs as own
-use Rattle.paren_planner.specs.declared.table.Row.{Row}
-use Rattle.paren_planner.specs.Costs.{capped_sum, cells_at}
-use Rattle.paren_planner.specs.Weighed.{cost_of, fits_spelled}
-use Rattle.paren_planner.specs.Rows.{row_of, is_expression, own_row, table_rows, parts_table}
+use Rattle.cost_table.specs.declared.costs.Costs as own
+use Rattle.cost_table.specs.declared.table.Row.{Row}
+use Rattle.cost_table.specs.Costs.{capped_sum, cells_at}
+use Rattle.cost_table.specs.Weighed.{cost_of, fits_spelled}
+use Rattle.cost_table.specs.Rows.{row_of, is_expression, own_row, table_rows, parts_table}
 use Rattle.paren_planner.specs.Wrapped.{unwrapped, flags, parts_flags, inner_flags, HasRows}
-use Rattle.paren_planner.proofs.Known.{fits_widest, counted}
-use Rattle.paren_planner.proofs.NodeRowNumbers.{way_when, rows_inside}
+use Rattle.cost_table.proofs.Known.{fits_widest, counted}
+use Rattle.cost_table.proofs.NodeRowNumbers.{way_when, rows_inside}
 use Rattle.paren_planner.proofs.Bounds.{Below, below_more, cell_below, widest-cell, capped_below, sum_below, rows_inner}
 use Rattle.paren_planner.proofs.WrappedRows.{parts-rows, parts-table, widest_own, flags-length, rows-empty}
 

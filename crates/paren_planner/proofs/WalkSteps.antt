@@ -19,8 +19,9 @@ use Rattle.spellings.specs.Wherever.{IsSpelledWherever}
 use Rattle.paren_planner.specs.declared.steps.NodeStep.{NodeStep}
 use Rattle.paren_planner.specs.declared.steps.Step.{Step}
 use Rattle.paren_planner.specs.declared.steps.Step.TheVariants.{Atom, Leaf, Enter, Leave}
-use Rattle.paren_planner.specs.Weighed.{settled_at}
-use Rattle.paren_planner.specs.Steps.{label_of, nowhere, has_row_at, slot_free, is_plain_outline}
+use Rattle.cost_table.specs.Weighed.{settled_at, slot_free, is_plain_outline}
+use Rattle.spellings.specs.Cursors.{asks_of}
+use Rattle.paren_planner.specs.Steps.{nowhere, has_row_at}
 use Rattle.paren_planner.specs.Noted.{IsVisit, is_settled_slot, is_fixed, are_fixed, fixed_front, fixed_tail, fixed_outline, Steps, unspelled, alone, around, word, hidden, through, PartsSteps, over, skipped, unplaced, next, Noted, PartsNoted}
 
 -- whatever the parts that are left show, with what was noted all parts show
@@ -71,11 +72,11 @@ no_parts (part n ps) h = absurd (omega (arith, h))
 pub noted_unspelled : (a b : Role) (s : Slot) (n : Tree) (v : NodeStep) (old new : List Step) → IsVisit a s n v → v.label ≡ None → b ≡ widest (settled_at a s) → IsSpelledWherever b n None → new ≡ old ++ Leaf v ∷ [] → Noted a s n old new
 noted_unspelled a b s n v old new i l w k e = record { steps = Leaf v ∷ []; added = e; are = unspelled v i l (subst (λ c. IsSpelledWherever c n None) w k) refl }
 
-pub noted_alone : (a b : Role) (s : Slot) (n : Tree) (v : NodeStep) (x : NodeSpelling) (old new : List Step) → IsVisit a s n v → v.label ≡ Some (label_of x.outline) → b ≡ widest (settled_at a s) → IsSpelledWherever b n (Some x) → part_count (parts_of n) ≡ 0 →
+pub noted_alone : (a b : Role) (s : Slot) (n : Tree) (v : NodeStep) (x : NodeSpelling) (old new : List Step) → IsVisit a s n v → v.label ≡ Some (asks_of x.outline) → b ≡ widest (settled_at a s) → IsSpelledWherever b n (Some x) → part_count (parts_of n) ≡ 0 →
     new ≡ old ++ Leaf v ∷ [] → Noted a s n old new
 noted_alone a b s n v x old new i l w k p e = record { steps = Leaf v ∷ []; added = e; are = alone v x i l (subst (λ c. IsSpelledWherever c n (Some x)) w k) (no_parts (parts_of n) p) refl }
 
-pub noted_around : (a b : Role) (s : Slot) (n : Tree) (v : NodeStep) (x : NodeSpelling) (old mid within new : List Step) → IsVisit a s n v → v.label ≡ Some (label_of x.outline) → b ≡ widest (settled_at a s) → IsSpelledWherever b n (Some x) →
+pub noted_around : (a b : Role) (s : Slot) (n : Tree) (v : NodeStep) (x : NodeSpelling) (old mid within new : List Step) → IsVisit a s n v → v.label ≡ Some (asks_of x.outline) → b ≡ widest (settled_at a s) → IsSpelledWherever b n (Some x) →
     mid ≡ old ++ Enter v ∷ [] → PartsNoted b (left x.slots) (parts_of n) mid within → new ≡ within ++ Leave ∷ [] → Noted a s n old new
 noted_around a b s n v x old mid within new i l w k e p f = record {
   steps = Enter v ∷ (p.steps ++ Leave ∷ []);

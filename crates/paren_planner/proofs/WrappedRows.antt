@@ -15,11 +15,11 @@ use Rattle.spellings.specs.declared.outline.Outline.{Outline}
 use Rattle.spellings.specs.Spelled.{fits_outline, settled_roles, Verdict}
 use Rattle.spellings.specs.Wherever.{with_own}
 use Rattle.spellings.proofs.Wherever.{found_roles, AnySpelling, any_spelling}
-use Rattle.paren_planner.specs.Weighed.{settled_at}
-use Rattle.paren_planner.specs.Rows.{table_rows, parts_table}
+use Rattle.cost_table.specs.Weighed.{settled_at}
+use Rattle.cost_table.specs.Rows.{table_rows, parts_table}
 use Rattle.paren_planner.specs.Wrapped.{own_flag, unwrapped, flags, parts_flags, is_flagged}
 use Rattle.spellings.proofs.SlotSteps.{own_again}
-use Rattle.paren_planner.proofs.Known.{fits_widest}
+use Rattle.cost_table.proofs.Known.{fits_widest}
 
 -- The rows of a part don't depend on its node's own symbol, In and start.
 

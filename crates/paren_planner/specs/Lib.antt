@@ -1,14 +1,9 @@
-pub mod Costs
-pub mod Weighed
 pub mod Steps
 pub mod Noted
 pub mod Marked
-pub mod Rows
-pub mod Packed
 pub mod Pending
 pub mod Wrapped
 pub mod Laws
-pub mod Tables
 pub mod Plans
 pub mod Extra
 pub mod PairNodes

@@ -1,18 +1,18 @@
 -- Forwards over the steps of a walk: which nodes are wrapped.
-use Rattle.std.specs.Prelude.{ℕ, zero, Bool, true, false, not, cond, ◌&&◌, List, [], ◌∷◌, ◌++◌, length, slice_get, map, reverse, Option, Some, None}
+use Rattle.std.specs.Prelude.{Bool, true, false, not, cond, ◌&&◌, List, [], ◌∷◌, ◌++◌, length, slice_get, map, reverse, Option, Some, None}
 use Rattle.language.specs.Pieces.{Role, script}
 use Rattle.language.specs.Layout.{exceeds, inside}
 use Rattle.spellings.specs.Outlines.{role_of, slot_of}
 use Rattle.spellings.specs.Spelled.{fits_outline}
-use Rattle.paren_planner.specs.declared.costs.Costs.{Costs}
-use Rattle.paren_planner.specs.declared.steps.SpellingNeeds.{SpellingNeeds}
+use Rattle.cost_table.specs.declared.costs.Costs.{Costs}
+use Rattle.spellings.specs.declared.requirements.Requirements.{Requirements}
 use Rattle.paren_planner.specs.declared.steps.NodeStep.{NodeStep}
 use Rattle.paren_planner.specs.declared.steps.Step.{Step}
 use Rattle.paren_planner.specs.declared.steps.Step.TheVariants.{Atom, Leaf, Enter, Leave}
-use Rattle.paren_planner.specs.declared.table.Row.{Row}
+use Rattle.cost_table.specs.declared.table.Row.{Row}
 use Rattle.paren_planner.specs.declared.wrap_pass.WrapContext.{WrapContext}
-use Rattle.paren_planner.specs.Costs.{capped_sum}
-use Rattle.paren_planner.specs.Weighed.{cost_of}
+use Rattle.cost_table.specs.Costs.{capped_sum, is_free}
+use Rattle.cost_table.specs.Weighed.{cost_of}
 use Rattle.paren_planner.specs.Steps.{outline_of, stands_at, has_row_at, others}
 
 -- where the steps stand: the position of the innermost open node, as it is with its pair or without, and whether a node in it may be wrapped
@@ -29,31 +29,27 @@ pub record Marks : Type 0 where
   pub outer : List Round
   pub flags : List Bool
 
-abbrev pub fits_label : Role → Option SpellingNeeds → Bool
+abbrev pub fits_label : Role → Option Requirements → Bool
 fits_label a None = false
 fits_label a (Some x) = fits_outline a (outline_of x)
 
 -- a node of these costs wants a pair round it
-abbrev pub wants : Role → Option SpellingNeeds → Costs → Bool
+abbrev pub wants : Role → Option Requirements → Costs → Bool
 wants a l c = exceeds (cond (fits_label a l) (cost_of c a) None) (capped_sum (Some 1) c.has_in.any)
 
-abbrev pub is_free : Option ℕ → Bool
-is_free (Some zero) = true
-is_free x = false
-
 -- what stands around the parts of a node: where it costs nothing none of them is wrapped
-abbrev pub around_parts : Role → Option SpellingNeeds → Costs → Round
+abbrev pub around_parts : Role → Option Requirements → Costs → Round
 around_parts a l c = record { own = a; may_wrap = fits_label a l && not (is_free (cost_of c a)) }
 
-abbrev pub flag_at : Option Row → Role → Option SpellingNeeds → Bool
+abbrev pub flag_at : Option Row → Role → Option Requirements → Bool
 flag_at None a l = false
 flag_at (Some r) a l = wants a l r.costs
 
-abbrev pub round_at : Option Row → Role → Option SpellingNeeds → Round
+abbrev pub round_at : Option Row → Role → Option Requirements → Round
 round_at None a l = record { own = a; may_wrap = false }
 round_at (Some r) a l = around_parts (inside (wants a l r.costs) a) l r.costs
 
-abbrev pub plain_round : Role → Option SpellingNeeds → Round
+abbrev pub plain_round : Role → Option Requirements → Round
 plain_round a l = record { own = a; may_wrap = fits_label a l }
 
 -- the flag of a node, where it has a row

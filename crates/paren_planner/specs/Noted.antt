@@ -16,8 +16,9 @@ use Rattle.spellings.specs.Wherever.{IsSpelledWherever}
 use Rattle.paren_planner.specs.declared.steps.NodeStep.{NodeStep}
 use Rattle.paren_planner.specs.declared.steps.Step.{Step}
 use Rattle.paren_planner.specs.declared.steps.Step.TheVariants.{Atom, Leaf, Enter, Leave}
-use Rattle.paren_planner.specs.Weighed.{settled_at}
-use Rattle.paren_planner.specs.Steps.{label_of, nowhere, has_row_at, slot_free, is_plain_outline}
+use Rattle.cost_table.specs.Weighed.{settled_at, slot_free, is_plain_outline}
+use Rattle.spellings.specs.Cursors.{asks_of}
+use Rattle.paren_planner.specs.Steps.{nowhere, has_row_at}
 
 -- it is a visit to this node, at a slot of a node at a position
 pub record IsVisit (a : Role) (s : Slot) (n : Tree) (v : NodeStep) : Type 0 where
@@ -67,8 +68,8 @@ mutual
   -- the steps of a node at a slot of a node at its widest position: none of its own where it costs nothing and has no row, or where it hands on what its parts cost
   pub data Steps : Role → Slot → Tree → List Step → Type 0 where
     unspelled : {a : Role} {s : Slot} {n : Tree} {xs : List Step} (v : NodeStep) → IsVisit a s n v → v.label ≡ None → IsSpelledWherever (widest (settled_at a s)) n None → xs ≡ Leaf v ∷ [] → Steps a s n xs
-    alone : {a : Role} {s : Slot} {n : Tree} {xs : List Step} (v : NodeStep) (x : NodeSpelling) → IsVisit a s n v → v.label ≡ Some (label_of x.outline) → IsSpelledWherever (widest (settled_at a s)) n (Some x) → parts_of n ≡ none → xs ≡ Leaf v ∷ [] → Steps a s n xs
-    around : {a : Role} {s : Slot} {n : Tree} {xs : List Step} (v : NodeStep) (x : NodeSpelling) (ys : List Step) → IsVisit a s n v → v.label ≡ Some (label_of x.outline) → IsSpelledWherever (widest (settled_at a s)) n (Some x) →
+    alone : {a : Role} {s : Slot} {n : Tree} {xs : List Step} (v : NodeStep) (x : NodeSpelling) → IsVisit a s n v → v.label ≡ Some (asks_of x.outline) → IsSpelledWherever (widest (settled_at a s)) n (Some x) → parts_of n ≡ none → xs ≡ Leaf v ∷ [] → Steps a s n xs
+    around : {a : Role} {s : Slot} {n : Tree} {xs : List Step} (v : NodeStep) (x : NodeSpelling) (ys : List Step) → IsVisit a s n v → v.label ≡ Some (asks_of x.outline) → IsSpelledWherever (widest (settled_at a s)) n (Some x) →
         PartsSteps (widest (settled_at a s)) (left x.slots) (parts_of n) ys → xs ≡ Enter v ∷ (ys ++ Leave ∷ []) → Steps a s n xs
     word : {a : Role} {s : Slot} {n : Tree} {xs : List Step} (x : NodeSpelling) → IsSpelledWherever (widest (settled_at a s)) n (Some x) → x.outline ≡ leaf Primary → parts_of n ≡ none → has_row_at s ≡ true → slot_free s Primary ≡ true → xs ≡ Atom (kind_of n) ∷ [] → Steps a s n xs
     hidden : {a : Role} {s : Slot} {n : Tree} {xs : List Step} (x : NodeSpelling) → IsSpelledWherever (widest (settled_at a s)) n (Some x) → is_plain_outline x.outline ≡ true → parts_of n ≡ none → has_row_at s ≡ false → xs ≡ [] → Steps a s n xs

@@ -1,9 +1,10 @@
 -- The sums of open nodes, as the planner keeps them: those that are nothing take no room.
 use Rattle.std.specs.Prelude.{Bool, true, false, cond, List, [], ◌∷◌, reverse, All}
-use Rattle.paren_planner.specs.declared.costs.Costs as own
+use Rattle.cost_table.specs.declared.costs.Costs as own
 use Rattle.paren_planner.specs.declared.open_sums.OpenSums.{OpenSums}
-use Rattle.paren_planner.specs.declared.table.Row.{Row}
-use Rattle.paren_planner.specs.Steps.{no_pairs, innermost, others, Sums, IsHeld}
+use Rattle.cost_table.specs.declared.table.Row.{Row}
+use Rattle.paren_planner.specs.Steps.{innermost, others, Sums}
+use Rattle.cost_table.specs.Costs.{no_pairs, IsHeld}
 
 -- one for each of these marks, of which each that is true takes the next of those that are kept
 abbrev pub stacked : List Bool → List own.Costs → List own.Costs

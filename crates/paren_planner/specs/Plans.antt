@@ -10,8 +10,8 @@ use Rattle.language.specs.Claims.{Derives}
 use Rattle.language.specs.RowPositions.{rows}
 use Rattle.paren_planner.specs.declared.wrap_plan.Plan.{Plan}
 use Rattle.language.specs.ExactCells.{Exact}
-use Rattle.paren_planner.specs.Rows.{cell_rows, shown}
-use Rattle.paren_planner.specs.Tables.{MeetsBounds, table_of}
+use Rattle.cost_table.specs.Rows.{cell_rows, shown}
+use Rattle.cost_table.specs.Tables.{MeetsBounds, table_of}
 use Rattle.paren_planner.specs.Wrapped.{is_flagged}
 
 -- some number of pairs spells the script, and it has no more rows than a text may have bytes

@@ -1,37 +1,29 @@
 -- The steps of a walk over a script, and what the planner's two passes over them make of them.
-use Rattle.std.specs.Prelude.{◌≡◌, Bool, true, false, not, cond, ◌&&◌, List, [], ◌∷◌, ◌++◌, Option, Some, None}
+use Rattle.std.specs.Prelude.{Bool, true, false, cond, List, [], ◌∷◌, ◌++◌, Option, Some, None}
 use Rattle.tree.specs.declared.kind.Kind.{Kind}
-use Rattle.language.specs.Pieces.{Role, expr, Slot, fixed, left, lead, tail, callee, lead_chain, lead_pattern}
+use Rattle.language.specs.Pieces.{Role, Slot, fixed, lead_chain, lead_pattern}
 use Rattle.language.specs.RowPositions.{widest}
 use Rattle.spellings.specs.declared.position.Position.TheVariants as at
 use Rattle.spellings.specs.declared.position.Slot.TheVariants.{Fixed}
 use Rattle.spellings.specs.declared.outline.Outline.{Outline}
-use Rattle.spellings.specs.declared.outline.FirstToken.{FirstToken}
-use Rattle.spellings.specs.declared.outline.FirstToken.TheVariants.{Other}
-use Rattle.language.specs.declared.Rank.{Rank}
-use Rattle.language.specs.declared.Rank.TheVariants.{Member, Primary}
-use Rattle.language.specs.Vocabulary.{takes}
+use Rattle.language.specs.declared.Rank.TheVariants.{Primary}
 use Rattle.spellings.specs.declared.outline.FixedSlots.TheVariants.{Zero}
 use Rattle.spellings.specs.declared.outline.ListSlots.TheVariants.{Nothing}
 use Rattle.spellings.specs.Outlines.{role_of, slot_of}
-use Rattle.paren_planner.specs.declared.costs.Costs as own
-use Rattle.paren_planner.specs.declared.steps.SpellingNeeds.{SpellingNeeds}
+use Rattle.cost_table.specs.declared.costs.Costs as own
+use Rattle.spellings.specs.declared.requirements.Requirements.{Requirements}
 use Rattle.paren_planner.specs.declared.steps.NodeStep.{NodeStep}
 use Rattle.paren_planner.specs.declared.steps.Step.{Step}
 use Rattle.paren_planner.specs.declared.steps.Step.TheVariants.{Atom, Leaf, Enter, Leave}
-use Rattle.paren_planner.specs.declared.table.Row.{Row}
-use Rattle.paren_planner.specs.declared.node_costs.NodeCosts.{NodeCosts}
-use Rattle.paren_planner.specs.Costs.{same_everywhere, sums}
-use Rattle.paren_planner.specs.Weighed.{settled_at, uses, fitting}
-use Rattle.paren_planner.specs.Rows.{row_with, is_expression}
-use Rattle.paren_planner.specs.Packed.{free_shape, shaped}
-
--- what an outline asks of a position
-abbrev pub label_of : Outline → SpellingNeeds
-label_of x = record { rank = x.rank; needs_in = x.needs_in; opens = x.opens }
+use Rattle.cost_table.specs.declared.table.Row.{Row}
+use Rattle.cost_table.specs.declared.node_costs.NodeCosts.{NodeCosts}
+use Rattle.cost_table.specs.Costs.{same_everywhere, sums, no_pairs}
+use Rattle.cost_table.specs.Weighed.{settled_at, uses, fitting}
+use Rattle.cost_table.specs.Rows.{row_with, is_expression}
+use Rattle.cost_table.specs.Packed.{free_shape, shaped}
 
 -- an outline that asks the same
-abbrev pub outline_of : SpellingNeeds → Outline
+abbrev pub outline_of : Requirements → Outline
 outline_of x = record { rank = x.rank; needs_in = x.needs_in; opens = x.opens; front = Zero; tail = Nothing; from = 0 }
 
 -- where a node stands in the spelling of the one above it, whose position is given
@@ -53,37 +45,9 @@ has_row_at s = true
 abbrev pub nowhere : Kind → NodeStep
 nowhere k = record { kind = k; above = at.Script; slot = Fixed at.Script; label = None }
 
--- it asks for no In, and opens with no brace and no word
-abbrev pub is_otherwise : FirstToken → Bool
-is_otherwise Other = true
-is_otherwise x = false
-
-abbrev pub is_plain_outline : Outline → Bool
-is_plain_outline x = not x.needs_in && is_otherwise x.opens
-
--- what is spelled so at this symbol may stand there; at such a slot, wherever the node above stands
-abbrev pub role_free : Role → Rank → Bool
-role_free (expr y i f) z = takes y z
-role_free a z = true
-
-abbrev pub slot_free : Slot → Rank → Bool
-slot_free (fixed a) z = role_free a z
-slot_free (left y) z = takes y z
-slot_free (lead y) z = takes y z
-slot_free (tail y f) z = takes y z
-slot_free callee z = takes Member z
-slot_free s z = true
-
 -- Backwards: the sums
 
-abbrev pub no_pairs : own.Costs
-no_pairs = same_everywhere (Some 0)
-
--- it is a sum: no number in it is greater than what a u32 holds
-abbrev pub IsHeld : own.Costs → Type 0
-IsHeld c = sums c no_pairs ≡ c
-
-abbrev pub weighed_as : Role → Option SpellingNeeds → own.Costs → NodeCosts
+abbrev pub weighed_as : Role → Option Requirements → own.Costs → NodeCosts
 weighed_as a None c = record { outline = None; costs = same_everywhere None }
 weighed_as a (Some x) c = record { outline = Some (outline_of x); costs = fitting a (outline_of x) c }
 

@@ -5,7 +5,7 @@ use Rattle.language.specs.Pieces.{Role, expr}
 use Rattle.language.specs.Grammar.{ways}
 use Rattle.language.specs.RowPositions.{first_roles, widest, parts_rows}
 use Rattle.language.specs.Layout.{some_way, wants_pair, inside}
-use Rattle.paren_planner.specs.declared.table.Row.{Row}
+use Rattle.cost_table.specs.declared.table.Row.{Row}
 
 -- at an expression's position
 abbrev pub own_flag : Role → Bool → List Bool

@@ -2,18 +2,16 @@
 
 ghost use Rattle.std.specs.Prelude.{◌≡◌, [], ◌∷◌, ◌++◌, cond, OnOk, IfOk, IfSome};
 ghost use Rattle.spellings.specs.Outlines.{slot_of};
-ghost use Rattle.paren_planner.specs.Packed.{free_shape, shaped};
+ghost use Rattle.cost_table.specs.Packed.{free_shape, shaped};
 ghost use Rattle.paren_planner.specs.Pending.{here_of, shown_sums, AreHeld};
-ghost use Rattle.paren_planner.specs.Rows.{row_with};
-ghost use Rattle.paren_planner.specs.Steps.{has_row_at, weighed_of, used, row_of_visit, joined, taken, taken_from, at_the_end, no_pairs, IsHeld};
+ghost use Rattle.cost_table.specs.Rows.{row_with};
+ghost use Rattle.paren_planner.specs.Steps.{has_row_at, weighed_of, used, row_of_visit, joined, taken, taken_from, at_the_end};
+ghost use Rattle.cost_table.specs.Costs.{no_pairs, IsHeld};
 ghost use Rattle.paren_planner.specs.declared.steps.Step.TheVariants.{Enter};
 
-use crate::costs::Costs;
-use crate::node_costs::{NodeCosts, fitting};
 use crate::open_sums::OpenSums;
-use crate::packed_row::CellShape;
-use crate::steps::{NodeStep, Step};
-use crate::table::CostTable;
+use crate::steps::{NodeStep, Step, asks_no_more, bare_outline, stands_freely};
+use cost_table::{CostTable, Costs, NodeCosts, fitting};
 use language::Rank;
 use segmented_vec::SegmentedVec;
 use std::alloc::{AllocError, Global};
@@ -42,7 +40,7 @@ fn take_back(step: &Step, pending: &mut OpenSums, table: &mut CostTable) -> Resu
     ensures { OnOk result (shown_sums pending.new table.new.rows.items ≡ taken step.now (shown_sums pending.old table.old.rows.items)) }
 {
     match step {
-        Step::Atom(kind) => table.push_free(*kind, CellShape::free(Rank::Primary)),
+        Step::Atom(kind) => table.push_free(*kind, Rank::Primary),
         Step::Leaf(visit) => add_leaf(visit, pending, table),
         Step::Enter(visit) => add_parent(visit, pending, table),
         Step::Leave => pending.enter(),
@@ -106,7 +104,7 @@ fn free_rank(visit: &NodeStep) -> Option<Rank>
     let Some(label) = visit.label else {
         return None;
     };
-    if !label.is_plain() || !label.stands_freely(visit.slot) {
+    if !asks_no_more(label) || !stands_freely(label, visit.slot) {
         return None;
     }
     Some(label.rank)
@@ -117,7 +115,7 @@ fn note_free(visit: &NodeStep, rank: Rank, table: &mut CostTable) -> Result<(), 
     ensures { OnOk result (table.new.rows.items ≡ table.old.rows.items ++ cond (has_row_at (slot_of visit.now.slot)) (row_with visit.now.kind (shaped (free_shape rank) 0) ∷ []) []) }
 {
     if visit.has_row() {
-        return table.push_free(visit.kind, CellShape::free(rank));
+        return table.push_free(visit.kind, rank);
     }
     Ok(())
 }
@@ -141,7 +139,7 @@ fn weigh(visit: &NodeStep, inner: Costs) -> NodeCosts
             costs: Costs::same(None),
         };
     };
-    let outline = label.outline();
+    let outline = bare_outline(label);
     NodeCosts {
         outline: Some(outline),
         costs: fitting(visit.position(), outline, inner),

@@ -2,13 +2,12 @@
 
 ghost use Rattle.std.specs.Prelude.{◌≡◌, [], ◌∷◌, true, reverse, OnOk};
 ghost use Rattle.spellings.specs.Outlines.{role_of, slot_of};
-ghost use Rattle.paren_planner.specs.Costs.{sums as sums_of};
+ghost use Rattle.cost_table.specs.Costs.{sums as sums_of, no_pairs, IsHeld};
 ghost use Rattle.paren_planner.specs.Pending.{here_of, outer_of};
-ghost use Rattle.paren_planner.specs.Steps.{innermost, others, no_pairs, IsHeld};
-ghost use Rattle.paren_planner.specs.Weighed.{uses as uses_of};
+ghost use Rattle.paren_planner.specs.Steps.{innermost, others};
+ghost use Rattle.cost_table.specs.Weighed.{uses as uses_of};
 
-use crate::costs::Costs;
-use crate::node_costs::{NodeCosts, is_free, uses};
+use cost_table::{Costs, NodeCosts, is_free, uses};
 use spellings::{Position, Slot};
 use std::alloc::{AllocError, Global};
 

@@ -4,17 +4,17 @@ ghost use Rattle.std.specs.Prelude.{◌≡◌, ◌≤◌, ◌↔◌, Option, Som
 ghost use Rattle.language.specs.Pieces.{script, fixed};
 ghost use Rattle.language.specs.Cost.{least};
 ghost use Rattle.language.specs.RowPositions.{rows};
-ghost use Rattle.paren_planner.specs.Costs.{capped};
+ghost use Rattle.cost_table.specs.Costs.{capped};
 ghost use Rattle.paren_planner.specs.Noted.{Steps};
 ghost use Rattle.paren_planner.specs.Plans.{HasPlan, IsPlan};
-ghost use Rattle.paren_planner.specs.Rows.{table_rows};
+ghost use Rattle.cost_table.specs.Rows.{table_rows};
 
 use crate::cost_pass::cost_pass;
 use crate::step_walk::visit_node;
 use crate::steps::Step;
-use crate::table::CostTable;
 use crate::wrap_pass::wrap_pass;
 use crate::wrap_plan::Plan;
+use cost_table::CostTable;
 use segmented_vec::SegmentedVec;
 use spellings::{Position, Slot};
 use std::alloc::{AllocError, Global};

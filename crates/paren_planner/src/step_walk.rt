@@ -13,11 +13,11 @@ ghost use Rattle.paren_planner.specs.declared.steps.Step.TheVariants.{Leaf};
 ghost use Rattle.spellings.specs.Productions.{outline_of};
 ghost use Rattle.paren_planner.specs.Noted.{Noted, PartsNoted, is_settled_slot, fixed_outline};
 ghost use Rattle.language.specs.declared.Rank.TheVariants.{Primary};
-ghost use Rattle.paren_planner.specs.Steps.{nowhere, slot_free};
-ghost use Rattle.paren_planner.specs.Weighed.{settled_at};
+ghost use Rattle.paren_planner.specs.Steps.{nowhere};
+ghost use Rattle.cost_table.specs.Weighed.{settled_at, slot_free};
 
-use crate::node_costs::widest;
-use crate::steps::{NodeStep, SpellingNeeds, Step, has_row};
+use crate::steps::{NodeStep, Step, has_row};
+use cost_table::widest;
 use grammar::accepts_rank;
 use language::{Rank, Start};
 use segmented_vec::SegmentedVec;
@@ -104,7 +104,7 @@ fn visit_at(
         kind,
         above: *above,
         slot: *slot,
-        label: Some(SpellingNeeds::of(production)),
+        label: Some(production.requirements()),
     };
     if node.part_count() == 0 {
         steps.push(Step::Leaf(visit))?;

@@ -2,82 +2,53 @@
 
 ghost use Rattle.std.specs.Prelude.{◌≡◌};
 ghost use Rattle.spellings.specs.Outlines.{role_of, slot_of};
-ghost use Rattle.spellings.specs.Spelled.{fits_outline};
-ghost use Rattle.spellings.specs.Productions.{outline_of as outline_of_production};
-ghost use Rattle.paren_planner.specs.Steps.{label_of, outline_of, place_of, has_row_at, is_plain_outline, role_free, slot_free};
+ghost use Rattle.paren_planner.specs.Steps.{outline_of, place_of, has_row_at};
+ghost use Rattle.cost_table.specs.Weighed.{is_plain_outline, role_free, slot_free};
 
-use crate::node_costs::{is_plain, widest};
+use cost_table::{is_plain, widest};
 use grammar::accepts_rank;
 use language::Rank;
-use spellings::{FirstToken, Outline, Position, Production, Slot, fits, resolve_slot};
+use spellings::{Outline, Position, Requirements, Slot, resolve_slot};
 use tree::Kind;
 
-/// What a spelling asks of the position that it stands at.
-#[derive(Clone, Copy)]
-pub(crate) struct SpellingNeeds {
-    pub rank: Rank,
-    pub needs_in: bool,
-    pub opens: FirstToken,
+/// An outline that requires the same, of no parts.
+pub(crate) fn bare_outline(requirements: Requirements) -> Outline
+    ensures { result ≡ outline_of requirements }
+{
+    Outline {
+        needs_in: requirements.needs_in,
+        opens: requirements.opens,
+        ..Outline::leaf(requirements.rank)
+    }
 }
 
-impl SpellingNeeds {
-    pub(crate) fn of(production: Production) -> SpellingNeeds
-        ensures { result ≡ label_of (outline_of_production production) }
-    {
-        let asks = production.requirements();
-        SpellingNeeds {
-            rank: asks.rank,
-            needs_in: asks.needs_in,
-            opens: asks.opens,
+/// Whether no In is required, and no brace and no word opens the spelling.
+pub(crate) fn asks_no_more(requirements: Requirements) -> bool
+    ensures { result ≡ is_plain_outline (outline_of requirements) }
+{
+    is_plain(bare_outline(requirements))
+}
+
+/// Whether what asks for no more than its symbol may stand at a slot, wherever the node above stands.
+pub(crate) fn stands_freely(requirements: Requirements, slot: Slot) -> bool
+    ensures { result ≡ slot_free (slot_of slot) requirements.rank }
+{
+    match slot {
+        Slot::Fixed(position) => stands_freely_at(requirements, position),
+        Slot::Left(rank) | Slot::Lead(rank) | Slot::Tail(rank, _) => {
+            accepts_rank(rank, requirements.rank)
         }
+        Slot::Callee => accepts_rank(Rank::Member, requirements.rank),
+        _ => true,
     }
+}
 
-    /// An outline that asks the same, of no parts.
-    pub(crate) fn outline(self) -> Outline
-        ensures { result ≡ outline_of self }
-    {
-        Outline {
-            needs_in: self.needs_in,
-            opens: self.opens,
-            ..Outline::leaf(self.rank)
-        }
-    }
-
-    /// Whether it asks for no In, and opens with no brace and no word.
-    pub(crate) fn is_plain(self) -> bool
-        ensures { result ≡ is_plain_outline (outline_of self) }
-    {
-        is_plain(self.outline())
-    }
-
-    /// Whether what asks for no more than its symbol may stand at a slot, wherever the node above stands.
-    pub(crate) fn stands_freely(self, slot: Slot) -> bool
-        ensures { result ≡ slot_free (slot_of slot) self.rank }
-    {
-        match slot {
-            Slot::Fixed(position) => self.stands_freely_at(position),
-            Slot::Left(rank) | Slot::Lead(rank) | Slot::Tail(rank, _) => {
-                accepts_rank(rank, self.rank)
-            }
-            Slot::Callee => accepts_rank(Rank::Member, self.rank),
-            _ => true,
-        }
-    }
-
-    fn stands_freely_at(self, position: Position) -> bool
-        ensures { result ≡ role_free (role_of position) self.rank }
-    {
-        match position {
-            Position::Expression { rank, .. } => accepts_rank(rank, self.rank),
-            _ => true,
-        }
-    }
-
-    /// Whether the spelling may stand there.
-    pub(crate) fn fits(self, position: Position) -> bool
-        ensures { result ≡ fits_outline (role_of position) (outline_of self) }
-    {
-        fits(position, self.outline())
+fn stands_freely_at(requirements: Requirements, position: Position) -> bool
+    ensures { result ≡ role_free (role_of position) requirements.rank }
+{
+    match position {
+        Position::Expression { rank, .. } => accepts_rank(rank, requirements.rank),
+        _ => true,
     }
 }
 
@@ -89,8 +60,8 @@ pub(crate) struct NodeStep {
     pub above: Position,
     /// Where it stands in the spelling of that node.
     pub slot: Slot,
-    /// None where it can't be spelled there.
-    pub label: Option<SpellingNeeds>,
+    /// What its spelling requires of its position; none where it can't be spelled there.
+    pub label: Option<Requirements>,
 }
 
 impl NodeStep {

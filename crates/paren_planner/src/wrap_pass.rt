@@ -6,12 +6,11 @@ ghost use Rattle.spellings.specs.Outlines.{role_of, slot_of};
 ghost use Rattle.paren_planner.specs.Steps.{has_row_at, stands_at};
 ghost use Rattle.paren_planner.specs.Marked.{round, shown_marks, marked, marked_through, at_the_start, flag_at, flag_of, round_at, round_of, plain_round, fits_label as label_fits};
 
-use crate::pair_count::{exceeds, is_zero, sum};
-use crate::steps::{NodeStep, SpellingNeeds, Step};
-use crate::table::CostTable;
+use crate::steps::{NodeStep, Step, bare_outline};
+use cost_table::{CostTable, exceeds, is_zero, sum};
 use language::{Rank, Start};
 use segmented_vec::SegmentedVec;
-use spellings::{Position, resolve_slot};
+use spellings::{Position, Requirements, fits, resolve_slot};
 use std::alloc::{AllocError, Global};
 
 /// Where the steps stand: the position of the innermost open node, as it is with its pair or without, and whether a node in it may be
@@ -152,7 +151,7 @@ fn wrap_parent(
     Ok(())
 }
 
-fn plain(position: Position, label: Option<SpellingNeeds>) -> WrapContext
+fn plain(position: Position, label: Option<Requirements>) -> WrapContext
     ensures { round result ≡ plain_round (role_of position) label }
 {
     WrapContext {
@@ -165,7 +164,7 @@ fn plain(position: Position, label: Option<SpellingNeeds>) -> WrapContext
 fn within(
     wants: bool,
     position: Position,
-    label: Option<SpellingNeeds>,
+    label: Option<Requirements>,
     table: &CostTable,
     row: usize,
 ) -> WrapContext
@@ -181,11 +180,11 @@ fn within(
     }
 }
 
-fn fits_label(label: Option<SpellingNeeds>, position: Position) -> bool
+fn fits_label(label: Option<Requirements>, position: Position) -> bool
     ensures { result ≡ label_fits (role_of position) label }
 {
     match label {
-        Some(label) => label.fits(position),
+        Some(label) => fits(position, bare_outline(label)),
         None => false,
     }
 }
@@ -209,7 +208,7 @@ const WHOLE: Position = Position::Expression {
 
 /// Whether the node of a row wants a pair round it at a position, by the row's index: where it costs more without one.
 fn wants_pair(
-    label: Option<SpellingNeeds>,
+    label: Option<Requirements>,
     position: Position,
     table: &CostTable,
     row: usize,

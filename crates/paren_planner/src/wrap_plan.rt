@@ -3,7 +3,7 @@
 ghost use Rattle.std.specs.Prelude.{◌≡◌};
 ghost use Rattle.paren_planner.specs.Wrapped.{is_flagged};
 
-use crate::table::CostTable;
+use cost_table::CostTable;
 
 /// Which nodes of a script are wrapped in a pair, by their row numbers, with the table of what each costs.
 #[derive(Drop)]

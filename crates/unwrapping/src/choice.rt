@@ -8,8 +8,8 @@ ghost use Rattle.spellings.specs.Wherever.{spelled_by};
 ghost use Rattle.unwrapping.specs.Ties.{costs_more};
 
 use crate::changes::{Addition, Changes, Closing};
+use cost_table::{CostTable, widest};
 use language::{Rank, Start};
-use paren_planner::{CostTable, widest};
 use spellings::{
     Position, Production, SlotCursor, admits, holds_chain, leads_chain, node_production,
     resolve_slot,

@@ -3,7 +3,7 @@
 use crate::choice::changes_of;
 use crate::reading::TreeReading;
 use crate::writer::rewritten;
-use paren_planner::CostTable;
+use cost_table::CostTable;
 use source_text::Source;
 use std::alloc::{AllocError, Global};
 use tree::{Pair, Program};

@@ -6,8 +6,8 @@ use Rattle.language.specs.declared.Start.TheVariants.{Any}
 use Rattle.language.specs.Pieces.{script}
 use Rattle.language.specs.RowPositions.{rows}
 use Rattle.language.specs.Claims.{row_nodes, bound_at}
-use Rattle.paren_planner.specs.Costs.{capped}
-use Rattle.paren_planner.specs.Tables.{table_of}
+use Rattle.cost_table.specs.Costs.{capped}
+use Rattle.cost_table.specs.Tables.{table_of}
 use Rattle.cost_certificate.specs.Checked.{shown}
 use Rattle.cost_certificate.specs.Faults.{first_fault}
 use Rattle.cost_certificate.specs.Walked.{wide_nodes, IsPassed}

@@ -9,11 +9,11 @@ use Rattle.spellings.specs.Remaining.{left}
 use Rattle.spellings.specs.Spelled.{settled_roles}
 use Rattle.spellings.specs.Wherever.{with_own}
 use Rattle.spellings.proofs.SlotSteps.{taken_some, taken_none}
-use Rattle.paren_planner.specs.Costs.{sums, same_everywhere}
-use Rattle.paren_planner.specs.Tables.{table_of}
-use Rattle.paren_planner.specs.Weighed.{settled_at}
-use Rattle.paren_planner.proofs.Sums.{zero-sums, zero-zero}
-use Rattle.paren_planner.proofs.NodeRowNumbers.{chained_at}
+use Rattle.cost_table.specs.Costs.{sums, same_everywhere}
+use Rattle.cost_table.specs.Tables.{table_of}
+use Rattle.cost_table.specs.Weighed.{settled_at}
+use Rattle.cost_table.proofs.Sums.{zero-sums, zero-zero}
+use Rattle.cost_table.proofs.NodeRowNumbers.{chained_at}
 use Rattle.language.specs.Claims.{parts_bound}
 use Rattle.cost_certificate.specs.Walked.{wide_nodes, parts_wide_nodes, bounds_over, IsPassed, IsInside, IsBounded}
 use Rattle.cost_certificate.proofs.CheckedRows.{passed_same, one_passed}
@@ -190,7 +190,7 @@ check_parts-loop-place-preserved t c =
     let b = c.loop-place.invariant.passed in
     record {
       added = bounds_turn T _ _ _ _ _ u a x (left c.loop-place.slots) (left c.in-Some-next_slot.others) w c.loop-place.passed.next c.joined-passed.result.next c.loop-place.invariant.added p e q c.added-sums.ensures next;
-      whole = Rattle.paren_planner.proofs.NodeRowNumbers.whole_turn _ _ _ c.added-sums.ensures;
+      whole = Rattle.cost_table.proofs.NodeRowNumbers.whole_turn _ _ _ c.added-sums.ensures;
       few = omega (arith, few, counts, next);
       passed = record {
         nodes = b.nodes ++ wide_nodes u (settled_at a x);

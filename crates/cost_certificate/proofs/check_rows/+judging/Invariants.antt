@@ -6,8 +6,8 @@ use Rattle.language.specs.RowPositions.{parts_rows}
 use Rattle.spellings.specs.Outlines.{role_of}
 use Rattle.spellings.specs.Remaining.{left}
 use Rattle.spellings.specs.Spelled.{settled_roles}
-use Rattle.paren_planner.specs.Costs.{sums, same_everywhere}
-use Rattle.paren_planner.specs.Tables.{table_of}
+use Rattle.cost_table.specs.Costs.{sums, same_everywhere}
+use Rattle.cost_table.specs.Tables.{table_of}
 use Rattle.cost_certificate.specs.Walked.{bounds_over, parts_wide_nodes}
 use Rattle.cost_certificate.proofs.CheckedRows.{Before}
 use Rattle.cost_certificate.proofs.check_rows.+judging.Given as goal

@@ -2,7 +2,7 @@ use Rattle.std.proofs.Common.{◌≡◌, ◌+◌, ◌-◌, ◌<◌, ◌∙◌, a
 use Rattle.std.specs.Prelude.{slice_index_or}
 use Rattle.tree.specs.Node.{node_tree}
 use Rattle.tree.specs.Tree.{kind_of}
-use Rattle.paren_planner.specs.Rows.{shown}
+use Rattle.cost_table.specs.Rows.{shown}
 use Rattle.cost_certificate.specs.Types.{same_type}
 use Rattle.cost_certificate.specs.Walked.{Matched}
 use Rattle.cost_certificate.proofs.CellRows.{any_row}

@@ -1,6 +1,6 @@
 use Rattle.std.proofs.Common.{arith, ◌+◌, length, length-append, ap, sym, ◌∙◌, subst}
 use Rattle.std.specs.Prelude.{map}
-use Rattle.paren_planner.specs.Rows.{shown}
+use Rattle.cost_table.specs.Rows.{shown}
 use Rattle.cost_certificate.specs.Forms.{read_text, read_rows, split_lines, split_words}
 use Rattle.cost_certificate.specs.Words.{IsLine, format_of}
 use Rattle.cost_certificate.proofs.Fronts.{is_none, is_some}

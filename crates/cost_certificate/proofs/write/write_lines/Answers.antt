@@ -1,8 +1,8 @@
 use Rattle.std.proofs.Common.{◌≡◌, ◌<◌, ◌+◌, ◌∙◌, ◌++◌, ◌∷◌, [], length, drop, arith, ap, sym, suc, subst}
 use Rattle.std.specs.Prelude.{slice_index_or}
 use Rattle.source_text.specs.Writing.{WritesText}
-use Rattle.paren_planner.specs.Rows.{shown}
-use Rattle.paren_planner.specs.Tables.{table_of}
+use Rattle.cost_table.specs.Rows.{shown}
+use Rattle.cost_table.specs.Tables.{table_of}
 use Rattle.cost_certificate.specs.Forms.{short, row_line, total_line, lines_text, table_lines, table_text}
 use Rattle.cost_certificate.proofs.CellRows.{any_row}
 use Rattle.cost_certificate.proofs.WrittenLines.{upto, upto_row, upto_total, upto_rest, sent_begun, sent_more, sent_last}

@@ -4,7 +4,7 @@ use Rattle.language.specs.Pieces.{script}
 use Rattle.language.specs.RowPositions.{rows}
 use Rattle.language.specs.Cost.{least}
 use Rattle.paren_planner.specs.Plans.{IsPlan}
-use Rattle.cost_certificate.proofs.PlanForms.{plan_short}
+use Rattle.plan_laws.proofs.PlanForms.{plan_short}
 use Rattle.lint.proofs.PlannedScripts.{script_spelled, script_few}
 use Rattle.lint.proofs.VerifyAnswers.{planned}
 use Rattle.lint.proofs.cost_commands.cost.Goals as goal

@@ -4,7 +4,7 @@ use Rattle.tree.specs.Tree.{Tree, SameTree}
 use Rattle.language.specs.Claims.{Derives}
 use Rattle.language.specs.Pieces.{script}
 use Rattle.language.specs.RowPositions.{rows}
-use Rattle.paren_planner.specs.Tables.{table_of}
+use Rattle.cost_table.specs.Tables.{table_of}
 use Rattle.cost_certificate.specs.Checked.{Answers as Judges}
 use Rattle.cost_certificate.specs.Faults.{first_fault}
 use Rattle.lint.specs.Outputs.{pairs_line}

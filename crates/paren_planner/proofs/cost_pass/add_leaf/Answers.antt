@@ -1,5 +1,5 @@
-use Rattle.paren_planner.specs.Packed.{free_shape, shaped}
-use Rattle.paren_planner.specs.Rows.{row_with}
+use Rattle.cost_table.specs.Packed.{free_shape, shaped}
+use Rattle.cost_table.specs.Rows.{row_with}
 use Rattle.paren_planner.proofs.BackwardSteps.{free_joined}
 use Rattle.paren_planner.proofs.cost_pass.add_leaf.Goals as goal
 

@@ -1,6 +1,6 @@
 use Rattle.std.proofs.Common.{sym, subst}
 use Rattle.paren_planner.specs.Pending.{outer_of}
-use Rattle.paren_planner.specs.Steps.{IsHeld}
+use Rattle.cost_table.specs.Costs.{IsHeld}
 use Rattle.paren_planner.proofs.BackwardSteps.{innermost_held, parent_taken}
 use Rattle.paren_planner.proofs.cost_pass.add_parent.Goals as goal
 

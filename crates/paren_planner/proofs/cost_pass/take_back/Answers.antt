@@ -1,15 +1,10 @@
-use Rattle.std.proofs.Common.{◌≡◌, ◌++◌, ◌∷◌, [], subst}
-use Rattle.std.specs.Prelude.{OnOk}
-use Rattle.paren_planner.specs.Packed.{shaped}
-use Rattle.paren_planner.specs.Rows.{row_with}
 use Rattle.paren_planner.specs.declared.steps.Step.TheVariants.{Leaf, Enter}
 use Rattle.paren_planner.proofs.BackwardSteps.{word_taken, step_taken, leave_taken}
 use Rattle.paren_planner.proofs.cost_pass.take_back.Goals as goal
 
 pub returns-in-Atom : goal.returns-in-Atom
 returns-in-Atom c =
-    word_taken c.push_free.result c.args.step.now c.in-Atom.kind c.args.pending.now c.args.table.now.rows.items c.push_free.new.self.rows.items c.in-Atom.is
-    (subst (λ s. OnOk c.push_free.result (c.push_free.new.self.rows.items ≡ c.args.table.now.rows.items ++ row_with c.in-Atom.kind (shaped s 0) ∷ [])) c.free.ensures c.push_free.ensures)
+    word_taken c.push_free.result c.args.step.now c.in-Atom.kind c.args.pending.now c.args.table.now.rows.items c.push_free.new.self.rows.items c.in-Atom.is c.push_free.ensures.rows
 
 pub returns-in-Leaf : goal.returns-in-Leaf
 returns-in-Leaf c = step_taken c.add_leaf.result c.args.step.now (Leaf c.in-Leaf.visit) _ _ c.in-Leaf.is c.add_leaf.ensures

@@ -10,7 +10,7 @@ use Rattle.spellings.specs.Remaining.{left}
 use Rattle.spellings.specs.Wherever.{spelled_by, chain_above}
 use Rattle.spellings.specs.Cursors.{left_by}
 use Rattle.paren_planner.specs.Noted.{PartsNoted}
-use Rattle.paren_planner.proofs.NodeRowNumbers.{chained_at}
+use Rattle.cost_table.proofs.NodeRowNumbers.{chained_at}
 use Rattle.paren_planner.proofs.WalkSteps.{Begun, begun_first, begun_skip, begun_stop, begun_finish, begun_next, noted_unspelled, noted_alone, noted_around, noted_word, noted_hidden, noted_through, outline_fixed}
 use Rattle.paren_planner.proofs.step_walk.+visiting.Goals as goal
 
@@ -67,13 +67,13 @@ visit_at-returns-in_default t c =
 
 pub visit_at-returns-then-part_count-eq0 : goal.visit_at-returns-then-part_count-eq0
 visit_at-returns-then-part_count-eq0 t c =
-    noted_alone (role_of c.args.above.now) (role_of c.widest_of-own.result) (slot_of c.args.slot.now) (node_tree c.args.node) (record { kind = c.kind-kind.result; above = c.args.above.now; slot = c.args.slot.now; label = Some c.of.result }) (spelled_by c.args.node c.widest_of-own.result c.in-Some.production) c.args.steps.now c.push-then-part_count-eq0.new.self
-    (record { kind = c.kind-kind.ensures; above = refl; slot = refl }) (ap (λ l. Some l) c.of.ensures) (c.widest_of-own.ensures (role_of c.args.above.now)) c.in-Some.ensures.ways (sym c.part_count.ensures ∙ c.if-part_count-eq0.true) c.in_ok-push-2.ensures.items
+    noted_alone (role_of c.args.above.now) (role_of c.widest_of-own.result) (slot_of c.args.slot.now) (node_tree c.args.node) (record { kind = c.kind-kind.result; above = c.args.above.now; slot = c.args.slot.now; label = Some c.requirements.result }) (spelled_by c.args.node c.widest_of-own.result c.in-Some.production) c.args.steps.now c.push-then-part_count-eq0.new.self
+    (record { kind = c.kind-kind.ensures; above = refl; slot = refl }) (ap (λ l. Some l) c.requirements.ensures) (c.widest_of-own.ensures (role_of c.args.above.now)) c.in-Some.ensures.ways (sym c.part_count.ensures ∙ c.if-part_count-eq0.true) c.in_ok-push-2.ensures.items
 
 pub visit_at-returns : goal.visit_at-returns
 visit_at-returns t c =
-    noted_around (role_of c.args.above.now) (role_of c.widest_of-own.result) (slot_of c.args.slot.now) (node_tree c.args.node) (record { kind = c.kind-kind.result; above = c.args.above.now; slot = c.args.slot.now; label = Some c.of.result }) (spelled_by c.args.node c.widest_of-own.result c.in-Some.production) c.args.steps.now c.push-2.new.self c.visit_parts-2.new.steps c.push-3.new.self
-    (record { kind = c.kind-kind.ensures; above = refl; slot = refl }) (ap (λ l. Some l) c.of.ensures) (c.widest_of-own.ensures (role_of c.args.above.now)) c.in-Some.ensures.ways c.in_ok-push-3.ensures.items c.in_ok-visit_parts.ensures c.in_ok-push-4.ensures.items
+    noted_around (role_of c.args.above.now) (role_of c.widest_of-own.result) (slot_of c.args.slot.now) (node_tree c.args.node) (record { kind = c.kind-kind.result; above = c.args.above.now; slot = c.args.slot.now; label = Some c.requirements.result }) (spelled_by c.args.node c.widest_of-own.result c.in-Some.production) c.args.steps.now c.push-2.new.self c.visit_parts-2.new.steps c.push-3.new.self
+    (record { kind = c.kind-kind.ensures; above = refl; slot = refl }) (ap (λ l. Some l) c.requirements.ensures) (c.widest_of-own.ensures (role_of c.args.above.now)) c.in-Some.ensures.ways c.in_ok-push-3.ensures.items c.in_ok-visit_parts.ensures c.in_ok-push-4.ensures.items
 
 pub visit_atom-returns-then-not-has_row : goal.visit_atom-returns-then-not-has_row
 visit_atom-returns-then-not-has_row t c =

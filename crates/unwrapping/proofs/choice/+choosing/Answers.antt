@@ -5,7 +5,7 @@ use Rattle.tree.proofs.PartWalk.{part_smaller}
 use Rattle.language.specs.Expressions.{first_has_optional}
 use Rattle.spellings.specs.Productions.{outline_of}
 use Rattle.spellings.specs.Wherever.{chain_above}
-use Rattle.paren_planner.proofs.NodeRowNumbers.{chained_at}
+use Rattle.cost_table.proofs.NodeRowNumbers.{chained_at}
 use Rattle.unwrapping.proofs.choice.+choosing.Goals as goal
 
 pub choose_parts-choose_node-requires : goal.choose_parts-choose_node-requires

@@ -1,5 +1,0 @@
-use Rattle.cost_certificate.proofs.PlanForms.{plan_short}
-use Rattle.cost_certificate.proofs.laws.plan_is_short.Goals as goal
-
-pub returns : goal.returns
-returns c = λ n p few h. plan_short n p few h

@@ -1,5 +1,0 @@
-use Rattle.cost_certificate.proofs.PlanTables.{plan_sound}
-use Rattle.cost_certificate.proofs.laws.plan_is_sound.Goals as goal
-
-pub returns : goal.returns
-returns c = λ n p h. plan_sound n p h

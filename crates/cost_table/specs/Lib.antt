@@ -1,0 +1,5 @@
+pub mod Costs
+pub mod Weighed
+pub mod Rows
+pub mod Packed
+pub mod Tables

@@ -1,5 +1,0 @@
-use Rattle.std.proofs.Common.{rules}
-use Rattle.paren_planner.proofs.costs.Costs.cells.Goals as goal
-
-pub returns : goal.returns
-returns c = search rules

@@ -1,5 +1,0 @@
-use Rattle.std.proofs.Common.{rules}
-use Rattle.paren_planner.proofs.node_costs.fitted.Goals as goal
-
-pub returns-then-fits : goal.returns-then-fits
-returns-then-fits c = search rules

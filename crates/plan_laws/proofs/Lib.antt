@@ -1,0 +1,2 @@
+pub mod PlanTables
+pub mod PlanForms
