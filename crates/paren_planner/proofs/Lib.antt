@@ -16,6 +16,7 @@ pub mod Heavy
 pub mod Bytes
 pub mod Plans
 mod ExtraExamples
+mod RowStarts
 pub mod PairRows
 pub mod Somewhere
 pub mod LaidTokens

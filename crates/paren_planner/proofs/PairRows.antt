@@ -24,7 +24,7 @@ use Rattle.language.specs.Cursor.{beginning}
 use Rattle.language.specs.Derivation.{Among, Step, token, with_mark, without_mark, one_more, no_more, seen, same_line, explicit, implicit, laid, Placed, placed, Spells, direct, grouped, Runs, done, step, opened, closed, within, missing}
 use Rattle.language.specs.Grammar.{ways, ways_bare, spellings, fits_position, can_run, own_rank, own_in, own_start}
 use Rattle.language.specs.RowPositions.{roles, first_roles, widest, has_row, rows, parts_rows}
-use Rattle.language.specs.Claims.{row_nodes, parts_row_nodes}
+use Rattle.language.specs.Claims.{row_nodes, parts_row_nodes, Derives}
 use Rattle.language.proofs.table.LooserPositions.{Looser, same, looser, looser_spine, looser_pattern, AllLooser, end, next}
 use Rattle.language.proofs.lower_bound.Domination.{settled, fits, ways_of, Tidy, none_at_all, one_way, two_ways, Among-one, Among-two}
 use Rattle.language.proofs.table.TidyTable.{tidy_table}
@@ -34,6 +34,7 @@ use Rattle.spellings.specs.Groupings.{grouping, row_starts, row_after}
 use Rattle.spellings.proofs.Slots.{is_wide, all_pass, parts_wide}
 use Rattle.cost_table.proofs.Known.{takes_all}
 use Rattle.cost_table.proofs.RowNodes.{wide_itself, wide_start, nodes-length}
+use Rattle.paren_planner.proofs.RowStarts.{row_by_position}
 use Rattle.paren_planner.specs.PairNodes.{pair_nodes, run_pair_nodes, node_of_row, PairsHaveTheirRows, is_direct, pair_rows, run_pair_rows, spans_but_needed, ExtraPairsAreExtra}
 use Rattle.paren_planner.specs.Extra.{extra_spans, span_of, is_innermost}
 use Rattle.paren_planner.specs.Wrapped.{is_flagged}
@@ -476,11 +477,13 @@ first_rows text o n last P u d =
     let f = spells_found Token (NextIn text any_goal) itself (λ p. IsCharBoundary text p.stop) (λ p. p.stop) (text_past text u) ((text_determined text).start) d first [] (λ t e q. tt) in
     ap (λ x. map (λ p. first_behind x p.left) P) (sym (append-nil (row_nodes n script))) ∙ f.rows []
 
-row_found : (n : Tree) (p : Pair) → node_of_row n (grouping (row_starts n) p).row ≡ first_behind (row_nodes n script) p.left
-row_found n p = number_is n (row_after (row_starts n) p.left 1) ∙ numbered (row_nodes n script) (row_nodes n script) 0 p.left refl
+row_found : (text : List ℕ) (n : Tree) (P : List Pair) → Derives text n P → (p : Pair) → node_of_row n (grouping (row_starts n) p).row ≡ first_behind (row_nodes n script) p.left
+row_found text n P d p =
+    ap (node_of_row n) (row_by_position text n P d p.left) ∙ number_is n (row_after (map start_of (row_nodes n script)) p.left 1)
+    ∙ numbered (row_nodes n script) (row_nodes n script) 0 p.left refl
 
 pub pairs_have_rows : PairsHaveTheirRows
-pairs_have_rows text o n last P u d = (λ j. map (λ p. row_found n p j) P) ∙ first_rows text o n last P u d
+pairs_have_rows text o n last P u d = (λ j. map (λ p. row_found text n P (o, (last, d)) p j) P) ∙ first_rows text o n last P u d
 
 -- Which pair is the innermost of its node, by the rows of neighbours
 
@@ -611,7 +614,7 @@ unfolding nodes UpTo AllUpTo Numbered row_in
 script_rows text o n last P u d =
     let first : IsCharBoundary text 0 = IsCharBoundary-from_drop text 0 (omega arith) u in
     let f = spells_numbered Token (NextIn text any_goal) itself (λ p. IsCharBoundary text p.stop) (λ p. p.stop) (text_past text u) ((text_determined text).start) d first [] (λ t e q. tt) 1 refl in
-    ap (λ x. map (λ p. row_after (map start_of x) p.left 1) P) (sym (append-nil (row_nodes n script))) ∙ f []
+    (λ j. map (λ p. row_by_position text n P (o, (last, d)) p.left j) P) ∙ ap (λ x. map (λ p. row_after (map start_of x) p.left 1) P) (sym (append-nil (row_nodes n script))) ∙ f []
 
 script_told : (text : List ℕ) (o : ℕ) (n : Tree) (last : Token) (P : List Pair) → (d : SpellsIn text o script n beginning last P) → Told (pair_rows ways Token (NextIn text any_goal) itself d 1)
 unfolding AllFrom Told

@@ -22,5 +22,5 @@ pub mod Slots
 pub mod Cursors
 pub mod LeafOutlines
 pub mod SlotSteps
-pub mod StartRows
+mod StartsByRow
 mod GroupingExamples

@@ -1,19 +1,10 @@
 //! Which node stands in each grouping pair.
 
-ghost use Rattle.std.specs.Prelude.{◌≡◌, ◌++◌, ◌<◌, length, map, true, IfOk, OnOk};
-ghost use Rattle.tree.specs.Node.{node_tree};
-ghost use Rattle.tree.specs.Tree.{parts_of, start_of};
-ghost use Rattle.language.specs.Expressions.{has_optional, first_has_optional};
-ghost use Rattle.spellings.specs.Outlines.{role_of};
-ghost use Rattle.spellings.specs.Spelled.{settled_roles};
-ghost use Rattle.spellings.specs.Remaining.{left};
-ghost use Rattle.spellings.specs.Groupings.{grouping, row_starts, node_starts, part_starts, own_starts, opened as opened_role, row_after, row_at, Passed};
+ghost use Rattle.std.specs.Prelude.{◌≡◌, length, map, IfOk};
+ghost use Rattle.spellings.specs.Groupings.{grouping, row_starts, with_start, row_after, row_at, Passed};
 
-use crate::position::{Position, WHOLE};
-use crate::spelled_node::{NodeSpelling, leads_chain, node_spelling};
-use crate::spelling::{fits, resolve_slot};
 use std::alloc::{AllocError, Global};
-use tree::{Node, Pair, Program};
+use tree::{Pair, Program};
 
 /// A grouping pair, and the row of the node in it.
 #[derive(Clone, Copy, Debug, PartialEq, Eq)]
@@ -46,9 +37,33 @@ pub fn pair_rows(
 ) -> Result<Vec<PairRow>, AllocError>
     ensures { IfOk result (λ found. found.items ≡ map (grouping (row_starts program.now)) pairs.now) }
 {
-    let mut starts = Vec::new(alloc);
-    push_starts(program.root(), Position::Script, false, &mut starts)?;
+    let starts = starts_by_row(alloc, program)?;
     grouped(alloc, &starts, pairs)
+}
+
+/// Where the rows of a script start, by their numbers; 0 behind the last.
+fn starts_by_row(alloc: Global, program: &Program<'_>) -> Result<Vec<usize>, AllocError>
+    ensures { IfOk result (λ starts. starts.items ≡ row_starts program.now) }
+{
+    let mut starts = vec![in alloc; 0usize; program.node_count()]?;
+    for number in 0..program.node_count() {
+        let node = program.node(number);
+        set_start(&mut starts, node.row(), node.span().start);
+    }
+    Ok(starts)
+}
+
+/// Sets where a row starts, if a node has one.
+fn set_start(starts: &mut Vec<usize>, row: Option<u32>, start: usize)
+    ensures { starts.new.items ≡ with_start starts.old.items row start }
+{
+    let Some(row) = row else {
+        return;
+    };
+    let row = row as usize;
+    if row > 0 && row <= starts.len() {
+        starts[row - 1] = start;
+    }
 }
 
 /// Each pair with the first of the rows, by where they start, that starts behind it.
@@ -105,75 +120,4 @@ fn row_number(starts: &[usize], index: usize) -> usize
         return index + 1;
     }
     0
-}
-
-/// Adds where the rows of a node at a position start, its own before those of its parts. `in_chain`: the node is known to be part of a
-/// chain, with a `?.` in it or below it.
-#[cycle(starting)]
-fn push_starts(
-    node: Node,
-    position: Position,
-    in_chain: bool,
-    starts: &mut Vec<usize>,
-) -> Result<(), AllocError>
-    requires { in_chain ≡ true → has_optional (node_tree node) ≡ true }
-    ensures { OnOk result (starts.new.items ≡ starts.old.items ++ node_starts (node_tree node.entry) (role_of position)) }
-{
-    push_own_start(node, position, starts)?;
-    let own = opened(position);
-    let Some(spelled) = node_spelling(node, own, in_chain) else {
-        return Ok(());
-    };
-    if !fits(own, spelled.outline) {
-        return Ok(());
-    }
-    push_part_starts(node, own, spelled, starts)
-}
-
-/// The same of a node's parts.
-#[cycle(starting)]
-#[tactic(auto, using(tree::proofs::PartWalk::part_steps))]
-fn push_part_starts(
-    node: Node,
-    own: Position,
-    spelled: NodeSpelling,
-    starts: &mut Vec<usize>,
-) -> Result<(), AllocError>
-    requires { spelled.holds_chain ≡ true → first_has_optional (parts_of (node_tree node)) ≡ true }
-    ensures { OnOk result (starts.new.items ≡ starts.old.items ++ part_starts (parts_of (node_tree node.entry)) (settled_roles (role_of own) (left spelled.entry.slots))) }
-{
-    let mut slots = spelled.slots;
-    for index in 0..node.part_count() {
-        let Some(part) = node.part(index) else {
-            continue;
-        };
-        let Some((slot, others)) = slots.next_slot() else {
-            return Ok(());
-        };
-        slots = others;
-        let in_chain = leads_chain(spelled.holds_chain, index);
-        push_starts(part, resolve_slot(own, slot), in_chain, starts)?;
-    }
-    Ok(())
-}
-
-/// Adds where a node starts, if it has a row.
-fn push_own_start(node: Node, position: Position, starts: &mut Vec<usize>) -> Result<(), AllocError>
-    ensures { OnOk result (starts.new.items ≡ starts.old.items ++ own_starts (role_of position) (start_of (node_tree node.entry))) }
-{
-    if !matches!(position, Position::Expression { .. }) {
-        return Ok(());
-    }
-    starts.push(node.span().start)?;
-    Ok(())
-}
-
-/// The position of a node without its row: a node with a row has the same rows below it at each symbol, In and start.
-fn opened(position: Position) -> Position
-    ensures { role_of result ≡ opened_role (role_of position) }
-{
-    match position {
-        Position::Expression { .. } => WHOLE,
-        _ => position,
-    }
 }
