@@ -6,7 +6,9 @@ use Rattle.std.specs.Hash.DefaultHasher as sip
 use Rattle.std.specs.declared.hash.DefaultHasher.{DefaultHasher}
 use Rattle.tree.specs.declared.kind.Kind.{Kind}
 use Rattle.tree.specs.declared.kind.Kind.TheVariants.{Identifier, VariableDeclarator, FunctionDeclaration, FunctionExpression, ArrowFunctionExpression, ClassDeclaration, ClassExpression, CatchClause, ArrayPattern, ObjectPattern, Property, RestElement, AssignmentPattern}
-use Rattle.tree.specs.Tree.{Tree, node, Parts, none, part, gap, kind_of, parts_of}
+use Rattle.tree.specs.Tree.{Tree, kind_of, parts_of, text_of}
+use Rattle.tree.specs.Flat.{post_order}
+use Rattle.name_tables.specs.BoundNames.{each_part}
 
 -- SipHash when it has read nothing yet, one more name, or some more
 abbrev pub nothing_read : DefaultHasher
@@ -49,16 +51,18 @@ abbrev pub is_identifier : Kind → Bool
 is_identifier Identifier = true
 is_identifier _ = false
 
-unfoldable mutual
-  -- the names that scopes may declare, among some parts and in them: those among them only where `b` says so
-  pub declarable_names_of_parts : Bool → Parts → List (List ℕ)
-  declarable_names_of_parts b none = []
-  declarable_names_of_parts b (part t ps) = declarable_names_of_part b t ++ declarable_names_of_parts b ps
-  declarable_names_of_parts b (gap ps) = declarable_names_of_parts b ps
+-- the name that a node is, if it is one
+abbrev pub identifier_name : Tree → List (List ℕ)
+identifier_name t = cond (is_identifier (kind_of t)) (text_of t ∷ []) []
 
-  pub declarable_names_of_part : Bool → Tree → List (List ℕ)
-  declarable_names_of_part b (node k w g s e ps) = cond (is_identifier k) (cond b (w ∷ []) []) (declarable_names_of_parts (may_declare k) ps)
+-- the names among a node's parts that scopes may declare
+abbrev pub declarable_among : Tree → List (List ℕ)
+declarable_among t = cond (may_declare (kind_of t)) (each_part identifier_name (parts_of t)) []
 
--- the names in a tree that scopes may declare
+abbrev pub among_each : List Tree → List (List ℕ)
+among_each [] = []
+among_each (t ∷ ts) = declarable_among t ++ among_each ts
+
+-- the names in a tree that scopes may declare, node by node, each behind its parts
 abbrev pub declarable_names : Tree → List (List ℕ)
-declarable_names t = declarable_names_of_parts (may_declare (kind_of t)) (parts_of t)
+declarable_names t = among_each (post_order t)

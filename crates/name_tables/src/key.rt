@@ -1,11 +1,12 @@
 //! The key under which a script's names are hashed.
 
-ghost use Rattle.std.specs.Prelude.{◌≡◌};
+ghost use Rattle.std.specs.Prelude.{◌≡◌, option_map};
 ghost use Rattle.tree.specs.Node.{node_tree};
-ghost use Rattle.name_tables.specs.Keys.{declarable_names, declarable_names_of_part, is_identifier, key_of, keyed_by, may_declare, nothing_read, read_name, read_names};
+ghost use Rattle.name_tables.specs.PatternParts.{at_part};
+ghost use Rattle.name_tables.specs.Keys.{declarable_among, declarable_names, identifier_name, is_identifier, key_of, keyed_by, may_declare, nothing_read, read_name, read_names};
 
 use std::hash::{BuildHasher, DefaultHasher, Hash, Hasher};
-use tree::{Kind, Node};
+use tree::{Kind, Node, Program};
 
 /// The key under which a table hashes its names, by SipHash. It is drawn before the first look-up from all names that can get
 /// into the table: who writes a script chooses its names, but with each choice the key is another. No answer depends on it.
@@ -16,12 +17,14 @@ pub struct HashKey {
 }
 
 impl HashKey {
-    /// The key that is drawn from all names of a tree that scopes may declare.
-    pub fn drawn_from(root: Node) -> HashKey
-        ensures { result.keyed ≡ key_of (declarable_names (node_tree root.entry)) }
+    /// The key that is drawn from all names of a script that its scopes may declare.
+    pub fn drawn_from(program: &Program) -> HashKey
+        ensures { result.keyed ≡ key_of (declarable_names program.now) }
     {
         let mut builder = KeyBuilder::new();
-        add_declarable_names(root, &mut builder);
+        for number in 0..program.node_count() {
+            add_declarable_names(program.node(number), &mut builder);
+        }
         builder.build()
     }
 }
@@ -74,30 +77,27 @@ impl BuildHasher for HashKey {
     }
 }
 
-/// Draws the names in a node that scopes may declare.
-#[cycle(drawing)]
-#[tactic(auto, using(tree::proofs::PartWalk::part_steps))]
+/// Draws the names among a node's parts, where scopes may declare them.
 fn add_declarable_names(node: Node, builder: &mut KeyBuilder)
-    ensures { builder.new.hasher ≡ read_names builder.old.hasher (declarable_names (node_tree node.entry)) }
+    ensures { builder.new.hasher ≡ read_names builder.old.hasher (declarable_among (node_tree node.entry)) }
 {
-    let declares = may_declare(node.kind());
+    if !may_declare(node.kind()) {
+        return;
+    }
     let parts = node.parts();
     for index in 0..parts.len() {
-        if let Some(part) = parts.get(index) {
-            add_declarable_names_of_part(part, declares, builder);
-        }
+        add_name(parts.get(index), builder);
     }
 }
 
-/// Those of a part: a name only where the node above may declare it.
-#[cycle(drawing)]
-#[tactic(auto, using(tree::proofs::PartWalk::part_steps))]
-fn add_declarable_names_of_part(part: Node, declares: bool, builder: &mut KeyBuilder)
-    ensures { builder.new.hasher ≡ read_names builder.old.hasher (declarable_names_of_part declares (node_tree part.entry)) }
+/// Draws a part that is a name.
+fn add_name(part: Option<Node>, builder: &mut KeyBuilder)
+    ensures { builder.new.hasher ≡ read_names builder.old.hasher (at_part identifier_name (option_map node_tree part.entry)) }
 {
-    if !is_identifier(part.kind()) {
-        add_declarable_names(part, builder);
-    } else if declares {
+    let Some(part) = part else {
+        return;
+    };
+    if is_identifier(part.kind()) {
         builder.add(part.text());
     }
 }

@@ -37,7 +37,7 @@ pub fn resolve<'t>(alloc: Global, program: &'t Program<'_>) -> Result<Scopes<'t>
         alloc,
         scopes: Vec::new(alloc),
         references: Vec::new(alloc),
-        meanings: NameTable::new(alloc, HashKey::drawn_from(program.root())),
+        meanings: NameTable::new(alloc, HashKey::drawn_from(program)),
         names: Vec::new(alloc),
     };
     let outside = Context {
