@@ -10,7 +10,8 @@ use Rattle.early_errors.specs.Around.{Around, is_method, within}
 use Rattle.early_errors.specs.Passed.{IsOpen}
 use Rattle.early_errors.specs.Names.{var_names, parts_vars}
 use Rattle.early_errors.specs.Early.{Error, own_errors, errors_within, parts_errors}
-use Rattle.early_errors.specs.Walk.{sooner, after, hits, Agree}
+use Rattle.name_tables.specs.Tables.{Agree}
+use Rattle.early_errors.specs.Walk.{sooner, after, hits}
 use Rattle.early_errors.proofs.JoinedHits.{joined}
 use Rattle.early_errors.proofs.PartsByKind.{same_round}
 use Rattle.early_errors.proofs.Least.{sooner-none}

@@ -4,7 +4,8 @@ use Rattle.tree.specs.declared.kind.Kind.TheVariants.{BlockStatement, ClassBody,
 use Rattle.tree.specs.declared.kind.Form.TheVariants.{Constructor, Get, Method, Set}
 use Rattle.tree.specs.Tree.{Tree, gap, none, part}
 use Rattle.early_errors.specs.Early.{errors, least_error}
-use Rattle.early_errors.proofs.Trees.{computing, computed, formed, id, n, one, static_one, t, three, two}
+use Rattle.language.proofs.examples.Trees.{computed, formed, id, n, one, static_one, t, three, two}
+use Rattle.early_errors.proofs.Trees.{computing}
 
 -- `class A { constructor() {} constructor() {} }`
 pub two_constructors : errors (n Program 0 45 (one (n ClassDeclaration 0 45 (part (id "A" 6) (gap (one (n ClassBody 8 45 (two (formed Constructor (n MethodDefinition 10 26 (two (id "constructor" 10) (n FunctionExpression 21 26 (gap (one (n BlockStatement 24 26 none))))))) (formed Constructor (n MethodDefinition 27 43 (two (id "constructor" 27) (n FunctionExpression 38 43 (gap (one (n BlockStatement 41 43 none))))))))))))))) ≡ (17, 27) ∷ []

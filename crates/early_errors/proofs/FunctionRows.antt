@@ -4,7 +4,8 @@ use Rattle.tree.specs.declared.kind.Kind.TheVariants.{ArrayPattern, ArrowFunctio
 use Rattle.tree.specs.declared.kind.Form.TheVariants.{Method}
 use Rattle.tree.specs.Tree.{gap, none, part}
 use Rattle.early_errors.specs.Early.{errors}
-use Rattle.early_errors.proofs.Trees.{computing, directive, formed, id, n, one, short, t, three, two}
+use Rattle.language.proofs.examples.Trees.{directive, formed, id, n, one, short, t, three, two}
+use Rattle.early_errors.proofs.Trees.{computing}
 
 -- `(a, a) => a`
 pub parameter_twice : errors (n Program 0 11 (one (n ExpressionStatement 0 11 (one (short (n ArrowFunctionExpression 0 11 (three (id "a" 1) (id "a" 4) (id "a" 10)))))))) ≡ (6, 4) ∷ []

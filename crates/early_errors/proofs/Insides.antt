@@ -13,7 +13,7 @@ use Rattle.early_errors.specs.Around.{Around, Label, is_method, labels_loop, las
 use Rattle.early_errors.specs.Names.{Named, var_names, parts_vars}
 use Rattle.early_errors.specs.Early.{own_errors}
 use Rattle.early_errors.specs.Owns.{Knows, label_of, or_false, inside_of, inner_labels, first_labels, plain_errors, vars_of}
-use Rattle.early_errors.specs.Walk.{Agree, with_value}
+use Rattle.name_tables.specs.Tables.{Agree, with_value}
 
 -- the labels round the first part, those round the others, the node's own `var`s, all its `var`s, its errors
 abbrev Facts : Tree → Around → List Label → (first others : List Label) → (vars : List Named) → Type 0

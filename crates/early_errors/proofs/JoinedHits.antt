@@ -9,7 +9,8 @@ use Rattle.early_errors.specs.Names.{Named, var_names, parts_vars}
 use Rattle.early_errors.specs.Early.{Error, own_errors, errors_within, least}
 use Rattle.early_errors.specs.Owns.{round, plain_errors, vars_of, clash_with}
 use Rattle.name_tables.specs.PatternParts.{at_part}
-use Rattle.early_errors.specs.Walk.{sooner, after, hits, clashing, Agree}
+use Rattle.name_tables.specs.Tables.{Agree}
+use Rattle.early_errors.specs.Walk.{sooner, after, hits, clashing}
 use Rattle.early_errors.specs.Walks.{errors_at, vars_at, range_errors, range_vars}
 use Rattle.early_errors.proofs.Least.{sooner-none, sooner-twice, sooner-turns, after-append}
 use Rattle.early_errors.proofs.PartRanges.{ranged-step, errors-split, errors-behind, errors_whole, vars-split, vars_whole}

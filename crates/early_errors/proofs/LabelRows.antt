@@ -3,7 +3,8 @@ use Rattle.std.specs.Prelude.{◌≡◌, refl, [], ◌∷◌}
 use Rattle.tree.specs.declared.kind.Kind.TheVariants.{ArrowFunctionExpression, BlockStatement, BreakStatement, CallExpression, ContinueStatement, DoWhileStatement, ExpressionStatement, ForInStatement, ForOfStatement, ForStatement, LabeledStatement, Program, SwitchCase, SwitchStatement, WhileStatement}
 use Rattle.tree.specs.Tree.{gap, none}
 use Rattle.early_errors.specs.Early.{errors}
-use Rattle.early_errors.proofs.Trees.{computing, id, n, one, three, two}
+use Rattle.language.proofs.examples.Trees.{id, n, one, three, two}
+use Rattle.early_errors.proofs.Trees.{computing}
 
 -- `while (a) { (() => { break })() }`
 pub break_in_function : errors (n Program 0 33 (one (n WhileStatement 0 33 (two (id "a" 7) (n BlockStatement 10 33 (one (n ExpressionStatement 12 31 (one (n CallExpression 12 31 (one (n ArrowFunctionExpression 13 28 (one (n BlockStatement 19 28 (one (n BreakStatement 21 26 (gap none)))))))))))))))) ≡ (9, 21) ∷ []

@@ -14,7 +14,6 @@ pub mod NameLoops
 pub mod Tables
 pub mod RemainingParts
 pub mod Bindings
-pub mod Results
 pub mod Jumps
 pub mod OwnErrorsByKind
 pub mod Founds

@@ -5,7 +5,8 @@ use Rattle.tree.specs.Tree.{none}
 use Rattle.early_errors.specs.Cooked.{cooks}
 use Rattle.early_errors.specs.Literals.{good_flags}
 use Rattle.early_errors.specs.Early.{errors}
-use Rattle.early_errors.proofs.Trees.{computing, id, n, one, t, three, two}
+use Rattle.language.proofs.examples.Trees.{id, n, one, t, three, two}
+use Rattle.early_errors.proofs.Trees.{computing}
 
 -- `\1`
 pub octal_escape : errors (n Program 0 4 (one (n ExpressionStatement 0 4 (one (n TemplateLiteral 0 4 (one (t TemplateElement "\\1" 1 3 none))))))) ≡ (20, 0) ∷ []

@@ -1,9 +1,8 @@
 -- Names one by one, as loops over them go.
 use Rattle.std.proofs.Common.{◌≡◌, ℕ, zero, suc, ◌+◌, ◌<◌, ◌≤◌, Bool, true, false, cond, List, [], ◌∷◌, ◌++◌, length, get_or, take, drop, filter, Option, refl, sym, ap, ◌∙◌, arith}
-use Rattle.std.proofs.lemmas.Bool.Decides.{nat_tests}
 use Rattle.std.proofs.lemmas.List.{map-append, take_more, drop_more}
 use Rattle.std.proofs.lemmas.List.Elements.{filter-append}
-use Rattle.std.specs.Prelude.{◌||◌, ◌&&◌, nat_eq}
+use Rattle.std.specs.Prelude.{◌||◌}
 use Rattle.std.specs.Str.{bytes_eq}
 use Rattle.early_errors.specs.declared.EarlyError.{EarlyError}
 use Rattle.early_errors.specs.Names as names
@@ -11,15 +10,6 @@ use Rattle.early_errors.specs.Names.{places, has_name, repeated, twice, shared}
 use Rattle.early_errors.specs.Early.{Error, each, number}
 use Rattle.early_errors.specs.Walk.{Named, sooner, after, named, all_named, hits}
 use Rattle.early_errors.proofs.Least.{sooner-none, sooner-twice, after-append, each-append}
-
-pub bytes_eq-swaps : (v w : List ℕ) → bytes_eq v w ≡ bytes_eq w v
-bytes_eq-swaps [] [] = refl
-bytes_eq-swaps [] (d ∷ w) = refl
-bytes_eq-swaps (c ∷ v) [] = refl
-bytes_eq-swaps (c ∷ v) (d ∷ w) = λ i. nat_swaps c d i && bytes_eq-swaps v w i
-  where
-    nat_swaps : (c d : ℕ) → nat_eq c d ≡ nat_eq d c
-    nat_swaps c d = grind (arith, nat_tests)
 
 -- one more name
 pub one_more : (xs : List Named) (i : ℕ) (d : Named) → i < length xs → all_named (take (i + 1) xs) ≡ all_named (take i xs) ++ named (get_or xs i d) ∷ []

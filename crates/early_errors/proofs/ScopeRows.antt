@@ -4,7 +4,8 @@ use Rattle.tree.specs.declared.kind.Kind.TheVariants.{ArrayPattern, ArrowFunctio
 use Rattle.tree.specs.declared.kind.Form.TheVariants.{Method, Shorthand}
 use Rattle.tree.specs.Tree.{Tree, gap, none, part}
 use Rattle.early_errors.specs.Early.{errors, least_error}
-use Rattle.early_errors.proofs.Trees.{computing, formed, id, n, one, t, three, two}
+use Rattle.language.proofs.examples.Trees.{formed, id, n, one, t, three, two}
+use Rattle.early_errors.proofs.Trees.{computing}
 
 -- `let a; let a`
 pub let_twice : errors (n Program 0 12 (two (t VariableDeclaration "let" 0 6 (one (n VariableDeclarator 4 5 (part (id "a" 4) (gap none))))) (t VariableDeclaration "let" 7 12 (one (n VariableDeclarator 11 12 (part (id "a" 11) (gap none))))))) ≡ (3, 11) ∷ []

@@ -4,7 +4,8 @@ use Rattle.tree.specs.declared.kind.Kind.TheVariants.{ArrayPattern, ArrowFunctio
 use Rattle.tree.specs.declared.kind.Form.TheVariants.{Shorthand}
 use Rattle.tree.specs.Tree.{Tree, gap, none, part}
 use Rattle.early_errors.specs.Early.{errors, least_error}
-use Rattle.early_errors.proofs.Trees.{computing, formed, id, n, one, short, t, three, two}
+use Rattle.language.proofs.examples.Trees.{formed, id, n, one, short, t, three, two}
+use Rattle.early_errors.proofs.Trees.{computing}
 
 -- `eval = 1`
 pub eval_assigned : errors (n Program 0 8 (one (n ExpressionStatement 0 8 (one (t AssignmentExpression "=" 0 8 (two (id "eval" 0) (t Literal "1" 7 8 none))))))) ≡ (1, 0) ∷ []

@@ -4,7 +4,8 @@ use Rattle.tree.specs.declared.kind.Kind.TheVariants.{ArrowFunctionExpression, A
 use Rattle.tree.specs.declared.kind.Form.TheVariants.{Constructor, Get, Method, Set}
 use Rattle.tree.specs.Tree.{gap, none, part}
 use Rattle.early_errors.specs.Early.{errors}
-use Rattle.early_errors.proofs.Trees.{computing, computed, formed, id, n, one, short, static_one, three, two}
+use Rattle.language.proofs.examples.Trees.{computed, formed, id, n, one, short, static_one, three, two}
+use Rattle.early_errors.proofs.Trees.{computing}
 
 -- `super.a`
 pub super_property : errors (n Program 0 7 (one (n ExpressionStatement 0 7 (one (n MemberExpression 0 7 (two (n Super 0 5 none) (id "a" 6))))))) ≡ (14, 0) ∷ []

@@ -6,7 +6,8 @@ use Rattle.std.proofs.lemmas.Slice.Eq.{bytes_eq-Decides}
 use Rattle.early_errors.specs.declared.EarlyError.{EarlyError}
 use Rattle.early_errors.specs.Names.{Named, places, has_name, shared}
 use Rattle.early_errors.specs.Early.{Error, each, number, least}
-use Rattle.early_errors.specs.Walk.{sooner, hits, clashing, Agree}
+use Rattle.name_tables.specs.Tables.{Agree}
+use Rattle.early_errors.specs.Walk.{sooner, hits, clashing}
 use Rattle.early_errors.proofs.Least.{sooner-none, sooner-twice, sooner-turns, sooner-same}
 
 abbrev one : (List ℕ → Option Error) → EarlyError → Named → List ℕ → Option Error

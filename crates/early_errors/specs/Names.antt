@@ -2,11 +2,11 @@
 use Rattle.std.specs.Prelude.{ℕ, Bool, true, false, cond, ◌||◌, List, [], ◌∷◌, ◌++◌, map, filter}
 use Rattle.std.specs.Str.{bytes_eq}
 use Rattle.tree.specs.declared.kind.Kind.{Kind}
-use Rattle.tree.specs.declared.kind.Kind.TheVariants.{FunctionExpression, ArrowFunctionExpression, BlockStatement, VariableDeclaration, FunctionDeclaration, ClassDeclaration}
-use Rattle.tree.specs.Tree.{Tree, node, Parts, none, part, gap, parts_of, text_of, start_of}
+use Rattle.tree.specs.declared.kind.Kind.TheVariants.{FunctionExpression, ArrowFunctionExpression, BlockStatement, FunctionDeclaration}
+use Rattle.tree.specs.Tree.{Tree, node, Parts, none, part, gap, text_of, start_of}
 use Rattle.language.specs.FirstPart.{others}
-use Rattle.language.specs.Vocabulary.{is}
-use Rattle.name_tables.specs.BoundNames.{each_part, bound_names, first_bound_names}
+use Rattle.name_tables.specs.BoundNames.{bound_names, first_bound_names}
+use Rattle.name_tables.specs.DeclaredNames.{declarator_names, lexically_declared_names, own_var_names}
 
 -- a name and its place
 abbrev pub Named : Type 0
@@ -54,11 +54,10 @@ first_names parts = first_bound_names name_at parts
 
 -- the names of a declaration, whose parts are its declarators
 abbrev pub declared_names : Parts → List Named
-declared_names parts = each_part (λ n. first_names (parts_of n)) parts
+declared_names parts = declarator_names (λ ps. name_at) parts
 
 abbrev pub own_vars : Kind → List ℕ → Parts → List Named
-own_vars VariableDeclaration text parts = cond (is text "var") (declared_names parts) []
-own_vars _ text parts = []
+own_vars kind text parts = own_var_names (λ ps. name_at) kind text parts
 
 unfoldable mutual
   -- the names of `var` at any depth outside inner functions (13.1.5)
@@ -72,10 +71,7 @@ unfoldable mutual
 
 -- the names of an item that is a `let`, a `const` or a class, and of a function too where `b` says so (13.2.5, 13.2.7)
 abbrev pub lexical_names : Bool → Tree → List Named
-lexical_names b (node VariableDeclaration text flags from to parts) = cond (is text "var") [] (declared_names parts)
-lexical_names b (node ClassDeclaration text flags from to parts) = first_names parts
-lexical_names b (node FunctionDeclaration text flags from to parts) = cond b (first_names parts) []
-lexical_names b (node _ text flags from to parts) = []
+lexical_names b tree = lexically_declared_names b (λ text ps. name_at) name_at name_at tree
 
 abbrev pub function_names : Tree → List Named
 function_names (node FunctionDeclaration text flags from to parts) = first_names parts

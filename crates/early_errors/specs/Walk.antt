@@ -1,5 +1,5 @@
 -- What the program's own calls say on the way: the least error so far, tables of names, and what a `var` clashes with.
-use Rattle.std.specs.Prelude.{◌≡◌, ℕ, Bool, cond, List, [], ◌∷◌, map, Option, Some, None, is_some}
+use Rattle.std.specs.Prelude.{ℕ, Bool, cond, List, [], ◌∷◌, map, Option, Some, None, is_some}
 use Rattle.std.specs.BTreeMap.{get_by}
 use Rattle.std.specs.Cmp.Lexicographic.{slice_cmp}
 use Rattle.std.specs.Ordering.{nat_cmp}
@@ -9,6 +9,7 @@ use Rattle.tree.specs.Tree.{Tree, node, parts_of}
 use Rattle.language.specs.Vocabulary.{is}
 use Rattle.name_tables.specs.declared.bound.BoundName.{BoundName}
 use Rattle.name_tables.specs.PatternParts.{Bound, at_part, bound}
+use Rattle.name_tables.specs.Tables.{undone_by, value_of}
 use Rattle.early_errors.specs.declared.EarlyError.{EarlyError}
 use Rattle.early_errors.specs.declared.names.Lexical.{Lexical}
 use Rattle.early_errors.specs.declared.names.Lexical.TheVariants as lexical
@@ -40,17 +41,9 @@ named x = name_of (bound x)
 abbrev pub all_named : List Named → List names.Named
 all_named xs = map named xs
 
-abbrev pub value_of : {V : Type 0} → Option (Option V) → Option V
-value_of None = None
-value_of (Some o) = o
-
 -- what a name stands for in a table
 abbrev pub look : {V : Type 0} → Table V → List ℕ → Option V
 look t text = value_of (get_by (λ k. slice_cmp nat_cmp text k.now) t.entries)
-
--- the same, with another value at one name
-abbrev pub with_value : {V : Type 0} → (List ℕ → Option V) → List ℕ → Option V → List ℕ → Option V
-with_value f name o w = cond (bytes_eq name w) o (f w)
 
 abbrev pub lexical_of : Bool → Tree → Lexical
 lexical_of b (node VariableDeclaration text flags from to parts) = cond (is text "var") lexical.Nothing lexical.Declarators
@@ -74,10 +67,6 @@ declared_by tree = first_names (parts_of tree)
 abbrev pub stands : {V : Type 0} → (List ℕ → Option V) → names.Named → Bool
 stands f x = is_some (f x.0)
 
--- two tables say the same of each name
-abbrev pub Agree : {V : Type 0} → (f g : List ℕ → Option V) → Type 0
-Agree f g = (w : List ℕ) → f w ≡ g w
-
 -- the least error that a table has for one of the names
 abbrev pub hits : (List ℕ → Option Error) → List names.Named → Option Error
 hits f [] = None
@@ -89,6 +78,11 @@ clashing f e [] = f
 clashing f e (x ∷ xs) = clashing (λ w. cond (bytes_eq x.0 w) (sooner (f x.0) (Some (number e, x.1))) (f w)) e xs
 
 -- with what names stood for before, the last first
+abbrev pub saved_name : Saved → List ℕ
+saved_name x = x.name.now
+
+abbrev pub saved_value : Saved → Option Error
+saved_value x = x.value
+
 abbrev pub undone : (List ℕ → Option Error) → List Saved → List ℕ → Option Error
-undone f [] = f
-undone f (x ∷ xs) = with_value (undone f xs) x.name.now x.value
+undone f xs = undone_by saved_name saved_value f xs

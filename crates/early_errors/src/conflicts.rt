@@ -6,7 +6,8 @@ ghost use Rattle.early_errors.specs.Early.{each};
 ghost use Rattle.name_tables.specs.Sets.{contains};
 ghost use Rattle.early_errors.specs.Names.{has_name, places, shared, twice};
 ghost use Rattle.early_errors.specs.Strict.{is_restricted};
-ghost use Rattle.early_errors.specs.Walk.{Agree, after, all_named, clashing, hits, look, sooner, stands, undone};
+ghost use Rattle.name_tables.specs.Tables.{Agree};
+ghost use Rattle.early_errors.specs.Walk.{after, all_named, clashing, hits, look, sooner, stands, undone};
 
 use crate::EarlyError;
 use crate::found::{FirstError, earlier_error, with_error};

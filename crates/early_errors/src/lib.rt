@@ -73,7 +73,8 @@ pub enum EarlyError {
 ghost use Rattle.std.specs.Prelude.{◌≡◌, IfOk, None};
 ghost use Rattle.tree.specs.Node.{node_tree};
 ghost use Rattle.early_errors.specs.Early.{errors, least, least_error, number};
-ghost use Rattle.early_errors.specs.Walk.{Agree, look};
+ghost use Rattle.name_tables.specs.Tables.{Agree};
+ghost use Rattle.early_errors.specs.Walk.{look};
 
 /// The number that a report names the early error by: 1 to 21.
 pub fn number_of(error: EarlyError) -> u8

@@ -6,9 +6,9 @@ ghost use Rattle.tree.specs.Tree.{parts_drop, parts_of};
 ghost use Rattle.name_tables.specs.PatternParts.{at_part};
 ghost use Rattle.name_tables.specs.BoundNames.{each_part};
 ghost use Rattle.early_errors.specs.Names.{declared_names, lexical_names, parameter_names};
-ghost use Rattle.early_errors.specs.Walk.{all_named, declared_by, lexical_of, names_at};
+ghost use Rattle.early_errors.specs.Walk.{all_named, lexical_of, names_at};
 
-use name_tables::BoundName;
+use name_tables::{BoundName, DeclaratorAs};
 use std::alloc::AllocError;
 use tree::{Kind, Node};
 
@@ -32,22 +32,11 @@ pub(crate) fn push_declared<'t>(
 ) -> Result<(), AllocError>
     ensures { OnOk result (all_named names.new.items ≡ all_named names.old.items ++ declared_names (parts_of (node_tree node.entry))) }
 {
-    for index in 0..node.part_count() {
-        push_declarator(node.part(index), names)?;
-    }
-    Ok(())
-}
-
-fn push_declarator<'t>(
-    declarator: Option<Node<'t, '_>>,
-    names: &mut Vec<NamePlace<'t>>,
-) -> Result<(), AllocError>
-    ensures { OnOk result (all_named names.new.items ≡ all_named names.old.items ++ at_part declared_by (option_map node_tree declarator.entry)) }
-{
-    match declarator {
-        Some(declarator) => push_part_names(declarator.part(0), names),
-        None => Ok(()),
-    }
+    let how = DeclaratorAs {
+        initialized: (),
+        bare: (),
+    };
+    name_tables::push_declarators(node, how, names)
 }
 
 /// What an item declares as lexical names.

@@ -1,7 +1,8 @@
 //! Names with values.
 
 ghost use Rattle.std.specs.Prelude.{◌≡◌, IfOk, OnOk, None};
-ghost use Rattle.early_errors.specs.Walk.{Agree, look, with_value};
+ghost use Rattle.name_tables.specs.Tables.{Agree, with_value};
+ghost use Rattle.early_errors.specs.Walk.{look};
 
 use std::alloc::{AllocError, Global};
 use std::collections::BTreeMap;

@@ -7,7 +7,8 @@ ghost use Rattle.early_errors.specs.Early.{errors_within, parts_errors};
 ghost use Rattle.early_errors.specs.Names.{parts_vars, var_names};
 ghost use Rattle.early_errors.specs.Owns.{Knows, inside_of, plain_errors, round, vars_of};
 ghost use Rattle.early_errors.specs.Passed.{IsHandedOn};
-ghost use Rattle.early_errors.specs.Walk.{Agree, after, hits, look, sooner};
+ghost use Rattle.name_tables.specs.Tables.{Agree};
+ghost use Rattle.early_errors.specs.Walk.{after, hits, look, sooner};
 ghost use Rattle.early_errors.specs.Walks.{Fits, range_errors, range_vars};
 
 use crate::around::{Context, PartContexts, contexts_of, is_method};

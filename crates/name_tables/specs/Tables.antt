@@ -21,7 +21,17 @@ with_value f name o w = cond (bytes_eq name w) o (f w)
 abbrev pub Agree : {V : Type 0} → (f g : List ℕ → Option V) → Type 0
 Agree f g = (w : List ℕ) → f w ≡ g w
 
--- with what names stood for before, the last first
+-- with what names stood for before, the last first; what was saved says for which name, and for what
+abbrev pub undone_by : {S V : Type 0} → (S → List ℕ) → (S → Option V) → (List ℕ → Option V) → List S → List ℕ → Option V
+undone_by name value f [] = f
+undone_by name value f (x ∷ xs) = with_value (undone_by name value f xs) (name x) (value x)
+
+-- the name that was saved, and what it stood for
+abbrev pub saved_name : {V : Type 0} → SavedName V → List ℕ
+saved_name x = x.name.now
+
+abbrev pub saved_value : {V : Type 0} → SavedName V → Option V
+saved_value x = x.value
+
 abbrev pub undone : {V : Type 0} → (List ℕ → Option V) → List (SavedName V) → List ℕ → Option V
-undone f [] = f
-undone f (x ∷ xs) = with_value (undone f xs) x.name.now x.value
+undone f xs = undone_by saved_name saved_value f xs

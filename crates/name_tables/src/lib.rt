@@ -3,6 +3,7 @@
 #![tactic(auto)]
 
 mod bound;
+mod declared;
 mod key;
 mod set;
 mod table;
@@ -10,6 +11,7 @@ mod table;
 pub use bound::{
     BoundName, PatternNames, last_part, pattern_names_of, push_names, push_part_names,
 };
+pub use declared::{DeclaratorAs, push_declarators};
 pub use key::{HashKey, KeyBuilder};
 pub use set::NameSet;
 pub use table::{NameTable, SavedName};

@@ -1,21 +1,22 @@
 -- What a walk has found behind one part and behind the next.
-use Rattle.std.proofs.Common.{◌≡◌, ℕ, Bool, true, false, suc, ◌+◌, ◌<◌, ◌≤◌, List, [], ◌++◌, length, map, Option, Some, None, refl, sym, ap, ◌∙◌, arith, append_assoc, append-nil, add-one, zero}
-use Rattle.std.specs.Prelude.{IfSome}
-use Rattle.std.specs.Bool.{OnTrue}
-use Rattle.std.proofs.lemmas.Bool.{false≢true}
+use Rattle.std.proofs.Common.{◌≡◌, ℕ, Bool, true, false, ◌+◌, ◌<◌, ◌≤◌, List, [], ◌++◌, length, map, Option, Some, None, refl, sym, ap, ◌∙◌, arith, append_assoc, append-nil}
+use Rattle.std.specs.Prelude.{◌||◌, IfSome}
+use Rattle.std.proofs.lemmas.Bool.{true≢false}
 use Rattle.std.proofs.lemmas.List.{length-map, length-append}
-use Rattle.std.proofs.lemmas.Option.{none-some}
-use Rattle.tree.specs.declared.kind.Kind.TheVariants.{Identifier, Literal, ThisExpression}
+use Rattle.tree.specs.declared.kind.Kind.{Kind}
+use Rattle.tree.specs.declared.kind.Kind.TheVariants.{Program, BlockStatement, SwitchStatement, CatchClause, ForStatement, ForInStatement, ForOfStatement, FunctionDeclaration, FunctionExpression, ArrowFunctionExpression, ClassDeclaration, ClassExpression}
 use Rattle.tree.specs.Tree.{Tree, node, Parts, none, part, gap, kind_of, parts_of, part_at, part_count, parts_drop}
+use Rattle.tree.proofs.PartWalk.{parts_drop-some, parts_drop-gap, parts_drop-past}
 use Rattle.scopes.specs.declared.binding.Reference.{Reference as CodeReference}
 use Rattle.scopes.specs.declared.binding.Scope.{Scope as CodeScope}
 use Rattle.scopes.specs.declared.identifier_use.IdentifierUse.{IdentifierUse}
+use Rattle.scopes.specs.declared.scope_names.ScopeKind.TheVariants.{NoScope}
 use Rattle.scopes.specs.Bindings.{Binding}
-use Rattle.scopes.specs.Openings.{scope_round_all, scope_round_others}
+use Rattle.scopes.specs.Openings.{has_arguments, opens_all, opens_others, scope_names, scope_round_others}
 use Rattle.scopes.specs.Found.{Frame, Around, Found, Inside, Reference, nothing, joined, found_in, all_parts, parts_from, in_scope, one_part, at_place, round_others, own_reference, nearest}
 use Rattle.scopes.specs.Shown.{Knows, found_of, reference_shown, scope_shown}
 use Rattle.name_tables.specs.Tables.{Agree}
-use Rattle.scopes.specs.Walks.{inside_of, is_leaf_kind, others_within, all_within}
+use Rattle.scopes.specs.Walks.{all_within, inside_of, may_make_scope, others_within, within_node}
 
 pub joined-twice : (a b c : Found) → joined (joined a b) c ≡ joined a (joined b c)
 joined-twice a b c = λ i. record { scopes = append_assoc a.scopes b.scopes c.scopes i; references = append_assoc a.references b.references c.references i }
@@ -46,29 +47,61 @@ knows-on f g n m s fs k a l = record {
 pub referred : (ss : List CodeScope) (rs qs : List CodeReference) (own : List Reference) → map reference_shown qs ≡ map reference_shown rs ++ own → found_of ss qs ≡ joined (found_of ss rs) (record { scopes = []; references = own })
 referred ss rs qs own e = λ i. record { scopes = sym (append-nil (map scope_shown ss)) i; references = e i }
 
-found_in-is : (z : Around) (n : ℕ) (t : Tree) → found_in z n t ≡ joined (record { scopes = []; references = own_reference z t }) (in_scope (scope_round_all z.role (kind_of t) (parts_of t)) z n (all_within z.role t))
+found_in-is : (z : Around) (n : ℕ) (t : Tree) → found_in z n t ≡ joined (record { scopes = []; references = own_reference z t }) (within_node z n t)
 unfolding found_in
 found_in-is z n (node k w g s e ps) = refl
 
--- a node: the reference that it is, and what is in its parts
-pub node-found : (z : Around) (n : ℕ) (t : Tree) (b : Option (List Binding)) (old own new : Found) → scope_round_all z.role (kind_of t) (parts_of t) ≡ b → own ≡ joined old (record { scopes = []; references = own_reference z t }) →
-    new ≡ joined own (in_scope b z n (all_within z.role t)) → new ≡ joined old (found_in z n t)
-node-found z n t b old own new e r h =
-    h ∙ (λ i. joined (r i) (in_scope (sym e i) z n (all_within z.role t))) ∙ joined-twice old _ _ ∙ ap (joined old) (sym (found_in-is z n t))
+-- ---- a node that makes no scope
 
--- nothing but its reference is found in a leaf
-leaf-found : (z : Around) (n : ℕ) (t : Tree) → is_leaf_kind (kind_of t) ≡ true → part_count (parts_of t) ≡ 0 → found_in z n t ≡ record { scopes = []; references = own_reference z t }
-unfolding found_in all_parts
-leaf-found z n (node Identifier w g s e none) h k = λ i. record { scopes = []; references = append-nil (own_reference z (node Identifier w g s e none)) i }
-leaf-found z n (node Literal w g s e none) h k = refl
-leaf-found z n (node ThisExpression w g s e none) h k = refl
-leaf-found z n (node _ w g s e none) h k = absurd (false≢true h)
-leaf-found z n (node _ w g s e (part t ps)) h k = absurd (omega (arith, k))
-leaf-found z n (node _ w g s e (gap ps)) h k = absurd (omega (arith, k))
+opens_none : (u : IdentifierUse) (k : Kind) → may_make_scope k ≡ false → opens_all u k ≡ NoScope
+opens_none u Program h = absurd (true≢false h)
+opens_none u BlockStatement h = absurd (true≢false h)
+opens_none u CatchClause h = absurd (true≢false h)
+opens_none u ForStatement h = absurd (true≢false h)
+opens_none u ForInStatement h = absurd (true≢false h)
+opens_none u ForOfStatement h = absurd (true≢false h)
+opens_none u FunctionExpression h = absurd (true≢false h)
+opens_none u ArrowFunctionExpression h = absurd (true≢false h)
+opens_none u _ h = refl
 
-pub on_leaf : (t : Tree) (b : Bool) → b ≡ is_leaf_kind (kind_of t) → part_count (parts_of t) ≡ 0 → OnTrue b ((z : Around) → (n : ℕ) → found_in z n t ≡ record { scopes = []; references = own_reference z t })
-on_leaf t true e k = λ z n. leaf-found z n t (sym e) k
-on_leaf t false e k = tt
+opens_no_others : (k : Kind) → may_make_scope k ≡ false → opens_others k ≡ NoScope
+opens_no_others SwitchStatement h = absurd (true≢false h)
+opens_no_others FunctionDeclaration h = absurd (true≢false h)
+opens_no_others FunctionExpression h = absurd (true≢false h)
+opens_no_others ClassDeclaration h = absurd (true≢false h)
+opens_no_others ClassExpression h = absurd (true≢false h)
+opens_no_others _ h = refl
+
+no_arguments : (k : Kind) → may_make_scope k ≡ false → has_arguments k ≡ false
+no_arguments FunctionDeclaration h = absurd (true≢false h)
+no_arguments FunctionExpression h = absurd (true≢false h)
+no_arguments _ h = refl
+
+same_round : (y : Inside) (z : Around) → has_arguments y.kind ≡ false → round_others y z ≡ z
+same_round y z h = λ i. record z { in_function = (ap (λ b. z.in_function || b) h ∙ or_false z.in_function) i }
+  where
+    or_false : (b : Bool) → (b || false) ≡ b
+    or_false true = refl
+    or_false false = refl
+
+flat : (y : Inside) (z : Around) (n : ℕ) (ps : Parts) → round_others y z ≡ z → all_parts y z n None ps ≡ parts_from y z 0 n ps
+unfolding all_parts parts_from
+flat y z n none e = refl
+flat y z n (gap ps) e = ap (λ x. parts_from y x 1 n ps) e
+flat y z n (part t ps) e = ap (λ x. one_part (found_in (at_place y z 0) n t) n (λ m. parts_from y x 1 m ps)) e
+
+pub flat-found : (z : Around) (n : ℕ) (t : Tree) → may_make_scope (kind_of t) ≡ false → within_node z n t ≡ parts_from (inside_of z.role t) z 0 n (parts_of t)
+flat-found z n t h =
+    let k = kind_of t in
+    let ps = parts_of t in
+    let y = inside_of z.role t in
+    ap (λ s. in_scope (scope_names s ps) z n (all_within z.role t)) (opens_none z.role k h)
+    ∙ ap (λ s. all_parts y z n (scope_names s ps) ps) (opens_no_others k h)
+    ∙ flat y z n ps (same_round y z (no_arguments k h))
+
+-- what is found behind a node's reference
+pub behind-reference : (z : Around) (n : ℕ) (t : Tree) (old own new : Found) → own ≡ joined old (record { scopes = []; references = own_reference z t }) → new ≡ joined own (within_node z n t) → new ≡ joined old (found_in z n t)
+behind-reference z n t old own new r h = h ∙ ap (λ x. joined x (within_node z n t)) r ∙ joined-twice old _ _ ∙ ap (joined old) (sym (found_in-is z n t))
 
 -- ---- all parts of a node
 
@@ -100,34 +133,9 @@ all-found z ss ts rs qs u t o b new e c h k =
 
 -- ---- a loop over the parts behind the first
 
-drop-some : (ps : Parts) (i : ℕ) (u : Tree) → Some u ≡ part_at ps i → parts_drop i ps ≡ part u (parts_drop (suc i) ps)
-drop-some none i u h = absurd (none-some _ (sym h))
-drop-some (part t ps) zero u h = let same : t ≡ u = cc in ap (λ v. part v ps) same
-drop-some (part t ps) (suc i) u h = drop-some ps i u h
-drop-some (gap ps) zero u h = absurd (none-some _ (sym h))
-drop-some (gap ps) (suc i) u h = drop-some ps i u h
-
-drop-gap : (ps : Parts) (i : ℕ) → None ≡ part_at ps i → i < part_count ps → parts_drop i ps ≡ gap (parts_drop (suc i) ps)
-drop-gap none i h l = absurd (omega (arith, l))
-drop-gap (part t ps) zero h l = absurd (none-some _ h)
-drop-gap (part t ps) (suc i) h l = drop-gap ps i h (omega (arith, l))
-drop-gap (gap ps) zero h l = refl
-drop-gap (gap ps) (suc i) h l = drop-gap ps i h (omega (arith, l))
-
-pub drop-past : (ps : Parts) (i : ℕ) → part_count ps ≤ i → parts_drop i ps ≡ none
-drop-past none zero h = refl
-drop-past none (suc i) h = refl
-drop-past (part t ps) zero h = absurd (omega (arith, h))
-drop-past (part t ps) (suc i) h = drop-past ps i (omega (arith, h))
-drop-past (gap ps) zero h = absurd (omega (arith, h))
-drop-past (gap ps) (suc i) h = drop-past ps i (omega (arith, h))
-
 from-given : (y : Inside) (z : Around) (i n : ℕ) (ps : Parts) (u : Tree) → Some u ≡ part_at ps i → parts_from y z i n (parts_drop i ps) ≡ one_part (found_in (at_place y z i) n u) n (λ m. parts_from y z (i + 1) m (parts_drop (i + 1) ps))
 unfolding parts_from
-from-given y z i n ps u e = rw (add-one i) (ap (parts_from y z i n) (drop-some ps i u e) ∙ from y z i n u (parts_drop (suc i) ps))
-  where
-    from : (y : Inside) (z : Around) (i n : ℕ) (u : Tree) (qs : Parts) → parts_from y z i n (part u qs) ≡ one_part (found_in (at_place y z i) n u) n (λ m. parts_from y z (suc i) m qs)
-    from y z i n u qs = rw (sym (add-one i)) refl
+from-given y z i n ps u e = ap (parts_from y z i n) (parts_drop-some ps i u e)
 
 -- a turn of the loop at a part
 pub turn-given : (z : Around) (ss ts : List CodeScope) (rs qs : List CodeReference) (u : IdentifierUse) (t v : Tree) (i : ℕ) (total : Found) → Some v ≡ part_at (parts_of t) i →
@@ -144,9 +152,9 @@ turn-given z ss ts rs qs u t v i total e h so =
 pub turn-gap : (z : Around) (n : ℕ) (u : IdentifierUse) (t : Tree) (i : ℕ) (old total : Found) → None ≡ part_at (parts_of t) i → i < part_count (parts_of t) →
     joined old (parts_from (inside_of u t) z i n (parts_drop i (parts_of t))) ≡ total → joined old (parts_from (inside_of u t) z (i + 1) n (parts_drop (i + 1) (parts_of t))) ≡ total
 unfolding parts_from
-turn-gap z n u t i old total e l so = sym (ap (λ ps. joined old (parts_from (inside_of u t) z i n ps)) (drop-gap (parts_of t) i e l ∙ ap (λ k. gap (parts_drop k (parts_of t))) (sym (add-one i)))) ∙ so
+turn-gap z n u t i old total e l so = sym (ap (λ ps. joined old (parts_from (inside_of u t) z i n ps)) (parts_drop-gap (parts_of t) i e l)) ∙ so
 
 -- behind the last
 pub turn-end : (z : Around) (n : ℕ) (u : IdentifierUse) (t : Tree) (i : ℕ) (old total : Found) → part_count (parts_of t) ≤ i → joined old (parts_from (inside_of u t) z i n (parts_drop i (parts_of t))) ≡ total → old ≡ total
 unfolding parts_from
-turn-end z n u t i old total l so = sym (joined-nothing old) ∙ sym (ap (λ ps. joined old (parts_from (inside_of u t) z i n ps)) (drop-past (parts_of t) i l)) ∙ so
+turn-end z n u t i old total l so = sym (joined-nothing old) ∙ sym (ap (λ ps. joined old (parts_from (inside_of u t) z i n ps)) (parts_drop-past (parts_of t) i l)) ∙ so

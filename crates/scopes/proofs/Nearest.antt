@@ -1,7 +1,8 @@
 -- The nearest binding of a name, as names are declared in a scope one by one.
 use Rattle.std.proofs.Common.{◌≡◌, ℕ, suc, ◌+◌, ◌<◌, Bool, true, false, cond, List, [], ◌∷◌, ◌++◌, length, Option, Some, None, is_some, option_map, refl, sym, ap, ◌∙◌, arith, drop, get_or, add-one}
-use Rattle.std.specs.Prelude.{◌||◌, ◌&&◌, nat_eq, IfSome}
+use Rattle.std.specs.Prelude.{◌||◌, nat_eq, IfSome}
 use Rattle.std.specs.Str.{bytes_eq}
+use Rattle.std.specs.Cmp.Lexicographic.{nat_list_eq_equiv}
 use Rattle.std.proofs.Math.Seq.{drop-cons}
 use Rattle.std.proofs.lemmas.Bool.{or_parts, true≢false}
 use Rattle.std.proofs.lemmas.Bool.Decides.{nat_tests}
@@ -72,21 +73,12 @@ index-more w (x ∷ bs) b h =
         pick true t = absurd (true≢false (sym is_x ∙ ap (λ v. bytes_eq v x.name) ((bytes_eq-Decides w b.name).0 t) ∙ not_b))
         pick false t = refl
 
-bytes_eq-swaps : (v w : List ℕ) → bytes_eq v w ≡ bytes_eq w v
-bytes_eq-swaps [] [] = refl
-bytes_eq-swaps [] (d ∷ w) = refl
-bytes_eq-swaps (c ∷ v) [] = refl
-bytes_eq-swaps (c ∷ v) (d ∷ w) = λ i. nat_swaps c d i && bytes_eq-swaps v w i
-  where
-    nat_swaps : (c d : ℕ) → nat_eq c d ≡ nat_eq d c
-    nat_swaps c d = grind (arith, nat_tests)
-
 -- with one more name, not declared before
 pub one-more : (f g : List ℕ → Option (ℕ × ℕ)) (n : ℕ) (bs : List Binding) (b : Binding) (fs : List Frame) → has_name b.name bs ≡ false → Meant f (frame n bs ∷ fs) → Agree g (with_value f b.name (Some (n, length bs))) → Meant g (frame n (bs ++ b ∷ []) ∷ fs)
 one-more f g n bs b fs h m a w = a w ∙ pick (bytes_eq b.name w) refl
   where
     place : (c : Bool) → bytes_eq b.name w ≡ c → index_of w (bs ++ b ∷ []) ≡ cond c (Some (length bs)) (index_of w bs)
-    place c e = index-more w bs b h ∙ ap (λ d. cond d (Some (length bs)) (index_of w bs)) (bytes_eq-swaps w b.name ∙ e)
+    place c e = index-more w bs b h ∙ ap (λ d. cond d (Some (length bs)) (index_of w bs)) (nat_list_eq_equiv.symm w b.name ∙ e)
 
     pick : (c : Bool) → bytes_eq b.name w ≡ c → cond c (Some (n, length bs)) (f w) ≡ nearest w (frame n (bs ++ b ∷ []) ∷ fs)
     pick true e = sym (ap (λ o. here_or_outer n o (nearest w fs)) (place true e))

@@ -5,7 +5,8 @@ use Rattle.tree.specs.declared.kind.Form.TheVariants.{Method, Shorthand}
 use Rattle.tree.specs.Tree.{Tree, gap, none, part}
 use Rattle.scopes.specs.declared.kind.BindingKind.TheVariants.{Catch, Class, Const, Function, OwnName, Let, Param, Var}
 use Rattle.scopes.specs.declared.identifier_use.IdentifierUse.TheVariants.{Typeof, ReadWrite, Read, Write}
-use Rattle.scopes.proofs.Trees.{computing, scopes_shown, references_shown, computed, formed, id, lit, n, one, program, short, st, t, three, two}
+use Rattle.language.proofs.examples.Trees.{computed, formed, id, lit, n, one, program, short, st, t, three, two}
+use Rattle.scopes.proofs.Trees.{computing, scopes_shown, references_shown}
 
 -- `var a = b == 1;`
 abbrev var_read_tree : Tree

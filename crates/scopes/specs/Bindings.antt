@@ -2,11 +2,12 @@
 use Rattle.std.specs.Prelude.{ℕ, Bool, true, false, cond, ◌||◌, List, [], ◌∷◌, ◌++◌}
 use Rattle.std.specs.Str.{bytes_eq}
 use Rattle.tree.specs.declared.kind.Kind.{Kind}
-use Rattle.tree.specs.declared.kind.Kind.TheVariants.{BlockStatement, VariableDeclaration, FunctionDeclaration, ClassDeclaration, LabeledStatement, IfStatement, SwitchStatement, SwitchCase, TryStatement, CatchClause, WhileStatement, DoWhileStatement, ForStatement, ForInStatement, ForOfStatement}
-use Rattle.tree.specs.Tree.{Tree, node, Parts, none, part, gap, parts_of, text_of, start_of, stop_of}
+use Rattle.tree.specs.declared.kind.Kind.TheVariants.{BlockStatement, LabeledStatement, IfStatement, SwitchStatement, SwitchCase, TryStatement, CatchClause, WhileStatement, DoWhileStatement, ForStatement, ForInStatement, ForOfStatement}
+use Rattle.tree.specs.Tree.{Tree, node, Parts, none, part, gap, text_of, start_of, stop_of}
 use Rattle.language.specs.FirstPart.{others}
 use Rattle.language.specs.Vocabulary.{is}
-use Rattle.name_tables.specs.BoundNames.{each_part, bound_names, first_bound_names}
+use Rattle.name_tables.specs.BoundNames.{bound_names, first_bound_names}
+use Rattle.name_tables.specs.DeclaredNames.{declarator_names, lexically_declared_names, own_var_names}
 use Rattle.scopes.specs.declared.kind.BindingKind.{BindingKind}
 use Rattle.scopes.specs.declared.names.DeclaredIn.{DeclaredIn}
 use Rattle.scopes.specs.declared.names.DeclaredIn.TheVariants.{Statement, ForHead, ForInOfHead}
@@ -49,14 +50,11 @@ word_kind text = cond (is text "var") Var (cond (is text "let") Let Const)
 
 -- the names of a declaration, whose parts are its declarators (13.3.1.2, 13.3.2.1)
 abbrev pub declared : DeclaredIn → List ℕ → Parts → List Binding
-declared h text parts = each_part (λ d. first_names (word_kind text) (settles h (parts_of d)) (parts_of d)) parts
+declared h text parts = declarator_names (λ ps. binding_at (word_kind text) (settles h ps)) parts
 
 -- what a node declares in the scope that it stands in: `let`, `const`, a function, a class (LexicallyDeclaredNames, 13.2.5)
 abbrev pub lexical : DeclaredIn → Tree → List Binding
-lexical h (node VariableDeclaration text flags from to parts) = cond (is text "var") [] (declared h text parts)
-lexical h (node FunctionDeclaration text flags from to parts) = first_names Function false parts
-lexical h (node ClassDeclaration text flags from to parts) = first_names Class false parts
-lexical h (node _ text flags from to parts) = []
+lexical h tree = lexically_declared_names true (λ text ps. binding_at (word_kind text) (settles h ps)) (binding_at Function false) (binding_at Class false) tree
 
 -- the kinds that have statements among their parts, the Program and functions aside
 abbrev pub holds_statements : Kind → Bool
@@ -75,8 +73,7 @@ holds_statements ForOfStatement = true
 holds_statements _ = false
 
 abbrev pub own_vars : Kind → List ℕ → Parts → List Binding
-own_vars VariableDeclaration text parts = cond (is text "var") (declared Statement text parts) []
-own_vars _ text parts = []
+own_vars kind text parts = own_var_names (λ ps. binding_at (word_kind text) (settles Statement ps)) kind text parts
 
 unfoldable mutual
   -- the names of `var` in a statement at any depth, but not in functions inside it (VarDeclaredNames, 13.1.5, 13.2.11)

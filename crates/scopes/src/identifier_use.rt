@@ -74,7 +74,7 @@ pub(crate) enum PartRoles {
     Function,
 }
 
-fn part_roles(role: IdentifierUse, node: Node) -> PartRoles
+pub(crate) fn part_roles(role: IdentifierUse, node: Node) -> PartRoles
     ensures { result ≡ part_roles role (kind_of (node_tree node.entry)) (text_of (node_tree node.entry)) (flags_of (node_tree node.entry)) }
 {
     match node.kind() {
@@ -111,7 +111,12 @@ fn part_roles(role: IdentifierUse, node: Node) -> PartRoles
 }
 
 /// The role of the part at a place.
-fn role_by(parts: PartRoles, role: IdentifierUse, last: usize, index: usize) -> IdentifierUse
+pub(crate) fn role_by(
+    parts: PartRoles,
+    role: IdentifierUse,
+    last: usize,
+    index: usize,
+) -> IdentifierUse
     ensures { result ≡ role_by parts role last index }
 {
     match parts {

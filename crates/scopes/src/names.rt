@@ -3,14 +3,13 @@
 ghost use Rattle.std.specs.Prelude.{◌≡◌, ◌++◌, option_map, OnOk};
 ghost use Rattle.tree.specs.Node.{node_tree};
 ghost use Rattle.tree.specs.Tree.{kind_of, parts_of, text_of};
-ghost use Rattle.name_tables.specs.PatternParts.{at_part};
 ghost use Rattle.name_tables.specs.BoundNames.{each_part};
-ghost use Rattle.scopes.specs.Bindings.{declared, holds_statements, lexical, names_in, settles, vars_in, word_kind};
-ghost use Rattle.scopes.specs.Gathered.{declared_by, item_of, names_at};
+ghost use Rattle.scopes.specs.Bindings.{declared, holds_statements, lexical, names_in, vars_in, word_kind};
+ghost use Rattle.scopes.specs.Gathered.{declarator_as, item_of, names_at};
 ghost use Rattle.scopes.specs.Shown.{all_declared};
 
 use crate::binding::BindingKind;
-use name_tables::BoundName;
+use name_tables::{BoundName, DeclaratorAs};
 use std::alloc::AllocError;
 use tree::{Kind, Node};
 
@@ -69,14 +68,24 @@ fn word_kind(word: &str) -> BindingKind
     }
 }
 
-/// Whether a declarator gives its names a value.
-fn settles(head: DeclaredIn, declarator: Node) -> bool
-    ensures { result ≡ settles head (parts_of (node_tree declarator.entry)) }
+/// What the names of a declarator are declared as.
+fn declarator_as(head: DeclaredIn, kind: BindingKind) -> DeclaratorAs<DeclaredAs>
+    ensures { result ≡ declarator_as head kind }
 {
-    match head {
-        DeclaredIn::Statement => declarator.part(1).is_some(),
-        DeclaredIn::ForHead => false,
-        DeclaredIn::ForInOfHead => true,
+    let (initialized, bare) = match head {
+        DeclaredIn::Statement => (true, false),
+        DeclaredIn::ForHead => (false, false),
+        DeclaredIn::ForInOfHead => (true, true),
+    };
+    DeclaratorAs {
+        initialized: DeclaredAs {
+            kind,
+            settled: initialized,
+        },
+        bare: DeclaredAs {
+            kind,
+            settled: bare,
+        },
     }
 }
 
@@ -88,26 +97,8 @@ pub(crate) fn push_declared<'t>(
 ) -> Result<(), AllocError>
     ensures { OnOk result (all_declared names.new.items ≡ all_declared names.old.items ++ declared head (text_of (node_tree node.entry)) (parts_of (node_tree node.entry))) }
 {
-    let kind = word_kind(node.text());
-    for index in 0..node.part_count() {
-        push_declarator(head, kind, node.part(index), names)?;
-    }
-    Ok(())
-}
-
-fn push_declarator<'t>(
-    head: DeclaredIn,
-    kind: BindingKind,
-    declarator: Option<Node<'t, '_>>,
-    names: &mut Vec<Declared<'t>>,
-) -> Result<(), AllocError>
-    ensures { OnOk result (all_declared names.new.items ≡ all_declared names.old.items ++ at_part (declared_by head kind) (option_map node_tree declarator.entry)) }
-{
-    let Some(declarator) = declarator else {
-        return Ok(());
-    };
-    let settled = settles(head, declarator);
-    push_part_names(declarator.part(0), DeclaredAs { kind, settled }, names)
+    let how = declarator_as(head, word_kind(node.text()));
+    name_tables::push_declarators(node, how, names)
 }
 
 /// What an item declares in the scope that it stands in, or in the function round it.

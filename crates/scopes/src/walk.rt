@@ -1,18 +1,18 @@
 //! The walk over a tree.
 
 ghost use Rattle.std.specs.Prelude.{◌≡◌, ℕ, ◌∷◌, ◌++◌, ◌-◌, [], List, length, map, IfOk, OnOk, Some, None, cond};
-ghost use Rattle.std.specs.Bool.{OnTrue};
 ghost use Rattle.tree.specs.Node.{node_tree};
-ghost use Rattle.tree.specs.Tree.{flags_of, kind_of, parts_of, part_count, text_of};
+ghost use Rattle.tree.specs.Tree.{flags_of, kind_of, parts_drop, parts_of, part_count, text_of};
 ghost use Rattle.scopes.specs.Found.{Frame, all_parts, at_place, collected, enter, found_in, in_scope, joined, opened, own_reference, parts_from, round_others};
 ghost use Rattle.scopes.specs.Openings.{scope_round_all, scope_round_others};
 ghost use Rattle.scopes.specs.Shown.{Knows, all_declared, frame, reference_shown};
-ghost use Rattle.scopes.specs.Walks.{all_within, inside_of, is_leaf_kind, others_within, parts_within, reference_at, round, seen};
+ghost use Rattle.scopes.specs.Walks.{all_within, inside_of, may_make_scope, parts_within, reference_at, round, seen, within_node};
 ghost use Rattle.name_tables.specs.Tables.{Agree, value_at, undone};
 
 use crate::binding::{Reference, Scope};
 use crate::identifier_use::{
-    IdentifierUse, does_read, does_write, has_arguments, is_reference, is_typeof_operand, part_role,
+    IdentifierUse, does_read, does_write, has_arguments, is_reference, is_typeof_operand,
+    part_role, part_roles, role_by,
 };
 use crate::meanings::{Before, Meanings, close_scope, open_scope};
 use crate::names::Declared;
@@ -85,9 +85,23 @@ fn refer<'t>(
 ) -> Result<(), AllocError>
     ensures { OnOk result ((n : _) → (fs : List Frame) → Knows (value_at meanings.now) n around.scope fs → map reference_shown references.new.items ≡ map reference_shown references.old.items ++ own_reference (round around fs) (node_tree node.entry)) }
 {
-    if !refers(node, around) {
-        return Ok(());
+    if refers(node, around) {
+        push_reference(node, around, meanings, references)
+    } else {
+        Ok(())
     }
+}
+
+/// Pushes the reference that an identifier makes.
+#[inline(never)]
+fn push_reference<'t>(
+    node: Node<'t, '_>,
+    around: Context,
+    meanings: &Meanings<'t>,
+    references: &mut Vec<Reference<'t>>,
+) -> Result<(), AllocError>
+    ensures { OnOk result ((n : _) → (fs : List Frame) → Knows (value_at meanings.now) n around.scope fs → map reference_shown references.new.items ≡ map reference_shown references.old.items ++ reference_at (round around fs) (node_tree node.entry) ∷ []) }
+{
     let name = node.text();
     let span = node.span();
     references.push(Reference {
@@ -103,21 +117,23 @@ fn refer<'t>(
     Ok(())
 }
 
-/// Whether nothing is found in a node but the reference that it may be: a name, a literal or `this`, without parts.
-fn is_leaf(node: Node) -> bool
-    ensures { OnTrue result ((z : _) → (n : ℕ) → found_in z n (node_tree node.entry) ≡ record { scopes = []; references = own_reference z (node_tree node.entry) }) }
-{
-    if node.part_count() > 0 {
-        return false;
-    }
-    is_leaf_kind(node.kind())
-}
-
-fn is_leaf_kind(kind: Kind) -> bool
-    ensures { result ≡ is_leaf_kind kind }
+/// Whether nodes of this kind may make a scope, or have an `arguments` of their own.
+fn may_make_scope(kind: Kind) -> bool
+    ensures { result ≡ may_make_scope kind }
 {
     match kind {
-        Kind::Identifier | Kind::Literal | Kind::ThisExpression => true,
+        Kind::Program
+        | Kind::BlockStatement
+        | Kind::SwitchStatement
+        | Kind::CatchClause
+        | Kind::ForStatement
+        | Kind::ForInStatement
+        | Kind::ForOfStatement
+        | Kind::FunctionDeclaration
+        | Kind::FunctionExpression
+        | Kind::ArrowFunctionExpression
+        | Kind::ClassDeclaration
+        | Kind::ClassExpression => true,
         _ => false,
     }
 }
@@ -166,9 +182,27 @@ pub(crate) fn walk_node<'t>(
     ensures meanings { OnOk result (Agree (value_at walk.new.meanings) (value_at walk.old.meanings)) }
 {
     refer(node, around, &walk.meanings, &mut walk.references)?;
-    if is_leaf(node) {
+    if may_make_scope(node.kind()) {
+        return walk_scopes(node, around, walk);
+    }
+    if node.part_count() == 0 {
         return Ok(());
     }
+    walk_parts(node, 0, around, walk)
+}
+
+/// Finds what is in the parts of a node, in the scopes that it makes round them.
+#[cycle(walk)]
+#[tactic(auto, using(tree::proofs::PartWalk::part_steps))]
+#[inline(never)]
+fn walk_scopes<'t>(
+    node: Node<'t, '_>,
+    around: Context,
+    walk: &mut Walk<'t>,
+) -> Result<(), AllocError>
+    ensures found { OnOk result ((fs : List Frame) → Knows (value_at walk.old.meanings) (length walk.old.scopes.items) around.scope fs → seen walk.new ≡ joined (seen walk.old) (within_node (round around fs) (length walk.old.scopes.items) (node_tree node.entry))) }
+    ensures meanings { OnOk result (Agree (value_at walk.new.meanings) (value_at walk.old.meanings)) }
+{
     walk.names.clear();
     if push_round_all(around.role, node, &mut walk.names)? {
         walk_in_scope(node, around, false, walk)
@@ -192,24 +226,29 @@ fn walk_all<'t>(node: Node<'t, '_>, around: Context, walk: &mut Walk<'t>) -> Res
     if push_round_others(node, &mut walk.names)? {
         walk_in_scope(node, others, true, walk)
     } else {
-        walk_others(node, others, walk)
+        walk_parts(node, 1, others, walk)
     }
 }
 
-/// Finds what is in a node's parts behind the first.
+/// Finds what is in a node's parts from a place on.
 #[cycle(walk)]
 #[tactic(auto, using(tree::proofs::PartWalk::part_steps))]
-fn walk_others<'t>(
+fn walk_parts<'t>(
     node: Node<'t, '_>,
+    from: usize,
     around: Context,
     walk: &mut Walk<'t>,
 ) -> Result<(), AllocError>
-    ensures found { OnOk result ((fs : List Frame) → Knows (value_at walk.old.meanings) (length walk.old.scopes.items) around.scope fs → seen walk.new ≡ joined (seen walk.old) (others_within around.role (node_tree node.entry) (round around fs) (length walk.old.scopes.items))) }
+    ensures found { OnOk result ((fs : List Frame) → Knows (value_at walk.old.meanings) (length walk.old.scopes.items) around.scope fs → seen walk.new ≡ joined (seen walk.old) (parts_from (inside_of around.role (node_tree node.entry)) (round around fs) from (length walk.old.scopes.items) (parts_drop from (parts_of (node_tree node.entry))))) }
     ensures meanings { OnOk result (Agree (value_at walk.new.meanings) (value_at walk.old.meanings)) }
 {
-    for index in 1..node.part_count() {
-        if let Some(part) = node.part(index) {
-            walk_node(part, at_place(node, around, index), walk)?;
+    let parts = node.parts();
+    let roles = part_roles(around.role, node);
+    let last = parts.len().saturating_sub(1);
+    for index in from..parts.len() {
+        if let Some(part) = parts.get(index) {
+            let role = role_by(roles, around.role, last, index);
+            walk_node(part, Context { role, ..around }, walk)?;
         }
     }
     Ok(())
@@ -247,7 +286,7 @@ fn walk_opened<'t>(
 {
     let inner = open(around, saved, walk)?;
     if others {
-        walk_others(node, inner, walk)?;
+        walk_parts(node, 1, inner, walk)?;
     } else {
         walk_all(node, inner, walk)?;
     }

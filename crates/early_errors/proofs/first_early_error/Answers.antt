@@ -1,6 +1,6 @@
 use Rattle.std.proofs.Common.{ap, ◌∙◌}
 use Rattle.early_errors.specs.Early.{errors, least}
-use Rattle.early_errors.proofs.Results.{if_ok}
+use Rattle.name_tables.proofs.Results.{if_ok}
 use Rattle.early_errors.proofs.first_early_error.Goals as goal
 
 pub returns : goal.returns

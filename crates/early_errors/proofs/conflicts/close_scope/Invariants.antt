@@ -1,5 +1,6 @@
 use Rattle.std.proofs.Common.{length}
-use Rattle.early_errors.specs.Walk.{Agree, look, undone}
+use Rattle.name_tables.specs.Tables.{Agree}
+use Rattle.early_errors.specs.Walk.{look, undone}
 use Rattle.early_errors.proofs.conflicts.close_scope.Given as goal
 
 abbrev pub invariant-loop-last : goal.invariant-loop-last

@@ -1,5 +1,6 @@
 use Rattle.std.proofs.Common.{take}
-use Rattle.early_errors.specs.Walk.{Agree, all_named, clashing, look, undone}
+use Rattle.name_tables.specs.Tables.{Agree}
+use Rattle.early_errors.specs.Walk.{all_named, clashing, look, undone}
 use Rattle.early_errors.proofs.conflicts.open_scope.Given as goal
 
 abbrev pub invariant-loop-named : goal.invariant-loop-named

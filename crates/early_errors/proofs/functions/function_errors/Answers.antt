@@ -3,7 +3,7 @@ use Rattle.tree.specs.Node.{node_tree}
 use Rattle.tree.specs.Tree.{parts_of, parts_drop}
 use Rattle.early_errors.specs.Names.{parameter_names}
 use Rattle.early_errors.specs.Walk.{all_named, names_at}
-use Rattle.early_errors.proofs.Results.{if_ok}
+use Rattle.name_tables.proofs.Results.{if_ok}
 use Rattle.early_errors.proofs.FunctionErrors.{functions}
 use Rattle.early_errors.proofs.functions.function_errors.Goals as goal
 

@@ -1,17 +1,10 @@
-use Rattle.std.proofs.Common.{◌≤◌, ◌<◌, subst}
 use Rattle.tree.specs.Node.{node_tree}
 use Rattle.tree.specs.Tree.{parts_of}
-use Rattle.early_errors.specs.Walk.{all_named, declared_by}
-use Rattle.name_tables.proofs.EachPart.{push-turn, push-end}
+use Rattle.early_errors.specs.Walk.{name_of}
+use Rattle.name_tables.proofs.Results.{on_ok}
+use Rattle.name_tables.proofs.Retold.{retold-declarators}
 use Rattle.early_errors.proofs.names.push_declared.Goals as goal
-
-pub loop-index-preserved : goal.loop-index-preserved
-loop-index-preserved c =
-    let ps = parts_of (node_tree c.args.node) in
-    push-turn declared_by ps c.loop-index.index _ (all_named c.loop-index.names.items) (all_named c.push_declarator.new.names.items) _
-    (subst (λ n. c.loop-index.index < n) c.part_count-index-end.ensures c.loop-index-test.true) c.part.ensures c.in_ok-push_declarator.ensures c.loop-index.invariant
 
 pub returns : goal.returns
 returns c =
-    let ps = parts_of (node_tree c.args.node) in
-    push-end declared_by ps c.loop-index.index (all_named c.loop-index.names.items) _ (subst (λ n. n ≤ c.loop-index.index) c.part_count-index-end.ensures c.loop-index-test.false) c.loop-index.invariant
+    on_ok c.push_declarators.result (retold-declarators name_of (λ ps. tt) c.push_declarators.new.names.items c.args.names.now.items (parts_of (node_tree c.args.node))) c.push_declarators.ensures

@@ -4,7 +4,7 @@ use Rattle.early_errors.specs.Owns.{own_of, round, vars_of}
 use Rattle.early_errors.specs.Walk.{after, hits, look, sooner}
 use Rattle.early_errors.proofs.OwnErrorsByKind.{is_variables, variables_plain}
 use Rattle.early_errors.proofs.OwnErrors.{named_found, nameless_found}
-use Rattle.early_errors.proofs.Results.{if_ok}
+use Rattle.name_tables.proofs.Results.{if_ok}
 use Rattle.early_errors.proofs.own.own_errors.Goals as goal
 
 pub returns-in-Variables : goal.returns-in-Variables

@@ -5,7 +5,7 @@ use Rattle.early_errors.specs.Names.{declared_names}
 use Rattle.early_errors.specs.Owns.{round}
 use Rattle.early_errors.specs.Walk.{all_named, look}
 use Rattle.early_errors.proofs.OwnErrors.{variables_found}
-use Rattle.early_errors.proofs.Results.{if_ok_both}
+use Rattle.name_tables.proofs.Results.{if_ok_both}
 use Rattle.early_errors.proofs.own.variable_errors.Goals as goal
 
 pub returns : goal.returns

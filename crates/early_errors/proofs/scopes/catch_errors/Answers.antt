@@ -8,7 +8,7 @@ use Rattle.early_errors.specs.Names.{lexical_names, places, shared}
 use Rattle.early_errors.specs.Owns.{items_at}
 use Rattle.early_errors.specs.Walk.{after, all_named}
 use Rattle.early_errors.proofs.FunctionLists.{body-whole}
-use Rattle.early_errors.proofs.Results.{if_ok}
+use Rattle.name_tables.proofs.Results.{if_ok}
 use Rattle.early_errors.proofs.scopes.catch_errors.Goals as goal
 
 pub returns : goal.returns

@@ -8,7 +8,7 @@ use Rattle.early_errors.specs.Owns.{doubled, clash_with, found_of_scope}
 use Rattle.early_errors.specs.declared.scopes.ScopeKind.TheVariants.{Block}
 use Rattle.early_errors.specs.Walk.{after, all_named}
 use Rattle.early_errors.proofs.Least.{after-append}
-use Rattle.early_errors.proofs.Results.{if_ok}
+use Rattle.name_tables.proofs.Results.{if_ok}
 use Rattle.early_errors.proofs.scopes.scope_errors.Goals as goal
 
 pub returns-in-Program : goal.returns-in-Program

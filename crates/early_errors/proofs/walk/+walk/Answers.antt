@@ -6,7 +6,7 @@ use Rattle.tree.proofs.PartWalk.{parts_drop-some, parts_drop-gap, parts_drop-pas
 use Rattle.early_errors.specs.Around.{own_label}
 use Rattle.early_errors.specs.Passed.{IsWhere}
 use Rattle.early_errors.specs.Owns.{found_of_scope, inside_of, names_of_scope, round, scope_error, scope_kind}
-use Rattle.early_errors.specs.Walk.{after, all_named, clashing, hits, look, sooner, undone}
+use Rattle.early_errors.specs.Walk.{after, all_named, clashing, hits, look, sooner, undone, saved_name, saved_value}
 use Rattle.early_errors.specs.Walks.{range_errors, range_vars}
 use Rattle.early_errors.proofs.Insides.{function_facts, method_facts, plain_facts, label_facts, scope_facts, no_own_label, one_label}
 use Rattle.early_errors.proofs.JoinedHits.{from_start, part-turn, part-given, part-missing, first-round, other-round, parts-found, function-found, two-goes, scope-found, none-clash}
@@ -15,7 +15,7 @@ use Rattle.early_errors.proofs.Silent.{quiet_found}
 use Rattle.early_errors.proofs.Ahead.{ahead-part, ahead-gap, ahead-end, open_found, declared_found}
 use Rattle.early_errors.proofs.ScopeErrors.{split_given}
 use Rattle.name_tables.proofs.Results.{on_ok}
-use Rattle.early_errors.proofs.Tables.{restored, undone-agrees}
+use Rattle.name_tables.proofs.Undone.{restored, undone-agrees}
 use Rattle.early_errors.proofs.walk.+walk.Goals as goal
 use Rattle.early_errors.proofs.walk.+walk.Goals.{walk_parts-in-Some+in_ok-walk_node, walk_parts-then-index-eq0, walk_parts-else-index-eq0, walk_parts-in_default, walk_passed-in-Nowhere, walk_passed-in-InParts+in_ok-walk_passed-in-InParts, walk_passed-in-Anywhere+in_ok-walk_special-in-Anywhere}
 
@@ -279,5 +279,5 @@ walk_in_scope-returns-clause-found t c =
 pub walk_in_scope-returns-clause-vars : goal.walk_in_scope-returns-clause-vars
 walk_in_scope-returns-clause-vars t c =
     on_ok c.close_scope.result
-    (λ h w. h w ∙ undone-agrees (look c.walk_parts-2.new.walk.vars) (look c.open_scope.new.clashes) c.open_scope.new.saved.items c.in_ok-walk_parts-2.ensures.vars w ∙ c.in_ok-open_scope.ensures.kept w ∙ ap (λ l. undone (look c.walk_parts.new.walk.vars) l w) c.requires.saved ∙ c.in_ok-walk_parts.ensures.vars w)
+    (λ h w. h w ∙ undone-agrees saved_name saved_value (look c.walk_parts-2.new.walk.vars) (look c.open_scope.new.clashes) c.open_scope.new.saved.items c.in_ok-walk_parts-2.ensures.vars w ∙ c.in_ok-open_scope.ensures.kept w ∙ ap (λ l. undone (look c.walk_parts.new.walk.vars) l w) c.requires.saved ∙ c.in_ok-walk_parts.ensures.vars w)
     c.close_scope.ensures

@@ -4,7 +4,8 @@ use Rattle.tree.specs.Node.{node_tree, list_parts}
 use Rattle.tree.proofs.PartWalk.{parts_drop}
 use Rattle.early_errors.specs.Around.{Label}
 use Rattle.early_errors.specs.Owns.{Knows, round}
-use Rattle.early_errors.specs.Walk.{Agree, after, hits, look, sooner}
+use Rattle.name_tables.specs.Tables.{Agree}
+use Rattle.early_errors.specs.Walk.{after, hits, look, sooner}
 use Rattle.early_errors.specs.Walks.{range_errors, range_vars}
 use Rattle.early_errors.proofs.Ahead.{ahead}
 use Rattle.early_errors.proofs.walk.+walk.Given as goal

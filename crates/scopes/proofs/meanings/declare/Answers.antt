@@ -2,7 +2,7 @@ use Rattle.std.proofs.Common.{◌≡◌, [], ◌∷◌, ◌++◌, Some, sym, ap,
 use Rattle.std.specs.Prelude.{is_some}
 use Rattle.std.specs.Str.{bytes_eq}
 use Rattle.std.proofs.lemmas.List.{map-append, length-map}
-use Rattle.name_tables.specs.Tables.{value_at, undone}
+use Rattle.name_tables.specs.Tables.{value_at, undone, saved_name, saved_value}
 use Rattle.name_tables.proofs.Undone.{kept-turn, undone-agrees}
 use Rattle.scopes.specs.Bindings.{has_name}
 use Rattle.scopes.specs.Found.{here_or_outer, index_of, nearest}
@@ -21,7 +21,7 @@ pub returns-then-is_of-clause-meanings : goal.returns-then-is_of-clause-meanings
 returns-then-is_of-clause-meanings c = λ fs m b w. c.in_ok-before.ensures.same w ∙ m w
 
 pub returns-then-is_of-clause-kept : goal.returns-then-is_of-clause-kept
-returns-then-is_of-clause-kept c = undone-agrees (value_at c.save.new.self) (value_at c.args.meanings.now) c.args.saved.now.items c.in_ok-before.ensures.same
+returns-then-is_of-clause-kept c = undone-agrees saved_name saved_value (value_at c.save.new.self) (value_at c.args.meanings.now) c.args.saved.now.items c.in_ok-before.ensures.same
 
 pub returns-clause-bindings : goal.returns-clause-bindings
 returns-clause-bindings c = λ fs m b.
@@ -45,6 +45,6 @@ returns-clause-meanings c = λ fs m b.
 pub returns-clause-kept : goal.returns-clause-kept
 returns-clause-kept c =
     let e = c.in_ok-before.ensures in
-    kept-turn (undone (value_at c.args.meanings.now) c.args.saved.now.items) (value_at c.save.new.self) (value_at c.set.new.self) _ c.args.saved.now.items c.push.new.self.items _ c.in_ok-push.ensures.items
+    kept-turn saved_name saved_value (undone (value_at c.args.meanings.now) c.args.saved.now.items) (value_at c.save.new.self) (value_at c.set.new.self) _ c.args.saved.now.items c.push.new.self.items _ c.in_ok-push.ensures.items
     (e.value ∙ sym (e.same c.args.declared.name.now) ∙ ap (value_at c.save.new.self) (sym e.name)) c.in_ok-set.ensures.ok
-    (undone-agrees (value_at c.save.new.self) (value_at c.args.meanings.now) c.args.saved.now.items e.same)
+    (undone-agrees saved_name saved_value (value_at c.save.new.self) (value_at c.args.meanings.now) c.args.saved.now.items e.same)

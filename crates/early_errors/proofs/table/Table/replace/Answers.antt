@@ -5,7 +5,7 @@ use Rattle.std.proofs.lemmas.Map.Text.{btree_map_updates_str}
 use Rattle.std.specs.BTreeMap.{get_by}
 use Rattle.std.specs.Cmp.Lexicographic.{slice_cmp}
 use Rattle.std.specs.Ordering.{nat_cmp}
-use Rattle.early_errors.specs.Walk.{value_of}
+use Rattle.name_tables.specs.Tables.{value_of}
 use Rattle.early_errors.proofs.table.Table.replace.Goals as goal
 
 value_chosen : {V : Type 0} (f : List ℕ → Option (Option V)) (n : List ℕ) (v : Option V) (w : List ℕ) → value_of (update bytes_eq f n (Some v) w) ≡ cond (bytes_eq n w) v (value_of (f w))

@@ -1,0 +1,24 @@
+-- The names that declarations declare, in the order of the tree, each as what is made of its identifier.
+use Rattle.std.specs.Prelude.{ℕ, Bool, cond, List, [], codes}
+use Rattle.std.specs.Str.{bytes_eq}
+use Rattle.tree.specs.declared.kind.Kind.{Kind}
+use Rattle.tree.specs.declared.kind.Kind.TheVariants.{VariableDeclaration, FunctionDeclaration, ClassDeclaration}
+use Rattle.tree.specs.Tree.{Tree, node, Parts, parts_of}
+use Rattle.name_tables.specs.BoundNames.{each_part, first_bound_names}
+
+-- the names of declarators (BoundNames, 13.3.1.2, 13.3.2.1); what is made of one depends on the declarator's parts
+abbrev pub declarator_names : {B : Type 0} → (Parts → Tree → B) → Parts → List B
+declarator_names f parts = each_part (λ d. first_bound_names (f (parts_of d)) (parts_of d)) parts
+
+-- The names that an item declares by `let` and `const` (what is made of them depends on the word too), by a class, and by a function
+-- where `b` says so (LexicallyDeclaredNames, 13.2.5): not at the top of a script or of a function (TopLevelLexicallyDeclaredNames, 13.2.7).
+abbrev pub lexically_declared_names : {B : Type 0} → Bool → (List ℕ → Parts → Tree → B) → (function class : Tree → B) → Tree → List B
+lexically_declared_names b f g h (node VariableDeclaration text flags from to parts) = cond (bytes_eq text (codes "var")) [] (declarator_names (f text) parts)
+lexically_declared_names b f g h (node FunctionDeclaration text flags from to parts) = cond b (first_bound_names g parts) []
+lexically_declared_names b f g h (node ClassDeclaration text flags from to parts) = first_bound_names h parts
+lexically_declared_names b f g h (node _ text flags from to parts) = []
+
+-- the names that a declaration declares by `var` (VarDeclaredNames, 13.3.2.2)
+abbrev pub own_var_names : {B : Type 0} → (Parts → Tree → B) → Kind → List ℕ → Parts → List B
+own_var_names f VariableDeclaration text parts = cond (bytes_eq text (codes "var")) (declarator_names f parts) []
+own_var_names f _ text parts = []
