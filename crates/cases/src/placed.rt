@@ -3,8 +3,8 @@
 use crate::ranks::rank;
 use language::{Rank, Start};
 use spellings::{
-    Position, PositionIter, SlotCursor, admits, expression_positions, holds_chain, is_leaf,
-    node_positions, node_production, resolve_slot,
+    Position, Production, SlotCursor, admits, fits, holds_chain, is_leaf, node_production,
+    resolve_slot,
 };
 use std::alloc::AllocError;
 use tree::{Form, Node};
@@ -148,55 +148,13 @@ fn called_by(rank: Rank) -> &'static str {
     }
 }
 
-/// What positions are called.
-fn push_called(positions: PositionIter, count: usize, out: &mut String) -> Result<(), AllocError> {
-    let mut rest = positions;
-    for _ in 0..count.saturating_add(1) {
-        let Some((here, others)) = rest.next() else {
-            return Ok(());
-        };
-        out.push_str(called(here))?;
-        out.push_str(", ")?;
-        rest = others;
-    }
-    Ok(())
-}
-
-/// What the positions of a node's parts are called, by its production at its own position.
-fn push_produced(own: Position, node: Node, out: &mut String) -> Result<(), AllocError> {
-    let Some(production) = node_production(node, own, false) else {
-        return out.push_str("none");
-    };
-    let outline = production.outline();
-    if !admits(own, outline.rank, outline.needs_in, outline.opens) {
-        return out.push_str("none");
-    }
-    let mut slots = production.spelled(node, own).slots;
-    for _ in 0..node.part_count().saturating_add(1) {
-        let Some(slot) = slots.take_slot() else {
-            return Ok(());
-        };
-        out.push_str(called(resolve_slot(own, slot)))?;
-        out.push_str(", ")?;
-    }
-    Ok(())
-}
-
-/// The same, part by part: behind `chain` where the first part is one's, and `leaf` alone where the node is seen at once to be one.
-fn push_taken(own: Position, node: Node, out: &mut String) -> Result<(), AllocError> {
-    if is_leaf(node, own) {
-        return out.push_str("leaf");
-    }
-    let Some(production) = node_production(node, own, false) else {
-        return out.push_str("none");
-    };
-    let asks = production.requirements();
-    if !admits(own, asks.rank, asks.needs_in, asks.opens) {
-        return out.push_str("none");
-    }
-    if holds_chain(own, node.kind(), production) {
-        out.push_str("chain, ")?;
-    }
+/// What the positions of a node's parts are called, one by one.
+fn push_slots(
+    own: Position,
+    node: Node,
+    production: Production,
+    out: &mut String,
+) -> Result<(), AllocError> {
     let parts = node.parts();
     let mut slots = SlotCursor::new(production);
     for index in 0..parts.len() {
@@ -212,8 +170,48 @@ fn push_taken(own: Position, node: Node, out: &mut String) -> Result<(), AllocEr
     Ok(())
 }
 
+/// What the positions of a node's parts are called, if it can be spelled at its own.
+fn push_spelled(own: Position, node: Node, out: &mut String) -> Result<(), AllocError> {
+    match node_production(node, own, false) {
+        Some(production) if fits(own, production.outline()) => {
+            push_slots(own, node, production, out)
+        }
+        _ => out.push_str("none"),
+    }
+}
+
+/// The same, by what its outline says.
+fn push_produced(own: Position, node: Node, out: &mut String) -> Result<(), AllocError> {
+    let Some(production) = node_production(node, own, false) else {
+        return out.push_str("none");
+    };
+    let outline = production.outline();
+    if !admits(own, outline.rank, outline.needs_in, outline.opens) {
+        return out.push_str("none");
+    }
+    push_slots(own, node, production, out)
+}
+
+/// The same, by what its production requires: behind `chain` where the first part is one's, and `leaf` alone where the node is seen at once to be one.
+fn push_taken(own: Position, node: Node, out: &mut String) -> Result<(), AllocError> {
+    if is_leaf(node, own) {
+        return out.push_str("leaf");
+    }
+    let Some(production) = node_production(node, own, false) else {
+        return out.push_str("none");
+    };
+    let asks = production.requirements();
+    if !admits(own, asks.rank, asks.needs_in, asks.opens) {
+        return out.push_str("none");
+    }
+    if holds_chain(own, node.kind(), production) {
+        out.push_str("chain, ")?;
+    }
+    push_slots(own, node, production, out)
+}
+
 /// At what positions the parts of a node stand that stands at a position, or behind `at` at a symbol, if it can be spelled there;
-/// behind `by` at what positions by the production, behind `along` part by part.
+/// behind `by` by what its outline says, behind `along` by what its production requires.
 pub(crate) fn push_places(words: &str, node: Node, out: &mut String) -> Result<(), AllocError> {
     if let Some(words) = words.strip_prefix("by ") {
         return push_produced(position(words), node, out);
@@ -221,12 +219,13 @@ pub(crate) fn push_places(words: &str, node: Node, out: &mut String) -> Result<(
     if let Some(words) = words.strip_prefix("along ") {
         return push_taken(position(words), node, out);
     }
-    let found = match words.strip_prefix("at ") {
-        Some(symbol) => expression_positions(node, rank(symbol), true, Start::Any),
-        None => node_positions(node, position(words)),
+    let own = match words.strip_prefix("at ") {
+        Some(symbol) => Position::Expression {
+            rank: rank(symbol),
+            has_in: true,
+            start: Start::Any,
+        },
+        None => position(words),
     };
-    match found {
-        Some(positions) => push_called(positions, node.part_count(), out),
-        None => out.push_str("none"),
-    }
+    push_spelled(own, node, out)
 }

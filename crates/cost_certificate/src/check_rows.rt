@@ -9,6 +9,7 @@ ghost use Rattle.language.specs.Grammar.{ways};
 ghost use Rattle.spellings.specs.Outlines.{role_of};
 ghost use Rattle.spellings.specs.Remaining.{left};
 ghost use Rattle.spellings.specs.Spelled.{settled_roles};
+ghost use Rattle.spellings.specs.Wherever.{spelled_by};
 ghost use Rattle.cost_table.specs.Rows.{is_expression};
 ghost use Rattle.cost_table.specs.Tables.{table_of};
 ghost use Rattle.cost_table.specs.Costs.{eight};
@@ -22,7 +23,8 @@ use crate::types::same_type;
 use cost_table::{CostTable, Costs, NodeCosts, added, fitting, widest};
 use source_text::Reason;
 use spellings::{
-    FirstToken, NodeSpelling, Outline, Position, leads_chain, node_spelling, resolve_slot,
+    FirstToken, Outline, Position, Production, SlotCursor, holds_chain, leads_chain,
+    node_production, resolve_slot,
 };
 use tree::Node;
 
@@ -100,7 +102,7 @@ fn check_inside(
     ensures passed { IsPassed (table_of table.now.rows.items table.now.total) (parts_wide_nodes (parts_of (node_tree node.entry)) (first_roles (ways (widest_role (role_of position)) (node_tree node.entry)))) index result.passed }
 {
     let own = widest(position);
-    let Some(spelled) = node_spelling(node, own, in_chain) else {
+    let Some(production) = node_production(node, own, in_chain) else {
         return CheckedNode {
             weighed: NodeCosts {
                 outline: None,
@@ -109,11 +111,12 @@ fn check_inside(
             passed: passed_none(index),
         };
     };
-    let summed = check_parts(node, own, spelled, table, index);
+    let summed = check_parts(node, own, production, table, index);
+    let outline = production.outline();
     CheckedNode {
         weighed: NodeCosts {
-            outline: Some(spelled.outline),
-            costs: fitting(own, spelled.outline, summed.sums),
+            outline: Some(outline),
+            costs: fitting(own, outline, summed.sums),
         },
         passed: summed.passed,
     }
@@ -125,30 +128,31 @@ fn check_inside(
 fn check_parts(
     node: Node,
     own: Position,
-    spelled: NodeSpelling,
+    production: Production,
     table: &CostTable,
     index: usize,
 ) -> CheckedParts
-    requires chain { spelled.holds_chain ≡ true → first_has_optional (parts_of (node_tree node)) ≡ true }
-    requires few { index + parts_rows (parts_of (node_tree node)) (settled_roles (role_of own) (left spelled.slots)) ≤ 16777216 }
-    ensures sums { result.sums ≡ bounds_over (table_of table.now.rows.items table.now.total) (parts_of (node_tree node.entry)) (role_of own) (left spelled.entry.slots) (suc index) }
-    ensures passed { IsPassed (table_of table.now.rows.items table.now.total) (parts_wide_nodes (parts_of (node_tree node.entry)) (settled_roles (role_of own) (left spelled.entry.slots))) index result.passed }
+    requires chain { (spelled_by node own production).holds_chain ≡ true → first_has_optional (parts_of (node_tree node)) ≡ true }
+    requires few { index + parts_rows (parts_of (node_tree node)) (settled_roles (role_of own) (left (spelled_by node own production).slots)) ≤ 16777216 }
+    ensures sums { result.sums ≡ bounds_over (table_of table.now.rows.items table.now.total) (parts_of (node_tree node.entry)) (role_of own) (left (spelled_by node.entry own production).slots) (suc index) }
+    ensures passed { IsPassed (table_of table.now.rows.items table.now.total) (parts_wide_nodes (parts_of (node_tree node.entry)) (settled_roles (role_of own) (left (spelled_by node.entry own production).slots))) index result.passed }
 {
-    let mut slots = spelled.slots;
+    let is_chain = holds_chain(own, node.kind(), production);
+    let parts = node.parts();
+    let mut slots = SlotCursor::new(production);
     let mut sums = Costs::same(Some(0u32));
     let mut passed = passed_none(index);
-    for place in 0..node.part_count() {
-        let Some(part) = node.part(place) else {
+    for place in 0..parts.len() {
+        let Some(part) = parts.get(place) else {
             continue;
         };
-        let Some((slot, others)) = slots.next_slot() else {
+        let Some(slot) = slots.take(parts, part, place) else {
             return CheckedParts {
                 sums: Costs::same(None),
                 passed,
             };
         };
-        slots = others;
-        let in_chain = leads_chain(spelled.holds_chain, place);
+        let in_chain = leads_chain(is_chain, place);
         let judged = check_node(part, resolve_slot(own, slot), in_chain, table, passed.next);
         sums = added(sums, own, slot, judged.weighed);
         passed = joined(passed, judged.passed);

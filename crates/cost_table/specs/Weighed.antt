@@ -12,9 +12,8 @@ use Rattle.language.specs.Layout.{some_way}
 use Rattle.spellings.specs.declared.outline.FirstToken.{FirstToken}
 use Rattle.spellings.specs.declared.outline.FirstToken.TheVariants.{Other}
 use Rattle.spellings.specs.declared.outline.Outline.{Outline}
-use Rattle.spellings.specs.declared.spelled_node.NodeSpelling.{NodeSpelling}
 use Rattle.spellings.specs.Spelled.{fits_outline, settled_roles}
-use Rattle.spellings.specs.Wherever.{with_own}
+use Rattle.spellings.specs.Wherever.{NodeSpelling, with_own}
 use Rattle.cost_table.specs.declared.costs.Costs as own
 use Rattle.cost_table.specs.declared.node_costs.NodeCosts.{NodeCosts}
 use Rattle.cost_table.specs.Costs.{capped, capped_sum, started_at, each, cost_at, cells_at}

@@ -3,7 +3,6 @@ use Rattle.std.proofs.Common.{◌≡◌, Bool, true, false, ◌&&◌, List, [], 
 use Rattle.tree.specs.Tree.{Tree, Parts, none, part, gap, kind_of, parts_of, part_count}
 use Rattle.language.specs.Pieces.{Role, Slot}
 use Rattle.language.specs.RowPositions.{widest}
-use Rattle.spellings.specs.declared.spelled_node.NodeSpelling.{NodeSpelling}
 use Rattle.std.specs.Prelude.{Result, OnOk, Ok, Err}
 use Rattle.std.proofs.lemmas.Bool.{and_parts}
 use Rattle.spellings.specs.declared.outline.FixedSlots.{FixedSlots}
@@ -15,12 +14,12 @@ use Rattle.tree.specs.declared.kind.Kind.{Kind}
 use Rattle.language.specs.declared.Rank.TheVariants.{Primary}
 use Rattle.spellings.specs.Outlines.{slot_of, leaf}
 use Rattle.spellings.specs.Remaining.{left, slots_left, front_left}
-use Rattle.spellings.specs.Wherever.{IsSpelledWherever}
+use Rattle.spellings.specs.Wherever.{NodeSpelling, IsSpelledWherever}
 use Rattle.paren_planner.specs.declared.steps.NodeStep.{NodeStep}
 use Rattle.paren_planner.specs.declared.steps.Step.{Step}
 use Rattle.paren_planner.specs.declared.steps.Step.TheVariants.{Atom, Leaf, Enter, Leave}
 use Rattle.cost_table.specs.Weighed.{settled_at, slot_free, is_plain_outline}
-use Rattle.spellings.specs.Cursors.{asks_of}
+use Rattle.spellings.specs.Cursors.{requirements_of as asks_of}
 use Rattle.paren_planner.specs.Steps.{nowhere, has_row_at}
 use Rattle.paren_planner.specs.Noted.{IsVisit, is_settled_slot, is_fixed, are_fixed, fixed_front, fixed_tail, fixed_outline, Steps, unspelled, alone, around, word, hidden, through, PartsSteps, over, skipped, unplaced, next, Noted, PartsNoted}
 

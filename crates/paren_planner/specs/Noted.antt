@@ -8,16 +8,15 @@ use Rattle.spellings.specs.declared.outline.FixedSlots.TheVariants as front
 use Rattle.spellings.specs.declared.outline.ListSlots as tails
 use Rattle.spellings.specs.declared.outline.ListSlots.TheVariants as tail
 use Rattle.spellings.specs.declared.outline.Outline.{Outline}
-use Rattle.spellings.specs.declared.spelled_node.NodeSpelling.{NodeSpelling}
 use Rattle.language.specs.declared.Rank.TheVariants.{Primary}
 use Rattle.spellings.specs.Outlines.{role_of, slot_of, leaf}
 use Rattle.spellings.specs.Remaining.{left}
-use Rattle.spellings.specs.Wherever.{IsSpelledWherever}
+use Rattle.spellings.specs.Wherever.{NodeSpelling, IsSpelledWherever}
 use Rattle.paren_planner.specs.declared.steps.NodeStep.{NodeStep}
 use Rattle.paren_planner.specs.declared.steps.Step.{Step}
 use Rattle.paren_planner.specs.declared.steps.Step.TheVariants.{Atom, Leaf, Enter, Leave}
 use Rattle.cost_table.specs.Weighed.{settled_at, slot_free, is_plain_outline}
-use Rattle.spellings.specs.Cursors.{asks_of}
+use Rattle.spellings.specs.Cursors.{requirements_of as asks_of}
 use Rattle.paren_planner.specs.Steps.{nowhere, has_row_at}
 
 -- it is a visit to this node, at a slot of a node at a position

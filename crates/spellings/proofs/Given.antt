@@ -1,35 +1,33 @@
 -- The positions that are given are those of the outline.
-use Rattle.std.proofs.Common.{◌≡◌, Bool, true, false, cond, List, [], ◌∷◌, Option, Some, None, refl, sym, ap, ap₂, ◌∙◌, subst}
+use Rattle.std.proofs.Common.{◌≡◌, Bool, true, false, cond, List, [], ◌∷◌, Option, Some, None, refl, sym, ap, ◌∙◌}
 use Rattle.std.specs.Prelude.{option_map}
 use Rattle.tree.specs.Tree.{Tree, node, Parts, kind_of, text_of, flags_of, parts_of}
 use Rattle.tree.specs.Uses.{is_lean}
 use Rattle.language.specs.Pieces as piece
-use Rattle.spellings.specs.declared.position.Position.{Position}
 use Rattle.spellings.specs.declared.position.Slot as own
 use Rattle.spellings.specs.declared.outline.FixedSlots.{FixedSlots}
 use Rattle.spellings.specs.declared.outline.FixedSlots.TheVariants.{Zero, One, Two, Three, Four}
 use Rattle.spellings.specs.declared.outline.ListSlots.{ListSlots}
 use Rattle.spellings.specs.declared.outline.Outline.{Outline}
-use Rattle.spellings.specs.declared.spelling.PositionIter.{PositionIter}
-use Rattle.spellings.specs.Outlines.{role_of, slot_of, front_before, tail_slots, parts_after, outline_slots}
-use Rattle.spellings.specs.Spelled.{lean_label, fits_outline, settled_roles, outlined_roles, roles_by, Verdict}
-use Rattle.spellings.specs.Remaining.{slots_left, front_left, left, remaining, Taken, Next, Gives, IsSpelled, goes_over, left_of}
+use Rattle.spellings.specs.Outlines.{slot_of, front_before, tail_slots, parts_after, outline_slots}
+use Rattle.spellings.specs.Spelled.{lean_label, fits_outline, settled_roles, outlined_roles, roles_by}
+use Rattle.spellings.specs.Remaining.{slots_left, front_left, goes_over, left_of}
 use Rattle.spellings.proofs.PartsAfter.{slots_known}
 
 pub lean_of : (n : Tree) → lean_label (kind_of n) (text_of n) (flags_of n) ≡ is_lean n
 lean_of (node k w g s e ps) = refl
 
-pub not_lean : (a : piece.Role) (n : Tree) (o : Option Outline) → is_lean n ≡ false → Gives (roles_by a n o) None
-not_lean a n o h = subst (λ b. Gives (cond b (outlined_roles a (parts_of n) o) None) None) (sym h) tt
+pub not_lean : (a : piece.Role) (n : Tree) (o : Option Outline) → is_lean n ≡ false → roles_by a n o ≡ None
+not_lean a n o h = ap (λ b. cond b (outlined_roles a (parts_of n) o) None) h
 
-pub no_roles : (a : piece.Role) (n : Tree) (o : Option Outline) → outlined_roles a (parts_of n) o ≡ None → Gives (roles_by a n o) None
-no_roles a n o h = subst (λ r. Gives (cond (is_lean n) r None) None) (sym h) (of (is_lean n))
+pub no_roles : (a : piece.Role) (n : Tree) (o : Option Outline) → outlined_roles a (parts_of n) o ≡ None → roles_by a n o ≡ None
+no_roles a n o h = ap (λ r. cond (is_lean n) r None) h ∙ of (is_lean n)
   where
-    of : (b : Bool) → Gives (cond b None None) None
-    of true = tt
-    of false = tt
+    of : (b : Bool) → ◌≡◌ {A = Option (List piece.Role)} (cond b None None) None
+    of true = refl
+    of false = refl
 
-pub no_fit : (a : piece.Role) (n : Tree) (x : Outline) → fits_outline a x ≡ false → Gives (roles_by a n (Some x)) None
+pub no_fit : (a : piece.Role) (n : Tree) (x : Outline) → fits_outline a x ≡ false → roles_by a n (Some x) ≡ None
 no_fit a n x h = no_roles a n (Some x) (ap (λ b. cond b (option_map (settled_roles a) (outline_slots x (parts_of n))) None) h)
 
 not_over : (o : Option (List piece.Slot)) → goes_over o ≡ false → o ≡ None
@@ -43,7 +41,7 @@ front_none (Two a b) = refl
 front_none (Three a b c) = refl
 front_none (Four a b c d) = refl
 
-pub no_run : (a : piece.Role) (n : Tree) (x : Outline) → goes_over (tail_slots x.tail (parts_after x.from (parts_of n))) ≡ false → Gives (roles_by a n (Some x)) None
+pub no_run : (a : piece.Role) (n : Tree) (x : Outline) → goes_over (tail_slots x.tail (parts_after x.from (parts_of n))) ≡ false → roles_by a n (Some x) ≡ None
 no_run a n x h = no_roles a n (Some x)
     (ap (λ o. cond (fits_outline a x) (option_map (settled_roles a) o) None) (ap (front_before x.front) (not_over _ h) ∙ front_none x.front) ∙ of (fits_outline a x))
   where
@@ -71,44 +69,10 @@ all_given a n x l f h =
     let e : outline_slots x (parts_of n) ≡ Some (front_left x.front (slots_left x.tail (parts_after x.from (parts_of n)))) = ap (front_before x.front) (over_some x.tail (parts_after x.from (parts_of n)) h) ∙ front_some x.front _ in
     rw (l, f, e) refl
 
-pub given : (o : Option (List piece.Role)) (p : PositionIter) → o ≡ Some (remaining p) → Gives o (Some p)
-given o p e = subst (λ u. Gives u (Some p)) (sym e) refl
-
--- what the table says of what is given
-pub spelled_by : (xs : List (List (piece.PieceOf piece.Role))) (o : Option (List piece.Role)) (r : Option PositionIter) → Verdict xs o → Gives o r → IsSpelled xs r
-spelled_by xs None None v g = v
-spelled_by xs None (Some p) v g = elim g [ ]
-spelled_by xs (Some rs) None v g = elim g [ ]
-spelled_by xs (Some rs) (Some p) v g = (v.0, g ∙ sym v.1)
-
--- Steps
-
-pub taken_none : (xs : List piece.Slot) (q : PositionIter) → xs ≡ [] → Taken xs q None
-taken_none xs q e = subst (λ u. Taken u q None) (sym e) tt
-
-pub taken_part : (xs : List piece.Slot) (q : PositionIter) (x : own.Slot × PositionIter) (ys : List piece.Slot) → xs ≡ slot_of x.0 ∷ ys → left x.1 ≡ ys → x.1.position ≡ q.position → x.1.node ≡ q.node → Taken xs q (Some x)
-taken_part xs q x ys e h p n = subst (λ u. Taken u q (Some x)) (sym e) (refl, h, p, n)
+-- Steps over a list
 
 pub refused : (f : ListSlots → List piece.Slot) (o : Option (own.Slot × ListSlots)) → None ≡ o → left_of f o ≡ []
 refused f o e = ap (left_of f) (sym e)
 
 pub stepped : (f : ListSlots → List piece.Slot) (o : Option (own.Slot × ListSlots)) (x : own.Slot × ListSlots) → Some x ≡ o → left_of f o ≡ slot_of x.0 ∷ f x.1
 stepped f o x e = ap (left_of f) (sym e)
-
-pub next_none : (p : PositionIter) → Taken (left p) p None → Next (remaining p) None
-next_none p h = of (left p) h
-  where
-    of : (xs : List piece.Slot) → Taken xs p None → Next (settled_roles (role_of p.position) xs) None
-    of [] k = tt
-    of (s ∷ xs) k = elim k [ ]
-
-pub next_some : (p : PositionIter) (x : own.Slot × PositionIter) (a : Position) → Taken (left p) p (Some x) → role_of a ≡ piece.settle (Rattle.language.specs.Grammar.own_rank (role_of p.position)) (Rattle.language.specs.Grammar.own_in (role_of p.position)) (Rattle.language.specs.Grammar.own_start (role_of p.position)) (slot_of x.0) →
-    Next (remaining p) (Some (a, x.1))
-next_some p x a h e = of (left p) h
-  where
-    of : (xs : List piece.Slot) → Taken xs p (Some x) → Next (settled_roles (role_of p.position) xs) (Some (a, x.1))
-    of [] k = elim k [ ]
-    of (s ∷ xs) k = (
-      e ∙ ap (λ u. piece.settle (Rattle.language.specs.Grammar.own_rank (role_of p.position)) (Rattle.language.specs.Grammar.own_in (role_of p.position)) (Rattle.language.specs.Grammar.own_start (role_of p.position)) u) k.0,
-      ap₂ (λ q ys. settled_roles (role_of q) ys) k.2 k.1,
-    )

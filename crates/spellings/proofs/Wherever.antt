@@ -14,7 +14,6 @@ use Rattle.language.specs.Expressions.{first_has_optional}
 use Rattle.spellings.specs.declared.position.Position.{Position}
 use Rattle.spellings.specs.declared.position.Position.TheVariants as at
 use Rattle.spellings.specs.declared.outline.Outline.{Outline}
-use Rattle.spellings.specs.declared.spelled_node.NodeSpelling.{NodeSpelling}
 use Rattle.spellings.specs.Outlines.{role_of, tail_slots, parts_after, outline_slots}
 use Rattle.spellings.specs.Expressions.{chain_outline}
 use Rattle.spellings.specs.Others.{member_link, call_link}
@@ -22,8 +21,8 @@ use Rattle.spellings.specs.declared.position.Slot.TheVariants.{Lead, LeadSpine}
 use Rattle.language.specs.declared.Rank.TheVariants.{Call}
 use Rattle.spellings.specs.Positions.{outline_at}
 use Rattle.spellings.specs.Spelled.{fits_outline, settled_roles, outlined_roles, roles_by, Verdict}
-use Rattle.spellings.specs.Remaining.{left, slots_left, front_left, Gives, goes_over}
-use Rattle.spellings.specs.Wherever.{with_own, spelled_roles, IsSpelledWherever, spine_first, chain_above}
+use Rattle.spellings.specs.Remaining.{left, slots_left, front_left, goes_over}
+use Rattle.spellings.specs.Wherever.{NodeSpelling, with_own, spelled_roles, IsSpelledWherever, spine_first, chain_above}
 use Rattle.spellings.proofs.Given.{not_lean, no_fit, no_run, all_given}
 use Rattle.spellings.proofs.Ways.{position_ways}
 
@@ -58,10 +57,6 @@ wherever_by p n F h y i f =
 wherever : (p : Position) (n : Tree) (r : Option NodeSpelling) → ((b : Role) → roles_by b n (outline_at p n) ≡ spelled_roles b r) → IsSpelledWherever (role_of p) n r
 wherever p n r h = wherever_by p n (λ b. spelled_roles b r) h
 
-gives_none : (o : Option (List Role)) → Gives o None → o ≡ None
-gives_none None h = refl
-gives_none (Some xs) h = elim h [ ]
-
 pub nowhere_without_outline : (p : Position) (n : Tree) → outline_at p n ≡ None → IsSpelledWherever (role_of p) n None
 nowhere_without_outline p n e = wherever p n None (λ b. ap (roles_by b n) e ∙ of (is_lean n))
   where
@@ -70,10 +65,10 @@ nowhere_without_outline p n e = wherever p n None (λ b. ap (roles_by b n) e ∙
     of false = refl
 
 pub nowhere_unless_lean : (p : Position) (n : Tree) → is_lean n ≡ false → IsSpelledWherever (role_of p) n None
-nowhere_unless_lean p n h = wherever p n None (λ b. gives_none (roles_by b n (outline_at p n)) (not_lean b n (outline_at p n) h))
+nowhere_unless_lean p n h = wherever p n None (λ b. not_lean b n (outline_at p n) h)
 
 pub nowhere_unless_over : (p : Position) (n : Tree) (x : Outline) → outline_at p n ≡ Some x → goes_over (tail_slots x.tail (parts_after x.from (parts_of n))) ≡ false → IsSpelledWherever (role_of p) n None
-nowhere_unless_over p n x e h = wherever p n None (λ b. ap (roles_by b n) e ∙ gives_none (roles_by b n (Some x)) (no_run b n x h))
+nowhere_unless_over p n x e h = wherever p n None (λ b. ap (roles_by b n) e ∙ no_run b n x h)
 
 abbrev slots_of : Outline → Tree → List Slot
 slots_of x n = front_left x.front (slots_left x.tail (parts_after x.from (parts_of n)))
@@ -81,7 +76,7 @@ slots_of x n = front_left x.front (slots_left x.tail (parts_after x.from (parts_
 known : (n : Tree) (x : Outline) → is_lean n ≡ true → goes_over (tail_slots x.tail (parts_after x.from (parts_of n))) ≡ true →
     (b : Role) (v : Bool) → fits_outline b x ≡ v → roles_by b n (Some x) ≡ cond v (Some (settled_roles b (slots_of x n))) None
 known n x l h b true f = all_given b n x l f h
-known n x l h b false f = gives_none (roles_by b n (Some x)) (no_fit b n x f)
+known n x l h b false f = no_fit b n x f
 
 pub spelled_wherever : (p : Position) (n : Tree) (x : NodeSpelling) → outline_at p n ≡ Some x.outline → is_lean n ≡ true →
     goes_over (tail_slots x.outline.tail (parts_after x.outline.from (parts_of n))) ≡ true → left x.slots ≡ slots_of x.outline n → IsSpelledWherever (role_of p) n (Some x)

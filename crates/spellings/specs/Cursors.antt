@@ -1,4 +1,4 @@
--- What a production asks of its node's position, and the slots that it gives, one by one.
+-- What a production requires of its node's position, and the slots that it gives, one by one.
 use Rattle.std.specs.Prelude.{◌≡◌, false, List, [], ◌∷◌, Option, Some, None}
 use Rattle.language.specs.declared.Rank.{Rank}
 use Rattle.language.specs.Pieces as piece
@@ -17,13 +17,13 @@ use Rattle.spellings.specs.Outlines.{slot_of, parts_after}
 use Rattle.spellings.specs.Productions.{outline_of}
 use Rattle.spellings.specs.Remaining.{front_left, slots_left}
 
--- what an outline asks of its node's position
-abbrev pub asks_of : Outline → Requirements
-asks_of x = record { rank = x.rank; needs_in = x.needs_in; opens = x.opens }
+-- what an outline requires of its node's position
+abbrev pub requirements_of : Outline → Requirements
+requirements_of x = record { rank = x.rank; needs_in = x.needs_in; opens = x.opens }
 
 -- no more than the symbol
-abbrev pub asking_rank : Rank → Requirements
-asking_rank z = record { rank = z; needs_in = false; opens = Other }
+abbrev pub rank_alone : Rank → Requirements
+rank_alone z = record { rank = z; needs_in = false; opens = Other }
 
 -- the first of the first slots, and the others
 abbrev pub first_of : FixedSlots → Option Slot

@@ -2,7 +2,7 @@
 use Rattle.std.specs.Prelude.{Bool, true, false, cond, List, Option, Some, None}
 use Rattle.tree.specs.declared.node.Node.{Node}
 use Rattle.tree.specs.Node.{node_tree}
-use Rattle.tree.specs.Tree.{Tree, kind_of}
+use Rattle.tree.specs.Tree.{Tree, kind_of, parts_of}
 use Rattle.tree.specs.declared.kind.Kind.{Kind}
 use Rattle.tree.specs.declared.kind.Kind.TheVariants.{ChainExpression}
 use Rattle.language.specs.declared.Rank.{Rank}
@@ -15,10 +15,11 @@ use Rattle.spellings.specs.declared.position.Slot.TheVariants.{LeadSpine}
 use Rattle.spellings.specs.declared.outline.FixedSlots.{FixedSlots}
 use Rattle.spellings.specs.declared.outline.FixedSlots.TheVariants.{One, Two}
 use Rattle.spellings.specs.declared.production.Production.{Production}
-use Rattle.spellings.specs.declared.spelled_node.NodeSpelling.{NodeSpelling}
+use Rattle.spellings.specs.declared.outline.Outline.{Outline}
+use Rattle.spellings.specs.Outlines.{parts_after}
 use Rattle.spellings.specs.Productions.{outline_of}
 use Rattle.spellings.specs.Spelled.{fits_outline, settled_roles, Verdict}
-use Rattle.spellings.specs.Remaining.{left}
+use Rattle.spellings.specs.Remaining.{PartSlots, left}
 
 -- the position with this symbol, In and start, as far as it has them
 abbrev pub with_own : Rank → Bool → Start → Role → Role
@@ -26,6 +27,12 @@ with_own y i f (expr z j x) = expr y i f
 with_own y i f (chain_part x) = chain_part f
 with_own y i f (pattern b x) = pattern b f
 with_own y i f a = a
+
+-- how a node is spelled: its outline, the slots of its parts, and whether its first part is part of a chain with a `?.` in it or below it
+pub record NodeSpelling : Type 0 where
+  pub outline : Outline
+  pub slots : PartSlots
+  pub holds_chain : Bool
 
 -- the positions of the parts at a position: none where the spelling doesn't fit
 abbrev pub spelled_roles : Role → Option NodeSpelling → Option (List Role)
@@ -51,6 +58,6 @@ chain_above _ k x = false
 abbrev pub spelled_by : Node → Position → Production → NodeSpelling
 spelled_by n a p = record {
   outline = outline_of p;
-  slots = record { node = n; position = a; front = (outline_of p).front; tail = (outline_of p).tail; from = (outline_of p).from };
+  slots = record { front = (outline_of p).front; tail = (outline_of p).tail; parts = parts_after (outline_of p).from (parts_of (node_tree n)) };
   holds_chain = chain_above a (kind_of (node_tree n)) (outline_of p).front;
 }

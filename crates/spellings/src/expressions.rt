@@ -9,22 +9,14 @@ ghost use Rattle.spellings.specs.Expressions.{expression_outline as outline_of_e
 ghost use Rattle.spellings.specs.Productions.{outline_of};
 
 use crate::leaves::is_super;
-use crate::outline::Outline;
 use crate::position::{PartAt, part_at, part_text};
-use crate::production::{Production, outlined};
+use crate::production::Production;
 use grammar::{
     Operation, has_optional, is_assignment, is_literal, is_pattern, is_prefix_operator,
     is_reserved, is_target, is_update_operator, operation_of,
 };
 use language::Rank;
 use tree::{Flags, Kind, Node};
-
-/// The outline of an expression; none where the table has no way to spell it.
-pub(crate) fn expression_outline(node: Node) -> Option<Outline>
-    ensures { result ≡ outline_of_expression (kind_of (node_tree node.entry)) (text_of (node_tree node.entry)) (flags_of (node_tree node.entry)) (around (parts_of (node_tree node.entry))) }
-{
-    outlined(expression_production(node))
-}
 
 /// The production of an expression; none where the table has no way to spell it.
 pub(crate) fn expression_production(node: Node) -> Option<Production>

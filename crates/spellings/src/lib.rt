@@ -23,14 +23,11 @@ mod statements;
 mod walk;
 mod words;
 
-pub use nodes::node_positions;
 pub use outline::{FirstToken, Outline};
 pub use pairs::{PairRow, pair_rows};
 pub use position::{Position, Slot};
 pub use production::{ForInit, Production, TryClauses};
 pub use requirements::Requirements;
 pub use slot_cursor::SlotCursor;
-pub use spelled_node::{
-    NodeSpelling, holds_chain, is_leaf, leads_chain, node_production, node_spelling,
-};
-pub use spelling::{PositionIter, admits, expression_positions, fits, resolve_slot};
+pub use spelled_node::{holds_chain, is_leaf, leads_chain, node_production};
+pub use spelling::{admits, fits, resolve_slot};

@@ -1,16 +1,13 @@
-//! The positions of any node's parts.
+//! Which production spells a node at a position.
 
 ghost use Rattle.std.specs.Prelude.{◌≡◌, true, option_map};
 ghost use Rattle.tree.specs.Node.{node_tree};
 ghost use Rattle.tree.specs.Tree.{kind_of, flags_of, parts_of};
-ghost use Rattle.language.specs.Grammar.{ways};
 ghost use Rattle.language.specs.Expressions.{has_optional as is_chained_tree};
-ghost use Rattle.spellings.specs.Outlines.{role_of};
 ghost use Rattle.spellings.specs.Positions.{outline_at as outline_at_position};
 ghost use Rattle.spellings.specs.Entries.{entry_at};
 ghost use Rattle.spellings.specs.Expressions.{kind_at as kind_of_entry};
 ghost use Rattle.spellings.specs.Others.{pattern_property_outline as outline_of_pattern_property, element_outline as outline_of_element, rest_outline as outline_of_rest};
-ghost use Rattle.spellings.specs.Remaining.{IsSpelled};
 ghost use Rattle.spellings.specs.Productions.{outline_of};
 
 use crate::chain::chain_part_production;
@@ -25,36 +22,15 @@ use crate::leaves::{
     quasi_production,
 };
 use crate::members::{class_body_production, member_production, method_production};
-use crate::outline::Outline;
 use crate::position::{Position, part_at};
-use crate::production::{Production, outlined};
+use crate::production::Production;
 use crate::properties::{
     element_production, pattern_production, pattern_property_production, property_production,
     rest_production, spread_production,
 };
-use crate::spelling::{PositionIter, positions_by};
 use crate::statements::statement_production;
 use crate::words::is_identifier;
 use tree::Node;
-
-/// The positions of a node's parts, in source order; none where it can't be spelled directly at this position.
-pub fn node_positions<'t, 's>(
-    node: Node<'t, 's>,
-    position: Position,
-) -> Option<PositionIter<'t, 's>>
-    ensures { IsSpelled (ways (role_of position) (node_tree node.entry)) result }
-{
-    positions_by(node, position, outline_at(node, position, false))
-}
-
-/// The outline of a node at a position; none where the table has no way to spell it there. `in_chain`: the node is known to be part
-/// of a chain, with a `?.` in it or below it.
-pub(crate) fn outline_at(node: Node, position: Position, in_chain: bool) -> Option<Outline>
-    requires { in_chain ≡ true → is_chained_tree (node_tree node) ≡ true }
-    ensures { result ≡ outline_at_position position (node_tree node.entry) }
-{
-    outlined(production_at(node, position, in_chain))
-}
 
 /// The production of a node at a position; none where the table has no way to spell it there. `in_chain`: the node is known to be part
 /// of a chain, with a `?.` in it or below it.

@@ -1,6 +1,6 @@
 //! How a node is spelled, in a few bytes: its outline, and so the positions of its parts, is read off it.
 
-ghost use Rattle.std.specs.Prelude.{◌≡◌, true, false, cond, option_map};
+ghost use Rattle.std.specs.Prelude.{◌≡◌, true, false, cond};
 ghost use Rattle.language.specs.declared.Rank.TheVariants.{LeftHandSide, Call, Primary, Assignment};
 ghost use Rattle.language.specs.declared.Start.TheVariants.{Any};
 ghost use Rattle.spellings.specs.declared.position.Position.TheVariants;
@@ -267,16 +267,6 @@ impl Production {
                 | Production::Switch { .. }
                 | Production::Case { .. }
         )
-    }
-}
-
-/// The outline of a production, where there is one.
-pub(crate) fn outlined(production: Option<Production>) -> Option<Outline>
-    ensures { result ≡ option_map outline_of production }
-{
-    match production {
-        Some(production) => Some(production.outline()),
-        None => None,
     }
 }
 

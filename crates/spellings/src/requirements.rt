@@ -1,9 +1,9 @@
-//! What a production asks of the position that its node stands at.
+//! What a production requires of the position that its node stands at.
 
 ghost use Rattle.std.specs.Prelude.{◌≡◌};
 ghost use Rattle.language.specs.declared.Rank.TheVariants;
 ghost use Rattle.spellings.specs.Productions.{outline_of};
-ghost use Rattle.spellings.specs.Cursors.{asks_of, asking_rank};
+ghost use Rattle.spellings.specs.Cursors.{requirements_of, rank_alone};
 
 use crate::outline::FirstToken;
 use crate::production::Production;
@@ -20,7 +20,7 @@ pub struct Requirements {
 impl Requirements {
     /// Of a symbol's position no more than that.
     fn rank(rank: Rank) -> Requirements
-        ensures { result ≡ asking_rank rank }
+        ensures { result ≡ rank_alone rank }
     {
         Requirements {
             rank,
@@ -31,9 +31,9 @@ impl Requirements {
 }
 
 impl Production {
-    /// What a node with this production asks of its position: what its outline says.
+    /// What a node with this production requires of its position: what its outline says.
     pub fn requirements(self) -> Requirements
-        ensures { result ≡ asks_of (outline_of self) }
+        ensures { result ≡ requirements_of (outline_of self) }
     {
         match self {
             Production::Member { .. } | Production::Tagged | Production::New | Production::Meta => {

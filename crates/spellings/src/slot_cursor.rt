@@ -55,6 +55,7 @@ pub struct SlotCursor {
 
 impl SlotCursor {
     /// All slots of a node with this production.
+    #[inline(always)]
     pub fn new(production: Production) -> SlotCursor
         ensures { result ≡ cursor_of production }
     {
@@ -68,6 +69,7 @@ impl SlotCursor {
     }
 
     /// Takes the slot of a node's next part, which stands at an index; none where no slot is left.
+    #[inline(always)]
     pub fn take(&mut self, parts: NodeList, part: Node, index: usize) -> Option<Slot>
         requires { Some (node_tree part) ≡ part_at (list_parts parts) index }
         ensures { TakesSlot (left_by self.old (list_parts parts.entry)) result (left_by self.new (list_parts parts.entry)) }
@@ -177,6 +179,7 @@ fn list_of_outline(production: Production) -> (ListSlots, usize)
 }
 
 /// The slot of a production that has an ordinal among the first ones.
+#[inline(always)]
 fn first_slot(production: &Production, ordinal: SlotIndex) -> Option<Slot>
     ensures { result ≡ slot_at (outline_of production.now).front ordinal }
 {

@@ -12,43 +12,16 @@ ghost use Rattle.spellings.specs.Wherever.{IsSpelledWherever, spelled_by, chain_
 
 use crate::leaves::is_leaf_text;
 use crate::nodes::production_at;
-use crate::outline::{FixedSlots, Outline};
+use crate::outline::FixedSlots;
 use crate::position::{Position, Slot};
 use crate::production::Production;
 use crate::slot_cursor::list_of;
-use crate::spelling::{PositionIter, is_lean_node, is_plain};
+use crate::spelling::{is_lean_node, is_plain};
 use crate::walk::list_fits;
 use tree::{Kind, Node};
 
-/// How a node is spelled at a position, whatever symbol, In and start it has there.
-#[derive(Clone, Copy)]
-pub struct NodeSpelling<'t, 's> {
-    pub outline: Outline,
-    /// The positions of its parts, as slots.
-    pub slots: PositionIter<'t, 's>,
-    /// Its first part is part of a chain, with a `?.` in it or below it.
-    pub holds_chain: bool,
-}
-
-/// How a node is spelled at a position; none where it can't be, at no symbol, In and start. `in_chain`: the node is known to be part
-/// of a chain, with a `?.` in it or below it.
-pub fn node_spelling<'t, 's>(
-    node: Node<'t, 's>,
-    position: Position,
-    in_chain: bool,
-) -> Option<NodeSpelling<'t, 's>>
-    requires { in_chain ≡ true → is_chained_tree (node_tree node) ≡ true }
-    ensures ways { IsSpelledWherever (role_of position) (node_tree node.entry) result }
-    ensures chain { IfSome result (λ x. x.holds_chain ≡ true → first_has_optional (parts_of (node_tree node.entry)) ≡ true) }
-{
-    match node_production(node, position, in_chain) {
-        Some(production) => Some(production.spelled(node, position)),
-        None => None,
-    }
-}
-
-/// The same in a few bytes: the production by which a node is spelled at a position, from which `spelled` makes what `node_spelling`
-/// gives.
+/// The production by which a node is spelled at a position, whatever symbol, In and start it has there; none where it can't be, at no
+/// symbol, In and start. `in_chain`: the node is known to be part of a chain, with a `?.` in it or below it.
 #[inline(always)]
 pub fn node_production(node: Node, position: Position, in_chain: bool) -> Option<Production>
     requires { in_chain ≡ true → is_chained_tree (node_tree node) ≡ true }
@@ -100,26 +73,6 @@ fn takes_list(node: Node, production: Production) -> bool
 {
     let (tail, from) = list_of(production);
     list_fits(node.parts(), tail, from)
-}
-
-impl Production {
-    /// How a node with this production is spelled at a position.
-    pub fn spelled<'t, 's>(self, node: Node<'t, 's>, position: Position) -> NodeSpelling<'t, 's>
-        ensures { result ≡ spelled_by node.entry position self }
-    {
-        let outline = self.outline();
-        NodeSpelling {
-            outline,
-            slots: PositionIter {
-                node,
-                position,
-                front: outline.front,
-                tail: outline.tail,
-                from: outline.from,
-            },
-            holds_chain: holds_chain(position, node.kind(), self),
-        }
-    }
 }
 
 /// Whether the first part of a node that is spelled at a position by its production is part of a chain, with a `?.` in it or below it.

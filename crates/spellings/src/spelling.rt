@@ -1,33 +1,18 @@
-//! Whether a node can be spelled at a position, and the positions of its parts.
+//! What a slot is at a position, and what may stand there; whether a node has no text and no flags but those of its kind.
 
-ghost use Rattle.std.specs.Prelude.{◌≡◌, Some};
+ghost use Rattle.std.specs.Prelude.{◌≡◌};
 ghost use Rattle.tree.specs.Node.{node_tree};
-ghost use Rattle.tree.specs.Tree.{kind_of, text_of, flags_of, parts_of};
 ghost use Rattle.tree.specs.Uses.{is_lean, within as is_within, used_flags as flags_used, has_text as kind_has_text, is_init as is_init_form};
-ghost use Rattle.language.specs.Pieces.{settle, expr};
-ghost use Rattle.language.specs.Grammar.{own_rank, own_in, own_start, ways};
-ghost use Rattle.spellings.specs.Outlines.{role_of, slot_of, opens_at, outline_slots};
-ghost use Rattle.spellings.specs.Spelled.{lean_label, has_no_flags, asking, callee_at, fits_outline, roles_by};
-ghost use Rattle.spellings.specs.Remaining.{remaining, Taken, Takes, Next, Gives, goes_over, left, tail_left, IsSpelled};
+ghost use Rattle.language.specs.Pieces.{settle};
+ghost use Rattle.language.specs.Grammar.{own_rank, own_in, own_start};
+ghost use Rattle.spellings.specs.Outlines.{role_of, slot_of, opens_at};
+ghost use Rattle.spellings.specs.Spelled.{lean_label, has_no_flags, asking, callee_at, fits_outline};
 
-use crate::expressions::expression_outline;
-use crate::list_slots::{is_over, skips_gap};
-use crate::outline::{FirstToken, FixedSlots, ListSlots, Outline};
+use crate::outline::{FirstToken, Outline};
 use crate::position::{Position, Slot};
-use crate::walk::{list_fits, slot_of_part};
 use grammar::accepts_rank;
 use language::{Rank, Start};
 use tree::{Flags, Form, Kind, Node};
-
-/// What is left of the positions of a node's parts, in source order.
-#[derive(Clone, Copy)]
-pub struct PositionIter<'t, 's> {
-    pub(crate) node: Node<'t, 's>,
-    pub(crate) position: Position,
-    pub(crate) front: FixedSlots,
-    pub(crate) tail: ListSlots,
-    pub(crate) from: usize,
-}
 
 /// The position that a slot is at a node's own position.
 pub fn resolve_slot(own: Position, slot: Slot) -> Position
@@ -234,149 +219,4 @@ fn is_init(form: Form) -> bool
     ensures { result ≡ is_init_form form }
 {
     matches!(form, Form::Init)
-}
-
-/// The positions of a node's parts by the outline of its spelling, where that fits the node's position.
-pub(crate) fn positions_by<'t, 's>(
-    node: Node<'t, 's>,
-    position: Position,
-    outline: Option<Outline>,
-) -> Option<PositionIter<'t, 's>>
-    ensures { Gives (roles_by (role_of position) (node_tree node.entry) outline) result }
-{
-    match outline {
-        Some(outline) => positions_of(node, position, outline),
-        None => None,
-    }
-}
-
-/// The same, of an outline.
-fn positions_of<'t, 's>(
-    node: Node<'t, 's>,
-    position: Position,
-    outline: Outline,
-) -> Option<PositionIter<'t, 's>>
-    ensures { Gives (roles_by (role_of position) (node_tree node.entry) (Some outline)) result }
-{
-    if !is_lean_node(node)
-        || !fits(position, outline)
-        || !list_fits(node.parts(), outline.tail, outline.from)
-    {
-        return None;
-    }
-    Some(PositionIter {
-        node,
-        position,
-        front: outline.front,
-        tail: outline.tail,
-        from: outline.from,
-    })
-}
-
-impl<'t, 's> PositionIter<'t, 's> {
-    /// The next position, and those behind it.
-    pub fn next(self) -> Option<(Position, PositionIter<'t, 's>)>
-        ensures { Next (remaining self.entry) result }
-    {
-        let Some((slot, others)) = self.next_slot() else {
-            return None;
-        };
-        Some((resolve_slot(self.position, slot), others))
-    }
-
-    /// The next slot, whatever the node's own symbol, In and start are, and those behind it.
-    pub fn next_slot(self) -> Option<(Slot, PositionIter<'t, 's>)>
-        ensures { Taken (left self.entry) self.entry result }
-    {
-        let (slot, front) = match self.front {
-            FixedSlots::Zero => return self.next_of_tail(),
-            FixedSlots::One(first) => (first, FixedSlots::Zero),
-            FixedSlots::Two(first, second) => (first, FixedSlots::One(second)),
-            FixedSlots::Three(first, second, third) => (first, FixedSlots::Two(second, third)),
-            FixedSlots::Four(first, second, third, fourth) => {
-                (first, FixedSlots::Three(second, third, fourth))
-            }
-        };
-        Some((slot, PositionIter { front, ..self }))
-    }
-
-    /// Takes the next slot, as `next_slot` gives it, and leaves those behind it.
-    pub fn take_slot(&mut self) -> Option<Slot>
-        ensures { Takes (left self.old) self.old result self.new }
-    {
-        match self.front {
-            FixedSlots::Zero => self.take_of_tail(),
-            FixedSlots::One(first) => {
-                self.front = FixedSlots::Zero;
-                Some(first)
-            }
-            FixedSlots::Two(first, second) => {
-                self.front = FixedSlots::One(second);
-                Some(first)
-            }
-            FixedSlots::Three(first, second, third) => {
-                self.front = FixedSlots::Two(second, third);
-                Some(first)
-            }
-            FixedSlots::Four(first, second, third, fourth) => {
-                self.front = FixedSlots::Three(second, third, fourth);
-                Some(first)
-            }
-        }
-    }
-
-    fn take_of_tail(&mut self) -> Option<Slot>
-        ensures { Takes (tail_left self.old) self.old result self.new }
-    {
-        let Some((slot, others)) = self.next_of_tail() else {
-            return None;
-        };
-        *self = others;
-        Some(slot)
-    }
-
-    fn next_of_tail(self) -> Option<(Slot, PositionIter<'t, 's>)>
-        ensures { Taken (tail_left self.entry) self.entry result }
-    {
-        if is_over(self.tail) {
-            return None;
-        }
-        let parts = self.node.parts();
-        let count = parts.len();
-        for index in self.from..count {
-            if let Some(part) = parts.get(index) {
-                let Some((slot, tail)) = slot_of_part(part, self.tail, count - index - 1) else {
-                    return None;
-                };
-                let others = PositionIter {
-                    front: FixedSlots::Zero,
-                    tail,
-                    from: index + 1,
-                    ..self
-                };
-                return Some((slot, others));
-            }
-            if !skips_gap(self.tail) {
-                return None;
-            }
-        }
-        None
-    }
-}
-
-/// The positions of an expression's parts, in source order; none where it can't be spelled directly at this symbol, In and start.
-pub fn expression_positions<'t, 's>(
-    node: Node<'t, 's>,
-    rank: Rank,
-    has_in: bool,
-    start: Start,
-) -> Option<PositionIter<'t, 's>>
-    ensures { IsSpelled (ways (expr rank has_in start) (node_tree node.entry)) result }
-{
-    let position = Position::Expression {
-        rank,
-        has_in,
-        start,
-    };
-    positions_by(node, position, expression_outline(node))
 }
