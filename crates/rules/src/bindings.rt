@@ -4,14 +4,14 @@ ghost use Rattle.std.specs.Prelude.{◌≡◌, ◌++◌, ◌∷◌, [], ℕ, Boo
 ghost use Rattle.scopes.specs.Shown.{all_shown, shown};
 ghost use Rattle.rules.specs.Appends.{Grows};
 ghost use Rattle.rules.specs.Used.{is_marked, of_binding};
-ghost use Rattle.rules.specs.Rules.{of_bindings, of_scopes};
+ghost use Rattle.rules.specs.Rules.{is_used, of_bindings, of_scopes};
 
 use crate::new_report::{push_report, quoted};
 use crate::no_shadow::push_shadow;
 use crate::no_unused_vars::push_unused;
 use crate::prefer_const::push_constant;
 use crate::report::Report;
-use crate::used_bindings::UsedBindings;
+use crate::used_bindings::{UsedBindings, used_by};
 use scopes::{Binding, Scopes};
 use std::alloc::{AllocError, Global};
 use tree::Span;
@@ -76,10 +76,27 @@ fn push_scope(
     ensures kept { Grows out.old.items out.new.items }
 {
     for index in 0..bindings.len() {
-        let is_used = used.contains(&(scope, index));
+        let is_used = used.contains(scope, index);
         push_binding(rule, alloc, ignore, is_used, bindings[index], out)?;
     }
     Ok(())
+}
+
+/// Appends what a rule reports of all bindings, by which of them references write, or read. `ignore`: names that begin with
+/// `_` aren't reported as unused.
+pub(crate) fn push_by_use(
+    rule: BindingRule,
+    alloc: Global,
+    ignore: bool,
+    writes: bool,
+    scopes: &Scopes,
+    out: &mut Vec<Report>,
+) -> Result<(), AllocError>
+    ensures found { OnOk result (out.new.items ≡ out.old.items ++ of_scopes (of_binding rule ignore (is_used writes scopes.now.references)) 0 scopes.now.scopes) }
+    ensures kept { Grows out.old.items out.new.items }
+{
+    let used = used_by(alloc, writes, scopes)?;
+    push_bindings(rule, alloc, ignore, &used, scopes, out)
 }
 
 /// Appends what a rule reports of all bindings. `ignore`: names that begin with `_` aren't reported as unused.

@@ -5,10 +5,9 @@ ghost use Rattle.scopes.specs.Shown.{shown};
 ghost use Rattle.rules.specs.Appends.{Grows};
 ghost use Rattle.rules.specs.Rules.{begins_with_underscore, is_for_reading, of_unused};
 
-use crate::bindings::{BindingRule, push_bindings, push_named};
+use crate::bindings::{BindingRule, push_by_use, push_named};
 use crate::report::Report;
 use crate::rule::Rule;
-use crate::used_bindings::used_by;
 use crate::view::View;
 use scopes::{Binding, BindingKind};
 use std::alloc::{AllocError, Global};
@@ -48,12 +47,11 @@ impl Rule for NoUnusedVars {
     }
 
     fn check(&self, view: &View, out: &mut Vec<Report>) -> Result<(), AllocError> {
-        let read = used_by(self.alloc, false, view.scopes.references())?;
-        push_bindings(
+        push_by_use(
             BindingRule::Unused,
             self.alloc,
             view.settings.ignores_underscore(),
-            &read,
+            false,
             view.scopes,
             out,
         )

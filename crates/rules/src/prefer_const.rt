@@ -5,10 +5,9 @@ ghost use Rattle.scopes.specs.Shown.{shown};
 ghost use Rattle.rules.specs.Appends.{Grows};
 ghost use Rattle.rules.specs.Rules.{is_let, of_const};
 
-use crate::bindings::{BindingRule, push_bindings, push_named};
+use crate::bindings::{BindingRule, push_by_use, push_named};
 use crate::report::Report;
 use crate::rule::Rule;
-use crate::used_bindings::used_by;
 use crate::view::View;
 use scopes::{Binding, BindingKind};
 use std::alloc::{AllocError, Global};
@@ -48,12 +47,11 @@ impl Rule for PreferConst {
     }
 
     fn check(&self, view: &View, out: &mut Vec<Report>) -> Result<(), AllocError> {
-        let written = used_by(self.alloc, true, view.scopes.references())?;
-        push_bindings(
+        push_by_use(
             BindingRule::Constant,
             self.alloc,
             false,
-            &written,
+            true,
             view.scopes,
             out,
         )
