@@ -32,7 +32,7 @@ use Rattle.rules.specs.Order.{report_cmp}
 use Rattle.rules.specs.Settings.{Settings}
 use Rattle.rules.specs.Toml.{settings_of_text}
 use Rattle.rules.specs.Rules.{View}
-use Rattle.reporting.specs.Lines.{report_lines, report_status}
+use Rattle.rules.specs.Lines.{report_lines, report_status}
 use Rattle.cost_certificate.specs.Forms.{IsTable, IsBadLine, short, table_text}
 use Rattle.cost_certificate.specs.Faults.{first_fault}
 use Rattle.lint.specs.Fixes.{Fixes}

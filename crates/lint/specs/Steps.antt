@@ -14,7 +14,7 @@ use Rattle.rules.specs.Reports.{Report}
 use Rattle.rules.specs.Rules.{View}
 use Rattle.rules.specs.Settings.{Settings}
 use Rattle.rules.specs.Toml.{settings_of_text}
-use Rattle.reporting.specs.Lines.{report_lines, report_status}
+use Rattle.rules.specs.Lines.{report_lines, report_status}
 use Rattle.language.specs.Layout.{fixed_text}
 use Rattle.paren_planner.specs.Plans.{IsPlan}
 use Rattle.cost_table.specs.Tables.{table_of}

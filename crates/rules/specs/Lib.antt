@@ -11,3 +11,5 @@ pub mod NodeRules
 pub mod Used
 pub mod RuleViews
 pub mod Run
+pub mod Lines
+pub mod Located

@@ -2,7 +2,7 @@
 use Rattle.std.specs.Prelude.{◌≡◌, Bool, true, false, cond, List, [], Option, Some, None}
 use Rattle.tree.specs.declared.kind.Kind.{Kind}
 use Rattle.tree.specs.declared.kind.Kind.TheVariants.{BinaryExpression, BlockStatement, DebuggerStatement, SwitchStatement, VariableDeclaration}
-use Rattle.tree.specs.Tree.{Tree, kind_of}
+use Rattle.tree.specs.Tree.{Tree, kind_of, part_count, parts_of}
 use Rattle.rules.specs.declared.node_rule.NodeRule.{NodeRule}
 use Rattle.rules.specs.declared.node_rule.NodeRule.TheVariants.{Equality, Debugger, Empty, Var}
 use Rattle.rules.specs.declared.node_rule.NodeRules.{NodeRules}
@@ -41,6 +41,11 @@ of_looking rules null b tree (Some rule) = cond (has rules rule) (of_node rule n
 
 abbrev pub of_rules : NodeRules → Bool → Bool → Tree → List Report
 of_rules rules null b tree = of_looking rules null b tree (looking_at (kind_of tree))
+
+-- no node, or one without parts at which no rule looks
+abbrev pub IsPassed : Option Tree → Type 0
+IsPassed None = Unit {0}
+IsPassed (Some tree) = (looking_at (kind_of tree) ≡ None) × (part_count (parts_of tree) ≡ 0)
 
 -- what they find in a script
 abbrev pub found_on_nodes : NodeRules → View → List Report

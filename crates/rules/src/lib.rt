@@ -1,10 +1,12 @@
-//! The nine rules of this linter, rules of others in boxes, and the settings that both look at.
+//! The nine rules of this linter, rules of others in boxes, the settings that both look at, and the lines of reports.
 #![tactic(auto)]
 
 mod bindings;
 mod built_in;
+mod cursor;
 mod eqeqeq;
 mod known_keys;
+mod lines;
 mod new_report;
 mod no_debugger;
 mod no_empty;
@@ -25,6 +27,7 @@ mod view;
 mod walk;
 
 pub use eqeqeq::EqEqEq;
+pub use lines::{report_lines, report_status};
 pub use no_debugger::NoDebugger;
 pub use no_empty::NoEmpty;
 pub use no_extra_parens::NoExtraParens;

@@ -1,9 +1,10 @@
 //! The rules that look at single nodes: one walk over the tree, in the order of the source.
 
-ghost use Rattle.std.specs.Prelude.{◌≡◌, ◌++◌, false, OnOk};
+ghost use Rattle.std.specs.Prelude.{◌≡◌, ◌++◌, false, true, IfSome, None, OnOk, Some};
 ghost use Rattle.tree.specs.Node.{node_tree};
+ghost use Rattle.tree.specs.Tree.{part_at, parts_of};
 ghost use Rattle.rules.specs.Appends.{Grows};
-ghost use Rattle.rules.specs.NodeRules.{of_rules};
+ghost use Rattle.rules.specs.NodeRules.{IsPassed, of_rules};
 ghost use Rattle.rules.specs.Nodes.{of_node};
 ghost use Rattle.rules.specs.Rules.{is_function, over_nodes};
 
@@ -71,11 +72,35 @@ fn push_nodes(
     push_selected(rules, alloc, allow_null, node, of_function, out)?;
     let inner = is_function(node.kind());
     for index in 0..node.part_count() {
-        if let Some(part) = node.part(index) {
+        if let Some(part) = looked_at(node, index) {
             push_nodes(rules, alloc, allow_null, part, inner, out)?;
         }
     }
     Ok(())
+}
+
+/// The part at a place, if rules may report of it or of a node below: none for a gap, and for a node without parts at which no rule
+/// looks, such as a name.
+#[inline]
+fn looked_at<'t, 's>(node: Node<'t, 's>, index: usize) -> Option<Node<'t, 's>>
+    ensures given { IfSome result (λ part. Some (node_tree part) ≡ part_at (parts_of (node_tree node.entry)) index) }
+    ensures passed { result ≡ None → IsPassed (part_at (parts_of (node_tree node.entry)) index) }
+{
+    let Some(part) = node.part(index) else {
+        return None;
+    };
+    if is_passed(part) { None } else { Some(part) }
+}
+
+/// Whether a node has no parts, and no rule looks at it.
+#[inline]
+fn is_passed(node: Node) -> bool
+    ensures { result ≡ true → IsPassed (Some (node_tree node.entry)) }
+{
+    match NodeRule::looking_at(node.kind()) {
+        None => node.part_count() == 0,
+        Some(_) => false,
+    }
 }
 
 /// Appends what these rules report of a node.

@@ -1,5 +1,5 @@
 use Rattle.std.proofs.Common.{◌∙◌, ap}
-use Rattle.reporting.specs.Lines.{report_lines, report_status}
+use Rattle.rules.specs.Lines.{report_lines, report_status}
 use Rattle.lint.proofs.check_command.report.Goals as goal
 
 pub returns-clause-lines : goal.returns-clause-lines

@@ -1,10 +1,10 @@
-use Rattle.std.proofs.Common.{sym, ap, ◌∙◌, ◌++◌, ◌<◌, ◌≤◌, ◌+◌, subst, append_assoc}
+use Rattle.std.proofs.Common.{refl, sym, ap, ◌∙◌, ◌++◌, ◌<◌, ◌≤◌, ◌+◌, subst, append_assoc}
 use Rattle.tree.specs.Node.{node_tree}
 use Rattle.tree.specs.Tree.{parts_drop, parts_of}
 use Rattle.rules.specs.Appends.{Grows}
 use Rattle.rules.specs.NodeRules.{of_rules}
 use Rattle.rules.specs.Rules.{is_function, over_parts}
-use Rattle.rules.proofs.NodeLemmas.{grows-on, over_nodes-is, over-given, over-missing, over-end}
+use Rattle.rules.proofs.NodeLemmas.{grows-on, over_nodes-is, over-given, over-passed, over-end}
 use Rattle.rules.proofs.walk.+push_nodes.Goals as goal
 use Rattle.rules.proofs.walk.+push_nodes.Goals.{in-Some+in_ok-push_nodes, in_default}
 
@@ -25,13 +25,13 @@ loop-index-preserved t c =
     let ps = parts_of (node_tree c.args.node) in
     let b = c.is_function-inner.result in
     let l = subst (λ n. c.loop-index.index < n) c.part_count-index-end.ensures c.loop-index-test.true in
-    elim c.match-part.branch [
+    elim c.match-looked_at.branch [
       | in-Some+in_ok-push_nodes w ↦ record {
-        found = over-given f b ps c.loop-index.index (node_tree w.in-Some.part) c.loop-index.out.items c.match-part.out.items _ l w.in-Some.ensures (ap (λ v. v.items) w.out-is ∙ w.in_ok-push_nodes.ensures.found) c.loop-index.invariant.found;
-        kept = grows-on c.args.out.now.items c.loop-index.out.items c.match-part.out.items c.loop-index.invariant.kept (subst (λ v. Grows c.loop-index.out.items v.items) (sym w.out-is) w.in_ok-push_nodes.ensures.kept);
+        found = over-given f b ps c.loop-index.index (node_tree w.in-Some.part) c.loop-index.out.items c.match-looked_at.out.items _ l w.in-Some.ensures.given (ap (λ v. v.items) w.out-is ∙ w.in_ok-push_nodes.ensures.found) c.loop-index.invariant.found;
+        kept = grows-on c.args.out.now.items c.loop-index.out.items c.match-looked_at.out.items c.loop-index.invariant.kept (subst (λ v. Grows c.loop-index.out.items v.items) (sym w.out-is) w.in_ok-push_nodes.ensures.kept);
       }
       | in_default w ↦ record {
-        found = ap (λ v. v.items ++ over_parts f b (parts_drop (c.loop-index.index + 1) ps)) w.out-is ∙ over-missing f b ps c.loop-index.index c.loop-index.out.items _ l w.in_default.ensures c.loop-index.invariant.found;
+        found = ap (λ v. v.items ++ over_parts f b (parts_drop (c.loop-index.index + 1) ps)) w.out-is ∙ over-passed c.args.rules c.args.allow_null b ps c.loop-index.index c.loop-index.out.items _ l (w.in_default.ensures.passed refl) c.loop-index.invariant.found;
         kept = subst (λ v. Grows c.args.out.now.items v.items) (sym w.out-is) c.loop-index.invariant.kept;
       }
     ]

@@ -1,5 +1,5 @@
 use Rattle.std.proofs.Common.{rules}
-use Rattle.reporting.proofs.cursor.ends_line.Goals as goal
+use Rattle.rules.proofs.cursor.ends_line.Goals as goal
 
 pub returns-in_default-matches : goal.returns-in_default-matches
 returns-in_default-matches c = search rules

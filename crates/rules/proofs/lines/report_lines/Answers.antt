@@ -1,8 +1,8 @@
 use Rattle.std.proofs.Common.{◌≤◌, ◌<◌, ℕ, subst, sym, string_bytes}
 use Rattle.std.specs.Str.{IsCharBoundary}
-use Rattle.reporting.specs.Lines.{line_of}
-use Rattle.reporting.proofs.ReportLoop.{line_is, turn}
-use Rattle.reporting.proofs.lines.report_lines.Goals as goal
+use Rattle.rules.specs.Lines.{line_of}
+use Rattle.rules.proofs.ReportLoop.{line_is, turn}
+use Rattle.rules.proofs.lines.report_lines.Goals as goal
 
 pub loop-report-preserved : goal.loop-report-preserved
 loop-report-preserved c =

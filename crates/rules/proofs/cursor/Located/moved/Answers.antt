@@ -1,10 +1,21 @@
-use Rattle.std.proofs.Common.{◌≡◌, ◌+◌, ◌<◌, ◌≤◌, ℕ, List, length, sym, ap, ◌∙◌, arith}
+use Rattle.std.proofs.Common.{◌≡◌, ◌+◌, ◌<◌, ◌≤◌, ℕ, List, length, get_or, sym, ap, ◌∙◌, arith}
 use Rattle.source_text.proofs.Lines.{turn_inside, turn_at_end, turn_on_line}
-use Rattle.reporting.proofs.cursor.Located.moved.Goals as goal
-use Rattle.reporting.proofs.cursor.Located.moved.Goals.{then-ends_line, else-ends_line}
+use Rattle.rules.proofs.cursor.Located.moved.Goals as goal
+use Rattle.rules.proofs.cursor.Located.moved.Goals.{then-ends_line, else-ends_line}
 
 inside : (bytes text : List ℕ) (place i : ℕ) → bytes ≡ text → place ≤ length text → i < place → i < length bytes
 inside bytes text place i same within lt = let e = ap length same in omega arith
+
+pub loop-i-preserved-then-is_plain : goal.loop-i-preserved-then-is_plain
+loop-i-preserved-then-is_plain d =
+    let i = d.loop-i.i in
+    let bytes = d.bytes-bytes.result.now in
+    let lt = inside _ _ d.args.place i d.bytes-bytes.ensures.value d.requires.within d.loop-i-test.true in
+    record {
+      walked = turn_on_line (d.loop-i.line, d.loop-i.column) i bytes lt d.loop-i.invariant.walked (d.is_plain.ensures.begins d.if-is_plain.true) (d.is_plain.ensures.stays d.if-is_plain.true (get_or bytes (i + 1) 0) (get_or bytes (i + 2) 0));
+      few_lines = omega arith;
+      few_columns = omega arith;
+    }
 
 pub loop-i-preserved-then-continues_character : goal.loop-i-preserved-then-continues_character
 loop-i-preserved-then-continues_character d =

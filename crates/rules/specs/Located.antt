@@ -1,7 +1,7 @@
 -- A place of a text with its line and column.
 use Rattle.std.specs.Prelude.{◌≡◌, ◌≤◌, ◌+◌, ℕ, List, length}
 use Rattle.source_text.specs.LineBytes.{after_bytes}
-use Rattle.reporting.specs.declared.cursor.Located.{Located}
+use Rattle.rules.specs.declared.cursor.Located.{Located}
 
 -- line and column are those behind the bytes before it, and neither passes their number and 1
 pub record IsLocated (text : List ℕ) (here : Located) : Type 0 where

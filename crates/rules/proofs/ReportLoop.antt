@@ -5,10 +5,10 @@ use Rattle.source_text.specs.LineBytes.{after_bytes}
 use Rattle.source_text.specs.Lines.{line_column}
 use Rattle.source_text.proofs.Lines.{line_column_by_bytes}
 use Rattle.rules.specs.Reports.{Report}
-use Rattle.reporting.specs.Lines.{place_before, line_of, report_line, report_lines}
-use Rattle.reporting.specs.Located.{IsLocated}
-use Rattle.reporting.specs.declared.cursor.Located.{Located}
-use Rattle.reporting.proofs.Places.{nearest_is_before}
+use Rattle.rules.specs.Lines.{place_before, line_of, report_line, report_lines}
+use Rattle.rules.specs.Located.{IsLocated}
+use Rattle.rules.specs.declared.cursor.Located.{Located}
+use Rattle.rules.proofs.Places.{nearest_is_before}
 
 -- the line of a report, at the nearest place at or before its start
 pub line_is : (text : List ℕ) (here : Located) (r : Report) (place : ℕ) → IsUtf8 text → IsLocated text here → here.at ≡ place

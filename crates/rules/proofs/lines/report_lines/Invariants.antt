@@ -1,7 +1,7 @@
 use Rattle.std.proofs.Common.{◌≡◌, ◌++◌, drop, string_bytes}
-use Rattle.reporting.specs.Lines.{report_lines}
-use Rattle.reporting.specs.Located.{IsLocated}
-use Rattle.reporting.proofs.lines.report_lines.Given as goal
+use Rattle.rules.specs.Lines.{report_lines}
+use Rattle.rules.specs.Located.{IsLocated}
+use Rattle.rules.proofs.lines.report_lines.Given as goal
 
 abbrev pub invariant-loop-report : goal.invariant-loop-report
 invariant-loop-report l = record {

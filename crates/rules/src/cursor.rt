@@ -1,8 +1,8 @@
 //! Lines and columns of ascending places, in one walk over the text.
 
-ghost use Rattle.std.specs.Prelude.{◌≡◌, ◌≤◌, ◌<◌, ◌+◌, length, slice_index};
+ghost use Rattle.std.specs.Prelude.{◌≡◌, ◌≤◌, ◌<◌, ◌+◌, ℕ, false, length, slice_index, true};
 ghost use Rattle.source_text.specs.LineBytes.{continues, ends_line_at};
-ghost use Rattle.reporting.specs.Located.{IsLocated};
+ghost use Rattle.rules.specs.Located.{IsLocated};
 
 use source_text::Source;
 
@@ -50,6 +50,10 @@ impl Located {
         let mut line = self.line;
         let mut column = self.column;
         for i in self.at..place {
+            if is_plain(bytes[i]) {
+                column += 1;
+                continue;
+            }
             if continues_character(bytes[i]) {
                 continue;
             }
@@ -66,6 +70,16 @@ impl Located {
             column,
         }
     }
+}
+
+/// Whether a byte is one of those characters that most texts are made of: they have one byte, and end no line.
+#[inline]
+#[tactic(auto, using(crate::proofs::Places::plain_begins, crate::proofs::Places::plain_ends_no_line))]
+fn is_plain(byte: u8) -> bool
+    ensures begins { result ≡ true → continues byte ≡ false }
+    ensures stays { result ≡ true → (b1 b2 : ℕ) → ends_line_at byte b1 b2 ≡ false }
+{
+    matches!(byte, 0x0E..=0x7F)
 }
 
 /// Whether a byte of UTF-8 begins no character.

@@ -1,11 +1,11 @@
 //! The lines of reports.
 
 ghost use Rattle.std.specs.Prelude.{◌≡◌, ◌++◌, IfOk, OnOk, string_bytes};
-ghost use Rattle.reporting.specs.Lines.{line_of, report_lines as lines_of, report_status as status_of};
-ghost use Rattle.reporting.specs.Located.{IsLocated};
+ghost use Rattle.rules.specs.Lines.{line_of, report_lines as lines_of, report_status as status_of};
+ghost use Rattle.rules.specs.Located.{IsLocated};
 
 use crate::cursor::Located;
-use rules::Report;
+use crate::report::Report;
 use source_text::Source;
 use std::alloc::{AllocError, Global};
 use std::fmt::Write;
