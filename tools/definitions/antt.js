@@ -25,7 +25,7 @@ const LEFT_OUT = {
   early_errors: 'specs: Owns Walk Walks; proofs: Tables',
   name_tables: 'specs: Keys PatternParts Sets Tables',
   scopes: 'specs: Shown Walks Gathered; proofs: Tables',
-  rules: 'specs: Toml Order Run RuleViews Used Nodes Appends Refusals Lines Located',
+  rules: 'specs: NineRules Toml Order Run RuleViews Used Nodes NodeRules Appends Refusals Lines Located',
 };
 const LEFT_OUT_NAMES = new Set(Object.entries(LEFT_OUT).flatMap(([crate, parts]) => parts.split('; ').flatMap((part) => {
   const [folder, names] = part.split(': ');

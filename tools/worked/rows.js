@@ -243,14 +243,26 @@ function refusedRow(text) {
   return row('refused rule', text, '', `(true, true)${reports.map((it) => ` ${it.start}-${it.end} ${it.rule}`).join('')}`);
 }
 
+// A rule that finds what `no-var` does, alone and behind `no-var`.
+const VARIABLES = ['var a;', 'a;', 'let b; var c, d; { var e }', 'for (var a in b) { debugger }'];
+function likeRow(text) {
+  const { tree, pairs } = parse(text, LIMITS);
+  const settings = fromToml(Buffer.from(''));
+  const found = runRules({ tree, scopes: resolve(tree), extra: extraPairs(pairs, plan(tree).wrapped), settings }).filter((it) => it.rule === 'no-var');
+  const reports = found.map((it) => ` ${it.start}-${it.end} no-var`);
+  return row('rule on nodes', text, '', `alone${reports.join('')}; behind${reports.flatMap((it) => [it, it]).join('')}`);
+}
+
 const calls = () => [
   '# Settings: whether `no-var` and `eqeqeq` are on, whether `a` is a global name, and both options. Tables that are read: how many rows and the total.',
   '# What the nine rules report of a script under settings, from where to where, and that each keeps a report that stands in front. A rule that is',
-  '# refused memory, behind `no-debugger`: that it was, alone and in a list, and the reports that stand in front. Made by tools/worked/rows.js.',
+  '# refused memory, behind `no-debugger`: that it was, alone and in a list, and the reports that stand in front. Another rule that finds what',
+  '# `no-var` does, alone and behind it. Made by tools/worked/rows.js.',
   ...SETTINGS.map(settingsRow),
   ...['', 'a + (b);', '({}).a;', 'for (x = (a in b) && (c in d);;);'].flatMap(tableRows),
   ...[...new Set([...ACCEPTED, 'debugger; if (a == b) {} let c; { let c = (d); var e; }'])].filter(isShort).map(rulesRow),
   ...REFUSED.map(refusedRow),
+  ...VARIABLES.map(likeRow),
 ];
 
 // ---------------------------------------------------------------- pieces

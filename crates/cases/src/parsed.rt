@@ -165,7 +165,7 @@ fn push_shown(
         "pairs" => push_count(parsed.grouping_pairs().len(), out),
         "items" => push_count(program.root().part_count(), out),
         "extra" => push_extra(alloc, program, parsed.grouping_pairs(), out),
-        "rules" | "refused rule" => push_rules(alloc, row, parsed, out),
+        "rules" | "refused rule" | "rule on nodes" => push_rules(alloc, row, parsed, out),
         "alike" => push_alike(alloc, program, row.text(2), out),
         "kept" => push_kept(alloc, program, row.text(1), row.text(2), out),
         "reading" => push_reading(alloc, program, row.text(1), out),

@@ -6,8 +6,7 @@ use crate::print::word;
 use crate::refusals::push_fault;
 use parser::Parsed;
 use rules::{
-    EqEqEq, NoDebugger, NoEmpty, NoExtraParens, NoShadow, NoUndef, NoUnusedVars, NoVar,
-    PreferConst, Report, Rule, Settings, View, run_rules,
+    NoDebugger, NoVar, NodeRule, RULE_COUNT, Report, Rule, Settings, View, of_each_rule, run_rules,
 };
 use scopes::{Binding, Reference, Scopes, resolve};
 use spellings::pair_rows;
@@ -66,6 +65,33 @@ impl Rule for Insatiable {
         AnyScript::new(self.alloc).check(view, out)?;
         let _room: Vec<u8> = Vec::with_capacity(self.alloc, usize::MAX)?;
         Ok(())
+    }
+}
+
+/// A rule of another name than `no-var` that finds the same, and says so.
+#[derive(Drop)]
+struct LikeNoVar {
+    alloc: Global,
+}
+
+impl Rule for LikeNoVar {
+    ghost use Rattle.std.specs.Prelude.{codes};
+    ghost use Rattle.rules.specs.Rules.{no_var};
+
+    ghost called = { λ _. codes "like-no-var" };
+
+    ghost finds = { λ _ v. no_var v };
+
+    fn name(&self) -> &str {
+        "like-no-var"
+    }
+
+    fn check(&self, view: &View, out: &mut Vec<Report>) -> Result<(), AllocError> {
+        NoVar::new(self.alloc).check(view, out)
+    }
+
+    fn on_nodes(&self) -> Option<NodeRule> {
+        Some(NodeRule::Var)
     }
 }
 
@@ -203,16 +229,7 @@ fn push_kept(
 
 /// What the nine rules find, and that each keeps what stands in front.
 fn push_of_nine(alloc: Global, view: &View, out: &mut String) -> Result<(), AllocError> {
-    let mut rules: Vec<Box<dyn Rule>> = Vec::new(alloc);
-    rules.push(Box::new(alloc, EqEqEq::new(alloc))?)?;
-    rules.push(Box::new(alloc, NoDebugger::new(alloc))?)?;
-    rules.push(Box::new(alloc, NoEmpty::new(alloc))?)?;
-    rules.push(Box::new(alloc, NoExtraParens::new(alloc))?)?;
-    rules.push(Box::new(alloc, NoShadow::new(alloc))?)?;
-    rules.push(Box::new(alloc, NoUndef::new(alloc))?)?;
-    rules.push(Box::new(alloc, NoUnusedVars::new(alloc))?)?;
-    rules.push(Box::new(alloc, NoVar::new(alloc))?)?;
-    rules.push(Box::new(alloc, PreferConst::new(alloc))?)?;
+    let rules: [Box<dyn Rule>; RULE_COUNT] = of_each_rule!(boxed_rule, alloc);
     push_kept(alloc, &rules, view, out)?;
     push_reports(&run_rules(alloc, &rules, view)?, out)
 }
@@ -222,6 +239,19 @@ fn push_of_insatiable(alloc: Global, view: &View, out: &mut String) -> Result<()
     let mut rules: Vec<Box<dyn Rule>> = Vec::new(alloc);
     rules.push(Box::new(alloc, Insatiable { alloc })?)?;
     push_of_refused(alloc, &rules, view, out)
+}
+
+/// What a rule that finds what `no-var` does finds alone, and behind `no-var`.
+fn push_of_like(alloc: Global, view: &View, out: &mut String) -> Result<(), AllocError> {
+    let alone: [Box<dyn Rule>; 1] = [Box::new(alloc, LikeNoVar { alloc })?];
+    out.push_str("alone")?;
+    push_reports(&run_rules(alloc, &alone, view)?, out)?;
+    out.push_str("; behind")?;
+    let both: [Box<dyn Rule>; 2] = [
+        Box::new(alloc, NoVar::new(alloc))?,
+        Box::new(alloc, LikeNoVar { alloc })?,
+    ];
+    push_reports(&run_rules(alloc, &both, view)?, out)
 }
 
 /// What a call on rules answers for a script under these settings.
@@ -239,6 +269,7 @@ fn push_checked(
     let view = View::new(program, &scopes, &extra, settings);
     match call {
         "rules" => push_of_nine(alloc, &view, out),
+        "rule on nodes" => push_of_like(alloc, &view, out),
         _ => push_of_insatiable(alloc, &view, out),
     }
 }

@@ -9,10 +9,7 @@ use crate::gauge::Gauge;
 use crate::reports::AnyScript;
 use commands::{Command, Refused, write_refusal};
 use lint::run::run;
-use rules::{
-    EqEqEq, NoDebugger, NoEmpty, NoExtraParens, NoShadow, NoUndef, NoUnusedVars, NoVar,
-    PreferConst, Rule,
-};
+use rules::{RULE_COUNT, Rule, of_each_rule};
 use source_text::{FailurePlan, Fault, MAX_PIECE, MemoryFeed, MemorySink, Sink};
 use std::alloc::{AllocError, Global};
 use std::str::from_utf8;
@@ -81,16 +78,11 @@ fn answered<W: Sink>(
     requires { W.failed writer.old ≡ false }
     ensures { IfOk result (λ answered. IfErr answered (λ refused. refused.fault ≢ Usage)) }
 {
+    let nine: [Box<dyn Rule>; RULE_COUNT] = of_each_rule!(boxed_rule, alloc);
     let mut rules: Vec<Box<dyn Rule>> = Vec::new(alloc);
-    rules.push(Box::new(alloc, EqEqEq::new(alloc))?)?;
-    rules.push(Box::new(alloc, NoDebugger::new(alloc))?)?;
-    rules.push(Box::new(alloc, NoEmpty::new(alloc))?)?;
-    rules.push(Box::new(alloc, NoExtraParens::new(alloc))?)?;
-    rules.push(Box::new(alloc, NoShadow::new(alloc))?)?;
-    rules.push(Box::new(alloc, NoUndef::new(alloc))?)?;
-    rules.push(Box::new(alloc, NoUnusedVars::new(alloc))?)?;
-    rules.push(Box::new(alloc, NoVar::new(alloc))?)?;
-    rules.push(Box::new(alloc, PreferConst::new(alloc))?)?;
+    for rule in nine {
+        rules.push(rule)?;
+    }
     if given.has_tenth {
         rules.push(Box::new(alloc, AnyScript::new(alloc))?)?;
     }

@@ -10,7 +10,8 @@ use Rattle.rules.specs.Settings.{is_on}
 use Rattle.commands.specs.declared.command.Command.{Command}
 use Rattle.commands.specs.declared.command.Command.TheVariants.{Check, Tree, Fix, Unwrap, Cost, Verify}
 use Rattle.commands.specs.declared.refused.Refused.{Refused}
-use Rattle.nine_rules.specs.NineRules.{FindAs, NamedRule, RunsByRules, rules_of}
+use Rattle.rules.specs.NineRules.{NamedRule}
+use Rattle.nine_rules.specs.NineRules.{FindAs, RunsByRules, rules_of}
 
 -- ---- no rules
 

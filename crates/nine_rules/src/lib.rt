@@ -9,10 +9,7 @@ ghost use Rattle.nine_rules.specs.NineRules.{FindAs, RunsByRules};
 
 use commands::{Command, Refused};
 use lint::run::run;
-use rules::{
-    EqEqEq, NoDebugger, NoEmpty, NoExtraParens, NoShadow, NoUndef, NoUnusedVars, NoVar,
-    PreferConst, Rule,
-};
+use rules::{RULE_COUNT, Rule, of_each_rule};
 use source_text::{Feed, Sink};
 use std::alloc::Global;
 
@@ -63,17 +60,7 @@ fn check<F: Feed, S: Feed, W: Sink>(
       writer_failed = W.failed output.new;
     }) result }
 {
-    let rules: [Box<dyn Rule>; 9] = [
-        Box::new(alloc, EqEqEq::new(alloc))?,
-        Box::new(alloc, NoDebugger::new(alloc))?,
-        Box::new(alloc, NoEmpty::new(alloc))?,
-        Box::new(alloc, NoExtraParens::new(alloc))?,
-        Box::new(alloc, NoShadow::new(alloc))?,
-        Box::new(alloc, NoUndef::new(alloc))?,
-        Box::new(alloc, NoUnusedVars::new(alloc))?,
-        Box::new(alloc, NoVar::new(alloc))?,
-        Box::new(alloc, PreferConst::new(alloc))?,
-    ];
+    let rules: [Box<dyn Rule>; RULE_COUNT] = of_each_rule!(boxed_rule, alloc);
     check_by(alloc, &rules, file, settings, output)
 }
 

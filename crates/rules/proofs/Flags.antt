@@ -51,7 +51,7 @@ first_flag-at ss zero n d l = absurd (omega (arith, l))
 first_flag-at ss (suc k) n d l = elim (cases_lt n k) [
   | inl before ↦ get_or_append_left (first_flags ss k) (bindings_before k ss ∷ []) d n (omega (arith, before, length-first_flags ss k)) ∙ first_flag-at ss k n d before
   | inr past ↦ let same : n ≡ k = omega (arith, l, past) in
-    get_or_push (first_flags ss k) (bindings_before k ss) d n (length-first_flags ss k ∙ sym same) ∙ ap (λ x. bindings_before x ss) (sym same)
+      get_or_push (first_flags ss k) (bindings_before k ss) d n (length-first_flags ss k ∙ sym same) ∙ ap (λ x. bindings_before x ss) (sym same)
 ]
 
 index-is : (ss : List Scope) (u : UsedBindings) (m : ℕ × ℕ) → IsLaidOut ss (length ss) u → HasBinding ss m → flag_index u m ≡ bindings_before m.0 ss + m.1
@@ -78,12 +78,12 @@ marked-one ss old new x m laid f s hx hm =
     let here : i < length old.flags.items = omega (arith, at-x, laid.flags, below ss x.0 x.1 hx) in
     reads ∙ elim (cases_eq j i) [
       | inl e ↦ let same = apart ss x.0 x.1 m.0 m.1 hx hm (sym at-x ∙ sym e ∙ at-m) in
-        ap (λ k. get_or (set old.flags.items i true) k false) e ∙ get_or-set_same old.flags.items i true false here
-        ∙ sym (or_right (is_marked old m) _ (and_from _ _ (eq-eqb x.0 m.0 same.0) (eq-eqb x.1 m.1 same.1)))
+          ap (λ k. get_or (set old.flags.items i true) k false) e ∙ get_or-set_same old.flags.items i true false here
+          ∙ sym (or_right (is_marked old m) _ (and_from _ _ (eq-eqb x.0 m.0 same.0) (eq-eqb x.1 m.1 same.1)))
       | inr n ↦
-        get_or-set_other old.flags.items i j true false n ∙ or-false (is_marked old m)
-        ∙ ap (λ b. is_marked old m || b) (sym (false_from_ne_true _ (λ t. let both = and_parts _ _ t in
-            n (ap₂ (λ a b. flag_index old (a, b)) (sym (eqb-true x.0 m.0 both.0)) (sym (eqb-true x.1 m.1 both.1))))))
+          get_or-set_other old.flags.items i j true false n ∙ or-false (is_marked old m)
+          ∙ ap (λ b. is_marked old m || b) (sym (false_from_ne_true _ (λ t. let both = and_parts _ _ t in
+          n (ap₂ (λ a b. flag_index old (a, b)) (sym (eqb-true x.0 m.0 both.0)) (sym (eqb-true x.1 m.1 both.1))))))
     ]
 
 -- the flag of a binding is set
@@ -100,8 +100,8 @@ unmarked ss u n i h p notes = record {
   laid_out = notes.laid_out;
   marked = λ m hm. notes.marked m hm ∙ or-false (p m)
       ∙ ap (λ b. p m || b) (sym (false_from_ne_true _ (λ t. let both = and_parts _ _ t in
-          let there : i < binding_count ss n = subst (λ k. i < binding_count ss k) (sym (eqb-true n m.0 both.0)) (subst (λ k. k < binding_count ss m.0) (sym (eqb-true i m.1 both.1)) hm) in
-          omega (arith, h, there))));
+      let there : i < binding_count ss n = subst (λ k. i < binding_count ss k) (sym (eqb-true n m.0 both.0)) (subst (λ k. k < binding_count ss m.0) (sym (eqb-true i m.1 both.1)) hm) in
+      omega (arith, h, there))));
 }
 
 pub notes-same : (ss : List Scope) (u : UsedBindings) (p q : ℕ × ℕ → Bool) → ((m : ℕ × ℕ) → p m ≡ q m) → Notes ss p u → Notes ss q u
@@ -125,11 +125,13 @@ pub scope-turn : (ss : List Scope) (old new : UsedBindings) (n count : ℕ) → 
     → IsLaidOut ss n old → old.flags.items ≡ replicate (bindings_before n ss) false → (IsLaidOut ss (n + 1) new) × (new.flags.items ≡ replicate (bindings_before (n + 1) ss) false)
 scope-turn ss old new n count e f s laid r =
     let flags : new.flags.items ≡ replicate (bindings_before (n + 1) ss) false
-    = s ∙ ap₂ (λ bs k. bs ++ replicate k false) r e ∙ replicate-append-replicate (bindings_before n ss) (binding_count ss n) false ∙ ap (λ k. replicate k false) (sym (before-more n ss)) ∙ ap (λ k. replicate (bindings_before k ss) false) (sym (add-one n)) in
-    (record {
-      firsts = f ∙ ap₂ (λ fs k. fs ++ k ∷ []) laid.firsts laid.flags ∙ ap (first_flags ss) (sym (add-one n));
-      flags = ap length flags ∙ length-replicate (bindings_before (n + 1) ss) false;
-    }, flags)
+    = s ∙ ap₂ (λ bs k. bs ++ replicate k false) r e ∙ replicate-append-replicate (bindings_before n ss) (binding_count ss n) false ∙ ap (λ k. replicate k false) (sym (before-more n ss)) ∙ ap (λ k. replicate (bindings_before k ss) false) (sym (add-one n)) in (
+      record {
+        firsts = f ∙ ap₂ (λ fs k. fs ++ k ∷ []) laid.firsts laid.flags ∙ ap (first_flags ss) (sym (add-one n));
+        flags = ap length flags ∙ length-replicate (bindings_before (n + 1) ss) false;
+      },
+      flags,
+    )
 
 or-assoc : (a b c : Bool) → ((a || b) || c) ≡ (a || (b || c))
 or-assoc true b c = refl

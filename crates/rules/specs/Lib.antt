@@ -1,10 +1,11 @@
 pub mod Reports
 pub mod Order
 pub mod Settings
-pub mod Toml
-pub mod Refusals
 pub mod BuiltIn
 pub mod Rules
+pub mod NineRules
+pub mod Toml
+pub mod Refusals
 pub mod Appends
 pub mod Nodes
 pub mod NodeRules

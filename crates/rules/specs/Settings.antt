@@ -1,8 +1,7 @@
 -- Settings, and which rules they let run.
-use Rattle.std.specs.Prelude.{ℕ, Bool, false, not, List, [], ◌∷◌, map, codes}
+use Rattle.std.specs.Prelude.{ℕ, Bool, false, not, List, []}
 use Rattle.std.specs.List.{list_any}
 use Rattle.std.specs.Str.{bytes_eq}
-use Rattle.language.specs.Vocabulary.{among}
 
 -- the names of the rules that are off; the global names, in order of their bytes, each once; the two options
 pub record Settings : Type 0 where
@@ -17,9 +16,3 @@ default_settings = record { off = []; globals = []; allow_null = false; ignore_u
 
 abbrev pub is_on : List ℕ → Settings → Bool
 is_on name s = not (list_any (λ w. bytes_eq w name) s.off)
-
-abbrev pub rule_names : List (List ℕ)
-rule_names = map codes ("eqeqeq" ∷ "no-debugger" ∷ "no-empty" ∷ "no-extra-parens" ∷ "no-shadow" ∷ "no-undef" ∷ "no-unused-vars" ∷ "no-var" ∷ "prefer-const" ∷ [])
-
-unfoldable pub is_rule : List ℕ → Bool
-is_rule text = among text ("eqeqeq" ∷ "no-debugger" ∷ "no-empty" ∷ "no-extra-parens" ∷ "no-shadow" ∷ "no-undef" ∷ "no-unused-vars" ∷ "no-var" ∷ "prefer-const" ∷ [])

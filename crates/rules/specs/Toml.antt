@@ -6,7 +6,8 @@ use Rattle.std.specs.BTreeSet.{insert_key}
 use Rattle.std.specs.Cmp.Lexicographic.{slice_cmp}
 use Rattle.std.specs.Ordering.{nat_cmp}
 use Rattle.std.specs.Str.{bytes_eq}
-use Rattle.rules.specs.Settings.{Settings, is_rule, rule_names}
+use Rattle.rules.specs.NineRules.{is_rule, rule_names}
+use Rattle.rules.specs.Settings.{Settings}
 
 unfoldable pub is_key : List ℕ → Bool
 is_key text = bytes_eq text (codes "rules") || (bytes_eq text (codes "globals") || (bytes_eq text (codes "allow-null") || bytes_eq text (codes "ignore-underscore")))

@@ -29,6 +29,9 @@ pub struct EqEqEq {
 }
 
 impl EqEqEq {
+    /// What settings and reports call the rule.
+    pub const NAME: &'static str = "eqeqeq";
+
     /// The rule; its reports take their memory from here.
     pub fn new(alloc: Global) -> EqEqEq {
         EqEqEq { alloc }
@@ -45,7 +48,7 @@ impl Rule for EqEqEq {
     ghost finds = { λ _ v. eqeqeq v };
 
     fn name(&self) -> &str {
-        "eqeqeq"
+        EqEqEq::NAME
     }
 
     fn check(&self, view: &View, out: &mut Vec<Report>) -> Result<(), AllocError> {
@@ -77,7 +80,7 @@ pub(crate) fn push_equality(
         return Ok(());
     }
     let text = advice(alloc, node.text())?;
-    push_report(alloc, "eqeqeq", node.span(), text, out)
+    push_report(alloc, EqEqEq::NAME, node.span(), text, out)
 }
 
 /// Whether a node compares by `==` or `!=`.

@@ -25,6 +25,9 @@ pub struct NoDebugger {
 }
 
 impl NoDebugger {
+    /// What settings and reports call the rule.
+    pub const NAME: &'static str = "no-debugger";
+
     /// The rule; its reports take their memory from here.
     pub fn new(alloc: Global) -> NoDebugger {
         NoDebugger { alloc }
@@ -41,7 +44,7 @@ impl Rule for NoDebugger {
     ghost finds = { λ _ v. no_debugger v };
 
     fn name(&self) -> &str {
-        "no-debugger"
+        NoDebugger::NAME
     }
 
     fn check(&self, view: &View, out: &mut Vec<Report>) -> Result<(), AllocError> {
@@ -65,7 +68,7 @@ pub(crate) fn push_debugger(
     match node.kind() {
         Kind::DebuggerStatement => push_fixed_report(
             alloc,
-            "no-debugger",
+            NoDebugger::NAME,
             node.span(),
             "debugger statement",
             out,

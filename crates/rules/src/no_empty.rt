@@ -27,6 +27,9 @@ pub struct NoEmpty {
 }
 
 impl NoEmpty {
+    /// What settings and reports call the rule.
+    pub const NAME: &'static str = "no-empty";
+
     /// The rule; its reports take their memory from here.
     pub fn new(alloc: Global) -> NoEmpty {
         NoEmpty { alloc }
@@ -43,7 +46,7 @@ impl Rule for NoEmpty {
     ghost finds = { λ _ v. no_empty v };
 
     fn name(&self) -> &str {
-        "no-empty"
+        NoEmpty::NAME
     }
 
     fn check(&self, view: &View, out: &mut Vec<Report>) -> Result<(), AllocError> {
@@ -68,14 +71,14 @@ pub(crate) fn push_empty(
     match node.kind() {
         Kind::BlockStatement => {
             if node.part_count() == 0 && !of_function {
-                push_fixed_report(alloc, "no-empty", node.span(), "empty block", out)
+                push_fixed_report(alloc, NoEmpty::NAME, node.span(), "empty block", out)
             } else {
                 Ok(())
             }
         }
         Kind::SwitchStatement => {
             if node.part_count() < 2 {
-                push_fixed_report(alloc, "no-empty", node.span(), "empty switch", out)
+                push_fixed_report(alloc, NoEmpty::NAME, node.span(), "empty switch", out)
             } else {
                 Ok(())
             }

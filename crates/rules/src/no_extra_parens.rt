@@ -29,6 +29,9 @@ pub struct NoExtraParens {
 }
 
 impl NoExtraParens {
+    /// What settings and reports call the rule.
+    pub const NAME: &'static str = "no-extra-parens";
+
     /// The rule; its reports take their memory from here.
     pub fn new(alloc: Global) -> NoExtraParens {
         NoExtraParens { alloc }
@@ -45,7 +48,7 @@ impl Rule for NoExtraParens {
     ghost finds = { λ _ v. no_extra_parens v };
 
     fn name(&self) -> &str {
-        "no-extra-parens"
+        NoExtraParens::NAME
     }
 
     fn check(&self, view: &View, out: &mut Vec<Report>) -> Result<(), AllocError> {
@@ -61,7 +64,7 @@ fn push_extra(alloc: Global, extra: &[Span], out: &mut Vec<Report>) -> Result<()
     for span in extra {
         push_fixed_report(
             alloc,
-            "no-extra-parens",
+            NoExtraParens::NAME,
             *span,
             "unnecessary parentheses",
             out,

@@ -27,6 +27,9 @@ pub struct NoShadow {
 }
 
 impl NoShadow {
+    /// What settings and reports call the rule.
+    pub const NAME: &'static str = "no-shadow";
+
     /// The rule; its reports take their memory from here.
     pub fn new(alloc: Global) -> NoShadow {
         NoShadow { alloc }
@@ -43,7 +46,7 @@ impl Rule for NoShadow {
     ghost finds = { λ _ v. no_shadow v };
 
     fn name(&self) -> &str {
-        "no-shadow"
+        NoShadow::NAME
     }
 
     fn check(&self, view: &View, out: &mut Vec<Report>) -> Result<(), AllocError> {
@@ -68,7 +71,7 @@ pub(crate) fn push_shadow(
     ensures kept { Grows out.old.items out.new.items }
 {
     if binding.shadows && !is_itself(binding.kind) {
-        push_named(alloc, "no-shadow", binding, "shadows an outer name", out)
+        push_named(alloc, NoShadow::NAME, binding, "shadows an outer name", out)
     } else {
         Ok(())
     }

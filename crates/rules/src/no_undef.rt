@@ -31,6 +31,9 @@ pub struct NoUndef {
 }
 
 impl NoUndef {
+    /// What settings and reports call the rule.
+    pub const NAME: &'static str = "no-undef";
+
     /// The rule; its reports take their memory from here.
     pub fn new(alloc: Global) -> NoUndef {
         NoUndef { alloc }
@@ -47,7 +50,7 @@ impl Rule for NoUndef {
     ghost finds = { λ _ v. no_undef v };
 
     fn name(&self) -> &str {
-        "no-undef"
+        NoUndef::NAME
     }
 
     fn check(&self, view: &View, out: &mut Vec<Report>) -> Result<(), AllocError> {
@@ -88,7 +91,7 @@ fn push_undefined(
         start: reference.start,
         end: reference.end,
     };
-    push_report(alloc, "no-undef", span, text, out)
+    push_report(alloc, NoUndef::NAME, span, text, out)
 }
 
 fn is_undefined(settings: &Settings, reference: Reference) -> bool

@@ -27,6 +27,9 @@ pub struct NoUnusedVars {
 }
 
 impl NoUnusedVars {
+    /// What settings and reports call the rule.
+    pub const NAME: &'static str = "no-unused-vars";
+
     /// The rule; its reports, and what it notes while it looks, take their memory from here.
     pub fn new(alloc: Global) -> NoUnusedVars {
         NoUnusedVars { alloc }
@@ -43,7 +46,7 @@ impl Rule for NoUnusedVars {
     ghost finds = { λ _ v. no_unused_vars v };
 
     fn name(&self) -> &str {
-        "no-unused-vars"
+        NoUnusedVars::NAME
     }
 
     fn check(&self, view: &View, out: &mut Vec<Report>) -> Result<(), AllocError> {
@@ -73,7 +76,7 @@ pub(crate) fn push_unused(
         && !is_read
         && !(ignore && begins_with_underscore(binding.name))
     {
-        push_named(alloc, "no-unused-vars", binding, "is never read", out)
+        push_named(alloc, NoUnusedVars::NAME, binding, "is never read", out)
     } else {
         Ok(())
     }

@@ -25,6 +25,9 @@ pub struct NoVar {
 }
 
 impl NoVar {
+    /// What settings and reports call the rule.
+    pub const NAME: &'static str = "no-var";
+
     /// The rule; its reports take their memory from here.
     pub fn new(alloc: Global) -> NoVar {
         NoVar { alloc }
@@ -41,7 +44,7 @@ impl Rule for NoVar {
     ghost finds = { λ _ v. no_var v };
 
     fn name(&self) -> &str {
-        "no-var"
+        NoVar::NAME
     }
 
     fn check(&self, view: &View, out: &mut Vec<Report>) -> Result<(), AllocError> {
@@ -63,7 +66,7 @@ pub(crate) fn push_var(alloc: Global, node: Node, out: &mut Vec<Report>) -> Resu
             if node.text() == "var" {
                 push_fixed_report(
                     alloc,
-                    "no-var",
+                    NoVar::NAME,
                     node.span(),
                     "use let or const instead of var",
                     out,

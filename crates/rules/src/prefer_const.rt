@@ -27,6 +27,9 @@ pub struct PreferConst {
 }
 
 impl PreferConst {
+    /// What settings and reports call the rule.
+    pub const NAME: &'static str = "prefer-const";
+
     /// The rule; its reports, and what it notes while it looks, take their memory from here.
     pub fn new(alloc: Global) -> PreferConst {
         PreferConst { alloc }
@@ -43,7 +46,7 @@ impl Rule for PreferConst {
     ghost finds = { λ _ v. prefer_const v };
 
     fn name(&self) -> &str {
-        "prefer-const"
+        PreferConst::NAME
     }
 
     fn check(&self, view: &View, out: &mut Vec<Report>) -> Result<(), AllocError> {
@@ -69,7 +72,13 @@ pub(crate) fn push_constant(
     ensures kept { Grows out.old.items out.new.items }
 {
     if is_let(binding.kind) && binding.settled && !is_written {
-        push_named(alloc, "prefer-const", binding, "is never reassigned", out)
+        push_named(
+            alloc,
+            PreferConst::NAME,
+            binding,
+            "is never reassigned",
+            out,
+        )
     } else {
         Ok(())
     }

@@ -8,6 +8,7 @@ ghost use Rattle.rules.specs.Toml.{flag_of, globals_of, off_among, off_of, off_o
 ghost use Rattle.rules.specs.Refusals.{IsRefusal};
 
 use crate::known_keys::{knows_keys, knows_rules};
+use crate::rule_list::RULE_NAMES;
 use crate::settings::Settings;
 use source_text::{Fault, MAX_BYTES};
 use std::alloc::Global;
@@ -115,18 +116,6 @@ fn off(alloc: Global, table: &Table) -> Result<Vec<String>, Fault>
         },
     }
 }
-
-const RULE_NAMES: [&str; 9] = [
-    "eqeqeq",
-    "no-debugger",
-    "no-empty",
-    "no-extra-parens",
-    "no-shadow",
-    "no-undef",
-    "no-unused-vars",
-    "no-var",
-    "prefer-const",
-];
 
 fn off_of_table(alloc: Global, table: &Table) -> Result<Vec<String>, Fault>
     ensures ok { IfOk result (λ v. off_of_members (table_view table.now) ≡ Some (map string_bytes v.items)) }
