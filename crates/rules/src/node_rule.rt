@@ -20,6 +20,7 @@ impl NodeRule {
     ghost use Rattle.rules.specs.NodeRules.{looking_at};
 
     /// The rule that looks at nodes of a kind, if there is one.
+    #[inline]
     pub(crate) fn looking_at(kind: Kind) -> Option<NodeRule>
         ensures { result ≡ looking_at kind }
     {

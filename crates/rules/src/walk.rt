@@ -97,10 +97,10 @@ fn looked_at<'t, 's>(node: Node<'t, 's>, index: usize) -> Option<Node<'t, 's>>
 fn is_passed(node: Node) -> bool
     ensures { result ≡ true → IsPassed (Some (node_tree node.entry)) }
 {
-    match NodeRule::looking_at(node.kind()) {
-        None => node.part_count() == 0,
-        Some(_) => false,
+    if node.part_count() > 0 {
+        return false;
     }
+    NodeRule::looking_at(node.kind()).is_none()
 }
 
 /// Appends what these rules report of a node.
