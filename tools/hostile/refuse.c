@@ -1,10 +1,10 @@
-/* Preloaded into a program, it runs the program again and again, each time in a child process of its own with other words, and has something
-   fail in each run: the k-th request for memory, or the k-th call that writes standard output or reads a file. `refuse` makes this library,
-   gives it the jobs, and judges what was seen; here nothing is judged.
+/* Preloaded into a program, it calls the program's `main` again and again, with other words for each job, and has something fail in each run:
+   the k-th request for memory, or the k-th call that writes standard output or reads a file. `refuse` makes this library, gives it the jobs, and
+   judges what was seen; here nothing is judged. The runs of a job share a child process; where a run ends it, the next run has a new one.
 
    HOSTILE_JOBS names a file with a job on each line, its parts with U+001F between them:
-       MODE FIRST LAST SIZE WORD ..
-   The runs of a job have k = FIRST, FIRST + 1, .. until one ends in which nothing failed, or LAST has run. SIZE is how many bytes a call that
+       MODE LAST SIZE WORD ..
+   The runs of a job have k = 1, 2, .. until one ends in which nothing failed, or LAST has run. SIZE is how many bytes a call that
    reads or writes takes at most (0: as many as it is handed). MODE says what fails:
        memory   the k-th request for memory
        all      the k-th and each later one
@@ -41,15 +41,17 @@ struct Job {
     char *argv[MOST_WORDS + 1];
 };
 
-/* What a child tells its parent, in memory that they share. */
+/* What a child tells its parent of its run, in memory that they share. */
 struct Told {
+    long k;        /* which call fails */
+    int is_over;   /* whether it was the job's last run, and its record is written */
     long asked;    /* requests for memory */
     long writes;   /* calls that write to standard output */
     long reads;    /* calls that read from an opened file */
     long failed;   /* what failed in them */
     long behind;   /* calls to a stream that had failed, or had ended */
     long largest;  /* the most bytes that a call was handed for standard output */
-    long live;     /* blocks that are still there when `main` is done */
+    long live;     /* blocks and files that are still there when `main` is done */
     long damaged;  /* blocks that were written behind their end, or freed twice */
 };
 
@@ -62,7 +64,6 @@ struct Record {
 
 static struct Told *told;
 static struct Job job;
-static long k;
 static int is_running;
 static char is_file[MOST_FILES], has_ended[MOST_FILES];
 static int (*own_main)(int, char **, char **);
@@ -81,7 +82,7 @@ struct Head {
 static int is_refused(void) {
     if (!is_running) return 0;
     told->asked += 1;
-    if (job.mode == MEMORY ? told->asked != k : job.mode == ALL ? told->asked < k : 1) return 0;
+    if (job.mode == MEMORY ? told->asked != told->k : job.mode == ALL ? told->asked < told->k : 1) return 0;
     told->failed += 1;
     errno = ENOMEM;
     return 1;
@@ -145,7 +146,7 @@ void *realloc(void *old, size_t size) {
 /* ---- devices */
 
 static int fails(enum mode mode, long calls) {
-    if (job.mode != mode || calls != k) return 0;
+    if (job.mode != mode || calls != told->k) return 0;
     told->failed += 1;
     return 1;
 }
@@ -162,7 +163,7 @@ ssize_t write(int stream, const void *from, size_t size) {
     if ((long)size > told->largest) told->largest = size;
     if (fails(WRITE, told->writes) || fails(NOTHING, told->writes)) {
         has_ended[1] = 1;
-        errno = k % 2 ? EIO : ENOSPC;
+        errno = told->k % 2 ? EIO : ENOSPC;
         return job.mode == WRITE ? -1 : 0;
     }
     return syscall(SYS_write, stream, from, job.size && size > job.size ? job.size : size);
@@ -181,7 +182,7 @@ ssize_t read(int file, void *into, size_t size) {
     told->behind += has_ended[file];
     if (fails(READ, told->reads)) {
         has_ended[file] = 1;
-        errno = k % 2 ? EIO : EISDIR;
+        errno = told->k % 2 ? EIO : EISDIR;
         return -1;
     }
     ssize_t got = syscall(SYS_read, file, into, job.size && size > job.size ? job.size : size);
@@ -202,21 +203,16 @@ struct Answer {
     char *out, *err;
 };
 
-static FILE *seen;
-static int out_file, err_file;
+/* The answer that was written last, and where. */
+static struct Answer last;
+static off_t last_at;
+static int seen, out_file, err_file;
 static int (*start)(int (*)(int, char **, char **), int, char **, void (*)(void), void (*)(void), void (*)(void), void *);
 
 static void must(int is_well, const char *what) {
     if (is_well) return;
     perror(what);
-    exit(3);
-}
-
-static int counted_main(int argc, char **argv, char **environment) {
-    is_running = 1;
-    int status = own_main(argc, argv, environment);
-    is_running = 0;
-    return status;
+    _exit(3);
 }
 
 static char *all_of(int file, int64_t *size) {
@@ -229,47 +225,7 @@ static char *all_of(int file, int64_t *size) {
     return bytes;
 }
 
-static void empty(int file) { must(!ftruncate(file, 0) && !lseek(file, 0, SEEK_SET), "ftruncate"); }
-
-/* Reads the job of a line. */
-static void read_job(char *line) {
-    char *words[4 + MOST_WORDS];
-    int count = 0;
-    while (line && count < 4 + MOST_WORDS) words[count++] = strsep(&line, "\x1f");
-    must(count > 4 && !line, "a job");
-    for (job.mode = 0; job.mode < NONE && strcmp(MODES[job.mode], words[0]);) job.mode++;
-    job.first = atol(words[1]);
-    job.last = atol(words[2]);
-    job.size = atol(words[3]);
-    job.argc = count - 4;
-    memcpy(job.argv, words + 4, job.argc * sizeof *words);
-    job.argv[job.argc] = 0;
-}
-
-static struct Answer run(void (*init)(void), void (*fini)(void), void (*done)(void), void *stack) {
-    memset(told, 0, sizeof *told);
-    empty(out_file);
-    empty(err_file);
-    fflush(seen);
-    pid_t child = fork();
-    must(child >= 0, "fork");
-    if (!child) {
-        int none = syscall(SYS_openat, AT_FDCWD, "/dev/null", O_RDONLY, 0);
-        must(!dup2(none, 0) && dup2(out_file, 1) == 1 && dup2(err_file, 2) == 2, "dup2");
-        syscall(SYS_close_range, 3, ~0u, 0);
-        alarm(SECONDS);
-        exit(start(counted_main, job.argc, job.argv, init, fini, done, stack));
-    }
-    int status;
-    must(waitpid(child, &status, 0) == child, "waitpid");
-    struct Answer answer = {.record = {
-        .first = k, .runs = 1, .status = WIFEXITED(status) ? WEXITSTATUS(status) : -WTERMSIG(status), .failed = told->failed > 0,
-        .behind = told->behind, .largest = told->largest, .live = told->live, .damaged = told->damaged,
-    }};
-    answer.out = all_of(out_file, &answer.record.out);
-    answer.err = all_of(err_file, &answer.record.err);
-    return answer;
-}
+static void put(const void *from, size_t size) { must(syscall(SYS_write, seen, from, size) == (ssize_t)size, "write"); }
 
 static int are_alike(struct Answer *one, struct Answer *other) {
     struct Record record = other->record;
@@ -278,32 +234,113 @@ static int are_alike(struct Answer *one, struct Answer *other) {
     return !memcmp(&one->record, &record, sizeof record) && !memcmp(one->out, other->out, record.out) && !memcmp(one->err, other->err, record.err);
 }
 
-static void put(struct Answer *answer) {
-    fwrite(&answer->record, sizeof answer->record, 1, seen);
-    fwrite(answer->out, 1, answer->record.out, seen);
-    fwrite(answer->err, 1, answer->record.err, seen);
-    free(answer->out);
-    free(answer->err);
+/* Notes what the run answered that just ended with this status. */
+static void note(int status) {
+    struct Answer now = {.record = {
+        .first = told->k, .runs = 1, .status = status, .failed = told->failed > 0,
+        .behind = told->behind, .largest = told->largest, .live = told->live, .damaged = told->damaged,
+    }};
+    now.out = all_of(out_file, &now.record.out);
+    now.err = all_of(err_file, &now.record.err);
+    if (last.record.runs && are_alike(&last, &now)) {
+        last.record.runs += 1;
+        must(pwrite(seen, &last.record, sizeof last.record, last_at) == sizeof last.record, "pwrite");
+        free(now.out);
+        free(now.err);
+        return;
+    }
+    free(last.out);
+    free(last.err);
+    last = now;
+    last_at = lseek(seen, 0, SEEK_CUR);
+    put(&now.record, sizeof now.record);
+    put(now.out, now.record.out);
+    put(now.err, now.record.err);
 }
 
-static void run_job(void (*init)(void), void (*fini)(void), void (*done)(void), void *stack) {
-    k = job.first;
-    struct Answer last = run(init, fini, done, stack);
-    while (told->failed && k < job.last) {
-        k++;
-        struct Answer now = run(init, fini, done, stack);
-        if (are_alike(&last, &now)) {
-            last.record.runs += 1;
-            free(now.out);
-            free(now.err);
-        } else {
-            put(&last);
-            last = now;
-        }
+static void empty(int file) { must(!ftruncate(file, 0) && !lseek(file, 0, SEEK_SET), "ftruncate"); }
+
+static void begin(long k) {
+    *told = (struct Told){.k = k};
+    memset(has_ended, 0, sizeof has_ended);
+    empty(out_file);
+    empty(err_file);
+    alarm(SECONDS);
+}
+
+/* The files that the run has left open: they are closed, and count as what is still there. */
+static void close_files(void) {
+    for (int file = 3; file < MOST_FILES; file++) {
+        if (!is_file[file]) continue;
+        told->live += 1;
+        close(file);
     }
-    put(&last);
+}
+
+/* Whether another run of the job is to come after this one. */
+static int goes_on(void) { return told->failed && told->k < job.last; }
+
+/* Stands for `main`: calls it once for each k from that of this process. */
+static int main_again(int argc, char **argv, char **environment) {
+    for (;;) {
+        is_running = 1;
+        int status = own_main(argc, argv, environment);
+        close_files();
+        is_running = 0;
+        note(status & 0xff);
+        if (!goes_on()) break;
+        begin(told->k + 1);
+    }
+    told->is_over = 1;
+    _exit(0);
+}
+
+/* Reads the job of a line. */
+static void read_job(char *line) {
+    char *words[3 + MOST_WORDS];
+    int count = 0;
+    while (line && count < 3 + MOST_WORDS) words[count++] = strsep(&line, "\x1f");
+    must(count > 3 && !line, "a job");
+    for (job.mode = 0; job.mode < NONE && strcmp(MODES[job.mode], words[0]);) job.mode++;
+    job.last = atol(words[1]);
+    job.size = atol(words[2]);
+    job.argc = count - 3;
+    memcpy(job.argv, words + 3, job.argc * sizeof *words);
+    job.argv[job.argc] = 0;
+}
+
+/* A job, whose runs begin again in a new process after each that ended its own. */
+static void run_job(void (*init)(void), void (*fini)(void), void (*done)(void), void *stack) {
+    last.record.runs = 0;
+    begin(1);
+    for (;;) {
+        pid_t child = fork();
+        must(child >= 0, "fork");
+        if (!child) {
+            int none = syscall(SYS_openat, AT_FDCWD, "/dev/null", O_RDONLY, 0);
+            must(!dup2(none, 0) && dup2(out_file, 1) == 1 && dup2(err_file, 2) == 2, "dup2");
+            syscall(SYS_close_range, 3, MOST_FILES - 1, 0);
+            alarm(SECONDS);
+            exit(start(main_again, job.argc, job.argv, init, fini, done, stack));
+        }
+        int status;
+        must(waitpid(child, &status, 0) == child, "waitpid");
+        if (told->is_over) break;
+        last.record.runs = 0;
+        note(WIFEXITED(status) ? WEXITSTATUS(status) : -WTERMSIG(status));
+        if (!goes_on()) break;
+        begin(told->k + 1);
+    }
     struct Record end = {0};
-    fwrite(&end, sizeof end, 1, seen);
+    put(&end, sizeof end);
+}
+
+/* A file of our own, above those that a run opens. */
+static int above(int file) {
+    int own = fcntl(file, F_DUPFD, MOST_FILES);
+    must(file >= 0 && own >= 0, "dup");
+    syscall(SYS_close, file);
+    return own;
 }
 
 /* Stands before the C library's own, which begins a program: its constructors, `main`, its end. */
@@ -314,16 +351,17 @@ int __libc_start_main(int (*main)(int, char **, char **), int argc, char **argv,
     if (!from || !to) return start(main, argc, argv, init, fini, done, stack);
     own_main = main;
     told = mmap(0, sizeof *told, PROT_READ | PROT_WRITE, MAP_SHARED | MAP_ANONYMOUS, -1, 0);
-    out_file = memfd_create("out", 0);
-    err_file = memfd_create("err", 0);
-    seen = fopen(to, "w");
+    must(told != MAP_FAILED, "mmap");
+    out_file = above(memfd_create("out", 0));
+    err_file = above(memfd_create("err", 0));
+    seen = above(open(to, O_WRONLY | O_CREAT | O_TRUNC));
     int jobs = open(from, O_RDONLY);
-    must(told != MAP_FAILED && out_file >= 0 && err_file >= 0 && seen && jobs >= 0, "begin");
+    must(jobs >= 0, from);
     int64_t size;
     char *lines = all_of(jobs, &size), *line;
     while ((line = strsep(&lines, "\n")) && *line) {
         read_job(line);
         run_job(init, fini, done, stack);
     }
-    exit(fclose(seen) != 0);
+    exit(0);
 }
