@@ -4,18 +4,19 @@ use Rattle.std.specs.Prelude.{Result, OnOk, MatchOption, option_to_list, All}
 use Rattle.std.proofs.lemmas.List.Elements.{All-nil, All-cons, All-head, All-tail}
 use Rattle.spellings.specs.Outlines.{role_of, slot_of}
 use Rattle.tree.specs.declared.kind.Kind.{Kind}
+use Rattle.language.specs.declared.Rank.{Rank}
 use Rattle.cost_table.specs.declared.costs.Costs as own
 use Rattle.paren_planner.specs.declared.open_sums.OpenSums.{OpenSums}
 use Rattle.cost_table.specs.declared.table.Row.{Row}
 use Rattle.cost_table.specs.declared.node_costs.NodeCosts.{NodeCosts}
 use Rattle.paren_planner.specs.declared.steps.NodeStep.{NodeStep}
 use Rattle.paren_planner.specs.declared.steps.Step.{Step}
-use Rattle.paren_planner.specs.declared.steps.Step.TheVariants.{Atom, Leaf, Enter, Leave}
+use Rattle.paren_planner.specs.declared.steps.Step.TheVariants.{Free, Leaf, Enter, Leave}
 use Rattle.cost_table.specs.Costs.{sums, no_pairs, IsHeld}
 use Rattle.paren_planner.specs.Pending.{here_of, outer_of, shown_sums, AreHeld}
 use Rattle.cost_table.specs.Rows.{row_with}
 use Rattle.cost_table.specs.Weighed.{uses}
-use Rattle.paren_planner.specs.Steps.{word_row, weighed_of, used, row_of_visit, has_row_at, Sums, joined, taken, taken_from, at_the_end, innermost, others}
+use Rattle.paren_planner.specs.Steps.{free_row, weighed_of, used, row_of_visit, has_row_at, Sums, joined, taken, taken_from, at_the_end, innermost, others}
 use Rattle.cost_table.proofs.Sums.{zero-zero, sums-zero}
 use Rattle.paren_planner.proofs.Stacks.{row_pushed}
 
@@ -34,7 +35,7 @@ others_held [] h = All-nil IsHeld
 others_held (c ∷ cs) h = All-tail IsHeld c cs h
 
 taken_held : (x : Step) (t : Sums) → AreHeld t → AreHeld (taken x t)
-taken_held (Atom k) t h = record { here = h.here; outer = h.outer }
+taken_held (Free k z) t h = record { here = h.here; outer = h.outer }
 taken_held (Leaf v) t h = record { here = sums-zero t.here (used v no_pairs); outer = h.outer }
 taken_held (Enter v) t h = record { here = sums-zero (innermost t.outer) (used v t.here); outer = others_held t.outer h.outer }
 taken_held Leave t h = record { here = zero-zero; outer = All-cons IsHeld t.here t.outer h.here h.outer }
@@ -70,9 +71,9 @@ pub step_taken : {A E : Type 0} (q : Result A E) (x y : Step) (t u : Sums) → x
 step_taken (Ok a) x y t u i e = e ∙ ap (λ z. taken z u) (sym i)
 step_taken (Err a) x y t u i e = e
 
-pub word_taken : {A E : Type 0} (r : Result A E) (x : Step) (k : Kind) (p : OpenSums) (old new : List Row) → x ≡ Atom k → OnOk r (new ≡ old ++ word_row k ∷ []) → OnOk r (shown_sums p new ≡ taken x (shown_sums p old))
-word_taken (Ok a) x k p old new i e = (λ j. record { here = here_of p; outer = outer_of p; rows = row_pushed true (word_row k) old new e j }) ∙ ap (λ z. taken z (shown_sums p old)) (sym i)
-word_taken (Err a) x k p old new i e = e
+pub free_taken : {A E : Type 0} (r : Result A E) (x : Step) (k : Kind) (z : Rank) (p : OpenSums) (old new : List Row) → x ≡ Free k z → OnOk r (new ≡ old ++ free_row k z ∷ []) → OnOk r (shown_sums p new ≡ taken x (shown_sums p old))
+free_taken (Ok a) x k z p old new i e = (λ j. record { here = here_of p; outer = outer_of p; rows = row_pushed true (free_row k z) old new e j }) ∙ ap (λ y. taken y (shown_sums p old)) (sym i)
+free_taken (Err a) x k z p old new i e = e
 
 pub parent_taken : {A E : Type 0} (r : Result A E) (v : NodeStep) (c : own.Costs) (p q : OpenSums) (t : Sums) (old : List Row) → c ≡ here_of p → here_of q ≡ innermost (outer_of p) → outer_of q ≡ others (outer_of p)
     → OnOk r (t ≡ joined v c (shown_sums q old)) → OnOk r (t ≡ taken (Enter v) (shown_sums p old))

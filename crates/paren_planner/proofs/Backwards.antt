@@ -3,8 +3,6 @@ use Rattle.std.proofs.Common.{◌≡◌, ℕ, ◌+◌, true, false, cond, min, L
 use Rattle.std.proofs.lemmas.Bool.{false≢true, true≢false}
 use Rattle.tree.specs.Tree.{Tree, node, Parts, none, part, kind_of, parts_of}
 use Rattle.language.specs.declared.Rank.{Rank}
-use Rattle.language.specs.declared.Rank.TheVariants.{Primary}
-use Rattle.spellings.specs.Outlines.{leaf}
 use Rattle.language.specs.declared.Start.{Start}
 use Rattle.language.specs.Pieces.{Role, expr, chain_part, pattern, script, Slot, fixed, left as left_slot, lead, tail, callee, lead_chain, lead_pattern}
 use Rattle.language.specs.Grammar.{ways}
@@ -19,13 +17,13 @@ use Rattle.cost_table.specs.declared.node_costs.NodeCosts.{NodeCosts}
 use Rattle.cost_table.specs.declared.table.Row.{Row}
 use Rattle.paren_planner.specs.declared.steps.NodeStep.{NodeStep}
 use Rattle.paren_planner.specs.declared.steps.Step.{Step}
-use Rattle.paren_planner.specs.declared.steps.Step.TheVariants.{Leaf, Enter, Leave}
+use Rattle.paren_planner.specs.declared.steps.Step.TheVariants.{Free, Leaf, Enter, Leave}
 use Rattle.cost_table.specs.Costs.{capped, capped_sum, each, cost_at, sums, same_everywhere, cells_at, no_pairs, IsHeld}
 use Rattle.cost_table.specs.Weighed.{settled_at, uses, fitting, sums_over, IsWeighed, slot_free, is_plain_outline}
 use Rattle.cost_table.specs.Rows.{row_with, row_of, own_row, table_rows, parts_table}
-use Rattle.spellings.specs.Cursors.{requirements_of as asks_of}
-use Rattle.paren_planner.specs.Steps.{word_row, outline_of, has_row_at, weighed_as, weighed_of, row_of_visit, Sums, joined, taken, taken_from, at_the_end}
-use Rattle.paren_planner.specs.Noted.{IsVisit, Steps, unspelled, alone, around, word, hidden, through, is_settled, is_settled_slot, PartsSteps, over, skipped, unplaced, next}
+use Rattle.spellings.specs.Cursors.{requirements_of}
+use Rattle.paren_planner.specs.Steps.{free_row, outline_of, has_row_at, weighed_as, weighed_of, row_of_visit, Sums, joined, taken, taken_from, at_the_end}
+use Rattle.paren_planner.specs.Noted.{IsVisit, are_free, Steps, unspelled, alone, around, costless, hidden, through, is_settled, is_settled_slot, PartsSteps, over, skipped, unplaced, next}
 use Rattle.cost_table.proofs.Plainly.{plain_uses}
 use Rattle.paren_planner.proofs.FreeRows.{free_row_at}
 use Rattle.cost_table.proofs.Sums.{sums-assoc, sums-zero, zero-zero, zero-sums}
@@ -44,17 +42,17 @@ capped-either (Some m) (Some k) = let e : min (m + k) 4294967295 ≡ min (k + m)
 sums-either : (c d : own.Costs) → sums c d ≡ sums d c
 sums-either c d = λ j. each (λ y i f. capped-either (cost_at c y i f) (cost_at d y i f) j)
 
--- What an outline asks is what its label does
+-- What an outline asks is what its requirements ask
 
-pub fits_outlined : (a : Role) (x : Outline) → fits_outline a (outline_of (asks_of x)) ≡ fits_outline a x
+pub fits_outlined : (a : Role) (x : Outline) → fits_outline a (outline_of (requirements_of x)) ≡ fits_outline a x
 fits_outlined (expr y i f) x = refl
 fits_outlined (pattern b f) x = refl
 fits_outlined _ x = refl
 
-fitting_outlined : (a : Role) (x : Outline) (c : own.Costs) → fitting a (outline_of (asks_of x)) c ≡ fitting a x c
+fitting_outlined : (a : Role) (x : Outline) (c : own.Costs) → fitting a (outline_of (requirements_of x)) c ≡ fitting a x c
 fitting_outlined a x c = λ j. each (λ y i f. cond (fits_outlined (with_own y i f a) x j) (cost_at c y i f) None)
 
-weighed_outlined : (a : Role) (n : Tree) (x : Outline) (c : own.Costs) → IsWeighed a n (record { outline = Some x; costs = c }) → IsWeighed a n (record { outline = Some (outline_of (asks_of x)); costs = c })
+weighed_outlined : (a : Role) (n : Tree) (x : Outline) (c : own.Costs) → IsWeighed a n (record { outline = Some x; costs = c }) → IsWeighed a n (record { outline = Some (outline_of (requirements_of x)); costs = c })
 weighed_outlined a n x c h = record {
   fits = λ y i f. h.fits y i f ∙ sym (fits_outlined (with_own y i f a) x);
   costs = h.costs;
@@ -104,26 +102,26 @@ joined_node a s n v c w t i e h =
     ap (λ u. u ++ (below n (settled_at a s) ++ t.rows)) (visit_row a s n v c w i e h) ∙ sym (append_assoc (own_row (settled_at a s) (row_of n)) (below n (settled_at a s)) t.rows) ∙ ap (λ u. u ++ t.rows) (rows_of_node n (settled_at a s)) in
     λ j. record { here = sums t.here (uses (i.above j) (i.slot j) (e j)); outer = t.outer; rows = r j }
 
-labelled : (a : Role) (s : Slot) (n : Tree) (v : NodeStep) (x : Outline) (c : own.Costs) → IsVisit a s n v → v.label ≡ Some (asks_of x) →
-    weighed_of v c ≡ record { outline = Some (outline_of (asks_of x)); costs = fitting (widest (settled_at a s)) x c }
-labelled a s n v x c i l =
+weighed_with : (a : Role) (s : Slot) (n : Tree) (v : NodeStep) (x : Outline) (c : own.Costs) → IsVisit a s n v → v.requirements ≡ Some (requirements_of x) →
+    weighed_of v c ≡ record { outline = Some (outline_of (requirements_of x)); costs = fitting (widest (settled_at a s)) x c }
+weighed_with a s n v x c i l =
     (λ j. weighed_as (widest (settled_at (i.above j) (i.slot j))) (l j) c)
-    ∙ ap (λ d. record { outline = Some (outline_of (asks_of x)); costs = d }) (fitting_outlined (widest (settled_at a s)) x c)
+    ∙ ap (λ d. record { outline = Some (outline_of (requirements_of x)); costs = d }) (fitting_outlined (widest (settled_at a s)) x c)
 
-unlabelled : (a : Role) (s : Slot) (n : Tree) (v : NodeStep) (c : own.Costs) → IsVisit a s n v → v.label ≡ None → weighed_of v c ≡ record { outline = None; costs = same_everywhere None }
-unlabelled a s n v c i l = λ j. weighed_as (widest (settled_at (i.above j) (i.slot j))) (l j) c
+weighed_without : (a : Role) (s : Slot) (n : Tree) (v : NodeStep) (c : own.Costs) → IsVisit a s n v → v.requirements ≡ None → weighed_of v c ≡ record { outline = None; costs = same_everywhere None }
+weighed_without a s n v c i l = λ j. weighed_as (widest (settled_at (i.above j) (i.slot j))) (l j) c
 
 nothing_below : (n : Tree) (p : Role) → (parts_of n ≡ none) → below n p ≡ []
 nothing_below n p h = ap (λ ps. parts_table ps (first_roles (ways (widest p) n))) h ∙ table-end (first_roles (ways (widest p) n))
 
 -- of what is spelled, with the sums over its parts
-spelled_node : (a : Role) (s : Slot) (n : Tree) (v : NodeStep) (x : NodeSpelling) (c : own.Costs) (t : Sums) → IsVisit a s n v → v.label ≡ Some (asks_of x.outline) → IsSpelledWherever (widest (settled_at a s)) n (Some x) →
+spelled_node : (a : Role) (s : Slot) (n : Tree) (v : NodeStep) (x : NodeSpelling) (c : own.Costs) (t : Sums) → IsVisit a s n v → v.requirements ≡ Some (requirements_of x.outline) → IsSpelledWherever (widest (settled_at a s)) n (Some x) →
     c ≡ sums_over (parts_of n) (widest (settled_at a s)) (left x.slots) → (u : Sums) → u ≡ joined v c (record { here = t.here; outer = t.outer; rows = below n (settled_at a s) ++ t.rows }) → Joined a s n t u
 spelled_node a s n v x c t i l k e u h =
     let d : own.Costs = fitting (widest (settled_at a s)) x.outline c in
-    let w : IsWeighed (settled_at a s) n (record { outline = Some (outline_of (asks_of x.outline)); costs = d }) =
+    let w : IsWeighed (settled_at a s) n (record { outline = Some (outline_of (requirements_of x.outline)); costs = d }) =
     weighed_outlined (settled_at a s) n x.outline d (weighed_some (settled_at a s) n x k c d e refl) in
-    record { weighed = record { outline = Some (outline_of (asks_of x.outline)); costs = d }; known = w; is = h ∙ joined_node a s n v c _ t i (labelled a s n v x.outline c i l) w }
+    record { weighed = record { outline = Some (outline_of (requirements_of x.outline)); costs = d }; known = w; is = h ∙ joined_node a s n v c _ t i (weighed_with a s n v x.outline c i l) w }
 
 taken_append : (xs ys : List Step) (t : Sums) → taken_from (xs ++ ys) t ≡ taken_from xs (taken_from ys t)
 unfolding taken_from
@@ -180,52 +178,65 @@ settled_uses ps a callee x ss h = absurd (false≢true h)
 settled_uses ps a lead_chain x ss h = absurd (false≢true h)
 settled_uses ps a lead_pattern x ss h = absurd (false≢true h)
 
--- without parts, and with the numbers that its spelling leaves of none
+-- with the numbers that its spelling leaves of parts that cost nothing
 record Bare (a : Role) (s : Slot) (n : Tree) (x : Outline) : Type 0 where
-  known : IsWeighed (settled_at a s) n (record { outline = Some (outline_of (asks_of x)); costs = fitting (widest (settled_at a s)) x no_pairs })
-  uses : (is_plain_outline x ≡ true) → (slot_free s x.rank ≡ true) → uses a s (record { outline = Some (outline_of (asks_of x)); costs = fitting (widest (settled_at a s)) x no_pairs }) ≡ no_pairs
+  known : IsWeighed (settled_at a s) n (record { outline = Some (outline_of (requirements_of x)); costs = fitting (widest (settled_at a s)) x no_pairs })
+  uses : (is_plain_outline x ≡ true) → (slot_free s x.rank ≡ true) → uses a s (record { outline = Some (outline_of (requirements_of x)); costs = fitting (widest (settled_at a s)) x no_pairs }) ≡ no_pairs
 
-bare : (a : Role) (s : Slot) (n : Tree) (x : NodeSpelling) → IsSpelledWherever (widest (settled_at a s)) n (Some x) → parts_of n ≡ none → Bare a s n x.outline
+bare : (a : Role) (s : Slot) (n : Tree) (x : NodeSpelling) → IsSpelledWherever (widest (settled_at a s)) n (Some x) → no_pairs ≡ sums_over (parts_of n) (widest (settled_at a s)) (left x.slots) → Bare a s n x.outline
 bare a s n x k e =
     let b : Role = widest (settled_at a s) in
-    let o : Outline = outline_of (asks_of x.outline) in
+    let o : Outline = outline_of (requirements_of x.outline) in
     let d : own.Costs = fitting b x.outline no_pairs in
     record {
-      known = weighed_outlined (settled_at a s) n x.outline d (weighed_some (settled_at a s) n x k no_pairs d (sym (sums-end b (left x.slots)) ∙ ap (λ ps. sums_over ps b (left x.slots)) (sym e)) refl);
+      known = weighed_outlined (settled_at a s) n x.outline d (weighed_some (settled_at a s) n x k no_pairs d e refl);
       uses = λ p f. ap (λ c. uses a s (record { outline = Some o; costs = c })) (sym (fitting_outlined b x.outline no_pairs)) ∙ plain_uses s o b p f a;
     }
 
-word_node : (a : Role) (s : Slot) (n : Tree) (x : NodeSpelling) (t : Sums) → IsSpelledWherever (widest (settled_at a s)) n (Some x) → x.outline ≡ leaf Primary → parts_of n ≡ none → has_row_at s ≡ true → slot_free s Primary ≡ true → IsHeld t.here →
-    Joined a s n t (record { here = t.here; outer = t.outer; rows = word_row (kind_of n) ∷ t.rows })
-word_node a s n x t k o e r f h =
+free_node : (a : Role) (s : Slot) (n : Tree) (x : NodeSpelling) (t : Sums) → IsSpelledWherever (widest (settled_at a s)) n (Some x) → is_plain_outline x.outline ≡ true → has_row_at s ≡ true → slot_free s x.outline.rank ≡ true →
+    no_pairs ≡ sums_over (parts_of n) (widest (settled_at a s)) (left x.slots) → IsHeld t.here →
+    Joined a s n t (record { here = t.here; outer = t.outer; rows = free_row (kind_of n) x.outline.rank ∷ (parts_table (parts_of n) (settled_roles (widest (settled_at a s)) (left x.slots)) ++ t.rows) })
+free_node a s n x t k p r f e h =
     let b : Role = widest (settled_at a s) in
     let y : Bare a s n x.outline = bare a s n x k e in
-    let p : is_plain_outline x.outline ≡ true = ap is_plain_outline o in
-    let nothing = y.uses p (ap (λ u. slot_free s u.rank) o ∙ f) in
-    let rows : word_row (kind_of n) ∷ [] ≡ table_rows n (settled_at a s) =
-    ap (λ u. cond u (word_row (kind_of n) ∷ []) []) (sym r)
-    ∙ ap (λ u. cond (has_row_at s) (row_with (kind_of n) (Rattle.cost_table.specs.Packed.shaped (Rattle.cost_table.specs.Packed.free_shape u.rank) 0) ∷ []) []) (sym o)
+    let nothing = y.uses p f in
+    let own_rows : free_row (kind_of n) x.outline.rank ∷ [] ≡ own_row (settled_at a s) (row_of n) =
+    ap (λ u. cond u (free_row (kind_of n) x.outline.rank ∷ []) []) (sym r)
     ∙ sym (free_row_at s a (kind_of n) x.outline p)
-    ∙ own_row_at s a (row_with (kind_of n) (fitting b x.outline no_pairs)) ∙ own_row_of (settled_at a s) n _ y.known
-    ∙ sym (append-nil _) ∙ ap (λ u. own_row (settled_at a s) (row_of n) ++ u) (sym (nothing_below n (settled_at a s) e))
+    ∙ own_row_at s a (row_with (kind_of n) (fitting b x.outline no_pairs)) ∙ own_row_of (settled_at a s) n _ y.known in
+    let rows : free_row (kind_of n) x.outline.rank ∷ parts_table (parts_of n) (settled_roles b (left x.slots)) ≡ table_rows n (settled_at a s) =
+    (λ j. own_rows j ++ parts_table (parts_of n) (sym (roles_some (settled_at a s) n x k) j))
     ∙ rows_of_node n (settled_at a s) in
     record {
-      weighed = record { outline = Some (outline_of (asks_of x.outline)); costs = fitting b x.outline no_pairs };
+      weighed = record { outline = Some (outline_of (requirements_of x.outline)); costs = fitting b x.outline no_pairs };
       known = y.known;
       is = λ j. record { here = (sym h ∙ ap (sums t.here) (sym nothing)) j; outer = t.outer; rows = rows j ++ t.rows };
     }
 
+-- steps of nodes that cost nothing change no sums
+free_here : (xs : List Step) (t : Sums) → are_free xs ≡ true → (taken_from xs t).here ≡ t.here
+unfolding taken_from
+free_here [] t h = refl
+free_here (Free k z ∷ xs) t h = free_here xs t h
+free_here (Leaf v ∷ xs) t h = absurd (false≢true h)
+free_here (Enter v ∷ xs) t h = absurd (false≢true h)
+free_here (Leave ∷ xs) t h = absurd (false≢true h)
+
+taken_free : (k : Rattle.tree.specs.declared.kind.Kind.Kind) (z : Rank) (xs : List Step) (t : Sums) → taken_from (Free k z ∷ xs) t ≡ taken (Free k z) (taken_from xs t)
+unfolding taken_from
+taken_free k z xs t = refl
+
 hidden_node : (a : Role) (s : Slot) (n : Tree) (x : NodeSpelling) (t : Sums) → IsSpelledWherever (widest (settled_at a s)) n (Some x) → is_plain_outline x.outline ≡ true → parts_of n ≡ none → has_row_at s ≡ false → IsHeld t.here → Joined a s n t t
 hidden_node a s n x t k p e r h =
     let b : Role = widest (settled_at a s) in
-    let y : Bare a s n x.outline = bare a s n x k e in
+    let y : Bare a s n x.outline = bare a s n x k (sym (sums-end b (left x.slots)) ∙ ap (λ ps. sums_over ps b (left x.slots)) (sym e)) in
     let nothing = y.uses p (rowless_free s x.outline.rank r) in
     let rows : [] ≡ table_rows n (settled_at a s) =
     sym (nothing_below n (settled_at a s) e)
     ∙ ap (λ u. u ++ below n (settled_at a s)) (ap (λ u. cond u (row_of n ∷ []) []) (sym r) ∙ own_row_at s a (row_of n))
     ∙ rows_of_node n (settled_at a s) in
     record {
-      weighed = record { outline = Some (outline_of (asks_of x.outline)); costs = fitting b x.outline no_pairs };
+      weighed = record { outline = Some (outline_of (requirements_of x.outline)); costs = fitting b x.outline no_pairs };
       known = y.known;
       is = λ j. record { here = (sym h ∙ ap (sums t.here) (sym nothing)) j; outer = t.outer; rows = rows j ++ t.rows };
     }
@@ -247,6 +258,11 @@ settled_here a s n x t u k r h =
       is = h ∙ (λ j. record { here = sums t.here (settled_uses (parts_of n) a s x.outline (left x.slots) r j); outer = t.outer; rows = rows j ++ t.rows });
     }
 
+-- parts whose steps are such cost nothing, by what the steps do
+free_sums_of : (a : Role) (ss : List Slot) (ps : Parts) (xs : List Step) → are_free xs ≡ true → taken_from xs at_the_end ≡ record { here = sums no_pairs (sums_over ps a ss); outer = []; rows = parts_table ps (settled_roles a ss) ++ [] } →
+    no_pairs ≡ sums_over ps a ss
+free_sums_of a ss ps xs g e = sym (free_here xs at_the_end g) ∙ ap (λ t. t.here) e ∙ zero-sums (λ y i f. Rattle.language.specs.Cost.parts_least ps (settled_roles (with_own y i f a) ss))
+
 mutual
   unfolding taken_from
 
@@ -257,7 +273,7 @@ mutual
       record {
         weighed = record { outline = None; costs = same_everywhere None };
         known = w;
-        is = ap (λ u. taken_from u t) e ∙ taken_leaf v t ∙ ap (joined v no_pairs) (no_rows t _ none_below) ∙ joined_node a s n v no_pairs _ t i (unlabelled a s n v no_pairs i l) w;
+        is = ap (λ u. taken_from u t) e ∙ taken_leaf v t ∙ ap (joined v no_pairs) (no_rows t _ none_below) ∙ joined_node a s n v no_pairs _ t i (weighed_without a s n v no_pairs i l) w;
       }
   node_taken {a} {s} {n} {xs} (alone v x i l k p e) t h =
       spelled_node a s n v x no_pairs t i l k (sym (sums-end (widest (settled_at a s)) (left x.slots)) ∙ ap (λ ps. sums_over ps (widest (settled_at a s)) (left x.slots)) (sym p)) _
@@ -269,7 +285,9 @@ mutual
       (ap (λ u. taken_from u t) e ∙ taken_around v ys t
       ∙ ap (taken (Enter v)) (parts_taken q (record { here = no_pairs; outer = t.here ∷ t.outer; rows = t.rows }) zero-zero)
       ∙ ap (λ r. joined v o (record { here = t.here; outer = t.outer; rows = parts_table (parts_of n) r ++ t.rows })) (sym (roles_some (settled_at a s) n x k)))
-  node_taken {a} {s} {n} {xs} (word x k o e r f z) t h = subst (Joined a s n t) (sym (ap (λ u. taken_from u t) z)) (word_node a s n x t k o e r f h)
+  node_taken {a} {s} {n} {xs} (costless x ys k p r f q g z) t h =
+      subst (Joined a s n t) (sym (ap (λ u. taken_from u t) z ∙ taken_free (kind_of n) x.outline.rank ys t ∙ (λ j. record { here = free_here ys t g j; outer = (parts_taken q t h j).outer; rows = free_row (kind_of n) x.outline.rank ∷ (parts_taken q t h j).rows })))
+      (free_node a s n x t k p r f (free_sums_of (widest (settled_at a s)) (left x.slots) (parts_of n) ys g (parts_taken q at_the_end zero-zero)) h)
   node_taken {a} {s} {n} {xs} (hidden x k p e r z) t h = subst (Joined a s n t) (sym (ap (λ u. taken_from u t) z)) (hidden_node a s n x t k p e r h)
   node_taken {a} {s} {n} {xs} (through x k r g q) t h = settled_here a s n x t (taken_from xs t) k r (parts_taken q t h)
 
@@ -287,6 +305,9 @@ mutual
       let rows : table_rows n (settled_at a s) ++ (parts_table ps (settled_roles a ss) ++ t.rows) ≡ parts_table (part n ps) (settled_roles a (s ∷ ss)) ++ t.rows =
       sym (append_assoc (table_rows n (settled_at a s)) (parts_table ps (settled_roles a ss)) t.rows) ∙ ap (λ u. u ++ t.rows) (sym (table-part n ps a s ss)) in
       ap (λ u. taken_from u t) e ∙ taken_append xs ys t ∙ ap (taken_from xs) (parts_taken q t h) ∙ N.is ∙ (λ j. record { here = here j; outer = t.outer; rows = rows j })
+
+pub free_sums : {a : Role} {ss : List Slot} {ps : Parts} {xs : List Step} → PartsSteps a ss ps xs → are_free xs ≡ true → no_pairs ≡ sums_over ps a ss
+free_sums {a} {ss} {ps} {xs} q g = free_sums_of a ss ps xs g (parts_taken q at_the_end zero-zero)
 
 -- A script
 

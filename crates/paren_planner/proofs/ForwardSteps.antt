@@ -2,19 +2,20 @@
 use Rattle.std.proofs.Common.{◌≡◌, ℕ, suc, ◌+◌, ◌<◌, Bool, true, false, cond, List, [], ◌∷◌, ◌++◌, reverse, length, drop, get_or, Option, None, sym, ap, ◌∙◌, arith, drop-cons}
 use Rattle.std.specs.Prelude.{Result, OnOk, Ok, Err, option_to_list, unwrap_or, map, slice_get}
 use Rattle.tree.specs.declared.kind.Kind.{Kind}
+use Rattle.language.specs.declared.Rank.{Rank}
 use Rattle.spellings.specs.Outlines.{role_of, slot_of}
 use Rattle.paren_planner.specs.declared.steps.NodeStep.{NodeStep}
 use Rattle.paren_planner.specs.declared.steps.Step.{Step}
-use Rattle.paren_planner.specs.declared.steps.Step.TheVariants.{Atom, Leaf, Enter, Leave}
+use Rattle.paren_planner.specs.declared.steps.Step.TheVariants.{Free, Leaf, Enter, Leave}
 use Rattle.cost_table.specs.declared.table.Row.{Row}
 use Rattle.paren_planner.specs.declared.wrap_pass.WrapContext.{WrapContext}
 use Rattle.paren_planner.specs.Steps.{has_row_at, stands_at}
 use Rattle.paren_planner.specs.Marked.{Round, round, Marks, marked, marked_through, shown_marks, flag_of, round_of, flag_at, round_at, plain_round}
 use Rattle.paren_planner.proofs.Stacks.{popped_round, popped_rounds, pushed_round}
 
-pub word_marked : {A E : Type 0} (r : Result A E) (T : List Row) (x : Step) (k : Kind) (a : WrapContext) (o : List WrapContext) (old new : List Bool) → x ≡ Atom k → OnOk r (new ≡ old ++ false ∷ []) → OnOk r (shown_marks a o new ≡ marked T x (shown_marks a o old))
-word_marked (Ok u) T x k a o old new i e = (λ j. record { here = round a; outer = reverse (map round o); flags = e j }) ∙ ap (λ y. marked T y (shown_marks a o old)) (sym i)
-word_marked (Err u) T x k a o old new i e = e
+pub free_marked : {A E : Type 0} (r : Result A E) (T : List Row) (x : Step) (k : Kind) (z : Rank) (a : WrapContext) (o : List WrapContext) (old new : List Bool) → x ≡ Free k z → OnOk r (new ≡ old ++ false ∷ []) → OnOk r (shown_marks a o new ≡ marked T x (shown_marks a o old))
+free_marked (Ok u) T x k z a o old new i e = (λ j. record { here = round a; outer = reverse (map round o); flags = e j }) ∙ ap (λ y. marked T y (shown_marks a o old)) (sym i)
+free_marked (Err u) T x k z a o old new i e = e
 
 pub leaf_marked : (T : List Row) (x : Step) (v : NodeStep) (a : WrapContext) (o : List WrapContext) (old new : List Bool) → x ≡ Leaf v → new ≡ old ++ flag_of T v (round a) old → shown_marks a o new ≡ marked T x (shown_marks a o old)
 leaf_marked T x v a o old new i e = (λ j. record { here = round a; outer = reverse (map round o); flags = e j }) ∙ ap (λ y. marked T y (shown_marks a o old)) (sym i)
@@ -41,10 +42,10 @@ marked_past T xs k t h = ap (λ ys. marked_through T ys t) h
 -- A node where none may be wrapped
 
 passed_flag : (T : List Row) (v : NodeStep) (x : Round) (bs : List Bool) → x.may_wrap ≡ false → cond (has_row_at (slot_of v.slot)) (false ∷ []) [] ≡ flag_of T v x bs
-passed_flag T v x bs h = λ j. cond (has_row_at (slot_of v.slot)) (cond (sym h j) (flag_at (slice_get T (length bs)) (stands_at x.own v) v.label) false ∷ []) []
+passed_flag T v x bs h = λ j. cond (has_row_at (slot_of v.slot)) (cond (sym h j) (flag_at (slice_get T (length bs)) (stands_at x.own v) v.requirements) false ∷ []) []
 
 passed_round : (T : List Row) (v : NodeStep) (x : Round) (bs : List Bool) → x.may_wrap ≡ false → x ≡ round_of T v x bs
-passed_round T v x bs h = sym (ap (λ b. cond b (cond (has_row_at (slot_of v.slot)) (round_at (slice_get T (length bs)) (stands_at x.own v) v.label) (plain_round (stands_at x.own v) v.label)) x) h)
+passed_round T v x bs h = sym (ap (λ b. cond b (cond (has_row_at (slot_of v.slot)) (round_at (slice_get T (length bs)) (stands_at x.own v) v.requirements) (plain_round (stands_at x.own v) v.requirements)) x) h)
 
 pub passed_leaf : {A E : Type 0} (r : Result A E) (T : List Row) (x : Step) (v : NodeStep) (a : WrapContext) (o : List WrapContext) (old new : List Bool) → a.may_wrap ≡ false → x ≡ Leaf v → OnOk r (new ≡ old ++ cond (has_row_at (slot_of v.slot)) (false ∷ []) [])
     → OnOk r (shown_marks a o new ≡ marked T x (shown_marks a o old))
@@ -58,11 +59,11 @@ passed_parent (Err u) T x v a o p old new h i k e = e
 
 -- A node that may be wrapped
 
-living_flag : (T : List Row) (v : NodeStep) (x : Round) (bs : List Bool) → x.may_wrap ≡ true → cond (has_row_at (slot_of v.slot)) (flag_at (slice_get T (length bs)) (stands_at x.own v) v.label ∷ []) [] ≡ flag_of T v x bs
-living_flag T v x bs h = λ j. cond (has_row_at (slot_of v.slot)) (cond (sym h j) (flag_at (slice_get T (length bs)) (stands_at x.own v) v.label) false ∷ []) []
+living_flag : (T : List Row) (v : NodeStep) (x : Round) (bs : List Bool) → x.may_wrap ≡ true → cond (has_row_at (slot_of v.slot)) (flag_at (slice_get T (length bs)) (stands_at x.own v) v.requirements ∷ []) [] ≡ flag_of T v x bs
+living_flag T v x bs h = λ j. cond (has_row_at (slot_of v.slot)) (cond (sym h j) (flag_at (slice_get T (length bs)) (stands_at x.own v) v.requirements) false ∷ []) []
 
 pub living_leaf : {A E : Type 0} (r : Result A E) (T : List Row) (x : Step) (v : NodeStep) (a : WrapContext) (o : List WrapContext) (old new : List Bool) → a.may_wrap ≡ true → x ≡ Leaf v
-    → OnOk r (new ≡ old ++ cond (has_row_at (slot_of v.slot)) (flag_at (slice_get T (length old)) (stands_at (role_of a.own) v) v.label ∷ []) []) → OnOk r (shown_marks a o new ≡ marked T x (shown_marks a o old))
+    → OnOk r (new ≡ old ++ cond (has_row_at (slot_of v.slot)) (flag_at (slice_get T (length old)) (stands_at (role_of a.own) v) v.requirements ∷ []) []) → OnOk r (shown_marks a o new ≡ marked T x (shown_marks a o old))
 living_leaf (Ok u) T x v a o old new h i e = leaf_marked T x v a o old new i (e ∙ ap (λ bs. old ++ bs) (living_flag T v (round a) old h))
 living_leaf (Err u) T x v a o old new h i e = e
 

@@ -4,9 +4,9 @@ use Rattle.std.specs.Prelude.{◌&&◌, not, slice_get}
 use Rattle.std.proofs.lemmas.Bool.{false≢true, true≢false, and_parts}
 use Rattle.std.proofs.lemmas.Bool.Decides.{nat_tests}
 use Rattle.std.proofs.lemmas.List.{replicate-append-replicate}
-use Rattle.tree.specs.Tree.{Tree, node, Parts, none, parts_of}
+use Rattle.tree.specs.Tree.{Tree, node, Parts, none, kind_of, parts_of}
 use Rattle.language.specs.declared.Rank.{Rank}
-use Rattle.language.specs.declared.Rank.TheVariants.{Expression, Primary}
+use Rattle.language.specs.declared.Rank.TheVariants.{Expression}
 use Rattle.language.specs.declared.Start.{Start}
 use Rattle.language.specs.declared.Start.TheVariants.{Any}
 use Rattle.language.specs.Pieces.{Role, expr, chain_part, pattern, script, Slot, fixed, left as left_slot, lead, tail, callee, lead_chain, lead_pattern}
@@ -15,7 +15,7 @@ use Rattle.language.specs.RowPositions.{first_roles, widest, has_row, rows, part
 use Rattle.language.specs.Layout.{some_way, wants_pair, inside, parts_wrapped}
 use Rattle.language.specs.Cost.{if_any, cell, cell_position, parts_least}
 use Rattle.spellings.specs.declared.outline.Outline.{Outline}
-use Rattle.spellings.specs.Outlines.{slot_of, leaf}
+use Rattle.spellings.specs.Outlines.{slot_of}
 use Rattle.spellings.specs.Spelled.{fits_outline, settled_roles, Verdict}
 use Rattle.spellings.specs.Remaining.{left}
 use Rattle.spellings.specs.Wherever.{NodeSpelling, with_own, IsSpelledWherever, spelled_roles}
@@ -26,21 +26,21 @@ use Rattle.cost_table.specs.declared.table.Row.{Row}
 use Rattle.spellings.specs.declared.requirements.Requirements.{Requirements}
 use Rattle.paren_planner.specs.declared.steps.NodeStep.{NodeStep}
 use Rattle.paren_planner.specs.declared.steps.Step.{Step}
-use Rattle.paren_planner.specs.declared.steps.Step.TheVariants.{Leaf, Enter, Leave}
+use Rattle.paren_planner.specs.declared.steps.Step.TheVariants.{Free, Leaf, Enter, Leave}
 use Rattle.cost_table.specs.Costs.{capped, cells_at, no_pairs, is_free}
 use Rattle.cost_table.specs.Weighed.{settled_at, cost_of, fitting, sums_over, fits_spelled, slot_free, role_free, is_plain_outline}
 use Rattle.cost_table.specs.Rows.{row_of, is_expression, table_rows, parts_table}
 use Rattle.paren_planner.specs.Wrapped.{unwrapped, flags, parts_flags, inner_flags, HasRows}
-use Rattle.spellings.specs.Cursors.{requirements_of as asks_of}
+use Rattle.spellings.specs.Cursors.{requirements_of}
 use Rattle.paren_planner.specs.Steps.{outline_of, stands_at, has_row_at}
-use Rattle.paren_planner.specs.Noted.{IsVisit, Steps, unspelled, alone, around, word, hidden, through, is_settled_slot, is_fixed, are_fixed, PartsSteps, over, skipped, unplaced, next}
-use Rattle.paren_planner.specs.Marked.{Round, Marks, fits_label, wants, around_parts, flag_at, round_at, plain_round, flag_of, round_of, marked, marked_through, at_the_start}
+use Rattle.paren_planner.specs.Noted.{IsVisit, are_free, Steps, unspelled, alone, around, costless, hidden, through, is_settled_slot, is_fixed, are_fixed, PartsSteps, over, skipped, unplaced, next}
+use Rattle.paren_planner.specs.Marked.{Round, Marks, meets, wants, around_parts, flag_at, round_at, plain_round, flag_of, round_of, marked, marked_through, at_the_start}
 use Rattle.cost_table.proofs.Known.{own_widest, counted}
-use Rattle.cost_table.proofs.NodeRowNumbers.{roles_some, weighed_some, sums-end}
+use Rattle.cost_table.proofs.NodeRowNumbers.{roles_some, weighed_some}
 use Rattle.paren_planner.proofs.WrappedRows.{parts-rows, parts-flags-length, parts-numbers, no_number, rows-empty, no_roles}
 use Rattle.paren_planner.proofs.Turns.{front_rows, table_turn, inner_some, inner_none, plain_flags, wanted, table_below, rows_below, own_standing, own_few, own_result, plain_standing, plain_few, spelled_inside, all_rows}
 use Rattle.paren_planner.proofs.Totals.{parts_count, cell_roles}
-use Rattle.paren_planner.proofs.Backwards.{fits_outlined, settled_rowless}
+use Rattle.paren_planner.proofs.Backwards.{fits_outlined, settled_rowless, free_sums}
 use Rattle.cost_table.proofs.Plainly.{plain_fits, cost_free, settled_free}
 
 -- The steps
@@ -112,11 +112,11 @@ unwrapped_sum m k = replicate-append-replicate m k false
 -- Where nothing may be wrapped
 
 dead_round : (T : List Row) (v : NodeStep) (x : Round) (bs : List Bool) → x.may_wrap ≡ false → round_of T v x bs ≡ x
-dead_round T v x bs h = ap (λ b. cond b (cond (has_row_at (slot_of v.slot)) (round_at (slice_get T (length bs)) (stands_at x.own v) v.label) (plain_round (stands_at x.own v) v.label)) x) h
+dead_round T v x bs h = ap (λ b. cond b (cond (has_row_at (slot_of v.slot)) (round_at (slice_get T (length bs)) (stands_at x.own v) v.requirements) (plain_round (stands_at x.own v) v.requirements)) x) h
 
 dead_flag : (T : List Row) (a : Role) (s : Slot) (n : Tree) (v : NodeStep) (x : Round) (bs : List Bool) → IsVisit a s n v → x.may_wrap ≡ false → flag_of T v x bs ≡ unwrapped (has_row (settled_at a s))
 dead_flag T a s n v x bs i h =
-    (λ j. cond (has_row_at (i.slot j)) (cond (h j) (flag_at (slice_get T (length bs)) (stands_at x.own v) v.label) false ∷ []) []) ∙ row_count s a
+    (λ j. cond (has_row_at (i.slot j)) (cond (h j) (flag_at (slice_get T (length bs)) (stands_at x.own v) v.requirements) false ∷ []) []) ∙ row_count s a
 
 dead_leaf : (T : List Row) (a : Role) (s : Slot) (n : Tree) (v : NodeStep) (t : Marks) → IsVisit a s n v → t.here.may_wrap ≡ false → parts_rows (parts_of n) (first_roles (ways (widest (settled_at a s)) n)) ≡ 0 →
     marked T (Leaf v) t ≡ flagged t (unwrapped (rows n (settled_at a s)))
@@ -143,12 +143,13 @@ no_row_here callee a h = absurd (true≢false h)
 no_row_here lead_chain a h = refl
 no_row_here lead_pattern a h = refl
 
-word_rows : (a : Role) (s : Slot) (n : Tree) → has_row_at s ≡ true → parts_of n ≡ none → false ∷ [] ≡ unwrapped (rows n (settled_at a s))
-word_rows a s n h e =
-    let r = rows_split n (settled_at a s) in
-    let z = no_part_rows n (first_roles (ways (widest (settled_at a s)) n)) e in
-    let same : has_row (settled_at a s) ≡ rows n (settled_at a s) = omega (arith, r, z) in
-    ap (λ u. cond u (false ∷ []) []) (sym h) ∙ row_count s a ∙ ap unwrapped same
+costless_rows : (a : Role) (s : Slot) (n : Tree) (x : NodeSpelling) → IsSpelledWherever (widest (settled_at a s)) n (Some x) → has_row_at s ≡ true →
+    false ∷ unwrapped (parts_rows (parts_of n) (settled_roles (widest (settled_at a s)) (left x.slots))) ≡ unwrapped (rows n (settled_at a s))
+costless_rows a s n x k h =
+    let r : ℕ = parts_rows (parts_of n) (settled_roles (widest (settled_at a s)) (left x.slots)) in
+    let count : has_row (settled_at a s) + r ≡ rows n (settled_at a s) =
+    ap (λ u. has_row (settled_at a s) + parts_rows (parts_of n) u) (sym (roles_some (settled_at a s) n x k)) ∙ sym (rows_split n (settled_at a s)) in
+    ap (λ u. u ++ unwrapped r) (ap (λ u. cond u (false ∷ []) []) (sym h) ∙ row_count s a) ∙ unwrapped_sum (has_row (settled_at a s)) r ∙ ap unwrapped count
 
 hidden_rows : (a : Role) (s : Slot) (n : Tree) → has_row_at s ≡ false → parts_of n ≡ none → rows n (settled_at a s) ≡ 0
 hidden_rows a s n h e =
@@ -183,8 +184,10 @@ mutual
       ∙ ap (marked T Leave) (dead_parts T q (record { here = t.here; outer = t.here ∷ t.outer; flags = t.flags ++ unwrapped (has_row (settled_at a s)) }) h)
       ∙ flagged_twice t (unwrapped (has_row (settled_at a s))) (unwrapped r)
       ∙ ap (flagged t) (unwrapped_sum (has_row (settled_at a s)) r ∙ ap unwrapped count)
-  dead_node T {a} {s} {n} (word x k o e r f z) t h =
-      ap (λ u. marked_through T u t) z ∙ ap (flagged t) (word_rows a s n r e)
+  dead_node T {a} {s} {n} (costless x ys k p r f q g z) t h =
+      ap (λ u. marked_through T u t) z ∙ dead_parts T q (flagged t (false ∷ [])) h
+      ∙ flagged_twice t (false ∷ []) (unwrapped (parts_rows (parts_of n) (settled_roles (widest (settled_at a s)) (left x.slots))))
+      ∙ ap (flagged t) (costless_rows a s n x k r)
   dead_node T {a} {s} {n} (hidden x k p e r z) t h =
       ap (λ u. marked_through T u t) z ∙ flagged_not t ∙ ap (λ m. flagged t (unwrapped m)) (sym (hidden_rows a s n r e))
   dead_node T {a} {s} {n} (through x k r g q) t h =
@@ -198,6 +201,22 @@ mutual
       ap (λ u. marked_through T u t) e ∙ marked_append T xs ys t ∙ ap (marked_through T ys) (dead_node T p t h) ∙ dead_parts T q (flagged t (unwrapped (rows n (settled_at a s)))) h
       ∙ flagged_twice t (unwrapped (rows n (settled_at a s))) (unwrapped (parts_rows ps (settled_roles a ss)))
       ∙ ap (flagged t) (unwrapped_sum (rows n (settled_at a s)) (parts_rows ps (settled_roles a ss)))
+
+-- Nodes that cost nothing
+
+marked_free : (T : List Row) (xs : List Step) (t : Marks) → are_free xs ≡ true → marked_through T xs t ≡ flagged t (unwrapped (length xs))
+unfolding marked_through
+marked_free T [] t h = flagged_not t
+marked_free T (Free k z ∷ xs) t h = marked_free T xs (flagged t (false ∷ [])) h ∙ flagged_twice t (false ∷ []) (unwrapped (length xs))
+marked_free T (Leaf v ∷ xs) t h = absurd (false≢true h)
+marked_free T (Enter v ∷ xs) t h = absurd (false≢true h)
+marked_free T (Leave ∷ xs) t h = absurd (false≢true h)
+
+-- each of such steps is a row
+free_rows : {a : Role} {ss : List Slot} {ps : Parts} {xs : List Step} → PartsSteps a ss ps xs → are_free xs ≡ true → unwrapped (length xs) ≡ unwrapped (parts_rows ps (settled_roles a ss))
+free_rows {a} {ss} {ps} {xs} q g =
+    let t : Marks = record { here = record { own = script; may_wrap = false }; outer = []; flags = [] } in
+    ap (λ u. u.flags) (sym (marked_free [] xs t g) ∙ dead_parts [] q t refl)
 
 -- Where a node costs nothing, nothing in it is wrapped
 
@@ -247,15 +266,15 @@ row_cells : (n : Tree) → (row_of n).costs ≡ cells_at n (expr Expression true
 unfolding row_of
 row_cells n = refl
 
--- the label says what is known of the spelling
+-- the requirements says what is known of the spelling
 abbrev Says : Option Requirements → Option NodeSpelling → Type 0
-Says l r = (q : Role) → fits_label q l ≡ fits_spelled q r
+Says l r = (q : Role) → meets q l ≡ fits_spelled q r
 
 says_none : (l : Option Requirements) → l ≡ None → Says l None
-says_none l e q = ap (fits_label q) e
+says_none l e q = ap (meets q) e
 
-says_some : (l : Option Requirements) (x : NodeSpelling) → l ≡ Some (asks_of x.outline) → Says l (Some x)
-says_some l x e q = ap (fits_label q) e ∙ fits_outlined q x.outline
+says_some : (l : Option Requirements) (x : NodeSpelling) → l ≡ Some (requirements_of x.outline) → Says l (Some x)
+says_some l x e q = ap (meets q) e ∙ fits_outlined q x.outline
 
 wants_is : (n : Tree) (p : Role) (l : Option Requirements) (r : Option NodeSpelling) → is_expression p ≡ true → IsSpelledWherever p n r → Says l r → rows n p ≤ 16777216 → wants p l (row_of n).costs ≡ wants_pair n p
 wants_is n p l r h k q few =
@@ -281,28 +300,28 @@ expression_inside false p h = h
 record Entered (T : List Row) (v : NodeStep) (o : Role) (bs : List Bool) (n : Tree) (p : Role) (r : Option NodeSpelling) : Type 0 where
   own : Role
   quiet : Bool
-  round : round_of T v (living o) bs ≡ record { own = own; may_wrap = fits_label own v.label && not quiet }
+  round : round_of T v (living o) bs ≡ record { own = own; may_wrap = meets own v.requirements && not quiet }
   free : quiet ≡ true → some_way (ways own n) ≡ true → parts_flags (parts_of n) (first_roles (ways own n)) ≡ unwrapped (parts_rows (parts_of n) (first_roles (ways own n)))
   stands : HasRows T (length (bs ++ flag_of T v (living o) bs)) (parts_table (parts_of n) (first_roles (ways (widest own) n)))
   few : parts_rows (parts_of n) (first_roles (ways (widest own) n)) ≤ 16777216
   known : IsSpelledWherever own n r
   result : (vs : List Bool) → vs ≡ (bs ++ flag_of T v (living o) bs) ++ inner_flags n own → vs ≡ bs ++ flags n p
 
-entered_row : (T : List Row) (v : NodeStep) (o : Role) (bs : List Bool) (s : Slot) (n : Tree) (r : Option NodeSpelling) → slot_of v.slot ≡ s → is_expression (settled_at o s) ≡ true → Says v.label r → IsSpelledWherever (settled_at o s) n r →
+entered_row : (T : List Row) (v : NodeStep) (o : Role) (bs : List Bool) (s : Slot) (n : Tree) (r : Option NodeSpelling) → slot_of v.slot ≡ s → is_expression (settled_at o s) ≡ true → Says v.requirements r → IsSpelledWherever (settled_at o s) n r →
     is_plain (settled_at o s) ≡ true → HasRows T (length bs) (table_rows n (settled_at o s)) → rows n (settled_at o s) ≤ 16777216 → Entered T v o bs n (settled_at o s) r
 entered_row T v o bs s n r i h q k pl st few =
     let p : Role = settled_at o s in
     let b : Bool = wants_pair n p in
     let c : Costs = (row_of n).costs in
-    let w : wants p v.label c ≡ b = wants_is n p v.label r h k q few in
+    let w : wants p v.requirements c ≡ b = wants_is n p v.requirements r h k q few in
     let rowed : has_row_at (slot_of v.slot) ≡ true = ap has_row_at i ∙ is_row s o ∙ h in
     let got_row : slice_get T (length bs) ≡ Some (row_of n) = row_here T (length bs) n p h st in
     let flag : flag_of T v (living o) bs ≡ b ∷ [] =
-    (λ j. cond (rowed j) (flag_at (got_row j) (settled_at o (i j)) v.label ∷ []) []) ∙ ap (λ u. u ∷ []) w in
+    (λ j. cond (rowed j) (flag_at (got_row j) (settled_at o (i j)) v.requirements ∷ []) []) ∙ ap (λ u. u ∷ []) w in
     record {
       own = inside b p;
       quiet = is_free (cost_of c (inside b p));
-      round = (λ j. cond (rowed j) (round_at (got_row j) (settled_at o (i j)) v.label) (plain_round (settled_at o (i j)) v.label)) ∙ ap (λ u. around_parts (inside u p) v.label c) w;
+      round = (λ j. cond (rowed j) (round_at (got_row j) (settled_at o (i j)) v.requirements) (plain_round (settled_at o (i j)) v.requirements)) ∙ ap (λ u. around_parts (inside u p) v.requirements c) w;
       free = λ z y. free_inside n (inside b p) c (expression_inside b p h) (plain_inside b p pl) y (row_cells n) z;
       stands = own_standing T bs (bs ++ flag_of T v (living o) bs) n p (inside b p) b h refl (ap (λ u. bs ++ u) flag) st;
       few = own_few n p (inside b p) b 16777216 h refl few;
@@ -315,12 +334,12 @@ entered_plain : (T : List Row) (v : NodeStep) (o : Role) (bs : List Bool) (s : S
 entered_plain T v o bs s n r i h k st few =
     let p : Role = settled_at o s in
     let rowed : has_row_at (slot_of v.slot) ≡ false = ap has_row_at i ∙ is_row s o ∙ h in
-    let flag : flag_of T v (living o) bs ≡ [] = λ j. cond (rowed j) (flag_at (slice_get T (length bs)) (settled_at o (i j)) v.label ∷ []) [] in
+    let flag : flag_of T v (living o) bs ≡ [] = λ j. cond (rowed j) (flag_at (slice_get T (length bs)) (settled_at o (i j)) v.requirements ∷ []) [] in
     let same : bs ++ flag_of T v (living o) bs ≡ bs = ap (λ u. bs ++ u) flag ∙ append-nil bs in
     record {
       own = p;
       quiet = false;
-      round = (λ j. cond (rowed j) (round_at (slice_get T (length bs)) (settled_at o (i j)) v.label) (plain_round (settled_at o (i j)) v.label)) ∙ ap (λ u. record { own = p; may_wrap = u }) (and_true (fits_label p v.label));
+      round = (λ j. cond (rowed j) (round_at (slice_get T (length bs)) (settled_at o (i j)) v.requirements) (plain_round (settled_at o (i j)) v.requirements)) ∙ ap (λ u. record { own = p; may_wrap = u }) (and_true (meets p v.requirements));
       free = λ z y. absurd (false≢true z);
       stands = subst (λ u. HasRows T (length u) (parts_table (parts_of n) (first_roles (ways (widest p) n)))) (sym same) (plain_standing T (length bs) n p h st);
       few = plain_few n p 16777216 h few;
@@ -328,7 +347,7 @@ entered_plain T v o bs s n r i h k st few =
       result = λ vs e. e ∙ ap (λ u. u ++ inner_flags n p) same ∙ ap (λ u. bs ++ u) (plain_flags n p true h);
     }
 
-entered : (T : List Row) (v : NodeStep) (o : Role) (bs : List Bool) (s : Slot) (n : Tree) (r : Option NodeSpelling) → slot_of v.slot ≡ s → Says v.label r → IsSpelledWherever (settled_at o s) n r → is_plain (settled_at o s) ≡ true →
+entered : (T : List Row) (v : NodeStep) (o : Role) (bs : List Bool) (s : Slot) (n : Tree) (r : Option NodeSpelling) → slot_of v.slot ≡ s → Says v.requirements r → IsSpelledWherever (settled_at o s) n r → is_plain (settled_at o s) ≡ true →
     HasRows T (length bs) (table_rows n (settled_at o s)) → rows n (settled_at o s) ≤ 16777216 → Entered T v o bs n (settled_at o s) r
 entered T v o bs s n r i q k pl st few = of (is_expression (settled_at o s)) refl
   where
@@ -372,33 +391,60 @@ within_parts T xs o false us bs P U h k = h
 rowless : (s : Slot) (o : Role) → has_row_at s ≡ false → is_expression (settled_at o s) ≡ false
 rowless s o h = sym (is_row s o) ∙ h
 
--- a name or a literal is wrapped nowhere
+-- a node that costs nothing is wrapped nowhere
 never_exceeds : (w : Option ℕ) → Rattle.language.specs.Layout.exceeds (Some 0) w ≡ false
 never_exceeds None = refl
 never_exceeds (Some m) = grind (arith, nat_tests)
 
-word_unwrapped : (n : Tree) (p : Role) (x : NodeSpelling) → is_expression p ≡ true → IsSpelledWherever p n (Some x) → x.outline ≡ leaf Primary → role_free p Primary ≡ true → parts_of n ≡ none → rows n p ≤ 16777216 → wants_pair n p ≡ false
-word_unwrapped n (expr y i f) x h k o t e few =
-    let l : Option Requirements = Some (asks_of x.outline) in
-    let b : Role = expr Expression true Any in
-    let plain : is_plain_outline x.outline ≡ true = ap is_plain_outline o in
-    let takes_it : Rattle.language.specs.Vocabulary.takes y x.outline.rank ≡ true = ap (λ u. Rattle.language.specs.Vocabulary.takes y u.rank) o ∙ t in
-    let costs : (row_of n).costs ≡ fitting b x.outline no_pairs =
-    row_cells n ∙ sym (weighed_some b n x k no_pairs (fitting b x.outline no_pairs) (sym (sums-end b (left x.slots)) ∙ ap (λ ps. sums_over ps b (left x.slots)) (sym e)) refl).costs in
-    let fit : fits_label (expr y i f) l ≡ true = plain_fits (outline_of (asks_of x.outline)) plain (expr y i f) takes_it in
-    let cost : cost_of (row_of n).costs (expr y i f) ≡ Some 0 = ap (λ c. cost_of c (expr y i f)) costs ∙ cost_free x.outline plain b y i f takes_it in
-    sym (wants_is n (expr y i f) l (Some x) refl k (says_some l x refl) few)
-    ∙ (λ j. Rattle.language.specs.Layout.exceeds (cond (fit j) (cost j) None) (Rattle.cost_table.specs.Costs.capped_sum (Some 1) (row_of n).costs.has_in.any))
-    ∙ never_exceeds (Rattle.cost_table.specs.Costs.capped_sum (Some 1) (row_of n).costs.has_in.any)
-word_unwrapped n _ x h k o t e few = absurd (false≢true h)
+row_widest : (s : Slot) (a : Role) → has_row_at s ≡ true → widest (settled_at a s) ≡ expr Expression true Any
+row_widest (fixed (expr y i f)) a h = refl
+row_widest (fixed b) a h = absurd (false≢true h)
+row_widest (left_slot y) a h = refl
+row_widest (lead y) a h = refl
+row_widest (tail y x) a h = refl
+row_widest callee a h = refl
+row_widest lead_chain a h = absurd (false≢true h)
+row_widest lead_pattern a h = absurd (false≢true h)
 
-word_flags : (o : Role) (s : Slot) (n : Tree) (x : NodeSpelling) → IsSpelledWherever (settled_at o s) n (Some x) → x.outline ≡ leaf Primary → parts_of n ≡ none → has_row_at s ≡ true → slot_free s Primary ≡ true → rows n (settled_at o s) ≤ 16777216 → false ∷ [] ≡ flags n (settled_at o s)
-word_flags o s n x k q e r t few =
+record Costless (n : Tree) (p : Role) (x : NodeSpelling) : Type 0 where
+  fits : fits_outline p x.outline ≡ true
+  cost : is_free (cost_of (row_of n).costs p) ≡ true
+  unwrapped : wants_pair n p ≡ false
+
+costless_node : (n : Tree) (p : Role) (x : NodeSpelling) → is_expression p ≡ true → IsSpelledWherever p n (Some x) → is_plain_outline x.outline ≡ true → role_free p x.outline.rank ≡ true → no_pairs ≡ sums_over (parts_of n) (expr Expression true Any) (left x.slots) →
+    rows n p ≤ 16777216 → Costless n p x
+costless_node n (expr y i f) x h k plain t e few =
+    let l : Option Requirements = Some (requirements_of x.outline) in
+    let b : Role = expr Expression true Any in
+    let costs : (row_of n).costs ≡ fitting b x.outline no_pairs = row_cells n ∙ sym (weighed_some b n x k no_pairs (fitting b x.outline no_pairs) e refl).costs in
+    let fit : meets (expr y i f) l ≡ true = plain_fits (outline_of (requirements_of x.outline)) plain (expr y i f) t in
+    let cost : cost_of (row_of n).costs (expr y i f) ≡ Some 0 = ap (λ c. cost_of c (expr y i f)) costs ∙ cost_free x.outline plain b y i f t in
+    record {
+      fits = plain_fits x.outline plain (expr y i f) t;
+      cost = ap is_free cost;
+      unwrapped = sym (wants_is n (expr y i f) l (Some x) refl k (says_some l x refl) few)
+          ∙ (λ j. Rattle.language.specs.Layout.exceeds (cond (fit j) (cost j) None) (Rattle.cost_table.specs.Costs.capped_sum (Some 1) (row_of n).costs.has_in.any))
+          ∙ never_exceeds (Rattle.cost_table.specs.Costs.capped_sum (Some 1) (row_of n).costs.has_in.any);
+    }
+costless_node n _ x h k plain t e few = absurd (false≢true h)
+
+costless_flags : (a o : Role) (s : Slot) (n : Tree) (x : NodeSpelling) → IsSpelledWherever (settled_at o s) n (Some x) → is_plain_outline x.outline ≡ true → has_row_at s ≡ true → slot_free s x.outline.rank ≡ true →
+    no_pairs ≡ sums_over (parts_of n) (widest (settled_at a s)) (left x.slots) → is_plain (settled_at o s) ≡ true → rows n (settled_at o s) ≤ 16777216 →
+    false ∷ unwrapped (parts_rows (parts_of n) (settled_roles (widest (settled_at a s)) (left x.slots))) ≡ flags n (settled_at o s)
+costless_flags a o s n x k plain r t e pl few =
     let p : Role = settled_at o s in
+    let ss : List Slot = left x.slots in
     let h : is_expression p ≡ true = sym (is_row s o) ∙ r in
+    let c : Costless n p x = costless_node n p x h k plain (settled_free s x.outline.rank t o) (e ∙ ap (λ b. sums_over (parts_of n) b ss) (row_widest s a r)) few in
+    let g = here_roles p n x k c.fits in
+    let P : List Bool = parts_flags (parts_of n) (settled_roles p ss) in
+    let U : List Bool = unwrapped (parts_rows (parts_of n) (settled_roles p ss)) in
+    let quiet : P ≡ U = subst (λ rs. parts_flags (parts_of n) rs ≡ unwrapped (parts_rows (parts_of n) rs)) g.1 (free_inside n p (row_of n).costs h pl g.0 (row_cells n) c.cost) in
+    let inner : U ≡ inner_flags n p = sym quiet ∙ ap (λ u. cond (true && u) P U) (sym c.fits) ∙ inner_some p n x true k in
     let b : Bool = wants_pair n p in
-    ap (λ u. u ∷ []) (sym (word_unwrapped n p x h k q (settled_free s Primary t o) e few))
-    ∙ own_result n p (inside b p) true b [] (b ∷ []) (b ∷ []) h refl refl refl (ap (λ u. b ∷ u) (sym (inner_bare n (inside b p) e)))
+    ap (λ u. false ∷ u) (ap unwrapped (parts-rows (parts_of n) (widest (settled_at a s)) p ss) ∙ inner)
+    ∙ (λ j. sym c.unwrapped j ∷ inner_flags n (inside (sym c.unwrapped j) p))
+    ∙ own_result n p (inside b p) true b [] (b ∷ []) (b ∷ inner_flags n (inside b p)) h refl refl refl refl
 
 hidden_flags : (o : Role) (s : Slot) (n : Tree) → has_row_at s ≡ false → parts_of n ≡ none → flags n (settled_at o s) ≡ []
 hidden_flags o s n h e = sym (plain_flags n (settled_at o s) true (rowless s o h)) ∙ inner_bare n (settled_at o s) e
@@ -457,19 +503,19 @@ mutual
   live_node : (T : List Row) {a : Role} {s : Slot} {n : Tree} {xs : List Step} → Steps a s n xs → (o : Role) (us : List Round) (bs : List Bool) → is_plain (settled_at o s) ≡ true → HasRows T (length bs) (table_rows n (settled_at o s)) →
       rows n (settled_at o s) ≤ 16777216 → marked_through T xs (record { here = living o; outer = us; flags = bs }) ≡ record { here = living o; outer = us; flags = bs ++ flags n (settled_at o s) }
   live_node T {a} {s} {n} (unspelled v i l k e) o us bs pl st few =
-      let x : Entered T v o bs n (settled_at o s) None = entered T v o bs s n None i.slot (says_none v.label l) (spelled_at a o s n None k) pl st few in
+      let x : Entered T v o bs n (settled_at o s) None = entered T v o bs s n None i.slot (says_none v.requirements l) (spelled_at a o s n None k) pl st few in
       ap (λ u. marked_through T u (record { here = living o; outer = us; flags = bs })) e ∙ marked_leaf T v (record { here = living o; outer = us; flags = bs })
       ∙ live_leaf T v o us bs n (settled_at o s) None x (sym (inner_none x.own n true x.known))
   live_node T {a} {s} {n} (alone v y i l k p e) o us bs pl st few =
-      let x : Entered T v o bs n (settled_at o s) (Some y) = entered T v o bs s n (Some y) i.slot (says_some v.label y l) (spelled_at a o s n (Some y) k) pl st few in
+      let x : Entered T v o bs n (settled_at o s) (Some y) = entered T v o bs s n (Some y) i.slot (says_some v.requirements y l) (spelled_at a o s n (Some y) k) pl st few in
       ap (λ u. marked_through T u (record { here = living o; outer = us; flags = bs })) e ∙ marked_leaf T v (record { here = living o; outer = us; flags = bs })
       ∙ live_leaf T v o us bs n (settled_at o s) (Some y) x (inner_bare n x.own p)
   live_node T {a} {s} {n} (around v y ys i l k q e) o us bs pl st few =
       let t : Marks = record { here = living o; outer = us; flags = bs } in
-      let x : Entered T v o bs n (settled_at o s) (Some y) = entered T v o bs s n (Some y) i.slot (says_some v.label y l) (spelled_at a o s n (Some y) k) pl st few in
+      let x : Entered T v o bs n (settled_at o s) (Some y) = entered T v o bs s n (Some y) i.slot (says_some v.requirements y l) (spelled_at a o s n (Some y) k) pl st few in
       let gs : List Bool = bs ++ flag_of T v (living o) bs in
       let F : Bool = fits_outline x.own y.outline in
-      let fit : fits_label x.own v.label ≡ F = says_some v.label y l x.own in
+      let fit : meets x.own v.requirements ≡ F = says_some v.requirements y l x.own in
       let P : List Bool = parts_flags (parts_of n) (settled_roles x.own (left y.slots)) in
       let U : List Bool = unwrapped (parts_rows (parts_of n) (settled_roles x.own (left y.slots))) in
       let free : x.quiet ≡ true → F ≡ true → P ≡ U = λ z f. let g = here_roles x.own n y x.known f in subst (λ rs. parts_flags (parts_of n) rs ≡ unwrapped (parts_rows (parts_of n) rs)) g.1 (x.free z g.0) in
@@ -484,9 +530,10 @@ mutual
       (subst (HasRows T (length gs)) (table_below x.own n y x.known) x.stands)
       (subst (λ m. m ≤ 16777216) (rows_below x.own n y x.known) x.few)))
       ∙ ap (λ u. record { here = living o; outer = us; flags = u }) (x.result (gs ++ cond (F && not x.quiet) P U) (ap (λ u. gs ++ u) whole))
-  live_node T {a} {s} {n} (word x k q e r f z) o us bs pl st few =
-      ap (λ u. marked_through T u (record { here = living o; outer = us; flags = bs })) z
-      ∙ (λ j. record { here = living o; outer = us; flags = bs ++ word_flags o s n x (spelled_at a o s n (Some x) k) q e r f few j })
+  live_node T {a} {s} {n} (costless x ys k p r f q g z) o us bs pl st few =
+      let t : Marks = record { here = living o; outer = us; flags = bs } in
+      ap (λ u. marked_through T u t) z ∙ marked_free T (Free (kind_of n) x.outline.rank ∷ ys) t g
+      ∙ ap (flagged t) (ap (λ u. false ∷ u) (free_rows q g) ∙ costless_flags a o s n x (spelled_at a o s n (Some x) k) p r f (free_sums q g) pl few)
   live_node T {a} {s} {n} (hidden x k p e r z) o us bs pl st few =
       ap (λ u. marked_through T u (record { here = living o; outer = us; flags = bs })) z
       ∙ (λ j. record { here = living o; outer = us; flags = (sym (append-nil bs) ∙ ap (λ u. bs ++ u) (sym (hidden_flags o s n r e))) j })

@@ -25,11 +25,11 @@ free_row_at role.callee a k x p = ap (λ c. row_with k c ∷ []) (free_costs x p
 free_row_at role.lead_chain a k x p = refl
 free_row_at role.lead_pattern a k x p = refl
 
-pub free_row : (v : NodeStep) (x : Requirements) → v.label ≡ Some x → is_plain_outline (outline_of x) ≡ true → row_of_visit v no_pairs ≡ cond (has_row_at (slot_of v.slot)) (row_with v.kind (shaped (free_shape x.rank) 0) ∷ []) []
+pub free_row : (v : NodeStep) (x : Requirements) → v.requirements ≡ Some x → is_plain_outline (outline_of x) ≡ true → row_of_visit v no_pairs ≡ cond (has_row_at (slot_of v.slot)) (row_with v.kind (shaped (free_shape x.rank) 0) ∷ []) []
 free_row v x e p =
     ap (λ l. cond (has_row_at (slot_of v.slot)) (row_with v.kind (weighed_as (place_of v) l no_pairs).costs ∷ []) []) e
     ∙ free_row_at (slot_of v.slot) (role_of v.above) v.kind (outline_of x) p
 
-pub free_used : (v : NodeStep) (x : Requirements) → v.label ≡ Some x → is_plain_outline (outline_of x) ≡ true → slot_free (slot_of v.slot) x.rank ≡ true → used v no_pairs ≡ no_pairs
+pub free_used : (v : NodeStep) (x : Requirements) → v.requirements ≡ Some x → is_plain_outline (outline_of x) ≡ true → slot_free (slot_of v.slot) x.rank ≡ true → used v no_pairs ≡ no_pairs
 free_used v x e p t =
     ap (λ l. uses (role_of v.above) (slot_of v.slot) (weighed_as (place_of v) l no_pairs)) e ∙ plain_uses (slot_of v.slot) (outline_of x) (place_of v) p t (role_of v.above)

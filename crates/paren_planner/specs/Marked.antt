@@ -8,7 +8,7 @@ use Rattle.cost_table.specs.declared.costs.Costs.{Costs}
 use Rattle.spellings.specs.declared.requirements.Requirements.{Requirements}
 use Rattle.paren_planner.specs.declared.steps.NodeStep.{NodeStep}
 use Rattle.paren_planner.specs.declared.steps.Step.{Step}
-use Rattle.paren_planner.specs.declared.steps.Step.TheVariants.{Atom, Leaf, Enter, Leave}
+use Rattle.paren_planner.specs.declared.steps.Step.TheVariants.{Free, Leaf, Enter, Leave}
 use Rattle.cost_table.specs.declared.table.Row.{Row}
 use Rattle.paren_planner.specs.declared.wrap_pass.WrapContext.{WrapContext}
 use Rattle.cost_table.specs.Costs.{capped_sum, is_free}
@@ -29,17 +29,17 @@ pub record Marks : Type 0 where
   pub outer : List Round
   pub flags : List Bool
 
-abbrev pub fits_label : Role → Option Requirements → Bool
-fits_label a None = false
-fits_label a (Some x) = fits_outline a (outline_of x)
+abbrev pub meets : Role → Option Requirements → Bool
+meets a None = false
+meets a (Some x) = fits_outline a (outline_of x)
 
 -- a node of these costs wants a pair round it
 abbrev pub wants : Role → Option Requirements → Costs → Bool
-wants a l c = exceeds (cond (fits_label a l) (cost_of c a) None) (capped_sum (Some 1) c.has_in.any)
+wants a l c = exceeds (cond (meets a l) (cost_of c a) None) (capped_sum (Some 1) c.has_in.any)
 
 -- what stands around the parts of a node: where it costs nothing none of them is wrapped
 abbrev pub around_parts : Role → Option Requirements → Costs → Round
-around_parts a l c = record { own = a; may_wrap = fits_label a l && not (is_free (cost_of c a)) }
+around_parts a l c = record { own = a; may_wrap = meets a l && not (is_free (cost_of c a)) }
 
 abbrev pub flag_at : Option Row → Role → Option Requirements → Bool
 flag_at None a l = false
@@ -50,21 +50,21 @@ round_at None a l = record { own = a; may_wrap = false }
 round_at (Some r) a l = around_parts (inside (wants a l r.costs) a) l r.costs
 
 abbrev pub plain_round : Role → Option Requirements → Round
-plain_round a l = record { own = a; may_wrap = fits_label a l }
+plain_round a l = record { own = a; may_wrap = meets a l }
 
 -- the flag of a node, where it has a row
 abbrev pub flag_of : List Row → NodeStep → Round → List Bool → List Bool
-flag_of T v x bs = cond (has_row_at (slot_of v.slot)) (cond x.may_wrap (flag_at (slice_get T (length bs)) (stands_at x.own v) v.label) false ∷ []) []
+flag_of T v x bs = cond (has_row_at (slot_of v.slot)) (cond x.may_wrap (flag_at (slice_get T (length bs)) (stands_at x.own v) v.requirements) false ∷ []) []
 
 abbrev pub round_of : List Row → NodeStep → Round → List Bool → Round
-round_of T v x bs = cond x.may_wrap (cond (has_row_at (slot_of v.slot)) (round_at (slice_get T (length bs)) (stands_at x.own v) v.label) (plain_round (stands_at x.own v) v.label)) x
+round_of T v x bs = cond x.may_wrap (cond (has_row_at (slot_of v.slot)) (round_at (slice_get T (length bs)) (stands_at x.own v) v.requirements) (plain_round (stands_at x.own v) v.requirements)) x
 
 abbrev pub innermost_round : List Round → Round → Round
 innermost_round [] x = x
 innermost_round (y ∷ ys) x = y
 
 abbrev pub marked : List Row → Step → Marks → Marks
-marked T (Atom k) t = record { here = t.here; outer = t.outer; flags = t.flags ++ false ∷ [] }
+marked T (Free k z) t = record { here = t.here; outer = t.outer; flags = t.flags ++ false ∷ [] }
 marked T (Leaf v) t = record { here = t.here; outer = t.outer; flags = t.flags ++ flag_of T v t.here t.flags }
 marked T (Enter v) t = record { here = round_of T v t.here t.flags; outer = t.here ∷ t.outer; flags = t.flags ++ flag_of T v t.here t.flags }
 marked T Leave t = record { here = innermost_round t.outer t.here; outer = others t.outer; flags = t.flags }

@@ -8,15 +8,14 @@ use Rattle.spellings.specs.declared.outline.FixedSlots.TheVariants as front
 use Rattle.spellings.specs.declared.outline.ListSlots as tails
 use Rattle.spellings.specs.declared.outline.ListSlots.TheVariants as tail
 use Rattle.spellings.specs.declared.outline.Outline.{Outline}
-use Rattle.language.specs.declared.Rank.TheVariants.{Primary}
-use Rattle.spellings.specs.Outlines.{role_of, slot_of, leaf}
+use Rattle.spellings.specs.Outlines.{role_of, slot_of}
 use Rattle.spellings.specs.Remaining.{left}
 use Rattle.spellings.specs.Wherever.{NodeSpelling, IsSpelledWherever}
 use Rattle.paren_planner.specs.declared.steps.NodeStep.{NodeStep}
 use Rattle.paren_planner.specs.declared.steps.Step.{Step}
-use Rattle.paren_planner.specs.declared.steps.Step.TheVariants.{Atom, Leaf, Enter, Leave}
+use Rattle.paren_planner.specs.declared.steps.Step.TheVariants.{Free, Leaf, Enter, Leave}
 use Rattle.cost_table.specs.Weighed.{settled_at, slot_free, is_plain_outline}
-use Rattle.spellings.specs.Cursors.{requirements_of as asks_of}
+use Rattle.spellings.specs.Cursors.{requirements_of}
 use Rattle.paren_planner.specs.Steps.{nowhere, has_row_at}
 
 -- it is a visit to this node, at a slot of a node at a position
@@ -63,14 +62,24 @@ fixed_tail t = false
 abbrev pub fixed_outline : Outline → Bool
 fixed_outline x = fixed_front x.front && fixed_tail x.tail
 
+-- each of these steps is a node that costs nothing
+abbrev pub is_free_step : Step → Bool
+is_free_step (Free k z) = true
+is_free_step x = false
+
+abbrev pub are_free : List Step → Bool
+are_free [] = true
+are_free (x ∷ xs) = is_free_step x && are_free xs
+
 mutual
   -- the steps of a node at a slot of a node at its widest position: none of its own where it costs nothing and has no row, or where it hands on what its parts cost
   pub data Steps : Role → Slot → Tree → List Step → Type 0 where
-    unspelled : {a : Role} {s : Slot} {n : Tree} {xs : List Step} (v : NodeStep) → IsVisit a s n v → v.label ≡ None → IsSpelledWherever (widest (settled_at a s)) n None → xs ≡ Leaf v ∷ [] → Steps a s n xs
-    alone : {a : Role} {s : Slot} {n : Tree} {xs : List Step} (v : NodeStep) (x : NodeSpelling) → IsVisit a s n v → v.label ≡ Some (asks_of x.outline) → IsSpelledWherever (widest (settled_at a s)) n (Some x) → parts_of n ≡ none → xs ≡ Leaf v ∷ [] → Steps a s n xs
-    around : {a : Role} {s : Slot} {n : Tree} {xs : List Step} (v : NodeStep) (x : NodeSpelling) (ys : List Step) → IsVisit a s n v → v.label ≡ Some (asks_of x.outline) → IsSpelledWherever (widest (settled_at a s)) n (Some x) →
+    unspelled : {a : Role} {s : Slot} {n : Tree} {xs : List Step} (v : NodeStep) → IsVisit a s n v → v.requirements ≡ None → IsSpelledWherever (widest (settled_at a s)) n None → xs ≡ Leaf v ∷ [] → Steps a s n xs
+    alone : {a : Role} {s : Slot} {n : Tree} {xs : List Step} (v : NodeStep) (x : NodeSpelling) → IsVisit a s n v → v.requirements ≡ Some (requirements_of x.outline) → IsSpelledWherever (widest (settled_at a s)) n (Some x) → parts_of n ≡ none → xs ≡ Leaf v ∷ [] → Steps a s n xs
+    around : {a : Role} {s : Slot} {n : Tree} {xs : List Step} (v : NodeStep) (x : NodeSpelling) (ys : List Step) → IsVisit a s n v → v.requirements ≡ Some (requirements_of x.outline) → IsSpelledWherever (widest (settled_at a s)) n (Some x) →
         PartsSteps (widest (settled_at a s)) (left x.slots) (parts_of n) ys → xs ≡ Enter v ∷ (ys ++ Leave ∷ []) → Steps a s n xs
-    word : {a : Role} {s : Slot} {n : Tree} {xs : List Step} (x : NodeSpelling) → IsSpelledWherever (widest (settled_at a s)) n (Some x) → x.outline ≡ leaf Primary → parts_of n ≡ none → has_row_at s ≡ true → slot_free s Primary ≡ true → xs ≡ Atom (kind_of n) ∷ [] → Steps a s n xs
+    costless : {a : Role} {s : Slot} {n : Tree} {xs : List Step} (x : NodeSpelling) (ys : List Step) → IsSpelledWherever (widest (settled_at a s)) n (Some x) → is_plain_outline x.outline ≡ true → has_row_at s ≡ true → slot_free s x.outline.rank ≡ true →
+        PartsSteps (widest (settled_at a s)) (left x.slots) (parts_of n) ys → are_free ys ≡ true → xs ≡ Free (kind_of n) x.outline.rank ∷ ys → Steps a s n xs
     hidden : {a : Role} {s : Slot} {n : Tree} {xs : List Step} (x : NodeSpelling) → IsSpelledWherever (widest (settled_at a s)) n (Some x) → is_plain_outline x.outline ≡ true → parts_of n ≡ none → has_row_at s ≡ false → xs ≡ [] → Steps a s n xs
     through : {a : Role} {s : Slot} {n : Tree} {xs : List Step} (x : NodeSpelling) → IsSpelledWherever (widest (settled_at a s)) n (Some x) → is_settled_slot s ≡ true → are_fixed (left x.slots) ≡ true →
         PartsSteps (widest (settled_at a s)) (left x.slots) (parts_of n) xs → Steps a s n xs
@@ -82,13 +91,15 @@ mutual
     unplaced : {a : Role} {n : Tree} {ps : Parts} → PartsSteps a [] (part n ps) (Leaf (nowhere (kind_of n)) ∷ [])
     next : {a : Role} {s : Slot} {ss : List Slot} {n : Tree} {ps : Parts} {zs : List Step} (xs ys : List Step) → Steps a s n xs → PartsSteps a ss ps ys → zs ≡ xs ++ ys → PartsSteps a (s ∷ ss) (part n ps) zs
 
--- what was noted behind earlier steps
-pub record Noted (a : Role) (s : Slot) (n : Tree) (old new : List Step) : Type 0 where
+-- what was noted behind earlier steps, and that each of these steps is such a node, where this is known
+pub record Noted (a : Role) (s : Slot) (n : Tree) (known : Bool) (old new : List Step) : Type 0 where
   pub steps : List Step
   pub added : new ≡ old ++ steps
   pub are : Steps a s n steps
+  pub free : known ≡ true → are_free steps ≡ true
 
-pub record PartsNoted (a : Role) (ss : List Slot) (ps : Parts) (old new : List Step) : Type 0 where
+pub record PartsNoted (a : Role) (ss : List Slot) (ps : Parts) (known : Bool) (old new : List Step) : Type 0 where
   pub steps : List Step
   pub added : new ≡ old ++ steps
   pub are : PartsSteps a ss ps steps
+  pub free : known ≡ true → are_free steps ≡ true

@@ -6,7 +6,7 @@ use Rattle.language.specs.RowPositions.{widest}
 use Rattle.spellings.specs.declared.position.Position.TheVariants as at
 use Rattle.spellings.specs.declared.position.Slot.TheVariants.{Fixed}
 use Rattle.spellings.specs.declared.outline.Outline.{Outline}
-use Rattle.language.specs.declared.Rank.TheVariants.{Primary}
+use Rattle.language.specs.declared.Rank.{Rank}
 use Rattle.spellings.specs.declared.outline.FixedSlots.TheVariants.{Zero}
 use Rattle.spellings.specs.declared.outline.ListSlots.TheVariants.{Nothing}
 use Rattle.spellings.specs.Outlines.{role_of, slot_of}
@@ -14,7 +14,7 @@ use Rattle.cost_table.specs.declared.costs.Costs as own
 use Rattle.spellings.specs.declared.requirements.Requirements.{Requirements}
 use Rattle.paren_planner.specs.declared.steps.NodeStep.{NodeStep}
 use Rattle.paren_planner.specs.declared.steps.Step.{Step}
-use Rattle.paren_planner.specs.declared.steps.Step.TheVariants.{Atom, Leaf, Enter, Leave}
+use Rattle.paren_planner.specs.declared.steps.Step.TheVariants.{Free, Leaf, Enter, Leave}
 use Rattle.cost_table.specs.declared.table.Row.{Row}
 use Rattle.cost_table.specs.declared.node_costs.NodeCosts.{NodeCosts}
 use Rattle.cost_table.specs.Costs.{same_everywhere, sums, no_pairs}
@@ -43,7 +43,7 @@ has_row_at s = true
 
 -- a node that can't be spelled, in a place of a part that has none
 abbrev pub nowhere : Kind → NodeStep
-nowhere k = record { kind = k; above = at.Script; slot = Fixed at.Script; label = None }
+nowhere k = record { kind = k; above = at.Script; slot = Fixed at.Script; requirements = None }
 
 -- Backwards: the sums
 
@@ -53,7 +53,7 @@ weighed_as a (Some x) c = record { outline = Some (outline_of x); costs = fittin
 
 -- what a node costs, of the sums over its parts
 abbrev pub weighed_of : NodeStep → own.Costs → NodeCosts
-weighed_of v c = weighed_as (place_of v) v.label c
+weighed_of v c = weighed_as (place_of v) v.requirements c
 
 -- the sums over the parts behind a step, of the innermost open node and of those round it, and the rows behind the step
 pub record Sums : Type 0 where
@@ -85,12 +85,12 @@ joined v c t = record {
   rows = row_of_visit v c ++ t.rows;
 }
 
--- the row of a name or a literal: zeros wherever it may stand
-abbrev pub word_row : Kind → Row
-word_row k = row_with k (shaped (free_shape Primary) 0)
+-- the row of a node at a symbol that costs nothing: zeros wherever it may stand
+abbrev pub free_row : Kind → Rank → Row
+free_row k z = row_with k (shaped (free_shape z) 0)
 
 abbrev pub taken : Step → Sums → Sums
-taken (Atom k) t = record { here = t.here; outer = t.outer; rows = word_row k ∷ t.rows }
+taken (Free k z) t = record { here = t.here; outer = t.outer; rows = free_row k z ∷ t.rows }
 taken (Leaf v) t = joined v no_pairs t
 taken (Enter v) t = joined v t.here (record { here = innermost t.outer; outer = others t.outer; rows = t.rows })
 taken Leave t = record { here = no_pairs; outer = t.here ∷ t.outer; rows = t.rows }

@@ -40,7 +40,7 @@ fn take_back(step: &Step, pending: &mut OpenSums, table: &mut CostTable) -> Resu
     ensures { OnOk result (shown_sums pending.new table.new.rows.items ≡ taken step.now (shown_sums pending.old table.old.rows.items)) }
 {
     match step {
-        Step::Atom(kind) => table.push_free(*kind, Rank::Primary),
+        Step::Free(kind, rank) => table.push_free(*kind, *rank),
         Step::Leaf(visit) => add_leaf(visit, pending, table),
         Step::Enter(visit) => add_parent(visit, pending, table),
         Step::Leave => pending.enter(),
@@ -101,13 +101,13 @@ fn free_rank(visit: &NodeStep) -> Option<Rank>
     ensures used { IfSome result (λ z. used visit.now no_pairs ≡ no_pairs) }
     ensures row { IfSome result (λ z. row_of_visit visit.now no_pairs ≡ cond (has_row_at (slot_of visit.now.slot)) (row_with visit.now.kind (shaped (free_shape z) 0) ∷ []) []) }
 {
-    let Some(label) = visit.label else {
+    let Some(requirements) = visit.requirements else {
         return None;
     };
-    if !asks_no_more(label) || !stands_freely(label, visit.slot) {
+    if !asks_no_more(requirements) || !stands_freely(requirements, visit.slot) {
         return None;
     }
-    Some(label.rank)
+    Some(requirements.rank)
 }
 
 /// The row of a node that costs nothing wherever it may stand, where it has one.
@@ -133,13 +133,13 @@ fn note_row(visit: &NodeStep, costs: &Costs, table: &mut CostTable) -> Result<()
 fn weigh(visit: &NodeStep, inner: Costs) -> NodeCosts
     ensures { result ≡ weighed_of visit.now inner }
 {
-    let Some(label) = visit.label else {
+    let Some(requirements) = visit.requirements else {
         return NodeCosts {
             outline: None,
             costs: Costs::same(None),
         };
     };
-    let outline = bare_outline(label);
+    let outline = bare_outline(requirements);
     NodeCosts {
         outline: Some(outline),
         costs: fitting(visit.position(), outline, inner),

@@ -1,6 +1,6 @@
 //! The walk over a script that notes its steps: where each node stands, and how it is spelled.
 
-ghost use Rattle.std.specs.Prelude.{◌≡◌, true, OnOk};
+ghost use Rattle.std.specs.Prelude.{◌≡◌, true, IfOk};
 ghost use Rattle.tree.specs.Node.{node_tree};
 ghost use Rattle.tree.specs.Tree.{kind_of, parts_of};
 ghost use Rattle.language.specs.Expressions.{has_optional, first_has_optional};
@@ -17,7 +17,7 @@ ghost use Rattle.paren_planner.specs.Steps.{nowhere};
 ghost use Rattle.cost_table.specs.Weighed.{settled_at, slot_free};
 
 use crate::steps::{NodeStep, Step, has_row};
-use cost_table::widest;
+use cost_table::{WHOLE, widest};
 use grammar::accepts_rank;
 use language::{Rank, Start};
 use segmented_vec::SegmentedVec;
@@ -27,8 +27,8 @@ use spellings::{
 use std::alloc::AllocError;
 use tree::{Kind, Node};
 
-/// Notes the steps of a node at a slot of the node above. `in_chain`: the node is known to be part of a chain, with a `?.` in it or
-/// below it.
+/// Notes the steps of a node at a slot of the node above; says whether each is a node that costs nothing. `in_chain`: the node is known to be
+/// part of a chain, with a `?.` in it or below it.
 #[cycle(visiting)]
 #[inline(always)]
 pub(crate) fn visit_node(
@@ -37,9 +37,9 @@ pub(crate) fn visit_node(
     slot: &Slot,
     in_chain: bool,
     steps: &mut SegmentedVec<Step>,
-) -> Result<(), AllocError>
+) -> Result<bool, AllocError>
     requires { in_chain ≡ true → has_optional (node_tree node) ≡ true }
-    ensures { OnOk result (Noted (role_of above.now) (slot_of slot.now) (node_tree node.entry) steps.old steps.new) }
+    ensures { IfOk result (λ free. Noted (role_of above.now) (slot_of slot.now) (node_tree node.entry) free steps.old steps.new) }
 {
     if may_be_leaf(node.kind()) {
         return visit_atom(node, above, slot, in_chain, steps);
@@ -56,21 +56,21 @@ fn visit_atom(
     slot: &Slot,
     in_chain: bool,
     steps: &mut SegmentedVec<Step>,
-) -> Result<(), AllocError>
+) -> Result<bool, AllocError>
     requires { in_chain ≡ true → has_optional (node_tree node) ≡ true }
-    ensures { OnOk result (Noted (role_of above.now) (slot_of slot.now) (node_tree node.entry) steps.old steps.new) }
+    ensures { IfOk result (λ free. Noted (role_of above.now) (slot_of slot.now) (node_tree node.entry) free steps.old steps.new) }
 {
     if !is_leaf(node, widest_of(slot)) {
         return visit_at(node, above, slot, in_chain, steps);
     }
     if !has_row(slot) {
-        return Ok(());
+        return Ok(true);
     }
     if !takes_atom(slot) {
         return visit_at(node, above, slot, in_chain, steps);
     }
-    steps.push(Step::Atom(node.kind()))?;
-    Ok(())
+    steps.push(Step::Free(node.kind(), Rank::Primary))?;
+    Ok(true)
 }
 
 /// The same of any node.
@@ -82,9 +82,9 @@ fn visit_at(
     slot: &Slot,
     in_chain: bool,
     steps: &mut SegmentedVec<Step>,
-) -> Result<(), AllocError>
+) -> Result<bool, AllocError>
     requires { in_chain ≡ true → has_optional (node_tree node) ≡ true }
-    ensures { OnOk result (Noted (role_of above.now) (slot_of slot.now) (node_tree node.entry) steps.old steps.new) }
+    ensures { IfOk result (λ free. Noted (role_of above.now) (slot_of slot.now) (node_tree node.entry) free steps.old steps.new) }
 {
     let own = widest_of(slot);
     let kind = node.kind();
@@ -93,27 +93,33 @@ fn visit_at(
             kind,
             above: *above,
             slot: *slot,
-            label: None,
+            requirements: None,
         }))?;
-        return Ok(());
+        return Ok(false);
     };
     if is_settled(slot) && has_fixed_slots(&production) {
         return visit_parts(node, &own, &production, steps);
     }
+    let requirements = production.requirements();
     let visit = NodeStep {
         kind,
         above: *above,
         slot: *slot,
-        label: Some(production.requirements()),
+        requirements: Some(requirements),
     };
     if node.part_count() == 0 {
         steps.push(Step::Leaf(visit))?;
-        return Ok(());
+        return Ok(false);
     }
+    let index = steps.len();
     steps.push(Step::Enter(visit))?;
-    visit_parts(node, &own, &production, steps)?;
+    let are_free = visit_parts(node, &own, &production, steps)?;
+    if are_free && visit.is_free(requirements) {
+        steps.set(index, Step::Free(kind, requirements.rank));
+        return Ok(true);
+    }
     steps.push(Step::Leave)?;
-    Ok(())
+    Ok(false)
 }
 
 /// The same of the parts of a node at its widest position, by its production. Behind a part that has no position none is noted.
@@ -124,25 +130,27 @@ fn visit_parts(
     own: &Position,
     production: &Production,
     steps: &mut SegmentedVec<Step>,
-) -> Result<(), AllocError>
+) -> Result<bool, AllocError>
     requires { (spelled_by node own.now production.now).holds_chain ≡ true → first_has_optional (parts_of (node_tree node)) ≡ true }
-    ensures { OnOk result (PartsNoted (role_of own.now) (left (spelled_by node.entry own.now production.now).slots) (parts_of (node_tree node.entry)) steps.old steps.new) }
+    ensures { IfOk result (λ free. PartsNoted (role_of own.now) (left (spelled_by node.entry own.now production.now).slots) (parts_of (node_tree node.entry)) free steps.old steps.new) }
 {
     let is_chain = holds_chain(*own, node.kind(), *production);
     let parts = node.parts();
     let mut slots = SlotCursor::new(*production);
+    let mut are_free = true;
     for index in 0..parts.len() {
         let Some(part) = parts.get(index) else {
             continue;
         };
         let Some(slot) = slots.take(parts, part, index) else {
             steps.push(unplaced_step(part))?;
-            return Ok(());
+            return Ok(false);
         };
         let in_chain = leads_chain(is_chain, index);
-        visit_node(part, own, &slot, in_chain, steps)?;
+        let is_free = visit_node(part, own, &slot, in_chain, steps)?;
+        are_free &= is_free;
     }
-    Ok(())
+    Ok(are_free)
 }
 
 /// Whether a name or a literal may stand at a slot, wherever the node above stands.
@@ -226,13 +234,6 @@ fn widest_of(slot: &Slot) -> Position
     }
 }
 
-/// The widest position of an expression.
-const WHOLE: Position = Position::Expression {
-    rank: Rank::Expression,
-    has_in: true,
-    start: Start::Any,
-};
-
 /// A part that has no position: a node that can't be spelled where it stands.
 fn unplaced_step(part: Node) -> Step
     ensures { result ≡ Leaf (nowhere (kind_of (node_tree part.entry))) }
@@ -241,6 +242,6 @@ fn unplaced_step(part: Node) -> Step
         kind: part.kind(),
         above: Position::Script,
         slot: Slot::Fixed(Position::Script),
-        label: None,
+        requirements: None,
     })
 }

@@ -1,6 +1,6 @@
 //! The steps of a walk over a script: its nodes in source order, a node before its parts, and what the planner has to know of each.
 
-ghost use Rattle.std.specs.Prelude.{◌≡◌};
+ghost use Rattle.std.specs.Prelude.{◌≡◌, true};
 ghost use Rattle.spellings.specs.Outlines.{role_of, slot_of};
 ghost use Rattle.paren_planner.specs.Steps.{outline_of, place_of, has_row_at};
 ghost use Rattle.cost_table.specs.Weighed.{is_plain_outline, role_free, slot_free};
@@ -61,7 +61,7 @@ pub(crate) struct NodeStep {
     /// Where it stands in the spelling of that node.
     pub slot: Slot,
     /// What its spelling requires of its position; none where it can't be spelled there.
-    pub label: Option<Requirements>,
+    pub requirements: Option<Requirements>,
 }
 
 impl NodeStep {
@@ -70,6 +70,15 @@ impl NodeStep {
         ensures { role_of result ≡ place_of self }
     {
         widest(resolve_slot(self.above, self.slot))
+    }
+
+    /// Whether the node has a row, and is seen at once to cost nothing in the node above where its parts cost nothing, wherever that stands.
+    pub(crate) fn is_free(self, requirements: Requirements) -> bool
+        ensures row { result ≡ true → has_row_at (slot_of self.slot) ≡ true }
+        ensures plain { result ≡ true → is_plain_outline (outline_of requirements) ≡ true }
+        ensures slot { result ≡ true → slot_free (slot_of self.slot) requirements.rank ≡ true }
+    {
+        self.has_row() && asks_no_more(requirements) && stands_freely(requirements, self.slot)
     }
 
     /// Whether the node has a row: it stands at an expression's position.
@@ -94,8 +103,9 @@ pub(crate) fn has_row(slot: &Slot) -> bool
 /// A step: a node without parts at positions, a node before its parts, or back to the node above.
 #[derive(Clone, Copy)]
 pub(crate) enum Step {
-    /// A name or a literal that has a row.
-    Atom(Kind),
+    /// A node at this symbol with a row, which costs nothing wherever it may stand. The steps of its parts, where it has any, are such too,
+    /// and none goes back to it.
+    Free(Kind, Rank),
     Leaf(NodeStep),
     Enter(NodeStep),
     Leave,

@@ -4,11 +4,10 @@ ghost use Rattle.std.specs.Prelude.{◌≡◌, ◌++◌, [], ◌∷◌, true, fa
 ghost use Rattle.language.specs.Layout.{inside as inside_role};
 ghost use Rattle.spellings.specs.Outlines.{role_of, slot_of};
 ghost use Rattle.paren_planner.specs.Steps.{has_row_at, stands_at};
-ghost use Rattle.paren_planner.specs.Marked.{round, shown_marks, marked, marked_through, at_the_start, flag_at, flag_of, round_at, round_of, plain_round, fits_label as label_fits};
+ghost use Rattle.paren_planner.specs.Marked.{round, shown_marks, marked, marked_through, at_the_start, flag_at, flag_of, round_at, round_of, plain_round, meets as meets_at};
 
 use crate::steps::{NodeStep, Step, bare_outline};
-use cost_table::{CostTable, exceeds, is_zero, sum};
-use language::{Rank, Start};
+use cost_table::{CostTable, WHOLE, exceeds, is_zero, sum};
 use segmented_vec::SegmentedVec;
 use spellings::{Position, Requirements, fits, resolve_slot};
 use std::alloc::{AllocError, Global};
@@ -55,7 +54,7 @@ fn take_step(
         return pass_step(step, around, outer, wrapped);
     }
     match step {
-        Step::Atom(_) => pass_row(wrapped),
+        Step::Free(_, _) => pass_row(wrapped),
         Step::Leaf(visit) => wrap_leaf(visit, table, around.own, wrapped),
         Step::Enter(visit) => {
             outer.push(*around)?;
@@ -79,7 +78,7 @@ fn pass_step(
     ensures { (table : _) → OnOk result (shown_marks around.new outer.new.items wrapped.new.items ≡ marked table step.now (shown_marks around.old outer.old.items wrapped.old.items)) }
 {
     match step {
-        Step::Atom(_) => pass_row(wrapped),
+        Step::Free(_, _) => pass_row(wrapped),
         Step::Leaf(visit) => pass_node(visit, wrapped),
         Step::Enter(visit) => {
             outer.push(*around)?;
@@ -117,13 +116,13 @@ fn wrap_leaf(
     own: Position,
     wrapped: &mut Vec<bool>,
 ) -> Result<(), AllocError>
-    ensures { OnOk result (wrapped.new.items ≡ wrapped.old.items ++ cond (has_row_at (slot_of visit.now.slot)) (flag_at (slice_get table.now.rows.items (length wrapped.old.items)) (stands_at (role_of own) visit.now) visit.now.label ∷ []) []) }
+    ensures { OnOk result (wrapped.new.items ≡ wrapped.old.items ++ cond (has_row_at (slot_of visit.now.slot)) (flag_at (slice_get table.now.rows.items (length wrapped.old.items)) (stands_at (role_of own) visit.now) visit.now.requirements ∷ []) []) }
 {
     if !visit.has_row() {
         return Ok(());
     }
     let position = resolve_slot(own, visit.slot);
-    let wants = wants_pair(visit.label, position, table, wrapped.len());
+    let wants = wants_pair(visit.requirements, position, table, wrapped.len());
     wrapped.push(wants)?;
     Ok(())
 }
@@ -141,22 +140,22 @@ fn wrap_parent(
 {
     let position = resolve_slot(around.own, visit.slot);
     if !visit.has_row() {
-        *around = plain(position, visit.label);
+        *around = plain(position, visit.requirements);
         return Ok(());
     }
     let row = wrapped.len();
-    let wants = wants_pair(visit.label, position, table, row);
+    let wants = wants_pair(visit.requirements, position, table, row);
     wrapped.push(wants)?;
-    *around = within(wants, position, visit.label, table, row);
+    *around = within(wants, position, visit.requirements, table, row);
     Ok(())
 }
 
-fn plain(position: Position, label: Option<Requirements>) -> WrapContext
-    ensures { round result ≡ plain_round (role_of position) label }
+fn plain(position: Position, requirements: Option<Requirements>) -> WrapContext
+    ensures { round result ≡ plain_round (role_of position) requirements }
 {
     WrapContext {
         own: position,
-        may_wrap: fits_label(label, position),
+        may_wrap: meets(requirements, position),
     }
 }
 
@@ -164,27 +163,28 @@ fn plain(position: Position, label: Option<Requirements>) -> WrapContext
 fn within(
     wants: bool,
     position: Position,
-    label: Option<Requirements>,
+    requirements: Option<Requirements>,
     table: &CostTable,
     row: usize,
 ) -> WrapContext
-    requires { wants ≡ flag_at (slice_get table.now.rows.items row) (role_of position) label }
-    ensures { round result ≡ round_at (slice_get table.now.rows.items row) (role_of position) label }
+    requires { wants ≡ flag_at (slice_get table.now.rows.items row) (role_of position) requirements }
+    ensures { round result ≡ round_at (slice_get table.now.rows.items row) (role_of position) requirements }
 {
     let own = inside(wants, position);
     WrapContext {
         own,
         may_wrap: row < table.row_count()
-            && fits_label(label, own)
+            && meets(requirements, own)
             && !is_zero(table.cost_at(row, own)),
     }
 }
 
-fn fits_label(label: Option<Requirements>, position: Position) -> bool
-    ensures { result ≡ label_fits (role_of position) label }
+/// Whether a position meets what a spelling requires, if there is one.
+fn meets(requirements: Option<Requirements>, position: Position) -> bool
+    ensures { result ≡ meets_at (role_of position) requirements }
 {
-    match label {
-        Some(label) => fits(position, bare_outline(label)),
+    match requirements {
+        Some(requirements) => fits(position, bare_outline(requirements)),
         None => false,
     }
 }
@@ -199,26 +199,19 @@ fn inside(wrapped: bool, position: Position) -> Position
     position
 }
 
-/// Where an expression in a pair stands.
-const WHOLE: Position = Position::Expression {
-    rank: Rank::Expression,
-    has_in: true,
-    start: Start::Any,
-};
-
 /// Whether the node of a row wants a pair round it at a position, by the row's index: where it costs more without one.
 fn wants_pair(
-    label: Option<Requirements>,
+    requirements: Option<Requirements>,
     position: Position,
     table: &CostTable,
     row: usize,
 ) -> bool
-    ensures { result ≡ flag_at (slice_get table.now.rows.items row) (role_of position) label }
+    ensures { result ≡ flag_at (slice_get table.now.rows.items row) (role_of position) requirements }
 {
     if row >= table.row_count() {
         return false;
     }
-    let direct = if fits_label(label, position) {
+    let direct = if meets(requirements, position) {
         table.cost_at(row, position)
     } else {
         None

@@ -1,6 +1,6 @@
 -- Items in chunks: where the item with an index is, and one more item.
 use Rattle.std.proofs.Common.{◌≡◌, ℕ, zero, suc, ◌+◌, ◌-◌, ◌*◌, ◌/◌, ◌<◌, ◌≤◌, List, [], ◌∷◌, ◌++◌, length, get_or, set, sym, ap, ◌∙◌, arith, append_assoc, length-append, append-nil, length-set, subst}
-use Rattle.std.proofs.lemmas.List.{get_or_append_left, get_or-append_right}
+use Rattle.std.proofs.lemmas.List.{get_or_append_left, get_or-append_right, set-append_left, set-append_right}
 use Rattle.std.specs.Vec.{vec_capacity}
 use Rattle.segmented_vec.specs.declared.segmented_vec.Segment.{Segment}
 use Rattle.segmented_vec.specs.SegmentedVec.{joined, AllButTheLastAreFull, HaveRoom, HasBegun, most_items}
@@ -39,6 +39,29 @@ module _ {T : Type 0} where
       let long : length x.items.items ≡ 1024 = omega (arith, full, a.0) in
       item_at (y ∷ ps) q r (i - 1024) p e a.1.1 l (omega (arith, s)) (omega (arith, h, s, long, length-append x.items.items (joined (y ∷ ps)))) b n
       ∙ sym (get_or-append_right x.items.items (joined (y ∷ ps)) 1024 i e long (omega (arith, s)))
+
+  -- another item in its place
+  pub replaced : (ps : List (Segment T)) (q r i : ℕ) (p s : Segment T) (e : T) → AllButTheLastAreFull ps → r < 1024 → i ≡ q * 1024 + r → i < length (joined ps)
+      → p ≡ get_or ps q p → s.items.items ≡ set p.items.items r e → AllButTheLastAreFull (set ps q s) × (joined (set ps q s) ≡ set (joined ps) i e)
+  replaced [] q r i p s e a l k h b n = absurd (omega (arith, h))
+  replaced (x ∷ ps) zero r i p s e a l k h b n =
+      let same : r ≡ i = omega (arith, k) in
+      let there : r < length p.items.items = item_there (x ∷ ps) zero r p a l (omega (arith, h, k)) b in
+      let long : length p.items.items ≡ length x.items.items = ap (λ (y : Segment T). length y.items.items) b in
+      let inside : i < length x.items.items = omega (arith, there, same, long) in
+      let size : length s.items.items ≡ length x.items.items = ap length n ∙ length-set p.items.items r e ∙ long in (
+        (omega (arith, a.0, size), ((λ (z : 0 < length ps). omega (arith, a.1.0 z, size)), a.1.1)),
+        ap (λ (es : List T). es ++ joined ps) (n ∙ ap (λ (y : Segment T). set y.items.items r e) b ∙ ap (λ j. set x.items.items j e) same)
+            ∙ sym (set-append_left x.items.items (joined ps) i e inside),
+      )
+  replaced (x ∷ []) (suc q) r i p s e a l k h b n = absurd (omega (arith, k, h, a.0, length-append x.items.items []))
+  replaced (x ∷ (y ∷ ps)) (suc q) r i p s e a l k h b n =
+      let full : 1024 ≤ length x.items.items = a.1.0 (omega arith) in
+      let long : length x.items.items ≡ 1024 = omega (arith, full, a.0) in
+      let rest = replaced (y ∷ ps) q r (i - 1024) p s e a.1.1 l (omega (arith, k)) (omega (arith, h, k, long, length-append x.items.items (joined (y ∷ ps)))) b n in (
+        (a.0, ((λ (z : 0 < length (set (y ∷ ps) q s)). full), rest.0)),
+        ap (λ (es : List T). x.items.items ++ es) rest.1 ∙ sym (set-append_right x.items.items (joined (y ∷ ps)) 1024 i e long (omega (arith, k))),
+      )
 
   -- the last one has room
   pub last_size : (ps : List (Segment T)) (k : ℕ) (p : Segment T) → AllButTheLastAreFull ps → k * 1024 ≤ length (joined ps) → length (joined ps) < k * 1024 + 1024 → k < length ps → p ≡ get_or ps k p → length p.items.items < 1024

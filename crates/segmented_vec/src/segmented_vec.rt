@@ -38,7 +38,7 @@ impl<T> Model for SegmentedVec<T> {
 }
 
 impl<T: Drop> SegmentedVec<T> {
-    ghost use Rattle.std.specs.Prelude.{◌≡◌, ◌<◌, ◌∷◌, ◌++◌, [], length, slice_index_or, OnOk, OnErr};
+    ghost use Rattle.std.specs.Prelude.{◌≡◌, ◌<◌, ◌∷◌, ◌++◌, [], length, set, slice_index_or, OnOk, OnErr};
 
     /// No items; no memory.
     pub fn new(alloc: Global) -> SegmentedVec<T>
@@ -68,6 +68,16 @@ impl<T: Drop> SegmentedVec<T> {
     {
         let chunk = &self.chunks[index / SEGMENT_LENGTH];
         &chunk.items[index % SEGMENT_LENGTH]
+    }
+
+    /// Puts an item in the place of the one with an index, counted from 0.
+    #[inline(always)]
+    pub fn set(&mut self, index: usize, item: T)
+        requires { index < length self.old }
+        ensures { self.new ≡ set self.old index item }
+    {
+        let chunk = &mut self.chunks[index / SEGMENT_LENGTH];
+        chunk.items[index % SEGMENT_LENGTH] = item;
     }
 
     /// One more item behind the others; as it was where memory is refused.

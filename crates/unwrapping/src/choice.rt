@@ -8,7 +8,7 @@ ghost use Rattle.spellings.specs.Wherever.{spelled_by};
 ghost use Rattle.unwrapping.specs.Ties.{costs_more};
 
 use crate::changes::{Addition, Changes, Closing};
-use cost_table::{CostTable, widest};
+use cost_table::{CostTable, WHOLE, widest};
 use language::{Rank, Start};
 use spellings::{
     Position, Production, SlotCursor, admits, holds_chain, leads_chain, node_production,
@@ -169,13 +169,6 @@ fn inside(is_grouped: bool, position: Position) -> Position {
     }
     position
 }
-
-/// Where an expression in a pair stands.
-const WHOLE: Position = Position::Expression {
-    rank: Rank::Expression,
-    has_in: true,
-    start: Start::Any,
-};
 
 /// Chooses for a node alone.
 fn choose(

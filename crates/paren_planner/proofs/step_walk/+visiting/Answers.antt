@@ -1,4 +1,4 @@
-use Rattle.std.proofs.Common.{◌≡◌, ◌∙◌, ◌<◌, true, Some, None, [], ◌∷◌, ◌++◌, sym, ap, subst, refl, arith, rules}
+use Rattle.std.proofs.Common.{◌≡◌, ◌∙◌, ◌<◌, true, false, Some, None, [], ◌∷◌, ◌++◌, sym, ap, subst, refl, arith, rules}
 use Rattle.tree.specs.Node.{node_tree, list_parts}
 use Rattle.tree.specs.Tree.{parts_of, part_at, part_count, node_total}
 use Rattle.tree.proofs.PartWalk.{part_smaller, parts_drop-some, parts_drop-gap, parts_drop-past}
@@ -10,8 +10,12 @@ use Rattle.spellings.specs.Remaining.{left}
 use Rattle.spellings.specs.Wherever.{spelled_by, chain_above}
 use Rattle.spellings.specs.Cursors.{left_by}
 use Rattle.paren_planner.specs.Noted.{PartsNoted}
+use Rattle.paren_planner.specs.Steps as planned
+use Rattle.paren_planner.specs.declared.steps.Step.TheVariants.{Free}
+use Rattle.cost_table.specs.Weighed.{is_plain_outline, slot_free}
+use Rattle.std.specs.Prelude.{set}
 use Rattle.cost_table.proofs.NodeRowNumbers.{chained_at}
-use Rattle.paren_planner.proofs.WalkSteps.{Begun, begun_first, begun_skip, begun_stop, begun_finish, begun_next, noted_unspelled, noted_alone, noted_around, noted_word, noted_hidden, noted_through, outline_fixed}
+use Rattle.paren_planner.proofs.WalkSteps.{Begun, begun_first, begun_skip, begun_stop, begun_finish, begun_next, noted_unspelled, noted_alone, noted_around, place_within, noted_free, noted_word, noted_hidden, noted_through, outline_fixed}
 use Rattle.paren_planner.proofs.step_walk.+visiting.Goals as goal
 
 pub visit_parts-loop-index-init : goal.visit_parts-loop-index-init
@@ -19,26 +23,26 @@ visit_parts-loop-index-init t c =
     let ps = list_parts c.parts-parts.result in
     let x = left (spelled_by c.args.node c.args.own.now c.args.production.now).slots in
     let e : left_by c.new-slots.result ps ≡ x = (λ i. left_by (c.new-slots.ensures i) (c.parts-parts.ensures i)) in
-    subst (λ ss. Begun (role_of c.args.own.now) x ss ps ps c.args.steps.now c.args.steps.now) (sym e) (begun_first (role_of c.args.own.now) x ps c.args.steps.now)
+    subst (λ ss. Begun (role_of c.args.own.now) x ss ps ps true c.args.steps.now c.args.steps.now) (sym e) (begun_first (role_of c.args.own.now) x ps c.args.steps.now)
 
 pub visit_parts-loop-index-preserved-in_default : goal.visit_parts-loop-index-preserved-in_default
 visit_parts-loop-index-preserved-in_default t c =
     let ps = list_parts c.parts-parts.result in
     let here : c.loop-index.index < part_count ps = omega (arith, c.len-index-end.ensures, c.loop-index-test.true) in
-    begun_skip _ _ _ _ _ _ _ _ c.loop-index.invariant (parts_drop-gap ps c.loop-index.index c.in_default.ensures here)
+    begun_skip _ _ _ _ _ _ _ _ _ c.loop-index.invariant (parts_drop-gap ps c.loop-index.index c.in_default.ensures here)
 
 pub visit_parts-returns-in_default-take : goal.visit_parts-returns-in_default-take
 visit_parts-returns-in_default-take t c =
     let ps = list_parts c.parts-parts.result in
-    subst (λ qs. PartsNoted (role_of c.args.own.now) (left (spelled_by c.args.node c.args.own.now c.args.production.now).slots) qs c.args.steps.now c.push.new.self) c.parts-parts.ensures
-    (begun_stop _ _ (left_by c.loop-index.slots ps) _ _ _ (node_tree c.in-Some.part) _ _ _ c.loop-index.invariant
+    subst (λ qs. PartsNoted (role_of c.args.own.now) (left (spelled_by c.args.node c.args.own.now c.args.production.now).slots) qs false c.args.steps.now c.push.new.self) c.parts-parts.ensures
+    (begun_stop _ _ (left_by c.loop-index.slots ps) _ _ _ (node_tree c.in-Some.part) _ _ _ _ c.loop-index.invariant
     (parts_drop-some ps c.loop-index.index (node_tree c.in-Some.part) c.in-Some.ensures) c.in_default-take.ensures (c.in_ok-push.ensures.items ∙ ap (λ x. c.loop-index.steps ++ x ∷ []) c.unplaced_step.ensures))
 
 pub visit_parts-returns : goal.visit_parts-returns
 visit_parts-returns t c =
     let ps = list_parts c.parts-parts.result in
-    subst (λ qs. PartsNoted (role_of c.args.own.now) (left (spelled_by c.args.node c.args.own.now c.args.production.now).slots) qs c.args.steps.now c.loop-index.steps) c.parts-parts.ensures
-    (begun_finish _ _ _ _ _ _ _ c.loop-index.invariant (parts_drop-past ps c.loop-index.index (omega (arith, c.len-index-end.ensures, c.loop-index-test.false))))
+    subst (λ qs. PartsNoted (role_of c.args.own.now) (left (spelled_by c.args.node c.args.own.now c.args.production.now).slots) qs c.loop-index.are_free c.args.steps.now c.loop-index.steps) c.parts-parts.ensures
+    (begun_finish _ _ _ _ _ _ _ _ c.loop-index.invariant (parts_drop-past ps c.loop-index.index (omega (arith, c.len-index-end.ensures, c.loop-index-test.false))))
 
 pub visit_parts-visit_node-requires : goal.visit_parts-visit_node-requires
 visit_parts-visit_node-requires t c =
@@ -53,7 +57,7 @@ pub visit_parts-loop-index-preserved : goal.visit_parts-loop-index-preserved
 visit_parts-loop-index-preserved t c =
     let ps = list_parts c.parts-parts.result in
     let u = node_tree c.in-Some.part in
-    begun_next _ _ (left_by c.loop-index.slots ps) (left_by c.take.new.self ps) (slot_of c.in-Some-take.slot) _ _ _ u _ _ _ c.loop-index.invariant (parts_drop-some ps c.loop-index.index u c.in-Some.ensures) c.in-Some-take.ensures c.in_ok-visit_node.ensures
+    begun_next _ _ (left_by c.loop-index.slots ps) (left_by c.take.new.self ps) (slot_of c.in-Some-take.slot) _ _ _ u _ _ _ _ _ c.loop-index.invariant (parts_drop-some ps c.loop-index.index u c.in-Some.ensures) c.in-Some-take.ensures c.in_ok-is_free.ensures
 
 pub visit_atom-returns : goal.visit_atom-returns
 visit_atom-returns t c =
@@ -62,18 +66,34 @@ visit_atom-returns t c =
 
 pub visit_at-returns-in_default : goal.visit_at-returns-in_default
 visit_at-returns-in_default t c =
-    noted_unspelled (role_of c.args.above.now) (role_of c.widest_of-own.result) (slot_of c.args.slot.now) (node_tree c.args.node) (record { kind = c.kind-kind.result; above = c.args.above.now; slot = c.args.slot.now; label = None }) c.args.steps.now c.push.new.self
+    noted_unspelled (role_of c.args.above.now) (role_of c.widest_of-own.result) (slot_of c.args.slot.now) (node_tree c.args.node) (record { kind = c.kind-kind.result; above = c.args.above.now; slot = c.args.slot.now; requirements = None }) c.args.steps.now c.push.new.self
     (record { kind = c.kind-kind.ensures; above = refl; slot = refl }) refl (c.widest_of-own.ensures (role_of c.args.above.now)) c.in_default.ensures.ways c.in_ok-push.ensures.items
 
 pub visit_at-returns-then-part_count-eq0 : goal.visit_at-returns-then-part_count-eq0
 visit_at-returns-then-part_count-eq0 t c =
-    noted_alone (role_of c.args.above.now) (role_of c.widest_of-own.result) (slot_of c.args.slot.now) (node_tree c.args.node) (record { kind = c.kind-kind.result; above = c.args.above.now; slot = c.args.slot.now; label = Some c.requirements.result }) (spelled_by c.args.node c.widest_of-own.result c.in-Some.production) c.args.steps.now c.push-then-part_count-eq0.new.self
-    (record { kind = c.kind-kind.ensures; above = refl; slot = refl }) (ap (λ l. Some l) c.requirements.ensures) (c.widest_of-own.ensures (role_of c.args.above.now)) c.in-Some.ensures.ways (sym c.part_count.ensures ∙ c.if-part_count-eq0.true) c.in_ok-push-2.ensures.items
+    noted_alone (role_of c.args.above.now) (role_of c.widest_of-own.result) (slot_of c.args.slot.now) (node_tree c.args.node) (record { kind = c.kind-kind.result; above = c.args.above.now; slot = c.args.slot.now; requirements = Some c.requirements-requirements.result }) (spelled_by c.args.node c.widest_of-own.result c.in-Some.production) c.args.steps.now c.push-then-part_count-eq0.new.self
+    (record { kind = c.kind-kind.ensures; above = refl; slot = refl }) (ap (λ l. Some l) c.requirements-requirements.ensures) (c.widest_of-own.ensures (role_of c.args.above.now)) c.in-Some.ensures.ways (sym c.part_count.ensures ∙ c.if-part_count-eq0.true) c.in_ok-push-2.ensures.items
 
 pub visit_at-returns : goal.visit_at-returns
 visit_at-returns t c =
-    noted_around (role_of c.args.above.now) (role_of c.widest_of-own.result) (slot_of c.args.slot.now) (node_tree c.args.node) (record { kind = c.kind-kind.result; above = c.args.above.now; slot = c.args.slot.now; label = Some c.requirements.result }) (spelled_by c.args.node c.widest_of-own.result c.in-Some.production) c.args.steps.now c.push-2.new.self c.visit_parts-2.new.steps c.push-3.new.self
-    (record { kind = c.kind-kind.ensures; above = refl; slot = refl }) (ap (λ l. Some l) c.requirements.ensures) (c.widest_of-own.ensures (role_of c.args.above.now)) c.in-Some.ensures.ways c.in_ok-push-3.ensures.items c.in_ok-visit_parts.ensures c.in_ok-push-4.ensures.items
+    noted_around (role_of c.args.above.now) (role_of c.widest_of-own.result) (slot_of c.args.slot.now) (node_tree c.args.node) (record { kind = c.kind-kind.result; above = c.args.above.now; slot = c.args.slot.now; requirements = Some c.requirements-requirements.result }) (spelled_by c.args.node c.widest_of-own.result c.in-Some.production) _ c.args.steps.now c.push-2.new.self c.visit_parts-2.new.steps c.push-3.new.self
+    (record { kind = c.kind-kind.ensures; above = refl; slot = refl }) (ap (λ l. Some l) c.requirements-requirements.ensures) (c.widest_of-own.ensures (role_of c.args.above.now)) c.in-Some.ensures.ways c.in_ok-push-3.ensures.items c.in_ok-are_free.ensures c.in_ok-push-4.ensures.items
+
+pub visit_at-set-requires : goal.visit_at-set-requires
+visit_at-set-requires t c =
+    place_within (role_of c.widest_of-own.result) _ _ _ (record { kind = c.kind-kind.result; above = c.args.above.now; slot = c.args.slot.now; requirements = Some c.requirements-requirements.result }) c.len-index.result c.args.steps.now c.push-2.new.self c.visit_parts-2.new.steps
+    c.len-index.ensures.value c.in_ok-push-3.ensures.items c.in_ok-are_free.ensures
+
+pub visit_at-returns-then-is_free : goal.visit_at-returns-then-is_free
+visit_at-returns-then-is_free t c =
+    let s = slot_of c.args.slot.now in
+    let l = c.requirements-requirements.ensures in
+    noted_free (role_of c.args.above.now) (role_of c.widest_of-own.result) s (node_tree c.args.node) (record { kind = c.kind-kind.result; above = c.args.above.now; slot = c.args.slot.now; requirements = Some c.requirements-requirements.result }) (spelled_by c.args.node c.widest_of-own.result c.in-Some.production)
+    c.kind-kind.result _ c.len-index.result c.args.steps.now c.push-2.new.self c.visit_parts-2.new.steps c.set.new.self
+    c.kind-kind.ensures (c.widest_of-own.ensures (role_of c.args.above.now)) c.in-Some.ensures.ways
+    (ap (λ u. is_plain_outline (planned.outline_of u)) (sym l) ∙ c.is_free.ensures.plain c.if-is_free.true) (c.is_free.ensures.row c.if-is_free.true) (ap (λ u. slot_free s u.rank) (sym l) ∙ c.is_free.ensures.slot c.if-is_free.true)
+    c.if-are_free.true c.len-index.ensures.value c.in_ok-push-3.ensures.items c.in_ok-are_free.ensures
+    (c.set.ensures ∙ ap (λ u. set c.visit_parts-2.new.steps c.len-index.result (Free c.kind-kind.result u.rank)) l)
 
 pub visit_atom-returns-then-not-has_row : goal.visit_atom-returns-then-not-has_row
 visit_atom-returns-then-not-has_row t c =

@@ -23,4 +23,4 @@ decreases-visit_parts l = 4 * node_total (node_tree l.node)
 
 abbrev pub invariant-visit_parts-loop-index : goal.invariant-visit_parts-loop-index
 invariant-visit_parts-loop-index l =
-    Begun (role_of l.own) (left (spelled_by l.node l.own l.production).slots) (left_by l.slots (list_parts l.parts)) (list_parts l.parts) (parts_drop l.index (list_parts l.parts)) l.fn.steps l.steps
+    Begun (role_of l.own) (left (spelled_by l.node l.own l.production).slots) (left_by l.slots (list_parts l.parts)) (list_parts l.parts) (parts_drop l.index (list_parts l.parts)) l.are_free l.fn.steps l.steps

@@ -1,11 +1,11 @@
 use Rattle.std.proofs.Common.{◌≡◌, ◌+◌}
 use Rattle.paren_planner.proofs.BackwardSteps.{none_popped}
-use Rattle.paren_planner.proofs.ForwardSteps.{word_marked, passed_leaf, passed_parent, leave_marked}
+use Rattle.paren_planner.proofs.ForwardSteps.{free_marked, passed_leaf, passed_parent, leave_marked}
 use Rattle.paren_planner.proofs.wrap_pass.pass_step.Goals as goal
 
-pub returns-in-Atom : goal.returns-in-Atom
-returns-in-Atom c = λ T.
-    word_marked c.pass_row.result T c.args.step.now _ c.args.around.now c.args.outer.now.items c.args.wrapped.now.items c.pass_row.new.wrapped.items c.in-Atom.is c.pass_row.ensures
+pub returns-in-Free : goal.returns-in-Free
+returns-in-Free c = λ T.
+    free_marked c.pass_row.result T c.args.step.now _ _ c.args.around.now c.args.outer.now.items c.args.wrapped.now.items c.pass_row.new.wrapped.items c.in-Free.is c.pass_row.ensures
 
 pub returns-in-Leaf : goal.returns-in-Leaf
 returns-in-Leaf c = λ T.

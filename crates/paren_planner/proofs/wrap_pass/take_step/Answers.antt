@@ -1,14 +1,14 @@
 use Rattle.std.proofs.Common.{◌≡◌, ◌+◌}
 use Rattle.paren_planner.proofs.BackwardSteps.{none_popped}
-use Rattle.paren_planner.proofs.ForwardSteps.{word_marked, living_leaf, living_parent, leave_marked}
+use Rattle.paren_planner.proofs.ForwardSteps.{free_marked, living_leaf, living_parent, leave_marked}
 use Rattle.paren_planner.proofs.wrap_pass.take_step.Goals as goal
 
 pub returns-then-not-around : goal.returns-then-not-around
 returns-then-not-around c = c.pass_step.ensures c.args.table.now.rows.items
 
-pub returns-in-Atom : goal.returns-in-Atom
-returns-in-Atom c =
-    word_marked c.pass_row.result c.args.table.now.rows.items c.args.step.now _ c.args.around.now c.args.outer.now.items c.args.wrapped.now.items c.pass_row.new.wrapped.items c.in-Atom.is c.pass_row.ensures
+pub returns-in-Free : goal.returns-in-Free
+returns-in-Free c =
+    free_marked c.pass_row.result c.args.table.now.rows.items c.args.step.now _ _ c.args.around.now c.args.outer.now.items c.args.wrapped.now.items c.pass_row.new.wrapped.items c.in-Free.is c.pass_row.ensures
 
 pub returns-in-Leaf : goal.returns-in-Leaf
 returns-in-Leaf c =
