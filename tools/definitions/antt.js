@@ -23,7 +23,7 @@ const LEFT_OUT = {
   tree: 'specs: Whole Places PartNumber Linked Flat Growth NodeText TreeCode Sizes Node Fields',
   language: 'specs: Promises',
   early_errors: 'specs: Owns Walk Walks; proofs: Tables',
-  name_tables: 'specs: Keys PatternParts Sets Tables',
+  name_tables: 'specs: Keys PatternParts DeclaratorParts Sets Tables',
   scopes: 'specs: Shown Walks Gathered; proofs: Tables',
   rules: 'specs: NineRules Toml Order Run RuleViews Used Nodes NodeRules Appends Refusals Lines Located',
 };
