@@ -265,7 +265,6 @@ static void begin(long k) {
     memset(has_ended, 0, sizeof has_ended);
     empty(out_file);
     empty(err_file);
-    alarm(SECONDS);
 }
 
 /* The files that the run has left open: they are closed, and count as what is still there. */
@@ -283,6 +282,7 @@ static int goes_on(void) { return told->failed && told->k < job.last; }
 /* Stands for `main`: calls it once for each k from that of this process. */
 static int main_again(int argc, char **argv, char **environment) {
     for (;;) {
+        alarm(SECONDS);
         is_running = 1;
         int status = own_main(argc, argv, environment);
         close_files();
@@ -320,7 +320,6 @@ static void run_job(void (*init)(void), void (*fini)(void), void (*done)(void), 
             int none = syscall(SYS_openat, AT_FDCWD, "/dev/null", O_RDONLY, 0);
             must(!dup2(none, 0) && dup2(out_file, 1) == 1 && dup2(err_file, 2) == 2, "dup2");
             syscall(SYS_close_range, 3, MOST_FILES - 1, 0);
-            alarm(SECONDS);
             exit(start(main_again, job.argc, job.argv, init, fini, done, stack));
         }
         int status;
