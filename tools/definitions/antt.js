@@ -18,14 +18,14 @@ class AnttError extends Error {}
 const EXAMPLES = /\/(?:language\/proofs\/examples|(?:early_errors|scopes)\/proofs)\/(Trees|Sources|Tables|\w*Examples|\w*Rows)\.antt$/;
 // Modules that aren't loaded, by crate: they speak of the program's own values (its trees, devices, tables), not of texts and trees.
 const LEFT_OUT = {
-  source_text: 'specs: Io Memory Source LineBytes Writing',
+  source_text: 'specs: Io Memory Source LineBytes Located Writing',
   tokens: 'specs: Scanned Reading Closers TokenStarts States PunctuatorSets Sets Escaped Laws',
   tree: 'specs: Whole Places PartNumber Linked Flat Growth NodeText TreeCode Sizes Node Fields',
   language: 'specs: Promises',
   early_errors: 'specs: Owns Walk Walks; proofs: Tables',
-  name_tables: 'specs: Keys PatternParts DeclaratorParts Sets Tables',
+  name_tables: 'specs: DeclaratorParts Keys PatternParts Sets Tables',
   scopes: 'specs: Shown Walks Gathered; proofs: Tables',
-  rules: 'specs: NineRules Toml Order Run RuleViews Used Nodes NodeRules Appends Refusals Lines Located',
+  rules: 'specs: NineRules Toml Order Run RuleViews Used Nodes NodeRules Appends Refusals Lines',
 };
 const LEFT_OUT_NAMES = new Set(Object.entries(LEFT_OUT).flatMap(([crate, parts]) => parts.split('; ').flatMap((part) => {
   const [folder, names] = part.split(': ');

@@ -7,8 +7,8 @@ use clap::error::ErrorKind;
 use command_line::{command_line, escaped_text};
 use early_errors::{EarlyError, number_of};
 use grammar::{
-    accepts_rank, is_assignment, is_chain_part, is_literal, is_pattern, is_prefix_operator,
-    is_reserved, is_target, is_update_operator, literal_class, precedence_of,
+    accepts_rank, is_assignment, is_literal, is_prefix_operator, is_reserved, is_update_operator,
+    literal_class, precedence_of,
 };
 use source_text::{is_line_terminator, is_space};
 use std::alloc::{AllocError, Global};
@@ -39,7 +39,7 @@ pub(crate) fn push_literal(raw: &str, out: &mut String) -> Result<(), AllocError
 /// Whether a kind is a target, a pattern and a link of a chain.
 pub(crate) fn push_kind(word: &str, out: &mut String) -> Result<(), AllocError> {
     let kind = kind(word);
-    let found = (is_target(kind), is_pattern(kind), is_chain_part(kind));
+    let found = (kind.is_target(), kind.is_pattern(), kind.is_chain_part());
     write!(out, "{found:?}")
 }
 

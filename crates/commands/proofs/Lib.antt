@@ -1,3 +1,2 @@
-pub mod Decimal
 pub mod ReadTexts
 pub mod JoinedTexts

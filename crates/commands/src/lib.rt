@@ -6,7 +6,6 @@ mod bounded_read;
 mod command;
 mod refusal;
 mod refused;
-mod short_text;
 
 pub use bounded_read::{ROOM, read_up_to};
 pub use command::Command;

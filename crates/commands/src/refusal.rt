@@ -5,8 +5,7 @@ ghost use Rattle.std.specs.Fmt.{decimal};
 ghost use Rattle.commands.specs.Refusal.{WritesLine, place_words, reason_words, refusal_line, refusal_words, status_of};
 
 use crate::refused::Refused;
-use crate::short_text::ShortText;
-use source_text::{Fault, Reason, Sink, write_text};
+use source_text::{Fault, OutputBuffer, Reason, Sink, write_text};
 
 /// The exit status of a refusal: 1 for a bad cost table, else 2.
 pub fn status(fault: Fault) -> u8
@@ -31,7 +30,7 @@ fn reason_name(reason: Reason) -> &'static str
 }
 
 /// Adds a number, which has at most 20 digits.
-fn push_number(line: &mut ShortText, number: usize)
+fn push_number(line: &mut OutputBuffer, number: usize)
     requires { length line.old ≤ 76 }
     ensures digits { line.new ≡ line.old ++ decimal number }
     ensures short { length line.new ≤ length line.old + 20 }
@@ -40,7 +39,7 @@ fn push_number(line: &mut ShortText, number: usize)
 }
 
 /// Adds the line and the column.
-fn push_line_column(line: &mut ShortText, refused: &Refused)
+fn push_line_column(line: &mut OutputBuffer, refused: &Refused)
     requires { length line.old ≤ 54 }
     ensures words { line.new ≡ line.old ++ place_words refused.now.line refused.now.column }
     ensures short { length line.new ≤ length line.old + 41 }
@@ -51,7 +50,7 @@ fn push_line_column(line: &mut ShortText, refused: &Refused)
 }
 
 /// Adds what the refusal says.
-fn push_words(line: &mut ShortText, refused: &Refused)
+fn push_words(line: &mut OutputBuffer, refused: &Refused)
     requires start { length line.old ≡ 8 }
     requires known { refused.now.fault ≢ Fault.Usage }
     ensures words { line.new ≡ line.old ++ refusal_words refused.now }
@@ -97,7 +96,7 @@ pub fn write_refusal<W: Sink>(refused: &Refused, writer: &mut W) -> u8
     ensures status { result ≡ status_of refused.now.fault }
     ensures line { WritesLine (refusal_line refused.now) (W.taken writer.old) (W.taken writer.new) (W.failed writer.new) }
 {
-    let mut line = ShortText::new();
+    let mut line = OutputBuffer::new();
     line.push_text("jslint: ");
     push_words(&mut line, refused);
     line.push(b'\n');

@@ -11,7 +11,6 @@ pub mod Numerals
 pub mod LinesAndWords
 pub mod TableTexts
 pub mod FirstWrongLine
-pub mod Decimal
 pub mod WrittenLines
 pub mod Fronts
 pub mod CellWords

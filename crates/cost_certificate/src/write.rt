@@ -9,17 +9,16 @@ ghost use Rattle.cost_certificate.specs.Forms.{short, all_zero as is_all_zero, c
 ghost use Rattle.cost_certificate.specs.Listed.{listed};
 ghost use Rattle.cost_certificate.specs.Sent.{MakesRoom, WritesOrFails};
 
-use crate::line_buffer::{CAPACITY, LineBuffer};
 use crate::types::{all_zero, type_name};
 use cost_table::CostTable;
-use source_text::{DeviceFault, Fault, Sink, write_text};
+use source_text::{DeviceFault, Fault, MAX_PIECE, OutputBuffer, Sink, write_text};
 use tree::Program;
 
 /// More than any line has, with its line feed.
 const ROOM: usize = 160;
 
 /// Adds a number, which has at most ten digits.
-fn push_number(piece: &mut LineBuffer, number: u32)
+fn push_number(piece: &mut OutputBuffer, number: u32)
     requires { length piece.old ≤ 4086 }
     ensures text { piece.new ≡ piece.old ++ decimal number }
     ensures short { length piece.new ≤ length piece.old + 10 }
@@ -28,7 +27,7 @@ fn push_number(piece: &mut LineBuffer, number: u32)
 }
 
 /// Adds a cell, behind a space.
-fn push_cell(piece: &mut LineBuffer, cell: Option<u32>)
+fn push_cell(piece: &mut OutputBuffer, cell: Option<u32>)
     requires { length piece.old ≤ 4085 }
     ensures text { piece.new ≡ piece.old ++ 32 ∷ cell_text cell }
     ensures short { length piece.new ≤ length piece.old + 11 }
@@ -41,7 +40,7 @@ fn push_cell(piece: &mut LineBuffer, cell: Option<u32>)
 }
 
 /// Adds the cells of a row.
-fn push_cells(piece: &mut LineBuffer, cells: [Option<u32>; 8])
+fn push_cells(piece: &mut OutputBuffer, cells: [Option<u32>; 8])
     requires { length piece.old ≤ 4000 }
     ensures text { piece.new ≡ piece.old ++ cells_text (listed cells) }
     ensures short { length piece.new ≤ length piece.old + 88 }
@@ -57,7 +56,7 @@ fn push_cells(piece: &mut LineBuffer, cells: [Option<u32>; 8])
 }
 
 /// Adds the cells of a row, unless all are zero.
-fn push_some_cells(piece: &mut LineBuffer, cells: [Option<u32>; 8])
+fn push_some_cells(piece: &mut OutputBuffer, cells: [Option<u32>; 8])
     requires { length piece.old ≤ 4000 }
     ensures text { piece.new ≡ piece.old ++ cond (is_all_zero (listed cells)) [] (cells_text (listed cells)) }
     ensures short { length piece.new ≤ length piece.old + 88 }
@@ -69,7 +68,7 @@ fn push_some_cells(piece: &mut LineBuffer, cells: [Option<u32>; 8])
 }
 
 /// Adds the line of the row with an index, counted from 0, with its line feed.
-fn push_row(piece: &mut LineBuffer, table: &CostTable, index: usize)
+fn push_row(piece: &mut OutputBuffer, table: &CostTable, index: usize)
     requires room { length piece.old ≤ 3936 }
     requires within { index < length table.now.rows.items }
     requires few { index < 16777216 }
@@ -84,7 +83,7 @@ fn push_row(piece: &mut LineBuffer, table: &CostTable, index: usize)
 }
 
 /// Adds the line of the total, with its line feed.
-fn push_total(piece: &mut LineBuffer, total: u32)
+fn push_total(piece: &mut OutputBuffer, total: u32)
     requires { length piece.old ≤ 3936 }
     ensures { piece.new ≡ piece.old ++ (total_line total ++ 10 ∷ []) }
 {
@@ -94,12 +93,12 @@ fn push_total(piece: &mut LineBuffer, total: u32)
 }
 
 /// Writes the piece where it hasn't room for one more line, and empties it.
-fn make_room<W: Sink>(piece: &mut LineBuffer, writer: &mut W) -> Result<(), DeviceFault>
+fn make_room<W: Sink>(piece: &mut OutputBuffer, writer: &mut W) -> Result<(), DeviceFault>
     requires ready { W.failed writer.old ≡ false }
     ensures written { MakesRoom (W.taken writer.old) (W.taken writer.new) piece.old piece.new result (W.failed writer.new) }
     ensures room { OnOk result (length piece.new ≤ 3936) }
 {
-    if piece.len() <= CAPACITY - ROOM {
+    if piece.len() <= MAX_PIECE - ROOM {
         return Ok(());
     }
     if let Err(fault) = write_text(piece.as_bytes(), writer) {
@@ -115,7 +114,7 @@ fn write_lines<W: Sink>(table: &CostTable, writer: &mut W) -> Result<(), DeviceF
     requires ready { W.failed writer.old ≡ false }
     ensures { WritesText (table_text short (table_of table.now.rows.items table.now.total)) result (W.taken writer.old) (W.taken writer.new) (W.failed writer.new) }
 {
-    let mut piece = LineBuffer::new();
+    let mut piece = OutputBuffer::new();
     piece.push_text("jslint-cost 2\n");
     for index in 0..table.row_count() {
         if let Err(fault) = make_room(&mut piece, writer) {

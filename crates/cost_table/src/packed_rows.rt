@@ -17,13 +17,16 @@ use std::marker::Model;
 use std::mem;
 use tree::Kind;
 
+/// Packed rows in segments of 1,024.
+type Segments = SegmentedVec<PackedRow, 1024>;
+
 /// Rows, of which few have numbers that don't fit a shape.
 #[derive(Drop)]
 pub struct PackedRows {
     /// The first rows, the last of them first.
-    turned: SegmentedVec<PackedRow>,
+    turned: Segments,
     /// Those behind them.
-    packed: SegmentedVec<PackedRow>,
+    packed: Segments,
     /// The numbers of those rows.
     apart: Vec<Costs>,
 }
@@ -45,8 +48,8 @@ impl PackedRows {
         ensures { result.items ≡ [] }
     {
         PackedRows {
-            turned: SegmentedVec::new(alloc),
-            packed: SegmentedVec::new(alloc),
+            turned: Segments::new(alloc),
+            packed: Segments::new(alloc),
             apart: Vec::new(alloc),
         }
     }
@@ -136,11 +139,7 @@ impl PackedRows {
 
 /// A packed row, by its index, counted from 0.
 #[inline(always)]
-fn packed_at<'a>(
-    turned: &'a SegmentedVec<PackedRow>,
-    packed: &'a SegmentedVec<PackedRow>,
-    index: usize,
-) -> &'a PackedRow
+fn packed_at<'a>(turned: &'a Segments, packed: &'a Segments, index: usize) -> &'a PackedRow
     requires { index < length turned.now + length packed.now }
     ensures { result.now ≡ slice_index_or (in_order turned.now packed.now) index result.now }
 {

@@ -1,10 +1,11 @@
 -- What holds round a node, and how it comes down to the node's parts.
 use Rattle.std.specs.Prelude.{ℕ, Bool, true, false, ◌&&◌, ◌||◌, cond, List, [], ◌∷◌}
 use Rattle.tree.specs.declared.kind.Kind.{Kind}
-use Rattle.tree.specs.declared.kind.Kind.TheVariants.{Property, FunctionExpression, ArrowFunctionExpression, ClassExpression, ClassBody, MethodDefinition, TaggedTemplateExpression, LabeledStatement, SwitchStatement, WhileStatement, DoWhileStatement, ForStatement, ForInStatement, ForOfStatement, FunctionDeclaration, ClassDeclaration}
+use Rattle.tree.specs.declared.kind.Kind.TheVariants.{Property, FunctionExpression, ArrowFunctionExpression, ClassExpression, ClassBody, MethodDefinition, TaggedTemplateExpression, LabeledStatement, SwitchStatement, ForInStatement, ForOfStatement, FunctionDeclaration, ClassDeclaration}
 use Rattle.tree.specs.declared.kind.Flags.{Flags}
 use Rattle.tree.specs.declared.kind.Form.{Form}
 use Rattle.tree.specs.declared.kind.Form.TheVariants.{Get, Set, Method, Constructor}
+pub use Rattle.tree.specs.Kinds.{is_loop}
 use Rattle.tree.specs.Tree.{Tree, node, Parts, none, part, gap, text_of}
 use Rattle.language.specs.FirstPart.{others}
 
@@ -39,14 +40,6 @@ within z = record z { derived = false; tagged = false; is_body = false; in_head 
 
 abbrev pub in_method : Bool → Around
 in_method calls = record outside { super_property = true; super_call = calls; of_method = true }
-
-abbrev pub is_loop : Kind → Bool
-is_loop WhileStatement = true
-is_loop DoWhileStatement = true
-is_loop ForStatement = true
-is_loop ForInStatement = true
-is_loop ForOfStatement = true
-is_loop _ = false
 
 abbrev pub is_label : Kind → Bool
 is_label LabeledStatement = true

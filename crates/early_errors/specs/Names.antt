@@ -1,8 +1,9 @@
 -- The names that a tree binds, declares or assigns, each with the place of its identifier.
-use Rattle.std.specs.Prelude.{ℕ, Bool, true, false, cond, ◌||◌, List, [], ◌∷◌, ◌++◌, map, filter}
+use Rattle.std.specs.Prelude.{ℕ, Bool, false, cond, ◌||◌, List, [], ◌∷◌, ◌++◌, map, filter}
 use Rattle.std.specs.Str.{bytes_eq}
 use Rattle.tree.specs.declared.kind.Kind.{Kind}
 use Rattle.tree.specs.declared.kind.Kind.TheVariants.{FunctionExpression, ArrowFunctionExpression, BlockStatement, FunctionDeclaration}
+pub use Rattle.tree.specs.Kinds.{is_function}
 use Rattle.tree.specs.Tree.{Tree, node, Parts, none, part, gap, text_of, start_of}
 use Rattle.language.specs.FirstPart.{others}
 use Rattle.name_tables.specs.BoundNames.{bound_names, first_bound_names}
@@ -33,12 +34,6 @@ twice xs = repeated [] xs
 -- those of the first list whose names are in the second too
 abbrev pub shared : List Named → List Named → List Named
 shared xs ys = filter (λ x. has_name x.0 ys) xs
-
-abbrev pub is_function : Kind → Bool
-is_function FunctionExpression = true
-is_function FunctionDeclaration = true
-is_function ArrowFunctionExpression = true
-is_function _ = false
 
 -- an identifier's name and place
 abbrev pub name_at : Tree → Named

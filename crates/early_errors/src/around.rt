@@ -5,7 +5,7 @@ ghost use Rattle.tree.specs.Node.{node_tree};
 ghost use Rattle.tree.specs.Tree.{flags_of, kind_of, parts_of};
 ghost use Rattle.language.specs.FirstPart.{others};
 ghost use Rattle.early_errors.specs.Owns.{first_labels, first_part, inner_labels, round};
-ghost use Rattle.early_errors.specs.Around.{around_first, around_others, has_heritage, is_accessor, is_constructor, is_loop, is_method};
+ghost use Rattle.early_errors.specs.Around.{around_first, around_others, has_heritage, is_accessor, is_constructor, is_method};
 
 use crate::literals::{both, either};
 use tree::{Form, Kind, Node};
@@ -25,19 +25,6 @@ pub(crate) struct Context {
     pub(crate) of_method: bool,
     /// Of a label's statement: whether it is a loop, further labels aside, where that is known.
     pub(crate) labels_loop: Option<bool>,
-}
-
-pub(crate) fn is_loop(kind: Kind) -> bool
-    ensures { result ≡ is_loop kind }
-{
-    match kind {
-        Kind::WhileStatement
-        | Kind::DoWhileStatement
-        | Kind::ForStatement
-        | Kind::ForInStatement
-        | Kind::ForOfStatement => true,
-        _ => false,
-    }
 }
 
 pub(crate) fn is_accessor(form: Form) -> bool
@@ -212,7 +199,7 @@ impl Context {
                 ..self.within()
             },
             kind => Context {
-                in_loop: either(self.in_loop, is_loop(kind)),
+                in_loop: either(self.in_loop, kind.is_loop()),
                 ..self.within()
             },
         }

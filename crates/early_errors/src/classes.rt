@@ -6,7 +6,6 @@ ghost use Rattle.tree.specs.Node.{node_tree};
 ghost use Rattle.tree.specs.Tree.{kind_of, parts_of, text_of};
 ghost use Rattle.language.specs.Statements.{is_string_literal};
 ghost use Rattle.early_errors.specs.Keys.{key_value};
-ghost use Rattle.language.specs.Vocabulary.{is_super};
 ghost use Rattle.early_errors.specs.Classes.{constructor_places, super_places};
 ghost use Rattle.early_errors.specs.Early.{each, own_errors};
 ghost use Rattle.early_errors.specs.Names.{when};
@@ -38,16 +37,7 @@ pub(crate) fn super_errors(
     let Some(head) = node.part(0) else {
         return found;
     };
-    with_error_if(is_super(head.kind()), found, error, head.span().start)
-}
-
-pub(crate) fn is_super(kind: Kind) -> bool
-    ensures { result ≡ is_super kind }
-{
-    match kind {
-        Kind::Super => true,
-        _ => false,
-    }
+    with_error_if(head.kind().is_super(), found, error, head.span().start)
 }
 
 /// `new.target` outside every function that isn't an arrow (ECMA-262 15.1.1).

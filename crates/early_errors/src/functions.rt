@@ -3,7 +3,7 @@
 ghost use Rattle.std.specs.Prelude.{◌≡◌, [], ◌∷◌, false, not, option_map, IfOk};
 ghost use Rattle.tree.specs.Node.{node_tree};
 ghost use Rattle.tree.specs.Tree.{kind_of, parts_of, parts_drop};
-ghost use Rattle.language.specs.Vocabulary.{among, is_identifier};
+ghost use Rattle.language.specs.Vocabulary.{among};
 ghost use Rattle.early_errors.specs.Early.{each, own_errors};
 ghost use Rattle.early_errors.specs.Functions.{is_simple, use_strict};
 ghost use Rattle.name_tables.specs.PatternParts.{at_part};
@@ -124,17 +124,8 @@ fn is_plain(parameter: Option<Node>) -> bool
     ensures { result ≡ is_plain (option_map node_tree parameter.entry) }
 {
     match parameter {
-        Some(parameter) => is_identifier(parameter.kind()),
+        Some(parameter) => parameter.kind().is_identifier(),
         None => true,
-    }
-}
-
-pub(crate) fn is_identifier(kind: Kind) -> bool
-    ensures { result ≡ is_identifier kind }
-{
-    match kind {
-        Kind::Identifier => true,
-        _ => false,
     }
 }
 

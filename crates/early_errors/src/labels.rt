@@ -14,7 +14,7 @@ ghost use Rattle.early_errors.specs.Walk.{after, all_named, look};
 ghost use Rattle.early_errors.specs.declared.own.OwnErrors.{OwnErrors};
 
 use crate::EarlyError;
-use crate::around::{Context, is_loop};
+use crate::around::Context;
 use crate::found::{FirstError, with_error, with_error_if};
 use crate::names::NamePlace;
 use crate::table::Table;
@@ -114,7 +114,7 @@ fn is_label(kind: Kind) -> bool
 pub(crate) fn labels_loop(node: Node) -> bool
     ensures { result ≡ labels_loop (node_tree node.entry) }
 {
-    if is_loop(node.kind()) {
+    if node.kind().is_loop() {
         return true;
     }
     if !is_label(node.kind()) {

@@ -17,7 +17,7 @@ use crate::around::Context;
 use crate::classes::{constructor_errors, member_errors, super_errors, target_errors};
 use crate::conflicts::{VarConflicts, hits, repeated, reported, restricted};
 use crate::found::{FirstError, with_error_if};
-use crate::functions::{function_errors, is_identifier};
+use crate::functions::function_errors;
 use crate::labels::{Labels, break_errors, continue_errors};
 use crate::literals::{both, literal_errors, template_errors};
 use crate::names::{NamePlace, push_declared, push_part_names};
@@ -251,7 +251,7 @@ pub(crate) fn deletes_identifier(node: Node) -> bool
         return false;
     }
     match node.part(0) {
-        Some(operand) => is_identifier(operand.kind()),
+        Some(operand) => operand.kind().is_identifier(),
         None => false,
     }
 }

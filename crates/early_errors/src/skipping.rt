@@ -13,7 +13,6 @@ ghost use Rattle.early_errors.specs.Walk.{names_at};
 ghost use Rattle.early_errors.specs.Walks.{IsQuiet, IsSilent, is_quiet as says_nothing};
 
 use crate::around::is_method;
-use crate::classes::is_super;
 use crate::conflicts::is_restricted;
 use crate::literals::begins_with_slash;
 use crate::names::{Lexical, lexical_of};
@@ -187,7 +186,7 @@ fn has_super(head: Option<Node>) -> bool
     ensures { result ≡ is_super_at (option_map node_tree head.entry) }
 {
     match head {
-        Some(head) => is_super(head.kind()),
+        Some(head) => head.kind().is_super(),
         None => false,
     }
 }

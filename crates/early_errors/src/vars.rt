@@ -4,7 +4,7 @@ ghost use Rattle.std.specs.Prelude.{◌≡◌, ◌-◌, [], option_map};
 ghost use Rattle.std.specs.Bool.{OnTrue};
 ghost use Rattle.tree.specs.Node.{node_tree};
 ghost use Rattle.tree.specs.Tree.{kind_of, part_count, parts_of, text_of};
-ghost use Rattle.early_errors.specs.Names.{is_function, var_names};
+ghost use Rattle.early_errors.specs.Names.{var_names};
 ghost use Rattle.name_tables.specs.PatternParts.{at_part};
 ghost use Rattle.early_errors.specs.Walks.{is_var, range_vars};
 
@@ -53,23 +53,13 @@ fn has_none(node: Node, left: &mut usize) -> bool
         return false;
     }
     *left -= 1;
-    if is_function(node.kind()) {
+    if node.kind().is_function() {
         return true;
     }
     if is_var(node) {
         return false;
     }
     parts_have_none(node, 0, left)
-}
-
-fn is_function(kind: Kind) -> bool
-    ensures { result ≡ is_function kind }
-{
-    match kind {
-        Kind::FunctionDeclaration | Kind::FunctionExpression | Kind::ArrowFunctionExpression =>
-            true,
-        _ => false,
-    }
 }
 
 fn is_var(node: Node) -> bool

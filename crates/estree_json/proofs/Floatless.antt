@@ -14,7 +14,7 @@ use Rattle.tokens.specs.Templates.{cooked_value}
 use Rattle.tree.specs.declared.kind.Kind.{Kind}
 use Rattle.tree.specs.declared.kind.Kind.TheVariants as k
 use Rattle.tree.specs.Tree.{Tree, Parts, node, none, part, gap}
-use Rattle.estree_json.specs.Types.{type_name}
+use Rattle.tree.specs.Kinds.{type_name}
 use Rattle.estree_json.specs.Texts.{text_of_units, unquoted, regex_of, literal_value, literal_regex, is_quoted, cooked_of_units, with_cooked, template_value}
 use Rattle.estree_json.specs.Fields as f
 use Rattle.estree_json.specs.Fields.{Field, Label, fields, directive}

@@ -6,7 +6,7 @@ use Rattle.serde_json.specs.View.{items_of}
 use Rattle.serde_json.specs.Written.{compact_text}
 use Rattle.tree.specs.declared.kind.Kind.{Kind}
 use Rattle.tree.specs.Tree.{Tree, Parts, node, none, part, gap, text_of, flags_of, parts_of}
-use Rattle.estree_json.specs.Types.{type_name}
+use Rattle.tree.specs.Kinds.{type_name}
 use Rattle.estree_json.specs.Fields.{Field, Label, fields, first_text}
 use Rattle.estree_json.specs.Fields as f
 

@@ -1,4 +1,3 @@
-pub mod Types
 pub mod Texts
 pub mod Fields
 pub mod Json

@@ -7,7 +7,7 @@ use Rattle.estree_json.specs.declared.table.Member.{Member}
 use Rattle.estree_json.specs.declared.table.Member.TheVariants as line
 use Rattle.estree_json.specs.declared.table.FlagSource.{FlagSource}
 use Rattle.estree_json.specs.declared.table.FlagSource.TheVariants.{Never, Always, Computed, Expression, Method, Optional, Prefix, Shorthand, Static}
-use Rattle.estree_json.specs.Types.{type_name}
+use Rattle.tree.specs.Kinds.{type_name}
 use Rattle.estree_json.specs.Texts.{literal_value, literal_regex, template_value}
 use Rattle.estree_json.specs.Fields.{Label, fields, property_kind, method_kind, is_method, is_shorthand, directive}
 use Rattle.tree.specs.Tree.{Tree, kind_of, start_of, stop_of, parts_of}

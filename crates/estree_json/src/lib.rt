@@ -11,7 +11,6 @@ mod serialize;
 mod table;
 mod text;
 mod texts;
-mod types;
 mod values;
 mod write;
 

@@ -9,7 +9,7 @@ ghost use Rattle.estree_json.specs.Fields.{directive};
 ghost use Rattle.estree_json.specs.Json.{label_of};
 ghost use Rattle.estree_json.specs.Table.{option_member};
 ghost use Rattle.estree_json.specs.Primitives.{data_of};
-ghost use Rattle.estree_json.specs.Types.{type_name as type_name_of};
+ghost use Rattle.tree.specs.Kinds.{type_name as type_name_of};
 ghost use Rattle.estree_json.specs.Sent.{Adds};
 
 use crate::events::{
@@ -18,7 +18,6 @@ use crate::events::{
 };
 use crate::fields::first_text;
 use crate::texts::{Primitive, cooked_value, literal_value, regex_parts, unquoted};
-use crate::types::type_name;
 use serde::Serializer;
 use std::alloc::Global;
 use tree::{Kind, Node};
@@ -74,7 +73,7 @@ pub fn type_member<S: Serializer>(
     ensures { OnOk result (Adds (member (codes "type") (string (type_name_of kind))) (S.written out.old) (S.written out.new)) }
 {
     serialize_key(out, error, "type")?;
-    serialize_text(out, error, type_name(kind))
+    serialize_text(out, error, kind.type_name())
 }
 
 /// Where the node begins.

@@ -10,7 +10,6 @@ ghost use Rattle.estree_json.specs.Table.{value_of, put_line as with_line, subje
 
 use crate::fields::{is_set, method_kind, property_kind};
 use crate::table::{Member, member_table};
-use crate::types::type_name;
 use crate::values::{directive_value, literal_regex, literal_value, template_value, text_value};
 use serde_json::{Map, Value};
 use std::alloc::{AllocError, Global};
@@ -68,7 +67,7 @@ fn member_value(
     ensures { IfOk result (λ o. option_map view o ≡ value_of (subject_of is_last (node_tree node.entry)) line.now) }
 {
     match line {
-        Member::Type => text_value(alloc, type_name(node.kind())),
+        Member::Type => text_value(alloc, node.kind().type_name()),
         Member::Start => Ok(Some(Value::from(node.span().start))),
         Member::End => Ok(Some(Value::from(node.span().end))),
         Member::Part(_, index) => Ok(Some(part_value(alloc, node, *index)?)),

@@ -2,10 +2,9 @@
 
 ghost use Rattle.std.specs.Prelude.{◌≡◌, option_map};
 ghost use Rattle.tree.specs.Node.{node_tree};
-ghost use Rattle.language.specs.Expressions.{is_chain_part};
 ghost use Rattle.grammar.specs.Chains.{part_has_optional};
 
-use tree::{Kind, Node};
+use tree::Node;
 
 /// Whether a `?.` stands in this part of a chain or in one below it.
 #[tactic(auto, using(tree::proofs::PartWalk::part_steps))]
@@ -15,18 +14,11 @@ pub fn has_optional(part: Option<Node>) -> bool
     let Some(node) = part else {
         return false;
     };
-    if !is_chain_part(node.kind()) {
+    if !node.kind().is_chain_part() {
         return false;
     }
     if node.flags().optional {
         return true;
     }
     has_optional(node.part(0))
-}
-
-/// Whether a node of this kind may be a part of a chain above its base.
-pub fn is_chain_part(kind: Kind) -> bool
-    ensures { result ≡ is_chain_part kind }
-{
-    matches!(kind, Kind::MemberExpression | Kind::CallExpression)
 }

@@ -8,15 +8,13 @@ mod literals;
 mod operators;
 mod precedence;
 mod ranks;
-mod targets;
 mod words;
 
-pub use chain::{has_optional, is_chain_part};
+pub use chain::has_optional;
 pub use literals::{is_literal, literal_class};
 pub use operators::{
     Operation, is_assignment, is_prefix_operator, is_update_operator, operation_of,
 };
 pub use precedence::{accepts_rank, precedence_of};
 pub use ranks::rank_of;
-pub use targets::{is_pattern, is_target};
 pub use words::is_reserved;

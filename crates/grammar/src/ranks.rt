@@ -15,7 +15,6 @@ use crate::literals::is_literal;
 use crate::operators::{
     binary_rank, is_assignment, is_prefix_operator, is_update_operator, logical_rank,
 };
-use crate::targets::{is_pattern, is_target};
 use crate::words::is_reserved;
 use language::Rank;
 use tree::{Kind, Node};
@@ -76,7 +75,7 @@ fn first_kind(node: Node<'_, '_>) -> Kind
 fn is_update(node: Node<'_, '_>) -> bool
     ensures { result ≡ (is_step_text (text_of (node_tree node.entry)) && is_target_kind (lead (parts_of (node_tree node.entry)))) }
 {
-    is_update_operator(node.text()) && is_target(first_kind(node))
+    is_update_operator(node.text()) && first_kind(node).is_target()
 }
 
 /// Whether it assigns to what its operator can assign to: a pattern behind `=` alone.
@@ -85,7 +84,7 @@ fn can_assign(node: Node<'_, '_>) -> bool
 {
     let operator = node.text();
     let target = first_kind(node);
-    is_assignment(operator) && (is_target(target) || operator == "=" && is_pattern(target))
+    is_assignment(operator) && (target.is_target() || operator == "=" && target.is_pattern())
 }
 
 /// Whether it is `new.target`.

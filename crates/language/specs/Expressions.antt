@@ -12,6 +12,7 @@ use Rattle.tokens.specs.declared.token.TokenClass.{TokenClass}
 use Rattle.tree.specs.declared.kind.Flags.{Flags}
 use Rattle.tree.specs.declared.kind.Form.{Form}
 use Rattle.tree.specs.declared.kind.Form.TheVariants.{Init, Get, Set, Method, Shorthand, Constructor}
+pub use Rattle.tree.specs.Kinds.{is_chain_part}
 use Rattle.tree.specs.Tree.{Tree, node, Parts, none, part, gap, kind_of, text_of}
 use Rattle.language.specs.FirstPart.{lead as lead_kind, others}
 use Rattle.language.specs.Vocabulary.{is, among, Operator, op_binary, op_power, operator_of, is_assignment, is_word_operator, is_prefix, is_update_operator, is_reserved, literal_class, is_name, is_open_number, is_target, is_pattern, is_identifier, is_rest, is_super}
@@ -45,11 +46,6 @@ after_number (part tree ps) flags = cond (not flags.computed && (is_open_literal
     is_open_literal : Kind → List ℕ → Bool
     is_open_literal Literal w = is_open_number (literal_class w) w
     is_open_literal _ w = false
-
-abbrev pub is_chain_part : Kind → Bool
-is_chain_part MemberExpression = true
-is_chain_part CallExpression = true
-is_chain_part _ = false
 
 abbrev mutual
   -- a `?.` stands in this part of a chain or in one below it

@@ -2,8 +2,7 @@
 use Rattle.std.specs.Prelude.{ℕ, Bool, true, false, not, cond, ◌&&◌, ◌||◌, List, [], ◌∷◌, nat_le, nat_eq, codes, slice_index_or}
 use Rattle.std.specs.Str.{bytes_eq}
 use Prim.Native.String.{String}
-use Rattle.tree.specs.declared.kind.Kind.{Kind}
-use Rattle.tree.specs.declared.kind.Kind.TheVariants.{Identifier, MemberExpression, ArrayPattern, ObjectPattern, RestElement, SpreadElement, Super}
+pub use Rattle.tree.specs.Kinds.{is_identifier, is_pattern, is_rest, is_spread, is_super, is_target}
 use Rattle.language.specs.declared.Rank.{Rank}
 use Rattle.language.specs.declared.Rank.TheVariants.{Expression, Assignment, Conditional, ShortCircuit, Coalesce, LogicalOr, LogicalAnd, BitwiseOr, BitwiseXor, BitwiseAnd, Equality, Relational, Shift, Additive, Multiplicative, Exponentiation, Unary, Update, LeftHandSide, New, Call, Member, Primary, Grouped}
 use Rattle.tokens.specs.declared.token.TokenClass.{TokenClass}
@@ -137,29 +136,3 @@ is_open_number NumericLiteral text = not (ends_in_n text)
     ends_in_n (c ∷ []) = nat_eq c 110
     ends_in_n (c ∷ d ∷ cs) = ends_in_n (d ∷ cs)
 is_open_number _ text = false
-
-abbrev pub is_target : Kind → Bool
-is_target Identifier = true
-is_target MemberExpression = true
-is_target _ = false
-
-abbrev pub is_pattern : Kind → Bool
-is_pattern ArrayPattern = true
-is_pattern ObjectPattern = true
-is_pattern _ = false
-
-abbrev pub is_identifier : Kind → Bool
-is_identifier Identifier = true
-is_identifier _ = false
-
-abbrev pub is_rest : Kind → Bool
-is_rest RestElement = true
-is_rest _ = false
-
-abbrev pub is_spread : Kind → Bool
-is_spread SpreadElement = true
-is_spread _ = false
-
-abbrev pub is_super : Kind → Bool
-is_super Super = true
-is_super _ = false

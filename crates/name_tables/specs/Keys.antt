@@ -5,7 +5,8 @@ use Rattle.std.specs.Hash as fed
 use Rattle.std.specs.Hash.DefaultHasher as sip
 use Rattle.std.specs.declared.hash.DefaultHasher.{DefaultHasher}
 use Rattle.tree.specs.declared.kind.Kind.{Kind}
-use Rattle.tree.specs.declared.kind.Kind.TheVariants.{Identifier, VariableDeclarator, FunctionDeclaration, FunctionExpression, ArrowFunctionExpression, ClassDeclaration, ClassExpression, CatchClause, ArrayPattern, ObjectPattern, Property, RestElement, AssignmentPattern}
+use Rattle.tree.specs.declared.kind.Kind.TheVariants.{VariableDeclarator, FunctionDeclaration, FunctionExpression, ArrowFunctionExpression, ClassDeclaration, ClassExpression, CatchClause, ArrayPattern, ObjectPattern, Property, RestElement, AssignmentPattern}
+pub use Rattle.tree.specs.Kinds.{is_identifier}
 use Rattle.tree.specs.Tree.{Tree, kind_of, parts_of, text_of}
 use Rattle.tree.specs.Flat.{post_order}
 use Rattle.name_tables.specs.BoundNames.{each_part}
@@ -46,10 +47,6 @@ may_declare Property = true
 may_declare RestElement = true
 may_declare AssignmentPattern = true
 may_declare _ = false
-
-abbrev pub is_identifier : Kind → Bool
-is_identifier Identifier = true
-is_identifier _ = false
 
 -- the name that a node is, if it is one
 abbrev pub identifier_name : Tree → List (List ℕ)

@@ -3,7 +3,7 @@
 ghost use Rattle.std.specs.Prelude.{◌≡◌, option_map};
 ghost use Rattle.tree.specs.Node.{node_tree};
 ghost use Rattle.name_tables.specs.PatternParts.{at_part};
-ghost use Rattle.name_tables.specs.Keys.{declarable_among, declarable_names, identifier_name, is_identifier, key_of, keyed_by, may_declare, nothing_read, read_name, read_names};
+ghost use Rattle.name_tables.specs.Keys.{declarable_among, declarable_names, identifier_name, key_of, keyed_by, may_declare, nothing_read, read_name, read_names};
 
 use std::hash::{BuildHasher, DefaultHasher, Hash, Hasher};
 use tree::{Kind, Node, Program};
@@ -97,17 +97,8 @@ fn add_name(part: Option<Node>, builder: &mut KeyBuilder)
     let Some(part) = part else {
         return;
     };
-    if is_identifier(part.kind()) {
+    if part.kind().is_identifier() {
         builder.add(part.text());
-    }
-}
-
-fn is_identifier(kind: Kind) -> bool
-    ensures { result ≡ is_identifier kind }
-{
-    match kind {
-        Kind::Identifier => true,
-        _ => false,
     }
 }
 

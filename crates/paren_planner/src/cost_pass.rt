@@ -10,16 +10,15 @@ ghost use Rattle.cost_table.specs.Costs.{no_pairs, IsHeld};
 ghost use Rattle.paren_planner.specs.declared.steps.Step.TheVariants.{Enter};
 
 use crate::open_sums::OpenSums;
-use crate::steps::{NodeStep, Step, asks_no_more, bare_outline, stands_freely};
+use crate::steps::{NodeStep, Step, Steps, asks_no_more, bare_outline, stands_freely};
 use cost_table::{CostTable, Costs, NodeCosts, fitting};
 use language::Rank;
-use segmented_vec::SegmentedVec;
 use std::alloc::{AllocError, Global};
 
 /// Sets the rows of a script by its steps, and adds up what it costs in all.
 pub(crate) fn cost_pass(
     alloc: Global,
-    steps: &SegmentedVec<Step>,
+    steps: &Steps,
     table: &mut CostTable,
 ) -> Result<Costs, AllocError>
     requires { table.old.rows.items ≡ [] }

@@ -11,11 +11,10 @@ ghost use Rattle.cost_table.specs.Rows.{table_rows};
 
 use crate::cost_pass::cost_pass;
 use crate::step_walk::visit_node;
-use crate::steps::Step;
+use crate::steps::Steps;
 use crate::wrap_pass::wrap_pass;
 use crate::wrap_plan::Plan;
 use cost_table::CostTable;
-use segmented_vec::SegmentedVec;
 use spellings::{Position, Slot};
 use std::alloc::{AllocError, Global};
 use tree::Program;
@@ -24,7 +23,7 @@ use tree::Program;
 #[derive(Drop)]
 struct Weights {
     /// The steps of a walk over it.
-    steps: SegmentedVec<Step>,
+    steps: Steps,
     /// A row for each node that has one.
     table: CostTable,
     /// The number of pairs of the whole, where some number spells it.
@@ -36,7 +35,7 @@ fn weigh(alloc: Global, program: &Program) -> Result<Weights, AllocError>
     ensures total { IfOk result (λ w. w.total ≡ capped (least program.now script)) }
     ensures steps { IfOk result (λ w. Steps script (fixed script) program.now w.steps) }
 {
-    let mut steps = SegmentedVec::new(alloc);
+    let mut steps = Steps::new(alloc);
     let above = Position::Script;
     let slot = Slot::Fixed(above);
     visit_node(program.root(), &above, &slot, false, &mut steps)?;

@@ -16,11 +16,10 @@ ghost use Rattle.language.specs.declared.Rank.TheVariants.{Primary};
 ghost use Rattle.paren_planner.specs.Steps.{nowhere};
 ghost use Rattle.cost_table.specs.Weighed.{settled_at, slot_free};
 
-use crate::steps::{NodeStep, Step, has_row};
+use crate::steps::{NodeStep, Step, Steps, has_row};
 use cost_table::{WHOLE, widest};
 use grammar::accepts_rank;
 use language::{Rank, Start};
-use segmented_vec::SegmentedVec;
 use spellings::{
     Position, Production, Slot, SlotCursor, holds_chain, is_leaf, leads_chain, node_production,
 };
@@ -36,7 +35,7 @@ pub(crate) fn visit_node(
     above: &Position,
     slot: &Slot,
     in_chain: bool,
-    steps: &mut SegmentedVec<Step>,
+    steps: &mut Steps,
 ) -> Result<bool, AllocError>
     requires { in_chain ≡ true → has_optional (node_tree node) ≡ true }
     ensures { IfOk result (λ free. Noted (role_of above.now) (slot_of slot.now) (node_tree node.entry) free steps.old steps.new) }
@@ -55,7 +54,7 @@ fn visit_atom(
     above: &Position,
     slot: &Slot,
     in_chain: bool,
-    steps: &mut SegmentedVec<Step>,
+    steps: &mut Steps,
 ) -> Result<bool, AllocError>
     requires { in_chain ≡ true → has_optional (node_tree node) ≡ true }
     ensures { IfOk result (λ free. Noted (role_of above.now) (slot_of slot.now) (node_tree node.entry) free steps.old steps.new) }
@@ -81,7 +80,7 @@ fn visit_at(
     above: &Position,
     slot: &Slot,
     in_chain: bool,
-    steps: &mut SegmentedVec<Step>,
+    steps: &mut Steps,
 ) -> Result<bool, AllocError>
     requires { in_chain ≡ true → has_optional (node_tree node) ≡ true }
     ensures { IfOk result (λ free. Noted (role_of above.now) (slot_of slot.now) (node_tree node.entry) free steps.old steps.new) }
@@ -129,7 +128,7 @@ fn visit_parts(
     node: Node,
     own: &Position,
     production: &Production,
-    steps: &mut SegmentedVec<Step>,
+    steps: &mut Steps,
 ) -> Result<bool, AllocError>
     requires { (spelled_by node own.now production.now).holds_chain ≡ true → first_has_optional (parts_of (node_tree node)) ≡ true }
     ensures { IfOk result (λ free. PartsNoted (role_of own.now) (left (spelled_by node.entry own.now production.now).slots) (parts_of (node_tree node.entry)) free steps.old steps.new) }

@@ -8,6 +8,7 @@ ghost use Rattle.cost_table.specs.Weighed.{is_plain_outline, role_free, slot_fre
 use cost_table::{is_plain, widest};
 use grammar::accepts_rank;
 use language::Rank;
+use segmented_vec::SegmentedVec;
 use spellings::{Outline, Position, Requirements, Slot, resolve_slot};
 use tree::Kind;
 
@@ -110,3 +111,6 @@ pub(crate) enum Step {
     Enter(NodeStep),
     Leave,
 }
+
+/// All steps of a walk in their order, in segments of 1,024.
+pub(crate) type Steps = SegmentedVec<Step, 1024>;

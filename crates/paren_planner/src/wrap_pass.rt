@@ -6,9 +6,8 @@ ghost use Rattle.spellings.specs.Outlines.{role_of, slot_of};
 ghost use Rattle.paren_planner.specs.Steps.{has_row_at, stands_at};
 ghost use Rattle.paren_planner.specs.Marked.{round, shown_marks, marked, marked_through, at_the_start, flag_at, flag_of, round_at, round_of, plain_round, meets as meets_at};
 
-use crate::steps::{NodeStep, Step, bare_outline};
+use crate::steps::{NodeStep, Step, Steps, bare_outline};
 use cost_table::{CostTable, WHOLE, exceeds, is_zero, sum};
-use segmented_vec::SegmentedVec;
 use spellings::{Position, Requirements, fits, resolve_slot};
 use std::alloc::{AllocError, Global};
 
@@ -23,7 +22,7 @@ struct WrapContext {
 /// Says of each row of a script whether its node is wrapped.
 pub(crate) fn wrap_pass(
     alloc: Global,
-    steps: &SegmentedVec<Step>,
+    steps: &Steps,
     table: &CostTable,
     wrapped: &mut Vec<bool>,
 ) -> Result<(), AllocError>

@@ -21,7 +21,6 @@ pub mod FirstWayFragments
 pub mod SiteLemmas
 pub mod Standings
 pub mod TableMarks
-pub mod BufferedBytes
 pub mod Whole
 pub mod Words
 pub mod WrittenTexts

@@ -8,7 +8,8 @@ ghost use Rattle.printer.specs.Standings.{Puts};
 ghost use Rattle.printer.specs.Sheets.{Writes, seen, held, sign_code, flag_at, other_flags, chunk_text, piece_text, pieces_text};
 
 use crate::fragments::{Fragment, SignOperator};
-use crate::output_buffer::{OutputBuffer, TextSink};
+use crate::output_buffer::TextSink;
+use source_text::OutputBuffer;
 use tree::Node;
 
 /// The levels of depth that one text has.

@@ -1,139 +1,11 @@
-//! Room for what waits to be written, and what it is written to.
+//! What a text is written to.
 
-ghost use Rattle.std.specs.Prelude.{◌≡◌, ◌≤◌, ◌+◌, ◌-◌, ℕ, Bool, true, List, [], ◌∷◌, ◌++◌, length, take, IsTrue, ◌↔◌};
-ghost use Rattle.std.specs.Prelude.{IfOk, Some, false};
+ghost use Rattle.std.specs.Prelude.{◌≡◌, ℕ, List, [], IfOk, false};
 ghost use Rattle.std.specs.String.{string_bytes};
 ghost use Rattle.printer.specs.Standings.{Standing, Puts, of_writer, of_text};
 
-use source_text::{DeviceFault, MAX_PIECE, Sink, write_text};
+use source_text::{DeviceFault, OutputBuffer, Sink, write_text};
 use std::alloc::{AllocError, Global};
-use std::marker::Model;
-
-/// Bytes that wait until a piece is full.
-#[derive(Drop)]
-pub struct OutputBuffer {
-    bytes: [u8; MAX_PIECE],
-    used: usize,
-}
-
-impl Model for OutputBuffer {
-    ghost Value = { List ℕ };
-
-    ghost view = { λ r. take r.used r.bytes };
-
-    ghost invariant = { λ r. r.used ≤ 4096 };
-}
-
-impl OutputBuffer {
-    /// With nothing in it.
-    pub fn new() -> OutputBuffer
-        ensures { result ≡ [] }
-    {
-        OutputBuffer {
-            bytes: [0; MAX_PIECE],
-            used: 0,
-        }
-    }
-
-    /// What waits.
-    fn bytes(&self) -> &[u8]
-        ensures { result.now ≡ self.now }
-    {
-        &self.bytes[..self.used]
-    }
-
-    /// Whether so many bytes fit in.
-    fn fits(&self, count: usize) -> bool
-        ensures { IsTrue result ↔ length self.now + count ≤ 4096 }
-    {
-        count <= MAX_PIECE - self.used
-    }
-
-    /// Puts bytes behind those that wait: a single one, as most tokens are, in place.
-    #[inline(always)]
-    fn add(&mut self, bytes: &[u8])
-        requires { length self.old + length bytes.now ≤ 4096 }
-        ensures { self.new ≡ self.old ++ bytes.now }
-    {
-        match bytes.len() {
-            1 => self.add_byte(bytes[0]),
-            _ => self.add_text(bytes),
-        }
-    }
-
-    /// The same for any number. A short text is copied by its two ends, which may overlap.
-    #[inline(never)]
-    fn add_text(&mut self, bytes: &[u8])
-        requires { length self.old + length bytes.now ≤ 4096 }
-        ensures { self.new ≡ self.old ++ bytes.now }
-    {
-        match bytes.len() {
-            2..=3 => self.add_ends::<2>(bytes),
-            4..=7 => self.add_ends::<4>(bytes),
-            8..=16 => self.add_ends::<8>(bytes),
-            _ => self.add_long(bytes),
-        }
-    }
-
-    fn add_byte(&mut self, byte: u8)
-        requires { length self.old + 1 ≤ 4096 }
-        ensures { self.new ≡ self.old ++ byte ∷ [] }
-    {
-        self.bytes[self.used] = byte;
-        self.used += 1;
-    }
-
-    /// Bytes that their first `N` and their last `N` cover.
-    fn add_ends<const N: usize>(&mut self, bytes: &[u8])
-        requires room { length self.old + length bytes.now ≤ 4096 }
-        requires least { N ≤ length bytes.now }
-        requires most { length bytes.now ≤ N + N }
-        ensures { self.new ≡ self.old ++ bytes.now }
-    {
-        let fewer = bytes.len() - N;
-        self.add_so_many::<N>(&bytes[..N]);
-        self.take_back(N - fewer);
-        self.add_so_many::<N>(&bytes[fewer..]);
-    }
-
-    /// Bytes of this number, over a copy of their own: so the compiler needn't ask whether they stand in the room itself.
-    fn add_so_many<const N: usize>(&mut self, bytes: &[u8])
-        requires room { length self.old + N ≤ 4096 }
-        requires count { length bytes.now ≡ N }
-        ensures { self.new ≡ self.old ++ bytes.now }
-    {
-        let mut copy = [0; N];
-        copy.copy_from_slice(bytes);
-        let end = self.used + N;
-        self.bytes[self.used..end].copy_from_slice(&copy);
-        self.used = end;
-    }
-
-    /// Lets the last bytes go.
-    #[tactic(auto, using(crate::proofs::BufferedBytes::kept))]
-    fn take_back(&mut self, count: usize)
-        requires { count ≤ length self.old }
-        ensures { self.new ≡ take (length self.old - count) self.old }
-    {
-        self.used -= count;
-    }
-
-    #[inline(never)]
-    fn add_long(&mut self, bytes: &[u8])
-        requires { length self.old + length bytes.now ≤ 4096 }
-        ensures { self.new ≡ self.old ++ bytes.now }
-    {
-        let end = self.used + bytes.len();
-        self.bytes[self.used..end].copy_from_slice(bytes);
-        self.used = end;
-    }
-
-    fn clear(&mut self)
-        ensures { self.new ≡ [] }
-    {
-        self.used = 0;
-    }
-}
 
 /// What a text is put into, bit by bit. Once it has failed, nothing more is put into it.
 pub trait TextSink {
@@ -156,7 +28,7 @@ impl<W: Sink> TextSink for W {
     fn put(&mut self, room: &mut OutputBuffer, text: &str) {
         let bytes = text.as_bytes();
         if room.fits(bytes.len()) {
-            room.add(bytes);
+            room.push_bytes(bytes);
             return;
         }
         put_beyond(self, room, bytes);
@@ -174,7 +46,7 @@ fn put_beyond<W: Sink>(writer: &mut W, room: &mut OutputBuffer, bytes: &[u8])
 {
     flush(writer, room);
     if room.fits(bytes.len()) {
-        room.add(bytes);
+        room.push_bytes(bytes);
         return;
     }
     write_on(writer, bytes);
@@ -185,7 +57,7 @@ fn flush<W: Sink>(writer: &mut W, room: &mut OutputBuffer)
     ensures done { Puts (of_writer (W.taken writer.old) (W.failed writer.old) room.old) (of_writer (W.taken writer.new) (W.failed writer.new) []) [] }
     ensures empty { room.new ≡ [] }
 {
-    write_on(writer, room.bytes());
+    write_on(writer, room.as_bytes());
     room.clear();
 }
 

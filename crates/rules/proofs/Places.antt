@@ -1,10 +1,9 @@
 -- Places of a text at or before an offset.
-use Rattle.std.proofs.Common.{◌≡◌, ◌≤◌, ◌<◌, inl, inr, ℕ, zero, suc, true, false, cond, List, length, sym, ap, ◌∙◌, arith}
+use Rattle.std.proofs.Common.{◌≡◌, ◌≤◌, ◌<◌, inl, inr, ℕ, zero, suc, true, cond, List, length, sym, ap, ◌∙◌, arith}
 use Rattle.std.proofs.lemmas.Bool.{cases_lt, cases_Bool}
 use Rattle.std.proofs.lemmas.Bool.Decides.{nat_tests}
 use Rattle.std.proofs.lemmas.List.{get_or_past}
 use Rattle.std.specs.Str.{IsCharBoundary}
-use Rattle.source_text.specs.LineBytes.{continues, ends_line_at}
 use Rattle.rules.specs.Lines.{is_place, place_before}
 
 pub boundary_is_place : (text : List ℕ) (i : ℕ) → IsCharBoundary text i → is_place text i ≡ true
@@ -32,11 +31,3 @@ nearest_is_before text (suc i) at h b far =
           let p : is_place text (suc i) ≡ true = boundary_is_place text (suc i) (rw same at b) in
           same ∙ sym (ap (λ x. cond x (suc i) (place_before text i)) p)
     ]
-
--- the characters of one byte that end no line, except the first control characters
-
-pub plain_begins : (b : ℕ) → 14 ≤ b → b ≤ 127 → continues b ≡ false
-plain_begins b low high = grind (arith, nat_tests)
-
-pub plain_ends_no_line : (b : ℕ) → 14 ≤ b → b ≤ 127 → (b1 b2 : ℕ) → ends_line_at b b1 b2 ≡ false
-plain_ends_no_line b low high b1 b2 = grind (arith, nat_tests)

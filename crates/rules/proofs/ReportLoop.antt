@@ -6,12 +6,12 @@ use Rattle.source_text.specs.Lines.{line_column}
 use Rattle.source_text.proofs.Lines.{line_column_by_bytes}
 use Rattle.rules.specs.Reports.{Report}
 use Rattle.rules.specs.Lines.{place_before, line_of, report_line, report_lines}
-use Rattle.rules.specs.Located.{IsLocated}
-use Rattle.rules.specs.declared.cursor.Located.{Located}
+use Rattle.source_text.specs.Located.{IsLocated}
+use Rattle.source_text.specs.declared.line_walker.LineWalker.{LineWalker}
 use Rattle.rules.proofs.Places.{nearest_is_before}
 
 -- the line of a report, at the nearest place at or before its start
-pub line_is : (text : List ℕ) (here : Located) (r : Report) (place : ℕ) → IsUtf8 text → IsLocated text here → here.at ≡ place
+pub line_is : (text : List ℕ) (here : LineWalker) (r : Report) (place : ℕ) → IsUtf8 text → IsLocated text here → here.at ≡ place
     → place ≤ r.start → IsCharBoundary text place → ((i : ℕ) → place < i → i ≤ r.start → IsCharBoundary text i → ⊥)
     → line_of (here.line, here.column) r ≡ report_line text r
 line_is text here r place utf8 located at below boundary nearest =

@@ -13,4 +13,3 @@ pub mod Used
 pub mod RuleViews
 pub mod Run
 pub mod Lines
-pub mod Located

@@ -3,7 +3,6 @@
 
 mod bindings;
 mod built_in;
-mod cursor;
 mod eqeqeq;
 mod known_keys;
 mod lines;

@@ -2,11 +2,9 @@
 
 ghost use Rattle.std.specs.Prelude.{◌≡◌, ◌++◌, IfOk, OnOk, string_bytes};
 ghost use Rattle.rules.specs.Lines.{line_of, report_lines as lines_of, report_status as status_of};
-ghost use Rattle.rules.specs.Located.{IsLocated};
 
-use crate::cursor::Located;
 use crate::report::Report;
-use source_text::Source;
+use source_text::{LineWalker, Source};
 use std::alloc::{AllocError, Global};
 use std::fmt::Write;
 
@@ -25,7 +23,7 @@ pub fn report_lines(
     ensures { IfOk result (λ lines. string_bytes lines ≡ lines_of source.now reports.now) }
 {
     let mut lines = String::new(alloc);
-    let mut here = Located::first();
+    let mut here = LineWalker::first();
     for report in reports {
         let place = source.text().floor_char_boundary(report.start());
         here = here.resumed(place).moved(source, place);
@@ -35,7 +33,7 @@ pub fn report_lines(
 }
 
 /// Appends the line of a report.
-fn push_line(here: Located, report: &Report, lines: &mut String) -> Result<(), AllocError>
+fn push_line(here: LineWalker, report: &Report, lines: &mut String) -> Result<(), AllocError>
     ensures { OnOk result (string_bytes lines.new ≡ string_bytes lines.old ++ line_of (here.line, here.column) report.now) }
 {
     writeln!(

@@ -1,6 +1,7 @@
 pub mod Source
 pub mod Lines
 pub mod LineBytes
+pub mod Located
 pub mod Spaces
 pub mod Io
 pub mod Memory

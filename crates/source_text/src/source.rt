@@ -1,12 +1,12 @@
 //! Checked source text.
 
-ghost use Rattle.std.specs.Prelude.{◌≡◌, ◌≤◌, ◌<◌, ◌+◌, ◌==◌, ◌↔◌, ℕ, length, slice_index, IfOk, IfErr, IsOk, IsErrOf};
+ghost use Rattle.std.specs.Prelude.{◌≡◌, ◌≤◌, ◌<◌, ◌==◌, ◌↔◌, ℕ, length, IfOk, IfErr, IsOk, IsErrOf};
 ghost use Rattle.std.specs.Str.{IsUtf8};
-ghost use Rattle.source_text.specs.LineBytes.{continues, ends_line_at};
 ghost use Rattle.source_text.specs.Lines.{line_column};
 ghost use Rattle.source_text.specs.Source.{IsPlace, IsRefusal};
 
 use crate::Fault;
+use crate::line_walker::LineWalker;
 use std::marker::Model;
 use std::str::from_utf8;
 
@@ -90,44 +90,7 @@ impl<'s> Source<'s> {
         requires { IsPlace self.now offset }
         ensures { result ≡ line_column self.now offset }
     {
-        let bytes = self.bytes();
-        let mut line = 1u32;
-        let mut column = 1u32;
-        for i in 0..offset {
-            if continues_character(bytes[i]) {
-                continue;
-            }
-            if ends_line(bytes, i) {
-                line += 1;
-                column = 1;
-            } else {
-                column += 1;
-            }
-        }
-        (line, column)
-    }
-}
-
-// Whether a byte of UTF-8 begins no character.
-#[inline]
-fn continues_character(byte: u8) -> bool
-    ensures { result ≡ continues byte }
-{
-    matches!(byte, 0x80..=0xBF)
-}
-
-// Whether the character that begins at `at` ends a line.
-#[inline]
-fn ends_line(bytes: &[u8], at: usize) -> bool
-    requires { at < length bytes.now }
-    ensures { result ≡ ends_line_at (slice_index bytes.now at) (slice_index bytes.now (at + 1)) (slice_index bytes.now (at + 2)) }
-{
-    match bytes[at] {
-        b'\n' => true,
-        b'\r' => at + 1 >= bytes.len() || bytes[at + 1] != b'\n',
-        0xE2 => at + 2 < bytes.len()
-            && bytes[at + 1] == 0x80
-            && matches!(bytes[at + 2], 0xA8 | 0xA9),
-        _ => false,
+        let walker = LineWalker::first().moved(self, offset);
+        (walker.line, walker.column)
     }
 }

@@ -14,7 +14,6 @@ use crate::position::{PartAt, Position, part_at, part_text};
 use crate::production::Production;
 use crate::statements::{EVALUATED, declaration_production, is_part, statement_production};
 use crate::words::is_string_literal;
-use grammar::is_pattern;
 use language::{Rank, Start};
 use tree::{Kind, Node};
 
@@ -164,7 +163,7 @@ fn declared_production(
             with_initialiser(has_in, bound(true, kind))
         }
         (PartAt::Part(kind), PartAt::Gap, PartAt::Past) => {
-            if initialised && is_pattern(kind) {
+            if initialised && kind.is_pattern() {
                 return None;
             }
             bare_name(bound(true, kind))

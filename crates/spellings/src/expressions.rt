@@ -8,12 +8,11 @@ ghost use Rattle.spellings.specs.Entries.{around};
 ghost use Rattle.spellings.specs.Expressions.{expression_outline as outline_of_expression, definition_outline as outline_of_definition, reference_outline as outline_of_reference, operation_outline as outline_of_operation, identifier_outline as outline_of_identifier, literal_outline as outline_of_literal, function_outline as outline_of_function, class_outline as outline_of_class, member_outline as outline_of_member, call_outline as outline_of_call, update_outline as outline_of_update, unary_outline as outline_of_unary, binary_outline as outline_of_binary, logical_outline as outline_of_logical, assignment_outline as outline_of_assignment, kind_at as kind_of_entry, meta_outline as outline_of_meta, chain_outline as outline_of_chain, sequence_outline as outline_of_sequence, joined_outline as outline_joined, arrow_outline as outline_of_arrow};
 ghost use Rattle.spellings.specs.Productions.{outline_of};
 
-use crate::leaves::is_super;
 use crate::position::{PartAt, part_at, part_text};
 use crate::production::Production;
 use grammar::{
-    Operation, has_optional, is_assignment, is_literal, is_pattern, is_prefix_operator,
-    is_reserved, is_target, is_update_operator, operation_of,
+    Operation, has_optional, is_assignment, is_literal, is_prefix_operator, is_reserved,
+    is_update_operator, operation_of,
 };
 use language::Rank;
 use tree::{Flags, Kind, Node};
@@ -130,7 +129,7 @@ fn member_production(flags: Flags, object: Kind) -> Option<Production>
         return None;
     }
     Some(Production::Member {
-        of_super: is_super(object),
+        of_super: object.is_super(),
         is_computed: flags.computed,
     })
 }
@@ -142,7 +141,7 @@ fn call_production(flags: Flags, callee: Kind) -> Option<Production>
         return None;
     }
     Some(Production::Call {
-        of_super: is_super(callee),
+        of_super: callee.is_super(),
     })
 }
 
@@ -184,7 +183,7 @@ fn operation_production(node: Node) -> Option<Production>
 fn update_production(operator: &str, flags: Flags, operand: Kind) -> Option<Production>
     ensures { option_map outline_of result ≡ outline_of_update operator.now flags operand }
 {
-    if !is_update_operator(operator) || !is_target(operand) {
+    if !is_update_operator(operator) || !operand.is_target() {
         return None;
     }
     Some(Production::Update {
@@ -245,10 +244,10 @@ fn assignment_production(operator: &str, left: Kind) -> Option<Production>
     if !is_assignment(operator) {
         return None;
     }
-    if is_target(left) {
+    if left.is_target() {
         return Some(Production::Assignment { to_pattern: false });
     }
-    if operator == "=" && is_pattern(left) {
+    if operator == "=" && left.is_pattern() {
         return Some(Production::Assignment { to_pattern: true });
     }
     None

@@ -1,7 +1,6 @@
 //! The outlines of names, keys, parts of templates, and directives' strings (ECMA-262 11.6, 11.8.6, 12.1, 12.2.6, 14.1).
 
 ghost use Rattle.std.specs.Prelude.{◌≡◌, option_map};
-ghost use Rattle.language.specs.Vocabulary.{is_super as is_super_kind};
 ghost use Rattle.spellings.specs.Others.{leaf_if as leaf_when, is_chunk as is_chunk_kind, is_key_class as is_class_of_key, name_outline as outline_of_name, key_outline as outline_of_key, quoted_outline as outline_of_quoted, quasi_outline as outline_of_quasi};
 ghost use Rattle.spellings.specs.Productions.{outline_of};
 ghost use Rattle.spellings.specs.Leaves.{names_at, literal_at as is_literal_at, leaf_at};
@@ -69,12 +68,6 @@ pub(crate) fn quasi_production(kind: Kind) -> Option<Production>
         Kind::TemplateLiteral => Some(Production::Template),
         _ => None,
     }
-}
-
-pub(crate) fn is_super(kind: Kind) -> bool
-    ensures { result ≡ is_super_kind kind }
-{
-    matches!(kind, Kind::Super)
 }
 
 pub(crate) fn is_chunk(kind: Kind) -> bool

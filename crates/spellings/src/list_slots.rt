@@ -6,8 +6,6 @@ ghost use Rattle.spellings.specs.Outlines.{chunk_at, item_at, tail_at, skips_gap
 
 use crate::outline::ListSlots;
 use crate::position::{ASSIGNMENT, Position, Slot, WHOLE};
-use crate::words::{is_identifier, is_rest};
-use grammar::{is_pattern, is_target};
 use language::{Rank, Start};
 use tree::Kind;
 
@@ -66,7 +64,7 @@ fn listed(
     let Some(position) = position else {
         return None;
     };
-    if is_last || !is_rest(kind) {
+    if is_last || !kind.is_rest() {
         return Some((Slot::Fixed(position), tail));
     }
     None
@@ -108,16 +106,16 @@ fn pattern_part(binds: bool, kind: Kind) -> Option<Position>
 pub(crate) fn bound(binds: bool, kind: Kind) -> Option<Position>
     ensures { result ≡ bound_at binds kind }
 {
-    if is_pattern(kind) {
+    if kind.is_pattern() {
         return Some(Position::Pattern {
             binds,
             start: Start::Any,
         });
     }
-    if binds && is_identifier(kind) {
+    if binds && kind.is_identifier() {
         return Some(Position::Name);
     }
-    if !binds && is_target(kind) {
+    if !binds && kind.is_target() {
         return Some(Position::Expression {
             rank: Rank::LeftHandSide,
             has_in: true,
@@ -250,7 +248,7 @@ pub(crate) fn steady_slot(tail: ListSlots, kind: Kind) -> Option<Slot>
     match tail {
         ListSlots::Each(slot) => Some(slot),
         ListSlots::Arguments { .. } => {
-            if is_rest(kind) {
+            if kind.is_rest() {
                 return None;
             }
             Some(Slot::Fixed(argument(kind)))

@@ -12,7 +12,7 @@ use crate::list_slots::with_default;
 use crate::position::{PartAt, Position, part_at, part_text};
 use crate::production::Production;
 use crate::properties::keyed_production;
-use crate::words::{is_rest, names_constructor};
+use crate::words::names_constructor;
 use tree::{Flags, Form, Kind, Node};
 
 pub(crate) fn class_body_production(kind: Kind) -> Option<Production>
@@ -60,7 +60,7 @@ fn setter_production(name: PartAt, value: PartAt, body: PartAt, other: PartAt) -
 {
     match (name, value, body, other) {
         (PartAt::Gap, PartAt::Part(kind), PartAt::Part(_), PartAt::Past) => {
-            if is_rest(kind) {
+            if kind.is_rest() {
                 return None;
             }
             set_at(with_default(true, kind))

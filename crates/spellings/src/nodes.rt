@@ -18,7 +18,7 @@ use crate::declarations::{
 };
 use crate::expressions::{expression_production, kind_at};
 use crate::leaves::{
-    directive_string_production, is_chunk, is_super, key_production, leaf_if, name_production,
+    directive_string_production, is_chunk, key_production, leaf_if, name_production,
     quasi_production,
 };
 use crate::members::{class_body_production, member_production, method_production};
@@ -29,7 +29,6 @@ use crate::properties::{
     rest_production, spread_production,
 };
 use crate::statements::statement_production;
-use crate::words::is_identifier;
 use tree::Node;
 
 /// The production of a node at a position; none where the table has no way to spell it there. `in_chain`: the node is known to be part
@@ -44,9 +43,9 @@ pub(crate) fn production_at(node: Node, position: Position, in_chain: bool) -> O
         Position::Expression { .. } => expression_production(node),
         Position::ChainPart { .. } => chain_part_production(node, in_chain),
         Position::Name => name_production(kind, node.text()),
-        Position::IdentifierName | Position::ShorthandKey => leaf_if(is_identifier(kind)),
+        Position::IdentifierName | Position::ShorthandKey => leaf_if(kind.is_identifier()),
         Position::PropertyName => key_production(kind, node.text()),
-        Position::Super => leaf_if(is_super(kind)),
+        Position::Super => leaf_if(kind.is_super()),
         Position::DirectiveString => directive_string_production(kind, node.text()),
         Position::TaggedQuasi => quasi_production(kind),
         Position::TemplateElement { .. } => leaf_if(is_chunk(kind)),

@@ -7,7 +7,6 @@ ghost use Rattle.spellings.specs.Productions.{outline_of};
 use crate::list_slots::{bound, with_default};
 use crate::position::{ASSIGNMENT, Position};
 use crate::production::Production;
-use grammar::is_pattern;
 use tree::{Flags, Form, Kind};
 
 pub(crate) fn spread_production(kind: Kind) -> Option<Production>
@@ -152,7 +151,7 @@ pub(crate) fn rest_production(
 {
     match kind {
         Kind::RestElement => {
-            if of_object && is_pattern(target) {
+            if of_object && target.is_pattern() {
                 return None;
             }
             one_at(bound(binds, target))

@@ -2,7 +2,7 @@
 
 ghost use Rattle.std.specs.Prelude.{◌≡◌};
 ghost use Rattle.tree.specs.Node.{node_tree};
-ghost use Rattle.tree.specs.Uses.{is_lean, within as is_within, used_flags as flags_used, has_text as kind_has_text, is_init as is_init_form};
+ghost use Rattle.tree.specs.Uses.{is_lean, within as is_within, used_flags as flags_used, is_init as is_init_form};
 ghost use Rattle.language.specs.Pieces.{settle};
 ghost use Rattle.language.specs.Grammar.{own_rank, own_in, own_start};
 ghost use Rattle.spellings.specs.Outlines.{role_of, slot_of, opens_at};
@@ -113,25 +113,7 @@ pub(crate) fn is_lean_node(node: Node) -> bool
 fn is_lean_label(kind: Kind, text: &str, flags: Flags) -> bool
     ensures { result ≡ lean_label kind text.now flags }
 {
-    (has_text(kind) || text.is_empty()) && has_its_flags(kind, flags)
-}
-
-/// Whether the text of such a node says something.
-fn has_text(kind: Kind) -> bool
-    ensures { result ≡ kind_has_text kind }
-{
-    matches!(
-        kind,
-        Kind::Identifier
-            | Kind::Literal
-            | Kind::TemplateElement
-            | Kind::UpdateExpression
-            | Kind::UnaryExpression
-            | Kind::BinaryExpression
-            | Kind::LogicalExpression
-            | Kind::AssignmentExpression
-            | Kind::VariableDeclaration
-    )
+    (kind.has_text() || text.is_empty()) && has_its_flags(kind, flags)
 }
 
 /// Whether no flag is set but those that the kind uses.

@@ -9,7 +9,6 @@ ghost use Rattle.spellings.specs.Remaining.{goes_over, are_whole, are_plain};
 use crate::list_slots::{Next, is_of_arguments, is_over, may_end, next_slot, skips_gap, takes_all};
 use crate::outline::ListSlots;
 use crate::position::Slot;
-use crate::words::is_rest;
 use tree::{Node, NodeList};
 
 /// The position of a part that so many stand behind, and how they go on behind it.
@@ -62,7 +61,7 @@ fn has_plain(parts: NodeList, from: usize) -> bool
         let Some(part) = parts.get(index) else {
             return false;
         };
-        if is_rest(part.kind()) {
+        if part.kind().is_rest() {
             return false;
         }
     }

@@ -1,7 +1,7 @@
 //! What texts and kinds mean to the table.
 
 ghost use Rattle.std.specs.Prelude.{◌≡◌};
-ghost use Rattle.language.specs.Vocabulary.{is_identifier as is_identifier_kind, is_rest as is_rest_kind, is};
+ghost use Rattle.language.specs.Vocabulary.{is};
 ghost use Rattle.language.specs.Strings.{literal_units};
 ghost use Rattle.language.specs.Statements.{is_string_literal as is_string_of_kind};
 ghost use Rattle.spellings.specs.Others.{names_constructor as names_constructor_key};
@@ -9,18 +9,6 @@ ghost use Rattle.spellings.specs.Others.{names_constructor as names_constructor_
 use grammar::literal_class;
 use tokens::{TokenClass, string_is};
 use tree::Kind;
-
-pub(crate) fn is_identifier(kind: Kind) -> bool
-    ensures { result ≡ is_identifier_kind kind }
-{
-    matches!(kind, Kind::Identifier)
-}
-
-pub(crate) fn is_rest(kind: Kind) -> bool
-    ensures { result ≡ is_rest_kind kind }
-{
-    matches!(kind, Kind::RestElement)
-}
 
 /// Whether such a node is a string literal, by its kind and text.
 pub(crate) fn is_string_literal(kind: Kind, text: &str) -> bool
@@ -36,7 +24,7 @@ pub(crate) fn is_string_literal(kind: Kind, text: &str) -> bool
 pub(crate) fn names_constructor(kind: Kind, text: &str) -> bool
     ensures { result ≡ names_constructor_key kind text.now }
 {
-    (is_identifier(kind) && text == "constructor")
+    (kind.is_identifier() && text == "constructor")
         || (is_string_literal(kind, text) && is_constructor_value(text))
 }
 

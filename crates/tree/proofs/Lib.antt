@@ -7,7 +7,6 @@ mod Examples
 pub mod KindsEqual
 pub mod Lean
 pub mod CopyLemmas
-pub mod Chunks
 pub mod FlatTrees
 pub mod Runs
 pub mod Grown

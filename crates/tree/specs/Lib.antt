@@ -1,3 +1,4 @@
+pub mod Kinds
 pub mod Tree
 pub mod TreeCode
 pub mod Sizes
@@ -9,7 +10,6 @@ pub mod Fields
 pub mod Flat
 pub mod Linked
 pub mod PartNumber
-pub mod FlatNodes
 pub mod Places
 pub mod Growth
 pub mod Finished

@@ -1,6 +1,6 @@
 -- Which nodes have rows: expressions where they are evaluated, and simple targets. Rows are counted from 1 in source order, a node's before
 -- those of its parts. Of a tree that a text derives they are those of the cost table; of another tree they say nothing.
-use Rattle.std.specs.Prelude.{ℕ, zero, suc, ◌+◌, Bool, true, false, not, ◌&&◌, ◌||◌, cond, nat_eq, List, [], ◌∷◌, ◌++◌, Option, Some, None}
+use Rattle.std.specs.Prelude.{ℕ, zero, suc, ◌+◌, Bool, false, not, ◌&&◌, ◌||◌, cond, nat_eq, List, [], ◌∷◌, ◌++◌, Option, Some, None}
 use Rattle.tree.specs.declared.kind.Kind.{Kind}
 use Rattle.tree.specs.declared.kind.Kind.TheVariants as kind
 use Rattle.tree.specs.declared.kind.Flags.{Flags}
@@ -10,43 +10,8 @@ use Rattle.tree.specs.declared.node_use.NodeUse.{NodeUse}
 use Rattle.tree.specs.declared.node_use.NodeUse.TheVariants.{Evaluated, ChainPart, Assigned, Bound, NotEvaluated}
 use Rattle.tree.specs.declared.node_use.ParentUse.{ParentUse}
 use Rattle.tree.specs.declared.node_use.ChildPlace.{ChildPlace}
+use Rattle.tree.specs.Kinds.{is_chain_part, is_expression, is_pattern, is_target}
 use Rattle.tree.specs.Tree.{Tree, Parts, node, none, part, gap, kind_of, part_count}
-
-abbrev pub is_expression : Kind → Bool
-is_expression kind.Identifier = true
-is_expression kind.Literal = true
-is_expression kind.ThisExpression = true
-is_expression kind.ArrayExpression = true
-is_expression kind.ObjectExpression = true
-is_expression kind.FunctionExpression = true
-is_expression kind.ArrowFunctionExpression = true
-is_expression kind.ClassExpression = true
-is_expression kind.TemplateLiteral = true
-is_expression kind.TaggedTemplateExpression = true
-is_expression kind.MemberExpression = true
-is_expression kind.CallExpression = true
-is_expression kind.NewExpression = true
-is_expression kind.MetaProperty = true
-is_expression kind.ImportExpression = true
-is_expression kind.ChainExpression = true
-is_expression kind.UpdateExpression = true
-is_expression kind.UnaryExpression = true
-is_expression kind.BinaryExpression = true
-is_expression kind.LogicalExpression = true
-is_expression kind.ConditionalExpression = true
-is_expression kind.AssignmentExpression = true
-is_expression kind.SequenceExpression = true
-is_expression _ = false
-
-abbrev pub is_target : Kind → Bool
-is_target kind.Identifier = true
-is_target kind.MemberExpression = true
-is_target _ = false
-
-abbrev pub is_pattern : Kind → Bool
-is_pattern kind.ArrayPattern = true
-is_pattern kind.ObjectPattern = true
-is_pattern _ = false
 
 abbrev pub has_row : NodeUse → Kind → Bool
 has_row Evaluated node_kind = is_expression node_kind
@@ -109,15 +74,10 @@ part_use_in _ a p = Evaluated
 abbrev pub part_use : ParentUse → ChildPlace → NodeUse
 part_use a p = part_use_in a.kind a p
 
-abbrev pub is_chain_element : Kind → Bool
-is_chain_element kind.MemberExpression = true
-is_chain_element kind.CallExpression = true
-is_chain_element _ = false
-
 abbrev mutual
   -- whether a `?.` stands in a member or a call, or in what it is of
   pub contains_optional : Tree → Bool
-  contains_optional (node node_kind text flags from to parts) = is_chain_element node_kind && (flags.optional || first_contains_optional parts)
+  contains_optional (node node_kind text flags from to parts) = is_chain_part node_kind && (flags.optional || first_contains_optional parts)
 
   pub first_contains_optional : Parts → Bool
   first_contains_optional none = false

@@ -60,7 +60,7 @@ pub(crate) fn finish_node<'s>(
         count: count as u32,
         row,
     };
-    growing.nodes.push(growing.alloc, node)?;
+    growing.nodes.push(node)?;
     Ok(NodeNumber {
         number: number as u32,
     })

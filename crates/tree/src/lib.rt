@@ -10,7 +10,6 @@ mod finish_node;
 mod flat_builder;
 mod flat_list;
 mod flat_node;
-mod flat_nodes;
 mod flat_ref;
 mod flat_tree;
 mod kind;

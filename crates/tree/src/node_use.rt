@@ -1,7 +1,7 @@
 //! Where nodes stand, as far as it says which of them have rows.
 
 ghost use Rattle.std.specs.Prelude.{◌≡◌, ◌<◌};
-ghost use Rattle.tree.specs.NodeUses.{has_row as has_row_at, is_expression as is_expression_kind, is_target as is_target_kind, is_pattern as is_pattern_kind, part_use as part_standing_at, property_use as keyed_at, value_use as value_at, member_use as selected_at, callee_use as linked_at, first_else as head_at, child_place as inner_at, looks as looks_at, contains_optional as chains_tree, is_chain_element as is_link_kind};
+ghost use Rattle.tree.specs.NodeUses.{has_row as has_row_at, part_use as part_standing_at, property_use as keyed_at, value_use as value_at, member_use as selected_at, callee_use as linked_at, first_else as head_at, child_place as inner_at, looks as looks_at, contains_optional as chains_tree};
 
 use crate::boxed_node::BoxedNode;
 use crate::kind::{Flags, Form, Kind};
@@ -43,8 +43,8 @@ pub(crate) fn has_row(node_use: NodeUse, kind: Kind) -> bool
     ensures { result ≡ has_row_at node_use kind }
 {
     match node_use {
-        NodeUse::Evaluated => is_expression(kind),
-        NodeUse::Assigned => is_target(kind),
+        NodeUse::Evaluated => kind.is_expression(),
+        NodeUse::Assigned => kind.is_target(),
         NodeUse::ChainPart | NodeUse::Bound | NodeUse::NotEvaluated => false,
     }
 }
@@ -83,7 +83,7 @@ fn looks_below(around: ParentUse, index: usize) -> bool
 fn contains_optional(syntax: &BoxedNode) -> bool
     ensures { result ≡ chains_tree syntax.now }
 {
-    if !is_chain_element(syntax.kind) {
+    if !syntax.kind.is_chain_part() {
         return false;
     }
     if syntax.flags.optional {
@@ -93,12 +93,6 @@ fn contains_optional(syntax: &BoxedNode) -> bool
         Some(Some(part)) => contains_optional(part),
         _ => false,
     }
-}
-
-fn is_chain_element(kind: Kind) -> bool
-    ensures { result ≡ is_link_kind kind }
-{
-    matches!(kind, Kind::MemberExpression | Kind::CallExpression)
 }
 
 /// Where a part of a node stands.
@@ -156,7 +150,7 @@ pub(crate) fn part_use(around: ParentUse, part: ChildPlace) -> NodeUse
         Kind::ArrayPattern | Kind::ObjectPattern | Kind::RestElement => node_use,
         Kind::AssignmentPattern => first_else(part.index, node_use, NodeUse::Evaluated),
         Kind::AssignmentExpression | Kind::ForInStatement | Kind::ForOfStatement => {
-            if is_pattern(part.kind) {
+            if part.kind.is_pattern() {
                 return first_else(part.index, NodeUse::Assigned, NodeUse::Evaluated);
             }
             NodeUse::Evaluated
@@ -232,48 +226,4 @@ fn callee_use(around: ParentUse, part: ChildPlace) -> NodeUse
         }
         _ => NodeUse::Evaluated,
     }
-}
-
-fn is_pattern(kind: Kind) -> bool
-    ensures { result ≡ is_pattern_kind kind }
-{
-    matches!(kind, Kind::ArrayPattern | Kind::ObjectPattern)
-}
-
-fn is_target(kind: Kind) -> bool
-    ensures { result ≡ is_target_kind kind }
-{
-    matches!(kind, Kind::Identifier | Kind::MemberExpression)
-}
-
-/// Whether a kind of node is an expression.
-fn is_expression(kind: Kind) -> bool
-    ensures { result ≡ is_expression_kind kind }
-{
-    matches!(
-        kind,
-        Kind::Identifier
-            | Kind::Literal
-            | Kind::ThisExpression
-            | Kind::ArrayExpression
-            | Kind::ObjectExpression
-            | Kind::FunctionExpression
-            | Kind::ArrowFunctionExpression
-            | Kind::ClassExpression
-            | Kind::TemplateLiteral
-            | Kind::TaggedTemplateExpression
-            | Kind::MemberExpression
-            | Kind::CallExpression
-            | Kind::NewExpression
-            | Kind::MetaProperty
-            | Kind::ImportExpression
-            | Kind::ChainExpression
-            | Kind::UpdateExpression
-            | Kind::UnaryExpression
-            | Kind::BinaryExpression
-            | Kind::LogicalExpression
-            | Kind::ConditionalExpression
-            | Kind::AssignmentExpression
-            | Kind::SequenceExpression
-    )
 }

@@ -1,6 +1,6 @@
 use Rattle.std.proofs.Common.{◌≡◌, ◌++◌, drop, string_bytes}
 use Rattle.rules.specs.Lines.{report_lines}
-use Rattle.rules.specs.Located.{IsLocated}
+use Rattle.source_text.specs.Located.{IsLocated}
 use Rattle.rules.proofs.lines.report_lines.Given as goal
 
 abbrev pub invariant-loop-report : goal.invariant-loop-report

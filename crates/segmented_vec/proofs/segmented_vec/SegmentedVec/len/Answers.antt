@@ -3,4 +3,4 @@ use Rattle.segmented_vec.proofs.SegmentItems.{most}
 use Rattle.segmented_vec.proofs.segmented_vec.SegmentedVec.len.Goals as goal
 
 pub returns-clause-few : goal.returns-clause-few
-returns-clause-few g c = omega (arith, c.self.invariant.1.1.0, c.self.invariant.1.1.1, most c.self.inside.chunks.items c.self.invariant.0)
+returns-clause-few g c = omega (arith, c.self.invariant.1.1.1.0, c.self.invariant.1.1.1.1, most g.row.N c.self.inside.chunks.items c.self.invariant.1.0)

@@ -1,5 +1,0 @@
-use Rattle.std.proofs.Common.{◌≡◌, ◌++◌, take}
-use Rattle.cost_certificate.proofs.line_buffer.LineBuffer.push_text.Given as goal
-
-abbrev pub invariant-loop-byte : goal.invariant-loop-byte
-invariant-loop-byte l = l.self ≡ l.initial.self ++ take l.byte-index l.fn.text

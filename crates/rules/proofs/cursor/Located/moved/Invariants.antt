@@ -1,6 +1,0 @@
-use Rattle.std.proofs.Common.{◌≡◌, ◌+◌, ◌≤◌}
-use Rattle.source_text.specs.LineBytes.{after_bytes}
-use Rattle.rules.proofs.cursor.Located.moved.Given as goal
-
-abbrev pub invariant-loop-i : goal.invariant-loop-i
-invariant-loop-i l = record { walked : (l.line, l.column) ≡ after_bytes (1, 1) l.i l.bytes; few_lines : l.line ≤ l.i + 1; few_columns : l.column ≤ l.i + 1 }
