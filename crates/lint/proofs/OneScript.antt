@@ -9,7 +9,7 @@ use Rattle.language.specs.Claims.{DerivesOpen, WithinLimits, max_height, max_ope
 use Rattle.early_errors.specs.Early.{Error, least, least_error}
 use Rattle.unambiguity_laws.proofs.Steps.{one_script}
 use Rattle.recursive_descent.specs.Completeness.{Agrees}
-use Rattle.parser_tables.specs.Refusals.{IsRefusal}
+use Rattle.token_cursor.specs.Refusals.{IsRefusal}
 use Rattle.lint.specs.ReadScripts.{IsOnly, HasEarlyError, RefusesReading}
 
 unlike : {x : Error} → None ≡ Some x → ⊥

@@ -5,7 +5,7 @@ ghost use Rattle.std.specs.Prelude.{◌≡◌, ◌≤◌, length, IfErr, IfOk};
 ghost use Rattle.std.specs.Str.{IsUtf8};
 ghost use Rattle.language.specs.Claims.{WithinLimits, short_bytes};
 ghost use Rattle.unambiguity_laws.specs.Laws.{InOrder};
-ghost use Rattle.parser_tables.specs.Refusals.{IsRefusal};
+ghost use Rattle.token_cursor.specs.Refusals.{IsRefusal};
 ghost use Rattle.parser.specs.Scripts.{IsAnswered, IsAnsweredAsBefore};
 
 use language::limits::SHORT_BYTES;

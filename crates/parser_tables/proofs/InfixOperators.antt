@@ -22,7 +22,7 @@ use Rattle.parser_tables.specs.Operators.{coded_operator, meant, is_short, is_lo
 use Rattle.parser_tables.specs.OperatorRows.{only_texts}
 use Rattle.parser_tables.specs.Tests.{links}
 use Rattle.parser_tables.proofs.Firsts.{among_only, among_none}
-use Rattle.parser_tables.proofs.TokensAhead.{none_ahead, of_ahead}
+use Rattle.token_cursor.proofs.TokensAhead.{none_ahead, of_ahead}
 
 pub operator_only : (p : List ℕ → Bool) (w : List ℕ) (rows : List (List String × Operator)) → p w ≡ true → operator_among w rows ≡ operator_among w (only_texts p rows)
 operator_only p w [] h = refl

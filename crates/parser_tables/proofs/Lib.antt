@@ -5,4 +5,3 @@ pub mod NoOperators
 pub mod StartsByClass
 pub mod InfixOperators
 pub mod Refusals
-pub mod TokensAhead

@@ -5,7 +5,7 @@ use Rattle.source_text.specs.declared.fault.Fault.{Fault}
 use Rattle.source_text.specs.declared.fault.Fault.TheVariants.{Syntax, TooDeep, OutOfMemory}
 use Rattle.covers.specs.Refusals.{IsRefusedAt, IsMemory}
 use Rattle.token_cursor.specs.CursorState.{IsSyntax}
-use Rattle.parser_tables.specs.Refusals.{IsLimit, IsStop, IsRefusal}
+use Rattle.token_cursor.specs.Refusals.{IsLimit, IsStop, IsRefusal}
 
 pub of_limit : (text : List ℕ) (fault : Fault) → IsLimit fault → IsRefusal text fault
 of_limit text TooDeep h = tt

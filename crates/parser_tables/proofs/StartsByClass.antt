@@ -19,7 +19,7 @@ use Rattle.parser_tables.specs.declared.expression_context.ExpressionContext.{Ex
 use Rattle.parser_tables.specs.declared.expression_starts.ExpressionStart.{ExpressionStart as Coded}
 use Rattle.parser_tables.specs.declared.expression_starts.ExpressionStart.TheVariants as code
 use Rattle.parser_tables.specs.ExpressionStarts.{coded_start, stands_at, stood, opens_at, OpensNothing}
-use Rattle.parser_tables.proofs.TokensAhead.{none_ahead, of_ahead}
+use Rattle.token_cursor.proofs.TokensAhead.{none_ahead, of_ahead}
 
 -- what a token begins, by its class
 pub by_class : (t : LexicalToken) (c : TokenClass) → t.class ≡ c → coded_start (expression_start_by c (table_text c t.text)) ≡ coded_start (expression_start (as_read t))

@@ -7,9 +7,7 @@ pub mod Operators
 pub mod Outcomes
 pub mod Operands
 pub mod StatementSymbols
-pub mod Refusals
 pub mod OperatorRows
-pub mod Seen
 pub mod StatementNodes
 pub mod Tests
 pub mod Tokens

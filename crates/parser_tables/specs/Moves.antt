@@ -1,16 +1,10 @@
--- How far reading went.
-use Rattle.std.specs.Prelude.{◌<◌, length}
-use Rattle.token_cursor.specs.CursorState.{CursorState}
+-- Lists that begin with a token, and statements that are known by it.
 use Rattle.covers.specs.declared.list.ListKind.{ListKind}
 use Rattle.covers.specs.declared.list.ListKind.TheVariants as listed
 use Rattle.parser_tables.specs.declared.expression_starts.ExpressionStart.{ExpressionStart}
 use Rattle.parser_tables.specs.declared.expression_starts.ExpressionStart.TheVariants as opening
 use Rattle.parser_tables.specs.declared.statements.StatementStart.{StatementStart}
 use Rattle.parser_tables.specs.declared.statements.StatementStart.TheVariants as beginning
-
--- a token of the text was passed
-abbrev pub Passes : CursorState → CursorState → Type 0
-Passes s e = (s.last.stop < e.last.stop) × (s.last.stop < length s.text)
 
 -- a list that a token opens: a bracket or the first part of a template
 abbrev pub IsOpened : ListKind → Type 0

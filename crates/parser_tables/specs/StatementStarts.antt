@@ -15,7 +15,7 @@ use Rattle.parser_tables.specs.declared.statements.StatementKind.{StatementKind}
 use Rattle.parser_tables.specs.declared.statements.StatementKind.TheVariants as headed
 use Rattle.parser_tables.specs.declared.statements.StatementStart.{StatementStart as Coded}
 use Rattle.parser_tables.specs.declared.statements.StatementStart.TheVariants as code
-use Rattle.parser_tables.specs.Seen.{Sees, Misses}
+use Rattle.token_cursor.specs.Seen.{Sees, Misses}
 
 -- what the code has for it
 abbrev pub coded_statement_start : StatementStart → Coded

@@ -14,7 +14,7 @@ use Rattle.parser_tables.specs.declared.statements.StatementKind.TheVariants as 
 use Rattle.parser_tables.specs.declared.symbol_lists.Symbol.{Symbol as Coded}
 use Rattle.parser_tables.specs.declared.symbol_lists.Symbol.TheVariants as code
 use Rattle.language.specs.Token.{Token}
-use Rattle.parser_tables.specs.Seen.{Sees, Misses}
+use Rattle.token_cursor.specs.Seen.{Sees, Misses}
 
 -- a token, or what is read by a call; the lists that are pieces have items of their own
 pub data Piece : Type 0 where

@@ -12,17 +12,18 @@ ghost use Rattle.parser_tables.specs.Moves.{BeginsList};
 ghost use Rattle.parser_tables.specs.Items.{listed_kind, listed_node, listed_part, is_grouped, group_levels, list_group};
 ghost use Rattle.parser_tables.specs.Outcomes.{MakesAs, YieldsWhere};
 ghost use Rattle.parser_tables.specs.Operands.{group_part};
-ghost use Rattle.parser_tables.specs.Refusals.{IsLimit, IsStop};
+ghost use Rattle.token_cursor.specs.Refusals.{IsLimit, IsStop};
 ghost use Rattle.parser_tables.specs.Tokens.{single_text};
 
 use crate::expression_context::ExpressionContext;
 use crate::operand::Operand;
-use crate::token_tests::{is_punctuator, is_template_head};
+use crate::token_tests::is_template_head;
 use covers::{Cover, CoverShape, ListBuilder, ListKind};
 use grammar::{accepts_rank, is_reserved};
 use language::{Edge, Rank, Start};
 use productions::{MeasuredNode, finish_plain};
 use source_text::Fault;
+use token_cursor::is_punctuator;
 use tokens::{Token, TokenClass};
 use tree::{Kind, Pair};
 

@@ -32,7 +32,4 @@ pub use symbol_lists::{
     PartialStatement, Symbol, body_symbols, case_symbols, ends_operand, fits_for_head, is_in_or_of,
     list_node_height, statement_symbols,
 };
-pub use token_tests::{
-    is_declaration_word, is_identifier, is_identifier_name, is_name_token, is_punctuator,
-    is_template_head, span_of,
-};
+pub use token_tests::{is_template_head, span_of};

@@ -11,9 +11,10 @@ ghost use Rattle.parser_tables.specs.OperatorRows.{begins_with, only_texts};
 ghost use Rattle.parser_tables.specs.Operators.{coded_operator, meant, short_operators, long_operators, word_operators};
 
 use crate::expression_context::ExpressionContext;
-use crate::token_tests::{first_byte, is_name_token, is_template_head};
+use crate::token_tests::{first_byte, is_template_head};
 use grammar::{accepts_rank, precedence_of};
 use language::{Edge, Rank};
+use token_cursor::is_name_token;
 use tokens::{Token, TokenClass};
 use tree::Kind;
 

@@ -8,10 +8,10 @@ ghost use Rattle.tokens.specs.Scanned.{token_of};
 ghost use Rattle.language.specs.Token.{as_read};
 ghost use Rattle.parser_tables.specs.Tests.{is_key_class, begins_key};
 
-use crate::token_tests::is_punctuator;
 use covers::{CoverShape, ListItem};
 use language::Edge;
 use productions::MeasuredNode;
+use token_cursor::is_punctuator;
 use tokens::{Token, TokenClass, string_is};
 use tree::{Flags, Form};
 

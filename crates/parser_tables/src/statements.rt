@@ -12,7 +12,8 @@ ghost use Rattle.parser_tables.specs.Moves.{IfKind};
 ghost use Rattle.parser_tables.specs.StatementNodes.{statement_node_kind, item_context, inner_context};
 
 use crate::functions_and_classes::FunctionOrClass;
-use crate::token_tests::{first_byte, is_name_token, is_punctuator};
+use crate::token_tests::first_byte;
+use token_cursor::{is_name_token, is_punctuator};
 use tokens::{Token, TokenClass};
 use tree::Kind;
 

@@ -10,11 +10,11 @@ ghost use Rattle.parser_tables.specs.StatementNodes.{partial_of, listed_depth, f
 ghost use Rattle.tree.specs.Tree.{none};
 
 use crate::statements::StatementKind;
-use crate::token_tests::is_punctuator;
 use covers::{ListBuilder, ListKind};
 use language::Edge;
 use productions::MeasuredParts;
 use std::alloc::Global;
+use token_cursor::is_punctuator;
 use tokens::{Token, TokenClass};
 
 /// What was read of a statement, a case, a handler, a function or a class.

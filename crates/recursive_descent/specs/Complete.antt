@@ -45,7 +45,7 @@ use Rattle.recursive_descent.specs.Subscripts.{link_kind, link_flags, link_rank,
 use Rattle.parser_tables.specs.ExpressionStarts.{coded_start, is_by_word}
 use Rattle.parser_tables.specs.StatementSymbols as Piece
 use Rattle.parser_tables.specs.StatementSymbols.{function_or_class_kind}
-use Rattle.parser_tables.specs.Seen.{Sees, SeesBy}
+use Rattle.token_cursor.specs.Seen.{Sees, SeesBy}
 use Rattle.recursive_descent.specs.LeftOperands.{left_of, takes_left, operator_text_of}
 use Rattle.parser_tables.specs.Tests.{ends}
 use Rattle.tokens.specs.declared.token.Goal.TheVariants.{Div}

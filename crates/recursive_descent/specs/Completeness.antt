@@ -34,7 +34,7 @@ use Rattle.parser_tables.specs.declared.operators.InfixOperator.TheVariants as c
 use Rattle.parser_tables.specs.declared.operand.Operand.{Operand}
 use Rattle.parser_tables.specs.declared.expression_context.ExpressionContext.{ExpressionContext}
 use Rattle.recursive_descent.specs.Soundness.{grouping, fits_as, read_as, RunsIn, anywhere}
-use Rattle.parser_tables.specs.Seen.{ReadsHere, SeesBy, Sees, MissesBy}
+use Rattle.token_cursor.specs.Seen.{ReadsHere, SeesBy, Sees, MissesBy}
 use Rattle.parser_tables.specs.Tests.{is_each, is_link}
 use Rattle.recursive_descent.specs.Subscripts.{link_kind, link_flags}
 use Rattle.parser_tables.specs.Operands.{is_group}

@@ -24,7 +24,7 @@ use Rattle.recursive_descent.specs.Soundness.{RunsIn, all_read_as}
 use Rattle.recursive_descent.specs.SoundnessOfLists.{has_reading, seen_fits, is_stuck, stood_in, left_pieces, is_chunked, item_role, ClosedBy, case_count}
 use Rattle.recursive_descent.specs.Follows.{ChunkAt}
 use Rattle.recursive_descent.specs.Completeness.{StopsIn, DeclaredIn}
-use Rattle.parser_tables.specs.Seen.{Sees, SeesBy, Misses}
+use Rattle.token_cursor.specs.Seen.{Sees, SeesBy, Misses}
 use Rattle.parser_tables.specs.Tests.{ends}
 
 -- the last part can't go on

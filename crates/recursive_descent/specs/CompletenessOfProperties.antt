@@ -18,7 +18,7 @@ use Rattle.language.specs.Places.{NextIn, itself, SpellsIn}
 use Rattle.language.proofs.texts.TextOffsets.{text_determined}
 use Rattle.language.proofs.covers.CoverProperties.{KeyAt}
 use Rattle.recursive_descent.specs.CompletenessOfLists.{CommaOr}
-use Rattle.parser_tables.specs.Seen.{ReadsHere, MissesBy, is_free_name}
+use Rattle.token_cursor.specs.Seen.{ReadsHere, MissesBy, is_free_name}
 use Rattle.parser_tables.specs.Tests.{begins_key}
 
 -- `get` or `set` before a key, or neither

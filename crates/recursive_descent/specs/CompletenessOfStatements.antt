@@ -27,7 +27,7 @@ use Rattle.recursive_descent.specs.SoundnessOfStatements.{IsToken, IsGap, PutAt,
 use Rattle.recursive_descent.specs.Completeness.{StopsIn, FinishedIn}
 use Rattle.recursive_descent.specs.CompletenessOfLists.{LastDeclared}
 use Rattle.parser_tables.specs.StatementSymbols as Piece
-use Rattle.parser_tables.specs.Seen.{ReadsHere, Sees, Misses, SeesBy, MissesBy, NoName, is_free_name}
+use Rattle.token_cursor.specs.Seen.{ReadsHere, Sees, Misses, SeesBy, MissesBy, NoName, is_free_name}
 use Rattle.parser_tables.specs.Tests.{ends, ends_word, is_each}
 
 -- an expression that can't go on

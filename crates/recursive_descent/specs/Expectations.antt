@@ -26,8 +26,8 @@ use Rattle.parser_tables.specs.declared.symbol_lists.Symbol.{Symbol}
 use Rattle.parser_tables.specs.declared.symbol_lists.Symbol.TheVariants as piece
 use Rattle.recursive_descent.specs.declared.statement_symbols.Expected.{Expected}
 use Rattle.recursive_descent.specs.declared.statement_symbols.Expected.TheVariants as wanted
-use Rattle.parser_tables.specs.Outcomes.{IsPlaceHere}
-use Rattle.parser_tables.specs.Seen.{ReadsHere, Sees, Misses, NameHere, NoName, SeesBy, MissesBy, declares, is_free_name}
+use Rattle.token_cursor.specs.CursorState.{IsPlaceHere}
+use Rattle.token_cursor.specs.Seen.{ReadsHere, Sees, Misses, NameHere, NoName, SeesBy, MissesBy, declares, is_free_name}
 use Rattle.parser_tables.specs.StatementNodes.{item_context}
 use Rattle.parser_tables.specs.Tests.{ends_word}
 use Rattle.parser_tables.specs.Tokens.{single_node}

@@ -21,8 +21,8 @@ use Rattle.covers.specs.declared.list.ListKind.TheVariants as listed
 use Rattle.language.specs.Token.{Token}
 use Rattle.recursive_descent.specs.TemplateElements.{front, back}
 use Rattle.recursive_descent.specs.Subscripts.{link_by}
-use Rattle.parser_tables.specs.Outcomes.{IsPlaceHere}
-use Rattle.parser_tables.specs.Seen.{MissesBy, SeesBy, Sees, ReadsHere, Misses, NameHere, NoName, is_free_name}
+use Rattle.token_cursor.specs.CursorState.{IsPlaceHere}
+use Rattle.token_cursor.specs.Seen.{MissesBy, SeesBy, Sees, ReadsHere, Misses, NameHere, NoName, is_free_name}
 use Rattle.parser_tables.specs.Tests.{is_later_part, is_template}
 use Rattle.parser_tables.specs.Tokens.{single_node}
 

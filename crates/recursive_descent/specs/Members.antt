@@ -9,7 +9,7 @@ use Rattle.token_cursor.specs.CursorState.{CursorState}
 use Rattle.language.specs.Token.{Token, as_read}
 use Rattle.recursive_descent.specs.declared.properties.PropertyName.{PropertyName}
 use Rattle.parser_tables.specs.Methods.{is_constructor}
-use Rattle.parser_tables.specs.Seen.{MissesBy}
+use Rattle.token_cursor.specs.Seen.{MissesBy}
 use Rattle.parser_tables.specs.Tests.{is_key}
 use Rattle.parser_tables.specs.Tokens.{single_node, key_kind}
 

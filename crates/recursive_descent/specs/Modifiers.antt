@@ -7,7 +7,7 @@ use Rattle.tokens.specs.Scanned.{token_of}
 use Rattle.tree.specs.declared.kind.Form.{Form}
 use Rattle.tree.specs.declared.kind.Form.TheVariants.{Get, Set, Method}
 use Rattle.language.specs.Token.{Token, as_read}
-use Rattle.parser_tables.specs.Seen.{ReadsHere, Misses, SeesBy, MissesBy}
+use Rattle.token_cursor.specs.Seen.{ReadsHere, Misses, SeesBy, MissesBy}
 use Rattle.parser_tables.specs.Tests.{begins_key}
 
 -- the word is read, and a key begins behind it

@@ -39,7 +39,7 @@ use Rattle.parser_tables.specs.declared.expression_context.ExpressionContext.{Ex
 use Rattle.parser_tables.specs.declared.expression_starts.ExpressionStart.{ExpressionStart}
 use Rattle.parser_tables.specs.ExpressionStarts.{coded_start, opens_at}
 use Rattle.parser_tables.specs.Operands.{is_group}
-use Rattle.parser_tables.specs.Seen.{Sees, Misses, MissesBy}
+use Rattle.token_cursor.specs.Seen.{Sees, Misses, MissesBy}
 use Rattle.parser_tables.specs.StatementNodes.{is_closed}
 use Rattle.parser_tables.specs.Tests.{is_template}
 

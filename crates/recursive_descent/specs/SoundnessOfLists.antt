@@ -35,7 +35,7 @@ use Rattle.recursive_descent.specs.declared.properties.Modifiers.{Modifiers}
 use Rattle.recursive_descent.specs.Soundness.{RunsIn, anywhere, Begins, SpelledAs, fits_as, read_as, all_read_as}
 use Rattle.recursive_descent.specs.Follows.{ChunkAt}
 use Rattle.parser_tables.specs.Items.{with_item, item_from, are_some}
-use Rattle.parser_tables.specs.Seen.{ReadsHere, Sees}
+use Rattle.token_cursor.specs.Seen.{ReadsHere, Sees}
 use Rattle.parser_tables.specs.StatementNodes.{is_closed}
 use Rattle.parser_tables.specs.Tokens.{single_node, key_kind}
 

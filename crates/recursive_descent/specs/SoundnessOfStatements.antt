@@ -30,7 +30,7 @@ use Rattle.recursive_descent.specs.Soundness.{RunsIn, anywhere, SpelledAs}
 use Rattle.recursive_descent.specs.SoundnessOfLists.{part_alone}
 use Rattle.parser_tables.specs.StatementSymbols as Piece
 use Rattle.parser_tables.specs.StatementSymbols.{function_or_class_kind}
-use Rattle.parser_tables.specs.Seen.{ReadsHere, Sees, Misses, SeesBy, MissesBy}
+use Rattle.token_cursor.specs.Seen.{ReadsHere, Sees, Misses, SeesBy, MissesBy}
 use Rattle.parser_tables.specs.Tests.{is_each}
 
 -- the position of a statement

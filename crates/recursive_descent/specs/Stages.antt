@@ -27,7 +27,7 @@ use Rattle.parser_tables.specs.declared.operand.Operand.{Operand}
 use Rattle.parser_tables.specs.declared.expression_context.ExpressionContext.{ExpressionContext}
 use Rattle.recursive_descent.specs.Soundness.{ReadAt, grouping}
 use Rattle.recursive_descent.specs.Completeness.{Agrees, Room, StopsIn, Over, IsRead}
-use Rattle.parser_tables.specs.Seen.{ReadsHere, SeesBy}
+use Rattle.token_cursor.specs.Seen.{ReadsHere, SeesBy}
 use Rattle.parser_tables.specs.Tests.{is_each}
 
 -- where a pattern or a name ends nothing goes on

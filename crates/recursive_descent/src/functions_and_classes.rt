@@ -3,12 +3,12 @@
 
 ghost use Rattle.recursive_descent.specs.Complete.{ArrowComplete, FunctionOrClassComplete};
 ghost use Rattle.std.specs.Prelude.{◌≡◌, ◌≤◌, IfOk, IfErr};
-ghost use Rattle.parser_tables.specs.Moves.{Passes};
+ghost use Rattle.token_cursor.specs.CursorState.{Passes};
 ghost use Rattle.recursive_descent.specs.Follows.{NamedAt, NotNamed};
 ghost use Rattle.recursive_descent.specs.Soundness.{Adds, ArrowAt};
 ghost use Rattle.tree.specs.Tree.{height};
 ghost use Rattle.recursive_descent.specs.SoundnessOfStatements.{ClosureAt};
-ghost use Rattle.parser_tables.specs.Refusals.{IsRefusal};
+ghost use Rattle.token_cursor.specs.Refusals.{IsRefusal};
 
 use crate::parser::Parser;
 use language::{Edge, Rank};

@@ -1,7 +1,81 @@
 #![tactic(auto)]
 
-//! Scripts from text (ECMA-262 clauses 12 to 15): by recursive descent. An expression is what its first token begins, and then
-//! what goes on with it; a statement is a list of pieces, by its first token; a list is one loop.
+//! Scripts from text (ECMA-262 clauses 12 to 15): by recursive descent. An expression is what its first token
+//! begins, and then what goes on with it; a statement is a list of pieces, by its first token; a list is one loop.
+//!
+//! For anyone who changes this crate or `parser_tables`, the functions on single tokens and on what was read.
+//! docs/ARCHITECTURE.md says which function reads which production, docs/PROOFS.md how the proof goes.
+//!
+//! # The cycle
+//!
+//! Functions outside the cycle read single tokens, most of them by methods of `Cursor`; thirty-two functions call
+//! each other. The measure is `12 * (length text - last.stop)` plus the rank. A function calls one of the same or a
+//! greater rank only after it has passed a token. By rank, with their files:
+//!
+//! - 11: `keyword_expression` (after `function`, `class`, `super`, `new`, `import`); in primary
+//! - 10: `super_expression` (after `super`), `new_expression` (after `new`), `import_call` (after `import`); in
+//!   primary
+//! - 9: `function_or_class` (a function or class after its word; a method from its `(`); in functions_and_classes
+//! - 8: `read_symbols` (loop); in statement_symbols
+//! - 7: `list` (loop), `statements` (loop); in lists, statements
+//! - 6: `item`, `statement`; in lists, statements
+//! - 5: `special_item` (what is no expression); in lists
+//! - 4: `expression` (loop), `infix`, `declarator`; in expressions, lists
+//! - 3: `leftmost_operand`, `optional_chain` (loop); in primary, subscripts
+//! - 2: `subscript`; in subscripts
+//! - 1: `parenthesized`, `bracketed_list`, `token_or_prefix`, `arrow_function`, `binary_rest`, `update_or_comma`,
+//!   `call_expression`, `index_member`, `other_subscript`, `spread_item`, `property_or_member`, `property_value`;
+//!   in primary, functions_and_classes, expressions, subscripts, lists, properties
+//! - 0: `arguments`, `property_name`, `prefix_expression`; in subscripts, properties, primary
+//!
+//! Some are one arm of another and have its contract for that arm: `special_item` and `spread_item` of `item`;
+//! `bracketed_list` and `token_or_prefix` of `leftmost_operand`; `prefix_expression` of `token_or_prefix`;
+//! `super_expression`, `new_expression` and `import_call` of `keyword_expression`; `call_expression`,
+//! `index_member` and `other_subscript` of `subscript`; `update_or_comma` of `infix`. A function keeps the locals
+//! of all its arms on the stack, and sets them to zero where it begins. So those on the way of each level of a nest
+//! have few: `expression`, `leftmost_operand`, `parenthesized`, `list`, `item` for a pair. Measure before you add
+//! an arm to one of these (docs/PERFORMANCE.md).
+//!
+//! `list`, `item`, `special_item`, `statements`, `read_symbols`, `keyword_expression`, `super_expression`,
+//! `new_expression`, `import_call` and `function_or_class` may pass nothing (their clauses have no `passes`). A
+//! list's loop ends since `item` or what separates items passes a token, or it is a hole before a comma.
+//!
+//! # Two clauses
+//!
+//! - `derived`: `Adds s e old new Is`: as many parentheses are open as before, what was added to the pairs is a
+//!   list, and `Is o s e P` holds for o = `max_open` - opened and the pairs of that list that group (`grouping`,
+//!   which `retain` in `read` gives in the end). A function that goes on with something already read promises for
+//!   whatever came before. A part is promised for each of its roles at once, by its shape (`PartAt`): an
+//!   expression, a pattern (`pattern_tree`, a fold on the expression's tree).
+//! - `complete` (`Agrees`): of a given derivation of what is ahead, that can't go on. At Ok the tree, the place and
+//!   the pairs are the given ones; a syntax error is absurd; too deep only if the given derivation isn't within the
+//!   limits (`Room`). The loop of `expression` goes by stages: what was read so far is a part of what is given, up
+//!   to some turn.
+//! - `low` (the height of what is answered) and the skeleton (`text`, `forward`, `passes`, `refused`) are clauses
+//!   of their own.
+//!
+//! Four things look right and are false. That an expression at a position is the only thing there: `a` and `a.b`
+//! both begin at one place, so say that it can't go on. That a parenthesis counts where it closes: it counts while
+//! it is open, whatever it turns out to be. That an operand is read by Div wherever RegExp reads one
+//! (`operand_start`). That In matters at `**`: it doesn't (`PowersIn`).
+//!
+//! # Checking
+//!
+//! - One function of the cycle alone: `tools/parser/stub.py CRATE COPY FUNCTION` writes a copy of the crate in
+//!   which each other function of the cycle only refuses, so that its contract is taken as it is. Then, in COPY,
+//!   `rt check --only parser::Parser::FUNCTION --allow-holes`: 10 to 60 s over the kept work of the crates below.
+//!   The whole cycle takes six minutes on four processors over kept work, a third of them the cycle itself in one
+//!   job.
+//! - In the cycle answers take the measure before `c` (`F-goal t c = ..`), names of branches have their function in
+//!   front (`F-then-x`), and what a call within the cycle requires is one goal, the measure first:
+//!   `infix-binary_rest-requires t c = (search rules, (.., ..))`. The tool turns the first two into the stub's
+//!   form; the third shows as an error there, for `infix` alone.
+//! - An `omega` in an answer of the cycle sees more hypotheses than in a stub, and may break off: put the fact into
+//!   a lemma.
+//! - A lemma that ends in `.. (Err fault)`, or whose premise `Agrees ..` computes away, leaves implicit arguments
+//!   undetermined: make them explicit.
+//! - The comparison with the plain model: `tools/parser/compare.js` (`--n`, `--seed`, `--high`, `--open`,
+//!   `--nested`). The stack of `rt try` is too small for the rows at height 600: run them by `rt test`.
 
 mod expressions;
 mod functions_and_classes;

@@ -3,31 +3,33 @@
 
 ghost use Rattle.recursive_descent.specs.Complete.{PropertyOrMemberComplete, NameComplete, ValueComplete};
 ghost use Rattle.std.specs.Prelude.{◌≡◌, ◌≤◌, false, is_some, Some, IfOk, IfErr, IfSome};
-ghost use Rattle.parser_tables.specs.Moves.{Passes};
+ghost use Rattle.token_cursor.specs.CursorState.{Passes};
 ghost use Rattle.recursive_descent.specs.Members.{KeyRead, NoKey};
 ghost use Rattle.parser_tables.specs.Methods.{member_flags, method_form, member_kind, is_constructor};
-ghost use Rattle.parser_tables.specs.Outcomes.{IsSyntaxHere, MakesAs};
+ghost use Rattle.token_cursor.specs.CursorState.{IsSyntaxHere};
+ghost use Rattle.parser_tables.specs.Outcomes.{MakesAs};
 ghost use Rattle.std.specs.Bool.{OnTrue, OnFalse};
 ghost use Rattle.tokens.specs.Scanned.{token_of};
 ghost use Rattle.tokens.specs.declared.token.Goal.TheVariants.{Div};
 ghost use Rattle.language.specs.Token.{as_read};
-ghost use Rattle.parser_tables.specs.Seen.{SeesBy, MissesBy, TokenHere};
+ghost use Rattle.token_cursor.specs.Seen.{SeesBy, MissesBy, TokenHere};
 ghost use Rattle.parser_tables.specs.Tests.{is_key_class, is_key, begins_key};
 ghost use Rattle.recursive_descent.specs.Modifiers.{Modified, Accessed, Modifying, form_with};
 ghost use Rattle.recursive_descent.specs.Soundness.{Adds};
 ghost use Rattle.recursive_descent.specs.SoundnessOfLists.{NamedSo, defined, ItemReads, ValueAt};
-ghost use Rattle.parser_tables.specs.Refusals.{IsLimit, IsRefusal};
+ghost use Rattle.token_cursor.specs.Refusals.{IsLimit, IsRefusal};
 ghost use Rattle.parser_tables.specs.Tokens.{single_node, key_kind};
 ghost use Rattle.tree.specs.Tree.{height};
 
 use crate::parser::Parser;
 use covers::{CoverShape, ListItem};
 use parser_tables::{
-    ExpressionContext, FunctionOrClass, begins_key, is_constructor, is_identifier, is_key_class,
-    is_name_token, method_form, property_flags, property_item,
+    ExpressionContext, FunctionOrClass, begins_key, is_constructor, is_key_class, method_form,
+    property_flags, property_item,
 };
 use productions::{MeasuredNode, MeasuredParts, finish_node, finish_plain};
 use source_text::Fault;
+use token_cursor::{is_identifier, is_name_token};
 use tokens::{Goal, Token, TokenClass};
 use tree::{Flags, Form, Kind};
 

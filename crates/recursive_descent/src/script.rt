@@ -4,7 +4,7 @@
 ghost use Rattle.std.specs.Prelude.{◌≡◌, ◌≤◌, length, IfErr, IfOk};
 ghost use Rattle.std.specs.Str.{IsUtf8};
 ghost use Rattle.language.specs.Claims.{WithinLimits};
-ghost use Rattle.parser_tables.specs.Refusals.{IsRefusal};
+ghost use Rattle.token_cursor.specs.Refusals.{IsRefusal};
 ghost use Rattle.source_text.specs.declared.fault.Fault.TheVariants.{OutOfMemory};
 ghost use Rattle.tree.specs.Tree.{program_tree};
 ghost use Rattle.recursive_descent.specs.Scripts.{IsAnswered};

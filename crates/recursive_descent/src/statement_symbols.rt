@@ -5,15 +5,16 @@ ghost use Rattle.recursive_descent.specs.Complete.{SymbolsComplete};
 ghost use Rattle.std.specs.Prelude.{◌≡◌, ◌≤◌, true, IfOk, IfErr, IfSome, map};
 ghost use Rattle.std.specs.Bool.{OnTrue, OnFalse};
 ghost use Rattle.tokens.specs.declared.token.Goal.TheVariants.{Div, RegExp};
-ghost use Rattle.parser_tables.specs.Moves.{Passes};
+ghost use Rattle.token_cursor.specs.CursorState.{Passes};
 ghost use Rattle.recursive_descent.specs.Handlers.{IfHandler};
-ghost use Rattle.parser_tables.specs.Seen.{SeesBy, MissesBy};
+ghost use Rattle.token_cursor.specs.Seen.{SeesBy, MissesBy};
 ghost use Rattle.parser_tables.specs.Tests.{ends_word, is_each};
 ghost use Rattle.parser_tables.specs.StatementSymbols.{piece_of, CatchParts};
 ghost use Rattle.recursive_descent.specs.Soundness.{Adds};
 ghost use Rattle.recursive_descent.specs.SoundnessOfStatements.{BuiltAt};
-ghost use Rattle.parser_tables.specs.Refusals.{IsRefusal};
-ghost use Rattle.parser_tables.specs.Outcomes.{BecomesHere, IsPlaceHere, RefusedUnless, RefusedWhere};
+ghost use Rattle.token_cursor.specs.Refusals.{IsRefusal};
+ghost use Rattle.parser_tables.specs.Outcomes.{BecomesHere, RefusedUnless, RefusedWhere};
+ghost use Rattle.token_cursor.specs.CursorState.{IsPlaceHere};
 ghost use Rattle.parser_tables.specs.StatementNodes.{fits_head, head_levels, head_node, list_levels, put_node, takes_head, takes_list, takes_put, with_list, with_part};
 ghost use Rattle.recursive_descent.specs.Expectations.{expected_if, expected_always, ExpectedAt, NotExpected, LabelAt, NotLabel, TokensAt, NotTokens, WordedAt, NotWorded, ElseAt, FinallyAt, CatchAt, NoCatch, HeritageAt, HeadAt};
 ghost use Rattle.tree.specs.Tree.{parts_height};
@@ -465,7 +466,7 @@ impl<'t, 's> Parser<'t, 's> {
                     let left = self.expect_punctuator("{")?;
                     let list = self.statements(StatementListEnd::ClosingBrace, context, inner)?;
                     self.expect_punctuator("}")?;
-                    let span = self.span_from(left.start);
+                    let span = self.span_from(left);
                     built
                         .nodes
                         .push(finish_plain(Kind::BlockStatement, span, list, high)?)?;

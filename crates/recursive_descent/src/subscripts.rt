@@ -7,14 +7,14 @@ ghost use Rattle.std.specs.Bool.{OnTrue, OnFalse};
 ghost use Rattle.tokens.specs.Scanned.{token_of};
 ghost use Rattle.tokens.specs.declared.token.Goal.TheVariants.{Div};
 ghost use Rattle.language.specs.Token.{as_read};
-ghost use Rattle.parser_tables.specs.Moves.{Passes};
+ghost use Rattle.token_cursor.specs.CursorState.{Passes};
 ghost use Rattle.recursive_descent.specs.Follows.{LinkedAt, NotLinked};
 ghost use Rattle.recursive_descent.specs.Subscripts.{link_kind, link_flags, link_rank, link_by};
-ghost use Rattle.parser_tables.specs.Seen.{SeesBy, MissesBy, Sees};
+ghost use Rattle.token_cursor.specs.Seen.{SeesBy, MissesBy, Sees};
 ghost use Rattle.parser_tables.specs.Tests.{is_link, is_template};
 ghost use Rattle.recursive_descent.specs.Soundness.{Adds, Links, ArgumentsAt, GoesOn};
 ghost use Rattle.tree.specs.Tree.{height, parts_height};
-ghost use Rattle.parser_tables.specs.Refusals.{IsRefusal};
+ghost use Rattle.token_cursor.specs.Refusals.{IsRefusal};
 
 use crate::parser::Parser;
 use covers::ListKind;

@@ -7,7 +7,7 @@ ghost use Rattle.language.specs.Token.{as_read};
 ghost use Rattle.parser_tables.specs.Tests.{is_later_part};
 ghost use Rattle.tree.specs.NodeText.{text_bytes};
 ghost use Rattle.recursive_descent.specs.TemplateElements.{front, back, Holds, part_node};
-ghost use Rattle.parser_tables.specs.Refusals.{IsLimit};
+ghost use Rattle.token_cursor.specs.Refusals.{IsLimit};
 
 use covers::ListItem;
 use productions::MeasuredNode;

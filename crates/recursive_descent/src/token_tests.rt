@@ -11,17 +11,14 @@ ghost use Rattle.language.specs.Places.{NextIn, itself};
 ghost use Rattle.language.specs.Derivation.{Reads};
 ghost use Rattle.language.specs.Promises.{ReadBy};
 ghost use Rattle.token_cursor.specs.CursorState.{IsAheadBySome};
-ghost use Rattle.parser_tables.specs.Moves.{Passes};
-ghost use Rattle.parser_tables.specs.Outcomes.{IsSyntaxHere};
-ghost use Rattle.parser_tables.specs.Refusals.{IsRefusal};
-ghost use Rattle.parser_tables.specs.Seen.{ReadsHere, Sees, Misses, NameHere, NoName, is_any, is_free_name, declares};
+ghost use Rattle.token_cursor.specs.CursorState.{Passes};
+ghost use Rattle.token_cursor.specs.CursorState.{IsSyntaxHere};
+ghost use Rattle.token_cursor.specs.Refusals.{IsRefusal};
+ghost use Rattle.token_cursor.specs.Seen.{ReadsHere, Sees, Misses, NameHere, NoName, is_any, is_free_name, declares};
 
 use crate::parser::Parser;
-use parser_tables::{
-    is_declaration_word, is_identifier, is_identifier_name, is_name_token, is_punctuator,
-};
 use source_text::Fault;
-use tokens::{Goal, Token, TokenClass};
+use tokens::{Token, TokenClass};
 use tree::Span;
 
 impl<'t, 's> Parser<'t, 's> {
@@ -30,7 +27,7 @@ impl<'t, 's> Parser<'t, 's> {
         ensures refused { IsRefusal self.now.cursor.text result }
         ensures here { IsSyntaxHere self.now.cursor result }
     {
-        Fault::Syntax(self.cursor.next_start())
+        self.cursor.syntax_error()
     }
 
     /// Goes past a token that stands ahead and isn't the end.
@@ -52,10 +49,7 @@ impl<'t, 's> Parser<'t, 's> {
         ensures seen { OnTrue result (Sees self.now.cursor.text TokenClass.Punctuator mark.now self.now.cursor.last) }
         ensures missed { OnFalse result (Misses self.now.cursor.text TokenClass.Punctuator mark.now self.now.cursor.last) }
     {
-        match self.cursor.peek(Goal::Div) {
-            Some(token) => is_punctuator(&token, mark),
-            None => false,
-        }
+        self.cursor.sees_punctuator(mark)
     }
 
     /// Whether this name stands ahead.
@@ -63,10 +57,7 @@ impl<'t, 's> Parser<'t, 's> {
         ensures seen { OnTrue result (Sees self.now.cursor.text TokenClass.IdentifierName word.now self.now.cursor.last) }
         ensures missed { OnFalse result (Misses self.now.cursor.text TokenClass.IdentifierName word.now self.now.cursor.last) }
     {
-        match self.cursor.peek(Goal::Div) {
-            Some(token) => is_name_token(&token, word),
-            None => false,
-        }
+        self.cursor.sees_word(word)
     }
 
     /// Whether an Identifier stands ahead.
@@ -74,10 +65,7 @@ impl<'t, 's> Parser<'t, 's> {
         ensures seen { OnTrue result ((t : Read) × NameHere self.now.cursor.text is_free_name self.now.cursor.last t) }
         ensures missed { OnFalse result (NoName self.now.cursor.text is_free_name self.now.cursor.last) }
     {
-        match self.cursor.peek(Goal::Div) {
-            Some(token) => is_identifier(&token),
-            None => false,
-        }
+        self.cursor.sees_identifier()
     }
 
     /// Whether `=>` stands ahead on the same line (14.2).
@@ -85,10 +73,7 @@ impl<'t, 's> Parser<'t, 's> {
         ensures seen { OnTrue result ((t : Read) × (ReadsHere self.now.cursor.text TokenClass.Punctuator (codes "=>") self.now.cursor.last t) × (t.after_break ≡ false)) }
         ensures missed { OnFalse result ((t e : Read) → Reads Read (NextIn self.now.cursor.text any_goal) itself TokenClass.Punctuator (codes "=>") self.now.cursor.last t e → t.after_break ≡ true) }
     {
-        match self.cursor.peek(Goal::Div) {
-            Some(token) => is_punctuator(&token, "=>") && !token.after_break,
-            None => false,
-        }
+        self.cursor.sees_arrow()
     }
 
     /// Whether a line break stands before what is ahead.
@@ -96,10 +81,7 @@ impl<'t, 's> Parser<'t, 's> {
         ensures seen { OnTrue result ((t e : Read) → NextIn self.now.cursor.text any_goal self.now.cursor.last t e → t.after_break ≡ true) }
         ensures missed { OnFalse result ((t e : Read) → ReadBy Read (NextIn self.now.cursor.text any_goal) itself RegExp self.now.cursor.last t e → t.after_break ≡ false) }
     {
-        match self.cursor.peek(Goal::RegExp) {
-            Some(token) => token.after_break,
-            None => false,
-        }
+        self.cursor.sees_line_break()
     }
 
     /// Goes past this punctuator where it stands ahead.
@@ -112,14 +94,7 @@ impl<'t, 's> Parser<'t, 's> {
         ensures accepted { OnTrue result (ReadsHere self.old.cursor.text TokenClass.Punctuator mark.now self.old.cursor.last self.new.cursor.last) }
         ensures missed { OnFalse result (Misses self.old.cursor.text TokenClass.Punctuator mark.now self.old.cursor.last × (self.new.cursor.last ≡ self.old.cursor.last)) }
     {
-        let Some(token) = self.cursor.peek(Goal::Div) else {
-            return false;
-        };
-        if !is_punctuator(&token, mark) {
-            return false;
-        }
-        self.advance(token);
-        true
+        self.cursor.accept_punctuator(mark)
     }
 
     /// Goes past this name where it stands ahead.
@@ -132,36 +107,22 @@ impl<'t, 's> Parser<'t, 's> {
         ensures accepted { OnTrue result (ReadsHere self.old.cursor.text TokenClass.IdentifierName word.now self.old.cursor.last self.new.cursor.last) }
         ensures missed { OnFalse result (Misses self.old.cursor.text TokenClass.IdentifierName word.now self.old.cursor.last × (self.new.cursor.last ≡ self.old.cursor.last)) }
     {
-        let Some(token) = self.cursor.peek(Goal::Div) else {
-            return false;
-        };
-        if !is_name_token(&token, word) {
-            return false;
-        }
-        self.advance(token);
-        true
+        self.cursor.accept_word(word)
     }
 
-    /// Goes past this punctuator.
-    pub(crate) fn expect_punctuator(&mut self, mark: &str) -> Result<Token<'s>, Fault>
+    /// Goes past this punctuator, and gives where it begins.
+    pub(crate) fn expect_punctuator(&mut self, mark: &str) -> Result<usize, Fault>
         ensures text { self.new.cursor.text ≡ self.old.cursor.text }
         ensures forward { self.old.cursor.last.stop ≤ self.new.cursor.last.stop }
         ensures passes { IfOk result (λ _. Passes self.old.cursor self.new.cursor) }
         ensures refused { IfErr result (IsRefusal self.new.cursor.text) }
         ensures same_open { self.new.cursor.opened ≡ self.old.cursor.opened }
         ensures same_pairs { self.new.pairs.items ≡ self.old.pairs.items }
-        ensures accepted { IfOk result (λ token. ReadsHere self.old.cursor.text TokenClass.Punctuator mark.now self.old.cursor.last self.new.cursor.last × (self.new.cursor.last ≡ as_read (token_of token))) }
+        ensures accepted { IfOk result (λ start. ReadsHere self.old.cursor.text TokenClass.Punctuator mark.now self.old.cursor.last self.new.cursor.last × (self.new.cursor.last.start ≡ start)) }
         ensures missed { IfErr result (λ _. Misses self.old.cursor.text TokenClass.Punctuator mark.now self.old.cursor.last × (self.new.cursor.last ≡ self.old.cursor.last)) }
         ensures here { IfErr result (IsSyntaxHere self.new.cursor) }
     {
-        let Some(token) = self.cursor.peek(Goal::Div) else {
-            return Err(self.syntax_error());
-        };
-        if !is_punctuator(&token, mark) {
-            return Err(self.syntax_error());
-        }
-        self.advance(token);
-        Ok(token)
+        self.cursor.expect_punctuator(mark)
     }
 
     /// Goes past this name.
@@ -176,14 +137,7 @@ impl<'t, 's> Parser<'t, 's> {
         ensures missed { IfErr result (λ _. Misses self.old.cursor.text TokenClass.IdentifierName word.now self.old.cursor.last × (self.new.cursor.last ≡ self.old.cursor.last)) }
         ensures here { IfErr result (IsSyntaxHere self.new.cursor) }
     {
-        let Some(token) = self.cursor.peek(Goal::Div) else {
-            return Err(self.syntax_error());
-        };
-        if !is_name_token(&token, word) {
-            return Err(self.syntax_error());
-        }
-        self.advance(token);
-        Ok(token)
+        self.cursor.expect_word(word)
     }
 
     /// An IdentifierName (11.6).
@@ -198,14 +152,7 @@ impl<'t, 's> Parser<'t, 's> {
         ensures missed { IfErr result (λ _. NoName self.old.cursor.text is_any self.old.cursor.last × (self.new.cursor.last ≡ self.old.cursor.last)) }
         ensures here { IfErr result (IsSyntaxHere self.new.cursor) }
     {
-        let Some(token) = self.cursor.peek(Goal::Div) else {
-            return Err(self.syntax_error());
-        };
-        if !is_identifier_name(&token) {
-            return Err(self.syntax_error());
-        }
-        self.advance(token);
-        Ok(token)
+        self.cursor.expect_identifier_name()
     }
 
     /// An Identifier (12.1).
@@ -220,14 +167,7 @@ impl<'t, 's> Parser<'t, 's> {
         ensures missed { IfErr result (λ _. NoName self.old.cursor.text is_free_name self.old.cursor.last × (self.new.cursor.last ≡ self.old.cursor.last)) }
         ensures here { IfErr result (IsSyntaxHere self.new.cursor) }
     {
-        let Some(token) = self.cursor.peek(Goal::Div) else {
-            return Err(self.syntax_error());
-        };
-        if !is_identifier(&token) {
-            return Err(self.syntax_error());
-        }
-        self.advance(token);
-        Ok(token)
+        self.cursor.expect_identifier()
     }
 
     /// `var`, `let` or `const`, where it stands ahead.
@@ -239,14 +179,7 @@ impl<'t, 's> Parser<'t, 's> {
         ensures accepted { IfSome result (λ token. NameHere self.old.cursor.text declares self.old.cursor.last self.new.cursor.last × (self.new.cursor.last ≡ as_read (token_of token))) }
         ensures missed { IfNone result (NoName self.old.cursor.text declares self.old.cursor.last × (self.new.cursor.last ≡ self.old.cursor.last)) }
     {
-        let Some(token) = self.cursor.peek(Goal::Div) else {
-            return None;
-        };
-        if !is_declaration_word(&token) {
-            return None;
-        }
-        self.advance(token);
-        Some(token)
+        self.cursor.accept_declaration_word()
     }
 
     /// From a place to the end of the last token.

@@ -1,11 +1,12 @@
 -- Where reading stands in a text, and what a goal reads there.
-use Rattle.std.specs.Prelude.{◌≡◌, ◌≢◌, ℕ, ◌≤◌, ◌<◌, Bool, ◌||◌, nat_eq, slice_index_or, List, Result, Ok, Err, IsTrue}
+use Rattle.std.specs.Prelude.{◌≡◌, ◌≢◌, ℕ, ◌≤◌, ◌<◌, Bool, ◌||◌, nat_eq, slice_index_or, List, length, Result, Ok, Err, IsTrue}
 use Rattle.std.specs.Str.{chars}
 use Rattle.source_text.specs.Source.{IsPlace}
 use Rattle.source_text.specs.declared.fault.Fault.{Fault}
 use Rattle.source_text.specs.declared.fault.Fault.TheVariants.{Syntax}
 use Rattle.tokens.specs.declared.token.TokenClass.TheVariants.{StringLiteral, End}
 use Rattle.tokens.specs.declared.token.Goal.{Goal}
+use Rattle.tokens.specs.declared.token.Goal.TheVariants.{Div}
 use Rattle.tokens.specs.declared.token.Token.{Token as Scanned}
 use Rattle.tokens.specs.declared.scanner.ScanFault.{ScanFault}
 use Rattle.tokens.specs.Strings.{is_string}
@@ -59,3 +60,16 @@ Ahead goal text at (Err f) = NoneAhead goal text at × IsPlaceFrom text at f.at
 abbrev pub IsSyntax : List ℕ → ℕ → Fault → Type 0
 IsSyntax text at (Syntax place) = IsPlaceFrom text at place
 IsSyntax text at _ = ⊥
+
+-- a token of the text was passed
+abbrev pub Passes : CursorState → CursorState → Type 0
+Passes s e = (s.last.stop < e.last.stop) × (s.last.stop < length s.text)
+
+-- the place that a syntax error names: where what stands ahead begins
+abbrev pub IsPlaceHere : CursorState → ℕ → Type 0
+IsPlaceHere p at = IsPlaceFrom p.text p.last.stop at × ((t : LexicalToken) → Reads p.text Div p.last.stop t → at ≡ t.start)
+
+-- a syntax error at such a place
+abbrev pub IsSyntaxHere : CursorState → Fault → Type 0
+IsSyntaxHere p (Syntax at) = IsPlaceHere p at
+IsSyntaxHere p _ = ⊥

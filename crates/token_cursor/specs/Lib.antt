@@ -1,2 +1,4 @@
 pub mod StatementEnds
 pub mod CursorState
+pub mod Seen
+pub mod Refusals

@@ -3,16 +3,17 @@
 ghost use Rattle.std.specs.Prelude.{◌≡◌, ◌≢◌, ◌≤◌, ◌<◌, ◌+◌, ◌-◌, ℕ, true, false, IfOk, IfErr, IfSome, IfNone, slice_index_or};
 ghost use Rattle.tokens.specs.Tokens.{LexicalToken};
 ghost use Rattle.tokens.specs.Scanned.{token_of};
-ghost use Rattle.tokens.specs.Reading.{Reads};
+ghost use Rattle.tokens.specs.Reading.{Reads, any_goal};
 ghost use Rattle.tokens.specs.declared.token.TokenClass.{TokenClass as LexicalClass};
 ghost use Rattle.tokens.specs.declared.token.Goal.{Goal as LexicalGoal};
 ghost use Rattle.source_text.specs.Source.{IsPlace};
 ghost use Rattle.language.specs.Token.{Token as Read, as_read};
 ghost use Rattle.language.specs.Cursor.{beginning};
+ghost use Rattle.language.specs.Places.{NextIn};
 ghost use Rattle.language.specs.Edges.{is_semicolon};
 ghost use Rattle.language.specs.Claims.{max_open};
 ghost use Rattle.token_cursor.specs.StatementEnds.{EndsAt, IsEnd};
-ghost use Rattle.token_cursor.specs.CursorState.{depends, Ahead, IsAhead, IsAheadBySome, NoneAhead, OnlyEnd, IsPlaceFrom, IsSyntax};
+ghost use Rattle.token_cursor.specs.CursorState.{depends, Ahead, IsAhead, IsAheadBySome, NoneAhead, OnlyEnd, IsPlaceFrom, IsSyntax, Passes};
 
 use crate::semicolon::{StatementEnd, is_punctuator, may_omit_semicolon};
 use language::limits::MAX_OPEN;
@@ -146,9 +147,12 @@ impl<'t, 's> Cursor<'t, 's> {
         ensures text { self.new.text ≡ self.old.text }
         ensures last { self.new.last ≡ as_read (token_of token.entry) }
         ensures same_open { self.new.opened ≡ self.old.opened }
+        ensures reads { NextIn self.old.text any_goal self.old.last self.new.last self.new.last }
+        ensures passes { token.entry.class ≢ LexicalClass.End → Passes self.old self.new }
     {
+        let _text = self.source.text();
         self.last = token;
-        self.ahead = scan_after(self.source, token.end, Goal::Div);
+        self.ahead = scan(self.source, token.end, Goal::Div);
     }
 
     /// Goes past the token that the goal reads ahead, and gives it.

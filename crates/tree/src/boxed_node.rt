@@ -46,7 +46,7 @@ impl<'s> Model for BoxedNode<'s> {
 }
 
 impl<'s> BoxedNode<'s> {
-    /// A node of this kind, with its text, its place, its parts and its flags; room for more than one further part is given back.
+    /// A node of this kind, with its text, its place, its parts and its flags; a long list of parts gives back its room.
     pub fn new(
         kind: Kind,
         text: NodeText<'s>,
@@ -82,11 +82,14 @@ impl<'s> BoxedNode<'s> {
     }
 }
 
+// A list of parts keeps up to so much room: to give back less makes other requests dearer than it saves.
+const KEPT_ROOM: usize = 4;
+
 /// Gives back the room behind a node's parts. That of a single part stays: no other list would fit into it.
 fn shrink_parts(parts: &mut Vec<Option<BoxedNode>>)
     ensures { parts.new.items ≡ parts.old.items }
 {
-    if parts.capacity() > parts.len() + 1 {
+    if parts.capacity() > KEPT_ROOM && parts.capacity() > parts.len() + 1 {
         parts.shrink_to_fit();
     }
 }

@@ -19,10 +19,11 @@ use Rattle.language.specs.Claims.{max_open}
 use Rattle.language.proofs.texts.TextOffsets.{text_determined}
 use Rattle.productions.specs.Made.{Makes}
 use Rattle.recursive_descent.specs.Completeness.{Agrees, Room, EndsWith}
-use Rattle.parser_tables.specs.Outcomes.{IsSyntaxHere, BecomesHere, MakesAs, RefusedAbove, RefusedUnless, RefusedWhere, RefusedUnder}
-use Rattle.parser_tables.specs.Seen.{ReadsHere, Misses}
+use Rattle.token_cursor.specs.CursorState.{IsSyntaxHere}
+use Rattle.parser_tables.specs.Outcomes.{BecomesHere, MakesAs, RefusedAbove, RefusedUnless, RefusedWhere, RefusedUnder}
+use Rattle.token_cursor.specs.Seen.{ReadsHere, Misses}
 use Rattle.recursive_descent.proofs.reading.AddedPairs.{grouping_both}
-use Rattle.parser_tables.proofs.TokensAhead.{mark_by, name_by}
+use Rattle.token_cursor.proofs.TokensAhead.{mark_by, name_by}
 
 -- how this fault agrees with what is given: what is left of `Agrees W Same (Err fault)`
 abbrev pub Refuses : Type 0 → Fault → Type 0

@@ -38,7 +38,7 @@ use Rattle.recursive_descent.specs.CompletenessOfStatements.{PiecesGiven, has_ed
 use Rattle.parser_tables.specs.Outcomes.{BecomesHere}
 use Rattle.parser_tables.specs.Operands.{plain_part}
 use Rattle.parser_tables.specs.StatementSymbols as Piece
-use Rattle.parser_tables.specs.Seen.{ReadsHere, Sees, Misses}
+use Rattle.token_cursor.specs.Seen.{ReadsHere, Sees, Misses}
 use Rattle.parser_tables.specs.StatementNodes.{partial_of}
 use Rattle.recursive_descent.proofs.reading.FreeRanks.{no_conditional, no_new}
 use Rattle.recursive_descent.proofs.complete_expressions.Agreement.{read_here, refuses_on, agrees_err, refuses_high, not_missed, ends_behind}

@@ -43,7 +43,7 @@ use Rattle.recursive_descent.specs.Soundness.{RunsIn, anywhere}
 use Rattle.recursive_descent.specs.SoundnessOfStatements.{closure_pieces, after_word}
 use Rattle.recursive_descent.specs.Completeness.{FirstAs, IsFirst, StopsIn}
 use Rattle.parser_tables.specs.Operands.{plain_part}
-use Rattle.parser_tables.specs.Seen.{ReadsHere}
+use Rattle.token_cursor.specs.Seen.{ReadsHere}
 use Rattle.recursive_descent.proofs.complete_expressions.Agreement.{read_here}
 use Rattle.recursive_descent.proofs.complete_expressions.StartsGiven.{CoreGiven, given_core, is_bracket, is_named}
 use Rattle.recursive_descent.proofs.complete_expressions.PrefixesGiven.{placed_ends}

@@ -23,7 +23,7 @@ use Rattle.recursive_descent.specs.Soundness.{RunsIn}
 use Rattle.recursive_descent.specs.SoundnessOfLists.{stood_in, several}
 use Rattle.recursive_descent.specs.CompletenessOfLists.{ListGiven}
 use Rattle.parser_tables.specs.Items.{list_from, group_levels}
-use Rattle.parser_tables.specs.Seen.{ReadsHere}
+use Rattle.token_cursor.specs.Seen.{ReadsHere}
 use Rattle.recursive_descent.proofs.reading.PiecesBeforeToken.{run_before}
 use Rattle.recursive_descent.proofs.sound_expressions.GroupContents.{sequence_bare, listed_bare, element_bare, goes_on}
 

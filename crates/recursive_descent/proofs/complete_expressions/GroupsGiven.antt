@@ -48,7 +48,7 @@ use Rattle.language.proofs.climbing.BinaryTurns.{same_node}
 use Rattle.parser_tables.specs.declared.expression_context.ExpressionContext.{ExpressionContext}
 use Rattle.recursive_descent.specs.Soundness.{RunsIn}
 use Rattle.recursive_descent.specs.Completeness.{StopsIn, FirstAs, a_core, a_pattern, a_name, Wholly}
-use Rattle.parser_tables.specs.Seen.{ReadsHere}
+use Rattle.token_cursor.specs.Seen.{ReadsHere}
 use Rattle.recursive_descent.proofs.sound_expressions.ArrowFunctions.{join_one}
 use Rattle.recursive_descent.proofs.complete_expressions.Agreement.{read_here}
 use Rattle.recursive_descent.proofs.sound_expressions.GroupContents.{group_edge}

@@ -41,7 +41,7 @@ use Rattle.parser_tables.specs.declared.operand.Operand.{Operand}
 use Rattle.recursive_descent.specs.Completeness.{Agrees, Room, EndsWith, IsFirst}
 use Rattle.parser_tables.specs.ExpressionStarts.{coded_start, is_by_word}
 use Rattle.parser_tables.specs.Operands.{plain_part}
-use Rattle.parser_tables.specs.Seen.{ReadsHere, Misses, SeesBy, MissesBy}
+use Rattle.token_cursor.specs.Seen.{ReadsHere, Misses, SeesBy, MissesBy}
 use Rattle.parser_tables.specs.Tests.{continues_super}
 use Rattle.recursive_descent.proofs.complete_expressions.AgreedNodes.{FirstWith, agrees_more}
 use Rattle.recursive_descent.proofs.complete_expressions.Agreement.{marks_same}

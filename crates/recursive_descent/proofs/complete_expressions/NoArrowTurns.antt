@@ -30,7 +30,7 @@ use Rattle.parser_tables.specs.declared.operators.InfixOperator.TheVariants as c
 use Rattle.recursive_descent.specs.Soundness.{ReadAt}
 use Rattle.parser_tables.specs.Operators.{coded_operator, stops_by}
 use Rattle.recursive_descent.specs.Stages.{StageAs}
-use Rattle.parser_tables.proofs.TokensAhead.{ahead_read}
+use Rattle.token_cursor.proofs.TokensAhead.{ahead_read}
 use Rattle.recursive_descent.proofs.complete_expressions.SpineTurns.{goes_there}
 use Rattle.recursive_descent.proofs.complete_expressions.StageTurns.{OnSpine, spined, spine_only}
 

@@ -61,7 +61,7 @@ use Rattle.parser_tables.specs.Tokens.{single_node}
 use Rattle.recursive_descent.proofs.complete_expressions.StartsGiven.{CoreGiven, given_core, NameGiven, given_named, wholly_takes, is_bracket, is_named}
 use Rattle.recursive_descent.proofs.complete_expressions.PrefixesGiven.{placed_ends}
 use Rattle.recursive_descent.proofs.sound_expressions.StartsByToken.{name_of, LiteralBy, a_word, a_token, literal_of}
-use Rattle.parser_tables.proofs.TokensAhead.{ahead_read}
+use Rattle.token_cursor.proofs.TokensAhead.{ahead_read}
 
 -- no `=>` is read there on the same line
 abbrev pub NoArrow : List ℕ → Token → Type 0

@@ -13,9 +13,9 @@ use Rattle.language.specs.ExpressionStart.{ExpressionStart, with_name, with_pare
 use Rattle.language.proofs.table.Begins.{among_by}
 use Rattle.parser_tables.specs.declared.expression_starts.ExpressionStart.TheVariants as code
 use Rattle.parser_tables.specs.ExpressionStarts.{coded_start}
-use Rattle.parser_tables.specs.Seen.{Sees}
+use Rattle.token_cursor.specs.Seen.{Sees}
 use Rattle.recursive_descent.proofs.sound_expressions.StartsByToken.{by_texts}
-use Rattle.parser_tables.proofs.TokensAhead.{ahead_read}
+use Rattle.token_cursor.proofs.TokensAhead.{ahead_read}
 
 abbrev is_parenthesis : ExpressionStart → Bool
 is_parenthesis with_parenthesis = true

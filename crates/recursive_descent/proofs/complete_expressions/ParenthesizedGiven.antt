@@ -43,7 +43,7 @@ use Rattle.recursive_descent.specs.Completeness.{Agrees, Room, EndsWith, StopsIn
 use Rattle.recursive_descent.specs.CompletenessOfLists.{ListGiven, LoneRead}
 use Rattle.parser_tables.specs.Items.{are_some, group_node, group_shape, group_levels, is_grouped, list_from, list_group}
 use Rattle.parser_tables.specs.Outcomes.{RefusedUnder, YieldsWhere}
-use Rattle.parser_tables.specs.Seen.{ReadsHere}
+use Rattle.token_cursor.specs.Seen.{ReadsHere}
 use Rattle.recursive_descent.proofs.complete_expressions.Agreement.{Refuses, refuses_on, refuses_under, refuses_where, agrees_err}
 use Rattle.recursive_descent.proofs.reading.AddedPairs.{grouping_both}
 use Rattle.recursive_descent.proofs.reading.OnlyDerivation.{expression_once, group_stops}

@@ -51,7 +51,7 @@ use Rattle.parser_tables.specs.ExpressionStarts.{coded_start}
 use Rattle.recursive_descent.specs.LeftOperands.{before, is_prefix_update, takes_operand, prefixed_node, prefixed_part}
 use Rattle.recursive_descent.proofs.complete_expressions.StartsGiven.{CoreGiven, given_core, is_bracket, is_named}
 use Rattle.recursive_descent.proofs.sound_expressions.StartsByToken.{word_of, sign_of, step_of}
-use Rattle.parser_tables.proofs.TokensAhead.{ahead_read}
+use Rattle.token_cursor.proofs.TokensAhead.{ahead_read}
 
 target_edge : (u : Tree) → is_simple (kind_of u) ≡ true → edge u ≡ Other
 target_edge (node Identifier w g st en ps) h = refl

@@ -36,7 +36,7 @@ use Rattle.parser_tables.specs.declared.expression_context.ExpressionContext.{Ex
 use Rattle.recursive_descent.specs.Complete.{ExpressionComplete, BinaryRestComplete}
 use Rattle.recursive_descent.specs.Completeness.{Room, EndsWith, StopsIn, GivenAs, an_expression, SidesGiven, one_side, two_sides}
 use Rattle.parser_tables.specs.Operators.{coded_operator}
-use Rattle.parser_tables.specs.Seen.{ReadsHere, Misses}
+use Rattle.token_cursor.specs.Seen.{ReadsHere, Misses}
 use Rattle.recursive_descent.specs.LeftOperands.{left_of, operator_text_of}
 use Rattle.recursive_descent.proofs.reading.FreeRanks.{no_conditional, no_new}
 use Rattle.recursive_descent.proofs.complete_expressions.Agreement.{Refuses, refuses_on, agrees_err, refuses_high, room_part, marks_same, not_missed, ends_same, ends_none, ends_both, ends_behind, ends_before}

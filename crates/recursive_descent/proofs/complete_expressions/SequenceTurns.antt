@@ -37,7 +37,7 @@ use Rattle.parser_tables.specs.Outcomes.{RefusedUnless}
 use Rattle.parser_tables.specs.Operands.{plain_part}
 use Rattle.recursive_descent.specs.Stages.{StageAs, Staged, InfixComplete}
 use Rattle.recursive_descent.proofs.complete_expressions.Agreement.{agrees_err, agrees_on, ends_behind, refuses_high, refuses_unless, room_part}
-use Rattle.parser_tables.proofs.TokensAhead.{ahead_read}
+use Rattle.token_cursor.proofs.TokensAhead.{ahead_read}
 use Rattle.recursive_descent.proofs.complete_expressions.SequencesOnSpine.{CommasOn, commas_on}
 use Rattle.recursive_descent.proofs.complete_expressions.SpineTurns.{goes_there}
 use Rattle.recursive_descent.proofs.complete_expressions.StageTurns.{OnSpine, spined, spine_only, staged}

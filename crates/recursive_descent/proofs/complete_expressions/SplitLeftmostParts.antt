@@ -31,7 +31,7 @@ use Rattle.language.proofs.climbing.Spine.{Core}
 use Rattle.language.proofs.climbing.LeftmostParts.{Cored, in_group, in_way, core_of}
 use Rattle.language.proofs.climbing.Targets.{by_bracket, by_brace, object_starts}
 use Rattle.unambiguity_laws.proofs.cores.BracketForms.{BracketCore, as_list, as_assigned, bracket_of}
-use Rattle.parser_tables.specs.Seen.{ReadsHere, Sees}
+use Rattle.token_cursor.specs.Seen.{ReadsHere, Sees}
 
 -- with which a way that is an assignment begins
 data Assigning (k : Kind) (x : ExpressionStart) : Type 0 where

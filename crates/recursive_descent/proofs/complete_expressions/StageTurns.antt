@@ -39,7 +39,7 @@ use Rattle.parser_tables.specs.Operands.{plain_part}
 use Rattle.recursive_descent.specs.LeftOperands.{left_of, operator_text_of}
 use Rattle.recursive_descent.specs.Stages.{SpineAs, IsLeft, EndsOver, an_element, a_target, Serves, StageAs, on_spine, at_pattern, at_default, at_end, Staged, InfixComplete}
 use Rattle.recursive_descent.proofs.complete_expressions.Agreement.{refuses_on}
-use Rattle.parser_tables.proofs.TokensAhead.{ahead_read}
+use Rattle.token_cursor.proofs.TokensAhead.{ahead_read}
 use Rattle.recursive_descent.proofs.reading.PatternEnds.{over_stops_at, each_stops, each_there}
 use Rattle.recursive_descent.proofs.complete_expressions.SpineTurns.{goes_there}
 use Rattle.recursive_descent.proofs.complete_expressions.RightOperandStages.{SidesOn, binary_on, power_on, assign_on, ask_sides, pattern_on, default_on}

@@ -47,7 +47,7 @@ use Rattle.parser_tables.specs.declared.operand.Operand.{Operand}
 use Rattle.parser_tables.specs.declared.expression_context.ExpressionContext.{ExpressionContext}
 use Rattle.recursive_descent.specs.Completeness.{StopsIn, Over, GivenAs, FirstAs, IsFirst}
 use Rattle.recursive_descent.specs.Completeness as given
-use Rattle.parser_tables.specs.Seen.{ReadsHere, SeesBy}
+use Rattle.token_cursor.specs.Seen.{ReadsHere, SeesBy}
 use Rattle.recursive_descent.specs.Stages.{SpineAs, IsLeft, AssignedAs, EndsOver, as_it_is, as_element, StageAs, on_spine, at_pattern, at_default, at_end}
 use Rattle.recursive_descent.specs.Stages as stage
 use Rattle.parser_tables.specs.Tests.{is_each}

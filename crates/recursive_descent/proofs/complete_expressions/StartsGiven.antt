@@ -37,7 +37,7 @@ use Rattle.language.proofs.texts.TextOffsets.{text_determined}
 use Rattle.parser_tables.specs.declared.expression_context.ExpressionContext.{ExpressionContext}
 use Rattle.recursive_descent.specs.Completeness.{Wholly, Unarrowed, FirstAs, a_core, a_pattern, a_name}
 use Rattle.parser_tables.specs.ExpressionStarts.{stands_at, takes_brace, takes_function_or_class}
-use Rattle.parser_tables.specs.Seen.{Sees}
+use Rattle.token_cursor.specs.Seen.{Sees}
 
 starts_open : (f : Start) (qs : List Piece) → IsTrue (starts f (sign "{" ∷ qs)) → takes_brace f ≡ true
 starts_open Any qs h = refl

@@ -36,11 +36,11 @@ use Rattle.recursive_descent.specs.Completeness.{FirstAs, IsFirst}
 use Rattle.recursive_descent.specs.CompletenessOfLists.{ListGiven}
 use Rattle.parser_tables.specs.Items.{list_from, listed_kind, listed_shape, listed_part}
 use Rattle.parser_tables.specs.ExpressionStarts.{coded_start}
-use Rattle.parser_tables.specs.Seen.{ReadsHere}
+use Rattle.token_cursor.specs.Seen.{ReadsHere}
 use Rattle.recursive_descent.proofs.complete_expressions.Agreement.{Refuses, marks_same}
 use Rattle.recursive_descent.proofs.reading.Forward.{place_mark}
 use Rattle.recursive_descent.proofs.complete_lists.BracketsGiven.{BracketsGiven, bracket_kind, left_sign, right_sign, array_given, object_given}
-use Rattle.parser_tables.proofs.TokensAhead.{ahead_read}
+use Rattle.token_cursor.proofs.TokensAhead.{ahead_read}
 
 -- a list between brackets, by its opening
 pub data Bracketed : ListKind → ExpressionStart → Type 0 where

@@ -43,7 +43,7 @@ use Rattle.parser_tables.specs.declared.expression_context.ExpressionContext.{Ex
 use Rattle.recursive_descent.specs.Soundness.{RunsIn, anywhere}
 use Rattle.recursive_descent.specs.SoundnessOfLists.{item_pieces}
 use Rattle.recursive_descent.specs.Completeness.{FirstAs, a_core, a_pattern, a_name}
-use Rattle.parser_tables.specs.Seen.{ReadsHere, Sees}
+use Rattle.token_cursor.specs.Seen.{ReadsHere, Sees}
 use Rattle.recursive_descent.proofs.complete_expressions.Agreement.{read_here}
 use Rattle.recursive_descent.proofs.sound_expressions.GroupContents.{listed_bare, elements_bare, element_bare}
 use Rattle.recursive_descent.proofs.complete_expressions.StartsGiven.{is_named, no_name}

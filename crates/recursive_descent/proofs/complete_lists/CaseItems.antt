@@ -52,7 +52,7 @@ use Rattle.recursive_descent.specs.CompletenessOfLists.{ItemGiven, ItemRead, def
 use Rattle.recursive_descent.specs.CompletenessOfStatements.{PiecesGiven, has_edges}
 use Rattle.parser_tables.specs.Items.{with_item}
 use Rattle.parser_tables.specs.StatementSymbols.{Piece, case_parts}
-use Rattle.parser_tables.specs.Seen.{ReadsHere, SeesBy, Misses}
+use Rattle.token_cursor.specs.Seen.{ReadsHere, SeesBy, Misses}
 use Rattle.parser_tables.specs.StatementNodes.{item_context}
 use Rattle.parser_tables.specs.Tests.{ends}
 use Rattle.recursive_descent.proofs.complete_expressions.Agreement.{agrees_on, agrees_err, refuses_made, read_here, words_same, ends_behind}
@@ -62,7 +62,7 @@ use Rattle.recursive_descent.proofs.complete_lists.DeclaratorItems.{is_cases, is
 use Rattle.recursive_descent.proofs.complete_lists.ItemFits.{plain_item}
 use Rattle.recursive_descent.proofs.complete_lists.ItemAnswers.{item_taken, left_reads, one_high}
 use Rattle.recursive_descent.proofs.sound_lists.Declarators.{place_of}
-use Rattle.parser_tables.proofs.TokensAhead.{name_by}
+use Rattle.token_cursor.proofs.TokensAhead.{name_by}
 
 -- one position
 some_same : {a b : Role} → Some a ≡ Some b → a ≡ b

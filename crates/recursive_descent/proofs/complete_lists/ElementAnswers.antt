@@ -44,7 +44,7 @@ use Rattle.recursive_descent.specs.SoundnessOfLists.{has_reading, seen_fits, ite
 use Rattle.recursive_descent.specs.Completeness.{Agrees, Room, EndsWith, GivenAs, IsRead}
 use Rattle.recursive_descent.specs.CompletenessOfLists.{CommaOr, ItemGiven, an_item, a_hole, a_chunk, ItemRead, default_seen}
 use Rattle.parser_tables.specs.Items.{with_item, element_item, element_node}
-use Rattle.parser_tables.specs.Seen.{ReadsHere, Sees, Misses}
+use Rattle.token_cursor.specs.Seen.{ReadsHere, Sees, Misses}
 use Rattle.recursive_descent.proofs.complete_expressions.Agreement.{agrees_on, ends_behind, ends_none, marks_same}
 use Rattle.recursive_descent.proofs.sound_lists.OneMoreItem.{join_none, read_gap}
 use Rattle.recursive_descent.proofs.complete_lists.DeclaratorItems.{is_cases, is_covers, fitting_of}
@@ -53,7 +53,7 @@ use Rattle.recursive_descent.proofs.complete_lists.ItemFits.{plain_item, is_plai
 use Rattle.recursive_descent.proofs.complete_lists.ItemAnswers.{item_taken, left_reads, one_high}
 use Rattle.recursive_descent.proofs.sound_lists.ReadItems.{lists_elements}
 use Rattle.recursive_descent.proofs.sound_lists.Declarators.{place_of}
-use Rattle.parser_tables.proofs.TokensAhead.{mark_by}
+use Rattle.token_cursor.proofs.TokensAhead.{mark_by}
 
 -- what is bound or assigned to without a default is a target or a pattern
 bound_kind : (b : Bool) (k : Kind) {r : Role} → bound b k ≡ Some r → (is_pattern_kind k || is_simple k) ≡ true

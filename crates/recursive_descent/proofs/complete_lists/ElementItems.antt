@@ -31,10 +31,10 @@ use Rattle.recursive_descent.specs.SoundnessOfLists.{has_reading, item_role, is_
 use Rattle.recursive_descent.specs.Completeness.{GivenAs, an_expression, an_element, Over, is_over}
 use Rattle.recursive_descent.specs.CompletenessOfLists.{CommaOr, ItemEnds, is_last_rest, minds_rest}
 use Rattle.recursive_descent.specs.CompletenessOfProperties.{value_as}
-use Rattle.parser_tables.specs.Seen.{ReadsHere, Misses}
+use Rattle.token_cursor.specs.Seen.{ReadsHere, Misses}
 use Rattle.recursive_descent.proofs.reading.FreeRanks.{no_conditional, no_new}
 use Rattle.recursive_descent.proofs.complete_expressions.Agreement.{read_here, marks_same}
-use Rattle.parser_tables.proofs.TokensAhead.{mark_by}
+use Rattle.token_cursor.proofs.TokensAhead.{mark_by}
 
 -- one position
 some_same : {a b : Role} → Some a ≡ Some b → a ≡ b

@@ -44,13 +44,13 @@ use Rattle.recursive_descent.specs.Soundness.{RunsIn, anywhere}
 use Rattle.recursive_descent.specs.SoundnessOfStatements.{PutAt, EachAt}
 use Rattle.recursive_descent.specs.CompletenessOfLists.{LastDeclared}
 use Rattle.recursive_descent.specs.CompletenessOfStatements.{HeadGiven, a_declaration, an_expression, a_target}
-use Rattle.parser_tables.specs.Seen.{NameHere, Sees, SeesBy, declares}
+use Rattle.token_cursor.specs.Seen.{NameHere, Sees, SeesBy, declares}
 use Rattle.parser_tables.specs.StatementNodes.{head_node, fits_head, is_closed}
 use Rattle.parser_tables.specs.Tests.{is_each}
 use Rattle.recursive_descent.specs.Expectations.{HeadAt}
 use Rattle.recursive_descent.proofs.complete_lists.ListsExpected.{ListWanted}
 use Rattle.recursive_descent.proofs.sound_statements.ListSymbols.{declarators_bare, declarator_kind, kind_same, same_kind, pattern_kind_of}
-use Rattle.parser_tables.proofs.TokensAhead.{mark_by, name_by}
+use Rattle.token_cursor.proofs.TokensAhead.{mark_by, name_by}
 
 -- no expression begins with the word of a declaration
 word_opens : (w : List ℕ) → is_declaration_word w ≡ true → expression_start_by IdentifierName w ≡ no_start

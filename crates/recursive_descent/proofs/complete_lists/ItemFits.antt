@@ -26,7 +26,7 @@ use Rattle.recursive_descent.specs.Soundness.{fits_as}
 use Rattle.recursive_descent.specs.SoundnessOfLists.{has_reading, seen_fits, item_fits, fits_rest, item_role, is_chunked}
 use Rattle.recursive_descent.specs.Completeness.{Agrees}
 use Rattle.recursive_descent.specs.CompletenessOfLists.{ItemGiven, an_item, a_hole, a_chunk, ItemEnds, is_lone}
-use Rattle.parser_tables.specs.Seen.{Misses}
+use Rattle.token_cursor.specs.Seen.{Misses}
 
 -- an item that is no hole and no part of a template
 pub record PlainItem (text : List ℕ) (x : ListKind) (a : Reading) (o : ℕ) (s e : Token) (P : List Pair) (last : Bool) (one : Parts) : Type 0 where

@@ -23,7 +23,7 @@ use Rattle.recursive_descent.specs.SoundnessOfLists.{ClosedBy, has_reading, seen
 use Rattle.recursive_descent.specs.Follows.{PassedBefore, FirstMisses, MissesEnd, CommaAt, end_before}
 use Rattle.recursive_descent.specs.CompletenessOfLists.{ListGiven, ItemGiven, an_item, a_hole, a_chunk, is_left}
 use Rattle.parser_tables.specs.Items.{after_item, is_unseparated, are_some}
-use Rattle.parser_tables.specs.Seen.{Misses}
+use Rattle.token_cursor.specs.Seen.{Misses}
 use Rattle.recursive_descent.proofs.complete_expressions.Agreement.{ends_behind, ends_before, ends_both, ends_same}
 use Rattle.recursive_descent.proofs.sound_lists.OneMoreItem.{join_none}
 use Rattle.recursive_descent.proofs.complete_lists.WholeListAnswers.{Done, closes_at}

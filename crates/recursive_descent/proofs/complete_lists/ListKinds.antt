@@ -41,12 +41,12 @@ use Rattle.recursive_descent.specs.SoundnessOfLists.{has_reading, stood_in, left
 use Rattle.recursive_descent.specs.Follows.{ChunkAt, FirstMisses}
 use Rattle.recursive_descent.specs.Completeness.{StopsIn, DeclaredIn}
 use Rattle.recursive_descent.specs.CompletenessOfLists.{LastDeclared, LastGiven, an_item, a_chunk}
-use Rattle.parser_tables.specs.Seen.{ReadsHere, Sees, SeesBy, Misses}
+use Rattle.token_cursor.specs.Seen.{ReadsHere, Sees, SeesBy, Misses}
 use Rattle.parser_tables.specs.Tests.{ends}
 use Rattle.recursive_descent.proofs.complete_expressions.Agreement.{read_here}
 use Rattle.recursive_descent.proofs.complete_lists.ListTails.{Settled, Tail, at_end, and_comma, First, item_then, several_first, declarators_first}
 use Rattle.recursive_descent.proofs.complete_lists.ListSteps.{ended, next, Step as ListStep, over, further, object_piece, pattern_piece, ends_at, with_commas, nothing_there, listed_step, elements_step}
-use Rattle.parser_tables.proofs.TokensAhead.{mark_by, name_by}
+use Rattle.token_cursor.proofs.TokensAhead.{mark_by, name_by}
 
 -- what stops a sequence stops each of its expressions
 stops_inside : (i : Bool) (x : Edge) (t : Token) (z : Option Rank) → stops_at Expression i x t z ≡ true → stops_at Assignment i x t z ≡ true

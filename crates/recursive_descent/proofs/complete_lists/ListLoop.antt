@@ -27,7 +27,7 @@ use Rattle.recursive_descent.specs.Follows.{end_before}
 use Rattle.recursive_descent.specs.Completeness.{EndsWith}
 use Rattle.recursive_descent.specs.CompletenessOfLists.{ListGiven, RestGiven, LoneRead, LastGiven, ItemGiven, is_left, is_full, is_lone, default_seen}
 use Rattle.parser_tables.specs.Items.{are_some}
-use Rattle.parser_tables.specs.Seen.{ReadsHere, Misses}
+use Rattle.token_cursor.specs.Seen.{ReadsHere, Misses}
 use Rattle.recursive_descent.proofs.sound_lists.OneMoreItem.{join_none}
 use Rattle.recursive_descent.proofs.complete_lists.ListSteps.{Behind, Step as ListStep, over, further, nothing_there}
 use Rattle.recursive_descent.proofs.complete_lists.ListTurns.{Ahead, stuck, unstuck, EndSeen, item_apart}

@@ -24,7 +24,7 @@ use Rattle.recursive_descent.specs.Soundness.{RunsIn, all_read_as}
 use Rattle.recursive_descent.specs.SoundnessOfLists.{left_of, SoFarAt}
 use Rattle.recursive_descent.specs.CompletenessOfLists.{ListGiven}
 use Rattle.parser_tables.specs.Items.{list_from, with_item, listed_kind, listed_shape, listed_part}
-use Rattle.parser_tables.specs.Seen.{SeesBy}
+use Rattle.token_cursor.specs.Seen.{SeesBy}
 use Rattle.parser_tables.specs.Tests.{is_template}
 use Rattle.recursive_descent.proofs.sound_expressions.BracketedLists.{begun_so_far}
 use Rattle.recursive_descent.proofs.reading.Forward.{place_token}
@@ -32,7 +32,7 @@ use Rattle.recursive_descent.proofs.complete_expressions.FunctionsAndClassesGive
 use Rattle.recursive_descent.proofs.complete_expressions.StartsGiven.{given_core, has_height, is_bracket, is_named}
 use Rattle.recursive_descent.proofs.sound_expressions.StartsByToken.{template_of}
 use Rattle.recursive_descent.proofs.complete_subscripts.TemplatesGiven.{rest_runs}
-use Rattle.parser_tables.proofs.TokensAhead.{ahead_read}
+use Rattle.token_cursor.proofs.TokensAhead.{ahead_read}
 use Rattle.tokens.specs.Reading.{any_goal}
 use Rattle.tokens.specs.Tokens.{LexicalToken}
 use Rattle.tokens.specs.declared.token.Goal.TheVariants.{RegExp}

@@ -22,7 +22,7 @@ use Rattle.recursive_descent.specs.Soundness.{RunsIn}
 use Rattle.recursive_descent.specs.SoundnessOfLists.{stood_in, left_of, item_role, is_chunked}
 use Rattle.recursive_descent.specs.CompletenessOfLists.{LastGiven, CommaOr, ItemEnds, ItemGiven, an_item, a_hole, is_last_rest}
 use Rattle.parser_tables.specs.Items.{is_unseparated}
-use Rattle.parser_tables.specs.Seen.{ReadsHere}
+use Rattle.token_cursor.specs.Seen.{ReadsHere}
 use Rattle.recursive_descent.proofs.complete_lists.ListTails.{Settled, Tail, at_end, and_comma, First, listed_first, elements_first, elements_hole}
 
 -- no item stands behind another

@@ -17,7 +17,7 @@ use Rattle.language.specs.Places.{NextIn, itself, SpellsIn}
 use Rattle.language.proofs.list_loops.FirstPieces.{ATrailing, with_it, without_it, run_may, run_none, run_token, run_laid, run_never, run_the_part, run_the_gap}
 use Rattle.recursive_descent.specs.Soundness.{RunsIn}
 use Rattle.recursive_descent.specs.SoundnessOfLists.{several}
-use Rattle.parser_tables.specs.Seen.{ReadsHere}
+use Rattle.token_cursor.specs.Seen.{ReadsHere}
 use Rattle.recursive_descent.proofs.complete_expressions.Agreement.{read_here}
 
 module _ (text : List ℕ) (i : Bool) where

@@ -34,11 +34,11 @@ use Rattle.recursive_descent.specs.SoundnessOfLists.{has_reading, seen_fits, sto
 use Rattle.recursive_descent.specs.Follows.{Semicolons, none_passed, one_more, FirstMisses, end_before}
 use Rattle.recursive_descent.specs.CompletenessOfLists.{ListGiven, RestGiven, ItemGiven, an_item, a_hole, a_chunk, is_lone}
 use Rattle.parser_tables.specs.Items.{is_unseparated}
-use Rattle.parser_tables.specs.Seen.{ReadsHere, Sees}
+use Rattle.token_cursor.specs.Seen.{ReadsHere, Sees}
 use Rattle.recursive_descent.proofs.complete_expressions.Agreement.{marks_same}
 use Rattle.recursive_descent.proofs.complete_lists.ListSteps.{Step as ListStep, nothing_there}
 use Rattle.recursive_descent.proofs.complete_lists.ListKinds.{list_step, case_begins}
-use Rattle.parser_tables.proofs.TokensAhead.{mark_by, name_by}
+use Rattle.token_cursor.proofs.TokensAhead.{mark_by, name_by}
 use Rattle.recursive_descent.proofs.sound_lists.WholeLists.{SemicolonsBefore}
 
 -- the parts in a reading are as many

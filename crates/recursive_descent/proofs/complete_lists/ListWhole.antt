@@ -22,7 +22,7 @@ use Rattle.recursive_descent.specs.SoundnessOfLists.{has_reading, seen_fits, sto
 use Rattle.recursive_descent.specs.Follows.{FirstMisses, end_before}
 use Rattle.recursive_descent.specs.CompletenessOfLists.{ListGiven, RestGiven, minds_rest, is_last_rest}
 use Rattle.parser_tables.specs.Items.{is_unseparated, are_some}
-use Rattle.parser_tables.specs.Seen.{Misses}
+use Rattle.token_cursor.specs.Seen.{Misses}
 use Rattle.recursive_descent.proofs.complete_lists.ListKinds.{list_step}
 use Rattle.recursive_descent.proofs.complete_lists.ListLoop.{no_item, asked, asked_stuck}
 use Rattle.recursive_descent.proofs.complete_lists.ListSteps.{Behind, ended, comma, next}

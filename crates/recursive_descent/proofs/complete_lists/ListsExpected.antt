@@ -30,7 +30,7 @@ use Rattle.recursive_descent.specs.CompletenessOfLists.{ListGiven}
 use Rattle.recursive_descent.specs.CompletenessOfStatements.{ListPieceGiven, knows_edge}
 use Rattle.parser_tables.specs.Items.{list_from}
 use Rattle.parser_tables.specs.StatementSymbols.{piece_of}
-use Rattle.parser_tables.specs.Seen.{ReadsHere}
+use Rattle.token_cursor.specs.Seen.{ReadsHere}
 use Rattle.parser_tables.specs.StatementNodes.{takes_listed, listed_depth, listed_levels}
 use Rattle.recursive_descent.proofs.complete_expressions.Agreement.{read_here}
 use Rattle.recursive_descent.proofs.complete_statements.BlocksGiven.{class_body_given}

@@ -21,7 +21,7 @@ use Rattle.recursive_descent.specs.Follows.{PassedBefore, FirstMisses, MissesEnd
 use Rattle.recursive_descent.specs.Completeness.{Room}
 use Rattle.recursive_descent.specs.CompletenessOfLists.{ListGiven, ItemGiven, is_lone, default_seen}
 use Rattle.parser_tables.specs.Items.{after_item, is_unseparated}
-use Rattle.parser_tables.specs.Seen.{ReadsHere}
+use Rattle.token_cursor.specs.Seen.{ReadsHere}
 use Rattle.recursive_descent.proofs.complete_expressions.Agreement.{agrees_on, ends_behind, ends_before, ends_both}
 use Rattle.recursive_descent.proofs.complete_lists.ListTurns.{ahead_of, count_join, cases_join, lone_less, join_again, high_join}
 use Rattle.recursive_descent.proofs.complete_lists.ListLoop.{Reaches, ItemHere, item_here, EndMissed}

@@ -29,13 +29,13 @@ use Rattle.recursive_descent.specs.Soundness.{RunsIn, all_read_as}
 use Rattle.recursive_descent.specs.SoundnessOfLists.{has_reading, seen_fits, stood_in, left_of, ClosedBy, case_count, is_chunked, is_stuck, stuck_at}
 use Rattle.recursive_descent.specs.CompletenessOfLists.{ListGiven, LastGiven, ItemGiven, an_item, a_hole, a_chunk, ItemRead, is_full, is_lone, default_seen}
 use Rattle.parser_tables.specs.Items.{is_unseparated}
-use Rattle.parser_tables.specs.Seen.{ReadsHere}
+use Rattle.token_cursor.specs.Seen.{ReadsHere}
 use Rattle.recursive_descent.proofs.complete_expressions.Agreement.{marks_same}
 use Rattle.recursive_descent.proofs.complete_lists.ListSteps.{Behind, ended, comma, next}
 use Rattle.recursive_descent.proofs.complete_lists.ListTurns.{count_read, count_join, cases_join, left_same, signs_apart, unlike}
 use Rattle.recursive_descent.proofs.complete_lists.ListLoop.{moved_given}
 use Rattle.recursive_descent.proofs.complete_lists.NextItem.{comma_left, comma_free, next_free, rest_runs, defaults_left}
-use Rattle.parser_tables.proofs.TokensAhead.{mark_by}
+use Rattle.token_cursor.proofs.TokensAhead.{mark_by}
 
 some_is : {a b : Role} → Some a ≡ Some b → a ≡ b
 some_is e = cc

@@ -41,7 +41,7 @@ use Rattle.recursive_descent.specs.Completeness.{Room, EndsWith, GivenAs, an_exp
 use Rattle.recursive_descent.specs.CompletenessOfLists.{ItemGiven, an_item, a_hole, a_chunk, ItemRead, default_seen, minds_rest}
 use Rattle.parser_tables.specs.Items.{item_from, with_item}
 use Rattle.parser_tables.specs.Outcomes.{BecomesHere}
-use Rattle.parser_tables.specs.Seen.{ReadsHere}
+use Rattle.token_cursor.specs.Seen.{ReadsHere}
 use Rattle.parser_tables.specs.Tests.{is_later_part}
 use Rattle.recursive_descent.proofs.reading.FreeRanks.{no_conditional, no_new}
 use Rattle.recursive_descent.proofs.complete_expressions.Agreement.{Refuses, agrees_on, agrees_err, refuses_unfit, ends_before}

@@ -41,7 +41,7 @@ use Rattle.recursive_descent.specs.CompletenessOfLists.{DefinitionEnds}
 use Rattle.recursive_descent.specs.CompletenessOfProperties.{NameGiven, TokenIs, ValueGiven}
 use Rattle.parser_tables.specs.Items.{element_levels}
 use Rattle.parser_tables.specs.Outcomes.{RefusedAbove}
-use Rattle.parser_tables.specs.Seen.{ReadsHere, Sees, Misses}
+use Rattle.token_cursor.specs.Seen.{ReadsHere, Sees, Misses}
 use Rattle.recursive_descent.proofs.complete_expressions.Agreement.{agrees_on, agrees_err, refuses_above, refuses_made}
 use Rattle.recursive_descent.proofs.complete_properties.DefinitionsGiven.{FunctionGiven, BehindGiven, a_function, no_method, DefinitionGiven, dotted, keyed, definition_given, definition_same}
 use Rattle.recursive_descent.proofs.complete_properties.NamesGiven.{element_position}

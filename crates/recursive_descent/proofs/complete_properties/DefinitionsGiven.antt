@@ -43,11 +43,11 @@ use Rattle.recursive_descent.specs.SoundnessOfLists.{ItemReads, defined, has_rea
 use Rattle.recursive_descent.specs.SoundnessOfStatements.{closure_pieces, pieces_of, method_form}
 use Rattle.recursive_descent.specs.CompletenessOfLists.{CommaOr, DefinitionEnds}
 use Rattle.recursive_descent.specs.CompletenessOfProperties.{AccessGiven, gets, sets, neither, WordsGiven, not_static, static, NameGiven, value_as, ValueGiven, a_value, a_name, a_default}
-use Rattle.parser_tables.specs.Seen.{ReadsHere, Sees, Misses, MissesBy, is_free_name}
+use Rattle.token_cursor.specs.Seen.{ReadsHere, Sees, Misses, MissesBy, is_free_name}
 use Rattle.parser_tables.specs.Tests.{begins_key, is_key_class}
 use Rattle.recursive_descent.proofs.complete_expressions.Agreement.{read_here}
 use Rattle.recursive_descent.proofs.sound_properties.Methods.{methods_bare}
-use Rattle.parser_tables.proofs.TokensAhead.{mark_by}
+use Rattle.token_cursor.proofs.TokensAhead.{mark_by}
 use Rattle.recursive_descent.proofs.complete_properties.ValuesGiven.{separated_there}
 
 some_same : {a b : Role} → Some a ≡ Some b → a ≡ b

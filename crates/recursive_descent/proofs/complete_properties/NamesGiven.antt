@@ -42,12 +42,13 @@ use Rattle.recursive_descent.specs.Completeness.{Room, GivenAs, an_expression}
 use Rattle.recursive_descent.specs.CompletenessOfProperties.{AccessGiven, gets as get_given, sets as set_given, neither as none_given, WordsGiven, not_static as no_static_given, static as static_given, NameGiven, TokenIs}
 use Rattle.recursive_descent.specs.Members.{KeyRead, NoKey}
 use Rattle.recursive_descent.specs.Modifiers.{Accessed, gets, sets, get_named, set_named, neither, Modifying, in_object, not_static, static_named, static}
-use Rattle.parser_tables.specs.Outcomes.{BecomesHere, IsSyntaxHere}
-use Rattle.parser_tables.specs.Seen.{ReadsHere, Misses, SeesBy, MissesBy, TokenHere}
+use Rattle.parser_tables.specs.Outcomes.{BecomesHere}
+use Rattle.token_cursor.specs.CursorState.{IsSyntaxHere}
+use Rattle.token_cursor.specs.Seen.{ReadsHere, Misses, SeesBy, MissesBy, TokenHere}
 use Rattle.parser_tables.specs.Tests.{begins_key, is_key, is_key_class}
 use Rattle.recursive_descent.proofs.reading.FreeRanks.{no_conditional, no_new}
 use Rattle.recursive_descent.proofs.complete_expressions.Agreement.{Refuses, agrees_on, agrees_err, refuses_unfit, refuses_high, refuses_syntax, marks_same, words_same}
-use Rattle.parser_tables.proofs.TokensAhead.{mark_by, name_by}
+use Rattle.token_cursor.proofs.TokensAhead.{mark_by, name_by}
 
 some_height : (n : Tree) → 1 ≤ height n
 some_height (node k w g s e ps) = omega arith

@@ -43,11 +43,11 @@ use Rattle.recursive_descent.specs.Completeness.{Room, Over, is_over, GivenAs, a
 use Rattle.recursive_descent.specs.CompletenessOfLists.{CommaOr}
 use Rattle.recursive_descent.specs.CompletenessOfProperties.{TokenIs, value_as, ValueGiven, a_value, a_name, a_default}
 use Rattle.parser_tables.specs.Outcomes.{BecomesHere}
-use Rattle.parser_tables.specs.Seen.{ReadsHere, Misses, is_free_name}
+use Rattle.token_cursor.specs.Seen.{ReadsHere, Misses, is_free_name}
 use Rattle.recursive_descent.proofs.reading.FreeRanks.{no_conditional, no_new}
 use Rattle.recursive_descent.proofs.complete_expressions.Agreement.{agrees_on, agrees_err, refuses_unfit, refuses_high, refuses_made, marks_same}
 use Rattle.recursive_descent.proofs.complete_properties.NamesGiven.{element_position}
-use Rattle.parser_tables.proofs.TokensAhead.{mark_by}
+use Rattle.token_cursor.proofs.TokensAhead.{mark_by}
 
 unlike : {v w : List ℕ} {A : Type 0} (s : List ℕ → Bool) → s v ≡ true → s w ≡ false → v ≡ w → A
 unlike s h k e = absurd (false≢true (sym k ∙ ap s (sym e) ∙ h))

@@ -23,7 +23,7 @@ use Rattle.recursive_descent.specs.Complete.{StatementsComplete, SymbolsComplete
 use Rattle.recursive_descent.specs.Completeness.{Room, EndsWith}
 use Rattle.recursive_descent.specs.CompletenessOfStatements.{PieceGiven, knows_edge}
 use Rattle.parser_tables.specs.StatementSymbols.{Piece, piece_of, CatchParts}
-use Rattle.parser_tables.specs.Seen.{ReadsHere, Misses, SeesBy}
+use Rattle.token_cursor.specs.Seen.{ReadsHere, Misses, SeesBy}
 use Rattle.parser_tables.specs.StatementNodes.{with_part, item_context, partial_of}
 use Rattle.parser_tables.specs.Tests.{ends}
 use Rattle.recursive_descent.specs.Expectations.{ExpectedAt}
@@ -32,7 +32,7 @@ use Rattle.recursive_descent.proofs.complete_statements.BlocksGiven.{Braced, blo
 use Rattle.recursive_descent.proofs.sound_statements.BlockSymbols.{place_name}
 use Rattle.recursive_descent.proofs.sound_statements.PartSymbols.{wanted_nodes}
 use Rattle.recursive_descent.proofs.complete_statements.SymbolsLeft.{SameOf, RefusedOf}
-use Rattle.parser_tables.proofs.TokensAhead.{mark_by}
+use Rattle.token_cursor.proofs.TokensAhead.{mark_by}
 use Rattle.recursive_descent.proofs.complete_statements.SymbolViews.{something, BlockPiece, block_of_block, block_of_body, block_of_finally, wants_block, HandlerPiece, handler_of_catch, wants_handler}
 
 context_of : {a b : StatementContext} → Some (wanted.Block a) ≡ Some (wanted.Block b) → b ≡ a

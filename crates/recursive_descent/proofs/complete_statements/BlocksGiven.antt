@@ -28,7 +28,7 @@ use Rattle.recursive_descent.specs.Soundness.{RunsIn, anywhere, SpelledAs}
 use Rattle.recursive_descent.specs.CompletenessOfStatements.{PiecesGiven, has_edges}
 use Rattle.parser_tables.specs.StatementSymbols.{CatchParts}
 use Rattle.parser_tables.specs.StatementSymbols as Parsed
-use Rattle.parser_tables.specs.Seen.{ReadsHere, Sees}
+use Rattle.token_cursor.specs.Seen.{ReadsHere, Sees}
 use Rattle.recursive_descent.proofs.complete_expressions.Agreement.{read_here, marks_same}
 
 none_bare : (ps : Parts) → is_none (bare_parts ps) ≡ is_none ps

@@ -28,7 +28,7 @@ use Rattle.recursive_descent.specs.Soundness.{RunsIn, anywhere}
 use Rattle.recursive_descent.specs.Completeness.{FinishedIn}
 use Rattle.parser_tables.specs.StatementSymbols as Piece
 use Rattle.parser_tables.specs.StatementSymbols.{statement_parts}
-use Rattle.parser_tables.specs.Seen.{Misses}
+use Rattle.token_cursor.specs.Seen.{Misses}
 use Rattle.parser_tables.specs.declared.statements.StatementKind.TheVariants as headed
 use Rattle.recursive_descent.proofs.complete_expressions.Agreement.{read_here}
 use Rattle.recursive_descent.proofs.complete_statements.SymbolSteps.{PiecesFrom, pieces_as, no_pieces, token_first, mark_first, word_first, put_first, gap_first, an_expression, a_statement, before_sign, condition_given, condition_first, last_part, last_statement}

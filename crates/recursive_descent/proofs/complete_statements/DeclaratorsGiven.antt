@@ -46,7 +46,7 @@ use Rattle.recursive_descent.specs.Completeness.{Room, EndsWith, DeclaredIn, Giv
 use Rattle.recursive_descent.specs.CompletenessOfLists.{declarator_as}
 use Rattle.parser_tables.specs.Outcomes.{BecomesHere}
 use Rattle.parser_tables.specs.Operands.{is_group}
-use Rattle.parser_tables.specs.Seen.{ReadsHere, Misses}
+use Rattle.token_cursor.specs.Seen.{ReadsHere, Misses}
 use Rattle.recursive_descent.proofs.reading.FreeRanks.{no_conditional, no_new}
 use Rattle.recursive_descent.proofs.complete_expressions.Agreement.{agrees_on, agrees_err, refuses_memory, refuses_unfit, refuses_made, marks_same, ends_both, ends_before, ends_same, ends_behind}
 use Rattle.recursive_descent.proofs.sound_lists.Declarators.{bound_first, place_of}

@@ -54,12 +54,12 @@ use Rattle.recursive_descent.specs.SoundnessOfStatements.{context_role}
 use Rattle.recursive_descent.specs.Completeness.{Agrees, Room, EndsWith, FinishedIn, IsRead}
 use Rattle.parser_tables.specs.Operands.{is_group, is_lone_string}
 use Rattle.parser_tables.specs.StatementSymbols.{statement_parts}
-use Rattle.parser_tables.specs.Seen.{Sees, Misses}
+use Rattle.token_cursor.specs.Seen.{Sees, Misses}
 use Rattle.parser_tables.specs.StatementNodes.{statement_node_kind, expression_statement_node, expression_statement_height, NoExpressionStatement}
 use Rattle.recursive_descent.proofs.complete_expressions.Agreement.{agrees_on, refuses_high, read_here, ends_same, ends_before}
 use Rattle.recursive_descent.proofs.sound_statements.ExpressionStatements.{literal_role, group_taken}
 use Rattle.recursive_descent.proofs.complete_statements.ExpressionStatementsGiven.{at_statement, LedGiven, LedOn, by_label, by_end, EndedBy, by_itself, by_string, by_group, led_given}
-use Rattle.parser_tables.proofs.TokensAhead.{ahead_read}
+use Rattle.token_cursor.proofs.TokensAhead.{ahead_read}
 use Rattle.recursive_descent.proofs.complete_statements.SymbolSteps.{PiecesFrom}
 use Rattle.recursive_descent.proofs.complete_statements.KeywordStatementsGiven.{end_here}
 use Rattle.recursive_descent.proofs.sound_statements.WholeStatements.{context_stands, headed_text}

@@ -38,7 +38,7 @@ use Rattle.parser_tables.specs.declared.expression_context.ExpressionContext.{Ex
 use Rattle.parser_tables.specs.declared.statements.StatementKind.TheVariants as headed
 use Rattle.recursive_descent.specs.Completeness.{GivenAs, an_expression, StopsIn, FinishedIn}
 use Rattle.parser_tables.specs.StatementSymbols.{statement_parts}
-use Rattle.parser_tables.specs.Seen.{Sees, Misses}
+use Rattle.token_cursor.specs.Seen.{Sees, Misses}
 use Rattle.recursive_descent.proofs.complete_expressions.Agreement.{read_here}
 use Rattle.recursive_descent.proofs.complete_statements.SymbolSteps.{PiecesFrom, mark_first, last_part, last_statement}
 

@@ -38,12 +38,12 @@ use Rattle.recursive_descent.specs.Soundness.{RunsIn, anywhere}
 use Rattle.recursive_descent.specs.CompletenessOfStatements.{HeadGiven, a_declaration, an_expression, a_target}
 use Rattle.parser_tables.specs.StatementSymbols as Parsed
 use Rattle.parser_tables.specs.StatementSymbols.{statement_parts}
-use Rattle.parser_tables.specs.Seen.{ReadsHere, SeesBy, MissesBy, Sees, Misses}
+use Rattle.token_cursor.specs.Seen.{ReadsHere, SeesBy, MissesBy, Sees, Misses}
 use Rattle.parser_tables.specs.Tests.{is_each}
 use Rattle.parser_tables.specs.declared.statements.StatementKind.{StatementKind}
 use Rattle.parser_tables.specs.declared.statements.StatementKind.TheVariants as headed
 use Rattle.recursive_descent.proofs.complete_expressions.Agreement.{read_here}
-use Rattle.parser_tables.proofs.TokensAhead.{name_by, mark_by}
+use Rattle.token_cursor.proofs.TokensAhead.{name_by, mark_by}
 use Rattle.recursive_descent.proofs.complete_statements.SymbolSteps as Steps
 use Rattle.recursive_descent.proofs.complete_statements.SymbolSteps.{PiecesFrom, pieces_as, no_pieces, mark_first, word_first, put_first, gap_first, a_statement, last_part, last_statement}
 

@@ -46,13 +46,13 @@ use Rattle.recursive_descent.specs.Completeness.{Agrees, Room, EndsWith}
 use Rattle.recursive_descent.specs.CompletenessOfStatements.{PiecesGiven, ListPieceGiven, has_edges}
 use Rattle.parser_tables.specs.StatementSymbols as Coded
 use Rattle.parser_tables.specs.StatementSymbols.{function_or_class_kind, function_or_class_parts}
-use Rattle.parser_tables.specs.Seen.{NoName, is_free_name}
+use Rattle.token_cursor.specs.Seen.{NoName, is_free_name}
 use Rattle.parser_tables.specs.Tokens.{single_node}
 use Rattle.recursive_descent.proofs.complete_expressions.Agreement.{Refuses, refuses_high, agrees_on, agrees_err, room_part, read_here, ends_behind, words_same}
 use Rattle.recursive_descent.proofs.complete_statements.BlocksGiven.{class_body_given}
 use Rattle.recursive_descent.proofs.sound_statements.FunctionsAndClasses.{parameters_bare, listed_bare, closing_and_body, heritage_and_body}
 use Rattle.recursive_descent.proofs.sound_statements.TokenSymbols.{name_spelled}
-use Rattle.parser_tables.proofs.TokensAhead.{mark_by, name_by}
+use Rattle.token_cursor.proofs.TokensAhead.{mark_by, name_by}
 
 -- where a sign stands no name does
 sign_unnamed : (text : List ℕ) {w : List ℕ} {s t e : Token} → Reads Token (NextIn text any_goal) itself Punctuator w s t e → NoName text is_free_name s

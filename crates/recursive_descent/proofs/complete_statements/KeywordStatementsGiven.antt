@@ -41,10 +41,10 @@ use Rattle.recursive_descent.specs.Completeness.{StopsIn}
 use Rattle.recursive_descent.specs.CompletenessOfStatements.{Broken, OnLine}
 use Rattle.parser_tables.specs.StatementSymbols as Piece
 use Rattle.parser_tables.specs.StatementSymbols.{statement_parts}
-use Rattle.parser_tables.specs.Seen.{SeesBy, MissesBy, NoName, is_free_name}
+use Rattle.token_cursor.specs.Seen.{SeesBy, MissesBy, NoName, is_free_name}
 use Rattle.parser_tables.specs.Tests.{ends_word}
 use Rattle.parser_tables.specs.declared.statements.StatementKind.TheVariants as headed
-use Rattle.parser_tables.proofs.TokensAhead.{class_of}
+use Rattle.token_cursor.proofs.TokensAhead.{class_of}
 use Rattle.recursive_descent.proofs.sound_statements.StatementWays.{standing_twice}
 use Rattle.recursive_descent.proofs.complete_statements.SymbolSteps.{PiecesFrom, pieces_as, no_pieces, token_first, put_first, gap_first, an_expression}
 

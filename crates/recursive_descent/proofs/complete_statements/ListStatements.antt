@@ -37,14 +37,14 @@ use Rattle.recursive_descent.specs.SoundnessOfStatements.{PutAt}
 use Rattle.recursive_descent.specs.CompletenessOfLists.{LastDeclared}
 use Rattle.parser_tables.specs.StatementSymbols as Parsed
 use Rattle.parser_tables.specs.StatementSymbols.{statement_parts}
-use Rattle.parser_tables.specs.Seen.{ReadsHere, SeesBy, Misses}
+use Rattle.token_cursor.specs.Seen.{ReadsHere, SeesBy, Misses}
 use Rattle.parser_tables.specs.Tests.{ends}
 use Rattle.parser_tables.specs.declared.statements.StatementKind.TheVariants as headed
 use Rattle.parser_tables.specs.declared.statements.StatementListEnd.TheVariants as until
 use Rattle.covers.specs.declared.list.ListKind.TheVariants as listed
 use Rattle.recursive_descent.proofs.complete_expressions.Agreement.{read_here}
 use Rattle.recursive_descent.proofs.sound_lists.OneMoreItem.{join_none}
-use Rattle.parser_tables.proofs.TokensAhead.{mark_by}
+use Rattle.token_cursor.proofs.TokensAhead.{mark_by}
 use Rattle.recursive_descent.proofs.sound_statements.KeywordStatements.{defaults_bare}
 use Rattle.recursive_descent.proofs.complete_statements.SymbolSteps.{PiecesFrom, pieces_as, no_pieces, token_first, mark_first, put_first, gap_first, parts_first, condition_given, condition_first}
 use Rattle.recursive_descent.proofs.complete_statements.KeywordStatementsGiven.{end_here}

@@ -36,7 +36,7 @@ use Rattle.recursive_descent.specs.CompletenessOfStatements.{PieceGiven, ListPie
 use Rattle.parser_tables.specs.Items.{list_from}
 use Rattle.parser_tables.specs.Outcomes.{RefusedWhere}
 use Rattle.parser_tables.specs.StatementSymbols.{piece_of}
-use Rattle.parser_tables.specs.Seen.{ReadsHere, SeesBy, MissesBy}
+use Rattle.token_cursor.specs.Seen.{ReadsHere, SeesBy, MissesBy}
 use Rattle.parser_tables.specs.StatementNodes.{with_list, list_parts, list_levels, listed_levels, listed_depth, takes_list, takes_listed}
 use Rattle.parser_tables.specs.Tests.{is_each}
 use Rattle.recursive_descent.specs.Expectations.{ExpectedAt}

@@ -34,7 +34,7 @@ use Rattle.language.proofs.table.ViewIsComplete.{way_of, one}
 use Rattle.recursive_descent.specs.Complete.{StatementsComplete}
 use Rattle.recursive_descent.specs.Soundness.{RunsIn, anywhere, grouping}
 use Rattle.recursive_descent.specs.Completeness.{Agrees, Room}
-use Rattle.parser_tables.specs.Seen.{ReadsHere, SeesBy}
+use Rattle.token_cursor.specs.Seen.{ReadsHere, SeesBy}
 use Rattle.parser_tables.specs.Tests.{ends}
 use Rattle.parser_tables.specs.declared.statements.StatementListEnd.TheVariants as until
 use Rattle.recursive_descent.proofs.complete_expressions.Agreement.{agrees_on, read_here}

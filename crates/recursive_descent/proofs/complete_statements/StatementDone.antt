@@ -34,11 +34,11 @@ use Rattle.recursive_descent.specs.Completeness.{Room, EndsWith, FinishedIn}
 use Rattle.recursive_descent.specs.CompletenessOfStatements.{has_edges}
 use Rattle.parser_tables.specs.Operands.{is_group}
 use Rattle.parser_tables.specs.StatementSymbols.{Piece, statement_parts}
-use Rattle.parser_tables.specs.Seen.{Sees}
+use Rattle.token_cursor.specs.Seen.{Sees}
 use Rattle.parser_tables.specs.StatementNodes.{statement_node_kind}
 use Rattle.recursive_descent.proofs.complete_expressions.Agreement.{agrees_on, ends_both, ends_same}
 use Rattle.recursive_descent.proofs.complete_statements.ExpressionStatementsGiven.{at_statement}
-use Rattle.parser_tables.proofs.TokensAhead.{mark_by, name_by}
+use Rattle.token_cursor.proofs.TokensAhead.{mark_by, name_by}
 use Rattle.recursive_descent.proofs.complete_statements.SymbolSteps.{PiecesFrom}
 use Rattle.recursive_descent.proofs.sound_statements.WholeStatements.{headed_text}
 use Rattle.recursive_descent.proofs.complete_statements.ExpressionLedStatements.{label_main}

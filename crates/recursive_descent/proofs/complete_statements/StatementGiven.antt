@@ -45,7 +45,7 @@ use Rattle.parser_tables.specs.StatementNodes.{statement_node_kind}
 use Rattle.recursive_descent.proofs.complete_expressions.Agreement.{agrees_err, refuses_on, refuses_high, ends_behind}
 use Rattle.recursive_descent.proofs.sound_statements.FunctionsAndClasses.{closing_and_body, parameters_bare}
 use Rattle.recursive_descent.proofs.sound_statements.OwnTokenStatements.{coded_closure}
-use Rattle.parser_tables.proofs.TokensAhead.{ahead_read}
+use Rattle.token_cursor.proofs.TokensAhead.{ahead_read}
 use Rattle.recursive_descent.proofs.sound_statements.WholeStatements.{context_stands, headed_of, headed_begins, headed_text, text_told}
 use Rattle.recursive_descent.proofs.complete_statements.ConditionStatements.{while_given, do_given, if_given}
 use Rattle.recursive_descent.proofs.complete_statements.ListStatements.{block_given, variable_given, switch_given, try_given}

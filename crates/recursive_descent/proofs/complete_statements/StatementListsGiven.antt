@@ -35,7 +35,7 @@ use Rattle.recursive_descent.specs.Complete.{StatementComplete, StatementsComple
 use Rattle.recursive_descent.specs.Soundness.{RunsIn, anywhere}
 use Rattle.recursive_descent.specs.SoundnessOfStatements.{context_role}
 use Rattle.recursive_descent.specs.Completeness.{Room, EndsWith, FinishedIn}
-use Rattle.parser_tables.specs.Seen.{SeesBy, MissesBy}
+use Rattle.token_cursor.specs.Seen.{SeesBy, MissesBy}
 use Rattle.parser_tables.specs.Tests.{ends}
 use Rattle.recursive_descent.proofs.complete_expressions.Agreement.{agrees_err, agrees_on, ends_none, ends_both, ends_same, refuses_memory}
 use Rattle.recursive_descent.proofs.sound_lists.OneMoreItem.{join_none}

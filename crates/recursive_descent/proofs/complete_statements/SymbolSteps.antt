@@ -22,7 +22,7 @@ use Rattle.recursive_descent.specs.Completeness.{StopsIn, FinishedIn}
 use Rattle.recursive_descent.specs.CompletenessOfStatements.{PieceGiven, PiecesGiven, ExpressionGiven, StatementGiven}
 use Rattle.parser_tables.specs.StatementSymbols as Piece
 use Rattle.parser_tables.specs.StatementSymbols.{in_parentheses}
-use Rattle.parser_tables.specs.Seen.{ReadsHere}
+use Rattle.token_cursor.specs.Seen.{ReadsHere}
 use Rattle.recursive_descent.proofs.complete_expressions.Agreement.{read_here}
 
 -- what is given of a statement behind its first token, from any right edge on

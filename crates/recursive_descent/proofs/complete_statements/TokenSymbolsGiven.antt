@@ -41,7 +41,7 @@ use Rattle.recursive_descent.specs.SoundnessOfStatements.{IsToken, IsGap}
 use Rattle.recursive_descent.specs.Soundness.{RunsIn}
 use Rattle.recursive_descent.specs.CompletenessOfStatements.{OnLine, Broken, HeadGiven, a_declaration, an_expression, a_target}
 use Rattle.parser_tables.specs.StatementSymbols.{Piece, piece_of}
-use Rattle.parser_tables.specs.Seen.{NoName, Sees, is_free_name}
+use Rattle.token_cursor.specs.Seen.{NoName, Sees, is_free_name}
 use Rattle.parser_tables.specs.Tokens.{single_node}
 use Rattle.recursive_descent.specs.Expectations.{ExpectedAt, LabelAt, IsBroken, NotLabel, NotExpected}
 use Rattle.recursive_descent.proofs.complete_statements.SymbolViews.{something, of_some, is_nothing, is_gap}

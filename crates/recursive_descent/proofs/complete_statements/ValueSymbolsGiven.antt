@@ -45,7 +45,7 @@ use Rattle.recursive_descent.specs.Completeness as given
 use Rattle.recursive_descent.specs.CompletenessOfStatements.{PieceGiven, ExpressionGiven, HeadGiven, a_declaration, an_expression, a_target, knows_edge}
 use Rattle.parser_tables.specs.Outcomes.{RefusedUnless}
 use Rattle.parser_tables.specs.StatementSymbols.{piece_of}
-use Rattle.parser_tables.specs.Seen.{NoName, Sees, SeesBy, MissesBy, declares}
+use Rattle.token_cursor.specs.Seen.{NoName, Sees, SeesBy, MissesBy, declares}
 use Rattle.parser_tables.specs.StatementNodes.{put_node, takes_put, with_part}
 use Rattle.parser_tables.specs.Tests.{is_each}
 use Rattle.recursive_descent.specs.Expectations.{ExpectedAt, HeadAt}
@@ -54,7 +54,7 @@ use Rattle.recursive_descent.proofs.complete_expressions.Agreement.{refuses_on, 
 use Rattle.recursive_descent.proofs.sound_statements.PartSymbols.{position_of, each_at, wanted_nodes}
 use Rattle.recursive_descent.proofs.complete_statements.SymbolViews.{something, ExpressionPiece, expression_of_expression, expression_of_assignment, expression_of_test, expression_of_update, expression_of_argument, expression_of_heritage, expression_of_head, wants_expression}
 use Rattle.recursive_descent.proofs.complete_statements.SymbolsLeft.{SameOf, RefusedOf}
-use Rattle.parser_tables.proofs.TokensAhead.{mark_by}
+use Rattle.token_cursor.proofs.TokensAhead.{mark_by}
 
 -- an expression that a piece wants, in its reading
 record ValueGiven (text : List ℕ) (p : Coded) (pos : ExpressionContext) (o : ℕ) (m e : Token) (y : Edge) (put : Parts) (P : List Pair) : Type 0 where

@@ -23,7 +23,7 @@ use Rattle.recursive_descent.specs.Follows.{BegunAt}
 use Rattle.recursive_descent.specs.Completeness.{Room, EndsWith}
 use Rattle.recursive_descent.specs.CompletenessOfLists.{ListGiven}
 use Rattle.parser_tables.specs.Items.{list_from}
-use Rattle.parser_tables.specs.Seen.{ReadsHere}
+use Rattle.token_cursor.specs.Seen.{ReadsHere}
 use Rattle.recursive_descent.proofs.complete_expressions.Agreement.{agrees_on, read_here, marks_same, ends_behind, room_part}
 
 module _ (text : List ℕ) where

@@ -36,7 +36,7 @@ use Rattle.recursive_descent.specs.Follows.{target_node, NotTarget}
 use Rattle.recursive_descent.specs.Completeness.{Agrees, Room, EndsWith, IsFirst, StopsIn, GivenAs, a_callee}
 use Rattle.parser_tables.specs.ExpressionStarts.{stands_at}
 use Rattle.parser_tables.specs.Operands.{plain_part}
-use Rattle.parser_tables.specs.Seen.{ReadsHere, Misses, Sees}
+use Rattle.token_cursor.specs.Seen.{ReadsHere, Misses, Sees}
 use Rattle.recursive_descent.proofs.complete_expressions.AgreedNodes.{FirstWith}
 use Rattle.recursive_descent.proofs.complete_expressions.Agreement.{marks_same, words_same, ends_none, ends_both, ends_same}
 use Rattle.recursive_descent.proofs.complete_expressions.FunctionsAndClassesGiven.{made_first}

@@ -32,12 +32,12 @@ use Rattle.recursive_descent.specs.Soundness.{RunsIn, anywhere}
 use Rattle.recursive_descent.specs.Completeness.{Room, EndsWith, subscript_after, ChainGiven, LinksGiven, no_link, one_link}
 use Rattle.recursive_descent.specs.Subscripts.{link_kind, link_flags, link_rank, is_calling}
 use Rattle.parser_tables.specs.Operands.{plain_part}
-use Rattle.parser_tables.specs.Seen.{ReadsHere, SeesBy, MissesBy}
+use Rattle.token_cursor.specs.Seen.{ReadsHere, SeesBy, MissesBy}
 use Rattle.parser_tables.specs.Tests.{is_link, is_template, links}
 use Rattle.recursive_descent.proofs.complete_expressions.Agreement.{agrees_err, agrees_on, refuses_high, room_part, ends_same, ends_both, ends_before}
 use Rattle.recursive_descent.proofs.complete_subscripts.ArgumentsGiven.{arguments_given}
 use Rattle.recursive_descent.proofs.complete_subscripts.SubscriptsGiven.{Further, name_there, index_there, arguments_there, template_there, Front, by_dot, by_mark, by_none, link_given}
-use Rattle.parser_tables.proofs.TokensAhead.{mark_by}
+use Rattle.token_cursor.proofs.TokensAhead.{mark_by}
 
 -- the symbol of a link can be called
 link_called : (l : Subscript) (r : Rank) → IsTrue (takes Call (link_rank l (is_calling r)))

@@ -59,7 +59,7 @@ use Rattle.parser_tables.specs.Operands.{plain_part}
 use Rattle.recursive_descent.specs.Stages.{SpineAs, Serves, StageAs, Staged, InfixComplete}
 use Rattle.parser_tables.specs.Tests.{links}
 use Rattle.recursive_descent.proofs.complete_subscripts.SubscriptsOnSpine.{same_arguments, plain_next}
-use Rattle.parser_tables.proofs.TokensAhead.{ahead_read}
+use Rattle.token_cursor.proofs.TokensAhead.{ahead_read}
 use Rattle.recursive_descent.proofs.complete_expressions.SpineTurns.{goes_there}
 use Rattle.recursive_descent.proofs.complete_expressions.StageTurns.{OnSpine, spined, spine_only, agrees_through, staged}
 use Rattle.recursive_descent.proofs.sound_expressions.InfixTurns.{chains_by}

@@ -46,7 +46,7 @@ use Rattle.recursive_descent.specs.Soundness.{RunsIn, anywhere}
 use Rattle.parser_tables.specs.declared.expression_context.ExpressionContext.{ExpressionContext}
 use Rattle.recursive_descent.specs.Follows.{target_node}
 use Rattle.recursive_descent.specs.Completeness.{FirstAs, StopsIn}
-use Rattle.parser_tables.specs.Seen.{ReadsHere, Misses}
+use Rattle.token_cursor.specs.Seen.{ReadsHere, Misses}
 use Rattle.parser_tables.specs.Tokens.{single_node}
 use Rattle.recursive_descent.proofs.complete_expressions.Agreement.{read_here}
 use Rattle.recursive_descent.proofs.complete_expressions.StartsGiven.{CoreGiven, given_core, is_bracket, is_named}

@@ -48,7 +48,7 @@ use Rattle.parser_tables.specs.Items.{listed_node, listed_part}
 use Rattle.recursive_descent.specs.Subscripts.{link_kind, link_flags, link_rank, is_calling}
 use Rattle.parser_tables.specs.Outcomes.{MakesAs}
 use Rattle.parser_tables.specs.Operands.{plain_part}
-use Rattle.parser_tables.specs.Seen.{ReadsHere, Misses, NoName, is_any}
+use Rattle.token_cursor.specs.Seen.{ReadsHere, Misses, NoName, is_any}
 use Rattle.parser_tables.specs.Tokens.{single_node}
 use Rattle.recursive_descent.proofs.reading.FreeRanks.{no_conditional, no_new}
 use Rattle.recursive_descent.proofs.complete_expressions.Agreement.{Refuses, refuses_on, agrees_err, refuses_high, room_part, marks_same, words_same, not_missed}

@@ -34,14 +34,14 @@ use Rattle.recursive_descent.specs.Soundness.{RunsIn, anywhere, ArgumentsAt}
 use Rattle.recursive_descent.specs.Follows.{LinkedAt, NotLinked, Unlinked, unlinks}
 use Rattle.recursive_descent.specs.Completeness.{subscript_after}
 use Rattle.recursive_descent.specs.Subscripts.{link_by}
-use Rattle.parser_tables.specs.Outcomes.{IsSyntaxHere}
-use Rattle.parser_tables.specs.Seen.{ReadsHere, Misses}
+use Rattle.token_cursor.specs.CursorState.{IsSyntaxHere}
+use Rattle.token_cursor.specs.Seen.{ReadsHere, Misses}
 use Rattle.parser_tables.specs.Tokens.{single_node}
 use Rattle.recursive_descent.proofs.complete_expressions.Agreement.{marks_same, read_here, not_missed}
 use Rattle.recursive_descent.proofs.complete_subscripts.ArgumentsGiven.{arguments_given}
 use Rattle.recursive_descent.proofs.complete_subscripts.TemplatesGiven.{quasi_begins}
 use Rattle.recursive_descent.proofs.sound_subscripts.SubscriptNodes.{Behind, a_name, optional_name, an_index, optional_index, some_arguments, optional_arguments, a_template}
-use Rattle.parser_tables.proofs.TokensAhead.{mark_by, name_by, same_ahead, none_ahead}
+use Rattle.token_cursor.proofs.TokensAhead.{mark_by, name_by, same_ahead, none_ahead}
 
 -- what each position spells at a place of a text is the only thing there
 pub once : (text : List ℕ) (h : ℕ) → Unique Token (NextIn text any_goal) itself (text_determined text) h

@@ -41,7 +41,7 @@ use Rattle.parser_tables.specs.declared.expression_context.ExpressionContext.{Ex
 use Rattle.recursive_descent.specs.Soundness.{RunsIn, anywhere}
 use Rattle.recursive_descent.specs.Completeness.{FirstAs, subscript_after}
 use Rattle.recursive_descent.specs.Subscripts.{link_kind, link_flags, link_rank}
-use Rattle.parser_tables.specs.Seen.{ReadsHere, SeesBy}
+use Rattle.token_cursor.specs.Seen.{ReadsHere, SeesBy}
 use Rattle.parser_tables.specs.Tests.{continues_super}
 use Rattle.parser_tables.specs.Tokens.{single_node}
 use Rattle.recursive_descent.proofs.complete_expressions.Agreement.{read_here}

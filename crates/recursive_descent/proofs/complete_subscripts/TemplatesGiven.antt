@@ -40,7 +40,7 @@ use Rattle.recursive_descent.specs.SoundnessOfLists.{left_of}
 use Rattle.recursive_descent.specs.Follows.{FirstChunkAt, BegunTemplate, NoTemplate}
 use Rattle.recursive_descent.specs.CompletenessOfLists.{ListGiven, is_left}
 use Rattle.parser_tables.specs.Items.{list_from, with_item}
-use Rattle.parser_tables.proofs.TokensAhead.{by_goal, read_allows}
+use Rattle.token_cursor.proofs.TokensAhead.{by_goal, read_allows}
 
 -- the goal reads nothing but the end, and so no template
 pub only_ended : (text : List ℕ) (s t m : Token) → OnlyEnd Div text s.stop → ReadBy Token (NextIn text any_goal) itself Div s t m → t.class ≡ End

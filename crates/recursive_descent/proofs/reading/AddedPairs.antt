@@ -24,7 +24,7 @@ use Rattle.recursive_descent.specs.Soundness.{RunsIn, anywhere, groups, grouping
 use Rattle.recursive_descent.specs.SoundnessOfLists.{SoFarAt, ListAt, is_whole, whole_of, stood_in, item_pieces, ClosedBy}
 use Rattle.recursive_descent.specs.Follows.{BegunAt}
 use Rattle.parser_tables.specs.Items.{list_from}
-use Rattle.parser_tables.specs.Seen.{ReadsHere}
+use Rattle.token_cursor.specs.Seen.{ReadsHere}
 
 -- the pairs of both
 pub grouping_both : (xs ys : List Pair) → grouping (xs ++ ys) ≡ grouping xs ++ grouping ys

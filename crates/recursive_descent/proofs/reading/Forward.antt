@@ -16,9 +16,9 @@ use Rattle.language.specs.Places.{NextIn, next_in, itself, SpellsIn}
 use Rattle.language.specs.Derivation.{Reads, Step, token, with_mark, without_mark, one_more, no_more, seen, same_line, explicit, implicit, laid, direct, grouped, done, step, opened, closed, within, missing}
 use Rattle.language.proofs.table.Begins.{div_allows}
 use Rattle.recursive_descent.specs.Soundness.{RunsIn, Begins}
-use Rattle.parser_tables.specs.Outcomes.{IsPlaceHere}
-use Rattle.parser_tables.specs.Seen.{ReadsHere}
-use Rattle.parser_tables.proofs.TokensAhead.{read_allows}
+use Rattle.token_cursor.specs.CursorState.{IsPlaceHere}
+use Rattle.token_cursor.specs.Seen.{ReadsHere}
+use Rattle.token_cursor.proofs.TokensAhead.{read_allows}
 use Rattle.language.specs.Promises.{ReadBy}
 
 -- the same token, by another goal that allows it

@@ -1,7 +1,7 @@
 -- A token that was passed, from before and beyond where it was.
 use Rattle.std.proofs.Common.{◌≡◌, ◌≤◌, ◌<◌, length, subst, arith}
 use Rattle.token_cursor.specs.CursorState.{CursorState}
-use Rattle.parser_tables.specs.Moves.{Passes}
+use Rattle.token_cursor.specs.CursorState.{Passes}
 
 -- what was read before it counts too
 pub passes_behind : (s m e : CursorState) → s.last.stop ≤ m.last.stop → m.text ≡ s.text → Passes m e → Passes s e

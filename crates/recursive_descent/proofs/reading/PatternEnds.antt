@@ -40,7 +40,7 @@ use Rattle.covers.specs.Shapes.{is_element, is_target, is_pattern as is_listed}
 use Rattle.covers.specs.declared.shape.TargetForm.{TargetForm}
 use Rattle.covers.specs.declared.shape.TargetForm.TheVariants as assigned
 use Rattle.recursive_descent.specs.Completeness.{StopsIn, Over, is_over, Unarrowed}
-use Rattle.parser_tables.specs.Seen.{ReadsHere, SeesBy}
+use Rattle.token_cursor.specs.Seen.{ReadsHere, SeesBy}
 use Rattle.parser_tables.specs.Tests.{is_each}
 
 -- what stands at Primary stands left of `=`

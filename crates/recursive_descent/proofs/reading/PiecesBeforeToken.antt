@@ -10,7 +10,7 @@ use Rattle.language.specs.Places.{NextIn, itself}
 use Rattle.language.specs.Derivation.{Reads, done, step, opened, closed, within, missing}
 use Rattle.language.proofs.list_loops.FirstPieces.{run_token, run_none}
 use Rattle.recursive_descent.specs.Soundness.{RunsIn}
-use Rattle.parser_tables.specs.Seen.{ReadsHere}
+use Rattle.token_cursor.specs.Seen.{ReadsHere}
 use Rattle.recursive_descent.proofs.complete_expressions.Agreement.{read_here}
 
 module _ (text : List ℕ) where

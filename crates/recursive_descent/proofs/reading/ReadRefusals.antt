@@ -10,8 +10,8 @@ use Rattle.covers.specs.Lists.{opening}
 use Rattle.parser_tables.specs.declared.functions_and_classes.FunctionOrClass.{FunctionOrClass}
 use Rattle.parser_tables.specs.declared.functions_and_classes.FunctionOrClass.TheVariants as closure
 use Rattle.recursive_descent.specs.Follows.{asks_name, NotNamed, NotBegun}
-use Rattle.parser_tables.specs.Outcomes.{IsSyntaxHere}
-use Rattle.parser_tables.specs.Seen.{Misses, NoName, is_free_name}
+use Rattle.token_cursor.specs.CursorState.{IsSyntaxHere}
+use Rattle.token_cursor.specs.Seen.{Misses, NoName, is_free_name}
 
 -- behind a `?` the fault is the same
 pub passed_on : {X : Type 0} (P : Fault → Type 0) (answer : Result X Fault) (fault : Fault) → IsErrAnd answer (λ e. e ≡ fault) → P fault → IfErr answer P

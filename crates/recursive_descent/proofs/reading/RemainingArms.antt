@@ -24,8 +24,8 @@ use Rattle.tokens.specs.Tokens.{LexicalToken}
 use Rattle.token_cursor.specs.CursorState.{CursorState, IsAhead}
 use Rattle.language.specs.Token.{as_read, is_token, same_class, table_text}
 use Rattle.language.specs.Vocabulary.{is}
-use Rattle.parser_tables.specs.Seen.{Misses}
-use Rattle.parser_tables.proofs.TokensAhead.{mark_missed}
+use Rattle.token_cursor.specs.Seen.{Misses}
+use Rattle.token_cursor.proofs.TokensAhead.{mark_missed}
 
 pub is_other_list : {l : ListKind} → (l ≡ listed.Properties) ⊎ ((l ≡ listed.Members) ⊎ ((l ≡ listed.Template) ⊎ (((i : Bool) × l ≡ listed.Declarators i) ⊎ (((r : Bool) × l ≡ listed.Cases r) ⊎ ((i : Bool) × l ≡ listed.Sequence i))))) → is_apart l ≡ true
 is_other_list (inl e) = ap is_apart e

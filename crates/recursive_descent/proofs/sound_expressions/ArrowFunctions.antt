@@ -26,7 +26,7 @@ use Rattle.recursive_descent.specs.Soundness.{Adds, ArrowAt, ReadAt}
 use Rattle.recursive_descent.specs.SoundnessOfStatements.{BuiltAt}
 use Rattle.parser_tables.specs.Operands.{plain_part}
 use Rattle.parser_tables.specs.StatementSymbols as Piece
-use Rattle.parser_tables.specs.Seen.{ReadsHere}
+use Rattle.token_cursor.specs.Seen.{ReadsHere}
 use Rattle.parser_tables.specs.StatementNodes.{partial_of, is_closed}
 use Rattle.recursive_descent.proofs.reading.AddedPairs.{adds_behind}
 use Rattle.std.proofs.lemmas.List.{append-nil}

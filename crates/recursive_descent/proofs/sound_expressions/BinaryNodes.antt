@@ -50,7 +50,7 @@ use Rattle.parser_tables.specs.declared.operators.InfixOperator.TheVariants as c
 use Rattle.recursive_descent.specs.Soundness.{Begins, SpelledAs, assigned_at, fits_as, minds_in, takes_new, PartAt, ReadAt, GoesOn, Adds}
 use Rattle.parser_tables.specs.Operators.{coded_operator, meant}
 use Rattle.parser_tables.specs.Operands.{part_from}
-use Rattle.parser_tables.specs.Seen.{ReadsHere}
+use Rattle.token_cursor.specs.Seen.{ReadsHere}
 use Rattle.recursive_descent.specs.LeftOperands.{left_of, takes_left, operator_text_of}
 use Rattle.parser_tables.specs.StatementNodes.{is_closed}
 use Rattle.token_cursor.specs.CursorState.{CursorState}

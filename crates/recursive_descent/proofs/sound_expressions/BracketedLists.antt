@@ -47,7 +47,7 @@ use Rattle.recursive_descent.specs.SoundnessOfLists.{ListAt, SoFarAt, is_list_sh
 use Rattle.recursive_descent.specs.Follows.{BegunTemplate, FirstChunkAt}
 use Rattle.parser_tables.specs.Items.{list_from, with_item, listed_node, listed_part, listed_shape}
 use Rattle.parser_tables.specs.Outcomes.{MakesAs}
-use Rattle.parser_tables.specs.Seen.{ReadsHere}
+use Rattle.token_cursor.specs.Seen.{ReadsHere}
 use Rattle.recursive_descent.proofs.reading.AddedPairs.{runs_on}
 use Rattle.recursive_descent.proofs.reading.Forward.{begins_mark}
 use Rattle.recursive_descent.proofs.sound_expressions.ExpressionParts.{placed_at}

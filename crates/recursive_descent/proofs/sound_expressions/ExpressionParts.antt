@@ -37,7 +37,7 @@ use Rattle.language.proofs.texts.TextOffsets.{text_determined}
 use Rattle.parser_tables.specs.declared.operand.Operand.{Operand}
 use Rattle.recursive_descent.specs.Soundness.{Adds, Begins, SpelledAs, assigned_at, fits_as, minds_in, bare_role, PartAt, ReadAt, ReadsOn}
 use Rattle.parser_tables.specs.Operands.{part_from, plain_part}
-use Rattle.parser_tables.specs.Seen.{ReadsHere, Misses}
+use Rattle.token_cursor.specs.Seen.{ReadsHere, Misses}
 use Rattle.parser_tables.specs.StatementNodes.{is_closed}
 use Rattle.parser_tables.specs.Tokens.{single_node}
 use Rattle.token_cursor.specs.CursorState.{CursorState}

@@ -35,7 +35,7 @@ use Rattle.recursive_descent.proofs.sound_expressions.BracketedLists.{array_part
 use Rattle.recursive_descent.proofs.reading.AddedPairs.{adds_behind}
 use Rattle.recursive_descent.proofs.reading.Forward.{place_mark, place_token}
 use Rattle.recursive_descent.proofs.sound_expressions.StartsByToken.{template_of}
-use Rattle.parser_tables.proofs.TokensAhead.{ahead_read}
+use Rattle.token_cursor.proofs.TokensAhead.{ahead_read}
 
 -- what begins as a list
 data ListBegun : ExpressionStart → ListKind → Type 0 where

@@ -43,7 +43,7 @@ use Rattle.recursive_descent.specs.Soundness.{RunsIn, SpelledAs, assigned_at, ta
 use Rattle.recursive_descent.specs.SoundnessOfLists.{ListAt, SeenRight, ClosedBy, is_whole, whole_of, stood_in, item_pieces, several, asks_last}
 use Rattle.parser_tables.specs.Items.{group_node, group_shape, is_grouped, are_some, list_group}
 use Rattle.parser_tables.specs.Operands.{group_part}
-use Rattle.parser_tables.specs.Seen.{ReadsHere}
+use Rattle.token_cursor.specs.Seen.{ReadsHere}
 use Rattle.recursive_descent.proofs.reading.Forward.{begins_mark}
 use Rattle.language.specs.Promises.{ReadBy}
 

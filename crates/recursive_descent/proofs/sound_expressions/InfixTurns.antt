@@ -53,10 +53,10 @@ use Rattle.recursive_descent.specs.SoundnessOfLists.{several, two_or_more, stood
 use Rattle.parser_tables.specs.Items.{list_from, with_item, item_from}
 use Rattle.parser_tables.specs.Operators.{coded_operator, meant, stops_by}
 use Rattle.parser_tables.specs.Operands.{plain_part}
-use Rattle.parser_tables.specs.Seen.{ReadsHere, Sees, Misses}
+use Rattle.token_cursor.specs.Seen.{ReadsHere, Sees, Misses}
 use Rattle.parser_tables.specs.StatementNodes.{is_closed}
 use Rattle.recursive_descent.proofs.reading.AddedPairs.{adds_behind, adds_none}
-use Rattle.parser_tables.proofs.TokensAhead.{ahead_read, class_of, mark_missed}
+use Rattle.token_cursor.proofs.TokensAhead.{ahead_read, class_of, mark_missed}
 use Rattle.recursive_descent.proofs.sound_expressions.BinaryNodes.{own_text, sign_here, target_spelled}
 use Rattle.recursive_descent.proofs.reading.RemainingArms.{enclosed_ahead}
 use Rattle.recursive_descent.proofs.sound_expressions.ExpressionParts.{placed_at, value_part}

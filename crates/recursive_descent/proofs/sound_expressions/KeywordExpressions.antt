@@ -54,7 +54,7 @@ use Rattle.recursive_descent.specs.SoundnessOfStatements.{ClosureAt, after_word}
 use Rattle.recursive_descent.specs.Follows.{target_node}
 use Rattle.parser_tables.specs.ExpressionStarts.{coded_start, stands_at, takes_function_or_class}
 use Rattle.parser_tables.specs.Operands.{plain_part}
-use Rattle.parser_tables.specs.Seen.{ReadsHere, Sees, Misses, SeesBy}
+use Rattle.token_cursor.specs.Seen.{ReadsHere, Sees, Misses, SeesBy}
 use Rattle.parser_tables.specs.Tests.{continues_super}
 use Rattle.parser_tables.specs.Tokens.{single_node}
 use Rattle.recursive_descent.proofs.sound_statements.FunctionsAndClasses.{closing_and_body, parameters_bare}

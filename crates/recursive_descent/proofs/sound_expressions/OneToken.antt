@@ -42,7 +42,7 @@ use Rattle.parser_tables.specs.declared.expression_starts.ExpressionStart.TheVar
 use Rattle.parser_tables.specs.ExpressionStarts.{coded_start}
 use Rattle.recursive_descent.specs.Soundness.{RunsIn, Adds, Begins, SpelledAs, assigned_at, fits_as, PartAt, ReadAt, ArrowAt}
 use Rattle.parser_tables.specs.Operands.{plain_part}
-use Rattle.parser_tables.specs.Seen.{ReadsHere}
+use Rattle.token_cursor.specs.Seen.{ReadsHere}
 use Rattle.parser_tables.specs.Tokens.{single_node}
 use Rattle.recursive_descent.proofs.reading.AddedPairs.{adds_behind, adds_none}
 use Rattle.recursive_descent.proofs.reading.LiteralTokens.{is_literal_class, literal_read}

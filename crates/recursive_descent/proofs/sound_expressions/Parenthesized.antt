@@ -47,8 +47,9 @@ use Rattle.recursive_descent.specs.Soundness.{RunsIn, Adds, Begins, fits_as, bar
 use Rattle.recursive_descent.specs.SoundnessOfLists.{ListAt, SoFarAt, SeenRight, ClosedBy, is_whole, whole_of, stood_in, item_pieces}
 use Rattle.recursive_descent.specs.Follows.{BegunAt}
 use Rattle.parser_tables.specs.Items.{group_node, group_levels, is_grouped, are_some, list_group, list_from}
-use Rattle.parser_tables.specs.Outcomes.{BeginsBy, IsPlaceHere, YieldsWhere}
-use Rattle.parser_tables.specs.Seen.{ReadsHere}
+use Rattle.parser_tables.specs.Outcomes.{BeginsBy, YieldsWhere}
+use Rattle.token_cursor.specs.CursorState.{IsPlaceHere}
+use Rattle.token_cursor.specs.Seen.{ReadsHere}
 use Rattle.recursive_descent.proofs.sound_expressions.ArrowFunctions.{join_one}
 use Rattle.recursive_descent.proofs.reading.AddedPairs.{runs_on, grouping_both}
 use Rattle.recursive_descent.proofs.reading.Forward.{begins_mark, mark_long, next_forward, runs_forward, place_mark}

@@ -37,7 +37,7 @@ use Rattle.parser_tables.specs.declared.expression_context.ExpressionContext.{Ex
 use Rattle.parser_tables.specs.declared.expression_starts.ExpressionStart.TheVariants as code
 use Rattle.parser_tables.specs.ExpressionStarts.{coded_start, stands_at, opens_at}
 use Rattle.recursive_descent.specs.Soundness.{Adds, Begins, SpelledAs, assigned_at, target_at, PartAt, ReadAt}
-use Rattle.parser_tables.specs.Seen.{ReadsHere}
+use Rattle.token_cursor.specs.Seen.{ReadsHere}
 use Rattle.recursive_descent.specs.LeftOperands.{before, is_prefix_update, takes_operand, prefixed_node, prefixed_part}
 use Rattle.recursive_descent.proofs.reading.AddedPairs.{adds_behind}
 use Rattle.recursive_descent.proofs.sound_expressions.StartsByToken.{word_of, sign_of, step_of}

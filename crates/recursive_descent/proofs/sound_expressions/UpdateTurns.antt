@@ -37,7 +37,7 @@ use Rattle.parser_tables.specs.Operands.{plain_part}
 use Rattle.parser_tables.specs.Outcomes.{BecomesHere}
 use Rattle.recursive_descent.specs.Stages.{StageAs, Staged, InfixComplete}
 use Rattle.recursive_descent.proofs.complete_expressions.Agreement.{agrees_err, refuses_high, refuses_memory, refuses_unfit}
-use Rattle.parser_tables.proofs.TokensAhead.{ahead_read}
+use Rattle.token_cursor.proofs.TokensAhead.{ahead_read}
 use Rattle.recursive_descent.proofs.sound_expressions.BinaryNodes.{own_text}
 use Rattle.recursive_descent.proofs.reading.PatternEnds.{simple_itself}
 use Rattle.recursive_descent.proofs.complete_expressions.SpineTurns.{goes_there, on_further}

@@ -35,11 +35,11 @@ use Rattle.recursive_descent.specs.SoundnessOfStatements.{BuiltAt, PiecesAt}
 use Rattle.parser_tables.specs.declared.statements.StatementContext.{StatementContext}
 use Rattle.parser_tables.specs.StatementSymbols.{Piece, case_parts}
 use Rattle.parser_tables.specs.StatementNodes.{item_context}
-use Rattle.parser_tables.specs.Seen.{ReadsHere}
+use Rattle.token_cursor.specs.Seen.{ReadsHere}
 use Rattle.recursive_descent.proofs.reading.AddedPairs.{adds_behind}
 use Rattle.recursive_descent.proofs.sound_lists.OneMoreItem.{join_none}
 use Rattle.recursive_descent.proofs.sound_lists.Declarators.{begins_by}
-use Rattle.parser_tables.proofs.TokensAhead.{name_by}
+use Rattle.token_cursor.proofs.TokensAhead.{name_by}
 
 -- the parts of a case: its test, or a gap
 abbrev pub case_nodes : Bool → Parts → Parts

@@ -41,9 +41,9 @@ use Rattle.parser_tables.specs.declared.operand.Operand.{Operand}
 use Rattle.parser_tables.specs.declared.expression_context.ExpressionContext.{ExpressionContext}
 use Rattle.recursive_descent.specs.Soundness.{Adds, grouping, Begins, PartAt, ReadAt, SpelledAs, assigned_at, read_as}
 use Rattle.recursive_descent.specs.SoundnessOfLists.{ItemReads, has_reading, item_fits, item_role, may_trail}
-use Rattle.parser_tables.specs.Seen.{ReadsHere}
+use Rattle.token_cursor.specs.Seen.{ReadsHere}
 use Rattle.recursive_descent.proofs.reading.AddedPairs.{adds_behind, adds_both}
-use Rattle.parser_tables.proofs.TokensAhead.{by_goal, read_allows, mark_by, name_by}
+use Rattle.token_cursor.proofs.TokensAhead.{by_goal, read_allows, mark_by, name_by}
 
 -- what is bound is a name or a pattern
 bound_pattern : (k : Kind) {a : Role} → cond (is_pattern_kind k) (Some (pattern true Any)) None ≡ Some a → bound true k ≡ Some a

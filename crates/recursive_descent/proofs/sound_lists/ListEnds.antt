@@ -28,7 +28,7 @@ use Rattle.recursive_descent.specs.Soundness.{Adds, RunsIn, all_read_as, groupin
 use Rattle.recursive_descent.specs.SoundnessOfLists.{SoFarAt, Unless, ListAt, ClosedBy, is_stuck, is_whole, whole_of, asks_some, asks_edge, asks_last, so_far_fits, seen_fits, has_reading, stood_in, left_of, item_pieces, ItemAt, an_item, a_hole, a_chunk, stuck_at}
 use Rattle.recursive_descent.specs.Follows.{PassedBefore, CommaAt, SeesEnd, end_before}
 use Rattle.parser_tables.specs.Items.{after_item, are_some, is_unseparated}
-use Rattle.parser_tables.specs.Seen.{Misses}
+use Rattle.token_cursor.specs.Seen.{Misses}
 use Rattle.recursive_descent.proofs.reading.AddedPairs.{adds_behind, adds_both}
 use Rattle.recursive_descent.proofs.sound_lists.OneMoreItem.{has_items, join_none, semicolons_on}
 use Rattle.recursive_descent.proofs.sound_lists.ListReadings.{seen_step}

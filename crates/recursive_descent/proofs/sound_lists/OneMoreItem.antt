@@ -27,7 +27,7 @@ use Rattle.covers.specs.Patterns.{pattern_tree, pattern_parts}
 use Rattle.recursive_descent.specs.Soundness.{RunsIn, SpelledAs, read_as, all_read_as}
 use Rattle.recursive_descent.specs.SoundnessOfLists.{stood_in, left_of, has_reading, item_role, several, is_chunked}
 use Rattle.recursive_descent.specs.Follows.{Semicolons, none_passed, one_more}
-use Rattle.parser_tables.specs.Seen.{ReadsHere}
+use Rattle.token_cursor.specs.Seen.{ReadsHere}
 
 -- the parts in a reading, with one more
 join_push : (qs : Parts) (n : Tree) (ps : Parts) → join (push qs n) ps ≡ join qs (part n ps)

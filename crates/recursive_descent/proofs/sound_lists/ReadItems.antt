@@ -47,10 +47,10 @@ use Rattle.recursive_descent.specs.Soundness.{Adds, grouping, PartAt, ReadAt, Sp
 use Rattle.recursive_descent.specs.SoundnessOfLists.{ItemReads, ItemAt, an_item, a_chunk, is_chunked, has_reading, item_fits, item_role, fits_rest, may_trail, asks_edge, case_count, list_in}
 use Rattle.parser_tables.specs.Items.{element_item, element_levels, item_from, with_item}
 use Rattle.recursive_descent.specs.Follows.{ChunkAt}
-use Rattle.parser_tables.specs.Seen.{ReadsHere}
+use Rattle.token_cursor.specs.Seen.{ReadsHere}
 use Rattle.recursive_descent.proofs.reading.AddedPairs.{adds_behind}
 use Rattle.recursive_descent.proofs.sound_lists.Declarators.{place_of}
-use Rattle.parser_tables.proofs.TokensAhead.{mark_by}
+use Rattle.token_cursor.proofs.TokensAhead.{mark_by}
 use Rattle.recursive_descent.proofs.sound_statements.StatementLists.{push_low}
 
 -- lists whose items are expressions, alone or behind `...`

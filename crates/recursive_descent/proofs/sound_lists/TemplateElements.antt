@@ -18,10 +18,10 @@ use Rattle.language.specs.Places.{next_in}
 use Rattle.covers.specs.declared.list.ListItem.{ListItem}
 use Rattle.recursive_descent.specs.TemplateElements.{front, back, Holds, part_node}
 use Rattle.recursive_descent.specs.Follows.{ChunkAt, FirstChunkAt}
-use Rattle.parser_tables.specs.Seen.{SeesBy}
+use Rattle.token_cursor.specs.Seen.{SeesBy}
 use Rattle.parser_tables.specs.Tests.{is_later_part, is_template}
 use Rattle.recursive_descent.proofs.sound_lists.TemplateDelimiters.{held, raw_held}
-use Rattle.parser_tables.proofs.TokensAhead.{ahead_read, class_of, same_ahead}
+use Rattle.token_cursor.proofs.TokensAhead.{ahead_read, class_of, same_ahead}
 
 stops : (c start stop : ℕ) (text w : List ℕ) (last : Bool) → text ≡ c ∷ (w ++ back last) → stop ≡ start + length text → start + 1 + length w ≡ stop - length (back last)
 stops c start stop text w true h e =

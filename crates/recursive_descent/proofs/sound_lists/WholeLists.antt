@@ -31,7 +31,7 @@ use Rattle.token_cursor.specs.CursorState.{CursorState}
 use Rattle.recursive_descent.specs.Soundness.{Adds, grouping, RunsIn, fits_as, read_as, all_read_as}
 use Rattle.recursive_descent.specs.SoundnessOfLists.{SoFarAt, Unless, is_stuck, so_far_fits, seen_fits, has_reading, stood_in, left_of, left_pieces, item_pieces, ItemReads, ItemAt, an_item, a_hole, a_chunk, SeenRight, is_chunked, stuck_at}
 use Rattle.recursive_descent.specs.Follows.{Semicolons, PassedBefore, ChunkAt, CommaAt}
-use Rattle.parser_tables.specs.Seen.{ReadsHere}
+use Rattle.token_cursor.specs.Seen.{ReadsHere}
 use Rattle.parser_tables.specs.Items.{after_item, are_some, is_unseparated}
 use Rattle.parser_tables.specs.StatementNodes.{is_closed}
 use Rattle.recursive_descent.proofs.reading.AddedPairs.{adds_behind, adds_both}

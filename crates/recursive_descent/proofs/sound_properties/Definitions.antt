@@ -41,10 +41,10 @@ use Rattle.recursive_descent.specs.declared.properties.PropertyName.{PropertyNam
 use Rattle.recursive_descent.specs.declared.properties.Modifiers.{Modifiers}
 use Rattle.recursive_descent.specs.Soundness.{RunsIn, anywhere, Adds, Begins, ReadAt, SpelledAs, assigned_at, target_at, fits_as, read_as}
 use Rattle.recursive_descent.specs.SoundnessOfLists.{KeyAt, NamedSo, ItemReads, ValueAt, defined, item_fits, modifier_pieces}
-use Rattle.parser_tables.specs.Seen.{ReadsHere}
+use Rattle.token_cursor.specs.Seen.{ReadsHere}
 use Rattle.recursive_descent.proofs.reading.AddedPairs.{adds_behind, adds_both}
 use Rattle.recursive_descent.proofs.sound_subscripts.SubscriptReads.{spelled_at}
-use Rattle.parser_tables.proofs.TokensAhead.{by_goal, read_allows}
+use Rattle.token_cursor.proofs.TokensAhead.{by_goal, read_allows}
 use Rattle.recursive_descent.proofs.sound_properties.PropertyValues.{at_assignment, key_known}
 
 -- what stands behind `...` among properties, from a place to another

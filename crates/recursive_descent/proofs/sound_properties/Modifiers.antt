@@ -5,9 +5,9 @@ use Rattle.tokens.specs.declared.token.Token.{Token as Scanned}
 use Rattle.tree.specs.declared.kind.Form.{Form}
 use Rattle.tree.specs.declared.kind.Form.TheVariants.{Get, Set, Method}
 use Rattle.language.specs.Token.{Token, as_read, is_token}
-use Rattle.parser_tables.specs.Seen.{Misses, SeesBy, MissesBy}
+use Rattle.token_cursor.specs.Seen.{Misses, SeesBy, MissesBy}
 use Rattle.parser_tables.specs.Tests.{begins_key}
-use Rattle.parser_tables.proofs.TokensAhead.{seen}
+use Rattle.token_cursor.proofs.TokensAhead.{seen}
 use Rattle.token_cursor.specs.CursorState.{IsAhead}
 use Rattle.tokens.specs.Scanned.{token_of}
 use Rattle.tokens.specs.Tokens.{LexicalToken}

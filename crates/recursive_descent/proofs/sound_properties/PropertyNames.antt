@@ -36,7 +36,7 @@ use Rattle.recursive_descent.specs.SoundnessOfLists.{KeyAt, NamedSo, is_called, 
 use Rattle.recursive_descent.specs.Members.{KeyRead}
 use Rattle.parser_tables.specs.Methods.{is_constructor}
 use Rattle.recursive_descent.specs.Modifiers.{Accessed, gets, sets, get_named, set_named, neither, Modifying, in_object, not_static, static_named, static}
-use Rattle.parser_tables.specs.Seen.{ReadsHere, TokenHere}
+use Rattle.token_cursor.specs.Seen.{ReadsHere, TokenHere}
 use Rattle.parser_tables.specs.Tests.{is_key, is_key_class}
 use Rattle.parser_tables.specs.Tokens.{single_node, key_kind}
 use Rattle.recursive_descent.proofs.reading.AddedPairs.{adds_behind, adds_none}

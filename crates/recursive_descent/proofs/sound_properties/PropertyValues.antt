@@ -49,7 +49,7 @@ use Rattle.recursive_descent.specs.Soundness.{Adds, Begins, ReadAt, SpelledAs, a
 use Rattle.recursive_descent.specs.SoundnessOfLists.{KeyAt, ItemReads, ValueAt}
 use Rattle.parser_tables.specs.Items.{property_item}
 use Rattle.parser_tables.specs.Methods.{member_flags}
-use Rattle.parser_tables.specs.Seen.{ReadsHere, is_free_name}
+use Rattle.token_cursor.specs.Seen.{ReadsHere, is_free_name}
 use Rattle.parser_tables.specs.Tokens.{single_node, key_kind}
 use Rattle.recursive_descent.proofs.reading.AddedPairs.{adds_behind, adds_none}
 use Rattle.recursive_descent.proofs.sound_subscripts.SubscriptReads.{spelled_at, single_read}

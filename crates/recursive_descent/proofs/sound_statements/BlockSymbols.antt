@@ -23,9 +23,9 @@ use Rattle.recursive_descent.specs.declared.statement_symbols.Expected.TheVarian
 use Rattle.parser_tables.specs.declared.statements.StatementContext.{StatementContext}
 use Rattle.recursive_descent.specs.Soundness.{Adds, grouping}
 use Rattle.recursive_descent.specs.SoundnessOfStatements.{PieceAt, PutAt, StatementsAt, BuiltAt}
-use Rattle.parser_tables.specs.Outcomes.{IsPlaceHere}
+use Rattle.token_cursor.specs.CursorState.{IsPlaceHere}
 use Rattle.parser_tables.specs.StatementSymbols.{Piece, piece_of, CatchParts}
-use Rattle.parser_tables.specs.Seen.{ReadsHere}
+use Rattle.token_cursor.specs.Seen.{ReadsHere}
 use Rattle.parser_tables.specs.StatementNodes.{with_part, item_context, partial_of}
 use Rattle.recursive_descent.specs.Expectations.{ExpectedAt}
 use Rattle.recursive_descent.proofs.reading.AddedPairs.{adds_behind}

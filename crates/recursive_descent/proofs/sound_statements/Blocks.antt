@@ -21,7 +21,7 @@ use Rattle.language.proofs.texts.TextOffsets.{text_determined}
 use Rattle.recursive_descent.specs.Soundness.{RunsIn, anywhere, SpelledAs}
 use Rattle.recursive_descent.specs.SoundnessOfStatements.{PiecesAt}
 use Rattle.parser_tables.specs.StatementSymbols.{CatchParts, Piece as Parsed}
-use Rattle.parser_tables.specs.Seen.{ReadsHere}
+use Rattle.token_cursor.specs.Seen.{ReadsHere}
 
 none_bare : (ps : Parts) → is_none (bare_parts ps) ≡ is_none ps
 none_bare none = refl

@@ -40,7 +40,7 @@ use Rattle.parser_tables.specs.StatementStarts.{KindFollowed}
 use Rattle.recursive_descent.specs.Soundness.{RunsIn, anywhere}
 use Rattle.recursive_descent.specs.SoundnessOfStatements.{OneMore, PiecesAt, ExpressionPut, StatementPut, IsGap, HeadPut, a_declaration, an_expression, a_target}
 use Rattle.parser_tables.specs.StatementSymbols.{statement_parts}
-use Rattle.parser_tables.specs.Seen.{ReadsHere, Sees}
+use Rattle.token_cursor.specs.Seen.{ReadsHere, Sees}
 use Rattle.parser_tables.specs.StatementNodes.{statement_node_kind}
 use Rattle.parser_tables.specs.Tests.{is_each}
 use Rattle.recursive_descent.proofs.reading.FirstOfPieces.{last_one, part_runs}

@@ -46,7 +46,7 @@ use Rattle.recursive_descent.specs.SoundnessOfStatements.{PieceAt, PutAt, ListPu
 use Rattle.recursive_descent.specs.Follows.{BegunAt}
 use Rattle.parser_tables.specs.Items.{list_from, is_unseparated}
 use Rattle.parser_tables.specs.StatementSymbols.{piece_of}
-use Rattle.parser_tables.specs.Seen.{ReadsHere, NameHere, SeesBy, MissesBy, declares}
+use Rattle.token_cursor.specs.Seen.{ReadsHere, NameHere, SeesBy, MissesBy, declares}
 use Rattle.parser_tables.specs.StatementNodes.{with_list, list_parts, takes_list, takes_listed, list_levels, listed_levels, listed_depth, head_node, fits_head, is_closed}
 use Rattle.parser_tables.specs.Tests.{is_each}
 use Rattle.recursive_descent.specs.Expectations.{ExpectedAt, HeadAt}

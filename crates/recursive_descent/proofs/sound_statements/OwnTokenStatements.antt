@@ -33,7 +33,7 @@ use Rattle.recursive_descent.specs.Soundness.{RunsIn, anywhere, Adds}
 use Rattle.recursive_descent.specs.SoundnessOfStatements.{StatementAt, ClosureAt, context_role, after_word, begins_with_part}
 use Rattle.recursive_descent.proofs.sound_statements.FunctionsAndClasses.{closing_and_body, parameters_bare}
 use Rattle.recursive_descent.proofs.reading.AddedPairs.{adds_behind}
-use Rattle.parser_tables.proofs.TokensAhead.{ahead_read}
+use Rattle.token_cursor.proofs.TokensAhead.{ahead_read}
 use Rattle.recursive_descent.proofs.sound_statements.StatementWays.{StatedBy}
 
 abbrev pub role_of : Bool → Bool → Bool → Role

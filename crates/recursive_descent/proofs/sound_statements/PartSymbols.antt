@@ -38,7 +38,7 @@ use Rattle.parser_tables.specs.declared.statements.StatementListEnd.{StatementLi
 use Rattle.recursive_descent.specs.Soundness.{RunsIn, anywhere, Adds, ReadAt, PartAt, assigned_at, target_at, pattern_at, takes_new, fits_as}
 use Rattle.recursive_descent.specs.SoundnessOfStatements.{PieceAt, ExpressionPut, TargetPut, HeadPut, an_expression, a_target, EachAt, StatementAt, StatementsAt, context_role}
 use Rattle.parser_tables.specs.StatementSymbols.{piece_of}
-use Rattle.parser_tables.specs.Seen.{ReadsHere, SeesBy, MissesBy}
+use Rattle.token_cursor.specs.Seen.{ReadsHere, SeesBy, MissesBy}
 use Rattle.parser_tables.specs.StatementNodes.{put_node, takes_put, with_part, inner_context, item_context}
 use Rattle.parser_tables.specs.Tests.{ends_word, is_each}
 use Rattle.recursive_descent.specs.Expectations.{ExpectedAt, HeadAt}

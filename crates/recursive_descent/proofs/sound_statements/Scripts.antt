@@ -36,7 +36,7 @@ use Rattle.language.proofs.table.Productions.{way_from, runs_can}
 use Rattle.language.proofs.list_loops.FirstPieces.{run_never}
 use Rattle.recursive_descent.specs.Soundness.{RunsIn, anywhere, Adds, grouping}
 use Rattle.recursive_descent.specs.SoundnessOfStatements.{StatementsAt}
-use Rattle.parser_tables.specs.Seen.{ReadsHere, SeesBy}
+use Rattle.token_cursor.specs.Seen.{ReadsHere, SeesBy}
 use Rattle.parser_tables.specs.Tests.{ends}
 use Rattle.parser_tables.specs.declared.statements.StatementListEnd.TheVariants as until
 

@@ -32,7 +32,7 @@ use Rattle.recursive_descent.specs.Soundness.{RunsIn, anywhere}
 use Rattle.recursive_descent.specs.SoundnessOfStatements.{OneMore, IsToken, PiecesAt, PutAt, ExpressionPut, StatementPut, StatementAt}
 use Rattle.parser_tables.specs.StatementSymbols.{statement_parts}
 use Rattle.parser_tables.specs.declared.statements.StatementKind.TheVariants as headed
-use Rattle.parser_tables.specs.Seen.{ReadsHere, Misses}
+use Rattle.token_cursor.specs.Seen.{ReadsHere, Misses}
 use Rattle.recursive_descent.proofs.reading.AddedPairs.{runs_on}
 use Rattle.recursive_descent.proofs.reading.FirstOfPieces.{PartThen, TokenThen, last_one, token_then, part_then, gap_then, part_runs}
 

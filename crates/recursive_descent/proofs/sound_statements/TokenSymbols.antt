@@ -19,13 +19,13 @@ use Rattle.parser_tables.specs.declared.symbol_lists.Symbol.TheVariants as code
 use Rattle.recursive_descent.specs.declared.statement_symbols.Expected.TheVariants as wanted
 use Rattle.recursive_descent.specs.SoundnessOfStatements.{PieceAt}
 use Rattle.parser_tables.specs.StatementSymbols.{Piece, piece_of}
-use Rattle.parser_tables.specs.Seen.{NameHere, is_free_name}
+use Rattle.token_cursor.specs.Seen.{NameHere, is_free_name}
 use Rattle.parser_tables.specs.Tokens.{single_node}
 use Rattle.recursive_descent.specs.Expectations.{ExpectedAt, LabelAt}
 use Rattle.recursive_descent.proofs.reading.AddedPairs.{adds_none}
 use Rattle.recursive_descent.proofs.sound_statements.OneMoreSymbol.{OnePiece, gap_join}
 use Rattle.recursive_descent.proofs.complete_statements.SymbolViews.{something, of_some, is_nothing, is_gap}
-use Rattle.parser_tables.proofs.TokensAhead.{not_true}
+use Rattle.token_cursor.proofs.TokensAhead.{not_true}
 
 -- what was passed, and what it puts
 pub record Passed (s e : CursorState) (r : Bool) (q : Piece) (b c : PartialStatement) (high : ℕ) : Type 0 where

@@ -48,7 +48,7 @@ use Rattle.parser_tables.specs.StatementSymbols.{Piece as Parsed, statement_part
 use Rattle.parser_tables.specs.StatementNodes.{statement_node_kind}
 use Rattle.recursive_descent.proofs.reading.AddedPairs.{adds_both, adds_none}
 use Rattle.recursive_descent.proofs.reading.FirstOfPieces.{adds_before}
-use Rattle.parser_tables.proofs.TokensAhead.{ahead_read}
+use Rattle.token_cursor.proofs.TokensAhead.{ahead_read}
 use Rattle.recursive_descent.proofs.sound_statements.ForWays.{for_stated}
 use Rattle.recursive_descent.proofs.sound_statements.StatementWays as Direct
 use Rattle.recursive_descent.proofs.sound_statements.StatementWays.{StatedBy}

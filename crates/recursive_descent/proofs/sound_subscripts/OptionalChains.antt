@@ -19,7 +19,7 @@ use Rattle.language.proofs.climbing.OperatorNodes.{chain_grows}
 use Rattle.parser_tables.specs.declared.operand.Operand.{Operand}
 use Rattle.recursive_descent.specs.Soundness.{Adds, Begins, PartAt, LinkAt, Links, GoesOn}
 use Rattle.parser_tables.specs.Operands.{plain_part}
-use Rattle.parser_tables.specs.Seen.{Sees, Misses, MissesBy}
+use Rattle.token_cursor.specs.Seen.{Sees, Misses, MissesBy}
 use Rattle.parser_tables.specs.Tests.{is_template}
 use Rattle.recursive_descent.proofs.reading.AddedPairs.{adds_behind, adds_both}
 use Rattle.recursive_descent.proofs.sound_expressions.ExpressionParts.{placed_at, value_part}

@@ -49,7 +49,7 @@ use Rattle.recursive_descent.specs.declared.subscripts.Subscript.TheVariants as 
 use Rattle.recursive_descent.specs.Soundness.{RunsIn, anywhere, minds_in, Begins, PartAt, LinkAt, SuperAt, Links, ArgumentsAt}
 use Rattle.recursive_descent.specs.Subscripts.{link_kind, link_flags, link_rank}
 use Rattle.parser_tables.specs.Operands.{plain_part}
-use Rattle.parser_tables.specs.Seen.{ReadsHere, Sees, Misses, SeesBy, MissesBy}
+use Rattle.token_cursor.specs.Seen.{ReadsHere, Sees, Misses, SeesBy, MissesBy}
 use Rattle.parser_tables.specs.Tests.{is_template, continues_super}
 use Rattle.parser_tables.specs.Tokens.{single_node}
 use Rattle.recursive_descent.proofs.sound_subscripts.OptionalChains.{chained_bare}

@@ -46,11 +46,11 @@ use Rattle.recursive_descent.specs.Follows.{LinkedAt, BegunAt, TemplateAt, Begun
 use Rattle.parser_tables.specs.Items.{list_from, with_item, listed_kind, listed_node}
 use Rattle.recursive_descent.specs.Subscripts.{link_kind, link_flags, link_rank, link_by}
 use Rattle.parser_tables.specs.Operands.{plain_part}
-use Rattle.parser_tables.specs.Seen.{ReadsHere, Sees}
+use Rattle.token_cursor.specs.Seen.{ReadsHere, Sees}
 use Rattle.parser_tables.specs.Tests.{is_template}
 use Rattle.parser_tables.specs.Tokens.{single_node}
 use Rattle.recursive_descent.proofs.reading.AddedPairs.{adds_behind, adds_none}
-use Rattle.parser_tables.proofs.TokensAhead.{ahead_read, seen_by}
+use Rattle.token_cursor.proofs.TokensAhead.{ahead_read, seen_by}
 use Rattle.recursive_descent.proofs.sound_subscripts.SubscriptNodes.{Behind, a_name, optional_name, an_index, optional_index, some_arguments, optional_arguments, a_template, is_call, rank_of_link, links_behind}
 
 -- what was added, with nothing behind it

@@ -10,7 +10,7 @@ use Rattle.tokens.specs.Scanned.{token_of}
 use Rattle.tokens.specs.declared.token.TokenClass.TheVariants.{IdentifierName, Punctuator}
 use Rattle.covers.specs.Shapes.{initialized, is_target, value}
 use Rattle.language.specs.Token.{same_class, Token, as_read}
-use Rattle.parser_tables.specs.Seen.{is_free_name, ReadsHere, Misses, Sees}
+use Rattle.token_cursor.specs.Seen.{is_free_name, ReadsHere, Misses, Sees}
 use Rattle.recursive_descent.specs.SoundnessOfLists.{ValueAt, ItemReads, SeenRight, asks_edge, is_chunked, ClosedBy}
 use Rattle.tree.specs.declared.kind.Form.TheVariants.{Init, Shorthand, Method}
 use Rattle.language.specs.Statements.{is_directive}
@@ -26,7 +26,8 @@ use Rattle.parser_tables.specs.declared.expression_starts.ExpressionStart.TheVar
 use Rattle.parser_tables.specs.Moves.{BeginsList}
 use Rattle.recursive_descent.specs.Arms.{is_apart}
 use Rattle.recursive_descent.proofs.reading.RemainingArms.{is_other_list, no_short, not_apart, of_elements, short_opening}
-use Rattle.parser_tables.specs.Outcomes.{BeginsBy, IsPlaceHere}
+use Rattle.parser_tables.specs.Outcomes.{BeginsBy}
+use Rattle.token_cursor.specs.CursorState.{IsPlaceHere}
 use Rattle.parser_tables.specs.Items.{group_levels, is_grouped, list_group, after_item, item_from, with_item, listed_node, listed_part, property_item}
 use Rattle.token_cursor.specs.CursorState.{CursorState}
 use Rattle.parser_tables.specs.declared.operand.Operand.{Operand}
@@ -61,7 +62,7 @@ use Rattle.recursive_descent.proofs.sound_expressions.ExpressionParts.{turn_on}
 use Rattle.recursive_descent.proofs.sound_properties.Definitions.{spread_item as rest_item, value_item, map_ok}
 use Rattle.recursive_descent.proofs.sound_properties.PropertyValues.{is_free, pair_value, lone_value, default_value}
 use Rattle.recursive_descent.proofs.reading.PassedTokens.{passes_behind, passes_further}
-use Rattle.parser_tables.specs.Moves.{Passes}
+use Rattle.token_cursor.specs.CursorState.{Passes}
 use Rattle.recursive_descent.proofs.sound_expressions.InfixTurns.{step_reads, sequence_reads, no_tag_there, in_there, sided_on, call_there, chain_there, dot_there, chain_reads, no_chain_there, linked_reads, meant_symbol}
 use Rattle.recursive_descent.proofs.sound_statements.StatementLists.{all_directive, and_true, still, push_low, statements_first, statements_on}
 use Rattle.recursive_descent.proofs.sound_lists.WholeLists.{after_inside, after_nodes, after_start, further_first, further_item, item_places, not_a_sequence, same_right}
@@ -1446,8 +1447,8 @@ read_symbols-each-preserved t c =
           let made = w.in_ok-finish_plain-in-Block.ensures.0 ∙ (λ i. node BlockStatement [] plain (span i).start (span i).end w.in_ok-list-in-Block.list) in
           let low : height w.in_ok-finish_plain-in-Block.field-0 ≤ c.args.high = subst (λ n. height n ≤ c.args.high) (sym w.in_ok-finish_plain-in-Block.ensures.0) w.in_ok-finish_plain-in-Block.ensures.1 in
           let p = block_piece _ c.expected.new.built w.in-Block.context q.text w.expect_punctuator.ensures.text w.statements.ensures.text q.same_open q.same_pairs w.expect_punctuator.ensures.same_open w.expect_punctuator.ensures.same_pairs w.expect_punctuator-in-Block.ensures.same_open w.expect_punctuator-in-Block.ensures.same_pairs (rw w.in-Block.is at read)
-          w.in_ok-left-in-Block.ensures.accepted.0 (ap (λ (x : Token). x.start) w.in_ok-left-in-Block.ensures.accepted.1) w.in_ok-list-in-Block.ensures.derived w.in_ok-expect_punctuator-in-Block.ensures.accepted.0 made (ap (λ ps. record c.expected.new.built { nodes = ps }) w.in_ok-push-in-Block.ensures.pushed) low in
-          record { same = w.expect_punctuator-in-Block.ensures.text ∙ w.statements.ensures.text ∙ w.expect_punctuator.ensures.text ∙ q.text ∙ v.same; forward = ahead; derived = piece_on c.args.pieces.now _ c.each.piece-index v.same c.each-test.true v.derived p; low = λ h. piece_low p (v.low h); complete = pieces_on c.args.pieces.now _ c.each.piece-index v.same c.each-test.true v.complete (block_same c.args.context.returns c.each.self.cursor c.expected.new.self.cursor c.each.built c.expected.new.built c.args.high w.in-Block.context _ q.text q.same_open (rw w.in-Block.is at read) w.expect_punctuator.new.self.cursor c.saturating_sub-inner.result w.expect_punctuator.ensures.text w.expect_punctuator.ensures.same_open w.in_ok-left-in-Block.ensures.accepted.0 c.saturating_sub-inner.ensures w.statements.new.self.cursor w.expect_punctuator.new.self.pairs.items w.statements.new.self.pairs.items _ w.in_ok-list-in-Block.ensures.complete q.same_pairs w.expect_punctuator.ensures.same_pairs w.expect_punctuator-in-Block.ensures.same_pairs w.statements.ensures.text (ap (λ (x : Token). x.start) w.in_ok-left-in-Block.ensures.accepted.1) w.in_ok-expect_punctuator-in-Block.ensures.accepted.0 made (ap (λ ps. record c.expected.new.built { nodes = ps }) w.in_ok-push-in-Block.ensures.pushed)) })
+          w.in_ok-left-in-Block.ensures.accepted.0 w.in_ok-left-in-Block.ensures.accepted.1 w.in_ok-list-in-Block.ensures.derived w.in_ok-expect_punctuator-in-Block.ensures.accepted.0 made (ap (λ ps. record c.expected.new.built { nodes = ps }) w.in_ok-push-in-Block.ensures.pushed) low in
+          record { same = w.expect_punctuator-in-Block.ensures.text ∙ w.statements.ensures.text ∙ w.expect_punctuator.ensures.text ∙ q.text ∙ v.same; forward = ahead; derived = piece_on c.args.pieces.now _ c.each.piece-index v.same c.each-test.true v.derived p; low = λ h. piece_low p (v.low h); complete = pieces_on c.args.pieces.now _ c.each.piece-index v.same c.each-test.true v.complete (block_same c.args.context.returns c.each.self.cursor c.expected.new.self.cursor c.each.built c.expected.new.built c.args.high w.in-Block.context _ q.text q.same_open (rw w.in-Block.is at read) w.expect_punctuator.new.self.cursor c.saturating_sub-inner.result w.expect_punctuator.ensures.text w.expect_punctuator.ensures.same_open w.in_ok-left-in-Block.ensures.accepted.0 c.saturating_sub-inner.ensures w.statements.new.self.cursor w.expect_punctuator.new.self.pairs.items w.statements.new.self.pairs.items _ w.in_ok-list-in-Block.ensures.complete q.same_pairs w.expect_punctuator.ensures.same_pairs w.expect_punctuator-in-Block.ensures.same_pairs w.statements.ensures.text w.in_ok-left-in-Block.ensures.accepted.1 w.in_ok-expect_punctuator-in-Block.ensures.accepted.0 made (ap (λ ps. record c.expected.new.built { nodes = ps }) w.in_ok-push-in-Block.ensures.pushed)) })
       | read_symbols-in-Handler+in_ok-read_symbols-in-Handler+in_ok-finish_plain-in-Handler+in_ok-push-in-Handler w ↦ rw (w.self-is, w.built-is) (
           let q = c.expected.ensures in
           let span = w.span_from-span-in-Handler.ensures in

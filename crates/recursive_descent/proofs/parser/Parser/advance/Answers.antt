@@ -1,6 +1,7 @@
-use Rattle.std.proofs.Common.{refl}
-use Rattle.language.specs.Places.{next_in}
 use Rattle.recursive_descent.proofs.parser.Parser.advance.Goals as goal
 
 pub returns-clause-reads : goal.returns-clause-reads
-returns-clause-reads c = rw c.advance.ensures.last (next_in c.requires.ahead.0 refl c.requires.ahead.1.read)
+returns-clause-reads c = c.advance.ensures.reads
+
+pub returns-clause-passes : goal.returns-clause-passes
+returns-clause-passes c = c.advance.ensures.passes c.requires.real

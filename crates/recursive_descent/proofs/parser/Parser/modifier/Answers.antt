@@ -1,7 +1,7 @@
 use Rattle.std.proofs.Common.{refl, sym, ◌∙◌}
 use Rattle.std.proofs.lemmas.Bool.{OnTrue_at, OnFalse_at}
 use Rattle.recursive_descent.proofs.sound_properties.Modifiers.{modifies_ahead, named_ahead}
-use Rattle.parser_tables.proofs.TokensAhead.{word_missed}
+use Rattle.token_cursor.proofs.TokensAhead.{word_missed}
 use Rattle.recursive_descent.proofs.parser.Parser.modifier.Goals as goal
 
 pub returns-then-not-is_name_token-clause-modified : goal.returns-then-not-is_name_token-clause-modified

@@ -2,7 +2,7 @@ use Rattle.std.proofs.Common.{◌≡◌, refl}
 use Rattle.tokens.specs.Scanned.{token_of}
 use Rattle.tokens.specs.declared.token.Goal.TheVariants.{RegExp}
 use Rattle.language.specs.Token.{Token}
-use Rattle.parser_tables.proofs.TokensAhead.{of_ahead, none_ahead}
+use Rattle.token_cursor.proofs.TokensAhead.{of_ahead, none_ahead}
 use Rattle.recursive_descent.proofs.parser.Parser.operand_start.Goals as goal
 
 pub returns-in-Some : goal.returns-in-Some

@@ -1,6 +1,6 @@
 use Rattle.std.proofs.Common.{inl, inr, refl}
 use Rattle.tokens.specs.declared.token.Goal.TheVariants.{RegExp}
-use Rattle.parser_tables.proofs.TokensAhead.{none_ahead}
+use Rattle.token_cursor.proofs.TokensAhead.{none_ahead}
 use Rattle.recursive_descent.proofs.parser.Parser.peek_statement_start.Goals as goal
 
 pub returns-in_default-clause-none : goal.returns-in_default-clause-none

@@ -2,7 +2,7 @@ use Rattle.std.proofs.Common.{sym, ◌∙◌}
 use Rattle.std.proofs.lemmas.Bool.{OnTrue_from, OnFalse_from}
 use Rattle.tokens.specs.declared.token.Goal.TheVariants.{Div}
 use Rattle.parser_tables.specs.Tests.{is_each}
-use Rattle.parser_tables.proofs.TokensAhead.{seen_by, missed_by, none_by}
+use Rattle.token_cursor.proofs.TokensAhead.{seen_by, missed_by, none_by}
 use Rattle.recursive_descent.proofs.parser.Parser.sees_in_or_of.Goals as goal
 
 pub returns-in-Some-clause-seen : goal.returns-in-Some-clause-seen

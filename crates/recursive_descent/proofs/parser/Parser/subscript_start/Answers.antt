@@ -3,7 +3,7 @@ use Rattle.std.specs.Prelude.{codes}
 use Rattle.tokens.specs.Scanned.{token_of}
 use Rattle.tokens.specs.declared.token.TokenClass.TheVariants.{Punctuator}
 use Rattle.recursive_descent.specs.Follows.{unlinks}
-use Rattle.parser_tables.specs.Seen.{ReadsHere, Misses}
+use Rattle.token_cursor.specs.Seen.{ReadsHere, Misses}
 use Rattle.recursive_descent.proofs.complete_subscripts.SubscriptsGiven.{not_linked_by}
 use Rattle.recursive_descent.proofs.parser.Parser.subscript_start.Goals as goal
 use Rattle.recursive_descent.proofs.parser.Parser.subscript_start.Goals.{else-not-optional-via-then-not-optional+else-accept_punctuator, else-not-optional-via-else-not-optional}
